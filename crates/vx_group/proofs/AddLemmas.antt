@@ -36,12 +36,12 @@ use Rattle.vx_group.specs.Blames.{Blames, fault_of}
 use Rattle.vx_group.specs.Makes.{AreZero, StayAsWere, ZerosOn}
 use Rattle.vx_group.specs.Nexts.{Added, IsNext}
 use Rattle.vx_group.specs.Stands.{Stands, counted, meaning_of}
-use Rattle.vx_group.specs.declared.group_core.GroupCore.{GroupCore}
+use Rattle.vx_group.specs.declared.inner.Inner.{Inner}
 use Rattle.vx_group.proofs.DetachLemmas.{some_good, stop_sure}
 use Rattle.vx_group.proofs.LongerLemmas.{active_more, blocks_last, blocks_more, last_some, longer_count, longer_follows, longer_on}
 use Rattle.vx_group.proofs.Standing.{apart_of_core, can_of, fit_of, kept_of, low_Stands, made, still_large, tidy_of}
 
-module _ (core : GroupCore) (next : Config) (m : Meaning) (stands : Stands core m) (is_next : IsNext core.config next) where
+module _ (core : Inner) (next : Config) (m : Meaning) (stands : Stands core m) (is_next : IsNext core.config next) where
   abbrev n : ℕ
   n = length core.config.volumes
 
@@ -139,7 +139,7 @@ module _ (core : GroupCore) (next : Config) (m : Meaning) (stands : Stands core 
           ((tidy_of core m1 zero_Stands settled).each u (record { below = held.below; good = ap (λ (ds : List DiskEntry). failed_at ds u) (sym next_disks) ∙ held.good }));
     }
 
-    module _ (m2 : Meaning) (after : Lawful m2) (commit : Acts Nothing (Sees core.config (Member core.good m1) m1) m1 m2) (e : GroupCore) (faults : e.faults ≡ core.faults) (unsure : e.unsure ≡ core.unsure) where
+    module _ (m2 : Meaning) (after : Lawful m2) (commit : Acts Nothing (Sees core.config (Member core.good m1) m1) m1 m2) (e : Inner) (faults : e.faults ≡ core.faults) (unsure : e.unsure ≡ core.unsure) where
       whole_acts : Acts (ZerosOn next n) (Sees core.config (Member core.good m) m) m m2
       whole_acts = wide_Acts (Or (ZerosOn next n) Nothing) (ZerosOn next n) (Sees core.config (Member core.good m) m) m m2
           (both_Acts (ZerosOn next n) Nothing (Sees core.config (Member core.good m) m) (Sees core.config (Member core.good m1) m1) m m1 m2 zero_acts commit (λ i sees. sees_back core.good core.config m m1 goes.units goes.size i sees))

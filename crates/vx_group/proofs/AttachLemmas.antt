@@ -24,24 +24,25 @@ use Rattle.vx_kept.proofs.StateLemmas.{same_shape, then_shape}
 use Rattle.vx_kept.proofs.Steps.{both_Acts, group-Goes, inside_back, inside_same, same_Acts, wide_Acts}
 use Rattle.vx_group.specs.Attaches.{AnyImage, Attaches, HasOther, MayAttach, attached}
 use Rattle.vx_group.specs.Blames.{Blames}
+use Rattle.vx_group.specs.Holding.{with_config}
 use Rattle.vx_group.specs.Moves.{Narrows}
 use Rattle.vx_group.specs.Stands.{Stands, counted, meaning_of}
-use Rattle.vx_group.specs.declared.group_core.GroupCore.{GroupCore}
+use Rattle.vx_group.specs.declared.inner.Inner.{Inner}
 use Rattle.vx_group.proofs.CallLemmas.{narrows_Goes}
 use Rattle.vx_group.proofs.DetLemmas.{bit_other, no_flags}
 use Rattle.vx_group.proofs.DetachLemmas.{zero_bit}
-use Rattle.vx_group.proofs.OpeningLemmas.{Present, closed, open_Stands, open_on, open_others, open_shape, open_sound, open_wider, opened, present, with_config}
+use Rattle.vx_group.proofs.OpeningLemmas.{Present, closed, open_Stands, open_on, open_others, open_shape, open_sound, open_wider, opened, present}
 use Rattle.vx_group.proofs.Standing.{apart_of_core, kept_of, low_Stands, sound_of}
 
 -- ---- two in a row
 
-any_acts : (W V : Values) (P : Says) (a b : Meaning) → Acts W P a b → ((u k : ℕ) (x : List ℕ) → W u k x → V u k x) → Acts V AnyImage a b
+pub any_acts : (W V : Values) (P : Says) (a b : Meaning) → Acts W P a b → ((u k : ℕ) (x : List ℕ) → W u k x → V u k x) → Acts V AnyImage a b
 any_acts W V P a b acts wide = wide_Acts (Or Nothing W) V AnyImage a b (both_Acts Nothing W AnyImage P a a b (same_Acts AnyImage a) acts (λ i now. tt)) (λ u k x. ⊎_elim (λ none. absurd none) (λ put. wide u k x put))
 
-on_back : (c d : Config) (v p : ℕ) → SameShape d c → (u b : ℕ) (x : List ℕ) → OnCopy d v p u b x → OnCopy c v p u b x
+pub on_back : (c d : Config) (v p : ℕ) → SameShape d c → (u b : ℕ) (x : List ℕ) → OnCopy d v p u b x → OnCopy c v p u b x
 on_back c d v p shape u b x put = record { number = put.number; inside = inside_same d c shape v put.number put.inside; at = sym (shape.place v p put.number) ∙ put.at }
 
-pub then_attaches : (v p : ℕ) (c d e : GroupCore) (m0 m1 m2 : Meaning) → Attaches v p c d m0 m1 → Attaches v p d e m1 m2 → Attaches v p c e m0 m2
+pub then_attaches : (v p : ℕ) (c d e : Inner) (m0 m1 m2 : Meaning) → Attaches v p c d m0 m1 → Attaches v p d e m1 m2 → Attaches v p c e m0 m2
 then_attaches v p c d e m0 m1 m2 one two = record {
   goes = then_nothing Nothing (meaning_of c m0) (meaning_of d m1) (meaning_of e m2) one.goes two.goes;
   acts = wide_Acts (Or (OnCopy c.config v p) (OnCopy d.config v p)) (OnCopy c.config v p) AnyImage m0 m2
@@ -54,7 +55,7 @@ then_attaches v p c d e m0 m1 m2 one two = record {
 }
 
 -- a commit that changes no other plex
-pub narrows_attaches : (v p : ℕ) (c d : GroupCore) (m m' : Meaning) → Lawful m' → Stands c m → Narrows c d m m' → ((w q : ℕ) → (w ≡ v → q ≡ p → ⊥) → active d.config w q ≡ active c.config w q) → Attaches v p c d m m'
+pub narrows_attaches : (v p : ℕ) (c d : Inner) (m m' : Meaning) → Lawful m' → Stands c m → Narrows c d m m' → ((w q : ℕ) → (w ≡ v → q ≡ p → ⊥) → active d.config w q ≡ active c.config w q) → Attaches v p c d m m'
 narrows_attaches v p c d m m' after stands narrows others = record {
   goes = narrows_Goes c d m m' after stands narrows (counted c.faults) (counted d.faults) (λ u. let same = ap (λ (f : List ℕ). counted f u) narrows.faults in omega (arith, same));
   acts = any_acts Nothing (OnCopy c.config v p) (Sees c.config (Member c.good m) m) m m' narrows.acts (λ u k x none. absurd none);
@@ -66,7 +67,7 @@ narrows_attaches v p c d m m' after stands narrows others = record {
 
 -- ---- the copy
 
-module _ (core : GroupCore) (v p : ℕ) (there : Present core.config v p) (off : active core.config v p ≡ false) (m m' : Meaning) (before : Lawful m) (after : Lawful m') (stands : Stands core m)
+module _ (core : Inner) (v p : ℕ) (there : Present core.config v p) (off : active core.config v p ≡ false) (m m' : Meaning) (before : Lawful m) (after : Lawful m') (stands : Stands core m)
     (goes : Goes (OnCopy (attached v p core.config) v p) m m') where
   abbrev c : Config
   c = core.config
@@ -210,7 +211,7 @@ no_bit q in_it = let clash : false ≡ true = sym (zero_bit 0 q refl) ∙ in_it 
 
 -- ---- the configuration as the code has it
 
-module _ (core : GroupCore) (v p : ℕ) (may : MayAttach core.config v p) (off : active core.config v p ≡ false) (m m' : Meaning) (before : Lawful m) (after : Lawful m') (stands : Stands core m)
+module _ (core : Inner) (v p : ℕ) (may : MayAttach core.config v p) (off : active core.config v p ≡ false) (m m' : Meaning) (before : Lawful m) (after : Lawful m') (stands : Stands core m)
     (e : Config) (is : e ≡ attached v p core.config) (goes : Goes (OnCopy e v p) m m') where
   goes_by : Goes (OnCopy (attached v p core.config) v p) m m'
   goes_by = subst (λ (x : Config). Goes (OnCopy x v p) m m') is goes

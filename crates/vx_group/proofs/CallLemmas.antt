@@ -22,7 +22,7 @@ use Rattle.vx_group.specs.Blames.{Blames, BlamesOr, Counts, fault_of}
 use Rattle.vx_group.specs.Moves.{AreOff, Narrows}
 use Rattle.vx_kept.specs.Trusts.{Trusts}
 use Rattle.vx_group.specs.Stands.{Stands}
-use Rattle.vx_group.specs.declared.group_core.GroupCore.{GroupCore}
+use Rattle.vx_group.specs.declared.inner.Inner.{Inner}
 use Rattle.vx_group.proofs.ReadyLemmas.{kin_volumes}
 use Rattle.vx_group.proofs.Standing.{apart_of_core, made, can_of, still_large}
 use Rattle.vx_copies.proofs.OneTry.{wanted_same}
@@ -64,7 +64,7 @@ not_down r d is off down = let clash : false ≡ true = sym off ∙ is ∙ down 
 
 -- ---- calls that change no block of a plex
 
-module _ (core d : GroupCore) (m m' : Meaning) (after : Lawful m') (stands : Stands core m) (narrows : Narrows core d m m') where
+module _ (core d : Inner) (m m' : Meaning) (after : Lawful m') (stands : Stands core m) (narrows : Narrows core d m m') where
   pub narrows_Goes : (f f' : ℕ → ℕ) → ((u : ℕ) → f u ≤ f' u) → Goes Nothing (group_meaning core.config f m) (group_meaning d.config f' m')
   narrows_Goes f f' no_less = group-Goes core.config d.config (Member core.good m) f f' m m' Nothing Nothing narrows.acts (apart_of_core core m stands) narrows.shape narrows.on
       (λ v p b x in_it is_on none. none) no_less (λ not t i left. after.never not t i left)
@@ -122,7 +122,7 @@ left_done c d v set done old new on but off p is_on = by (bit_at set p) refl
 
 -- ---- with other marks
 
-pub with_Stands : (core : GroupCore) (next faults : List ℕ) (m : Meaning) → Stands core m → Stands (record { config = core.config; good = core.good; room = core.room; unsettled = core.unsettled; committed = core.committed; agreed = core.agreed; next = next; faults = faults; unsure = core.unsure }) m
+pub with_Stands : (core : Inner) (next faults : List ℕ) (m : Meaning) → Stands core m → Stands (record { config = core.config; good = core.good; room = core.room; unsettled = core.unsettled; committed = core.committed; agreed = core.agreed; next = next; faults = faults; unsure = core.unsure }) m
 with_Stands core next faults m s = record {
   wanted = s.wanted;
   serial = s.serial;
@@ -140,14 +140,14 @@ with_Stands core next faults m s = record {
 
 -- ---- headers that were written back
 
-module _ (core : GroupCore) (b : Bool) (m m' : Meaning) (stands : Stands core m) (kept : Kept core.config (Member core.good m') m') (acts : Acts Nothing (Sees core.config (Member core.good m) m) m m') where
-  abbrev settled : GroupCore
+module _ (core : Inner) (b : Bool) (m m' : Meaning) (stands : Stands core m) (kept : Kept core.config (Member core.good m') m') (acts : Acts Nothing (Sees core.config (Member core.good m) m) m m') where
+  abbrev settled : Inner
   settled = record { config = core.config; good = core.good; room = core.room; unsettled = b; committed = core.committed; agreed = core.agreed; next = core.next; faults = core.faults; unsure = core.unsure }
 
   pub settled_Stands : (b ≡ false → IsTidy core.config m') → Trusts core.committed core.agreed core.good m' → Stands settled m'
   settled_Stands tidy trusts = made settled m' (wanted_same m m' core.config acts.units acts.size stands.wanted) (can_of core m stands) stands.few stands.small (still_large m m' acts.units acts.size stands.large) stands.on stands.some kept tidy trusts
 
-  pub settled_Narrows : (d : GroupCore) (last : Meaning) → Narrows settled d m' last → Narrows core d m last
+  pub settled_Narrows : (d : Inner) (last : Meaning) → Narrows settled d m' last → Narrows core d m last
   settled_Narrows d last narrows = record {
     acts = wide_Acts (Or Nothing Nothing) Nothing (Sees core.config (Member core.good m) m) m last
         (both_Acts Nothing Nothing (Sees core.config (Member core.good m) m) (Sees core.config (Member core.good m') m') m m' last acts narrows.acts (λ i sees. sees_back core.good core.config m m' acts.units acts.size i sees))
@@ -174,14 +174,14 @@ sees_volumes c d G m i volumes sees = record {
 
 -- ---- two in a row, of which the first left the configuration
 
-pub both_acts : (a b : GroupCore) (m m' last : Meaning) → b.config.volumes ≡ a.config.volumes → b.good ≡ a.good → Acts Nothing (Sees a.config (Member a.good m) m) m m'
+pub both_acts : (a b : Inner) (m m' last : Meaning) → b.config.volumes ≡ a.config.volumes → b.good ≡ a.good → Acts Nothing (Sees a.config (Member a.good m) m) m m'
     → Acts Nothing (Sees b.config (Member b.good m') m') m' last → Acts Nothing (Sees a.config (Member a.good m) m) m last
 both_acts a b m m' last config good one two = wide_Acts (Or Nothing Nothing) Nothing (Sees a.config (Member a.good m) m) m last
     (both_Acts Nothing Nothing (Sees a.config (Member a.good m) m) (Sees b.config (Member b.good m') m') m m' last one two
     (λ i sees. sees_back a.good a.config m m' one.units one.size i (sees_volumes b.config a.config (Member a.good m') m' i (sym config) (subst (λ (k : ℕ). Sees b.config (Member k m') m' i) good sees))))
     (λ u k x. ⊎_elim (λ none. none) (λ none. none))
 
-pub both_Narrows : (a b d : GroupCore) (m m' last : Meaning) → b.config.volumes ≡ a.config.volumes → b.good ≡ a.good → Narrows a b m m' → Narrows b d m' last → Narrows a d m last
+pub both_Narrows : (a b d : Inner) (m m' last : Meaning) → b.config.volumes ≡ a.config.volumes → b.good ≡ a.good → Narrows a b m m' → Narrows b d m' last → Narrows a d m last
 both_Narrows a b d m m' last config good one two = record {
   acts = both_acts a b m m' last config good one.acts two.acts;
   shape = then_shape d.config b.config a.config two.shape one.shape;

@@ -22,7 +22,7 @@ use Rattle.vx_kept.proofs.Whole.{sees_back, whole_Acts}
 use Rattle.vx_group.specs.Copying.{CopyMoved, FromSource, Mirrored, NoMember, RunCopied, Spent}
 use Rattle.vx_group.specs.Moves.{AllFlushed, Narrows}
 use Rattle.vx_group.specs.Stands.{Stands, counted, meaning_of}
-use Rattle.vx_group.specs.declared.group_core.GroupCore.{GroupCore}
+use Rattle.vx_group.specs.declared.inner.Inner.{Inner}
 use Rattle.vx_group.specs.Loses.{Loses}
 use Rattle.vx_group.proofs.LoseLemmas.{loses_same, then_loses}
 use Rattle.vx_group.proofs.Standing.{apart_of_core, fit_of, kept_of, sound_of}
@@ -103,7 +103,7 @@ spent_by c d m0 m1 m2 m3 disk before after rose loses = record {
 
 -- ---- a read alone
 
-module _ (core : GroupCore) (v source : ℕ) (m0 m1 : Meaning) (law0 : Lawful m0) (law1 : Lawful m1) (stands : Stands core m0) (read : Goes Nothing m0 m1) where
+module _ (core : Inner) (v source : ℕ) (m0 m1 : Meaning) (law0 : Lawful m0) (law1 : Lawful m1) (stands : Stands core m0) (read : Goes Nothing m0 m1) where
   pub read_acts : Acts Nothing (Sees core.config (Member core.good m0) m0) m0 m1
   read_acts = low_Acts core.config (Member core.good m0) m0 m1 Nothing read (λ u b x none. absurd none) law0 law1 (kept_of core m0 stands)
 
@@ -121,7 +121,7 @@ module _ (core : GroupCore) (v source : ℕ) (m0 m1 : Meaning) (law0 : Lawful m0
   }
 
 -- what is asked of a read of the source
-module _ (core : GroupCore) (v source block n : ℕ) (m : Meaning) (stands : Stands core m) (is_on : IsTrue (active core.config v source)) (fits : Fits (meaning_of core m) v block n) where
+module _ (core : Inner) (v source block n : ℕ) (m : Meaning) (stands : Stands core m) (is_on : IsTrue (active core.config v source)) (fits : Fits (meaning_of core m) v block n) where
   run_in : (k : ℕ) → InRun block (n / 512) k → Inside core.config v k
   run_in k run = record { volume = fits.exists; within = let last : k < block + n / 512 = run.last in omega (arith, last, fits.within) }
 
@@ -137,7 +137,7 @@ module _ (core : GroupCore) (v source block n : ℕ) (m : Meaning) (stands : Sta
 
 -- ---- a read, a write, and a commit or none
 
-module _ (core d : GroupCore) (v source block : ℕ) (bytes : List ℕ) (m0 m1 m2 m3 : Meaning) (law0 : Lawful m0) (law1 : Lawful m1) (law2 : Lawful m2) (law3 : Lawful m3) (stands : Stands core m0)
+module _ (core d : Inner) (v source block : ℕ) (bytes : List ℕ) (m0 m1 m2 m3 : Meaning) (law0 : Lawful m0) (law1 : Lawful m1) (law2 : Lawful m2) (law3 : Lawful m3) (stands : Stands core m0)
     (fits : Fits (meaning_of core m0) v block (length bytes)) (read : Goes Nothing m0 m1) (was_read : PlexRead core.config v source block block (length bytes / 512) bytes m0)
     (write : Goes (OnPlexes core.config v block (length bytes / 512) bytes) m1 m2) (narrows : Narrows core d m2 m3) (stands3 : Stands d m3) (spent : Spent core.config d.config m0 m3) (others_on : (w p : ℕ) → (w ≡ v → ⊥) → active d.config w p ≡ active core.config w p) where
   abbrev n : ℕ
@@ -234,7 +234,7 @@ module _ (core d : GroupCore) (v source block : ℕ) (bytes : List ℕ) (m0 m1 m
     }
 
 -- the same where the bytes have the length of those that were handed in
-module _ (core : GroupCore) (v source block len : ℕ) (bytes : List ℕ) (m0 m1 m2 : Meaning) (law0 : Lawful m0) (law1 : Lawful m1) (law2 : Lawful m2) (stands : Stands core m0) (same : length bytes ≡ len)
+module _ (core : Inner) (v source block len : ℕ) (bytes : List ℕ) (m0 m1 m2 : Meaning) (law0 : Lawful m0) (law1 : Lawful m1) (law2 : Lawful m2) (stands : Stands core m0) (same : length bytes ≡ len)
     (fits : Fits (meaning_of core m0) v block len) (read : Goes Nothing m0 m1) (was_read : PlexRead core.config v source block block (len / 512) bytes m0) (write : Goes (OnPlexes core.config v block (length bytes / 512) bytes) m1 m2) where
   fits_len : Fits (meaning_of core m0) v block (length bytes)
   fits_len = subst (λ (n : ℕ). Fits (meaning_of core m0) v block n) (sym same) fits
@@ -245,7 +245,7 @@ module _ (core : GroupCore) (v source block len : ℕ) (bytes : List ℕ) (m0 m1
   pub put_Stands : Stands core m2
   put_Stands = wrote_Stands core v block bytes m1 m2 law1 law2 (flushed_Stands core v m0 m1 law0 law1 stands read) (record { exists = fits_len.exists; some = fits_len.some; whole = fits_len.whole; within = fits_len.within }) write
 
-  module _ (d : GroupCore) (m3 : Meaning) (law3 : Lawful m3) (narrows : Narrows core d m2 m3) (stands3 : Stands d m3) (spent : Spent core.config d.config m0 m3) (others_on : (w p : ℕ) → (w ≡ v → ⊥) → active d.config w p ≡ active core.config w p) where
+  module _ (d : Inner) (m3 : Meaning) (law3 : Lawful m3) (narrows : Narrows core d m2 m3) (stands3 : Stands d m3) (spent : Spent core.config d.config m0 m3) (others_on : (w p : ℕ) → (w ≡ v → ⊥) → active d.config w p ≡ active core.config w p) where
     pub put_Moved : CopyMoved core v source d m0 m3
     put_Moved = run_Moved core d v source block bytes m0 m1 m2 m3 law0 law1 law2 law3 stands fits_len read read_len write narrows stands3 spent others_on
 
@@ -260,7 +260,7 @@ ok_both P Q (Err e) p q = tt
 
 -- ---- no block, and two runs in a row
 
-pub none_Copied : (core : GroupCore) (v source : ℕ) (m : Meaning) → Stands core m → core.unsettled ≡ false → IsTrue (active core.config v source) → (IsTrue m.down → ⊥) → RunCopied core v source 0 0 core m m
+pub none_Copied : (core : Inner) (v source : ℕ) (m : Meaning) → Stands core m → core.unsettled ≡ false → IsTrue (active core.config v source) → (IsTrue m.down → ⊥) → RunCopied core v source 0 0 core m m
 none_Copied core v source m stands settled is_on up = record {
   moved = record {
     stands = stands;
@@ -281,7 +281,7 @@ none_Copied core v source m stands settled is_on up = record {
   rest = λ w p k x apart in_it on is. is;
 }
 
-module _ (core d e : GroupCore) (v source first n : ℕ) (m0 m1 m2 : Meaning) (one : CopyMoved core v source d m0 m1)
+module _ (core d e : Inner) (v source first n : ℕ) (m0 m1 m2 : Meaning) (one : CopyMoved core v source d m0 m1)
     (origin : (k : ℕ) (x : List ℕ) → Inside core.config v k → m1.reads (place core.config v source k).0 (place core.config v source k).1 x → IsTrue m0.tells → m0.reads (place core.config v source k).0 (place core.config v source k).1 x)
     (two : CopyMoved d v source e m1 m2) where
   as_first : (u b : ℕ) (x : List ℕ) → FromSource d.config v source m1 u b x → FromSource core.config v source m0 u b x
@@ -310,7 +310,7 @@ module _ (core d e : GroupCore) (v source first n : ℕ) (m0 m1 m2 : Meaning) (o
         (λ u b x. ⊎_elim (λ put. put) (λ put. as_first u b x put));
   }
 
-module _ (core d e : GroupCore) (v source first n : ℕ) (m0 m1 m2 : Meaning) (one : RunCopied core v source 0 first d m0 m1) where
+module _ (core d e : Inner) (v source first n : ℕ) (m0 m1 m2 : Meaning) (one : RunCopied core v source 0 first d m0 m1) where
   in_first : (k : ℕ) → k < first → InRun 0 first k
   in_first k lt = record { first = omega arith; last = omega (arith, lt) }
 
@@ -429,7 +429,7 @@ ok_blamed Q P (Err error) old new is why made_by = tt
 
 -- ---- one run of the loop
 
-pub run_fits : (core d : GroupCore) (v done count len total : ℕ) (m : Meaning) → SameShape d.config core.config → v < length core.config.volumes → len ≡ 512 * count → 0 < count → done + count ≤ total → total ≡ blocks_of core.config.volumes v
+pub run_fits : (core d : Inner) (v done count len total : ℕ) (m : Meaning) → SameShape d.config core.config → v < length core.config.volumes → len ≡ 512 * count → 0 < count → done + count ≤ total → total ≡ blocks_of core.config.volumes v
     → Fits (meaning_of d m) v done len
 run_fits core d v done count len total m shape there long some within is = record {
   exists = let same : length d.config.volumes ≡ length core.config.volumes = shape.volumes in omega (arith, same, there);
@@ -438,7 +438,7 @@ run_fits core d v done count len total m shape there long some within is = recor
   within = let same : blocks_of d.config.volumes v ≡ blocks_of core.config.volumes v = shape.blocks v in omega (arith, same, long, within, is);
 }
 
-pub run_copied : (core : GroupCore) (v source first len count : ℕ) (d : GroupCore) (m m' : Meaning) → len ≡ 512 * count → RunCopied core v source first (len / 512) d m m' → RunCopied core v source first count d m m'
+pub run_copied : (core : Inner) (v source first len count : ℕ) (d : Inner) (m m' : Meaning) → len ≡ 512 * count → RunCopied core v source first (len / 512) d m m' → RunCopied core v source first count d m m'
 run_copied core v source first len count d m m' long run = let same : len / 512 ≡ count = omega (arith, long) in subst (λ (n : ℕ). RunCopied core v source first n d m m') same run
 
 pub take_length : (n : ℕ) (xs : List ℕ) → n ≤ length xs → length (take n xs) ≡ n

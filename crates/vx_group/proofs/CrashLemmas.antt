@@ -29,11 +29,11 @@ use Rattle.vx_kept.specs.Trusts.{Trusts, is_plain}
 use Rattle.vx_kept.proofs.Chosen.{settle_found}
 use Rattle.vx_kept.proofs.Facts.{from_fact}
 use Rattle.vx_kept.proofs.Low.{found_same, import_low}
-use Rattle.vx_group.specs.Deports.{Deported}
+use Rattle.vx_group.specs.Deports.{DeportedBy}
 use Rattle.vx_group.specs.Resumes.{AtRest, CanImport}
 use Rattle.vx_group.specs.Stands.{Stands}
 use Rattle.vx_group.proofs.Standing.{kept_of}
-use Rattle.vx_group.specs.declared.group_core.GroupCore.{GroupCore}
+use Rattle.vx_group.specs.declared.inner.Inner.{Inner}
 
 -- ---- each disk with a header has a greater one
 
@@ -277,7 +277,7 @@ must_fail false r off on = absurd (let clash : false ≡ true = sym (off refl) �
 pub good_silent : (c : Config) (m : Meaning) → ((u : ℕ) → u < m.units → failed_at c.disks u ≡ false) → Silent c m
 good_silent c m good = record { each = λ i R each reads none. absurd (let clash : false ≡ true = sym (good reads.disk reads.below) ∙ reads.failed in cc) }
 
-module _ (core : GroupCore) (old new : Meaning) (it : Deported core old new) where
+module _ (by : Config) (core : Inner) (old new : Meaning) (it : DeportedBy by core old new) where
   deport_base : (i : Image) (x : Config) → Each new.leaves i → found new i ≡ Found x → Base x new
   deport_base i x each is =
       let both : Found it.config ≡ Found x = sym (it.finds i each) ∙ is in
@@ -335,17 +335,17 @@ module _ (core : GroupCore) (old new : Meaning) (it : Deported core old new) whe
     plain = λ i R x each is. trusts.plain refl i R x each is;
   }
 
-pub group_can : (core : GroupCore) (old new : Meaning) → Deported core old new → (core.committed ≡ true) ⊎ ((i : Image) (x : Config) → Each new.leaves i → found new i ≡ Found x → Silent x new) → CanImport new
-group_can core old new it (inl is) = committed_can core old new it (it.trusts is)
-group_can core old new it (inr silent) = record {
-  base = λ i x each is. deport_base core old new it i x each is;
-  one = λ i j R x each_i each_j is. (deport_can core old new it (silent i it.config each_i (it.finds i each_i))).one i j R x each_i each_j is;
-  plain = λ i R x each is. (deport_can core old new it (silent i it.config each (it.finds i each))).plain i R x each is;
+pub group_can : (by : Config) (core : Inner) (old new : Meaning) → DeportedBy by core old new → (core.committed ≡ true) ⊎ ((i : Image) (x : Config) → Each new.leaves i → found new i ≡ Found x → Silent x new) → CanImport new
+group_can by core old new it (inl is) = committed_can by core old new it (it.trusts is)
+group_can by core old new it (inr silent) = record {
+  base = λ i x each is. deport_base by core old new it i x each is;
+  one = λ i j R x each_i each_j is. (deport_can by core old new it (silent i it.config each_i (it.finds i each_i))).one i j R x each_i each_j is;
+  plain = λ i R x each is. (deport_can by core old new it (silent i it.config each (it.finds i each))).plain i R x each is;
 }
 
 -- ---- a group whose shelf fell
 
-pub rest_can : (core : GroupCore) (m : Meaning) → Stands core m → AtRest m → core.agreed ≡ true → CanImport m
+pub rest_can : (core : Inner) (m : Meaning) → Stands core m → AtRest m → core.agreed ≡ true → CanImport m
 rest_can core m stands rest agreed = record {
   base = λ j x each is. (crash_can core.config (Member core.good m) m m kept refl (λ u. refl) j each (λ u b v left. rest.one u b v (j u b) left (each u b)) core.committed core.good trusts).base j x each is;
   one = λ i j R x each_i each_j is. (crash_can core.config (Member core.good m) m m kept refl (λ u. refl) i each_i (λ u b v left. rest.one u b v (i u b) left (each_i u b)) core.committed core.good trusts).one i j R x each_i each_j is;

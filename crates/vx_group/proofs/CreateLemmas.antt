@@ -35,7 +35,7 @@ use Rattle.vx_kept.specs.Commits.{Member, Taken}
 use Rattle.vx_kept.specs.Keeping.{AllOn, Kept}
 use Rattle.vx_kept.specs.Trusts.{HasFailed, Trusts}
 use Rattle.vx_group.specs.Creates.{IsNew, IsReady, Prepared}
-use Rattle.vx_group.specs.declared.group_core.GroupCore.{GroupCore}
+use Rattle.vx_group.specs.declared.inner.Inner.{Inner}
 use Rattle.vx_group.proofs.DetachLemmas.{some_good}
 use Rattle.vx_group.proofs.Standing.{made}
 
@@ -130,7 +130,7 @@ first_cause good c last old new some more other stops = absurd stops
 
 -- ---- the group
 
-pub new_Stands : (site : ℕ) (disks : List DiskEntry) (core : GroupCore) (old new : Meaning) → AreLarge new → CanSpell core.config → is_wanted new.units new.size core.config ≡ true
+pub new_Stands : (site : ℕ) (disks : List DiskEntry) (core : Inner) (old new : Meaning) → AreLarge new → CanSpell core.config → is_wanted new.units new.size core.config ≡ true
     → Taken (empty_config site disks) (empty_config site disks) core.config old new → AllOn core.config → core.good ≡ good_set core.config.disks → Trusts core.committed core.agreed (good_set core.config.disks) new → (core.committed ≡ true) ⊎ HasFailed core.config.disks → IsNew site core new
 new_Stands site disks core old new large can wanted taken on good trusts trust = record {
   stands = made core new wanted can (let none = ap length taken.grown.volumes in omega (arith, none)) (λ v. let none = ap (λ vs. blocks_of vs v) taken.grown.volumes in omega (arith, none)) large on

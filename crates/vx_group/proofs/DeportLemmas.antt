@@ -31,7 +31,7 @@ use Rattle.vx_group.specs.Moves.{Narrows}
 use Rattle.vx_group.specs.Quiesces.{GivenBack, NoVolume, Quiesced, Quiesces}
 use Rattle.vx_group.specs.Settled.{SameBut}
 use Rattle.vx_group.specs.Stands.{Stands}
-use Rattle.vx_group.specs.declared.group_core.GroupCore.{GroupCore}
+use Rattle.vx_group.specs.declared.inner.Inner.{Inner}
 use Rattle.vx_copies.specs.Commits.{MoreFailed}
 use Rattle.vx_group.proofs.FailingLemmas.{failing_from, no_failing, then_failing}
 use Rattle.vx_group.proofs.CallLemmas.{blames_later}
@@ -56,7 +56,7 @@ active_there c v p is = elim (cases_lt v (length c.volumes)) [
 
 -- ---- done
 
-module _ (core : GroupCore) (d : Config) (m m' : Meaning) (stands : Stands core m) (acts : Acts Nothing (Sees core.config (Member core.good m) m) m m')
+module _ (core : Inner) (d : Config) (m m' : Meaning) (stands : Stands core m) (acts : Acts Nothing (Sees core.config (Member core.good m) m) m m')
     (shown : Shown core.config (cleaned core.unsure core.config (length core.config.volumes)) d m m') (trusts : core.committed ≡ true → Trusts true true (good_set d.disks) m') where
   all : AllClean core.unsure (length core.config.volumes) core.config (cleaned core.unsure core.config (length core.config.volumes))
   all = all_clean core.unsure (length core.config.volumes) core.config
@@ -86,7 +86,7 @@ module _ (core : GroupCore) (d : Config) (m m' : Meaning) (stands : Stands core 
 
 -- ---- refused
 
-module _ (core e : GroupCore) (m m' : Meaning) (stands : Stands core m) (acts : Acts Nothing (Sees core.config (Member core.good m) m) m m')
+module _ (core e : Inner) (m m' : Meaning) (stands : Stands core m) (acts : Acts Nothing (Sees core.config (Member core.good m) m) m m')
     (wanted : is_wanted m'.units m'.size e.config ≡ true) (can : CanSpell e.config) (faults : e.faults ≡ core.faults) (unsure : e.unsure ≡ core.unsure)
     (a : Config) (why : No) (left : Left core.good core.config a e.config m m' why) (good : e.good ≡ core.good) (un : e.unsettled ≡ true) (trusts : Trusts e.committed e.agreed core.good m') where
   pub given_back : CommitMissed core e m m'
@@ -102,14 +102,14 @@ module _ (core e : GroupCore) (m m' : Meaning) (stands : Stands core m) (acts : 
 -- ---- behind the flushes
 
 -- a commit, as flushes of no volume
-committed_quiet : (c : GroupCore) (m m' : Meaning) → CleanCommitted c m m' → Quiesces c c NoVolume m m'
+committed_quiet : (c : Inner) (m m' : Meaning) → CleanCommitted c m m' → Quiesces c c NoVolume m m'
 committed_quiet c m m' it = quiet c c m m' (record { acts = it.acts; shape = same_shape c.config; on = λ v p is. is; faults = refl; unsure = refl }) refl (no_failing m m' c.config.disks c.config.disks refl)
 
 -- headers that were written back
-pub settled_back : (core mid : GroupCore) (m m1 : Meaning) → Stands mid m1 → Narrows core mid m m1 → SameBut core.config mid.config → MoreFailed m m1 core.config.disks mid.config.disks → GivenBack core mid m m1
+pub settled_back : (core mid : Inner) (m m1 : Meaning) → Stands mid m1 → Narrows core mid m m1 → SameBut core.config mid.config → MoreFailed m m1 core.config.disks mid.config.disks → GivenBack core mid m m1
 settled_back core mid m m1 stands narrows same failing = record { stands = stands; quiesces = quiet core mid m m1 narrows same.volumes failing }
 
-module _ (core mid fl d : GroupCore) (m m1 m2 last : Meaning) (begun : Stands core m) (narrows : Narrows core mid m m1) (same : SameBut core.config mid.config) (failing : MoreFailed m m1 core.config.disks mid.config.disks) (up1 : IsTrue m1.down → ⊥) (flag : mid.committed ≡ core.committed) where
+module _ (core mid fl d : Inner) (m m1 m2 last : Meaning) (begun : Stands core m) (narrows : Narrows core mid m m1) (same : SameBut core.config mid.config) (failing : MoreFailed m m1 core.config.disks mid.config.disks) (up1 : IsTrue m1.down → ⊥) (flag : mid.committed ≡ core.committed) where
   readied : Quiesces core mid NoVolume m m1
   readied = quiet core mid m m1 narrows same.volumes failing
 

@@ -1,5 +1,5 @@
 -- A plex that may be detached.
-use Rattle.std.proofs.Common.{◌≡◌, ◌≢◌, ◌⊎◌, inl, inr, ℕ, zero, suc, ◌-◌, ◌<◌, Bool, true, false, IsTrue, Some, None, List, [], ◌∷◌, length, set, get_or, get_or-set_same, get_or-set_other, Result, Ok, Err, OnOk, refl, ap, sym, ◌∙◌, subst, arith}
+use Rattle.std.proofs.Common.{◌≡◌, ◌≢◌, ◌⊎◌, inl, inr, ℕ, zero, suc, ◌+◌, ◌-◌, ◌<◌, Bool, true, false, IsTrue, Some, None, List, [], ◌∷◌, length, set, get_or, get_or-set_same, get_or-set_other, Result, Ok, Err, OnOk, refl, ap, sym, ◌∙◌, subst, arith}
 use Rattle.std.specs.Prelude.{◌&&◌, ◌||◌, ◌==◌, not, nat_le, nat_lt, if◌then◌else◌}
 use Rattle.std.proofs.lemmas.Bool.{and_parts, eq-eqb, cases_eq, cases_lt, lt-ltb}
 use Rattle.vx_disk.specs.Blocks.{bit_at}
@@ -28,7 +28,7 @@ or_cases : (a b : Bool) → a || b ≡ true → (a ≡ true) ⊎ (b ≡ true)
 or_cases true b is = inl refl
 or_cases false b is = inr is
 
-find_below : (test : ℕ → Bool) (n : ℕ) → any_below test n ≡ true → (q : ℕ) × (test q ≡ true)
+pub find_below : (test : ℕ → Bool) (n : ℕ) → any_below test n ≡ true → (q : ℕ) × (test q ≡ true)
 find_below test zero is = absurd (let clash : false ≡ true = is in cc)
 find_below test (suc n) is = elim (or_cases (any_below test n) (test n) is) [ inl below ↦ find_below test n below | inr here ↦ (n, here) ]
 
@@ -43,6 +43,13 @@ module _ (c : Config) (v p : ℕ) (may : det_refusal c v p ≡ None) where
 
   pub may_serial : c.serial < greatest
   may_serial = elim (cases_lt (greatest - margin) c.serial) [
+    | inl lt ↦ absurd (let clash : true ≡ false = sym (lt-ltb (greatest - margin) c.serial lt) ∙ (all_no (nat_le (length c.volumes) v) (nat_le (plexes_of c v) p) (active c v p && not (any_below (is_other c v p) (plexes_of c v))) (nat_lt (greatest - margin) c.serial) _ _ _ _ may).3 in cc)
+    | inr le ↦ omega (arith, le)
+  ]
+
+  -- so many serials are left that a commit uses less
+  pub may_room : c.serial + 9 < greatest
+  may_room = elim (cases_lt (greatest - margin) c.serial) [
     | inl lt ↦ absurd (let clash : true ≡ false = sym (lt-ltb (greatest - margin) c.serial lt) ∙ (all_no (nat_le (length c.volumes) v) (nat_le (plexes_of c v) p) (active c v p && not (any_below (is_other c v p) (plexes_of c v))) (nat_lt (greatest - margin) c.serial) _ _ _ _ may).3 in cc)
     | inr le ↦ omega (arith, le)
   ]

@@ -30,7 +30,7 @@ use Rattle.vx_kept.specs.Trusts.{Trusts}
 use Rattle.vx_group.specs.Blames.{Blames, BlamesOr, fault_of}
 use Rattle.vx_group.specs.Moves.{AreOff, Narrows}
 use Rattle.vx_group.specs.Stands.{Stands}
-use Rattle.vx_group.specs.declared.group_core.GroupCore.{GroupCore}
+use Rattle.vx_group.specs.declared.inner.Inner.{Inner}
 use Rattle.vx_group.proofs.Standing.{made, sound_of, still_large}
 
 -- some good disk is none that fails
@@ -44,7 +44,7 @@ from_no : (b : Bool) → (IsTrue b → ⊥) → b ≡ false
 from_no true none = absurd (none refl)
 from_no false none = refl
 
-module _ (core e : GroupCore) (v set : ℕ) (m m' : Meaning) (stands : Stands core m) (acts : Acts Nothing (Sees core.config (Member core.good m) m) m m')
+module _ (core e : Inner) (v set : ℕ) (m m' : Meaning) (stands : Stands core m) (acts : Acts Nothing (Sees core.config (Member core.good m) m) m m')
     (wanted : is_wanted m'.units m'.size e.config ≡ true) (can : CanSpell e.config) (on : AllOn e.config) (faults : e.faults ≡ core.faults) (unsure : e.unsure ≡ core.unsure) where
   few_same : length e.config.volumes ≡ length core.config.volumes → length e.config.volumes ≤ 32
   few_same same = let few = stands.few in omega (arith, same, few)

@@ -59,6 +59,10 @@ pub few_ok : {T E : Type 0} (r : Result T E) (s t n k count : ℕ) → OnOk r (n
 few_ok (Ok x) s t n k count le serial same = omega (arith, le, serial, same)
 few_ok (Err error) s t n k count le serial same = tt
 
+pub few_nine : {T E : Type 0} (r : Result T E) (s t n k : ℕ) → OnOk r (n ≤ t + 1 + k) → t ≡ s → k ≤ 8 → OnOk r (n ≤ s + 9)
+few_nine (Ok x) s t n k le serial few = omega (arith, le, serial, few)
+few_nine (Err error) s t n k le serial few = tt
+
 -- ---- a configuration of the same disks
 
 ends_same : (r : Subdisk) (xs ys : List DiskEntry) (u : ℕ) → length xs ≡ length ys → ((k : ℕ) → blocks_at xs k ≡ blocks_at ys k) → ends_within r (slice_get xs u) ≡ ends_within r (slice_get ys u)
@@ -83,7 +87,7 @@ have_same size n (a ∷ xs) (b ∷ ys) count blocks =
 abbrev parts : ℕ → ℕ → List DiskEntry → List VolumeEntry → Option Units → Config
 parts serial site disks volumes rvg = record { serial = serial; site = site; disks = disks; volumes = volumes; rvg = rvg }
 
-sound_same : (c : Config) (serial site : ℕ) (ds : List DiskEntry) → length ds ≡ length c.disks → ((k : ℕ) → blocks_at ds k ≡ blocks_at c.disks k) → is_sound (parts serial site ds c.volumes c.rvg) ≡ is_sound c
+pub sound_same : (c : Config) (serial site : ℕ) (ds : List DiskEntry) → length ds ≡ length c.disks → ((k : ℕ) → blocks_at ds k ≡ blocks_at c.disks k) → is_sound (parts serial site ds c.volumes c.rvg) ≡ is_sound c
 unfolding is_sound runs
 sound_same c serial site ds count blocks = rw (regions_same ds c.disks (flat_map volume_runs c.volumes) count blocks) refl
 

@@ -19,11 +19,11 @@ use Rattle.vx_kept.proofs.Low.{found_same}
 use Rattle.vx_kept.proofs.Trusting.{less_trusts}
 use Rattle.vx_group.specs.Resumes.{CanImport}
 use Rattle.vx_group.specs.Stands.{Stands, meaning_of}
-use Rattle.vx_group.specs.declared.group_core.GroupCore.{GroupCore}
+use Rattle.vx_group.specs.declared.inner.Inner.{Inner}
 use Rattle.vx_group.proofs.CrashLemmas.{rest_can}
 use Rattle.vx_group.proofs.Standing.{kept_of, member_to, still_large}
 
-module _ (core : GroupCore) (m m' : Meaning) (stands : Stands core m) (law : Lawful m) (law' : Lawful m') (stopped : Stopped m m') where
+module _ (core : Inner) (m m' : Meaning) (stands : Stands core m) (law : Lawful m) (law' : Lawful m') (stopped : Stopped m m') where
   fallen_Kept : Kept core.config (Member core.good m) m'
   fallen_Kept =
       let kept = kept_of core m stands in

@@ -38,7 +38,7 @@ use Rattle.vx_group.specs.Quiesces.{AnyFailed}
 use Rattle.vx_group.specs.Resumes.{IsMended, source_at}
 use Rattle.vx_kept.specs.Trusts.{HasFailed, Trusts}
 use Rattle.vx_group.specs.Stands.{Stands, counted, meaning_of}
-use Rattle.vx_group.specs.declared.group_core.GroupCore.{GroupCore}
+use Rattle.vx_group.specs.declared.inner.Inner.{Inner}
 use Rattle.vx_group.proofs.CallLemmas.{narrows_Goes}
 use Rattle.vx_group.proofs.LoseLemmas.{loses_none, then_loses}
 use Rattle.vx_group.proofs.CreateLemmas.{cause_before}
@@ -47,7 +47,7 @@ use Rattle.vx_group.proofs.Standing.{apart_of_core}
 
 -- ---- a call that changes no block of a plex
 
-pub narrows_on : (core d : GroupCore) (m m' : Meaning) → Lawful m' → Stands core m → Stands d m' → Narrows core d m m' → GoesOn core d m m'
+pub narrows_on : (core d : Inner) (m m' : Meaning) → Lawful m' → Stands core m → Stands d m' → Narrows core d m m' → GoesOn core d m m'
 narrows_on core d m m' after stands stands' narrows = record {
   stands = stands';
   shape = narrows.shape;
@@ -59,7 +59,7 @@ narrows_on core d m m' after stands stands' narrows = record {
   disk_faults = narrows.acts.disk_faults;
 }
 
-pub both_on : (core d e : GroupCore) (m0 m1 m2 : Meaning) → GoesOn core d m0 m1 → GoesOn d e m1 m2 → GoesOn core e m0 m2
+pub both_on : (core d e : Inner) (m0 m1 m2 : Meaning) → GoesOn core d m0 m1 → GoesOn d e m1 m2 → GoesOn core e m0 m2
 both_on core d e m0 m1 m2 one two = record {
   stands = two.stands;
   shape = then_shape e.config d.config core.config two.shape one.shape;
@@ -130,7 +130,7 @@ none_staled : (v : ℕ) (c : Config) (n : ℕ) → staled v 0 c n ≡ c
 none_staled v c zero = refl
 none_staled v c (suc n) = ap (λ (b : Bool). if b then stale_at v n (staled v 0 c n) else staled v 0 c n) (zero_bit 0 n refl) ∙ none_staled v c n
 
-module _ (core e : GroupCore) (m m' : Meaning) (after : Lawful m') (stands : Stands core m) (acts : Acts Nothing (Sees core.config (Member core.good m) m) m m')
+module _ (core e : Inner) (m m' : Meaning) (after : Lawful m') (stands : Stands core m) (acts : Acts Nothing (Sees core.config (Member core.good m) m) m m')
     (wanted : is_wanted m'.units m'.size e.config ≡ true) (can : CanSpell e.config) (on : AllOn e.config) (faults : e.faults ≡ core.faults) (unsure : e.unsure ≡ core.unsure) where
   module _ (taken : Taken core.config (staled 0 0 core.config 8) e.config m m') (good : e.good ≡ good_set e.config.disks) (trusts : Trusts e.committed e.agreed (good_set e.config.disks) m') where
     pub commit_on : GoesOn core e m m'
@@ -156,7 +156,7 @@ module _ (core e : GroupCore) (m m' : Meaning) (after : Lawful m') (stands : Sta
 
 -- ---- headers that were settled, and then volumes
 
-module _ (core d e f : GroupCore) (flags : List Bool) (sources : List ℕ) (m0 m1 m2 m3 : Meaning) (law1 : Lawful m1) (stands : Stands core m0) (stands1 : Stands d m1) (first : Narrows core d m0 m1) where
+module _ (core d e f : Inner) (flags : List Bool) (sources : List ℕ) (m0 m1 m2 m3 : Meaning) (law1 : Lawful m1) (stands : Stands core m0) (stands1 : Stands d m1) (first : Narrows core d m0 m1) where
   first_on : GoesOn core d m0 m1
   first_on = narrows_on core d m0 m1 law1 stands stands1 first
 

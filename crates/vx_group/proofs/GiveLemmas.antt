@@ -16,7 +16,7 @@ use Rattle.vx_kept.specs.States.{stale_at, staled}
 use Rattle.vx_kept.proofs.Chosen.{active_volumes}
 use Rattle.vx_group.specs.Blames.{Blames, BlamesOr, fault_of}
 use Rattle.vx_group.specs.GivesUp.{EachBlamed, GivesUp, KeepsVolumes, NoCommit}
-use Rattle.vx_group.specs.declared.group_core.GroupCore.{GroupCore}
+use Rattle.vx_group.specs.declared.inner.Inner.{Inner}
 use Rattle.vx_group.proofs.DetachLemmas.{zero_bit}
 
 -- no plex of an empty set is made STALE
@@ -44,24 +44,24 @@ pub each_before : (c d : Config) (v : ℕ) (old mid new : Meaning) → d.volumes
 each_before c d v old mid new same before blamed = record { each = λ p is_on. blamed_before c d v p old mid new same before (blamed.each p (active_volumes d c same v p ∙ is_on)) }
 
 -- the commit that detaches plexes
-pub detach_gives : {T : Type 0} (v : ℕ) (c d : GroupCore) (device : ℕ) (old mid new : Meaning) (r : Result T ShelfError) → KeepsVolumes c.config d.config r → BlamesOr device mid new r → IfErr r (λ e. NoCommit d new) → GivesUp v c d old new r
+pub detach_gives : {T : Type 0} (v : ℕ) (c d : Inner) (device : ℕ) (old mid new : Meaning) (r : Result T ShelfError) → KeepsVolumes c.config d.config r → BlamesOr device mid new r → IfErr r (λ e. NoCommit d new) → GivesUp v c d old new r
 detach_gives v c d device old mid new (Ok x) keeps blames missed = tt
 detach_gives v c d device old mid new (Err (Fault disk)) keeps blames missed = (keeps, inr (⊎_elim (λ un. un) (λ down. absurd (blames.1 down)) missed))
 detach_gives v c d device old mid new (Err Down) keeps blames missed = tt
 
 -- the plexes
-pub ends_gives : (v : ℕ) (c : GroupCore) (done : ℕ → Type 0) (old new : Meaning) (why : No) (device : ℕ) → EndsAt c.config v done old new (Err why) → GivesUp {T = Unit {0}} v c c old new (Err (fault_of why device))
+pub ends_gives : (v : ℕ) (c : Inner) (done : ℕ → Type 0) (old new : Meaning) (why : No) (device : ℕ) → EndsAt c.config v done old new (Err why) → GivesUp {T = Unit {0}} v c c old new (Err (fault_of why device))
 ends_gives v c done old new (refusal.Device disk) device failed = (refl, inl (record { each = failed.each }))
 ends_gives v c done old new refusal.Down device down = tt
 ends_gives v c done old new other device ends = absurd ends
 
 -- the commit before
-pub ready_gives : (v : ℕ) (c d : GroupCore) (error : ShelfError) (old new : Meaning) → d.config.volumes ≡ c.config.volumes → Blames {T = Unit {0}} old new (Err error) → NoCommit d new → GivesUp {T = Unit {0}} v c d old new (Err error)
+pub ready_gives : (v : ℕ) (c d : Inner) (error : ShelfError) (old new : Meaning) → d.config.volumes ≡ c.config.volumes → Blames {T = Unit {0}} old new (Err error) → NoCommit d new → GivesUp {T = Unit {0}} v c d old new (Err error)
 ready_gives v c d (Fault disk) old new same blames missed = (same, inr (⊎_elim (λ un. un) (λ down. absurd (blames.1 down)) missed))
 ready_gives v c d Down old new same blames missed = tt
 
 -- behind it
-pub later_gives : (v : ℕ) (c mid d : GroupCore) (error : ShelfError) (m0 m1 m2 : Meaning) → mid.config.volumes ≡ c.config.volumes → ((u : ℕ) → m0.faults u ≤ m1.faults u) → GivesUp {T = Unit {0}} v mid d m1 m2 (Err error) → GivesUp {T = Unit {0}} v c d m0 m2 (Err error)
+pub later_gives : (v : ℕ) (c mid d : Inner) (error : ShelfError) (m0 m1 m2 : Meaning) → mid.config.volumes ≡ c.config.volumes → ((u : ℕ) → m0.faults u ≤ m1.faults u) → GivesUp {T = Unit {0}} v mid d m1 m2 (Err error) → GivesUp {T = Unit {0}} v c d m0 m2 (Err error)
 later_gives v c mid d (Fault disk) m0 m1 m2 same before gives = (
   gives.0 ∙ same,
   ⊎_elim (λ blamed. inl (each_before c.config mid.config v m0 m1 m2 same before blamed)) (λ un. inr un) gives.1,
@@ -69,6 +69,6 @@ later_gives v c mid d (Fault disk) m0 m1 m2 same before gives = (
 later_gives v c mid d Down m0 m1 m2 same before gives = tt
 
 -- faults and marks of the core are not looked at
-pub same_gives : (v : ℕ) (c d e : GroupCore) (error : ShelfError) (m0 m1 : Meaning) → e.config ≡ d.config → e.unsettled ≡ d.unsettled → GivesUp {T = Unit {0}} v c d m0 m1 (Err error) → GivesUp {T = Unit {0}} v c e m0 m1 (Err error)
+pub same_gives : (v : ℕ) (c d e : Inner) (error : ShelfError) (m0 m1 : Meaning) → e.config ≡ d.config → e.unsettled ≡ d.unsettled → GivesUp {T = Unit {0}} v c d m0 m1 (Err error) → GivesUp {T = Unit {0}} v c e m0 m1 (Err error)
 same_gives v c d e (Fault disk) m0 m1 config un gives = (ap (λ (x : Config). x.volumes) config ∙ gives.0, ⊎_elim (λ blamed. inl blamed) (λ was. inr (un ∙ was)) gives.1)
 same_gives v c d e Down m0 m1 config un gives = tt

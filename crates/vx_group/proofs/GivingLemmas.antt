@@ -15,9 +15,9 @@ use Rattle.vx_kept.proofs.Lasting.{cases_bool}
 use Rattle.vx_group.specs.Imports.{GivesImage}
 use Rattle.vx_group.specs.Resumes.{AtRest, CanImport, IsMended, stopped}
 use Rattle.vx_group.specs.Stands.{meaning_of}
-use Rattle.vx_group.specs.declared.group_core.GroupCore.{GroupCore}
+use Rattle.vx_group.specs.declared.inner.Inner.{Inner}
 
-module _ (old : Meaning) (config opened : Config) (core : GroupCore) (new : Meaning) (R : ℕ → Bool) (image : Image) (law : Lawful old) (law' : Lawful (meaning_of core new)) (can : CanImport old)
+module _ (old : Meaning) (config opened : Config) (core : Inner) (new : Meaning) (R : ℕ → Bool) (image : Image) (law : Lawful old) (law' : Lawful (meaning_of core new)) (can : CanImport old)
     (read : IsTrue old.tells → Each old.reads image) (is : found_by old R image ≡ Found config) (opens : OpenVolumes 0 (returned R config) opened)
     (mended : (v : ℕ) → v < length opened.volumes → stopped config v ≡ true → IsMended opened v (chosen config v) core old new) where
   told_by : (i : Image) → Each old.leaves i → IsTrue old.tells

@@ -24,7 +24,7 @@ use Rattle.vx_group.specs.Laws.{group_lawful}
 use Rattle.vx_group.specs.Mends.{GoesOn}
 use Rattle.vx_group.specs.Resumes.{CanImport, IsMended, IsTaken, Takes, TakenUp, source_at, source_of, stopped}
 use Rattle.vx_group.specs.Stands.{counted, meaning_of}
-use Rattle.vx_group.specs.declared.group_core.GroupCore.{GroupCore}
+use Rattle.vx_group.specs.declared.inner.Inner.{Inner}
 use Rattle.vx_group.specs.declared.taking.Plan.{Plan}
 use Rattle.vx_group.proofs.LoseLemmas.{loses_later}
 use Rattle.vx_group.proofs.CreateLemmas.{cause_before}
@@ -72,7 +72,7 @@ module _ (old m1 : Meaning) (plan : Plan) (taken : IsTaken old m1 plan) where
   is_chosen v lt =
       taken.made.sources v (in_back v lt) ∙ source_back taken.up.readable taken.config set v ∙ source_chosen taken.config v (wanted_sound old.units old.size taken.config x_wanted)
 
-  module _ (new : Meaning) (law : Lawful old) (law1 : Lawful m1) (goes : Goes Nothing old m1) (large : AreLarge old) (can : CanImport old) (d : GroupCore) where
+  module _ (new : Meaning) (law : Lawful old) (law1 : Lawful m1) (goes : Goes Nothing old m1) (large : AreLarge old) (can : CanImport old) (d : Inner) where
     module _ (on : GoesOn plan.core d m1 new) where
       up_to : TakenUp old new taken.config opened
       up_to = record {

@@ -26,6 +26,9 @@ pub mod MakeLemmas
 pub mod FinishLemmas
 pub mod SourceLemmas
 pub mod GivingLemmas
+pub mod HoldLemmas
+pub mod ThroughLemmas
+pub mod BehindLemmas
 pub mod ImportLemmas
 pub mod CrashLemmas
 pub mod FallenLemmas

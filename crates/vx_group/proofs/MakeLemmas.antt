@@ -41,7 +41,7 @@ use Rattle.vx_group.specs.Moves.{Narrows}
 use Rattle.vx_group.specs.Nexts.{Added, Adds, IsNext, IsPlanned, LongerEnds, PlanEnds}
 use Rattle.vx_group.specs.Settled.{SameBut}
 use Rattle.vx_group.specs.Stands.{Stands, counted, meaning_of}
-use Rattle.vx_group.specs.declared.group_core.GroupCore.{GroupCore}
+use Rattle.vx_group.specs.declared.inner.Inner.{Inner}
 use Rattle.vx_group.proofs.CallLemmas.{narrows_Goes}
 use Rattle.vx_group.proofs.LongerLemmas.{longer_count, made_on, sound_disks}
 use Rattle.vx_group.proofs.ShapeLemmas.{MayMake, fresh_name, may_make}
@@ -87,7 +87,7 @@ plan_next c name want next may is = record {
 
 -- ---- behind headers that were written back
 
-config_is : (x y : Config) → x.serial ≡ y.serial → x.site ≡ y.site → x.disks ≡ y.disks → x.volumes ≡ y.volumes → x.rvg ≡ y.rvg → x ≡ y
+pub config_is : (x y : Config) → x.serial ≡ y.serial → x.site ≡ y.site → x.disks ≡ y.disks → x.volumes ≡ y.volumes → x.rvg ≡ y.rvg → x ≡ y
 config_is x y serial site disks volumes rvg =
     ap (λ (s : ℕ). record { serial = s; site = x.site; disks = x.disks; volumes = x.volumes; rvg = x.rvg }) serial
     ∙ ap (λ (s : ℕ). record { serial = y.serial; site = s; disks = x.disks; volumes = x.volumes; rvg = x.rvg }) site
@@ -100,7 +100,7 @@ pub volumes_Goes : (c d : Config) (f : ℕ → ℕ) (m : Meaning) → Lawful m �
 volumes_Goes c d f m lawful apart same = group-Goes c d (Member 0 m) f f m m Nothing Nothing (same_Acts (Sees c (Member 0 m) m) m) apart
     (alike_shape d c c same (same_shape c)) (λ v p is_on. sym (active_volumes d c same v p) ∙ is_on) (λ v p b x in_it is_on none. none) (λ v. omega arith) (λ not t i left. lawful.never not t i left)
 
-module _ (core mid : GroupCore) (m m1 : Meaning) (lawful : Lawful m1) (stands : Stands core m) (stands1 : Stands mid m1) (narrows : Narrows core mid m m1) (same : SameBut core.config mid.config) where
+module _ (core mid : Inner) (m m1 : Meaning) (lawful : Lawful m1) (stands : Stands core m) (stands1 : Stands mid m1) (narrows : Narrows core mid m m1) (same : SameBut core.config mid.config) where
   blocks_at : have_blocks m.size 0 mid.config.disks ≡ true
   blocks_at =
       let wanted : is_wanted m.units m.size mid.config ≡ true = wanted_same m1 m mid.config (sym narrows.acts.units) (λ u. sym (narrows.acts.size u)) stands1.wanted in
@@ -135,7 +135,7 @@ module _ (core mid : GroupCore) (m m1 : Meaning) (lawful : Lawful m1) (stands : 
     unsure = narrows.unsure;
   }
 
-  module _ (d : GroupCore) (m2 : Meaning) (after : Lawful m2) (stay : StayAsWere mid d m1 m2) where
+  module _ (d : Inner) (m2 : Meaning) (after : Lawful m2) (stay : StayAsWere mid d m1 m2) where
     pub later_stay : StayAsWere core d m m2
     later_stay = record {
       goes = still (meaning_of core m) (meaning_of mid m1) (group_meaning core.config (counted d.faults) m2)
@@ -148,7 +148,7 @@ module _ (core mid : GroupCore) (m m1 : Meaning) (lawful : Lawful m1) (stands : 
       unsure = stay.unsure ∙ narrows.unsure;
     }
 
-  pub later_adds : (d : GroupCore) (m2 : Meaning) (next last : Config) → last.volumes ≡ next.volumes → {T E : Type 0} → (r : Result T E) → Adds mid d last m2 r → Adds core d next m2 r
+  pub later_adds : (d : Inner) (m2 : Meaning) (next last : Config) → last.volumes ≡ next.volumes → {T E : Type 0} → (r : Result T E) → Adds mid d last m2 r → Adds core d next m2 r
   later_adds d m2 next last volumes (Ok x) added = record {
     volumes = added.volumes ∙ volumes;
     begins = subst (λ (n : ℕ). AreZero d.config n m2) (ap length same.volumes) added.begins;
@@ -158,7 +158,7 @@ module _ (core mid : GroupCore) (m m1 : Meaning) (lawful : Lawful m1) (stands : 
 -- ---- the whole
 
 -- no call
-pub no_stay : (core : GroupCore) (m : Meaning) → StayAsWere core core m m
+pub no_stay : (core : Inner) (m : Meaning) → StayAsWere core core m m
 no_stay core m = record {
   goes = same_Goes Nothing (meaning_of core m);
   shape = same_extends core.config core.config (same_shape core.config);
@@ -167,7 +167,7 @@ no_stay core m = record {
   unsure = refl;
 }
 
-module _ (core d : GroupCore) (name : List ℕ) (want : Shape) (next : Config) (m m' : Meaning) (is_planned : IsPlanned core.config name want next) where
+module _ (core d : Inner) (name : List ℕ) (want : Shape) (next : Config) (m m' : Meaning) (is_planned : IsPlanned core.config name want next) where
   pub made_volume : Added core d next m' → VolumeMade name want (length core.config.volumes) core d m'
   made_volume added = record {
     number = refl;
@@ -184,7 +184,7 @@ stopped_by c name want old new (Fault disk) why = why.0
 stopped_by c name want old new Down down = down
 
 -- a plan that fails
-pub plan_stops : (core : GroupCore) (name : List ℕ) (want : Shape) (m : Meaning) (stop : Stop) → PlanEnds core.config name want (Err stop) → MakeEnds name want core core m m (Err stop)
+pub plan_stops : (core : Inner) (name : List ℕ) (want : Shape) (m : Meaning) (stop : Stop) → PlanEnds core.config name want (Err stop) → MakeEnds name want core core m m (Err stop)
 plan_stops core name want m (Refused (refusal.Space need have)) short = (refl, short)
 plan_stops core name want m (Refused (refusal.Limit Subdisks most)) many = (refl, many)
 plan_stops core name want m (Refused other) none = absurd none

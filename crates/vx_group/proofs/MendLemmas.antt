@@ -15,7 +15,7 @@ use Rattle.vx_group.specs.Laws.{group_lawful}
 use Rattle.vx_group.specs.Mends.{GoesOn, Mending}
 use Rattle.vx_group.specs.Resumes.{IsMended, source_at}
 use Rattle.vx_group.specs.Stands.{Stands, counted, meaning_of}
-use Rattle.vx_group.specs.declared.group_core.GroupCore.{GroupCore}
+use Rattle.vx_group.specs.declared.inner.Inner.{Inner}
 use Rattle.vx_group.proofs.CopyLemmas.{spent_both, spent_none}
 use Rattle.vx_group.proofs.Standing.{apart_of_core}
 
@@ -64,7 +64,7 @@ module _ (V : Values) (a b : Meaning) (before : Lawful a) (after : Lawful b) (go
 
 -- ---- a volume that was copied is to the group no step at all
 
-module _ (d e : GroupCore) (v source : ℕ) (m1 m2 : Meaning) (law1 : Lawful m1) (law2 : Lawful m2) (stands : Stands d m1) (is_on : IsTrue (active d.config v source)) (moved : CopyMoved d v source e m1 m2) where
+module _ (d e : Inner) (v source : ℕ) (m1 m2 : Meaning) (law1 : Lawful m1) (law2 : Lawful m2) (stands : Stands d m1) (is_on : IsTrue (active d.config v source)) (moved : CopyMoved d v source e m1 m2) where
   abbrev Put : Values
   Put w k x = IsTrue m1.tells → (meaning_of d m1).reads w k x
 
@@ -85,7 +85,7 @@ module _ (d e : GroupCore) (v source : ℕ) (m1 m2 : Meaning) (law1 : Lawful m1)
 
 -- ---- the loop over the volumes
 
-pub none_mended : (core : GroupCore) (flags : List Bool) (sources : List ℕ) (m : Meaning) → Stands core m → core.unsettled ≡ false → (IsTrue m.down → ⊥) → Goes Nothing (meaning_of core m) (meaning_of core m) → Mending core flags sources 0 core m m
+pub none_mended : (core : Inner) (flags : List Bool) (sources : List ℕ) (m : Meaning) → Stands core m → core.unsettled ≡ false → (IsTrue m.down → ⊥) → Goes Nothing (meaning_of core m) (meaning_of core m) → Mending core flags sources 0 core m m
 none_mended core flags sources m stands settled up goes = record {
   on = record { stands = stands; shape = same_shape core.config; on = λ w p is. is; faults = refl; unsure = refl; goes = goes; unit_faults = λ u. omega arith; disk_faults = λ u. omega arith };
   spent = spent_none core.config m m;
@@ -115,14 +115,14 @@ same_Goes m = record {
 }
 
 -- a volume that was made alike stays so in each call that changes nothing
-pub mended_later : (core d e : GroupCore) (v source : ℕ) (old m1 m2 : Meaning) → Goes Nothing (meaning_of d m1) (meaning_of e m2) → IsMended core.config v source d old m1 → IsMended core.config v source e old m2
+pub mended_later : (core d e : Inner) (v source : ℕ) (old m1 m2 : Meaning) → Goes Nothing (meaning_of d m1) (meaning_of e m2) → IsMended core.config v source d old m1 → IsMended core.config v source e old m2
 mended_later core d e v source old m1 m2 goes was = record {
   value = was.value;
   origin = was.origin;
   one = λ k x in_it left. was.one k x in_it (⊎_elim (λ is. is) (λ none. absurd none) (goes.leaves v k x left));
 }
 
-module _ (core d : GroupCore) (flags : List Bool) (sources : List ℕ) (n : ℕ) (old m1 : Meaning) (was : Mending core flags sources n d old m1) where
+module _ (core d : Inner) (flags : List Bool) (sources : List ℕ) (n : ℕ) (old m1 : Meaning) (was : Mending core flags sources n d old m1) where
   pub mend_skip : marked flags n ≡ false → Mending core flags sources (n + 1) d old m1
   mend_skip off = record {
     on = was.on;
@@ -137,7 +137,7 @@ module _ (core d : GroupCore) (flags : List Bool) (sources : List ℕ) (n : ℕ)
     still = λ w p le. was.still w p (omega (arith, le));
   }
 
-  module _ (e : GroupCore) (m2 : Meaning) (law1 : Lawful m1) (law2 : Lawful m2) (on_core : IsTrue (active core.config n (source_at sources n))) where
+  module _ (e : Inner) (m2 : Meaning) (law1 : Lawful m1) (law2 : Lawful m2) (on_core : IsTrue (active core.config n (source_at sources n))) where
     source_on : IsTrue (active d.config n (source_at sources n))
     source_on = was.still n (source_at sources n) (omega arith) ∙ on_core
 

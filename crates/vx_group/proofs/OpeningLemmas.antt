@@ -25,8 +25,9 @@ use Rattle.vx_kept.proofs.Narrower.{live_has, on_live}
 use Rattle.vx_kept.proofs.StateLemmas.{active_apart, live_apart, map_one, plex_same, stated_shape}
 use Rattle.vx_group.specs.Attaches.{MayAttach, att_refusal, attached}
 use Rattle.vx_group.specs.Dets.{margin}
+use Rattle.vx_group.specs.Holding.{with_config}
 use Rattle.vx_group.specs.Stands.{Stands}
-use Rattle.vx_group.specs.declared.group_core.GroupCore.{GroupCore}
+use Rattle.vx_group.specs.declared.inner.Inner.{Inner}
 use Rattle.vx_group.proofs.Standing.{can_of, kept_of, made, sound_of, tidy_of}
 
 -- ---- no refusal
@@ -65,18 +66,27 @@ module _ (c : Config) (v p : ℕ) (may : att_refusal c v p ≡ None) where
     | inr le ↦ omega (arith, le)
   ]
 
-  -- so it is with as many serials less as a commit uses at most
-  pub may_behind : (d : Config) → d.volumes ≡ c.volumes → d.serial ≤ c.serial + 9 → MayAttach d v p
-  may_behind d volumes few = record {
-    volume = omega (arith, may_volume, ap length volumes);
-    plex = let count : plexes_of d v ≡ plexes_of c v = ap (λ (vs : List VolumeEntry). plexes_or (slice_get vs v)) volumes in
-        let less : p < plexes_of c v = less_of (plexes_of c v) p (none_of (nat_le (length c.volumes) v) (nat_le (plexes_of c v) p) (nat_lt (greatest - margin) c.serial) _ _ _ may).1 in
-        omega (arith, count, less);
-    more = elim (cases_lt (greatest - margin) c.serial) [
-      | inl lt ↦ absurd (let clash : true ≡ false = sym (lt-ltb (greatest - margin) c.serial lt) ∙ (none_of (nat_le (length c.volumes) v) (nat_le (plexes_of c v) p) (nat_lt (greatest - margin) c.serial) _ _ _ may).2 in cc)
-      | inr le ↦ omega (arith, le, few)
-    ];
-  }
+  pub may_attach : MayAttach c v p
+  may_attach = record { volume = may_volume; plex = less_of (plexes_of c v) p (none_of (nat_le (length c.volumes) v) (nat_le (plexes_of c v) p) (nat_lt (greatest - margin) c.serial) _ _ _ may).1; more = may_less }
+
+  -- so many serials are left that two commits use less
+  pub may_room : c.serial + 18 < greatest
+  may_room = elim (cases_lt (greatest - margin) c.serial) [
+    | inl lt ↦ absurd (let clash : true ≡ false = sym (lt-ltb (greatest - margin) c.serial lt) ∙ (none_of (nat_le (length c.volumes) v) (nat_le (plexes_of c v) p) (nat_lt (greatest - margin) c.serial) _ _ _ may).2 in cc)
+    | inr le ↦ omega (arith, le)
+  ]
+
+-- so it is with as many serials less as a commit uses at most
+pub may_behind : (c d : Config) (v p : ℕ) → MayAttach c v p → c.serial + 9 < greatest → d.volumes ≡ c.volumes → d.serial ≤ c.serial + 9 → MayAttach d v p
+may_behind c d v p may room volumes few = record {
+  volume = let lt = may.volume in omega (arith, lt, ap length volumes);
+  plex = let count : plexes_of d v ≡ plexes_of c v = ap (λ (vs : List VolumeEntry). plexes_or (slice_get vs v)) volumes in let lt = may.plex in omega (arith, count, lt);
+  more = omega (arith, room, few);
+}
+
+-- so it is behind one commit, where an attach may begin
+pub later_may : (c d : Config) (v p : ℕ) → att_refusal c v p ≡ None → d.volumes ≡ c.volumes → d.serial ≤ c.serial + 9 → MayAttach d v p
+later_may c d v p may volumes few = may_behind c d v p (may_attach c v p may) (let room = may_room c v p may in omega (arith, room)) volumes few
 
 pub present : (c : Config) (v p : ℕ) → MayAttach c v p → Present c v p
 present c v p may =
@@ -180,15 +190,11 @@ module _ (c : Config) (v p : ℕ) (there : Present c v p) where
         record { config = sees.config; found = sees.found; kin = kin_wider sees.config sees.kin; others = λ R g x held in_it is. kin_wider x (sees.others R g x held in_it is) };
   }
 
--- a core with this configuration
-abbrev pub with_config : Config → GroupCore → GroupCore
-with_config c core = record { config = c; good = core.good; room = core.room; unsettled = core.unsettled; committed = core.committed; agreed = core.agreed; next = core.next; faults = core.faults; unsure = core.unsure }
-
 -- a core in which the plex is ACTIVE
-abbrev pub opened : ℕ → ℕ → GroupCore → GroupCore
+abbrev pub opened : ℕ → ℕ → Inner → Inner
 opened v p core = with_config (attached v p core.config) core
 
-module _ (core : GroupCore) (v p : ℕ) (there : Present core.config v p) (m : Meaning) (stands : Stands core m) where
+module _ (core : Inner) (v p : ℕ) (there : Present core.config v p) (m : Meaning) (stands : Stands core m) where
   sound_here : is_sound (attached v p core.config) ≡ true
   sound_here = open_sound core.config v p there (sound_of core m stands)
 

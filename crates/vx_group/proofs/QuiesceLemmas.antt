@@ -22,7 +22,7 @@ use Rattle.vx_group.specs.Deports.{IsVolumeOf}
 use Rattle.vx_group.specs.Moves.{AllFlushed, Narrows}
 use Rattle.vx_group.specs.Quiesces.{AnyFailed, GivenBack, GoesOnBy, NoVolume, QuiesceEnds, Quiesced, Quiesces, SameParts}
 use Rattle.vx_group.specs.Stands.{Stands}
-use Rattle.vx_group.specs.declared.group_core.GroupCore.{GroupCore}
+use Rattle.vx_group.specs.declared.inner.Inner.{Inner}
 use Rattle.vx_group.specs.Loses.{Loses}
 use Rattle.vx_group.proofs.FailingLemmas.{no_failing}
 use Rattle.vx_group.proofs.LoseLemmas.{loses_none, loses_same, then_loses}
@@ -37,7 +37,7 @@ or_failed x y z m0 m1 m2 before after (inr rose) two = inr (rose.0, Rose_after (
 or_failed x y z m0 m1 m2 before after (inl same) (inl more) = inl (more ∙ same)
 or_failed x y z m0 m1 m2 before after (inl same) (inr rose) = inr (rose.0, Rose_before (m0.disk_faults rose.0) (m1.disk_faults rose.0) (m2.disk_faults rose.0) (before rose.0) rose.1)
 
-module _ (c d e : GroupCore) (P Q R : ℕ → Type 0) (m0 m1 m2 : Meaning) (apart : Apart c.config) (one : Quiesces c d P m0 m1) (two : Quiesces d e Q m1 m2) (up : IsTrue m1.down → ⊥) (part : (v : ℕ) → R v → P v ⊎ Q v) where
+module _ (c d e : Inner) (P Q R : ℕ → Type 0) (m0 m1 m2 : Meaning) (apart : Apart c.config) (one : Quiesces c d P m0 m1) (two : Quiesces d e Q m1 m2) (up : IsTrue m1.down → ⊥) (part : (v : ℕ) → R v → P v ⊎ Q v) where
   from_first : (v p : ℕ) → PlexFlushed c.config v p m0 m1 → IsTrue (active c.config v p) → PlexFlushed c.config v p m0 m2
   from_first v p was is_on = record {
     each = λ k x in_it left. was.each k x in_it (⊎_elim (λ is. is) (λ none. absurd none) (two.acts.leaves (place c.config v p k).0 (place c.config v p k).1 x (apart.above v p k in_it is_on) left));
@@ -75,13 +75,13 @@ module _ (c d e : GroupCore) (P Q R : ℕ → Type 0) (m0 m1 m2 : Meaning) (apar
     ];
   }
 
-pub both_parts : (c d e : GroupCore) → SameParts c.config d.config → SameParts d.config e.config → SameParts c.config e.config
+pub both_parts : (c d e : Inner) → SameParts c.config d.config → SameParts d.config e.config → SameParts c.config e.config
 both_parts c d e one two = record { site = two.site ∙ one.site; rvg = two.rvg ∙ one.rvg; count = two.count ∙ one.count }
 
 -- ---- one step
 
 -- no block was touched, by a commit or none
-module _ (c d e : GroupCore) (which : ℕ → Type 0) (m m' : Meaning) (narrows : Narrows c d m m') where
+module _ (c d e : Inner) (which : ℕ → Type 0) (m m' : Meaning) (narrows : Narrows c d m m') where
   pub stepped : (e.config ≡ d.config) → e.faults ≡ d.faults → (d.config.volumes ≡ c.config.volumes) ⊎ AnyFailed m m' → (e.unsure ≡ c.unsure) ⊎ AnyFailed m m' → ((v : ℕ) → marked e.unsure v ≡ false → marked c.unsure v ≡ false)
       → ((v p : ℕ) → which v → marked e.unsure v ≡ false → IsTrue (active d.config v p) → PlexFlushed c.config v p m m') → Loses c.config d.config m m' → Quiesces c e which m m'
   stepped same counts volumes unsure sure flushed loses = record {
@@ -97,12 +97,12 @@ module _ (c d e : GroupCore) (which : ℕ → Type 0) (m m' : Meaning) (narrows 
   }
 
 -- no volume was flushed
-pub quiet : (c d : GroupCore) (m m' : Meaning) → Narrows c d m m' → d.config.volumes ≡ c.config.volumes → MoreFailed m m' c.config.disks d.config.disks → Quiesces c d NoVolume m m'
+pub quiet : (c d : Inner) (m m' : Meaning) → Narrows c d m m' → d.config.volumes ≡ c.config.volumes → MoreFailed m m' c.config.disks d.config.disks → Quiesces c d NoVolume m m'
 quiet c d m m' narrows volumes failing = stepped c d d NoVolume m m' narrows refl refl (inl volumes) (inl narrows.unsure) (λ v is. ap (λ (u : List Bool). marked u v) (sym narrows.unsure) ∙ is) (λ v p none. absurd none)
     (loses_none c.config d.config m m' volumes failing)
 
 -- the plexes of one volume, as all its plexes were flushed
-pub flushed_one : (c d e : GroupCore) (vol : ℕ) (m m' : Meaning) → Narrows c d m m' → AllFlushed d.config vol m m' → (v p : ℕ) → v ≡ vol → marked e.unsure v ≡ false → IsTrue (active d.config v p) → PlexFlushed c.config v p m m'
+pub flushed_one : (c d e : Inner) (vol : ℕ) (m m' : Meaning) → Narrows c d m m' → AllFlushed d.config vol m m' → (v p : ℕ) → v ≡ vol → marked e.unsure v ≡ false → IsTrue (active d.config v p) → PlexFlushed c.config v p m m'
 flushed_one c d e vol m m' narrows all v p at off is_on = record {
   each = λ k x in_it left.
       let was : PlexFlushed d.config v p m m' = subst (λ (w : ℕ). PlexFlushed d.config w p m m') (sym at) (all.each p (subst (λ (w : ℕ). IsTrue (active d.config w p)) at is_on)) in
@@ -123,7 +123,7 @@ pub or_marked : (error : ShelfError) (vol : ℕ) (old new : List Bool) (m m' : M
 or_marked (Fault disk) vol old new m m' it why = inr (disk, why.0)
 or_marked Down vol old new m m' it why = inl it
 
-pub unsure_Stands : (core : GroupCore) (unsure : List Bool) (m : Meaning) → Stands core m → Stands (record { config = core.config; good = core.good; room = core.room; unsettled = core.unsettled; committed = core.committed; agreed = core.agreed; next = core.next; faults = core.faults; unsure = unsure }) m
+pub unsure_Stands : (core : Inner) (unsure : List Bool) (m : Meaning) → Stands core m → Stands (record { config = core.config; good = core.good; room = core.room; unsettled = core.unsettled; committed = core.committed; agreed = core.agreed; next = core.next; faults = core.faults; unsure = unsure }) m
 unsure_Stands core unsure m s = record {
   wanted = s.wanted;
   serial = s.serial;
@@ -139,7 +139,7 @@ unsure_Stands core unsure m s = record {
   trusts = s.trusts;
 }
 
-pub same_parts : (c : GroupCore) → SameParts c.config c.config
+pub same_parts : (c : Inner) → SameParts c.config c.config
 same_parts c = record { site = refl; rvg = refl; count = refl }
 
 -- ---- how a flush of one volume ends
@@ -147,11 +147,11 @@ same_parts c = record { site = refl; rvg = refl; count = refl }
 abbrev pub is_volume : ℕ → ℕ → Type 0
 is_volume vol v = v ≡ vol
 
-abbrev pub with_unsure : GroupCore → List Bool → GroupCore
+abbrev pub with_unsure : Inner → List Bool → Inner
 with_unsure core unsure = record { config = core.config; good = core.good; room = core.room; unsettled = core.unsettled; committed = core.committed; agreed = core.agreed; next = core.next; faults = core.faults; unsure = unsure }
 
 -- each plex failed, or the shelf fell
-module _ (core : GroupCore) (vol : ℕ) (m m' : Meaning) (stands : Stands core m') (narrows : Narrows core core m m') (settled : core.unsettled ≡ false) (more : core.config.serial < greatest)
+module _ (core : Inner) (vol : ℕ) (m m' : Meaning) (stands : Stands core m') (narrows : Narrows core core m m') (settled : core.unsettled ≡ false) (more : core.config.serial < greatest)
     (error : ShelfError) (unsure : List Bool) (marks : Marks error vol core.unsure unsure) (why : Blames {T = Unit {0}} m m' (Err error)) where
   off_none : Marks error vol core.unsure unsure → (v p : ℕ) → v ≡ vol → marked unsure v ≡ false → marked unsure vol ≡ true → PlexFlushed core.config v p m m'
   off_none it v p at off on = absurd (let is : marked unsure v ≡ true = subst (λ (w : ℕ). marked unsure w ≡ true) (sym at) on in let clash : true ≡ false = sym is ∙ off in cc)
@@ -175,7 +175,7 @@ module _ (core : GroupCore) (vol : ℕ) (m m' : Meaning) (stands : Stands core m
     more = more;
   }
 
-pub unsure_ends : (core : GroupCore) (vol : ℕ) (m m' : Meaning) → Stands core m' → Narrows core core m m' → core.unsettled ≡ false → core.config.serial < greatest → (error : ShelfError) (unsure : List Bool) (r : Result (Unit {0}) ShelfError)
+pub unsure_ends : (core : Inner) (vol : ℕ) (m m' : Meaning) → Stands core m' → Narrows core core m m' → core.unsettled ≡ false → core.config.serial < greatest → (error : ShelfError) (unsure : List Bool) (r : Result (Unit {0}) ShelfError)
     → Marks error vol core.unsure unsure → GoesOnBy error r → Blames {T = Unit {0}} m m' (Err error) → QuiesceEnds (is_volume vol) core (with_unsure core unsure) m m' r
 unsure_ends core vol m m' stands narrows settled more (Fault disk) unsure (Ok x) marks on why = left_on core vol m m' stands narrows settled more (Fault disk) unsure marks why marks.here why.1
 unsure_ends core vol m m' stands narrows settled more (Fault disk) unsure (Err error) marks on why = absurd on
@@ -191,7 +191,7 @@ unsure_blames m m' Down (Err (Fault disk)) on why = absurd on
 unsure_blames m m' Down (Err Down) on why = why
 
 -- no plex failed, or those that failed were detached
-module _ (core d : GroupCore) (vol : ℕ) (m m' : Meaning) (stands : Stands d m') (narrows : Narrows core d m m') (volumes : (d.config.volumes ≡ core.config.volumes) ⊎ AnyFailed m m') (loses : Loses core.config d.config m m') where
+module _ (core d : Inner) (vol : ℕ) (m m' : Meaning) (stands : Stands d m') (narrows : Narrows core d m m') (volumes : (d.config.volumes ≡ core.config.volumes) ⊎ AnyFailed m m') (loses : Loses core.config d.config m m') where
   sure_as : (v : ℕ) → marked d.unsure v ≡ false → marked core.unsure v ≡ false
   sure_as v is = ap (λ (u : List Bool). marked u v) (sym narrows.unsure) ∙ is
 
@@ -218,7 +218,7 @@ module _ (core d : GroupCore) (vol : ℕ) (m m' : Meaning) (stands : Stands d m'
 
 -- ---- the loop
 
-pub none_quiesced : (core : GroupCore) (m : Meaning) → Stands core m → core.unsettled ≡ false → (IsTrue m.down → ⊥) → core.config.serial < greatest → Quiesced core core (λ (v : ℕ). v < 0) m m
+pub none_quiesced : (core : Inner) (m : Meaning) → Stands core m → core.unsettled ≡ false → (IsTrue m.down → ⊥) → core.config.serial < greatest → Quiesced core core (λ (v : ℕ). v < 0) m m
 none_quiesced core m stands settled up more = record {
   stands = stands;
   quiesces = stepped core core core (λ (v : ℕ). v < 0) m m (no_commit core m) refl refl (inl refl) (inl refl) (λ v is. is) (λ v p lt. absurd (omega (arith, lt))) (loses_same core.config m m);
@@ -232,7 +232,7 @@ none_quiesced core m stands settled up more = record {
 below_next : (n v : ℕ) → v < n + 1 → (v < n) ⊎ (v ≡ n)
 below_next n v lt = elim (cases_lt v n) [ inl less ↦ inl less | inr le ↦ inr (omega (arith, lt, le)) ]
 
-module _ (core d e : GroupCore) (n : ℕ) (m0 m1 m2 : Meaning) (begun : Stands core m0) (was : Quiesced core d (λ (v : ℕ). v < n) m0 m1) where
+module _ (core d e : Inner) (n : ℕ) (m0 m1 m2 : Meaning) (begun : Stands core m0) (was : Quiesced core d (λ (v : ℕ). v < n) m0 m1) where
   pub one_more : Quiesced d e (is_volume n) m1 m2 → Quiesced core e (λ (v : ℕ). v < n + 1) m0 m2
   one_more now = record {
     stands = now.stands;
@@ -250,7 +250,7 @@ module _ (core d e : GroupCore) (n : ℕ) (m0 m1 m2 : Meaning) (begun : Stands c
     quiesces = both_quiesce core d e (λ (v : ℕ). v < n) NoVolume NoVolume m0 m1 m2 (apart_of_core core m0 begun) was.quiesces now.quiesces was.up (λ v none. inr none);
   }
 
-pub all_quiesced : (core e : GroupCore) (n : ℕ) (m m' : Meaning) → length core.config.volumes ≤ n → Quiesced core e (λ (v : ℕ). v < n) m m' → Quiesced core e (IsVolumeOf core) m m'
+pub all_quiesced : (core e : Inner) (n : ℕ) (m m' : Meaning) → length core.config.volumes ≤ n → Quiesced core e (λ (v : ℕ). v < n) m m' → Quiesced core e (IsVolumeOf core) m m'
 all_quiesced core e n m m' le was = record {
   stands = was.stands;
   quiesces = record {
@@ -272,5 +272,5 @@ all_quiesced core e n m m' le was = record {
 }
 
 -- no call at all
-pub still_back : (core : GroupCore) (m : Meaning) → Stands core m → GivenBack core core m m
+pub still_back : (core : Inner) (m : Meaning) → Stands core m → GivenBack core core m m
 still_back core m stands = record { stands = stands; quiesces = quiet core core m m (no_commit core m) refl (no_failing m m core.config.disks core.config.disks refl) }

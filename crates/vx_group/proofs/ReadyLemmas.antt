@@ -37,7 +37,7 @@ use Rattle.vx_group.specs.Moves.{Narrows}
 use Rattle.vx_group.specs.Quiesces.{AnyFailed}
 use Rattle.vx_group.specs.Settled.{SameBut, SettledTo}
 use Rattle.vx_group.specs.Stands.{Stands}
-use Rattle.vx_group.specs.declared.group_core.GroupCore.{GroupCore}
+use Rattle.vx_group.specs.declared.inner.Inner.{Inner}
 use Rattle.vx_group.proofs.FailingLemmas.{no_failing, then_failing}
 use Rattle.vx_group.proofs.Standing.{can_of, made, member_to, still_large}
 
@@ -185,8 +185,8 @@ kept_volumes c d G m volumes serial kept = record {
 
 -- ---- the group with it
 
-module _ (core : GroupCore) (d : Config) (n device : ℕ) (failed : Bool) (m m1 : Meaning) (stands : Stands core m) (so_far : SettledTo core.good core.config d n device failed m m1) where
-  abbrev with_disks : GroupCore
+module _ (core : Inner) (d : Config) (n device : ℕ) (failed : Bool) (m m1 : Meaning) (stands : Stands core m) (so_far : SettledTo core.good core.config d n device failed m m1) where
+  abbrev with_disks : Inner
   with_disks = record { config = d; good = core.good; room = core.room; unsettled = false; committed = core.committed; agreed = core.agreed; next = core.next; faults = core.faults; unsure = core.unsure }
 
   can_same : CanSpell d
@@ -222,24 +222,24 @@ put_back c d disks same is =
     ∙ ap (λ (o : Option Units). record { serial = c.serial; site = c.site; disks = c.disks; volumes = c.volumes; rvg = o }) same.rvg
 
 -- and the core with them
-pub core_back : (core l : GroupCore) (disks : List DiskEntry)
+pub core_back : (core l : Inner) (disks : List DiskEntry)
     → l ≡ record { config = l.config; good = core.good; room = core.room; unsettled = core.unsettled; committed = core.committed; agreed = core.agreed; next = core.next; faults = core.faults; unsure = core.unsure } → SameBut core.config l.config → disks ≡ core.config.disks
     → record { config = record { serial = l.config.serial; site = l.config.site; disks = disks; volumes = l.config.volumes; rvg = l.config.rvg }; good = l.good; room = l.room; unsettled = l.unsettled; committed = l.committed; agreed = l.agreed; next = l.next; faults = l.faults; unsure = l.unsure } ≡ core
 core_back core l disks is same back =
-    ap (λ (x : GroupCore). record { config = record { serial = l.config.serial; site = l.config.site; disks = disks; volumes = l.config.volumes; rvg = l.config.rvg }; good = x.good; room = x.room; unsettled = x.unsettled; committed = x.committed; agreed = x.agreed; next = x.next; faults = x.faults; unsure = x.unsure }) is
+    ap (λ (x : Inner). record { config = record { serial = l.config.serial; site = l.config.site; disks = disks; volumes = l.config.volumes; rvg = l.config.rvg }; good = x.good; room = x.room; unsettled = x.unsettled; committed = x.committed; agreed = x.agreed; next = x.next; faults = x.faults; unsure = x.unsure }) is
     ∙ ap (λ (x : Config). record { config = x; good = core.good; room = core.room; unsettled = core.unsettled; committed = core.committed; agreed = core.agreed; next = core.next; faults = core.faults; unsure = core.unsure }) (put_back core.config l.config disks same back)
 
 -- and the core that is settled
-pub core_settled : (core l : GroupCore) → l ≡ record { config = l.config; good = core.good; room = core.room; unsettled = core.unsettled; committed = core.committed; agreed = core.agreed; next = core.next; faults = core.faults; unsure = core.unsure }
-    → ◌≡◌ {A = GroupCore} (record { config = l.config; good = l.good; room = l.room; unsettled = false; committed = l.committed; agreed = l.agreed; next = l.next; faults = l.faults; unsure = l.unsure })
+pub core_settled : (core l : Inner) → l ≡ record { config = l.config; good = core.good; room = core.room; unsettled = core.unsettled; committed = core.committed; agreed = core.agreed; next = core.next; faults = core.faults; unsure = core.unsure }
+    → ◌≡◌ {A = Inner} (record { config = l.config; good = l.good; room = l.room; unsettled = false; committed = l.committed; agreed = l.agreed; next = l.next; faults = l.faults; unsure = l.unsure })
     (record { config = l.config; good = core.good; room = core.room; unsettled = false; committed = core.committed; agreed = core.agreed; next = core.next; faults = core.faults; unsure = core.unsure })
-core_settled core l is = ap (λ (x : GroupCore). record { config = l.config; good = x.good; room = x.room; unsettled = false; committed = x.committed; agreed = x.agreed; next = x.next; faults = x.faults; unsure = x.unsure }) is
+core_settled core l is = ap (λ (x : Inner). record { config = l.config; good = x.good; room = x.room; unsettled = false; committed = x.committed; agreed = x.agreed; next = x.next; faults = x.faults; unsure = x.unsure }) is
 
 pub fault_cause : (old new : Meaning) (n unit : ℕ) (error : ShelfError) → error ≡ Fault unit → Cause {T = Unit {0}} old new n (Err error) → Faulted old new n unit × StaysUp old new
 fault_cause old new n unit error is cause = subst (λ (e : ShelfError). Cause {T = Unit {0}} old new n (Err e)) is cause
 
 -- where none of the set is left, one failed
-pub one_failed : (core l : GroupCore) (n device : ℕ) (failed : Bool) (m m1 : Meaning) → Stands core m → SettledTo core.good core.config l.config n device failed m m1
+pub one_failed : (core l : Inner) (n device : ℕ) (failed : Bool) (m m1 : Meaning) → Stands core m → SettledTo core.good core.config l.config n device failed m m1
     → l ≡ record { config = l.config; good = core.good; room = core.room; unsettled = core.unsettled; committed = core.committed; agreed = core.agreed; next = core.next; faults = core.faults; unsure = core.unsure } → NoneGood l.config.disks (length l.config.disks) l.good
     → Rose (m.disk_faults device) (m1.disk_faults device)
 one_failed core l n device failed m m1 stands so_far is none = by failed refl
@@ -247,7 +247,7 @@ one_failed core l n device failed m m1 stands so_far is none = by failed refl
     by : (b : Bool) → failed ≡ b → Rose (m.disk_faults device) (m1.disk_faults device)
     by true at = so_far.rose at
     by false at = absurd (stands.some (subst (λ (x : Config). NoneGood x.disks (length x.disks) core.good) (so_far.none at)
-        (subst (λ (k : ℕ). NoneGood l.config.disks (length l.config.disks) k) (ap (λ (x : GroupCore). x.good) is) none)))
+        (subst (λ (k : ℕ). NoneGood l.config.disks (length l.config.disks) k) (ap (λ (x : Inner). x.good) is) none)))
 
 -- where none failed nothing has changed
 pub settled_still : (good : ℕ) (c d : Config) (n device : ℕ) (failed : Bool) (m m1 : Meaning) → SettledTo good c d n device failed m m1 → (d ≡ c) ⊎ AnyFailed m m1

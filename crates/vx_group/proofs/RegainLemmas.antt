@@ -24,7 +24,7 @@ use Rattle.vx_kept.proofs.Steps.{same_Acts}
 use Rattle.vx_group.specs.Moves.{Narrows}
 use Rattle.vx_group.specs.Regains.{AreHeld, HeldOne, HoldsNow, LiesOnFailed, Regained, Regains, regained}
 use Rattle.vx_group.specs.Stands.{Stands}
-use Rattle.vx_group.specs.declared.group_core.GroupCore.{GroupCore}
+use Rattle.vx_group.specs.declared.inner.Inner.{Inner}
 use Rattle.vx_group.proofs.FailingLemmas.{wanted_flags}
 use Rattle.vx_group.proofs.ReadyLemmas.{kept_volumes, same_but}
 use Rattle.vx_group.proofs.Standing.{can_of, kept_of, made}
@@ -131,7 +131,7 @@ regained_to c d v p n k any le is = record {
 -- ---- the group with it
 
 -- a core of which flags of disks alone changed
-pub same_narrows : (c d : GroupCore) (m : Meaning) → d.config.volumes ≡ c.config.volumes → d.faults ≡ c.faults → d.unsure ≡ c.unsure → Narrows c d m m
+pub same_narrows : (c d : Inner) (m : Meaning) → d.config.volumes ≡ c.config.volumes → d.faults ≡ c.faults → d.unsure ≡ c.unsure → Narrows c d m m
 same_narrows c d m volumes faults unsure = record {
   acts = same_Acts (Sees c.config (Member c.good m) m) m;
   shape = alike_shape d.config c.config c.config volumes (same_shape c.config);
@@ -140,8 +140,8 @@ same_narrows c d m volumes faults unsure = record {
   unsure = unsure;
 }
 
-module _ (core : GroupCore) (d : Config) (v p n : ℕ) (any : Bool) (m : Meaning) (stands : Stands core m) (is : Regained core.config d v p n any) where
-  abbrev held_core : GroupCore
+module _ (core : Inner) (d : Config) (v p n : ℕ) (any : Bool) (m : Meaning) (stands : Stands core m) (is : Regained core.config d v p n any) where
+  abbrev held_core : Inner
   held_core = record { config = d; good = core.good; room = core.room; unsettled = true; committed = core.committed; agreed = core.agreed; next = core.next; faults = core.faults; unsure = core.unsure }
 
   pub regained_Stands : Stands held_core m
@@ -221,12 +221,12 @@ all_holds (Err error) is = tt
 
 -- ---- the flags are put back
 
-module _ (core e : GroupCore) (ds : List DiskEntry) (m m' : Meaning) (stands : Stands core m) (stands' : Stands e m') (is : ds ≡ core.config.disks) (count : length e.config.disks ≡ length core.config.disks)
+module _ (core e : Inner) (ds : List DiskEntry) (m m' : Meaning) (stands : Stands core m) (stands' : Stands e m') (is : ds ≡ core.config.disks) (count : length e.config.disks ≡ length core.config.disks)
     (blocks : (u : ℕ) → blocks_at e.config.disks u ≡ blocks_at core.config.disks u) (good : e.good ≡ core.good) (un : e.unsettled ≡ true) where
   abbrev config_back : Config
   config_back = record { serial = e.config.serial; site = e.config.site; disks = ds; volumes = e.config.volumes; rvg = e.config.rvg }
 
-  abbrev back : GroupCore
+  abbrev back : Inner
   back = record { config = config_back; good = e.good; room = e.room; unsettled = e.unsettled; committed = e.committed; agreed = e.agreed; next = e.next; faults = e.faults; unsure = e.unsure }
 
   pub flags_back : Stands back m'

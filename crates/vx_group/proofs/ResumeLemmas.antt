@@ -44,7 +44,7 @@ use Rattle.vx_kept.proofs.Steps.{group-Goes}
 use Rattle.vx_group.specs.Copying.{NoMember}
 use Rattle.vx_group.specs.Resumes.{CanImport}
 use Rattle.vx_group.specs.Stands.{Stands}
-use Rattle.vx_group.specs.declared.group_core.GroupCore.{GroupCore}
+use Rattle.vx_group.specs.declared.inner.Inner.{Inner}
 use Rattle.vx_group.proofs.DetachLemmas.{some_good}
 use Rattle.vx_group.proofs.FoundLemmas.{found_wanted, wanted_back_again}
 use Rattle.vx_group.proofs.Standing.{if_some, still_large}
@@ -230,7 +230,7 @@ module _ (old new : Meaning) (law : Lawful old) (law' : Lawful new) (goes : Goes
           let both : Found y ≡ Found x = sym (was_found (λ u. true) i ∙ is) ∙ can.one image i R x (seen_image (told_by i each)) (here i each) finds in
           cc
 
-  pub resumed_Stands : (core : GroupCore) → core.config ≡ c → core.good ≡ good_set x.disks → core.unsettled ≡ true → core.committed ≡ true → core.agreed ≡ true → length c.volumes ≤ 32 → ((v : ℕ) → blocks_of c.volumes v < 2 ^ 64) → c.serial ≤ greatest → HasGood c.disks (good_set x.disks) → Stands core new
+  pub resumed_Stands : (core : Inner) → core.config ≡ c → core.good ≡ good_set x.disks → core.unsettled ≡ true → core.committed ≡ true → core.agreed ≡ true → length c.volumes ≤ 32 → ((v : ℕ) → blocks_of c.volumes v < 2 ^ 64) → c.serial ≤ greatest → HasGood c.disks (good_set x.disks) → Stands core new
   resumed_Stands core config good un was_committed was_agreed few small serial some =
       subst (λ (k : Config). Stands (record { config = k; good = core.good; room = core.room; unsettled = core.unsettled; committed = core.committed; agreed = core.agreed; next = core.next; faults = core.faults; unsure = core.unsure }) new) (sym config)
       (subst (λ (s : ℕ). Stands (record { config = c; good = s; room = core.room; unsettled = core.unsettled; committed = core.committed; agreed = core.agreed; next = core.next; faults = core.faults; unsure = core.unsure }) new) (sym good) (record {

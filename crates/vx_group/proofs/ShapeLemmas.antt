@@ -43,6 +43,7 @@ pub record MayMake (c : Config) (name : List ℕ) (want : Shape) : Type 0 where
   pub fresh : list_any (has_name name) c.volumes ≡ false
   pub room : length c.volumes < MOST_VOLUMES
   pub serial : c.serial < greatest
+  pub left : c.serial + 9 < greatest
   pub shape : want.width < 2 ^ 32 → IsShape want
   pub blocks : want.blocks ≤ 2 ^ 40
 
@@ -90,6 +91,10 @@ module _ (c : Config) (name : List ℕ) (want : Shape) (may : make_refusal c nam
       | inr le ↦ absurd (clash_of (nat_le MOST_VOLUMES (length c.volumes)) (le-leb MOST_VOLUMES (length c.volumes) le) parts.1)
     ];
     serial = elim (cases_lt (greatest - margin) c.serial) [
+      | inl lt ↦ absurd (clash_of (nat_lt (greatest - margin) c.serial) (lt-ltb (greatest - margin) c.serial lt) parts.3)
+      | inr le ↦ omega (arith, le)
+    ];
+    left = elim (cases_lt (greatest - margin) c.serial) [
       | inl lt ↦ absurd (clash_of (nat_lt (greatest - margin) c.serial) (lt-ltb (greatest - margin) c.serial lt) parts.3)
       | inr le ↦ omega (arith, le)
     ];

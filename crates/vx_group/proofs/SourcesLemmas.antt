@@ -14,7 +14,7 @@ use Rattle.vx_volume.proofs.PlaceLemmas.{active_few}
 use Rattle.vx_group.specs.Attaches.{Attaches, CopyTried, SourcesTried}
 use Rattle.vx_group.specs.Blames.{Blames}
 use Rattle.vx_group.specs.Stands.{Stands}
-use Rattle.vx_group.specs.declared.group_core.GroupCore.{GroupCore}
+use Rattle.vx_group.specs.declared.inner.Inner.{Inner}
 use Rattle.vx_group.proofs.AttachLemmas.{narrows_attaches, then_attaches}
 use Rattle.vx_group.proofs.RegainLemmas.{same_narrows}
 use Rattle.vx_group.proofs.Standing.{some_active, sound_of}
@@ -36,10 +36,10 @@ tried_by c v source p device old new (Err (Fault disk)) why = (inr (why.0, why.1
 tried_by c v source p device old new (Err Down) down = down
 
 -- no call was made
-pub no_attaches : (v p : ℕ) (core : GroupCore) (m : Meaning) → Lawful m → Stands core m → Attaches v p core core m m
+pub no_attaches : (v p : ℕ) (core : Inner) (m : Meaning) → Lawful m → Stands core m → Attaches v p core core m m
 no_attaches v p core m lawful stands = narrows_attaches v p core core m m lawful stands (same_narrows core core m refl refl refl) (λ w q apart. refl)
 
-pub sources_start : (core : GroupCore) (v p device : ℕ) (m : Meaning) → Lawful m → Stands core m → (IsTrue m.down → ⊥) → SourcesTried core v p 0 device m m
+pub sources_start : (core : Inner) (v p device : ℕ) (m : Meaning) → Lawful m → Stands core m → (IsTrue m.down → ⊥) → SourcesTried core v p 0 device m m
 sources_start core v p device m lawful stands up = record {
   stands = stands;
   attaches = no_attaches v p core m lawful stands;
@@ -47,13 +47,13 @@ sources_start core v p device m lawful stands up = record {
   tried = λ q lt is_on. absurd (omega (arith, lt));
 }
 
-module _ (core : GroupCore) (v p n device : ℕ) (m0 m1 m2 : Meaning) (so_far : SourcesTried core v p n device m0 m1) (l d : GroupCore) (at : l ≡ core) (same : d ≡ l) where
+module _ (core : Inner) (v p n device : ℕ) (m0 m1 m2 : Meaning) (so_far : SourcesTried core v p n device m0 m1) (l d : Inner) (at : l ≡ core) (same : d ≡ l) where
   core_is : d ≡ core
   core_is = same ∙ at
 
   module _ (attaches : Attaches v p l d m1 m2) where
     one_more : Attaches v p core core m1 m2
-    one_more = subst (λ (x : GroupCore). Attaches v p core x m1 m2) core_is (subst (λ (x : GroupCore). Attaches v p x d m1 m2) at attaches)
+    one_more = subst (λ (x : Inner). Attaches v p core x m1 m2) core_is (subst (λ (x : Inner). Attaches v p x d m1 m2) at attaches)
 
     before : (u : ℕ) → m0.faults u ≤ m1.faults u
     before = so_far.attaches.acts.faults
@@ -75,7 +75,7 @@ module _ (core : GroupCore) (v p n device : ℕ) (m0 m1 m2 : Meaning) (so_far : 
     -- one plex more was tried
     pub sources_next : (disk : ℕ) (error : ShelfError) → error ≡ Fault disk → Stands d m2 → CopyTried {T = Unit {0}} l.config v n p device m1 m2 (Err error) → SourcesTried core v p (n + 1) disk m0 m2
     sources_next disk error fault stands tried = record {
-      stands = subst (λ (x : GroupCore). Stands x m2) core_is stands;
+      stands = subst (λ (x : Inner). Stands x m2) core_is stands;
       attaches = all_attaches;
       up = here.1;
       tried = λ q lt is_on. elim (cases_lt q n) [
@@ -85,7 +85,7 @@ module _ (core : GroupCore) (v p n device : ℕ) (m0 m1 m2 : Meaning) (so_far : 
     }
       where
         here : CopyTried {T = Unit {0}} core.config v n p device m1 m2 (Err (Fault disk))
-        here = subst (λ (x : GroupCore). CopyTried {T = Unit {0}} x.config v n p device m1 m2 (Err (Fault disk))) at (subst (λ (e : ShelfError). CopyTried {T = Unit {0}} l.config v n p device m1 m2 (Err e)) fault tried)
+        here = subst (λ (x : Inner). CopyTried {T = Unit {0}} x.config v n p device m1 m2 (Err (Fault disk))) at (subst (λ (e : ShelfError). CopyTried {T = Unit {0}} l.config v n p device m1 m2 (Err e)) fault tried)
 
         earlier : (q : ℕ) → q < n → IsTrue (active core.config v q)
             → ((active core.config v n ≡ false) × (disk ≡ device)) ⊎ ((PlexBlamed core.config v n m1 m2 ⊎ PlexBlamed core.config v p m1 m2) × Rose (m1.disk_faults disk) (m2.disk_faults disk))
@@ -107,13 +107,13 @@ module _ (core : GroupCore) (v p n device : ℕ) (m0 m1 m2 : Meaning) (so_far : 
         )
 
 -- behind the last one
-pub sources_blame : (core : GroupCore) (v p n device : ℕ) (m0 m1 : Meaning) → SourcesTried core v p n device m0 m1 → 8 ≤ n → v < length core.config.volumes → Blames {T = Unit {0}} m0 m1 (Err (Fault device))
+pub sources_blame : (core : Inner) (v p n device : ℕ) (m0 m1 : Meaning) → SourcesTried core v p n device m0 m1 → 8 ≤ n → v < length core.config.volumes → Blames {T = Unit {0}} m0 m1 (Err (Fault device))
 sources_blame core v p n device m0 m1 tried le lt =
     let some = some_active core m1 tried.stands v lt in
     let few : some.plex < 8 = active_few core.config (sound_of core m1 tried.stands) v some.plex some.is_on in
     ((tried.tried some.plex (omega (arith, few, le)) some.is_on).1, tried.up)
 
-pub sources_all : (core : GroupCore) (v p n device : ℕ) (m0 m1 : Meaning) → SourcesTried core v p n device m0 m1 → 8 ≤ n → (q : ℕ) → IsTrue (active core.config v q) → PlexBlamed core.config v q m0 m1 ⊎ PlexBlamed core.config v p m0 m1
+pub sources_all : (core : Inner) (v p n device : ℕ) (m0 m1 : Meaning) → SourcesTried core v p n device m0 m1 → 8 ≤ n → (q : ℕ) → IsTrue (active core.config v q) → PlexBlamed core.config v q m0 m1 ⊎ PlexBlamed core.config v p m0 m1
 sources_all core v p n device m0 m1 tried le q is_on =
     let few : q < 8 = active_few core.config (sound_of core m1 tried.stands) v q is_on in
     (tried.tried q (omega (arith, few, le)) is_on).0

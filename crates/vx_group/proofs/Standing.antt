@@ -25,7 +25,7 @@ use Rattle.vx_kept.proofs.Narrower.{has_active, stand_apart, wanted_sound}
 use Rattle.vx_kept.specs.Trusts.{Trusts}
 use Rattle.vx_kept.proofs.Trusting.{less_trusts}
 use Rattle.vx_group.specs.Stands.{Stands}
-use Rattle.vx_group.specs.declared.group_core.GroupCore.{GroupCore}
+use Rattle.vx_group.specs.declared.inner.Inner.{Inner}
 
 -- ---- a configuration that fits the shelf
 
@@ -59,7 +59,7 @@ disks_fit c m wanted =
 
 -- ---- what the core says
 
-module _ (core : GroupCore) (m : Meaning) (stands : Stands core m) where
+module _ (core : Inner) (m : Meaning) (stands : Stands core m) where
   pub sound_of : is_sound core.config ≡ true
   sound_of = wanted_sound m.units m.size core.config stands.wanted
 
@@ -86,7 +86,7 @@ module _ (core : GroupCore) (m : Meaning) (stands : Stands core m) where
 
 -- ---- from the parts
 
-pub made : (core : GroupCore) (m : Meaning) → is_wanted m.units m.size core.config ≡ true → CanSpell core.config → length core.config.volumes ≤ 32 → ((v : ℕ) → blocks_of core.config.volumes v < 2 ^ 64) → AreLarge m → AllOn core.config
+pub made : (core : Inner) (m : Meaning) → is_wanted m.units m.size core.config ≡ true → CanSpell core.config → length core.config.volumes ≤ 32 → ((v : ℕ) → blocks_of core.config.volumes v < 2 ^ 64) → AreLarge m → AllOn core.config
     → (NoneGood core.config.disks (length core.config.disks) core.good → ⊥) → Kept core.config (Member core.good m) m → (core.unsettled ≡ false → IsTidy core.config m) → Trusts core.committed core.agreed core.good m → Stands core m
 made core m wanted can few small large on some kept tidy trusts = record {
   wanted = wanted;
@@ -111,7 +111,7 @@ pub member_to : (good : ℕ) (m m' : Meaning) → m'.units ≡ m.units → (u : 
 member_to good m m' units u it = record { below = omega (arith, units, it.below); is = it.is }
 
 -- calls that write behind the configuration areas alone
-module _ (core : GroupCore) (W : Values) (m m' : Meaning) (goes : Goes W m m') (above : (u b : ℕ) (x : List ℕ) → W u b x → 512 ≤ b) (lawful : Lawful m) (lawful' : Lawful m') (stands : Stands core m) where
+module _ (core : Inner) (W : Values) (m m' : Meaning) (goes : Goes W m m') (above : (u b : ℕ) (x : List ℕ) → W u b x → 512 ≤ b) (lawful : Lawful m) (lawful' : Lawful m') (stands : Stands core m) where
   low_same : (u b : ℕ) (v : List ℕ) → b < 512 → m'.leaves u b v → m.leaves u b v
   low_same u b v lt left = ⊎_elim (λ was. was) (λ w. absurd (let le : 512 ≤ b = above u b v w in omega (arith, le, lt))) (goes.leaves u b v left)
 

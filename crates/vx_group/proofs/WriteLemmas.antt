@@ -14,14 +14,14 @@ use Rattle.vx_kept.proofs.Steps.{both_Acts, inside_same, same_Acts, wide_Acts}
 use Rattle.vx_kept.proofs.Whole.{sees_back, whole_Goes, whole_Wrote}
 use Rattle.vx_group.specs.Moves.{AllFlushed, AllWrote, Narrows}
 use Rattle.vx_group.specs.Stands.{Stands, counted, meaning_of}
-use Rattle.vx_group.specs.declared.group_core.GroupCore.{GroupCore}
+use Rattle.vx_group.specs.declared.inner.Inner.{Inner}
 use Rattle.vx_group.proofs.Standing.{apart_of_core, kept_of, low_Stands}
 
 -- no commit
-pub no_commit : (core : GroupCore) (m : Meaning) → Narrows core core m m
+pub no_commit : (core : Inner) (m : Meaning) → Narrows core core m m
 no_commit core m = record { acts = same_Acts (Sees core.config (Member core.good m) m) m; shape = same_shape core.config; on = λ v p is. is; faults = refl; unsure = refl }
 
-module _ (core : GroupCore) (v block : ℕ) (bytes : List ℕ) (m m' : Meaning) (before : Lawful m) (after : Lawful m') (stands : Stands core m) (fits : Fits (meaning_of core m) v block (length bytes))
+module _ (core : Inner) (v block : ℕ) (bytes : List ℕ) (m m' : Meaning) (before : Lawful m) (after : Lawful m') (stands : Stands core m) (fits : Fits (meaning_of core m) v block (length bytes))
     (write : Goes (OnPlexes core.config v block (length bytes / 512) bytes) m m') where
   pub run_inside : (k : ℕ) → InRun block (length bytes / 512) k → Inside core.config v k
   run_inside k run = record { volume = fits.exists; within = let last : k < block + length bytes / 512 = run.last in omega (arith, last, fits.within) }
@@ -37,7 +37,7 @@ module _ (core : GroupCore) (v block : ℕ) (bytes : List ℕ) (m m' : Meaning) 
           let is : (place core.config v put.plex it.number).1 ≡ b = ap (λ (q : ℕ × ℕ). q.1) it.at in
           omega (arith, far, is)
 
-  module _ (d : GroupCore) (last : Meaning) (lawful : Lawful last) (narrows : Narrows core d m' last) where
+  module _ (d : Inner) (last : Meaning) (lawful : Lawful last) (narrows : Narrows core d m' last) where
     no_less : (u : ℕ) → counted core.faults u ≤ counted d.faults u
     no_less u = let same : counted d.faults u ≡ counted core.faults u = ap (λ (f : List ℕ). counted f u) narrows.faults in omega (arith, same)
 
@@ -70,7 +70,7 @@ module _ (core : GroupCore) (v block : ℕ) (bytes : List ℕ) (m m' : Meaning) 
 
 -- ---- a flush
 
-module _ (core : GroupCore) (v : ℕ) (m m' : Meaning) (before : Lawful m) (after : Lawful m') (stands : Stands core m) (flush : Goes Nothing m m') where
+module _ (core : Inner) (v : ℕ) (m m' : Meaning) (before : Lawful m) (after : Lawful m') (stands : Stands core m) (flush : Goes Nothing m m') where
   pub flushed_Stands : Stands core m'
   flushed_Stands = low_Stands core Nothing m m' flush (λ u b x none. absurd none) before after stands
 
@@ -79,7 +79,7 @@ module _ (core : GroupCore) (v : ℕ) (m m' : Meaning) (before : Lawful m) (afte
   plain_Goes f' no_less = flush_Goes core.good core.config core.config v (counted core.faults) f' m m' m' before after after (kept_of core m stands) (apart_of_core core m stands) flush
       (same_Acts (Sees core.config (Member core.good m') m') m') (same_shape core.config) (λ w p is. is) no_less
 
-  module _ (d : GroupCore) (last : Meaning) (lawful : Lawful last) (narrows : Narrows core d m' last) where
+  module _ (d : Inner) (last : Meaning) (lawful : Lawful last) (narrows : Narrows core d m' last) where
     flush_less : (u : ℕ) → counted core.faults u ≤ counted d.faults u
     flush_less u = let same : counted d.faults u ≡ counted core.faults u = ap (λ (f : List ℕ). counted f u) narrows.faults in omega (arith, same)
 

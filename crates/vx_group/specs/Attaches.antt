@@ -22,7 +22,7 @@ use Rattle.vx_kept.specs.Keeping.{Acts, SameShape}
 use Rattle.vx_group.specs.Dets.{margin}
 use Rattle.vx_group.specs.GivesUp.{NoCommit}
 use Rattle.vx_group.specs.Stands.{Stands, meaning_of}
-use Rattle.vx_group.specs.declared.group_core.GroupCore.{GroupCore}
+use Rattle.vx_group.specs.declared.inner.Inner.{Inner}
 
 -- The first refusal that holds: no such volume, no such plex, too few serials.
 abbrev pub att_refusal : Config → ℕ → ℕ → Option No
@@ -51,7 +51,7 @@ AnyImage i = Unit {0}
 
 -- Each volume reads as before, at every moment and in every image; only blocks of this plex were written beside those of the configuration, and no other
 -- plex changed its state.
-pub record Attaches (v p : ℕ) (c d : GroupCore) (old new : Meaning) : Type 0 where
+pub record Attaches (v p : ℕ) (c d : Inner) (old new : Meaning) : Type 0 where
   pub goes : Goes Nothing (meaning_of c old) (meaning_of d new)
   pub acts : Acts (OnCopy c.config v p) AnyImage old new
   pub shape : SameShape d.config c.config
@@ -73,7 +73,7 @@ CopyTried c v source p device old new (Err (Fault disk)) =
 CopyTried c v source p device old new (Err Down) = IsTrue new.down
 
 -- Each plex of the volume that is ACTIVE and below n was tried as the source of a copy, and the copy failed.
-pub record SourcesTried (core : GroupCore) (v p n device : ℕ) (old new : Meaning) : Type 0 where
+pub record SourcesTried (core : Inner) (v p n device : ℕ) (old new : Meaning) : Type 0 where
   pub stands : Stands core new
   pub attaches : Attaches v p core core old new
   pub up : IsTrue new.down → ⊥
@@ -97,7 +97,12 @@ pub record HasOther (c : Config) (v p : ℕ) : Type 0 where
   pub apart : plex ≢ p
 
 -- How an attach ends: with the plex ACTIVE in each image, or not ACTIVE; where both the commit that makes it ACTIVE and the one that takes this back are
--- refused, it has the content of the volume, and may be ACTIVE.
-abbrev pub AttachEnds : {T E : Type 0} → ℕ → ℕ → GroupCore → Meaning → Result T E → Type 0
+-- refused, it has the content of the volume, and may be ACTIVE until it is held back.
+abbrev pub AttachEnds : {T E : Type 0} → ℕ → ℕ → Inner → Meaning → Result T E → Type 0
 AttachEnds v p d m (Ok x) = IsAttached v p d.config m
 AttachEnds v p d m (Err error) = (active d.config v p ≡ false) ⊎ NoCommit d m
+
+-- the same of the whole attach: ACTIVE in each image, or not ACTIVE
+abbrev pub GroupAttachEnds : {T E : Type 0} → ℕ → ℕ → Config → Meaning → Result T E → Type 0
+GroupAttachEnds v p d m (Ok x) = IsAttached v p d m
+GroupAttachEnds v p d m (Err error) = active d v p ≡ false

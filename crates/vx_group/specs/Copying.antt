@@ -8,7 +8,7 @@ use Rattle.vx_volume.specs.Plexes.{InRun, Inside, active}
 use Rattle.vx_kept.specs.Keeping.{Acts, SameShape, Sees}
 use Rattle.vx_group.specs.Loses.{Loses}
 use Rattle.vx_group.specs.Stands.{Stands}
-use Rattle.vx_group.specs.declared.group_core.GroupCore.{GroupCore}
+use Rattle.vx_group.specs.declared.inner.Inner.{Inner}
 
 -- no disk
 abbrev pub NoMember : ℕ → Type 0
@@ -29,7 +29,7 @@ pub record Spent (c d : Config) (old new : Meaning) : Type 0 where
   pub loses : Loses c d old new
 
 -- Blocks of the volume were written as the source read them, and plexes that failed detached; no plex is ACTIVE that was not.
-pub record CopyMoved (core : GroupCore) (v source : ℕ) (d : GroupCore) (old new : Meaning) : Type 0 where
+pub record CopyMoved (core : Inner) (v source : ℕ) (d : Inner) (old new : Meaning) : Type 0 where
   pub stands : Stands d new
   pub shape : SameShape d.config core.config
   pub on : (w p : ℕ) → IsTrue (active d.config w p) → IsTrue (active core.config w p)
@@ -40,7 +40,7 @@ pub record CopyMoved (core : GroupCore) (v source : ℕ) (d : GroupCore) (old ne
   pub acts : Acts (FromSource core.config v source old) (Sees core.config NoMember old) old new
 
 -- Of these blocks each plex that is ACTIVE reads one value, which the source read; every other block reads as it did.
-pub record RunCopied (core : GroupCore) (v source first n : ℕ) (d : GroupCore) (old new : Meaning) : Type 0 where
+pub record RunCopied (core : Inner) (v source first n : ℕ) (d : Inner) (old new : Meaning) : Type 0 where
   pub moved : CopyMoved core v source d old new
   pub settled : d.unsettled ≡ false
   pub source_on : IsTrue (active d.config v source)
@@ -52,7 +52,7 @@ pub record RunCopied (core : GroupCore) (v source first n : ℕ) (d : GroupCore)
       → old.reads (place core.config w p k).0 (place core.config w p k).1 x
 
 -- A crash leaves of each block of the volume one value on every plex that is ACTIVE, which the source read; other volumes read as they did.
-pub record Mirrored (core : GroupCore) (v source : ℕ) (d : GroupCore) (old new : Meaning) : Type 0 where
+pub record Mirrored (core : Inner) (v source : ℕ) (d : Inner) (old new : Meaning) : Type 0 where
   pub moved : CopyMoved core v source d old new
   pub settled : d.unsettled ≡ false
   pub up : IsTrue new.down → ⊥

@@ -10,7 +10,7 @@ use Rattle.vx_copyio.specs.Labelling.{HasSmall}
 use Rattle.vx_copyio.specs.Settling.{AllCleared}
 use Rattle.vx_kept.specs.Trusts.{HasFailed}
 use Rattle.vx_group.specs.Stands.{Stands}
-use Rattle.vx_group.specs.declared.group_core.GroupCore.{GroupCore}
+use Rattle.vx_group.specs.declared.inner.Inner.{Inner}
 
 -- the same units
 pub record SameUnits (old new : Meaning) : Type 0 where
@@ -30,20 +30,14 @@ IsReady old new (Err (Refused why)) = DeviceCause old new why
 IsReady old new (Err OutOfMemory) = Unit {0}
 
 -- a group without volumes stands on the disks, and imports agree unless a disk is held as failed
-pub record IsNew (site : ℕ) (core : GroupCore) (m : Meaning) : Type 0 where
+pub record IsNew (site : ℕ) (core : Inner) (m : Meaning) : Type 0 where
   pub stands : Stands core m
   pub site_is : core.config.site ≡ site
   pub volumes : core.config.volumes ≡ []
   pub trust : (core.committed ≡ true) ⊎ HasFailed core.config.disks
 
 -- what is answered where a group is made
-abbrev pub Created : ℕ → Meaning → Meaning → Result GroupCore Stop → Type 0
+abbrev pub Created : ℕ → Meaning → Meaning → Result Inner Stop → Type 0
 Created site old new (Ok core) = IsNew site core new
 Created site old new (Err (Refused why)) = (HasSmall old × (why ≡ Size)) ⊎ DeviceCause old new why
 Created site old new (Err OutOfMemory) = Unit {0}
-
--- the same of a group with its shelf, which is handed back where none is made
-abbrev pub GroupCreated : {S G : Type 0} → ℕ → Meaning → (S → Meaning) → (G → GroupCore) → (G → S) → Result G (S × Stop) → Type 0
-GroupCreated site old meaning core shelf (Ok g) = IsNew site (core g) (meaning (shelf g))
-GroupCreated site old meaning core shelf (Err (s, Refused why)) = (HasSmall old × (why ≡ Size)) ⊎ DeviceCause old (meaning s) why
-GroupCreated site old meaning core shelf (Err (s, OutOfMemory)) = Unit {0}

@@ -4,9 +4,6 @@ use Rattle.vx_disk.specs.Causes.{DeviceCause}
 use Rattle.vx_disk.specs.Shelf.{Each, Image, Meaning, Nothing}
 use Rattle.vx_model.specs.declared.errors.Stop.{Stop}
 use Rattle.vx_model.specs.declared.errors.Stop.TheVariants.{No as Refused, OutOfMemory}
-use Rattle.vx_model.specs.declared.no.Counted.TheVariants.{Number as Numbers}
-use Rattle.vx_model.specs.declared.no.No.TheVariants.{Limit}
-use Rattle.vx_config.specs.Table.{greatest}
 use Rattle.vx_config.specs.declared.config.Config.{Config}
 use Rattle.vx_copyfmt.specs.Imports.{Found, settle}
 use Rattle.vx_copies.specs.Bodies.{failed_in}
@@ -20,15 +17,15 @@ use Rattle.vx_kept.specs.Trusts.{Trusts}
 use Rattle.vx_copies.specs.Answers.{good_set}
 use Rattle.vx_volume.specs.Plexes.{active}
 use Rattle.vx_group.specs.Moves.{Narrows}
-use Rattle.vx_group.specs.Quiesces.{GivenBack, Quiesces, SameParts}
+use Rattle.vx_group.specs.Quiesces.{GivenBack, QuiescesBy, SameParts}
 use Rattle.vx_group.specs.Resumes.{CanImport}
 use Rattle.vx_group.specs.Stands.{Stands}
-use Rattle.vx_group.specs.declared.group_core.GroupCore.{GroupCore}
+use Rattle.vx_group.specs.declared.inner.Inner.{Inner}
 
 -- Whatever a crash leaves, an import that can read all disks finds one configuration: that of the group, with each plex that was ACTIVE
 -- CLEAN, but for those of the volumes that are unsure. No block of a plex was touched. A group in which the plexes are ACTIVE may stand on
 -- the disks.
-pub record CleanCommitted (c : GroupCore) (old new : Meaning) : Type 0 where
+pub record CleanCommitted (c : Inner) (old new : Meaning) : Type 0 where
   pub config : Config
   pub finds : (i : Image) → Each new.leaves i → found new i ≡ Found config
   pub reads : (i : Image) (readable : ℕ → Bool) (g : ℕ) → Each new.leaves i → Held config new g → readable g ≡ true → found_by new readable i ≡ settle failed_in new.units readable config
@@ -43,27 +40,27 @@ pub record CleanCommitted (c : GroupCore) (old new : Meaning) : Type 0 where
   pub trusts : c.committed ≡ true → Trusts true true (good_set config.disks) new
 
 -- the group stands as it was, but for its serial and disks that failed
-pub record CommitMissed (c d : GroupCore) (old new : Meaning) : Type 0 where
+pub record CommitMissed (c d : Inner) (old new : Meaning) : Type 0 where
   pub stands : Stands d new
   pub narrows : Narrows c d old new
   pub volumes : d.config.volumes ≡ c.config.volumes
   pub disks : d.config.disks ≡ c.config.disks
 
 -- how its commit ends, by the parts of the group
-abbrev pub CommitCloses : {T E : Type 0} → GroupCore → GroupCore → Meaning → Meaning → Result T E → Type 0
+abbrev pub CommitCloses : {T E : Type 0} → Inner → Inner → Meaning → Meaning → Result T E → Type 0
 CommitCloses c d old new (Ok x) = CleanCommitted c old new
 CommitCloses c d old new (Err stop) = CommitMissed c d old new
 
 -- one of the volumes of the group
-abbrev pub IsVolumeOf : GroupCore → ℕ → Type 0
+abbrev pub IsVolumeOf : Inner → ℕ → Type 0
 IsVolumeOf c v = v < length c.config.volumes
 
 -- Every volume was flushed, and then a commit made. Whatever a crash leaves, an import that can read all disks finds one configuration: that of
 -- the group behind the flushes, with each plex that was ACTIVE CLEAN, but for those of the volumes that are unsure. Each plex that is CLEAN
 -- by it has in each block what it read. A group in which the plexes are ACTIVE may stand on the disks.
-pub record Deported (c : GroupCore) (old new : Meaning) : Type 0 where
-  pub behind : GroupCore
-  pub quiesces : Quiesces c behind (IsVolumeOf c) old new
+pub record DeportedBy (by : Config) (c : Inner) (old new : Meaning) : Type 0 where
+  pub behind : Inner
+  pub quiesces : QuiescesBy by c behind (IsVolumeOf c) old new
   pub config : Config
   pub finds : (i : Image) → Each new.leaves i → found new i ≡ Found config
   pub reads : (i : Image) (readable : ℕ → Bool) (g : ℕ) → Each new.leaves i → Held config new g → readable g ≡ true → found_by new readable i ≡ settle failed_in new.units readable config
@@ -74,20 +71,14 @@ pub record Deported (c : GroupCore) (old new : Meaning) : Type 0 where
   pub kept : KeptFact (at_serial config.serial behind.config) (Held config new) new
   pub trusts : c.committed ≡ true → Trusts true true (good_set config.disks) new
 
+-- the same of a group that goes by its own configuration
+abbrev pub Deported : Inner → Meaning → Meaning → Type 0
+Deported c old new = DeportedBy c.config c old new
+
 -- how it ends, by the parts of the group
-abbrev pub Closes : {T E : Type 0} → GroupCore → GroupCore → Meaning → Meaning → Result T E → Type 0
+abbrev pub Closes : {T E : Type 0} → Inner → Inner → Meaning → Meaning → Result T E → Type 0
 Closes c d old new (Ok x) = Deported c old new
 Closes c d old new (Err stop) = GivenBack c d old new
-
--- The shelf is handed out, or the group given back. A refusal comes for a device alone, where its serials suffice.
-abbrev pub GroupDeported : {S G : Type 0} → GroupCore → Meaning → (S → Meaning) → (G → GroupCore) → (G → S) → Result S (G × Stop) → Type 0
-GroupDeported c old meaning core shelf (Ok s) = Deported c old (meaning s)
-GroupDeported c old meaning core shelf (Err (g, stop)) = GivenBack c (core g) old (meaning (shelf g))
-
--- refused for want of serials, and nothing has changed
-abbrev pub IsFull : {S G : Type 0} → GroupCore → S → (G → GroupCore) → (G → S) → Result S (G × Stop) → Type 0
-IsFull c s core shelf (Ok x) = ⊥
-IsFull c s core shelf (Err (g, stop)) = (stop ≡ Refused (Limit Numbers greatest)) × (core g ≡ c) × (shelf g ≡ s)
 
 abbrev pub DeportStops : {S G : Type 0} → Meaning → (S → Meaning) → (G → S) → Result S (G × Stop) → Type 0
 DeportStops old meaning shelf (Ok s) = Unit {0}
@@ -96,6 +87,6 @@ DeportStops old meaning shelf (Err (g, OutOfMemory)) = ⊥
 
 -- What was handed out may be imported, where the newest configuration was committed before; or where of each configuration that a crash may leave the
 -- disks that it holds as failed say nothing by themselves, as where it holds none as failed.
-abbrev pub GroupCanImport : {S G : Type 0} → GroupCore → (S → Meaning) → Result S (G × Stop) → Type 0
+abbrev pub GroupCanImport : {S G : Type 0} → Inner → (S → Meaning) → Result S (G × Stop) → Type 0
 GroupCanImport c meaning (Ok s) = (c.committed ≡ true) ⊎ ((i : Image) (x : Config) → Each (meaning s).leaves i → found (meaning s) i ≡ Found x → Silent x (meaning s)) → CanImport (meaning s)
 GroupCanImport c meaning (Err e) = Unit {0}

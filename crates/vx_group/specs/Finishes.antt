@@ -16,7 +16,7 @@ use Rattle.vx_group.specs.Loses.{Loses}
 use Rattle.vx_group.specs.Mends.{GoesOn}
 use Rattle.vx_group.specs.Quiesces.{AnyFailed}
 use Rattle.vx_group.specs.Resumes.{IsMended, source_at}
-use Rattle.vx_group.specs.declared.group_core.GroupCore.{GroupCore}
+use Rattle.vx_group.specs.declared.inner.Inner.{Inner}
 
 -- the count of some disk or some unit rose
 abbrev pub AnyFault : Meaning → Meaning → Type 0
@@ -27,7 +27,7 @@ abbrev pub SameOr : Config → Config → Meaning → Meaning → Type 0
 SameOr c d old new = ((c.serial < d.serial) × (d ≡ at_serial d.serial c)) ⊎ AnyFault old new
 
 -- The group was committed: each image has its configuration, where all disks can be read.
-pub record CommitMade (core d : GroupCore) (old new : Meaning) : Type 0 where
+pub record CommitMade (core d : Inner) (old new : Meaning) : Type 0 where
   pub on : GoesOn core d old new
   pub settled : d.unsettled ≡ false
   pub up : IsTrue new.down → ⊥
@@ -37,12 +37,12 @@ pub record CommitMade (core d : GroupCore) (old new : Meaning) : Type 0 where
   pub trust : (d.committed ≡ true) ⊎ HasFailed d.config.disks
 
 -- a commit of the group as it stands; 19 comes exactly where no serial is left
-abbrev pub CommitsAs : {T : Type 0} → GroupCore → GroupCore → Meaning → Meaning → Result T No → Type 0
+abbrev pub CommitsAs : {T : Type 0} → Inner → Inner → Meaning → Meaning → Result T No → Type 0
 CommitsAs core d old new (Ok x) = CommitMade core d old new
 CommitsAs core d old new (Err why) = GoesOn core d old new × (DeviceCause old new why ⊎ ((why ≡ Limit Numbers greatest) × (greatest ≤ core.config.serial)))
 
 -- the volumes that are marked were made alike, and the group was committed
-pub record Renewed (core : GroupCore) (flags : List Bool) (sources : List ℕ) (d : GroupCore) (old new : Meaning) : Type 0 where
+pub record Renewed (core : Inner) (flags : List Bool) (sources : List ℕ) (d : Inner) (old new : Meaning) : Type 0 where
   pub made : CommitMade core d old new
   pub mended : (v : ℕ) → v < length core.config.volumes → marked flags v ≡ true → IsMended core.config v (source_at sources v) d old new
 
@@ -50,6 +50,6 @@ pub record Renewed (core : GroupCore) (flags : List Bool) (sources : List ℕ) (
 abbrev pub StopsLate : Meaning → Meaning → No → Type 0
 StopsLate old new why = DeviceCause old new why ⊎ ((why ≡ Limit Numbers greatest) × AnyFailed old new)
 
-abbrev pub Renews : {T : Type 0} → List Bool → List ℕ → GroupCore → GroupCore → Meaning → Meaning → Result T No → Type 0
+abbrev pub Renews : {T : Type 0} → List Bool → List ℕ → Inner → Inner → Meaning → Meaning → Result T No → Type 0
 Renews flags sources core d old new (Ok x) = Renewed core flags sources d old new
 Renews flags sources core d old new (Err why) = GoesOn core d old new × StopsLate old new why

@@ -6,10 +6,10 @@ use Rattle.vx_disk.specs.declared.shelf.ShelfError.TheVariants.{Fault, Down}
 use Rattle.vx_config.specs.declared.config.Config.{Config}
 use Rattle.vx_volume.specs.Plexes.{active}
 use Rattle.vx_volume.specs.Volumes.{PlexBlamed}
-use Rattle.vx_group.specs.declared.group_core.GroupCore.{GroupCore}
+use Rattle.vx_group.specs.declared.inner.Inner.{Inner}
 
 -- a commit was refused, and none was made since; or the shelf is down
-abbrev pub NoCommit : GroupCore → Meaning → Type 0
+abbrev pub NoCommit : Inner → Meaning → Type 0
 NoCommit d m = (d.unsettled ≡ true) ⊎ IsTrue m.down
 
 -- each plex of the volume that was ACTIVE had a failed call on one of its disks
@@ -24,7 +24,7 @@ KeepsVolumes c d (Err Down) = Unit {0}
 
 -- A call on a volume fails with a fault only where each plex that was ACTIVE had a failed call in it, or a commit was refused; then no plex
 -- changes its state.
-abbrev pub GivesUp : {T : Type 0} → ℕ → GroupCore → GroupCore → Meaning → Meaning → Result T ShelfError → Type 0
+abbrev pub GivesUp : {T : Type 0} → ℕ → Inner → Inner → Meaning → Meaning → Result T ShelfError → Type 0
 GivesUp v c d old new (Ok x) = Unit {0}
 GivesUp v c d old new (Err (Fault disk)) = (d.config.volumes ≡ c.config.volumes) × (EachBlamed c.config v old new ⊎ (d.unsettled ≡ true))
 GivesUp v c d old new (Err Down) = Unit {0}

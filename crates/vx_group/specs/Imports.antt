@@ -17,18 +17,18 @@ use Rattle.vx_group.specs.Finishes.{SameOr, StopsLate}
 use Rattle.vx_group.specs.Loses.{Loses}
 use Rattle.vx_group.specs.Resumes.{AtRest, IsFresh, IsMended, NotTaken, TakenUp, stopped}
 use Rattle.vx_group.specs.Stands.{Stands, meaning_of}
-use Rattle.vx_group.specs.declared.group_core.GroupCore.{GroupCore}
+use Rattle.vx_group.specs.declared.inner.Inner.{Inner}
 
 -- Behind a crash the group gives what an image of the disks shows: a block of a volume that stopped uncleanly reads as the plex by which the image goes
 -- has it.
-pub record GivesImage (old : Meaning) (core : GroupCore) (new : Meaning) : Type 0 where
+pub record GivesImage (old : Meaning) (core : Inner) (new : Meaning) : Type 0 where
   pub reads : (c x : Config) (i above : Image) (v b : ℕ) (value : List ℕ) → AtRest old → Each old.leaves i → found old i ≡ Found x → Extends x c → Shows c x i above → stopped x v ≡ true → Inside c v b
       → (meaning_of core new).reads v b value → value ≡ above v b
 
 -- A group stands on the disks as the one that was found, with each plex that took part ACTIVE, under a later serial; each image has its
 -- configuration. Its volumes read as the plexes that took part. A volume that stopped uncleanly reads as the plex by which an image of it
 -- goes, and a crash leaves of each block one value.
-pub record Resumed (old : Meaning) (core : GroupCore) (new : Meaning) : Type 0 where
+pub record Resumed (old : Meaning) (core : Inner) (new : Meaning) : Type 0 where
   pub config : Config
   pub opened : Config
   pub taken : TakenUp old new config opened
@@ -48,7 +48,7 @@ pub record Resumed (old : Meaning) (core : GroupCore) (new : Meaning) : Type 0 w
 -- what stands on the disks is the group that was found, as far as it was settled
 pub record HalfResumed (old new : Meaning) : Type 0 where
   pub config : Config
-  pub core : GroupCore
+  pub core : Inner
   pub opened : Config
   pub taken : TakenUp old new config opened
   pub stands : Stands core new
@@ -68,11 +68,6 @@ StopsBehind old new OutOfMemory = ⊥
 abbrev pub ImportStops : Meaning → Meaning → Stop → Type 0
 ImportStops old new stop = (Goes Nothing old new × StopsEarly old new stop) ⊎ (HalfResumed old new × StopsBehind old new stop)
 
-abbrev pub ImportEnds : Meaning → Meaning → Result GroupCore Stop → Type 0
+abbrev pub ImportEnds : Meaning → Meaning → Result Inner Stop → Type 0
 ImportEnds old new (Ok core) = Resumed old core new
 ImportEnds old new (Err stop) = ImportStops old new stop
-
--- the same of a group with its shelf, which is handed back where none is imported
-abbrev pub GroupImported : {S G : Type 0} → Meaning → (S → Meaning) → (G → GroupCore) → (G → S) → Result G (S × Stop) → Type 0
-GroupImported old meaning core shelf (Ok g) = Resumed old (core g) (meaning (shelf g))
-GroupImported old meaning core shelf (Err (s, stop)) = ImportStops old (meaning s) stop

@@ -18,3 +18,5 @@ pub mod GivesUp
 pub mod Attaches
 pub mod Regains
 pub mod Loses
+pub mod Holding
+pub mod Calls

@@ -28,7 +28,7 @@ use Rattle.vx_kept.specs.Groups.{group_meaning}
 use Rattle.vx_kept.specs.Keeping.{Extends}
 use Rattle.vx_group.specs.Dets.{margin}
 use Rattle.vx_group.specs.Stands.{counted, meaning_of}
-use Rattle.vx_group.specs.declared.group_core.GroupCore.{GroupCore}
+use Rattle.vx_group.specs.declared.inner.Inner.{Inner}
 
 -- ---- refusals
 
@@ -112,7 +112,7 @@ pub record EachFlushed (c : Config) (v : ℕ) (old new : Meaning) : Type 0 where
 -- ---- what is left alone
 
 -- The volumes that stood read as before, and their images are those of before; so are their plexes, and what is counted of them.
-pub record StayAsWere (c d : GroupCore) (old new : Meaning) : Type 0 where
+pub record StayAsWere (c d : Inner) (old new : Meaning) : Type 0 where
   pub goes : Goes Nothing (meaning_of c old) (group_meaning c.config (counted d.faults) new)
   pub shape : Extends d.config c.config
   pub on : (v p : ℕ) → v < length c.config.volumes → active d.config v p ≡ active c.config v p
@@ -120,7 +120,7 @@ pub record StayAsWere (c d : GroupCore) (old new : Meaning) : Type 0 where
   pub unsure : d.unsure ≡ c.unsure
 
 -- a volume was made, which begins as zeros
-pub record VolumeMade (name : List ℕ) (want : Shape) (vol : ℕ) (c d : GroupCore) (new : Meaning) : Type 0 where
+pub record VolumeMade (name : List ℕ) (want : Shape) (vol : ℕ) (c d : Inner) (new : Meaning) : Type 0 where
   pub number : vol ≡ length c.config.volumes
   pub found : Found
   pub space : IsFound c.config want found
@@ -136,7 +136,7 @@ MakeStops c name want old new (refusal.Limit Subdisks most) = HasMany c name wan
 MakeStops c name want old new other = DeviceCause old new other
 
 -- how the making of a volume ends
-abbrev pub MakeEnds : List ℕ → Shape → GroupCore → GroupCore → Meaning → Meaning → Result ℕ Stop → Type 0
+abbrev pub MakeEnds : List ℕ → Shape → Inner → Inner → Meaning → Meaning → Result ℕ Stop → Type 0
 MakeEnds name want c d old new (Ok vol) = VolumeMade name want vol c d new
 MakeEnds name want c d old new (Err (Refused why)) = (d.config.volumes ≡ c.config.volumes) × MakeStops c.config name want old new why
 MakeEnds name want c d old new (Err OutOfMemory) = d.config.volumes ≡ c.config.volumes

@@ -8,10 +8,10 @@ use Rattle.vx_kept.specs.Keeping.{SameShape}
 use Rattle.vx_group.specs.Copying.{Spent}
 use Rattle.vx_group.specs.Resumes.{IsMended, source_at}
 use Rattle.vx_group.specs.Stands.{Stands, meaning_of}
-use Rattle.vx_group.specs.declared.group_core.GroupCore.{GroupCore}
+use Rattle.vx_group.specs.declared.inner.Inner.{Inner}
 
 -- the group goes on as it was, and no plex is ACTIVE that was not
-pub record GoesOn (core d : GroupCore) (old new : Meaning) : Type 0 where
+pub record GoesOn (core d : Inner) (old new : Meaning) : Type 0 where
   pub stands : Stands d new
   pub shape : SameShape d.config core.config
   pub on : (w p : ℕ) → IsTrue (active d.config w p) → IsTrue (active core.config w p)
@@ -22,7 +22,7 @@ pub record GoesOn (core d : GroupCore) (old new : Meaning) : Type 0 where
   pub disk_faults : (u : ℕ) → old.disk_faults u ≤ new.disk_faults u
 
 -- and of the volumes below n those that are marked were made alike; the others read as they did, and have the plexes that they had
-pub record Mending (core : GroupCore) (flags : List Bool) (sources : List ℕ) (n : ℕ) (d : GroupCore) (old new : Meaning) : Type 0 where
+pub record Mending (core : Inner) (flags : List Bool) (sources : List ℕ) (n : ℕ) (d : Inner) (old new : Meaning) : Type 0 where
   pub on : GoesOn core d old new
   pub spent : Spent core.config d.config old new
   pub settled : d.unsettled ≡ false
@@ -32,6 +32,6 @@ pub record Mending (core : GroupCore) (flags : List Bool) (sources : List ℕ) (
       → old.reads (place core.config w p k).0 (place core.config w p k).1 x
   pub still : (w p : ℕ) → n ≤ w → active d.config w p ≡ active core.config w p
 
-abbrev pub Mended : {T E : Type 0} → List Bool → List ℕ → GroupCore → GroupCore → Meaning → Meaning → Result T E → Type 0
+abbrev pub Mended : {T E : Type 0} → List Bool → List ℕ → Inner → Inner → Meaning → Meaning → Result T E → Type 0
 Mended flags sources core d old new (Ok x) = Mending core flags sources (length core.config.volumes) d old new
 Mended flags sources core d old new (Err error) = GoesOn core d old new

@@ -7,10 +7,10 @@ use Rattle.vx_kept.specs.Commits.{Member}
 use Rattle.vx_kept.specs.Keeping.{Acts, SameShape, Sees}
 use Rattle.vx_volume.specs.Plexes.{active}
 use Rattle.vx_volume.specs.Volumes.{PlexFlushed, PlexWrote}
-use Rattle.vx_group.specs.declared.group_core.GroupCore.{GroupCore}
+use Rattle.vx_group.specs.declared.inner.Inner.{Inner}
 
 -- A commit was made or refused: no block of a plex was touched, and no plex is ACTIVE that was not.
-pub record Narrows (c d : GroupCore) (old new : Meaning) : Type 0 where
+pub record Narrows (c d : Inner) (old new : Meaning) : Type 0 where
   pub acts : Acts Nothing (Sees c.config (Member c.good old) old) old new
   pub shape : SameShape d.config c.config
   pub on : (v p : ℕ) → IsTrue (active d.config v p) → IsTrue (active c.config v p)

@@ -16,7 +16,7 @@ use Rattle.vx_layout.specs.declared.shape.Shape.{Shape}
 use Rattle.vx_volume.specs.Plexes.{active_or}
 use Rattle.vx_kept.specs.Choice.{live_or}
 use Rattle.vx_group.specs.Makes.{AreZero, HasMany, IsVolume}
-use Rattle.vx_group.specs.declared.group_core.GroupCore.{GroupCore}
+use Rattle.vx_group.specs.declared.inner.Inner.{Inner}
 
 -- it is checked, or refused where it would not be
 abbrev pub LongerEnds : Config → VolumeEntry → Result Config Stop → Type 0
@@ -50,10 +50,10 @@ pub record IsNext (c next : Config) : Type 0 where
   pub on : (p : ℕ) → IsTrue (live_or (slice_get volume.plexes p)) → IsTrue (active_or (slice_get volume.plexes p))
 
 -- the volume was added, and begins as zeros
-pub record Added (c d : GroupCore) (next : Config) (new : Meaning) : Type 0 where
+pub record Added (c d : Inner) (next : Config) (new : Meaning) : Type 0 where
   pub volumes : d.config.volumes ≡ next.volumes
   pub begins : AreZero d.config (length c.config.volumes) new
 
-abbrev pub Adds : {T E : Type 0} → GroupCore → GroupCore → Config → Meaning → Result T E → Type 0
+abbrev pub Adds : {T E : Type 0} → Inner → Inner → Config → Meaning → Result T E → Type 0
 Adds c d next new (Ok x) = Added c d next new
 Adds c d next new (Err e) = d.config.volumes ≡ c.config.volumes

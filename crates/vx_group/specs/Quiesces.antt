@@ -13,7 +13,7 @@ use Rattle.vx_kept.specs.Keeping.{Acts, SameShape, Sees}
 use Rattle.vx_group.specs.Copying.{NoMember}
 use Rattle.vx_group.specs.Loses.{Loses}
 use Rattle.vx_group.specs.Stands.{Stands}
-use Rattle.vx_group.specs.declared.group_core.GroupCore.{GroupCore}
+use Rattle.vx_group.specs.declared.inner.Inner.{Inner}
 
 -- the count of some disk rose
 abbrev pub AnyFailed : Meaning → Meaning → Type 0
@@ -26,9 +26,10 @@ pub record SameParts (c d : Config) : Type 0 where
   pub count : length d.disks ≡ length c.disks
 
 -- Such volumes were flushed: of each that is not unsure a crash leaves in each plex that is ACTIVE what this plex read. No block of a plex was
--- written, and no plex is ACTIVE that was not. Plexes were detached, and volumes became unsure, only where a disk failed.
-pub record Quiesces (c d : GroupCore) (which : ℕ → Type 0) (old new : Meaning) : Type 0 where
-  pub acts : Acts Nothing (Sees c.config NoMember old) old new
+-- written, and no plex is ACTIVE that was not. Plexes were detached, and volumes became unsure, only where a disk failed. At each moment an image has
+-- a configuration of the kind of `by`.
+pub record QuiescesBy (by : Config) (c d : Inner) (which : ℕ → Type 0) (old new : Meaning) : Type 0 where
+  pub acts : Acts Nothing (Sees by NoMember old) old new
   pub shape : SameShape d.config c.config
   pub on : (v p : ℕ) → IsTrue (active d.config v p) → IsTrue (active c.config v p)
   pub volumes : (d.config.volumes ≡ c.config.volumes) ⊎ AnyFailed old new
@@ -38,12 +39,16 @@ pub record Quiesces (c d : GroupCore) (which : ℕ → Type 0) (old new : Meanin
   pub faults : d.faults ≡ c.faults
   pub flushed : (v p : ℕ) → which v → marked d.unsure v ≡ false → IsTrue (active d.config v p) → PlexFlushed c.config v p old new
 
+-- the same of a group that goes by its own configuration
+abbrev pub Quiesces : Inner → Inner → (ℕ → Type 0) → Meaning → Meaning → Type 0
+Quiesces c d which old new = QuiescesBy c.config c d which old new
+
 -- no volume
 abbrev pub NoVolume : ℕ → Type 0
 NoVolume v = ⊥
 
 -- and the group is ready for a commit
-pub record Quiesced (c d : GroupCore) (which : ℕ → Type 0) (old new : Meaning) : Type 0 where
+pub record Quiesced (c d : Inner) (which : ℕ → Type 0) (old new : Meaning) : Type 0 where
   pub stands : Stands d new
   pub quiesces : Quiesces c d which old new
   pub parts : SameParts c.config d.config
@@ -53,12 +58,12 @@ pub record Quiesced (c d : GroupCore) (which : ℕ → Type 0) (old new : Meanin
   pub more : d.config.serial < greatest
 
 -- The group stands. Plexes were detached, and volumes became unsure, only where a disk failed.
-pub record GivenBack (c d : GroupCore) (old new : Meaning) : Type 0 where
+pub record GivenBack (c d : Inner) (old new : Meaning) : Type 0 where
   pub stands : Stands d new
   pub quiesces : Quiesces c d NoVolume old new
 
 -- how the flushes end
-abbrev pub QuiesceEnds : {T E : Type 0} → (ℕ → Type 0) → GroupCore → GroupCore → Meaning → Meaning → Result T E → Type 0
+abbrev pub QuiesceEnds : {T E : Type 0} → (ℕ → Type 0) → Inner → Inner → Meaning → Meaning → Result T E → Type 0
 QuiesceEnds which c d old new (Ok x) = Quiesced c d which old new
 QuiesceEnds which c d old new (Err stop) = GivenBack c d old new
 

@@ -28,7 +28,7 @@ use Rattle.vx_kept.specs.Trusts.{is_plain}
 use Rattle.vx_kept.specs.Opens.{OpenVolumes}
 use Rattle.vx_group.specs.Dets.{any_below, margin}
 use Rattle.vx_group.specs.Stands.{Stands, counted, meaning_of}
-use Rattle.vx_group.specs.declared.group_core.GroupCore.{GroupCore}
+use Rattle.vx_group.specs.declared.inner.Inner.{Inner}
 use Rattle.vx_group.specs.declared.taking.Plan.{Plan}
 
 -- ---- what a configuration says
@@ -91,7 +91,7 @@ Refuses c good None = (c.serial ≤ greatest - margin) × HasGood c.disks good
 Refuses c good (Some why) = ((greatest - margin < c.serial) × (why ≡ refusal.Limit Numbers greatest)) ⊎ (NoneGood c.disks (length c.disks) good × (why ≡ refusal.NoConfig))
 
 -- no count of a volume, and none marked
-pub record IsFresh (core : GroupCore) : Type 0 where
+pub record IsFresh (core : Inner) : Type 0 where
   pub faults : (v : ℕ) → counted core.faults v ≡ 0
   pub sure : (v : ℕ) → marked core.unsure v ≡ false
 
@@ -139,7 +139,7 @@ Takes old new (Err (Refused why)) = Imported old new (Err (Refused why)) ⊎ Not
 Takes old new (Err OutOfMemory) = Unit {0}
 
 -- each block of the volume has one value on each plex that is ACTIVE, which a read of this plex gave
-pub record IsMended (opened : Config) (v source : ℕ) (core : GroupCore) (old new : Meaning) : Type 0 where
+pub record IsMended (opened : Config) (v source : ℕ) (core : Inner) (old new : Meaning) : Type 0 where
   pub value : ℕ → List ℕ
   pub origin : (k : ℕ) → Inside opened v k → IsTrue old.tells → old.reads (place opened v source k).0 (place opened v source k).1 (value k)
   pub one : (k : ℕ) (x : List ℕ) → Inside opened v k → (meaning_of core new).leaves v k x → x ≡ value k

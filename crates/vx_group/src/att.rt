@@ -1,17 +1,23 @@
 // A plex that is attached by its name.
-ghost use Rattle.std.specs.Prelude.{◌≡◌, ◌⊎◌, ℕ, false, IfErr, IfOk, IsTrue, OnOk, Some, None, Ok, Err, true};
-ghost use Rattle.vx_group.specs.Attaches.{AttachEnds, Attaches, att_refusal, copied_regions};
+ghost use Rattle.std.specs.Prelude.{◌≡◌, ◌+◌, ◌<◌, false, IfOk, IsTrue, OnOk, Some, None, Ok, Err, true};
+ghost use Rattle.vx_config.specs.Table.{greatest};
+ghost use Rattle.vx_group.specs.Attaches.{AttachEnds, Attaches, GroupAttachEnds, MayAttach, att_refusal, copied_regions};
 ghost use Rattle.vx_group.specs.Blames.{Blames};
 ghost use Rattle.vx_group.specs.Dets.{DetStops};
+ghost use Rattle.vx_group.specs.Calls.{GroupAttaches};
+ghost use Rattle.vx_group.specs.Holding.{GroupStands};
 ghost use Rattle.vx_group.specs.Regains.{HoldsPlex, Regains};
 ghost use Rattle.vx_group.specs.Stands.{Stands};
 ghost use Rattle.vx_model.specs.declared.errors.Stop.TheVariants.{No as Refused};
 ghost use Rattle.vx_model.specs.declared.no.No.{No as NoValue};
 ghost use Rattle.vx_volume.specs.Plexes.{active};
 
-use crate::GroupCore;
 use crate::attaching::attach;
+use crate::group_core::GroupCore;
+use crate::holding::hold_back;
+use crate::inner::Inner;
 use crate::regaining::regain;
+use crate::releasing::release;
 use vx_config::Config;
 use vx_disk::{Shelf, ShelfError, refusal};
 use vx_model::limits::{MOST_NUMBER, REGION};
@@ -47,12 +53,13 @@ fn refuse(config: &Config, vol: u32, plex: u32) -> Option<No>
 // Attaches a plex that is not ACTIVE, where first the disks on which it lies are held as good.
 fn attach_held<S: Shelf>(
     shelf: &mut S,
-    core: &mut GroupCore,
+    core: &mut Inner,
     vol: u32,
     plex: u32,
 ) -> Result<(), ShelfError>
     requires stands { Stands core.old (S.meaning shelf.old) }
-    requires may { att_refusal core.old.config vol plex ≡ None }
+    requires may { MayAttach core.old.config vol plex }
+    requires more { core.old.config.serial + 9 < greatest }
     requires off { active core.old.config vol plex ≡ false }
     requires up { IsTrue (S.meaning shelf.old).down → ⊥ }
     ensures stands { Stands core.new (S.meaning shelf.new) }
@@ -76,37 +83,44 @@ fn attach_held<S: Shelf>(
 ///
 /// Answers 1 exactly where there is no such volume or plex, else 19 exactly where fewer than 65,536 serials are left, and then nothing has
 /// changed; else 7 only where the count of the disk that it names rose, and 6 only where the shelf is then down. Then the plex is not
-/// ACTIVE, unless the commit that takes it back was refused too. It takes no memory.
+/// ACTIVE: where the commit that takes it back was refused too, it is held back. It takes no memory.
 pub fn att_in<S: Shelf>(
     shelf: &mut S,
     core: &mut GroupCore,
     vol: u32,
     plex: u32,
 ) -> Result<u64, Stop>
-    requires stands { Stands core.old (S.meaning shelf.old) }
-    ensures stands { Stands core.new (S.meaning shelf.new) }
-    ensures refused { (no : NoValue) → att_refusal core.old.config vol plex ≡ Some no → (result ≡ Err (Refused no)) × (core.new ≡ core.old) × (shelf.new ≡ shelf.old) }
-    ensures already { att_refusal core.old.config vol plex ≡ None → IsTrue (active core.old.config vol plex) → (result ≡ Ok 0) × (core.new ≡ core.old) × (shelf.new ≡ shelf.old) }
-    ensures count { active core.old.config vol plex ≡ false → IfOk result (λ n. n ≡ copied_regions core.old.config vol) }
-    ensures attaches { Attaches vol plex core.old core.new (S.meaning shelf.old) (S.meaning shelf.new) }
-    ensures ends { active core.old.config vol plex ≡ false → AttachEnds vol plex core.new (S.meaning shelf.new) result }
-    ensures regains { Regains core.old.config core.new.config vol plex (S.meaning shelf.old) (S.meaning shelf.new) }
-    ensures held { active core.old.config vol plex ≡ false → OnOk result (HoldsPlex (λ s. S.meaning s) core.old.config core.new.config vol plex shelf.new) }
-    ensures trust { OnOk result (core.old.committed ≡ true → core.new.committed ≡ true) }
-    ensures cause { att_refusal core.old.config vol plex ≡ None → DetStops (S.meaning shelf.old) (S.meaning shelf.new) result }
+    requires stands { GroupStands core.old (S.meaning shelf.old) }
+    ensures stands { GroupStands core.new (S.meaning shelf.new) }
+    ensures refused { (no : NoValue) → att_refusal core.old.inner.config vol plex ≡ Some no → (result ≡ Err (Refused no)) × (core.new ≡ core.old) × (shelf.new ≡ shelf.old) }
+    ensures already { att_refusal core.old.inner.config vol plex ≡ None → IsTrue (active core.old.inner.config vol plex) → (result ≡ Ok 0) × (core.new ≡ core.old) × (shelf.new ≡ shelf.old) }
+    ensures count { active core.old.inner.config vol plex ≡ false → IfOk result (λ n. n ≡ copied_regions core.old.inner.config vol) }
+    ensures attaches { GroupAttaches vol plex core.old core.new (S.meaning shelf.old) (S.meaning shelf.new) }
+    ensures ends { active core.old.inner.config vol plex ≡ false → GroupAttachEnds vol plex core.new.inner.config (S.meaning shelf.new) result }
+    ensures regains { Regains core.old.inner.config core.new.inner.config vol plex (S.meaning shelf.old) (S.meaning shelf.new) }
+    ensures held { active core.old.inner.config vol plex ≡ false → OnOk result (HoldsPlex (λ s. S.meaning s) core.old.inner.config core.new.inner.config vol plex shelf.new) }
+    ensures trust { OnOk result (core.old.inner.committed ≡ true → core.new.inner.committed ≡ true) }
+    ensures cause { att_refusal core.old.inner.config vol plex ≡ None → DetStops (S.meaning shelf.old) (S.meaning shelf.new) result }
 {
-    if let Some(no) = refuse(&core.config, vol, plex) {
+    if let Some(no) = refuse(&core.inner.config, vol, plex) {
         return Err(Stop::No(no));
     }
-    if is_active(&core.config, vol, plex) {
+    if is_active(&core.inner.config, vol, plex) {
         return Ok(0);
     }
     if shelf.is_down() {
         return Err(Stop::No(No::Down));
     }
-    let regions = blocks_of(&core.config, vol).div_ceil(REGION);
-    match attach_held(shelf, core, vol, plex) {
+    let regions = blocks_of(&core.inner.config, vol).div_ceil(REGION);
+    match release(shelf, core) {
+        Ok(()) => {}
+        Err(error) => return Err(Stop::No(refusal(error))),
+    }
+    match attach_held(shelf, &mut core.inner, vol, plex) {
         Ok(()) => Ok(regions),
-        Err(error) => Err(Stop::No(refusal(error))),
+        Err(error) => {
+            hold_back(core, vol, plex);
+            Err(Stop::No(refusal(error)))
+        }
     }
 }

@@ -9,8 +9,8 @@ ghost use Rattle.vx_group.specs.Stands.{Stands};
 ghost use Rattle.vx_volume.specs.Copies.{CopyCause};
 ghost use Rattle.vx_volume.specs.Plexes.{active};
 
-use crate::GroupCore;
 use crate::detaching::detach;
+use crate::inner::Inner;
 use crate::settling::settle_headers;
 use vx_config::PlexState;
 use vx_disk::{Shelf, ShelfError};
@@ -21,7 +21,7 @@ use vx_volume::{Failed, copy_plex, is_active, set_of};
 // Copies a plex of the volume that is ACTIVE to a plex, which is then ACTIVE in memory. Where the copy fails nothing has changed in memory.
 fn copy_from<S: Shelf>(
     shelf: &mut S,
-    core: &mut GroupCore,
+    core: &mut Inner,
     vol: u32,
     source: u32,
     plex: u32,
@@ -57,7 +57,7 @@ fn copy_from<S: Shelf>(
 // The same of any plex: one that is not ACTIVE is none to copy from, which is answered as a fault of this device.
 fn try_from<S: Shelf>(
     shelf: &mut S,
-    core: &mut GroupCore,
+    core: &mut Inner,
     vol: u32,
     source: u32,
     plex: u32,
@@ -85,12 +85,7 @@ fn try_from<S: Shelf>(
 
 // Copies the content of the volume to a plex, which is then ACTIVE in memory, from the first plex that is ACTIVE and of which the copy does not
 // fail. Where each fails nothing has changed in memory.
-fn copy_to<S: Shelf>(
-    shelf: &mut S,
-    core: &mut GroupCore,
-    vol: u32,
-    plex: u32,
-) -> Result<(), ShelfError>
+fn copy_to<S: Shelf>(shelf: &mut S, core: &mut Inner, vol: u32, plex: u32) -> Result<(), ShelfError>
     requires stands { Stands core.old (S.meaning shelf.old) }
     requires may { MayAttach core.old.config vol plex }
     requires off { active core.old.config vol plex ≡ false }
@@ -117,7 +112,7 @@ fn copy_to<S: Shelf>(
 }
 
 // Detaches a plex that is ACTIVE, where it can.
-fn take_back<S: Shelf>(shelf: &mut S, core: &mut GroupCore, vol: u32, plex: u32)
+fn take_back<S: Shelf>(shelf: &mut S, core: &mut Inner, vol: u32, plex: u32)
     requires stands { Stands core.old (S.meaning shelf.old) }
     requires is_on { IsTrue (active core.old.config vol plex) }
     requires other { HasOther core.old.config vol plex }
@@ -145,7 +140,7 @@ fn take_back<S: Shelf>(shelf: &mut S, core: &mut GroupCore, vol: u32, plex: u32)
 // Commits the configuration in which the plex is ACTIVE. Where this is refused the plex is detached again.
 fn commit_open<S: Shelf>(
     shelf: &mut S,
-    core: &mut GroupCore,
+    core: &mut Inner,
     vol: u32,
     plex: u32,
 ) -> Result<(), ShelfError>
@@ -177,7 +172,7 @@ fn commit_open<S: Shelf>(
 /// further commit takes it back.
 pub fn attach<S: Shelf>(
     shelf: &mut S,
-    core: &mut GroupCore,
+    core: &mut Inner,
     vol: u32,
     plex: u32,
 ) -> Result<(), ShelfError>

@@ -7,9 +7,9 @@ ghost use Rattle.vx_group.specs.Copying.{RunCopied, Mirrored, CopyMoved};
 ghost use Rattle.vx_group.specs.Stands.{Stands, meaning_of};
 ghost use Rattle.vx_volume.specs.Plexes.{active};
 
-use crate::GroupCore;
 use crate::detaching::{detach, fault_of};
 use crate::flushing::flush_plexes;
+use crate::inner::Inner;
 use vx_copyio::is_member;
 use vx_disk::{Shelf, ShelfError};
 use vx_model::limits::BLOCK;
@@ -22,7 +22,7 @@ const RUN: u64 = 16;
 // fails the copy is given up.
 fn copy_run<S: Shelf>(
     shelf: &mut S,
-    core: &mut GroupCore,
+    core: &mut Inner,
     vol: u32,
     source: u32,
     block: u64,
@@ -58,7 +58,7 @@ fn copy_run<S: Shelf>(
 // FromSource all blocks.
 fn copy_blocks<S: Shelf>(
     shelf: &mut S,
-    core: &mut GroupCore,
+    core: &mut Inner,
     vol: u32,
     source: u32,
 ) -> Result<(), ShelfError>
@@ -91,7 +91,7 @@ fn copy_blocks<S: Shelf>(
 /// A fault comes only where the count of its disk rose, and where the source failed; then blocks were copied, or not.
 pub fn copy_volume<S: Shelf>(
     shelf: &mut S,
-    core: &mut GroupCore,
+    core: &mut Inner,
     vol: u32,
     source: u32,
 ) -> Result<(), ShelfError>

@@ -8,8 +8,8 @@ ghost use Rattle.vx_model.specs.declared.errors.Stop.TheVariants.{No as Refused}
 ghost use Rattle.vx_model.specs.declared.limits.TheConstants.{MOST_DISKS};
 ghost use Rattle.vx_model.specs.declared.no.No.TheVariants.{Size};
 
-use crate::GroupCore;
 use crate::detaching::good_of;
+use crate::inner::Inner;
 use crate::marking::is_committed;
 use std::alloc::Global;
 use vx_config::{Config, DiskEntry, Disks, Volumes};
@@ -54,7 +54,7 @@ fn prepare<S: Shelf>(shelf: &mut S, site: u32) -> Result<(), Stop>
 ///
 /// Answers 4 exactly where a disk has fewer than 1,024 blocks, and then nothing has changed; else 7 only where the count of the disk that
 /// it names rose, and 6 only where the shelf is then down. It takes memory.
-pub fn start<S: Shelf>(alloc: Global, shelf: &mut S, site: u32) -> Result<GroupCore, Stop>
+pub fn start<S: Shelf>(alloc: Global, shelf: &mut S, site: u32) -> Result<Inner, Stop>
     requires some { 0 < (S.meaning shelf.old).units }
     requires few { (S.meaning shelf.old).units ≤ MOST_DISKS }
     ensures small { HasSmall (S.meaning shelf.old) → result ≡ Err (Refused Size) }
@@ -86,7 +86,7 @@ pub fn start<S: Shelf>(alloc: Global, shelf: &mut S, site: u32) -> Result<GroupC
     }
     let good = good_of(&config.disks);
     let committed = is_committed(false, &config.disks);
-    Ok(GroupCore {
+    Ok(Inner {
         config,
         good,
         room,

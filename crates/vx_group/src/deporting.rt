@@ -4,14 +4,18 @@ ghost use Rattle.vx_config.specs.Table.{greatest};
 ghost use Rattle.vx_group.specs.Blames.{StopsBy};
 ghost use Rattle.vx_group.specs.Deports.{Closes, CommitCloses};
 ghost use Rattle.vx_group.specs.Dets.{DetStops, margin};
+ghost use Rattle.vx_group.specs.Calls.{GroupCloses};
+ghost use Rattle.vx_group.specs.Holding.{GroupStands};
 ghost use Rattle.vx_group.specs.Stands.{Stands};
 ghost use Rattle.vx_model.specs.declared.errors.Stop.TheVariants.{No as Refused};
 ghost use Rattle.vx_model.specs.declared.no.Counted.TheVariants.{Number as Numbers};
 ghost use Rattle.vx_model.specs.declared.no.No.TheVariants.{Limit};
 
-use crate::GroupCore;
 use crate::detaching::fault_of;
+use crate::group_core::GroupCore;
+use crate::inner::Inner;
 use crate::quiescing::flush_volumes;
+use crate::releasing::release;
 use crate::settling::settle_headers;
 use vx_disk::{Shelf, ShelfError, refusal};
 use vx_kept::commit_clean;
@@ -22,7 +26,7 @@ use vx_model::{Counted, No, Stop};
 const MARGIN: u64 = 65_536;
 
 // Commits the configuration with plexes CLEAN.
-fn commit_closed<S: Shelf>(shelf: &mut S, core: &mut GroupCore) -> Result<(), ShelfError>
+fn commit_closed<S: Shelf>(shelf: &mut S, core: &mut Inner) -> Result<(), ShelfError>
     requires stands { Stands core.old (S.meaning shelf.old) }
     requires settled { core.old.unsettled ≡ false }
     requires more { core.old.config.serial < greatest }
@@ -50,7 +54,7 @@ fn commit_closed<S: Shelf>(shelf: &mut S, core: &mut GroupCore) -> Result<(), Sh
 }
 
 // The same, behind the headers that a refused commit asks for, and a flush of every volume.
-fn close<S: Shelf>(shelf: &mut S, core: &mut GroupCore) -> Result<(), ShelfError>
+fn close<S: Shelf>(shelf: &mut S, core: &mut Inner) -> Result<(), ShelfError>
     requires stands { Stands core.old (S.meaning shelf.old) }
     requires more { core.old.config.serial < greatest }
     requires up { IsTrue (S.meaning shelf.old).down → ⊥ }
@@ -73,14 +77,14 @@ fn close<S: Shelf>(shelf: &mut S, core: &mut GroupCore) -> Result<(), ShelfError
 ///
 /// Answers 19 exactly where fewer than 65,536 serials are left, and then nothing has changed; else 7 only where the count of the disk that
 /// it names rose, and 6 only where the shelf is then down. After a refusal the group stands, without the plexes that were detached. It takes no memory.
-#[tactic(auto, using(crate::proofs::QuiesceLemmas::still_back))]
+#[tactic(auto, using(crate::proofs::BehindLemmas::group_still))]
 pub fn deport_in<S: Shelf>(shelf: &mut S, core: &mut GroupCore) -> Result<(), Stop>
-    requires stands { Stands core.old (S.meaning shelf.old) }
-    ensures limit { greatest - margin < core.old.config.serial → (result ≡ Err (Refused (Limit Numbers greatest))) × (core.new ≡ core.old) × (shelf.new ≡ shelf.old) }
-    ensures ends { Closes core.old core.new (S.meaning shelf.old) (S.meaning shelf.new) result }
-    ensures cause { core.old.config.serial ≤ greatest - margin → DetStops (S.meaning shelf.old) (S.meaning shelf.new) result }
+    requires stands { GroupStands core.old (S.meaning shelf.old) }
+    ensures limit { greatest - margin < core.old.inner.config.serial → (result ≡ Err (Refused (Limit Numbers greatest))) × (core.new ≡ core.old) × (shelf.new ≡ shelf.old) }
+    ensures ends { GroupCloses core.old core.new (S.meaning shelf.old) (S.meaning shelf.new) result }
+    ensures cause { core.old.inner.config.serial ≤ greatest - margin → DetStops (S.meaning shelf.old) (S.meaning shelf.new) result }
 {
-    if MOST_NUMBER - MARGIN < core.config.serial {
+    if MOST_NUMBER - MARGIN < core.inner.config.serial {
         return Err(Stop::No(No::Limit {
             what: Counted::Number,
             most: MOST_NUMBER,
@@ -89,7 +93,11 @@ pub fn deport_in<S: Shelf>(shelf: &mut S, core: &mut GroupCore) -> Result<(), St
     if shelf.is_down() {
         return Err(Stop::No(No::Down));
     }
-    match close(shelf, core) {
+    match release(shelf, core) {
+        Ok(()) => {}
+        Err(error) => return Err(Stop::No(refusal(error))),
+    }
+    match close(shelf, &mut core.inner) {
         Ok(()) => Ok(()),
         Err(error) => Err(Stop::No(refusal(error))),
     }

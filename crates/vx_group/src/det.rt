@@ -1,36 +1,25 @@
 // A plex that is detached by its name.
-ghost use Rattle.std.specs.Prelude.{◌≡◌, ◌<◌, ℕ, false, true, Some, None, Err, OnOk, IfErr, IsTrue};
+ghost use Rattle.std.specs.Prelude.{◌≡◌, ℕ, false, true, Some, None, Err, OnOk, IfErr};
 ghost use Rattle.vx_disk.specs.Shelf.{Goes, Nothing};
-ghost use Rattle.vx_group.specs.Blames.{Blames};
-ghost use Rattle.vx_group.specs.Dets.{DetStops, any_below, det_refusal, is_other};
-ghost use Rattle.vx_group.specs.Moves.{Narrows};
-ghost use Rattle.vx_group.specs.Stands.{Stands, meaning_of};
+ghost use Rattle.vx_group.specs.Dets.{DetStops, det_refusal};
+ghost use Rattle.vx_group.specs.Calls.{GroupNarrows};
+ghost use Rattle.vx_group.specs.Holding.{GroupStands, wide};
+ghost use Rattle.vx_group.specs.Stands.{meaning_of};
 ghost use Rattle.vx_model.specs.declared.errors.Stop.TheVariants.{No as Refused};
 ghost use Rattle.vx_model.specs.declared.no.No.{No as NoValue};
-ghost use Rattle.vx_volume.specs.Plexes.{active, plexes_of};
+ghost use Rattle.vx_volume.specs.Plexes.{active};
 
-use crate::GroupCore;
-use crate::detaching::detach;
-use crate::settling::settle_headers;
+use crate::group_core::GroupCore;
+use crate::holding::has_other;
+use crate::releasing::{detach_plex, release};
 use vx_config::Config;
-use vx_disk::{Shelf, ShelfError, refusal};
-use vx_model::limits::{MOST_NUMBER, MOST_PLEXES};
+use vx_disk::{Shelf, refusal};
+use vx_model::limits::MOST_NUMBER;
 use vx_model::{Counted, Named, No, Stop};
-use vx_volume::{Failed, is_active, plex_count, set_of};
+use vx_volume::{is_active, plex_count};
 
 // So many serials are left at least where a call of its own may commit.
 const MARGIN: u64 = 65_536;
-
-// Whether a plex is ACTIVE that is not this one.
-fn has_other(config: &Config, vol: u32, plex: u32) -> bool
-    ensures { result ≡ any_below (is_other config.now vol plex) (plexes_of config.now vol) }
-{
-    let mut any = false;
-    for other in 0..plex_count(config, vol) {
-        any = any || (other != plex && is_active(config, vol, other));
-    }
-    any
-}
 
 // Why a plex may not be detached.
 fn refuse(config: &Config, vol: u32, plex: u32) -> Option<No>
@@ -58,35 +47,6 @@ fn refuse(config: &Config, vol: u32, plex: u32) -> Option<No>
     None
 }
 
-// Detaches a plex, by one commit.
-fn detach_one<S: Shelf>(
-    shelf: &mut S,
-    core: &mut GroupCore,
-    vol: u32,
-    plex: u32,
-) -> Result<(), ShelfError>
-    requires stands { Stands core.old (S.meaning shelf.old) }
-    requires may { det_refusal core.old.config vol plex ≡ None }
-    requires is_on { IsTrue (active core.old.config vol plex) }
-    requires up { IsTrue (S.meaning shelf.old).down → ⊥ }
-    ensures stands { Stands core.new (S.meaning shelf.new) }
-    ensures narrows { Narrows core.old core.new (S.meaning shelf.old) (S.meaning shelf.new) }
-    ensures off { OnOk result (active core.new.config vol plex ≡ false) }
-    ensures others { (w p : ℕ) → (w ≡ vol → p ≡ plex → ⊥) → active core.new.config w p ≡ active core.old.config w p }
-    ensures trust { OnOk result (core.old.committed ≡ true → core.new.committed ≡ true) }
-    ensures agreed { IfErr result (λ e. core.old.committed ≡ true → core.new.agreed ≡ true) }
-    ensures cause { Blames (S.meaning shelf.old) (S.meaning shelf.new) result }
-{
-    match settle_headers(shelf, core) {
-        Ok(()) => {}
-        Err(error) => return Err(error),
-    }
-    let mut flags = [false; MOST_PLEXES];
-    flags[plex as usize] = true;
-    let set = set_of(&flags);
-    detach(shelf, core, vol, Failed { set, disk: 0 })
-}
-
 /// Detaches a plex. Nothing changes where it is not ACTIVE.
 ///
 /// Answers 1 exactly where there is no such volume or plex, else 10 exactly where no other plex of the volume is ACTIVE, else 19 exactly
@@ -98,27 +58,31 @@ pub fn det_in<S: Shelf>(
     vol: u32,
     plex: u32,
 ) -> Result<(), Stop>
-    requires stands { Stands core.old (S.meaning shelf.old) }
-    ensures stands { Stands core.new (S.meaning shelf.new) }
-    ensures refused { (no : NoValue) → det_refusal core.old.config vol plex ≡ Some no → (result ≡ Err (Refused no)) × (core.new ≡ core.old) × (shelf.new ≡ shelf.old) }
-    ensures goes { Goes Nothing (meaning_of core.old (S.meaning shelf.old)) (meaning_of core.new (S.meaning shelf.new)) }
-    ensures narrows { Narrows core.old core.new (S.meaning shelf.old) (S.meaning shelf.new) }
-    ensures off { OnOk result (active core.new.config vol plex ≡ false) }
-    ensures others { (w p : ℕ) → (w ≡ vol → p ≡ plex → ⊥) → active core.new.config w p ≡ active core.old.config w p }
-    ensures trust { OnOk result (core.old.committed ≡ true → core.new.committed ≡ true) }
-    ensures agreed { IfErr result (λ e. core.old.committed ≡ true → core.new.agreed ≡ true) }
-    ensures cause { det_refusal core.old.config vol plex ≡ None → DetStops (S.meaning shelf.old) (S.meaning shelf.new) result }
+    requires stands { GroupStands core.old (S.meaning shelf.old) }
+    ensures stands { GroupStands core.new (S.meaning shelf.new) }
+    ensures refused { (no : NoValue) → det_refusal core.old.inner.config vol plex ≡ Some no → (result ≡ Err (Refused no)) × (core.new ≡ core.old) × (shelf.new ≡ shelf.old) }
+    ensures goes { Goes Nothing (meaning_of (wide core.old) (S.meaning shelf.old)) (meaning_of (wide core.new) (S.meaning shelf.new)) }
+    ensures narrows { GroupNarrows core.old core.new (S.meaning shelf.old) (S.meaning shelf.new) }
+    ensures off { OnOk result (active core.new.inner.config vol plex ≡ false) }
+    ensures others { (w p : ℕ) → (w ≡ vol → p ≡ plex → ⊥) → active core.new.inner.config w p ≡ active core.old.inner.config w p }
+    ensures trust { OnOk result (core.old.inner.committed ≡ true → core.new.inner.committed ≡ true) }
+    ensures agreed { IfErr result (λ e. core.old.inner.committed ≡ true → core.new.inner.agreed ≡ true) }
+    ensures cause { det_refusal core.old.inner.config vol plex ≡ None → DetStops (S.meaning shelf.old) (S.meaning shelf.new) result }
 {
-    if let Some(no) = refuse(&core.config, vol, plex) {
+    if let Some(no) = refuse(&core.inner.config, vol, plex) {
         return Err(Stop::No(no));
     }
-    if !is_active(&core.config, vol, plex) {
+    if !is_active(&core.inner.config, vol, plex) {
         return Ok(());
     }
     if shelf.is_down() {
         return Err(Stop::No(No::Down));
     }
-    match detach_one(shelf, core, vol, plex) {
+    match release(shelf, core) {
+        Ok(()) => {}
+        Err(error) => return Err(Stop::No(refusal(error))),
+    }
+    match detach_plex(shelf, &mut core.inner, vol, plex) {
         Ok(()) => Ok(()),
         Err(error) => Err(Stop::No(refusal(error))),
     }

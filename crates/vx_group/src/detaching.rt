@@ -1,5 +1,5 @@
 // Plexes that failed, which are detached by a commit.
-ghost use Rattle.std.specs.Prelude.{◌≡◌, ◌+◌, ◌<◌, ◌≤◌, ℕ, length, true, false, IfErr, IfOk, IsTrue, OnOk};
+ghost use Rattle.std.specs.Prelude.{◌≡◌, ◌⊎◌, ◌+◌, ◌<◌, ◌≤◌, ℕ, length, true, false, IfErr, IfOk, IsTrue, OnOk};
 ghost use Rattle.vx_config.specs.Table.{greatest};
 ghost use Rattle.vx_copies.specs.Answers.{good_set};
 ghost use Rattle.vx_copies.specs.Commits.{MoreFailed, NamesFailed};
@@ -10,10 +10,11 @@ ghost use Rattle.vx_group.specs.Quiesces.{SameParts};
 ghost use Rattle.vx_group.specs.Stands.{Stands};
 ghost use Rattle.vx_disk.specs.Blocks.{bit_at};
 ghost use Rattle.vx_kept.specs.Commits.{IsCommitted};
-ghost use Rattle.vx_kept.specs.States.{AreOn, SomeLeft};
+ghost use Rattle.vx_kept.specs.Trusts.{HasFailed};
+ghost use Rattle.vx_kept.specs.States.{AreOn, SomeLeft, staled};
 ghost use Rattle.vx_volume.specs.Plexes.{active, uses};
 
-use crate::GroupCore;
+use crate::inner::Inner;
 use crate::marking::is_committed;
 use vx_config::Disks;
 use vx_disk::{Shelf, ShelfError};
@@ -51,7 +52,7 @@ pub fn fault_of(no: No, device: u32) -> ShelfError
 /// that of the failed plexes.
 pub fn detach_named<S: Shelf>(
     shelf: &mut S,
-    core: &mut GroupCore,
+    core: &mut Inner,
     vol: u32,
     failed: Failed,
 ) -> Result<u32, ShelfError>
@@ -69,11 +70,13 @@ pub fn detach_named<S: Shelf>(
     ensures failing { MoreFailed (S.meaning shelf.old) (S.meaning shelf.new) core.old.config.disks core.new.config.disks }
     ensures few { OnOk result (core.new.config.serial ≤ core.old.config.serial + 1 + length core.old.config.disks) }
     ensures good { core.new.unsettled ≡ true → core.new.good ≡ core.old.good }
+    ensures kept { (core.new.config.volumes ≡ core.old.config.volumes) ⊎ (core.new.config.volumes ≡ (staled vol failed.set core.old.config 8).volumes) }
     ensures none { failed.set ≡ 0 → core.new.config.volumes ≡ core.old.config.volumes }
     ensures keeps { KeepsVolumes core.old.config core.new.config result }
     ensures missed { IfErr result (λ e. NoCommit core.new (S.meaning shelf.new)) }
     ensures trust { OnOk result (core.old.committed ≡ true → core.new.committed ≡ true) }
     ensures agreed { IfErr result (λ e. core.old.committed ≡ true → core.new.agreed ≡ true) }
+    ensures whole { OnOk result ((core.new.committed ≡ true) ⊎ HasFailed core.new.config.disks) }
     ensures committed { OnOk result (IsCommitted core.new.config (S.meaning shelf.new)) }
     ensures named { IfOk result (NamesFailed core.old.config core.new.config (S.meaning shelf.old) (S.meaning shelf.new)) }
     ensures cause { BlamesOr failed.disk (S.meaning shelf.old) (S.meaning shelf.new) result }
@@ -111,7 +114,7 @@ pub fn detach_named<S: Shelf>(
 /// What `detach_named` does, without the device.
 pub fn detach<S: Shelf>(
     shelf: &mut S,
-    core: &mut GroupCore,
+    core: &mut Inner,
     vol: u32,
     failed: Failed,
 ) -> Result<(), ShelfError>
@@ -129,11 +132,13 @@ pub fn detach<S: Shelf>(
     ensures failing { MoreFailed (S.meaning shelf.old) (S.meaning shelf.new) core.old.config.disks core.new.config.disks }
     ensures few { OnOk result (core.new.config.serial ≤ core.old.config.serial + 1 + length core.old.config.disks) }
     ensures good { core.new.unsettled ≡ true → core.new.good ≡ core.old.good }
+    ensures kept { (core.new.config.volumes ≡ core.old.config.volumes) ⊎ (core.new.config.volumes ≡ (staled vol failed.set core.old.config 8).volumes) }
     ensures none { failed.set ≡ 0 → core.new.config.volumes ≡ core.old.config.volumes }
     ensures keeps { KeepsVolumes core.old.config core.new.config result }
     ensures missed { IfErr result (λ e. NoCommit core.new (S.meaning shelf.new)) }
     ensures trust { OnOk result (core.old.committed ≡ true → core.new.committed ≡ true) }
     ensures agreed { IfErr result (λ e. core.old.committed ≡ true → core.new.agreed ≡ true) }
+    ensures whole { OnOk result ((core.new.committed ≡ true) ⊎ HasFailed core.new.config.disks) }
     ensures committed { OnOk result (IsCommitted core.new.config (S.meaning shelf.new)) }
     ensures cause { BlamesOr failed.disk (S.meaning shelf.old) (S.meaning shelf.new) result }
     ensures sure { core.old.config.serial < greatest → Blames (S.meaning shelf.old) (S.meaning shelf.new) result }

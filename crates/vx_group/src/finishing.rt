@@ -7,8 +7,8 @@ ghost use Rattle.vx_group.specs.Stands.{Stands};
 ghost use Rattle.vx_model.specs.declared.limits.TheConstants.{MOST_VOLUMES};
 ghost use Rattle.vx_volume.specs.Plexes.{active};
 
-use crate::GroupCore;
 use crate::detaching::good_of;
+use crate::inner::Inner;
 use crate::marking::is_committed;
 use crate::mending::mend_volumes;
 use crate::settling::settle_headers;
@@ -18,7 +18,7 @@ use vx_model::No;
 use vx_model::limits::MOST_VOLUMES;
 
 // Commits the configuration as it stands.
-fn commit_whole<S: Shelf>(shelf: &mut S, core: &mut GroupCore) -> Result<(), No>
+fn commit_whole<S: Shelf>(shelf: &mut S, core: &mut Inner) -> Result<(), No>
     requires stands { Stands core.old (S.meaning shelf.old) }
     requires settled { core.old.unsettled ≡ false }
     ensures { CommitsAs core.old core.new (S.meaning shelf.old) (S.meaning shelf.new) result }
@@ -45,7 +45,7 @@ fn commit_whole<S: Shelf>(shelf: &mut S, core: &mut GroupCore) -> Result<(), No>
 /// Writes the headers of the disks back, copies each volume that is marked from its source to each plex that is ACTIVE, and commits.
 pub fn renew<S: Shelf>(
     shelf: &mut S,
-    core: &mut GroupCore,
+    core: &mut Inner,
     stopped: &[bool; MOST_VOLUMES],
     sources: &[u32; MOST_VOLUMES],
 ) -> Result<(), No>

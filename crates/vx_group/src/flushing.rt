@@ -1,28 +1,29 @@
 // A flush of a volume.
-ghost use Rattle.std.specs.Prelude.{◌≡◌, ◌<◌, ℕ, false, IsTrue, OnOk, true, IfErr};
+ghost use Rattle.std.specs.Prelude.{◌≡◌, ◌<◌, ◌≤◌, ℕ, false, IsTrue, None, OnOk, true, IfErr};
 ghost use Rattle.vx_disk.specs.Causes.{Cause};
 ghost use Rattle.vx_disk.specs.Shelf.{Flushed, Goes, Nothing};
+ghost use Rattle.vx_config.specs.Table.{greatest};
 ghost use Rattle.vx_group.specs.Blames.{Blames, MarksOn};
 ghost use Rattle.vx_group.specs.Copying.{Spent};
 ghost use Rattle.vx_group.specs.GivesUp.{GivesUp};
+ghost use Rattle.vx_group.specs.Holding.{GroupStands, wide};
 ghost use Rattle.vx_group.specs.Loses.{Loses};
 ghost use Rattle.vx_group.specs.Moves.{AllFlushed, Narrows};
 ghost use Rattle.vx_group.specs.Stands.{Stands, meaning_of};
 ghost use Rattle.vx_volume.specs.Plexes.{active};
 
-use crate::GroupCore;
 use crate::counting::give_up;
 use crate::detaching::{detach, fault_of};
+use crate::group_core::GroupCore;
+use crate::holding::{close_held, open_held};
+use crate::inner::Inner;
+use crate::releasing::release;
 use crate::settling::make_ready;
 use vx_disk::{Shelf, ShelfError};
 use vx_volume::flush_all;
 
 /// Flushes each plex that is ACTIVE, and detaches those that failed.
-pub fn flush_plexes<S: Shelf>(
-    shelf: &mut S,
-    core: &mut GroupCore,
-    vol: u32,
-) -> Result<(), ShelfError>
+pub fn flush_plexes<S: Shelf>(shelf: &mut S, core: &mut Inner, vol: u32) -> Result<(), ShelfError>
     requires stands { Stands core.old (S.meaning shelf.old) }
     requires there { vol < (meaning_of core.old (S.meaning shelf.old)).units }
     requires up { IsTrue (S.meaning shelf.old).down → ⊥ }
@@ -56,7 +57,7 @@ pub fn flush_plexes<S: Shelf>(
 }
 
 /// Makes a volume durable.
-pub fn flush_in<S: Shelf>(shelf: &mut S, core: &mut GroupCore, vol: u32) -> Result<(), ShelfError>
+pub fn flush_in<S: Shelf>(shelf: &mut S, core: &mut Inner, vol: u32) -> Result<(), ShelfError>
     requires stands { Stands core.old (S.meaning shelf.old) }
     requires there { vol < (meaning_of core.old (S.meaning shelf.old)).units }
     ensures stands { Stands core.new (S.meaning shelf.new) }
@@ -67,6 +68,7 @@ pub fn flush_in<S: Shelf>(shelf: &mut S, core: &mut GroupCore, vol: u32) -> Resu
     ensures trust { OnOk result (core.old.committed ≡ true → core.new.committed ≡ true) }
     ensures agreed { IfErr result (λ e. core.old.committed ≡ true → core.new.agreed ≡ true) }
     ensures cause { Cause (meaning_of core.old (S.meaning shelf.old)) (meaning_of core.new (S.meaning shelf.new)) vol result }
+    ensures unit_faults { (u : ℕ) → (S.meaning shelf.old).faults u ≤ (S.meaning shelf.new).faults u }
     ensures marks { MarksOn vol core.old.unsure core.new.unsure result }
 {
     if shelf.is_down() {
@@ -86,4 +88,38 @@ pub fn flush_in<S: Shelf>(shelf: &mut S, core: &mut GroupCore, vol: u32) -> Resu
             Err(error)
         }
     }
+}
+
+/// The same of a group of which a plex may be held back, which is detached first. Where no serial is left to do so it is flushed too.
+pub fn flush_group<S: Shelf>(
+    shelf: &mut S,
+    core: &mut GroupCore,
+    vol: u32,
+) -> Result<(), ShelfError>
+    requires stands { GroupStands core.old (S.meaning shelf.old) }
+    requires there { vol < (meaning_of (wide core.old) (S.meaning shelf.old)).units }
+    ensures stands { GroupStands core.new (S.meaning shelf.new) }
+    ensures goes { Goes Nothing (meaning_of (wide core.old) (S.meaning shelf.old)) (meaning_of (wide core.new) (S.meaning shelf.new)) }
+    ensures ok { OnOk result (Flushed vol (meaning_of (wide core.old) (S.meaning shelf.old)) (meaning_of (wide core.new) (S.meaning shelf.new))) }
+    ensures gave_up { GivesUp vol core.old.inner core.new.inner (S.meaning shelf.old) (S.meaning shelf.new) result }
+    ensures loses { Loses core.old.inner.config core.new.inner.config (S.meaning shelf.old) (S.meaning shelf.new) }
+    ensures clear { core.old.inner.config.serial < greatest → OnOk result (core.new.held ≡ None) }
+    ensures trust { OnOk result (core.old.inner.committed ≡ true → core.new.inner.committed ≡ true) }
+    ensures agreed { IfErr result (λ e. core.old.inner.committed ≡ true → core.new.inner.agreed ≡ true) }
+    ensures cause { Cause (meaning_of (wide core.old) (S.meaning shelf.old)) (meaning_of (wide core.new) (S.meaning shelf.new)) vol result }
+{
+    if shelf.is_down() {
+        return Err(ShelfError::Down);
+    }
+    match release(shelf, core) {
+        Ok(()) => {}
+        Err(error) => {
+            give_up(&mut core.inner.faults, &mut core.inner.unsure, vol, error);
+            return Err(error);
+        }
+    }
+    let held = open_held(core);
+    let result = flush_in(shelf, &mut core.inner, vol);
+    close_held(core, held);
+    result
 }

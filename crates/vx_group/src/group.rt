@@ -1,41 +1,41 @@
 // A group as a shelf.
-ghost use Rattle.std.specs.Prelude.{◌≡◌, ◌<◌, ◌≤◌, ◌-◌, true, false, IfOk, IfSome, IsTrue, Some, None, Ok, Err, OnOk, length, ℕ, IfErr};
-ghost use Rattle.vx_disk.specs.Causes.{Calls, Cause, Names, OnDisks, Works};
-ghost use Rattle.vx_disk.specs.Disks.{Crashed};
+ghost use Rattle.std.specs.Prelude.{◌≡◌, ◌⊎◌, ◌<◌, ◌≤◌, ◌-◌, true, false, IfOk, IfSome, IsTrue, Some, None, Ok, Err, OnOk, length, ℕ, IfErr};
+ghost use Rattle.vx_disk.specs.Causes.{Calls, Cause, CountsOnly, Names, OnDisks, Works};
+ghost use Rattle.vx_disk.specs.Disks.{Crashed, Untouched};
 ghost use Rattle.vx_disk.specs.Racks.{Stopped};
-ghost use Rattle.vx_disk.specs.Shelf.{DisksFlushed, DisksWrote, Fits, Flushed, Goes, Nothing, Written, Wrote};
+ghost use Rattle.vx_disk.specs.Shelf.{DisksFlushed, DisksWrote, Fits, Flushed, Goes, Nothing, Read, Written, Wrote};
 ghost use Rattle.vx_config.specs.Table.{greatest};
-ghost use Rattle.vx_group.specs.Attaches.{AttachEnds, Attaches, att_refusal, copied_regions};
-ghost use Rattle.vx_group.specs.Deports.{DeportStops, GroupCanImport, GroupDeported, IsFull};
+ghost use Rattle.vx_group.specs.Attaches.{GroupAttachEnds, att_refusal, copied_regions};
+ghost use Rattle.vx_group.specs.Deports.{DeportStops, GroupCanImport};
 ghost use Rattle.vx_group.specs.Dets.{DetStops, det_refusal, margin};
 ghost use Rattle.vx_group.specs.Loses.{Loses};
-ghost use Rattle.vx_group.specs.Makes.{MakeEnds, StayAsWere, Unmoved, make_refusal};
-ghost use Rattle.vx_group.specs.Moves.{Narrows};
+ghost use Rattle.vx_group.specs.Makes.{MakeEnds, Unmoved, make_refusal};
 ghost use Rattle.vx_model.specs.declared.no.No.{No as NoValue};
 ghost use Rattle.vx_volume.specs.Plexes.{active};
 ghost use Rattle.vx_copyio.specs.Labelling.{HasSmall};
 ghost use Rattle.vx_model.specs.declared.errors.Stop.TheVariants.{No as Refused};
 ghost use Rattle.vx_model.specs.declared.limits.TheConstants.{MOST_DISKS};
 ghost use Rattle.vx_model.specs.declared.no.No.TheVariants.{Size};
-ghost use Rattle.vx_group.specs.Creates.{GroupCreated};
 ghost use Rattle.vx_group.specs.GivesUp.{GivesUp};
-ghost use Rattle.vx_group.specs.Imports.{GroupImported};
+ghost use Rattle.vx_group.specs.Calls.{GroupAttaches, GroupCreated, GroupDeported, GroupImported, GroupNarrows, GroupStays, IsFull};
+ghost use Rattle.vx_group.specs.Holding.{GroupStands, wide};
+ghost use Rattle.vx_kept.specs.Trusts.{HasFailed};
 ghost use Rattle.vx_group.specs.Laws.{group_lawful};
 ghost use Rattle.vx_group.specs.Regains.{HoldsPlex, Regains};
 ghost use Rattle.vx_group.specs.Resumes.{AtRest, CanImport};
-ghost use Rattle.vx_group.specs.Stands.{Stands, meaning_of};
+ghost use Rattle.vx_group.specs.Stands.{meaning_of};
 
-use crate::GroupCore;
 use crate::att::att_in;
 use crate::crashing::crash_in;
 use crate::create::start;
 use crate::deporting::deport_in;
 use crate::det::det_in;
-use crate::flushing::flush_in;
+use crate::flushing::flush_group;
+use crate::group_core::GroupCore;
 use crate::importing::import_in;
 use crate::making::make_in;
 use crate::reading::read_in;
-use crate::writing::write_in;
+use crate::writing::write_group;
 use std::alloc::Global;
 use vx_config::Config;
 use vx_disk::{Rack, Shelf, ShelfError};
@@ -47,7 +47,7 @@ use vx_model::{Name, Stop};
 pub struct Group<S: Shelf> {
     shelf: S,
     core: GroupCore,
-    ghost stands: { Stands core (S.meaning shelf) },
+    ghost stands: { GroupStands core (S.meaning shelf) },
 }
 
 impl<S: Shelf> Group<S> {
@@ -63,7 +63,10 @@ impl<S: Shelf> Group<S> {
     {
         let mut shelf = shelf;
         match start(alloc, &mut shelf, site) {
-            Ok(core) => Ok(Group { shelf, core }),
+            Ok(inner) => {
+                let core = GroupCore { inner, held: None };
+                Ok(Group { shelf, core })
+            }
             Err(stop) => Err((shelf, stop)),
         }
     }
@@ -81,16 +84,19 @@ impl<S: Shelf> Group<S> {
     {
         let mut shelf = shelf;
         match import_in(alloc, &mut shelf) {
-            Ok(core) => Ok(Group { shelf, core }),
+            Ok(inner) => {
+                let core = GroupCore { inner, held: None };
+                Ok(Group { shelf, core })
+            }
             Err(stop) => Err((shelf, stop)),
         }
     }
 
     /// The configuration.
     pub fn config(&self) -> &Config
-        ensures { result.now ≡ self.now.core.config }
+        ensures { result.now ≡ self.now.core.inner.config }
     {
-        &self.core.config
+        &self.core.inner.config
     }
 
     /// Makes a volume of a shape, which begins as zeros, and answers its number. The volumes that stood are left as they were.
@@ -102,11 +108,12 @@ impl<S: Shelf> Group<S> {
     /// writes zeros to its plexes and flushes them before the commit. It takes memory.
     pub fn make_volume(&mut self, alloc: Global, name: &Name, want: &Shape) -> Result<u32, Stop>
         requires prefer { IfSome want.now.prefer (λ p. p < want.now.mirrors) }
-        ensures refused { (no : NoValue) → make_refusal self.old.core.config name.now want.now ≡ Some no → (result ≡ Err (Refused no)) × (self.new.core ≡ self.old.core) × (self.new.shelf ≡ self.old.shelf) }
-        ensures stays { StayAsWere self.old.core self.new.core (S.meaning self.old.shelf) (S.meaning self.new.shelf) }
-        ensures ends { make_refusal self.old.core.config name.now want.now ≡ None → MakeEnds name.now want.now self.old.core self.new.core (S.meaning self.old.shelf) (S.meaning self.new.shelf) result }
-        ensures trust { OnOk result (self.old.core.committed ≡ true → self.new.core.committed ≡ true) }
-        ensures agreed { IfErr result (λ e. self.old.core.committed ≡ true → self.new.core.agreed ≡ true) }
+        ensures refused { (no : NoValue) → make_refusal self.old.core.inner.config name.now want.now ≡ Some no → (result ≡ Err (Refused no)) × (self.new.core ≡ self.old.core) × (self.new.shelf ≡ self.old.shelf) }
+        ensures stays { GroupStays self.old.core self.new.core (S.meaning self.old.shelf) (S.meaning self.new.shelf) }
+        ensures ends { make_refusal self.old.core.inner.config name.now want.now ≡ None → MakeEnds name.now want.now self.old.core.inner self.new.core.inner (S.meaning self.old.shelf) (S.meaning self.new.shelf) result }
+        ensures trust { OnOk result (self.old.core.inner.committed ≡ true → self.new.core.inner.committed ≡ true) }
+        ensures whole { OnOk result ((self.new.core.inner.committed ≡ true) ⊎ HasFailed self.new.core.inner.config.disks) }
+        ensures agreed { IfErr result (λ e. self.old.core.inner.committed ≡ true → self.new.core.inner.agreed ≡ true) }
         ensures unmoved { Unmoved result ((self.new.core ≡ self.old.core) × (self.new.shelf ≡ self.old.shelf)) }
     {
         make_in(alloc, &mut self.shelf, &mut self.core, name, want)
@@ -119,14 +126,14 @@ impl<S: Shelf> Group<S> {
     /// names rose, and 6 only where the shelf is then down. It makes no device call but those of a commit, behind a refused commit those
     /// that write headers back, and takes no memory.
     pub fn det(&mut self, vol: u32, plex: u32) -> Result<(), Stop>
-        ensures refused { (no : NoValue) → det_refusal self.old.core.config vol plex ≡ Some no → (result ≡ Err (Refused no)) × (self.new.core ≡ self.old.core) × (self.new.shelf ≡ self.old.shelf) }
-        ensures goes { Goes Nothing (meaning_of self.old.core (S.meaning self.old.shelf)) (meaning_of self.new.core (S.meaning self.new.shelf)) }
-        ensures narrows { Narrows self.old.core self.new.core (S.meaning self.old.shelf) (S.meaning self.new.shelf) }
-        ensures off { OnOk result (active self.new.core.config vol plex ≡ false) }
-        ensures others { (w p : ℕ) → (w ≡ vol → p ≡ plex → ⊥) → active self.new.core.config w p ≡ active self.old.core.config w p }
-        ensures trust { OnOk result (self.old.core.committed ≡ true → self.new.core.committed ≡ true) }
-        ensures agreed { IfErr result (λ e. self.old.core.committed ≡ true → self.new.core.agreed ≡ true) }
-        ensures cause { det_refusal self.old.core.config vol plex ≡ None → DetStops (S.meaning self.old.shelf) (S.meaning self.new.shelf) result }
+        ensures refused { (no : NoValue) → det_refusal self.old.core.inner.config vol plex ≡ Some no → (result ≡ Err (Refused no)) × (self.new.core ≡ self.old.core) × (self.new.shelf ≡ self.old.shelf) }
+        ensures goes { Goes Nothing (meaning_of (wide self.old.core) (S.meaning self.old.shelf)) (meaning_of (wide self.new.core) (S.meaning self.new.shelf)) }
+        ensures narrows { GroupNarrows self.old.core self.new.core (S.meaning self.old.shelf) (S.meaning self.new.shelf) }
+        ensures off { OnOk result (active self.new.core.inner.config vol plex ≡ false) }
+        ensures others { (w p : ℕ) → (w ≡ vol → p ≡ plex → ⊥) → active self.new.core.inner.config w p ≡ active self.old.core.inner.config w p }
+        ensures trust { OnOk result (self.old.core.inner.committed ≡ true → self.new.core.inner.committed ≡ true) }
+        ensures agreed { IfErr result (λ e. self.old.core.inner.committed ≡ true → self.new.core.inner.agreed ≡ true) }
+        ensures cause { det_refusal self.old.core.inner.config vol plex ≡ None → DetStops (S.meaning self.old.shelf) (S.meaning self.new.shelf) result }
     {
         det_in(&mut self.shelf, &mut self.core, vol, plex)
     }
@@ -137,18 +144,19 @@ impl<S: Shelf> Group<S> {
     ///
     /// Answers 1 exactly where there is no such volume or plex, else 19 exactly where fewer than 65,536 serials are left, and then nothing
     /// has changed; else 7 only where the count of the disk that it names rose, and 6 only where the shelf is then down. Then the plex is
-    /// not ACTIVE, unless the commit that takes it back was refused too. It writes blocks of this plex alone beside those of commits, makes
-    /// them durable before its commit, and takes no memory.
+    /// not ACTIVE: where the commit that takes it back was refused too it is STALE in memory, an import behind a crash may find it ACTIVE
+    /// with the content of the volume, and the next call but a read begins with a commit that detaches it. It writes blocks of this plex
+    /// alone beside those of commits, makes them durable before its commit, and takes no memory.
     pub fn att(&mut self, vol: u32, plex: u32) -> Result<u64, Stop>
-        ensures refused { (no : NoValue) → att_refusal self.old.core.config vol plex ≡ Some no → (result ≡ Err (Refused no)) × (self.new.core ≡ self.old.core) × (self.new.shelf ≡ self.old.shelf) }
-        ensures already { att_refusal self.old.core.config vol plex ≡ None → IsTrue (active self.old.core.config vol plex) → (result ≡ Ok 0) × (self.new.core ≡ self.old.core) × (self.new.shelf ≡ self.old.shelf) }
-        ensures count { active self.old.core.config vol plex ≡ false → IfOk result (λ n. n ≡ copied_regions self.old.core.config vol) }
-        ensures attaches { Attaches vol plex self.old.core self.new.core (S.meaning self.old.shelf) (S.meaning self.new.shelf) }
-        ensures ends { active self.old.core.config vol plex ≡ false → AttachEnds vol plex self.new.core (S.meaning self.new.shelf) result }
-        ensures regains { Regains self.old.core.config self.new.core.config vol plex (S.meaning self.old.shelf) (S.meaning self.new.shelf) }
-        ensures held { active self.old.core.config vol plex ≡ false → OnOk result (HoldsPlex (λ s. S.meaning s) self.old.core.config self.new.core.config vol plex self.new.shelf) }
-        ensures trust { OnOk result (self.old.core.committed ≡ true → self.new.core.committed ≡ true) }
-        ensures cause { att_refusal self.old.core.config vol plex ≡ None → DetStops (S.meaning self.old.shelf) (S.meaning self.new.shelf) result }
+        ensures refused { (no : NoValue) → att_refusal self.old.core.inner.config vol plex ≡ Some no → (result ≡ Err (Refused no)) × (self.new.core ≡ self.old.core) × (self.new.shelf ≡ self.old.shelf) }
+        ensures already { att_refusal self.old.core.inner.config vol plex ≡ None → IsTrue (active self.old.core.inner.config vol plex) → (result ≡ Ok 0) × (self.new.core ≡ self.old.core) × (self.new.shelf ≡ self.old.shelf) }
+        ensures count { active self.old.core.inner.config vol plex ≡ false → IfOk result (λ n. n ≡ copied_regions self.old.core.inner.config vol) }
+        ensures attaches { GroupAttaches vol plex self.old.core self.new.core (S.meaning self.old.shelf) (S.meaning self.new.shelf) }
+        ensures ends { active self.old.core.inner.config vol plex ≡ false → GroupAttachEnds vol plex self.new.core.inner.config (S.meaning self.new.shelf) result }
+        ensures regains { Regains self.old.core.inner.config self.new.core.inner.config vol plex (S.meaning self.old.shelf) (S.meaning self.new.shelf) }
+        ensures held { active self.old.core.inner.config vol plex ≡ false → OnOk result (HoldsPlex (λ s. S.meaning s) self.old.core.inner.config self.new.core.inner.config vol plex self.new.shelf) }
+        ensures trust { OnOk result (self.old.core.inner.committed ≡ true → self.new.core.inner.committed ≡ true) }
+        ensures cause { att_refusal self.old.core.inner.config vol plex ≡ None → DetStops (S.meaning self.old.shelf) (S.meaning self.new.shelf) result }
     {
         att_in(&mut self.shelf, &mut self.core, vol, plex)
     }
@@ -162,10 +170,10 @@ impl<S: Shelf> Group<S> {
     /// detached. It makes no device call but flushes and those of commits, behind a refused commit those that write headers back, and takes
     /// no memory.
     pub fn deport(self) -> Result<S, (Group<S>, Stop)>
-        ensures limit { greatest - margin < self.core.config.serial → IsFull self.core self.shelf (λ g. g.core) (λ g. g.shelf) result }
+        ensures limit { greatest - margin < self.core.inner.config.serial → IsFull self.core self.shelf (λ g. g.core) (λ g. g.shelf) result }
         ensures ends { GroupDeported self.core (S.meaning self.shelf) (λ s. S.meaning s) (λ g. g.core) (λ g. g.shelf) result }
-        ensures can { GroupCanImport self.core (λ s. S.meaning s) result }
-        ensures cause { self.core.config.serial ≤ greatest - margin → DeportStops (S.meaning self.shelf) (λ s. S.meaning s) (λ g. g.shelf) result }
+        ensures can { GroupCanImport self.core.inner (λ s. S.meaning s) result }
+        ensures cause { self.core.inner.config.serial ≤ greatest - margin → DeportStops (S.meaning self.shelf) (λ s. S.meaning s) (λ g. g.shelf) result }
     {
         let mut shelf = self.shelf;
         let mut core = self.core;
@@ -180,9 +188,9 @@ impl<S: Shelf> Group<S> {
     /// They do while each commit is done, and behind the first one that is refused. Then they may not, until a commit is done by which each disk
     /// is good: a disk that failed in the refused one may keep a copy of it that no later commit reaches. It makes no device call.
     pub fn is_agreed(&self) -> bool
-        ensures { result ≡ self.now.core.agreed }
+        ensures { result ≡ self.now.core.inner.agreed }
     {
-        self.core.agreed
+        self.core.inner.agreed
     }
 
     /// Hands out the shelf below and the rest. Where the shelf fell, and imports agree, it may be imported again. It makes no device call and
@@ -190,15 +198,15 @@ impl<S: Shelf> Group<S> {
     pub fn apart(self) -> (S, GroupCore)
         ensures shelf { result.0 ≡ self.shelf }
         ensures core { result.1 ≡ self.core }
-        ensures stands { Stands result.1 (S.meaning result.0) }
-        ensures can { AtRest (S.meaning result.0) → result.1.agreed ≡ true → CanImport (S.meaning result.0) }
+        ensures stands { GroupStands result.1 (S.meaning result.0) }
+        ensures can { AtRest (S.meaning result.0) → result.1.inner.agreed ≡ true → CanImport (S.meaning result.0) }
     {
         (self.shelf, self.core)
     }
 
     /// Joins them again, where what the core says stands on the shelf. It makes no device call and takes no memory.
     pub fn together(shelf: S, core: GroupCore) -> Group<S>
-        requires stands { Stands core (S.meaning shelf) }
+        requires stands { GroupStands core (S.meaning shelf) }
         ensures shelf { result.shelf ≡ shelf }
         ensures core { result.core ≡ core }
     {
@@ -212,8 +220,8 @@ impl<R: Rack> Group<R> {
     pub fn crash(self, pick: u64) -> R
         ensures stopped { Stopped (R.meaning self.shelf) (R.meaning result) }
         ensures disks { OnDisks (R.meaning self.shelf).disks (R.meaning result).disks (Crashed (R.meaning self.shelf).size pick) }
-        ensures volumes { Stopped (meaning_of self.core (R.meaning self.shelf)) (meaning_of self.core (R.meaning result)) }
-        ensures can { self.core.agreed ≡ true → CanImport (R.meaning result) }
+        ensures volumes { Stopped (meaning_of (wide self.core) (R.meaning self.shelf)) (meaning_of (wide self.core) (R.meaning result)) }
+        ensures can { self.core.inner.agreed ≡ true → CanImport (R.meaning result) }
     {
         let mut rack = self.shelf;
         let core = self.core;
@@ -223,62 +231,77 @@ impl<R: Rack> Group<R> {
 }
 
 impl<S: Shelf> Shelf for Group<S> {
-    ghost meaning = { λ g. meaning_of g.core (S.meaning g.shelf) };
+    ghost meaning = { λ g. meaning_of (wide g.core) (S.meaning g.shelf) };
 
     fn units(&self) -> u32 {
-        self.core.config.volumes.as_slice().len() as u32
+        self.core.inner.config.volumes.as_slice().len() as u32
     }
 
     fn size(&self, unit: u32) -> u64 {
-        self.core.config.volumes.as_slice()[unit as usize].blocks
+        self.core.inner.config.volumes.as_slice()[unit as usize].blocks
     }
 
-    fn read(&mut self, unit: u32, block: u64, into: &mut [u8]) -> Result<(), ShelfError> {
+    /// Reads from one plex that is ACTIVE in the configuration.
+    fn read(&mut self, unit: u32, block: u64, into: &mut [u8]) -> Result<(), ShelfError>
+        requires { Fits (meaning_of (wide self.old.core) (S.meaning self.old.shelf)) unit block (length into.old) }
+        ensures goes { Goes Nothing (meaning_of (wide self.old.core) (S.meaning self.old.shelf)) (meaning_of (wide self.new.core) (S.meaning self.new.shelf)) }
+        ensures ok { OnOk result (Read (meaning_of (wide self.old.core) (S.meaning self.old.shelf)) unit block into.new) }
+        ensures down { (meaning_of (wide self.new.core) (S.meaning self.new.shelf)).down ≡ (meaning_of (wide self.old.core) (S.meaning self.old.shelf)).down }
+        ensures cause { Cause (meaning_of (wide self.old.core) (S.meaning self.old.shelf)) (meaning_of (wide self.new.core) (S.meaning self.new.shelf)) unit result }
+        ensures counts { CountsOnly unit result (meaning_of (wide self.old.core) (S.meaning self.old.shelf)).faults (meaning_of (wide self.new.core) (S.meaning self.new.shelf)).faults }
+        ensures names { Names (meaning_of (wide self.old.core) (S.meaning self.old.shelf)).disks unit result }
+        ensures works { OnOk result (Works (meaning_of (wide self.old.core) (S.meaning self.old.shelf)).disks unit) }
+        ensures disks { OnDisks (meaning_of (wide self.old.core) (S.meaning self.old.shelf)).disks (meaning_of (wide self.new.core) (S.meaning self.new.shelf)).disks Untouched }
+        ensures shown { OnOk result (Read (meaning_of self.old.core.inner (S.meaning self.old.shelf)) unit block into.new) }
+        ensures same { self.new.core.inner.config ≡ self.old.core.inner.config }
+    {
         read_in(&mut self.shelf, &mut self.core, unit, block, into)
     }
 
-    /// Writes to each plex that is ACTIVE. A fault comes only where each of them had a failed call on one of its disks in this call, or where
-    /// a commit was refused; then no plex changes its state.
+    /// Writes to each plex that is ACTIVE. Where one is held back, it is detached by a commit first, while a serial is left. A fault comes only
+    /// where each of them had a failed call on one of its disks in this call, or where a commit was refused; then no plex changes its state.
     fn write(&mut self, unit: u32, block: u64, bytes: &[u8]) -> Result<(), ShelfError>
-        requires { Fits (meaning_of self.old.core (S.meaning self.old.shelf)) unit block (length bytes.now) }
-        ensures goes { Goes (Written unit block bytes.now) (meaning_of self.old.core (S.meaning self.old.shelf)) (meaning_of self.new.core (S.meaning self.new.shelf)) }
-        ensures ok { OnOk result (Wrote unit block bytes.now (meaning_of self.old.core (S.meaning self.old.shelf)) (meaning_of self.new.core (S.meaning self.new.shelf))) }
-        ensures cause { Cause (meaning_of self.old.core (S.meaning self.old.shelf)) (meaning_of self.new.core (S.meaning self.new.shelf)) unit result }
-        ensures names { Names (meaning_of self.old.core (S.meaning self.old.shelf)).disks unit result }
-        ensures works { OnOk result (Works (meaning_of self.old.core (S.meaning self.old.shelf)).disks unit) }
-        ensures disks { OnDisks (meaning_of self.old.core (S.meaning self.old.shelf)).disks (meaning_of self.new.core (S.meaning self.new.shelf)).disks (λ o n. Calls (meaning_of self.old.core (S.meaning self.old.shelf)) (DisksWrote unit block bytes.now) o n result) }
-        ensures gave_up { GivesUp unit self.old.core self.new.core (S.meaning self.old.shelf) (S.meaning self.new.shelf) result }
-        ensures loses { Loses self.old.core.config self.new.core.config (S.meaning self.old.shelf) (S.meaning self.new.shelf) }
-        ensures trust { OnOk result (self.old.core.committed ≡ true → self.new.core.committed ≡ true) }
-        ensures agreed { IfErr result (λ e. self.old.core.committed ≡ true → self.new.core.agreed ≡ true) }
+        requires { Fits (meaning_of (wide self.old.core) (S.meaning self.old.shelf)) unit block (length bytes.now) }
+        ensures goes { Goes (Written unit block bytes.now) (meaning_of (wide self.old.core) (S.meaning self.old.shelf)) (meaning_of (wide self.new.core) (S.meaning self.new.shelf)) }
+        ensures ok { OnOk result (Wrote unit block bytes.now (meaning_of (wide self.old.core) (S.meaning self.old.shelf)) (meaning_of (wide self.new.core) (S.meaning self.new.shelf))) }
+        ensures cause { Cause (meaning_of (wide self.old.core) (S.meaning self.old.shelf)) (meaning_of (wide self.new.core) (S.meaning self.new.shelf)) unit result }
+        ensures names { Names (meaning_of (wide self.old.core) (S.meaning self.old.shelf)).disks unit result }
+        ensures works { OnOk result (Works (meaning_of (wide self.old.core) (S.meaning self.old.shelf)).disks unit) }
+        ensures disks { OnDisks (meaning_of (wide self.old.core) (S.meaning self.old.shelf)).disks (meaning_of (wide self.new.core) (S.meaning self.new.shelf)).disks (λ o n. Calls (meaning_of (wide self.old.core) (S.meaning self.old.shelf)) (DisksWrote unit block bytes.now) o n result) }
+        ensures gave_up { GivesUp unit self.old.core.inner self.new.core.inner (S.meaning self.old.shelf) (S.meaning self.new.shelf) result }
+        ensures loses { Loses self.old.core.inner.config self.new.core.inner.config (S.meaning self.old.shelf) (S.meaning self.new.shelf) }
+        ensures clear { self.old.core.inner.config.serial < greatest → OnOk result (self.new.core.held ≡ None) }
+        ensures trust { OnOk result (self.old.core.inner.committed ≡ true → self.new.core.inner.committed ≡ true) }
+        ensures agreed { IfErr result (λ e. self.old.core.inner.committed ≡ true → self.new.core.inner.agreed ≡ true) }
     {
-        write_in(&mut self.shelf, &mut self.core, unit, block, bytes)
+        write_group(&mut self.shelf, &mut self.core, unit, block, bytes)
     }
 
     /// Flushes each plex that is ACTIVE. A fault comes only as in a write.
     fn flush(&mut self, unit: u32) -> Result<(), ShelfError>
-        requires { unit < (meaning_of self.old.core (S.meaning self.old.shelf)).units }
-        ensures goes { Goes Nothing (meaning_of self.old.core (S.meaning self.old.shelf)) (meaning_of self.new.core (S.meaning self.new.shelf)) }
-        ensures ok { OnOk result (Flushed unit (meaning_of self.old.core (S.meaning self.old.shelf)) (meaning_of self.new.core (S.meaning self.new.shelf))) }
-        ensures cause { Cause (meaning_of self.old.core (S.meaning self.old.shelf)) (meaning_of self.new.core (S.meaning self.new.shelf)) unit result }
-        ensures names { Names (meaning_of self.old.core (S.meaning self.old.shelf)).disks unit result }
-        ensures works { OnOk result (Works (meaning_of self.old.core (S.meaning self.old.shelf)).disks unit) }
-        ensures disks { OnDisks (meaning_of self.old.core (S.meaning self.old.shelf)).disks (meaning_of self.new.core (S.meaning self.new.shelf)).disks (λ o n. Calls (meaning_of self.old.core (S.meaning self.old.shelf)) (DisksFlushed unit) o n result) }
-        ensures gave_up { GivesUp unit self.old.core self.new.core (S.meaning self.old.shelf) (S.meaning self.new.shelf) result }
-        ensures loses { Loses self.old.core.config self.new.core.config (S.meaning self.old.shelf) (S.meaning self.new.shelf) }
-        ensures trust { OnOk result (self.old.core.committed ≡ true → self.new.core.committed ≡ true) }
-        ensures agreed { IfErr result (λ e. self.old.core.committed ≡ true → self.new.core.agreed ≡ true) }
+        requires { unit < (meaning_of (wide self.old.core) (S.meaning self.old.shelf)).units }
+        ensures goes { Goes Nothing (meaning_of (wide self.old.core) (S.meaning self.old.shelf)) (meaning_of (wide self.new.core) (S.meaning self.new.shelf)) }
+        ensures ok { OnOk result (Flushed unit (meaning_of (wide self.old.core) (S.meaning self.old.shelf)) (meaning_of (wide self.new.core) (S.meaning self.new.shelf))) }
+        ensures cause { Cause (meaning_of (wide self.old.core) (S.meaning self.old.shelf)) (meaning_of (wide self.new.core) (S.meaning self.new.shelf)) unit result }
+        ensures names { Names (meaning_of (wide self.old.core) (S.meaning self.old.shelf)).disks unit result }
+        ensures works { OnOk result (Works (meaning_of (wide self.old.core) (S.meaning self.old.shelf)).disks unit) }
+        ensures disks { OnDisks (meaning_of (wide self.old.core) (S.meaning self.old.shelf)).disks (meaning_of (wide self.new.core) (S.meaning self.new.shelf)).disks (λ o n. Calls (meaning_of (wide self.old.core) (S.meaning self.old.shelf)) (DisksFlushed unit) o n result) }
+        ensures gave_up { GivesUp unit self.old.core.inner self.new.core.inner (S.meaning self.old.shelf) (S.meaning self.new.shelf) result }
+        ensures loses { Loses self.old.core.inner.config self.new.core.inner.config (S.meaning self.old.shelf) (S.meaning self.new.shelf) }
+        ensures clear { self.old.core.inner.config.serial < greatest → OnOk result (self.new.core.held ≡ None) }
+        ensures trust { OnOk result (self.old.core.inner.committed ≡ true → self.new.core.inner.committed ≡ true) }
+        ensures agreed { IfErr result (λ e. self.old.core.inner.committed ≡ true → self.new.core.inner.agreed ≡ true) }
     {
-        flush_in(&mut self.shelf, &mut self.core, unit)
+        flush_group(&mut self.shelf, &mut self.core, unit)
     }
 
     fn faults(&self, unit: u32) -> u64 {
-        self.core.faults[unit as usize]
+        self.core.inner.faults[unit as usize]
     }
 
     fn is_down(&self) -> bool {
         self.shelf.is_down()
     }
 
-    ghost lawful = { λ g. group_lawful g.core (S.meaning g.shelf) (S.lawful g.shelf) g.stands };
+    ghost lawful = { λ g. group_lawful (wide g.core) (S.meaning g.shelf) (S.lawful g.shelf) g.stands.stands };
 }

@@ -1,26 +1,18 @@
 // A group but for the shelf below it.
-use vx_config::Config;
-use vx_copies::Room;
-use vx_model::limits::MOST_VOLUMES;
+use crate::inner::Inner;
+
+/// A plex that is held back.
+#[derive(Clone, Copy)]
+pub struct Held {
+    pub(crate) vol: u32,
+    pub(crate) plex: u32,
+}
 
 /// All of a group but the shelf below it.
 #[derive(Drop)]
 pub struct GroupCore {
-    pub(crate) config: Config,
-    /// The disks that the newest committed configuration holds as good.
-    pub(crate) good: u8,
-    /// The memory of a commit.
-    pub(crate) room: Room,
-    /// A commit was refused, and none was made since.
-    pub(crate) unsettled: bool,
-    /// The newest configuration is committed: it is that of each image that a crash may leave.
-    pub(crate) committed: bool,
-    /// Whichever disks can be read behind a crash, an import finds one configuration, or none.
-    pub(crate) agreed: bool,
-    /// Of each volume the plex that the next read asks first.
-    pub(crate) next: [u32; MOST_VOLUMES],
-    /// Of each volume how many calls on it failed.
-    pub(crate) faults: [u64; MOST_VOLUMES],
-    /// Of each volume whether a write or a flush of it failed with a fault since the group was made: its plexes may differ.
-    pub(crate) unsure: [bool; MOST_VOLUMES],
+    pub(crate) inner: Inner,
+    /// A plex that is STALE here and may be ACTIVE by what the disks keep: the commit that makes it ACTIVE was refused, and so was the one
+    /// that takes this back.
+    pub(crate) held: Option<Held>,
 }

@@ -2,8 +2,8 @@
 ghost use Rattle.vx_group.specs.Imports.{ImportEnds};
 ghost use Rattle.vx_group.specs.Resumes.{CanImport};
 
-use crate::GroupCore;
 use crate::finishing::renew;
+use crate::inner::Inner;
 use crate::taking::{Plan, take_up};
 use std::alloc::Global;
 use vx_copyio::are_large;
@@ -15,7 +15,7 @@ use vx_model::{No, Stop};
 /// and it ends with a commit.
 ///
 /// A refusal changes no block of a volume but as a crash might have left it. It takes memory.
-pub fn import_in<S: Shelf>(alloc: Global, shelf: &mut S) -> Result<GroupCore, Stop>
+pub fn import_in<S: Shelf>(alloc: Global, shelf: &mut S) -> Result<Inner, Stop>
     requires can { CanImport (S.meaning shelf.old) }
     ensures { ImportEnds (S.meaning shelf.old) (S.meaning shelf.new) result }
 {

@@ -1,19 +1,24 @@
 // A volume that is made.
-ghost use Rattle.std.specs.Prelude.{◌≡◌, ◌<◌, ℕ, true, false, IsTrue, IfSome, Some, None, Err, OnOk, IfErr};
+ghost use Rattle.std.specs.Prelude.{◌≡◌, ◌⊎◌, ◌<◌, ℕ, true, false, IsTrue, IfSome, Some, None, Err, OnOk, IfErr};
 ghost use Rattle.vx_config.specs.Checks.{is_sound};
 ghost use Rattle.vx_config.specs.Configs.{CanSpell};
 ghost use Rattle.vx_config.specs.Table.{greatest};
 ghost use Rattle.vx_model.specs.declared.errors.Stop.TheVariants.{No as Refused};
 ghost use Rattle.vx_model.specs.declared.no.No.{No as NoValue};
 ghost use Rattle.vx_group.specs.Blames.{StopsBy};
+ghost use Rattle.vx_group.specs.Calls.{GroupStays};
+ghost use Rattle.vx_group.specs.Holding.{GroupStands};
 ghost use Rattle.vx_group.specs.Makes.{MakeEnds, StayAsWere, Unmoved, make_refusal};
 ghost use Rattle.vx_group.specs.Nexts.{Adds, IsNext, PlanEnds};
+ghost use Rattle.vx_kept.specs.Trusts.{HasFailed};
 ghost use Rattle.vx_group.specs.Stands.{Stands};
 
-use crate::GroupCore;
 use crate::detaching::{fault_of, good_of};
+use crate::group_core::GroupCore;
+use crate::inner::Inner;
 use crate::lengthening::longer;
 use crate::marking::is_committed;
+use crate::releasing::release;
 use crate::settling::settle_headers;
 use crate::shaping::{are_few, refuse_volume, volume_of};
 use crate::zeroing::zero_volume;
@@ -59,7 +64,7 @@ fn plan(alloc: Global, config: &Config, name: &Name, want: &Shape) -> Result<Con
 }
 
 // Writes zeros to the plexes of the last volume of the next configuration, and commits it.
-fn add_last<S: Shelf>(shelf: &mut S, core: &mut GroupCore, next: Config) -> Result<(), ShelfError>
+fn add_last<S: Shelf>(shelf: &mut S, core: &mut Inner, next: Config) -> Result<(), ShelfError>
     requires stands { Stands core.old (S.meaning shelf.old) }
     requires settled { core.old.unsettled ≡ false }
     requires more { core.old.config.serial < greatest }
@@ -69,6 +74,7 @@ fn add_last<S: Shelf>(shelf: &mut S, core: &mut GroupCore, next: Config) -> Resu
     ensures stays { StayAsWere core.old core.new (S.meaning shelf.old) (S.meaning shelf.new) }
     ensures adds { Adds core.old core.new next (S.meaning shelf.new) result }
     ensures trust { OnOk result (core.old.committed ≡ true → core.new.committed ≡ true) }
+    ensures whole { OnOk result ((core.new.committed ≡ true) ⊎ HasFailed core.new.config.disks) }
     ensures agreed { IfErr result (λ e. core.old.committed ≡ true → core.new.agreed ≡ true) }
     ensures cause { StopsBy (S.meaning shelf.old) (S.meaning shelf.new) result }
 {
@@ -100,7 +106,7 @@ fn add_last<S: Shelf>(shelf: &mut S, core: &mut GroupCore, next: Config) -> Resu
 }
 
 // The same, behind the headers that a refused commit asks for.
-fn add<S: Shelf>(shelf: &mut S, core: &mut GroupCore, next: Config) -> Result<(), ShelfError>
+fn add<S: Shelf>(shelf: &mut S, core: &mut Inner, next: Config) -> Result<(), ShelfError>
     requires stands { Stands core.old (S.meaning shelf.old) }
     requires more { core.old.config.serial < greatest }
     requires is_next { IsNext core.old.config next }
@@ -109,6 +115,7 @@ fn add<S: Shelf>(shelf: &mut S, core: &mut GroupCore, next: Config) -> Result<()
     ensures stays { StayAsWere core.old core.new (S.meaning shelf.old) (S.meaning shelf.new) }
     ensures adds { Adds core.old core.new next (S.meaning shelf.new) result }
     ensures trust { OnOk result (core.old.committed ≡ true → core.new.committed ≡ true) }
+    ensures whole { OnOk result ((core.new.committed ≡ true) ⊎ HasFailed core.new.config.disks) }
     ensures agreed { IfErr result (λ e. core.old.committed ≡ true → core.new.agreed ≡ true) }
     ensures cause { StopsBy (S.meaning shelf.old) (S.meaning shelf.new) result }
 {
@@ -134,28 +141,36 @@ pub fn make_in<S: Shelf>(
     name: &Name,
     want: &Shape,
 ) -> Result<u32, Stop>
-    requires stands { Stands core.old (S.meaning shelf.old) }
+    requires stands { GroupStands core.old (S.meaning shelf.old) }
     requires prefer { IfSome want.now.prefer (λ p. p < want.now.mirrors) }
-    ensures stands { Stands core.new (S.meaning shelf.new) }
-    ensures refused { (no : NoValue) → make_refusal core.old.config name.now want.now ≡ Some no → (result ≡ Err (Refused no)) × (core.new ≡ core.old) × (shelf.new ≡ shelf.old) }
-    ensures stays { StayAsWere core.old core.new (S.meaning shelf.old) (S.meaning shelf.new) }
-    ensures ends { make_refusal core.old.config name.now want.now ≡ None → MakeEnds name.now want.now core.old core.new (S.meaning shelf.old) (S.meaning shelf.new) result }
-    ensures trust { OnOk result (core.old.committed ≡ true → core.new.committed ≡ true) }
-    ensures agreed { IfErr result (λ e. core.old.committed ≡ true → core.new.agreed ≡ true) }
+    ensures stands { GroupStands core.new (S.meaning shelf.new) }
+    ensures refused { (no : NoValue) → make_refusal core.old.inner.config name.now want.now ≡ Some no → (result ≡ Err (Refused no)) × (core.new ≡ core.old) × (shelf.new ≡ shelf.old) }
+    ensures stays { GroupStays core.old core.new (S.meaning shelf.old) (S.meaning shelf.new) }
+    ensures ends { make_refusal core.old.inner.config name.now want.now ≡ None → MakeEnds name.now want.now core.old.inner core.new.inner (S.meaning shelf.old) (S.meaning shelf.new) result }
+    ensures trust { OnOk result (core.old.inner.committed ≡ true → core.new.inner.committed ≡ true) }
+    ensures whole { OnOk result ((core.new.inner.committed ≡ true) ⊎ HasFailed core.new.inner.config.disks) }
+    ensures agreed { IfErr result (λ e. core.old.inner.committed ≡ true → core.new.inner.agreed ≡ true) }
     ensures unmoved { Unmoved result ((core.new ≡ core.old) × (shelf.new ≡ shelf.old)) }
 {
-    if let Some(no) = refuse_volume(&core.config, name, want) {
+    if let Some(no) = refuse_volume(&core.inner.config, name, want) {
         return Err(Stop::No(no));
     }
-    let next = match plan(alloc, &core.config, name, want) {
+    let next = match plan(alloc, &core.inner.config, name, want) {
         Ok(next) => next,
         Err(stop) => return Err(stop),
     };
     if shelf.is_down() {
         return Err(Stop::No(No::Down));
     }
-    let vol = core.config.volumes.as_slice().len() as u32;
-    match add(shelf, core, next) {
+    let vol = core.inner.config.volumes.as_slice().len() as u32;
+    match release(shelf, core) {
+        Ok(()) => {}
+        Err(error) => return Err(Stop::No(refusal(error))),
+    }
+    let mut next = next;
+    next.serial = core.inner.config.serial;
+    next.disks = core.inner.config.disks.copy();
+    match add(shelf, &mut core.inner, next) {
         Ok(()) => Ok(vol),
         Err(error) => Err(Stop::No(refusal(error))),
     }

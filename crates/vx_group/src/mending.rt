@@ -8,15 +8,15 @@ ghost use Rattle.vx_kept.specs.Cleans.{marked};
 ghost use Rattle.vx_model.specs.declared.limits.TheConstants.{MOST_VOLUMES};
 ghost use Rattle.vx_volume.specs.Plexes.{active};
 
-use crate::GroupCore;
 use crate::copying::copy_volume;
+use crate::inner::Inner;
 use vx_disk::{Shelf, ShelfError};
 use vx_model::limits::MOST_VOLUMES;
 
 /// Copies of each volume that is marked its source to each plex that is ACTIVE.
 pub fn mend_volumes<S: Shelf>(
     shelf: &mut S,
-    core: &mut GroupCore,
+    core: &mut Inner,
     stopped: &[bool; MOST_VOLUMES],
     sources: &[u32; MOST_VOLUMES],
 ) -> Result<(), ShelfError>

@@ -7,9 +7,9 @@ ghost use Rattle.vx_group.specs.Quiesces.{GoesOnBy, QuiesceEnds};
 ghost use Rattle.vx_group.specs.Stands.{Stands};
 ghost use Rattle.vx_model.specs.declared.limits.TheConstants.{MOST_VOLUMES};
 
-use crate::GroupCore;
 use crate::counting::mark;
 use crate::detaching::{detach, fault_of};
+use crate::inner::Inner;
 use vx_disk::{Shelf, ShelfError};
 use vx_model::limits::{MOST_NUMBER, MOST_VOLUMES};
 use vx_volume::flush_all;
@@ -45,7 +45,7 @@ fn leave_unsure(
 }
 
 // Flushes a volume, and detaches its plexes that failed. Where each failed it becomes unsure.
-fn flush_one<S: Shelf>(shelf: &mut S, core: &mut GroupCore, vol: u32) -> Result<(), ShelfError>
+fn flush_one<S: Shelf>(shelf: &mut S, core: &mut Inner, vol: u32) -> Result<(), ShelfError>
     requires stands { Stands core.old (S.meaning shelf.old) }
     requires there { vol < length core.old.config.volumes }
     requires settled { core.old.unsettled ≡ false }
@@ -79,7 +79,7 @@ fn flush_one<S: Shelf>(shelf: &mut S, core: &mut GroupCore, vol: u32) -> Result<
 
 /// Flushes every volume, and detaches plexes that failed. A volume of which each plex failed becomes unsure. A refusal comes where a plex
 /// could not be detached.
-pub fn flush_volumes<S: Shelf>(shelf: &mut S, core: &mut GroupCore) -> Result<(), ShelfError>
+pub fn flush_volumes<S: Shelf>(shelf: &mut S, core: &mut Inner) -> Result<(), ShelfError>
     requires stands { Stands core.old (S.meaning shelf.old) }
     requires settled { core.old.unsettled ≡ false }
     requires up { IsTrue (S.meaning shelf.old).down → ⊥ }

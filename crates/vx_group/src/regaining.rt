@@ -11,8 +11,8 @@ ghost use Rattle.vx_group.specs.Regains.{AreHeld, HeldOne, HoldsNow, LiesOnFaile
 ghost use Rattle.vx_group.specs.Stands.{Stands};
 ghost use Rattle.vx_model.specs.declared.limits.TheConstants.{MOST_DISKS};
 
-use crate::GroupCore;
 use crate::detaching::detach_named;
+use crate::inner::Inner;
 use crate::marking::hold_good;
 use crate::settling::settle_named;
 use vx_config::Config;
@@ -71,7 +71,7 @@ fn lies_on_failed(config: &Config, vol: u32, plex: u32) -> bool
 // then held as failed.
 fn recommit<S: Shelf>(
     shelf: &mut S,
-    core: &mut GroupCore,
+    core: &mut Inner,
     vol: u32,
     plex: u32,
 ) -> Result<(), ShelfError>
@@ -112,7 +112,7 @@ fn recommit<S: Shelf>(
 /// commit it is held as failed again, and that is a fault.
 pub fn regain<S: Shelf>(
     shelf: &mut S,
-    core: &mut GroupCore,
+    core: &mut Inner,
     vol: u32,
     plex: u32,
 ) -> Result<(), ShelfError>

@@ -8,8 +8,8 @@ ghost use Rattle.vx_group.specs.Quiesces.{AnyFailed};
 ghost use Rattle.vx_group.specs.Settled.{SameBut};
 ghost use Rattle.vx_group.specs.Stands.{Stands};
 
-use crate::GroupCore;
 use crate::detaching::detach;
+use crate::inner::Inner;
 use crate::marking::{has_good, hold_failed};
 use vx_copyio::settle;
 use vx_disk::{Shelf, ShelfError};
@@ -20,7 +20,7 @@ use vx_volume::Failed;
 /// then on; where none of the set is left, nothing has changed in memory.
 ///
 /// It answers the device that failed last, where a disk came to be held as failed.
-pub fn settle_named<S: Shelf>(shelf: &mut S, core: &mut GroupCore) -> Result<u32, ShelfError>
+pub fn settle_named<S: Shelf>(shelf: &mut S, core: &mut Inner) -> Result<u32, ShelfError>
     requires stands { Stands core.old (S.meaning shelf.old) }
     requires up { IsTrue (S.meaning shelf.old).down → ⊥ }
     ensures stands { Stands core.new (S.meaning shelf.new) }
@@ -69,7 +69,7 @@ pub fn settle_named<S: Shelf>(shelf: &mut S, core: &mut GroupCore) -> Result<u32
 }
 
 /// What `settle_named` does, without the device.
-pub fn settle_headers<S: Shelf>(shelf: &mut S, core: &mut GroupCore) -> Result<(), ShelfError>
+pub fn settle_headers<S: Shelf>(shelf: &mut S, core: &mut Inner) -> Result<(), ShelfError>
     requires stands { Stands core.old (S.meaning shelf.old) }
     requires up { IsTrue (S.meaning shelf.old).down → ⊥ }
     ensures stands { Stands core.new (S.meaning shelf.new) }
@@ -94,7 +94,7 @@ pub fn settle_headers<S: Shelf>(shelf: &mut S, core: &mut GroupCore) -> Result<(
 
 /// Makes the group ready for a write: after a refused commit it writes headers back, and commits the configuration as it stands.
 /// Where no serial is left it does nothing.
-pub fn make_ready<S: Shelf>(shelf: &mut S, core: &mut GroupCore) -> Result<(), ShelfError>
+pub fn make_ready<S: Shelf>(shelf: &mut S, core: &mut Inner) -> Result<(), ShelfError>
     requires stands { Stands core.old (S.meaning shelf.old) }
     requires up { IsTrue (S.meaning shelf.old).down → ⊥ }
     ensures stands { Stands core.new (S.meaning shelf.new) }

@@ -6,7 +6,7 @@ ghost use Rattle.vx_copyio.specs.Labelling.{AreLarge};
 ghost use Rattle.vx_disk.specs.Shelf.{Goes, Nothing};
 ghost use Rattle.vx_group.specs.Resumes.{CanImport, Planned, Refuses, Takes};
 
-use crate::GroupCore;
+use crate::inner::Inner;
 use crate::marking::has_good;
 use crate::planning::{sources_of, stopped_of};
 use std::alloc::Global;
@@ -24,7 +24,7 @@ const MARGIN: u64 = 65_536;
 /// A group that was found, with each plex that is CLEAN in the state ACTIVE.
 #[derive(Drop)]
 pub struct Plan {
-    pub core: GroupCore,
+    pub core: Inner,
     /// Of each volume whether it stopped uncleanly.
     pub stopped: [bool; MOST_VOLUMES],
     /// Of each volume the plex that the import goes by.
@@ -75,7 +75,7 @@ fn plan_of(alloc: Global, config: Config, good: u8) -> Result<Plan, Stop>
         Ok(room) => room,
         Err(_) => return Err(Stop::OutOfMemory),
     };
-    let core = GroupCore {
+    let core = Inner {
         config,
         good,
         room,

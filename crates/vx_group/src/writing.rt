@@ -1,16 +1,21 @@
 // A write of a volume.
-ghost use Rattle.std.specs.Prelude.{◌≡◌, ◌≤◌, ℕ, length, IsTrue, OnOk, true, IfErr};
+ghost use Rattle.std.specs.Prelude.{◌≡◌, ◌<◌, ◌≤◌, ℕ, length, IsTrue, None, OnOk, true, IfErr};
 ghost use Rattle.vx_disk.specs.Causes.{Cause};
 ghost use Rattle.vx_disk.specs.Shelf.{Fits, Goes, Written, Wrote};
+ghost use Rattle.vx_config.specs.Table.{greatest};
 ghost use Rattle.vx_group.specs.Blames.{Blames, MarksOn};
 ghost use Rattle.vx_group.specs.GivesUp.{GivesUp};
+ghost use Rattle.vx_group.specs.Holding.{GroupStands, wide};
 ghost use Rattle.vx_group.specs.Loses.{Loses};
 ghost use Rattle.vx_group.specs.Moves.{AllWrote};
 ghost use Rattle.vx_group.specs.Stands.{Stands, meaning_of};
 
-use crate::GroupCore;
 use crate::counting::give_up;
 use crate::detaching::{detach, fault_of};
+use crate::group_core::GroupCore;
+use crate::holding::{close_held, open_held};
+use crate::inner::Inner;
+use crate::releasing::release;
 use crate::settling::make_ready;
 use vx_disk::{Shelf, ShelfError};
 use vx_volume::write_all;
@@ -18,7 +23,7 @@ use vx_volume::write_all;
 // Writes to each plex that is ACTIVE, and detaches those that failed.
 fn write_plexes<S: Shelf>(
     shelf: &mut S,
-    core: &mut GroupCore,
+    core: &mut Inner,
     vol: u32,
     block: u64,
     bytes: &[u8],
@@ -56,7 +61,7 @@ fn write_plexes<S: Shelf>(
 /// Writes a run of blocks of a volume.
 pub fn write_in<S: Shelf>(
     shelf: &mut S,
-    core: &mut GroupCore,
+    core: &mut Inner,
     vol: u32,
     block: u64,
     bytes: &[u8],
@@ -71,6 +76,7 @@ pub fn write_in<S: Shelf>(
     ensures trust { OnOk result (core.old.committed ≡ true → core.new.committed ≡ true) }
     ensures agreed { IfErr result (λ e. core.old.committed ≡ true → core.new.agreed ≡ true) }
     ensures cause { Cause (meaning_of core.old (S.meaning shelf.old)) (meaning_of core.new (S.meaning shelf.new)) vol result }
+    ensures unit_faults { (u : ℕ) → (S.meaning shelf.old).faults u ≤ (S.meaning shelf.new).faults u }
     ensures marks { MarksOn vol core.old.unsure core.new.unsure result }
 {
     if shelf.is_down() {
@@ -90,4 +96,40 @@ pub fn write_in<S: Shelf>(
             Err(error)
         }
     }
+}
+
+/// The same of a group of which a plex may be held back, which is detached first. Where no serial is left to do so the write goes to it too.
+pub fn write_group<S: Shelf>(
+    shelf: &mut S,
+    core: &mut GroupCore,
+    vol: u32,
+    block: u64,
+    bytes: &[u8],
+) -> Result<(), ShelfError>
+    requires stands { GroupStands core.old (S.meaning shelf.old) }
+    requires fits { Fits (meaning_of (wide core.old) (S.meaning shelf.old)) vol block (length bytes.now) }
+    ensures stands { GroupStands core.new (S.meaning shelf.new) }
+    ensures goes { Goes (Written vol block bytes.now) (meaning_of (wide core.old) (S.meaning shelf.old)) (meaning_of (wide core.new) (S.meaning shelf.new)) }
+    ensures ok { OnOk result (Wrote vol block bytes.now (meaning_of (wide core.old) (S.meaning shelf.old)) (meaning_of (wide core.new) (S.meaning shelf.new))) }
+    ensures gave_up { GivesUp vol core.old.inner core.new.inner (S.meaning shelf.old) (S.meaning shelf.new) result }
+    ensures loses { Loses core.old.inner.config core.new.inner.config (S.meaning shelf.old) (S.meaning shelf.new) }
+    ensures clear { core.old.inner.config.serial < greatest → OnOk result (core.new.held ≡ None) }
+    ensures trust { OnOk result (core.old.inner.committed ≡ true → core.new.inner.committed ≡ true) }
+    ensures agreed { IfErr result (λ e. core.old.inner.committed ≡ true → core.new.inner.agreed ≡ true) }
+    ensures cause { Cause (meaning_of (wide core.old) (S.meaning shelf.old)) (meaning_of (wide core.new) (S.meaning shelf.new)) vol result }
+{
+    if shelf.is_down() {
+        return Err(ShelfError::Down);
+    }
+    match release(shelf, core) {
+        Ok(()) => {}
+        Err(error) => {
+            give_up(&mut core.inner.faults, &mut core.inner.unsure, vol, error);
+            return Err(error);
+        }
+    }
+    let held = open_held(core);
+    let result = write_in(shelf, &mut core.inner, vol, block, bytes);
+    close_held(core, held);
+    result
 }

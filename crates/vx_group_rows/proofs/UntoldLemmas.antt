@@ -3,9 +3,11 @@ use Rattle.std.proofs.Common.{◌≡◌, ℕ, List}
 use Rattle.vx_disk.specs.Shelf.{Meaning}
 use Rattle.vx_copyfmt.specs.Copies.{area_a}
 use Rattle.vx_copies.proofs.OneTry.{wanted_same}
+use Rattle.vx_group.specs.Holding.{GroupStands, wide}
 use Rattle.vx_group.specs.Resumes.{CanImport}
 use Rattle.vx_group.specs.Stands.{Stands}
 use Rattle.vx_group.specs.declared.group_core.GroupCore.{GroupCore}
+use Rattle.vx_group.specs.declared.inner.Inner.{Inner}
 use Rattle.vx_group.proofs.Standing.{still_large}
 
 pub untold_can : (m : Meaning) → ((u b : ℕ) (v : List ℕ) → m.leaves u b v → ⊥) → CanImport m
@@ -15,9 +17,9 @@ untold_can m none = record {
   plain = λ i R x each is. absurd (none 0 0 (i 0 0) (each 0 0));
 }
 
--- and a group stands on one where it stood on one of the same units
-pub untold_stands : (core : GroupCore) (m m' : Meaning) → ((u b : ℕ) (v : List ℕ) → m'.leaves u b v → ⊥) → m'.units ≡ m.units → ((u : ℕ) → m'.size u ≡ m.size u) → Stands core m → Stands core m'
-untold_stands core m m' none units size stands = record {
+-- what a group goes by stands on one where it stood on one of the same units
+inner_stands : (core : Inner) (m m' : Meaning) → ((u b : ℕ) (v : List ℕ) → m'.leaves u b v → ⊥) → m'.units ≡ m.units → ((u : ℕ) → m'.size u ≡ m.size u) → Stands core m → Stands core m'
+inner_stands core m m' none units size stands = record {
   wanted = wanted_same m m' core.config units size stands.wanted;
   serial = stands.serial;
   disks = stands.disks;
@@ -44,3 +46,7 @@ untold_stands core m m' none units size stands = record {
     members = λ is i x u each in_all lt bit. absurd (none 0 0 (i 0 0) (each 0 0));
   };
 }
+
+-- and so does a group
+pub untold_stands : (core : GroupCore) (m m' : Meaning) → ((u b : ℕ) (v : List ℕ) → m'.leaves u b v → ⊥) → m'.units ≡ m.units → ((u : ℕ) → m'.size u ≡ m.size u) → GroupStands core m → GroupStands core m'
+untold_stands core m m' none units size it = record { stands = inner_stands (wide core) m m' none units size it.stands; held = it.held }

@@ -20,6 +20,8 @@ mod fails;
 #[cfg(test)]
 mod fallen;
 #[cfg(test)]
+mod helds;
+#[cfg(test)]
 mod imports;
 #[cfg(test)]
 mod regains;

@@ -188,7 +188,6 @@ module _ (d : Doubted) (number : ℕ) (p : Packet) (at : packet_at d.world.packe
   hears_as (NetAck session number) e = refl
   hears_as (DataAck number) e = refl
 
-
   module _ (f : Flying) (flight : FlightStands w.packets f) (fits : LinksFit d) (l : IsListening n (w.links s p.source)) where
     pub listens : Listens n (w.links s p.source) n.safe n.line
     listens = record { up = l.up; running = l.running; keeps = l.keeps; linked = l.linked; safe_is = refl; line_is = refl }

@@ -72,11 +72,7 @@ impl<R: Rack> Yard<R> {
     }
 
     /// Hands the packet of a number to its target. One that goes to no site is ignored.
-    pub(crate) fn deliver_line(
-        &mut self,
-        alloc: Global,
-        number: u64,
-    ) -> Result<Said, OutOfMemory>
+    pub(crate) fn deliver_line(&mut self, alloc: Global, number: u64) -> Result<Said, OutOfMemory>
         requires kept { IsKept self.old }
         requires free { IsFree self.old (Deliver number) }
         ensures leads { (d : Doubted) → StandsFor d self.old → Carries d self.old → GoodFor d self.old → LeadsIs d (Deliver number) self.old self.new result }

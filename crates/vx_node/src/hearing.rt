@@ -13,7 +13,6 @@ ghost use Rattle.vx_events.specs.LinkedFacts.{linked_facts, needed_by};
 ghost use Rattle.vx_events.specs.LinksFit.{LinksFit, is_plain_mode};
 ghost use Rattle.vx_srlfmt.specs.Headers.{CanSpellState};
 ghost use Rattle.vx_peers.specs.Answers.{is_answer};
-ghost use Rattle.vx_diskset.specs.Asked.{SameFailing};
 ghost use Rattle.vx_diskset.specs.Holds.{Beside, beside_of, links_of, state_with};
 ghost use Rattle.vx_diskset.specs.Stands.{StandsAt};
 ghost use Rattle.vx_joins.specs.Hearings.{IsListening, behind};
@@ -105,6 +104,9 @@ fn refusal(stop: Stop) -> Option<No>
 impl<R: Rack> Yard<R> {
     /// A greeting or an acknowledgement, heard by the link of its target to its source. Where that comes to count more as stored, a header says so
     /// first. Where no link hears it nothing comes of it.
+    ///
+    /// A header is refused by 7, 6 or 19, and the link stays as it was. Want of memory is answered too where the log no longer holds what the link
+    /// needs, or where a header has no spelling for the links: nothing is done then.
     pub(crate) fn hear_answer(
         &mut self,
         alloc: Global,
@@ -129,13 +131,8 @@ impl<R: Rack> Yard<R> {
             return Err(OutOfMemory);
         };
         let mut link = l.link;
-        let Some(used) = heard_needs(
-            &self.disk_sets[target],
-            &state,
-            &link,
-            &self.flight,
-            number,
-        ) else {
+        let Some(used) = heard_needs(&self.disk_sets[target], &state, &link, &self.flight, number)
+        else {
             return Err(OutOfMemory);
         };
         let said = hear(

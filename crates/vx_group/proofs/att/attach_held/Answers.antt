@@ -2,13 +2,13 @@ use Rattle.std.proofs.Common.{inl, ◌∙◌}
 use Rattle.vx_kept.proofs.Chosen.{active_volumes}
 use Rattle.vx_group.proofs.AttachLemmas.{narrows_attaches, then_attaches}
 use Rattle.vx_group.proofs.CallLemmas.{blames_later}
-use Rattle.vx_group.proofs.OpeningLemmas.{may_behind, may_less}
+use Rattle.vx_group.proofs.OpeningLemmas.{may_behind}
 use Rattle.vx_group.proofs.RegainLemmas.{all_holds, then_regains}
 use Rattle.vx_group.proofs.att.attach_held.Goals as goal
 
 pub regain-requires-clause-more : goal.regain-requires-clause-more
 regain-requires-clause-more g c =
-    may_less c.args.core.now.config c.args.vol c.args.plex c.requires.may
+    c.requires.may.more
 
 pub returns-in-Err-clause-attaches : goal.returns-in-Err-clause-attaches
 returns-in-Err-clause-attaches g c =
@@ -20,7 +20,7 @@ returns-in-Err-clause-ends g c =
 
 pub attach-requires-clause-may : goal.attach-requires-clause-may
 attach-requires-clause-may g c =
-    may_behind c.args.core.now.config c.args.vol c.args.plex c.requires.may c.regain.new.core.config c.regain.ensures.volumes c.in-Ok.ensures.few
+    may_behind c.args.core.now.config c.regain.new.core.config c.args.vol c.args.plex c.requires.may c.requires.more c.regain.ensures.volumes c.in-Ok.ensures.few
 
 pub attach-requires-clause-off : goal.attach-requires-clause-off
 attach-requires-clause-off g c =

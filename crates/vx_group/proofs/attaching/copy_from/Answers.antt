@@ -4,7 +4,8 @@ use Rattle.vx_config.specs.Checks.{is_sound}
 use Rattle.vx_config.specs.declared.config.Config.{Config}
 use Rattle.vx_volume.specs.Plexes.{DisksFit, active, uses}
 use Rattle.vx_group.proofs.AttachLemmas.{back_Stands, back_attaches, same_back, to_Stands, to_attaches}
-use Rattle.vx_group.proofs.OpeningLemmas.{open_on, open_shape, open_sound, open_wider, present, with_config}
+use Rattle.vx_group.specs.Holding.{with_config}
+use Rattle.vx_group.proofs.OpeningLemmas.{open_on, open_shape, open_sound, open_wider, present}
 use Rattle.vx_group.proofs.SourcesLemmas.{copy_by}
 use Rattle.vx_group.proofs.UsesLemmas.{uses_stated}
 use Rattle.vx_group.proofs.Standing.{fit_of, sound_of}

@@ -2,7 +2,7 @@ use Rattle.std.proofs.Common.{ap, refl, sym, ◌∙◌, subst, arith}
 use Rattle.vx_volume.specs.Plexes.{active}
 use Rattle.vx_group.specs.Attaches.{Attaches, MayAttach}
 use Rattle.vx_group.specs.Stands.{Stands}
-use Rattle.vx_group.specs.declared.group_core.GroupCore.{GroupCore}
+use Rattle.vx_group.specs.declared.inner.Inner.{Inner}
 use Rattle.vx_group.proofs.AttachLemmas.{then_attaches}
 use Rattle.vx_group.proofs.SourcesLemmas.{sources_all, sources_blame, sources_next, sources_start}
 use Rattle.vx_group.proofs.attaching.copy_to.Goals as goal
@@ -13,15 +13,15 @@ loop-source-init g c =
 
 pub try_from-requires-clause-stands : goal.try_from-requires-clause-stands
 try_from-requires-clause-stands g c =
-    subst (λ (x : GroupCore). Stands x (g.S.Shelf.meaning c.loop-source.shelf)) (sym c.loop-source.invariant.1) c.loop-source.invariant.0.stands
+    subst (λ (x : Inner). Stands x (g.S.Shelf.meaning c.loop-source.shelf)) (sym c.loop-source.invariant.1) c.loop-source.invariant.0.stands
 
 pub try_from-requires-clause-may : goal.try_from-requires-clause-may
 try_from-requires-clause-may g c =
-    subst (λ (x : GroupCore). MayAttach x.config c.args.vol c.args.plex) (sym c.loop-source.invariant.1) c.requires.may
+    subst (λ (x : Inner). MayAttach x.config c.args.vol c.args.plex) (sym c.loop-source.invariant.1) c.requires.may
 
 pub try_from-requires-clause-off : goal.try_from-requires-clause-off
 try_from-requires-clause-off g c =
-    ap (λ (x : GroupCore). active x.config c.args.vol c.args.plex) c.loop-source.invariant.1 ∙ c.requires.off
+    ap (λ (x : Inner). active x.config c.args.vol c.args.plex) c.loop-source.invariant.1 ∙ c.requires.off
 
 pub try_from-requires-clause-up : goal.try_from-requires-clause-up
 try_from-requires-clause-up g c =
@@ -33,59 +33,59 @@ loop-source-preserved g c =
 
 pub returns-in-Ok-clause-attaches : goal.returns-in-Ok-clause-attaches
 returns-in-Ok-clause-attaches g c =
-    then_attaches c.args.vol c.args.plex c.args.core.now c.args.core.now c.try_from.new.core (g.S.Shelf.meaning c.args.shelf.now) (g.S.Shelf.meaning c.loop-source.shelf) (g.S.Shelf.meaning c.try_from.new.shelf) c.loop-source.invariant.0.attaches (subst (λ (x : GroupCore). Attaches c.args.vol c.args.plex x c.try_from.new.core (g.S.Shelf.meaning c.loop-source.shelf) (g.S.Shelf.meaning c.try_from.new.shelf)) c.loop-source.invariant.1 c.try_from.ensures.attaches)
+    then_attaches c.args.vol c.args.plex c.args.core.now c.args.core.now c.try_from.new.core (g.S.Shelf.meaning c.args.shelf.now) (g.S.Shelf.meaning c.loop-source.shelf) (g.S.Shelf.meaning c.try_from.new.shelf) c.loop-source.invariant.0.attaches (subst (λ (x : Inner). Attaches c.args.vol c.args.plex x c.try_from.new.core (g.S.Shelf.meaning c.loop-source.shelf) (g.S.Shelf.meaning c.try_from.new.shelf)) c.loop-source.invariant.1 c.try_from.ensures.attaches)
 
 pub returns-in-Ok-clause-settled : goal.returns-in-Ok-clause-settled
 returns-in-Ok-clause-settled g c =
-    c.try_from.ensures.settled ∙ ap (λ (x : GroupCore). x.unsettled) c.loop-source.invariant.1
+    c.try_from.ensures.settled ∙ ap (λ (x : Inner). x.unsettled) c.loop-source.invariant.1
 
 pub returns-in-Ok-clause-serial : goal.returns-in-Ok-clause-serial
 returns-in-Ok-clause-serial g c =
-    c.try_from.ensures.serial ∙ ap (λ (x : GroupCore). x.config.serial) c.loop-source.invariant.1
+    c.try_from.ensures.serial ∙ ap (λ (x : Inner). x.config.serial) c.loop-source.invariant.1
 
 pub returns-in-Ok-clause-disks : goal.returns-in-Ok-clause-disks
 returns-in-Ok-clause-disks g c =
-    c.try_from.ensures.disks ∙ ap (λ (x : GroupCore). x.config.disks) c.loop-source.invariant.1
+    c.try_from.ensures.disks ∙ ap (λ (x : Inner). x.config.disks) c.loop-source.invariant.1
 
 pub returns-in-Err-Down-clause-attaches : goal.returns-in-Err-Down-clause-attaches
 returns-in-Err-Down-clause-attaches g c =
-    then_attaches c.args.vol c.args.plex c.args.core.now c.args.core.now c.try_from.new.core (g.S.Shelf.meaning c.args.shelf.now) (g.S.Shelf.meaning c.loop-source.shelf) (g.S.Shelf.meaning c.try_from.new.shelf) c.loop-source.invariant.0.attaches (subst (λ (x : GroupCore). Attaches c.args.vol c.args.plex x c.try_from.new.core (g.S.Shelf.meaning c.loop-source.shelf) (g.S.Shelf.meaning c.try_from.new.shelf)) c.loop-source.invariant.1 c.try_from.ensures.attaches)
+    then_attaches c.args.vol c.args.plex c.args.core.now c.args.core.now c.try_from.new.core (g.S.Shelf.meaning c.args.shelf.now) (g.S.Shelf.meaning c.loop-source.shelf) (g.S.Shelf.meaning c.try_from.new.shelf) c.loop-source.invariant.0.attaches (subst (λ (x : Inner). Attaches c.args.vol c.args.plex x c.try_from.new.core (g.S.Shelf.meaning c.loop-source.shelf) (g.S.Shelf.meaning c.try_from.new.shelf)) c.loop-source.invariant.1 c.try_from.ensures.attaches)
 
 pub returns-in-Err-Down-clause-settled : goal.returns-in-Err-Down-clause-settled
 returns-in-Err-Down-clause-settled g c =
-    c.try_from.ensures.settled ∙ ap (λ (x : GroupCore). x.unsettled) c.loop-source.invariant.1
+    c.try_from.ensures.settled ∙ ap (λ (x : Inner). x.unsettled) c.loop-source.invariant.1
 
 pub returns-in-Err-Down-clause-serial : goal.returns-in-Err-Down-clause-serial
 returns-in-Err-Down-clause-serial g c =
-    c.try_from.ensures.serial ∙ ap (λ (x : GroupCore). x.config.serial) c.loop-source.invariant.1
+    c.try_from.ensures.serial ∙ ap (λ (x : Inner). x.config.serial) c.loop-source.invariant.1
 
 pub returns-in-Err-Down-clause-disks : goal.returns-in-Err-Down-clause-disks
 returns-in-Err-Down-clause-disks g c =
-    c.try_from.ensures.disks ∙ ap (λ (x : GroupCore). x.config.disks) c.loop-source.invariant.1
+    c.try_from.ensures.disks ∙ ap (λ (x : Inner). x.config.disks) c.loop-source.invariant.1
 
 pub returns-clause-stands : goal.returns-clause-stands
 returns-clause-stands g c =
-    subst (λ (x : GroupCore). Stands x (g.S.Shelf.meaning c.loop-source.shelf)) (sym c.loop-source.invariant.1) c.loop-source.invariant.0.stands
+    subst (λ (x : Inner). Stands x (g.S.Shelf.meaning c.loop-source.shelf)) (sym c.loop-source.invariant.1) c.loop-source.invariant.0.stands
 
 pub returns-clause-attaches : goal.returns-clause-attaches
 returns-clause-attaches g c =
-    subst (λ (x : GroupCore). Attaches c.args.vol c.args.plex c.args.core.now x (g.S.Shelf.meaning c.args.shelf.now) (g.S.Shelf.meaning c.loop-source.shelf)) (sym c.loop-source.invariant.1) c.loop-source.invariant.0.attaches
+    subst (λ (x : Inner). Attaches c.args.vol c.args.plex c.args.core.now x (g.S.Shelf.meaning c.args.shelf.now) (g.S.Shelf.meaning c.loop-source.shelf)) (sym c.loop-source.invariant.1) c.loop-source.invariant.0.attaches
 
 pub returns-clause-opens : goal.returns-clause-opens
 returns-clause-opens g c =
-    ap (λ (x : GroupCore). active x.config c.args.vol c.args.plex) c.loop-source.invariant.1 ∙ c.requires.off
+    ap (λ (x : Inner). active x.config c.args.vol c.args.plex) c.loop-source.invariant.1 ∙ c.requires.off
 
 pub returns-clause-settled : goal.returns-clause-settled
 returns-clause-settled g c =
-    ap (λ (x : GroupCore). x.unsettled) c.loop-source.invariant.1
+    ap (λ (x : Inner). x.unsettled) c.loop-source.invariant.1
 
 pub returns-clause-serial : goal.returns-clause-serial
 returns-clause-serial g c =
-    ap (λ (x : GroupCore). x.config.serial) c.loop-source.invariant.1
+    ap (λ (x : Inner). x.config.serial) c.loop-source.invariant.1
 
 pub returns-clause-disks : goal.returns-clause-disks
 returns-clause-disks g c =
-    ap (λ (x : GroupCore). x.config.disks) c.loop-source.invariant.1
+    ap (λ (x : Inner). x.config.disks) c.loop-source.invariant.1
 
 pub returns-clause-no_source : goal.returns-clause-no_source
 returns-clause-no_source g c =

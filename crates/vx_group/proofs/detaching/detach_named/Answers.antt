@@ -1,4 +1,4 @@
-use Rattle.std.proofs.Common.{false, true, length, ap, ◌∙◌, refl, sym, subst, Err}
+use Rattle.std.proofs.Common.{inl, inr, false, true, length, ap, ◌∙◌, refl, sym, subst, Err}
 use Rattle.vx_disk.specs.declared.shelf.ShelfError.{ShelfError}
 use Rattle.vx_kept.specs.States.{staled}
 use Rattle.vx_kept.proofs.StateLemmas.{is_staled}
@@ -10,7 +10,7 @@ use Rattle.vx_group.proofs.DetachLemmas.{left_Narrows, left_Stands, left_others,
 use Rattle.vx_group.proofs.FailingLemmas.{failing_from, few_serial, no_failing}
 use Rattle.vx_group.proofs.GiveLemmas.{keeps_volumes, none_changed}
 use Rattle.vx_group.proofs.Standing.{kept_of, tidy_of}
-use Rattle.vx_group.proofs.TrustLemmas.{stays_committed}
+use Rattle.vx_group.proofs.TrustLemmas.{committed_or, stays_committed}
 use Rattle.vx_group.proofs.detaching.detach_named.Goals as goal
 
 pub commit_stale-requires-clause-kept : goal.commit_stale-requires-clause-kept
@@ -130,3 +130,18 @@ returns-else-is_down-clause-trust g c = stays_committed c.args.core.now.committe
 
 pub returns-then-is_down-clause-agreed : goal.returns-then-is_down-clause-agreed
 returns-then-is_down-clause-agreed g c = stays_committed c.args.core.now.committed c.is_committed-core.result (λ off. (c.is_committed-core.ensures.none off).0)
+
+pub returns-then-is_down-clause-kept : goal.returns-then-is_down-clause-kept
+returns-then-is_down-clause-kept g c = inr c.in-Ok.ensures.ends.grown.volumes
+
+pub returns-else-is_down-clause-kept : goal.returns-else-is_down-clause-kept
+returns-else-is_down-clause-kept g c = inr c.in-Ok.ensures.ends.grown.volumes
+
+pub returns-then-is_down-2-clause-kept : goal.returns-then-is_down-2-clause-kept
+returns-then-is_down-2-clause-kept g c = inl c.in-Err.ensures.ends.volumes
+
+pub returns-else-is_down-2-clause-kept : goal.returns-else-is_down-2-clause-kept
+returns-else-is_down-2-clause-kept g c = inl c.in-Err.ensures.ends.volumes
+
+pub returns-else-is_down-clause-whole : goal.returns-else-is_down-clause-whole
+returns-else-is_down-clause-whole g c = committed_or c.is_committed-core.result c.commit_stale.new.config.disks (λ is. (c.is_committed-core.ensures.none is).1)

@@ -66,3 +66,12 @@ returns-in-Err-flush_plexes-clause-agreed g c = λ is. c.in-Err-flush_plexes.ens
 
 pub returns-then-is_down-clause-agreed : goal.returns-then-is_down-clause-agreed
 returns-then-is_down-clause-agreed g c = c.requires.stands.trusts.both
+
+pub returns-in-Err-clause-unit_faults : goal.returns-in-Err-clause-unit_faults
+returns-in-Err-clause-unit_faults g c = c.make_ready.ensures.narrows.acts.faults
+
+pub returns-in-Ok-flush_plexes-clause-unit_faults : goal.returns-in-Ok-flush_plexes-clause-unit_faults
+returns-in-Ok-flush_plexes-clause-unit_faults g c = λ u. let one = c.make_ready.ensures.narrows.acts.faults u in let two = c.flush_plexes.ensures.narrows.acts.faults u in omega (arith, one, two)
+
+pub returns-in-Err-flush_plexes-clause-unit_faults : goal.returns-in-Err-flush_plexes-clause-unit_faults
+returns-in-Err-flush_plexes-clause-unit_faults g c = λ u. let one = c.make_ready.ensures.narrows.acts.faults u in let two = c.flush_plexes.ensures.narrows.acts.faults u in omega (arith, one, two)

@@ -8,6 +8,7 @@ use Rattle.vx_group.proofs.AddLemmas.{added, added_Stands, added_stay, missed_St
 use Rattle.vx_group.proofs.CallLemmas.{not_down}
 use Rattle.vx_group.proofs.DeportLemmas.{blames_stop, stops_later}
 use Rattle.vx_group.proofs.Standing.{kept_of, still_large}
+use Rattle.vx_group.proofs.TrustLemmas.{committed_or}
 use Rattle.vx_group.proofs.making.add_last.Goals as goal
 
 pub zero_volume-requires-clause-checked : goal.zero_volume-requires-clause-checked
@@ -91,3 +92,6 @@ returns-else-is_down-clause-cause g c =
     (stops_later {T = Unit {0}} (Err (fault_is c.in-Err-commit_next.no 0)) m m1 m2 c.zero_volume.ensures.goes.disk_faults
     (blames_stop m1 m2 (fault_is c.in-Err-commit_next.no 0)
     (missed_blames c.args.core.now c.args.next (g.S.Shelf.meaning c.args.shelf.now) c.requires.stands c.requires.is_next m1 m2 _ c.in-Err-commit_next.no c.in-Err-commit_next.ensures.ends.cause (not_down c.is_down.result m2.down c.is_down.ensures c.if-is_down.false) c.requires.more)))
+
+pub returns-in-Ok-commit_next-clause-whole : goal.returns-in-Ok-commit_next-clause-whole
+returns-in-Ok-commit_next-clause-whole g c = committed_or c.is_committed-core.result _ (λ is. (c.is_committed-core.ensures.none is).1)

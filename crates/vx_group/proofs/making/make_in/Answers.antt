@@ -1,61 +1,93 @@
-use Rattle.std.proofs.Common.{◌≡◌, ℕ, length, Err, refl, ap, sym, ◌∙◌, subst}
+use Rattle.std.proofs.Common.{◌≡◌, ℕ, List, length, Err, refl, ap, sym, ◌∙◌, subst, arith}
+use Rattle.vx_config.specs.declared.entry.DiskEntry.{DiskEntry}
 use Rattle.vx_model.specs.declared.errors.Stop.TheVariants.{No as Refused}
 use Rattle.vx_model.specs.declared.no.No.{No}
 use Rattle.vx_group.specs.Makes.{MakeStops, Unmoved, VolumeMade}
-use Rattle.vx_group.proofs.CallLemmas.{not_down}
-use Rattle.vx_group.proofs.MakeLemmas.{made_volume, no_stay, plan_next, plan_stops, stopped_by, unmoved_error, unmoved_stop}
+use Rattle.vx_group.proofs.MakeLemmas.{made_volume, plan_next, plan_stops, stopped_by, unmoved_error, unmoved_stop}
+use Rattle.vx_group.proofs.BehindLemmas.{behind_added, behind_next, later_stays, no_stays, released_stays}
+use Rattle.vx_group.proofs.DeportLemmas.{blames_stop, stops_later}
+use Rattle.vx_group.proofs.HoldLemmas.{from_none, narrow_can, narrow_sound, none_Stands}
 use Rattle.vx_group.proofs.ShapeLemmas.{may_make}
-use Rattle.vx_group.proofs.Standing.{can_of, sound_of}
 use Rattle.vx_group.proofs.making.make_in.Goals as goal
 
 pub returns-in-Some-clause-stays : goal.returns-in-Some-clause-stays
-returns-in-Some-clause-stays g c = no_stay c.args.core.now (g.S.Shelf.meaning c.args.shelf.now)
+returns-in-Some-clause-stays g c = no_stays c.args.core.now (g.S.Shelf.meaning c.args.shelf.now)
 
 pub returns-in-Some-clause-unmoved : goal.returns-in-Some-clause-unmoved
 returns-in-Some-clause-unmoved g c = unmoved_stop _ (Refused c.in-Some.no) (refl, refl)
 
 pub plan-requires-clause-can : goal.plan-requires-clause-can
-plan-requires-clause-can g c = can_of c.args.core.now (g.S.Shelf.meaning c.args.shelf.now) c.requires.stands
+plan-requires-clause-can g c = narrow_can c.args.core.now (g.S.Shelf.meaning c.args.shelf.now) c.requires.stands
 
 pub plan-requires-clause-checked : goal.plan-requires-clause-checked
-plan-requires-clause-checked g c = sound_of c.args.core.now (g.S.Shelf.meaning c.args.shelf.now) c.requires.stands
+plan-requires-clause-checked g c = narrow_sound c.args.core.now (g.S.Shelf.meaning c.args.shelf.now) c.requires.stands
 
 pub returns-in-Err-clause-stays : goal.returns-in-Err-clause-stays
-returns-in-Err-clause-stays g c = no_stay c.args.core.now (g.S.Shelf.meaning c.args.shelf.now)
+returns-in-Err-clause-stays g c = no_stays c.args.core.now (g.S.Shelf.meaning c.args.shelf.now)
 
 pub returns-in-Err-clause-ends : goal.returns-in-Err-clause-ends
-returns-in-Err-clause-ends g c = λ none. plan_stops c.args.core.now c.args.name.now c.args.want.now (g.S.Shelf.meaning c.args.shelf.now) c.in-Err.stop c.in-Err.ensures.ends
+returns-in-Err-clause-ends g c = λ none. plan_stops c.args.core.now.inner c.args.name.now c.args.want.now (g.S.Shelf.meaning c.args.shelf.now) c.in-Err.stop c.in-Err.ensures.ends
 
 pub returns-in-Err-clause-unmoved : goal.returns-in-Err-clause-unmoved
 returns-in-Err-clause-unmoved g c = unmoved_stop _ c.in-Err.stop (refl, refl)
 
 pub returns-then-is_down-clause-stays : goal.returns-then-is_down-clause-stays
-returns-then-is_down-clause-stays g c = no_stay c.args.core.now (g.S.Shelf.meaning c.args.shelf.now)
+returns-then-is_down-clause-stays g c = no_stays c.args.core.now (g.S.Shelf.meaning c.args.shelf.now)
 
 pub returns-then-is_down-clause-ends : goal.returns-then-is_down-clause-ends
 returns-then-is_down-clause-ends g c = λ none. (refl, sym c.is_down.ensures ∙ c.if-is_down.true)
 
+pub returns-in-Err-release-clause-stays : goal.returns-in-Err-release-clause-stays
+returns-in-Err-release-clause-stays g c = released_stays c.args.core.now c.release.new.core (g.S.Shelf.meaning c.args.shelf.now) (g.S.Shelf.meaning c.release.new.shelf) c.requires.stands c.release.ensures.narrows c.release.ensures.volumes c.release.ensures.stands (g.met.S.Shelf.lawful c.release.new.shelf)
+
+pub returns-in-Err-release-clause-ends : goal.returns-in-Err-release-clause-ends
+returns-in-Err-release-clause-ends g c = λ none. (
+  c.release.ensures.volumes,
+  subst (λ (no : No). MakeStops c.args.core.now.inner.config c.args.name.now c.args.want.now (g.S.Shelf.meaning c.args.shelf.now) (g.S.Shelf.meaning c.release.new.shelf) no) (sym c.refusal.ensures)
+      (stopped_by c.args.core.now.inner.config c.args.name.now c.args.want.now (g.S.Shelf.meaning c.args.shelf.now) (g.S.Shelf.meaning c.release.new.shelf) c.in-Err-release.error (blames_stop (g.S.Shelf.meaning c.args.shelf.now) (g.S.Shelf.meaning c.release.new.shelf) c.in-Err-release.error c.in-Err-release.ensures.cause)),
+)
+
+pub returns-in-Err-release-clause-unmoved : goal.returns-in-Err-release-clause-unmoved
+returns-in-Err-release-clause-unmoved g c =
+    subst (λ (no : No). Unmoved {T = ℕ} (Err (Refused no)) ((c.release.new.core ≡ c.args.core.now) × (c.release.new.shelf ≡ c.args.shelf.now))) (sym c.refusal.ensures) (unmoved_error _ c.in-Err-release.error)
+
+pub add-requires-clause-stands : goal.add-requires-clause-stands
+add-requires-clause-stands g c = from_none c.release.new.core (g.S.Shelf.meaning c.release.new.shelf) (c.in-Ok-release.ensures.done (may_make c.args.core.now.inner.config c.args.name.now c.args.want.now c.plan.ensures.may).serial) c.release.ensures.stands
+
 pub add-requires-clause-more : goal.add-requires-clause-more
-add-requires-clause-more g c = (may_make c.args.core.now.config c.args.name.now c.args.want.now c.plan.ensures.may).serial
+add-requires-clause-more g c = let le = c.in-Ok-release.ensures.few in let room = (may_make c.args.core.now.inner.config c.args.name.now c.args.want.now c.plan.ensures.may).left in omega (arith, le, room)
 
 pub add-requires-clause-is_next : goal.add-requires-clause-is_next
-add-requires-clause-is_next g c = plan_next c.args.core.now.config c.args.name.now c.args.want.now c.in-Ok.next c.plan.ensures.may c.in-Ok.ensures.ends
+add-requires-clause-is_next g c =
+    behind_next (g.S.Shelf.meaning c.args.shelf.now) (g.S.Shelf.meaning c.release.new.shelf) c.args.core.now.inner.config c.release.new.core.inner.config c.in-Ok.next _ c.release.ensures.volumes c.in-Ok-release.ensures.parts c.release.ensures.failing
+    (plan_next c.args.core.now.inner.config c.args.name.now c.args.want.now c.in-Ok.next c.plan.ensures.may c.in-Ok.ensures.ends)
+    (ap (λ (ds : List DiskEntry). record { serial = c.release.new.core.inner.config.serial; site = c.in-Ok.next.site; disks = ds; volumes = c.in-Ok.next.volumes; rvg = c.in-Ok.next.rvg }) c.copy-next.ensures)
 
-pub add-requires-clause-up : goal.add-requires-clause-up
-add-requires-clause-up g c = not_down c.is_down.result (g.S.Shelf.meaning c.args.shelf.now).down c.is_down.ensures c.if-is_down.false
+pub returns-in-Ok-add-clause-stands : goal.returns-in-Ok-add-clause-stands
+returns-in-Ok-add-clause-stands g c = none_Stands (record { inner = c.add.new.core; held = c.release.new.core.held }) (g.S.Shelf.meaning c.add.new.shelf) (c.in-Ok-release.ensures.done (may_make c.args.core.now.inner.config c.args.name.now c.args.want.now c.plan.ensures.may).serial) c.add.ensures.stands
+
+pub returns-in-Err-add-clause-stands : goal.returns-in-Err-add-clause-stands
+returns-in-Err-add-clause-stands g c = none_Stands (record { inner = c.add.new.core; held = c.release.new.core.held }) (g.S.Shelf.meaning c.add.new.shelf) (c.in-Ok-release.ensures.done (may_make c.args.core.now.inner.config c.args.name.now c.args.want.now c.plan.ensures.may).serial) c.add.ensures.stands
+
+pub returns-in-Ok-add-clause-stays : goal.returns-in-Ok-add-clause-stays
+returns-in-Ok-add-clause-stays g c = later_stays c.args.core.now c.release.new.core (g.S.Shelf.meaning c.args.shelf.now) (g.S.Shelf.meaning c.release.new.shelf) c.requires.stands c.release.ensures.narrows c.release.ensures.volumes c.release.ensures.stands (g.met.S.Shelf.lawful c.release.new.shelf) (c.in-Ok-release.ensures.done (may_make c.args.core.now.inner.config c.args.name.now c.args.want.now c.plan.ensures.may).serial) c.add.new.core (g.S.Shelf.meaning c.add.new.shelf) (g.met.S.Shelf.lawful c.add.new.shelf) c.add.ensures.stays
+
+pub returns-in-Err-add-clause-stays : goal.returns-in-Err-add-clause-stays
+returns-in-Err-add-clause-stays g c = later_stays c.args.core.now c.release.new.core (g.S.Shelf.meaning c.args.shelf.now) (g.S.Shelf.meaning c.release.new.shelf) c.requires.stands c.release.ensures.narrows c.release.ensures.volumes c.release.ensures.stands (g.met.S.Shelf.lawful c.release.new.shelf) (c.in-Ok-release.ensures.done (may_make c.args.core.now.inner.config c.args.name.now c.args.want.now c.plan.ensures.may).serial) c.add.new.core (g.S.Shelf.meaning c.add.new.shelf) (g.met.S.Shelf.lawful c.add.new.shelf) c.add.ensures.stays
 
 pub returns-in-Ok-add-clause-ends : goal.returns-in-Ok-add-clause-ends
 returns-in-Ok-add-clause-ends g c = λ none.
-    subst (λ (k : ℕ). VolumeMade c.args.name.now c.args.want.now k c.args.core.now c.add.new.core (g.S.Shelf.meaning c.add.new.shelf)) (sym (ap length c.as_slice.ensures.volumes))
-    (made_volume c.args.core.now c.add.new.core c.args.name.now c.args.want.now c.in-Ok.next (g.S.Shelf.meaning c.args.shelf.now) (g.S.Shelf.meaning c.add.new.shelf) c.in-Ok.ensures.ends c.in-Ok-add.ensures.adds)
+    subst (λ (k : ℕ). VolumeMade c.args.name.now c.args.want.now k c.args.core.now.inner c.add.new.core (g.S.Shelf.meaning c.add.new.shelf)) (sym (ap length c.as_slice.ensures.volumes))
+    (made_volume c.args.core.now.inner c.add.new.core c.args.name.now c.args.want.now c.in-Ok.next (g.S.Shelf.meaning c.args.shelf.now) (g.S.Shelf.meaning c.add.new.shelf) c.in-Ok.ensures.ends
+    (behind_added c.args.core.now.inner c.release.new.core.inner c.add.new.core c.in-Ok.next _ (g.S.Shelf.meaning c.add.new.shelf) c.release.ensures.volumes refl c.in-Ok-add.ensures.adds))
 
 pub returns-in-Err-add-clause-ends : goal.returns-in-Err-add-clause-ends
 returns-in-Err-add-clause-ends g c = λ none. (
-  c.in-Err-add.ensures.adds,
-  subst (λ (no : No). MakeStops c.args.core.now.config c.args.name.now c.args.want.now (g.S.Shelf.meaning c.args.shelf.now) (g.S.Shelf.meaning c.add.new.shelf) no) (sym c.refusal.ensures)
-      (stopped_by c.args.core.now.config c.args.name.now c.args.want.now (g.S.Shelf.meaning c.args.shelf.now) (g.S.Shelf.meaning c.add.new.shelf) c.in-Err-add.error c.in-Err-add.ensures.cause),
+  c.in-Err-add.ensures.adds ∙ c.release.ensures.volumes,
+  subst (λ (no : No). MakeStops c.args.core.now.inner.config c.args.name.now c.args.want.now (g.S.Shelf.meaning c.args.shelf.now) (g.S.Shelf.meaning c.add.new.shelf) no) (sym c.refusal-in-Err-add.ensures)
+      (stopped_by c.args.core.now.inner.config c.args.name.now c.args.want.now (g.S.Shelf.meaning c.args.shelf.now) (g.S.Shelf.meaning c.add.new.shelf) c.in-Err-add.error (stops_later {T = Unit {0}} (Err c.in-Err-add.error) (g.S.Shelf.meaning c.args.shelf.now) (g.S.Shelf.meaning c.release.new.shelf) (g.S.Shelf.meaning c.add.new.shelf) c.release.ensures.narrows.acts.disk_faults c.in-Err-add.ensures.cause)),
 )
 
 pub returns-in-Err-add-clause-unmoved : goal.returns-in-Err-add-clause-unmoved
 returns-in-Err-add-clause-unmoved g c =
-    subst (λ (no : No). Unmoved {T = ℕ} (Err (Refused no)) ((c.add.new.core ≡ c.args.core.now) × (c.add.new.shelf ≡ c.args.shelf.now))) (sym c.refusal.ensures) (unmoved_error _ c.in-Err-add.error)
+    subst (λ (no : No). Unmoved {T = ℕ} (Err (Refused no)) ((record { inner = c.add.new.core; held = c.release.new.core.held } ≡ c.args.core.now) × (c.add.new.shelf ≡ c.args.shelf.now))) (sym c.refusal-in-Err-add.ensures) (unmoved_error _ c.in-Err-add.error)

@@ -1,24 +1,45 @@
-use Rattle.std.proofs.Common.{arith}
+use Rattle.std.proofs.Common.{ℕ, ◌/◌, sym, subst, arith}
+use Rattle.vx_volume.specs.Volumes.{PlexRead}
+use Rattle.vx_group.specs.Holding.{wide}
 use Rattle.vx_group.specs.Stands.{counted}
 use Rattle.vx_group.proofs.CallLemmas.{with_Stands}
-use Rattle.vx_group.proofs.Standing.{fit_of, some_active}
+use Rattle.vx_group.proofs.HoldLemmas.{narrow_size, narrow_some, narrow_units}
+use Rattle.vx_group.proofs.ReadLemmas.{group_read, narrow_fits, wide_read}
+use Rattle.vx_group.proofs.Standing.{fit_of}
 use Rattle.vx_group.proofs.WriteLemmas.{flushed_Stands, plain_Goes}
 use Rattle.vx_group.proofs.reading.read_in.Goals as goal
 
+pub read-requires-clause-volume : goal.read-requires-clause-volume
+read-requires-clause-volume g c = let lt = c.requires.fits.exists in let same = narrow_units c.args.core.now (g.S.Shelf.meaning c.args.shelf.now) c.requires.stands in omega (arith, lt, same)
+
+pub read-requires-clause-within : goal.read-requires-clause-within
+read-requires-clause-within g c = let le = c.requires.fits.within in let same = narrow_size c.args.core.now (g.S.Shelf.meaning c.args.shelf.now) c.requires.stands c.args.vol in omega (arith, le, same)
+
 pub read-requires-clause-some : goal.read-requires-clause-some
-read-requires-clause-some g c = some_active c.args.core.now (g.S.Shelf.meaning c.args.shelf.now) c.requires.stands c.args.vol c.requires.fits.exists
+read-requires-clause-some g c =
+    narrow_some c.args.core.now (g.S.Shelf.meaning c.args.shelf.now) c.requires.stands c.args.vol (let lt = c.requires.fits.exists in let same = narrow_units c.args.core.now (g.S.Shelf.meaning c.args.shelf.now) c.requires.stands in omega (arith, lt, same))
 
 pub read-requires-clause-disks : goal.read-requires-clause-disks
-read-requires-clause-disks g c = fit_of c.args.core.now (g.S.Shelf.meaning c.args.shelf.now) c.requires.stands
+read-requires-clause-disks g c = fit_of (wide c.args.core.now) (g.S.Shelf.meaning c.args.shelf.now) c.requires.stands.stands
 
 pub returns-in-Ok-clause-stands : goal.returns-in-Ok-clause-stands
-returns-in-Ok-clause-stands g c = with_Stands c.args.core.now _ _ (g.S.Shelf.meaning c.read.new.shelf) (flushed_Stands c.args.core.now c.args.vol (g.S.Shelf.meaning c.args.shelf.now) (g.S.Shelf.meaning c.read.new.shelf) (g.met.S.Shelf.lawful c.args.shelf.now) (g.met.S.Shelf.lawful c.read.new.shelf) c.requires.stands c.read.ensures.goes)
+returns-in-Ok-clause-stands g c = record { stands = with_Stands (wide c.args.core.now) _ _ (g.S.Shelf.meaning c.read.new.shelf) (flushed_Stands (wide c.args.core.now) c.args.vol (g.S.Shelf.meaning c.args.shelf.now) (g.S.Shelf.meaning c.read.new.shelf) (g.met.S.Shelf.lawful c.args.shelf.now) (g.met.S.Shelf.lawful c.read.new.shelf) c.requires.stands.stands c.read.ensures.goes); held = c.requires.stands.held }
 
 pub returns-in-Ok-clause-goes : goal.returns-in-Ok-clause-goes
-returns-in-Ok-clause-goes g c = plain_Goes c.args.core.now c.args.vol (g.S.Shelf.meaning c.args.shelf.now) (g.S.Shelf.meaning c.read.new.shelf) (g.met.S.Shelf.lawful c.args.shelf.now) (g.met.S.Shelf.lawful c.read.new.shelf) c.requires.stands c.read.ensures.goes (counted c.args.core.now.faults) (λ u. omega arith)
+returns-in-Ok-clause-goes g c = plain_Goes (wide c.args.core.now) c.args.vol (g.S.Shelf.meaning c.args.shelf.now) (g.S.Shelf.meaning c.read.new.shelf) (g.met.S.Shelf.lawful c.args.shelf.now) (g.met.S.Shelf.lawful c.read.new.shelf) c.requires.stands.stands c.read.ensures.goes (counted c.args.core.now.inner.faults) (λ u. omega arith)
 
 pub returns-in-Err-Device-clause-stands : goal.returns-in-Err-Device-clause-stands
-returns-in-Err-Device-clause-stands g c = with_Stands c.args.core.now _ _ (g.S.Shelf.meaning c.read.new.shelf) (flushed_Stands c.args.core.now c.args.vol (g.S.Shelf.meaning c.args.shelf.now) (g.S.Shelf.meaning c.read.new.shelf) (g.met.S.Shelf.lawful c.args.shelf.now) (g.met.S.Shelf.lawful c.read.new.shelf) c.requires.stands c.read.ensures.goes)
+returns-in-Err-Device-clause-stands g c = record { stands = with_Stands (wide c.args.core.now) _ _ (g.S.Shelf.meaning c.read.new.shelf) (flushed_Stands (wide c.args.core.now) c.args.vol (g.S.Shelf.meaning c.args.shelf.now) (g.S.Shelf.meaning c.read.new.shelf) (g.met.S.Shelf.lawful c.args.shelf.now) (g.met.S.Shelf.lawful c.read.new.shelf) c.requires.stands.stands c.read.ensures.goes); held = c.requires.stands.held }
 
 pub returns-in-Err-Device-clause-goes : goal.returns-in-Err-Device-clause-goes
-returns-in-Err-Device-clause-goes g c = plain_Goes c.args.core.now c.args.vol (g.S.Shelf.meaning c.args.shelf.now) (g.S.Shelf.meaning c.read.new.shelf) (g.met.S.Shelf.lawful c.args.shelf.now) (g.met.S.Shelf.lawful c.read.new.shelf) c.requires.stands c.read.ensures.goes (counted c.count_fault.new.faults) c.count_fault.ensures.no_less
+returns-in-Err-Device-clause-goes g c = plain_Goes (wide c.args.core.now) c.args.vol (g.S.Shelf.meaning c.args.shelf.now) (g.S.Shelf.meaning c.read.new.shelf) (g.met.S.Shelf.lawful c.args.shelf.now) (g.met.S.Shelf.lawful c.read.new.shelf) c.requires.stands.stands c.read.ensures.goes (counted c.count_fault.new.faults) c.count_fault.ensures.no_less
+
+pub returns-in-Ok-clause-shown : goal.returns-in-Ok-clause-shown
+returns-in-Ok-clause-shown g c =
+    group_read c.args.core.now.inner c.args.vol c.args.block c.read.new.into (g.S.Shelf.meaning c.args.shelf.now) (g.S.Shelf.meaning c.read.new.shelf)
+    (narrow_fits c.args.core.now (g.S.Shelf.meaning c.args.shelf.now) c.requires.stands c.args.vol c.args.block _ _ c.read.auto.into c.requires.fits) c.in-Ok.ensures.reads.0 c.in-Ok.ensures.reads.1.is_on (subst (λ (n : ℕ). PlexRead c.args.core.now.inner.config c.args.vol c.in-Ok.ensures.reads.0 c.args.block c.args.block (n / 512) c.read.new.into (g.S.Shelf.meaning c.args.shelf.now)) (sym c.read.auto.into) c.in-Ok.ensures.reads.1.read)
+
+pub returns-in-Ok-clause-ok : goal.returns-in-Ok-clause-ok
+returns-in-Ok-clause-ok g c =
+    wide_read c.args.core.now (g.S.Shelf.meaning c.args.shelf.now) c.requires.stands c.args.vol c.args.block c.read.new.into (g.S.Shelf.meaning c.read.new.shelf)
+    (narrow_fits c.args.core.now (g.S.Shelf.meaning c.args.shelf.now) c.requires.stands c.args.vol c.args.block _ _ c.read.auto.into c.requires.fits) c.in-Ok.ensures.reads.0 c.in-Ok.ensures.reads.1.is_on (subst (λ (n : ℕ). PlexRead c.args.core.now.inner.config c.args.vol c.in-Ok.ensures.reads.0 c.args.block c.args.block (n / 512) c.read.new.into (g.S.Shelf.meaning c.args.shelf.now)) (sym c.read.auto.into) c.in-Ok.ensures.reads.1.read)

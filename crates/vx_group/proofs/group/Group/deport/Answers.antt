@@ -1,3 +1,4 @@
+use Rattle.vx_group.specs.Holding.{wide}
 use Rattle.vx_group.proofs.CrashLemmas.{group_can}
 use Rattle.vx_group.proofs.DeportLemmas.{full_err, full_ok}
 use Rattle.vx_group.proofs.group.Group.deport.Goals as goal
@@ -9,4 +10,4 @@ pub returns-in-Err-clause-limit : goal.returns-in-Err-clause-limit
 returns-in-Err-clause-limit g c = λ lt. let l = c.in-Err.ensures.limit lt in (full_err c.in-Err.stop l.0, l.1, l.2)
 
 pub returns-in-Ok-clause-can : goal.returns-in-Ok-clause-can
-returns-in-Ok-clause-can g c = group_can c.args.self.core (g.S.Shelf.meaning c.args.self.shelf) (g.S.Shelf.meaning c.deport_in.new.shelf) c.in-Ok.ensures.ends
+returns-in-Ok-clause-can g c = group_can (wide c.args.self.core).config c.args.self.core.inner (g.S.Shelf.meaning c.args.self.shelf) (g.S.Shelf.meaning c.deport_in.new.shelf) c.in-Ok.ensures.ends

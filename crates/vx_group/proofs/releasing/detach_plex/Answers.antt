@@ -1,11 +1,14 @@
-use Rattle.std.proofs.Common.{◌∙◌, arith}
+use Rattle.std.proofs.Common.{inl, length, ◌∙◌, arith}
 use Rattle.vx_volume.proofs.PlaceLemmas.{active_few}
 use Rattle.vx_group.proofs.CallLemmas.{blames_later, both_Narrows}
 use Rattle.vx_kept.proofs.Chosen.{active_volumes}
-use Rattle.vx_group.proofs.DetLemmas.{bit_here, bit_only, left_volumes, may_other, may_serial, off_by, on_volumes, one_left, one_on}
+use Rattle.vx_group.proofs.DetLemmas.{bit_here, bit_only, left_volumes, off_by, on_volumes, one_on}
+use Rattle.vx_group.proofs.AttachLemmas.{other_left}
+use Rattle.vx_group.proofs.FailingLemmas.{few_nine, then_failing}
+use Rattle.vx_group.proofs.HoldLemmas.{one_kept}
 use Rattle.vx_group.proofs.Standing.{sound_of}
 use Rattle.vx_group.proofs.TrustLemmas.{err_from, ok_from}
-use Rattle.vx_group.proofs.det.detach_one.Goals as goal
+use Rattle.vx_group.proofs.releasing.detach_plex.Goals as goal
 
 pub bounds-flags-plex : goal.bounds-flags-plex
 bounds-flags-plex g c = (active_few c.args.core.now.config (sound_of c.args.core.now (g.S.Shelf.meaning c.args.shelf.now) c.requires.stands) c.args.vol c.args.plex c.requires.is_on)
@@ -13,7 +16,7 @@ bounds-flags-plex g c = (active_few c.args.core.now.config (sound_of c.args.core
 pub detach-requires-clause-left : goal.detach-requires-clause-left
 detach-requires-clause-left g c = λ lt.
     left_volumes c.args.core.now.config c.settle_headers.new.core.config c.args.vol c.set_of-set.result c.settle_headers.ensures.volumes
-    (one_left c.args.plex c.set_of-set.result (active_few c.args.core.now.config (sound_of c.args.core.now (g.S.Shelf.meaning c.args.shelf.now) c.requires.stands) c.args.vol c.args.plex c.requires.is_on) c.set_of-set.ensures c.args.core.now.config c.args.vol (may_other c.args.core.now.config c.args.vol c.args.plex c.requires.may c.requires.is_on))
+    (other_left c.args.core.now.config c.args.vol c.args.plex c.set_of-set.result (active_few c.args.core.now.config (sound_of c.args.core.now (g.S.Shelf.meaning c.args.shelf.now) c.requires.stands) c.args.vol c.args.plex c.requires.is_on) c.set_of-set.ensures c.requires.other)
 
 pub detach-requires-clause-those : goal.detach-requires-clause-those
 detach-requires-clause-those g c =
@@ -27,7 +30,7 @@ returns-clause-off g c =
 pub returns-clause-cause : goal.returns-clause-cause
 returns-clause-cause g c =
     blames_later c.detach.result (g.S.Shelf.meaning c.args.shelf.now) (g.S.Shelf.meaning c.settle_headers.new.shelf) (g.S.Shelf.meaning c.detach.new.shelf) c.settle_headers.ensures.narrows.acts.disk_faults
-    (c.detach.ensures.sure (let same = c.settle_headers.ensures.serial in let less = may_serial c.args.core.now.config c.args.vol c.args.plex c.requires.may in omega (arith, same, less)))
+    (c.detach.ensures.sure (let same = c.settle_headers.ensures.serial in let less = c.requires.more in omega (arith, same, less)))
 
 pub returns-clause-narrows : goal.returns-clause-narrows
 returns-clause-narrows g c =
@@ -49,3 +52,26 @@ returns-clause-agreed g c = err_from c.detach.result (λ keeps is. keeps (c.sett
 
 pub returns-in-Err-clause-agreed : goal.returns-in-Err-clause-agreed
 returns-in-Err-clause-agreed g c = λ is. c.settle_headers.ensures.agreed ∙ c.requires.stands.trusts.both is
+
+pub returns-clause-kept : goal.returns-clause-kept
+returns-clause-kept g c =
+    let lt = (active_few c.args.core.now.config (sound_of c.args.core.now (g.S.Shelf.meaning c.args.shelf.now) c.requires.stands) c.args.vol c.args.plex c.requires.is_on) in
+    one_kept c.args.vol c.args.plex c.set_of-set.result (bit_here c.args.plex c.set_of-set.result lt c.set_of-set.ensures) (bit_only c.args.plex c.set_of-set.result lt c.set_of-set.ensures) lt
+    c.args.core.now.config c.settle_headers.new.core.config c.detach.new.core.config c.settle_headers.ensures.volumes c.detach.ensures.kept
+
+pub returns-in-Err-clause-kept : goal.returns-in-Err-clause-kept
+returns-in-Err-clause-kept g c = inl c.settle_headers.ensures.volumes
+
+pub returns-clause-parts : goal.returns-clause-parts
+returns-clause-parts g c =
+    let same = c.settle_headers.ensures.same in
+    ok_from c.detach.result (λ parts. record { site = parts.site ∙ same.site; rvg = parts.rvg ∙ same.rvg; count = parts.count ∙ same.count }) c.detach.ensures.parts
+
+pub returns-clause-failing : goal.returns-clause-failing
+returns-clause-failing g c =
+    then_failing (g.S.Shelf.meaning c.args.shelf.now) (g.S.Shelf.meaning c.settle_headers.new.shelf) (g.S.Shelf.meaning c.detach.new.shelf) c.settle_headers.ensures.narrows.acts.faults c.detach.ensures.narrows.acts.faults
+    c.args.core.now.config.disks c.settle_headers.new.core.config.disks c.detach.new.core.config.disks c.settle_headers.ensures.failing c.detach.ensures.failing
+
+pub returns-clause-few : goal.returns-clause-few
+returns-clause-few g c =
+    few_nine c.detach.result c.args.core.now.config.serial c.settle_headers.new.core.config.serial c.detach.new.core.config.serial (length c.settle_headers.new.core.config.disks) c.detach.ensures.few c.settle_headers.ensures.serial c.as_slice-disks.ensures.few

@@ -1,0 +1,64 @@
+use Rattle.std.proofs.Common.{length, refl, ap, sym, ◌∙◌, arith}
+use Rattle.vx_kept.proofs.StateLemmas.{same_shape}
+use Rattle.vx_group.proofs.HoldLemmas.{back_Stands, back_gone, back_others, back_shape, back_wide, from_none, none_Stands, wide_none}
+use Rattle.vx_group.proofs.OpeningLemmas.{later_may, may_less, may_room, may_volume}
+use Rattle.vx_group.proofs.Standing.{some_active}
+use Rattle.vx_group.proofs.ThroughLemmas.{held_other, holds_first, released_active, released_attaches, through_attaches, through_regains}
+use Rattle.vx_group.proofs.att.att_in.Goals as goal
+
+pub returns-in-Err-clause-attaches : goal.returns-in-Err-clause-attaches
+returns-in-Err-clause-attaches g c = released_attaches c.args.vol c.args.plex c.args.core.now c.release.new.core (g.S.Shelf.meaning c.args.shelf.now) (g.S.Shelf.meaning c.release.new.shelf) c.requires.stands c.release.ensures.narrows c.release.ensures.volumes (g.met.S.Shelf.lawful c.release.new.shelf)
+
+pub returns-in-Err-clause-ends : goal.returns-in-Err-clause-ends
+returns-in-Err-clause-ends g c = λ off. released_active c.args.core.now c.release.new.core (g.S.Shelf.meaning c.args.shelf.now) (g.S.Shelf.meaning c.release.new.shelf) c.requires.stands c.release.ensures.narrows c.release.ensures.volumes c.args.vol c.args.plex ∙ off
+
+pub attach_held-requires-clause-off : goal.attach_held-requires-clause-off
+attach_held-requires-clause-off g c = released_active c.args.core.now c.release.new.core (g.S.Shelf.meaning c.args.shelf.now) (g.S.Shelf.meaning c.release.new.shelf) c.requires.stands c.release.ensures.narrows c.release.ensures.volumes c.args.vol c.args.plex ∙ (sym c.is_active.ensures ∙ c.if-is_active.false)
+
+pub attach_held-requires-clause-stands : goal.attach_held-requires-clause-stands
+attach_held-requires-clause-stands g c = from_none c.release.new.core (g.S.Shelf.meaning c.release.new.shelf) (c.in-Ok.ensures.done (may_less c.args.core.now.inner.config c.args.vol c.args.plex (sym c.refuse.ensures ∙ c.in_default.is))) c.release.ensures.stands
+
+pub attach_held-requires-clause-may : goal.attach_held-requires-clause-may
+attach_held-requires-clause-may g c =
+    later_may c.args.core.now.inner.config c.release.new.core.inner.config c.args.vol c.args.plex (sym c.refuse.ensures ∙ c.in_default.is) c.release.ensures.volumes c.in-Ok.ensures.few
+
+pub attach_held-requires-clause-more : goal.attach_held-requires-clause-more
+attach_held-requires-clause-more g c =
+    let le = c.in-Ok.ensures.few in let room = may_room c.args.core.now.inner.config c.args.vol c.args.plex (sym c.refuse.ensures ∙ c.in_default.is) in omega (arith, le, room)
+
+pub returns-in-Ok-attach_held-clause-stands : goal.returns-in-Ok-attach_held-clause-stands
+returns-in-Ok-attach_held-clause-stands g c = none_Stands (record { inner = c.attach_held.new.core; held = c.release.new.core.held }) (g.S.Shelf.meaning c.attach_held.new.shelf) (c.in-Ok.ensures.done (may_less c.args.core.now.inner.config c.args.vol c.args.plex (sym c.refuse.ensures ∙ c.in_default.is))) c.attach_held.ensures.stands
+
+pub returns-in-Ok-attach_held-clause-attaches : goal.returns-in-Ok-attach_held-clause-attaches
+returns-in-Ok-attach_held-clause-attaches g c =
+    through_attaches c.args.core.now c.release.new.core (record { inner = c.attach_held.new.core; held = c.release.new.core.held }) c.attach_held.new.core c.args.vol c.args.plex (g.S.Shelf.meaning c.args.shelf.now) (g.S.Shelf.meaning c.release.new.shelf) (g.S.Shelf.meaning c.attach_held.new.shelf) c.requires.stands c.release.ensures.narrows c.release.ensures.volumes (g.met.S.Shelf.lawful c.release.new.shelf)
+    (c.in-Ok.ensures.done (may_less c.args.core.now.inner.config c.args.vol c.args.plex (sym c.refuse.ensures ∙ c.in_default.is))) c.attach_held.ensures.attaches (wide_none (record { inner = c.attach_held.new.core; held = c.release.new.core.held }) (c.in-Ok.ensures.done (may_less c.args.core.now.inner.config c.args.vol c.args.plex (sym c.refuse.ensures ∙ c.in_default.is))))
+    (same_shape c.attach_held.new.core.config) (λ w q apart. refl)
+
+pub returns-in-Ok-attach_held-clause-regains : goal.returns-in-Ok-attach_held-clause-regains
+returns-in-Ok-attach_held-clause-regains g c =
+    through_regains c.args.core.now c.release.new.core (record { inner = c.attach_held.new.core; held = c.release.new.core.held }) c.attach_held.new.core c.args.vol c.args.plex (g.S.Shelf.meaning c.args.shelf.now) (g.S.Shelf.meaning c.release.new.shelf) (g.S.Shelf.meaning c.attach_held.new.shelf) c.requires.stands c.release.ensures.narrows c.release.ensures.volumes (g.met.S.Shelf.lawful c.release.new.shelf)
+    (c.in-Ok.ensures.done (may_less c.args.core.now.inner.config c.args.vol c.args.plex (sym c.refuse.ensures ∙ c.in_default.is))) c.attach_held.ensures.attaches (wide_none (record { inner = c.attach_held.new.core; held = c.release.new.core.held }) (c.in-Ok.ensures.done (may_less c.args.core.now.inner.config c.args.vol c.args.plex (sym c.refuse.ensures ∙ c.in_default.is))))
+    c.release.ensures.failing c.attach_held.ensures.regains
+
+pub returns-in-Ok-attach_held-clause-held : goal.returns-in-Ok-attach_held-clause-held
+returns-in-Ok-attach_held-clause-held g c = λ off.
+    holds_first (λ s. g.S.Shelf.meaning s) (g.S.Shelf.meaning c.args.shelf.now) (g.S.Shelf.meaning c.release.new.shelf) c.args.core.now.inner.config c.release.new.core.inner.config c.attach_held.new.core.config c.args.vol c.args.plex c.attach_held.new.shelf c.release.ensures.volumes c.release.ensures.failing c.in-Ok-attach_held.ensures.held
+
+pub returns-in-Err-attach_held-clause-stands : goal.returns-in-Err-attach_held-clause-stands
+returns-in-Err-attach_held-clause-stands g c = back_Stands c.args.vol c.args.plex (record { inner = c.attach_held.new.core; held = c.release.new.core.held }) c.hold_back.new.core (c.in-Ok.ensures.done (may_less c.args.core.now.inner.config c.args.vol c.args.plex (sym c.refuse.ensures ∙ c.in_default.is))) c.hold_back.ensures (g.S.Shelf.meaning c.attach_held.new.shelf) c.attach_held.ensures.stands
+
+pub returns-in-Err-attach_held-clause-attaches : goal.returns-in-Err-attach_held-clause-attaches
+returns-in-Err-attach_held-clause-attaches g c =
+    through_attaches c.args.core.now c.release.new.core c.hold_back.new.core c.attach_held.new.core c.args.vol c.args.plex (g.S.Shelf.meaning c.args.shelf.now) (g.S.Shelf.meaning c.release.new.shelf) (g.S.Shelf.meaning c.attach_held.new.shelf) c.requires.stands c.release.ensures.narrows c.release.ensures.volumes (g.met.S.Shelf.lawful c.release.new.shelf)
+    (c.in-Ok.ensures.done (may_less c.args.core.now.inner.config c.args.vol c.args.plex (sym c.refuse.ensures ∙ c.in_default.is))) c.attach_held.ensures.attaches (back_wide c.args.vol c.args.plex (record { inner = c.attach_held.new.core; held = c.release.new.core.held }) c.hold_back.new.core (c.in-Ok.ensures.done (may_less c.args.core.now.inner.config c.args.vol c.args.plex (sym c.refuse.ensures ∙ c.in_default.is))) c.hold_back.ensures)
+    (back_shape c.args.vol c.args.plex (record { inner = c.attach_held.new.core; held = c.release.new.core.held }) c.hold_back.new.core (c.in-Ok.ensures.done (may_less c.args.core.now.inner.config c.args.vol c.args.plex (sym c.refuse.ensures ∙ c.in_default.is))) c.hold_back.ensures) (back_others c.args.vol c.args.plex (record { inner = c.attach_held.new.core; held = c.release.new.core.held }) c.hold_back.new.core (c.in-Ok.ensures.done (may_less c.args.core.now.inner.config c.args.vol c.args.plex (sym c.refuse.ensures ∙ c.in_default.is))) c.hold_back.ensures)
+
+pub returns-in-Err-attach_held-clause-ends : goal.returns-in-Err-attach_held-clause-ends
+returns-in-Err-attach_held-clause-ends g c = λ off. back_gone c.args.vol c.args.plex (record { inner = c.attach_held.new.core; held = c.release.new.core.held }) c.hold_back.new.core (held_other c.release.new.core.inner c.attach_held.new.core c.args.vol c.args.plex (g.S.Shelf.meaning c.release.new.shelf) (g.S.Shelf.meaning c.attach_held.new.shelf) c.attach_held.ensures.attaches (some_active c.release.new.core.inner (g.S.Shelf.meaning c.release.new.shelf) (from_none c.release.new.core (g.S.Shelf.meaning c.release.new.shelf) (c.in-Ok.ensures.done (may_less c.args.core.now.inner.config c.args.vol c.args.plex (sym c.refuse.ensures ∙ c.in_default.is))) c.release.ensures.stands) c.args.vol (let lt = may_volume c.args.core.now.inner.config c.args.vol c.args.plex (sym c.refuse.ensures ∙ c.in_default.is) in let same = ap length c.release.ensures.volumes in omega (arith, lt, same))) (released_active c.args.core.now c.release.new.core (g.S.Shelf.meaning c.args.shelf.now) (g.S.Shelf.meaning c.release.new.shelf) c.requires.stands c.release.ensures.narrows c.release.ensures.volumes c.args.vol c.args.plex ∙ (sym c.is_active.ensures ∙ c.if-is_active.false))) c.hold_back.ensures
+
+pub returns-in-Err-attach_held-clause-regains : goal.returns-in-Err-attach_held-clause-regains
+returns-in-Err-attach_held-clause-regains g c =
+    through_regains c.args.core.now c.release.new.core c.hold_back.new.core c.attach_held.new.core c.args.vol c.args.plex (g.S.Shelf.meaning c.args.shelf.now) (g.S.Shelf.meaning c.release.new.shelf) (g.S.Shelf.meaning c.attach_held.new.shelf) c.requires.stands c.release.ensures.narrows c.release.ensures.volumes (g.met.S.Shelf.lawful c.release.new.shelf)
+    (c.in-Ok.ensures.done (may_less c.args.core.now.inner.config c.args.vol c.args.plex (sym c.refuse.ensures ∙ c.in_default.is))) c.attach_held.ensures.attaches (back_wide c.args.vol c.args.plex (record { inner = c.attach_held.new.core; held = c.release.new.core.held }) c.hold_back.new.core (c.in-Ok.ensures.done (may_less c.args.core.now.inner.config c.args.vol c.args.plex (sym c.refuse.ensures ∙ c.in_default.is))) c.hold_back.ensures)
+    c.release.ensures.failing c.attach_held.ensures.regains

@@ -1,0 +1,60 @@
+use Rattle.std.proofs.Common.{◌∙◌, ℕ, List, ap, subst, arith}
+use Rattle.vx_disk.specs.Shelf.{Flushed, Meaning, Nothing}
+use Rattle.vx_group.specs.Blames.{Counts}
+use Rattle.vx_group.specs.Holding.{wide}
+use Rattle.vx_group.specs.Stands.{counted}
+use Rattle.vx_group.proofs.CallLemmas.{cause_by, counts_less, narrows_Goes, not_down, nothing_Flushed}
+use Rattle.vx_group.proofs.LoseLemmas.{loses_none}
+use Rattle.vx_group.proofs.RegainLemmas.{all_holds}
+use Rattle.vx_group.proofs.ThroughLemmas.{again_none, new_Stands, new_wide, released_goes, through_cause, through_gives, through_goes, through_loses, through_ok}
+use Rattle.vx_group.proofs.TrustLemmas.{ok_from}
+use Rattle.vx_group.proofs.flushing.flush_group.Goals as goal
+
+pub returns-in-Err-clause-goes : goal.returns-in-Err-clause-goes
+returns-in-Err-clause-goes g c = narrows_Goes (wide c.args.core.now) (wide c.release.new.core) (g.S.Shelf.meaning c.args.shelf.now) (g.S.Shelf.meaning c.release.new.shelf) (g.met.S.Shelf.lawful c.release.new.shelf) c.requires.stands.stands c.release.ensures.narrows (counted c.args.core.now.inner.faults) (counted c.give_up.new.faults) (λ u. let same = ap (λ (f : List ℕ). counted f u) c.release.ensures.narrows.faults in let less = counts_less c.in-Err.error c.args.vol (counted c.release.new.core.inner.faults) (counted c.give_up.new.faults) c.give_up.ensures.counts u in omega (arith, same, less))
+
+pub returns-in-Err-clause-loses : goal.returns-in-Err-clause-loses
+returns-in-Err-clause-loses g c =
+    loses_none c.args.core.now.inner.config c.release.new.core.inner.config (g.S.Shelf.meaning c.args.shelf.now) (g.S.Shelf.meaning c.release.new.shelf) c.release.ensures.volumes c.release.ensures.failing
+
+pub returns-in-Err-clause-cause : goal.returns-in-Err-clause-cause
+returns-in-Err-clause-cause g c =
+    cause_by (Unit {0}) c.in-Err.error (wide c.args.core.now).config (wide c.release.new.core).config c.args.vol (counted c.args.core.now.inner.faults) (counted c.give_up.new.faults) (g.S.Shelf.meaning c.args.shelf.now) (g.S.Shelf.meaning c.release.new.shelf)
+    (not_down c.is_down.result (g.S.Shelf.meaning c.args.shelf.now).down c.is_down.ensures c.if-is_down.false) c.in-Err.ensures.cause
+    (subst (λ (f : List ℕ). Counts c.in-Err.error c.args.vol (counted f) (counted c.give_up.new.faults)) c.release.ensures.narrows.faults c.give_up.ensures.counts)
+
+pub returns-clause-stands : goal.returns-clause-stands
+returns-clause-stands g c =
+    new_Stands c.args.core.now c.release.new.core (record { inner = c.flush_in-result.new.core; held = c.open_held-held.new.core.held }) c.close_held.new.core c.open_held-held.new.core.inner (g.S.Shelf.meaning c.args.shelf.now) (g.S.Shelf.meaning c.release.new.shelf) (g.S.Shelf.meaning c.flush_in-result.new.shelf) c.requires.stands c.release.ensures.stands c.release.ensures.narrows c.release.ensures.volumes c.open_held-held.result c.open_held-held.ensures.held c.open_held-held.ensures.inner c.open_held-held.ensures.none c.close_held.ensures
+    c.flush_in-result.ensures.stands
+
+pub returns-clause-goes : goal.returns-clause-goes
+returns-clause-goes g c =
+    through_goes c.args.core.now c.release.new.core c.close_held.new.core c.open_held-held.new.core.inner c.flush_in-result.new.core (g.S.Shelf.meaning c.args.shelf.now) (g.S.Shelf.meaning c.release.new.shelf) (g.S.Shelf.meaning c.flush_in-result.new.shelf) c.open_held-held.ensures.inner (new_wide c.args.core.now c.release.new.core (record { inner = c.flush_in-result.new.core; held = c.open_held-held.new.core.held }) c.close_held.new.core c.open_held-held.new.core.inner (g.S.Shelf.meaning c.args.shelf.now) (g.S.Shelf.meaning c.release.new.shelf) (g.S.Shelf.meaning c.flush_in-result.new.shelf) c.requires.stands c.release.ensures.stands c.release.ensures.narrows c.release.ensures.volumes c.open_held-held.result c.open_held-held.ensures.held c.open_held-held.ensures.inner c.open_held-held.ensures.none c.close_held.ensures)
+    Nothing (released_goes c.args.core.now c.release.new.core (g.S.Shelf.meaning c.args.shelf.now) (g.S.Shelf.meaning c.release.new.shelf) c.requires.stands c.release.ensures.narrows c.release.ensures.volumes (g.met.S.Shelf.lawful c.release.new.shelf)) c.flush_in-result.ensures.goes
+
+pub returns-clause-ok : goal.returns-clause-ok
+returns-clause-ok g c =
+    ok_from c.flush_in-result.result
+    (λ done. through_ok c.args.core.now c.release.new.core c.close_held.new.core c.open_held-held.new.core.inner c.flush_in-result.new.core (g.S.Shelf.meaning c.args.shelf.now) (g.S.Shelf.meaning c.release.new.shelf) (g.S.Shelf.meaning c.flush_in-result.new.shelf) c.open_held-held.ensures.inner (new_wide c.args.core.now c.release.new.core (record { inner = c.flush_in-result.new.core; held = c.open_held-held.new.core.held }) c.close_held.new.core c.open_held-held.new.core.inner (g.S.Shelf.meaning c.args.shelf.now) (g.S.Shelf.meaning c.release.new.shelf) (g.S.Shelf.meaning c.flush_in-result.new.shelf) c.requires.stands c.release.ensures.stands c.release.ensures.narrows c.release.ensures.volumes c.open_held-held.result c.open_held-held.ensures.held c.open_held-held.ensures.inner c.open_held-held.ensures.none c.close_held.ensures)
+    c.in-Ok.ensures.cause (released_goes c.args.core.now c.release.new.core (g.S.Shelf.meaning c.args.shelf.now) (g.S.Shelf.meaning c.release.new.shelf) c.requires.stands c.release.ensures.narrows c.release.ensures.volumes (g.met.S.Shelf.lawful c.release.new.shelf)) (λ (a b : Meaning). Flushed c.args.vol a b) (λ a b d goes up done. nothing_Flushed c.args.vol a b d goes up done) done)
+    c.flush_in-result.ensures.ok
+
+pub returns-clause-gave_up : goal.returns-clause-gave_up
+returns-clause-gave_up g c =
+    through_gives c.args.core.now c.release.new.core (record { inner = c.flush_in-result.new.core; held = c.open_held-held.new.core.held }) c.close_held.new.core c.open_held-held.new.core.inner (g.S.Shelf.meaning c.args.shelf.now) (g.S.Shelf.meaning c.release.new.shelf) (g.S.Shelf.meaning c.flush_in-result.new.shelf) c.requires.stands c.release.ensures.stands c.release.ensures.narrows c.release.ensures.volumes c.open_held-held.result c.open_held-held.ensures.held c.open_held-held.ensures.inner c.open_held-held.ensures.none c.close_held.ensures
+    c.args.vol c.flush_in-result.result c.flush_in-result.ensures.gave_up
+
+pub returns-clause-loses : goal.returns-clause-loses
+returns-clause-loses g c =
+    through_loses c.args.core.now c.release.new.core (record { inner = c.flush_in-result.new.core; held = c.open_held-held.new.core.held }) c.close_held.new.core c.open_held-held.new.core.inner (g.S.Shelf.meaning c.args.shelf.now) (g.S.Shelf.meaning c.release.new.shelf) (g.S.Shelf.meaning c.flush_in-result.new.shelf) c.requires.stands c.release.ensures.stands c.release.ensures.narrows c.release.ensures.volumes c.open_held-held.result c.open_held-held.ensures.held c.open_held-held.ensures.inner c.open_held-held.ensures.none c.close_held.ensures
+    c.flush_in-result.ensures.unit_faults c.release.ensures.failing c.flush_in-result.ensures.loses
+
+pub returns-clause-cause : goal.returns-clause-cause
+returns-clause-cause g c =
+    through_cause c.args.core.now c.release.new.core c.close_held.new.core c.open_held-held.new.core.inner c.flush_in-result.new.core (g.S.Shelf.meaning c.args.shelf.now) (g.S.Shelf.meaning c.release.new.shelf) (g.S.Shelf.meaning c.flush_in-result.new.shelf) c.open_held-held.ensures.inner (new_wide c.args.core.now c.release.new.core (record { inner = c.flush_in-result.new.core; held = c.open_held-held.new.core.held }) c.close_held.new.core c.open_held-held.new.core.inner (g.S.Shelf.meaning c.args.shelf.now) (g.S.Shelf.meaning c.release.new.shelf) (g.S.Shelf.meaning c.flush_in-result.new.shelf) c.requires.stands c.release.ensures.stands c.release.ensures.narrows c.release.ensures.volumes c.open_held-held.result c.open_held-held.ensures.held c.open_held-held.ensures.inner c.open_held-held.ensures.none c.close_held.ensures)
+    c.release.ensures.narrows (not_down c.is_down.result (g.S.Shelf.meaning c.args.shelf.now).down c.is_down.ensures c.if-is_down.false) c.args.vol c.flush_in-result.result c.flush_in-result.ensures.cause
+
+pub returns-clause-clear : goal.returns-clause-clear
+returns-clause-clear g c = λ less. all_holds c.flush_in-result.result
+    (again_none c.open_held-held.result _ c.close_held.new.core (c.open_held-held.ensures.held ∙ c.in-Ok.ensures.done less) c.open_held-held.ensures.none c.close_held.ensures)

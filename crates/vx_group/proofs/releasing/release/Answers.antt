@@ -1,0 +1,23 @@
+use Rattle.std.proofs.Common.{◌∙◌, refl, sym}
+use Rattle.vx_group.proofs.HoldLemmas.{e_Stands, e_narrows, e_volumes, x_other}
+use Rattle.vx_group.proofs.releasing.release.Goals as goal
+
+pub detach_plex-result-requires-clause-other : goal.detach_plex-result-requires-clause-other
+detach_plex-result-requires-clause-other g c = x_other c.args.core.now c.in-Some.held (g.S.Shelf.meaning c.args.shelf.now) c.requires.stands (sym c.open_held.ensures.held ∙ c.in-Some.is) c.open_held.new.core.inner c.open_held.ensures.inner
+
+pub returns-in-Some-clause-stands : goal.returns-in-Some-clause-stands
+returns-in-Some-clause-stands g c =
+    e_Stands c.args.core.now c.in-Some.held (g.S.Shelf.meaning c.args.shelf.now) c.requires.stands (sym c.open_held.ensures.held ∙ c.in-Some.is) c.open_held.new.core.inner c.open_held.ensures.inner
+    c.detach_plex-result.new.core c.detach_plex-result.ensures.others _ c.hold_back.new.core refl c.open_held.ensures.none c.hold_back.ensures
+    (g.S.Shelf.meaning c.detach_plex-result.new.shelf) c.detach_plex-result.ensures.stands
+
+pub returns-in-Some-clause-narrows : goal.returns-in-Some-clause-narrows
+returns-in-Some-clause-narrows g c =
+    e_narrows c.args.core.now c.in-Some.held (g.S.Shelf.meaning c.args.shelf.now) c.requires.stands (sym c.open_held.ensures.held ∙ c.in-Some.is) c.open_held.new.core.inner c.open_held.ensures.inner
+    c.detach_plex-result.new.core c.detach_plex-result.ensures.others _ c.hold_back.new.core refl c.open_held.ensures.none c.hold_back.ensures
+    (g.S.Shelf.meaning c.detach_plex-result.new.shelf) c.detach_plex-result.ensures.narrows
+
+pub returns-in-Some-clause-volumes : goal.returns-in-Some-clause-volumes
+returns-in-Some-clause-volumes g c =
+    e_volumes c.args.core.now c.in-Some.held (g.S.Shelf.meaning c.args.shelf.now) c.requires.stands (sym c.open_held.ensures.held ∙ c.in-Some.is) c.open_held.new.core.inner c.open_held.ensures.inner
+    c.detach_plex-result.new.core c.detach_plex-result.ensures.others _ c.hold_back.new.core refl c.open_held.ensures.none c.hold_back.ensures c.detach_plex-result.ensures.kept

@@ -1,0 +1,89 @@
+// A plex that is detached by one commit, as the one that is held back before the next call.
+ghost use Rattle.std.specs.Prelude.{◌≡◌, ◌⊎◌, ◌+◌, ◌<◌, ◌≤◌, ℕ, false, true, None, OnOk, IfErr, IsTrue};
+ghost use Rattle.vx_config.specs.Table.{greatest};
+ghost use Rattle.vx_copies.specs.Commits.{MoreFailed};
+ghost use Rattle.vx_group.specs.Attaches.{HasOther};
+ghost use Rattle.vx_group.specs.Blames.{Blames};
+ghost use Rattle.vx_group.specs.GivesUp.{NoCommit};
+ghost use Rattle.vx_group.specs.Holding.{GroupStands, wide};
+ghost use Rattle.vx_group.specs.Moves.{Narrows};
+ghost use Rattle.vx_group.specs.Quiesces.{SameParts};
+ghost use Rattle.vx_group.specs.Stands.{Stands};
+ghost use Rattle.vx_kept.specs.States.{stale_at};
+ghost use Rattle.vx_volume.specs.Plexes.{active};
+
+use crate::detaching::detach;
+use crate::group_core::GroupCore;
+use crate::holding::{hold_back, open_held};
+use crate::inner::Inner;
+use crate::settling::settle_headers;
+use vx_disk::{Shelf, ShelfError};
+use vx_model::limits::{MOST_NUMBER, MOST_PLEXES};
+use vx_volume::{Failed, set_of};
+
+/// Detaches a plex that is ACTIVE beside another one, by one commit.
+pub fn detach_plex<S: Shelf>(
+    shelf: &mut S,
+    core: &mut Inner,
+    vol: u32,
+    plex: u32,
+) -> Result<(), ShelfError>
+    requires stands { Stands core.old (S.meaning shelf.old) }
+    requires is_on { IsTrue (active core.old.config vol plex) }
+    requires other { HasOther core.old.config vol plex }
+    requires more { core.old.config.serial < greatest }
+    requires up { IsTrue (S.meaning shelf.old).down → ⊥ }
+    ensures stands { Stands core.new (S.meaning shelf.new) }
+    ensures narrows { Narrows core.old core.new (S.meaning shelf.old) (S.meaning shelf.new) }
+    ensures off { OnOk result (active core.new.config vol plex ≡ false) }
+    ensures others { (w p : ℕ) → (w ≡ vol → p ≡ plex → ⊥) → active core.new.config w p ≡ active core.old.config w p }
+    ensures kept { (core.new.config.volumes ≡ core.old.config.volumes) ⊎ (core.new.config.volumes ≡ (stale_at vol plex core.old.config).volumes) }
+    ensures parts { OnOk result (SameParts core.old.config core.new.config) }
+    ensures failing { MoreFailed (S.meaning shelf.old) (S.meaning shelf.new) core.old.config.disks core.new.config.disks }
+    ensures few { OnOk result (core.new.config.serial ≤ core.old.config.serial + 9) }
+    ensures missed { IfErr result (λ e. NoCommit core.new (S.meaning shelf.new)) }
+    ensures trust { OnOk result (core.old.committed ≡ true → core.new.committed ≡ true) }
+    ensures agreed { IfErr result (λ e. core.old.committed ≡ true → core.new.agreed ≡ true) }
+    ensures cause { Blames (S.meaning shelf.old) (S.meaning shelf.new) result }
+{
+    match settle_headers(shelf, core) {
+        Ok(()) => {}
+        Err(error) => return Err(error),
+    }
+    // Read for their bound.
+    let _disks = core.config.disks.as_slice();
+    let mut flags = [false; MOST_PLEXES];
+    flags[plex as usize] = true;
+    let set = set_of(&flags);
+    detach(shelf, core, vol, Failed { set, disk: 0 })
+}
+
+/// Detaches the plex that is held back, by a commit. Where none is held back, or no serial is left, it does nothing.
+pub fn release<S: Shelf>(shelf: &mut S, core: &mut GroupCore) -> Result<(), ShelfError>
+    requires stands { GroupStands core.old (S.meaning shelf.old) }
+    requires up { IsTrue (S.meaning shelf.old).down → ⊥ }
+    ensures stands { GroupStands core.new (S.meaning shelf.new) }
+    ensures narrows { Narrows (wide core.old) (wide core.new) (S.meaning shelf.old) (S.meaning shelf.new) }
+    ensures volumes { core.new.inner.config.volumes ≡ core.old.inner.config.volumes }
+    ensures parts { OnOk result (SameParts core.old.inner.config core.new.inner.config) }
+    ensures failing { MoreFailed (S.meaning shelf.old) (S.meaning shelf.new) core.old.inner.config.disks core.new.inner.config.disks }
+    ensures few { OnOk result (core.new.inner.config.serial ≤ core.old.inner.config.serial + 9) }
+    ensures done { core.old.inner.config.serial < greatest → OnOk result (core.new.held ≡ None) }
+    ensures none { core.old.held ≡ None → (core.new ≡ core.old) × (shelf.new ≡ shelf.old) }
+    ensures missed { IfErr result (λ e. NoCommit core.new.inner (S.meaning shelf.new)) }
+    ensures trust { OnOk result (core.old.inner.committed ≡ true → core.new.inner.committed ≡ true) }
+    ensures agreed { IfErr result (λ e. core.old.inner.committed ≡ true → core.new.inner.agreed ≡ true) }
+    ensures cause { Blames (S.meaning shelf.old) (S.meaning shelf.new) result }
+{
+    if core.inner.config.serial >= MOST_NUMBER {
+        return Ok(());
+    }
+    match open_held(core) {
+        Some(held) => {
+            let result = detach_plex(shelf, &mut core.inner, held.vol, held.plex);
+            hold_back(core, held.vol, held.plex);
+            result
+        }
+        None => Ok(()),
+    }
+}
