@@ -245,3 +245,29 @@ fn a_folder_that_is_not_there_has_no_disks(rt: HostRuntime) -> Result<(), Fail> 
     assert_eq!(rt; sink.written(), b"no 7 device 0\n".as_slice());
     Ok(())
 }
+
+// A later run takes up the link and its receiver, each as the header of its log has it.
+#[test]
+fn a_link_stands_in_the_files(rt: HostRuntime) -> Result<(), Fail> {
+    let alloc = rt.alloc();
+    remove(&rt);
+    let script =
+        b"site a 3 64\nraw a\nsite b 3 64\nraw b\nlink a b synchronous=off srlprot=fail\nconnect a b\nwrite a d1 0 1 11\nsettle a b\nwrite a d1 1 1 22\n";
+    let mut first = MemSink::new(alloc, 4096, &[])?;
+    let status = run_in_files(&rt, rt, ".", script, &mut first)?;
+    let later =
+        b"site a 3 64\nsite b 3 64\nrecover a\nrecover b\nconnect a b\nsettle a b\nshow b d1 0 2\n";
+    let mut second = MemSink::new(alloc, 4096, &[])?;
+    let later_status = run_in_files(&rt, rt, ".", later, &mut second)?;
+    remove(&rt);
+    assert_eq!(rt; (status, later_status), (Status::Done, Status::Done));
+    assert_eq!(rt;
+        first.written(),
+        b"done\ndone\ndone\ndone\ndone\ndone sent 1 1\ndone 1\nsettled 1 sent 2 5\ndone 2\n".as_slice()
+    );
+    assert_eq!(rt;
+        second.written(),
+        b"done\ndone\nrecovered 2\nsite a up\nrvg primary 1 a head 2 mark consistent session 2\nlink b attached cut running log net 1 stored 1\nrecovered 1 sent 1 1\nsite b up\nrvg secondary 1 a head 1 mark consistent session 2\ndone sent 2 2\nsettled 2 sent 3 6\n11\n22\n".as_slice()
+    );
+    Ok(())
+}

@@ -45,6 +45,20 @@ fn a_link_is_cut_as_it_is_made(rt: HostRuntime) -> Result<(), Fail> {
     Ok(())
 }
 
+// What the receiver has stored is told once more as it greets.
+#[test]
+fn a_disk_fails_as_an_acknowledgement_is_heard(rt: HostRuntime) -> Result<(), Fail> {
+    let script =
+        b"site a 3 64\nraw a\nsite b 3 64\nraw b\nlink a b synchronous=off srlprot=fail\nconnect a b\nwrite a d1 0 1 11\npump a b\ndeliver 2\napply b 1\ndisk a 0 fail\ndeliver 4\ndeliver 4\nwrite a d1 1 1 22\ndisk a 0 ok\nrecover a\nconnect a b\nsettle a b\n";
+    let answer = answers(&rt, rt.alloc(), script)?;
+    let old =
+        "done\ndone\ndone\ndone\ndone\ndone sent 1 1\ndone 1\ndone sent 2 2\ntaken sent 3 3\ndone 1 sent 4 4\ndone\nno 7 device 0\nignored\nno 20 halted 0\ndone\nrecovered 1\nsite a up\nrvg primary 1 a head 1 mark consistent session 2\nlink b attached cut running log net 0 stored 0\ndone sent 5 5\nsettled 1 sent 6 6\n";
+    let new =
+        "done\ndone\ndone\ndone\ndone\ndone sent 1 1\ndone 1\ndone sent 2 2\ntaken sent 3 3\ndone 1 sent 4 4\ndone\nno 7 device 0\nignored\nno 20 halted 0\ndone\nrecovered 1\nsite a up\nrvg primary 1 a head 1 mark consistent session 2\nlink b attached cut running log net 1 stored 1\ndone sent 5 5\nsettled 1 sent 6 6\n";
+    assert!(rt; answer.is(Status::Done, old) || answer.is(Status::Done, new));
+    Ok(())
+}
+
 // The site is halted with what waits, and crashes with it. Some first part of that is durable.
 #[test]
 fn a_disk_fails_as_updates_are_applied(rt: HostRuntime) -> Result<(), Fail> {
@@ -56,5 +70,17 @@ fn a_disk_fails_as_updates_are_applied(rt: HostRuntime) -> Result<(), Fail> {
     let new =
         "done\ndone\ndone\ndone\ndone\ndone sent 1 1\ndone 1\ndone sent 2 2\ntaken sent 3 3\ndone\nno 7 device 0\nno 20 halted 0\nignored\ndone\nrecovered 1 sent 4 4\nsite b up\nrvg secondary 1 a head 1 mark consistent session 2\n";
     assert!(rt; answer.is(Status::Done, old) || answer.is(Status::Done, new));
+    Ok(())
+}
+
+// What a settling sent before it ended was sent.
+#[test]
+fn a_settling_is_cut(rt: HostRuntime) -> Result<(), Fail> {
+    let script =
+        b"site a 3 64\nraw a\nsite b 3 64\nraw b\nlink a b synchronous=off srlprot=fail\nconnect a b\nwrite a d1 0 1 11\nfuse b 0 0\nsettle a b\nrecover b\nsettle a b\nshow b d1 0 1\n";
+    let answer = answers(&rt, rt.alloc(), script)?;
+    let wanted =
+        "done\ndone\ndone\ndone\ndone\ndone sent 1 1\ndone 1\ndone\nno 6 down sent 2 4\nrecovered 0 sent 5 5\nsite b up\nrvg secondary 1 a head 0 mark consistent session 2\nsettled 1 sent 6 9\n11\n";
+    assert!(rt; answer.is(Status::Done, wanted));
     Ok(())
 }

@@ -19,9 +19,13 @@ mod halves;
 mod lines;
 #[cfg(test)]
 mod links;
+#[cfg(test)]
+mod loss;
 mod racks;
 #[cfg(test)]
 mod recovery;
+#[cfg(test)]
+mod sessions;
 #[cfg(test)]
 mod statuses;
 #[cfg(test)]

@@ -3,7 +3,19 @@ use crate::answers::answers;
 use std::test::Fail;
 use vx_cli::Status;
 
-// A ring of 8 blocks. The link is cut before the log is full.
+// A ring of 8 blocks. The link that goes by the log comes back with what its receiver has stored.
+#[test]
+fn a_full_log_stalls_until_it_is_settled(rt: HostRuntime) -> Result<(), Fail> {
+    let script =
+        b"site a 3 10\nraw a\nsite b 3 10\nraw b\nlink a b synchronous=off srlprot=fail\nconnect a b\nwrite a d1 0 1 01\nwrite a d1 1 1 02\nwrite a d1 2 2 03\nwrite a d1 4 1 04\nsettle a b\nwrite a d1 4 1 04\ncrash a 0\nrecover a\nread a d1 4 1\n";
+    let answer = answers(&rt, rt.alloc(), script)?;
+    let wanted =
+        "done\ndone\ndone\ndone\ndone\ndone sent 1 1\ndone 1\ndone 2\ndone 3\nno 13 stalled b\nsettled 3 sent 2 10\ndone 4\ndone\nrecovered 4\nsite a up\nrvg primary 1 a head 4 mark consistent session 2\nlink b attached cut running log net 3 stored 3\n04\n";
+    assert!(rt; answer.is(Status::Done, wanted));
+    Ok(())
+}
+
+// The same, with the link cut before the log is full.
 #[test]
 fn a_full_log_of_a_cut_link_fails_writes(rt: HostRuntime) -> Result<(), Fail> {
     let script =
