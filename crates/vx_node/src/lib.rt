@@ -45,7 +45,6 @@ mod status;
 mod text;
 mod tick;
 mod wait;
-
 mod whole;
 mod write;
 mod yard;

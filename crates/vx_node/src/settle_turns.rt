@@ -68,7 +68,14 @@ impl<R: Rack> Yard<R> {
     }
 
     // What was sent counts as lost, and what the receiver may lack is sent.
-    fn send_lost(&mut self, alloc: Global, first: &Name, second: &Name, here: u32, there: u32) -> Went
+    fn send_lost(
+        &mut self,
+        alloc: Global,
+        first: &Name,
+        second: &Name,
+        here: u32,
+        there: u32,
+    ) -> Went
         ensures went { (d : Doubted) → SettlesFor first.now second.now here there d self.old → WentFor first.now second.now here there d (TickAt here there ∷ PumpAt here there ∷ []) self.old self.new result }
         ensures told { IsTold self.new → IsTold self.old }
         ensures files { in_files self.new ≡ in_files self.old }

@@ -409,9 +409,11 @@ module _ (told : Type 0) (a b : ℕ) (d : Doubted) (may : MayMove a b d.world) (
       take number' q' is takes =
           let n : number' ≡ number = (let e : Deliver number ≡ Deliver number' = is in cc) in
           let there : packet_at d.world.packets number ≡ Some q' = ap (λ (k : ℕ). packet_at d.world.packets k) (sym n) ∙ takes.packet in
-          let same : q' ≡ q = some_is q' q (sym there ∙ at) in
-          (same, subst (λ (x : Packet). MayTake d.world number x) same
-          (record { packet = there; count = takes.count; write = takes.write; message = takes.message; opens = takes.opens; receives = takes.receives }))
+          let same : q' ≡ q = some_is q' q (sym there ∙ at) in (
+            same,
+            subst (λ (x : Packet). MayTake d.world number x) same
+                (record { packet = there; count = takes.count; write = takes.write; message = takes.message; opens = takes.opens; receives = takes.receives }),
+          )
 
       other_noted : (m : Doubted) (n : Node) (g : Option Gathering) (more : List Packet) (last : Doubted) → m ≡ record d { world = target_with d.world q.target n g more } → n.fuse ≡ (d.world.nodes q.target).fuse
           → last ≡ record (noted_as fuses d) { world = target_with (burnt_world fuses d.world) q.target (record n { fuse = fuses q.target }) g more } → AreLeft (Deliver number) (noted_as fuses d) last new → NotedAs a b m new

@@ -20,11 +20,11 @@ loop-done-init g c = (λ d serves low. went_none c.args.first.now c.args.second.
 pub loop-done-preserved : goal.loop-done-preserved
 loop-done-preserved g c = (
   λ d serves low.
-    let p = c.args.first.now in
-    let q = c.args.second.now in
-    let a = c.args.here in
-    let b = c.args.there in
-    let y = c.args.self.now in
+      let p = c.args.first.now in
+      let q = c.args.second.now in
+      let a = c.args.here in
+      let b = c.args.there in
+      let y = c.args.self.now in
       let sent = c.count-end.ensures.count ∙ sent_many p q a b d y serves in
       let n = c.loop-done.done in
       let one = c.loop-done.invariant.0 d serves low in

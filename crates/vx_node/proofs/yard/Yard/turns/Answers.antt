@@ -39,11 +39,11 @@ returns-then-shown-clause-went g c = λ d serves.
 pub loop-past-preserved : goal.loop-past-preserved
 loop-past-preserved g c = (
   λ d serves.
-    let p = c.args.first.now in
-    let q = c.args.second.now in
-    let a = c.args.here in
-    let b = c.args.there in
-    let y = c.args.self.now in
+      let p = c.args.first.now in
+      let q = c.args.second.now in
+      let a = c.args.here in
+      let b = c.args.there in
+      let y = c.args.self.now in
       let made = c.loop-past.invariant.0 d serves in
       let m = made.on.next.world in
       let is = c.in-Some.ensures made.on.next p q made.on.serves in
