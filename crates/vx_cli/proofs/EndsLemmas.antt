@@ -10,6 +10,7 @@ use Rattle.vx_node.specs.Lines.{script_line}
 use Rattle.vx_node.specs.Stands.{RoseAll}
 use Rattle.vx_node.specs.Steps.{LineStep}
 use Rattle.vx_events.specs.Fails.{Fails}
+use Rattle.vx_events.specs.Parts.{StopsInPart}
 use Rattle.vx_events.proofs.Parts.{none_done}
 use Rattle.vx_cli.specs.declared.status.Status.{Status}
 use Rattle.vx_cli.specs.declared.status.Status.TheVariants.{Done, Usage, BadLine, ReadFault, WriteFault, OutOfMemory, TooLong}
@@ -79,18 +80,18 @@ abbrev pub one_part : List ℕ → List (List ℕ) → Fails → List ℕ → Pa
 one_part line others fails text = record { lines = line ∷ []; others = others; failures = fails ∷ []; texts = text ∷ [] }
 
 -- nothing of the next line was done
-none_of_line : (r : Result (Option ScriptLine) ℕ) (w : Doubted) → PartOfLine r w w
-none_of_line (Ok (Some words)) w = none_done w words
-none_of_line (Ok None) w = refl
-none_of_line (Err column) w = refl
+none_of_line : (told : Type 0) (r : Result (Option ScriptLine) ℕ) (w : Doubted) → PartOfLine told r w w
+none_of_line told (Ok (Some words)) w = StopsInPart (none_done w words)
+none_of_line told (Ok None) w = refl
+none_of_line told (Err column) w = refl
 
-none_of_next : (others : List (List ℕ)) (w : Doubted) → PartOfNext others w w
-none_of_next [] w = refl
-none_of_next (line ∷ lines) w = none_of_line (script_line line) w
+none_of_next : (told : Type 0) (others : List (List ℕ)) (w : Doubted) → PartOfNext told others w w
+none_of_next told [] w = refl
+none_of_next told (line ∷ lines) w = none_of_line told (script_line line) w
 
-last_same : (status : Status) (others : List (List ℕ)) (w : Doubted) → LastWorld status others w w
-last_same OutOfMemory others w = none_of_next others w
-last_same other others w = refl
+last_same : (told : Type 0) (status : Status) (others : List (List ℕ)) (w : Doubted) → LastWorld told status others w w
+last_same told OutOfMemory others w = none_of_next told others w
+last_same told other others w = refl
 
 module _ {told : Type 0} {files : Bool} {Leaves : Doubted → Type 0} where
   -- a run goes on after a line as the rest does from there
@@ -115,7 +116,7 @@ module _ {told : Type 0} {files : Bool} {Leaves : Doubted → Type 0} where
 
   -- the run ends within its next line
   pub ends_within : (n : ℕ) (old new : Doubted) (bytes : List ℕ) (status : Status) (left w0 w1 : Option (List ℕ)) (f0 f1 : ℕ → ℕ → ℕ) (out : List ℕ)
-      → n ≤ 1000000 → LastWorld status (lines_of bytes) old new → Ends n status bytes left (no_part bytes) out → Appends w0 w1 out → RoseAll [] f0 f1 → Leaves new
+      → n ≤ 1000000 → LastWorld told status (lines_of bytes) old new → Ends n status bytes left (no_part bytes) out → Appends w0 w1 out → RoseAll [] f0 f1 → Leaves new
       → Outcome told files Leaves n old bytes status left w0 w1 f0 f1
   ends_within n old new bytes status left w0 w1 f0 f1 out few last ends wrote rose leaves =
       record { part = no_part bytes; world = new; out = out; split = refl; few = omega arith; behind = old; run = refl; last = last; ends = ends; appends = wrote; rose = rose; leaves = leaves }
@@ -125,7 +126,7 @@ module _ {told : Type 0} {files : Bool} {Leaves : Doubted → Type 0} where
       → n ≤ 1000000 → Ends n status bytes left (no_part bytes) out → Appends w0 w1 out → RoseAll [] f0 f1 → Leaves old
       → Outcome told files Leaves n old bytes status left w0 w1 f0 f1
   ends_here n old bytes status left w0 w1 f0 f1 out few ends wrote rose leaves =
-      ends_within n old old bytes status left w0 w1 f0 f1 out few (last_same status (lines_of bytes) old) ends wrote rose leaves
+      ends_within n old old bytes status left w0 w1 f0 f1 out few (last_same told status (lines_of bytes) old) ends wrote rose leaves
 
   -- the run ends with a line
   pub ends_one : (n : ℕ) (old new : Doubted) (bytes line : List ℕ) (others : List (List ℕ)) (status : Status) (left w0 w1 : Option (List ℕ)) (f0 f1 : ℕ → ℕ → ℕ)
@@ -140,7 +141,7 @@ module _ {told : Type 0} {files : Bool} {Leaves : Doubted → Type 0} where
         few = omega arith;
         behind = new;
         run = (new, step, refl);
-        last = last_same status others new;
+        last = last_same told status others new;
         ends = ends;
         appends = wrote;
         rose = subst (λ (fs : Fails). RoseAll fs f0 f1) (sym (append-nil fails)) rose;

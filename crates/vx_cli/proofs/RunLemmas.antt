@@ -23,7 +23,7 @@ use Rattle.vx_cli.specs.Ends.{RunIs}
 use Rattle.vx_cli.specs.Turns.{YardComes}
 use Rattle.vx_cli.proofs.EndsLemmas.{ends_here}
 use Rattle.vx_cli.proofs.ReaderLemmas.{ahead_some}
-use Rattle.vx_cli.proofs.StepLemmas.{line_told, rose_none, rose_same}
+use Rattle.vx_cli.proofs.StepLemmas.{last_told, line_told, rose_none, rose_same}
 
 -- a run where contents are told is one where even more is told
 run_told : {T U : Type 0} (f : U → T) (files : Bool) (w : Doubted) (lines : List (List ℕ)) (failures : List Fails) (texts : List (List ℕ)) (new : Doubted)
@@ -65,7 +65,7 @@ module _ {R : Type 0} {g : Ghosts R} where
           behind = o.behind;
           run = subst (λ (f : Bool). Run (RacksTell g.meaning racks) f (sure empty_world) o.part.lines o.part.failures o.part.texts o.behind) kept
               (run_told (told o.world o.leaves.stands) (in_files old) (sure empty_world) o.part.lines o.part.failures o.part.texts o.behind o.run);
-          last = o.last;
+          last = last_told (told o.world o.leaves.stands) status o.part.others o.behind o.world o.last;
           ends = o.ends;
           appends = o.appends;
           rose = rose_same (all_fails o.part.failures) (count_of old) (count_of new) f0 f1 (λ s d. sym (counts s d)) (after o.world o.leaves.stands) o.rose;

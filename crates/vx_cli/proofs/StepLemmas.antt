@@ -19,11 +19,15 @@ use Rattle.vx_events.specs.LinkEnds.{LinkEnds, LinksDone, LinksHalt, AppliesPart
 use Rattle.vx_events.specs.LinkedFacts.{refused_by}
 use Rattle.vx_events.specs.Lines.{Counts, EndsBy, StepBy, is_of_links}
 use Rattle.vx_events.specs.Lists.{events_of}
+use Rattle.vx_events.specs.Parts.{StopsBetween, StopsInPart, StopsShort}
 use Rattle.vx_events.specs.Sayings.{RepeatsOf, Replies}
 use Rattle.vx_events.specs.declared.said.Said.{Said}
 use Rattle.vx_node.specs.Lines.{script_line, only_built, if_built, is_built}
 use Rattle.vx_node.specs.Stands.{RoseAll, times}
 use Rattle.vx_node.specs.Steps.{SaidStep, LineStep}
+use Rattle.vx_cli.specs.Ends.{LastWorld, PartOfLine, PartOfNext}
+use Rattle.vx_cli.specs.declared.status.Status.{Status}
+use Rattle.vx_cli.specs.declared.status.Status.TheVariants.{OutOfMemory}
 
 -- a line of more than 4,096 bytes is wrong behind them
 pub script_line_long : (line : List ℕ) → 4096 < length line → script_line line ≡ Err 4097
@@ -97,6 +101,23 @@ module _ {T U : Type 0} (f : U → T) where
 
   pub line_told : (files : Bool) (d : Doubted) (line : List ℕ) (fails : Fails) (text : List ℕ) (new : Doubted) → LineStep T files d line fails text new → LineStep U files d line fails text new
   line_told files d line fails text new x = said_told files d (script_line line) fails text new x
+
+  short_told : (d : Doubted) (line : ScriptLine) (new : Doubted) → StopsShort T d line new → StopsShort U d line new
+  short_told d line new (StopsInPart part) = StopsInPart part
+  short_told d line new (StopsBetween never p s middle is moves left) = StopsBetween (λ u. never (f u)) p s middle is moves left
+
+  part_told : (r : Result (Option ScriptLine) ℕ) (d last : Doubted) → PartOfLine T r d last → PartOfLine U r d last
+  part_told (Ok (Some words)) d last x = short_told d words last x
+  part_told (Ok None) d last x = x
+  part_told (Err column) d last x = x
+
+  next_told : (others : List (List ℕ)) (d last : Doubted) → PartOfNext T others d last → PartOfNext U others d last
+  next_told [] d last x = x
+  next_told (line ∷ lines) d last x = part_told (script_line line) d last x
+
+  pub last_told : (status : Status) (others : List (List ℕ)) (d last : Doubted) → LastWorld T status others d last → LastWorld U status others d last
+  last_told OutOfMemory others d last x = next_told others d last x
+  last_told other others d last x = x
 
 -- ---- a line that is done is of a kind that is built
 

@@ -59,12 +59,12 @@ module _ {R : Type 0} {g : Ghosts R} where
         rose = steps.rose;
       }
 
-  -- a line of which a first part was done
+  -- a line within which memory ran out
   did_part : (w : Doubted) (words : ScriptLine) (old new : Yard R g) → Serves w old → (IsTold new → IsTold old) → StopsFor w words old new → DidPart w words old new
   did_part w words old new serves told stops = record {
     next = stops.next;
     part = stops.part;
-    serves = record { stands = stops.stands; carries = stops.carries serves.carries; good = λ t. part_good w words stops.next (serves.good (told t)) stops.part };
+    serves = record { stands = stops.stands; carries = stops.carries serves.carries; good = λ t. part_good t w words stops.next (serves.good (told t)) stops.part };
     rose = stops.rose;
   }
 
@@ -121,12 +121,12 @@ module _ {R : Type 0} {g : Ghosts R} where
       (now_left w0 w1 : Option (List ℕ)) → Ahead held left bytes → lines_of bytes ≡ line ∷ others → n < 1000000 → script_line line ≡ Ok (Some words)
       → DidPart w words old new → Appends w0 w1 [] → YardComes n w held left OutOfMemory old new now_left w0 w1
   comes_within n w held left bytes line others words old new now_left w0 w1 ahead split few e short wrote =
-      let part : PartOfLine (script_line line) w short.next = subst (λ (r : Result (Option ScriptLine) ℕ). PartOfLine r w short.next) (sym e) short.part in
+      let part : PartOfLine (IsTold new) (script_line line) w short.next = subst (λ (r : Result (Option ScriptLine) ℕ). PartOfLine (IsTold new) r w short.next) (sym e) short.part in
       record {
         bytes = bytes;
         ahead = ahead;
         outcome = ends_within n w short.next bytes OutOfMemory now_left w0 w1 (count_of old) (count_of new) [] (omega arith)
-            (subst (λ (ls : List (List ℕ)). PartOfNext ls w short.next) (sym split) part)
+            (subst (λ (ls : List (List ℕ)). PartOfNext (IsTold new) ls w short.next) (sym split) part)
             (record { sent = []; unsent = []; texts = refl; last = omega arith; is = refl }) wrote short.rose short.serves;
       }
 

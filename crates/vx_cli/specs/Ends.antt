@@ -8,7 +8,7 @@ use Rattle.vx_events.specs.Doubts.{sure}
 use Rattle.vx_node.specs.Lines.{script_line}
 use Rattle.vx_node.specs.Stands.{RoseAll}
 use Rattle.vx_events.specs.Fails.{Fails}
-use Rattle.vx_events.specs.Parts.{DonePart}
+use Rattle.vx_events.specs.Parts.{StopsShort}
 use Rattle.vx_script.specs.Lines.{lines_of, whole_lines_of}
 use Rattle.vx_script.specs.declared.line.ScriptLine.{ScriptLine}
 use Rattle.vx_cli.specs.Reading.{MayHave}
@@ -71,21 +71,21 @@ Ends n OutOfMemory bytes left part out = MemoryEnds part out
 Ends n TooLong bytes left part out = (n + length part.lines ≡ 1000000) × IsNonEmpty part.others × (out ≡ concat part.texts)
 Ends n Usage bytes left part out = ⊥
 
--- what want of memory may leave of a line that was read: a first part of its events
-abbrev pub PartOfLine : Result (Option ScriptLine) ℕ → Doubted → Doubted → Type 0
-PartOfLine (Ok (Some words)) d last = DonePart d words last
-PartOfLine (Ok None) d last = last ≡ d
-PartOfLine (Err column) d last = last ≡ d
+-- what want of memory may leave of a line that was read, over disks that tell their contents or not
+abbrev pub PartOfLine : Type 0 → Result (Option ScriptLine) ℕ → Doubted → Doubted → Type 0
+PartOfLine told (Ok (Some words)) d last = StopsShort told d words last
+PartOfLine told (Ok None) d last = last ≡ d
+PartOfLine told (Err column) d last = last ≡ d
 
 -- the same of the next of these lines
-abbrev pub PartOfNext : List (List ℕ) → Doubted → Doubted → Type 0
-PartOfNext [] d last = last ≡ d
-PartOfNext (line ∷ lines) d last = PartOfLine (script_line line) d last
+abbrev pub PartOfNext : Type 0 → List (List ℕ) → Doubted → Doubted → Type 0
+PartOfNext told [] d last = last ≡ d
+PartOfNext told (line ∷ lines) d last = PartOfLine told (script_line line) d last
 
 -- The last world of a run, by the status: the one behind the lines that were done. Only for want of memory is the next line done in part.
-abbrev pub LastWorld : Status → List (List ℕ) → Doubted → Doubted → Type 0
-LastWorld OutOfMemory others d last = PartOfNext others d last
-LastWorld other others d last = last ≡ d
+abbrev pub LastWorld : Type 0 → Status → List (List ℕ) → Doubted → Doubted → Type 0
+LastWorld told OutOfMemory others d last = PartOfNext told others d last
+LastWorld told other others d last = last ≡ d
 
 -- What a run over these bytes came to, from a world in which n lines were done. Its lines are the first of the bytes', and
 -- each is a step. What was written is their replies, by the status. The counts of the disks rose by the failed calls.
@@ -98,7 +98,7 @@ pub record Outcome (told : Type 0) (files : Bool) (Leaves : Doubted → Type 0) 
   pub few : n + length part.lines ≤ 1000000
   pub behind : Doubted
   pub run : Run told files old part.lines part.failures part.texts behind
-  pub last : LastWorld status part.others behind world
+  pub last : LastWorld told status part.others behind world
   pub ends : Ends n status bytes left part out
   pub appends : Appends written now_written out
   pub rose : RoseAll (all_fails part.failures) faults now_faults

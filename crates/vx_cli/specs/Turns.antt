@@ -10,7 +10,7 @@ use Rattle.vx_node.specs.Lines.{script_line}
 use Rattle.vx_node.specs.Stands.{RoseAll}
 use Rattle.vx_node.specs.Steps.{LineStep}
 use Rattle.vx_events.specs.Fails.{Fails}
-use Rattle.vx_events.specs.Parts.{DonePart}
+use Rattle.vx_events.specs.Parts.{StopsShort}
 use Rattle.vx_node.specs.Standing.{Serves}
 use Rattle.vx_node.specs.Yards.{IsTold, count_of, in_files}
 use Rattle.vx_node.specs.declared.yard.Yard.{Yard}
@@ -48,10 +48,10 @@ module _ {R : Type 0} {g : Ghosts R} where
     pub serves : Serves d new
     pub rose : RoseAll [] (count_of old) (count_of new)
 
-  -- a first part of the events of a line was done
+  -- memory ran out within a line, which left this of it
   pub record DidPart (d : Doubted) (words : ScriptLine) (old new : Yard R g) : Type 0 where
     pub next : Doubted
-    pub part : DonePart d words next
+    pub part : StopsShort (IsTold new) d words next
     pub serves : Serves next new
     pub rose : RoseAll [] (count_of old) (count_of new)
 

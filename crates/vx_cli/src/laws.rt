@@ -1,18 +1,19 @@
 // What is so of every run.
-ghost use Rattle.std.specs.Prelude.{◌≡◌, ℕ, List};
+ghost use Rattle.std.specs.Prelude.{◌≡◌, ℕ, Bool, true, List};
 ghost use Rattle.vx_history.specs.Doubts.{Doubted};
 ghost use Rattle.vx_script.specs.declared.line.ScriptLine.{ScriptLine};
 ghost use Rattle.vx_world.specs.Lines.{GoodDoubted};
-ghost use Rattle.vx_events.specs.Parts.{DonePart};
+ghost use Rattle.vx_events.specs.Parts.{StopsShort};
 ghost use Rattle.vx_cli.specs.Ends.{LastWorld};
 ghost use Rattle.vx_cli.specs.declared.status.Status.{Status};
 
 /// Today a run ends in the world behind the lines that it did: no line that is built is done in part.
 pub fn no_line_is_done_in_part()
-    ensures { (status : Status) (others : List (List ℕ)) (d last : Doubted) → LastWorld status others d last → last ≡ d }
+    ensures { (told : Bool) (status : Status) (others : List (List ℕ)) (d last : Doubted) → LastWorld (told ≡ true) status others d last → last ≡ d }
 {}
 
-/// Where memory runs out within a line, its world is good still, whichever of the sites in doubt are as they may be on their disks.
+/// Where memory runs out within a line over disks that tell their contents, its world is good still, whichever of the sites in doubt are as they may be on
+/// their disks.
 pub fn a_part_stays_good()
-    ensures { (d : Doubted) (line : ScriptLine) (new : Doubted) → GoodDoubted d → DonePart d line new → GoodDoubted new }
+    ensures { (d : Doubted) (line : ScriptLine) (new : Doubted) → GoodDoubted d → StopsShort (Unit {0}) d line new → GoodDoubted new }
 {}

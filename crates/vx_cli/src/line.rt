@@ -35,7 +35,8 @@ fn is_built(line: &ScriptLine) -> bool
         | ScriptLine::Resume { .. }
         | ScriptLine::Pump { .. }
         | ScriptLine::Tick { .. }
-        | ScriptLine::Wait { .. } => true,
+        | ScriptLine::Wait { .. }
+        | ScriptLine::Deliver { .. } => true,
         ScriptLine::Link { prot, .. } => is_fail(prot),
         ScriptLine::Set { prot, .. } => is_fail(prot),
         _ => false,

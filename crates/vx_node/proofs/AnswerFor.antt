@@ -11,6 +11,7 @@ use Rattle.vx_order.specs.Packets.{packet_unknown}
 use Rattle.vx_order.specs.declared.facts.SiteFacts.{SiteFacts}
 use Rattle.vx_script.specs.declared.line.ScriptLine.{ScriptLine}
 use Rattle.vx_script.specs.declared.line.ScriptLine.TheVariants.{Deliver}
+use Rattle.vx_events.specs.Parts.{StopsInPart}
 use Rattle.vx_events.proofs.Parts.{none_done}
 use Rattle.vx_events.specs.LinkedFacts.{refused_by}
 use Rattle.vx_events.specs.Sent.{sent_between}
@@ -20,7 +21,7 @@ use Rattle.vx_events.specs.declared.said.Said.TheVariants.{Refused}
 use Rattle.vx_node.specs.Carries.{Carries}
 use Rattle.vx_node.specs.OfSites.{HasCalled}
 use Rattle.vx_node.specs.Replies.{text_of}
-use Rattle.vx_node.specs.Standing.{AnswersFor, AnswersIs, LeadsIs, StandsFor, StaysFor, StepsFor, StopsFor}
+use Rattle.vx_node.specs.Standing.{AnswersFor, AnswersIs, LeadsIs, LeadsOrStops, StandsFor, StaysFor, StepsFor, StopsFor}
 use Rattle.vx_node.specs.Working.{IsFree, refused_in}
 use Rattle.vx_node.specs.Yards.{IsTold, count_of, in_files}
 use Rattle.vx_node.specs.declared.yard.Yard.{Yard}
@@ -51,8 +52,17 @@ module _ {R : Type 0} {g : Ghosts R} where
   refused_other y (Deliver number) not = absurd (not number refl)
   refused_other y other not = refl
 
+  -- of a line for which memory was short before it began nothing is done
+  stays_short : (d : Doubted) (line : ScriptLine) (old new : Yard R g) → StaysFor d old new → StopsFor d line old new
+  stays_short d line old new stays = record { next = d; part = StopsInPart (none_done d line); stands = stays.stands; carries = stays.carries; rose = stays.rose }
+
+  -- one that is done whole or not at all
+  pub leads_whole : (d : Doubted) (line : ScriptLine) (old new : Yard R g) (r : Result Said OutOfMemory) → LeadsIs d line old new r → LeadsOrStops d line old new r
+  leads_whole d line old new (Ok said) leads = leads
+  leads_whole d line old new (Err e) stays = stays_short d line old new stays
+
   -- a line that no test refuses is answered what it worked
-  pub leads_answer : (d : Doubted) (line : ScriptLine) (old new : Yard R g) (r : Result Said OutOfMemory) → StandsFor d old → Carries d old → IsFree old line → LeadsIs d line old new r → AnswersIs d line old new r
+  pub leads_answer : (d : Doubted) (line : ScriptLine) (old new : Yard R g) (r : Result Said OutOfMemory) → StandsFor d old → Carries d old → IsFree old line → LeadsOrStops d line old new r → AnswersIs d line old new r
   leads_answer d line old new (Ok said) stands carries free work =
       let none : refused_by d.world (in_files old) line ≡ None = tested d old line stands carries ∙ free in
       record {
@@ -94,7 +104,3 @@ module _ {R : Type 0} {g : Ghosts R} where
     rose = a.rose;
     called = λ free. called free;
   }
-
-  -- of a line for which memory was short nothing is done
-  pub stays_short : (d : Doubted) (line : ScriptLine) (old new : Yard R g) → StaysFor d old new → StopsFor d line old new
-  stays_short d line old new stays = record { next = d; part = none_done d line; stands = stays.stands; carries = stays.carries; rose = stays.rose }

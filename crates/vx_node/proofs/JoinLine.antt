@@ -1,6 +1,6 @@
 -- The part of a line that makes a link in which a site comes to the line of another one, by the call on the disks of the site.
-use Rattle.std.proofs.Common.{◌≡◌, ◌∙◌, ◌+◌, ◌<◌, ℕ, suc, List, [], ◌∷◌, length, Bool, true, false, ap, sym, subst, refl, arith}
-use Rattle.std.specs.Prelude.{Option, Some, None, not, ◌&&◌, eqb, slice_get, slice_set, Result, Ok, Err}
+use Rattle.std.proofs.Common.{◌≡◌, ◌<◌, ℕ, suc, List, [], ◌∷◌, length, true, false, ap, sym, subst, refl, arith}
+use Rattle.std.specs.Prelude.{Some, None, not, ◌&&◌, eqb, slice_get, slice_set, Result, Ok, Err}
 use Rattle.std.proofs.lemmas.Bool.Decides.{nat_tests}
 use Rattle.vx_model.specs.Content.{Write}
 use Rattle.vx_model.specs.Sites.{is_origin}
@@ -10,7 +10,6 @@ use Rattle.vx_model.specs.declared.no.No.{No}
 use Rattle.vx_model.specs.declared.no.No.TheVariants.{Device, Limit, Down as IsOff}
 use Rattle.vx_model.specs.declared.site.Role.{Role}
 use Rattle.vx_model.specs.declared.site.Role.TheVariants.{Primary, Secondary, Handing, Bunker}
-use Rattle.vx_model.specs.declared.site.SiteState.TheVariants.{Up as IsUp}
 use Rattle.vx_model.specs.declared.state.State.{State}
 use Rattle.vx_history.proofs.Updates.{and_left, and_right}
 use Rattle.vx_history.specs.Doubts.{Doubted}
@@ -31,21 +30,19 @@ use Rattle.vx_diskset.specs.Burning.{NoMore}
 use Rattle.vx_diskset.specs.DiskSets.{CrashedAt, worked}
 use Rattle.vx_diskset.specs.Holds.{Beside, beside_of, links_of, state_with}
 use Rattle.vx_diskset.specs.Keeps.{done_by}
-use Rattle.vx_diskset.specs.Stands.{RoleIs, StandsAt}
+use Rattle.vx_diskset.specs.Stands.{StandsAt}
 use Rattle.vx_diskset.specs.declared.disk_set.DiskSet.{DiskSet}
 use Rattle.vx_effects.proofs.Fitting.{fit_happened}
 use Rattle.vx_effects.proofs.LinkParts.{AreTwo, joins_effect, two_done}
 use Rattle.vx_events.specs.LinkedFacts.{linked_facts}
 use Rattle.vx_events.specs.LinksFit.{LinksFit}
 use Rattle.vx_events.specs.declared.said.Said.{Said}
-use Rattle.vx_events.specs.declared.said.Said.TheVariants.{Done, Refused}
+use Rattle.vx_events.specs.declared.said.Said.TheVariants.{Refused}
 use Rattle.vx_joins.specs.Joins.{CanJoin, JoinedAt, JoinedWith}
-use Rattle.vx_node.specs.Carries.{Carries}
 use Rattle.vx_node.specs.Headed.{HeadedSo, NextFor, NotesAt, behind, noted_by}
 use Rattle.vx_node.specs.Loads.{LetGo}
 use Rattle.vx_node.specs.Standing.{StandsFor}
 use Rattle.vx_node.specs.Writes.{noted_facts}
-use Rattle.vx_node.specs.Yards.{IsTold}
 use Rattle.vx_node.specs.declared.yard.Yard.{Yard}
 use Rattle.vx_node.proofs.Carrying.{LetsGoBy, carries_cleared}
 use Rattle.vx_node.proofs.HeadedWorlds.{done_effect}

@@ -64,7 +64,6 @@ pub mod LinkChain
 pub mod JoinLine
 pub mod LinkEnding
 pub mod StatesAre
-pub mod AllDurable
 pub mod LinkNames
 pub mod WriteCalls
 pub mod WriteLinks
@@ -78,3 +77,6 @@ pub mod RiseBare
 pub mod RiseCases
 pub mod RecoverSite
 pub mod RiseNeeds
+pub mod HeardWorld
+pub mod HeardLine
+pub mod DeliverLine

@@ -1,6 +1,6 @@
 -- The worlds behind the parts of a line that makes a link, and that each header keeps what was computed before the first of them.
-use Rattle.std.proofs.Common.{◌≡◌, ◌∙◌, ◌+◌, ◌<◌, ℕ, zero, suc, List, [], ◌∷◌, ◌++◌, Bool, true, false, ap, sym, subst, refl, arith, ⊎_elim}
-use Rattle.std.specs.Prelude.{Option, Some, None, not, ◌&&◌, ◌||◌, eqb}
+use Rattle.std.proofs.Common.{◌≡◌, ◌∙◌, ◌+◌, ◌<◌, ℕ, zero, suc, List, [], ◌∷◌, ◌++◌, Bool, true, false, ap, sym, refl, arith, ⊎_elim}
+use Rattle.std.specs.Prelude.{None, not, ◌&&◌, ◌||◌, eqb}
 use Rattle.std.proofs.lemmas.Bool.{cases_eq}
 use Rattle.vx_model.specs.Sites.{first_line, same_line}
 use Rattle.vx_model.specs.declared.link.SyncMode.{SyncMode}
@@ -9,13 +9,13 @@ use Rattle.vx_model.specs.declared.state.KeptLink.{KeptLink}
 use Rattle.vx_model.specs.declared.state.State.{State}
 use Rattle.vx_history.proofs.Updates.{and_left, and_right, at_place, eqb_apart}
 use Rattle.vx_history.specs.Doubts.{Doubted}
-use Rattle.vx_history.specs.Events.{joined as joined_to, linked_sites, new_link, opened}
+use Rattle.vx_history.specs.Events.{joined as joined_to, new_link, opened}
 use Rattle.vx_history.specs.KeptLinks.{kept_link, kept_links}
-use Rattle.vx_history.specs.Refusals.{is_empty, is_fresh, is_primary, links_of as count_of_links, may_link, some_below}
+use Rattle.vx_history.specs.Refusals.{is_empty, is_fresh, is_primary, links_of as count_of_links, some_below}
 use Rattle.vx_history.specs.Sends.{is_linked}
 use Rattle.vx_history.specs.Step.{step}
 use Rattle.vx_history.specs.Stops.{IsOpen}
-use Rattle.vx_history.specs.World.{Fuse, Link, Node, World, updated}
+use Rattle.vx_history.specs.World.{Link, Node, World, updated}
 use Rattle.vx_history.specs.declared.event.Event.{Event}
 use Rattle.vx_history.specs.declared.event.Event.TheVariants.{Link as LinkAt}
 use Rattle.vx_history.specs.declared.event.LinkPart.TheVariants.{Joins, Made, Marked, Opened}
@@ -29,9 +29,8 @@ use Rattle.vx_events.proofs.LinkJoining.{by_test}
 use Rattle.vx_events.proofs.Steps.{no_sites}
 use Rattle.vx_events.specs.Effects.{ChangesNode, EffectAt}
 use Rattle.vx_events.specs.LinksFit.{LinksFit}
-use Rattle.vx_linked.specs.Making.{fresh_link, kept_plain, opened_link}
 use Rattle.vx_node.specs.Headed.{behind}
-use Rattle.vx_node.specs.Linking.{AreLinkStates, further_links, opened_links}
+use Rattle.vx_node.specs.Linking.{further_links, opened_links}
 use Rattle.vx_node.proofs.LinkParts.{made_links, made_opens, marked_opens, opened_kept, opened_opens}
 use Rattle.vx_node.proofs.Rows.{row_links_same}
 

@@ -1,11 +1,11 @@
 -- What a line that makes a link leads a yard to, by how far its parts came.
-use Rattle.std.proofs.Common.{◌≡◌, ◌∙◌, inl, inr, ◌<◌, ◌≤◌, ◌+◌, ℕ, false, List, [], ◌∷◌, ap, sym, subst, refl, arith}
-use Rattle.std.specs.Prelude.{Some, min, slice_get, Result, Ok, Err}
+use Rattle.std.proofs.Common.{◌≡◌, ◌∙◌, inl, inr, ◌<◌, ℕ, false, List, [], ◌∷◌, ap, sym, subst, refl, arith}
+use Rattle.std.specs.Prelude.{Result, Ok, Err}
 use Rattle.vx_history.specs.Doubts.{Doubted, Runs}
 use Rattle.vx_history.specs.Step.{step}
 use Rattle.vx_history.specs.Steps.{worked_on}
 use Rattle.vx_history.specs.Stops.{IsFused, all_fails}
-use Rattle.vx_history.specs.World.{Fuse, Node, World}
+use Rattle.vx_history.specs.World.{Node, World}
 use Rattle.vx_history.specs.declared.event.Event.{Event}
 use Rattle.vx_history.specs.declared.event.Event.TheVariants.{Link as LinkAt}
 use Rattle.vx_history.specs.declared.event.LinkPart.TheVariants.{Joins, Made, Marked, Opened}

@@ -4,7 +4,6 @@ use Rattle.std.specs.Prelude.{IsSome, Some, None}
 use Rattle.vx_model.specs.declared.link.Prot.{Prot}
 use Rattle.vx_model.specs.declared.link.SyncMode.{SyncMode}
 use Rattle.vx_model.specs.declared.site.SiteState.{SiteState}
-use Rattle.vx_model.specs.declared.site.SiteState.TheVariants.{Up}
 use Rattle.vx_history.specs.Doubts.{Doubted}
 use Rattle.vx_history.specs.Step.{step}
 use Rattle.vx_history.specs.World.{World}
@@ -14,13 +13,11 @@ use Rattle.vx_history.specs.declared.event.Said.TheVariants.{Done as IsDone}
 use Rattle.vx_order.specs.Asks.{ask_of}
 use Rattle.vx_order.specs.Order.{refusal_of}
 use Rattle.vx_order.specs.Subject.{first_name, halt_of, need_of, second_name}
-use Rattle.vx_order.specs.declared.facts.LinkFacts.{LinkFacts}
 use Rattle.vx_order.specs.declared.facts.SiteFacts.{SiteFacts}
 use Rattle.vx_script.specs.declared.line.ScriptLine.TheVariants.{Link}
 use Rattle.vx_disk.specs.declared.shelf.Shelf.{Ghosts}
 use Rattle.vx_effects.proofs.LinkParts.{AreTwo, two_done}
 use Rattle.vx_events.proofs.LinkJoining.{join_agrees}
-use Rattle.vx_events.proofs.Places.{some_same}
 use Rattle.vx_events.proofs.Refused.{passes}
 use Rattle.vx_events.specs.Facts.{seat_of, site_number}
 use Rattle.vx_events.specs.LinkedFacts.{linked_fact, links_by, links_in, refused_by}

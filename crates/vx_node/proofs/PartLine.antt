@@ -1,5 +1,5 @@
 -- A part of a line that writes one header, by the call on the disks of its site.
-use Rattle.std.proofs.Common.{◌≡◌, ◌∙◌, ◌+◌, ◌<◌, ℕ, List, [], ap, sym, subst}
+use Rattle.std.proofs.Common.{◌≡◌, ◌∙◌, ◌<◌, ℕ, List, [], ap, sym, subst}
 use Rattle.std.specs.Prelude.{Option, Some, slice_get, slice_set, Result, Ok, Err}
 use Rattle.vx_history.specs.Doubts.{Doubted}
 use Rattle.vx_history.specs.World.{Gathering, Node}

@@ -2,7 +2,7 @@
 use Rattle.std.specs.Prelude.{ℕ, List, Bool, true, false, Option, Some, None, Result, Ok, Err}
 use Rattle.vx_script.specs.Grammar.{line_of}
 use Rattle.vx_script.specs.declared.line.ScriptLine.{ScriptLine}
-use Rattle.vx_script.specs.declared.line.ScriptLine.TheVariants.{Site, Raw, Disk, Crash, Fuse, Recover, Write, Put, Read, Show, Apply, Status, Link, Set, Connect, Cut, Pause, Resume, Pump, Tick, Wait}
+use Rattle.vx_script.specs.declared.line.ScriptLine.TheVariants.{Site, Raw, Disk, Crash, Fuse, Recover, Write, Put, Read, Show, Apply, Status, Link, Set, Connect, Cut, Pause, Resume, Pump, Tick, Wait, Deliver}
 use Rattle.vx_model.specs.declared.link.Prot.{Prot}
 use Rattle.vx_model.specs.declared.link.Prot.TheVariants.{Fail}
 
@@ -34,6 +34,7 @@ is_built (Resume _ _) = true
 is_built (Pump _ _) = true
 is_built (Tick _ _) = true
 is_built (Wait _ _) = true
+is_built (Deliver _) = true
 is_built _ = false
 
 abbrev pub if_built : Bool → ScriptLine → Result (Option ScriptLine) ℕ

@@ -3,7 +3,7 @@ use Rattle.std.specs.Prelude.{◌≡◌, ℕ, ◌*◌, replicate, Some, slice_ge
 use Rattle.vx_history.specs.World.{World}
 use Rattle.vx_disk.specs.declared.shelf.Shelf.{Ghosts}
 use Rattle.vx_script.specs.declared.line.ScriptLine.{ScriptLine}
-use Rattle.vx_script.specs.declared.line.ScriptLine.TheVariants.{Site, Raw, Disk, Crash, Fuse, Recover, Write, Put, Read, Show, Apply, Status, Link, Set, Connect, Cut, Pause, Resume, Pump, Tick, Wait}
+use Rattle.vx_script.specs.declared.line.ScriptLine.TheVariants.{Site, Raw, Disk, Crash, Fuse, Recover, Write, Put, Read, Show, Apply, Status, Link, Set, Connect, Cut, Pause, Resume, Pump, Tick, Wait, Deliver}
 use Rattle.vx_events.specs.declared.said.Said.{Said}
 use Rattle.vx_events.specs.Facts.{site_number}
 use Rattle.vx_events.specs.Failing.{is_failing}
@@ -48,6 +48,7 @@ module _ {R : Type 0} {g : Ghosts R} where
   AsAsked w (Pump p s) old new = OfSite LeavesAlone (site_number w p) old new
   AsAsked w (Tick p s) old new = new.disk_sets.items ≡ old.disk_sets.items
   AsAsked w (Wait p number) old new = new.disk_sets.items ≡ old.disk_sets.items
+  AsAsked w (Deliver number) old new = AllSameFailing old new
   AsAsked w other old new = Unit {0}
 
   -- What the calls of a line that was answered so leave of the fuse of its site.

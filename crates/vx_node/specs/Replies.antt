@@ -5,6 +5,7 @@ use Rattle.vx_model.specs.Content.{block_of, blocks_in}
 use Rattle.vx_events.specs.declared.said.Said.{Said}
 use Rattle.vx_events.specs.declared.said.Said.TheVariants.{Done, DoneAt, Got, Shown, Recovered, Logged, Pending, Taken, Ignored, Settled, Refused}
 use Rattle.vx_model.specs.declared.errors.Stop.{Stop}
+use Rattle.vx_model.specs.declared.no.No.{No as Refusal}
 use Rattle.vx_model.specs.declared.errors.Stop.TheVariants.{No, OutOfMemory as MemoryStop}
 use Rattle.vx_model.specs.declared.errors.OutOfMemory.{OutOfMemory}
 use Rattle.std.specs.Prelude.{Result, Ok, Err}
@@ -54,3 +55,8 @@ text_of said (Some (first, last)) = first_line_with (sent_text first last) (repl
 abbrev pub reply_to : Stop → Result Said OutOfMemory
 reply_to (No why) = Ok (Refused why)
 reply_to MemoryStop = Err (record {})
+
+-- the refusal of a call that did not end for want of memory
+abbrev pub no_of : Stop → Option Refusal
+no_of (No why) = Some why
+no_of MemoryStop = None

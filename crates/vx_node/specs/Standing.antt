@@ -22,7 +22,7 @@ use Rattle.vx_diskset.specs.declared.disk_set.DiskSet.{DiskSet}
 use Rattle.vx_events.specs.Fails.{Fails}
 use Rattle.vx_events.specs.LinkedFacts.{linked_facts}
 use Rattle.vx_events.specs.Lines.{IsDone as IsDoneLine, LineStep as IsStep}
-use Rattle.vx_events.specs.Parts.{DonePart}
+use Rattle.vx_events.specs.Parts.{StopsShort}
 use Rattle.vx_world.specs.Lines.{GoodDoubted}
 use Rattle.vx_node.specs.Carries.{Carries}
 use Rattle.vx_node.specs.OfSites.{HasCalled}
@@ -99,10 +99,23 @@ module _ {R : Type 0} {g : Ghosts R} where
     pub carries : Carries d old → Carries d new
     pub rose : RoseAll [] (count_of old) (count_of new)
 
+  -- memory ran out within the line, which left this of it, and no call failed
+  pub record StopsFor (d : Doubted) (line : ScriptLine) (old new : Yard R g) : Type 0 where
+    pub next : Doubted
+    pub part : StopsShort (IsTold new) d line next
+    pub stands : StandsFor next new
+    pub carries : Carries d old → Carries next new
+    pub rose : RoseAll [] (count_of old) (count_of new)
+
   -- the line was done, or memory ran out, and nothing was
   abbrev pub LeadsIs : Doubted → ScriptLine → Yard R g → Yard R g → Result Said OutOfMemory → Type 0
   LeadsIs d line old new (Ok said) = Leads d line said old new
   LeadsIs d line old new (Err e) = StaysFor d old new
+
+  -- the line was done, or memory ran out within it
+  abbrev pub LeadsOrStops : Doubted → ScriptLine → Yard R g → Yard R g → Result Said OutOfMemory → Type 0
+  LeadsOrStops d line old new (Ok said) = Leads d line said old new
+  LeadsOrStops d line old new (Err e) = StopsFor d line old new
 
   -- the site crashed, as it was or as it might be
   pub record Falls (d : Doubted) (s : ℕ) (old new : Yard R g) : Type 0 where
@@ -127,7 +140,7 @@ module _ {R : Type 0} {g : Ghosts R} where
 
   abbrev pub AnswersIs : Doubted → ScriptLine → Yard R g → Yard R g → Result Said OutOfMemory → Type 0
   AnswersIs d line old new (Ok said) = AnswersFor d line said old new
-  AnswersIs d line old new (Err e) = StaysFor d old new
+  AnswersIs d line old new (Err e) = StopsFor d line old new
 
   -- the line made a step, by which the yard stands for a new world; its text is `text`
   pub record StepsFor (d : Doubted) (line : ScriptLine) (old new : Yard R g) (text : List ℕ) : Type 0 where
@@ -139,14 +152,6 @@ module _ {R : Type 0} {g : Ghosts R} where
     pub rose : RoseAll fails (count_of old) (count_of new)
     -- where no test refuses the line, the fuse of its site is as its calls leave it
     pub called : IsFree old line → HasCalled d.world line prints.said old new
-
-  -- Memory ran out within the line: a first part of its events was done, and no call failed.
-  pub record StopsFor (d : Doubted) (line : ScriptLine) (old new : Yard R g) : Type 0 where
-    pub next : Doubted
-    pub part : DonePart d line next
-    pub stands : StandsFor next new
-    pub carries : Carries d old → Carries next new
-    pub rose : RoseAll [] (count_of old) (count_of new)
 
   -- The whole text was written. Or the sink failed, and a part of it is missing. Or memory ran out, and nothing was written.
   abbrev pub LineFor : Doubted → ScriptLine → Yard R g → Yard R g → Option (List ℕ) → Option (List ℕ) → Result (Unit {0}) LineStop → Type 0

@@ -84,6 +84,7 @@ impl<R: Rack> Yard<R> {
             }
             ScriptLine::Apply { site, count } => self.apply_line(alloc, site, *count),
             ScriptLine::Status { site } => self.status_line(alloc, site),
+            ScriptLine::Deliver { packet } => self.deliver_line(alloc, *packet),
             ScriptLine::Set { .. }
             | ScriptLine::Link { .. }
             | ScriptLine::Connect { .. }

@@ -8,15 +8,22 @@ ghost use Rattle.vx_history.specs.World.{Packet, Update};
 ghost use Rattle.vx_script.specs.declared.line.ScriptLine.TheVariants.{Deliver};
 ghost use Rattle.vx_node.specs.Carries.{Carries};
 ghost use Rattle.vx_node.specs.Deliveries.{Receives};
+ghost use Rattle.vx_node.specs.OfSites.{AllSameFailing, AsAsked};
 ghost use Rattle.vx_node.specs.Standing.{GoodFor, LeadsIs, StandsFor};
-ghost use Rattle.vx_node.specs.Yards.{IsTold, in_files};
+ghost use Rattle.vx_node.specs.Working.{IsFree};
+ghost use Rattle.vx_node.specs.Yards.{IsKept, IsTold, in_files};
 
 use crate::facts::set_last;
 use crate::{DiskSet, Said, Yard};
+use std::alloc::Global;
+use vx_courier::part_at;
 use vx_disk::Rack;
 use vx_history::Said as Happened;
 use vx_joins::deliver_update;
 use vx_model::OutOfMemory;
+
+// The kind of the packets of an update.
+const UPDATE: u8 = 2;
 
 // Whether the group of a site receives, with room for the updates that wait.
 pub(crate) fn receives<R: Rack>(disk_set: &DiskSet<R>) -> bool
@@ -39,6 +46,7 @@ impl<R: Rack> Yard<R> {
         requires few { target < MOST_SITES }
         ensures leads { (d : Doubted) (p : Packet) (k : ℕ) (x : LogWrite) → StandsFor d self.old → Carries d self.old → GoodFor d self.old → packet_at d.world.packets number ≡ Some p → p.target ≡ target
             → target < d.world.sites → p.message ≡ Update k x → LeadsIs d (Deliver number) self.old self.new result }
+        ensures asked { AllSameFailing self.old self.new }
         ensures told { IsTold self.new → IsTold self.old }
         ensures files { in_files self.new ≡ in_files self.old }
     {
@@ -61,5 +69,31 @@ impl<R: Rack> Yard<R> {
             }
             _ => Ok(Said::Ignored),
         }
+    }
+
+    /// Hands the packet of a number to its target. One that goes to no site is ignored.
+    pub(crate) fn deliver_line(
+        &mut self,
+        alloc: Global,
+        number: u64,
+    ) -> Result<Said, OutOfMemory>
+        requires kept { IsKept self.old }
+        requires free { IsFree self.old (Deliver number) }
+        ensures leads { (d : Doubted) → StandsFor d self.old → Carries d self.old → GoodFor d self.old → LeadsIs d (Deliver number) self.old self.new result }
+        ensures asked { (d : Doubted) → StandsFor d self.old → AsAsked d.world (Deliver number) self.old self.new }
+        ensures told { IsTold self.new → IsTold self.old }
+        ensures files { in_files self.new ≡ in_files self.old }
+    {
+        let Some(part) = part_at(&self.flight, number) else {
+            return Ok(Said::Ignored);
+        };
+        let target = part.target as usize;
+        if target >= self.facts.len() {
+            return Ok(Said::Ignored);
+        }
+        if part.kind == UPDATE {
+            return self.hand_update(target, number);
+        }
+        self.hear_answer(alloc, target, part.source, number)
     }
 }

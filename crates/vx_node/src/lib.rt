@@ -15,6 +15,7 @@ mod errors;
 mod facts;
 mod folder;
 mod fuse;
+mod hearing;
 mod joins;
 pub mod laws;
 mod link;

@@ -3,4 +3,4 @@ use Rattle.vx_cli.proofs.Sounds.{part_good}
 use Rattle.vx_cli.proofs.laws.a_part_stays_good.Goals as goal
 
 pub returns : goal.returns
-returns c = part_good
+returns c = part_good tt

@@ -1,5 +1,5 @@
 -- The states that the headers keep are computed of the states and the links before the first part.
-use Rattle.std.proofs.Common.{◌≡◌, ◌∙◌, ◌++◌, ◌∷◌, ◌<◌, ◌≤◌, [], List, length, ap, arith}
+use Rattle.std.proofs.Common.{◌∙◌, ◌++◌, ◌∷◌, [], List, length, ap, arith}
 use Rattle.std.proofs.lemmas.List.{length-map}
 use Rattle.vx_model.specs.declared.link.Link.{Link as PlainLink}
 use Rattle.vx_model.specs.declared.state.KeptLink.{KeptLink}

@@ -20,6 +20,8 @@ use Rattle.vx_world.proofs.Doubting.{world_good}
 use Rattle.vx_node.proofs.Behind.{behind_ignored, behind_short, behind_taken}
 use Rattle.vx_node.proofs.ChangeSite.{told_before}
 use Rattle.vx_node.proofs.Deaf.{deaf_leads, fact_at, last_received, none_start, room_receives, took_ignored}
+use Rattle.vx_node.proofs.FailsStay.{alone_keeps}
+use Rattle.vx_node.proofs.OfSites.{all_of_site, all_still}
 use Rattle.vx_node.proofs.Lists.{get-set_same, get_at, length-set, set_same}
 use Rattle.vx_node.proofs.yard.Yard.hand_update.Goals as goal
 
@@ -148,4 +150,32 @@ returns-in_default g c = record {
   told = told_before c.args.self.now.disk_sets.items c.args.target c.index_mut.result.now c.deliver_update.new.disks
       (get_at c.args.self.now.disk_sets.items c.args.target c.index_mut.result.now c.requires.disk_set c.index_mut.ensures.value) c.deliver_update.ensures.later;
   files = refl;
+  asked = all_of_site c.args.target c.args.self.now _ (record {
+    before = c.index_mut.result.now;
+    after = c.deliver_update.new.disks;
+    there = get_at c.args.self.now.disk_sets.items c.args.target c.index_mut.result.now c.requires.disk_set c.index_mut.ensures.value;
+    disk_sets = refl;
+    did = alone_keeps c.index_mut.result.now c.deliver_update.new.disks c.deliver_update.ensures.still;
+  });
 }
+
+pub returns-then-not-receives-clause-asked : goal.returns-then-not-receives-clause-asked
+returns-then-not-receives-clause-asked g c = all_still c.args.self.now _ refl
+
+pub returns-in_err-said-clause-asked : goal.returns-in_err-said-clause-asked
+returns-in_err-said-clause-asked g c = all_of_site c.args.target c.args.self.now _ (record {
+  before = c.index_mut.result.now;
+  after = c.deliver_update.new.disks;
+  there = get_at c.args.self.now.disk_sets.items c.args.target c.index_mut.result.now c.requires.disk_set c.index_mut.ensures.value;
+  disk_sets = refl;
+  did = alone_keeps c.index_mut.result.now c.deliver_update.new.disks c.deliver_update.ensures.still;
+})
+
+pub returns-in-Taken-clause-asked : goal.returns-in-Taken-clause-asked
+returns-in-Taken-clause-asked g c = all_of_site c.args.target c.args.self.now _ (record {
+  before = c.index_mut.result.now;
+  after = c.deliver_update.new.disks;
+  there = get_at c.args.self.now.disk_sets.items c.args.target c.index_mut.result.now c.requires.disk_set c.index_mut.ensures.value;
+  disk_sets = refl;
+  did = alone_keeps c.index_mut.result.now c.deliver_update.new.disks c.deliver_update.ensures.still;
+})

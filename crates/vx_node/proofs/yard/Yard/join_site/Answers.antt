@@ -1,6 +1,6 @@
 -- Each case of a part in which a site comes to the line of another one.
-use Rattle.std.proofs.Common.{◌≡◌, ◌∙◌, ◌<◌, ℕ, List, ap, refl, subst, sym}
-use Rattle.std.specs.Prelude.{Some, length, slice_get}
+use Rattle.std.proofs.Common.{◌∙◌, ◌<◌, List, ap, refl, subst, sym}
+use Rattle.std.specs.Prelude.{length, slice_get}
 use Rattle.std.proofs.lemmas.List.{with_items_is}
 use Rattle.vx_order.specs.declared.facts.SiteFacts.{SiteFacts}
 use Rattle.vx_diskset.specs.Burning.{NoMore}

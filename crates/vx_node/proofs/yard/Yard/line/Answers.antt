@@ -3,11 +3,11 @@ use Rattle.std.proofs.Common.{◌∙◌, inl, inr, subst, sym}
 use Rattle.std.specs.Io.KnownBytes.{Appends}
 use Rattle.vx_node.specs.Replies.{text_of}
 use Rattle.vx_stream.proofs.SendLemmas.{appends_none}
-use Rattle.vx_node.proofs.AnswerFor.{answer_steps, stays_short}
+use Rattle.vx_node.proofs.AnswerFor.{answer_steps}
 use Rattle.vx_node.proofs.yard.Yard.line.Goals as goal
 
 pub returns-in_default-clause-line : goal.returns-in_default-clause-line
-returns-in_default-clause-line g c = λ d s. (inl (stays_short d c.args.words.now c.args.self.now c.answer.new.self (c.in_default.ensures.leads d s.stands s.carries s.good)), appends_none (g.O.Sink.written c.args.out.now))
+returns-in_default-clause-line g c = λ d s. (inl (c.in_default.ensures.leads d s.stands s.carries s.good), appends_none (g.O.Sink.written c.args.out.now))
 
 pub returns-in_default-replied-clause-line : goal.returns-in_default-replied-clause-line
 returns-in_default-replied-clause-line g c = λ d s. (

@@ -1,5 +1,5 @@
 -- Each case of a line that links a site to another one.
-use Rattle.std.proofs.Common.{◌≡◌, ◌∙◌, ◌<◌, ◌≤◌, List, length, ap, refl, sym, arith}
+use Rattle.std.proofs.Common.{◌∙◌, List, length, ap, refl, sym, arith}
 use Rattle.vx_order.specs.declared.facts.LinkFacts.{LinkFacts}
 use Rattle.vx_order.specs.declared.facts.SiteFacts.{SiteFacts}
 use Rattle.vx_events.proofs.Places.{some_same}

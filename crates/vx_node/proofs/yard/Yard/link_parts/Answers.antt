@@ -1,5 +1,5 @@
 -- Each case of the parts of a line that makes a link.
-use Rattle.std.proofs.Common.{◌≡◌, ◌∙◌, ◌<◌, ◌≤◌, List, length, ap, arith}
+use Rattle.std.proofs.Common.{List, length, ap, arith}
 use Rattle.vx_order.specs.declared.facts.LinkFacts.{LinkFacts}
 use Rattle.vx_node.proofs.LinkEnding.{comes_one, comes_three, comes_two, ends_done, ends_four, ends_one, ends_three, ends_two, below_one, below_three, below_two}
 use Rattle.vx_node.proofs.OfSites.{all_of_site, all_then}

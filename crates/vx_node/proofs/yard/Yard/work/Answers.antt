@@ -230,3 +230,16 @@ returns-in-Set-clause-asked g c = λ d stands. c.work_link.ensures.asked d stand
 
 pub returns-in-Set-clause-called : goal.returns-in-Set-clause-called
 returns-in-Set-clause-called g c = λ d stands. c.work_link.ensures.called d
+
+pub deliver_line-requires-clause-free : goal.deliver_line-requires-clause-free
+deliver_line-requires-clause-free g c = λ κs lives. subst (λ line. IsFree c.args.self.now line) c.in-Deliver.is c.requires.free
+
+pub returns-in-Deliver-clause-leads : goal.returns-in-Deliver-clause-leads
+returns-in-Deliver-clause-leads g c = λ d stands carries good.
+    subst (λ line. LeadsIs d line c.args.self.now c.deliver_line.new.self c.deliver_line.result) (sym c.in-Deliver.is) (c.deliver_line.ensures.leads d stands carries good)
+
+pub returns-in-Deliver-clause-asked : goal.returns-in-Deliver-clause-asked
+returns-in-Deliver-clause-asked g c = λ d stands. subst (λ line. AsAsked d.world line c.args.self.now c.deliver_line.new.self) (sym c.in-Deliver.is) (c.deliver_line.ensures.asked d stands)
+
+pub returns-in-Deliver-clause-called : goal.returns-in-Deliver-clause-called
+returns-in-Deliver-clause-called g c = λ d stands. if_ok (λ said. HasCalled d.world c.args.words.now said c.args.self.now c.deliver_line.new.self) c.deliver_line.result (λ said. subst (λ line. HasCalled d.world line said c.args.self.now c.deliver_line.new.self) (sym c.in-Deliver.is) tt)
