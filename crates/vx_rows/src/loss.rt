@@ -16,7 +16,11 @@ fn push(out: &mut Vec<u8>, text: &str) -> Result<(), OutOfMemory> {
 
 // Write number `number` fills one block of the first 64: the 37th behind the one before it, with the byte of its number.
 fn push_write(alloc: Global, out: &mut Vec<u8>, number: u64) -> Result<(), OutOfMemory> {
-    let line = format!(in alloc; "write a d1 {} 1 {:02x}\n", number * 37 % 64, number % 256)?;
+    let line = format!(in alloc;
+        "write a d1 {} 1 {:02x}\n",
+        number.wrapping_mul(37) % 64,
+        number % 256
+    )?;
     push(out, &line)
 }
 
@@ -27,7 +31,8 @@ fn push_deliveries(
     before: u64,
     count: u64,
 ) -> Result<(), OutOfMemory> {
-    for number in before + 1..before + count + 1 {
+    for step in 0..count {
+        let number = before.wrapping_add(step).wrapping_add(1);
         let line = format!(in alloc; "deliver {number}\n")?;
         if number % 3 != 0 {
             push(out, &line)?;
@@ -41,19 +46,20 @@ fn push_deliveries(
 
 // Eight writes, what the receiver may lack is sent again, and eight packets are under way no longer: those that were sent first.
 fn push_round(alloc: Global, out: &mut Vec<u8>, round: u64) -> Result<(), OutOfMemory> {
-    for number in 8 * round + 1..8 * round + 9 {
-        push_write(alloc, out, number)?;
+    let before = round.wrapping_mul(8);
+    for step in 0..8 {
+        push_write(alloc, out, before.wrapping_add(step).wrapping_add(1))?;
     }
     push(out, "tick a b\npump a b\n")?;
-    push_deliveries(alloc, out, 8 * round, 8)?;
+    push_deliveries(alloc, out, before, 8)?;
     push(out, "apply b 16\n")
 }
 
 // The blocks as the last write to each of them left them.
 fn push_blocks(alloc: Global, out: &mut Vec<u8>) -> Result<(), OutOfMemory> {
-    let mut bytes = [0; 64];
-    for number in 1..1001 {
-        bytes[(number * 37 % 64) as usize] = number % 256;
+    let mut bytes = [0_u64; 64];
+    for number in 1..1001_u64 {
+        bytes[(number.wrapping_mul(37) % 64) as usize] = number % 256;
     }
     for byte in bytes {
         let line = format!(in alloc; "{byte:02x}\n")?;
@@ -63,8 +69,8 @@ fn push_blocks(alloc: Global, out: &mut Vec<u8>) -> Result<(), OutOfMemory> {
 }
 
 fn push_reads(alloc: Global, out: &mut Vec<u8>, word: &str) -> Result<(), OutOfMemory> {
-    for start in 0..4 {
-        let line = format!(in alloc; "{word} d1 {} 16\n", 16 * start)?;
+    for start in [0, 16, 32, 48] {
+        let line = format!(in alloc; "{word} d1 {start} 16\n")?;
         push(out, &line)?;
     }
     Ok(())
