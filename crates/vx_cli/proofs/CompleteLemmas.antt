@@ -9,9 +9,9 @@ use Rattle.vx_events.specs.Doubts.{sure}
 use Rattle.vx_script.specs.declared.line.ScriptLine.{ScriptLine}
 use Rattle.vx_script.specs.Lines.{lines_of}
 use Rattle.vx_stream.specs.Causes.{Rose}
-use Rattle.vx_node.specs.Lines.{script_line}
-use Rattle.vx_node.specs.Stands.{RoseAll, times}
-use Rattle.vx_node.specs.Steps.{SaidStep, LineStep}
+use Rattle.vx_yard.specs.Lines.{script_line}
+use Rattle.vx_yard.specs.Stands.{RoseAll, times}
+use Rattle.vx_yard.specs.Steps.{SaidStep, LineStep}
 use Rattle.vx_events.specs.Fails.{Fails}
 use Rattle.vx_cli.specs.declared.status.Status.{Status}
 use Rattle.vx_cli.specs.declared.status.Status.TheVariants.{Done, Usage, BadLine, ReadFault, WriteFault, OutOfMemory, TooLong}

@@ -6,9 +6,9 @@ use Rattle.vx_history.specs.Doubts.{Doubted}
 use Rattle.vx_script.specs.Lines.{lines_of}
 use Rattle.vx_script.specs.declared.line.ScriptLine.{ScriptLine}
 use Rattle.vx_stream.proofs.SendLemmas.{appends_then}
-use Rattle.vx_node.specs.Lines.{script_line}
-use Rattle.vx_node.specs.Stands.{RoseAll}
-use Rattle.vx_node.specs.Steps.{LineStep}
+use Rattle.vx_yard.specs.Lines.{script_line}
+use Rattle.vx_yard.specs.Stands.{RoseAll}
+use Rattle.vx_yard.specs.Steps.{LineStep}
 use Rattle.vx_events.specs.Fails.{Fails}
 use Rattle.vx_events.specs.Parts.{StopsInPart}
 use Rattle.vx_events.proofs.Parts.{none_done}

@@ -5,7 +5,7 @@ use Rattle.std.proofs.lemmas.List.Elements.{All-get_or}
 use Rattle.std.proofs.lemmas.Option.{get_or_from_slice_get, slice_get_within}
 use Rattle.vx_disk.specs.Shelf.{Meaning}
 use Rattle.vx_disk.specs.Racks.{Bare}
-use Rattle.vx_node.specs.Holds.{AreFresh}
+use Rattle.vx_yard.specs.Holds.{AreFresh}
 
 module _ {R : Type 0} (meaning : R → Meaning) where
   bare_at : (racks : List R) → All (λ (r : R). Bare (meaning r)) racks → (s : ℕ) (r : R) → slice_get racks s ≡ Some r → Bare (meaning r)

@@ -3,7 +3,7 @@ use Rattle.std.proofs.Common.{◌≡◌, ℕ, List, [], ◌∷◌, Option, Some,
 use Rattle.vx_history.specs.Doubts.{Doubted}
 use Rattle.vx_script.specs.declared.line.ScriptLine.{ScriptLine}
 use Rattle.vx_events.proofs.Parts.{whole_short}
-use Rattle.vx_node.specs.Lines.{script_line}
+use Rattle.vx_yard.specs.Lines.{script_line}
 use Rattle.vx_cli.specs.Ends.{GoesWhole, NextGoesWhole, PartOfLine, PartOfNext, LastWorld}
 use Rattle.vx_cli.specs.declared.status.Status.{Status}
 use Rattle.vx_cli.specs.declared.status.Status.TheVariants.{OutOfMemory}

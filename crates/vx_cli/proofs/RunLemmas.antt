@@ -9,12 +9,12 @@ use Rattle.vx_stream.proofs.SendLemmas.{appends_none}
 use Rattle.vx_world.specs.Lines.{GoodDoubted}
 use Rattle.vx_world.proofs.Doubting.{quiet_good}
 use Rattle.vx_world.proofs.Whole.{empty_good}
-use Rattle.vx_node.specs.declared.yard.Yard.{Yard}
-use Rattle.vx_node.specs.Holds.{AreFresh, RacksHold, RacksTell, rack_faults}
+use Rattle.vx_yard.specs.declared.yard.Yard.{Yard}
+use Rattle.vx_yard.specs.Holds.{AreFresh, RacksHold, RacksTell, rack_faults}
 use Rattle.vx_events.specs.Fails.{Fails}
-use Rattle.vx_node.specs.Carries.{Carries}
-use Rattle.vx_node.specs.Standing.{Serves, StandsFor}
-use Rattle.vx_node.specs.Yards.{IsTold, count_of, in_files}
+use Rattle.vx_yard.specs.Carries.{Carries}
+use Rattle.vx_yard.specs.Standing.{Serves, StandsFor}
+use Rattle.vx_yard.specs.Yards.{IsTold, count_of, in_files}
 use Rattle.vx_cli.specs.declared.status.Status.{Status}
 use Rattle.vx_cli.specs.declared.status.Status.TheVariants.{OutOfMemory}
 use Rattle.vx_cli.specs.Reading.{MayHave}

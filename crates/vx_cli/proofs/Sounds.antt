@@ -14,7 +14,7 @@ use Rattle.vx_events.specs.Stopping.{StopsBy}
 use Rattle.vx_events.proofs.Noting.{links_like}
 use Rattle.vx_events.proofs.Parts.{told_part}
 use Rattle.vx_events.proofs.Stopping.{line_stops, runs_as}
-use Rattle.vx_node.specs.Steps.{SaidStep}
+use Rattle.vx_yard.specs.Steps.{SaidStep}
 
 -- however its events end
 stops_good : (links : Bool) (d : Doubted) (line : ScriptLine) (fails : Fails) (new : Doubted) → GoodDoubted d → StopsBy links d line fails new → GoodDoubted new

@@ -22,9 +22,9 @@ use Rattle.vx_events.specs.Lists.{events_of}
 use Rattle.vx_events.specs.Parts.{StopsBetween, StopsInPart, StopsShort}
 use Rattle.vx_events.specs.Sayings.{RepeatsOf, Replies}
 use Rattle.vx_events.specs.declared.said.Said.{Said}
-use Rattle.vx_node.specs.Lines.{script_line, only_built, if_built, is_built}
-use Rattle.vx_node.specs.Stands.{RoseAll, times}
-use Rattle.vx_node.specs.Steps.{SaidStep, LineStep}
+use Rattle.vx_yard.specs.Lines.{script_line, only_built, if_built, is_built}
+use Rattle.vx_yard.specs.Stands.{RoseAll, times}
+use Rattle.vx_yard.specs.Steps.{SaidStep, LineStep}
 use Rattle.vx_cli.specs.Ends.{LastWorld, PartOfLine, PartOfNext}
 use Rattle.vx_cli.specs.declared.status.Status.{Status}
 use Rattle.vx_cli.specs.declared.status.Status.TheVariants.{OutOfMemory}

@@ -9,11 +9,11 @@ use Rattle.vx_script.specs.Lines.{lines_of, IsPlain}
 use Rattle.vx_script.specs.declared.line.ScriptLine.{ScriptLine}
 use Rattle.vx_script.proofs.LineLemmas.{whole_lines_of_last, some_line}
 use Rattle.vx_stream.proofs.SendLemmas.{appends_none}
-use Rattle.vx_node.specs.declared.yard.Yard.{Yard}
-use Rattle.vx_node.specs.Lines.{script_line}
-use Rattle.vx_node.specs.Steps.{SaidStep}
-use Rattle.vx_node.specs.Standing.{Serves, StepsFor, StopsFor}
-use Rattle.vx_node.specs.Yards.{IsTold, count_of, in_files}
+use Rattle.vx_yard.specs.declared.yard.Yard.{Yard}
+use Rattle.vx_yard.specs.Lines.{script_line}
+use Rattle.vx_yard.specs.Steps.{SaidStep}
+use Rattle.vx_yard.specs.Standing.{Serves, StepsFor, StopsFor}
+use Rattle.vx_yard.specs.Yards.{IsTold, count_of, in_files}
 use Rattle.vx_cli.specs.declared.reader.Next.TheVariants as nexts
 use Rattle.vx_cli.specs.declared.status.Status.{Status}
 use Rattle.vx_cli.specs.declared.status.Status.TheVariants.{Done, Usage, BadLine, ReadFault, WriteFault, OutOfMemory, TooLong}

@@ -5,7 +5,7 @@ use Rattle.std.specs.Io.KnownBytes.{Appends}
 use Rattle.vx_history.specs.Doubts.{Doubted}
 use Rattle.vx_history.specs.World.{empty_world}
 use Rattle.vx_events.specs.Doubts.{sure}
-use Rattle.vx_node.specs.Lines.{script_line}
+use Rattle.vx_yard.specs.Lines.{script_line}
 use Rattle.vx_events.specs.Fails.{Fails}
 use Rattle.vx_script.specs.Lines.{lines_of}
 use Rattle.vx_cli.specs.Runs.{Run}

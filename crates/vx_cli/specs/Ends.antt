@@ -5,8 +5,8 @@ use Rattle.std.specs.Io.KnownBytes.{Appends}
 use Rattle.vx_history.specs.Doubts.{Doubted}
 use Rattle.vx_history.specs.World.{empty_world}
 use Rattle.vx_events.specs.Doubts.{sure}
-use Rattle.vx_node.specs.Lines.{script_line}
-use Rattle.vx_node.specs.Stands.{RoseAll}
+use Rattle.vx_yard.specs.Lines.{script_line}
+use Rattle.vx_yard.specs.Stands.{RoseAll}
 use Rattle.vx_events.specs.Fails.{Fails}
 use Rattle.vx_events.specs.Parts.{StopsShort, goes_in_parts}
 use Rattle.vx_script.specs.Lines.{lines_of, whole_lines_of}

@@ -3,8 +3,8 @@ use Rattle.std.specs.Prelude.{◌≡◌, ℕ, Bool, List, [], ◌∷◌, ◌++�
 use Rattle.vx_history.specs.Doubts.{Doubted}
 use Rattle.vx_world.specs.Lines.{GoodDoubted}
 use Rattle.vx_disk.specs.Shelf.{Meaning}
-use Rattle.vx_node.specs.Holds.{RacksHold, RacksTell}
-use Rattle.vx_node.specs.Steps.{LineStep}
+use Rattle.vx_yard.specs.Holds.{RacksHold, RacksTell}
+use Rattle.vx_yard.specs.Steps.{LineStep}
 use Rattle.vx_events.specs.Fails.{Fails}
 
 -- the lines, one after another, each a step from the world that the line before it left

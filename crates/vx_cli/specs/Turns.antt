@@ -6,14 +6,14 @@ use Rattle.vx_history.specs.World.{empty_world}
 use Rattle.vx_events.specs.Doubts.{sure}
 use Rattle.vx_disk.specs.declared.shelf.Shelf.{Ghosts}
 use Rattle.vx_script.specs.declared.line.ScriptLine.{ScriptLine}
-use Rattle.vx_node.specs.Lines.{script_line}
-use Rattle.vx_node.specs.Stands.{RoseAll}
-use Rattle.vx_node.specs.Steps.{LineStep}
+use Rattle.vx_yard.specs.Lines.{script_line}
+use Rattle.vx_yard.specs.Stands.{RoseAll}
+use Rattle.vx_yard.specs.Steps.{LineStep}
 use Rattle.vx_events.specs.Fails.{Fails}
 use Rattle.vx_events.specs.Parts.{StopsShort}
-use Rattle.vx_node.specs.Standing.{Serves}
-use Rattle.vx_node.specs.Yards.{IsTold, count_of, in_files}
-use Rattle.vx_node.specs.declared.yard.Yard.{Yard}
+use Rattle.vx_yard.specs.Standing.{Serves}
+use Rattle.vx_yard.specs.Yards.{IsTold, count_of, in_files}
+use Rattle.vx_yard.specs.declared.yard.Yard.{Yard}
 use Rattle.vx_cli.specs.Ends.{Outcome}
 use Rattle.vx_cli.specs.Reading.{Ahead, Follows, IsWhole}
 use Rattle.vx_cli.specs.Texts.{bad_text, IsCut}

@@ -1,7 +1,7 @@
 // The disks of the sites of the program.
 ghost use Rattle.std.specs.Prelude.{IfOk};
 ghost use Rattle.vx_filedisk.specs.Meanings.{rack_meaning};
-ghost use Rattle.vx_node.specs.Holds.{AreFresh};
+ghost use Rattle.vx_yard.specs.Holds.{AreFresh};
 
 use std::alloc::Global;
 use vx_filedisk::HostRack;

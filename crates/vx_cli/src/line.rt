@@ -1,7 +1,7 @@
 // What a line says, where its kind is built.
 ghost use Rattle.std.specs.Prelude.{◌≡◌};
 ghost use Rattle.vx_script.specs.Parsed.{IsParsed};
-ghost use Rattle.vx_node.specs.Lines.{is_built, is_fail, script_line};
+ghost use Rattle.vx_yard.specs.Lines.{is_built, is_fail, script_line};
 
 use std::alloc::Global;
 use vx_model::Prot;
@@ -46,7 +46,7 @@ fn is_built(line: &ScriptLine) -> bool
 
 /// What line `number` says: nothing for an empty line or a comment. A line that is not in the grammar is `Bad` at its
 /// first wrong byte, and one of a kind that is not built at its first.
-#[tactic(auto, unfolding(vx_node::specs::Lines::script_line))]
+#[tactic(auto, unfolding(vx_yard::specs::Lines::script_line))]
 pub fn line_of(alloc: Global, bytes: &[u8], number: u64) -> Result<Option<ScriptLine>, LineErr>
     ensures { IsParsed number result (script_line bytes.now) }
 {

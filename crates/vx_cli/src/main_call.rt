@@ -3,7 +3,7 @@ ghost use Rattle.std.specs.Prelude.{◌≡◌, ◌≤◌, ◌↔◌, ℕ, List, 
 ghost use Rattle.std.specs.String.{string_bytes};
 ghost use Rattle.vx_stream.specs.Causes.{Rose};
 ghost use Rattle.vx_script.specs.Lines.{lines_of};
-ghost use Rattle.vx_node.specs.Holds.{AreFresh, RacksTell, rack_faults};
+ghost use Rattle.vx_yard.specs.Holds.{AreFresh, RacksTell, rack_faults};
 ghost use Rattle.vx_cli.specs.Complete.{IsGoodScript, IsUncut, FirstBad, IsTooLong, IsStill, AreStill, IsClean};
 ghost use Rattle.vx_cli.specs.Ends.{RunIs};
 ghost use Rattle.vx_cli.specs.Runs.{Leaves};

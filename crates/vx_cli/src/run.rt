@@ -3,8 +3,8 @@ ghost use Rattle.std.specs.Prelude.{◌≡◌, ◌≤◌, ℕ, [], is_some};
 ghost use Rattle.vx_history.specs.World.{empty_world};
 ghost use Rattle.vx_events.specs.Doubts.{sure};
 ghost use Rattle.vx_stream.specs.Causes.{Rose};
-ghost use Rattle.vx_node.specs.Holds.{AreFresh, RacksTell, rack_faults};
-ghost use Rattle.vx_node.specs.Standing.{Serves};
+ghost use Rattle.vx_yard.specs.Holds.{AreFresh, RacksTell, rack_faults};
+ghost use Rattle.vx_yard.specs.Standing.{Serves};
 ghost use Rattle.vx_cli.specs.Ends.{RunIs};
 ghost use Rattle.vx_cli.specs.Runs.{Leaves};
 ghost use Rattle.vx_cli.specs.Turns.{YardComes};
@@ -15,8 +15,8 @@ use crate::turn::turn;
 use std::alloc::Global;
 use std::mem;
 use vx_disk::Rack;
-use vx_node::Yard;
 use vx_stream::{Sink, Source};
+use vx_yard::Yard;
 
 /// Reads the lines of the source to its end, and writes the reply of each.
 fn answer_all<I: Source, O: Sink, R: Rack>(

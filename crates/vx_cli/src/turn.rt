@@ -2,8 +2,8 @@
 ghost use Rattle.std.specs.Prelude.{◌≡◌, ◌≤◌, ◌<◌, ◌^◌, ℕ, Some};
 ghost use Rattle.vx_history.specs.Doubts.{Doubted};
 ghost use Rattle.vx_stream.specs.Causes.{Rose};
-ghost use Rattle.vx_node.specs.Standing.{Serves};
-ghost use Rattle.vx_node.specs.Yards.{IsKept, IsTold, in_files};
+ghost use Rattle.vx_yard.specs.Standing.{Serves};
+ghost use Rattle.vx_yard.specs.Yards.{IsKept, IsTold, in_files};
 ghost use Rattle.vx_cli.specs.Turns.{AnswerIs, TurnIs};
 
 use crate::Status;
@@ -13,9 +13,10 @@ use crate::texts::bad;
 use std::alloc::Global;
 use vx_disk::Rack;
 use vx_model::limits::MOST_NUMBER;
-use vx_node::{LineStop, Yard};
+use vx_node::answer_line;
 use vx_script::LineErr;
 use vx_stream::{Sink, Source};
+use vx_yard::{LineStop, Yard};
 
 /// Answers a line, of which `number` came before. `None` goes on.
 fn answer<O: Sink, R: Rack>(
@@ -37,7 +38,7 @@ fn answer<O: Sink, R: Rack>(
 {
     match line_of(alloc, line, number + 1) {
         Ok(None) => None,
-        Ok(Some(words)) => match yard.line(alloc, &words, sink) {
+        Ok(Some(words)) => match answer_line(yard, alloc, &words, sink) {
             Ok(()) => None,
             Err(LineStop::WriteFault) => Some(Status::WriteFault),
             Err(LineStop::OutOfMemory) => Some(Status::OutOfMemory),

@@ -7,7 +7,7 @@ ghost use Rattle.vx_packet.specs.declared.message.Message.{Message as MessageVal
 use vx_packet::{Message, Part, read_message};
 
 /// The message of which a packet carries the whole payload. Of a packet that carries a part of a payload nothing is promised.
-pub fn read_one(bytes: &[u8], part: &Part) -> Option<Message>
+pub fn read_one<'a>(bytes: &'a [u8], part: &Part) -> Option<Message<'a>>
     requires packet { IsPacket bytes.now part.now }
     ensures only { (m : MessageValue) → IsMessage part.now.kind part.now.session part.now.number (payload_in part.now bytes.now) m → result ≡ Some m }
 {

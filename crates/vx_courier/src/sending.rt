@@ -18,7 +18,7 @@ fn origin_of(line: &Line) -> u32
 }
 
 // The numbers of a message are of their types, which a contract learns where they are read.
-fn is_typed(message: &Message)
+fn is_typed(message: &Message<'_>)
     ensures { IsTyped message.now }
 {
     match message {
@@ -82,7 +82,7 @@ fn is_typed(message: &Message)
 }
 
 /// Sends a message, in a packet for each of its parts, in their order.
-pub fn send_message<N: Net>(flight: &mut N, envelope: &Envelope, message: &Message)
+pub fn send_message<N: Net>(flight: &mut N, envelope: &Envelope, message: &Message<'_>)
     requires generation { IsCounted envelope.now.line.generation }
     requires message { CanSpell message.now }
     ensures sends { (ps : List Packet) (m : PlainMessage) → message.now ≡ spelled m → FlightStands ps (N.flying flight.old)

@@ -1,5 +1,5 @@
 -- What a pump of a link makes of a site that is up.
-use Rattle.std.proofs.Common.{◌≡◌, ◌∙◌, ◌+◌, ◌-◌, ◌≤◌, ℕ, Bool, true, false, List, drop, ap, sym, refl, arith, IsTrue}
+use Rattle.std.proofs.Common.{subst, ◌≡◌, ◌∙◌, ◌+◌, ◌-◌, ◌≤◌, ℕ, Bool, true, false, List, drop, ap, sym, refl, arith, IsTrue}
 use Rattle.std.specs.Prelude.{◌&&◌, None, Some, Result, Ok, Err, OnOk, IfErr, slice_get}
 use Rattle.vx_model.specs.Content.{Write}
 use Rattle.vx_model.specs.declared.errors.Stop.{Stop}
@@ -21,11 +21,13 @@ use Rattle.vx_disk.specs.Shelf.{Meaning}
 use Rattle.vx_disk.specs.declared.shelf.Shelf.{Ghosts}
 use Rattle.vx_net.specs.Flights.{Flying}
 use Rattle.vx_peers.specs.Senders.{LinkMoved, ReadCause, SendsFrom}
-use Rattle.vx_rvg.specs.Views.{Core}
+use Rattle.vx_rvg.specs.Views.{Core, last_of}
 use Rattle.vx_rvg.specs.declared.group.Rvg.{Rvg}
 use Rattle.vx_diskset.specs.Holds.{beside_of, links_of}
 use Rattle.vx_diskset.specs.Needs.{hold_of, is_needing, mode_hold, mode_needs}
 use Rattle.vx_diskset.specs.Pumps.{PumpStop, PumpedIs}
+use Rattle.vx_peers.specs.Senders.{SendsBy, pump_asks, way_from}
+use Rattle.vx_model.specs.declared.history.Line.{Line}
 use Rattle.vx_diskset.specs.Stands.{IsUpAt}
 use Rattle.vx_diskset.proofs.NeedLemmas.{low_needed}
 use Rattle.vx_diskset.proofs.StaysUp.{all_taken, never_both}
@@ -83,6 +85,13 @@ pub pump_stops : {beside : Beside} (n : Node) (c : Core) (m new : Meaning) (resu
 pump_stops n c m new (Ok done) up down cause = tt
 pump_stops n c m new (Err OutOfMemory) up down cause = tt
 pump_stops n c m new (Err (Refused (Device disk))) up down cause = cause
-pump_stops n c m new (Err (Refused IsOff)) up down cause = never_both new.down cause (down ∙ up.up)
+pump_stops n c m new (Err (Refused IsOff)) up down cause = absurd (never_both new.down cause (down ∙ up.up))
 pump_stops n c m new (Err (Refused (Damaged unit block stored computed))) up down cause = tt
 pump_stops n c m new (Err (Refused other)) up down cause = absurd cause
+
+pub pump_sends : {beside : Beside} (n : Node) (c : Core) (m : Meaning) (site : ℕ) (l : PlainLink) (f f' : Flying) (result : Result (Unit {0}) Stop) → IsUpAt beside n c m
+    → OnOk result (SendsBy (pump_asks l (last_of c)) (way_from site l.site c.log.header.state.line) f f') → OnOk result (SendsBy (pump_asks l n.safe) (way_from site l.site n.line) f f')
+pump_sends n c m site l f f' (Ok done) up sends =
+    subst (λ (k : ℕ). SendsBy (pump_asks l k) (way_from site l.site n.line) f f') up.head
+    (subst (λ (i : Line). SendsBy (pump_asks l (last_of c)) (way_from site l.site i) f f') (ap (λ (s : State). s.line) up.kept) sends)
+pump_sends n c m site l f f' (Err e) up sends = tt

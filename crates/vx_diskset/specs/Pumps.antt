@@ -6,7 +6,7 @@ use Rattle.vx_model.specs.declared.link.Link.{Link as PlainLink}
 use Rattle.vx_model.specs.declared.no.No.TheVariants.{Device}
 use Rattle.vx_history.specs.World.{World}
 use Rattle.vx_history.specs.declared.sender.SEvent.TheVariants.{Pump}
-use Rattle.vx_events.specs.LinkFinds.{IsNoStop}
+use Rattle.vx_events.specs.LinkFinds.{IsUnreadable}
 use Rattle.vx_disk.specs.Counts.{Rose}
 use Rattle.vx_net.specs.Flights.{Flying}
 use Rattle.vx_peers.specs.Senders.{LinkMoved}
@@ -18,8 +18,8 @@ PumpedIs w site to l f old new (Err OutOfMemory) = Unit {0}
 PumpedIs w site to l f old new (Err (Refused (Device disk))) = Rose (old disk) (new disk)
 PumpedIs w site to l f old new (Err (Refused other)) = ⊥
 
--- why nothing was sent, whether contents are told or not: memory was wanting; a disk failed, whose count rose; or it was neither a disk nor a fuse
+-- why a site that runs sent nothing, whether contents are told or not: memory was wanting; a disk failed, whose count rose; or its log cannot be read
 abbrev pub PumpStop : (old new : ℕ → ℕ) → Stop → Type 0
 PumpStop old new OutOfMemory = Unit {0}
 PumpStop old new (Refused (Device disk)) = Rose (old disk) (new disk)
-PumpStop old new (Refused other) = IsNoStop other
+PumpStop old new (Refused other) = IsUnreadable other

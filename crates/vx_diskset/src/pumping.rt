@@ -13,7 +13,7 @@ ghost use Rattle.vx_diskset.specs.Asked.{LeavesAlone};
 ghost use Rattle.vx_diskset.specs.DiskSets.{Later};
 ghost use Rattle.vx_diskset.specs.Holds.{Beside, beside_of, links_of};
 ghost use Rattle.vx_diskset.specs.Pumps.{PumpStop, PumpedIs};
-ghost use Rattle.vx_peers.specs.Senders.{SendsMore, pumped_at};
+ghost use Rattle.vx_peers.specs.Senders.{SendsBy, pump_asks, pumped_at, way_from};
 ghost use Rattle.vx_rvg.specs.Views.{last_of};
 ghost use Rattle.vx_diskset.specs.Stands.{IsToldAt, IsUpAt, KeepsRole, StandsAt, faults_at};
 
@@ -54,9 +54,10 @@ fn pump_group<R: Rack, N: Net>(
     ensures pumped { (d : Doubted) (k : ℕ) → IsUpAt (beside_of d site) (d.world.nodes site) rvg.old.core (R.meaning rvg.old.shelf) → (d.world.nodes site).halted ≡ None → IsTrue (R.meaning rvg.old.shelf).tells
         → slice_get (links_of d.world site) k ≡ Some (kept_link link.old.site (d.world.links site link.old.site)) → link.old ≡ plain_link link.old.site (d.world.links site link.old.site) → FlightStands d.world.packets (N.flying flight.old)
         → PumpedIs d.world site link.old.site link.new (N.flying flight.new) (R.meaning rvg.old.shelf).disk_faults (R.meaning rvg.new.shelf).disk_faults result }
-    ensures stops { (beside : Beside) (n : Node) → IsUpAt beside n rvg.old.core (R.meaning rvg.old.shelf) → IfErr result (PumpStop (R.meaning rvg.old.shelf).disk_faults (R.meaning rvg.new.shelf).disk_faults) }
+    ensures stops { (beside : Beside) (n : Node) → IsUpAt beside n rvg.old.core (R.meaning rvg.old.shelf) → n.halted ≡ None → IfErr result (PumpStop (R.meaning rvg.old.shelf).disk_faults (R.meaning rvg.new.shelf).disk_faults) }
     ensures stands { (beside : Beside) (n : Node) → IsUpAt beside n rvg.old.core (R.meaning rvg.old.shelf) → IsUpAt beside n rvg.new.core (R.meaning rvg.new.shelf) }
-    ensures more { OnOk result (SendsMore (N.flying flight.old) (N.flying flight.new)) }
+    ensures more { (beside : Beside) (n : Node) → IsUpAt beside n rvg.old.core (R.meaning rvg.old.shelf)
+        → OnOk result (SendsBy (pump_asks link.old n.safe) (way_from site link.old.site n.line) (N.flying flight.old) (N.flying flight.new)) }
     ensures rule { OnOk result (link.new ≡ pumped_at link.old (last_of rvg.old.core)) }
     ensures link { OnErr result (link.new ≡ link.old) }
     ensures unsent { OnErr result (N.flying flight.new ≡ N.flying flight.old) }
@@ -85,7 +86,7 @@ impl<R: Rack> DiskSet<R> {
     /// Sends on a live link of an origin by the log what its receiver may lack, as the rule of links has it. `site` is the number of the site. It changes
     /// no disk. Where a write cannot be read nothing is sent, and the link stays as it was.
     ///
-    /// Also where contents are not told it sends packets, if any, and the link is as the rule leaves it.
+    /// Also where contents are not told the link is as the rule leaves it, and it sends the updates that the rule asks for, of whatever writes were read.
     ///
     /// It takes memory for what it sends, and answers so too where a generation is past those that packets carry. Refusals: 20 where the
     /// site is halted, 7 where a read failed. Where contents are not told also 21, of a log that lacks what the link needs, and 22.
@@ -99,9 +100,10 @@ impl<R: Rack> DiskSet<R> {
         ensures pumped { (d : Doubted) (k : ℕ) → StandsAt (beside_of d site) (d.world.nodes site) self.old → is_origin (d.world.nodes site).role ≡ true → (d.world.nodes site).state ≡ UpState → (d.world.nodes site).halted ≡ None → IsToldAt self.old
             → slice_get (links_of d.world site) k ≡ Some (kept_link link.old.site (d.world.links site link.old.site)) → link.old ≡ plain_link link.old.site (d.world.links site link.old.site) → FlightStands d.world.packets (N.flying flight.old)
             → PumpedIs d.world site link.old.site link.new (N.flying flight.new) (faults_at self.old) (faults_at self.new) result }
-        ensures stops { (beside : Beside) (n : Node) → StandsAt beside n self.old → IfErr result (PumpStop (faults_at self.old) (faults_at self.new)) }
+        ensures stops { (beside : Beside) (n : Node) → StandsAt beside n self.old → is_origin n.role ≡ true → n.state ≡ UpState → n.halted ≡ None → IfErr result (PumpStop (faults_at self.old) (faults_at self.new)) }
         ensures stands { (beside : Beside) (n : Node) → StandsAt beside n self.old → StandsAt beside n self.new }
-        ensures more { OnOk result (SendsMore (N.flying flight.old) (N.flying flight.new)) }
+        ensures more { (beside : Beside) (n : Node) → StandsAt beside n self.old
+            → OnOk result (SendsBy (pump_asks link.old n.safe) (way_from site link.old.site n.line) (N.flying flight.old) (N.flying flight.new)) }
         ensures rule { (beside : Beside) (n : Node) → StandsAt beside n self.old → OnOk result (link.new ≡ pumped_at link.old n.safe) }
         ensures link { OnErr result (link.new ≡ link.old) }
         ensures unsent { OnErr result (N.flying flight.new ≡ N.flying flight.old) }

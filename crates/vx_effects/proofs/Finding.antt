@@ -15,7 +15,7 @@ use Rattle.vx_model.specs.declared.site.SiteState.TheVariants.{Bare, Down, Up}
 use Rattle.vx_script.specs.declared.line.ScriptLine.{ScriptLine}
 use Rattle.vx_events.specs.Facts.{site_number}
 use Rattle.vx_events.specs.Fails.{Fails}
-use Rattle.vx_events.specs.LinkFinds.{ApplyCut, ApplyHalts, EndsBetween, FindsOther, GivesUp, HasMoved, HeaderCut, HeaderHalts, IsStored, IsUnread, KeepsOther, MovesBetween, ReadsNone, SendsOther, SettlesOther, TakesOf, TakesOther, pumped_with, target_with}
+use Rattle.vx_events.specs.LinkFinds.{ApplyCut, ApplyHalts, EndsBetween, FindsOther, GivesUp, HasMoved, HeaderCut, HeaderHalts, IsStored, IsUnread, KeepsOther, LosesOther, MovesBetween, ReadsNone, SendsOther, SettlesOther, TakesOf, TakesOther, pumped_with, target_with}
 use Rattle.vx_events.specs.LinksFit.{IsPlain, LinksFit}
 use Rattle.vx_events.specs.declared.said.Said.{Said}
 use Rattle.vx_effects.proofs.Fitting.{apart_by, fit_happened}
@@ -55,8 +55,8 @@ module _ (p : ℕ) (n k : Node) (takes : TakesOf p n k) (up : n.state ≡ Up) wh
 
 moved_keeps : (l m : LinkOf) → is_linked l ≡ true → HasMoved l m → KeepsLink l m
 moved_keeps l m linked moved = record {
-  made = ap (λ (x : LinkOf). x.made) moved;
-  plain = λ f. subst IsPlain (sym moved) (record { prot = f.prot; mode = f.mode; bunker = f.bunker; trimmed = f.trimmed; map = f.map });
+  made = ap (λ (x : LinkOf). x.made) moved.rest;
+  plain = λ f. subst IsPlain (sym moved.rest) (record { prot = f.prot; mode = f.mode; bunker = f.bunker; trimmed = f.trimmed; map = f.map });
   none = none_of l m linked;
 }
 
@@ -123,18 +123,19 @@ fit_ends p s d middle fails said last (ApplyCut kept taken opens fused none is l
     (fit_crashed_as (halved middle (Fault s 0) s 0) s kept taken (halved_up middle (Fault s 0) s 0 opens.0) (fit_halved middle (Fault s 0) s 0 opens refl fit))
 
 pub fit_finds : (d : Doubted) (line : ScriptLine) (fails : Fails) (said : Said) (last : Doubted) → FindsOther d line fails said last → LinksFit d → LinksFit last
-fit_finds d line fails said last (SendsOther p s more is none says leaves) fit =
+fit_finds d line fails said last (SendsOther p s more is sends none says leaves) fit =
     let a : ℕ = site_number d.world p in
     let b : ℕ = site_number d.world s in
     subst LinksFit (sym leaves)
     (fit_like d (step d.world (PumpAt a b)).world (pumped_with d.world a b more) refl (λ i. refl) (λ i k. refl) (λ i. refl) (fit_happened d (PumpAt a b) false fit))
 fit_finds d line fails said last (ReadsNone p s why is other none says leaves) fit = subst LinksFit (sym leaves) fit
-fit_finds d line fails said last (TakesOther number q x g more is may none says leaves) fit =
+fit_finds d line fails said last (TakesOther number q x is may none says leaves) fit =
     subst LinksFit (sym leaves)
-    (fit_target_with d q.target (with_write (d.world.nodes q.target) q.source x) g more refl refl refl
+    (fit_target_with d q.target (with_write (d.world.nodes q.target) q.source x) _ _ refl refl refl
     (record { quiet = λ e. e; rests = λ _ down. let f : Up ≡ Down = sym may.opens.0 ∙ down in absurd (cc) }) fit)
-fit_finds d line fails said last (KeepsOther number q g more is may none says leaves) fit =
-    subst LinksFit (sym leaves) (fit_target_with d q.target (d.world.nodes q.target) g more refl refl refl (rests_same (d.world.nodes q.target)) fit)
+fit_finds d line fails said last (KeepsOther number q is may none says leaves) fit =
+    subst LinksFit (sym leaves) (fit_target_with d q.target (d.world.nodes q.target) _ _ refl refl refl (rests_same (d.world.nodes q.target)) fit)
+fit_finds d line fails said last (LosesOther number q is may none says leaves) fit = subst LinksFit (sym leaves) fit
 fit_finds d line fails said last (SettlesOther p s middle is moves ends) fit =
     let a : ℕ = site_number d.world p in
     let b : ℕ = site_number d.world s in

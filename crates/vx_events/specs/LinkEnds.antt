@@ -23,9 +23,14 @@ use Rattle.vx_events.specs.Stamps.{most_stamp_at, stamps_of}
 use Rattle.vx_events.specs.declared.said.Said.{Said}
 use Rattle.vx_events.specs.declared.said.Said.TheVariants.{Settled, Refused}
 
--- The reply of a line of which all events are done: by the last of them, and of a settled link the last number of its first site.
+-- a link is settled: the reply names the last number of its first site, and all up to that is stored at the second
+pub record IsSettled (w : World) (p s : ℕ) (said : Said) : Type 0 where
+  pub says : said ≡ Settled (head_of (w.nodes p))
+  pub stored : head_of (w.nodes p) ≤ (w.links p s).stored
+
+-- the reply of a line of which all events are done: by the last of them, and of a settled link by what is stored
 abbrev pub LinkReplies : ScriptLine → (d last : Doubted) → List Event → Said → Type 0
-LinkReplies (Settle p s) d last events said = said ≡ Settled (head_of (last.world.nodes (site_number d.world p)))
+LinkReplies (Settle p s) d last events said = IsSettled last.world (site_number d.world p) (site_number d.world s) said
 LinkReplies line d last events said = Replies (Unit {0}) line 0 false d events said
 
 -- the fuse of the site that a packet was sent to, one of so many, may have let calls pass

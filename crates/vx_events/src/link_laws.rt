@@ -2,7 +2,6 @@
 ghost use Rattle.std.specs.Prelude.{◌≡◌, ◌⊎◌, ◌*◌, ℕ, List, Bool, Some, None, length, replicate};
 ghost use Rattle.vx_model.specs.declared.link.SyncMode.{SyncMode};
 ghost use Rattle.vx_model.specs.declared.link.Prot.{Prot};
-ghost use Rattle.vx_model.specs.declared.site.Role.TheVariants.{Secondary};
 ghost use Rattle.vx_history.specs.Admission.{Goes};
 ghost use Rattle.vx_history.specs.Doubts.{Doubted};
 ghost use Rattle.vx_history.specs.Events.{packet_at, admitted};
@@ -26,8 +25,8 @@ ghost use Rattle.vx_events.specs.Settles.{CanSettle};
 /// Where no test of a line on a link refuses, its event is not refused by the world, and a packet that no test refuses is one that the network
 /// still keeps. Where each link has a place of its own among those of its site, a write that is waited for is confirmed or pending; where
 /// besides all writes are durable at a site that runs and takes them, the first event of a line that makes a link is not refused either. Where the links
-/// of the world fit, a line that settles one finds two sites at work and the link between them live; it may be settled where the second one is a
-/// secondary on the line of the first.
+/// of the world fit, a line that settles one finds two sites at work, the second a secondary on the line of the first, and the link between them live: it
+/// may be settled.
 pub fn link_tests_agree()
     ensures set { (w : World) (files : Bool) (p s : List ℕ) (sync : SyncMode) (prot : Prot) → refused_by w files (Set p s sync prot) ≡ None
         → (step w (SetAt (site_number w p) (site_number w s) sync)).said ≡ Done }
@@ -43,7 +42,7 @@ pub fn link_tests_agree()
         → ((step w (WaitAt (site_number w p) number)).said ≡ DoneAt number) ⊎ ((step w (WaitAt (site_number w p) number)).said ≡ Pending number) }
     ensures deliver { (w : World) (files : Bool) (number : ℕ) → refused_by w files (Deliver number) ≡ None → (q : Packet) × (packet_at w.packets number ≡ Some q) }
     ensures settle { (d : Doubted) (files : Bool) (p s : List ℕ) → LinksFit d → refused_by d.world files (Settle p s) ≡ None → CanSettle d.world (site_number d.world p) (site_number d.world s) }
-    ensures settles { (w : World) (p s : ℕ) → CanSettle w p s → (w.nodes s).role ≡ Secondary → (w.nodes s).line ≡ (w.nodes p).line → MaySettle w p s }
+    ensures settles { (w : World) (p s : ℕ) → CanSettle w p s → MaySettle w p s }
 {}
 
 /// A write that no test refuses is let in by the links of its site.

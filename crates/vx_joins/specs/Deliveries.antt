@@ -1,17 +1,21 @@
 -- What the disks of a site make of the packet of an update that is handed to it.
-use Rattle.std.specs.Prelude.{◌≡◌, ◌⊎◌, ℕ, false}
+use Rattle.std.specs.Prelude.{◌≡◌, ◌⊎◌, ℕ, false, List}
 use Rattle.vx_model.specs.Content.{Write}
 use Rattle.vx_model.specs.Sites.{is_origin}
 use Rattle.vx_history.specs.Events.{delivered, packet_at, with_write}
 use Rattle.vx_history.specs.Refusals.{Outcome, says}
 use Rattle.vx_history.specs.Stops.{IsOpen}
-use Rattle.vx_history.specs.World.{Packet, World}
+use Rattle.vx_history.specs.Sends.{packets_of, sending}
+use Rattle.vx_history.specs.World.{NetAck, Packet, World}
 use Rattle.vx_history.specs.declared.event.Said.{Said}
 use Rattle.vx_history.specs.declared.event.Said.TheVariants.{Ignored as IsIgnored, Taken as IsTaken}
+use Rattle.vx_history.specs.declared.receiver.RAction.TheVariants.{Take}
 use Rattle.vx_courier.specs.Together.{AssemblyStands}
 use Rattle.vx_courier.specs.UnderWay.{FlightStands}
 use Rattle.vx_disk.specs.declared.shelf.Shelf.{Ghosts}
+use Rattle.vx_events.specs.LinkFinds.{rule_of}
 use Rattle.vx_net.specs.Flights.{Flying}
+use Rattle.vx_peers.specs.Senders.{Sends}
 use Rattle.vx_packet.specs.Assemblies.{Assembled}
 use Rattle.vx_diskset.specs.Holds.{Beside}
 use Rattle.vx_diskset.specs.Stands.{StandsAt}
@@ -27,12 +31,13 @@ module _ {R : Type 0} {g : Ghosts R} where
     pub assembly : AssemblyStands o.world.packets site (o.world.gathering site) a
     pub flight : FlightStands o.world.packets f
 
-  -- What comes of the packet p of an update, whatever is in assembly. A site that is open and receives takes a write of the packet's source, or
-  -- nothing but a part of one; any other ignores it, and nothing changes.
-  pub data TookTo (w : World) (number : ℕ) (p : Packet) (beside : Beside) (e : DiskSet R g) (fed : ℕ) (a a' : Assembled) (f f' : Flying) (said : Said) : Type 0 where
-    TakesOne : IsOpen (w.nodes p.target) → is_origin (w.nodes p.target).role ≡ false → (x : Write) → said ≡ IsTaken
-        → StandsAt beside (with_write (w.nodes p.target) p.source x) e → fed ≡ p.source → TookTo w number p beside e fed a a' f f' said
-    TakesNone : IsOpen (w.nodes p.target) → is_origin (w.nodes p.target).role ≡ false → ((said ≡ IsTaken) ⊎ (said ≡ IsIgnored))
-        → StandsAt beside (w.nodes p.target) e → fed ≡ (w.nodes p.target).fed_by → TookTo w number p beside e fed a a' f f' said
-    IsUnheard : delivered w number (packet_at w.packets number) ≡ says w IsIgnored → said ≡ IsIgnored
-        → StandsAt beside (w.nodes p.target) e → fed ≡ (w.nodes p.target).fed_by → a' ≡ a → f' ≡ f → TookTo w number p beside e fed a a' f f' said
+  -- What comes of the packet p of the update of number k, whatever is in assembly. A site that is open and receives, and whose next number it is, takes a write of
+  -- the packet's source, and acknowledges it from memory, or nothing but a part of one; any other ignores it, as the world says, and may acknowledge it again.
+  pub data TookTo (w : World) (number : ℕ) (p : Packet) (k : ℕ) (beside : Beside) (e : DiskSet R g) (fed : ℕ) (a a' : Assembled) (f f' : Flying) (said : Said) : Type 0 where
+    TakesOne : IsOpen (w.nodes p.target) → is_origin (w.nodes p.target).role ≡ false → rule_of w p k ≡ Take k → (x : Write) → said ≡ IsTaken
+        → StandsAt beside (with_write (w.nodes p.target) p.source x) e → fed ≡ p.source
+        → Sends (packets_of p.target p.source (w.nodes p.target).line (NetAck (w.nodes p.target).session k)) f f' → TookTo w number p k beside e fed a a' f f' said
+    TakesNone : IsOpen (w.nodes p.target) → is_origin (w.nodes p.target).role ≡ false → rule_of w p k ≡ Take k → ((said ≡ IsTaken) ⊎ (said ≡ IsIgnored))
+        → StandsAt beside (w.nodes p.target) e → fed ≡ (w.nodes p.target).fed_by → f' ≡ f → TookTo w number p k beside e fed a a' f f' said
+    IsUnheard : (more : List Packet) → delivered w number (packet_at w.packets number) ≡ says (sending w more) IsIgnored → said ≡ IsIgnored
+        → StandsAt beside (w.nodes p.target) e → fed ≡ (w.nodes p.target).fed_by → a' ≡ a → Sends more f f' → TookTo w number p k beside e fed a a' f f' said

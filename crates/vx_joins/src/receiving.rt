@@ -12,7 +12,6 @@ ghost use Rattle.vx_diskset.specs.DiskSets.{Later};
 ghost use Rattle.vx_diskset.specs.Holds.{Beside, beside_of};
 ghost use Rattle.vx_diskset.specs.Stands.{KeepsRole, RoleIs, StandsAt};
 ghost use Rattle.vx_joins.specs.Deliveries.{DeliveredTo, TookTo};
-ghost use Rattle.vx_peers.specs.Senders.{SendsMore};
 
 use vx_disk::Rack;
 use vx_diskset::DiskSet;
@@ -38,8 +37,7 @@ fn take_update<R: Rack, N: Net>(
         → IfOk result (λ said. DeliveredTo (delivered d.world number (packet_at d.world.packets number)) (beside_of d site) site (DiskSet.Receives secondary.new) fed_by.new assembly.new (N.flying flight.new) said) }
     ensures took { (d : Doubted) (p : Packet) (k : ℕ) (x : Write) → packet_at d.world.packets number ≡ Some p → p.target ≡ site → p.message ≡ PlainUpdate k x
         → FlightStands d.world.packets (N.flying flight.old) → StandsAt (beside_of d site) (d.world.nodes site) (DiskSet.Receives secondary.old) → fed_by.old ≡ (d.world.nodes site).fed_by
-        → IfOk result (λ said. TookTo d.world number p (beside_of d site) (DiskSet.Receives secondary.new) fed_by.new assembly.old assembly.new (N.flying flight.old) (N.flying flight.new) said) }
-    ensures more { SendsMore (N.flying flight.old) (N.flying flight.new) }
+        → IfOk result (λ said. TookTo d.world number p k (beside_of d site) (DiskSet.Receives secondary.new) fed_by.new assembly.old assembly.new (N.flying flight.old) (N.flying flight.new) said) }
     ensures stands { OnErr result ((beside : Beside) (n : Node) → StandsAt beside n (DiskSet.Receives secondary.old) → StandsAt beside n (DiskSet.Receives secondary.new)) }
     ensures fed_by { OnErr result (fed_by.new ≡ fed_by.old) }
     ensures assembly { OnErr result (assembly.new ≡ assembly.old) }
@@ -55,7 +53,7 @@ fn take_update<R: Rack, N: Net>(
 
 /// Hands the packet of a number, which is of an update, to the site with these disks. A site that is not up, is halted or receives nothing
 /// ignores it. `fed_by` is the site that sent the last update that it took, and `site` its own number. It changes no disk: what is taken
-/// waits in memory. Also where contents are not told it is known what may come of it (`took`), and that packets are sent, if any.
+/// waits in memory. Also where contents are not told it is known what comes of it (`took`), but for the write that it is put together to.
 ///
 /// It takes no memory. Numbers, sessions and generations past those that packets carry are answered as want of memory, which changes
 /// nothing.
@@ -74,8 +72,7 @@ pub fn deliver_update<R: Rack, N: Net>(
         → IfOk result (λ said. DeliveredTo (delivered d.world number (packet_at d.world.packets number)) (beside_of d site) site disks.new fed_by.new assembly.new (N.flying flight.new) said) }
     ensures took { (d : Doubted) (p : Packet) (k : ℕ) (x : Write) → packet_at d.world.packets number ≡ Some p → p.target ≡ site → p.message ≡ PlainUpdate k x
         → FlightStands d.world.packets (N.flying flight.old) → StandsAt (beside_of d site) (d.world.nodes site) disks.old → RoleIs (d.world.nodes site) disks.old → fed_by.old ≡ (d.world.nodes site).fed_by
-        → IfOk result (λ said. TookTo d.world number p (beside_of d site) disks.new fed_by.new assembly.old assembly.new (N.flying flight.old) (N.flying flight.new) said) }
-    ensures more { SendsMore (N.flying flight.old) (N.flying flight.new) }
+        → IfOk result (λ said. TookTo d.world number p k (beside_of d site) disks.new fed_by.new assembly.old assembly.new (N.flying flight.old) (N.flying flight.new) said) }
     ensures stands { OnErr result ((beside : Beside) (n : Node) → StandsAt beside n disks.old → StandsAt beside n disks.new) }
     ensures fed_by { OnErr result (fed_by.new ≡ fed_by.old) }
     ensures assembly { OnErr result (assembly.new ≡ assembly.old) }

@@ -3,7 +3,7 @@ use Rattle.std.proofs.Common.{◌≡◌, ◌∙◌, ◌+◌, ◌-◌, ◌*◌, �
 use Rattle.std.proofs.lemmas.List.{append_assoc, append-nil, length-take-le, length-drop}
 use Rattle.vx_model.specs.Content.{block_of}
 use Rattle.vx_report.specs.BlockText.{block_text}
-use Rattle.vx_node.specs.Replies.{blocks_text}
+use Rattle.vx_yard.specs.Replies.{blocks_text}
 
 -- one block more
 pub blocks_text-more : (bytes : List ℕ) (k n : ℕ) → blocks_text bytes k n ++ block_text (block_of bytes (k + n)) ≡ blocks_text bytes k (suc n)

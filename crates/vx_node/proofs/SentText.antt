@@ -4,7 +4,7 @@ use Rattle.std.specs.Prelude.{Some, Bool, eqb, if◌then◌else◌, slice_get, s
 use Rattle.std.proofs.lemmas.Bool.Decides.{nat_tests}
 use Rattle.std.proofs.lemmas.List.{append_assoc, append-nil}
 use Rattle.vx_events.proofs.Places.{never_some, some_same}
-use Rattle.vx_node.specs.Replies.{first_line_with}
+use Rattle.vx_yard.specs.Replies.{first_line_with}
 
 -- a list from a place on, and up to it
 drop_at : (xs : List ℕ) (k x : ℕ) → slice_get xs k ≡ Some x → drop k xs ≡ x ∷ drop (suc k) xs

@@ -26,16 +26,16 @@ use Rattle.vx_settling.proofs.Working.{line_done, line_stopped}
 use Rattle.vx_settling.specs.Burnt.{noted_as}
 use Rattle.vx_settling.specs.Kinds.{AreSettling}
 use Rattle.vx_settling.specs.Works.{Shortens, Works}
-use Rattle.vx_node.specs.Carries.{Carries}
+use Rattle.vx_yard.specs.Carries.{Carries}
 use Rattle.vx_node.specs.Settling.{EndedFor, NotedFor, OnFor, SettlesFor, ShortFor}
-use Rattle.vx_node.specs.Standing.{Leads, StandsFor, StopsFor}
-use Rattle.vx_node.specs.Stands.{RoseAll}
-use Rattle.vx_node.specs.Yards.{IsTold, count_of}
-use Rattle.vx_node.specs.declared.yard.Yard.{Yard}
-use Rattle.vx_node.proofs.Carrying.{Feeds, SameLoad, carries_on, feeds_like, feeds_same}
-use Rattle.vx_node.proofs.Deaf.{all_told}
-use Rattle.vx_node.proofs.NotedYard.{stands_noted}
-use Rattle.vx_node.proofs.RecoverLine.{rose_then}
+use Rattle.vx_yard.specs.Standing.{Leads, StandsFor, StopsFor}
+use Rattle.vx_yard.specs.Stands.{RoseAll}
+use Rattle.vx_yard.specs.Yards.{IsTold, count_of}
+use Rattle.vx_yard.specs.declared.yard.Yard.{Yard}
+use Rattle.vx_yard.proofs.Carrying.{Feeds, SameLoad, carries_on, feeds_like, feeds_same}
+use Rattle.vx_link_lines.proofs.Deaf.{all_told}
+use Rattle.vx_link_lines.proofs.NotedYard.{stands_noted}
+use Rattle.vx_yard.proofs.RecoverLine.{rose_then}
 
 -- what lies in a place
 there : {A : Type 0} (xs : List A) (i : ℕ) → i < length xs → (x : A) × (slice_get xs i ≡ Some x)
@@ -95,7 +95,7 @@ module _ {R : Type 0} {g : Ghosts R} where
           next = noted_two a b e;
           fails = [];
           done = record {
-            ends = line_done (IsTold new) (all_told new.disk_sets.items) d p s e (noted_two a b e) origin on.works (λ untold. stored) (record { world = refl; after = λ i. refl });
+            ends = line_done (IsTold new) (all_told new.disk_sets.items) d p s e (noted_two a b e) origin on.works stored (record { world = refl; after = λ i. refl });
             counts = tt;
             works = tt;
             calls = tt;
@@ -137,18 +137,18 @@ module _ {R : Type 0} {g : Ghosts R} where
           let same = runs_only d last (x ∷ first.before) are.0 runs ∙ sym (run_is d (x ∷ first.before) are.0) in
           StopsInPart (settle_part d p s (x ∷ first.before) first.rest (noted_two a b last) more (subst (λ (q : Doubted). AreLeft (Settle p s) d q (noted_two a b last)) same (record { world = refl; after = λ i. refl }))))
           (λ (untold : IsTold new → ⊥).
-          line_short (IsTold new) d last p s (passes_then (IsTold new) a b d m last one.passes short.passes) (noted_two a b last) untold (record { world = refl; after = λ i. refl }))
+          line_short (IsTold new) d last p s (passes_then a b d m last one.moves short.moves) (noted_two a b last) untold (record { world = refl; after = λ i. refl }))
           (all_told new.disk_sets.items)
 
       pub settle_short : (IsTold new → link_events d.world (Settle p s) ≡ x ∷ rest) → Works (IsTold new) (site_number d.world p) (site_number d.world s) d (x ∷ []) m → RoseAll [] (count_of old) (count_of mid)
           → site_number d.world p < d.world.sites → site_number d.world s < d.world.sites → ShortFor (site_number d.world p) (site_number d.world s) m rest mid new → StopsFor d (Settle p s) old new
       settle_short split one rose first second short =
           let e : Doubted = short.last in
-          let passes = passes_then (IsTold new) a b d m e one.passes short.short.passes in
+          let moves = passes_then a b d m e one.moves short.short.moves in
           record {
             next = noted_two a b e;
             part = short_so split one e short.short;
-            stands = both_stand a b e new short.noted (subst (λ (n : ℕ). a < n) (sym passes.moves.sites) first) (subst (λ (n : ℕ). b < n) (sym passes.moves.sites) second);
+            stands = both_stand a b e new short.noted (subst (λ (n : ℕ). a < n) (sym moves.sites) first) (subst (λ (n : ℕ). b < n) (sym moves.sites) second);
             carries = λ _. both_carry a b e new short.noted;
             rose = rose_then [] (count_of old) (count_of mid) (count_of new) rose short.rose;
           }

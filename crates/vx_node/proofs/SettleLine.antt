@@ -30,20 +30,20 @@ use Rattle.vx_settling.proofs.Moving.{may_move}
 use Rattle.vx_settling.proofs.WithinLines.{connect_goes, connect_says}
 use Rattle.vx_settling.specs.Burnt.{noted_as}
 use Rattle.vx_settling.specs.Works.{Works}
-use Rattle.vx_node.specs.Carries.{Carries}
-use Rattle.vx_node.specs.OfSites.{AllSameFailing}
+use Rattle.vx_yard.specs.Carries.{Carries}
+use Rattle.vx_yard.specs.OfSites.{AllSameFailing}
 use Rattle.vx_node.specs.Settling.{EndedFor, OnFor, SettlesFor, ShortFor, WentFor, end_by, ended_as, settled_on}
-use Rattle.vx_node.specs.Standing.{GoodFor, Leads, LeadsOrStops, StandsFor, StaysFor, StopsFor}
-use Rattle.vx_node.specs.Stands.{RoseAll}
-use Rattle.vx_node.specs.Working.{IsFree}
-use Rattle.vx_node.specs.Yards.{IsTold, count_of, in_files}
+use Rattle.vx_yard.specs.Standing.{GoodFor, Leads, LeadsOrStops, StandsFor, StaysFor, StopsFor}
+use Rattle.vx_yard.specs.Stands.{RoseAll}
+use Rattle.vx_yard.specs.Working.{IsFree}
+use Rattle.vx_yard.specs.Yards.{IsTold, count_of, in_files}
 use Rattle.vx_node.specs.declared.going.Went.{Went}
 use Rattle.vx_node.specs.declared.going.Went.TheVariants.{Ended, On, Short}
-use Rattle.vx_node.specs.declared.yard.Yard.{Yard}
-use Rattle.vx_node.proofs.Carrying.{sent_count}
-use Rattle.vx_node.proofs.ChangeSite.{rose_none}
-use Rattle.vx_node.proofs.NamedSite.{site_at}
-use Rattle.vx_node.proofs.OfSites.{all_then}
+use Rattle.vx_yard.specs.declared.yard.Yard.{Yard}
+use Rattle.vx_yard.proofs.Carrying.{sent_count}
+use Rattle.vx_yard.proofs.ChangeSite.{rose_none}
+use Rattle.vx_yard.proofs.NamedSite.{site_at}
+use Rattle.vx_yard.proofs.OfSites.{all_then}
 use Rattle.vx_node.proofs.SettleEnds.{settle_ended, settle_leads, settle_short}
 use Rattle.vx_node.proofs.StepWent.{step_went}
 use Rattle.vx_node.proofs.WentOn.{world_is}
@@ -51,9 +51,8 @@ use Rattle.vx_node.proofs.WentThen.{on_as, on_then, went_as, went_then}
 
 module _ {R : Type 0} {g : Ghosts R} where
   -- what no test refuses may be settled
-  pub begins : (d : Doubted) (y : Yard R g) (first second : List ℕ) (a b : ℕ) → StandsFor d y → Carries d y → GoodFor d y → IsFree y (Settle first second) → seat_of y.facts.items first ≡ Some a → seat_of y.facts.items second ≡ Some b
-      → is_origin (d.world.nodes b).role ≡ false → SettlesFor first second a b d y
-  begins d y first second a b stands carries good free one two receives =
+  pub begins : (d : Doubted) (y : Yard R g) (first second : List ℕ) (a b : ℕ) → StandsFor d y → Carries d y → GoodFor d y → IsFree y (Settle first second) → seat_of y.facts.items first ≡ Some a → seat_of y.facts.items second ≡ Some b → SettlesFor first second a b d y
+  begins d y first second a b stands carries good free one two =
       let here = site_at d y first a stands one in
       let there = site_at d y second b stands two in
       let can : CanSettle d.world (site_number d.world first) (site_number d.world second)
@@ -61,7 +60,6 @@ module _ {R : Type 0} {g : Ghosts R} where
       record {
         noted = record { fuses = λ i. (d.world.nodes i).fuse; burns = burns_none a b d.world; stands = stands; carries = carries };
         may = may_move d a b stands.links (subst (λ (j : ℕ). CanSettle d.world a j) there.number (subst (λ (i : ℕ). CanSettle d.world i (site_number d.world second)) here.number can));
-        receives = receives;
         good = good;
         from = here.number;
         to = there.number;
@@ -119,7 +117,7 @@ module _ {R : Type 0} {g : Ghosts R} where
     -- so many packets there are at least behind the connect
     pub sent_before : before ≤ length one.next.world.packets
     sent_before =
-        let m = one.works.passes.moves in
+        let m = one.works.moves in
         omega (arith, sent, ap (λ (ps : List Packet). length ps) m.sent, length-append d.world.packets m.more)
 
     all_is : IsTold new → (IsTold new → IsTold mid) → (ConnectAt a b ∷ []) ++ settled_on a b before head one.next.world ≡ settling d.world a b
@@ -148,7 +146,7 @@ module _ {R : Type 0} {g : Ghosts R} where
     line_short short =
         let w = one.works in
         let works : Works (IsTold new) a b d (ConnectAt a b ∷ []) one.next
-        = record { exact = λ tells. w.exact (short.told tells); passes = record { moves = w.passes.moves; all = λ tells. w.passes.all (short.told tells) } } in
+        = record { exact = λ tells. w.exact (short.told tells); moves = w.moves } in
         short_at d old mid new first second a b serves.from serves.to (ConnectAt a b) (settled_on a b before head one.next.world) one.next (λ tells. sym (all_is tells short.told)) works one.rose serves.may.can.first serves.may.can.second short
 
     -- what is done may count as memory that ran out
@@ -157,7 +155,7 @@ module _ {R : Type 0} {g : Ghosts R} where
       last = on.next;
       short = record {
         exact = λ tells. record { before = settled_on a b before head one.next.world; rest = []; split = sym (append-nil (settled_on a b before head one.next.world)); runs = on.works.exact tells };
-        passes = on.works.passes;
+        moves = on.works.moves;
       };
       noted = on.serves.noted;
       told = on.told;

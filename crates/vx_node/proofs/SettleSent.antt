@@ -10,8 +10,8 @@ use Rattle.vx_node.specs.Handing.{handed}
 use Rattle.vx_node.specs.Settling.{OnFor, SettlesFor, WentFor}
 use Rattle.vx_node.specs.declared.going.Went.{Went}
 use Rattle.vx_node.specs.declared.going.Went.TheVariants.{On}
-use Rattle.vx_node.specs.declared.yard.Yard.{Yard}
-use Rattle.vx_node.proofs.Carrying.{sent_count}
+use Rattle.vx_yard.specs.declared.yard.Yard.{Yard}
+use Rattle.vx_yard.proofs.Carrying.{sent_count}
 use Rattle.vx_node.proofs.Handing.{handed_all, handed_more, handed_rest, handed_settle, handed_to}
 use Rattle.vx_node.proofs.WentThen.{went_as, went_more, went_then}
 use Rattle.vx_settling.specs.Burnt.{noted_as}
@@ -24,13 +24,13 @@ module _ {R : Type 0} {g : Ghosts R} (first second : List ℕ) (a b : ℕ) where
   module _ (before n : ℕ) (d : Doubted) (old mid new : Yard R g) (one : OnFor first second a b d (handed_to a b before n d.world.packets) old mid) (low : before + n < length d.world.packets) where
     -- there are as many still
     more_low : before + n < length one.next.world.packets
-    more_low = let many = ap (λ (ps : List Packet). length ps) one.works.passes.moves.sent ∙ length-append d.world.packets one.works.passes.moves.more in omega (arith, low, many)
+    more_low = let many = ap (λ (ps : List Packet). length ps) one.works.moves.sent ∙ length-append d.world.packets one.works.moves.more in omega (arith, low, many)
 
     next_of : (r : Went) → ((m : Doubted) → SettlesFor first second a b m mid → before + n < length m.world.packets → WentFor first second a b m (handed a b (before + n) m.world.packets) mid new r)
         → WentFor first second a b one.next (handed a b (before + n) d.world.packets) mid new r
     next_of r call =
         went_as first second a b one.next (handed a b (before + n) one.next.world.packets) (handed a b (before + n) d.world.packets) mid new r
-        (λ _. handed_more a b (before + n) d.world.packets one.next.world.packets one.works.passes.moves.more one.works.passes.moves.sent low) (call one.next one.serves more_low)
+        (λ _. handed_more a b (before + n) d.world.packets one.next.world.packets one.works.moves.more one.works.moves.sent low) (call one.next one.serves more_low)
 
     -- the next of them is done
     pub sent_more : (next : ℕ) → next ≡ suc n → ((m : Doubted) → SettlesFor first second a b m mid → before + n < length m.world.packets → WentFor first second a b m (handed a b (before + n) m.world.packets) mid new On)

@@ -14,10 +14,10 @@ use Rattle.vx_settling.proofs.Unfolding.{turn_is, turns_none, turns_on, turns_ov
 use Rattle.vx_settling.specs.Kinds.{AreSettling}
 use Rattle.vx_settling.specs.Turning.{applying_all, greeting_if, sending_again}
 use Rattle.vx_node.specs.Settling.{OnFor, SettlesFor, ShortFor, WentFor}
-use Rattle.vx_node.specs.Yards.{IsTold}
+use Rattle.vx_yard.specs.Yards.{IsTold}
 use Rattle.vx_node.specs.declared.going.Went.{Went}
 use Rattle.vx_node.specs.declared.going.Went.TheVariants.{On, Short}
-use Rattle.vx_node.specs.declared.yard.Yard.{Yard}
+use Rattle.vx_yard.specs.declared.yard.Yard.{Yard}
 use Rattle.vx_node.proofs.WentOn.{went_told, world_is}
 use Rattle.vx_node.proofs.WentThen.{on_then, went_as, went_more, went_none, went_short, went_then}
 
@@ -44,7 +44,7 @@ module _ {R : Type 0} {g : Ghosts R} (first second : List ℕ) (a b : ℕ) where
 
   -- as many packets as before, or more
   pub more_sent : (d : Doubted) (xs : List Event) (old new : Yard R g) → (one : OnFor first second a b d xs old new) → length d.world.packets ≤ length one.next.world.packets
-  more_sent d xs old new one = let many = ap (λ (ps : List Packet). length ps) one.works.passes.moves.sent ∙ length-append d.world.packets one.works.passes.moves.more in omega (arith, many)
+  more_sent d xs old new one = let many = ap (λ (ps : List Packet). length ps) one.works.moves.sent ∙ length-append d.world.packets one.works.moves.more in omega (arith, many)
 
   -- those that were sent since this world, which had so many
   pub new_went : (w : World) (before : ℕ) (m : Doubted) (old new : Yard R g) (r : Went) → before ≡ length w.packets → WentFor first second a b m (deliver_between a b before (drop before m.world.packets)) old new r

@@ -4,8 +4,7 @@ use Rattle.std.specs.Prelude.{Result, Ok, Err}
 use Rattle.vx_model.specs.declared.errors.OutOfMemory.{OutOfMemory}
 use Rattle.vx_model.specs.declared.no.No.{No}
 use Rattle.vx_history.specs.Doubts.{Doubted}
-use Rattle.vx_history.specs.World.{Fuse, Node}
-use Rattle.vx_model.specs.Sites.{is_origin}
+use Rattle.vx_history.specs.World.{Fuse}
 use Rattle.vx_history.specs.declared.event.Event.{Event}
 use Rattle.vx_history.specs.Stops.{IsLikeDoubted}
 use Rattle.vx_disk.specs.declared.shelf.Shelf.{Ghosts}
@@ -21,17 +20,17 @@ use Rattle.vx_settling.proofs.Moving.{still_may}
 use Rattle.vx_settling.proofs.Named.{moved_names}
 use Rattle.vx_settling.proofs.Working.{short_none}
 use Rattle.vx_settling.specs.Burnt.{EndTo, GoesTo, NotedAs, OnTo, noted_as}
-use Rattle.vx_node.specs.Carries.{Carries}
-use Rattle.vx_node.specs.OfSites.{AllSameFailing, OfSite}
+use Rattle.vx_yard.specs.Carries.{Carries}
+use Rattle.vx_yard.specs.OfSites.{AllSameFailing, OfSite}
 use Rattle.vx_node.specs.Settling.{EndedFor, NotedFor, OnFor, SettlesFor, ShortFor, WentFor, went_by, went_of}
-use Rattle.vx_node.specs.Standing.{GoodFor, Leads, LeadsIs, StandsFor, StaysFor}
-use Rattle.vx_node.specs.Stands.{AreTold, RoseAll}
-use Rattle.vx_node.specs.Yards.{IsTold, count_of}
-use Rattle.vx_node.specs.declared.yard.Yard.{Yard}
+use Rattle.vx_yard.specs.Standing.{GoodFor, Leads, LeadsIs, StandsFor, StaysFor}
+use Rattle.vx_yard.specs.Stands.{AreTold, RoseAll}
+use Rattle.vx_yard.specs.Yards.{IsTold, count_of}
+use Rattle.vx_yard.specs.declared.yard.Yard.{Yard}
 use Rattle.vx_diskset.specs.Asked.{LeavesAlone}
-use Rattle.vx_node.proofs.ChangeSite.{rose_none}
-use Rattle.vx_node.proofs.FailsStay.{alone_keeps}
-use Rattle.vx_node.proofs.OfSites.{all_of_site}
+use Rattle.vx_yard.proofs.ChangeSite.{rose_none}
+use Rattle.vx_yard.proofs.FailsStay.{alone_keeps}
+use Rattle.vx_yard.proofs.OfSites.{all_of_site}
 
 module _ {R : Type 0} {g : Ghosts R} where
   -- the yard's own world is good where the one without notes is
@@ -76,17 +75,16 @@ module _ {R : Type 0} {g : Ghosts R} where
     module _ (line : ScriptLine) (law : (fails : Fails) (said : Said) (e : Doubted) → IsDone (IsTold new) (noted_as serves.noted.fuses d) line fails said e → GoesTo (IsTold new) a b d events fails e said) where
       on_by : (said : Said) (leads : Leads (noted_as serves.noted.fuses d) line said old new) → OnTo (IsTold new) a b d events leads.fails leads.next → OnFor first second a b d events old new
       on_by said leads on =
-          let passes = on.works.passes in
+          let moves = on.works.moves in
           record {
             next = on.next;
             works = on.works;
             serves = record {
               noted = noted_for a b on.next leads.next new on.noted leads.stands (leads.carries serves.noted.carries);
-              may = still_may (IsTold new) a b d on.next passes serves.may;
-              receives = ap (λ (n : Node). is_origin n.role) passes.moves.takes.rest ∙ serves.receives;
+              may = still_may a b d on.next moves serves.may;
               good = λ tells. runs_good events d on.next (serves.good (told tells)) (on.works.exact tells);
-              from = moved_names a b d on.next first passes.moves ∙ serves.from;
-              to = moved_names a b d on.next second passes.moves ∙ serves.to;
+              from = moved_names a b d on.next first moves ∙ serves.from;
+              to = moved_names a b d on.next second moves ∙ serves.to;
             };
             told = told;
             asked = asked;

@@ -8,10 +8,10 @@ use Rattle.vx_history.specs.declared.event.Event.{Event}
 use Rattle.vx_settling.proofs.Running.{runs_only}
 use Rattle.vx_settling.specs.Kinds.{AreSettling}
 use Rattle.vx_node.specs.Settling.{OnFor, WentFor}
-use Rattle.vx_node.specs.Yards.{IsTold}
+use Rattle.vx_yard.specs.Yards.{IsTold}
 use Rattle.vx_node.specs.declared.going.Went.{Went}
 use Rattle.vx_node.specs.declared.going.Went.TheVariants.{Ended, On, Short}
-use Rattle.vx_node.specs.declared.yard.Yard.{Yard}
+use Rattle.vx_yard.specs.declared.yard.Yard.{Yard}
 use Rattle.vx_node.proofs.WentThen.{went_as, went_more, went_then}
 
 module _ {R : Type 0} {g : Ghosts R} (first second : List ℕ) (a b : ℕ) where

@@ -10,17 +10,17 @@ use Rattle.vx_settling.specs.Kinds.{AreSettling}
 use Rattle.vx_settling.specs.Works.{FirstOf, Works}
 use Rattle.vx_settling.proofs.Working.{short_more, short_none, short_then, stop_more, stop_then, works_none, works_then}
 use Rattle.vx_node.specs.Settling.{OnFor, SettlesFor, ShortFor, WentFor}
-use Rattle.vx_node.specs.Yards.{IsTold, count_of}
+use Rattle.vx_yard.specs.Yards.{IsTold, count_of}
 use Rattle.vx_node.specs.declared.going.Went.{Went}
 use Rattle.vx_node.specs.declared.going.Went.TheVariants.{Ended, On, Short}
-use Rattle.vx_node.specs.declared.yard.Yard.{Yard}
-use Rattle.vx_node.proofs.ChangeSite.{rose_none}
-use Rattle.vx_node.proofs.OfSites.{all_still, all_then}
-use Rattle.vx_node.proofs.RecoverLine.{rose_then}
+use Rattle.vx_yard.specs.declared.yard.Yard.{Yard}
+use Rattle.vx_yard.proofs.ChangeSite.{rose_none}
+use Rattle.vx_yard.proofs.OfSites.{all_still, all_then}
+use Rattle.vx_yard.proofs.RecoverLine.{rose_then}
 
 -- what is so where contents were told before is so where they still are
 pub works_later : (T L : Type 0) (a b : ℕ) (d : Doubted) (xs : List Event) (e : Doubted) → (L → T) → Works T a b d xs e → Works L a b d xs e
-works_later T L a b d xs e told works = record { exact = λ tells. works.exact (told tells); passes = record { moves = works.passes.moves; all = λ tells. works.passes.all (told tells) } }
+works_later T L a b d xs e told works = record { exact = λ tells. works.exact (told tells); moves = works.moves }
 
 module _ {R : Type 0} {g : Ghosts R} (first second : List ℕ) (a b : ℕ) where
   -- no event is done
@@ -49,7 +49,7 @@ module _ {R : Type 0} {g : Ghosts R} (first second : List ℕ) (a b : ℕ) where
   abbrev pub on_as : (d : Doubted) (xs ys : List Event) (old new : Yard R g) → (IsTold new → xs ≡ ys) → OnFor first second a b d xs old new → OnFor first second a b d ys old new
   on_as d xs ys old new same w = record {
     next = w.next;
-    works = record { exact = λ tells. subst (λ (es : List Event). Runs d es w.next) (same tells) (w.works.exact tells); passes = w.works.passes };
+    works = record { exact = λ tells. subst (λ (es : List Event). Runs d es w.next) (same tells) (w.works.exact tells); moves = w.works.moves };
     serves = w.serves;
     told = w.told;
     asked = w.asked;
@@ -71,7 +71,7 @@ module _ {R : Type 0} {g : Ghosts R} (first second : List ℕ) (a b : ℕ) where
   }
   went_as d xs ys old new Short same w = record {
     last = w.last;
-    short = record { exact = λ tells. subst (λ (es : List Event). FirstOf d es w.last) (same tells) (w.short.exact tells); passes = w.short.passes };
+    short = record { exact = λ tells. subst (λ (es : List Event). FirstOf d es w.last) (same tells) (w.short.exact tells); moves = w.short.moves };
     noted = w.noted;
     told = w.told;
     asked = w.asked;
@@ -112,7 +112,7 @@ module _ {R : Type 0} {g : Ghosts R} (first second : List ℕ) (a b : ℕ) where
     last = two.last;
     fails = two.fails;
     stops = stop_then (IsTold new) a b d one.next xs ys two.fails (Refused why) two.last are (works_later (IsTold mid) (IsTold new) a b d xs one.next two.told one.works) two.stops;
-    sites = two.sites ∙ one.works.passes.moves.sites;
+    sites = two.sites ∙ one.works.moves.sites;
     noted = two.noted;
     told = λ tells. one.told (two.told tells);
     asked = all_then old mid new one.asked two.asked;

@@ -1,6 +1,5 @@
 -- What a part of a line that settles a link makes of a yard.
 use Rattle.std.specs.Prelude.{◌≡◌, ◌++◌, ℕ, Bool, List, [], drop, false, true, Option, None, Some, Result, Ok, Err}
-use Rattle.vx_model.specs.Sites.{is_origin}
 use Rattle.vx_model.specs.declared.errors.OutOfMemory.{OutOfMemory}
 use Rattle.vx_model.specs.declared.no.No.{No}
 use Rattle.vx_history.specs.Doubts.{Doubted}
@@ -15,13 +14,13 @@ use Rattle.vx_events.specs.declared.said.Said.{Said}
 use Rattle.vx_events.specs.declared.said.Said.TheVariants.{Refused, Settled}
 use Rattle.vx_settling.specs.Between.{MayMove}
 use Rattle.vx_settling.specs.Works.{Shortens, Stops, Works}
-use Rattle.vx_node.specs.Carries.{Carries}
+use Rattle.vx_yard.specs.Carries.{Carries}
 use Rattle.vx_settling.specs.Burnt.{MayBurn, noted_as}
-use Rattle.vx_node.specs.OfSites.{AllSameFailing}
-use Rattle.vx_node.specs.Standing.{GoodFor, StandsFor}
-use Rattle.vx_node.specs.Stands.{RoseAll}
-use Rattle.vx_node.specs.Yards.{IsTold, count_of}
-use Rattle.vx_node.specs.declared.yard.Yard.{Yard}
+use Rattle.vx_yard.specs.OfSites.{AllSameFailing}
+use Rattle.vx_yard.specs.Standing.{GoodFor, StandsFor}
+use Rattle.vx_yard.specs.Stands.{RoseAll}
+use Rattle.vx_yard.specs.Yards.{IsTold, count_of}
+use Rattle.vx_yard.specs.declared.yard.Yard.{Yard}
 use Rattle.vx_node.specs.declared.going.Went.{Went}
 use Rattle.vx_node.specs.declared.going.Went.TheVariants.{Ended, On, Short}
 
@@ -61,8 +60,6 @@ module _ {R : Type 0} {g : Ghosts R} where
   pub record SettlesFor (first second : List ℕ) (a b : ℕ) (d : Doubted) (y : Yard R g) : Type 0 where
     pub noted : NotedFor a b d y
     pub may : MayMove a b d.world
-    -- updates are taken there
-    pub receives : is_origin (d.world.nodes b).role ≡ false
     pub good : GoodFor d y
     pub from : site_number d.world first ≡ a
     pub to : site_number d.world second ≡ b

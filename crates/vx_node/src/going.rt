@@ -2,7 +2,7 @@
 ghost use Rattle.std.specs.Prelude.{◌≡◌};
 ghost use Rattle.vx_node.specs.Settling.{went_by, went_of};
 
-use crate::Said;
+use vx_events::Said;
 use vx_model::{No, OutOfMemory};
 
 /// Its events are done; or they are ended by a refusal; or memory ran out in them.

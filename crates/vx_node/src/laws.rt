@@ -3,7 +3,7 @@ ghost use Rattle.std.specs.Prelude.{◌≡◌, Bool, false, true};
 ghost use Rattle.vx_history.specs.Doubts.{Doubted};
 ghost use Rattle.vx_script.specs.declared.line.ScriptLine.{ScriptLine};
 ghost use Rattle.vx_events.specs.Parts.{StopsShort, goes_in_parts};
-ghost use Rattle.vx_node.specs.Lines.{is_built};
+ghost use Rattle.vx_yard.specs.Lines.{is_built};
 
 /// Want of memory within a line that is built leaves the world as it was, but within one that goes in parts, whether disks tell their contents or not.
 pub fn built_lines_are_whole()

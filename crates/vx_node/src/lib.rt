@@ -1,55 +1,17 @@
-//! The sites of a run: their disks, and what each line of a script does to them.
+//! What each line of a script does to the sites of a run: its first refusal, or its work, and the text of its reply.
 //!
-//! A line has a file by its word (`crash`, `write` ..), whose methods are of the `Yard`; `answer` picks among them. What they do on the disks of
-//! one site is in `vx_diskset`.
+//! A line that settles a link is made of others, and worked here. The lines of one site and those between sites have crates of their own.
 #![tactic(auto)]
 
-mod answer;
-mod apply;
-mod connect;
-mod crash;
-mod cut;
-mod deliver;
-mod disk;
-mod errors;
-mod facts;
-mod folder;
-mod fuse;
+mod answering;
+mod calls;
 mod going;
-mod hearing;
-mod joins;
 pub mod laws;
-mod link;
-mod linking;
-mod links;
-mod load;
-mod make;
-mod noting;
-mod pause;
-mod place;
-mod pump;
-mod racks;
-mod read;
-mod received;
-mod recover;
-mod resume;
-mod rooms;
 pub mod sent;
-mod set;
 mod settle;
 mod settle_packets;
 mod settle_turns;
 mod settled;
-mod shown;
-mod status;
 mod text;
-mod tick;
-mod wait;
-mod whole;
-mod write;
-mod yard;
 
-pub use errors::LineStop;
-pub use vx_diskset::DiskSet;
-pub use vx_events::Said;
-pub use yard::Yard;
+pub use calls::answer_line;

@@ -1,10 +1,10 @@
 // The text of a reply to a line that sent packets.
 ghost use Rattle.std.specs.Prelude.{◌≡◌, ◌≤◌, ◌<◌, ◌++◌, ◌+◌, ℕ, List, nat_lt, suc, Some, None, if◌then◌else◌, IfOk, OnOk, length, take, drop};
-ghost use Rattle.vx_node.specs.Replies.{first_line_with, sent_text, text_of};
+ghost use Rattle.vx_yard.specs.Replies.{first_line_with, sent_text, text_of};
 
-use crate::Said;
 use crate::text::push_said;
 use std::alloc::Global;
+use vx_events::Said;
 use vx_model::OutOfMemory;
 use vx_report::{push_number, push_text};
 

@@ -9,129 +9,139 @@ ghost use Rattle.vx_history.specs.declared.event.Event.TheVariants.{Apply as App
 ghost use Rattle.vx_events.specs.Facts.{site_number};
 ghost use Rattle.vx_settling.specs.Between.{IsSent};
 ghost use Rattle.vx_node.specs.Settling.{SettlesFor, WentFor};
-ghost use Rattle.vx_node.specs.Standing.{StandsFor};
-ghost use Rattle.vx_node.specs.Working.{IsFree};
-ghost use Rattle.vx_node.specs.Yards.{IsKept, IsTold, in_files};
+ghost use Rattle.vx_yard.specs.Standing.{StandsFor};
+ghost use Rattle.vx_yard.specs.Working.{IsFree};
+ghost use Rattle.vx_yard.specs.Yards.{IsKept, IsTold, in_files};
 
-use crate::Yard;
+use crate::answering::refusal;
 use crate::going::{Went, answered};
-use crate::place::seat;
 use std::alloc::Global;
 use vx_disk::Rack;
+use vx_link_lines::{apply_line, connect_line, deliver_line, pump_line, tick_line};
 use vx_model::Name;
 use vx_script::ScriptLine;
+use vx_yard::Yard;
+use vx_yard::place::seat;
 
-impl<R: Rack> Yard<R> {
-    // Whether the yard is whole, and no test refuses a line.
-    pub(crate) fn may(&self, words: &ScriptLine) -> bool
-        ensures kept { result ≡ true → IsKept self.now }
-        ensures free { result ≡ true → IsFree self.now words.now }
-    {
-        match self.refusal(words) {
-            Some(_) => false,
-            None => self.is_whole(),
-        }
+// Whether the yard is whole, and no test refuses a line.
+pub(crate) fn may<R: Rack>(yard: &Yard<R>, words: &ScriptLine) -> bool
+    ensures kept { result ≡ true → IsKept yard.now }
+    ensures free { result ≡ true → IsFree yard.now words.now }
+{
+    match refusal(yard, words) {
+        Some(_) => false,
+        None => yard.is_whole(),
     }
+}
 
-    /// The link is connected.
-    pub(crate) fn connect_step(&mut self, first: &Name, second: &Name) -> Went
-        ensures went { (d : Doubted) (a b : ℕ) → SettlesFor first.now second.now a b d self.old → WentFor first.now second.now a b d (ConnectAt a b ∷ []) self.old self.new result }
-        ensures told { IsTold self.new → IsTold self.old }
-        ensures files { in_files self.new ≡ in_files self.old }
-    {
-        let words = ScriptLine::Connect {
-            primary: *first,
-            secondary: *second,
-        };
-        if !self.may(&words) {
-            return Went::Short;
-        }
-        answered(self.connect_line(first, second))
+/// The link is connected.
+pub(crate) fn connect_step<R: Rack>(yard: &mut Yard<R>, first: &Name, second: &Name) -> Went
+    ensures went { (d : Doubted) (a b : ℕ) → SettlesFor first.now second.now a b d yard.old → WentFor first.now second.now a b d (ConnectAt a b ∷ []) yard.old yard.new result }
+    ensures told { IsTold yard.new → IsTold yard.old }
+    ensures files { in_files yard.new ≡ in_files yard.old }
+{
+    let words = ScriptLine::Connect {
+        primary: *first,
+        secondary: *second,
+    };
+    if !may(yard, &words) {
+        return Went::Short;
     }
+    answered(connect_line(yard, first, second))
+}
 
-    /// What was sent on it counts as lost.
-    pub(crate) fn tick_step(&mut self, first: &Name, second: &Name) -> Went
-        ensures went { (d : Doubted) (a b : ℕ) → SettlesFor first.now second.now a b d self.old → WentFor first.now second.now a b d (TickAt a b ∷ []) self.old self.new result }
-        ensures told { IsTold self.new → IsTold self.old }
-        ensures files { in_files self.new ≡ in_files self.old }
-    {
-        let words = ScriptLine::Tick {
-            primary: *first,
-            secondary: *second,
-        };
-        if !self.may(&words) {
-            return Went::Short;
-        }
-        answered(Ok(self.tick_line(first, second)))
+/// What was sent on it counts as lost.
+pub(crate) fn tick_step<R: Rack>(yard: &mut Yard<R>, first: &Name, second: &Name) -> Went
+    ensures went { (d : Doubted) (a b : ℕ) → SettlesFor first.now second.now a b d yard.old → WentFor first.now second.now a b d (TickAt a b ∷ []) yard.old yard.new result }
+    ensures told { IsTold yard.new → IsTold yard.old }
+    ensures files { in_files yard.new ≡ in_files yard.old }
+{
+    let words = ScriptLine::Tick {
+        primary: *first,
+        secondary: *second,
+    };
+    if !may(yard, &words) {
+        return Went::Short;
     }
+    answered(Ok(tick_line(yard, first, second)))
+}
 
-    /// What its receiver may lack is sent.
-    pub(crate) fn pump_step(&mut self, alloc: Global, first: &Name, second: &Name) -> Went
-        ensures went { (d : Doubted) (a b : ℕ) → SettlesFor first.now second.now a b d self.old → WentFor first.now second.now a b d (PumpAt a b ∷ []) self.old self.new result }
-        ensures told { IsTold self.new → IsTold self.old }
-        ensures files { in_files self.new ≡ in_files self.old }
-    {
-        let words = ScriptLine::Pump {
-            primary: *first,
-            secondary: *second,
-        };
-        if !self.may(&words) {
-            return Went::Short;
-        }
-        answered(self.pump_line(alloc, first, second))
+/// What its receiver may lack is sent.
+pub(crate) fn pump_step<R: Rack>(
+    yard: &mut Yard<R>,
+    alloc: Global,
+    first: &Name,
+    second: &Name,
+) -> Went
+    ensures went { (d : Doubted) (a b : ℕ) → SettlesFor first.now second.now a b d yard.old → WentFor first.now second.now a b d (PumpAt a b ∷ []) yard.old yard.new result }
+    ensures told { IsTold yard.new → IsTold yard.old }
+    ensures files { in_files yard.new ≡ in_files yard.old }
+{
+    let words = ScriptLine::Pump {
+        primary: *first,
+        secondary: *second,
+    };
+    if !may(yard, &words) {
+        return Went::Short;
     }
+    answered(pump_line(yard, alloc, first, second))
+}
 
-    /// The packet of a number, which goes between the two sites as settling has it, is handed to its target.
-    pub(crate) fn deliver_step(
-        &mut self,
-        alloc: Global,
-        first: &Name,
-        second: &Name,
-        number: u64,
-    ) -> Went
-        ensures went { (d : Doubted) (a b : ℕ) (q : Packet) → SettlesFor first.now second.now a b d self.old → packet_at d.world.packets number ≡ Some q → IsSent a b q → is_between a b q ≡ true
-            → WentFor first.now second.now a b d (DeliverAt number ∷ []) self.old self.new result }
-        ensures told { IsTold self.new → IsTold self.old }
-        ensures files { in_files self.new ≡ in_files self.old }
-    {
-        let words = ScriptLine::Deliver { packet: number };
-        if !self.may(&words) {
-            return Went::Short;
-        }
-        answered(self.deliver_line(alloc, number))
+/// The packet of a number, which goes between the two sites as settling has it, is handed to its target.
+pub(crate) fn deliver_step<R: Rack>(
+    yard: &mut Yard<R>,
+    alloc: Global,
+    first: &Name,
+    second: &Name,
+    number: u64,
+) -> Went
+    ensures went { (d : Doubted) (a b : ℕ) (q : Packet) → SettlesFor first.now second.now a b d yard.old → packet_at d.world.packets number ≡ Some q → IsSent a b q → is_between a b q ≡ true
+        → WentFor first.now second.now a b d (DeliverAt number ∷ []) yard.old yard.new result }
+    ensures told { IsTold yard.new → IsTold yard.old }
+    ensures files { in_files yard.new ≡ in_files yard.old }
+{
+    let words = ScriptLine::Deliver { packet: number };
+    if !may(yard, &words) {
+        return Went::Short;
     }
+    answered(deliver_line(yard, alloc, number))
+}
 
-    /// All that waits at the receiver is applied, which is acknowledged.
-    pub(crate) fn apply_step(&mut self, alloc: Global, first: &Name, second: &Name) -> Went
-        ensures went { (d : Doubted) (a b : ℕ) → SettlesFor first.now second.now a b d self.old
-            → WentFor first.now second.now a b d (ApplyAt b (length (d.world.nodes b).log - (d.world.nodes b).safe) 0 ∷ []) self.old self.new result }
-        ensures told { IsTold self.new → IsTold self.old }
-        ensures files { in_files self.new ≡ in_files self.old }
-    {
-        let Some(count) = self.waits_at(second) else {
-            return Went::Short;
-        };
-        let words = ScriptLine::Apply {
-            site: *second,
-            count,
-        };
-        if !self.may(&words) {
-            return Went::Short;
-        }
-        answered(self.apply_line(alloc, second, count))
+/// All that waits at the receiver is applied, which is acknowledged.
+pub(crate) fn apply_step<R: Rack>(
+    yard: &mut Yard<R>,
+    alloc: Global,
+    first: &Name,
+    second: &Name,
+) -> Went
+    ensures went { (d : Doubted) (a b : ℕ) → SettlesFor first.now second.now a b d yard.old
+        → WentFor first.now second.now a b d (ApplyAt b (length (d.world.nodes b).log - (d.world.nodes b).safe) 0 ∷ []) yard.old yard.new result }
+    ensures told { IsTold yard.new → IsTold yard.old }
+    ensures files { in_files yard.new ≡ in_files yard.old }
+{
+    let Some(count) = waits_at(yard, second) else {
+        return Went::Short;
+    };
+    let words = ScriptLine::Apply {
+        site: *second,
+        count,
+    };
+    if !may(yard, &words) {
+        return Went::Short;
     }
+    answered(apply_line(yard, alloc, second, count))
+}
 
-    // How many updates wait at a site. None where there is no such site.
-    fn waits_at(&self, name: &Name) -> Option<u64>
-        ensures { (d : Doubted) → StandsFor d self.now → IfSome result (λ count. (s : ℕ) → site_number d.world name.now ≡ s → (d.world.nodes s).state ≡ UpState → (d.world.nodes s).halted ≡ None
-            → count ≡ length (d.world.nodes s).log - (d.world.nodes s).safe) }
-    {
-        let Some(site) = seat(&self.facts, name) else {
-            return None;
-        };
-        if site >= self.disk_sets.len() {
-            return None;
-        }
-        Some(u64::from(self.disk_sets[site].waiting()))
+// How many updates wait at a site. None where there is no such site.
+fn waits_at<R: Rack>(yard: &Yard<R>, name: &Name) -> Option<u64>
+    ensures { (d : Doubted) → StandsFor d yard.now → IfSome result (λ count. (s : ℕ) → site_number d.world name.now ≡ s → (d.world.nodes s).state ≡ UpState → (d.world.nodes s).halted ≡ None
+        → count ≡ length (d.world.nodes s).log - (d.world.nodes s).safe) }
+{
+    let Some(site) = seat(&yard.facts, name) else {
+        return None;
+    };
+    if site >= yard.disk_sets.len() {
+        return None;
     }
+    Some(u64::from(yard.disk_sets[site].waiting()))
 }

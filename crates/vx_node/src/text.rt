@@ -2,9 +2,9 @@
 ghost use Rattle.std.specs.Prelude.{◌≡◌, ◌≤◌, ◌+◌, ◌*◌, ◌++◌, ◌∷◌, [], OnOk, codes, length};
 ghost use Rattle.std.specs.Fmt.{decimal};
 ghost use Rattle.vx_model.specs.Content.{block_of, blocks_in};
-ghost use Rattle.vx_node.specs.Replies.{reply_text, blocks_text, recovered_text};
+ghost use Rattle.vx_yard.specs.Replies.{reply_text, blocks_text, recovered_text};
 
-use crate::Said;
+use vx_events::Said;
 use vx_model::OutOfMemory;
 use vx_report::{SiteView, push_block, push_number, push_refusal, push_status, push_text};
 

@@ -18,7 +18,7 @@ use Rattle.vx_order.specs.Joining.{can_link, linked_already, volumes_agree, ring
 use Rattle.vx_order.specs.LinkKinds.{link_refusal, set_refusal, turn_refusal, pump_refusal, settle_refusal, wait_refusal}
 use Rattle.vx_order.specs.Links.{place_named, link_towards, link_count}
 use Rattle.vx_order.specs.Order.{refusal_of}
-use Rattle.vx_order.specs.Sending.{has_writes, sends, goes_by_nothing, not_linked, last_number, number_unknown, cut_off, held_up, forked, unconfirmed_at, ask_role, ask_unknown, ask_down, ask_paused, ask_replaying, ask_unconfirmed}
+use Rattle.vx_order.specs.Sending.{has_writes, sends, goes_by_nothing, leads_astray, not_linked, last_number, number_unknown, cut_off, held_up, forked, unconfirmed_at, ask_role, ask_unknown, ask_down, ask_paused, ask_replaying, ask_unconfirmed}
 use Rattle.vx_order.specs.Shapes.{line_role, line_unknown, taken, over_limit, wrong_size}
 use Rattle.vx_order.specs.Sites.{site_named, rvg_of, halted_one, unknown_one, down_by, halted_by}
 use Rattle.vx_order.specs.Spans.{span_of}
@@ -114,7 +114,7 @@ module _ (here there : Option ℕ) where
   settle_tests (Some a) None p s = refl
   settle_tests (Some a) (Some b) p s =
       both_front (not (is_up a.state) || not (is_up b.state)) (halted_one (Some a)) (halted_one (Some b)) _ _
-      (role_four (not (sends (rvg_of (Some a))) || goes_by_nothing (link_towards (Some a) there)) Role (not_linked (link_towards (Some a) there) (Some b)) (cut_off (link_towards (Some a) there) (Some b)) (held_up (link_towards (Some a) there))
+      (role_four ((not (sends (rvg_of (Some a))) || goes_by_nothing (link_towards (Some a) there)) || leads_astray (link_towards (Some a) there) (rvg_of (Some a)) (rvg_of (Some b))) Role (not_linked (link_towards (Some a) there) (Some b)) (cut_off (link_towards (Some a) there) (Some b)) (held_up (link_towards (Some a) there))
       (forked (link_towards (Some a) there) (Some b)))
 
   wait_tests : (first : Option SiteFacts) (p : List ℕ) (number : ℕ)

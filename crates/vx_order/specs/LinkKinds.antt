@@ -9,7 +9,7 @@ use Rattle.vx_model.specs.Sites.{is_up}
 use Rattle.vx_order.specs.declared.facts.SiteFacts.{SiteFacts}
 use Rattle.vx_order.specs.Joining.{can_link, linked_already, volumes_agree, ring_fits}
 use Rattle.vx_order.specs.Links.{link_towards, link_count}
-use Rattle.vx_order.specs.Sending.{has_writes, sends, goes_by_nothing, not_linked, last_number, number_unknown, cut_off, held_up, forked, unconfirmed_at}
+use Rattle.vx_order.specs.Sending.{has_writes, sends, goes_by_nothing, leads_astray, not_linked, last_number, number_unknown, cut_off, held_up, forked, unconfirmed_at}
 use Rattle.vx_order.specs.Sites.{rvg_of, halted_one}
 use Rattle.vx_order.specs.Tests.{before}
 
@@ -58,7 +58,7 @@ pump_refusal there first second p s =
 abbrev pub settle_refusal : (there : Option ℕ) → (first second : Option SiteFacts) → (p s : List ℕ) → Option No
 settle_refusal there first second p s =
     on_both_of first second p s
-    (if not (sends (rvg_of first)) || goes_by_nothing (link_towards first there) then Some Role
+    (if (not (sends (rvg_of first)) || goes_by_nothing (link_towards first there)) || leads_astray (link_towards first there) (rvg_of first) (rvg_of second) then Some Role
     else before (not_linked (link_towards first there) second)
     (before (cut_off (link_towards first there) second) (before (held_up (link_towards first there)) (forked (link_towards first there) second))))
 

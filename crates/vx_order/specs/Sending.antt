@@ -9,7 +9,9 @@ use Rattle.vx_model.specs.declared.no.Named.TheVariants.{Of, Number}
 use Rattle.vx_model.specs.declared.no.No.{No}
 use Rattle.vx_model.specs.declared.no.No.TheVariants.{Unknown, Role as WrongRole, LinkDown, Unconfirmed, Replaying, Paused}
 use Rattle.vx_model.specs.declared.no.SiteName.TheVariants.{Known}
-use Rattle.vx_model.specs.Sites.{is_up, is_origin}
+use Rattle.vx_model.specs.Sites.{is_up, is_origin, same_line}
+use Rattle.vx_model.specs.declared.site.Role.{Role}
+use Rattle.vx_model.specs.declared.site.Role.TheVariants.{Primary, Secondary, Handing, Bunker}
 use Rattle.vx_order.specs.declared.ask.Ask.{Ask}
 use Rattle.vx_order.specs.declared.ask.Ask.TheVariants.{Makes, Sets, Turns, Pumps, Settles, Waits}
 use Rattle.vx_order.specs.declared.facts.SiteFacts.{SiteFacts}
@@ -35,14 +37,40 @@ abbrev pub goes_by_nothing : Option LinkFacts → Bool
 goes_by_nothing None = false
 goes_by_nothing (Some l) = is_stale l.link.mode
 
--- 5: the sites have not the roles for what the line asks; or a link that goes by nothing is to be settled
+abbrev pub is_fork : Mode → Bool
+is_fork Log = false
+is_fork Dcm = false
+is_fork (Replay id phase left start end) = false
+is_fork (Fork maps) = true
+is_fork Stale = false
+
+-- what a site takes that a link leads to: a bunker where the link is one to a bunker, else a secondary
+abbrev pub is_taker : (bunker : Bool) → Role → Bool
+is_taker bunker Primary = false
+is_taker bunker Secondary = not bunker
+is_taker bunker (Handing to) = false
+is_taker bunker Bunker = bunker
+
+-- the second site takes what comes by the link, on the line of the first
+abbrev pub takes_from : (bunker : Bool) → (first second : Option RvgFacts) → Bool
+takes_from bunker None second = false
+takes_from bunker (Some first) None = false
+takes_from bunker (Some first) (Some second) = is_taker bunker second.role && same_line second.line first.line
+
+-- The link leads to a site that does not take what comes by it. One that goes by the maps of a fork may: its end is not yet on the line.
+abbrev pub leads_astray : Option LinkFacts → (first second : Option RvgFacts) → Bool
+leads_astray None first second = false
+leads_astray (Some l) first second = not (is_fork l.link.mode) && not (takes_from l.link.bunker first second)
+
+-- 5: the sites have not the roles for what the line asks; or a link is to be settled that goes by nothing, or leads to a site that takes nothing by it
 abbrev pub ask_role : Option Ask → (here there : Option ℕ) → (first second : Option SiteFacts) → Option No
 ask_role None here there first second = None
 ask_role (Some Makes) here there first second = when (not (can_link here there first second)) WrongRole
 ask_role (Some Sets) here there first second = when (not (has_writes (rvg_of first))) WrongRole
 ask_role (Some Turns) here there first second = when (not (sends (rvg_of first))) WrongRole
 ask_role (Some Pumps) here there first second = when (not (sends (rvg_of first))) WrongRole
-ask_role (Some Settles) here there first second = when (not (sends (rvg_of first)) || goes_by_nothing (link_towards first there)) WrongRole
+ask_role (Some Settles) here there first second =
+    when ((not (sends (rvg_of first)) || goes_by_nothing (link_towards first there)) || leads_astray (link_towards first there) (rvg_of first) (rvg_of second)) WrongRole
 ask_role (Some (Waits number)) here there first second = when (not (has_writes (rvg_of first))) WrongRole
 
 abbrev pub not_linked : Option LinkFacts → Option SiteFacts → Option No
@@ -89,13 +117,6 @@ abbrev pub ask_paused : Option Ask → (there : Option ℕ) → Option SiteFacts
 ask_paused (Some Pumps) there first = held_up (link_towards first there)
 ask_paused (Some Settles) there first = held_up (link_towards first there)
 ask_paused other there first = None
-
-abbrev pub is_fork : Mode → Bool
-is_fork Log = false
-is_fork Dcm = false
-is_fork (Replay id phase left start end) = false
-is_fork (Fork maps) = true
-is_fork Stale = false
 
 abbrev pub forked : Option LinkFacts → Option SiteFacts → Option No
 forked None second = None

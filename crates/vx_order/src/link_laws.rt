@@ -34,7 +34,8 @@ pub fn pump_lines()
     ensures { (sites : List SiteFacts) (files : Bool) (p s : List ℕ) → refusal_of sites files (ScriptLine.Pump p s) ≡ pump_refusal (place_named sites (Some s)) (site_named sites p) (site_named sites s) p s }
 {}
 
-/// A `settle` line: as a `pump` line, but with both sites up and not halted, over a link that goes by something, and not by a fork.
+/// A `settle` line: as a `pump` line, but with both sites up and not halted, over a link that goes by something, and not by a fork, to a site that
+/// takes what comes by it, on the line of the first.
 pub fn settle_lines()
     ensures { (sites : List SiteFacts) (files : Bool) (p s : List ℕ) → refusal_of sites files (ScriptLine.Settle p s) ≡ settle_refusal (place_named sites (Some s)) (site_named sites p) (site_named sites s) p s }
 {}

@@ -192,3 +192,59 @@ fn tests_a_link_that_stands(rt: HostRuntime) -> Result<(), Fail> {
     }
     Ok(())
 }
+
+// The site b with this role, on the line that the site of number `origin` began first.
+fn led(alloc: Global, role: Role, origin: u32) -> Result<SiteFacts, OutOfMemory> {
+    let mut site = primary(alloc, Name::new(b"b"), origin, 0)?;
+    if let Some(mut rvg) = site.rvg {
+        rvg.role = role;
+        site.rvg = Some(rvg);
+    }
+    Ok(site)
+}
+
+#[test]
+fn tests_where_a_settled_link_leads(rt: HostRuntime) -> Result<(), Fail> {
+    let (a, b) = (Name::new(b"a"), Name::new(b"b"));
+    let line = ScriptLine::Settle {
+        primary: a,
+        secondary: b,
+    };
+    let replaying = No::Replaying {
+        link: SiteName::Known(b),
+    };
+    for (bunker, mode, role, origin, wanted) in [
+        (false, Mode::Log, Role::Secondary, 0, None),
+        (false, Mode::Log, Role::Secondary, 1, Some(No::Role)),
+        (false, Mode::Log, Role::Primary, 0, Some(No::Role)),
+        (false, Mode::Log, Role::Bunker, 0, Some(No::Role)),
+        (true, Mode::Log, Role::Bunker, 0, None),
+        (
+            false,
+            Mode::Fork { maps: 0 },
+            Role::Primary,
+            1,
+            Some(replaying),
+        ),
+    ] {
+        let mut first = primary(rt.alloc(), a, 0, 3)?;
+        let mut kept = link(1, SyncMode::Off, true, mode);
+        kept.bunker = bunker;
+        first.links.push(LinkFacts {
+            link: kept,
+            used: 7,
+        })?;
+        let mut sites = Vec::new(rt.alloc());
+        sites.push(first)?;
+        sites.push(led(rt.alloc(), role, origin)?)?;
+        assert_eq!(rt; refuse(&sites, false, &line), wanted);
+    }
+    let mut apart = Vec::new(rt.alloc());
+    apart.push(primary(rt.alloc(), a, 0, 3)?)?;
+    apart.push(led(rt.alloc(), Role::Primary, 1)?)?;
+    assert_eq!(rt;
+        refuse(&apart, false, &line),
+        Some(No::Unknown { what: Named::Of(b) })
+    );
+    Ok(())
+}

@@ -2,7 +2,7 @@
 ghost use Rattle.std.specs.Prelude.{◌≡◌};
 ghost use Rattle.std.specs.List.{list_any};
 ghost use Rattle.std.specs.Option.{option_copied};
-ghost use Rattle.vx_order.specs.Sending.{has_writes as may_write, sends as may_send, goes_by_nothing, ask_role, not_linked, last_number, number_unknown, ask_unknown, cut_off, ask_down, held_up, ask_paused, is_fork as by_fork, forked, ask_replaying, lacks as lacking, unconfirmed_at, ask_unconfirmed};
+ghost use Rattle.vx_order.specs.Sending.{has_writes as may_write, sends as may_send, goes_by_nothing, is_taker as may_take, takes_from as may_take_from, leads_astray as astray, ask_role, not_linked, last_number, number_unknown, ask_unknown, cut_off, ask_down, held_up, ask_paused, is_fork as by_fork, forked, ask_replaying, lacks as lacking, unconfirmed_at, ask_unconfirmed};
 
 use crate::ask::Ask;
 use crate::facts::{LinkFacts, RvgFacts, SiteFacts};
@@ -12,7 +12,8 @@ use crate::sites::find_rvg;
 use vx_model::{Mode, Named, No, Role, SiteName, SiteState};
 use vx_policy::is_down;
 
-/// 5, where the sites have not the roles for what the line asks, or a link that goes by nothing is to be settled.
+/// 5, where the sites have not the roles for what the line asks, or a link is to be settled that goes by nothing, or leads to a site that takes
+/// nothing by it.
 pub fn refuse_link_role(
     ask: &Option<Ask>,
     here: Option<usize>,
@@ -27,7 +28,11 @@ pub fn refuse_link_role(
         Some(Ask::Makes) => !may_link(here, there, first, second),
         Some(Ask::Sets | Ask::Waits { .. }) => !has_writes(find_rvg(first)),
         Some(Ask::Turns | Ask::Pumps) => !sends(find_rvg(first)),
-        Some(Ask::Settles) => !sends(find_rvg(first)) || is_stale(find_link(first, there)),
+        Some(Ask::Settles) => {
+            !sends(find_rvg(first))
+                || is_stale(find_link(first, there))
+                || leads_astray(find_link(first, there), find_rvg(first), find_rvg(second))
+        }
     };
     if wrong { Some(No::Role) } else { None }
 }
@@ -65,6 +70,39 @@ fn is_stale(link: Option<&LinkFacts>) -> bool
             Mode::Log | Mode::Dcm | Mode::Replay { .. } | Mode::Fork { .. } => false,
         },
         None => false,
+    }
+}
+
+// Whether a link leads to a site that does not take what comes by it. One that goes by the maps of a fork may.
+fn leads_astray(link: Option<&LinkFacts>, first: Option<RvgFacts>, second: Option<RvgFacts>) -> bool
+    ensures { result ≡ astray (option_copied link.entry) first second }
+{
+    match link {
+        Some(l) => !is_fork(&l.link.mode) && !takes_from(l.link.bunker, first, second),
+        None => false,
+    }
+}
+
+// Whether the second site takes what comes by a link, on the line of the first.
+fn takes_from(bunker: bool, first: Option<RvgFacts>, second: Option<RvgFacts>) -> bool
+    ensures { result ≡ may_take_from bunker first second }
+{
+    match first {
+        Some(first) => match second {
+            Some(second) => is_taker(bunker, &second.role) && second.line == first.line,
+            None => false,
+        },
+        None => false,
+    }
+}
+
+fn is_taker(bunker: bool, role: &Role) -> bool
+    ensures { result ≡ may_take bunker role.now }
+{
+    match role {
+        Role::Secondary => !bunker,
+        Role::Bunker => bunker,
+        Role::Primary | Role::Handing { .. } => false,
     }
 }
 

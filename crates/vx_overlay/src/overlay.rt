@@ -1,5 +1,5 @@
 // The blocks that wait, in the order in which they came.
-ghost use Rattle.std.specs.Prelude.{◌≡◌, ◌-◌, ◌<◌, ◌≤◌, [], ◌∷◌, ◌++◌, length, drop, IfOk, MatchOption, true, false};
+ghost use Rattle.std.specs.Prelude.{◌≡◌, ◌-◌, ◌<◌, ◌≤◌, [], ◌∷◌, ◌++◌, length, take, drop, IfOk, MatchOption, true, false};
 ghost use Rattle.vx_overlay.specs.Pending.{entry_of, newest};
 
 use crate::Entry;
@@ -54,6 +54,13 @@ impl Overlay {
             base: 0,
             kept: true,
         })
+    }
+
+    /// How many blocks wait.
+    pub fn len(&self) -> usize
+        ensures { result ≡ length self.now.entries }
+    {
+        self.entries.len()
     }
 
     /// How many more blocks have room.
@@ -114,5 +121,15 @@ impl Overlay {
         } else {
             self.kept = false;
         }
+    }
+
+    /// Gives up all but the oldest blocks, of which so many stay, and their room is free again.
+    pub fn keep_oldest(&mut self, count: usize)
+        requires held { count ≤ length self.old.entries }
+        ensures entries { self.new.entries ≡ take count self.old.entries }
+        ensures capacity { self.new.capacity ≡ self.old.capacity }
+    {
+        self.entries.truncate(count);
+        self.earlier.truncate(count);
     }
 }

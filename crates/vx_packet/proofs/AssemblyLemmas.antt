@@ -1,7 +1,8 @@
 -- What an assembly has after a part.
 use Rattle.std.proofs.Common.{◌≡◌, ℕ, ◌+◌, ◌-◌, true, false, List, set, take, drop, refl, ap, sym, subst, ◌∙◌, arith, Option, Some, None}
-use Rattle.vx_packet.specs.Assemblies.{Held, key_of, parts_before, parts_after, held_of, IsKept, IsWhole, IsBad}
+use Rattle.vx_packet.specs.Assemblies.{Held, key_of, parts_before, parts_after, held_of, whole_of, IsKept, IsWhole, IsBad, Reads}
 use Rattle.vx_packet.specs.Gathering.{Parts, kept, all_came, joined}
+use Rattle.vx_packet.specs.MessageReading.{message_in}
 use Rattle.vx_packet.specs.Messages.{IsMessage}
 use Rattle.vx_packet.specs.Packets.{payload_in}
 use Rattle.vx_packet.specs.declared.key.Key.{Key}
@@ -50,5 +51,10 @@ bad-after old p new payload whole same all join none = record {
   whole = refl;
 }
 
-pub none_some : (m : Message) → None ≡ Some m → ⊥
-none_some m h = cc
+-- what was read of the payload is what the assembly then has
+pub whole-read : (old : Option Held) (p : Part) (new : Parts) (payload whole : List ℕ) (key : Key) → new ≡ parts_after old p payload → all_came new ≡ true → whole ≡ joined new → key ≡ key_of p
+    → Reads p.kind p.session p.number whole true → IsWhole p (parts_after old p payload) (record { held = None; whole = whole_of (Some key) new })
+whole-read old p new payload whole key same all join is reads =
+    let read : whole_of (Some key) new ≡ Some reads.0 =
+    ap (λ (q : Key). message_in q.kind q.session q.number (joined new)) is ∙ ap (message_in p.kind p.session p.number) (sym join) ∙ reads.1 in
+    subst (λ (o : Option Message). IsWhole p (parts_after old p payload) (record { held = None; whole = o })) (sym read) (whole-after old p new payload whole reads.0 same all join reads.2)

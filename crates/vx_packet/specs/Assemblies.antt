@@ -1,6 +1,7 @@
 -- One message in assembly.
-use Rattle.std.specs.Prelude.{◌≡◌, ℕ, Bool, true, false, ◌&&◌, ◌==◌, if◌then◌else◌, List, length, set, replicate, Option, Some, None}
+use Rattle.std.specs.Prelude.{◌≡◌, ℕ, ◌<◌, Bool, true, false, ◌&&◌, ◌==◌, if◌then◌else◌, List, length, set, replicate, Option, Some, None}
 use Rattle.vx_packet.specs.Gathering.{Parts, kept, all_came, joined}
+use Rattle.vx_packet.specs.MessageReading.{message_in}
 use Rattle.vx_packet.specs.Messages.{IsMessage}
 use Rattle.vx_packet.specs.declared.assembly.Taken.{Taken}
 use Rattle.vx_packet.specs.declared.assembly.Taken.TheVariants as taken
@@ -71,10 +72,20 @@ abbrev pub held_of : Option Key → Parts → Option Held
 held_of None parts = None
 held_of (Some key) parts = Some (record { key = key; parts = parts })
 
--- the message, where the last part has completed it
-abbrev pub whole_of : Bool → Message → Option Message
-whole_of true message = Some message
-whole_of false message = None
+-- the message that the last part has completed, as it stands in its payload
+abbrev pub whole_of : Option Key → Parts → Option Message
+whole_of None parts = None
+whole_of (Some key) parts = message_in key.kind key.session key.number (joined parts)
+
+-- all parts of what is whole have come
+abbrev pub IsDone : Option Key → Parts → Type 0
+IsDone None parts = Unit {0}
+IsDone (Some key) parts = (0 < length parts) × (all_came parts ≡ true)
+
+-- whether a payload is a message under this kind and these fields of the header
+abbrev pub Reads : ℕ → ℕ → ℕ → List ℕ → Bool → Type 0
+Reads kind session number payload true = (m : Message) × (message_in kind session number payload ≡ Some m) × IsMessage kind session number payload m
+Reads kind session number payload false = (m : Message) → IsMessage kind session number payload m → ⊥
 
 -- there are as many places for parts as the key says
 abbrev pub HasParts : Option Key → Parts → Type 0

@@ -1,11 +1,11 @@
 // One message in assembly.
-ghost use Rattle.std.specs.Prelude.{◌≡◌, Some, None, IfOk, IsSome};
-ghost use Rattle.vx_packet.specs.Assemblies.{parts_before, Takes};
+ghost use Rattle.std.specs.Prelude.{◌≡◌, Some, None, IfOk};
+ghost use Rattle.vx_packet.specs.Assemblies.{parts_before, Reads, Takes};
 ghost use Rattle.vx_packet.specs.Packets.{payload_in, IsPacket};
 
 use crate::gathered::Gathered;
 use crate::key::Key;
-use crate::reading::read_message;
+use crate::reading::{read_as, read_message};
 use crate::{Message, Part};
 use std::alloc::Global;
 use std::marker::Model;
@@ -28,19 +28,29 @@ pub enum Taken {
 pub struct Assembly {
     key: Option<Key>,
     parts: Gathered,
-    message: Box<Message>,
-    is_whole: bool,
+    // The key of the message that the parts are the whole payload of.
+    done: Option<Key>,
 }
 
 impl Model for Assembly {
     ghost use Rattle.vx_packet.specs.Assemblies.{Assembled, held_of, whole_of};
-    ghost use Rattle.vx_packet.specs.Assemblies.{HasParts};
+    ghost use Rattle.vx_packet.specs.Assemblies.{HasParts, IsDone};
 
     ghost Value = { Assembled };
 
-    ghost view = { λ a. record { held = held_of a.key a.parts; whole = whole_of a.is_whole a.message.value } };
+    ghost view = { λ a. record { held = held_of a.key a.parts; whole = whole_of a.done a.parts } };
 
-    ghost invariant = { λ a. HasParts a.key a.parts };
+    ghost invariant = { λ a. HasParts a.key a.parts × IsDone a.done a.parts };
+}
+
+// Whether a payload is a message under the kind and the fields of a part.
+fn is_message(part: &Part, payload: &[u8]) -> bool
+    ensures { Reads part.now.kind part.now.session part.now.number payload.now result }
+{
+    match read_message(part.kind, part.session, part.number, payload) {
+        Some(_message) => true,
+        None => false,
+    }
 }
 
 impl Assembly {
@@ -49,13 +59,10 @@ impl Assembly {
         ensures none { IfOk result (λ a. a.held ≡ None) }
         ensures whole { IfOk result (λ a. a.whole ≡ None) }
     {
-        let parts = Gathered::new(alloc)?;
-        let message = Box::new(alloc, Message::Trim { number: 0 })?;
         Ok(Assembly {
             key: None,
-            parts,
-            message,
-            is_whole: false,
+            parts: Gathered::new(alloc)?,
+            done: None,
         })
     }
 
@@ -65,7 +72,7 @@ impl Assembly {
         ensures whole { self.new.whole ≡ None }
     {
         self.key = None;
-        self.is_whole = false;
+        self.done = None;
     }
 
     // Begins with a message of this key, if it is not in assembly.
@@ -76,6 +83,7 @@ impl Assembly {
             Some(held) => held.is(key),
             None => false,
         };
+        self.done = None;
         if !held {
             self.key = Some(*key);
             self.parts.begin(key.parts);
@@ -87,30 +95,34 @@ impl Assembly {
         requires { IsPacket bytes.now part.now }
         ensures { Takes self.old part.now (payload_in part.now bytes.now) result self.new }
     {
-        self.begin(&Key::of(part));
-        self.is_whole = false;
+        let key = Key::of(part);
+        self.begin(&key);
+        self.done = None;
         let end = part.start + part.length as usize;
         self.parts.put(part.part, &bytes[part.start..end]);
-        let found = match self.parts.payload() {
-            Some(payload) => read_message(part.kind, part.session, part.number, payload),
+        let reads = match self.parts.payload() {
+            Some(payload) => is_message(part, payload),
             None => return Taken::Kept,
         };
         self.key = None;
-        match found {
-            Some(message) => {
-                *self.message = message;
-                self.is_whole = true;
-                Taken::Whole
-            }
-            None => Taken::Bad,
+        if reads {
+            self.done = Some(key);
+            Taken::Whole
+        } else {
+            Taken::Bad
         }
     }
 
-    /// The message that the last part completed.
-    pub fn message(&self) -> &Message
-        requires { IsSome self.now.whole }
-        ensures { Some result.now ≡ self.now.whole }
+    /// The message that the last part completed. Its bytes are those that came.
+    pub fn message(&self) -> Option<Message<'_>>
+        ensures { result ≡ self.now.whole }
     {
-        &self.message
+        let Some(key) = self.done else {
+            return None;
+        };
+        match self.parts.payload() {
+            Some(payload) => read_as(key.kind, key.session, key.number, payload),
+            None => None,
+        }
     }
 }

@@ -10,7 +10,7 @@ use crate::{Envelope, Message, Part};
 use vx_wire::put_fields;
 
 /// In how many parts a message goes: one for each 1,024 bytes of its payload that have begun, and one where it has none.
-pub fn parts(m: &Message) -> u32
+pub fn parts(m: &Message<'_>) -> u32
     ensures { result ≡ parts_of m.now }
 {
     let row = row_of(m);
@@ -29,7 +29,7 @@ fn is_typed(e: &Envelope)
 }
 
 /// Writes the packet of a message's part, counted from 0, and answers how many bytes it has. What is behind them stays.
-pub fn encode(e: &Envelope, m: &Message, part: u32, into: &mut [u8; 1072]) -> usize
+pub fn encode(e: &Envelope, m: &Message<'_>, part: u32, into: &mut [u8; 1072]) -> usize
     requires generation { IsCounted e.now.line.generation }
     requires message { CanSpell m.now }
     requires part { part < parts_of m.now }

@@ -1,10 +1,11 @@
 //! The messages that sites send to each other, and the packets that carry them.
 //!
 //! A packet is at most 1,072 bytes: 48 of header, and up to 1,024 of a message's payload. Memory is taken by
-//! `Assembly::new` alone.
+//! `Assembly::new` alone. A message lends its blocks, so none is copied but into a packet, and out of one where its parts are put together.
 #![tactic(auto)]
 
 mod assembly;
+mod block_bytes;
 mod encoding;
 mod gathered;
 mod key;
@@ -19,6 +20,7 @@ mod row;
 mod spelling;
 
 pub use assembly::{Assembly, Taken};
+pub use block_bytes::BlockBytes;
 pub use encoding::{encode, parts};
 pub use key::Key;
 pub use map_bytes::MapBytes;

@@ -3,35 +3,29 @@ ghost use Rattle.std.specs.Prelude.{◌≡◌, ◌≤◌, length};
 
 use std::marker::Model;
 
-/// Up to 65,536 bytes, kept in the value itself. Contracts see them. Region r is bit `r % 8`, from the lowest, of byte `r / 8`.
+/// Up to 65,536 bytes, which stand elsewhere. Contracts see them. Region r is bit `r % 8`, from the lowest, of byte `r / 8`.
 #[derive(Drop)]
-pub struct MapBytes {
-    bytes: [u8; 65536],
-    len: usize,
+pub struct MapBytes<'a> {
+    bytes: &'a [u8],
 }
 
-impl Model for MapBytes {
-    ghost use Rattle.std.specs.Prelude.{List, ℕ, take, ◌≤◌};
+impl<'a> Model for MapBytes<'a> {
+    ghost use Rattle.std.specs.Prelude.{List, ℕ, length, ◌≤◌};
 
     ghost Value = { List ℕ };
 
-    ghost view = { λ b. take b.len b.bytes };
+    ghost view = { λ b. b.bytes.now };
 
-    ghost invariant = { λ b. b.len ≤ 65536 };
+    ghost invariant = { λ b. length b.bytes.now ≤ 65536 };
 }
 
-impl MapBytes {
+impl<'a> MapBytes<'a> {
     /// These bytes, of which there are few enough.
-    pub fn new(bytes: &[u8]) -> MapBytes
+    pub fn new(bytes: &'a [u8]) -> MapBytes<'a>
         requires { length bytes.now ≤ 65536 }
         ensures { result ≡ bytes.now }
     {
-        let mut held = [0; 65536];
-        held[..bytes.len()].copy_from_slice(bytes);
-        MapBytes {
-            bytes: held,
-            len: bytes.len(),
-        }
+        MapBytes { bytes }
     }
 
     /// The bytes of the map.
@@ -39,6 +33,6 @@ impl MapBytes {
         ensures bytes { result.now ≡ self.now }
         ensures few { length self.now ≤ 65536 }
     {
-        &self.bytes[..self.len]
+        self.bytes
     }
 }

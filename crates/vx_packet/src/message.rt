@@ -1,10 +1,11 @@
 // Messages, and between whom they go.
-use crate::{MapBytes, RegionBytes};
-use vx_model::{Blocks, Line};
+use crate::{BlockBytes, MapBytes, RegionBytes};
+use vx_model::Line;
 
-/// What one site tells another. Numbers of writes and of replays, sessions and generations are below 2^63.
+/// What one site tells another. Blocks and maps are lent to it, and not copied. Numbers of writes and of replays, sessions and
+/// generations are below 2^63.
 #[derive(Drop)]
-pub enum Message {
+pub enum Message<'a> {
     /// A receiver tells its session, the last number that it received, and the last that it keeps.
     Hello {
         session: u64,
@@ -16,7 +17,7 @@ pub enum Message {
         number: u64,
         vol: u32,
         block: u64,
-        bytes: Blocks,
+        bytes: BlockBytes<'a>,
     },
     /// A receiver has this number in memory.
     NetAck {
@@ -37,7 +38,7 @@ pub enum Message {
         id: u64,
         vol: u32,
         region: u32,
-        bytes: RegionBytes,
+        bytes: RegionBytes<'a>,
     },
     /// All regions of a replay were sent.
     RegionsDone {
@@ -62,7 +63,7 @@ pub enum Message {
     ForkMap {
         vol: u64,
         regions: u64,
-        bytes: MapBytes,
+        bytes: MapBytes<'a>,
     },
     /// The receiver is to be the primary from this number on.
     Handover {

@@ -8,8 +8,7 @@ ghost use Rattle.vx_packet.specs.declared.message.Message.{Message as MessageVal
 
 use crate::row::{Row, put_front, row_of};
 use crate::spelling::can_spell;
-use crate::{MapBytes, Message, RegionBytes};
-use vx_model::Blocks;
+use crate::{BlockBytes, MapBytes, Message, RegionBytes};
 use vx_wire::{get_line, get_u8, get_u32, get_u64};
 
 // Whether these are 1 to so many whole blocks.
@@ -31,7 +30,7 @@ fn region_of(number: u64) -> (u32, u32)
     )
 }
 
-fn read_update(number: u64, payload: &[u8]) -> Option<Message>
+fn read_update(number: u64, payload: &[u8]) -> Option<Message<'_>>
     ensures { result ≡ update_in number payload.now }
 {
     if payload.len() > 16 && are_blocks(16, &payload[16..]) {
@@ -39,14 +38,14 @@ fn read_update(number: u64, payload: &[u8]) -> Option<Message>
             number,
             vol: get_u32(payload, 0),
             block: get_u64(payload, 4),
-            bytes: Blocks::new(&payload[16..]),
+            bytes: BlockBytes::new(&payload[16..]),
         })
     } else {
         None
     }
 }
 
-fn read_region(session: u64, number: u64, payload: &[u8]) -> Option<Message>
+fn read_region(session: u64, number: u64, payload: &[u8]) -> Option<Message<'_>>
     ensures { result ≡ region_in session number payload.now }
 {
     if are_blocks(64, payload) {
@@ -62,7 +61,7 @@ fn read_region(session: u64, number: u64, payload: &[u8]) -> Option<Message>
     }
 }
 
-fn read_fork_map(number: u64, payload: &[u8]) -> Option<Message>
+fn read_fork_map(number: u64, payload: &[u8]) -> Option<Message<'_>>
     ensures { result ≡ fork_map_in number payload.now }
 {
     if payload.len() >= 8 && payload.len() <= 65544 {
@@ -76,7 +75,7 @@ fn read_fork_map(number: u64, payload: &[u8]) -> Option<Message>
     }
 }
 
-fn read_hello(session: u64, number: u64, payload: &[u8]) -> Option<Message>
+fn read_hello(session: u64, number: u64, payload: &[u8]) -> Option<Message<'_>>
     ensures { result ≡ within 8 payload.now (Hello session number (number_at 8 0 payload.now)) }
 {
     if payload.len() < 8 {
@@ -90,7 +89,7 @@ fn read_hello(session: u64, number: u64, payload: &[u8]) -> Option<Message>
     }
 }
 
-fn read_start(number: u64, payload: &[u8]) -> Option<Message>
+fn read_start(number: u64, payload: &[u8]) -> Option<Message<'_>>
     ensures { result ≡ within 8 payload.now (ReplayStart number (number_at 8 0 payload.now)) }
 {
     if payload.len() < 8 {
@@ -103,7 +102,7 @@ fn read_start(number: u64, payload: &[u8]) -> Option<Message>
     }
 }
 
-fn read_done(number: u64, payload: &[u8]) -> Option<Message>
+fn read_done(number: u64, payload: &[u8]) -> Option<Message<'_>>
     ensures { result ≡ within 16 payload.now (RegionsDone number (number_at 8 0 payload.now) (number_at 8 8 payload.now)) }
 {
     if payload.len() < 16 {
@@ -117,7 +116,7 @@ fn read_done(number: u64, payload: &[u8]) -> Option<Message>
     }
 }
 
-fn read_ack(session: u64, number: u64, payload: &[u8]) -> Option<Message>
+fn read_ack(session: u64, number: u64, payload: &[u8]) -> Option<Message<'_>>
     ensures { result ≡ within 1 payload.now (RegionAck number (session / 2 ^ 32) (session % 2 ^ 32) (number_at 1 0 payload.now)) }
 {
     if payload.is_empty() {
@@ -132,7 +131,7 @@ fn read_ack(session: u64, number: u64, payload: &[u8]) -> Option<Message>
     })
 }
 
-fn read_fork(number: u64, payload: &[u8]) -> Option<Message>
+fn read_fork(number: u64, payload: &[u8]) -> Option<Message<'_>>
     ensures { result ≡ within 12 payload.now (Fork number (record { generation = number_at 8 0 payload.now; origin = number_at 4 8 payload.now })) }
 {
     if payload.len() < 12 {
@@ -145,9 +144,9 @@ fn read_fork(number: u64, payload: &[u8]) -> Option<Message>
     }
 }
 
-// What is read under a kind, whether or not the payload is one of its.
+/// What is read under a kind, whether or not the payload is one of its.
 #[tactic(auto, unfolding(crate::specs::MessageReading::message_in))]
-fn read_as(kind: u8, session: u64, number: u64, payload: &[u8]) -> Option<Message>
+pub(crate) fn read_as(kind: u8, session: u64, number: u64, payload: &[u8]) -> Option<Message<'_>>
     ensures { result ≡ message_in kind session number payload.now }
 {
     match kind {
@@ -187,7 +186,7 @@ fn has_fields(row: &Row<'_>, kind: u8, session: u64, number: u64) -> bool
 }
 
 // Whether a message is spelled by these fields of the header and this payload.
-fn is_spelled(m: &Message, kind: u8, session: u64, number: u64, payload: &[u8]) -> bool
+fn is_spelled(m: &Message<'_>, kind: u8, session: u64, number: u64, payload: &[u8]) -> bool
     ensures spelled { IsTrue result ↔ IsSpelled kind session number payload.now m.now }
     ensures typed { IsTyped m.now }
 {
@@ -198,7 +197,7 @@ fn is_spelled(m: &Message, kind: u8, session: u64, number: u64, payload: &[u8]) 
 }
 
 /// The message that a payload is under a kind, with these two fields of the header: None exactly where it is none.
-pub fn read_message(kind: u8, session: u64, number: u64, payload: &[u8]) -> Option<Message>
+pub fn read_message(kind: u8, session: u64, number: u64, payload: &[u8]) -> Option<Message<'_>>
     ensures found { IfSome result (λ m. IsMessage kind session number payload.now m) }
     ensures only { (m : MessageValue) → IsMessage kind session number payload.now m → result ≡ Some m }
 {

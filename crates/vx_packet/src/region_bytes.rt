@@ -4,36 +4,30 @@ ghost use Rattle.vx_packet.specs.Buffers.{AreBlocks};
 
 use std::marker::Model;
 
-/// 1 to 64 blocks of 512 bytes, kept in the value itself. Contracts see their bytes.
+/// 1 to 64 blocks of 512 bytes, which stand elsewhere. Contracts see their bytes.
 #[derive(Drop)]
-pub struct RegionBytes {
-    bytes: [u8; 32768],
-    len: usize,
+pub struct RegionBytes<'a> {
+    bytes: &'a [u8],
 }
 
-impl Model for RegionBytes {
-    ghost use Rattle.std.specs.Prelude.{List, ℕ, take, ◌≤◌};
+impl<'a> Model for RegionBytes<'a> {
+    ghost use Rattle.std.specs.Prelude.{List, ℕ};
     ghost use Rattle.vx_packet.specs.Buffers.{AreBlocks};
 
     ghost Value = { List ℕ };
 
-    ghost view = { λ b. take b.len b.bytes };
+    ghost view = { λ b. b.bytes.now };
 
-    ghost invariant = { λ b. (b.len ≤ 32768) × AreBlocks 64 (take b.len b.bytes) };
+    ghost invariant = { λ b. AreBlocks 64 b.bytes.now };
 }
 
-impl RegionBytes {
+impl<'a> RegionBytes<'a> {
     /// These bytes, which are 1 to 64 whole blocks.
-    pub fn new(bytes: &[u8]) -> RegionBytes
+    pub fn new(bytes: &'a [u8]) -> RegionBytes<'a>
         requires { AreBlocks 64 bytes.now }
         ensures { result ≡ bytes.now }
     {
-        let mut held = [0; 32768];
-        held[..bytes.len()].copy_from_slice(bytes);
-        RegionBytes {
-            bytes: held,
-            len: bytes.len(),
-        }
+        RegionBytes { bytes }
     }
 
     /// The bytes of the blocks.
@@ -41,6 +35,6 @@ impl RegionBytes {
         ensures bytes { result.now ≡ self.now }
         ensures blocks { AreBlocks 64 self.now }
     {
-        &self.bytes[..self.len]
+        self.bytes
     }
 }

@@ -5,8 +5,7 @@ ghost use Rattle.vx_packet.specs.Rows.{IsRow, numbers_list};
 ghost use Rattle.vx_wire.specs.Fields.{spelled};
 ghost use Rattle.vx_wire.specs.Places.{put_at};
 
-use crate::Message;
-use vx_model::Blocks;
+use crate::{BlockBytes, Message};
 use vx_wire::{Field, put_fields};
 
 /// The numbers with which a payload begins.
@@ -82,14 +81,14 @@ fn region_number(vol: u32, region: u32) -> u64
 }
 
 // How many blocks there are.
-fn block_count(bytes: &Blocks) -> u32
+fn block_count(bytes: &BlockBytes<'_>) -> u32
     ensures { result ≡ length bytes.now / 512 }
 {
     (bytes.as_bytes().len() / 512) as u32
 }
 
 /// The row of a message.
-pub fn row_of(m: &Message) -> Row<'_>
+pub fn row_of<'a>(m: &'a Message<'a>) -> Row<'a>
     ensures row { IsRow result (row_is m.now) }
     ensures typed { IsTyped m.now }
     ensures few { length result.bytes.now ≤ 65536 }

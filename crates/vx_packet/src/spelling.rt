@@ -22,7 +22,7 @@ fn has_unused(regions: u64, bytes: &[u8]) -> bool
 }
 
 // Whether there is a bit for each of so many regions, and zeros behind them in the last byte.
-fn is_map(regions: u64, bytes: &MapBytes) -> bool
+fn is_map(regions: u64, bytes: &MapBytes<'_>) -> bool
     ensures { IsTrue result ↔ IsMap regions bytes.now }
 {
     let bytes = bytes.as_bytes();
@@ -30,7 +30,7 @@ fn is_map(regions: u64, bytes: &MapBytes) -> bool
 }
 
 /// Whether a message is one that the table can spell.
-pub fn can_spell(m: &Message) -> bool
+pub fn can_spell(m: &Message<'_>) -> bool
     ensures { IsTrue result ↔ CanSpell m.now }
 {
     match m {

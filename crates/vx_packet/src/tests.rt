@@ -25,7 +25,7 @@ const HELLO: [u8; 56] = [
 ];
 
 // The packet of a message's part, and how many bytes it has.
-fn packet_of(rt: &impl Abort, m: &Message, part: u32) -> ([u8; 1072], usize)
+fn packet_of(rt: &impl Abort, m: &Message<'_>, part: u32) -> ([u8; 1072], usize)
     ensures { result.1 ≤ 1072 }
 {
     assert!(rt; can_spell(m));
@@ -44,7 +44,7 @@ fn taken(assembly: &mut Assembly, bytes: &[u8]) -> Option<Taken> {
 }
 
 // The first packet of a message is written here from its session field on.
-fn begins(rt: &impl Abort, m: &Message, kind: u8, wanted: &[u8]) {
+fn begins(rt: &impl Abort, m: &Message<'_>, kind: u8, wanted: &[u8]) {
     let (packet, _) = packet_of(rt, m, 0);
     assert!(rt; packet[..5] == HELLO[..5]);
     assert_eq!(rt; packet[5], kind);
@@ -53,7 +53,7 @@ fn begins(rt: &impl Abort, m: &Message, kind: u8, wanted: &[u8]) {
 }
 
 // A message that goes in so many parts comes through an assembly, its last part first and one of them twice.
-fn comes_through(rt: &impl Abort, alloc: Global, m: &Message, count: u32) -> Result<(), Fail> {
+fn comes_through(rt: &impl Abort, alloc: Global, m: &Message<'_>, count: u32) -> Result<(), Fail> {
     assert_eq!(rt; parts(m), count);
     let mut assembly = Assembly::new(alloc)?;
     for before in 1..count {
@@ -65,7 +65,8 @@ fn comes_through(rt: &impl Abort, alloc: Global, m: &Message, count: u32) -> Res
     let part = decode(&first[..end]).expect(rt, "a packet");
     match assembly.take(&first[..end], &part) {
         Taken::Whole => {
-            let (again, len) = packet_of(rt, assembly.message(), 0);
+            let message = assembly.message().expect(rt, "a message");
+            let (again, len) = packet_of(rt, &message, 0);
             assert!(rt; again[..len] == first[..end]);
         }
         Taken::Kept | Taken::Bad => assert!(rt; false),
@@ -165,7 +166,13 @@ fn a_fork_map_of_too_few_bytes_is_bad(rt: HostRuntime) -> Result<(), Fail> {
 }
 
 // A message of one part, from the session field on.
-fn whole(rt: &impl Abort, alloc: Global, m: &Message, kind: u8, wanted: &[u8]) -> Result<(), Fail> {
+fn whole(
+    rt: &impl Abort,
+    alloc: Global,
+    m: &Message<'_>,
+    kind: u8,
+    wanted: &[u8],
+) -> Result<(), Fail> {
     begins(rt, m, kind, wanted);
     let (_, len) = packet_of(rt, m, 0);
     assert!(rt; len >= 26);
@@ -298,11 +305,12 @@ fn kinds_of_one_part(rt: HostRuntime) -> Result<(), Fail> {
 
 #[test]
 fn an_update_of_16_blocks(rt: HostRuntime) -> Result<(), Fail> {
+    let blocks = Blocks::filled(16, 0xab);
     let update = Message::Update {
         number: 7,
         vol: 2,
         block: 9,
-        bytes: Blocks::filled(16, 0xab),
+        bytes: BlockBytes::of(&blocks),
     };
     begins(
         &rt,
@@ -318,11 +326,12 @@ fn an_update_of_16_blocks(rt: HostRuntime) -> Result<(), Fail> {
 
 #[test]
 fn a_region_of_64_blocks(rt: HostRuntime) -> Result<(), Fail> {
+    let bytes = [0xcd; 32768];
     let region = Message::Region {
         id: 6,
         vol: 1,
         region: 2,
-        bytes: RegionBytes::new(&[0xcd; 32768]),
+        bytes: RegionBytes::new(&bytes),
     };
     begins(
         &rt,
@@ -337,10 +346,11 @@ fn a_region_of_64_blocks(rt: HostRuntime) -> Result<(), Fail> {
 
 #[test]
 fn the_map_of_the_largest_volume(rt: HostRuntime) -> Result<(), Fail> {
+    let bytes = [0xef; 65536];
     let map = Message::ForkMap {
         vol: 3,
         regions: 524_288,
-        bytes: MapBytes::new(&[0xef; 65536]),
+        bytes: MapBytes::new(&bytes),
     };
     begins(
         &rt,
@@ -356,17 +366,18 @@ fn the_map_of_the_largest_volume(rt: HostRuntime) -> Result<(), Fail> {
 
 #[test]
 fn another_message_takes_the_place(rt: HostRuntime) -> Result<(), Fail> {
+    let (ones, twos) = ([1; 2048], [2; 2048]);
     let one = Message::Region {
         id: 6,
         vol: 1,
         region: 2,
-        bytes: RegionBytes::new(&[1; 2048]),
+        bytes: RegionBytes::new(&ones),
     };
     let other = Message::Region {
         id: 6,
         vol: 1,
         region: 3,
-        bytes: RegionBytes::new(&[2; 2048]),
+        bytes: RegionBytes::new(&twos),
     };
     let mut assembly = Assembly::new(rt.alloc())?;
     let (first, len) = packet_of(&rt, &one, 0);

@@ -40,7 +40,7 @@ use Rattle.vx_rvg.specs.Views.{Core}
 use Rattle.vx_secondary.specs.Answers.{KeptIf, TakeIs, TakenBy, action_of}
 use Rattle.vx_secondary.specs.Receivers.{can_log, receiver_of, write_of}
 use Rattle.vx_peers.proofs.Found.{read_so}
-use Rattle.vx_peers.specs.Receivers.{GatheredIs, Receives, SendsOn, StandsFor, update_of, waits_now}
+use Rattle.vx_peers.specs.Receivers.{GatheredIs, IsIdle, Receives, SendsOn, StandsFor, rule_at, update_of, waits_now}
 
 -- ---- what is read of a packet
 
@@ -60,6 +60,15 @@ line_of_take : (same rest repeated : Bool) (s t : RState) (k last m : ℕ) → (
 line_of_take true rest repeated s t k last m is = refl
 line_of_take false rest true s t k last m is = absurd (cc)
 line_of_take false rest false s t k last m is = absurd (cc)
+
+-- the rule in memory says what it says of the update that was read
+pub rule_read : (c : Core) (us : List Logged) (p : Packet) (k : ℕ) (bytes : List ℕ) (part : Part) → ReadOf p k bytes part → (r : RAction) → r ≡ rule_at c us part.line part.number → r ≡ rule_at c us p.line k
+rule_read c us p k bytes part read r is = is ∙ ap (λ (l : Line). rule_at c us l part.number) read.line ∙ ap (λ (i : ℕ). rule_at c us p.line i) read.number
+
+pub is_idle : (a r : RAction) → r ≡ a → (r ≡ Nothing) ⊎ ((r ≡ Ignored) ⊎ ((m : ℕ) × (r ≡ DataAck m))) → IsIdle a
+is_idle a r is (inl nothing) = subst IsIdle (sym nothing ∙ is) tt
+is_idle a r is (inr (inl ignored)) = subst IsIdle (sym ignored ∙ is) tt
+is_idle a r is (inr (inr ack)) = subst IsIdle (sym ack.1 ∙ is) tt
 
 number_of_part : (e : Envelope) (m : Spelled) (k : ℕ) → (part_of e m k).number ≡ (row m).number
 unfolding part_of

@@ -7,13 +7,15 @@ use Rattle.vx_model.specs.declared.site.SiteState.TheVariants.{Up}
 use Rattle.vx_model.specs.Sites.{is_origin}
 use Rattle.vx_history.specs.Events.{delivered, packet_at}
 use Rattle.vx_history.specs.LinkForms.{plain_receiver}
+use Rattle.vx_history.specs.Receiving.{received_step}
 use Rattle.vx_history.specs.Refusals.{Outcome}
 use Rattle.vx_history.specs.Sends.{packets_of}
 use Rattle.vx_history.specs.World.{NetAck, Node, Packet, World}
 use Rattle.vx_history.specs.declared.event.Said.{Said}
 use Rattle.vx_history.specs.declared.event.Said.TheVariants.{Ignored as IsIgnored, Taken as IsTaken}
 use Rattle.vx_history.specs.declared.receiver.RAction.{RAction}
-use Rattle.vx_history.specs.declared.receiver.RAction.TheVariants.{Take}
+use Rattle.vx_history.specs.declared.receiver.RAction.TheVariants.{DataAck as AcksFromDisk, Ignored, IgnoredAck, Nothing, Take}
+use Rattle.vx_history.specs.declared.receiver.REvent.TheVariants.{Update as HearUpdate}
 use Rattle.vx_courier.specs.Together.{AssemblyStands}
 use Rattle.vx_courier.specs.UnderWay.{FlightStands}
 use Rattle.vx_net.specs.Flights.{Flying, greatest}
@@ -23,6 +25,7 @@ use Rattle.vx_packet.specs.declared.assembly.Taken.TheVariants as taken
 use Rattle.vx_packet.specs.declared.message.Message.{Message}
 use Rattle.vx_packet.specs.declared.message.Message.TheVariants as message
 use Rattle.vx_packet.specs.declared.part.Part.{Part}
+use Rattle.vx_peers.specs.Senders.{Sends}
 use Rattle.vx_rvg.specs.Views.{Core}
 use Rattle.vx_secondary.specs.Answers.{TakeIs}
 use Rattle.vx_secondary.specs.Receivers.{receiver_of, write_of}
@@ -73,10 +76,32 @@ pub record StandsFor (o : Outcome) (site : ℕ) (c : Core) (us : List Update) (f
 abbrev pub DeliveredAt : World → (site number : ℕ) → Core → List Update → (fed : ℕ) → Assembled → Flying → Said → Type 0
 DeliveredAt w site number c us fed a f said = StandsFor (delivered w number (packet_at w.packets number)) site c us fed a f said
 
--- What comes of an update of this site, whatever is in assembly: it waits behind the others, and the site feeds the receiver; or none does.
-pub data TookOne (source : ℕ) (us us' : List Update) (fed fed' : ℕ) (said : Said) : Type 0 where
-  OneWaits : (u : Update) → us' ≡ us ++ u ∷ [] → fed' ≡ source → said ≡ IsTaken → TookOne source us us' fed fed' said
-  NoneWaits : us' ≡ us → fed' ≡ fed → ((said ≡ IsTaken) ⊎ (said ≡ IsIgnored)) → TookOne source us us' fed fed' said
+-- what the rule says of an update of this line and number, at a group behind which these updates wait
+abbrev pub rule_at : Core → List Update → Line → (number : ℕ) → RAction
+rule_at c us line number = (received_step (receiver_of c us) (HearUpdate line number)).action
+
+-- nothing comes of an update
+abbrev pub IsIdle : RAction → Type 0
+IsIdle Nothing = Unit {0}
+IsIdle Ignored = Unit {0}
+IsIdle (IgnoredAck number) = ⊥
+IsIdle (Take ack) = ⊥
+IsIdle (AcksFromDisk number) = Unit {0}
+
+-- an acknowledgement from memory
+abbrev pub acks_of : (site source : ℕ) → Core → (number : ℕ) → List Packet
+acks_of site source c number = packets_of site source c.log.header.state.line (NetAck c.log.header.incarnation number)
+
+-- What comes of an update of this source by the rule of the site that receives it, whatever is in assembly: it waits behind the others, is acknowledged, and the
+-- source feeds the receiver; or a part of it was kept, or lost; or it is acknowledged again; or nothing comes of it.
+pub data TookOne (rule : RAction) (source site : ℕ) (c : Core) (us us' : List Update) (fed fed' : ℕ) (a a' : Assembled) (f f' : Flying) (said : Said) : Type 0 where
+  OneWaits : (u : Update) (number : ℕ) → rule ≡ Take number → us' ≡ us ++ u ∷ [] → fed' ≡ source → Sends (acks_of site source c number) f f' → said ≡ IsTaken
+      → TookOne rule source site c us us' fed fed' a a' f f' said
+  NoneWaits : (number : ℕ) → rule ≡ Take number → us' ≡ us → fed' ≡ fed → f' ≡ f → ((said ≡ IsTaken) ⊎ (said ≡ IsIgnored))
+      → TookOne rule source site c us us' fed fed' a a' f f' said
+  AcksAgain : (number : ℕ) → rule ≡ IgnoredAck number → us' ≡ us → fed' ≡ fed → a' ≡ a → Sends (acks_of site source c number) f f' → said ≡ IsIgnored
+      → TookOne rule source site c us us' fed fed' a a' f f' said
+  NotHeard : IsIdle rule → us' ≡ us → fed' ≡ fed → a' ≡ a → f' ≡ f → said ≡ IsIgnored → TookOne rule source site c us us' fed fed' a a' f f' said
 
 -- an acknowledgement from memory was sent
 abbrev pub SendsOn : (source target : ℕ) → Line → (session number : ℕ) → Flying → Flying → Type 0

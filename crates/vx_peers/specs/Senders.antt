@@ -13,6 +13,8 @@ use Rattle.vx_history.specs.LinkForms.{plain_link}
 use Rattle.vx_history.specs.Sending.{sent_step}
 use Rattle.vx_history.specs.Sends.{updates as updates_of}
 use Rattle.vx_history.specs.World.{Node, Packet, World}
+use Rattle.vx_history.specs.declared.sender.Action.{Action}
+use Rattle.vx_history.specs.declared.sender.Action.TheVariants.{Updates}
 use Rattle.vx_history.specs.declared.sender.SEvent.{SEvent}
 use Rattle.vx_history.specs.declared.sender.SEvent.TheVariants.{Pump}
 use Rattle.vx_courier.specs.UnderWay.{FlightStands}
@@ -53,10 +55,27 @@ pub record LinkMoved (w : World) (p s : ℕ) (e : SEvent) (l : PlainLink) (f : F
   pub link : l ≡ plain_link s ((link_event w p s e).links p s)
   pub flight : FlightStands (link_event w p s e).packets f
 
--- what is under way is what was, and behind it these packets, each of which bytes can carry
-pub record SendsMore (f f' : Flying) : Type 0 where
-  pub packets : List Packet
-  pub flies : (ps : List Packet) → FlightStands ps f → FlightStands (ps ++ packets) f'
+-- what is under way is what was, and behind it these packets
+abbrev pub Sends : List Packet → (f f' : Flying) → Type 0
+Sends more f f' = (ps : List Packet) → FlightStands ps f → FlightStands (ps ++ more) f'
+
+-- the updates of these numbers were sent, of whatever writes
+pub record SendsRange (e : Envelope) (from to : ℕ) (f f' : Flying) : Type 0 where
+  pub writes : List Write
+  pub all : from + length writes ≡ to + 1
+  pub flies : Sends (updates_of e.source e.target e.line from writes) f f'
+
+-- what a link's rule has its site send was sent, of whatever writes
+abbrev pub SendsBy : Action → Envelope → (f f' : Flying) → Type 0
+SendsBy (Updates from to) e f f' = SendsRange e from to f f'
+SendsBy other e f f' = f' ≡ f
+
+abbrev pub way_from : (source target : ℕ) → Line → Envelope
+way_from source target line = record { source = source; target = target; line = line }
+
+-- what its rule has a site send, with so many durable writes, as the link is pumped
+abbrev pub pump_asks : PlainLink → (safe : ℕ) → Action
+pump_asks l safe = (sent_step l Pump (record { safe = safe; line_ok = true })).action
 
 -- the link as its rule leaves it behind a pump, at a site with so many durable writes
 abbrev pub pumped_at : PlainLink → (safe : ℕ) → PlainLink

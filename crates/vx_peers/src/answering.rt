@@ -15,7 +15,7 @@ use vx_packet::{Assembly, Message, decode};
 use vx_sender::{Action, SEvent, SFacts};
 
 // What a message is to the sending end of a link: none but a greeting or an acknowledgement.
-fn event_of(message: &Message) -> Option<SEvent>
+fn event_of(message: &Message<'_>) -> Option<SEvent>
     ensures { result ≡ event_in message.now }
 {
     match message {

@@ -7,8 +7,7 @@ ghost use Rattle.vx_history.specs.World.{Packet, Update as PlainUpdate, World};
 ghost use Rattle.vx_model.specs.Content.{Write};
 ghost use Rattle.vx_net.specs.Flights.{greatest};
 ghost use Rattle.vx_packet.specs.Messages.{IsCounted};
-ghost use Rattle.vx_peers.specs.Receivers.{DeliveredAt, Receives, SendsOn, TookOne};
-ghost use Rattle.vx_peers.specs.Senders.{SendsMore};
+ghost use Rattle.vx_peers.specs.Receivers.{DeliveredAt, Receives, SendsOn, TookOne, rule_at};
 ghost use Rattle.vx_rvg.specs.Holdings.{update_of};
 ghost use Rattle.vx_secondary.specs.Receivers.{can_log};
 
@@ -43,7 +42,6 @@ fn acknowledge<N: Net>(flight: &mut N, from: u32, to: u32, line: &Line, session:
 ///
 /// It takes no memory. Numbers, sessions and generations past those that packets carry are answered as want of memory, which changes
 /// nothing.
-#[tactic(auto, using(crate::proofs::MorePackets::more_none))]
 pub fn deliver_update<S: Shelf, N: Net>(
     secondary: &mut Secondary<S>,
     fed_by: &mut u32,
@@ -57,9 +55,10 @@ pub fn deliver_update<S: Shelf, N: Net>(
         → AssemblyStands w.packets site (w.gathering site) assembly.old
         → (p.line ≡ secondary.old.rvg.core.log.header.state.line → can_log secondary.old.rvg.core (S.meaning secondary.old.rvg.shelf).size (update_of p.line k x) ≡ true)
         → IfOk result (λ said. DeliveredAt w site number secondary.new.rvg.core secondary.new.waiting fed_by.new assembly.new (N.flying flight.new) said) }
+    // Whatever is in assembly.
     ensures took { (w : World) (p : Packet) (k : ℕ) (x : Write) → packet_at w.packets number ≡ Some p → p.message ≡ PlainUpdate k x → FlightStands w.packets (N.flying flight.old)
-        → IfOk result (λ said. TookOne p.source secondary.old.waiting secondary.new.waiting fed_by.old fed_by.new said) }
-    ensures more { SendsMore (N.flying flight.old) (N.flying flight.new) }
+        → secondary.old.rvg.core.halted ≡ None
+        → IfOk result (λ said. TookOne (rule_at secondary.old.rvg.core secondary.old.waiting p.line k) p.source site secondary.old.rvg.core secondary.old.waiting secondary.new.waiting fed_by.old fed_by.new assembly.old assembly.new (N.flying flight.old) (N.flying flight.new) said) }
     ensures group { secondary.new.rvg ≡ secondary.old.rvg }
     ensures waiting { OnErr result (secondary.new.waiting ≡ secondary.old.waiting) }
     ensures fed_by { OnErr result (fed_by.new ≡ fed_by.old) }

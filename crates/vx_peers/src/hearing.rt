@@ -10,7 +10,7 @@ use vx_receiver::RAction;
 use vx_secondary::Secondary;
 
 // The update that a message is, of the line of its part.
-fn update_in(message: &Message, part: &Part) -> Option<Update>
+fn update_in(message: &Message<'_>, part: &Part) -> Option<Update>
     ensures { result ≡ update_of message.now part.now.line }
 {
     match message {
@@ -24,7 +24,7 @@ fn update_in(message: &Message, part: &Part) -> Option<Update>
             number: *number,
             vol: *vol,
             block: *block,
-            bytes: *bytes,
+            bytes: bytes.blocks(),
         }),
         _ => None,
     }
@@ -58,7 +58,8 @@ pub(crate) fn gather<S: Shelf>(
         Taken::Kept => Some(false),
         Taken::Bad => None,
         Taken::Whole => {
-            let update = update_in(assembly.message(), part)?;
+            let message = assembly.message()?;
+            let update = update_in(&message, part)?;
             waits(&secondary.take(&update))
         }
     }

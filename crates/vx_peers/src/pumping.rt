@@ -10,7 +10,7 @@ ghost use Rattle.vx_history.specs.Sending.{by_log};
 ghost use Rattle.vx_history.specs.World.{World};
 ghost use Rattle.vx_history.specs.declared.sender.SEvent.TheVariants.{Pump};
 ghost use Rattle.vx_packet.specs.Messages.{IsCounted};
-ghost use Rattle.vx_peers.specs.Senders.{LinkMoved, ReadCause, SendsFrom, SendsMore, SentRange, pumped_at};
+ghost use Rattle.vx_peers.specs.Senders.{LinkMoved, ReadCause, SendsBy, SendsFrom, SendsRange, SentRange, pump_asks, pumped_at, way_from};
 ghost use Rattle.vx_ringio.specs.Spends.{Spends};
 ghost use Rattle.vx_rvg.specs.Holdings.{Holding};
 ghost use Rattle.vx_rvg.specs.Stands.{Stands};
@@ -43,7 +43,7 @@ fn send_range<S: Shelf, N: Net>(
     requires number { IsCounted to }
     ensures sent { OnOk result (IsTrue (S.meaning rvg.old.shelf).tells → (h : Holding) → Stands rvg.old.core h (S.meaning rvg.old.shelf)
         → SentRange h rvg.old.core.log.header.state.line envelope.now from to (N.flying flight.old) (N.flying flight.new) × Stands rvg.old.core h (S.meaning rvg.new.shelf)) }
-    ensures more { OnOk result (SendsMore (N.flying flight.old) (N.flying flight.new)) }
+    ensures more { OnOk result (SendsRange envelope.now from to (N.flying flight.old) (N.flying flight.new)) }
     ensures unsent { OnErr result (N.flying flight.new ≡ N.flying flight.old) }
     ensures cause { IfErr result (ReadCause rvg.old.core (S.meaning rvg.old.shelf) (S.meaning rvg.new.shelf)) }
     ensures core { rvg.new.core ≡ rvg.old.core }
@@ -63,7 +63,8 @@ fn send_range<S: Shelf, N: Net>(
 }
 
 /// Sends on a live link what its receiver may lack, as the rule of links has it: nothing where the link does not go by the log. Where a
-/// write cannot be read nothing is sent, and the link stays as it was. `site` is the number of the sending site.
+/// write cannot be read nothing is sent, and the link stays as it was. `site` is the number of the sending site. Also where contents are not told it
+/// sends the updates of those numbers, of whatever writes were read.
 ///
 /// It takes memory for the updates that it sends. Refusals: 7 where a device call failed, 6 where the shelf is down, 22 for a record with
 /// another digest.
@@ -82,7 +83,7 @@ pub fn pump<S: Shelf, N: Net>(
         → link.old ≡ plain_link link.old.site (w.links site link.old.site) → FlightStands w.packets (N.flying flight.old)
         → LinkMoved w site link.old.site Pump link.new (N.flying flight.new)) }
     ensures stands { OnOk result ((h : Holding) → Stands rvg.old.core h (S.meaning rvg.old.shelf) → IsTrue (S.meaning rvg.old.shelf).tells → Stands rvg.old.core h (S.meaning rvg.new.shelf)) }
-    ensures more { OnOk result (SendsMore (N.flying flight.old) (N.flying flight.new)) }
+    ensures more { OnOk result (SendsBy (pump_asks link.old (last_of rvg.old.core)) (way_from site link.old.site rvg.old.core.log.header.state.line) (N.flying flight.old) (N.flying flight.new)) }
     ensures rule { OnOk result (link.new ≡ pumped_at link.old (last_of rvg.old.core)) }
     ensures link { OnErr result (link.new ≡ link.old) }
     ensures unsent { OnErr result (N.flying flight.new ≡ N.flying flight.old) }

@@ -27,6 +27,17 @@ fn stop_of(why: SrlNo) -> Stop
     }
 }
 
+// What a write is read over.
+fn blank() -> Update {
+    Update {
+        line: Line::default(),
+        number: 0,
+        vol: 0,
+        block: 0,
+        bytes: Blocks::filled(1, 0),
+    }
+}
+
 /// The writes that a group's log holds under these numbers, the first and as many as `count`. It changes nothing.
 ///
 /// It takes memory for them. Refusals: 7 where a device call failed, 6 where the shelf is down, 22 for a record with another digest.
@@ -49,15 +60,9 @@ pub(crate) fn read_updates<S: Shelf>(
     ensures disks { OnDisks (S.meaning rvg.old.shelf).disks (S.meaning rvg.new.shelf).disks Untouched }
     ensures spends { Spends (S.meaning rvg.old.shelf) (S.meaning rvg.new.shelf) }
 {
-    let mut updates = Vec::new(alloc);
+    let mut updates = Vec::with_capacity(alloc, count as usize)?;
+    let mut update = blank();
     for past in 0..count {
-        let mut update = Update {
-            line: Line::default(),
-            number: 0,
-            vol: 0,
-            block: 0,
-            bytes: Blocks::filled(1, 0),
-        };
         if let Err(why) = rvg.fetch(first + past, &mut update) {
             return Err(stop_of(why));
         }

@@ -10,7 +10,7 @@ ghost use Rattle.vx_secondary.specs.Receivers.{write_of};
 use vx_courier::send_message;
 use vx_model::Update;
 use vx_net::Net;
-use vx_packet::{Envelope, Message};
+use vx_packet::{BlockBytes, Envelope, Message};
 
 // Sends an update.
 fn send_update<N: Net>(flight: &mut N, envelope: &Envelope, number: u64, update: &Update)
@@ -21,12 +21,11 @@ fn send_update<N: Net>(flight: &mut N, envelope: &Envelope, number: u64, update:
         → FlightStands (ps ++ packets_of envelope.now.source envelope.now.target envelope.now.line (PlainUpdate number (write_of update.now))) (N.flying flight.new) }
     ensures count { (N.flying flight.new).count ≤ (N.flying flight.old).count + 16 }
 {
-    let _blocks = update.bytes.as_bytes();
     let message = Message::Update {
         number,
         vol: update.vol,
         block: update.block,
-        bytes: update.bytes,
+        bytes: BlockBytes::of(&update.bytes),
     };
     send_message(flight, envelope, &message);
 }

@@ -138,6 +138,11 @@ fn remove(rt: &HostRuntime) {
     let _ = fs::remove_file(rt, "./0-0.vxd");
     let _ = fs::remove_file(rt, "./0-1.vxd");
     let _ = fs::remove_file(rt, "./0-2.vxd");
+    remove_receiver(rt);
+}
+
+// The files of the second site.
+fn remove_receiver(rt: &HostRuntime) {
     let _ = fs::remove_file(rt, "./1-0.vxd");
     let _ = fs::remove_file(rt, "./1-1.vxd");
     let _ = fs::remove_file(rt, "./1-2.vxd");
@@ -268,6 +273,33 @@ fn a_link_stands_in_the_files(rt: HostRuntime) -> Result<(), Fail> {
     assert_eq!(rt;
         second.written(),
         b"done\ndone\nrecovered 2\nsite a up\nrvg primary 1 a head 2 mark consistent session 2\nlink b attached cut running log net 1 stored 1\nrecovered 1 sent 1 1\nsite b up\nrvg secondary 1 a head 1 mark consistent session 2\ndone sent 2 2\nsettled 2 sent 3 6\n11\n22\n".as_slice()
+    );
+    Ok(())
+}
+
+// The disks of the receiver are new in the later run: so it is a primary of its own, and the link to it stays.
+#[test]
+fn a_link_to_a_site_that_is_no_secondary_is_not_settled(rt: HostRuntime) -> Result<(), Fail> {
+    let alloc = rt.alloc();
+    remove(&rt);
+    let script =
+        b"site a 3 64\nraw a\nsite b 3 64\nraw b\nlink a b synchronous=off srlprot=fail\nconnect a b\nwrite a d1 0 1 11\nsettle a b\nwrite a d1 1 1 22\n";
+    let mut first = MemSink::new(alloc, 4096, &[])?;
+    let status = run_in_files(&rt, rt, ".", script, &mut first)?;
+    remove_receiver(&rt);
+    let later =
+        b"site a 3 64\nsite b 3 64\nrecover a\nraw b\nsettle a b\nconnect a b\nsettle a b\nsettle a c\nread b d1 0 2\nstatus a\nstatus b\n";
+    let mut second = MemSink::new(alloc, 4096, &[])?;
+    let later_status = run_in_files(&rt, rt, ".", later, &mut second)?;
+    remove(&rt);
+    assert_eq!(rt; (status, later_status), (Status::Done, Status::Done));
+    assert_eq!(rt;
+        first.written(),
+        b"done\ndone\ndone\ndone\ndone\ndone sent 1 1\ndone 1\nsettled 1 sent 2 5\ndone 2\n".as_slice()
+    );
+    assert_eq!(rt;
+        second.written(),
+        b"done\ndone\nrecovered 2\nsite a up\nrvg primary 1 a head 2 mark consistent session 2\nlink b attached cut running log net 1 stored 1\ndone\nno 5 role\ndone\nno 5 role\nno 1 unknown c\n00\n00\nsite a up\nrvg primary 1 a head 2 mark consistent session 2\nlink b attached connected running log net 1 stored 1\nsite b up\nrvg primary 1 b head 0 mark consistent session 1\n".as_slice()
     );
     Ok(())
 }

@@ -21,9 +21,15 @@ mod lines;
 mod links;
 #[cfg(test)]
 mod loss;
+#[cfg(test)]
+mod outages;
 mod racks;
 #[cfg(test)]
 mod recovery;
+#[cfg(test)]
+mod replies;
+#[cfg(test)]
+mod row;
 #[cfg(test)]
 mod sessions;
 #[cfg(test)]

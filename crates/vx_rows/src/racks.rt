@@ -1,7 +1,7 @@
 // The disks of the sites, in memory.
 ghost use Rattle.std.specs.Prelude.{IfOk};
 ghost use Rattle.vx_disk.specs.Meanings.{shelf_meaning};
-ghost use Rattle.vx_node.specs.Holds.{AreFresh};
+ghost use Rattle.vx_yard.specs.Holds.{AreFresh};
 
 use std::alloc::Global;
 use vx_disk::MemShelf;

@@ -29,7 +29,7 @@ use Rattle.vx_rvg.specs.Views.{Core, IsSound, Waits, applied_count, last_of, uni
 use Rattle.vx_rvg.proofs.ApplyAll.{applied_core, apply_sound, bring_few}
 use Rattle.vx_rvg.proofs.ApplyPuts.{none_put, put_kept, within_count}
 use Rattle.vx_rvg.proofs.ContentFacts.{found_as, found_held, has_maps_beside, maps_moved, volume_there}
-use Rattle.vx_rvg.proofs.ReadStands.{waits_content, whole_drop, whole_writes, writes_drop}
+use Rattle.vx_rvg.proofs.ReadStands.{ready_covers, waits_content, whole_drop, whole_writes, writes_drop}
 use Rattle.vx_rvg.proofs.WriteSound.{failed_sound, moved_sizes}
 
 keeps_case : (m m' : Meaning) (u b : ℕ) (y : List ℕ) (o : Option (List ℕ)) → (o ≡ None → Keeps m u b y → Keeps m' u b y) → MatchOption o (Keeps m u b y) (λ bytes. bytes ≡ y)
@@ -153,7 +153,7 @@ module _ (core : Core) (c : Content) (m : Meaning) (s : State) (ready : Ready co
         settles : (v b : ℕ) → b < c.size v → newest (drop count core.pending.entries) v b ≡ None → (o : Option (List ℕ)) → newest core.pending.entries v b ≡ o
             → Keeps m' (unit_of core.units.vols v) b (c.block v b)
         settles v b inside none (Some bytes) is =
-            subst (λ (y : List ℕ). Keeps m' (unit_of core.units.vols v) b y) (waits_content core c m s ready v b bytes inside is)
+            subst (λ (y : List ℕ). Keeps m' (unit_of core.units.vols v) b y) (waits_content core c m s.held (ready_covers core c m s ready) v b bytes inside is)
             (put_kept core.units.vols c m ready.sizes core m' v b bytes is came (due core to) came_same came_whole brings.each (came_some v b bytes is none))
         settles v b inside none None is = kept v b inside is (c.block v b) (ready.settled v b inside is)
 

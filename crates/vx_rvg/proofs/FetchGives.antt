@@ -1,8 +1,8 @@
 -- What a fetch gives of a group: the write that it holds under the number. And the room that its writes take.
-use Rattle.std.proofs.Common.{◌≡◌, ℕ, zero, suc, ◌+◌, ◌-◌, ◌*◌, List, [], ◌∷◌, ◌++◌, length, drop, Option, Some, None, Result, Ok, Err, OnOk, IsTrue, refl, sym, ◌∙◌, ap, subst, arith, append-nil}
+use Rattle.std.proofs.Common.{◌≡◌, ℕ, zero, suc, ◌+◌, ◌-◌, List, [], ◌∷◌, ◌++◌, length, drop, Some, Result, Ok, Err, OnOk, IsTrue, refl, sym, ◌∙◌, ap, subst, arith, append-nil}
 use Rattle.std.specs.Prelude.{slice_get, All}
 use Rattle.std.proofs.lemmas.List.Elements.{All-head, All-tail}
-use Rattle.vx_model.specs.Content.{Write, blocks_in}
+use Rattle.vx_model.specs.Content.{Write}
 use Rattle.vx_model.specs.declared.call.Update.{Update}
 use Rattle.vx_model.specs.declared.history.Line.{Line}
 use Rattle.vx_srlfmt.specs.declared.header.Header.{Header}
@@ -13,7 +13,7 @@ use Rattle.vx_ringlog.specs.Records.{Era, Record, given, write_of}
 use Rattle.vx_srl.specs.Calls.{Agrees, Fetches}
 use Rattle.vx_srl.specs.Calls as srl
 use Rattle.vx_srl.specs.Rings.{RingOn}
-use Rattle.vx_srl.specs.Views.{Log, all_of, count_to, free_of, used_above, widths}
+use Rattle.vx_srl.specs.Views.{all_of, count_to, free_of, used_above, widths}
 use Rattle.vx_srl.specs.declared.errors.SrlNo.{SrlNo}
 use Rattle.vx_srl.specs.declared.kept.Kept.{Kept}
 use Rattle.vx_srl.proofs.Shared_S1.{Same, held_same, same_drop, same_length, staged_same}

@@ -3,6 +3,7 @@ pub mod ApplyFlush
 pub mod ApplyOne
 pub mod ApplyPuts
 pub mod ApplyStands
+pub mod CommitCalls
 pub mod ContentFacts
 pub mod EmptyStands
 pub mod FetchGives
@@ -12,6 +13,9 @@ pub mod ReadAnswers
 pub mod ReadStands
 pub mod RestartMoves
 pub mod SaveStands
+pub mod StagedCalls
+pub mod StagedSound
+pub mod StagedStands
 pub mod StartFill
 pub mod StartStands
 pub mod StoreMoves

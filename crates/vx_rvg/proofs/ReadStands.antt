@@ -14,10 +14,11 @@ use Rattle.vx_ringlog.specs.Records.{Record, write_of}
 use Rattle.vx_ringio.specs.Bodies.{IsBlocks}
 use Rattle.vx_ringio.proofs.Following.{rest_tracks}
 use Rattle.vx_srl.specs.Rings.{RingOn}
+use Rattle.vx_rvg.specs.Commits.{HasStaged}
 use Rattle.vx_rvg.specs.Contents.{Shows, writes_of}
 use Rattle.vx_rvg.specs.Groups.{IsPatched}
 use Rattle.vx_rvg.specs.Holdings.{Holding}
-use Rattle.vx_rvg.specs.Stands.{IsWholeRecord, Ready, Stands}
+use Rattle.vx_rvg.specs.Stands.{IsCovered, IsWholeRecord, Ready, Stands, StandsWith}
 use Rattle.vx_rvg.specs.Views.{Core, IsSound, applied_count, unit_of}
 use Rattle.vx_rvg.proofs.WriteSound.{SameSizes, ended_sound}
 
@@ -49,8 +50,9 @@ not_down : (down : Bool) → IsFalse down → IsTrue down → ⊥
 not_down true up is = let wrong : true ≡ false = up in cc
 not_down false up is = let wrong : false ≡ true = is in cc
 
-pub rest_stands : (core : Core) (m m' : Meaning) → Goes Nothing m m' → IsFalse m'.down → (h : Holding) → Stands core h m → Stands core h m'
-rest_stands core m m' goes up h stands = record {
+-- with whatever is staged
+pub rest_with : (staged : List Record) (core : Core) (m m' : Meaning) → Goes Nothing m m' → IsFalse m'.down → (h : Holding) → StandsWith staged core h m → StandsWith staged core h m'
+rest_with staged core m m' goes up h stands = record {
   log = stands.log;
   low = stands.low;
   place = stands.place;
@@ -72,6 +74,12 @@ rest_stands core m m' goes up h stands = record {
     on : RingOn core.log stands.log m
     on = stands.ready.ring
 
+pub rest_stands : (core : Core) (m m' : Meaning) → Goes Nothing m m' → IsFalse m'.down → (h : Holding) → Stands core h m → Stands core h m'
+rest_stands core m m' goes up h stands = rest_with [] core m m' goes up h stands
+
+pub rest_staged : (core : Core) (m m' : Meaning) → Goes Nothing m m' → IsFalse m'.down → (xs : List Write) (h : Holding) → HasStaged xs core h m → HasStaged xs core h m'
+rest_staged core m m' goes up xs h has = record { records = has.records; are = has.are; whole = has.whole; stands = rest_with has.records core m m' goes up h has.stands }
+
 -- ---- what waits is the content
 
 pub whole_writes : (rs : List Record) → All IsWholeRecord rs → All IsWholeWrite (writes_of rs)
@@ -92,11 +100,14 @@ writes_drop (suc n) (r ∷ rs) = writes_drop n rs
 matched : (o : Option (List ℕ)) (bytes y : List ℕ) (P : Type 0) → o ≡ Some bytes → MatchOption o P (λ b. b ≡ y) → bytes ≡ y
 matched o bytes y P is match = subst (λ (p : Option (List ℕ)). MatchOption p P (λ b. b ≡ y)) is match
 
-pub waits_content : (core : Core) (c : Content) (m : Meaning) (s : State) (ready : Ready core c s m) (v b : ℕ) (bytes : List ℕ) → b < c.size v
+-- a group that stands has its content over what its log holds
+pub ready_covers : (core : Core) (c : Content) (m : Meaning) (s : State) → Ready core c s m → IsCovered core c s.held m
+ready_covers core c m s ready = record { whole = ready.whole; sizes = ready.sizes; content = ready.content; waiting = ready.waiting; settled = ready.settled }
+
+pub waits_content : (core : Core) (c : Content) (m : Meaning) (rs : List Record) (ready : IsCovered core c rs m) (v b : ℕ) (bytes : List ℕ) → b < c.size v
     → newest core.pending.entries v b ≡ Some bytes → bytes ≡ c.block v b
-waits_content core c m s ready v b bytes low is =
+waits_content core c m rs ready v b bytes low is =
     let n : ℕ = applied_count core in
-    let rs : List Record = s.held in
     let among : newest_of c.size (drop n (writes_of rs)) v b ≡ Some bytes
     = ap (λ (ws : List Write). newest_of c.size ws v b) (sym (writes_drop n rs))
     ∙ sym (newest_entries c.size (writes_of (drop n rs)) v b (whole_writes (drop n rs) (whole_drop n rs ready.whole)))
@@ -105,7 +116,7 @@ waits_content core c m s ready v b bytes low is =
 
 -- ---- a block that was read and patched
 
-module _ (core : Core) (c : Content) (m : Meaning) (s : State) (ready : Ready core c s m) (lawful : Lawful m) (tells : IsTrue m.tells) (vol start : ℕ) (exists : vol < length core.units.vols)
+module _ (core : Core) (c : Content) (m : Meaning) (rs : List Record) (ready : IsCovered core c rs m) (lawful : Lawful m) (tells : IsTrue m.tells) (vol start : ℕ) (exists : vol < length core.units.vols)
     (old mid new : List ℕ) (blocks : IsBlocks old) (same : length mid ≡ length old) (within : start + blocks_in old ≤ m.size (unit_of core.units.vols vol))
     (read : Read m (unit_of core.units.vols vol) start mid) (patched : IsPatched core.pending.entries vol start mid new) where
   inside : (k : ℕ) → k < blocks_in old → start + k < c.size vol
@@ -122,7 +133,7 @@ module _ (core : Core) (c : Content) (m : Meaning) (s : State) (ready : Ready co
 
   one_block : (k : ℕ) → k < blocks_in old → (o : Option (List ℕ)) → newest core.pending.entries vol (start + k) ≡ o
       → MatchOption o (block_of new k ≡ block_of mid k) (λ bytes. block_of new k ≡ bytes) → block_of new k ≡ c.block vol (start + k)
-  one_block k low (Some bytes) is here = here ∙ waits_content core c m s ready vol (start + k) bytes (inside k low) is
+  one_block k low (Some bytes) is here = here ∙ waits_content core c m rs ready vol (start + k) bytes (inside k low) is
   one_block k low None is here = here ∙ from_volume k low is
 
   pub shows : Shows c vol start (blocks_in old) new

@@ -5,7 +5,7 @@ use Rattle.vx_disk.specs.Moves.{Blocks, Moves, Run, Union}
 use Rattle.vx_disk.specs.Shelf.{Image, Meaning}
 use Rattle.vx_disk.proofs.Moving.{goes_on, wider}
 use Rattle.vx_rvg.specs.Groups.{ApplyIs, unless_halted, with_applied}
-use Rattle.vx_rvg.specs.Holdings.{Holding, kept_in}
+use Rattle.vx_rvg.specs.Holdings.{kept_in}
 use Rattle.vx_rvg.specs.Saves.{with_restart}
 use Rattle.vx_rvg.specs.Stands.{FoundAs, Resting, Rests, Saving}
 use Rattle.vx_rvg.specs.Views.{Core, Waits}

@@ -1,11 +1,8 @@
 -- A group stays sound over a call on its log.
-use Rattle.std.proofs.Common.{◌≡◌, ℕ, ◌+◌, ◌*◌, ◌<◌, ◌≤◌, Bool, true, false, List, [], ◌∷◌, ◌++◌, length, drop, Option, Some, None, IsTrue, IsFalse, refl, sym, ◌∙◌, ap, subst, arith, length-append}
+use Rattle.std.proofs.Common.{◌≡◌, ℕ, ◌+◌, ◌*◌, ◌<◌, ◌≤◌, Bool, true, false, List, [], ◌∷◌, ◌++◌, length, drop, Option, Some, None, IsTrue, IsFalse, refl, sym, ◌∙◌, ap, subst, arith}
 use Rattle.std.specs.Prelude.{if◌then◌else◌, leb, ltb}
-use Rattle.std.proofs.lemmas.Bool.Decides.{nat_tests}
-use Rattle.std.proofs.lemmas.List.{drop-append-le}
 use Rattle.std.proofs.lemmas.Option.{none-some}
 use Rattle.std.proofs.lemmas.List.Sums.{sum_by-cons}
-use Rattle.vx_model.specs.Content.{blocks_in}
 use Rattle.vx_model.specs.Sizes.{map_blocks}
 use Rattle.vx_model.specs.declared.limits.TheConstants.{LINK_PLACES}
 use Rattle.vx_model.specs.declared.no.No.{No}
@@ -14,13 +11,11 @@ use Rattle.vx_model.specs.declared.units.Units.{Units}
 use Rattle.vx_srlfmt.specs.declared.header.Header.{Header}
 use Rattle.vx_disk.specs.Moves.{Blocks, Moves, Says}
 use Rattle.vx_disk.specs.Shelf.{Meaning}
-use Rattle.vx_overlay.specs.Writes.{entries_at}
-use Rattle.vx_overlay.proofs.WriteLemmas.{entries_at_length}
 use Rattle.vx_ringio.specs.Tracks.{Lies}
 use Rattle.vx_disk.specs.Causes.{DeviceCause}
-use Rattle.vx_srl.specs.Views.{Log, kept_of}
+use Rattle.vx_srl.specs.Views.{Log}
 use Rattle.vx_srl.specs.declared.kept.Kept.{Kept}
-use Rattle.vx_rvg.specs.Groups.{Ended, Fails, halted_by, with_write}
+use Rattle.vx_rvg.specs.Groups.{Ended, Fails, halted_by}
 use Rattle.vx_rvg.specs.Logging.{LogEnded}
 use Rattle.vx_rvg.specs.Views.{Core, IsSound, Placed, applied_count, blocks_within, maps_of, unit_of, volume_size}
 
@@ -131,48 +126,6 @@ failed_sound core l' m m' no.Down same sound ended cause =
     ended_sound core l' core.halted m m' same sound ended (λ none up. absurd (up_or_down m'.down cause up))
 failed_sound core l' m m' other same sound ended cause = absurd cause
 
--- ---- behind a write
-
-fits : (a b : ℕ) → a ≤ b → leb a b ≡ true
-fits a b le = grind (arith, nat_tests)
-
+-- the records that are not applied
 pub applied_few : (core : Core) (m : Meaning) → IsSound core m → 0 < core.log.header.low → applied_count core ≤ length core.log.held
 applied_few core m sound some = omega (arith, sound.known, sound.low, some)
-
-module _ (core : Core) (vol start : ℕ) (bytes : List ℕ) (m m' : Meaning) (same : SameSizes m m') (sound : IsSound core m) (some : 0 < core.log.header.low) (idle : core.log.staged ≡ [])
-    (within : start + blocks_in bytes ≤ volume_size core.units.vols m vol) where
-  abbrev own : Kept
-  own = kept_of core.log vol start bytes
-
-  one_more : (size : ℕ → ℕ) → start + blocks_in bytes ≤ size vol → blocks_within size (own ∷ []) ≡ blocks_in bytes
-  one_more size inside =
-      let here : (if leb (start + blocks_in bytes) (size vol) then blocks_in bytes else 0) ≡ blocks_in bytes = ap (λ (w : Bool). if w then blocks_in bytes else 0) (fits (start + blocks_in bytes) (size vol) inside) in
-      omega (arith, here)
-
-  held_is : core.log.held ++ (core.log.staged ++ own ∷ []) ≡ core.log.held ++ own ∷ []
-  held_is = ap (λ (ks : List Kept). core.log.held ++ (ks ++ own ∷ [])) idle
-
-  pub write_sound : IsSound (with_write core vol start bytes) m'
-  write_sound =
-      let n : ℕ = applied_count core in
-      let size : ℕ → ℕ = volume_size core.units.vols m in
-      let rest : drop n (core.log.held ++ (core.log.staged ++ own ∷ [])) ≡ drop n core.log.held ++ own ∷ []
-      = ap (λ (ks : List Kept). drop n ks) held_is ∙ drop-append-le n core.log.held (own ∷ []) (applied_few core m sound some) in
-      let more : blocks_within size (drop n core.log.held ++ own ∷ []) ≡ blocks_within size (drop n core.log.held) + blocks_in bytes
-      = within_append size (drop n core.log.held) (own ∷ []) ∙ ap (λ (k : ℕ). blocks_within size (drop n core.log.held) + k) (one_more size within) in
-      record {
-        placed = placed_same core.units m m' same sound.placed;
-        log_unit = sound.log_unit;
-        lies = lies_same core.log.unit core.log.ring m m' same sound.lies;
-        idle = λ none up. refl;
-        low = sound.low;
-        known = omega (arith, sound.known, length-append core.log.held (core.log.staged ++ own ∷ []));
-        room = sound.room;
-        waiting =
-            length-append core.pending.entries (entries_at vol start (blocks_in bytes) bytes)
-            ∙ ap (λ (k : ℕ). length core.pending.entries + k) (entries_at_length vol start (blocks_in bytes) bytes)
-            ∙ ap (λ (k : ℕ). k + blocks_in bytes) sound.waiting
-            ∙ sym more
-            ∙ sym (within_same size (volume_size core.units.vols m') (volume_same core.units.vols m m' same) (drop n core.log.held ++ own ∷ []))
-            ∙ ap (λ (ks : List Kept). blocks_within (volume_size core.units.vols m') ks) (sym rest);
-      }

@@ -1,4 +1,5 @@
 pub mod Brings
+pub mod Commits
 pub mod Contents
 pub mod Fills
 pub mod Groups

@@ -1,5 +1,5 @@
 -- A group that stands on its shelf with what it holds, and what a crash leaves of it.
-use Rattle.std.specs.Prelude.{◌≡◌, ◌⊎◌, ℕ, ◌-◌, ◌*◌, ◌<◌, ◌≤◌, IsTrue, List, [], length, take, drop, slice_get, None, Some, All}
+use Rattle.std.specs.Prelude.{◌≡◌, ◌⊎◌, ℕ, ◌-◌, ◌*◌, ◌<◌, ◌≤◌, IsTrue, List, [], ◌∷◌, ◌++◌, length, take, drop, slice_get, None, Some, All}
 use Rattle.vx_model.specs.Content.{Content, Write}
 use Rattle.vx_model.specs.declared.call.Update.{Update}
 use Rattle.vx_model.specs.declared.state.State.{State as SiteState}
@@ -15,6 +15,7 @@ use Rattle.vx_ringio.specs.Classes.{classes}
 use Rattle.vx_ringio.specs.Reading.{LeavesAs}
 use Rattle.vx_srl.specs.Rings.{RingOn}
 use Rattle.vx_overlay.specs.Writes.{entries_of}
+use Rattle.vx_overlay.specs.declared.entry.Entry.{Entry}
 use Rattle.vx_rvg.specs.Contents.{writes_of, HasSizes, KeepsContent, HasContent}
 use Rattle.vx_rvg.specs.Holdings.{Holding, kept_in, update_of, with_writes}
 use Rattle.vx_rvg.specs.Views.{Core, unit_of, applied_count}
@@ -23,15 +24,33 @@ use Rattle.vx_rvg.specs.Views.{Core, unit_of, applied_count}
 abbrev pub IsWholeRecord : Record → Type 0
 IsWholeRecord r = length (given r) ≡ 512 * r.head.count
 
--- The log stands, nothing of it is staged, each record of it is whole, and the volumes with its writes over them have the content. What waits are the blocks of
--- the writes that are not applied, and each other block of a volume has the content by itself.
-pub record Ready (core : Core) (c : Content) (s : State) (m : Meaning) : Type 0 where
+-- the blocks of these writes, and of those that are staged behind them
+abbrev pub entries_waiting : (ℕ → ℕ) → List Write → List Write → List Entry
+entries_waiting size xs [] = entries_of size xs
+entries_waiting size xs (y ∷ ys) = entries_of size xs ++ entries_of size (y ∷ ys)
+
+-- The log stands with these records staged, each record of it is whole, and the volumes with its writes over them have the content. What waits are the blocks of
+-- the writes that are not applied and of those that are staged, and each other block of a volume has the content by itself.
+pub record ReadyWith (staged : List Record) (core : Core) (c : Content) (s : State) (m : Meaning) : Type 0 where
   pub ring : RingOn core.log s m
-  pub idle : s.staged ≡ []
+  pub idle : s.staged ≡ staged
   pub whole : All IsWholeRecord s.held
   pub sizes : HasSizes core.units.vols c m
   pub content : KeepsContent core.units.vols c (writes_of s.held) m
-  pub waiting : core.pending.entries ≡ entries_of c.size (writes_of (drop (applied_count core) s.held))
+  pub waiting : core.pending.entries ≡ entries_waiting c.size (writes_of (drop (applied_count core) s.held)) (writes_of staged)
+  pub settled : (v b : ℕ) → b < c.size v → newest core.pending.entries v b ≡ None → Keeps m (unit_of core.units.vols v) b (c.block v b)
+
+-- the same where nothing is staged
+abbrev pub Ready : Core → Content → State → Meaning → Type 0
+Ready core c s m = ReadyWith [] core c s m
+
+-- The volumes with the writes of these records over them have the content. What waits are the blocks of those that are not applied, and each other block of a
+-- volume has the content by itself.
+pub record IsCovered (core : Core) (c : Content) (rs : List Record) (m : Meaning) : Type 0 where
+  pub whole : All IsWholeRecord rs
+  pub sizes : HasSizes core.units.vols c m
+  pub content : KeepsContent core.units.vols c (writes_of rs) m
+  pub waiting : core.pending.entries ≡ entries_of c.size (writes_of (drop (applied_count core) rs))
   pub settled : (v b : ℕ) → b < c.size v → newest core.pending.entries v b ≡ None → Keeps m (unit_of core.units.vols v) b (c.block v b)
 
 -- whatever a crash leaves, the map unit has these blocks
@@ -49,14 +68,18 @@ pub record Holds (units : Units) (c : Content) (maps : List (List ℕ)) (m : Mea
   pub blocks : (v b : ℕ) → b < c.size v → Keeps m (unit_of units.vols v) b (c.block v b)
   pub maps_are : KeepsMaps units maps m
 
--- a group that holds this: its log has these writes and no other
-pub record Stands (core : Core) (h : Holding) (m : Meaning) : Type 0 where
+-- a group that holds this, with these records staged: its log has these writes and no other
+pub record StandsWith (staged : List Record) (core : Core) (h : Holding) (m : Meaning) : Type 0 where
   pub log : State
-  pub ready : Ready core h.content log m
+  pub ready : ReadyWith staged core h.content log m
   pub low : core.log.header.low ≡ h.low
   pub writes : writes_of log.held ≡ h.writes
   pub place : core.log.header.place ≡ h.place
   pub maps : KeepsMaps core.units h.maps m
+
+-- the same where nothing is staged
+abbrev pub Stands : Core → Holding → Meaning → Type 0
+Stands core h m = StandsWith [] core h m
 
 -- An image has a log of this state and session, with a stamp up to this one, that has these writes from the first number and the first
 -- place on and no other; the content with them; and the maps.

@@ -57,17 +57,26 @@ abbrev pub blocks_within : (ℕ → ℕ) → List Kept → ℕ
 blocks_within size [] = 0
 blocks_within size (k ∷ ks) = (if leb (k.head.block + k.head.count) (size k.head.vol) then k.head.count else 0) + blocks_within size ks
 
--- The log lies on its unit, and each record of it is in the volumes or waits. Where no write failed and the shelf is up, nothing is
--- staged.
-pub record IsSound (c : Core) (m : Meaning) : Type 0 where
+-- how many blocks wait of these records, and of those that are staged behind them
+abbrev pub blocks_waiting : (ℕ → ℕ) → List Kept → List Kept → ℕ
+blocks_waiting size ks [] = blocks_within size ks
+blocks_waiting size ks (s ∷ ss) = blocks_within size ks + blocks_within size (s ∷ ss)
+
+-- The log lies on its unit, and each record of it is in the volumes or waits. Where no write failed and the shelf is up, these records
+-- are staged, and wait too.
+pub record IsSoundWith (staged : List Kept) (c : Core) (m : Meaning) : Type 0 where
   pub placed : Placed c.units m
   pub log_unit : c.log.unit ≡ c.units.srl
   pub lies : Lies c.log.unit c.log.ring m
-  pub idle : c.halted ≡ None → IsFalse m.down → c.log.staged ≡ []
+  pub idle : c.halted ≡ None → IsFalse m.down → c.log.staged ≡ staged
   pub low : c.log.header.low ≤ c.applied + 1
   pub known : c.applied ≤ head_of c.log
   pub room : c.pending.capacity ≡ c.log.ring
-  pub waiting : length c.pending.entries ≡ blocks_within (volume_size c.units.vols m) (drop (applied_count c) c.log.held)
+  pub waiting : length c.pending.entries ≡ blocks_waiting (volume_size c.units.vols m) (drop (applied_count c) c.log.held) staged
+
+-- the same where nothing is staged
+abbrev pub IsSound : Core → Meaning → Type 0
+IsSound c m = IsSoundWith [] c m
 
 -- a block of a data volume that a record which is not applied puts
 pub record Waits (c : Core) (m : Meaning) (u b : ℕ) : Type 0 where

@@ -17,9 +17,9 @@ ghost use Rattle.vx_srl.specs.Views.{BodyFits, free_of, need_of, next_of, used_a
 ghost use Rattle.vx_srlfmt.specs.Headers.{CanSpellState};
 
 use crate::RvgCore;
-use crate::patch::patch;
+use crate::read::read_blocks;
 use crate::write::commit;
-use vx_disk::{Shelf, refusal};
+use vx_disk::Shelf;
 use vx_model::limits::MOST_NUMBER;
 use vx_model::{No, State};
 
@@ -94,18 +94,7 @@ impl<S: Shelf> Rvg<S> {
         ensures spends { Spends (S.meaning self.old.shelf) (S.meaning self.new.shelf) }
         ensures works { OnOk result (Works (S.meaning self.old.shelf).disks (unit_of self.old.core.units.vols vol)) }
     {
-        let unit = self.core.unit(vol);
-        let size = self.shelf.size(unit);
-        if let Some(no) = self.core.read_refusal(size, start, into.len() as u64 / 512) {
-            return Err(no);
-        }
-        match self.shelf.read(unit, start, into) {
-            Ok(()) => {
-                patch(&self.core.pending, vol, start, into);
-                Ok(())
-            }
-            Err(error) => Err(refusal(error)),
-        }
+        read_blocks(&mut self.shelf, &self.core, vol, start, into)
     }
 
     /// How many data volumes it has, at most 30.

@@ -43,6 +43,13 @@ impl RvgCore {
         self.units.vols.as_slice().len() as u32
     }
 
+    /// How many blocks wait.
+    pub(crate) fn waiting(&self) -> usize
+        ensures { result ≡ length self.now.pending.entries }
+    {
+        self.pending.len()
+    }
+
     /// Why a write of so many blocks to a volume of `size` blocks is refused before it begins.
     pub(crate) fn write_refusal(&self, size: u64, start: u64, count: u64) -> Option<No>
         requires { count ≤ 16 }

@@ -23,11 +23,16 @@ fn three_units() -> Units
 // A shelf in memory of three disks of 16 blocks, with a new group on it. So many writes and flushes pass, and the next is a crash that
 // keeps no loose block.
 fn made(alloc: Global, calls: u64) -> Result<Rvg<MemShelf>, OutOfMemory> {
+    made_with(alloc, calls, 0)
+}
+
+// The same with a crash that keeps what a number picks.
+fn made_with(alloc: Global, calls: u64, pick: u64) -> Result<Rvg<MemShelf>, OutOfMemory> {
     let mut shelf = MemShelf::new(alloc, &[])?;
     if shelf.fit(alloc, None, 0, 3, 16).is_err() {
         return Err(OutOfMemory);
     }
-    shelf.fuse(calls, 0);
+    shelf.fuse(calls, pick);
     if shelf.units() != 3 {
         return Err(OutOfMemory);
     }
@@ -153,5 +158,81 @@ fn a_change_is_one_header(rt: HostRuntime) -> Result<(), Fail> {
     assert_eq!(rt; (rvg.low(), rvg.head(), rvg.session()), (8, 7, 2));
     assert_eq!(rt; first_byte(&mut rvg, 3), Ok(0x11));
     assert_eq!(rt; first_byte(&mut rvg, 4), Ok(0));
+    Ok(())
+}
+
+// Begins a group commit on a group that is up.
+fn begin(rvg: Rvg<MemShelf>) -> Result<Staging<MemShelf>, OutOfMemory> {
+    if rvg.halted().is_some() || rvg.shelf.is_down() {
+        return Err(OutOfMemory);
+    }
+    Ok(rvg.begin())
+}
+
+// Stages one block of these bytes.
+fn stage(staging: &mut Staging<MemShelf>, start: u64, value: u8) -> Result<u64, No> {
+    if staging.core.volumes() == 0 || staging.free() < 2 {
+        return Ok(99);
+    }
+    staging.stage(0, start, &[value; 512], 0)
+}
+
+// The first byte of a block, with what is staged.
+fn staged_byte(staging: &mut Staging<MemShelf>, block: u64) -> Result<u8, No> {
+    if staging.core.volumes() == 0 {
+        return Ok(99);
+    }
+    let mut bytes = [0; 512];
+    match staging.read(0, block, &mut bytes) {
+        Ok(()) => Ok(bytes[0]),
+        Err(no) => Err(no),
+    }
+}
+
+// Seals what is staged, and ends the group commit: the number, or 0 where the shelf fell.
+fn sealed(staging: Staging<MemShelf>) -> Result<(u64, Rvg<MemShelf>), OutOfMemory> {
+    let mut staging = staging;
+    match staging.seal() {
+        Ok(number) => Ok((number, staging.end())),
+        Err(_) => {
+            if !staging.shelf.is_down() {
+                return Err(OutOfMemory);
+            }
+            Ok((0, staging.end()))
+        }
+    }
+}
+
+// Two writes are staged under numbers 1 and 2, and are read. The head counts them once they are sealed: then a crash that keeps nothing
+// more leaves both.
+#[test]
+fn a_group_commit_is_durable_once_it_is_sealed(rt: HostRuntime) -> Result<(), Fail> {
+    let alloc = rt.alloc();
+    let mut staging = begin(made(alloc, 6 + 6)?)?;
+    assert_eq!(rt; stage(&mut staging, 3, 0x11), Ok(1));
+    assert_eq!(rt; stage(&mut staging, 3, 0x22), Ok(2));
+    assert_eq!(rt; staged_byte(&mut staging, 3), Ok(0x22));
+    assert_eq!(rt; staging.head(), 0);
+    let (number, rvg) = sealed(staging)?;
+    assert_eq!(rt; (number, rvg.head()), (2, 2));
+    let mut rvg = again(alloc, rvg)?;
+    assert_eq!(rt; rvg.head(), 2);
+    assert_eq!(rt; first_byte(&mut rvg, 3), Ok(0x22));
+    Ok(())
+}
+
+// With one call less the seal is stopped at its last flush, by a crash that keeps the header of the second record alone: a start finds
+// nothing of it.
+#[test]
+fn a_group_commit_that_is_cut_off_leaves_its_first_part(rt: HostRuntime) -> Result<(), Fail> {
+    let alloc = rt.alloc();
+    let mut staging = begin(made_with(alloc, 6 + 5, 2)?)?;
+    assert_eq!(rt; stage(&mut staging, 3, 0x11), Ok(1));
+    assert_eq!(rt; stage(&mut staging, 4, 0x22), Ok(2));
+    let (number, rvg) = sealed(staging)?;
+    assert_eq!(rt; (number, rvg.head()), (0, 0));
+    let mut rvg = again(alloc, rvg)?;
+    assert_eq!(rt; rvg.head(), 0);
+    assert_eq!(rt; first_byte(&mut rvg, 3), Ok(0));
     Ok(())
 }

@@ -1,25 +1,23 @@
-// The logging of a write.
-ghost use Rattle.std.specs.Prelude.{◌≡◌, ◌+◌, ◌<◌, ◌≤◌, [], ◌∷◌, length, None, Ok, IsTrue, IsFalse, OnOk, OnErr, IfErr};
+// The logging of a write: it is staged, and sealed at once.
+ghost use Rattle.std.specs.Prelude.{◌≡◌, ◌+◌, ◌<◌, ◌≤◌, [], ◌∷◌, length, None, IsFalse, OnOk};
 ghost use Rattle.vx_disk.specs.Moves.{Moves, Run};
 ghost use Rattle.vx_model.specs.Content.{Write, blocks_in};
 ghost use Rattle.vx_ringio.specs.Bodies.{IsBlocks};
 ghost use Rattle.vx_disk.specs.Burns.{FallsShort, MakesCalls};
 ghost use Rattle.vx_disk.specs.Causes.{Works};
 ghost use Rattle.vx_ringio.specs.Spends.{MakesAtLeast, Spends};
-ghost use Rattle.vx_ringio.specs.Tracks.{Lies};
-ghost use Rattle.vx_srl.specs.Calls.{staging, sealing};
-ghost use Rattle.vx_srl.specs.Views.{BodyFits, free_of, need_of, most_number, record_of};
+ghost use Rattle.vx_srl.specs.Views.{BodyFits, free_of, need_of, most_number};
 ghost use Rattle.vx_rvg.specs.Groups.{Writes, no_of};
 ghost use Rattle.vx_rvg.specs.Holdings.{Holding, with_writes};
-ghost use Rattle.vx_rvg.specs.Logging.{Logs, LogsTo, LogMoves};
 ghost use Rattle.vx_rvg.specs.Stands.{Stands, Writing};
-ghost use Rattle.vx_rvg.specs.Views.{Core, IsSound, last_of, volume_size};
+ghost use Rattle.vx_rvg.specs.Views.{IsSound, last_of, volume_size};
 
 use crate::RvgCore;
-use crate::patch::add_all;
+use crate::seal::seal_records;
+use crate::stage::stage_record;
 use vx_disk::Shelf;
 use vx_model::No;
-use vx_srl::{Srl, SrlNo};
+use vx_srl::SrlNo;
 
 // A refusal of the log. One for want of room does not come where the record fits.
 pub(crate) fn refused(why: SrlNo) -> No
@@ -29,38 +27,6 @@ pub(crate) fn refused(why: SrlNo) -> No
         SrlNo::Other(no) => no,
         SrlNo::NoRoom { need: _, free: _ } => No::Size,
         SrlNo::Overrun { low: _ } => No::Size,
-    }
-}
-
-// The record of a write, durable.
-fn log_record<S: Shelf>(
-    shelf: &mut S,
-    srl: &mut Srl,
-    vol: u32,
-    start: u64,
-    bytes: &[u8],
-) -> Result<u64, No>
-    requires lies { Lies srl.old.unit srl.old.ring (S.meaning shelf.old) }
-    requires blocks { IsBlocks bytes.now }
-    requires some { 0 < srl.old.header.low }
-    requires idle { srl.old.staged ≡ [] }
-    requires room { need_of bytes.now ≤ free_of srl.old }
-    requires number { srl.old.header.low + length srl.old.held ≤ most_number }
-    ensures logs { Logs srl.old vol start bytes.now (S.meaning shelf.old) (S.meaning shelf.new) srl.new result }
-    ensures leads { OnOk result (LogsTo srl.old vol start bytes.now srl.new (S.meaning shelf.old) (S.meaning shelf.new)) }
-    ensures moves { LogMoves srl.old vol start bytes.now (S.meaning shelf.old) (S.meaning shelf.new) }
-    ensures calls { OnOk result (BodyFits srl.old bytes.now → MakesCalls 4 (S.meaning shelf.old) (S.meaning shelf.new)) }
-    ensures short { BodyFits srl.old bytes.now → FallsShort 4 (S.meaning shelf.old) (S.meaning shelf.new) }
-    ensures least { OnOk result (MakesAtLeast 4 (S.meaning shelf.old) (S.meaning shelf.new)) }
-    ensures spends { Spends (S.meaning shelf.old) (S.meaning shelf.new) }
-    ensures works { OnOk result (Works (S.meaning shelf.old).disks srl.old.unit) }
-{
-    if let Err(why) = srl.stage(shelf, vol, start, bytes) {
-        return Err(refused(why));
-    }
-    match srl.seal(shelf) {
-        Ok(number) => Ok(number),
-        Err(why) => Err(refused(why)),
     }
 }
 
@@ -94,13 +60,14 @@ pub(crate) fn commit<S: Shelf>(
     ensures spends { Spends (S.meaning shelf.old) (S.meaning shelf.new) }
     ensures works { OnOk result (Works (S.meaning shelf.old).disks core.old.log.unit) }
 {
-    match log_record(shelf, &mut core.srl, vol, start, bytes) {
-        Ok(number) => {
-            add_all(&mut core.pending, vol, start, bytes);
-            Ok(number)
-        }
+    let before = core.pending.len();
+    if let Err(no) = stage_record(shelf, core, vol, start, bytes) {
+        return Err(no);
+    }
+    match seal_records(shelf, core) {
+        Ok(number) => Ok(number),
         Err(no) => {
-            core.halt(&no);
+            core.pending.keep_oldest(before);
             Err(no)
         }
     }

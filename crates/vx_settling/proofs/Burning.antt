@@ -1,17 +1,15 @@
 -- What events of settling make of a world in which fuses were noted: the world that they make, with those fuses.
-use Rattle.std.proofs.Common.{◌≡◌, ◌∙◌, ◌⊎◌, inl, inr, ◌+◌, ℕ, List, [], ◌∷◌, ◌++◌, Bool, true, false, ap, sym, subst, refl}
+use Rattle.std.proofs.Common.{◌≡◌, ◌∙◌, ◌⊎◌, inl, inr, ◌+◌, ℕ, List, ◌++◌, Bool, true, false, ap, sym, subst, refl}
 use Rattle.std.proofs.Math.Path.{fun_ext}
 use Rattle.std.specs.Prelude.{Option, Some, None, eqb, ltb, if◌then◌else◌}
-use Rattle.vx_model.specs.Content.{Write}
 use Rattle.vx_model.specs.Sites.{is_origin}
 use Rattle.vx_model.specs.declared.history.Line.{Line}
 use Rattle.vx_history.proofs.Updates.{at_place, eqb_apart, eqb_equal}
-use Rattle.vx_history.specs.Doubts.{After, Doubted, crashed_as, halved, happened, resolved, resolved_at, taken_up}
-use Rattle.vx_history.specs.Events.{crash_at, kept_of, lost_touch, packet_at, with_write}
+use Rattle.vx_history.specs.Doubts.{After, Doubted, crashed_as, halved, resolved, resolved_at, taken_up}
+use Rattle.vx_history.specs.Events.{crash_at, kept_of, lost_touch, packet_at}
 use Rattle.vx_history.specs.Gatherings.{emptied}
 use Rattle.vx_history.specs.Headers.{count_at, heard_headers}
 use Rattle.vx_history.specs.Likes.{IsLike, SameLink}
-use Rattle.vx_history.specs.Refusals.{Outcome}
 use Rattle.vx_history.specs.Sends.{is_linked, with_links}
 use Rattle.vx_history.specs.Step.{outcome_of, step}
 use Rattle.vx_history.specs.Stops.{IsFused}
@@ -24,7 +22,7 @@ use Rattle.vx_events.specs.LinkFinds.{pumped_with, target_with}
 use Rattle.vx_events.specs.LinksFit.{LinksFit}
 use Rattle.vx_world.proofs.LikeSteps.{step_like}
 use Rattle.vx_settling.specs.Burnt.{MayBurn, burnt_world, noted_as}
-use Rattle.vx_settling.specs.Kinds.{StaysAs, is_settling}
+use Rattle.vx_settling.specs.Kinds.{is_settling}
 use Rattle.vx_settling.proofs.Running.{event_stays, happens}
 
 pub burned_twice : (f : Fuse) → burned (burned f) ≡ burned f

@@ -1,5 +1,5 @@
 -- Where settling ends: at the head, which the reply names.
-use Rattle.std.proofs.Common.{◌≡◌, ◌∙◌, ◌<◌, ℕ, List, [], Bool, true, false, refl, ap, sym, subst, arith, length}
+use Rattle.std.proofs.Common.{◌≡◌, ◌∙◌, ◌<◌, ◌≤◌, ℕ, List, [], Bool, true, false, refl, ap, sym, subst, arith, length}
 use Rattle.std.proofs.lemmas.Bool.Decides.{nat_tests}
 use Rattle.std.specs.Prelude.{◌&&◌, leb, not, Option, Some, None, if◌then◌else◌}
 use Rattle.vx_model.specs.Sites.{is_origin, is_up}
@@ -23,7 +23,10 @@ use Rattle.vx_history.specs.declared.sender.SEvent.TheVariants.{Connect as Conne
 use Rattle.vx_script.specs.declared.line.ScriptLine.TheVariants.{Settle}
 use Rattle.vx_events.specs.Facts.{head_of, site_number}
 use Rattle.vx_events.specs.LinkEnds.{AreLeft, LinkEnds, LinkReplies, LinksDone}
+use Rattle.vx_events.proofs.LinkSettling.{may_settle, settle_agrees}
 use Rattle.vx_events.specs.LinkLists.{link_events}
+use Rattle.vx_events.specs.LinkedFacts.{refused_by}
+use Rattle.vx_events.specs.LinksFit.{LinksFit}
 use Rattle.vx_events.specs.Settles.{CanSettle}
 use Rattle.vx_events.specs.declared.said.Said.TheVariants.{Settled}
 use Rattle.vx_world.proofs.Pair.{falls, passes}
@@ -94,6 +97,8 @@ stays_can w v p s m can =
       runs_here = ap (λ (n : Node). n.halted) same ∙ can.runs_here;
       runs_there = ap (λ (n : Node). n.halted) at ∙ can.runs_there;
       sender = ap (λ (n : Node). is_origin n.role) same ∙ can.sender;
+      secondary = ap (λ (n : Node). n.role) at ∙ can.secondary;
+      line = ap (λ (n : Node). n.line) at ∙ can.line ∙ ap (λ (n : Node). n.line) (sym same);
       linked = ap (λ (l : Link). is_linked l) goes.rest ∙ can.linked;
       bunker = ap (λ (l : Link). l.bunker) goes.rest ∙ can.bunker;
       attached = ap (λ (l : Link). l.attached) goes.rest ∙ can.attached;
@@ -125,14 +130,28 @@ module _ (d last : Doubted) (p s : List ℕ) (origin : is_origin (d.world.nodes 
   pub first_same : last.world.nodes a ≡ d.world.nodes a
   first_same = ap (λ (v : World). v.nodes a) last_is ∙ (run_stays d.world es (are_all d.world a b)).origins a origin
 
-  pub settle_replies : LinkReplies (Settle p s) d last es (Settled (d.world.nodes a).safe)
-  settle_replies = ap (λ (n : ℕ). Settled n) (sym (ap head_of first_same ∙ head_is (d.world.nodes a) origin))
+  head_same : head_of (last.world.nodes a) ≡ (d.world.nodes a).safe
+  head_same = ap head_of first_same ∙ head_is (d.world.nodes a) origin
 
-  pub settle_done : (told : Type 0) (new : Doubted) → AreLeft (Settle p s) d last new → LinkEnds told d (Settle p s) [] (Settled (d.world.nodes a).safe) new
-  settle_done told new left = LinksDone last runs (no_fails es (are_all d.world a b)) refl settle_replies left
+  pub settle_replies : (d.world.nodes a).safe ≤ (last.world.links a b).stored → LinkReplies (Settle p s) d last es (Settled (d.world.nodes a).safe)
+  settle_replies stored = record {
+    says = ap (λ (n : ℕ). Settled n) (sym head_same);
+    stored = subst (λ (n : ℕ). n ≤ (last.world.links a b).stored) (sym head_same) stored;
+  }
+
+  pub settle_done : (told : Type 0) (new : Doubted) → (d.world.nodes a).safe ≤ (last.world.links a b).stored → AreLeft (Settle p s) d last new
+      → LinkEnds told d (Settle p s) [] (Settled (d.world.nodes a).safe) new
+  settle_done told new stored left = LinksDone last runs (no_fails es (are_all d.world a b)) refl (settle_replies stored) left
 
   -- all that is durable at the first site is stored at the second
   pub settle_stored : GoodWorld d.world → MaySettle d.world a b → (last.world.links a b).stored ≡ (d.world.nodes a).safe
   settle_stored good may =
       let ends = settling_ends d.world a b good may in
       ap (λ (v : World). (v.links a b).stored) last_is ∙ ends.0 ∙ ends.1
+
+-- where no test of the line refuses it in a good world, that is so
+pub free_stored : (d last : Doubted) (files : Bool) (p s : List ℕ) → GoodWorld d.world → LinksFit d → refused_by d.world files (Settle p s) ≡ None → Runs d (link_events d.world (Settle p s)) last
+    → (last.world.links (site_number d.world p) (site_number d.world s)).stored ≡ (d.world.nodes (site_number d.world p)).safe
+free_stored d last files p s good fits free runs =
+    let can = settle_agrees d files p s fits free in
+    settle_stored d last p s can.sender runs good (may_settle d.world (site_number d.world p) (site_number d.world s) can)

@@ -1,40 +1,38 @@
 -- What each event of which settling is made changes of a world.
-use Rattle.std.proofs.Common.{length, ◌≡◌, ◌∙◌, ◌+◌, inl, inr, ℕ, List, [], ◌∷◌, Bool, true, false, refl, ap, sym, subst, arith}
+use Rattle.std.proofs.Common.{◌≡◌, ◌∙◌, ◌+◌, ◌-◌, ◌<◌, ℕ, zero, suc, List, Bool, true, false, refl, ap, sym, subst, arith}
 use Rattle.std.proofs.lemmas.Bool.Decides.{nat_tests}
 use Rattle.std.specs.List.{AllByRecursion}
-use Rattle.std.specs.Prelude.{not, ◌&&◌, eqb, leb, ltb, Option, Some, None, if◌then◌else◌}
+use Rattle.std.specs.Prelude.{not, ◌&&◌, eqb, leb, ltb, min, Option, Some, None, if◌then◌else◌}
 use Rattle.vx_model.specs.Content.{Write}
 use Rattle.vx_model.specs.Sites.{is_origin, is_up}
-use Rattle.vx_model.specs.declared.history.Line.{Line}
+use Rattle.vx_model.specs.declared.site.Mark.TheVariants.{Consistent}
+use Rattle.vx_model.specs.declared.site.SPhase.{SPhase}
 use Rattle.vx_model.specs.declared.no.Named.TheVariants.{Number as ByNumber}
 use Rattle.vx_model.specs.declared.no.No.{No}
 use Rattle.vx_model.specs.declared.no.No.TheVariants.{Down as NotUp, LinkDown, Paused, Role as WrongRole, Unknown}
 use Rattle.vx_model.specs.declared.no.SiteName.TheVariants.{Number as SiteNumber}
 use Rattle.vx_history.proofs.Updates.{by_test}
-use Rattle.vx_history.specs.Events.{acknowledged, applied, applied_by, apply_at, delivered, facts_of, gathered_if, greeting_back, greets, handed, heard, is_taken, link_event, link_heard, link_step, packet_at, reached_at, said_of_link, taken_if, ticked_at, ticked_link, update_taken, with_write}
+use Rattle.vx_history.specs.Events.{acknowledged, applied, applied_by, apply_at, delivered, facts_of, gathered_if, greeting_back, handed, heard, is_taken, link_event, link_heard, link_step, packet_at, reached_at, said_of_link, taken_if, ticked_at, ticked_link, update_taken, with_write}
 use Rattle.vx_history.specs.Gatherings.{completes}
 use Rattle.vx_history.specs.Headers.{count_at, heard_headers}
 use Rattle.vx_history.specs.LinkForms.{plain_link, plain_receiver, with_plain}
-use Rattle.vx_history.specs.Receiving.{received_step}
+use Rattle.vx_history.specs.Receiving.{Received, is_log_phase, received_step, with_applied}
 use Rattle.vx_history.specs.Refusals.{Outcome, at_site, at_work, is_running, keeps_links, on_link, says, unless, unless_halted, when_live}
 use Rattle.vx_history.specs.Sending.{Sent, sent_step}
-use Rattle.vx_history.specs.Sends.{greeting, is_linked, packets_of, sending, sent_by, updates, with_link}
+use Rattle.vx_history.specs.Sends.{is_linked, packets_of, sending, sent_by, with_link}
 use Rattle.vx_history.specs.Step.{done, outcome_of, step}
 use Rattle.vx_history.specs.World.{DataAck, Hello, Link, Message, NetAck, Node, Packet, Update, World, no_regions, updated}
 use Rattle.vx_history.specs.declared.event.Event.TheVariants.{Apply, Connect, Deliver, Pump, Tick}
 use Rattle.vx_history.specs.declared.event.Said.TheVariants.{Ignored as IsIgnored}
 use Rattle.vx_history.specs.declared.receiver.RAction.{RAction}
 use Rattle.vx_history.specs.declared.receiver.RAction.TheVariants.{DataAck as AcksFromDisk, Ignored as Ignores, IgnoredAck, Nothing as DoesNothing, Take}
-use Rattle.vx_history.specs.declared.receiver.REvent.TheVariants.{Applied, Update as HearUpdate}
+use Rattle.vx_history.specs.declared.receiver.REvent.TheVariants.{Update as HearUpdate}
 use Rattle.vx_history.specs.declared.receiver.RState.{RState}
-use Rattle.vx_history.specs.declared.sender.Action.{Action}
-use Rattle.vx_history.specs.declared.sender.Action.TheVariants.{Ignored, Nothing, Taken, Updates}
 use Rattle.vx_history.specs.declared.sender.SEvent.{SEvent}
 use Rattle.vx_history.specs.declared.sender.SEvent.TheVariants.{Connect as ConnectLink, DataAck as HearDataAck, Hello as HearHello, NetAck as HearNetAck, Pump as PumpLink, Tick as TickLink}
-use Rattle.vx_world.proofs.Links.{each_packet}
-use Rattle.vx_world.proofs.Lists.{each_append}
-use Rattle.vx_settling.specs.Between.{IsSent, is_update}
+use Rattle.vx_settling.specs.Between.{is_update}
 use Rattle.vx_settling.proofs.Rules.{PlainGoes, connect_goes, disk_goes, goes_plain, hello_goes, memory_goes, pump_goes, tick_goes}
+use Rattle.vx_settling.proofs.Taking.{takes_applied, takes_written}
 use Rattle.vx_settling.proofs.Touching.{Changed, LinkTouch, SiteTouch, Touch, link_moved, link_same, site_gathered, site_linked, site_same, site_sent, site_taken, touch_same, with_headers}
 
 -- ---- behind tests
@@ -64,63 +62,42 @@ link_by P w p s o here there =
 
 -- ---- the link's own events
 
-module _ (f t g p s : ℕ) (w : World) where
+module _ (Q : Packet → Type 0) (f t g p s : ℕ) (w : World) where
   abbrev P : World → Type 0
-  P v = Touch (IsSent p s) f t g p s w v
+  P v = Touch Q f t g p s w v
 
   abbrev link : Link
   link = w.links p s
 
   -- the link as its rule leaves it, and what is sent on it
-  pub event_touch : (e : SEvent) → PlainGoes (plain_link s link) (link_step w p s e).link → P (link_event w p s e)
-  event_touch e goes =
+  pub event_touch : (e : SEvent) → PlainGoes (plain_link s link) (link_step w p s e).link → AllByRecursion Q (sent_by (link_step w p s e).action p s (w.nodes p)) → P (link_event w p s e)
+  event_touch e goes all =
       let r : Sent = link_step w p s e in
       let m : Link = with_plain link r.link in
       let moved : LinkTouch p s w (with_link w p s m) = link_moved p s w m (goes_plain s link r.link link.since goes) in
       record {
-        site = site_sent (IsSent p s) f t g w (with_link w p s m) (sent_by r.action p s (w.nodes p))
-            (site_linked (IsSent p s) f t g w w p (updated (w.links p) s m) (site_same (IsSent p s) f t g w)) (by_action r.action);
+        site = site_sent Q f t g w (with_link w p s m) (sent_by r.action p s (w.nodes p)) (site_linked Q f t g w w p (updated (w.links p) s m) (site_same Q f t g w)) all;
         link = record { rows = moved.rows; links = moved.links; link = moved.link };
       }
-    where
-      each_update : (line : Line) (n : ℕ) (xs : List Write) → AllByRecursion (IsSent p s) (updates p s line n xs)
-      each_update line n [] = tt
-      each_update line n (x ∷ xs) =
-          each_append (IsSent p s) (packets_of p s line (Update n x)) (updates p s line (n + 1) xs)
-          (each_packet (IsSent p s) p s line (Update n x) (λ part. inl (refl, refl, refl))) (each_update line (n + 1) xs)
 
-      by_action : (a : Action) → AllByRecursion (IsSent p s) (sent_by a p s (w.nodes p))
-      by_action Nothing = tt
-      by_action Ignored = tt
-      by_action Taken = tt
-      by_action (Updates from to) = each_update (w.nodes p).line from _
-
-  greeting_sent : AllByRecursion (IsSent p s) (greeting_back w p s)
-  greeting_sent =
-      by_test (λ (qs : List Packet). AllByRecursion (IsSent p s) qs) (greets (w.nodes p) (w.nodes s)) (greeting s p (w.nodes s)) []
-      (λ _. each_packet (IsSent p s) s p (w.nodes s).line (Hello (w.nodes s).session (length (w.nodes s).log) (w.nodes s).safe) (λ part. inr (refl, refl))) (λ _. tt)
-
-  pub connect_changes : Changed (IsSent p s) f t g p s w (step w (Connect p s)).world
-  connect_changes =
+  pub connect_changes : AllByRecursion Q (greeting_back w p s) → Changed Q f t g p s w (step w (Connect p s)).world
+  connect_changes all =
       let v : World = link_event w p s ConnectLink in
       let qs : List Packet = greeting_back w p s in
-      let m : P v = event_touch ConnectLink (connect_goes (plain_link s link) (facts_of (w.nodes p) (w.nodes p).line)) in
-      with_headers (IsSent p s) f t g p s w (outcome_of w (Connect p s)).world (λ i. 0) (λ i apart. refl)
-      (link_by P w p s (done (sending v qs)) (touch_same (IsSent p s) f t g p s w)
-      (record { site = site_sent (IsSent p s) f t g w v qs m.site greeting_sent; link = record { rows = m.link.rows; links = m.link.links; link = m.link.link } }))
+      let m : P v = event_touch ConnectLink (connect_goes (plain_link s link) (facts_of (w.nodes p) (w.nodes p).line)) tt in
+      with_headers Q f t g p s w (outcome_of w (Connect p s)).world (λ i. 0) (λ i apart. refl)
+      (link_by P w p s (done (sending v qs)) (touch_same Q f t g p s w)
+      (record { site = site_sent Q f t g w v qs m.site all; link = record { rows = m.link.rows; links = m.link.links; link = m.link.link } }))
 
-  pub tick_changes : Changed (IsSent p s) f t g p s w (step w (Tick p s)).world
+  pub tick_changes : Changed Q f t g p s w (step w (Tick p s)).world
   tick_changes =
       let l : Link = ticked_link w p s in
-      with_headers (IsSent p s) f t g p s w (outcome_of w (Tick p s)).world (λ i. 0) (λ i apart. refl)
-      (link_by P w p s (done (ticked_at w p s)) (touch_same (IsSent p s) f t g p s w)
+      with_headers Q f t g p s w (outcome_of w (Tick p s)).world (λ i. 0) (λ i apart. refl)
+      (link_by P w p s (done (ticked_at w p s)) (touch_same Q f t g p s w)
       (record {
-        site = site_linked (IsSent p s) f t g w w p (updated (w.links p) s l) (site_same (IsSent p s) f t g w);
+        site = site_linked Q f t g w w p (updated (w.links p) s l) (site_same Q f t g w);
         link = link_moved p s w l (goes_plain s link (link_step w p s TickLink).link no_regions (tick_goes (plain_link s link) (facts_of (w.nodes p) (w.nodes p).line)));
       }))
-
-  pub pump_touch : P (link_event w p s PumpLink)
-  pump_touch = event_touch PumpLink (pump_goes (plain_link s link) (facts_of (w.nodes p) (w.nodes p).line))
 
   pub pump_by : (P : World → Type 0) → P w → P (link_event w p s PumpLink) → P (outcome_of w (Pump p s)).world
   pump_by P here there =
@@ -128,40 +105,50 @@ module _ (f t g p s : ℕ) (w : World) where
       link_by P w p s (when_live w s link last) here
       (unless_by P (not (link.attached && link.connected)) (LinkDown (SiteNumber s)) w (unless link.paused Paused w last) here (unless_by P link.paused Paused w last here there))
 
-  pub pump_changes : Changed (IsSent p s) f t g p s w (step w (Pump p s)).world
-  pump_changes =
-      with_headers (IsSent p s) f t g p s w (outcome_of w (Pump p s)).world (λ i. 0) (λ i apart. refl) (pump_by P (touch_same (IsSent p s) f t g p s w) pump_touch)
+  pub pump_changes : AllByRecursion Q (sent_by (link_step w p s PumpLink).action p s (w.nodes p)) → Changed Q f t g p s w (step w (Pump p s)).world
+  pump_changes all =
+      with_headers Q f t g p s w (outcome_of w (Pump p s)).world (λ i. 0) (λ i apart. refl)
+      (pump_by P (touch_same Q f t g p s w) (event_touch PumpLink (pump_goes (plain_link s link) (facts_of (w.nodes p) (w.nodes p).line)) all))
 
 -- ---- records that are applied
 
-module _ (f a g p q s : ℕ) (w : World) where
+some_of : (k : ℕ) → eqb k 0 ≡ false → 0 < k
+some_of zero e = absurd (cc)
+some_of (suc k) e = omega arith
+
+module _ (Q : Packet → Type 0) (f g p q s : ℕ) (w : World) (all : (number : ℕ) → AllByRecursion Q (packets_of s (w.nodes s).fed_by (w.nodes s).line (DataAck number))) where
   abbrev Applies : World → Type 0
-  Applies v = Touch (IsSent a s) f s g p q w v
+  Applies v = Touch Q f s g p q w v
 
-  by_rule : is_origin (w.nodes s).role ≡ false → (r : RState) (act : RAction) → Applies (applied_by w s r act).world
-  by_rule receives r DoesNothing = touch_same (IsSent a s) f s g p q w
-  by_rule receives r Ignores = touch_same (IsSent a s) f s g p q w
-  by_rule receives r (IgnoredAck number) = touch_same (IsSent a s) f s g p q w
-  by_rule receives r (Take number) = touch_same (IsSent a s) f s g p q w
-  by_rule receives r (AcksFromDisk number) =
-      let n : Node = applied (w.nodes s) number r.mark in
-      let qs : List Packet = packets_of s n.fed_by n.line (DataAck n.safe) in
+  by_count : is_origin (w.nodes s).role ≡ false → (count : ℕ) → Applies (apply_at w s count).world
+  by_count receives count =
+      let n : Node = w.nodes s in
+      let st : RState = plain_receiver n in
+      let left : ℕ = st.waiting - count in
+      let number : ℕ = st.last - left in
+      by_test (λ (r : Received). Applies (applied_by w s r.state r.action).world) (eqb (min count st.waiting) 0) (record { state = st; action = DoesNothing }) (with_applied st left)
+      (λ _. touch_same Q f s g p q w)
+      (λ some.
+      let few : 0 < min count st.waiting = some_of (min count st.waiting) some in
+      let after : Node = applied n number (with_applied st left).state.mark in
       record {
-        site = site_sent (IsSent a s) f s g w _ qs (site_taken (IsSent a s) f s g w n (record { rest = refl; fed = inl refl }) receives)
-            (each_packet (IsSent a s) s n.fed_by n.line (DataAck n.safe) (λ part. inr (refl, refl)));
-        link = link_same p q w (acknowledged w s n) (λ i k. refl);
-      }
+        site = site_sent Q f s g w _ (packets_of s n.fed_by n.line (DataAck number))
+            (site_taken Q f s g w after
+            (takes_applied f n number (with_applied st left).state.mark (omega (arith, few)) (omega arith)
+            (λ quiet. ap (λ (phase : SPhase). (let behind : RState = record st { waiting = left } in if is_log_phase phase && leb n.end number then (record behind { mark = Consistent }) else behind).mark) quiet))
+            receives) (all number);
+        link = link_same p q w (acknowledged w s after) (λ i k. refl);
+      })
 
-  pub apply_changes : (count reached : ℕ) → Changed (IsSent a s) f s g p q w (step w (Apply s count reached)).world
+  pub apply_changes : (count reached : ℕ) → Changed Q f s g p q w (step w (Apply s count reached)).world
   apply_changes count reached =
       let n : Node = w.nodes s in
       let last : Outcome = (if is_origin n.role then reached_at w s count reached else apply_at w s count) in
-      let same : Applies w = touch_same (IsSent a s) f s g p q w in
-      with_headers (IsSent a s) f s g p q w (outcome_of w (Apply s count reached)).world (λ i. 0) (λ i apart. refl)
+      let same : Applies w = touch_same Q f s g p q w in
+      with_headers Q f s g p q w (outcome_of w (Apply s count reached)).world (λ i. 0) (λ i apart. refl)
       (site_by Applies w s (at_work w s last) same
       (work_by Applies w s last same
-      (by_test (λ (o : Outcome). Applies o.world) (is_origin n.role) (reached_at w s count reached) (apply_at w s count) (λ _. same)
-      (λ receives. by_rule receives (received_step (plain_receiver n) (Applied count)).state (received_step (plain_receiver n) (Applied count)).action))))
+      (by_test (λ (o : Outcome). Applies o.world) (is_origin n.role) (reached_at w s count reached) (apply_at w s count) (λ _. same) (λ receives. by_count receives count))))
 
 -- ---- packets
 
@@ -175,10 +162,8 @@ abbrev behind : World → (number : ℕ) → Option Packet → World
 behind w number o = record (delivered w number o).world { headers = λ i. w.headers i + heard_headers w (delivered w number o).world i o }
 
 -- an update changes its target alone
-module _ (a p s : ℕ) (w : World) (q : Packet) (k : ℕ) (x : Write) (is : q.message ≡ Update k x) where
-  abbrev Q : Packet → Type 0
-  Q = IsSent a q.target
-
+module _ (Q : Packet → Type 0) (p s : ℕ) (w : World) (q : Packet) (k : ℕ) (x : Write) (is : q.message ≡ Update k x)
+    (acks : (number : ℕ) → AllByRecursion Q (packets_of q.target q.source (w.nodes q.target).line (NetAck (w.nodes q.target).session number))) where
   record Hands (v : World) : Type 0 where
     site : SiteTouch Q q.source q.target q.target w v
     links : (i j : ℕ) → v.links i j ≡ w.links i j
@@ -186,13 +171,10 @@ module _ (a p s : ℕ) (w : World) (q : Packet) (k : ℕ) (x : Write) (is : q.me
   hands_none : Hands w
   hands_none = record { site = site_same Q q.source q.target q.target w; links = λ i j. refl }
 
-  acks : (number : ℕ) → AllByRecursion Q (packets_of q.target q.source (w.nodes q.target).line (NetAck (w.nodes q.target).session number))
-  acks number = each_packet Q q.target q.source (w.nodes q.target).line (NetAck (w.nodes q.target).session number) (λ part. inr (refl, refl))
-
   by_whole : is_origin (w.nodes q.target).role ≡ false → (whole : Bool) (number : ℕ) → Hands (taken_if whole w q x number).world
   by_whole receives true number = record {
     site = site_sent Q q.source q.target q.target w _ _
-        (site_taken Q q.source q.target q.target w (with_write (w.nodes q.target) q.source x) (record { rest = refl; fed = inr refl }) receives) (acks number);
+        (site_taken Q q.source q.target q.target w (with_write (w.nodes q.target) q.source x) (takes_written q.source (w.nodes q.target) x) receives) (acks number);
     links = λ i j. refl;
   }
   by_whole receives false number = hands_none

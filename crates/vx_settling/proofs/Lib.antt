@@ -1,6 +1,8 @@
 pub mod Rules
+pub mod Taking
 pub mod Touching
 pub mod Events
+pub mod Going
 pub mod Running
 pub mod Unfolding
 pub mod Stopping
@@ -9,5 +11,6 @@ pub mod Named
 pub mod Moving
 pub mod Working
 pub mod Burning
+pub mod WithinOne
 pub mod WithinLines
 pub mod WithinApply

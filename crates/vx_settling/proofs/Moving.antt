@@ -2,16 +2,19 @@
 use Rattle.std.proofs.Common.{◌≡◌, ◌∙◌, ◌⊎◌, inl, inr, ◌++◌, ◌<◌, ◌≤◌, ℕ, zero, suc, List, [], ◌∷◌, Bool, true, false, refl, ap, sym, subst, arith, append_assoc, length}
 use Rattle.std.proofs.lemmas.List.{append-nil}
 use Rattle.std.specs.List.{AllByRecursion}
-use Rattle.std.specs.Prelude.{eqb, Option, Some, slice_get}
+use Rattle.std.specs.Prelude.{eqb, Option, Some, None, slice_get}
 use Rattle.vx_model.specs.Content.{Write}
 use Rattle.vx_model.specs.Sites.{is_origin}
 use Rattle.vx_model.specs.declared.link.Mode.{Mode}
 use Rattle.vx_model.specs.declared.link.Mode.TheVariants.{Log}
-use Rattle.vx_model.specs.declared.no.No.TheVariants.{Role as WrongRole}
+use Rattle.vx_model.specs.declared.limits.TheConstants.{MOST_NUMBER}
+use Rattle.vx_model.specs.declared.no.Counted.TheVariants.{Number}
+use Rattle.vx_model.specs.declared.no.No.TheVariants.{Limit}
 use Rattle.vx_history.proofs.Updates.{at_place, eqb_apart, eqb_equal}
 use Rattle.vx_history.specs.Doubts.{Doubted, happened}
 use Rattle.vx_history.specs.Events.{packet_at, with_write}
-use Rattle.vx_history.specs.Sends.{is_linked}
+use Rattle.vx_history.specs.Gatherings.{came_after, key_of}
+use Rattle.vx_history.specs.Sends.{is_linked, packets_of}
 use Rattle.vx_history.specs.Settling.{is_between}
 use Rattle.vx_history.specs.Step.{step}
 use Rattle.vx_history.specs.Stops.{IsFused}
@@ -23,109 +26,107 @@ use Rattle.vx_effects.proofs.Fitting.{updated_other}
 use Rattle.vx_events.specs.Facts.{site_number}
 use Rattle.vx_events.specs.Fails.{Fails}
 use Rattle.vx_events.specs.LinkEnds.{AreLeft, LinkEnds, LinksFind}
-use Rattle.vx_events.specs.LinkFinds.{EndsBetween, GivesUp, HasMoved, MayTake, MovesBetween, SettlesOther, TakesOf, pumped_with, target_with}
+use Rattle.vx_events.specs.LinkFinds.{EndsBetween, GivesUp, GoesOn, HasMoved, MayTake, MovesBetween, PumpSends, SettlesOther, TakesOf, kept_with, pumped_with, taken_with, target_with}
 use Rattle.vx_events.specs.LinksFit.{LinksFit}
 use Rattle.vx_events.specs.Parts.{StopsBetween, StopsShort}
 use Rattle.vx_events.specs.Settles.{CanSettle}
 use Rattle.vx_events.specs.declared.said.Said.{Said}
 use Rattle.vx_events.specs.declared.said.Said.TheVariants.{Refused}
-use Rattle.vx_world.proofs.Lists.{each_append, each_found}
-use Rattle.vx_settling.specs.Between.{IsSent, MayMove, Passes, is_update}
+use Rattle.vx_world.proofs.Lists.{each_append, each_found, each_weaker}
+use Rattle.vx_settling.specs.Between.{IsSent, MayMove, is_update}
 use Rattle.vx_settling.specs.Kinds.{StillGoes}
 use Rattle.vx_settling.proofs.Events.{answer_changes, apply_changes, connect_changes, pump_changes, tick_changes, update_changes}
+use Rattle.vx_settling.proofs.Going.{disk_sent, greeting_sent, is_sent, memory_sent, pump_any, pump_sent, went}
 use Rattle.vx_settling.proofs.Named.{to_first}
-use Rattle.vx_settling.proofs.Touching.{Changed, link_same, takes_same}
+use Rattle.vx_settling.proofs.Taking.{takes_same, takes_then, takes_written}
+use Rattle.vx_settling.proofs.Touching.{Changed, link_same}
 use Rattle.vx_settling.proofs.Unfolding.{packet_found}
 
 -- ---- one step
 
 moved : (l m : Link) → StillGoes l m → l.connected ≡ true → l.trimmed ≡ 0 → l.mode ≡ Log → HasMoved l m
-moved l m goes connected trimmed mode =
-    goes.rest
-    ∙ ap (λ (x : Bool). let y : Link = record l { connected = x; session = m.session; net = m.net; stored = m.stored; sent = m.sent; trimmed = m.trimmed; mode = m.mode; since = m.since } in y)
-    (goes.connects connected ∙ sym connected)
-    ∙ ap (λ (x : ℕ). let y : Link = record l { session = m.session; net = m.net; stored = m.stored; sent = m.sent; trimmed = x; mode = m.mode; since = m.since } in y)
-    (goes.trims trimmed ∙ sym trimmed)
-    ∙ ap (λ (x : Mode). let y : Link = record l { session = m.session; net = m.net; stored = m.stored; sent = m.sent; mode = x; since = m.since } in y) (goes.logs mode ∙ sym mode)
+moved l m goes connected trimmed mode = record {
+  rest =
+      goes.rest
+      ∙ ap (λ (x : Bool). let y : Link = record l { connected = x; session = m.session; net = m.net; stored = m.stored; sent = m.sent; trimmed = m.trimmed; mode = m.mode; since = m.since } in y)
+      (goes.connects connected ∙ sym connected)
+      ∙ ap (λ (x : ℕ). let y : Link = record l { session = m.session; net = m.net; stored = m.stored; sent = m.sent; trimmed = x; mode = m.mode; since = m.since } in y)
+      (goes.trims trimmed ∙ sym trimmed)
+      ∙ ap (λ (x : Mode). let y : Link = record l { session = m.session; net = m.net; stored = m.stored; sent = m.sent; mode = x; since = m.since } in y) (goes.logs mode ∙ sym mode);
+  session = goes.sessions;
+  stored = goes.stores;
+}
 
-module _ (told : Type 0) (p s : ℕ) (d : Doubted) (may : MayMove p s d.world) where
+module _ (p s : ℕ) (d : Doubted) (may : MayMove p s d.world) where
+  abbrev Goes : Packet → Type 0
+  Goes q = GoesOn p s d.world q
+
   -- what an event changed that touches no other sites and no other link
-  passes_by : (Q : Packet → Type 0) (g : ℕ) (v : World) → (g ≡ p) ⊎ (g ≡ s) → (m : Changed Q p s g p s d.world v) → (told → AllByRecursion (IsSent p s) m.site.more)
-      → Passes told p s d (record d { world = v })
-  passes_by Q g v one m all = record {
-    moves = record {
-      apart = may.can.apart;
-      up = may.can.there;
-      linked = may.can.linked;
-      sites = m.site.sites;
-      nodes = m.site.nodes;
-      takes = m.site.node;
-      rows = m.link.rows;
-      links = m.link.links;
-      moves = moved (d.world.links p s) (v.links p s) m.link.link may.can.connected may.trimmed may.can.mode;
-      headers = m.headers;
-      written = m.written;
-      gathering = λ i apart other. m.site.gathering i (neither i apart other one);
-      lines = m.site.lines;
-      promised = m.site.promised;
-      more = m.site.more;
-      sent = m.site.sent;
-      after = λ i. refl;
-    };
-    all = all;
+  passes_by : (g : ℕ) (v : World) → (g ≡ p) ⊎ (g ≡ s) → Changed Goes p s g p s d.world v → MovesBetween p s d (record d { world = v })
+  passes_by g v one m = record {
+    apart = may.can.apart;
+    up = may.can.there;
+    linked = may.can.linked;
+    sites = m.site.sites;
+    nodes = m.site.nodes;
+    takes = m.site.node;
+    rows = m.link.rows;
+    links = m.link.links;
+    moves = moved (d.world.links p s) (v.links p s) m.link.link may.can.connected may.trimmed may.can.mode;
+    headers = m.headers;
+    written = m.written;
+    gathering = λ i apart other. m.site.gathering i (neither i apart other one);
+    lines = m.site.lines;
+    promised = m.site.promised;
+    more = m.site.more;
+    sent = m.site.sent;
+    all = m.site.all;
+    after = λ i. refl;
   }
     where
       neither : (i : ℕ) → (i ≡ p → ⊥) → (i ≡ s → ⊥) → (g ≡ p) ⊎ (g ≡ s) → i ≡ g → ⊥
       neither i apart other (inl here) same = apart (same ∙ here)
       neither i apart other (inr there) same = other (same ∙ there)
 
-  pub begins : Passes told p s d d
+  pub begins : MovesBetween p s d d
   begins = record {
-    moves = record {
-      apart = may.can.apart;
-      up = may.can.there;
-      linked = may.can.linked;
-      sites = refl;
-      nodes = λ i apart. refl;
-      takes = takes_same p (d.world.nodes s);
-      rows = λ i k apart. refl;
-      links = λ k apart. refl;
-      moves = refl;
-      headers = λ i apart. refl;
-      written = omega arith;
-      gathering = λ i apart other. refl;
-      lines = λ l. refl;
-      promised = refl;
-      more = [];
-      sent = sym (append-nil d.world.packets);
-      after = λ i. refl;
-    };
-    all = λ tells. tt;
+    apart = may.can.apart;
+    up = may.can.there;
+    linked = may.can.linked;
+    sites = refl;
+    nodes = λ i apart. refl;
+    takes = takes_same p (d.world.nodes s);
+    rows = λ i k apart. refl;
+    links = λ k apart. refl;
+    moves = record { rest = refl; session = omega arith; stored = omega arith };
+    headers = λ i apart. refl;
+    written = omega arith;
+    gathering = λ i apart other. refl;
+    lines = λ l. refl;
+    promised = refl;
+    more = [];
+    sent = sym (append-nil d.world.packets);
+    all = tt;
+    after = λ i. refl;
   }
 
-  -- of such packets
-  passes_sent : (g : ℕ) (v : World) → (g ≡ p) ⊎ (g ≡ s) → Changed (IsSent p s) p s g p s d.world v → Passes told p s d (record d { world = v })
-  passes_sent g v one m = passes_by (IsSent p s) g v one m (λ tells. m.site.all)
+  pub connects : (taken : Bool) → MovesBetween p s d (happened d (Connect p s) taken)
+  connects taken = passes_by s (step d.world (Connect p s)).world (inr refl) (connect_changes Goes p s s p s d.world (greeting_sent p s d.world may.can.line))
 
-  -- of any packets
-  any_all : (qs : List Packet) → AllByRecursion (λ (q : Packet). Unit {0}) qs
-  any_all [] = tt
-  any_all (q ∷ qs) = (tt, any_all qs)
+  pub ticks : (taken : Bool) → MovesBetween p s d (happened d (Tick p s) taken)
+  ticks taken = passes_by s (step d.world (Tick p s)).world (inr refl) (tick_changes Goes p s s p s d.world)
 
-  pub connects : (taken : Bool) → Passes told p s d (happened d (Connect p s) taken)
-  connects taken = passes_sent s (step d.world (Connect p s)).world (inr refl) (connect_changes p s s p s d.world)
+  pump_by_log : Changed Goes p s s p s d.world (step d.world (Pump p s)).world
+  pump_by_log = pump_changes Goes p s s p s d.world (pump_sent p s d.world)
 
-  pub ticks : (taken : Bool) → Passes told p s d (happened d (Tick p s) taken)
-  ticks taken = passes_sent s (step d.world (Tick p s)).world (inr refl) (tick_changes p s s p s d.world)
+  pub pumps : (taken : Bool) → MovesBetween p s d (happened d (Pump p s) taken)
+  pumps taken = passes_by s (step d.world (Pump p s)).world (inr refl) pump_by_log
 
-  pub pumps : (taken : Bool) → Passes told p s d (happened d (Pump p s) taken)
-  pumps taken = passes_sent s (step d.world (Pump p s)).world (inr refl) (pump_changes p s s p s d.world)
-
-  -- with other packets sent
-  pub pumps_other : (more : List Packet) → (told → ⊥) → Passes told p s d (record d { world = pumped_with d.world p s more })
-  pumps_other more untold =
-      let m = pump_changes p s s p s d.world in
-      passes_by (λ q. Unit {0}) s (pumped_with d.world p s more) (inr refl) (record {
+  -- of whatever writes
+  pub pumps_other : (more : List Packet) → PumpSends d.world p s more → MovesBetween p s d (record d { world = pumped_with d.world p s more })
+  pumps_other more sends =
+      let m = pump_by_log in
+      passes_by s (pumped_with d.world p s more) (inr refl) (record {
         site = record {
           sites = m.site.sites;
           nodes = m.site.nodes;
@@ -136,49 +137,56 @@ module _ (told : Type 0) (p s : ℕ) (d : Doubted) (may : MayMove p s d.world) w
           promised = m.site.promised;
           more = more;
           sent = refl;
-          all = any_all more;
+          all = pump_any p s d.world more sends;
         };
         link = record { rows = m.link.rows; links = m.link.links; link = m.link.link };
         headers = m.headers;
         written = m.written;
-      }) (λ tells. absurd (untold tells))
+      })
 
-  pub applies : (count reached : ℕ) (taken : Bool) → Passes told p s d (happened d (Apply s count reached) taken)
-  applies count reached taken = passes_sent s (step d.world (Apply s count reached)).world (inr refl) (apply_changes p p s p s s d.world count reached)
+  pub applies : (count reached : ℕ) (taken : Bool) → MovesBetween p s d (happened d (Apply s count reached) taken)
+  applies count reached taken =
+      passes_by s (step d.world (Apply s count reached)).world (inr refl) (apply_changes Goes p s p s s d.world (λ number. disk_sent p s d.world may.can.line (d.world.nodes s).fed_by number) count reached)
+
+  -- s acknowledges an update of p from memory
+  acks : (q : Packet) → q.source ≡ p → q.target ≡ s → (number : ℕ) → AllByRecursion Goes (packets_of q.target q.source (d.world.nodes q.target).line (NetAck (d.world.nodes q.target).session number))
+  acks q from to number =
+      subst (λ (t : ℕ). AllByRecursion Goes (packets_of t q.source (d.world.nodes t).line (NetAck (d.world.nodes t).session number))) (sym to)
+      (subst (λ (f : ℕ). AllByRecursion Goes (packets_of s f (d.world.nodes s).line (NetAck (d.world.nodes s).session number))) (sym from) (memory_sent p s d.world may.can.line number))
 
   -- an update of p comes to s
   update_passes : (number : ℕ) (q : Packet) (m : Message) → packet_at d.world.packets number ≡ Some q → q.message ≡ m → is_update m ≡ true → q.source ≡ p → q.target ≡ s
-      → Passes told p s d (record d { world = (step d.world (Deliver number)).world })
+      → MovesBetween p s d (record d { world = (step d.world (Deliver number)).world })
   update_passes number q (Hello session k stored) at is update from to = absurd (cc)
   update_passes number q (Update k x) at is update from to =
       let v : World = (step d.world (Deliver number)).world in
-      passes_sent s v (inr refl)
-      (subst (λ (f : ℕ). Changed (IsSent p s) f s s p s d.world v) from
-      (subst (λ (t : ℕ). Changed (IsSent p t) q.source t t p s d.world v) to (update_changes p p s d.world q k x is number at)))
+      passes_by s v (inr refl)
+      (subst (λ (f : ℕ). Changed Goes f s s p s d.world v) from
+      (subst (λ (t : ℕ). Changed Goes q.source t t p s d.world v) to (update_changes Goes p s d.world q k x is (acks q from to) number at)))
   update_passes number q (NetAck session k) at is update from to = absurd (cc)
   update_passes number q (DataAck k) at is update from to = absurd (cc)
 
   -- an answer or a greeting of s comes to p
   answer_passes : (number : ℕ) (q : Packet) → packet_at d.world.packets number ≡ Some q → is_update q.message ≡ false → q.source ≡ s → q.target ≡ p
-      → Passes told p s d (record d { world = (step d.world (Deliver number)).world })
+      → MovesBetween p s d (record d { world = (step d.world (Deliver number)).world })
   answer_passes number q at other from to =
       let v : World = (step d.world (Deliver number)).world in
-      passes_sent p v (inl refl)
-      (subst (λ (t : ℕ). Changed (IsSent p s) p s p p t d.world v) from
-      (subst (λ (t : ℕ). Changed (IsSent p s) p s t t q.source d.world v) to (answer_changes (IsSent p s) p s d.world q number at other)))
+      passes_by p v (inl refl)
+      (subst (λ (t : ℕ). Changed Goes p s p p t d.world v) from
+      (subst (λ (t : ℕ). Changed Goes p s t t q.source d.world v) to (answer_changes Goes p s d.world q number at other)))
 
   pub delivers : (number : ℕ) (q : Packet) (taken : Bool) → packet_at d.world.packets number ≡ Some q → IsSent p s q → is_between p s q ≡ true
-      → Passes told p s d (happened d (Deliver number) taken)
+      → MovesBetween p s d (happened d (Deliver number) taken)
   delivers number q taken at (inl (from, to, update)) between = update_passes number q q.message at refl update from to
   delivers number q taken at (inr (from, other)) between = answer_passes number q at other from (to_first p s q may.can.apart from between)
 
-  -- s took it with whatever was put together, or kept a part of it, or nothing
-  other_passes : (n : Node) (o : Option Gathering) (more : List Packet) → TakesOf p (d.world.nodes s) n → is_origin (d.world.nodes s).role ≡ false
-      → (told → ⊥) → Passes told p s d (record d { world = target_with d.world s n o more })
-  other_passes n o more takes receives untold =
+  -- s took it with whatever was put together, or kept a part of it
+  other_passes : (n : Node) (o : Option Gathering) (more : List Packet) → TakesOf p (d.world.nodes s) n → is_origin (d.world.nodes s).role ≡ false → AllByRecursion Goes more
+      → MovesBetween p s d (record d { world = target_with d.world s n o more })
+  other_passes n o more takes receives all =
       let w : World = d.world in
       let v : World = target_with w s n o more in
-      passes_by (λ q. Unit {0}) s v (inr refl) (record {
+      passes_by s v (inr refl) (record {
         site = record {
           sites = refl;
           nodes = λ i apart. updated_other w.nodes s i n apart;
@@ -189,83 +197,69 @@ module _ (told : Type 0) (p s : ℕ) (d : Doubted) (may : MayMove p s d.world) w
           promised = refl;
           more = more;
           sent = refl;
-          all = any_all more;
+          all = all;
         };
         link = link_same p s w v (λ i k. refl);
         headers = λ i apart. refl;
         written = omega arith;
-      }) (λ tells. absurd (untold tells))
+      })
 
   to_second : (number : ℕ) (q : Packet) → MayTake d.world number q → IsSent p s q → (q.source ≡ p) × (q.target ≡ s)
   to_second number q takes (inl (from, to, update)) = (from, to)
   to_second number q takes (inr (from, other)) = let same : true ≡ false = sym (ap is_update takes.message) ∙ other in absurd (cc)
 
-  pub takes_other : (number : ℕ) (q : Packet) (x : Write) (o : Option Gathering) (more : List Packet) → MayTake d.world number q → IsSent p s q
-      → (told → ⊥) → Passes told p s d (record d { world = target_with d.world q.target (with_write (d.world.nodes q.target) q.source x) o more })
-  takes_other number q x o more takes sent untold =
+  pub takes_other : (number : ℕ) (q : Packet) (x : Write) (takes : MayTake d.world number q) → IsSent p s q
+      → MovesBetween p s d (record d { world = taken_with d.world q takes.count x })
+  takes_other number q x takes sent =
       let ends = to_second number q takes sent in
       let receives : is_origin (d.world.nodes s).role ≡ false = subst (λ (t : ℕ). is_origin (d.world.nodes t).role ≡ false) ends.1 takes.receives in
-      subst (λ (t : ℕ). Passes told p s d (record d { world = target_with d.world t (with_write (d.world.nodes t) q.source x) o more })) (sym ends.1)
-      (subst (λ (f : ℕ). Passes told p s d (record d { world = target_with d.world s (with_write (d.world.nodes s) f x) o more })) (sym ends.0)
-      (other_passes (with_write (d.world.nodes s) p x) o more (record { rest = refl; fed = inr refl }) receives untold))
+      let more : List Packet = packets_of q.target q.source (d.world.nodes q.target).line (NetAck (d.world.nodes q.target).session takes.count) in
+      subst (λ (t : ℕ). MovesBetween p s d (record d { world = target_with d.world t (with_write (d.world.nodes t) q.source x) None more })) (sym ends.1)
+      (subst (λ (f : ℕ). MovesBetween p s d (record d { world = target_with d.world s (with_write (d.world.nodes s) f x) None more })) (sym ends.0)
+      (other_passes (with_write (d.world.nodes s) p x) None more (takes_written p (d.world.nodes s) x) receives (acks q ends.0 ends.1 takes.count)))
 
-  pub keeps_other : (number : ℕ) (q : Packet) (o : Option Gathering) (more : List Packet) → MayTake d.world number q → IsSent p s q → (told → ⊥)
-      → Passes told p s d (record d { world = target_with d.world q.target (d.world.nodes q.target) o more })
-  keeps_other number q o more takes sent untold =
+  pub keeps_other : (number : ℕ) (q : Packet) → MayTake d.world number q → IsSent p s q → MovesBetween p s d (record d { world = kept_with d.world q })
+  keeps_other number q takes sent =
       let ends = to_second number q takes sent in
       let receives : is_origin (d.world.nodes s).role ≡ false = subst (λ (t : ℕ). is_origin (d.world.nodes t).role ≡ false) ends.1 takes.receives in
-      subst (λ (t : ℕ). Passes told p s d (record d { world = target_with d.world t (d.world.nodes t) o more })) (sym ends.1)
-      (other_passes (d.world.nodes s) o more (takes_same p (d.world.nodes s)) receives untold)
+      let o : Option Gathering = Some (record { key = key_of q; came = came_after (d.world.gathering q.target) q }) in
+      subst (λ (t : ℕ). MovesBetween p s d (record d { world = target_with d.world t (d.world.nodes t) o [] })) (sym ends.1)
+      (other_passes (d.world.nodes s) o [] (takes_same p (d.world.nodes s)) receives tt)
 
 -- ---- several
 
-module _ (told : Type 0) (p s : ℕ) (d e f : Doubted) where
-  takes_then : (n k m : Node) → TakesOf p n k → TakesOf p k m → TakesOf p n m
-  takes_then n k m one two = record {
-    rest =
-        two.rest ∙ ap (λ (x : Node). let y : Node = record x { fed_by = m.fed_by; base = m.base; log = m.log; safe = m.safe; mark = m.mark } in y) one.rest;
-    fed = by_last two.fed one.fed;
-  }
-    where
-      by_last : (m.fed_by ≡ k.fed_by) ⊎ (m.fed_by ≡ p) → (k.fed_by ≡ n.fed_by) ⊎ (k.fed_by ≡ p) → (m.fed_by ≡ n.fed_by) ⊎ (m.fed_by ≡ p)
-      by_last (inl same) (inl before) = inl (same ∙ before)
-      by_last (inl same) (inr new) = inr (same ∙ new)
-      by_last (inr new) before = inr new
-
-  pub passes_then : Passes told p s d e → Passes told p s e f → Passes told p s d f
-  passes_then one two =
-      let a = one.moves in
-      let b = two.moves in
+module _ (p s : ℕ) (d e f : Doubted) where
+  pub passes_then : MovesBetween p s d e → MovesBetween p s e f → MovesBetween p s d f
+  passes_then a b =
       let m : Link = f.world.links p s in
       record {
+        apart = a.apart;
+        up = a.up;
+        linked = a.linked;
+        sites = b.sites ∙ a.sites;
+        nodes = λ i apart. b.nodes i apart ∙ a.nodes i apart;
+        takes = takes_then p (d.world.nodes s) (e.world.nodes s) (f.world.nodes s) a.takes b.takes;
+        rows = λ i k apart. b.rows i k apart ∙ a.rows i k apart;
+        links = λ k apart. b.links k apart ∙ a.links k apart;
         moves = record {
-          apart = a.apart;
-          up = a.up;
-          linked = a.linked;
-          sites = b.sites ∙ a.sites;
-          nodes = λ i apart. b.nodes i apart ∙ a.nodes i apart;
-          takes = takes_then (d.world.nodes s) (e.world.nodes s) (f.world.nodes s) a.takes b.takes;
-          rows = λ i k apart. b.rows i k apart ∙ a.rows i k apart;
-          links = λ k apart. b.links k apart ∙ a.links k apart;
-          moves =
-              b.moves
-              ∙ ap (λ (x : Link). let y : Link = record x { session = m.session; net = m.net; stored = m.stored; sent = m.sent; since = m.since } in y) a.moves;
-          headers = λ i apart. b.headers i apart ∙ a.headers i apart;
-          written = let first = a.written in let second = b.written in omega (arith, first, second);
-          gathering = λ i apart other. b.gathering i apart other ∙ a.gathering i apart other;
-          lines = λ l. b.lines l ∙ a.lines l;
-          promised = b.promised ∙ a.promised;
-          more = a.more ++ b.more;
-          sent = b.sent ∙ ap (λ (ps : List Packet). ps ++ b.more) a.sent ∙ append_assoc d.world.packets a.more b.more;
-          after = λ i. b.after i ∙ a.after i;
+          rest =
+              b.moves.rest
+              ∙ ap (λ (x : Link). let y : Link = record x { session = m.session; net = m.net; stored = m.stored; sent = m.sent; since = m.since } in y) a.moves.rest;
+          session = let first = a.moves.session in let second = b.moves.session in omega (arith, first, second);
+          stored = let first = a.moves.stored in let second = b.moves.stored in omega (arith, first, second);
         };
-        all = λ tells. each_append (IsSent p s) a.more b.more (one.all tells) (two.all tells);
+        headers = λ i apart. b.headers i apart ∙ a.headers i apart;
+        written = let first = a.written in let second = b.written in omega (arith, first, second);
+        gathering = λ i apart other. b.gathering i apart other ∙ a.gathering i apart other;
+        lines = λ l. b.lines l ∙ a.lines l;
+        promised = b.promised ∙ a.promised;
+        more = a.more ++ b.more;
+        sent = b.sent ∙ ap (λ (ps : List Packet). ps ++ b.more) a.sent ∙ append_assoc d.world.packets a.more b.more;
+        all = each_append (GoesOn p s d.world) a.more b.more a.all (each_weaker (GoesOn p s e.world) (GoesOn p s d.world) (went p s d e a) b.more b.all);
+        after = λ i. b.after i ∙ a.after i;
       }
 
-module _ (told : Type 0) (p s : ℕ) (d e : Doubted) (passed : Passes told p s d e) where
-  abbrev m : MovesBetween p s d e
-  m = passed.moves
-
+module _ (p s : ℕ) (d e : Doubted) (m : MovesBetween p s d e) where
   -- it may go on
   pub still_may : MayMove p s d.world → MayMove p s e.world
   still_may may =
@@ -281,14 +275,16 @@ module _ (told : Type 0) (p s : ℕ) (d e : Doubted) (passed : Passes told p s d
           runs_here = ap (λ (n : Node). n.halted) same ∙ can.runs_here;
           runs_there = ap (λ (n : Node). n.halted) m.takes.rest ∙ can.runs_there;
           sender = ap (λ (n : Node). is_origin n.role) same ∙ can.sender;
-          linked = ap (λ (l : Link). is_linked l) m.moves ∙ can.linked;
-          bunker = ap (λ (l : Link). l.bunker) m.moves ∙ can.bunker;
-          attached = ap (λ (l : Link). l.attached) m.moves ∙ can.attached;
-          connected = ap (λ (l : Link). l.connected) m.moves ∙ can.connected;
-          running = ap (λ (l : Link). l.paused) m.moves ∙ can.running;
-          mode = ap (λ (l : Link). l.mode) m.moves ∙ can.mode;
+          secondary = ap (λ (n : Node). n.role) m.takes.rest ∙ can.secondary;
+          line = ap (λ (n : Node). n.line) m.takes.rest ∙ can.line ∙ sym (ap (λ (n : Node). n.line) same);
+          linked = ap (λ (l : Link). is_linked l) m.moves.rest ∙ can.linked;
+          bunker = ap (λ (l : Link). l.bunker) m.moves.rest ∙ can.bunker;
+          attached = ap (λ (l : Link). l.attached) m.moves.rest ∙ can.attached;
+          connected = ap (λ (l : Link). l.connected) m.moves.rest ∙ can.connected;
+          running = ap (λ (l : Link). l.paused) m.moves.rest ∙ can.running;
+          mode = ap (λ (l : Link). l.mode) m.moves.rest ∙ can.mode;
         };
-        trimmed = ap (λ (l : Link). l.trimmed) m.moves ∙ may.trimmed;
+        trimmed = ap (λ (l : Link). l.trimmed) m.moves.rest ∙ may.trimmed;
       }
 
   -- a fuse that is set was so
@@ -302,10 +298,10 @@ module _ (told : Type 0) (p s : ℕ) (d e : Doubted) (passed : Passes told p s d
       by_site false there = subst IsFused (ap (λ (n : Node). n.fuse) (m.nodes i (eqb_apart i s there))) fused
 
   -- a packet that was sent since is one that settling sends
-  pub sent_since : told → (k : ℕ) (q : Packet) → length d.world.packets ≤ k → packet_at e.world.packets (suc k) ≡ Some q → IsSent p s q
-  sent_since tells k q least at =
+  pub sent_since : (k : ℕ) (q : Packet) → length d.world.packets ≤ k → packet_at e.world.packets (suc k) ≡ Some q → IsSent p s q
+  sent_since k q least at =
       let there = among d.world.packets k least (subst (λ (ps : List Packet). slice_get ps k ≡ Some q) m.sent (packet_found e.world.packets k q at)) in
-      each_found (IsSent p s) m.more there.0 q there.1 (passed.all tells)
+      is_sent p s d.world q (each_found (GoesOn p s d.world) m.more there.0 q there.1 m.all)
     where
       among : (xs : List Packet) (j : ℕ) → length xs ≤ j → slice_get (xs ++ m.more) j ≡ Some q → (i : ℕ) × (slice_get m.more i ≡ Some q)
       among [] j long is = (j, is)
@@ -317,14 +313,14 @@ module _ (told : Type 0) (p s : ℕ) (d e : Doubted) (passed : Passes told p s d
 pub may_move : (d : Doubted) (p s : ℕ) → LinksFit d → CanSettle d.world p s → MayMove p s d.world
 may_move d p s fit can = record { can = can; trimmed = ((fit.rows p).plain s can.linked).trimmed }
 
-module _ (told : Type 0) (d middle : Doubted) (p s : List ℕ) (passed : Passes told (site_number d.world p) (site_number d.world s) d middle) where
+module _ (told : Type 0) (d middle : Doubted) (p s : List ℕ) (moves : MovesBetween (site_number d.world p) (site_number d.world s) d middle) where
   pub line_finds : (fails : Fails) (said : Said) (last new : Doubted) → (told → ⊥) → EndsBetween (site_number d.world p) (site_number d.world s) d middle fails said last
       → AreLeft (Settle p s) d last new → LinkEnds told d (Settle p s) fails said new
-  line_finds fails said last new untold ends left = LinksFind untold last (SettlesOther p s middle refl passed.moves ends) left
+  line_finds fails said last new untold ends left = LinksFind untold last (SettlesOther p s middle refl moves ends) left
 
   pub line_short : (new : Doubted) → (told → ⊥) → AreLeft (Settle p s) d middle new → StopsShort told d (Settle p s) new
-  line_short new untold left = StopsBetween untold p s middle refl passed.moves left
+  line_short new untold left = StopsBetween untold p s middle refl moves left
 
-pub passed_fits : (told : Type 0) (d middle : Doubted) (p s : List ℕ) → Passes told (site_number d.world p) (site_number d.world s) d middle → LinksFit d → LinksFit middle
-passed_fits told d middle p s passed fit =
-    fit_finds d (Settle p s) [] (Refused WrongRole) middle (SettlesOther p s middle refl passed.moves (GivesUp WrongRole tt refl refl refl)) fit
+pub moved_fits : (d middle : Doubted) (p s : List ℕ) → MovesBetween (site_number d.world p) (site_number d.world s) d middle → LinksFit d → LinksFit middle
+moved_fits d middle p s moves fit =
+    fit_finds d (Settle p s) [] (Refused (Limit Number MOST_NUMBER)) middle (SettlesOther p s middle refl moves (GivesUp (Limit Number MOST_NUMBER) (inr refl) refl refl refl)) fit

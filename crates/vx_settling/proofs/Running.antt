@@ -1,21 +1,23 @@
 -- What events of settling leave of a world, one after another.
 use Rattle.std.proofs.Common.{length, suc, zero, ◌+◌, ◌-◌, ◌≡◌, ◌∙◌, ◌++◌, ℕ, List, [], ◌∷◌, Bool, true, false, refl, ap, sym, subst, append_assoc}
 use Rattle.std.proofs.lemmas.List.{append-nil}
+use Rattle.std.specs.List.{AllByRecursion}
 use Rattle.std.specs.Prelude.{eqb, leb, Option, Some, None, if◌then◌else◌}
 use Rattle.vx_model.specs.Sites.{is_origin}
 use Rattle.vx_history.proofs.Updates.{by_test, eqb_apart, eqb_equal}
 use Rattle.vx_history.specs.Doubts.{Doubted, Runs, happened}
-use Rattle.vx_history.specs.Events.{packet_at}
-use Rattle.vx_history.specs.Sends.{is_linked}
+use Rattle.vx_history.specs.Events.{greeting_back, link_step, packet_at}
+use Rattle.vx_history.specs.Sends.{is_linked, packets_of, sent_by}
 use Rattle.vx_history.specs.Settling.{MaySettle, deliver_between, deliver_new, delivery, greeting_events, is_between, is_stuck, settling, turn, turns}
 use Rattle.vx_history.specs.Step.{run, step}
 use Rattle.vx_history.specs.Stops.{IsFused, all_fails}
 use Rattle.vx_history.specs.World.{DataAck, Hello, Link, Message, NetAck, Node, Packet, Update, World}
 use Rattle.vx_history.specs.declared.event.Event.{Event}
 use Rattle.vx_history.specs.declared.event.Event.TheVariants.{Site, Raw, Write, Read, Apply, Pump, Tick, Deliver, Connect, Cut, Pause, Resume, Wait, Link as LinkSites, Set, Crash, Recover, Fault}
+use Rattle.vx_history.specs.declared.sender.SEvent.TheVariants.{Pump as PumpLink}
 use Rattle.vx_events.specs.Doubts.{run_as}
 use Rattle.vx_world.proofs.Lists.{each_append}
-use Rattle.vx_settling.specs.Between.{IsSent, is_update}
+use Rattle.vx_settling.specs.Between.{is_update}
 use Rattle.vx_settling.specs.Kinds.{AreSettling, IsStill, StaysAs, StillGoes, is_settling}
 use Rattle.vx_settling.proofs.Events.{answer_changes, apply_changes, connect_changes, gone_is, pump_changes, tick_changes, update_changes}
 use Rattle.vx_settling.proofs.Rules.{goes_same, goes_then}
@@ -63,12 +65,16 @@ changed_stays Q f t g p s w v m = record {
 abbrev Any : Packet → Type 0
 Any q = Unit {0}
 
+each_any : (qs : List Packet) → AllByRecursion Any qs
+each_any [] = tt
+each_any (q ∷ qs) = (tt, each_any qs)
+
 delivered_stays : (w : World) (number : ℕ) → StaysAs w (step w (Deliver number)).world
 delivered_stays w number = by_packet (packet_at w.packets number) refl
   where
     by_message : (q : Packet) → packet_at w.packets number ≡ Some q → (m : Message) → q.message ≡ m → StaysAs w (step w (Deliver number)).world
     by_message q at (Hello session k stored) is = changed_stays Any 0 0 q.target q.target q.source w (step w (Deliver number)).world (answer_changes Any 0 0 w q number at (ap is_update is))
-    by_message q at (Update k x) is = changed_stays (IsSent 0 q.target) q.source q.target q.target 0 0 w (step w (Deliver number)).world (update_changes 0 0 0 w q k x is number at)
+    by_message q at (Update k x) is = changed_stays Any q.source q.target q.target 0 0 w (step w (Deliver number)).world (update_changes Any 0 0 w q k x is (λ j. each_any (packets_of q.target q.source (w.nodes q.target).line (NetAck (w.nodes q.target).session j))) number at)
     by_message q at (NetAck session k) is = changed_stays Any 0 0 q.target q.target q.source w (step w (Deliver number)).world (answer_changes Any 0 0 w q number at (ap is_update is))
     by_message q at (DataAck k) is = changed_stays Any 0 0 q.target q.target q.source w (step w (Deliver number)).world (answer_changes Any 0 0 w q number at (ap is_update is))
 
@@ -83,11 +89,11 @@ event_stays w (Site name disks blocks) is = absurd (cc)
 event_stays w (Raw p) is = absurd (cc)
 event_stays w (Write p volume start bytes fails) is = absurd (cc)
 event_stays w (Read p volume start count) is = absurd (cc)
-event_stays w (Apply s count reached) is = changed_stays _ 0 s 0 0 0 w _ (apply_changes 0 0 0 0 0 s w count reached)
-event_stays w (Pump p s) is = changed_stays _ 0 0 0 p s w _ (pump_changes 0 0 0 p s w)
-event_stays w (Tick p s) is = changed_stays _ 0 0 0 p s w _ (tick_changes 0 0 0 p s w)
+event_stays w (Apply s count reached) is = changed_stays Any 0 s 0 0 0 w _ (apply_changes Any 0 0 0 0 s w (λ k. each_any (packets_of s (w.nodes s).fed_by (w.nodes s).line (DataAck k))) count reached)
+event_stays w (Pump p s) is = changed_stays Any 0 0 0 p s w _ (pump_changes Any 0 0 0 p s w (each_any (sent_by (link_step w p s PumpLink).action p s (w.nodes p))))
+event_stays w (Tick p s) is = changed_stays Any 0 0 0 p s w _ (tick_changes Any 0 0 0 p s w)
 event_stays w (Deliver number) is = delivered_stays w number
-event_stays w (Connect p s) is = changed_stays _ 0 0 0 p s w _ (connect_changes 0 0 0 p s w)
+event_stays w (Connect p s) is = changed_stays Any 0 0 0 p s w _ (connect_changes Any 0 0 0 p s w (each_any (greeting_back w p s)))
 event_stays w (Cut p s) is = absurd (cc)
 event_stays w (Pause p s) is = absurd (cc)
 event_stays w (Resume p s) is = absurd (cc)

@@ -1,5 +1,5 @@
 -- What an event changes of a world: one site at most, one link, and what was sent.
-use Rattle.std.proofs.Common.{◌≡◌, ◌∙◌, ◌+◌, ◌≤◌, ◌++◌, inl, ℕ, List, [], Bool, true, false, refl, ap, sym, subst, arith, append_assoc}
+use Rattle.std.proofs.Common.{◌≡◌, ◌∙◌, ◌+◌, ◌≤◌, ◌++◌, ℕ, List, [], Bool, true, false, refl, ap, sym, subst, arith, append_assoc}
 use Rattle.std.proofs.lemmas.List.{append-nil}
 use Rattle.std.specs.List.{AllByRecursion}
 use Rattle.vx_model.specs.Sites.{is_origin}
@@ -13,6 +13,7 @@ use Rattle.vx_effects.proofs.Fitting.{updated_other}
 use Rattle.vx_world.proofs.Lists.{each_append}
 use Rattle.vx_settling.specs.Kinds.{StillGoes}
 use Rattle.vx_settling.proofs.Rules.{goes_same}
+use Rattle.vx_settling.proofs.Taking.{takes_same}
 
 -- ---- sites and packets
 
@@ -28,9 +29,6 @@ pub record SiteTouch (Q : Packet → Type 0) (f t g : ℕ) (w v : World) : Type 
   pub more : List Packet
   pub sent : v.packets ≡ w.packets ++ more
   pub all : AllByRecursion Q more
-
-pub takes_same : (f : ℕ) (n : Node) → TakesOf f n n
-takes_same f n = record { rest = refl; fed = inl refl }
 
 module _ (Q : Packet → Type 0) (f t g : ℕ) where
   pub site_same : (w : World) → SiteTouch Q f t g w w

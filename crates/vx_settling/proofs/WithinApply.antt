@@ -1,14 +1,13 @@
 -- What a line that applies, within one that settles a link, comes to in a world in which fuses were noted.
-use Rattle.std.proofs.Common.{◌≡◌, ◌∙◌, ◌⊎◌, inl, inr, ◌+◌, ◌<◌, ◌≤◌, ℕ, List, [], ◌∷◌, ◌++◌, Bool, true, false, ap, sym, subst, refl}
+use Rattle.std.proofs.Common.{◌≡◌, ◌∙◌, ◌⊎◌, inl, inr, ◌+◌, ◌<◌, ℕ, List, [], ◌∷◌, ◌++◌, Bool, true, false, ap, sym, subst, refl}
 use Rattle.std.proofs.Math.Path.{fun_ext}
 use Rattle.std.specs.Prelude.{Option, Some, None, eqb, if◌then◌else◌}
 use Rattle.vx_model.specs.Sites.{is_origin}
 use Rattle.vx_model.specs.declared.limits.TheConstants.{MOST_NUMBER}
 use Rattle.vx_model.specs.declared.no.Counted.TheVariants.{Number}
-use Rattle.vx_model.specs.declared.no.No.{No}
 use Rattle.vx_model.specs.declared.no.No.TheVariants.{Device, Limit, Down as IsOff}
 use Rattle.vx_model.specs.declared.site.SiteState.TheVariants.{Up}
-use Rattle.vx_history.proofs.Updates.{at_place, eqb_equal}
+use Rattle.vx_history.proofs.Updates.{at_place}
 use Rattle.vx_history.specs.Doubts.{After, Doubted, crashed_as, halved, happened}
 use Rattle.vx_history.specs.Events.{apply_at, applied_by, crash_at, kept_of, lost_touch, reached_at}
 use Rattle.vx_history.specs.Gatherings.{emptied}
@@ -18,34 +17,31 @@ use Rattle.vx_history.specs.Refusals.{Outcome, at_site, at_work}
 use Rattle.vx_history.specs.Sends.{with_links}
 use Rattle.vx_history.specs.Step.{counted, outcome_of, step}
 use Rattle.vx_history.specs.Steps.{burned, crash_left, crashed, kept_by, stopped_by, worked_on}
-use Rattle.vx_history.specs.Stops.{IsFused, IsOpen}
-use Rattle.vx_history.specs.World.{Fuse, History, Link, NoFuse, Node, World, line_updated, updated, with_history, with_node}
+use Rattle.vx_history.specs.World.{Fuse, NoFuse, Node, World, updated, with_history, with_node}
 use Rattle.vx_history.specs.declared.event.Event.{Event}
 use Rattle.vx_history.specs.declared.event.Event.TheVariants.{Apply as ApplyAt, Crash as CrashAt, Fault}
-use Rattle.vx_history.specs.declared.event.Said.{Said as EventSaid}
 use Rattle.vx_history.specs.LinkForms.{plain_receiver}
 use Rattle.vx_history.specs.declared.receiver.REvent.TheVariants.{Applied}
 use Rattle.vx_history.specs.declared.receiver.RState.{RState}
 use Rattle.vx_history.specs.declared.receiver.RAction.{RAction}
 use Rattle.vx_history.specs.declared.receiver.RAction.TheVariants as receiving
-use Rattle.vx_script.specs.declared.line.ScriptLine.TheVariants.{Apply, Recover, Show}
+use Rattle.vx_script.specs.declared.line.ScriptLine.TheVariants.{Apply}
 use Rattle.vx_events.specs.Doubts.{IsAs, run_as, with_disks}
-use Rattle.vx_events.specs.Ends.{AllDone, BegunOf, DiskFails, Ends, LeavesOf, NoneLeft, WritesAHeader, FindsLinks, FindsNone, FuseRunsOut, HeaderFails, IsLeft, NoNumber, ShowsReceived, noted}
+use Rattle.vx_events.specs.Ends.{AllDone, BegunOf, DiskFails, Ends, LeavesOf, NoneLeft, WritesAHeader, FindsLinks, FindsNone, FuseRunsOut, HeaderFails, IsLeft, NoNumber, ShowsReceived}
 use Rattle.vx_events.specs.Facts.{site_number}
 use Rattle.vx_events.specs.Fails.{Fails}
 use Rattle.vx_events.specs.LinksFit.{LinksFit}
 use Rattle.vx_events.specs.Lists.{Choice, events_of}
 use Rattle.vx_events.specs.Sayings.{Replies}
-use Rattle.vx_events.specs.Stamps.{most_stamp_at, stamps_of}
 use Rattle.vx_events.specs.declared.said.Said.{Said}
 use Rattle.vx_events.specs.declared.said.Said.TheVariants.{Refused}
 use Rattle.vx_world.proofs.Crashed.{crash_is, not_past}
 use Rattle.vx_settling.specs.Between.{MayMove}
 use Rattle.vx_settling.specs.Burnt.{EndTo, GoesTo, MayBurn, NotedAs, OnTo, burnt_world, noted_as}
-use Rattle.vx_settling.specs.Works.{Stops, Works}
+use Rattle.vx_settling.specs.Works.{Stops}
 use Rattle.vx_settling.proofs.Burning.{burns_crashed, crashed_sites, burns_kept, crash_burnt, crash_nodes, burns_noted, burns_same, fused_pure, nodes_at, noted_at, own_place, step_burnt, worked_burnt}
-use Rattle.vx_settling.proofs.Running.{event_stays, happens}
-use Rattle.vx_settling.proofs.WithinLines.{head_same, number_burnt, reply_on, single}
+use Rattle.vx_settling.proofs.Running.{event_stays}
+use Rattle.vx_settling.proofs.WithinOne.{head_same, number_burnt, reply_on, single}
 use Rattle.vx_settling.proofs.Working.{cuts_apply, lacks_apply, stops_apply, works_apply}
 
 -- ---- the events

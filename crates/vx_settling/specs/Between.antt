@@ -1,9 +1,6 @@
 -- A link that is settled over disks that tell no contents.
 use Rattle.std.specs.Prelude.{◌≡◌, ◌⊎◌, ℕ, Bool, true, false}
-use Rattle.std.specs.List.{AllByRecursion}
-use Rattle.vx_history.specs.Doubts.{Doubted}
 use Rattle.vx_history.specs.World.{DataAck, Hello, Message, NetAck, Packet, Update, World}
-use Rattle.vx_events.specs.LinkFinds.{MovesBetween}
 use Rattle.vx_events.specs.Settles.{CanSettle}
 
 abbrev pub is_update : Message → Bool
@@ -20,8 +17,3 @@ IsSent p s q = ((q.source ≡ p) × (q.target ≡ s) × (is_update q.message ≡
 pub record MayMove (p s : ℕ) (w : World) : Type 0 where
   pub can : CanSettle w p s
   pub trimmed : (w.links p s).trimmed ≡ 0
-
--- Between p and s packets were sent and delivered. Where contents are told all that were sent are such as settling sends.
-pub record Passes (told : Type 0) (p s : ℕ) (d e : Doubted) : Type 0 where
-  pub moves : MovesBetween p s d e
-  pub all : told → AllByRecursion (IsSent p s) moves.more

@@ -1,5 +1,5 @@
 -- The events of which settling a link is made, and what each of them leaves of sites and links.
-use Rattle.std.specs.Prelude.{◌≡◌, ◌++◌, ℕ, Bool, true, false, List}
+use Rattle.std.specs.Prelude.{◌≡◌, ◌≤◌, ◌++◌, ℕ, Bool, true, false, List}
 use Rattle.std.specs.List.{AllByRecursion}
 use Rattle.vx_model.specs.Sites.{is_origin}
 use Rattle.vx_model.specs.declared.link.Mode.TheVariants.{Log}
@@ -23,12 +23,15 @@ AreSettling events = AllByRecursion (λ e. is_settling e ≡ true) events
 abbrev pub IsStill : Node → Node → Type 0
 IsStill n k = k ≡ record n { fed_by = k.fed_by; base = k.base; log = k.log; safe = k.safe; mark = k.mark }
 
--- A link that moved by its rule: it is as it was but for what it knows of its receiver. It stays connected, and goes by the log still.
+-- A link that moved by its rule: it is as it was but for what it knows of its receiver, of which neither the session falls nor what is stored. It stays
+-- connected, and goes by the log still.
 pub record StillGoes (l m : Link) : Type 0 where
   pub rest : m ≡ record l { connected = m.connected; session = m.session; net = m.net; stored = m.stored; sent = m.sent; trimmed = m.trimmed; mode = m.mode; since = m.since }
   pub connects : l.connected ≡ true → m.connected ≡ true
   pub trims : l.trimmed ≡ 0 → m.trimmed ≡ 0
   pub logs : l.mode ≡ Log → m.mode ≡ Log
+  pub sessions : l.session ≤ m.session
+  pub stores : l.stored ≤ m.stored
 
 -- What such events leave of a world: each site and each link is as it was but for that, and where writes arise a site is wholly as it was. Packets are
 -- sent, and none is forgotten.

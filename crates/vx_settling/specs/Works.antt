@@ -3,20 +3,19 @@ use Rattle.std.specs.Prelude.{◌≡◌, ℕ, List, ◌++◌}
 use Rattle.vx_history.specs.Doubts.{Doubted, Runs}
 use Rattle.vx_history.specs.declared.event.Event.{Event}
 use Rattle.vx_events.specs.Fails.{Fails}
-use Rattle.vx_events.specs.LinkFinds.{EndsBetween}
+use Rattle.vx_events.specs.LinkFinds.{EndsBetween, MovesBetween}
 use Rattle.vx_events.specs.declared.said.Said.{Said}
-use Rattle.vx_settling.specs.Between.{Passes}
 use Rattle.vx_settling.specs.Ending.{StopsAmong}
 
 -- Its events are done: exactly they where contents are told. Either way packets passed between the two sites.
 pub record Works (told : Type 0) (p s : ℕ) (d : Doubted) (events : List Event) (e : Doubted) : Type 0 where
   pub exact : told → Runs d events e
-  pub passes : Passes told p s d e
+  pub moves : MovesBetween p s d e
 
 -- packets passed between the two sites, and it ended so
 pub record StopsOther (told : Type 0) (p s : ℕ) (d : Doubted) (fails : Fails) (said : Said) (last : Doubted) : Type 0 where
   pub middle : Doubted
-  pub passes : Passes told p s d middle
+  pub moves : MovesBetween p s d middle
   pub ends : EndsBetween p s d middle fails said last
 
 -- it was refused, or ended by a failing disk or a fuse
@@ -34,4 +33,4 @@ pub record FirstOf (d : Doubted) (events : List Event) (e : Doubted) : Type 0 wh
 -- memory ran out in it: a first part of its events is done
 pub record Shortens (told : Type 0) (p s : ℕ) (d : Doubted) (events : List Event) (e : Doubted) : Type 0 where
   pub exact : told → FirstOf d events e
-  pub passes : Passes told p s d e
+  pub moves : MovesBetween p s d e

@@ -1,5 +1,5 @@
 // Where the events of settling end: all are done, or one of them is stopped.
-ghost use Rattle.std.specs.Prelude.{◌≡◌, ℕ, ◌++◌, Bool, true, false, List, []};
+ghost use Rattle.std.specs.Prelude.{◌≡◌, ◌≤◌, ℕ, ◌++◌, Bool, true, false, List, [], None};
 ghost use Rattle.vx_model.specs.Sites.{is_origin};
 ghost use Rattle.vx_history.specs.Doubts.{Doubted, Runs};
 ghost use Rattle.vx_history.specs.GoodWorld.{GoodWorld};
@@ -17,6 +17,8 @@ ghost use Rattle.vx_events.specs.Facts.{site_number};
 ghost use Rattle.vx_events.specs.Fails.{Fails};
 ghost use Rattle.vx_events.specs.LinkEnds.{AreLeft, LinkEnds, LinkReplies};
 ghost use Rattle.vx_events.specs.LinkLists.{link_events};
+ghost use Rattle.vx_events.specs.LinkedFacts.{refused_by};
+ghost use Rattle.vx_events.specs.LinksFit.{LinksFit};
 ghost use Rattle.vx_events.specs.Parts.{DonePart, PartLeft};
 ghost use Rattle.vx_events.specs.Settles.{CanSettle};
 ghost use Rattle.vx_events.specs.declared.said.Said.{Said};
@@ -32,16 +34,20 @@ pub fn settling_goes_on()
     ensures can { (w v : World) (p s : ℕ) → StaysAs w v → CanSettle w p s → CanSettle v p s }
 {}
 
-/// A line that settles a link, with all its events done, answers what is durable at its first site, which is as it was. In a good world where the link may be
-/// settled that is what its second site has stored.
+/// A line that settles a link, with all its events done and all that is durable at its first site stored, answers what is durable there; the first site is as it
+/// was. In a good world where the link may be settled that is what its second site has stored; and the link may be settled where no test refuses the line.
 pub fn settles_at_the_head()
     ensures first { (d last : Doubted) (p s : List ℕ) → is_origin (d.world.nodes (site_number d.world p)).role ≡ true → Runs d (link_events d.world (Settle p s)) last
         → last.world.nodes (site_number d.world p) ≡ d.world.nodes (site_number d.world p) }
     ensures replies { (d last : Doubted) (p s : List ℕ) → is_origin (d.world.nodes (site_number d.world p)).role ≡ true → Runs d (link_events d.world (Settle p s)) last
+        → (d.world.nodes (site_number d.world p)).safe ≤ (last.world.links (site_number d.world p) (site_number d.world s)).stored
         → LinkReplies (Settle p s) d last (link_events d.world (Settle p s)) (Settled (d.world.nodes (site_number d.world p)).safe) }
     ensures done { (told : Bool) (d last new : Doubted) (p s : List ℕ) → is_origin (d.world.nodes (site_number d.world p)).role ≡ true → Runs d (link_events d.world (Settle p s)) last
+        → (d.world.nodes (site_number d.world p)).safe ≤ (last.world.links (site_number d.world p) (site_number d.world s)).stored
         → AreLeft (Settle p s) d last new → LinkEnds (told ≡ true) d (Settle p s) [] (Settled (d.world.nodes (site_number d.world p)).safe) new }
     ensures stored { (d last : Doubted) (p s : List ℕ) → GoodWorld d.world → MaySettle d.world (site_number d.world p) (site_number d.world s) → Runs d (link_events d.world (Settle p s)) last
+        → (last.world.links (site_number d.world p) (site_number d.world s)).stored ≡ (d.world.nodes (site_number d.world p)).safe }
+    ensures free { (d last : Doubted) (files : Bool) (p s : List ℕ) → GoodWorld d.world → LinksFit d → refused_by d.world files (Settle p s) ≡ None → Runs d (link_events d.world (Settle p s)) last
         → (last.world.links (site_number d.world p) (site_number d.world s)).stored ≡ (d.world.nodes (site_number d.world p)).safe }
 {}
 

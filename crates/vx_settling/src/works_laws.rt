@@ -1,5 +1,5 @@
 // What parts of a line that settles a link come to, one after another, and how the line ends by them.
-ghost use Rattle.std.specs.Prelude.{◌≡◌, ◌⊎◌, ℕ, ◌+◌, ◌≤◌, ◌∷◌, ◌++◌, Bool, true, false, List, [], Option, Some};
+ghost use Rattle.std.specs.Prelude.{◌≡◌, ◌⊎◌, ℕ, ◌+◌, ◌≤◌, ◌∷◌, ◌++◌, Bool, true, false, List, [], Some};
 ghost use Rattle.vx_model.specs.Content.{Write};
 ghost use Rattle.vx_model.specs.Sites.{is_origin};
 ghost use Rattle.vx_model.specs.declared.limits.TheConstants.{MOST_NUMBER};
@@ -7,17 +7,17 @@ ghost use Rattle.vx_model.specs.declared.no.Counted.TheVariants.{Number};
 ghost use Rattle.vx_model.specs.declared.no.No.{No};
 ghost use Rattle.vx_model.specs.declared.no.No.TheVariants.{Device, Limit, Down as IsOff};
 ghost use Rattle.vx_history.specs.Doubts.{Doubted, crashed_as, halved, happened};
-ghost use Rattle.vx_history.specs.Events.{packet_at, with_write};
+ghost use Rattle.vx_history.specs.Events.{packet_at};
 ghost use Rattle.vx_history.specs.Settling.{is_between};
 ghost use Rattle.vx_history.specs.Stops.{IsFused, IsHeardAt, IsOpen};
-ghost use Rattle.vx_history.specs.World.{Gathering, Packet};
+ghost use Rattle.vx_history.specs.World.{Packet};
 ghost use Rattle.vx_history.specs.declared.event.Event.{Event};
 ghost use Rattle.vx_history.specs.declared.event.Event.TheVariants.{Apply, Connect, Deliver, Fault, Pump, Tick};
 ghost use Rattle.vx_script.specs.declared.line.ScriptLine.TheVariants.{Settle};
 ghost use Rattle.vx_events.specs.Facts.{site_number};
 ghost use Rattle.vx_events.specs.Fails.{Fails};
 ghost use Rattle.vx_events.specs.LinkEnds.{AreLeft, LinkEnds};
-ghost use Rattle.vx_events.specs.LinkFinds.{IsNoStop, MayTake, pumped_with, target_with};
+ghost use Rattle.vx_events.specs.LinkFinds.{IsGivenUp, MayTake, PumpSends, kept_with, pumped_with, taken_with};
 ghost use Rattle.vx_events.specs.LinkLists.{link_events};
 ghost use Rattle.vx_events.specs.Parts.{StopsShort};
 ghost use Rattle.vx_events.specs.Stamps.{most_stamp_at, stamps_of};
@@ -33,17 +33,16 @@ pub fn settling_works()
     ensures connect { (t : Bool) (p s : ℕ) (d : Doubted) → MayMove p s d.world → Works (t ≡ true) p s d (Connect p s ∷ []) (happened d (Connect p s) false) }
     ensures tick { (t : Bool) (p s : ℕ) (d : Doubted) → MayMove p s d.world → Works (t ≡ true) p s d (Tick p s ∷ []) (happened d (Tick p s) false) }
     ensures pump { (t : Bool) (p s : ℕ) (d : Doubted) → MayMove p s d.world → Works (t ≡ true) p s d (Pump p s ∷ []) (happened d (Pump p s) false) }
-    ensures pump_other { (t : Bool) (p s : ℕ) (d : Doubted) → MayMove p s d.world → (more : List Packet) → (t ≡ true → ⊥)
+    ensures pump_other { (t : Bool) (p s : ℕ) (d : Doubted) → MayMove p s d.world → (more : List Packet) → PumpSends d.world p s more → (t ≡ true → ⊥)
         → Works (t ≡ true) p s d (Pump p s ∷ []) (record d { world = pumped_with d.world p s more }) }
     ensures apply { (t : Bool) (p s : ℕ) (d : Doubted) → MayMove p s d.world → (count reached : ℕ) → Works (t ≡ true) p s d (Apply s count reached ∷ []) (happened d (Apply s count reached) false) }
     ensures deliver { (t : Bool) (p s : ℕ) (d : Doubted) → MayMove p s d.world → (number : ℕ) (q : Packet) → IsSent p s q → packet_at d.world.packets number ≡ Some q → is_between p s q ≡ true
         → Works (t ≡ true) p s d (Deliver number ∷ []) (happened d (Deliver number) false) }
-    ensures take_other { (t : Bool) (p s : ℕ) (d : Doubted) → MayMove p s d.world → (number : ℕ) (q : Packet) → IsSent p s q → (x : Write) (o : Option Gathering) (more : List Packet)
-        → (t ≡ true → ⊥) → MayTake d.world number q
-        → Works (t ≡ true) p s d (Deliver number ∷ []) (record d { world = target_with d.world q.target (with_write (d.world.nodes q.target) q.source x) o more }) }
-    ensures keep_other { (t : Bool) (p s : ℕ) (d : Doubted) → MayMove p s d.world → (number : ℕ) (q : Packet) → IsSent p s q → (o : Option Gathering) (more : List Packet) → (t ≡ true → ⊥)
-        → MayTake d.world number q
-        → Works (t ≡ true) p s d (Deliver number ∷ []) (record d { world = target_with d.world q.target (d.world.nodes q.target) o more }) }
+    ensures take_other { (t : Bool) (p s : ℕ) (d : Doubted) → MayMove p s d.world → (number : ℕ) (q : Packet) → IsSent p s q → (x : Write) → (t ≡ true → ⊥) → (takes : MayTake d.world number q)
+        → Works (t ≡ true) p s d (Deliver number ∷ []) (record d { world = taken_with d.world q takes.count x }) }
+    ensures keep_other { (t : Bool) (p s : ℕ) (d : Doubted) → MayMove p s d.world → (number : ℕ) (q : Packet) → IsSent p s q → (t ≡ true → ⊥) → MayTake d.world number q
+        → Works (t ≡ true) p s d (Deliver number ∷ []) (record d { world = kept_with d.world q }) }
+    ensures lose_other { (t : Bool) (p s : ℕ) (d : Doubted) → MayMove p s d.world → (number : ℕ) (q : Packet) → IsSent p s q → (t ≡ true → ⊥) → Works (t ≡ true) p s d (Deliver number ∷ []) d }
     ensures unread { (t : Bool) (p s : ℕ) (d : Doubted) → MayMove p s d.world → (disk : ℕ) → Stops (t ≡ true) p s d (Pump p s ∷ []) ((p, disk) ∷ []) (Refused (Device disk)) d }
     ensures header { (t : Bool) (p s : ℕ) (d : Doubted) → MayMove p s d.world → (number disk : ℕ) → IsOpen (d.world.nodes p) → IsHeardAt d.world number p
         → Stops (t ≡ true) p s d (Deliver number ∷ []) ((p, disk) ∷ []) (Refused (Device disk)) (halved d (Deliver number) p disk) }
@@ -58,7 +57,7 @@ pub fn settling_works()
     ensures applying_lacks { (t : Bool) (p s : ℕ) (d : Doubted) → MayMove p s d.world → (count reached : ℕ)
         → (t ≡ true → MOST_NUMBER ≤ most_stamp_at d.world s + stamps_of (Apply s count reached) d.world s)
         → Stops (t ≡ true) p s d (Apply s count reached ∷ []) [] (Refused (Limit Number MOST_NUMBER)) d }
-    ensures gives_up { (t : Bool) (p s : ℕ) (d : Doubted) → MayMove p s d.world → (events : List Event) (why : No) → (t ≡ true → ⊥) → IsNoStop why
+    ensures gives_up { (t : Bool) (p s : ℕ) (d : Doubted) → MayMove p s d.world → (events : List Event) (why : No) → (t ≡ true → ⊥) → IsGivenUp why
         → Stops (t ≡ true) p s d events [] (Refused why) d }
     ensures short { (t : Bool) (p s : ℕ) (d : Doubted) → MayMove p s d.world → (events : List Event) → Shortens (t ≡ true) p s d events d }
 {}
@@ -76,12 +75,12 @@ pub fn parts_of_settling_follow()
     ensures short_here { (t : Bool) (p s : ℕ) (d e : Doubted) (xs ys : List Event) → Works (t ≡ true) p s d xs e → Shortens (t ≡ true) p s d (xs ++ ys) e }
 {}
 
-/// As all its events are done, or as they are stopped or ended by want of memory, so a line that settles a link ends. Over disks that tell no contents it has
-/// settled it only where all that is durable is stored.
+/// As all its events are done, or as they are stopped or ended by want of memory, so a line that settles a link ends. It has settled it only where all that is
+/// durable is stored.
 pub fn settling_ends_so()
     ensures done { (t : Bool) (d : Doubted) (p s : List ℕ) (last new : Doubted) → is_origin (d.world.nodes (site_number d.world p)).role ≡ true
         → Works (t ≡ true) (site_number d.world p) (site_number d.world s) d (link_events d.world (Settle p s)) last
-        → ((t ≡ true → ⊥) → (d.world.nodes (site_number d.world p)).safe ≤ (last.world.links (site_number d.world p) (site_number d.world s)).stored)
+        → (d.world.nodes (site_number d.world p)).safe ≤ (last.world.links (site_number d.world p) (site_number d.world s)).stored
         → AreLeft (Settle p s) d last new → LinkEnds (t ≡ true) d (Settle p s) [] (Settled (d.world.nodes (site_number d.world p)).safe) new }
     ensures stopped { (t : Bool) (d : Doubted) (p s : List ℕ) (fails : Fails) (said : Said) (last new : Doubted)
         → Stops (t ≡ true) (site_number d.world p) (site_number d.world s) d (link_events d.world (Settle p s)) fails said last → AreLeft (Settle p s) d last new

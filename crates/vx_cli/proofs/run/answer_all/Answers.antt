@@ -1,6 +1,6 @@
 use Rattle.std.proofs.Common.{◌≡◌, subst, sym, arith}
 use Rattle.vx_script.specs.Lines.{IsPlain}
-use Rattle.vx_node.proofs.Kept.{kept_for}
+use Rattle.vx_yard.proofs.Kept.{kept_for}
 use Rattle.vx_cli.proofs.TurnLemmas.{reaches_first, reaches_more, reaches_end, turn_end, turn_fault, turn_memory, turn_most}
 use Rattle.vx_cli.proofs.run.answer_all.Goals as goal
 

@@ -1,5 +1,5 @@
 use Rattle.std.proofs.Common.{ap, ◌∙◌}
-use Rattle.vx_node.specs.Holds.{rack_faults}
+use Rattle.vx_yard.specs.Holds.{rack_faults}
 use Rattle.vx_cli.proofs.RunLemmas.{begins, run_is, run_stops}
 use Rattle.vx_cli.proofs.run.run.Goals as goal
 

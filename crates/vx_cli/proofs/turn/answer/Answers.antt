@@ -24,8 +24,8 @@ returns-in-Err-WriteFault-clause-answer g c =
 pub returns-in-Ok-Some-clause-answer : goal.returns-in-Ok-Some-clause-answer
 returns-in-Ok-Some-clause-answer g c =
     let says = c.in-Ok-Some.ensures ∙ ap Ok c.in-Ok-Some.field-0-is in
-    λ w stands. let is = rw c.in-Err-OutOfMemory-line.field-0-is at c.in-Err-OutOfMemory-line.ensures.line w stands in
-    (memory_answer w c.args.line.now c.in-Ok-Some.words _ _ says stands c.in-Err-OutOfMemory-line.ensures.told is.0, is.1)
+    λ w stands. let is = rw c.in-Err-OutOfMemory-answer_line.field-0-is at c.in-Err-OutOfMemory-answer_line.ensures.line w stands in
+    (memory_answer w c.args.line.now c.in-Ok-Some.words _ _ says stands c.in-Err-OutOfMemory-answer_line.ensures.told is.0, is.1)
 
 pub returns-in-Err-Bad-clause-answer : goal.returns-in-Err-Bad-clause-answer
 returns-in-Err-Bad-clause-answer g c =
@@ -36,5 +36,5 @@ returns-in-Err-Bad-clause-answer g c =
 pub returns-clause-answer : goal.returns-clause-answer
 returns-clause-answer g c = λ w stands. (StopsBefore (stays w c.args.yard.now stands), appends_none _)
 
-pub line-requires-clause-built : goal.line-requires-clause-built
-line-requires-clause-built g c = λ κs lives. line_built c.args.line.now c.in-Ok-Some.words (c.in-Ok-Some.ensures ∙ ap Ok c.in-Ok-Some.field-0-is)
+pub answer_line-requires-clause-built : goal.answer_line-requires-clause-built
+answer_line-requires-clause-built g c = λ κs lives. line_built c.args.line.now c.in-Ok-Some.words (c.in-Ok-Some.ensures ∙ ap Ok c.in-Ok-Some.field-0-is)

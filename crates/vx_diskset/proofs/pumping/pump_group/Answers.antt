@@ -3,7 +3,7 @@ use Rattle.std.proofs.Common.{◌∙◌, arith, sym, subst}
 use Rattle.vx_rvg.specs.Views.{Core}
 use Rattle.vx_diskset.specs.Stands.{IsUpAt}
 use Rattle.vx_diskset.proofs.MakeGroup.{fuse_untouched}
-use Rattle.vx_diskset.proofs.PumpGroup.{never_lacks, pump_stops, pumped_is}
+use Rattle.vx_diskset.proofs.PumpGroup.{never_lacks, pump_sends, pump_stops, pumped_is}
 use Rattle.vx_diskset.proofs.ReadGroup.{reads_up}
 use Rattle.vx_diskset.proofs.pumping.pump_group.Goals as goal
 
@@ -18,8 +18,12 @@ returns-clause-pumped g c = λ d k up none told there is flight.
     up none told c.pump.ensures.down is flight c.pump.ensures.moved c.pump.ensures.cause
 
 pub returns-clause-stops : goal.returns-clause-stops
-returns-clause-stops g c = λ beside n up.
+returns-clause-stops g c = λ beside n up none.
     pump_stops n c.args.rvg.now.core (g.R.Shelf.meaning c.args.rvg.now.shelf) (g.R.Shelf.meaning c.pump.new.rvg.shelf) c.pump.result up c.pump.ensures.down c.pump.ensures.cause
+
+pub returns-clause-more : goal.returns-clause-more
+returns-clause-more g c = λ beside n up.
+    pump_sends n c.args.rvg.now.core (g.R.Shelf.meaning c.args.rvg.now.shelf) c.args.site c.args.link.now (g.N.Net.flying c.args.flight.now) (g.N.Net.flying c.pump.new.flight) c.pump.result up c.pump.ensures.more
 
 pub returns-clause-stands : goal.returns-clause-stands
 returns-clause-stands g c = λ beside n up.

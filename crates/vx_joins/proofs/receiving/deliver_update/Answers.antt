@@ -6,7 +6,6 @@ use Rattle.vx_courier.specs.Together.{AssemblyStands}
 use Rattle.vx_diskset.specs.Holds.{beside_of}
 use Rattle.vx_diskset.specs.Stands.{RoleIs, StandsAt}
 use Rattle.vx_joins.specs.Deliveries.{DeliveredTo, TookTo}
-use Rattle.vx_peers.proofs.MorePackets.{more_none}
 use Rattle.vx_joins.proofs.TakesUpdate.{alone_same, later_same, never_heard}
 use Rattle.vx_diskset.proofs.Roles.{role_same}
 use Rattle.vx_joins.proofs.TookUpdate.{other_took}
@@ -44,12 +43,9 @@ returns-in_default-clause-took g c = λ d p k x at target message flight stands 
     let f = g.N.Net.flying c.args.flight.now in
     subst
     (λ (t : ℕ). RoleIs (w.nodes t) e → StandsAt (beside_of d t) (w.nodes t) e → c.args.fed_by.now ≡ (w.nodes t).fed_by
-    → TookTo w c.args.number p (beside_of d t) e c.args.fed_by.now c.args.assembly.now c.args.assembly.now f f IsIgnored) target
+    → TookTo w c.args.number p k (beside_of d t) e c.args.fed_by.now c.args.assembly.now c.args.assembly.now f f IsIgnored) target
     (λ role stands fed. other_took w c.args.number p k x at message (beside_of d p.target) e c.args.fed_by.now c.args.assembly.now f c.in_default.not-Receives role stands fed)
     role stands fed
-
-pub returns-in_default-clause-more : goal.returns-in_default-clause-more
-returns-in_default-clause-more g c = more_none (g.N.Net.flying c.args.flight.now)
 
 pub returns-in_default-clause-role : goal.returns-in_default-clause-role
 returns-in_default-clause-role g c = role_same c.args.disks.now

@@ -5,11 +5,10 @@ use Rattle.vx_model.specs.declared.state.State.{State}
 use Rattle.vx_history.specs.Events.{delivered, packet_at}
 use Rattle.vx_history.specs.declared.event.Said.TheVariants.{Ignored as IsIgnored}
 use Rattle.vx_courier.specs.Together.{AssemblyStands}
-use Rattle.vx_peers.specs.Receivers.{DeliveredAt}
+use Rattle.vx_peers.specs.Receivers.{DeliveredAt, TookOne, rule_at}
 use Rattle.vx_diskset.specs.Holds.{beside_of}
 use Rattle.vx_diskset.specs.Stands.{StandsAt}
 use Rattle.vx_diskset.specs.declared.disk_set.DiskSet.TheVariants.{Receives}
-use Rattle.vx_peers.proofs.MorePackets.{more_none}
 use Rattle.vx_joins.specs.Deliveries.{DeliveredTo, TookTo}
 use Rattle.vx_joins.proofs.TakesUpdate.{alone_group, alone_same, err_map, halted_to, later_group, later_same, ok_map, receives_at, same_stands, taken_to}
 use Rattle.vx_joins.proofs.UpdatesFit.{fits_group}
@@ -71,12 +70,6 @@ returns-clause-still g c = alone_group c.args.secondary.now c.deliver_update.new
 pub returns-clause-later : goal.returns-clause-later
 returns-clause-later g c = later_group c.args.secondary.now c.deliver_update.new.secondary c.deliver_update.ensures.group
 
-pub returns-in-Some-clause-more : goal.returns-in-Some-clause-more
-returns-in-Some-clause-more g c = more_none (g.N.Net.flying c.args.flight.now)
-
-pub returns-clause-more : goal.returns-clause-more
-returns-clause-more g c = c.deliver_update.ensures.more
-
 pub returns-in-Some-clause-took : goal.returns-in-Some-clause-took
 returns-in-Some-clause-took g c = λ d p k x at target message flight stands fed.
     let w = d.world in
@@ -84,7 +77,7 @@ returns-in-Some-clause-took g c = λ d p k x at target message flight stands fed
     let f = g.N.Net.flying c.args.flight.now in
     subst
     (λ (t : ℕ). StandsAt (beside_of d t) (w.nodes t) (Receives s) → c.args.fed_by.now ≡ (w.nodes t).fed_by
-    → TookTo w c.args.number p (beside_of d t) (Receives s) c.args.fed_by.now c.args.assembly.now c.args.assembly.now f f IsIgnored) target
+    → TookTo w c.args.number p k (beside_of d t) (Receives s) c.args.fed_by.now c.args.assembly.now c.args.assembly.now f f IsIgnored) target
     (λ stands fed. halted_took w c.args.number p k x at message (beside_of d p.target) s c.in-Some.field-0 c.args.fed_by.now c.args.assembly.now f (sym c.in-Some.is ∙ c.halted.ensures) stands fed)
     stands fed
 
@@ -96,9 +89,15 @@ returns-clause-took g c = λ d p k x at target message flight stands fed.
     let f = g.N.Net.flying c.args.flight.now in
     let f' = g.N.Net.flying c.deliver_update.new.flight in
     let running = sym stands.halted ∙ sym c.halted.ensures ∙ c.in_default.is in
+    let core = s.rvg.core in
+    let fed_by = c.args.fed_by.now in
+    let fed_new = c.deliver_update.new.fed_by in
+    let a = c.args.assembly.now in
+    let a' = c.deliver_update.new.assembly in
     subst
-    (λ (t : ℕ). StandsAt (beside_of d t) (w.nodes t) (Receives s) → (w.nodes t).halted ≡ None → c.args.fed_by.now ≡ (w.nodes t).fed_by
-    → IfOk c.deliver_update.result (λ said. TookTo w c.args.number p (beside_of d t) (Receives new) c.deliver_update.new.fed_by c.args.assembly.now c.deliver_update.new.assembly f f' said)) target
-    (λ stands running fed. ok_map c.deliver_update.result (c.deliver_update.ensures.took w p k x at message flight)
-    (λ said took. running_took w c.args.number p k x at message (beside_of d p.target) s new c.args.fed_by.now c.deliver_update.new.fed_by c.args.assembly.now c.deliver_update.new.assembly f f' c.deliver_update.ensures.group stands running fed said took))
-    stands running fed
+    (λ (t : ℕ). StandsAt (beside_of d t) (w.nodes t) (Receives s) → (w.nodes t).halted ≡ None → fed_by ≡ (w.nodes t).fed_by
+    → IfOk c.deliver_update.result (λ said. TookOne (rule_at core s.waiting p.line k) p.source t core s.waiting new.waiting fed_by fed_new a a' f f' said)
+    → IfOk c.deliver_update.result (λ said. TookTo w c.args.number p k (beside_of d t) (Receives new) fed_new a a' f f' said)) target
+    (λ stands running fed took. ok_map c.deliver_update.result took
+    (λ said one. running_took w c.args.number p k x at message (beside_of d p.target) s new fed_by fed_new a a' f f' c.deliver_update.ensures.group stands running fed said one))
+    stands running fed (c.deliver_update.ensures.took w p k x at message flight (sym c.halted.ensures ∙ c.in_default.is))

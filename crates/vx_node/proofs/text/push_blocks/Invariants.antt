@@ -1,5 +1,5 @@
 use Rattle.std.proofs.Common.{◌≡◌, ◌++◌}
-use Rattle.vx_node.specs.Replies.{blocks_text}
+use Rattle.vx_yard.specs.Replies.{blocks_text}
 use Rattle.vx_node.proofs.text.push_blocks.Given as goal
 
 abbrev pub invariant-loop-k : goal.invariant-loop-k

@@ -1,14 +1,16 @@
-use Rattle.std.proofs.Common.{◌∙◌, inl, inr, ap, sym, subst, refl, arith, Some, Option, Bool, ℕ}
+use Rattle.std.proofs.Common.{◌≡◌, ◌∙◌, inl, inr, ap, sym, subst, refl, arith, Some, Option, Bool, ℕ}
+use Rattle.std.specs.Prelude.{None}
 use Rattle.vx_packet.specs.Packets.{payload_in}
 use Rattle.vx_rvg.specs.Views.{Core}
 use Rattle.vx_courier.specs.Together.{AssemblyStands}
 use Rattle.vx_history.specs.Events.{delivered, packet_at}
 use Rattle.vx_history.specs.declared.event.Said.TheVariants.{Ignored as IsIgnored, Taken as IsTaken}
 use Rattle.vx_model.specs.declared.state.State.{State}
-use Rattle.vx_peers.specs.Receivers.{GatheredIs, NoneWaits, OneWaits, Receives, SendsOn, StandsFor, WaitsBy}
-use Rattle.vx_peers.proofs.Delivers.{again_at, ignored_at, never_lost, read_of, rule_is, some_kept, some_waits}
+use Rattle.vx_peers.specs.Receivers.{AcksAgain, GatheredIs, NoneWaits, NotHeard, OneWaits, Receives, SendsOn, StandsFor, WaitsBy, acks_of, rule_at}
+use Rattle.vx_peers.specs.Senders.{Sends}
+use Rattle.vx_peers.proofs.Delivers.{again_at, ignored_at, is_idle, never_lost, read_of, rule_is, rule_read, some_kept, some_waits}
 use Rattle.vx_peers.proofs.Found.{never_none, never_other}
-use Rattle.vx_peers.proofs.MorePackets.{more_acknowledged, more_none}
+use Rattle.vx_peers.proofs.MorePackets.{more_acknowledged}
 use Rattle.vx_peers.proofs.delivering.deliver_update.Goals as goal
 
 pub returns-in_default-get-clause-delivered : goal.returns-in_default-get-clause-delivered
@@ -21,8 +23,12 @@ returns-in_default-decode-clause-delivered g c = λ w p k x at target message on
 
 pub returns-in-Nothing : goal.returns-in-Nothing
 returns-in-Nothing g c = record {
-  more = more_none (g.N.Net.flying c.args.flight.now);
-  took = λ w p k x at message flight. NoneWaits refl refl (inr refl);
+  took = λ w p k x at message flight running.
+      let core = c.args.secondary.now.rvg.core in
+      let us = c.args.secondary.now.waiting in
+      let f = g.N.Net.flying c.args.flight.now in
+      let read = read_of w c.args.number p k x at message f flight c.in-Some-get.bytes.now c.in-Some-decode.part c.in-Some-get.ensures.packet c.decode.result c.decode.ensures.only c.in-Some-decode.is in
+      NotHeard (is_idle (rule_at core us p.line k) c.rule_for.result (rule_read core us p k c.in-Some-get.bytes.now c.in-Some-decode.part read c.rule_for.result c.rule_for.ensures) c.in-Nothing.is) refl refl refl refl refl;
   delivered = λ w p k x at target message one flight receives stands fits.
       let core = c.args.secondary.now.rvg.core in
       let us = c.args.secondary.now.waiting in
@@ -119,30 +125,64 @@ returns-in-Some-true-clause-delivered g c = λ w p k x at target message one fli
     subst (λ (v : Core). StandsFor (delivered w c.args.number (packet_at w.packets c.args.number)) c.args.site v waiting part.source new f' IsTaken) (sym (ap (λ r. r.core) c.gather.ensures.group))
     (subst (λ (t : ℕ). StandsFor (delivered w c.args.number (packet_at w.packets c.args.number)) t core waiting part.source new f' IsTaken) target done)
 
-pub returns-else-number-gt-MOST_NUMBER-clause-more : goal.returns-else-number-gt-MOST_NUMBER-clause-more
-returns-else-number-gt-MOST_NUMBER-clause-more g c =
-    more_acknowledged c.args.site c.in-Some-decode.part.source c.state.result.now.line c.session-session.result c.in-IgnoredAck.number (g.N.Net.flying c.args.flight.now) (g.N.Net.flying c.acknowledge-in-IgnoredAck.new.flight)
-    (omega (arith, c.if-count-ge-MOST_NUMBER.false, c.count.ensures.count)) c.acknowledge-in-IgnoredAck.ensures.sends
+-- ---- whatever is in assembly
 
-pub returns-in-Some-true-clause-more : goal.returns-in-Some-true-clause-more
-returns-in-Some-true-clause-more g c =
-    more_acknowledged c.args.site c.in-Some-decode.part.source c.state.result.now.line c.session-session.result c.in-Take.ack (g.N.Net.flying c.args.flight.now) (g.N.Net.flying c.acknowledge.new.flight)
-    (omega (arith, c.if-count-ge-MOST_NUMBER.false, c.count.ensures.count)) c.acknowledge.ensures.sends
+pub returns-in-Some-clause-took : goal.returns-in-Some-clause-took
+returns-in-Some-clause-took g c = λ w p k x at message flight running. absurd (let e : Some c.in-Some.field-0 ≡ None = sym c.in-Some.is ∙ c.halted.ensures ∙ running in cc)
+
+pub returns-in_default-get-clause-took : goal.returns-in_default-get-clause-took
+returns-in_default-get-clause-took g c = λ w p k x at message flight running.
+    absurd (never_none w.packets c.args.number p at (g.N.Net.flying c.args.flight.now) flight c.in_default-get.ensures.packet)
+
+pub returns-in_default-decode-clause-took : goal.returns-in_default-decode-clause-took
+returns-in_default-decode-clause-took g c = λ w p k x at message flight running.
+    absurd (never_other w.packets c.args.number p at (g.N.Net.flying c.args.flight.now) flight c.in-Some-get.bytes.now c.in-Some-get.ensures.packet c.decode.result c.decode.ensures.only c.in_default-decode.is)
 
 pub returns-else-number-gt-MOST_NUMBER-clause-took : goal.returns-else-number-gt-MOST_NUMBER-clause-took
-returns-else-number-gt-MOST_NUMBER-clause-took g c = λ w p k x at message flight. NoneWaits refl refl (inr refl)
+returns-else-number-gt-MOST_NUMBER-clause-took g c = λ w p k x at message flight running.
+    let core = c.args.secondary.now.rvg.core in
+    let us = c.args.secondary.now.waiting in
+    let f = g.N.Net.flying c.args.flight.now in
+    let f' = g.N.Net.flying c.acknowledge-in-IgnoredAck.new.flight in
+    let part = c.in-Some-decode.part in
+    let bytes = c.in-Some-get.bytes.now in
+    let read = read_of w c.args.number p k x at message f flight bytes part c.in-Some-get.ensures.packet c.decode.result c.decode.ensures.only c.in-Some-decode.is in
+    let sends = more_acknowledged c.args.site part.source core c.state.result.now.line c.session-session.result c.in-IgnoredAck.number f f' (ap (λ (s : State). s.line) c.state.ensures.is) c.session-session.ensures.is
+    (omega (arith, c.if-count-ge-MOST_NUMBER.false, c.count.ensures.count)) c.acknowledge-in-IgnoredAck.ensures.sends in
+    AcksAgain c.in-IgnoredAck.number (sym (rule_read core us p k bytes part read c.rule_for.result c.rule_for.ensures) ∙ c.in-IgnoredAck.is) refl refl refl
+    (subst (λ (i : ℕ). Sends (acks_of c.args.site i core c.in-IgnoredAck.number) f f') read.source sends) refl
 
 pub returns-in-None-clause-took : goal.returns-in-None-clause-took
-returns-in-None-clause-took g c = λ w p k x at message flight. NoneWaits (subst (λ (r : Option Bool). WaitsBy r c.args.secondary.now.waiting c.gather.new.secondary.waiting) c.in-None.is c.gather.ensures.waits) refl (inr refl)
+returns-in-None-clause-took g c = λ w p k x at message flight running.
+    let core = c.args.secondary.now.rvg.core in
+    let us = c.args.secondary.now.waiting in
+    let part = c.in-Some-decode.part in
+    let bytes = c.in-Some-get.bytes.now in
+    let read = read_of w c.args.number p k x at message (g.N.Net.flying c.args.flight.now) flight bytes part c.in-Some-get.ensures.packet c.decode.result c.decode.ensures.only c.in-Some-decode.is in
+    NoneWaits c.in-Take.ack (sym (rule_read core us p k bytes part read c.rule_for.result c.rule_for.ensures) ∙ c.in-Take.is)
+    (subst (λ (r : Option Bool). WaitsBy r us c.gather.new.secondary.waiting) c.in-None.is c.gather.ensures.waits) refl refl (inr refl)
 
 pub returns-in-Some-false-clause-took : goal.returns-in-Some-false-clause-took
-returns-in-Some-false-clause-took g c = λ w p k x at message flight.
-    NoneWaits
-    (subst (λ (r : Option Bool). WaitsBy r c.args.secondary.now.waiting c.gather.new.secondary.waiting) (c.in-Some-false.is ∙ ap (λ (b : Bool). Some b) c.in-Some-false.field-0-test) c.gather.ensures.waits)
-    refl (inl refl)
+returns-in-Some-false-clause-took g c = λ w p k x at message flight running.
+    let core = c.args.secondary.now.rvg.core in
+    let us = c.args.secondary.now.waiting in
+    let part = c.in-Some-decode.part in
+    let bytes = c.in-Some-get.bytes.now in
+    let read = read_of w c.args.number p k x at message (g.N.Net.flying c.args.flight.now) flight bytes part c.in-Some-get.ensures.packet c.decode.result c.decode.ensures.only c.in-Some-decode.is in
+    NoneWaits c.in-Take.ack (sym (rule_read core us p k bytes part read c.rule_for.result c.rule_for.ensures) ∙ c.in-Take.is)
+    (subst (λ (r : Option Bool). WaitsBy r us c.gather.new.secondary.waiting) (c.in-Some-false.is ∙ ap (λ (b : Bool). Some b) c.in-Some-false.field-0-test) c.gather.ensures.waits) refl refl (inl refl)
 
 pub returns-in-Some-true-clause-took : goal.returns-in-Some-true-clause-took
-returns-in-Some-true-clause-took g c = λ w p k x at message flight.
-    let waits = subst (λ (r : Option Bool). WaitsBy r c.args.secondary.now.waiting c.gather.new.secondary.waiting) (c.in-Some-true.is ∙ ap (λ (b : Bool). Some b) c.in-Some-true.field-0-test) c.gather.ensures.waits in
-    let read = read_of w c.args.number p k x at message (g.N.Net.flying c.args.flight.now) flight c.in-Some-get.bytes.now c.in-Some-decode.part c.in-Some-get.ensures.packet c.decode.result c.decode.ensures.only c.in-Some-decode.is in
-    OneWaits waits.0 waits.1 read.source refl
+returns-in-Some-true-clause-took g c = λ w p k x at message flight running.
+    let core = c.args.secondary.now.rvg.core in
+    let us = c.args.secondary.now.waiting in
+    let f = g.N.Net.flying c.args.flight.now in
+    let f' = g.N.Net.flying c.acknowledge.new.flight in
+    let part = c.in-Some-decode.part in
+    let bytes = c.in-Some-get.bytes.now in
+    let waits = subst (λ (r : Option Bool). WaitsBy r us c.gather.new.secondary.waiting) (c.in-Some-true.is ∙ ap (λ (b : Bool). Some b) c.in-Some-true.field-0-test) c.gather.ensures.waits in
+    let read = read_of w c.args.number p k x at message f flight bytes part c.in-Some-get.ensures.packet c.decode.result c.decode.ensures.only c.in-Some-decode.is in
+    let sends = more_acknowledged c.args.site part.source core c.state.result.now.line c.session-session.result c.in-Take.ack f f' (ap (λ (s : State). s.line) c.state.ensures.is) c.session-session.ensures.is
+    (omega (arith, c.if-count-ge-MOST_NUMBER.false, c.count.ensures.count)) c.acknowledge.ensures.sends in
+    OneWaits waits.0 c.in-Take.ack (sym (rule_read core us p k bytes part read c.rule_for.result c.rule_for.ensures) ∙ c.in-Take.is) waits.1 read.source
+    (subst (λ (i : ℕ). Sends (acks_of c.args.site i core c.in-Take.ack) f f') read.source sends) refl

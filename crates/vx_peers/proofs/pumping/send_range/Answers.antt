@@ -25,4 +25,6 @@ send_updates-requires-clause-numbers g c =
     omega (arith, ap (λ (us : List Update). length us) c.deref.ensures.value, c.in_ok-updates.ensures.read.0, c.requires.some, c.requires.number)
 
 pub returns-clause-more : goal.returns-clause-more
-returns-clause-more g c = more_updates c.args.envelope.now c.args.from c.deref.result.now (g.N.Net.flying c.args.flight.now) (g.N.Net.flying c.send_updates.new.flight) c.send_updates.ensures.flies
+returns-clause-more g c =
+    more_updates c.args.envelope.now c.args.from c.args.to c.deref.result.now (g.N.Net.flying c.args.flight.now) (g.N.Net.flying c.send_updates.new.flight)
+    (omega (arith, ap (λ (us : List Update). length us) c.deref.ensures.value, c.in_ok-updates.ensures.read.0, c.requires.some)) c.send_updates.ensures.flies

@@ -11,8 +11,8 @@ use Rattle.vx_peers.proofs.reading.read_updates.Goals as goal
 pub loop-past-init : goal.loop-past-init
 loop-past-init g c = (
   not_looked c.args.rvg.now.core (g.S.Shelf.meaning c.args.rvg.now.shelf),
-  ap (λ (us : List Update). length us) c.new-updates.ensures.items,
-  λ h stands tells. (subst (AreRead h c.args.rvg.now.core.log.header.state.line c.args.first) (sym c.new-updates.ensures.items) (none_read h c.args.rvg.now.core.log.header.state.line c.args.first), stands),
+  ap (λ (us : List Update). length us) c.in_ok-updates.ensures.items,
+  λ h stands tells. (subst (AreRead h c.args.rvg.now.core.log.header.state.line c.args.first) (sym c.in_ok-updates.ensures.items) (none_read h c.args.rvg.now.core.log.header.state.line c.args.first), stands),
 )
 
 pub fetch-requires : goal.fetch-requires

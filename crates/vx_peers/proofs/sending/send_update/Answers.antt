@@ -1,4 +1,6 @@
-use Rattle.std.proofs.Common.{arith}
+use Rattle.std.proofs.Common.{List, ap, arith, ℕ}
+use Rattle.vx_packet.specs.Messages.{parts_of}
+use Rattle.vx_packet.specs.declared.message.Message.TheVariants.{Update}
 use Rattle.vx_peers.proofs.Sizes.{update_parts}
 use Rattle.vx_peers.proofs.sending.send_update.Goals as goal
 
@@ -7,5 +9,6 @@ returns-clause-count g c =
     omega (
       arith,
       c.send_message.ensures.count,
-      update_parts c.args.number c.args.update.now (record { some = c.as_bytes-blocks.ensures.some; few = c.as_bytes-blocks.ensures.few; whole = c.as_bytes-blocks.ensures.whole }),
+      ap (λ (bytes : List ℕ). parts_of (Update c.args.number c.args.update.now.vol c.args.update.now.block bytes)) c.of.ensures.bytes,
+      update_parts c.args.number c.args.update.now c.of.ensures.blocks,
     )

@@ -6,7 +6,7 @@ use Rattle.vx_packet.specs.Gathering.{kept}
 use Rattle.vx_packet.specs.Packets.{payload_in}
 use Rattle.vx_packet.specs.declared.key.Key.{Key}
 use Rattle.vx_packet.specs.declared.part.Part.{Part}
-use Rattle.vx_packet.proofs.AssemblyLemmas.{begun, slice-payload, after-put, kept-after, whole-after, bad-after, none_some}
+use Rattle.vx_packet.proofs.AssemblyLemmas.{begun, slice-payload, after-put, kept-after, whole-read, bad-after}
 use Rattle.vx_packet.proofs.KeyLemmas.{HasParts-held, held_of-parts}
 use Rattle.vx_packet.proofs.assembly.Assembly.take.Goals as goal
 
@@ -17,42 +17,42 @@ place old new p key held view is same = view ∙ is ∙ ap (λ (q : Key). Some (
 pub put-requires-clause-part : goal.put-requires-clause-part
 put-requires-clause-part c =
     let p : Part = c.args.part.now in
-    let is = place c.args.self.now c.begin.new.self p c.of.result _ (ap (λ (a : Assembled). a.held) c.self.view_is) c.begin.ensures c.of.ensures in
-    let count = HasParts-held c.self.inside.key c.self.inside.parts (begun c.args.self.now.held p) is c.self.invariant in
+    let is = place c.args.self.now c.begin.new.self p c.of-key.result _ (ap (λ (a : Assembled). a.held) c.self.view_is) c.begin.ensures c.of-key.ensures in
+    let count = HasParts-held c.self.inside.key c.self.inside.parts (begun c.args.self.now.held p) is c.self.invariant.0 in
     omega (arith, count, ap length (held_of-parts c.self.inside.key c.self.inside.parts (begun c.args.self.now.held p) is), c.requires.can.part)
 
 pub put-requires-clause-whole : goal.put-requires-clause-whole
 put-requires-clause-whole c h =
     let p : Part = c.args.part.now in
-    let is = place c.args.self.now c.begin.new.self p c.of.result _ (ap (λ (a : Assembled). a.held) c.self.view_is) c.begin.ensures c.of.ensures in
-    let count = HasParts-held c.self.inside.key c.self.inside.parts (begun c.args.self.now.held p) is c.self.invariant in
+    let is = place c.args.self.now c.begin.new.self p c.of-key.result _ (ap (λ (a : Assembled). a.held) c.self.view_is) c.begin.ensures c.of-key.ensures in
+    let count = HasParts-held c.self.inside.key c.self.inside.parts (begun c.args.self.now.held p) is c.self.invariant.0 in
     let full : p.length ≡ 1024 = c.requires.can.length.whole (omega (arith, count, h, ap length (held_of-parts c.self.inside.key c.self.inside.parts (begun c.args.self.now.held p) is))) in
     omega (arith, length-take (p.start + p.length - p.start) (drop p.start c.args.bytes.now), length-drop p.start c.args.bytes.now, c.requires.whole, c.requires.start)
 
 pub payload-requires : goal.payload-requires
 payload-requires c =
     let p : Part = c.args.part.now in
-    let is = place c.args.self.now c.begin.new.self p c.of.result _ (ap (λ (a : Assembled). a.held) c.self.view_is) c.begin.ensures c.of.ensures in
-    let count = HasParts-held c.self.inside.key c.self.inside.parts (begun c.args.self.now.held p) is c.self.invariant in
+    let is = place c.args.self.now c.begin.new.self p c.of-key.result _ (ap (λ (a : Assembled). a.held) c.self.view_is) c.begin.ensures c.of-key.ensures in
+    let count = HasParts-held c.self.inside.key c.self.inside.parts (begun c.args.self.now.held p) is c.self.invariant.0 in
     omega (arith, count, ap length (held_of-parts c.self.inside.key c.self.inside.parts (begun c.args.self.now.held p) is), c.requires.can.part, ap length c.put.ensures ∙ length-set c.self.inside.parts p.part (Some (kept p.part (take (p.start + p.length - p.start) (drop p.start c.args.bytes.now)))))
 
 pub returns-in-None : goal.returns-in-None
 returns-in-None c =
     let p : Part = c.args.part.now in
-    let is = place c.args.self.now c.begin.new.self p c.of.result _ (ap (λ (a : Assembled). a.held) c.self.view_is) c.begin.ensures c.of.ensures in
+    let is = place c.args.self.now c.begin.new.self p c.of-key.result _ (ap (λ (a : Assembled). a.held) c.self.view_is) c.begin.ensures c.of-key.ensures in
     let same = after-put c.args.self.now.held p c.self.inside.key c.self.inside.parts c.put.new.self _ (payload_in p c.args.bytes.now) is (slice-payload p c.args.bytes.now) c.put.ensures in
     kept-after c.args.self.now.held p c.self.inside.key c.self.inside.parts c.put.new.self (payload_in p c.args.bytes.now) is same c.in-None.ensures
 
-pub returns-in-Some-found : goal.returns-in-Some-found
-returns-in-Some-found c =
+pub returns-then-reads : goal.returns-then-reads
+returns-then-reads c =
     let p : Part = c.args.part.now in
-    let is = place c.args.self.now c.begin.new.self p c.of.result _ (ap (λ (a : Assembled). a.held) c.self.view_is) c.begin.ensures c.of.ensures in
+    let is = place c.args.self.now c.begin.new.self p c.of-key.result _ (ap (λ (a : Assembled). a.held) c.self.view_is) c.begin.ensures c.of-key.ensures in
     let same = after-put c.args.self.now.held p c.self.inside.key c.self.inside.parts c.put.new.self _ (payload_in p c.args.bytes.now) is (slice-payload p c.args.bytes.now) c.put.ensures in
-    whole-after c.args.self.now.held p c.put.new.self (payload_in p c.args.bytes.now) c.in-Some.payload.now c.in-Some-found.message same c.in-Some.ensures.0 c.in-Some.ensures.1 c.in-Some-found.ensures.found
+    whole-read c.args.self.now.held p c.put.new.self (payload_in p c.args.bytes.now) c.in-Some.payload.now c.of-key.result same c.in-Some.ensures.0 c.in-Some.ensures.1 c.of-key.ensures c.if-reads.ensures
 
-pub returns-in-None-found : goal.returns-in-None-found
-returns-in-None-found c =
+pub returns-else-reads : goal.returns-else-reads
+returns-else-reads c =
     let p : Part = c.args.part.now in
-    let is = place c.args.self.now c.begin.new.self p c.of.result _ (ap (λ (a : Assembled). a.held) c.self.view_is) c.begin.ensures c.of.ensures in
+    let is = place c.args.self.now c.begin.new.self p c.of-key.result _ (ap (λ (a : Assembled). a.held) c.self.view_is) c.begin.ensures c.of-key.ensures in
     let same = after-put c.args.self.now.held p c.self.inside.key c.self.inside.parts c.put.new.self _ (payload_in p c.args.bytes.now) is (slice-payload p c.args.bytes.now) c.put.ensures in
-    bad-after c.args.self.now.held p c.put.new.self (payload_in p c.args.bytes.now) c.in-Some.payload.now same c.in-Some.ensures.0 c.in-Some.ensures.1 (λ m found. none_some m (c.in-None-found.ensures.only m found))
+    bad-after c.args.self.now.held p c.put.new.self (payload_in p c.args.bytes.now) c.in-Some.payload.now same c.in-Some.ensures.0 c.in-Some.ensures.1 c.if-reads.ensures

@@ -1,0 +1,4 @@
+pub mod Places
+pub mod Tallies
+pub mod Changes
+pub mod Fits

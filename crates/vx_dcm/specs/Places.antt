@@ -1,0 +1,75 @@
+-- Where the map of each place of a link and each volume lies.
+use Rattle.std.specs.Prelude.{◌≡◌, ℕ, ◌+◌, ◌*◌, ◌<◌, ◌≤◌, Bool, List, length, map, take, slice_index}
+use Rattle.std.specs.List.{sum_by}
+use Rattle.vx_model.specs.Sizes.{map_blocks, regions_of}
+use Rattle.vx_model.specs.declared.limits.TheConstants.{LINK_PLACES, MAP_REGIONS, MOST_DATA_VOLUMES}
+use Rattle.vx_model.specs.declared.units.Units.{Units}
+use Rattle.vx_disk.specs.Shelf.{Meaning}
+use Rattle.vx_bitmap.specs.Bits.{is_marked}
+use Rattle.vx_bitmap.specs.Maps.{Map}
+use Rattle.vx_dcm.specs.declared.dcm.TheConstants.{MOST_MAP_BLOCKS}
+
+-- the maps of all places of a link, one after another, and how many blocks each volume has
+pub record Maps : Type 0 where
+  pub map : Map
+  pub sizes : List ℕ
+
+-- how many blocks the maps of volumes of these sizes take
+abbrev pub maps_in : List ℕ → ℕ
+maps_in sizes = sum_by (λ n. map_blocks n) sizes
+
+-- how many blocks the maps of one place of a link take, as the shelf has the volumes
+abbrev pub maps_of : List ℕ → Meaning → ℕ
+maps_of vols m = sum_by (λ u. map_blocks (m.size u)) vols
+
+-- the blocks of a volume
+abbrev pub size_of : Maps → ℕ → ℕ
+size_of d v = slice_index d.sizes v
+
+-- the first block of a map: behind the maps of the places before, and of the volumes before
+abbrev pub first_of : List ℕ → ℕ → ℕ → ℕ
+first_of sizes slot v = slot * maps_in sizes + maps_in (take v sizes)
+
+-- the place of a region of a map among the regions of all maps
+abbrev pub place_of : Maps → ℕ → ℕ → ℕ → ℕ
+place_of d slot v r = MAP_REGIONS * first_of d.sizes slot v + r
+
+-- whether a region of a volume is marked for a place of a link
+abbrev pub has_mark : Maps → ℕ → ℕ → ℕ → Bool
+has_mark d slot v r = is_marked d.map.bytes (place_of d slot v r)
+
+-- there is such a place and volume
+pub record HasMap (d : Maps) (slot v : ℕ) : Type 0 where
+  pub place : slot < LINK_PLACES
+  pub volume : v < length d.sizes
+
+-- and the volume has such a region
+pub record HasRegion (d : Maps) (slot v r : ℕ) : Type 0 where
+  pub map : HasMap d slot v
+  pub region : r < regions_of (size_of d v)
+
+-- each other region of each map is as it was
+pub record OthersSame (slot v r : ℕ) (old new : Maps) : Type 0 where
+  pub each : (k w q : ℕ) → HasRegion old k w q → ((k ≡ slot) × (w ≡ v) × (q ≡ r) → ⊥) → has_mark new k w q ≡ has_mark old k w q
+
+-- for each place of a link there is a map of each volume, and the maps are not too many
+pub record IsKept (map : Map) (sizes : List ℕ) (stride : ℕ) : Type 0 where
+  pub stride_is : stride ≡ maps_in sizes
+  pub long : length map.bytes ≡ 512 * (LINK_PLACES * stride)
+  pub few : LINK_PLACES * stride ≤ MOST_MAP_BLOCKS
+  pub volumes : length sizes ≤ MOST_DATA_VOLUMES
+
+-- the map unit and the volumes are units of the shelf, some volume has a block, and the map unit has room for a map of each volume for
+-- each place of a link
+pub record MapsFit (units : Units) (m : Meaning) : Type 0 where
+  pub maps_exist : units.maps < m.units
+  pub exist : (v : ℕ) → v < length units.vols → slice_index units.vols v < m.units
+  pub some : 0 < maps_of units.vols m
+  pub fit : LINK_PLACES * maps_of units.vols m ≤ m.size units.maps
+
+-- what was read of the map unit
+pub record DcmLoaded (units : Units) (m : Meaning) (d : Maps) : Type 0 where
+  pub unit : d.map.unit ≡ units.maps
+  pub first : d.map.first ≡ 0
+  pub long : length d.map.bytes ≡ 512 * (LINK_PLACES * maps_of units.vols m)
+  pub sizes : d.sizes ≡ map m.size units.vols

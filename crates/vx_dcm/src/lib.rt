@@ -1,0 +1,16 @@
+//! Change maps: for each place of a link and each data volume of a group, which regions were changed, marked durably before they are
+//! written.
+//!
+//! A region is 64 blocks. The maps lie in the group's map unit from its first block on: those of a place of a link one after another, volume
+//! by volume, and behind them those of the next place. Memory is taken by `load` alone.
+#![tactic(auto)]
+
+mod counting;
+mod dcm;
+mod fit;
+mod sizes;
+#[cfg(test)]
+mod tests;
+
+pub use dcm::{Dcm, MOST_MAP_BLOCKS};
+pub use fit::maps_fit;

@@ -1,0 +1,6 @@
+pub mod LosingLemmas
+pub mod GoneLemmas
+pub mod LogPlaces
+pub mod CoverLemmas
+pub mod GroupLemmas
+pub mod LoadedLemmas

@@ -1,0 +1,13 @@
+-- A log that is taken up, or lost.
+use Rattle.std.proofs.Common.{◌∙◌, inr, refl, sym}
+use Rattle.vx_grouplogs.proofs.LoadedLemmas.{rose_of, unused_held}
+use Rattle.vx_grouplogs.proofs.loading.load_marks.Goals as goal
+
+pub returns-then-not-is_used-clause-takes : goal.returns-then-not-is_used-clause-takes
+returns-then-not-is_used-clause-takes g c =
+    let off = sym c.is_used.ensures ∙ c.if-not-is_used.true in
+    (off, unused_held c.args.config.now c.args.vol off)
+
+pub returns-in-Err-No-Device-clause-takes : goal.returns-in-Err-No-Device-clause-takes
+returns-in-Err-No-Device-clause-takes g c =
+    (refl, sym c.is_used.ensures ∙ c.if-not-is_used.false, inr (rose_of (g.S.Shelf.meaning c.args.shelf.now) (g.S.Shelf.meaning c.load_drl.new.shelf) c.in-Err-No-Device.field-0 c.in-Err-No-Device.field-0-0 c.in-Err-No-Device.field-0-0-0 c.in-Err-No-Device.field-0-is c.in-Err-No-Device.field-0-0-is c.in-Err-No-Device.ensures.cause))

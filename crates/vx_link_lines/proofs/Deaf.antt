@@ -1,0 +1,142 @@
+-- The target of a packet: whether it receives, and what the yard has of it.
+use Rattle.std.proofs.Common.{◌≡◌, ◌∙◌, ◌⊎◌, inl, inr, ⊎_elim, ◌+◌, ◌<◌, ℕ, zero, suc, Bool, true, false, List, [], ◌∷◌, ap, sym, subst, refl, arith}
+use Rattle.std.specs.Prelude.{Option, Some, None, slice_get}
+use Rattle.vx_model.specs.Content.{Write}
+use Rattle.vx_model.specs.Sites.{is_origin, is_up}
+use Rattle.vx_model.specs.declared.site.SiteState.TheVariants.{Bare as IsBare, Up as IsUp, Deported as IsDeported, Down as IsDown}
+use Rattle.vx_history.specs.Doubts.{Doubted, happened}
+use Rattle.vx_events.proofs.Steps.{no_sites}
+use Rattle.vx_events.specs.LinkedFacts.{link_facts, linked_fact, links_by}
+use Rattle.vx_events.specs.LinksFit.{StartsAt}
+use Rattle.vx_history.specs.Sends.{is_linked}
+use Rattle.vx_model.specs.declared.site.SiteState.{SiteState}
+use Rattle.vx_history.specs.Events.{delivered, linked_sites, packet_at}
+use Rattle.vx_history.specs.Refusals.{Outcome, says}
+use Rattle.vx_history.specs.Stops.{IsOpen}
+use Rattle.vx_history.specs.World.{Link, Node, Packet, Update, World}
+use Rattle.vx_history.specs.declared.event.Event.TheVariants.{Deliver as DeliverAt}
+use Rattle.vx_history.specs.declared.event.Said.{Said as EventSaid}
+use Rattle.vx_history.specs.declared.event.Said.TheVariants.{Ignored as IsIgnored, Taken as IsTaken}
+use Rattle.vx_disk.specs.declared.shelf.Shelf.{Ghosts}
+use Rattle.vx_effects.proofs.Fitting.{fit_happened}
+use Rattle.vx_effects.proofs.Leaving.{fit_worked}
+use Rattle.vx_effects.proofs.Packets.{update_effect}
+use Rattle.vx_effects.specs.Facts.{fact_of, received_fact}
+use Rattle.vx_events.proofs.Places.{some_same}
+use Rattle.vx_events.proofs.Values.{slice_get-values_from}
+use Rattle.vx_events.specs.declared.said.Said.TheVariants.{Ignored}
+use Rattle.vx_net.specs.Flights.{Flying}
+use Rattle.vx_order.specs.declared.facts.RvgFacts.{RvgFacts}
+use Rattle.vx_order.specs.declared.facts.SiteFacts.{SiteFacts}
+use Rattle.vx_packet.specs.Assemblies.{Assembled}
+use Rattle.vx_script.specs.declared.line.ScriptLine.TheVariants.{Deliver}
+use Rattle.vx_diskset.specs.Asked.{LeavesAlone}
+use Rattle.vx_diskset.specs.Holds.{Beside, beside_of}
+use Rattle.vx_diskset.specs.Stands.{IsToldAt, RoleIs, StandsAt}
+use Rattle.vx_diskset.specs.declared.disk_set.DiskSet.{DiskSet}
+use Rattle.vx_diskset.specs.declared.disk_set.DiskSet.TheVariants.{Bare, Spoiled, Up, Receives as HasRoom, Down, Gone}
+use Rattle.vx_joins.proofs.TakesUpdate.{ignored_is}
+use Rattle.vx_joins.specs.Deliveries.{IsUnheard, TakesNone, TakesOne, TookTo}
+use Rattle.vx_yard.specs.Changes.{last_facts}
+use Rattle.vx_yard.specs.Deliveries.{Receives}
+use Rattle.vx_yard.specs.Standing.{Leads, StandsFor}
+use Rattle.vx_yard.specs.Stands.{AreTold}
+use Rattle.vx_yard.specs.Yards.{IsTold}
+use Rattle.vx_yard.specs.declared.yard.Yard.{Yard}
+use Rattle.vx_yard.proofs.ApplySite.{worked_effect, worked_for}
+use Rattle.vx_yard.proofs.Carrying.{SameLoad, carries_node}
+use Rattle.vx_yard.proofs.OneSite.{Changed}
+use Rattle.vx_yard.proofs.RecoverLine.{told_or}
+use Rattle.vx_link_lines.proofs.UpdateLine.{done_as, leads_same}
+
+pub last_received : (number : ℕ) (f : SiteFacts) → last_facts number f ≡ received_fact number f
+last_received number f = by f.rvg
+  where
+    by : (r : Option RvgFacts) → last_facts number (record f { rvg = r }) ≡ received_fact number (record f { rvg = r })
+    by None = refl
+    by (Some rvg) = refl
+
+-- a site that receives shows no links
+shown_none : (n : Node) (row : ℕ → Link) (t : SiteState) (ss : List ℕ) → ss ≡ [] → links_by t (link_facts n row ss) ≡ []
+shown_none n row t ss is = ap (λ (xs : List ℕ). links_by t (link_facts n row xs)) is ∙ by t
+  where
+    by : (t : SiteState) → links_by t [] ≡ []
+    by IsBare = refl
+    by IsUp = refl
+    by IsDeported = refl
+    by IsDown = refl
+
+pub none_start : (n : Node) (row : ℕ → Link) (sites : ℕ) → StartsAt n row → is_origin n.role ≡ false → (fact_of n row sites).links ≡ []
+none_start n row sites starts receives = shown_none n row n.state (linked_sites row sites 0 sites) (no_sites row sites 0 sites (λ k. by k (is_linked (row k)) refl))
+  where
+    by : (k : ℕ) (b : Bool) → is_linked (row k) ≡ b → is_linked (row k) ≡ false
+    by k true is = absurd (let e : false ≡ true = sym receives ∙ starts k is in cc)
+    by k false is = is
+
+-- what the world makes of the packet of this number
+abbrev outcome_at : Doubted → (number : ℕ) → Outcome
+outcome_at d number = delivered d.world number (packet_at d.world.packets number)
+
+module _ {R : Type 0} {g : Ghosts R} where
+  -- whether contents are told
+  place_told : (e : DiskSet R g) (es : List (DiskSet R g)) → AreTold es ⊎ (AreTold es → ⊥) → (let one : Type 0 = AreTold (e ∷ es) in one ⊎ (one → ⊥))
+  place_told e es rest = ⊎_elim
+      (λ told. ⊎_elim
+      (λ all. inl (record { each = λ s x is. at s x is told all }))
+      (λ none. inr (λ all. none (record { each = λ s x is. all.each (suc s) x is })))
+      rest)
+      (λ none. inr (λ all. none (all.each zero e refl)))
+      (told_or e)
+    where
+      at : (s : ℕ) (x : DiskSet R g) → slice_get (e ∷ es) s ≡ Some x → IsToldAt e → AreTold es → IsToldAt x
+      at zero x is told all = subst (λ (y : DiskSet R g). IsToldAt y) (some_same is) told
+      at (suc s) x is told all = all.each s x is
+
+  pub all_told : (es : List (DiskSet R g)) → AreTold es ⊎ (AreTold es → ⊥)
+  all_told [] = inl (record { each = λ s x is. absurd (none s x is) })
+    where
+      none : (s : ℕ) (x : DiskSet R g) → slice_get (let xs : List (DiskSet R g) = [] in xs) s ≡ Some x → ⊥
+      none zero x is = cc
+      none (suc s) x is = cc
+  all_told (e ∷ es) = place_told e es (all_told es)
+
+  -- one that takes something is open
+  pub took_open : (w : World) (number : ℕ) (p : Packet) (k : ℕ) (beside : Beside) (e : DiskSet R g) (fed : ℕ) (a b : Assembled) (f h : Flying) → TookTo w number p k beside e fed a b f h IsTaken → IsOpen (w.nodes p.target)
+  took_open w number p k beside e fed a b f h (TakesOne opens receives next x said here from sends) = opens
+  took_open w number p k beside e fed a b f h (TakesNone opens receives next how here from still) = opens
+  took_open w number p k beside e fed a b f h (IsUnheard more is said here from same sends) = absurd (let x : IsTaken ≡ IsIgnored = said in cc)
+
+  -- what is not taken is ignored
+  pub took_ignored : (w : World) (number : ℕ) (p : Packet) (k : ℕ) (beside : Beside) (e : DiskSet R g) (fed : ℕ) (a b : Assembled) (f h : Flying) (said : EventSaid) → TookTo w number p k beside e fed a b f h said → (said ≡ IsTaken → ⊥) → said ≡ IsIgnored
+  took_ignored w number p k beside e fed a b f h said (TakesOne opens receives next x is here from sends) not = absurd (not is)
+  took_ignored w number p k beside e fed a b f h said (TakesNone opens receives next how here from still) not = ⊎_elim (λ taken. absurd (not taken)) (λ is. is) how
+  took_ignored w number p k beside e fed a b f h said (IsUnheard more is said_is here from same sends) not = said_is
+
+  -- the facts of a site
+  pub fact_at : (d : Doubted) (y : Yard R g) (s : ℕ) (f : SiteFacts) → StandsFor d y → s < d.world.sites → slice_get y.facts.items s ≡ Some f → f ≡ fact_of (d.world.nodes s) (d.world.links s) d.world.sites
+  fact_at d y s f stands below at =
+      let start : 0 + s ≡ s = omega arith in
+      some_same (sym at ∙ ap (λ (fs : List SiteFacts). slice_get fs s) stands.facts ∙ slice_get-values_from (λ i. linked_fact d.world i) 0 d.world.sites s below ∙ ap (λ (i : ℕ). Some (linked_fact d.world i)) start)
+
+  module _ (d : Doubted) (number : ℕ) (p : Packet) (k : ℕ) (x : Write) (at : packet_at d.world.packets number ≡ Some p) (message : p.message ≡ Update k x) where
+    -- disks that receive nothing
+    ignored_by : (beside : Beside) (e : DiskSet R g) (b : Bool) → Receives e b → b ≡ false → RoleIs (d.world.nodes p.target) e → StandsAt beside (d.world.nodes p.target) e → outcome_at d number ≡ says d.world IsIgnored
+    ignored_by beside (Bare rack) b is none role stands = ignored_is d.world number p k x at message (inl (inl (ap (λ (m : Node). is_up m.state) stands.bare.is)))
+    ignored_by beside (Spoiled rack) b is none role stands = ignored_is d.world number p k x at message (inl (inl (ap (λ (m : Node). is_up m.state) stands.is)))
+    ignored_by beside (Up rvg) b is none role stands = ignored_is d.world number p k x at message (inr role)
+    ignored_by beside (HasRoom s) b is none role stands = absurd (let e : true ≡ false = sym is ∙ none in cc)
+    ignored_by beside (Down rack) b is none role stands = ignored_is d.world number p k x at message (inl (inl (ap is_up stands.state)))
+    ignored_by beside Gone b is none role stands = absurd stands
+
+    pub deaf_leads : (old new : Yard R g) (before after : DiskSet R g) (b : Bool) → StandsFor d old → p.target < d.world.sites → Changed old new p.target before after → LeavesAlone before after → Receives after b → b ≡ false → RoleIs (d.world.nodes p.target) after → StandsAt (beside_of d p.target) (d.world.nodes p.target) after
+        → new.facts.items ≡ old.facts.items → SameLoad old new → (IsTold new → IsTold old) → Leads d (Deliver number) Ignored old new
+    deaf_leads old new before after b stands below changed alone is none role here facts load told =
+        let h : Doubted = happened d (DeliverAt number) false in
+        let ignored : outcome_at d number ≡ says d.world IsIgnored = ignored_by (beside_of d p.target) after b is none role here in
+        let node : (outcome_at d number).world.nodes p.target ≡ d.world.nodes p.target = ap (λ (r : Outcome). r.world.nodes p.target) ignored in
+        let effect = update_effect d number p k x false at message in
+        let noted = worked_effect p.target d h ((outcome_at d number).world.nodes p.target) (d.world.links p.target) (d.world.headers p.target) (d.after p.target) (outcome_at d number).world.packets ((outcome_at d number).world.gathering p.target) effect in
+        leads_same d number p old new before after stands below changed alone role h ((outcome_at d number).world.nodes p.target) (outcome_at d number).world.packets ((outcome_at d number).world.gathering p.target) Ignored effect (fit_worked h p.target (fit_happened d (DeliverAt number) false stands.links))
+        (done_as (IsTold new) d number p Ignored IsIgnored at below (ap (λ (r : Outcome). r.said) ignored) refl) node (subst (λ (m : Node). StandsAt (beside_of d p.target) m after) (sym node) here) facts
+        (λ carries. carries_node p.target d (worked_for h p.target) ((worked_for h p.target).world.nodes p.target) old new load noted.site (ap (λ (r : Outcome). r.world.packets) ignored) (ap (λ (r : Outcome). r.world.gathering p.target) ignored) refl
+        (ap (λ (m : Node). m.state) noted.is.node ∙ ap (λ (m : Node). m.state) node) (ap (λ (m : Node). m.role) noted.is.node ∙ ap (λ (m : Node). m.role) node) (ap (λ (m : Node). m.fed_by) noted.is.node ∙ ap (λ (m : Node). m.fed_by) node) told carries)

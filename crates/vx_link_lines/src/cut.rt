@@ -1,0 +1,25 @@
+// The line that cuts a link.
+ghost use Rattle.std.specs.Prelude.{◌≡◌};
+ghost use Rattle.vx_history.specs.Doubts.{Doubted};
+ghost use Rattle.vx_script.specs.declared.line.ScriptLine.TheVariants.{Cut};
+ghost use Rattle.vx_yard.specs.Carries.{Carries};
+ghost use Rattle.vx_yard.specs.Standing.{Leads, StandsFor};
+ghost use Rattle.vx_yard.specs.Working.{IsFree};
+ghost use Rattle.vx_yard.specs.Yards.{in_files};
+
+use vx_disk::Rack;
+use vx_events::Said;
+use vx_linked::cut;
+use vx_model::Name;
+use vx_yard::Yard;
+
+/// The link of a site to another is not connected any more.
+pub(crate) fn cut_line<R: Rack>(yard: &mut Yard<R>, first: &Name, second: &Name) -> Said
+    requires free { IsFree yard.old (Cut first.now second.now) }
+    ensures leads { (d : Doubted) → StandsFor d yard.old → Carries d yard.old → Leads d (Cut first.now second.now) result yard.old yard.new }
+    ensures still { yard.new.disk_sets ≡ yard.old.disk_sets }
+    ensures files { in_files yard.new ≡ in_files yard.old }
+{
+    cut(&mut yard.facts, first, second);
+    Said::Done
+}

@@ -1,0 +1,90 @@
+// The line that gives a link another setting.
+ghost use Rattle.std.specs.Prelude.{◌≡◌, ◌<◌, IfSome, length};
+ghost use Rattle.vx_model.specs.declared.link.Prot.{Prot};
+ghost use Rattle.vx_model.specs.declared.site.SiteState.TheVariants.{Up as UpState};
+ghost use Rattle.vx_history.specs.Doubts.{Doubted};
+ghost use Rattle.vx_history.specs.Listed.{HasPlaces};
+ghost use Rattle.vx_history.specs.Step.{step};
+ghost use Rattle.vx_history.specs.World.{Node, World};
+ghost use Rattle.vx_history.specs.declared.event.Event.TheVariants.{Set as SetAt};
+ghost use Rattle.vx_history.specs.declared.event.Said.TheVariants.{Done as IsDone};
+ghost use Rattle.vx_script.specs.declared.line.ScriptLine.TheVariants.{Set};
+ghost use Rattle.vx_srlfmt.specs.Headers.{CanSpellState};
+ghost use Rattle.vx_diskset.specs.Holds.{Beside, links_of, state_with};
+ghost use Rattle.vx_diskset.specs.Stands.{StandsAt};
+ghost use Rattle.vx_events.specs.LinkedFacts.{linked_facts};
+ghost use Rattle.vx_yard.specs.OfSites.{AsAsked};
+ghost use Rattle.vx_yard.specs.Standing.{LeadsIs, StandsFor};
+ghost use Rattle.vx_yard.specs.Working.{IsFree};
+ghost use Rattle.vx_yard.specs.Yards.{IsKept, IsTold, in_files};
+
+use std::alloc::Global;
+use vx_disk::Rack;
+use vx_diskset::DiskSet;
+use vx_events::Said;
+use vx_linked::{keep_set, kept_facts, kept_with, link_between, with_links, with_setting};
+use vx_model::{Name, OutOfMemory, State, SyncMode};
+use vx_order::SiteFacts;
+use vx_yard::Yard;
+use vx_yard::load::let_go_if_down;
+use vx_yard::refusing::refused;
+
+/// What the header of the log of a site keeps of it, with this setting of its link to another site. None where it has no spelling.
+fn set_state<R: Rack>(
+    disks: &DiskSet<R>,
+    sites: &[SiteFacts],
+    here: usize,
+    there: u32,
+    sync: SyncMode,
+) -> Option<State>
+    requires within { here < length sites.now }
+    ensures spell { IfSome result (λ state. CanSpellState state) }
+    ensures is { (beside : Beside) (n : Node) (w : World) → StandsAt beside n disks.now → n.state ≡ UpState → sites.now ≡ linked_facts w → HasPlaces w.sites (w.links here)
+        → (step w (SetAt here there sync)).said ≡ IsDone → IfSome result (λ state. state ≡ state_with n (links_of (step w (SetAt here there sync)).world here)) }
+{
+    let Some(l) = link_between(sites, here, there) else {
+        return None;
+    };
+    let Some(kept) = kept_facts(sites[here].links.as_slice()) else {
+        return None;
+    };
+    let Some(state) = disks.state() else {
+        return None;
+    };
+    let link = with_setting(&l.link, sync);
+    with_links(state, kept_with(kept.as_slice(), &link))
+}
+
+/// Gives the link of a site to another this setting, in the header of the site's log first.
+pub(crate) fn set_line<R: Rack>(
+    yard: &mut Yard<R>,
+    alloc: Global,
+    first: &Name,
+    second: &Name,
+    sync: SyncMode,
+) -> Result<Said, OutOfMemory>
+    requires kept { IsKept yard.old }
+    requires free { (prot : Prot) × IsFree yard.old (Set first.now second.now sync prot) }
+    ensures leads { (d : Doubted) (prot : Prot) → StandsFor d yard.old → LeadsIs d (Set first.now second.now sync prot) yard.old yard.new result }
+    // It makes no disk fail, and touches no other site.
+    ensures asked { (d : Doubted) (prot : Prot) → StandsFor d yard.old → AsAsked d.world (Set first.now second.now sync prot) yard.old yard.new }
+    ensures flight { yard.new.flight ≡ yard.old.flight }
+    ensures told { IsTold yard.new → IsTold yard.old }
+    ensures files { in_files yard.new ≡ in_files yard.old }
+{
+    let here = yard.site_of(first);
+    let there = yard.site_of(second);
+    let Some(state) = set_state(&yard.disk_sets[here], &yard.facts, here, there as u32, sync) else {
+        return Err(OutOfMemory);
+    };
+    match yard.disk_sets[here].keep(&state) {
+        Ok(()) => {
+            keep_set(&mut yard.facts, here, there as u32, sync);
+            Ok(Said::Done)
+        }
+        Err(no) => {
+            let_go_if_down(&mut yard.assemblies, here, &no);
+            Ok(refused(alloc, &mut yard.facts[here], no))
+        }
+    }
+}

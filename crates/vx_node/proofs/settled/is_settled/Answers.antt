@@ -1,0 +1,10 @@
+-- Whether all is stored.
+use Rattle.std.proofs.Common.{◌≡◌, ◌≤◌, ℕ, Bool, true, arith}
+use Rattle.std.proofs.lemmas.Bool.Decides.{nat_tests}
+use Rattle.std.specs.Prelude.{leb}
+use Rattle.vx_node.proofs.settled.is_settled.Goals as goal
+
+pub returns : goal.returns
+returns g c = λ is d first second serves.
+    let shown = c.in-Some.ensures d first second serves in
+    grind (arith, nat_tests, is, shown.0)

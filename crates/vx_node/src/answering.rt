@@ -1,0 +1,166 @@
+// What a line is answered.
+ghost use Rattle.std.specs.Prelude.{◌≡◌, ◌*◌, IfOk, IsSome, min, replicate, false, true};
+ghost use Rattle.vx_history.specs.Doubts.{Doubted};
+ghost use Rattle.vx_events.specs.Parts.{goes_in_parts};
+ghost use Rattle.vx_yard.specs.Carries.{Carries};
+ghost use Rattle.vx_yard.specs.OfSites.{AsAsked, AsSettled, HasCalled};
+ghost use Rattle.vx_yard.specs.Lines.{is_built};
+ghost use Rattle.vx_yard.specs.Standing.{AnswersIs, GoodFor, LeadsIs, LeadsOrStops, StandsFor};
+ghost use Rattle.vx_yard.specs.Working.{IsFree, refused_in};
+ghost use Rattle.vx_yard.specs.Yards.{IsKept, IsTold, in_files};
+
+use crate::settled::settle_line;
+use std::alloc::Global;
+use vx_disk::Rack;
+use vx_events::Said;
+use vx_link_lines::{apply_line, deliver_line, work_link};
+use vx_model::limits::{BLOCK, MOST_CALL_BLOCKS};
+use vx_model::{No, OutOfMemory};
+use vx_net::Net;
+use vx_order::{refuse, refuse_packet};
+use vx_script::ScriptLine;
+use vx_site_lines::{
+    crash_line, fuse_line, make_raw, make_site, put_line, read_line, recover_line, set_disk,
+    show_line, status_line, write_line,
+};
+use vx_yard::Yard;
+
+// So many blocks, each byte of which is `fill`, and no more than a line may ask.
+fn filled(alloc: Global, count: u64, fill: u8) -> Result<Vec<u8>, OutOfMemory>
+    ensures { IfOk result (λ bytes. bytes.items ≡ replicate (512 * min count MOST_CALL_BLOCKS) fill) }
+{
+    let bytes = Vec::from_elem(alloc, fill, BLOCK * count.min(MOST_CALL_BLOCKS) as usize)?;
+    Ok(bytes)
+}
+
+// Does a line that no test refuses, whole or not at all.
+fn work<R: Rack>(yard: &mut Yard<R>, alloc: Global, words: &ScriptLine) -> Result<Said, OutOfMemory>
+    requires built { is_built words.now ≡ true }
+    requires whole { goes_in_parts words.now ≡ false }
+    requires kept { IsKept yard.old }
+    requires free { IsFree yard.old words.now }
+    ensures leads { (d : Doubted) → StandsFor d yard.old → Carries d yard.old → GoodFor d yard.old → LeadsIs d words.now yard.old yard.new result }
+    ensures asked { (d : Doubted) → StandsFor d yard.old → AsAsked d.world words.now yard.old yard.new }
+    ensures called { (d : Doubted) → StandsFor d yard.old → IfOk result (λ said. HasCalled d.world words.now said yard.old yard.new) }
+    ensures told { IsTold yard.new → IsTold yard.old }
+    ensures files { in_files yard.new ≡ in_files yard.old }
+{
+    match words {
+        ScriptLine::Site {
+            site,
+            disks,
+            blocks,
+        } => make_site(yard, alloc, site, *disks, *blocks),
+        ScriptLine::Raw { site } => make_raw(yard, alloc, site),
+        ScriptLine::Disk { site, disk, state } => Ok(set_disk(yard, site, *disk, *state)),
+        ScriptLine::Crash { site, pick } => Ok(crash_line(yard, alloc, site, *pick)),
+        ScriptLine::Fuse { site, writes, pick } => Ok(fuse_line(yard, site, *writes, *pick)),
+        ScriptLine::Recover { site } => recover_line(yard, alloc, site),
+        ScriptLine::Write {
+            site,
+            volume,
+            block,
+            count,
+            fill,
+        } => {
+            let bytes = filled(alloc, *count, *fill)?;
+            Ok(write_line(yard, alloc, site, volume, *block, *count, *fill, &bytes))
+        }
+        ScriptLine::Put {
+            site,
+            volume,
+            block,
+            bytes,
+        } => Ok(put_line(yard, alloc, site, volume, *block, bytes)),
+        ScriptLine::Read {
+            site,
+            volume,
+            block,
+            count,
+        } => {
+            let room = filled(alloc, *count, 0)?;
+            Ok(read_line(yard, site, volume, *block, *count, room))
+        }
+        ScriptLine::Show {
+            site,
+            volume,
+            block,
+            count,
+        } => {
+            let room = filled(alloc, *count, 0)?;
+            Ok(show_line(yard, site, volume, *block, *count, room))
+        }
+        ScriptLine::Apply { site, count } => apply_line(yard, alloc, site, *count),
+        ScriptLine::Status { site } => status_line(yard, alloc, site),
+        ScriptLine::Deliver { packet } => deliver_line(yard, alloc, *packet),
+        ScriptLine::Set { .. }
+        | ScriptLine::Link { .. }
+        | ScriptLine::Connect { .. }
+        | ScriptLine::Cut { .. }
+        | ScriptLine::Pause { .. }
+        | ScriptLine::Resume { .. }
+        | ScriptLine::Pump { .. }
+        | ScriptLine::Tick { .. }
+        | ScriptLine::Wait { .. } => work_link(yard, alloc, words),
+        // A line that goes in parts, or is not built.
+        _ => unreachable!(),
+    }
+}
+
+// Does a line that no test refuses. One that goes in parts may be done in part.
+fn perform<R: Rack>(
+    yard: &mut Yard<R>,
+    alloc: Global,
+    words: &ScriptLine,
+) -> Result<Said, OutOfMemory>
+    requires built { is_built words.now ≡ true }
+    requires kept { IsKept yard.old }
+    requires free { IsFree yard.old words.now }
+    ensures leads { (d : Doubted) → StandsFor d yard.old → Carries d yard.old → GoodFor d yard.old → LeadsOrStops d words.now yard.old yard.new result }
+    ensures asked { (d : Doubted) → StandsFor d yard.old → AsAsked d.world words.now yard.old yard.new }
+    ensures settled { (d : Doubted) → StandsFor d yard.old → Carries d yard.old → GoodFor d yard.old → AsSettled words.now yard.old yard.new }
+    ensures called { (d : Doubted) → StandsFor d yard.old → IfOk result (λ said. HasCalled d.world words.now said yard.old yard.new) }
+    ensures told { IsTold yard.new → IsTold yard.old }
+    ensures files { in_files yard.new ≡ in_files yard.old }
+{
+    match words {
+        ScriptLine::Settle { primary, secondary } => {
+            settle_line(yard, alloc, primary, secondary)
+        }
+        _ => work(yard, alloc, words),
+    }
+}
+
+// The first refusal of a line in the one order, if there is one.
+pub(crate) fn refusal<R: Rack>(yard: &Yard<R>, words: &ScriptLine) -> Option<No>
+    ensures { result ≡ refused_in yard.now words.now }
+{
+    let files = yard.dir.is_some();
+    match words {
+        ScriptLine::Deliver { packet } => refuse_packet(yard.flight.count(), *packet),
+        _ => refuse(&yard.facts, files, words),
+    }
+}
+
+/// What a line is answered: its first refusal in the one order, or what it works.
+pub(crate) fn answer<R: Rack>(
+    yard: &mut Yard<R>,
+    alloc: Global,
+    words: &ScriptLine,
+) -> Result<Said, OutOfMemory>
+    requires built { is_built words.now ≡ true }
+    requires kept { IsKept yard.old }
+    ensures leads { (d : Doubted) → StandsFor d yard.old → Carries d yard.old → GoodFor d yard.old → AnswersIs d words.now yard.old yard.new result }
+    ensures asked { (d : Doubted) → StandsFor d yard.old → IsFree yard.old words.now → AsAsked d.world words.now yard.old yard.new }
+    ensures settled { (d : Doubted) → StandsFor d yard.old → Carries d yard.old → GoodFor d yard.old → IsFree yard.old words.now → AsSettled words.now yard.old yard.new }
+    ensures called { (d : Doubted) → StandsFor d yard.old → IsFree yard.old words.now → IfOk result (λ said. HasCalled d.world words.now said yard.old yard.new) }
+    // A line that is refused leaves all disks as they are.
+    ensures still { IsSome (refused_in yard.old words.now) → yard.new.disk_sets ≡ yard.old.disk_sets }
+    ensures told { IsTold yard.new → IsTold yard.old }
+    ensures files { in_files yard.new ≡ in_files yard.old }
+{
+    match refusal(yard, words) {
+        Some(no) => Ok(Said::Refused(no)),
+        None => perform(yard, alloc, words),
+    }
+}

@@ -1,0 +1,52 @@
+// The call that answers a line.
+ghost use Rattle.std.specs.Prelude.{◌≡◌, ◌≤◌, IsSome, true};
+ghost use Rattle.vx_stream.specs.Causes.{Rose};
+ghost use Rattle.vx_history.specs.Doubts.{Doubted};
+ghost use Rattle.vx_yard.specs.OfSites.{AsAsked, AsSettled};
+ghost use Rattle.vx_yard.specs.Lines.{is_built};
+ghost use Rattle.vx_yard.specs.Standing.{LineFor, Serves, StandsFor};
+ghost use Rattle.vx_yard.specs.Working.{IsFree, refused_in};
+ghost use Rattle.vx_yard.specs.Yards.{IsKept, IsTold, in_files};
+
+use crate::answering::answer;
+use crate::sent::{replied, sent_since};
+use std::alloc::Global;
+use vx_disk::Rack;
+use vx_net::Net;
+use vx_script::ScriptLine;
+use vx_stream::{Sink, send};
+use vx_yard::{LineStop, Yard};
+
+/// Answers a line of a kind that is built, and writes its reply.
+pub fn answer_line<O: Sink, R: Rack>(
+    yard: &mut Yard<R>,
+    alloc: Global,
+    words: &ScriptLine,
+    out: &mut O,
+) -> Result<(), LineStop>
+    requires built { is_built words.now ≡ true }
+    requires kept { IsKept yard.old }
+    ensures line { (d : Doubted) → Serves d yard.old → LineFor d words.now yard.old yard.new (O.written out.old) (O.written out.new) result }
+    // What the line asks of the rack of its site: a disk, a number of calls or a pick.
+    ensures asked { (d : Doubted) → StandsFor d yard.old → IsFree yard.old words.now → AsAsked d.world words.now yard.old yard.new }
+    // One that settles a link asks no disk of any site to fail or to work.
+    ensures settled { (d : Doubted) → Serves d yard.old → IsFree yard.old words.now → AsSettled words.now yard.old yard.new }
+    // A line that is refused leaves all disks as they are.
+    ensures still { IsSome (refused_in yard.old words.now) → yard.new.disk_sets ≡ yard.old.disk_sets }
+    ensures told { IsTold yard.new → IsTold yard.old }
+    ensures files { in_files yard.new ≡ in_files yard.old }
+    ensures later { O.faults out.old ≤ O.faults out.new }
+    ensures cause { result ≡ Err LineStop.WriteFault → Rose (O.faults out.old) (O.faults out.new) }
+{
+    let before = yard.flight.count();
+    let Ok(said) = answer(yard, alloc, words) else {
+        return Err(LineStop::OutOfMemory);
+    };
+    let Ok(text) = replied(alloc, &said, sent_since(before, yard.flight.count())) else {
+        return Err(LineStop::OutOfMemory);
+    };
+    match send(out, &text) {
+        Ok(()) => Ok(()),
+        Err(_) => Err(LineStop::WriteFault),
+    }
+}

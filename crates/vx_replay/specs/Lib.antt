@@ -1,0 +1,2 @@
+pub mod Primary
+pub mod Secondary

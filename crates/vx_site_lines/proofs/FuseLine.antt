@@ -1,0 +1,83 @@
+-- What a line leaves that sets the fuse of a site.
+use Rattle.std.proofs.Common.{◌≡◌, ◌∙◌, ℕ, List, [], ap, sym, subst, refl, Some}
+use Rattle.vx_history.specs.Steps.{fused}
+use Rattle.vx_history.specs.World.{Node, FuseSet}
+use Rattle.vx_model.specs.declared.site.SiteState.TheVariants.{Up as IsUp}
+use Rattle.vx_disk.specs.declared.shelf.Shelf.{Ghosts}
+use Rattle.vx_order.specs.declared.facts.SiteFacts.{SiteFacts}
+use Rattle.vx_script.specs.declared.line.ScriptLine.TheVariants.{Fuse}
+use Rattle.vx_diskset.specs.declared.disk_set.DiskSet.{DiskSet}
+use Rattle.vx_events.specs.declared.said.Said.TheVariants.{Done}
+use Rattle.vx_yard.specs.declared.yard.Yard.{Yard}
+use Rattle.vx_events.specs.Facts.{seat_of, site_number}
+use Rattle.vx_yard.specs.Working.{IsFree}
+use Rattle.vx_yard.specs.Yards.{in_files}
+use Rattle.vx_yard.proofs.CrashLine.{rose_still, fuse_fact}
+use Rattle.vx_events.proofs.Refused.{fuse_may}
+use Rattle.std.proofs.Common.{arith}
+use Rattle.std.specs.Prelude.{Option}
+use Rattle.vx_history.proofs.Updates.{at_place}
+use Rattle.vx_history.specs.Doubts.{Doubted}
+use Rattle.vx_history.specs.World.{with_node}
+use Rattle.vx_disk.specs.Disks.{SameBlocks}
+use Rattle.vx_diskset.specs.Asked.{SetsFuse}
+use Rattle.vx_diskset.specs.Fuses.{HasLeft}
+use Rattle.vx_diskset.specs.Holds.{Beside, beside_of}
+use Rattle.vx_diskset.specs.Stands.{KeepsRole, StandsAt}
+use Rattle.vx_yard.specs.OfSites.{OfSite}
+use Rattle.vx_yard.specs.Standing.{Leads, StandsFor}
+use Rattle.vx_yard.specs.Yards.{IsTold}
+use Rattle.vx_yard.proofs.FailsStay.{fails_then, fuse_keeps}
+use Rattle.vx_yard.proofs.FuseStays.{fused_on}
+use Rattle.vx_yard.proofs.NamedSite.{asks_at, fact_named, site_at}
+use Rattle.vx_yard.proofs.NoteSite.{changes_one, comes_one, none_left, with_one}
+use Rattle.vx_yard.proofs.OneSite.{Changed, role_kept, stands_still, told_by}
+use Rattle.vx_yard.proofs.Rows.{fact_like, fact_same}
+use Rattle.vx_yard.proofs.Carrying.{SameLoad, carries_node}
+
+module _ {R : Type 0} {g : Ghosts R} where
+  -- the site of such a line is up
+  pub fuse_up : (d : Doubted) (old : Yard R g) (name : List ℕ) (calls pick s : ℕ) → StandsFor d old → IsFree old (Fuse name calls pick) → seat_of old.facts.items name ≡ Some s → (d.world.nodes s).state ≡ IsUp
+  fuse_up d old name calls pick s stands free seat =
+      let may = fuse_may old.facts.items (in_files old) name calls pick free in
+      ap (λ (f : SiteFacts). f.state) (sym (fact_named d old name s (site_at d old name s stands seat) seat may.0)) ∙ may.1
+
+  pub fuse_leads : (d : Doubted) (old new : Yard R g) (name : List ℕ) (calls pick s : ℕ) (before after : DiskSet R g) → StandsFor d old → IsFree old (Fuse name calls pick) → seat_of old.facts.items name ≡ Some s
+      → Changed old new s before after → KeepsRole before after → ((beside : Beside) (n : Node) → StandsAt beside n before → n.state ≡ IsUp → StandsAt beside (record n { fuse = FuseSet calls }) after)
+      → ((beside : Beside) (n : Node) → StandsAt beside n before → n.state ≡ IsUp → SetsFuse calls pick before after)
+      → new.facts ≡ old.facts → SameLoad old new → Leads d (Fuse name calls pick) Done old new
+  fuse_leads d old new name calls pick s before after stands free is changed keeps fuses asked facts load =
+      let seat = site_at d old name s stands is in
+      let m : Node = d.world.nodes s in
+      let n : Node = record m { fuse = FuseSet calls } in
+      let there = stands.disk_sets.sites s before seat.below changed.there in
+      let up : m.state ≡ IsUp = fuse_up d old name calls pick s stands free is in
+      let sets = asked (beside_of d s) m there up in
+      record {
+        next = with_one d s n;
+        fails = [];
+        done = record {
+          ends = none_left (IsTold new) d (Fuse name calls pick) (site_number d.world name) Done (with_node d.world s n) refl refl (ap (λ (k : ℕ). fused d.world k calls) (sym seat.number));
+          counts = tt;
+          works = tt;
+          calls = tt;
+        };
+        carries = carries_node s d (with_one d s n) n old new load (changes_one d s n) refl refl (at_place d.world.nodes s n) refl refl refl (told_by old new s before after changed);
+        stands = stands_still d (with_one d s n) old new s before after stands seat.below changed
+            (comes_one d s n after refl stands.links (fuses (beside_of d s) m there up)
+            (fails_then m n before after refl (fuse_keeps calls pick before after sets) (stands.failing s before seat.below changed.there))
+            (fused_on (λ o x. SameBlocks o x × (x.fuse ≡ Some (calls, pick))) m n (FuseSet calls) before after refl
+            (λ x y set left. subst (λ (z : Option (ℕ × ℕ)). HasLeft calls z) (sym set.1) (omega arith)) sets (stands.fuses s before seat.below changed.there))
+            (role_kept d old s before after stands seat.below changed.there keeps))
+            (fact_same n ((with_one d s n).world.nodes s) (d.world.links s) (d.world.links s) d.world.sites d.world.sites (at_place d.world.nodes s n) (λ k. refl) refl
+            ∙ fact_like m n (d.world.links s) d.world.sites (fuse_fact m (FuseSet calls)) (λ k l. refl))
+            (ap (λ fs. fs.items) facts);
+        rose = rose_still old new s before after changed.there changed.later changed.disk_sets;
+      }
+
+  pub fuse_asks : (d : Doubted) (old new : Yard R g) (name : List ℕ) (calls pick s : ℕ) (before after : DiskSet R g) → StandsFor d old → IsFree old (Fuse name calls pick) → seat_of old.facts.items name ≡ Some s
+      → Changed old new s before after → ((beside : Beside) (n : Node) → StandsAt beside n before → n.state ≡ IsUp → SetsFuse calls pick before after) → OfSite (SetsFuse calls pick) (site_number d.world name) old new
+  fuse_asks d old new name calls pick s before after stands free is changed asked =
+      let seat = site_at d old name s stands is in
+      asks_at (SetsFuse calls pick) d old new name s before after stands is changed.there changed.disk_sets
+      (asked (beside_of d s) (d.world.nodes s) (stands.disk_sets.sites s before seat.below changed.there) (fuse_up d old name calls pick s stands free is))

@@ -1,0 +1,150 @@
+-- What the tests of a line that writes say of a site which may keep links.
+use Rattle.std.proofs.Common.{◌≡◌, ◌∙◌, ◌*◌, ◌≤◌, ℕ, Bool, List, length, ap, sym, subst, refl, arith}
+use Rattle.std.specs.Prelude.{Option, Some, None, map, replicate, slice_get}
+use Rattle.std.proofs.lemmas.List.{length-replicate}
+use Rattle.vx_model.specs.Content.{Write, blocks_in}
+use Rattle.vx_model.specs.Sites.{is_origin}
+use Rattle.vx_model.specs.declared.site.Role.TheVariants.{Primary}
+use Rattle.vx_model.specs.declared.site.SiteState.{SiteState}
+use Rattle.vx_model.specs.declared.site.SiteState.TheVariants.{Up as IsUp}
+use Rattle.vx_history.specs.Admission.{Goes}
+use Rattle.vx_history.specs.Doubts.{Doubted}
+use Rattle.vx_history.specs.Events.{admitted}
+use Rattle.vx_history.specs.World.{Node, World}
+use Rattle.vx_history.specs.declared.admission.Change.{Change}
+use Rattle.vx_disk.specs.declared.shelf.Shelf.{Ghosts}
+use Rattle.vx_order.specs.Calls.{span_role, span_unknown}
+use Rattle.vx_order.specs.Order.{refusal_of}
+use Rattle.vx_order.specs.Spans.{span_of}
+use Rattle.vx_order.specs.Subject.{first_name}
+use Rattle.vx_order.specs.declared.facts.SiteFacts.{SiteFacts}
+use Rattle.vx_order.specs.declared.span.Span.{Span}
+use Rattle.vx_order.specs.declared.span.Way.TheVariants.{Writes}
+use Rattle.vx_script.specs.declared.line.ScriptLine.{ScriptLine}
+use Rattle.vx_script.specs.declared.line.ScriptLine.TheVariants.{Write as WriteLine, Put as PutLine}
+use Rattle.vx_diskset.specs.DiskSets.{CanWrite}
+use Rattle.vx_diskset.specs.declared.disk_set.DiskSet.{DiskSet}
+use Rattle.vx_events.specs.Facts.{group_by, group_fact, place_of, seat_of, site_number, volume_fact, volume_number}
+use Rattle.vx_events.specs.LinkedFacts.{linked_fact}
+use Rattle.vx_events.specs.Lines.{write_in}
+use Rattle.vx_events.proofs.LinkWrites.{put_let_in, write_let_in}
+use Rattle.vx_events.proofs.Places.{some_same}
+use Rattle.vx_events.proofs.Refused.{Named, passes}
+use Rattle.vx_events.proofs.RefusedCalls.{WriteMay, put_may, write_may}
+use Rattle.vx_events.proofs.Testing.{primary_at, volume_kind}
+use Rattle.vx_yard.specs.Standing.{StandsFor}
+use Rattle.vx_yard.specs.Working.{IsFree}
+use Rattle.vx_yard.specs.Writes.{IsWriteLine}
+use Rattle.vx_yard.specs.Writes.IsWriteLine.{OfPut, OfWrite}
+use Rattle.vx_yard.specs.Yards.{in_files}
+use Rattle.vx_yard.specs.declared.yard.Yard.{Yard}
+use Rattle.vx_site_lines.proofs.FetchLine.{Fetching, fetching}
+use Rattle.vx_yard.proofs.NamedSite.{SiteAt, fact_named}
+
+-- ---- the two lines
+
+blocks_filled : (bytes : List ℕ) (count fill : ℕ) → bytes ≡ replicate (512 * count) fill → count ≡ blocks_in bytes
+blocks_filled bytes count fill is = omega (arith, ap length is, length-replicate {A = ℕ} (512 * count) fill)
+
+block_one : (bytes : List ℕ) → length bytes ≡ 512 → 1 ≡ blocks_in bytes
+block_one bytes is = omega (arith, is)
+
+abbrev pub the_write : ℕ → ℕ → List ℕ → Write
+the_write v start bytes = record { volume = v; start = start; bytes = bytes }
+
+write_role : (w : World) (s : ℕ) (sites : List SiteFacts) (files : Bool) (name volume : List ℕ) (start count fill : ℕ) (n : Named sites name) → n.facts ≡ linked_fact w s → (w.nodes s).state ≡ IsUp
+    → refusal_of sites files (WriteLine name volume start count fill) ≡ None → (w.nodes s).role ≡ Primary
+unfolding first_name span_of
+write_role w s sites files name volume start count fill n is up free =
+    let p = passes sites files (WriteLine name volume start count fill) free in
+    let span : Span = record { volume = volume; start = start; count = count; way = Writes } in
+    let there = n.found ∙ ap (λ (f : SiteFacts). Some f) is in
+    primary_at (w.nodes s) volume start count up (subst (λ (o : Option SiteFacts). span_unknown o (Some span) ≡ None) there p.volume) (subst (λ (o : Option SiteFacts). span_role o (Some span) ≡ None) there p.call_role)
+
+put_role : (w : World) (s : ℕ) (sites : List SiteFacts) (files : Bool) (name volume : List ℕ) (start : ℕ) (bytes : List ℕ) (n : Named sites name) → n.facts ≡ linked_fact w s → (w.nodes s).state ≡ IsUp
+    → refusal_of sites files (PutLine name volume start bytes) ≡ None → (w.nodes s).role ≡ Primary
+unfolding first_name span_of
+put_role w s sites files name volume start bytes n is up free =
+    let p = passes sites files (PutLine name volume start bytes) free in
+    let span : Span = record { volume = volume; start = start; count = 1; way = Writes } in
+    let there = n.found ∙ ap (λ (f : SiteFacts). Some f) is in
+    primary_at (w.nodes s) volume start 1 up (subst (λ (o : Option SiteFacts). span_unknown o (Some span) ≡ None) there p.volume) (subst (λ (o : Option SiteFacts). span_role o (Some span) ≡ None) there p.call_role)
+
+-- what is let in by the names of a line is let in by its numbers
+goes_by : (w : World) (name volume : List ℕ) (start : ℕ) (bytes other : List ℕ) (s v : ℕ) → site_number w name ≡ s → volume_number (w.nodes s) volume ≡ v → other ≡ bytes
+    → (cs : List Change) × (admitted w (site_number w name) (write_in w name volume start other) ≡ Goes cs) → (cs : List Change) × (admitted w s (the_write v start bytes) ≡ Goes cs)
+goes_by w name volume start bytes other s v number place same goes = (
+  goes.0,
+  subst (λ (bs : List ℕ). admitted w s (the_write v start bs) ≡ Goes goes.0) same
+      (subst (λ (k : ℕ). admitted w s (the_write k start other) ≡ Goes goes.0) place
+      (subst (λ (k : ℕ). admitted w k (the_write (volume_number (w.nodes k) volume) start other) ≡ Goes goes.0) number goes.1)),
+)
+
+module _ {R : Type 0} {g : Ghosts R} where
+  -- what is known of the line
+  pub may_write : (y : Yard R g) (line : ScriptLine) (name volume : List ℕ) (start : ℕ) (bytes : List ℕ) → IsWriteLine line name volume start bytes → IsFree y line → WriteMay y.facts.items name volume start (blocks_in bytes)
+  may_write y line name volume start bytes (OfWrite count fill is filled) free =
+      subst (λ (k : ℕ). WriteMay y.facts.items name volume start k) (blocks_filled bytes count fill filled)
+      (write_may y.facts.items (in_files y) name volume start count fill (subst (λ (l : ScriptLine). IsFree y l) is free))
+  may_write y line name volume start bytes (OfPut is one) free =
+      subst (λ (k : ℕ). WriteMay y.facts.items name volume start k) (block_one bytes one) (put_may y.facts.items (in_files y) name volume start bytes (subst (λ (l : ScriptLine). IsFree y l) is free))
+
+  primary_by : (d : Doubted) (y : Yard R g) (line : ScriptLine) (name volume : List ℕ) (start : ℕ) (bytes : List ℕ) (s : ℕ) (n : Named y.facts.items name) → IsWriteLine line name volume start bytes → IsFree y line → n.facts ≡ linked_fact d.world s
+      → (d.world.nodes s).state ≡ IsUp → (d.world.nodes s).role ≡ Primary
+  primary_by d y line name volume start bytes s n (OfWrite count fill is filled) free fact up =
+      write_role d.world s y.facts.items (in_files y) name volume start count fill n fact up (subst (λ (l : ScriptLine). IsFree y l) is free)
+  primary_by d y line name volume start bytes s n (OfPut is one) free fact up = put_role d.world s y.facts.items (in_files y) name volume start bytes n fact up (subst (λ (l : ScriptLine). IsFree y l) is free)
+
+  let_in_by : (d : Doubted) (y : Yard R g) (line : ScriptLine) (name volume : List ℕ) (start : ℕ) (bytes : List ℕ) (s v : ℕ) → StandsFor d y → IsWriteLine line name volume start bytes → IsFree y line → site_number d.world name ≡ s
+      → volume_number (d.world.nodes s) volume ≡ v → (cs : List Change) × (admitted d.world s (the_write v start bytes) ≡ Goes cs)
+  let_in_by d y line name volume start bytes s v stands (OfWrite count fill is filled) free number place =
+      goes_by d.world name volume start bytes (replicate (512 * count) fill) s v number place (sym filled)
+      (write_let_in d.world (in_files y) name volume start count fill
+      (subst (λ (fs : List SiteFacts). refusal_of fs (in_files y) (WriteLine name volume start count fill) ≡ None) stands.facts (subst (λ (l : ScriptLine). IsFree y l) is free)))
+  let_in_by d y line name volume start bytes s v stands (OfPut is one) free number place =
+      goes_by d.world name volume start bytes bytes s v number place refl
+      (put_let_in d.world (in_files y) name volume start bytes
+      (subst (λ (fs : List SiteFacts). refusal_of fs (in_files y) (PutLine name volume start bytes) ≡ None) stands.facts (subst (λ (l : ScriptLine). IsFree y l) is free)) one)
+
+  -- where the write goes, and that its site takes it and lets it in
+  pub record Writing (d : Doubted) (y : Yard R g) (name volume : List ℕ) (start : ℕ) (bytes : List ℕ) (s v : ℕ) : Type 0 where
+    pub seat : SiteAt d y name s
+    pub place : volume_number (d.world.nodes s) volume ≡ v
+    pub can : CanWrite (d.world.nodes s) v start (blocks_in bytes)
+    pub primary : (d.world.nodes s).role ≡ Primary
+    pub some : 1 ≤ blocks_in bytes
+    pub few : blocks_in bytes ≤ 16
+    pub changes : List Change
+    pub goes : admitted d.world s (the_write v start bytes) ≡ Goes changes
+
+  pub writing : (d : Doubted) (y : Yard R g) (line : ScriptLine) (name volume : List ℕ) (start : ℕ) (bytes : List ℕ) (s v : ℕ) (e : DiskSet R g) → StandsFor d y → IsWriteLine line name volume start bytes → IsFree y line
+      → seat_of y.facts.items name ≡ Some s → slice_get y.disk_sets.items s ≡ Some e → ((f : SiteFacts) → slice_get y.facts.items s ≡ Some f → place_of f.volumes volume ≡ Some v) → Writing d y name volume start bytes s v
+  writing d y line name volume start bytes s v e stands is free at there place_is =
+      let may = may_write y line name volume start bytes is free in
+      let read : Fetching d y name volume start (blocks_in bytes) s v = fetching d y name volume start (blocks_in bytes) s v e stands may.call at there place_is in
+      let n : Node = d.world.nodes s in
+      let fact = fact_named d y name s read.seat at may.call.site in
+      let rvg = ap (λ (f : SiteFacts). f.rvg) fact ∙ ap (λ (t : SiteState). group_by t n) read.can.up in
+      let found : place_of (map volume_fact n.volumes) volume ≡ Some v = place_is (linked_fact d.world s) read.seat.fact in
+      let place : may.call.at.place ≡ v = some_same (sym may.call.at.is ∙ ap (λ (f : SiteFacts). place_of f.volumes volume) fact ∙ found) in
+      let kind = volume_kind n.volumes v may.call.found
+      (ap (λ (f : SiteFacts). slice_get f.volumes v) (sym fact) ∙ ap (λ (i : ℕ). slice_get may.call.site.facts.volumes i) (sym place) ∙ may.call.at.there) in
+      let primary = primary_by d y line name volume start bytes s may.call.site is free fact read.can.up in
+      let goes = let_in_by d y line name volume start bytes s v stands is free read.seat.number read.volume_is in
+      record {
+        seat = read.seat;
+        place = read.volume_is;
+        can = record {
+          origin = ap is_origin primary;
+          up = read.can.up;
+          running = read.can.running;
+          volume_exists = read.can.volume_exists;
+          fits = may.fits (group_fact n) rvg kind;
+          within = read.can.within;
+        };
+        primary = primary;
+        some = read.some;
+        few = read.few;
+        changes = goes.0;
+        goes = goes.1;
+      }

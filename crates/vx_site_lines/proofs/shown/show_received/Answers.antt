@@ -1,0 +1,76 @@
+-- Blocks of a site that receives are shown, case by case.
+use Rattle.std.proofs.Common.{◌≡◌, ◌∙◌, arith, false, inr, refl, subst, sym}
+use Rattle.std.specs.Prelude.{Some}
+use Rattle.vx_diskset.specs.Asked.{LeavesAlone}
+use Rattle.vx_diskset.specs.Holds.{beside_of}
+use Rattle.vx_events.proofs.Places.{some_same}
+use Rattle.vx_model.specs.Sites.{is_origin}
+use Rattle.vx_yard.proofs.ChangeSite.{told_before}
+use Rattle.vx_site_lines.proofs.FetchLine.{fetching}
+use Rattle.vx_yard.proofs.Lists.{get_at}
+use Rattle.vx_yard.proofs.NamedSite.{asks_at}
+use Rattle.vx_site_lines.proofs.ReadLine.{may_read}
+use Rattle.vx_yard.proofs.Seats.{named_some, volume_there}
+use Rattle.vx_site_lines.proofs.ShownLine.{not_primary, shown_leads, shown_stops}
+use Rattle.vx_site_lines.proofs.shown.show_received.Goals.{then-count-eq0-via-then-count-eq0, then-count-eq0-via-else-count-eq0+then-count-gt-MOST_CALL_BLOCKS}
+use Rattle.vx_site_lines.proofs.shown.show_received.Goals as goal
+
+pub site_of-site-requires-clause-named : goal.site_of-site-requires-clause-named
+site_of-site-requires-clause-named g c = λ κs within. named_some c.args.yard.now c.args.name.now (may_read c.args.yard.now c.args.name.now c.args.volume.now c.args.start c.args.count (inr c.requires.free)).site
+
+pub volume_of-place-requires-clause-named : goal.volume_of-place-requires-clause-named
+volume_of-place-requires-clause-named g c = λ κs within f at.
+    volume_there c.args.yard.now c.args.name.now c.args.volume.now c.args.start c.args.count c.site_of-site.result f (may_read c.args.yard.now c.args.name.now c.args.volume.now c.args.start c.args.count (inr c.requires.free)) c.site_of-site.ensures.seat at
+
+pub unreachable-requires : goal.unreachable-requires
+unreachable-requires g c =
+    let may = may_read c.args.yard.now c.args.name.now c.args.volume.now c.args.start c.args.count (inr c.requires.free) in
+    elim c.then-count-eq0.branch [
+      | then-count-eq0-via-then-count-eq0 w ↦ absurd (omega (arith, w.if-count-eq0.true, may.some))
+      | then-count-eq0-via-else-count-eq0+then-count-gt-MOST_CALL_BLOCKS w ↦ absurd (omega (arith, w.if-count-gt-MOST_CALL_BLOCKS.true, may.few))
+    ]
+
+pub returns-in-Ok-clause-told : goal.returns-in-Ok-clause-told
+returns-in-Ok-clause-told g c = told_before c.args.yard.now.disk_sets.items c.site_of-site.result c.index_mut.result.now c.shown_of.new.disk_set
+    (get_at c.args.yard.now.disk_sets.items c.site_of-site.result c.index_mut.result.now c.site_of-site.ensures.disk_set c.index_mut.ensures.value) c.in-Ok.ensures.later
+
+pub returns-in-Ok-clause-leads : goal.returns-in-Ok-clause-leads
+returns-in-Ok-clause-leads g c = λ d s stands seat receives.
+    let y = c.args.yard.now in
+    let t = c.site_of-site.result in
+    let before = c.index_mut.result.now in
+    let after = c.shown_of.new.disk_set in
+    let disk_set = get_at y.disk_sets.items t before c.site_of-site.ensures.disk_set c.index_mut.ensures.value in
+    let may = may_read y c.args.name.now c.args.volume.now c.args.start c.args.count (inr c.requires.free) in
+    let read = fetching d y c.args.name.now c.args.volume.now c.args.start c.args.count t c.volume_of-place.result before stands may c.site_of-site.ensures.seat disk_set c.volume_of-place.ensures.place in
+    let there = stands.disk_sets.sites t before read.seat.below disk_set in
+    let other = subst (λ i. is_origin (d.world.nodes i).role ≡ false) (some_same (sym seat ∙ c.site_of-site.ensures.seat)) receives in
+    shown_leads d y _ c.args.name.now c.args.volume.now c.args.start c.args.count t c.volume_of-place.result before after stands read (record { there = disk_set; later = c.in-Ok.ensures.later; disk_sets = refl; racks = refl }) c.in-Ok.ensures.still c.in-Ok.ensures.role refl
+    (record { flight = refl; assemblies = refl; feeders = refl }) c.in-Ok.blocks (not_primary (d.world.nodes t).role other) (c.in-Ok.ensures.shows (beside_of d t) (d.world.nodes t) there read.can)
+
+pub returns-in-Err-clause-told : goal.returns-in-Err-clause-told
+returns-in-Err-clause-told g c = told_before c.args.yard.now.disk_sets.items c.site_of-site.result c.index_mut.result.now c.shown_of.new.disk_set
+    (get_at c.args.yard.now.disk_sets.items c.site_of-site.result c.index_mut.result.now c.site_of-site.ensures.disk_set c.index_mut.ensures.value) c.in-Err.ensures.later
+
+pub returns-in-Err-clause-leads : goal.returns-in-Err-clause-leads
+returns-in-Err-clause-leads g c = λ d s stands seat receives.
+    let y = c.args.yard.now in
+    let t = c.site_of-site.result in
+    let before = c.index_mut.result.now in
+    let after = c.shown_of.new.disk_set in
+    let disk_set = get_at y.disk_sets.items t before c.site_of-site.ensures.disk_set c.index_mut.ensures.value in
+    let may = may_read y c.args.name.now c.args.volume.now c.args.start c.args.count (inr c.requires.free) in
+    let read = fetching d y c.args.name.now c.args.volume.now c.args.start c.args.count t c.volume_of-place.result before stands may c.site_of-site.ensures.seat disk_set c.volume_of-place.ensures.place in
+    let there = stands.disk_sets.sites t before read.seat.below disk_set in
+    shown_stops d y _ c.args.name.now c.args.volume.now c.args.start c.args.count t c.volume_of-place.result before after stands read (record { there = disk_set; later = c.in-Err.ensures.later; disk_sets = refl; racks = refl }) c.in-Err.ensures.still c.in-Err.ensures.role refl
+    (record { flight = refl; assemblies = refl; feeders = refl }) c.in-Err.no (c.in-Err.ensures.shows (beside_of d t) (d.world.nodes t) there read.can)
+
+pub returns-in-Ok-clause-asked : goal.returns-in-Ok-clause-asked
+returns-in-Ok-clause-asked g c = λ d stands.
+    asks_at LeavesAlone d c.args.yard.now _ c.args.name.now c.site_of-site.result c.index_mut.result.now c.shown_of.new.disk_set stands c.site_of-site.ensures.seat
+    (get_at c.args.yard.now.disk_sets.items c.site_of-site.result c.index_mut.result.now c.site_of-site.ensures.disk_set c.index_mut.ensures.value) refl c.in-Ok.ensures.still
+
+pub returns-in-Err-clause-asked : goal.returns-in-Err-clause-asked
+returns-in-Err-clause-asked g c = λ d stands.
+    asks_at LeavesAlone d c.args.yard.now _ c.args.name.now c.site_of-site.result c.index_mut.result.now c.shown_of.new.disk_set stands c.site_of-site.ensures.seat
+    (get_at c.args.yard.now.disk_sets.items c.site_of-site.result c.index_mut.result.now c.site_of-site.ensures.disk_set c.index_mut.ensures.value) refl c.in-Err.ensures.still

@@ -1,0 +1,4 @@
+pub mod Fetching
+pub mod Rises
+pub mod Seen
+pub mod Shown

@@ -1,0 +1,36 @@
+// The line that makes a disk fail, or ends that.
+ghost use Rattle.std.specs.Prelude.{◌≡◌};
+ghost use Rattle.vx_history.specs.Doubts.{Doubted};
+ghost use Rattle.vx_script.specs.declared.line.ScriptLine.TheVariants.{Disk};
+ghost use Rattle.vx_events.specs.Failing.{is_failing};
+ghost use Rattle.vx_yard.specs.OfSites.{AsAsked};
+ghost use Rattle.vx_yard.specs.Standing.{Leads, StandsFor};
+ghost use Rattle.vx_yard.specs.Working.{IsFree};
+ghost use Rattle.vx_yard.specs.Yards.{IsKept, IsTold, in_files};
+
+use vx_disk::Rack;
+use vx_events::Said;
+use vx_model::Name;
+use vx_script::DiskState as DiskWord;
+use vx_yard::Yard;
+
+// Whether the calls on the disk are to fail.
+fn is_failing(state: DiskWord) -> bool
+    ensures { result ≡ is_failing state }
+{
+    matches!(state, DiskWord::Fail)
+}
+
+/// Makes the calls on a disk fail, or ends that.
+pub fn set_disk<R: Rack>(yard: &mut Yard<R>, name: &Name, disk: u64, state: DiskWord) -> Said
+    requires kept { IsKept yard.old }
+    requires free { IsFree yard.old (Disk name.now disk state) }
+    ensures leads { (d : Doubted) → StandsFor d yard.old → Leads d (Disk name.now disk state) result yard.old yard.new }
+    ensures asked { (d : Doubted) → StandsFor d yard.old → AsAsked d.world (Disk name.now disk state) yard.old yard.new }
+    ensures told { IsTold yard.new → IsTold yard.old }
+    ensures files { in_files yard.new ≡ in_files yard.old }
+{
+    let site = yard.site_of(name);
+    yard.disk_sets[site].fail(disk, is_failing(state));
+    Said::Done
+}

@@ -1,0 +1,132 @@
+// What the status of a site shows.
+ghost use Rattle.std.specs.Prelude.{◌≡◌, ◌<◌, [], IfOk, Some, length, slice_get};
+ghost use Rattle.vx_history.specs.Doubts.{Doubted};
+ghost use Rattle.vx_order.specs.declared.facts.SiteFacts.{SiteFacts};
+ghost use Rattle.vx_script.specs.declared.line.ScriptLine.TheVariants.{Status as StatusLine};
+ghost use Rattle.vx_site_lines.specs.Seen.{name_at, group_seen, group_at, link_seen, links_seen, site_seen};
+ghost use Rattle.vx_yard.specs.Standing.{LeadsIs, StandsFor};
+ghost use Rattle.vx_events.specs.LinkViews.{linked_view};
+ghost use Rattle.vx_yard.specs.Working.{IsFree};
+ghost use Rattle.vx_yard.specs.Yards.{IsKept};
+
+use std::alloc::Global;
+use vx_disk::Rack;
+use vx_events::Said;
+use vx_model::{Name, OutOfMemory, SiteName, SiteState};
+use vx_order::{LinkFacts, RvgFacts, SiteFacts};
+use vx_report::{DiskViews, LinkView, LinkViews, RvgView, SiteView, VolumeViews};
+use vx_yard::Yard;
+
+// The name of a site, or its number where it is not here.
+fn name_of(sites: &[SiteFacts], number: u32) -> SiteName
+    ensures { result ≡ name_at (slice_get sites.now number) number }
+{
+    match sites.get(number as usize) {
+        Some(site) => SiteName::Known(site.name),
+        None => SiteName::Number(number),
+    }
+}
+
+fn group(sites: &[SiteFacts], session: u64, rvg: &RvgFacts) -> RvgView
+    ensures { result ≡ group_seen sites.now session rvg.now }
+{
+    RvgView {
+        role: rvg.role,
+        generation: rvg.line.generation,
+        origin: name_of(sites, rvg.line.origin),
+        head: rvg.last,
+        mark: rvg.mark,
+        session,
+        halted: rvg.halted,
+    }
+}
+
+// The group of a site that is up.
+fn shown(sites: &[SiteFacts], session: u64, site: &SiteFacts) -> Option<RvgView>
+    ensures { result ≡ group_at site.now.state sites.now session site.now.rvg }
+{
+    match site.state {
+        SiteState::Up => match &site.rvg {
+            Some(rvg) => Some(group(sites, session, rvg)),
+            None => None,
+        },
+        SiteState::Bare | SiteState::Deported | SiteState::Down => None,
+    }
+}
+
+/// A link. It keeps no map, so no region is marked.
+pub(crate) fn link_view(sites: &[SiteFacts], link: &LinkFacts) -> LinkView
+    ensures { result ≡ link_seen sites.now link.now }
+{
+    LinkView {
+        name: name_of(sites, link.link.site),
+        bunker: link.link.bunker,
+        attached: link.link.attached,
+        connected: link.link.connected,
+        paused: link.link.paused,
+        mode: link.link.mode,
+        marked: 0,
+        net: link.link.net,
+        stored: link.link.stored,
+    }
+}
+
+// The links of a site, in order.
+fn link_views(
+    alloc: Global,
+    sites: &[SiteFacts],
+    links: &[LinkFacts],
+) -> Result<LinkViews, OutOfMemory>
+    ensures { IfOk result (λ views. views ≡ links_seen sites.now links.now) }
+{
+    let mut views = LinkViews::new(alloc);
+    for link in links {
+        views.push(link_view(sites, link))?;
+    }
+    Ok(views)
+}
+
+fn view(
+    alloc: Global,
+    sites: &[SiteFacts],
+    session: u64,
+    site: &SiteFacts,
+    links: LinkViews,
+) -> SiteView
+    ensures { result ≡ site_seen sites.now session site.now links }
+{
+    SiteView {
+        name: site.name,
+        state: site.state,
+        disks: DiskViews::new(alloc),
+        volumes: VolumeViews::new(alloc),
+        rvg: shown(sites, session, site),
+        links,
+    }
+}
+
+/// How a site with these links stands.
+pub(crate) fn view_at<R: Rack>(
+    yard: &Yard<R>,
+    alloc: Global,
+    site: usize,
+    links: LinkViews,
+) -> SiteView
+    requires site { site < length yard.now.facts.items }
+    requires disk_set { site < length yard.now.disk_sets.items }
+    ensures linked { (d : Doubted) (f : SiteFacts) → StandsFor d yard.now → site < d.world.sites → slice_get yard.now.facts.items site ≡ Some f → links ≡ links_seen yard.now.facts.items f.links → result ≡ linked_view d.world site }
+{
+    let session = yard.disk_sets[site].session();
+    view(alloc, &yard.facts, session, &yard.facts[site], links)
+}
+
+/// The status of a site.
+pub fn status_line<R: Rack>(yard: &Yard<R>, alloc: Global, name: &Name) -> Result<Said, OutOfMemory>
+    requires kept { IsKept yard.now }
+    requires free { IsFree yard.now (StatusLine name.now) }
+    ensures leads { (d : Doubted) → StandsFor d yard.now → LeadsIs d (StatusLine name.now) yard.now yard.now result }
+{
+    let site = yard.site_of(name);
+    let links = link_views(alloc, &yard.facts, yard.facts[site].links.as_slice())?;
+    Ok(Said::Shown(view_at(yard, alloc, site, links)))
+}

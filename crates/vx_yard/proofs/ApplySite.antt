@@ -1,0 +1,288 @@
+-- A line that applies the log of a site that may keep links.
+use Rattle.std.proofs.Common.{◌≡◌, ◌∙◌, ◌≤◌, ◌⊎◌, ℕ, true, false, List, [], ◌∷◌, length, ap, sym, subst, refl, arith, ⊎_elim}
+use Rattle.std.specs.Prelude.{Option, Some, None, Ok, Err, slice_get, slice_set}
+use Rattle.vx_history.specs.Doubts.{After, Doubted, happened}
+use Rattle.vx_history.specs.Events.{linked_sites}
+use Rattle.vx_history.specs.Refusals.{Outcome}
+use Rattle.vx_history.specs.Step.{step}
+use Rattle.vx_history.specs.Steps.{burned, crashed, worked_on}
+use Rattle.vx_history.specs.World.{Fuse, Gathering, Link, Node, Packet}
+use Rattle.vx_history.specs.declared.event.Event.{Event}
+use Rattle.vx_history.specs.declared.event.Event.TheVariants.{Apply as ApplyAt, Fault}
+use Rattle.vx_history.specs.declared.event.Said.{Said as EventSaid}
+use Rattle.vx_history.specs.declared.event.Said.TheVariants.{DoneAt as IsDoneAt}
+use Rattle.vx_model.specs.Sites.{is_origin}
+use Rattle.vx_model.specs.declared.no.No.{No}
+use Rattle.vx_model.specs.declared.no.No.TheVariants.{Device, Down as Off}
+use Rattle.vx_model.specs.declared.site.SiteState.{SiteState}
+use Rattle.vx_model.specs.declared.site.SiteState.TheVariants.{Bare as IsBare, Up as IsUp, Down as IsDown}
+use Rattle.vx_disk.specs.Disks.{Disks}
+use Rattle.vx_disk.specs.declared.shelf.Shelf.{Ghosts}
+use Rattle.vx_order.specs.declared.facts.LinkFacts.{LinkFacts}
+use Rattle.vx_order.specs.declared.facts.SiteFacts.{SiteFacts}
+use Rattle.vx_script.specs.declared.line.ScriptLine.TheVariants.{Apply}
+use Rattle.vx_diskset.proofs.KeepsFailing.{same_on}
+use Rattle.vx_diskset.specs.Asked.{FailsAs, FusedAs, LeavesFuse, SameFailing, disks_in, size_in}
+use Rattle.vx_diskset.specs.Burning.{Burnt, NoMore}
+use Rattle.vx_diskset.specs.DiskSets.{AppliedAt, CanApply, halted_at, worked}
+use Rattle.vx_diskset.specs.Holds.{Beside, Kept, beside_of, itself, sure_of}
+use Rattle.vx_diskset.proofs.Roles.{role_like}
+use Rattle.vx_diskset.specs.Stands.{KeepsRole, RoleIs, StandsAt}
+use Rattle.vx_diskset.specs.declared.disk_set.DiskSet.{DiskSet}
+use Rattle.vx_diskset.specs.declared.disk_set.DiskSet.TheVariants.{Bare, Spoiled, Up, Receives, Down, Gone}
+use Rattle.vx_effects.proofs.Effects.{changes_then}
+use Rattle.vx_effects.proofs.Fitting.{fit_happened}
+use Rattle.vx_effects.proofs.Leaving.{fit_worked}
+use Rattle.vx_effects.proofs.Rises.{fault_effect, note_effect, reached_effect}
+use Rattle.vx_events.proofs.Places.{never_some, some_same}
+use Rattle.vx_events.proofs.Refused.{apply_may}
+use Rattle.vx_events.proofs.Steps.{apply_step}
+use Rattle.vx_events.specs.Doubts.{run_as}
+use Rattle.vx_events.specs.Effects.{EffectAt}
+use Rattle.vx_events.specs.Ends.{AllDone, DiskFails, Ends, FuseRunsOut, IsLeft}
+use Rattle.vx_events.specs.Facts.{group_by, group_fact, seat_of, site_fact, site_number}
+use Rattle.vx_events.specs.LinkedFacts.{link_facts, links_by}
+use Rattle.vx_events.specs.LinksFit.{LinksFit}
+use Rattle.vx_events.specs.Lists.{Choice}
+use Rattle.vx_events.specs.Sayings.{Repeats, Replies}
+use Rattle.vx_events.specs.declared.said.Said.{Said}
+use Rattle.vx_events.specs.declared.said.Said.TheVariants.{DoneAt, Refused}
+use Rattle.vx_yard.specs.Changes.{down_facts, halted_facts}
+use Rattle.vx_yard.specs.Standing.{IsSameSite, Leads, StandsFor, crash_of}
+use Rattle.vx_yard.specs.Working.{IsFree}
+use Rattle.vx_yard.specs.Writes.{noted_facts}
+use Rattle.vx_yard.specs.Yards.{IsTold, in_files}
+use Rattle.vx_yard.specs.declared.yard.Yard.{Yard}
+use Rattle.vx_yard.proofs.Alike.{burnt}
+use Rattle.vx_yard.proofs.CrashLine.{fuse_fact, rose_still, stopped_fact}
+use Rattle.vx_yard.proofs.CrashSite.{crash_comes, crash_fact, crash_gathering, crash_node, crash_sent, crashed_node, down_up}
+use Rattle.vx_yard.proofs.Carrying.{LetsGo, LetsGoBy, SameLoad, carries_let, carries_node}
+use Rattle.vx_yard.proofs.FailsStay.{fails_then}
+use Rattle.vx_yard.proofs.FuseStays.{device_by, done_by, fused_on, left_passed}
+use Rattle.vx_yard.proofs.NamedSite.{SiteAt, fact_named, site_at}
+use Rattle.vx_yard.proofs.OneSite.{Changed, Comes, beside_same, role_kept, rose_at, stands_at, stands_still, told_by}
+use Rattle.vx_yard.proofs.Rows.{fact_from, fact_like, fact_same, shown_by}
+use Rattle.vx_yard.proofs.SiteEvents.{first_choice, keeps_k}
+
+-- ---- a line that notes that the fuse may have let calls pass
+
+-- what is noted of the world behind an event
+abbrev pub worked_for : Doubted → (s : ℕ) → Doubted
+worked_for h s = record h { world = worked_on h.world s }
+
+pub worked_effect : (s : ℕ) (d h : Doubted) (n : Node) (row : ℕ → Link) (many : ℕ) (doubt : Option After) (packets : List Packet) (gathered : Option Gathering) → EffectAt s d h n row many doubt packets gathered
+    → EffectAt s d (worked_for h s) (worked n) row many doubt packets gathered
+worked_effect s d h n row many doubt packets gathered eff =
+    let note = note_effect h s (worked (h.world.nodes s)) in
+    record {
+      site = changes_then s d h (worked_for h s) eff.site note.site;
+      is = record {
+        node = note.is.node ∙ ap (λ (k : Node). worked k) eff.is.node;
+        links = λ k. eff.is.links k;
+        headers = eff.is.headers;
+        after = eff.is.after;
+      };
+      sent = eff.sent;
+      gathering = eff.gathering;
+    }
+
+halted_fact : (n : Node) (row : ℕ → Link) (sites disk : ℕ) → halted_facts disk (fact_from n row sites) ≡ fact_from (halted_at n disk) row sites
+halted_fact n row sites disk =
+    let ss : List ℕ = linked_sites row sites 0 sites in
+    ap (λ (x : SiteFacts). let f : SiteFacts = record x { links = links_by n.state (link_facts n row ss) } in f) (stopped_fact n disk)
+    ∙ ap (λ (ls : List LinkFacts). let f : SiteFacts = record (site_fact (halted_at n disk)) { links = links_by n.state ls } in f) (sym (shown_by n (halted_at n disk) row (λ k l. refl) ss))
+
+module _ {R : Type 0} {g : Ghosts R} where
+  -- a running site is what its node says
+  pub sure_at : (beside : Beside) (n : Node) (e : DiskSet R g) → StandsAt beside n e → n.state ≡ IsUp → n.halted ≡ None → beside.doubt ≡ None
+  sure_at beside n (Bare rack) h up runs = absurd (let e : IsBare ≡ IsUp = sym (ap (λ (k : Node). k.state) h.bare.is) ∙ up in cc)
+  sure_at beside n (Spoiled rack) h up runs = absurd (let e : IsBare ≡ IsUp = sym (ap (λ (k : Node). k.state) h.is) ∙ up in cc)
+  sure_at beside n (Up rvg) h up runs = h.sure runs
+  sure_at beside n (Receives site) h up runs = h.sure runs
+  sure_at beside n (Down rack) h up runs = absurd (let e : IsDown ≡ IsUp = sym h.state ∙ up in cc)
+  sure_at beside n Gone h up runs = absurd h
+
+  pub calls_keep : (P : Disks → Disks → Type 0) (said : Said) (before after : DiskSet R g) → LeavesFuse P said before after → SameFailing before after
+  calls_keep P said before after did = record { told = same_on (Burnt P said (size_in before)) (disks_in before) (disks_in after) did.told }
+
+  -- a site that an event left so, with what it has beside its node
+  pub comes_effect : (d e : Doubted) (s : ℕ) (n : Node) (packets : List Packet) (gathered : Option Gathering) (after : DiskSet R g)
+      → EffectAt s d e n (d.world.links s) (d.world.headers s) (d.after s) packets gathered → LinksFit e
+      → n.name ≡ (d.world.nodes s).name → n.disks ≡ (d.world.nodes s).disks → n.blocks ≡ (d.world.nodes s).blocks → n.volumes ≡ (d.world.nodes s).volumes → n.role ≡ (d.world.nodes s).role
+      → StandsAt (beside_of d s) n after → FailsAs n after → FusedAs n after → RoleIs (d.world.nodes s) after → Comes d e s after
+  comes_effect d e s n packets gathered after eff fits name disks blocks volumes role stands failing fuse kind =
+      let here : n ≡ e.world.nodes s = sym eff.is.node in
+      record {
+        changes = eff.site;
+        links = fits;
+        stands = subst (λ (m : Node). StandsAt (beside_of e s) m after) here
+            (subst (λ (b : Beside). StandsAt b n after) (sym (beside_same d e s eff.site.sites (λ k. eff.is.links k) eff.is.headers eff.is.after)) stands);
+        failing = subst (λ (m : Node). FailsAs m after) here failing;
+        fuse = subst (λ (m : Node). FusedAs m after) here fuse;
+        role = subst (λ (m : Node). RoleIs m after) here (role_like (d.world.nodes s) n after (ap is_origin role) kind);
+        doubt = λ was a is.
+            let w = was a (sym eff.is.after ∙ is) in
+            subst (λ (m : Node). IsSameSite m a.node) here
+            (record { name = w.name ∙ sym name; disks = w.disks ∙ sym disks; blocks = w.blocks ∙ sym blocks; volumes = w.volumes ∙ sym volumes });
+      }
+
+  -- ---- the line
+
+  -- what the tests found
+  pub record CanApplyAt (d : Doubted) (y : Yard R g) (name : List ℕ) (s : ℕ) : Type 0 where
+    pub seat : SiteAt d y name s
+    pub can : CanApply (d.world.nodes s)
+
+  pub can_apply_at : (d : Doubted) (y : Yard R g) (name : List ℕ) (to s : ℕ) → StandsFor d y → IsFree y (Apply name to) → seat_of y.facts.items name ≡ Some s → CanApplyAt d y name s
+  can_apply_at d y name to s stands free at =
+      let here = site_at d y name s stands at in
+      let may = apply_may y.facts.items (in_files y) name to free in
+      let fact = fact_named d y name s here at may.site in
+      let n : Node = d.world.nodes s in
+      let up : n.state ≡ IsUp = sym (ap (λ (f : SiteFacts). f.state) fact) ∙ may.up in
+      record { seat = here; can = record { up = up; running = may.running (group_fact n) (ap (λ (f : SiteFacts). f.rvg) fact ∙ ap (λ (t : SiteState). group_by t n) up) } }
+
+  module _ (d : Doubted) (old new : Yard R g) (name : List ℕ) (to s : ℕ) (before after : DiskSet R g) (stands : StandsFor d old) (here : CanApplyAt d old name s) (changed : Changed old new s before after)
+      (keeps : KeepsRole before after) where
+    abbrev n : Node
+    n = d.world.nodes s
+
+    fails_still : (m : Node) (said : Said) → m.failing ≡ n.failing → LeavesFuse NoMore said before after → FailsAs m after
+    fails_still m said same calls = fails_then n m before after same (calls_keep NoMore said before after calls) (stands.failing s before here.seat.below changed.there)
+
+    kind : RoleIs n after
+    kind = role_kept d old s before after stands here.seat.below changed.there keeps
+
+    -- the log was applied up to this number
+    pub applied : (number : ℕ) → is_origin n.role ≡ true → AppliedAt (beside_of d s) n to before after (Ok number) → LeavesFuse NoMore (DoneAt number) before after → new.facts ≡ old.facts → SameLoad old new → Leads d (Apply name to) (DoneAt number) old new
+    applied number origin is calls facts load =
+        let k : ℕ = site_number d.world name in
+        let fuse : FusedAs (worked n) after =
+        fused_on (Burnt NoMore (DoneAt number) (size_in before)) n (worked n) (burned n.fuse) before after refl
+        (λ x y burns left. left_passed n.fuse x.fuse y.fuse (done_by NoMore (size_in before) (DoneAt number) number x y refl burns).0.fuse left) calls.told (stands.fuses s before here.seat.below changed.there) in
+        let fails : FailsAs (worked n) after = fails_still (worked n) (DoneAt number) refl calls in
+        let c : Choice = record { kept = 0; reached = number } in
+        let h : Doubted = happened d (ApplyAt s to number) false in
+        let e : Doubted = worked_for h s in
+        let eff = worked_effect s d h n (d.world.links s) (d.world.headers s) (d.after s) d.world.packets (d.world.gathering s) (reached_effect d s to number false here.seat.below here.can.up here.can.running origin is.0 is.1) in
+        let ev : (let es : List Event = ApplyAt k to number ∷ [] in es) ≡ ApplyAt s to number ∷ [] = ap (λ (i : ℕ). let es : List Event = ApplyAt i to number ∷ [] in es) here.seat.number in
+        let said : (step d.world (ApplyAt s to number)).said ≡ IsDoneAt number = ap (λ (o : Outcome). o.said) (apply_step d.world s to number here.seat.below here.can.up here.can.running origin is.0 is.1) in
+        record {
+          next = e;
+          fails = [];
+          done = record {
+            ends = subst (λ (i : ℕ). Ends (IsTold new) d (Apply name to) i [] (DoneAt number) e) (sym here.seat.number)
+                (AllDone c false refl
+                (subst (λ (es : List Event). Replies (IsTold new) (Apply name to) s false d es (DoneAt number)) (sym ev)
+                (subst (λ (o : EventSaid). Repeats (step d.world (ApplyAt s to number)).world s o (DoneAt number)) (sym said) refl))
+                (subst (λ (es : List Event). IsLeft s (Apply name to) false d (run_as false d es) e) (sym ev) (record { world = refl; after = λ i. refl })));
+            counts = tt;
+            works = tt;
+            calls = tt;
+          };
+          carries = carries_node s d e (worked n) old new load eff.site eff.sent eff.gathering eff.is.node refl refl refl (told_by old new s before after changed);
+          stands = stands_still d e old new s before after stands here.seat.below changed
+              (comes_effect d e s (worked n) d.world.packets (d.world.gathering s) after eff (fit_worked h s (fit_happened d (ApplyAt s to number) false stands.links)) refl refl refl refl refl is.2 fails fuse kind)
+              (fact_same (worked n) (e.world.nodes s) (d.world.links s) (e.world.links s) d.world.sites e.world.sites eff.is.node (λ j. eff.is.links j) eff.site.sites
+              ∙ fact_like n (worked n) (d.world.links s) d.world.sites (fuse_fact n (burned n.fuse)) (λ j l. refl))
+              (ap (λ fs. fs.items) facts);
+          rose = rose_still old new s before after changed.there changed.later changed.disk_sets;
+        }
+
+    -- a disk failed in it, and the site is halted
+    halts : (disk : ℕ) (f f' : SiteFacts) → AppliedAt (beside_of d s) n to before after (Err (Device disk)) → LeavesFuse NoMore (Refused (Device disk)) before after → slice_get old.facts.items s ≡ Some f
+        → f' ≡ halted_facts disk f → new.facts.items ≡ slice_set old.facts.items s f' → SameLoad old new → Leads d (Apply name to) (Refused (Device disk)) old new
+    halts disk f f' is calls at noted facts load =
+        let k : ℕ = site_number d.world name in
+        let m : Node = halted_at n disk in
+        let h : Doubted = happened d (Fault s disk) false in
+        let e : Doubted = worked_for h s in
+        let lit : worked m ≡ m = ap (λ (x : Fuse). let q : Node = record m { fuse = x } in q) (burnt n.fuse) in
+        let eff : EffectAt s d e m (d.world.links s) (d.world.headers s) (d.after s) d.world.packets (d.world.gathering s) =
+        subst (λ (q : Node). EffectAt s d e q (d.world.links s) (d.world.headers s) (d.after s) d.world.packets (d.world.gathering s)) lit
+        (worked_effect s d h m (d.world.links s) (d.world.headers s) (d.after s) d.world.packets (d.world.gathering s) (fault_effect d s disk false here.seat.below here.can.up)) in
+        let fuse : FusedAs m after =
+        fused_on (Burnt NoMore (Refused (Device disk)) (size_in before)) n m (burned n.fuse) before after refl
+        (λ x y burns left. left_passed n.fuse x.fuse y.fuse (device_by NoMore (size_in before) (Refused (Device disk)) disk x y refl burns).fuse left) calls.told (stands.fuses s before here.seat.below changed.there) in
+        let ev : (let es : List Event = ApplyAt k to 0 ∷ [] in es) ≡ ApplyAt s to 0 ∷ [] = ap (λ (i : ℕ). let es : List Event = ApplyAt i to 0 ∷ [] in es) here.seat.number in
+        record {
+          next = e;
+          fails = (s, disk) ∷ [];
+          done = record {
+            ends = subst (λ (i : ℕ). Ends (IsTold new) d (Apply name to) i ((s, disk) ∷ []) (Refused (Device disk)) e) (sym here.seat.number)
+                (DiskFails first_choice false [] (ApplyAt s to 0) [] (Fault s disk ∷ []) disk ev refl refl refl (record { world = refl; after = λ i. refl }));
+            counts = tt;
+            works = tt;
+            calls = tt;
+          };
+          carries = carries_node s d e m old new load eff.site eff.sent eff.gathering eff.is.node refl refl refl (told_by old new s before after changed);
+          stands = stands_at d e old new s f' before after stands here.seat.below changed
+              (comes_effect d e s m d.world.packets (d.world.gathering s) after eff (fit_worked h s (fit_happened d (Fault s disk) false stands.links)) refl refl refl refl refl is.0 (fails_still m (Refused (Device disk)) refl calls) fuse kind)
+              (noted ∙ ap (halted_facts disk) (some_same (sym at ∙ here.seat.fact)) ∙ halted_fact n (d.world.links s) d.world.sites disk
+              ∙ sym (fact_same m (e.world.nodes s) (d.world.links s) (e.world.links s) d.world.sites e.world.sites eff.is.node (λ j. eff.is.links j) eff.site.sites))
+              facts;
+          rose = rose_at old new s disk before after changed is.1;
+        }
+
+    -- its fuse ran out, and the site is down
+    falls_off : (f f' : SiteFacts) → AppliedAt (beside_of d s) n to before after (Err Off) → LeavesFuse NoMore (Refused Off) before after → slice_get old.facts.items s ≡ Some f
+        → f' ≡ down_facts f → new.facts.items ≡ slice_set old.facts.items s f' → LetsGo old new s → Leads d (Apply name to) (Refused Off) old new
+    falls_off f f' is calls at noted facts lets = ⊎_elim (λ own. itself_by is.1.kept own is.1.count is.1.least is.1.most is.1.stands) (λ other. absurd (never_some (sym sure ∙ other))) is.1.is
+      where
+        sure : (beside_of d s).doubt ≡ None
+        sure = sure_at (beside_of d s) n before (stands.disk_sets.sites s before here.seat.below changed.there) here.can.up here.can.running
+
+        itself_by : (x : Kept) → x ≡ itself (beside_of d s) n → (count : ℕ) → x.node.safe ≤ count → count ≤ length x.node.log → StandsAt (sure_of x) (crashed x.node count) after → Leads d (Apply name to) (Refused Off) old new
+        itself_by x own =
+            subst (λ (q : Kept). (count : ℕ) → q.node.safe ≤ count → count ≤ length q.node.log → StandsAt (sure_of q) (crashed q.node count) after → Leads d (Apply name to) (Refused Off) old new) (sym own)
+            (λ count least most stood.
+            let k : ℕ = site_number d.world name in
+            let h : Doubted = crash_of d s count false in
+            let e : Doubted = worked_for h s in
+            let m : Node = crashed_node n n count in
+            let before_noted = crash_comes d s count false n (d.world.links s) refl (λ j. refl) (λ _. refl) here.seat.below here.can.up least most before after stands.links (stands.failing s before here.seat.below changed.there)
+            (calls_keep NoMore (Refused Off) before after calls) stood in
+            let note = note_effect h s (worked (h.world.nodes s)) in
+            let node : e.world.nodes s ≡ m = note.is.node ∙ ap (λ (q : Node). worked q) (crash_node d s count false n (d.world.links s) refl (λ j. refl) (λ _. refl) here.seat.below here.can.up least most) in
+            let node_h : h.world.nodes s ≡ m = crash_node d s count false n (d.world.links s) refl (λ j. refl) (λ _. refl) here.seat.below here.can.up least most in
+            let same : h.world.nodes s ≡ e.world.nodes s = node_h ∙ sym node in
+            let ev : (let es : List Event = ApplyAt k to 0 ∷ [] in es) ≡ ApplyAt s to 0 ∷ [] = ap (λ (i : ℕ). let es : List Event = ApplyAt i to 0 ∷ [] in es) here.seat.number in
+            record {
+              next = e;
+              fails = [];
+              done = record {
+                ends = subst (λ (i : ℕ). Ends (IsTold new) d (Apply name to) i [] (Refused Off) e) (sym here.seat.number)
+                    (FuseRunsOut (keeps_k count) (ApplyAt s to 0) [] ev refl is.0 refl refl (record { world = refl; after = λ i. refl }));
+                counts = tt;
+                works = tt;
+                calls = tt;
+              };
+              carries = carries_let s d e old new lets (omega (arith, here.seat.below, stands.disk_sets.few)) (changes_then s d h e before_noted.changes note.site)
+                  (crash_sent d s count false n (d.world.links s) refl (λ j. refl) (λ _. refl) here.seat.below here.can.up least most)
+                  (crash_gathering d s count false n (d.world.links s) refl (λ j. refl) (λ _. refl) here.seat.below here.can.up least most)
+                  (λ is_up. down_up (sym (ap (λ (q : Node). q.state) node) ∙ is_up)) (told_by old new s before after changed);
+              stands = stands_at d e old new s f' before after stands here.seat.below changed
+                  (record {
+                    changes = changes_then s d h e before_noted.changes note.site;
+                    links = fit_worked h s before_noted.links;
+                    stands = subst (λ (q : Node). StandsAt (beside_of h s) q after) same before_noted.stands;
+                    failing = subst (λ (q : Node). FailsAs q after) same before_noted.failing;
+                    fuse = subst (λ (q : Node). FusedAs q after) same before_noted.fuse;
+                    role = subst (λ (q : Node). RoleIs q after) same before_noted.role;
+                    doubt = λ was a there. subst (λ (q : Node). IsSameSite q a.node) same (before_noted.doubt was a there);
+                  })
+                  (noted ∙ ap down_facts (some_same (sym at ∙ here.seat.fact)) ∙ crash_fact d s count false n (d.world.links s) refl (λ j. refl) (λ _. refl) here.seat.below here.can.up least most refl refl refl refl
+                  ∙ fact_same (e.world.nodes s) (h.world.nodes s) (h.world.links s) (h.world.links s) h.world.sites h.world.sites same (λ j. refl) refl)
+                  facts;
+              rose = rose_still old new s before after changed.there changed.later changed.disk_sets;
+            })
+
+    -- it was refused
+    pub apply_refused : (why : No) (said : Said) (f f' : SiteFacts) → said ≡ Refused why → AppliedAt (beside_of d s) n to before after (Err why) → LeavesFuse NoMore (Refused why) before after → slice_get old.facts.items s ≡ Some f
+        → f' ≡ noted_facts why f → new.facts.items ≡ slice_set old.facts.items s f' → LetsGoBy why old new s → Leads d (Apply name to) said old new
+    apply_refused why said f f' says is calls at noted facts lets = subst (λ (r : Said). Leads d (Apply name to) r old new) (sym says) (by_why why is calls noted lets)
+      where
+        by_why : (why : No) → AppliedAt (beside_of d s) n to before after (Err why) → LeavesFuse NoMore (Refused why) before after → f' ≡ noted_facts why f → LetsGoBy why old new s → Leads d (Apply name to) (Refused why) old new
+        by_why (Device disk) is calls noted lets = halts disk f f' is calls at noted facts (record { flight = lets.flight; assemblies = lets.assemblies; feeders = lets.feeders })
+        by_why Off is calls noted lets = falls_off f f' is calls at noted facts (record { flight = lets.flight; assemblies = lets.assemblies; feeders = lets.feeders })
+        by_why other is calls noted lets = absurd is

@@ -1,0 +1,289 @@
+-- A site that crashes, which may be in doubt.
+use Rattle.std.proofs.Common.{◌≡◌, ◌∙◌, ◌<◌, ◌≤◌, ℕ, Bool, true, false, List, [], ◌∷◌, length, ap, sym, subst, refl, arith, ⊎_elim}
+use Rattle.std.specs.Prelude.{Option, Some, None, map, slice_get, slice_set}
+use Rattle.vx_history.proofs.Updates.{at_place}
+use Rattle.vx_history.specs.Doubts.{After, Doubted, happened, resolved_at, taken_up}
+use Rattle.vx_history.specs.Events.{kept_of, lost_touch}
+use Rattle.vx_history.specs.Refusals.{Outcome}
+use Rattle.vx_history.specs.Step.{step}
+use Rattle.vx_history.specs.Steps.{crashed}
+use Rattle.vx_history.specs.World.{Link, Node, Volume, World}
+use Rattle.vx_history.specs.declared.event.Event.TheVariants.{Crash as CrashAt}
+use Rattle.vx_history.specs.declared.event.Said.TheVariants.{Done as IsDone}
+use Rattle.vx_model.specs.declared.site.SiteState.TheVariants.{Down as IsDown, Up}
+use Rattle.vx_model.specs.declared.limits.TheConstants.{MOST_SITES}
+use Rattle.vx_model.specs.declared.state.KeptLink.{KeptLink}
+use Rattle.vx_disk.specs.declared.shelf.Shelf.{Ghosts}
+use Rattle.vx_order.specs.declared.facts.SiteFacts.{SiteFacts}
+use Rattle.vx_script.specs.declared.line.ScriptLine.TheVariants.{Crash}
+use Rattle.vx_diskset.specs.Asked.{FailsAs, FusedAs, SameFailing}
+use Rattle.vx_diskset.specs.DiskSets.{CrashedAt}
+use Rattle.vx_diskset.specs.Holds.{Beside, Kept, beside_of, doubt_of, itself, row_links, sure_of}
+use Rattle.vx_diskset.specs.Stands.{StandsAt}
+use Rattle.vx_diskset.specs.declared.disk_set.DiskSet.{DiskSet}
+use Rattle.vx_diskset.proofs.FailGroup.{stands_failing}
+use Rattle.vx_effects.proofs.Effects.{changes_same, changes_then, crash_effect, resolved_changes}
+use Rattle.vx_effects.proofs.Fitting.{fit_happened}
+use Rattle.vx_effects.proofs.Leaving.{fit_disks}
+use Rattle.vx_effects.proofs.Rows.{touch_kept}
+use Rattle.vx_events.proofs.Places.{never_some, some_same}
+use Rattle.vx_events.proofs.Steps.{crash_step, kept_is}
+use Rattle.vx_events.specs.Doubts.{chosen, run_as, with_disks}
+use Rattle.vx_events.proofs.Refused.{crash_may}
+use Rattle.vx_yard.specs.OfSites.{OfSite}
+use Rattle.vx_diskset.specs.Asked.{CrashesBy}
+use Rattle.vx_yard.specs.Working.{IsFree}
+use Rattle.vx_yard.specs.Yards.{IsTold, in_files}
+use Rattle.vx_yard.proofs.CrashLine.{rose_still}
+use Rattle.vx_yard.proofs.NamedSite.{fact_named, fact_of, site_at}
+use Rattle.vx_yard.proofs.SiteEvents.{keeps_k}
+use Rattle.vx_events.specs.Effects.{ChangesNode, EffectAt}
+use Rattle.vx_events.specs.Ends.{AllDone, Ends, IsLeft}
+use Rattle.vx_events.specs.Facts.{seat_of, site_number, volume_fact}
+use Rattle.vx_events.specs.LinkedFacts.{linked_fact}
+use Rattle.vx_events.specs.Sayings.{Repeats, Replies}
+use Rattle.vx_events.specs.declared.said.Said.TheVariants.{Done}
+use Rattle.vx_history.specs.declared.event.Event.{Event}
+use Rattle.vx_history.specs.declared.event.Said.{Said as EventSaid}
+use Rattle.vx_events.specs.LinksFit.{LinksFit}
+use Rattle.vx_yard.specs.Changes.{down_facts}
+use Rattle.vx_yard.specs.Standing.{Falls, Leads, StandsFor, crash_of}
+use Rattle.vx_yard.specs.declared.yard.Yard.{Yard}
+use Rattle.vx_yard.proofs.Alike.{apart_place}
+use Rattle.vx_yard.proofs.FailsStay.{fails_then}
+use Rattle.vx_yard.proofs.FuseStays.{fused_none}
+use Rattle.vx_yard.proofs.OneSite.{Changed, Comes, role_off, stands_at, told_by}
+use Rattle.vx_yard.proofs.Carrying.{LetsGo, carries_let}
+use Rattle.vx_yard.proofs.Rows.{fact_same, row_links_same}
+
+-- the node that it leaves
+abbrev pub crashed_node : (n m : Node) → (count : ℕ) → Node
+crashed_node n m count = record (crashed m count) { failing = n.failing }
+
+changes_disks : (b : Bool) (s : ℕ) (w : World) (h : Doubted) → ChangesNode s h (record h { world = with_disks b s w h.world })
+changes_disks false s w h = changes_same s h
+changes_disks true s w h = record {
+  sites = refl;
+  nodes = λ i apart. apart_place h.world.nodes s (record (h.world.nodes s) { failing = (w.nodes s).failing }) i apart;
+  links = λ i k apart. refl;
+  headers = λ i apart. refl;
+  after = λ i apart. refl;
+  gathering = λ i apart. refl;
+}
+
+same_links : (b : Bool) (s : ℕ) (w v : World) (k : ℕ) → (with_disks b s w v).links s k ≡ v.links s k
+same_links false s w v k = refl
+same_links true s w v k = refl
+
+same_headers : (b : Bool) (s : ℕ) (w v : World) → (with_disks b s w v).headers s ≡ v.headers s
+same_headers false s w v = refl
+same_headers true s w v = refl
+
+same_packets : (b : Bool) (s : ℕ) (w v : World) → (with_disks b s w v).packets ≡ v.packets
+same_packets false s w v = refl
+same_packets true s w v = refl
+
+same_gathering : (b : Bool) (s : ℕ) (w v : World) → (with_disks b s w v).gathering s ≡ v.gathering s
+same_gathering false s w v = refl
+same_gathering true s w v = refl
+
+pub down_up : IsDown ≡ Up → ⊥
+down_up e = cc
+
+-- the node, by what it was before
+disks_node : (b : Bool) (s : ℕ) (w v : World) (n : Node) → v.nodes s ≡ n → (b ≡ false → n.failing ≡ (w.nodes s).failing) → (with_disks b s w v).nodes s ≡ record n { failing = (w.nodes s).failing }
+disks_node false s w v n is same = is ∙ ap (λ (f : ℕ → Bool). let k : Node = record n { failing = f } in k) (same refl)
+disks_node true s w v n is same = at_place v.nodes s (record (v.nodes s) { failing = (w.nodes s).failing }) ∙ ap (λ (k : Node). let x : Node = record k { failing = (w.nodes s).failing } in x) is
+
+-- a site that is not in doubt
+pub beside_sure : (e : Doubted) (s : ℕ) (ls : List KeptLink) (many : ℕ) → row_links (e.world.links s) e.world.sites ≡ ls → e.world.headers s ≡ many → e.after s ≡ None
+    → beside_of e s ≡ record { links = ls; headers = many; doubt = None }
+beside_sure e s ls many links headers sure =
+    ap (λ (x : List KeptLink). let b : Beside = record { links = x; headers = e.world.headers s; doubt = doubt_of e.world s (e.after s) } in b) links
+    ∙ ap (λ (k : ℕ). let b : Beside = record { links = ls; headers = k; doubt = doubt_of e.world s (e.after s) } in b) headers
+    ∙ ap (λ (o : Option After). let b : Beside = record { links = ls; headers = many; doubt = doubt_of e.world s o } in b) sure
+
+-- a site that is one of the two that it may be
+module _ (d : Doubted) (s count : ℕ) (taken : Bool) (m : Node) (row : ℕ → Link) (node_is : (resolved_at d s taken).world.nodes s ≡ m) (row_is : (k : ℕ) → (resolved_at d s taken).world.links s k ≡ row k)
+    (own : taken ≡ false → m.failing ≡ (d.world.nodes s).failing) (below : s < d.world.sites) (up : m.state ≡ Up) (least : m.safe ≤ count) (most : count ≤ length m.log) where
+  abbrev r : Doubted
+  r = resolved_at d s taken
+
+  abbrev h : Doubted
+  h = happened d (CrashAt s count) taken
+
+  abbrev e : Doubted
+  e = crash_of d s count taken
+
+  below_r : s < r.world.sites
+  below_r = let same = (resolved_changes d s taken).site.sites in omega (arith, below, same)
+
+  up_r : (r.world.nodes s).state ≡ Up
+  up_r = ap (λ (k : Node). k.state) node_is ∙ up
+
+  eff : EffectAt s d h (crashed (r.world.nodes s) (kept_of (r.world.nodes s) count)) (λ k. lost_touch (r.world.links s k)) (d.world.headers s) None d.world.packets None
+  eff = crash_effect d s count taken below_r up_r
+
+  pub crash_changes : ChangesNode s d e
+  crash_changes = changes_then s d h e eff.site (changes_disks taken s d.world h)
+
+  pub crash_node : e.world.nodes s ≡ crashed_node (d.world.nodes s) m count
+  crash_node =
+      disks_node taken s d.world h.world (crashed m count)
+      (eff.is.node ∙ ap (λ (k : Node). crashed k (kept_of k count)) node_is ∙ ap (λ (j : ℕ). crashed m j) (kept_is m count least most)) own
+
+  pub crash_sent : e.world.packets ≡ d.world.packets
+  crash_sent = same_packets taken s d.world h.world ∙ eff.sent
+
+  pub crash_gathering : e.world.gathering s ≡ None
+  crash_gathering = same_gathering taken s d.world h.world ∙ eff.gathering
+
+  pub crash_down : (e.world.nodes s).state ≡ Up → ⊥
+  crash_down is_up = down_up (sym (ap (λ (k : Node). k.state) crash_node) ∙ is_up)
+
+  pub crash_beside : beside_of e s ≡ record { links = row_links row d.world.sites; headers = d.world.headers s; doubt = None }
+  crash_beside =
+      beside_sure e s (row_links row d.world.sites) (d.world.headers s)
+      (row_links_same (λ k. lost_touch (row k)) (e.world.links s) (λ k. same_links taken s d.world h.world k ∙ eff.is.links k ∙ ap lost_touch (row_is k)) e.world.sites
+      ∙ ap (λ (n : ℕ). row_links (λ k. lost_touch (row k)) n) crash_changes.sites ∙ touch_kept row d.world.sites)
+      (same_headers taken s d.world h.world ∙ eff.is.headers) eff.is.after
+
+  pub crash_said : (step (chosen taken d (CrashAt s count)).world (CrashAt s count)).said ≡ IsDone
+  crash_said = ap (λ (o : Outcome). o.said) (crash_step r.world s count below_r up_r)
+
+  pub crash_fits : LinksFit d → LinksFit e
+  crash_fits fits = fit_disks taken s d.world h (fit_happened d (CrashAt s count) taken fits)
+
+  -- what the tests see of it
+  pub crash_fact : m.name ≡ (d.world.nodes s).name → m.disks ≡ (d.world.nodes s).disks → m.blocks ≡ (d.world.nodes s).blocks → m.volumes ≡ (d.world.nodes s).volumes
+      → down_facts (linked_fact d.world s) ≡ linked_fact e.world s
+  crash_fact name disks blocks volumes =
+      ap (λ (x : List ℕ). let f : SiteFacts = record (down_facts (linked_fact d.world s)) { name = x } in f) (sym name)
+      ∙ ap (λ (x : ℕ). let f : SiteFacts = record (down_facts (linked_fact d.world s)) { name = m.name; disks = x } in f) (sym disks)
+      ∙ ap (λ (x : ℕ). let f : SiteFacts = record (down_facts (linked_fact d.world s)) { name = m.name; disks = m.disks; blocks = x } in f) (sym blocks)
+      ∙ ap (λ (x : List Volume). let f : SiteFacts = record (down_facts (linked_fact d.world s)) { name = m.name; disks = m.disks; blocks = m.blocks; volumes = map volume_fact x } in f) (sym volumes)
+      ∙ sym (fact_same (crashed_node (d.world.nodes s) m count) (e.world.nodes s) (e.world.links s) (e.world.links s) e.world.sites e.world.sites crash_node (λ k. refl) refl)
+
+module _ {R : Type 0} {g : Ghosts R} where
+  -- the site, whose disks crashed
+  pub crash_comes : (d : Doubted) (s count : ℕ) (taken : Bool) (m : Node) (row : ℕ → Link) (node_is : (resolved_at d s taken).world.nodes s ≡ m) (row_is : (k : ℕ) → (resolved_at d s taken).world.links s k ≡ row k)
+      (own : taken ≡ false → m.failing ≡ (d.world.nodes s).failing) (below : s < d.world.sites) (up : m.state ≡ Up) (least : m.safe ≤ count) (most : count ≤ length m.log) (before after : DiskSet R g)
+      → LinksFit d → FailsAs (d.world.nodes s) before → SameFailing before after → StandsAt (record { links = row_links row d.world.sites; headers = d.world.headers s; doubt = None }) (crashed m count) after
+      → Comes d (crash_of d s count taken) s after
+  crash_comes d s count taken m row node_is row_is own below up least most before after fits fails same stands =
+      let e : Doubted = crash_of d s count taken in
+      let n : Node = crashed_node (d.world.nodes s) m count in
+      let here : n ≡ e.world.nodes s = sym (crash_node d s count taken m row node_is row_is own below up least most) in
+      let there : beside_of e s ≡ record { links = row_links row d.world.sites; headers = d.world.headers s; doubt = None } =
+      crash_beside d s count taken m row node_is row_is own below up least most in
+      record {
+        changes = crash_changes d s count taken m row node_is row_is own below up least most;
+        links = crash_fits d s count taken m row node_is row_is own below up least most fits;
+        stands = subst (λ (k : Node). StandsAt (beside_of e s) k after) here
+            (subst (λ (b : Beside). StandsAt b n after) (sym there) (stands_failing (record { links = row_links row d.world.sites; headers = d.world.headers s; doubt = None }) (crashed m count) (d.world.nodes s).failing after stands));
+        failing = subst (λ (k : Node). FailsAs k after) here (fails_then (d.world.nodes s) n before after refl same fails);
+        fuse = subst (λ (k : Node). FusedAs k after) here (fused_none n after refl);
+        role = role_off (record { links = row_links row d.world.sites; headers = d.world.headers s; doubt = None }) (crashed m count) (e.world.nodes s) after stands (λ is_up. down_up is_up);
+        doubt = λ was a is. absurd (never_some (sym (eff d s count taken m row node_is row_is own below up least most).is.after ∙ is));
+      }
+
+  -- the same of a yard
+  pub falls : (d : Doubted) (old new : Yard R g) (s : ℕ) (f f' : SiteFacts) (before after : DiskSet R g) → StandsFor d old → s < d.world.sites → (d.world.nodes s).state ≡ Up → slice_get old.facts.items s ≡ Some f
+      → Changed old new s before after → CrashedAt (beside_of d s) (d.world.nodes s) after → SameFailing before after → f' ≡ down_facts f → new.facts.items ≡ slice_set old.facts.items s f' → LetsGo old new s → Falls d s old new
+  falls d old new s f f' before after stands below up at changed fell same is facts lets = ⊎_elim (λ own. itself_by fell.kept own fell.count fell.least fell.most fell.stands) (λ other. doubt_by (d.after s) refl fell.kept other fell.count fell.least fell.most fell.stands) fell.is
+    where
+      n : Node
+      n = d.world.nodes s
+
+      was : down_facts f ≡ down_facts (linked_fact d.world s)
+      was = ap down_facts (some_same (sym at ∙ fact_of d old s stands below))
+
+      never : true ≡ false → ⊥
+      never e = cc
+
+      small : s < MOST_SITES
+      small = omega (arith, below, stands.disk_sets.few)
+
+      itself_by : (k : Kept) → k ≡ itself (beside_of d s) n → (count : ℕ) → k.node.safe ≤ count → count ≤ length k.node.log → StandsAt (sure_of k) (crashed k.node count) after → Falls d s old new
+      itself_by k own =
+          subst (λ (x : Kept). (count : ℕ) → x.node.safe ≤ count → count ≤ length x.node.log → StandsAt (sure_of x) (crashed x.node count) after → Falls d s old new) (sym own)
+          (λ count least most here. record {
+            count = count;
+            taken = false;
+            said = crash_said d s count false n (d.world.links s) refl (λ j. refl) (λ _. refl) below up least most;
+            down = ap (λ (x : Node). x.state) (crash_node d s count false n (d.world.links s) refl (λ j. refl) (λ _. refl) below up least most);
+            blocks = ap (λ (x : Node). x.blocks) (crash_node d s count false n (d.world.links s) refl (λ j. refl) (λ _. refl) below up least most);
+            sites = (crash_changes d s count false n (d.world.links s) refl (λ j. refl) (λ _. refl) below up least most).sites;
+            carries = carries_let s d (crash_of d s count false) old new lets small (crash_changes d s count false n (d.world.links s) refl (λ j. refl) (λ _. refl) below up least most)
+                (crash_sent d s count false n (d.world.links s) refl (λ j. refl) (λ _. refl) below up least most) (crash_gathering d s count false n (d.world.links s) refl (λ j. refl) (λ _. refl) below up least most)
+                (crash_down d s count false n (d.world.links s) refl (λ j. refl) (λ _. refl) below up least most) (told_by old new s before after changed);
+            stands = stands_at d (crash_of d s count false) old new s f' before after stands below changed
+                (crash_comes d s count false n (d.world.links s) refl (λ j. refl) (λ _. refl) below up least most before after stands.links (stands.failing s before below changed.there) same here)
+                (is ∙ was ∙ crash_fact d s count false n (d.world.links s) refl (λ j. refl) (λ _. refl) below up least most refl refl refl refl) facts;
+            rose = rose_still old new s before after changed.there changed.later changed.disk_sets;
+          })
+
+      doubt_by : (o : Option After) → d.after s ≡ o → (k : Kept) → doubt_of d.world s (d.after s) ≡ Some k → (count : ℕ) → k.node.safe ≤ count → count ≤ length k.node.log → StandsAt (sure_of k) (crashed k.node count) after → Falls d s old new
+      doubt_by None none k other = absurd (never_some (sym (ap (λ (o : Option After). doubt_of d.world s o) none) ∙ other))
+      doubt_by (Some a) some k other =
+          let kept : (let x : Kept = record { node = a.node; links = row_links a.row d.world.sites; headers = d.world.headers s } in x) ≡ k =
+          some_same (sym (ap (λ (o : Option After). doubt_of d.world s o) some) ∙ other) in
+          let fits = stands.links.doubts s a some in
+          let same_site = stands.doubts s a some in
+          let node_is : (resolved_at d s true).world.nodes s ≡ a.node = ap (λ (o : Option After). (taken_up d.world s o).nodes s) some ∙ at_place d.world.nodes s a.node in
+          let row_is : (j : ℕ) → (resolved_at d s true).world.links s j ≡ a.row j =
+          λ j. ap (λ (o : Option After). (taken_up d.world s o).links s j) some ∙ ap (λ (r : ℕ → Link). r j) (at_place d.world.links s a.row) in
+          subst (λ (x : Kept). (count : ℕ) → x.node.safe ≤ count → count ≤ length x.node.log → StandsAt (sure_of x) (crashed x.node count) after → Falls d s old new) kept
+          (λ count least most here. record {
+            count = count;
+            taken = true;
+            said = crash_said d s count true a.node a.row node_is row_is (λ e. absurd (never e)) below fits.up_too least most;
+            down = ap (λ (x : Node). x.state) (crash_node d s count true a.node a.row node_is row_is (λ e. absurd (never e)) below fits.up_too least most);
+            blocks = ap (λ (x : Node). x.blocks) (crash_node d s count true a.node a.row node_is row_is (λ e. absurd (never e)) below fits.up_too least most) ∙ same_site.blocks;
+            sites = (crash_changes d s count true a.node a.row node_is row_is (λ e. absurd (never e)) below fits.up_too least most).sites;
+            carries = carries_let s d (crash_of d s count true) old new lets small (crash_changes d s count true a.node a.row node_is row_is (λ e. absurd (never e)) below fits.up_too least most)
+                (crash_sent d s count true a.node a.row node_is row_is (λ e. absurd (never e)) below fits.up_too least most)
+                (crash_gathering d s count true a.node a.row node_is row_is (λ e. absurd (never e)) below fits.up_too least most)
+                (crash_down d s count true a.node a.row node_is row_is (λ e. absurd (never e)) below fits.up_too least most) (told_by old new s before after changed);
+            stands = stands_at d (crash_of d s count true) old new s f' before after stands below changed
+                (crash_comes d s count true a.node a.row node_is row_is (λ e. absurd (never e)) below fits.up_too least most before after stands.links (stands.failing s before below changed.there) same here)
+                (is ∙ was ∙ crash_fact d s count true a.node a.row node_is row_is (λ e. absurd (never e)) below fits.up_too least most same_site.name same_site.disks same_site.blocks same_site.volumes) facts;
+            rose = rose_still old new s before after changed.there changed.later changed.disk_sets;
+          })
+
+  -- the site of a line that crashes one is up
+  pub crash_up : (d : Doubted) (old : Yard R g) (name : List ℕ) (pick s : ℕ) → StandsFor d old → IsFree old (Crash name pick) → seat_of old.facts.items name ≡ Some s → (d.world.nodes s).state ≡ Up
+  crash_up d old name pick s stands free seat =
+      let may = crash_may old.facts.items (in_files old) name pick free in
+      ap (λ (f : SiteFacts). f.state) (sym (fact_named d old name s (site_at d old name s stands seat) seat may.0)) ∙ may.1
+
+  pub crash_leads : (d : Doubted) (old new : Yard R g) (name : List ℕ) (pick s : ℕ) → StandsFor d old → IsFree old (Crash name pick) → seat_of old.facts.items name ≡ Some s
+      → ((d : Doubted) → StandsFor d old → s < d.world.sites → (d.world.nodes s).state ≡ Up → Falls d s old new) → Leads d (Crash name pick) Done old new
+  crash_leads d old new name pick s stands free seat fell =
+      let here = site_at d old name s stands seat in
+      let f = fell d stands here.below (crash_up d old name pick s stands free seat) in
+      let e : Doubted = crash_of d s f.count f.taken in
+      let ev : (let es : List Event = CrashAt (site_number d.world name) f.count ∷ [] in es) ≡ CrashAt s f.count ∷ [] = ap (λ (i : ℕ). let es : List Event = CrashAt i f.count ∷ [] in es) here.number in
+      record {
+        next = e;
+        fails = [];
+        done = record {
+          ends = subst (λ (i : ℕ). Ends (IsTold new) d (Crash name pick) i [] Done e) (sym here.number)
+              (AllDone (keeps_k f.count) f.taken refl
+              (subst (λ (es : List Event). Replies (IsTold new) (Crash name pick) s f.taken d es Done) (sym ev)
+              (subst (λ (o : EventSaid). Repeats (step (chosen f.taken d (CrashAt s f.count)).world (CrashAt s f.count)).world s o Done) (sym f.said) refl))
+              (subst (λ (es : List Event). IsLeft s (Crash name pick) f.taken d (run_as f.taken d es) e) (sym ev) (record { world = refl; after = λ i. refl })));
+          counts = tt;
+          works = tt;
+          calls = tt;
+        };
+        carries = f.carries;
+        stands = f.stands;
+        rose = f.rose;
+      }
+
+  pub crash_asks : (d : Doubted) (old new : Yard R g) (name : List ℕ) (pick s : ℕ) → StandsFor d old → IsFree old (Crash name pick) → seat_of old.facts.items name ≡ Some s
+      → ((d : Doubted) → StandsFor d old → s < d.world.sites → (d.world.nodes s).state ≡ Up → OfSite (CrashesBy pick) s old new) → OfSite (CrashesBy pick) (site_number d.world name) old new
+  crash_asks d old new name pick s stands free seat asks =
+      let here = site_at d old name s stands seat in
+      subst (λ (k : ℕ). OfSite (CrashesBy pick) k old new) (sym here.number) (asks d stands here.below (crash_up d old name pick s stands free seat))

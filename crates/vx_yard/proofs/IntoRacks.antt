@@ -1,0 +1,200 @@
+-- The racks as they come back from their disk sets.
+use Rattle.std.proofs.Common.{◌≡◌, ◌∙◌, ◌++◌, ◌≤◌, inl, ℕ, zero, suc, List, [], ◌∷◌, length, ap, append_assoc, sym, subst, refl, arith, IsTrue}
+use Rattle.std.specs.Prelude.{Option, Some, None, drop, reverse, slice_get, take}
+use Rattle.std.proofs.lemmas.List.{reverse-append}
+use Rattle.std.specs.Option.{option_and_then}
+use Rattle.vx_history.specs.World.{Node}
+use Rattle.vx_model.specs.declared.site.SiteState.TheVariants.{Bare as IsBare, Up as IsUp, Down as IsDown}
+use Rattle.vx_model.specs.declared.site.SiteState.{SiteState}
+use Rattle.vx_model.specs.declared.call.Update.{Update}
+use Rattle.vx_model.specs.Content.{Content, Write, fold_writes}
+use Rattle.vx_disk.specs.Shelf.{Meaning, Lawful}
+use Rattle.vx_disk.specs.declared.shelf.Shelf.{Ghosts}
+use Rattle.vx_diskset.specs.Lasts.{FoundWith}
+use Rattle.vx_rvg.specs.Views.{Core}
+use Rattle.vx_diskset.specs.declared.disk_set.DiskSet.{DiskSet}
+use Rattle.vx_diskset.specs.declared.disk_set.DiskSet.TheVariants.{Bare, Spoiled, Up, Receives, Down, Gone}
+use Rattle.vx_diskset.specs.Holds.{Beside, Holds, most_header, state_with, beside_of}
+use Rattle.vx_history.specs.Doubts.{Doubted}
+use Rattle.vx_yard.specs.Holds.{RacksHold, RacksTell, rack_count, rack_faults}
+use Rattle.vx_diskset.specs.Layouts.{units_of}
+use Rattle.vx_yard.specs.Racks.{rack_in, racks_in}
+use Rattle.vx_yard.specs.Stands.{AreTold, fault_count, faults_of}
+use Rattle.vx_diskset.specs.Stands.{IsUnused, IsBareAt, IsUpAt, IsReceiverAt, IsDownAt, IsToldAt, StandsAt}
+use Rattle.vx_yard.specs.Standing.{SitesAgree}
+use Rattle.vx_diskset.proofs.CrashGroup.{left_with}
+use Rattle.vx_diskset.proofs.StaysUp.{all_taken, durable_content, told_now}
+use Rattle.std.proofs.lemmas.Bool.{cases_lt}
+use Rattle.std.proofs.Common.{⊎_elim}
+
+never_both : {x : SiteState} → x ≡ IsUp → x ≡ IsDown → ⊥
+never_both a b = let e : IsUp ≡ IsDown = sym a ∙ b in cc
+
+-- a site that is up
+up_holds : {beside : Beside} (n : Node) (c : Core) (m : Meaning) → IsUpAt beside n c m → Holds beside n m
+up_holds n c m up = record { up = λ _ i now. up.left i now; down = λ down. absurd (never_both up.state down) }
+
+-- a site that receives
+receiver_holds : {beside : Beside} (n : Node) (c : Core) (us : List Update) (m : Meaning) → IsReceiverAt beside n c us m → Holds beside n m
+receiver_holds n c us m up = record { up = λ _ i now. up.left i now; down = λ down. absurd (never_both up.state down) }
+
+-- a site that is down
+down_holds : {beside : Beside} (n : Node) (m : Meaning) → Lawful m → IsDownAt beside n m → Holds beside n m
+down_holds {beside} n m lawful is = record {
+  up = λ up. absurd (never_both up is.state);
+  down = λ _ i now. inl (record {
+    count = n.safe;
+    least = omega arith;
+    most = omega (arith, is.logged);
+    found = subst (λ (xs : List Write). FoundWith (units_of n) n.ring (state_with n beside.links) n.session (most_header beside n) i xs (fold_writes n.base (drop n.safe (take n.safe n.log)))) (all_taken n is.logged)
+        (subst (λ (c : Content). FoundWith (units_of n) n.ring (state_with n beside.links) n.session (most_header beside n) i n.log c) (durable_content n)
+        (left_with (units_of n) n.ring (state_with n beside.links) n.session (most_header beside n) n.log n.base m i lawful now (is.left (told_now m i lawful now))));
+  });
+}
+
+-- nothing is made of a bare site
+bare_holds : {beside : Beside} (n : Node) (m : Meaning) → IsBareAt n m → Holds beside n m
+bare_holds n m bare = record {
+  up = λ up. absurd (let e : IsBare ≡ IsUp = sym state ∙ up in cc);
+  down = λ down. absurd (let e : IsBare ≡ IsDown = sym state ∙ down in cc);
+}
+  where
+    state : n.state ≡ IsBare
+    state = ap (λ (k : Node). k.state) bare.is
+
+some_same : {A : Type 0} {a b : A} → Some a ≡ Some b → a ≡ b
+some_same e = cc
+
+module _ {R : Type 0} {g : Ghosts R} where
+  abbrev rack_of : DiskSet R g → Option R
+  rack_of (Bare rack) = Some rack
+  rack_of (Spoiled rack) = Some rack
+  rack_of (Up rvg) = Some rvg.shelf
+  rack_of (Receives s) = Some s.rvg.shelf
+  rack_of (Down rack) = Some rack
+  rack_of Gone = None
+
+  abbrev IsThere : DiskSet R g → Type 0
+  IsThere (Bare rack) = Unit {0}
+  IsThere (Spoiled rack) = Unit {0}
+  IsThere (Up rvg) = Unit {0}
+  IsThere (Receives s) = Unit {0}
+  IsThere (Down rack) = Unit {0}
+  IsThere Gone = ⊥
+
+  abbrev AllThere : List (DiskSet R g) → Type 0
+  AllThere [] = Unit {0}
+  AllThere (e ∷ es) = IsThere e × AllThere es
+
+  all_there : (es : List (DiskSet R g)) → ((s : ℕ) (e : DiskSet R g) → slice_get es s ≡ Some e → IsThere e) → AllThere es
+  all_there [] f = tt
+  all_there (e ∷ es) f = (f zero e refl, all_there es (λ s e' h. f (suc s) e' h))
+
+  slice_get-racks_in : (es : List (DiskSet R g)) → AllThere es → (s : ℕ) → slice_get (racks_in es) s ≡ option_and_then rack_of (slice_get es s)
+  slice_get-racks_in [] all s = refl
+  slice_get-racks_in (Bare rack ∷ es) all zero = refl
+  slice_get-racks_in (Spoiled rack ∷ es) all zero = refl
+  slice_get-racks_in (Up rvg ∷ es) all zero = refl
+  slice_get-racks_in (Receives s ∷ es) all zero = refl
+  slice_get-racks_in (Down rack ∷ es) all zero = refl
+  slice_get-racks_in (Gone ∷ es) all zero = absurd all.0
+  slice_get-racks_in (Bare rack ∷ es) all (suc s) = slice_get-racks_in es all.1 s
+  slice_get-racks_in (Spoiled rack ∷ es) all (suc s) = slice_get-racks_in es all.1 s
+  slice_get-racks_in (Up rvg ∷ es) all (suc s) = slice_get-racks_in es all.1 s
+  slice_get-racks_in (Receives site ∷ es) all (suc s) = slice_get-racks_in es all.1 s
+  slice_get-racks_in (Down rack ∷ es) all (suc s) = slice_get-racks_in es all.1 s
+  slice_get-racks_in (Gone ∷ es) all (suc s) = absurd all.0
+
+  length-racks_in : (es : List (DiskSet R g)) → AllThere es → length (racks_in es) ≡ length es
+  length-racks_in [] all = refl
+  length-racks_in (Bare rack ∷ es) all = ap suc (length-racks_in es all.1)
+  length-racks_in (Spoiled rack ∷ es) all = ap suc (length-racks_in es all.1)
+  length-racks_in (Up rvg ∷ es) all = ap suc (length-racks_in es all.1)
+  length-racks_in (Receives s ∷ es) all = ap suc (length-racks_in es all.1)
+  length-racks_in (Down rack ∷ es) all = ap suc (length-racks_in es all.1)
+  length-racks_in (Gone ∷ es) all = absurd all.0
+
+  unused_there : (e : DiskSet R g) → IsUnused e → IsThere e
+  unused_there (Bare rack) h = tt
+  unused_there (Spoiled rack) h = tt
+  unused_there (Up rvg) h = tt
+  unused_there (Receives s) h = tt
+  unused_there (Down rack) h = tt
+  unused_there Gone h = h
+
+  counts_as : (x : Option (DiskSet R g)) (d : ℕ) → rack_count g.meaning (option_and_then rack_of x) d ≡ fault_count x d
+  counts_as None d = refl
+  counts_as (Some (Bare rack)) d = refl
+  counts_as (Some (Spoiled rack)) d = refl
+  counts_as (Some (Up rvg)) d = refl
+  counts_as (Some (Receives s)) d = refl
+  counts_as (Some (Down rack)) d = refl
+  counts_as (Some Gone) d = refl
+
+  tells_at : (e : DiskSet R g) → IsThere e → ((r : R) → rack_of e ≡ Some r → IsTrue (g.meaning r).tells) → IsToldAt e
+  tells_at (Bare rack) there f = f rack refl
+  tells_at (Spoiled rack) there f = f rack refl
+  tells_at (Up rvg) there f = f rvg.shelf refl
+  tells_at (Receives s) there f = f s.rvg.shelf refl
+  tells_at (Down rack) there f = f rack refl
+  tells_at Gone there f = there
+
+  -- ---- sites that may keep links and be in doubt
+
+  stood_there : (beside : Beside) (n : Node) (e : DiskSet R g) → StandsAt beside n e → IsThere e
+  stood_there beside n (Bare rack) h = tt
+  stood_there beside n (Spoiled rack) h = tt
+  stood_there beside n (Up rvg) h = tt
+  stood_there beside n (Receives s) h = tt
+  stood_there beside n (Down rack) h = tt
+  stood_there beside n Gone h = h
+
+  agree_there : (d : Doubted) (es : List (DiskSet R g)) → SitesAgree d es → (s : ℕ) (e : DiskSet R g) → slice_get es s ≡ Some e → IsThere e
+  agree_there d es agree s e at =
+      ⊎_elim (λ below. stood_there (beside_of d s) (d.world.nodes s) e (agree.sites s e below at)) (λ past. unused_there e (agree.others s e past at)) (cases_lt s d.world.sites)
+
+  beside_holds : (lawful : (r : R) → Lawful (g.meaning r)) (beside : Beside) (n : Node) (x : Option (DiskSet R g)) (r : R) → ((e : DiskSet R g) → x ≡ Some e → StandsAt beside n e) → option_and_then rack_of x ≡ Some r → Holds beside n (g.meaning r)
+  beside_holds lawful beside n None r stands is = absurd (cc)
+  beside_holds lawful beside n (Some (Bare rack)) r stands is =
+      subst (λ (k : R). Holds beside n (g.meaning k)) (some_same is) (bare_holds n (g.meaning rack) (stands (Bare rack) refl).bare)
+  beside_holds lawful beside n (Some (Spoiled rack)) r stands is =
+      subst (λ (k : R). Holds beside n (g.meaning k)) (some_same is) (bare_holds n (g.meaning rack) (stands (Spoiled rack) refl))
+  beside_holds lawful beside n (Some (Up rvg)) r stands is =
+      subst (λ (k : R). Holds beside n (g.meaning k)) (some_same is) (up_holds n rvg.core (g.meaning rvg.shelf) (stands (Up rvg) refl))
+  beside_holds lawful beside n (Some (Receives s)) r stands is =
+      subst (λ (k : R). Holds beside n (g.meaning k)) (some_same is) (receiver_holds n s.rvg.core s.waiting (g.meaning s.rvg.shelf) (stands (Receives s) refl))
+  beside_holds lawful beside n (Some (Down rack)) r stands is =
+      subst (λ (k : R). Holds beside n (g.meaning k)) (some_same is) (down_holds n (g.meaning rack) (lawful rack) (stands (Down rack) refl))
+  beside_holds lawful beside n (Some Gone) r stands is = absurd (cc)
+
+  pub racks_keep : (lawful : (r : R) → Lawful (g.meaning r)) (d : Doubted) (es : List (DiskSet R g)) → SitesAgree d es → RacksHold g.meaning d (racks_in es)
+  racks_keep lawful d es agree =
+      let there = all_there es (agree_there d es agree) in
+      record {
+        eight = length-racks_in es there ∙ agree.eight;
+        each = λ s r below at. beside_holds lawful (beside_of d s) (d.world.nodes s) (slice_get es s) r (λ e is. agree.sites s e below is) (sym (slice_get-racks_in es there s) ∙ at);
+      }
+
+  pub racks_counted : (d : Doubted) (es : List (DiskSet R g)) → SitesAgree d es → (s u : ℕ) → rack_faults g.meaning (racks_in es) s u ≡ faults_of es s u
+  racks_counted d es agree s u = ap (λ (r : Option R). rack_count g.meaning r u) (slice_get-racks_in es (all_there es (agree_there d es agree)) s) ∙ counts_as (slice_get es s) u
+
+  pub racks_told : (d : Doubted) (es : List (DiskSet R g)) → SitesAgree d es → RacksTell g.meaning (racks_in es) → AreTold es
+  racks_told d es agree tell = record {
+    each = λ s e at. tells_at e (agree_there d es agree s e at)
+        (λ r is. tell.each s r (slice_get-racks_in es (all_there es (agree_there d es agree)) s ∙ ap (λ (x : Option (DiskSet R g)). option_and_then rack_of x) at ∙ is));
+  }
+
+  -- one disk set gives one rack at most
+  pub rack_few : (e : DiskSet R g) → length (rack_in e) ≤ 1
+  rack_few (Bare rack) = omega arith
+  rack_few (Spoiled rack) = omega arith
+  rack_few (Up rvg) = omega arith
+  rack_few (Receives s) = omega arith
+  rack_few (Down rack) = omega arith
+  rack_few Gone = omega arith
+
+  pub given_back : (racks new : List R) (sets rest : List (DiskSet R g)) (e : DiskSet R g) → sets ≡ rest ++ e ∷ [] → new ≡ racks ++ rack_in e → new ++ racks_in (reverse rest) ≡ racks ++ racks_in (reverse sets)
+  given_back racks new sets rest e front is =
+      ap (λ (xs : List R). xs ++ racks_in (reverse rest)) is
+      ∙ append_assoc racks (rack_in e) (racks_in (reverse rest))
+      ∙ ap (λ (es : List (DiskSet R g)). racks ++ racks_in es) (sym (ap (λ (es : List (DiskSet R g)). reverse es) front ∙ reverse-append rest (e ∷ [])))

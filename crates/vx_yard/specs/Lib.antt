@@ -1,0 +1,17 @@
+pub mod Carries
+pub mod Changes
+pub mod Deliveries
+pub mod Happenings
+pub mod Holds
+pub mod Lines
+pub mod LinkLines
+pub mod Loads
+pub mod OfSites
+pub mod Racks
+pub mod Replies
+pub mod Standing
+pub mod Stands
+pub mod Steps
+pub mod Working
+pub mod Writes
+pub mod Yards

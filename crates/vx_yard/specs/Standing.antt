@@ -1,0 +1,161 @@
+-- What a yard stands for, where sites may keep links and be in doubt, and what a line leads it to. One record serves all lines: a line that
+-- looks at packets, or at what every world keeps, has a promise for those worlds alone that the yard carries (`Carries`), or that are good
+-- where contents are told (`GoodFor`).
+use Rattle.std.specs.Prelude.{◌≡◌, ◌≢◌, ◌⊎◌, ℕ, Bool, ◌≤◌, ◌<◌, List, [], ◌++◌, length, Option, Some, None, slice_get, Result, Ok, Err}
+use Rattle.std.specs.Vec.{vec_capacity}
+use Rattle.vx_model.specs.declared.errors.OutOfMemory.{OutOfMemory}
+use Rattle.vx_model.specs.declared.limits.TheConstants.{MOST_SITES}
+use Rattle.vx_history.specs.Doubts.{After, Doubted, happened}
+use Rattle.vx_history.specs.Step.{step}
+use Rattle.vx_history.specs.World.{Node}
+use Rattle.vx_history.specs.declared.event.Event.TheVariants.{Crash as CrashAt}
+use Rattle.vx_history.specs.declared.event.Said.TheVariants.{Done as IsDone}
+use Rattle.vx_model.specs.declared.site.SiteState.TheVariants.{Down as IsDown}
+use Rattle.vx_events.specs.Doubts.{chosen, with_disks}
+use Rattle.vx_disk.specs.declared.shelf.Shelf.{Ghosts}
+use Rattle.std.specs.Io.KnownBytes.{Appends}
+use Rattle.vx_script.specs.declared.line.ScriptLine.{ScriptLine}
+use Rattle.vx_diskset.specs.Asked.{FailsAs, FusedAs}
+use Rattle.vx_diskset.specs.Holds.{beside_of}
+use Rattle.vx_diskset.specs.Stands.{IsUnused, RoleIs, StandsAt}
+use Rattle.vx_diskset.specs.declared.disk_set.DiskSet.{DiskSet}
+use Rattle.vx_events.specs.Fails.{Fails}
+use Rattle.vx_events.specs.LinkedFacts.{linked_facts}
+use Rattle.vx_events.specs.Lines.{IsDone as IsDoneLine, LineStep as IsStep}
+use Rattle.vx_events.specs.Parts.{StopsShort}
+use Rattle.vx_world.specs.Lines.{GoodDoubted}
+use Rattle.vx_yard.specs.Carries.{Carries}
+use Rattle.vx_yard.specs.OfSites.{HasCalled}
+use Rattle.vx_yard.specs.Steps.{Prints}
+use Rattle.vx_yard.specs.Working.{IsFree}
+use Rattle.vx_yard.specs.declared.errors.LineStop.{LineStop}
+use Rattle.vx_yard.specs.declared.errors.LineStop.TheVariants.{WriteFault, OutOfMemory as NoMemory}
+use Rattle.vx_events.specs.LinksFit.{LinksFit}
+use Rattle.vx_events.specs.declared.said.Said.{Said}
+use Rattle.vx_yard.specs.Stands.{RoseAll}
+use Rattle.vx_yard.specs.Yards.{IsTold, count_of, in_files}
+use Rattle.vx_yard.specs.declared.yard.Yard.{Yard}
+
+-- a site that may be another: it has the same name, disks and volumes
+pub record IsSameSite (n k : Node) : Type 0 where
+  pub name : k.name ≡ n.name
+  pub disks : k.disks ≡ n.disks
+  pub blocks : k.blocks ≡ n.blocks
+  pub volumes : k.volumes ≡ n.volumes
+
+-- what a crash of a site leaves, which keeps so many writes of what it is or of what it may be, with the disks that are made to fail
+abbrev pub crash_of : Doubted → (s count : ℕ) → (taken : Bool) → Doubted
+crash_of d s count taken = let h = happened d (CrashAt s count) taken in record h { world = with_disks taken s d.world h.world }
+
+module _ {R : Type 0} {g : Ghosts R} where
+  -- each site of the world has its disk set, with what the world has of it beside its node, and the disk sets of other numbers are not used
+  pub record SitesAgree (d : Doubted) (disk_sets : List (DiskSet R g)) : Type 0 where
+    pub eight : length disk_sets ≡ MOST_SITES
+    pub few : d.world.sites ≤ MOST_SITES
+    pub sites : (s : ℕ) (e : DiskSet R g) → s < d.world.sites → slice_get disk_sets s ≡ Some e → StandsAt (beside_of d s) (d.world.nodes s) e
+    pub others : (s : ℕ) (e : DiskSet R g) → d.world.sites ≤ s → slice_get disk_sets s ≡ Some e → IsUnused e
+
+  -- the group of each site has the room in which updates wait, or not, as the role of the site has it
+  pub record RolesAre (d : Doubted) (y : Yard R g) : Type 0 where
+    pub each : (s : ℕ) (e : DiskSet R g) → s < d.world.sites → slice_get y.disk_sets.items s ≡ Some e → RoleIs (d.world.nodes s) e
+
+  -- The yard stands for this world, in which sites may be in doubt: it has what the tests of a line see of it, and disk sets that agree with it.
+  -- Each site has the group that its role asks for, and one in doubt is the same site either way. The disks that the world makes fail are made
+  -- to fail, and a fuse that it knows of has no more calls left than it knows.
+  pub record StandsFor (d : Doubted) (y : Yard R g) : Type 0 where
+    pub facts : y.facts.items ≡ linked_facts d.world
+    pub disk_sets : SitesAgree d y.disk_sets.items
+    pub links : LinksFit d
+    pub roles : RolesAre d y
+    pub doubts : (s : ℕ) (a : After) → d.after s ≡ Some a → IsSameSite (d.world.nodes s) a.node
+    pub failing : (s : ℕ) (e : DiskSet R g) → s < d.world.sites → slice_get y.disk_sets.items s ≡ Some e → FailsAs (d.world.nodes s) e
+    pub fuses : (s : ℕ) (e : DiskSet R g) → s < d.world.sites → slice_get y.disk_sets.items s ≡ Some e → FusedAs (d.world.nodes s) e
+    -- room for the racks as they come back
+    pub none : y.racks.items ≡ []
+    pub room : MOST_SITES ≤ vec_capacity y.racks
+
+  -- what the laws of all worlds say of this one, where contents are told
+  abbrev pub GoodFor : Doubted → Yard R g → Type 0
+  GoodFor d y = IsTold y → GoodDoubted d
+
+  -- The yard stands for this world and carries it, and the world is good where contents are told.
+  pub record Serves (d : Doubted) (y : Yard R g) : Type 0 where
+    pub stands : StandsFor d y
+    pub carries : Carries d y
+    pub good : GoodFor d y
+
+  -- The line was done and answered so, and the yard stands for what it made of the world. It carries that, if it did so before.
+  pub record Leads (d : Doubted) (line : ScriptLine) (said : Said) (old new : Yard R g) : Type 0 where
+    pub next : Doubted
+    pub fails : Fails
+    pub done : IsDoneLine (IsTold new) d line fails said next
+    pub stands : StandsFor next new
+    pub carries : Carries d old → Carries next new
+    pub rose : RoseAll fails (count_of old) (count_of new)
+
+  -- nothing of a line was done
+  pub record StaysFor (d : Doubted) (old new : Yard R g) : Type 0 where
+    pub stands : StandsFor d new
+    pub carries : Carries d old → Carries d new
+    pub rose : RoseAll [] (count_of old) (count_of new)
+
+  -- memory ran out within the line, which left this of it, and no call failed
+  pub record StopsFor (d : Doubted) (line : ScriptLine) (old new : Yard R g) : Type 0 where
+    pub next : Doubted
+    pub part : StopsShort (IsTold new) d line next
+    pub stands : StandsFor next new
+    pub carries : Carries d old → Carries next new
+    pub rose : RoseAll [] (count_of old) (count_of new)
+
+  -- the line was done, or memory ran out, and nothing was
+  abbrev pub LeadsIs : Doubted → ScriptLine → Yard R g → Yard R g → Result Said OutOfMemory → Type 0
+  LeadsIs d line old new (Ok said) = Leads d line said old new
+  LeadsIs d line old new (Err e) = StaysFor d old new
+
+  -- the line was done, or memory ran out within it
+  abbrev pub LeadsOrStops : Doubted → ScriptLine → Yard R g → Yard R g → Result Said OutOfMemory → Type 0
+  LeadsOrStops d line old new (Ok said) = Leads d line said old new
+  LeadsOrStops d line old new (Err e) = StopsFor d line old new
+
+  -- the site crashed, as it was or as it might be
+  pub record Falls (d : Doubted) (s : ℕ) (old new : Yard R g) : Type 0 where
+    pub count : ℕ
+    pub taken : Bool
+    pub said : (step (chosen taken d (CrashAt s count)).world (CrashAt s count)).said ≡ IsDone
+    pub down : ((crash_of d s count taken).world.nodes s).state ≡ IsDown
+    pub blocks : ((crash_of d s count taken).world.nodes s).blocks ≡ (d.world.nodes s).blocks
+    pub sites : (crash_of d s count taken).world.sites ≡ d.world.sites
+    pub stands : StandsFor (crash_of d s count taken) new
+    pub carries : Carries d old → Carries (crash_of d s count taken) new
+    pub rose : RoseAll [] (count_of old) (count_of new)
+
+  -- the same of a line that may also be refused
+  pub record AnswersFor (d : Doubted) (line : ScriptLine) (said : Said) (old new : Yard R g) : Type 0 where
+    pub next : Doubted
+    pub fails : Fails
+    pub step : IsStep (IsTold new) (in_files old) d line fails said next
+    pub stands : StandsFor next new
+    pub carries : Carries d old → Carries next new
+    pub rose : RoseAll fails (count_of old) (count_of new)
+
+  abbrev pub AnswersIs : Doubted → ScriptLine → Yard R g → Yard R g → Result Said OutOfMemory → Type 0
+  AnswersIs d line old new (Ok said) = AnswersFor d line said old new
+  AnswersIs d line old new (Err e) = StopsFor d line old new
+
+  -- the line made a step, by which the yard stands for a new world; its text is `text`
+  pub record StepsFor (d : Doubted) (line : ScriptLine) (old new : Yard R g) (text : List ℕ) : Type 0 where
+    pub next : Doubted
+    pub fails : Fails
+    pub prints : Prints (IsTold new) (in_files old) d line fails text next
+    pub stands : StandsFor next new
+    pub carries : Carries d old → Carries next new
+    pub rose : RoseAll fails (count_of old) (count_of new)
+    -- where no test refuses the line, the fuse of its site is as its calls leave it
+    pub called : IsFree old line → HasCalled d.world line prints.said old new
+
+  -- The whole text was written. Or the sink failed, and a part of it is missing. Or memory ran out, and nothing was written.
+  abbrev pub LineFor : Doubted → ScriptLine → Yard R g → Yard R g → Option (List ℕ) → Option (List ℕ) → Result (Unit {0}) LineStop → Type 0
+  LineFor d line old new written now (Ok done) = (text : List ℕ) × StepsFor d line old new text × Appends written now text
+  LineFor d line old new written now (Err WriteFault) =
+      (text : List ℕ) × (sent : List ℕ) × (unsent : List ℕ) × StepsFor d line old new text × (text ≡ sent ++ unsent) × (unsent ≢ []) × Appends written now sent
+  LineFor d line old new written now (Err NoMemory) = (StopsFor d line old new ⊎ ((text : List ℕ) × StepsFor d line old new text)) × Appends written now []

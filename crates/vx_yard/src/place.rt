@@ -1,0 +1,51 @@
+// The site and the volume that a line names. The tests of the line found them, so there is no case without one.
+ghost use Rattle.std.specs.Prelude.{◌≡◌, ◌<◌, Some, IsSome, length, slice_get};
+ghost use Rattle.vx_model.specs.declared.limits.TheConstants.{MOST_SITES};
+ghost use Rattle.vx_order.specs.declared.facts.SiteFacts.{SiteFacts};
+ghost use Rattle.vx_events.specs.Facts.{seat_of, place_of};
+ghost use Rattle.vx_yard.specs.Yards.{IsKept};
+
+use crate::{Yard, facts};
+use vx_disk::Rack;
+use vx_model::Name;
+use vx_order::SiteFacts;
+
+/// The number of the site of this name.
+pub fn seat(sites: &[SiteFacts], name: &Name) -> Option<usize>
+    ensures { result ≡ seat_of sites.now name.now }
+{
+    sites
+        .iter()
+        .position(|site| site.name.as_bytes() == name.as_bytes())
+}
+
+impl<R: Rack> Yard<R> {
+    /// The number of the site that a line names.
+    pub fn site_of(&self, name: &Name) -> usize
+        requires kept { IsKept self.now }
+        requires named { IsSome (seat_of self.now.facts.items name.now) }
+        ensures seat { seat_of self.now.facts.items name.now ≡ Some result }
+        ensures fact { result < length self.now.facts.items }
+        ensures disk_set { result < length self.now.disk_sets.items }
+        ensures small { result < MOST_SITES }
+    {
+        match seat(&self.facts, name) {
+            Some(site) => site,
+            None => unreachable!(),
+        }
+    }
+
+    /// The number of the data volume that a line names at this site.
+    pub fn volume_of(&self, site: usize, name: &Name) -> usize
+        requires kept { IsKept self.now }
+        requires site { site < length self.now.facts.items }
+        requires named { (f : SiteFacts) → slice_get self.now.facts.items site ≡ Some f → IsSome (place_of f.volumes name.now) }
+        ensures place { (f : SiteFacts) → slice_get self.now.facts.items site ≡ Some f → place_of f.volumes name.now ≡ Some result }
+        ensures small { result < MOST_SITES }
+    {
+        match facts::place(&self.facts[site], name) {
+            Some(place) => place,
+            None => unreachable!(),
+        }
+    }
+}

@@ -1,0 +1,55 @@
+// The racks of the disk sets, as they come back.
+ghost use Rattle.std.specs.Prelude.{◌≡◌, ◌≤◌, ◌<◌, ◌++◌, [], map, vec_len};
+ghost use Rattle.std.specs.Vec.{vec_capacity};
+ghost use Rattle.vx_yard.specs.Racks.{rack_in, racks_in};
+
+use crate::DiskSet;
+use vx_disk::Rack;
+
+// Adds the rack of an disk set.
+fn give_back<R: Rack>(racks: &mut Vec<R>, disk_set: DiskSet<R>)
+    ensures items { vec_len racks.old < vec_capacity racks.old → racks.new.items ≡ racks.old.items ++ rack_in disk_set }
+    ensures room { vec_capacity racks.old ≤ vec_capacity racks.new }
+{
+    match disk_set {
+        DiskSet::Bare(rack) | DiskSet::Spoiled(rack) | DiskSet::Down(rack) => {
+            let _ = racks.push(rack);
+        }
+        DiskSet::Up(rvg) => {
+            let _ = racks.push(rvg.into_shelf());
+        }
+        DiskSet::Receives(site) => {
+            let _ = racks.push(site.into_rvg().into_shelf());
+        }
+        DiskSet::Gone => {}
+    }
+}
+
+/// Fills an empty list, which has room for them, with the racks of these disk sets, in order.
+pub fn take_racks<R: Rack>(racks: Vec<R>, disk_sets: Vec<DiskSet<R>>) -> Vec<R>
+    ensures { racks.items ≡ [] → vec_len disk_sets ≤ vec_capacity racks → result.items ≡ racks_in disk_sets.items }
+{
+    let mut racks = racks;
+    let mut disk_sets = disk_sets;
+    disk_sets.reverse();
+    while let Some(disk_set) = disk_sets.pop() {
+        give_back(&mut racks, disk_set);
+    }
+    racks
+}
+
+/// Fills an empty list, which has room for them, with an disk set for each of these racks, in order. The emptied list of the
+/// racks keeps its room.
+pub fn put_racks<R: Rack>(racks: Vec<R>, disk_sets: Vec<DiskSet<R>>) -> (Vec<R>, Vec<DiskSet<R>>)
+    ensures disk_sets { disk_sets.items ≡ [] → vec_len racks ≤ vec_capacity disk_sets → result.1.items ≡ map (λ r. DiskSet.Bare r) racks.items }
+    ensures none { result.0.items ≡ [] }
+    ensures room { vec_capacity racks ≤ vec_capacity result.0 }
+{
+    let mut racks = racks;
+    let mut disk_sets = disk_sets;
+    racks.reverse();
+    while let Some(rack) = racks.pop() {
+        let _ = disk_sets.push(DiskSet::Bare(rack));
+    }
+    (racks, disk_sets)
+}
