@@ -2,9 +2,10 @@
 """Lists every public call with the names of its clauses, in docs/CONTRACTS.md.
 
 contracts.py --write   writes the list, and then tests the pages as below
-contracts.py           fails where the list is not that of the sources, where a clause that a page names is not in it, where the pages
-                       on crates do not have and draw each crate of crates.txt with what it stands on, or where a name in backquotes on the
-                       pages on definitions, crates and decisions stands in no source
+contracts.py           fails where the list is not that of the sources, where a clause that a page names is not in it, where a row of the
+                       README's table of promises or a sentence of it on what is proved names no clause, where the pages on crates do not
+                       have and draw each crate of crates.txt with what it stands on, where a file of the tables of changes is in none of
+                       its crates, or where a name in backquotes on the pages on definitions, crates and decisions stands in no source
 """
 import re
 import sys
@@ -14,6 +15,7 @@ ROOT = Path(__file__).resolve().parent.parent
 LIST = ROOT / 'docs' / 'CONTRACTS.md'
 MAP = ROOT / 'docs' / 'ARCHITECTURE.md'
 PROMISES = ROOT / 'docs' / 'CRATES.md'
+AHEAD = ROOT / 'docs' / 'AHEAD.md'
 NAMING = [ROOT / 'docs' / page for page in ('MODEL.md', 'CRATES.md', 'CLAIMS.md', 'DECISIONS.md', 'AHEAD.md')]
 HEAD = '''# Contracts
 
@@ -139,6 +141,16 @@ def listed():
     return ''.join(parts)
 
 
+def moved():
+    """The files that the tables of changes name and that stand in no crate of their row."""
+    changes = MAP.read_text().split('\n## Five changes, file by file\n')[1]
+    for first, second in re.findall(r'^\| (.*?) \| (.*?) \|', changes, re.M):
+        homes = [home for home in (ROOT / 'crates' / crate for crate in re.findall(r'\bvx\w*', f'{first} {second}')) if home.exists()]
+        for name in re.findall(r'`([\w/]+\.(?:antt|rt))`', second):
+            if not any((home / name).exists() or '/' not in name and any(home.glob(f'[ps]*/**/{name}')) for home in homes):
+                yield f'docs/ARCHITECTURE.md has the file {name} of {first}, which stands there in no crate'
+
+
 def names_of(pattern, text):
     return set(re.findall(r"[A-Za-z_]\w{3,}", ' '.join(re.findall(pattern, text))))
 
@@ -158,6 +170,30 @@ def cited():
         yield from ((page.name, *one) for one in re.findall(r'`(vx_\w+) ([\w:]+) (\w+)`', page.read_text()))
 
 
+CLAUSE = r'`vx_\w+ [\w:]+ \w+`'
+
+
+def unrowed():
+    """The rows of the tables of promises, and the README's sentences on what is proved, that name no clause.
+
+    Sentences that say what is not proved need none, nor does one that leads to docs/AHEAD.md, whose promises are rows as well.
+    """
+    told = (ROOT / 'README.md').read_text().split('\n## What is proved\n')
+    table = re.findall(r'^\| (.*) \| (.*) \| (.*) \|$', told[1].split('\n## ')[0], re.M)[1:]
+    for promise, clauses, holds in table:
+        if not re.fullmatch(rf'{CLAUSE}(, {CLAUSE})*', clauses) or not holds:
+            yield f'README.md has a promise whose second place is no clause: {promise[:60]}'
+    for rows in re.findall(r'^\| promise \| clause \|\n\|.*\n((?:\|.*\n)+)', AHEAD.read_text(), re.M):
+        for promise, clauses in re.findall(r'^\| (.*) \| (.*) \|$', rows, re.M):
+            if not re.fullmatch(rf'{CLAUSE}(, {CLAUSE})*', clauses):
+                yield f'docs/AHEAD.md has a promise whose second place is no clause: {promise[:60]}'
+    prose = re.sub(r'^\|.*\|$|^ {4}.*$|^#.*$', '', '\n'.join(told), flags=re.M)
+    for sentence in re.split(r'(?<=\.)\s+', prose):
+        if re.search(r'\b(is|are) (?:\w+ )?(proved|promised|pinned)\b', sentence) and not re.search(r'\b(not|nothing)\b', sentence):
+            if not re.search(CLAUSE, sentence) and 'AHEAD.md' not in sentence:
+                yield f'README.md says without a clause: {sentence[:60]}'
+
+
 def main():
     text = listed()
     if '--write' in sys.argv[1:]:
@@ -167,7 +203,7 @@ def main():
         wrong.append('docs/CONTRACTS.md is not the list of the sources: run docs/contracts.py --write')
     known = {(crate, name, clause) for crate in crates() for name, clauses in calls(crate) for _, clause in clauses}
     wrong += [f'{page} names {" ".join(one)}, which is no clause' for page, *one in cited() if tuple(one) not in known]
-    wrong += [*unmapped(), *unknown()]
+    wrong += [*unrowed(), *unmapped(), *moved(), *unknown()]
     print('\n'.join(wrong) or 'contracts: the list, the clauses and names on the pages and the pages on crates are those of the sources')
     return 1 if wrong else 0
 

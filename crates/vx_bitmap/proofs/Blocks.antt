@@ -16,7 +16,7 @@ use Rattle.vx_disk.specs.Shelf.{Covers, Each, Goes, Image, Keeps, KeepsAll, Mean
 use Rattle.vx_disk.proofs.Moving.{kept_beside, of_goes}
 use Rattle.vx_disk.proofs.Runs.{weaker}
 use Rattle.vx_bitmap.specs.Bits.{AllAre, bit, Between, Changed, is_among, is_marked}
-use Rattle.vx_bitmap.specs.Maps.{ChangedAt, Changing, Map, MapOn, blocks_of, is_marked_in, regions_of}
+use Rattle.vx_bitmap.specs.Maps.{ChangedAt, Changing, Map, MapOn, map_block_count, is_marked_in, regions_mapped}
 
 -- a region is marked where its block has it marked
 pub by_block : (bytes : List ℕ) (r : ℕ) → is_marked bytes r ≡ is_marked (block_of bytes (r / 4096)) (r % 4096)
@@ -128,15 +128,15 @@ module _ (map : Map) (block start end : ℕ) (value : Bool) (fresh : List ℕ) (
     };
   }
 
-  pub block_moves : (m m' : Meaning) → length map.bytes % 512 ≡ 0 → length fresh ≡ 512 → block < blocks_of map → Goes (Written map.unit (map.first + block) fresh) m m'
-      → Moves (Run map.unit map.first (blocks_of map)) (Changing map start end value m) m m'
+  pub block_moves : (m m' : Meaning) → length map.bytes % 512 ≡ 0 → length fresh ≡ 512 → block < map_block_count map → Goes (Written map.unit (map.first + block) fresh) m m'
+      → Moves (Run map.unit map.first (map_block_count map)) (Changing map start end value m) m m'
   block_moves m m' whole long inside goes =
-      of_goes (Run map.unit map.first (blocks_of map)) (Changing map start end value m) (Written map.unit (map.first + block) fresh) m m' goes
+      of_goes (Run map.unit map.first (map_block_count map)) (Changing map start end value m) (Written map.unit (map.first + block) fresh) m m' goes
       (λ u b v is. record { there = is.covers.there; first = omega (arith, is.covers.first); last = omega (arith, is.covers.first, is.covers.last, long, inside) })
       (λ i each. image_changing m i whole long each)
 
   -- and what it leaves of each block
-  pub block_writes : (m m' : Meaning) → length fresh ≡ 512 → block < blocks_of map → Goes (Written map.unit (map.first + block) fresh) m m' → Goes (ChangedAt map start end value m) m m'
+  pub block_writes : (m m' : Meaning) → length fresh ≡ 512 → block < map_block_count map → Goes (Written map.unit (map.first + block) fresh) m m' → Goes (ChangedAt map start end value m) m m'
   block_writes m m' long inside goes =
       weaker (Written map.unit (map.first + block) fresh) (ChangedAt map start end value m) m m' goes
       (λ u b x is.

@@ -3,13 +3,13 @@ use Rattle.std.proofs.Common.{◌≡◌, ◌∙◌, ℕ, ◌+◌, ◌-◌, ◌*�
 use Rattle.vx_model.specs.Content.{block_of}
 use Rattle.vx_disk.specs.Moves.{Run, Settled}
 use Rattle.vx_disk.specs.Shelf.{Covers, Goes, Keeps, Lawful, Meaning, Nothing, Read, piece}
-use Rattle.vx_bitmap.specs.Maps.{Map, MapOn, blocks_of}
+use Rattle.vx_bitmap.specs.Maps.{Map, MapOn, map_block_count}
 
-module _ (old new : Meaning) (map : Map) (lawful : Lawful old) (read : Read old map.unit map.first map.bytes) (goes : Goes Nothing old new) (settled : Settled old (Run map.unit map.first (blocks_of map))) where
+module _ (old new : Meaning) (map : Map) (lawful : Lawful old) (read : Read old map.unit map.first map.bytes) (goes : Goes Nothing old new) (settled : Settled old (Run map.unit map.first (map_block_count map))) where
   piece_is : (k : ℕ) → piece map.first map.bytes (map.first + k) ≡ block_of map.bytes k
   piece_is k = ap (λ (n : ℕ). take 512 (drop n map.bytes)) (let e : 512 * (map.first + k - map.first) ≡ 512 * k = omega arith in e)
 
-  only_by : (t : Bool) → old.tells ≡ t → (k : ℕ) → k < blocks_of map → (v : List ℕ) → old.leaves map.unit (map.first + k) v → v ≡ block_of map.bytes k
+  only_by : (t : Bool) → old.tells ≡ t → (k : ℕ) → k < map_block_count map → (v : List ℕ) → old.leaves map.unit (map.first + k) v → v ≡ block_of map.bytes k
   only_by true tells k low v left =
       settled.each map.unit (map.first + k) v (piece map.first map.bytes (map.first + k)) (record { there = refl; first = omega arith; last = omega (arith, low) }) left
       (lawful.shown map.unit (map.first + k) (piece map.first map.bytes (map.first + k)) (read.each tells (map.first + k) (record { there = refl; first = omega arith; last = omega (arith, low) })))

@@ -12,7 +12,7 @@ use Rattle.vx_disk.specs.declared.shelf.ShelfError.TheVariants.{Fault, Down}
 use Rattle.vx_disk.proofs.Moving.{goes_on, still}
 use Rattle.vx_disk.proofs.Runs.{both_Goes, weaker}
 use Rattle.vx_bitmap.specs.Bits.{AllAre, Between, Changed, ChangedBelow, is_among, is_marked}
-use Rattle.vx_bitmap.specs.Maps.{ChangedAt, Changing, Map, MapOn, blocks_of, is_marked_in, marks_with, regions_of}
+use Rattle.vx_bitmap.specs.Maps.{ChangedAt, Changing, Map, MapOn, map_block_count, is_marked_in, marks_with, regions_mapped}
 use Rattle.vx_bitmap.proofs.Marks.{below_end, below_start}
 
 -- ---- tests of the run and of its part in a block

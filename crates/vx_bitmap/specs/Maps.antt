@@ -22,20 +22,20 @@ pub record Map : Type 0 where
   pub bytes : List ℕ
 
 -- how many blocks it has, and how many regions these have bits for
-abbrev pub blocks_of : Map → ℕ
-blocks_of map = length map.bytes / 512
+abbrev pub map_block_count : Map → ℕ
+map_block_count map = length map.bytes / 512
 
-abbrev pub regions_of : Map → ℕ
-regions_of map = 8 * length map.bytes
+abbrev pub regions_mapped : Map → ℕ
+regions_mapped map = 8 * length map.bytes
 
 -- its blocks are there
 pub record Lies (map : Map) (m : Meaning) : Type 0 where
   pub exists : map.unit < m.units
-  pub within : map.first + blocks_of map ≤ m.size map.unit
+  pub within : map.first + map_block_count map ≤ m.size map.unit
 
 -- whatever a crash leaves, its blocks hold it
 pub record MapOn (map : Map) (m : Meaning) : Type 0 where
-  pub each : (k : ℕ) → k < blocks_of map → Keeps m map.unit (map.first + k) (block_of map.bytes k)
+  pub each : (k : ℕ) → k < map_block_count map → Keeps m map.unit (map.first + k) (block_of map.bytes k)
 
 -- whether an image has a region marked
 abbrev pub is_marked_in : Map → Image → ℕ → Bool
@@ -43,7 +43,7 @@ is_marked_in map i r = is_marked (i map.unit (map.first + r / 4096)) (r % 4096)
 
 -- an image in a change of a run of regions: each of them is as it was or changed, and the others are as they were
 pub record Changing (map : Map) (start end : ℕ) (value : Bool) (m : Meaning) (i : Image) : Type 0 where
-  pub each : MapOn map m → Between start end value (regions_of map) (is_marked map.bytes) (is_marked_in map i)
+  pub each : MapOn map m → Between start end value (regions_mapped map) (is_marked map.bytes) (is_marked_in map i)
 
 -- the marks of a map of which this block has another value
 abbrev pub marks_with : Map → ℕ → List ℕ → ℕ → Bool
@@ -51,8 +51,8 @@ marks_with map b x r = if map.first + r / 4096 == b then is_marked x (r % 4096) 
 
 -- a value of a block of a map in such a change: each region of the run in this block is as it was or changed, and the others are as they were
 pub record ChangedAt (map : Map) (start end : ℕ) (value : Bool) (m : Meaning) (u b : ℕ) (x : List ℕ) : Type 0 where
-  pub run : Run map.unit map.first (blocks_of map) u b
-  pub so : MapOn map m → Between start end value (regions_of map) (is_marked map.bytes) (marks_with map b x)
+  pub run : Run map.unit map.first (map_block_count map) u b
+  pub so : MapOn map m → Between start end value (regions_mapped map) (is_marked map.bytes) (marks_with map b x)
 
 -- the map of so many regions, from this block on
 pub record Loaded (unit first regions : ℕ) (map : Map) : Type 0 where
@@ -62,7 +62,7 @@ pub record Loaded (unit first regions : ℕ) (map : Map) : Type 0 where
 
 -- each block of it is one that a read may give
 pub record IsRead (map : Map) (m : Meaning) : Type 0 where
-  pub each : IsTrue m.tells → (k : ℕ) → k < blocks_of map → m.reads map.unit (map.first + k) (block_of map.bytes k)
+  pub each : IsTrue m.tells → (k : ℕ) → k < map_block_count map → m.reads map.unit (map.first + k) (block_of map.bytes k)
 
 -- it stands where it stood, with as many blocks
 pub record SamePlace (old new : Map) : Type 0 where

@@ -2,7 +2,7 @@
 ghost use Rattle.std.specs.Prelude.{◌≡◌, ◌+◌, ◌*◌, ◌/◌, ◌<◌, ◌≤◌, ◌%◌, true, false, ℕ, IfOk, IfErr, IsFalse, OnOk, length};
 ghost use Rattle.std.specs.Int.{div_ceil};
 ghost use Rattle.vx_bitmap.specs.Bits.{AllAre, Between, Changed, is_marked as is_marked_is};
-ghost use Rattle.vx_bitmap.specs.Maps.{ChangedAt, Changing, IsRead, Lies, LoadCause, Loaded, Map, MapOn, UnitCause, blocks_of, SamePlace, regions_of};
+ghost use Rattle.vx_bitmap.specs.Maps.{ChangedAt, Changing, IsRead, Lies, LoadCause, Loaded, Map, MapOn, UnitCause, map_block_count, SamePlace, regions_mapped};
 ghost use Rattle.vx_disk.specs.Causes.{DeviceCause};
 ghost use Rattle.vx_disk.specs.Moves.{Moves, Run, Settled};
 ghost use Rattle.vx_disk.specs.Shelf.{Goes, Nothing};
@@ -53,7 +53,7 @@ impl Bitmap {
         requires up { IsFalse (S.meaning shelf.old).down }
         ensures loaded { IfOk result (λ map. Loaded unit first regions map) }
         ensures read { IfOk result (λ map. IsRead map (S.meaning shelf.old)) }
-        ensures stands { IfOk result (λ map. Settled (S.meaning shelf.old) (Run unit first (blocks_of map)) → MapOn map (S.meaning shelf.new)) }
+        ensures stands { IfOk result (λ map. Settled (S.meaning shelf.old) (Run unit first (map_block_count map)) → MapOn map (S.meaning shelf.new)) }
         ensures goes { Goes Nothing (S.meaning shelf.old) (S.meaning shelf.new) }
         ensures cause { IfErr result (LoadCause (S.meaning shelf.old) (S.meaning shelf.new)) }
     {
@@ -67,7 +67,7 @@ impl Bitmap {
 
     /// Whether a region is marked.
     pub fn test(&self, region: u64) -> bool
-        requires inside { region < regions_of self.now }
+        requires inside { region < regions_mapped self.now }
         ensures { result ≡ is_marked_is self.now.bytes region }
     {
         bit(self.bytes[(region / 8) as usize], (region % 8) as u32)
@@ -80,12 +80,12 @@ impl Bitmap {
     pub fn set_run<S: Shelf>(&mut self, shelf: &mut S, start: u64, end: u64) -> Result<(), No>
         requires lies { Lies self.old (S.meaning shelf.old) }
         requires some { start ≤ end }
-        requires inside { end < regions_of self.old }
-        ensures moves { Moves (Run self.old.unit self.old.first (blocks_of self.old)) (Changing self.old start end true (S.meaning shelf.old)) (S.meaning shelf.old) (S.meaning shelf.new) }
+        requires inside { end < regions_mapped self.old }
+        ensures moves { Moves (Run self.old.unit self.old.first (map_block_count self.old)) (Changing self.old start end true (S.meaning shelf.old)) (S.meaning shelf.old) (S.meaning shelf.new) }
         ensures writes { Goes (ChangedAt self.old start end true (S.meaning shelf.old)) (S.meaning shelf.old) (S.meaning shelf.new) }
         ensures stands { OnOk result (MapOn self.old (S.meaning shelf.old) → MapOn self.new (S.meaning shelf.new)) }
-        ensures changed { OnOk result (Changed start end true (regions_of self.old) (is_marked_is self.old.bytes) (is_marked_is self.new.bytes)) }
-        ensures part { Between start end true (regions_of self.old) (is_marked_is self.old.bytes) (is_marked_is self.new.bytes) }
+        ensures changed { OnOk result (Changed start end true (regions_mapped self.old) (is_marked_is self.old.bytes) (is_marked_is self.new.bytes)) }
+        ensures part { Between start end true (regions_mapped self.old) (is_marked_is self.old.bytes) (is_marked_is self.new.bytes) }
         ensures place { SamePlace self.old self.new }
         ensures cause { IfErr result (DeviceCause (S.meaning shelf.old) (S.meaning shelf.new)) }
         ensures unit { UnitCause self.old.unit (S.meaning shelf.old) (S.meaning shelf.new) result }
@@ -109,12 +109,12 @@ impl Bitmap {
     pub fn clear_run<S: Shelf>(&mut self, shelf: &mut S, start: u64, end: u64) -> Result<(), No>
         requires lies { Lies self.old (S.meaning shelf.old) }
         requires some { start ≤ end }
-        requires inside { end < regions_of self.old }
-        ensures moves { Moves (Run self.old.unit self.old.first (blocks_of self.old)) (Changing self.old start end false (S.meaning shelf.old)) (S.meaning shelf.old) (S.meaning shelf.new) }
+        requires inside { end < regions_mapped self.old }
+        ensures moves { Moves (Run self.old.unit self.old.first (map_block_count self.old)) (Changing self.old start end false (S.meaning shelf.old)) (S.meaning shelf.old) (S.meaning shelf.new) }
         ensures writes { Goes (ChangedAt self.old start end false (S.meaning shelf.old)) (S.meaning shelf.old) (S.meaning shelf.new) }
         ensures stands { OnOk result (MapOn self.old (S.meaning shelf.old) → MapOn self.new (S.meaning shelf.new)) }
-        ensures changed { OnOk result (Changed start end false (regions_of self.old) (is_marked_is self.old.bytes) (is_marked_is self.new.bytes)) }
-        ensures part { Between start end false (regions_of self.old) (is_marked_is self.old.bytes) (is_marked_is self.new.bytes) }
+        ensures changed { OnOk result (Changed start end false (regions_mapped self.old) (is_marked_is self.old.bytes) (is_marked_is self.new.bytes)) }
+        ensures part { Between start end false (regions_mapped self.old) (is_marked_is self.old.bytes) (is_marked_is self.new.bytes) }
         ensures place { SamePlace self.old self.new }
         ensures cause { IfErr result (DeviceCause (S.meaning shelf.old) (S.meaning shelf.new)) }
         ensures unit { UnitCause self.old.unit (S.meaning shelf.old) (S.meaning shelf.new) result }
@@ -137,12 +137,12 @@ impl Bitmap {
     /// Marks one region, durably. It makes no device call where the region is marked.
     pub fn set<S: Shelf>(&mut self, shelf: &mut S, region: u64) -> Result<(), No>
         requires lies { Lies self.old (S.meaning shelf.old) }
-        requires inside { region < regions_of self.old }
-        ensures moves { Moves (Run self.old.unit self.old.first (blocks_of self.old)) (Changing self.old region region true (S.meaning shelf.old)) (S.meaning shelf.old) (S.meaning shelf.new) }
+        requires inside { region < regions_mapped self.old }
+        ensures moves { Moves (Run self.old.unit self.old.first (map_block_count self.old)) (Changing self.old region region true (S.meaning shelf.old)) (S.meaning shelf.old) (S.meaning shelf.new) }
         ensures writes { Goes (ChangedAt self.old region region true (S.meaning shelf.old)) (S.meaning shelf.old) (S.meaning shelf.new) }
         ensures stands { OnOk result (MapOn self.old (S.meaning shelf.old) → MapOn self.new (S.meaning shelf.new)) }
-        ensures changed { OnOk result (Changed region region true (regions_of self.old) (is_marked_is self.old.bytes) (is_marked_is self.new.bytes)) }
-        ensures part { Between region region true (regions_of self.old) (is_marked_is self.old.bytes) (is_marked_is self.new.bytes) }
+        ensures changed { OnOk result (Changed region region true (regions_mapped self.old) (is_marked_is self.old.bytes) (is_marked_is self.new.bytes)) }
+        ensures part { Between region region true (regions_mapped self.old) (is_marked_is self.old.bytes) (is_marked_is self.new.bytes) }
         ensures place { SamePlace self.old self.new }
         ensures cause { IfErr result (DeviceCause (S.meaning shelf.old) (S.meaning shelf.new)) }
         ensures unit { UnitCause self.old.unit (S.meaning shelf.old) (S.meaning shelf.new) result }
@@ -154,12 +154,12 @@ impl Bitmap {
     /// Takes the mark of one region off, durably. It makes no device call where the region is not marked.
     pub fn clear<S: Shelf>(&mut self, shelf: &mut S, region: u64) -> Result<(), No>
         requires lies { Lies self.old (S.meaning shelf.old) }
-        requires inside { region < regions_of self.old }
-        ensures moves { Moves (Run self.old.unit self.old.first (blocks_of self.old)) (Changing self.old region region false (S.meaning shelf.old)) (S.meaning shelf.old) (S.meaning shelf.new) }
+        requires inside { region < regions_mapped self.old }
+        ensures moves { Moves (Run self.old.unit self.old.first (map_block_count self.old)) (Changing self.old region region false (S.meaning shelf.old)) (S.meaning shelf.old) (S.meaning shelf.new) }
         ensures writes { Goes (ChangedAt self.old region region false (S.meaning shelf.old)) (S.meaning shelf.old) (S.meaning shelf.new) }
         ensures stands { OnOk result (MapOn self.old (S.meaning shelf.old) → MapOn self.new (S.meaning shelf.new)) }
-        ensures changed { OnOk result (Changed region region false (regions_of self.old) (is_marked_is self.old.bytes) (is_marked_is self.new.bytes)) }
-        ensures part { Between region region false (regions_of self.old) (is_marked_is self.old.bytes) (is_marked_is self.new.bytes) }
+        ensures changed { OnOk result (Changed region region false (regions_mapped self.old) (is_marked_is self.old.bytes) (is_marked_is self.new.bytes)) }
+        ensures part { Between region region false (regions_mapped self.old) (is_marked_is self.old.bytes) (is_marked_is self.new.bytes) }
         ensures place { SamePlace self.old self.new }
         ensures cause { IfErr result (DeviceCause (S.meaning shelf.old) (S.meaning shelf.new)) }
         ensures unit { UnitCause self.old.unit (S.meaning shelf.old) (S.meaning shelf.new) result }

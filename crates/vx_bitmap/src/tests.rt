@@ -1,6 +1,6 @@
 // What no clause says: which bit of which block a region is, and that changes succeed on a shelf in memory.
 ghost use Rattle.std.specs.Prelude.{◌<◌, IfOk};
-ghost use Rattle.vx_bitmap.specs.Maps.{Loaded, regions_of};
+ghost use Rattle.vx_bitmap.specs.Maps.{Loaded, regions_mapped};
 
 use super::*;
 use std::alloc::Global;
@@ -54,7 +54,7 @@ fn byte_of(shelf: &mut MemShelf, block: u64, place: usize) -> u8 {
     }
 }
 
-// Region r is bit r mod 8, from the lowest, of byte (r / 8) mod 512 of block r / 4096; it is there behind a crash.
+// Region r is bit r mod 8, from the lowest, of byte (r / 8) mod 512 of block r / 4096.
 #[test]
 fn a_region_is_its_bit(rt: HostRuntime) -> Result<(), Fail> {
     let alloc = rt.alloc();
@@ -80,6 +80,23 @@ fn a_region_is_its_bit(rt: HostRuntime) -> Result<(), Fail> {
             assert_eq!(rt; 0, 1);
         }
     }
+    Ok(())
+}
+
+// What was marked is marked behind a crash, and what was taken off is off.
+#[test]
+fn marks_are_there_behind_a_crash(rt: HostRuntime) -> Result<(), Fail> {
+    let alloc = rt.alloc();
+    let mut shelf = fitted(alloc)?;
+    match loaded(alloc, &mut shelf) {
+        Ok(mut map) => {
+            assert_eq!(rt; mark(&mut map, &mut shelf, 4090, 4105, true), Ok(()));
+            assert_eq!(rt; mark(&mut map, &mut shelf, 4095, 4103, false), Ok(()));
+        }
+        Err(_) => {
+            assert_eq!(rt; 0, 1);
+        }
+    }
     shelf.crash(0);
     if shelf.is_down() {
         shelf.revive();
@@ -87,8 +104,8 @@ fn a_region_is_its_bit(rt: HostRuntime) -> Result<(), Fail> {
     match loaded(alloc, &mut shelf) {
         Ok(map) => {
             assert_eq!(rt;
-                (map.test(70), map.test(4094), map.test(4095), map.test(4104)),
-                (true, true, false, true)
+                (map.test(4094), map.test(4095), map.test(4104)),
+                (true, false, true)
             );
         }
         Err(_) => {

@@ -12,10 +12,10 @@ use Rattle.vx_turn.specs.declared.ask.Job.TheVariants.{Apply, Fetch, Acked, Wait
 use Rattle.vx_turn.specs.declared.meaning.Entry.{Entry}
 use Rattle.vx_turn.specs.declared.meaning.State.{State}
 use Rattle.vx_turn.specs.declared.passes.Pass.{Pass}
-use Rattle.vx_turn.specs.Acting.{Among}
-use Rattle.vx_turn.specs.History.{Begins, Legal, Fits, HasLogged, places, places_from, Named}
+use Rattle.vx_turn.specs.Acting.{LiesAmong}
+use Rattle.vx_turn.specs.History.{BeginsWith, Legal, FitsHistory, HasLogged, places, places_from, Named}
 use Rattle.vx_turn.specs.Turning.{Has}
-use Rattle.vx_turn.specs.Passing.{view_of, seen_of, start_of, mine_of, met_of, callers_of, IsNew}
+use Rattle.vx_turn.specs.Passing.{pass_view, seen_of, start_of, mine_of, met_of, callers_of, IsNewPass}
 use Rattle.vx_turn.proofs.Histories.{logged-more}
 use Rattle.vx_turn.proofs.Dealing.{get-snoc}
 use Rattle.vx_settle.specs.declared.peer.Stand.{Stand}
@@ -28,19 +28,19 @@ use Rattle.vx_burst_threads.specs.declared.writer.Made.{Made}
 use Rattle.vx_burst_threads.specs.declared.worker.Worker.{Worker}
 use Rattle.vx_burst_threads.specs.declared.worker.Worker.TheVariants.{Writes, Drains}
 use Rattle.vx_burst_threads.specs.Planning.{call_for}
-use Rattle.vx_burst_threads.specs.Writing.{Stands, IsLeft, Wrote}
+use Rattle.vx_burst_threads.specs.Writing.{StandsInLog, IsStalledAt, WriterWrote}
 use Rattle.vx_burst_threads.specs.Draining.{JobFits, JobsFit, DrainedWith}
 use Rattle.vx_burst_threads.specs.Working.{AllSet, HasWorked, EachWorked}
 use Rattle.vx_burst_threads.specs.Joining.{pass_of, backs, IsMadeBy, Meeting}
 use Rattle.vx_burst_threads.specs.Laying.{LaidWith}
 use Rattle.vx_burst_threads.proofs.Making.{stands-more}
 use Rattle.vx_burst.specs.Setting.{IsSetUp, AreSetUp}
-use Rattle.vx_burst.specs.Finishing.{Went, AckWithin, Underway, IsLeftOut, IsOfPlan}
+use Rattle.vx_burst.specs.Finishing.{Went, AckWithin, BurstUnderway, IsLeftOut, IsOfPlan}
 use Rattle.vx_burst.specs.Ending.{HasJoined}
 use Rattle.vx_burst.proofs.Underways.{get-some}
 
 -- an entry that stands at a place is found there
-pub stands-get : (log : List Entry) (place by : ℕ) (ask : Ask) (said : Said) → Stands log place by ask said → (n : ℕ) → suc n ≡ place → (e : Entry) → slice_get log n ≡ Some e → (e.caller ≡ by) × (e.ask ≡ ask) × (e.said ≡ said)
+pub stands-get : (log : List Entry) (place by : ℕ) (ask : Ask) (said : Said) → StandsInLog log place by ask said → (n : ℕ) → suc n ≡ place → (e : Entry) → slice_get log n ≡ Some e → (e.caller ≡ by) × (e.ask ≡ ask) × (e.said ≡ said)
 stands-get log place by ask said s n is e at = found s.front n (let a = s.at in omega (arith, a, is)) (subst (λ l. slice_get l n ≡ Some e) s.is at)
   where
     found : (front : List Entry) (n : ℕ) → length front ≡ n → slice_get ((front ++ record { caller = by; ask = ask; said = said; before = s.before; after = s.after } ∷ []) ++ s.rest) n ≡ Some e → (e.caller ≡ by) × (e.ask ≡ ask) × (e.said ≡ said)
@@ -51,18 +51,18 @@ stands-get log place by ask said s n is e at = found s.front n (let a = s.at in 
     found (x ∷ xs) (suc n) long at = found xs n (omega (arith, long)) at
 
 -- the place of an entry is one of its caller's
-pub place-in : (k : ℕ) (log : List Entry) (n : ℕ) (e : Entry) → slice_get log n ≡ Some e → Among (suc (k + n)) (places_from k e.caller log)
+pub place-in : (k : ℕ) (log : List Entry) (n : ℕ) (e : Entry) → slice_get log n ≡ Some e → LiesAmong (suc (k + n)) (places_from k e.caller log)
 place-in k [] n e at = absurd (cc at)
 place-in k (x ∷ xs) zero e at = let same : x.caller ≡ e.caller = ap (λ (y : Entry). y.caller) (some-one at) in let z : suc k ≡ suc (k + 0) = omega arith in
-    subst (Among (suc (k + 0))) (sym (ap (λ b. cond b (suc k ∷ places_from (suc k) e.caller xs) (places_from (suc k) e.caller xs)) (eq-eqb x.caller e.caller same))) (0, ap Some z)
-place-in k (x ∷ xs) (suc n) e at = let z : suc (suc k + n) ≡ suc (k + suc n) = omega arith in branch (x.caller == e.caller) (subst (λ m. Among m (places_from (suc k) e.caller xs)) z (place-in (suc k) xs n e at))
+    subst (LiesAmong (suc (k + 0))) (sym (ap (λ b. cond b (suc k ∷ places_from (suc k) e.caller xs) (places_from (suc k) e.caller xs)) (eq-eqb x.caller e.caller same))) (0, ap Some z)
+place-in k (x ∷ xs) (suc n) e at = let z : suc (suc k + n) ≡ suc (k + suc n) = omega arith in branch (x.caller == e.caller) (subst (λ m. LiesAmong m (places_from (suc k) e.caller xs)) z (place-in (suc k) xs n e at))
   where
-    branch : (b : Bool) → Among (suc (k + suc n)) (places_from (suc k) e.caller xs) → Among (suc (k + suc n)) (cond b (suc k ∷ places_from (suc k) e.caller xs) (places_from (suc k) e.caller xs))
+    branch : (b : Bool) → LiesAmong (suc (k + suc n)) (places_from (suc k) e.caller xs) → LiesAmong (suc (k + suc n)) (cond b (suc k ∷ places_from (suc k) e.caller xs) (places_from (suc k) e.caller xs))
     branch true m = (suc m.0, m.1)
     branch false m = m
 
-pub place-here : (log : List Entry) (n : ℕ) (e : Entry) → slice_get log n ≡ Some e → Among (suc n) (places e.caller log)
-place-here log n e at = let z : suc (0 + n) ≡ suc n = omega arith in subst (λ m. Among m (places e.caller log)) z (place-in 0 log n e at)
+pub place-here : (log : List Entry) (n : ℕ) (e : Entry) → slice_get log n ≡ Some e → LiesAmong (suc n) (places e.caller log)
+place-here log n e at = let z : suc (0 + n) ≡ suc n = omega arith in subst (λ m. LiesAmong m (places e.caller log)) z (place-in 0 log n e at)
 
 pub named-among : (callers : ℕ) (log : List Entry) (n : ℕ) (e : Entry) → Named callers log → slice_get log n ≡ Some e → e.caller < callers
 named-among callers [] n e named at = absurd (cc at)
@@ -139,12 +139,12 @@ module _ {P : Type 0} (stand : P → Stand) (root : P → P) where
     pub xs : List (Worker P)
     pub pairs : Paired plan ws xs
     pub set : AreSetUp stand z start callers plan ws
-    pub own : IsNew z start callers (length ws) p
+    pub own : IsNewPass z start callers (length ws) p
     pub all : callers ≡ suc (length ws)
     pub back : backs ws ≡ firsts
     pub met : Meeting p [] xs q out
     pub named : Named callers log
-    pub has : (by : ℕ) (ps : List ℕ) → Has (view_of q) by ps → places by log ≡ ps
+    pub has : (by : ℕ) (ps : List ℕ) → Has (pass_view q) by ps → places by log ≡ ps
     pub seen : log ≡ seen_of q
 
   module _ (z : TableId) (start : State) (callers : ℕ) (plan : List Planned) (firsts : List P) (p q : Pass) (out : List P) (log : List Entry) (j : Joined z start callers plan firsts p q out log) where
@@ -155,9 +155,9 @@ module _ {P : Type 0} (stand : P → Stand) (root : P → P) where
 
     -- its entries in the whole history are those that it has seen
     pub places-of : (i : ℕ) (x : Worker P) → slice_get j.xs i ≡ Some x → (pass_of x).number ≡ i → places i log ≡ mine_of (pass_of x)
-    places-of i x at number = j.has i (mine_of (pass_of x)) (inr (subst (λ n. Among (n, mine_of (pass_of x)) (met_of q)) number (j.met.each x (i, at)).1))
+    places-of i x at number = j.has i (mine_of (pass_of x)) (inr (subst (λ n. LiesAmong (n, mine_of (pass_of x)) (met_of q)) number (j.met.each x (i, at)).1))
 
-    pub begins-of : (i : ℕ) (x : Worker P) → slice_get j.xs i ≡ Some x → Begins (seen_of (pass_of x)) log
+    pub begins-of : (i : ℕ) (x : Worker P) → slice_get j.xs i ≡ Some x → BeginsWith (seen_of (pass_of x)) log
     begins-of i x at = let b = (j.met.each x (i, at)).0 in (b.0, j.seen ∙ b.1)
 
     -- an entry of the history is a call that was made, or a job or a stalled call, and what is acknowledged is within the peers
@@ -183,7 +183,7 @@ module _ {P : Type 0} (stand : P → Stand) (root : P → P) where
     Class n e = IsMadeAt n e ⊎ (IsIdle e.ask e.said × AckWithin stand root out e.ask × IsOfPlan plan e.ask)
 
     -- nothing was made of a member at which its thread stopped
-    left-open : (i k : ℕ) (x : Writer) (pl : Planned) → slice_get j.xs i ≡ Some (Writes x) → slice_get plan k ≡ Some pl → pl.thread ≡ i + 1 → ((m : Made) → Among m x.made.items → m.at < k)
+    left-open : (i k : ℕ) (x : Writer) (pl : Planned) → slice_get j.xs i ≡ Some (Writes x) → slice_get plan k ≡ Some pl → pl.thread ≡ i + 1 → ((m : Made) → LiesAmong m x.made.items → m.at < k)
         → (m : Made) → IsMadeBy j.xs m → m.at ≡ k → ⊥
     left-open i k x pl new is own below m (y, (u, here), got) at =
         let inside = get-inside j.xs u (Writes y) here in let n = j.pairs.0 in let w = get-some j.ws u (omega (arith, n, inside)) in by-writer w.0 w.1 (j.pairs.1 u w.0 (Writes y) w.1 here)
@@ -200,15 +200,15 @@ module _ {P : Type 0} (stand : P → Stand) (root : P → P) where
             let same : g.planned ≡ pl = some-one (sym g.is ∙ (ap (slice_get plan) at ∙ is)) in
             let t : w.thread ≡ i + 1 = sym g.own ∙ (ap (λ (z : Planned). z.thread) same ∙ own) in let a = s.1 in let eq : u ≡ i = omega (arith, t, a) in
             let v : y ≡ x = same-writer y x (some-one (sym here ∙ (ap (slice_get j.xs) eq ∙ new))) in
-            let lt = below m (subst (λ (c : Writer). Among m c.made.items) v got) in omega (arith, lt, at)
+            let lt = below m (subst (λ (c : Writer). LiesAmong m c.made.items) v got) in omega (arith, lt, at)
 
-    writer-class : (n i : ℕ) (e : Entry) (w x : Writer) → slice_get log n ≡ Some e → e.caller ≡ i → slice_get j.ws i ≡ Some (Writes w) → slice_get j.xs i ≡ Some (Writes x) → Wrote plan w x → x.pass.number ≡ i → Class n e
+    writer-class : (n i : ℕ) (e : Entry) (w x : Writer) → slice_get log n ≡ Some e → e.caller ≡ i → slice_get j.ws i ≡ Some (Writes w) → slice_get j.xs i ≡ Some (Writes x) → WriterWrote plan w x → x.pass.number ≡ i → Class n e
     writer-class n i e w x at by old new h number = let fresh = (j.set i (Writes w) old).0.none_made in let m = h.made fresh in
-        let mine : Among (suc n) (mine_of x.pass) = subst (Among (suc n)) (ap (λ c. places c log) by ∙ places-of i (Writes x) new number) (place-here log n e at) in
-        ⊎_elim (λ (o : (d : Made) × Among d x.made.items × (d.place ≡ suc n)). let k = m.1.each o.0 o.1 in
+        let mine : LiesAmong (suc n) (mine_of x.pass) = subst (LiesAmong (suc n)) (ap (λ c. places c log) by ∙ places-of i (Writes x) new number) (place-here log n e at) in
+        ⊎_elim (λ (o : (d : Made) × LiesAmong d x.made.items × (d.place ≡ suc n)). let k = m.1.each o.0 o.1 in
         let g = stands-get log o.0.place x.pass.number (Ordered (call_for k.planned)) (Replied k.reply) (stands-more (seen_of x.pass) log o.0.place x.pass.number (Ordered (call_for k.planned)) (Replied k.reply) k.stands (begins-of i (Writes x) new)) n (sym o.2) e at in
         inl (record { made = o.0; by = (x, (i, new), o.1); place = o.2; planned = k.planned; reply = k.reply; is = k.is; asks = g.1; says = g.2 }))
-        (λ (o : IsLeft plan w.thread m.0 x.pass (suc n)).
+        (λ (o : IsStalledAt plan w.thread m.0 x.pass (suc n)).
         let g = stands-get log (suc n) x.pass.number (Ordered (call_for o.planned)) (Replied o.reply) (stands-more (seen_of x.pass) log (suc n) x.pass.number (Ordered (call_for o.planned)) (Replied o.reply) o.stands (begins-of i (Writes x) new)) n refl e at in
         inr (subst (λ (y : Ask × Said). IsIdle y.0 y.1 × AckWithin stand root out y.0 × IsOfPlan plan y.0) (λ k. (sym g.1 k, sym g.2 k)) ((o.stalled, (m.0, o.planned, o.is, refl, left-open i m.0 x o.planned new o.is (o.own ∙ (j.set i (Writes w) old).1) (λ d got. (m.1.each d got).done))), tt, (m.0, o.planned, o.is, refl)))) (m.1.only (suc n) mine)
 
@@ -236,10 +236,10 @@ module _ {P : Type 0} (stand : P → Stand) (root : P → P) where
         let none : JobsFit (seen_of c.pass) c.pass.number (stand c.peer) = λ x m is. absurd (cc (subst (λ (l : List Entry). slice_get l m.0 ≡ Some x) fresh.unseen m.1)) in
         let fit : JobsFit (seen_of d.pass) d.pass.number (stand d.peer) = h.0.jobs none in
         let all : places i log ≡ mine_of d.pass = places-of i (Drains d) new number in
-        let mine : Among (suc n) (mine_of d.pass) = subst (Among (suc n)) (ap (λ c. places c log) by ∙ all) (place-here log n e at) in
-        let first : (place : ℕ) → Among place (mine_of c.pass) → place ≤ length (seen_of c.pass) = λ place m. absurd (cc (subst (λ (l : List ℕ). slice_get l m.0 ≡ Some place) fresh.none_made m.1)) in
+        let mine : LiesAmong (suc n) (mine_of d.pass) = subst (LiesAmong (suc n)) (ap (λ c. places c log) by ∙ all) (place-here log n e at) in
+        let first : (place : ℕ) → LiesAmong place (mine_of c.pass) → place ≤ length (seen_of c.pass) = λ place m. absurd (cc (subst (λ (l : List ℕ). slice_get l m.0 ≡ Some place) fresh.none_made m.1)) in
         let low : suc n ≤ length (seen_of d.pass) = h.0.within first (suc n) mine in
-        let here : Among e (seen_of d.pass) = (n, front-get (seen_of d.pass) b.0 n e low (subst (λ l. slice_get l n ≡ Some e) b.1 at)) in
+        let here : LiesAmong e (seen_of d.pass) = (n, front-get (seen_of d.pass) b.0 n e low (subst (λ l. slice_get l n ≡ Some e) b.1 at)) in
         inr (let k = drainer-back i d new in job-class k.0 d k.1 e.ask e.said (fit e here (by ∙ sym number)))
       where
         front-get : (xs ys : List Entry) (n : ℕ) (e : Entry) → suc n ≤ length xs → slice_get (xs ++ ys) n ≡ Some e → slice_get xs n ≡ Some e
@@ -251,11 +251,11 @@ module _ {P : Type 0} (stand : P → Stand) (root : P → P) where
     own-none : (n : ℕ) (e : Entry) → slice_get log n ≡ Some e → e.caller ≡ length j.ws → ⊥
     own-none n e at by = let rest = q.at_rest in
         let number : q.number ≡ length j.ws = j.met.same.1 ∙ j.own.number_is in
-        let low : (view_of q).low ≡ q.number = rest.2 in let one = rest.3 in
-        let h : Has (view_of q) (length j.ws) (mine_of q) = inl (omega (arith, low, number), omega (arith, low, one, number), refl) in
+        let low : (pass_view q).low ≡ q.number = rest.2 in let one = rest.3 in
+        let h : Has (pass_view q) (length j.ws) (mine_of q) = inl (omega (arith, low, number), omega (arith, low, one, number), refl) in
         let none : places (length j.ws) log ≡ [] = j.has (length j.ws) (mine_of q) h ∙ (j.met.mine ∙ j.own.none_made) in
-        let m : Among (suc n) (places e.caller log) = place-here log n e at in
-        let gone : Among {A = ℕ} (suc n) [] = subst (Among (suc n)) (ap (λ c. places c log) by ∙ none) m in absurd (cc gone.1)
+        let m : LiesAmong (suc n) (places e.caller log) = place-here log n e at in
+        let gone : LiesAmong {A = ℕ} (suc n) [] = subst (LiesAmong (suc n)) (ap (λ c. places c log) by ∙ none) m in absurd (cc gone.1)
 
     pub classify : (n : ℕ) (e : Entry) → slice_get log n ≡ Some e → Class n e
     classify n e at = ⊎_elim (λ (lt : e.caller < length j.ws). let w = worker-at e.caller lt in by-worker w.0 w.1 w.2 w.3 w.4 w.5)
@@ -290,12 +290,12 @@ module _ {P : Type 0} (stand : P → Stand) (root : P → P) where
               goes = h.0.goes;
               got = h.0.got;
               handed = h.0.handed;
-              from = λ u m. ⊎_elim (λ (v : Among u (start_of e.pass).kept). inl (subst (λ (t : State). Among u t.kept) s v))
+              from = λ u m. ⊎_elim (λ (v : LiesAmong u (start_of e.pass).kept). inl (subst (λ (t : State). LiesAmong u t.kept) s v))
                   (λ (v : HasLogged (start_of e.pass).line (seen_of e.pass) u). inr (subst (λ (t : State × List Entry). HasLogged t.0.line t.1 u) (λ i. (s i, sym b.1 i)) (logged-more (start_of e.pass).line (seen_of e.pass) b.0 u v))) (h.0.from u m);
               rooted = h.1;
             }
 
-    pub joined-underway : (s : State) → Legal start log → Fits start log s → Underway stand root start firsts log s out
+    pub joined-underway : (s : State) → Legal start log → FitsHistory start log s → BurstUnderway stand root start firsts log s out
     joined-underway s legal fits = record {
       legal = legal;
       fits = fits;
@@ -307,7 +307,7 @@ module _ {P : Type 0} (stand : P → Stand) (root : P → P) where
   -- what the threads left, with the history that the turn's end gives
   pub joined-of : {E : Type 0} (state : E → State) (base : E → E) (first : E) (z : TableId) (callers : ℕ) (plan : List Planned) (firsts : List P) (olds : List Answered) (engine : E) (out : List P) (news : List Answered)
       → (h : HasJoined stand root state base first z callers plan firsts olds engine out news)
-      → (j : Joined z (state first) callers plan firsts h.pass h.last out h.closes.log) × LaidWith (IsMadeBy j.xs) olds news × Legal (state first) h.closes.log × Fits (state first) h.closes.log (state engine)
+      → (j : Joined z (state first) callers plan firsts h.pass h.last out h.closes.log) × LaidWith (IsMadeBy j.xs) olds news × Legal (state first) h.closes.log × FitsHistory (state first) h.closes.log (state engine)
   joined-of state base first z callers plan firsts olds engine out news h = let m = h.worked.met in let pairs = paired plan h.ws h.worked.xs h.worked.worked in
       let start : start_of h.last ≡ state first = m.start ∙ h.own.start_is in let all : callers_of h.last ≡ callers = m.callers ∙ h.own.callers_is in (
         record {
@@ -325,7 +325,7 @@ module _ {P : Type 0} (stand : P → Stand) (root : P → P) where
         },
         h.worked.laid,
         subst (λ s. Legal s h.closes.log) start h.closes.legal,
-        subst (λ s. Fits s h.closes.log (state engine)) start h.closes.fits,
+        subst (λ s. FitsHistory s h.closes.log (state engine)) start h.closes.fits,
       )
     where
       split : (i k : ℕ) → i < suc k → (i < k) ⊎ (i ≡ k)
@@ -334,11 +334,11 @@ module _ {P : Type 0} (stand : P → Stand) (root : P → P) where
       split (suc i) zero lt = absurd (omega (arith, lt))
       split (suc i) (suc k) lt = ⊎_elim (λ (x : i < k). inl (omega (arith, x))) (λ (x : i ≡ k). inr (ap suc x)) (split i k (omega (arith, lt)))
 
-      worker : (by : ℕ) → by < length h.ws → (ps : List ℕ) × Has (view_of h.last) by ps
+      worker : (by : ℕ) → by < length h.ws → (ps : List ℕ) × Has (pass_view h.last) by ps
       worker by lt = let pairs = paired plan h.ws h.worked.xs h.worked.worked in let a = get-some h.ws by lt in let n = pairs.0 in let b = get-some h.worked.xs by (omega (arith, n, lt)) in
           let s = worked-pass z (state first) callers plan by a.0 b.0 (h.set by a.0 a.1) (pairs.1 by a.0 b.0 a.1 b.1) in
-          (mine_of (pass_of b.0), inr (subst (λ k. Among (k, mine_of (pass_of b.0)) (met_of h.last)) s.0 (h.worked.met.each b.0 (by, b.1)).1))
+          (mine_of (pass_of b.0), inr (subst (λ k. LiesAmong (k, mine_of (pass_of b.0)) (met_of h.last)) s.0 (h.worked.met.each b.0 (by, b.1)).1))
 
-      last : (by : ℕ) → by ≡ length h.ws → (ps : List ℕ) × Has (view_of h.last) by ps
-      last by is = let rest = h.last.at_rest in let number : h.last.number ≡ length h.ws = h.worked.met.same.1 ∙ h.own.number_is in let low : (view_of h.last).low ≡ h.last.number = rest.2 in let one = rest.3 in
+      last : (by : ℕ) → by ≡ length h.ws → (ps : List ℕ) × Has (pass_view h.last) by ps
+      last by is = let rest = h.last.at_rest in let number : h.last.number ≡ length h.ws = h.worked.met.same.1 ∙ h.own.number_is in let low : (pass_view h.last).low ≡ h.last.number = rest.2 in let one = rest.3 in
           (mine_of h.last, inl (omega (arith, low, number, is), omega (arith, low, one, number, is), refl))

@@ -12,11 +12,11 @@ use Rattle.vx_turn.specs.declared.ask.Said.TheVariants.{Replied, Worked}
 use Rattle.vx_turn.specs.declared.meaning.Entry.{Entry}
 use Rattle.vx_turn.specs.declared.meaning.State.{State}
 use Rattle.vx_turn.specs.Volumes.{Volumes}
-use Rattle.vx_turn.specs.Acting.{Rises, Rose, Replies, volumes_after, head_after}
-use Rattle.vx_turn.specs.History.{Point, point_of, next, point_after, Follows, LegalFrom, Legal, asked}
+use Rattle.vx_turn.specs.Acting.{Rises, CountRose, RepliesTo, volumes_after, head_after}
+use Rattle.vx_turn.specs.History.{Point, point_of, next_point, point_after, FollowsEntry, LegalFrom, Legal, asked}
 use Rattle.vx_settle.specs.Bringing.{Events}
 use Rattle.vx_burst_threads.specs.Planning.{IsStalled}
-use Rattle.vx_burst.specs.Finishing.{IsLeftOut, IsOrdered, Stay, Leads}
+use Rattle.vx_burst.specs.Finishing.{IsLeftOut, IsCallAsk, Stay, LeadsHistory}
 
 -- what is left out changes neither volumes nor the last number
 out-volumes : (IsLeft : ℕ → Call → Type 0) (n : ℕ) (vs : Volumes) (ask : Ask) (said : Said) → IsLeftOut IsLeft n ask said → volumes_after vs ask said ≡ vs
@@ -28,10 +28,10 @@ out-volumes IsLeft n vs (Ordered call) (Replied reply) o = ap (λ r. volumes_aft
     refused (WriteBlocks v s bytes) = refl
 out-volumes IsLeft n vs (Ordered call) (Worked reply into) o = absurd o
 
-out-head : (IsLeft : ℕ → Call → Type 0) (n head : ℕ) (stopped : Type 0) (vs : Volumes) (ring : ℕ) (e : Entry) → IsLeftOut IsLeft n e.ask e.said → Replies stopped vs ring head e.ask e.said e.before e.after → head_after head e.said ≡ head
+out-head : (IsLeft : ℕ → Call → Type 0) (n head : ℕ) (stopped : Type 0) (vs : Volumes) (ring : ℕ) (e : Entry) → IsLeftOut IsLeft n e.ask e.said → RepliesTo stopped vs ring head e.ask e.said e.before e.after → head_after head e.said ≡ head
 out-head IsLeft n head stopped vs ring e o r = one e.ask e.said o r
   where
-    one : (ask : Ask) (said : Said) → IsLeftOut IsLeft n ask said → Replies stopped vs ring head ask said e.before e.after → head_after head said ≡ head
+    one : (ask : Ask) (said : Said) → IsLeftOut IsLeft n ask said → RepliesTo stopped vs ring head ask said e.before e.after → head_after head said ≡ head
     one (Charged j) (Worked reply into) o r = refl
     one (Charged j) (Replied reply) o r = absurd r
     one (Ordered call) (Replied reply) o r = ap (λ z. head_after head (Replied z)) o.0.1
@@ -42,10 +42,10 @@ pub stay-legal : (IsLeft : ℕ → Call → Type 0) (n faults ring : ℕ) (p q :
     → Stay IsLeft n (map asked log) ys → (es : List Entry) × (map asked es ≡ ys) × LegalFrom faults ring q es × ((point_after p log).volumes ≡ (point_after q es).volumes) × ((point_after p log).head ≡ (point_after q es).head)
 stay-legal IsLeft n faults ring p q [] ys v h b a l s = ([], sym s, tt, sym v, sym h)
 stay-legal IsLeft n faults ring p q (e ∷ log) ys v h b a l s = ⊎_elim
-    (λ (o : IsLeftOut IsLeft n e.ask e.said × Stay IsLeft n (map asked log) ys). stay-legal IsLeft n faults ring (next p e) q log ys (v ∙ sym (out-volumes IsLeft n p.volumes e.ask e.said o.0))
-    (h ∙ sym (out-head IsLeft n p.head (Rose faults e.before.faults) p.volumes ring e o.0 l.0.3)) before after l.1 o.1)
-    (λ (o : (zs : Events) × (ys ≡ asked e ∷ zs) × IsOrdered e.ask × Stay IsLeft (suc n) (map asked log) zs).
-    let r = stay-legal IsLeft (suc n) faults ring (next p e) (next q e) log o.0 (ap (λ x. volumes_after x e.ask e.said) v) (ap (λ x. head_after x e.said) h) (omega arith, omega arith) (omega arith, omega arith) l.1 o.3 in
+    (λ (o : IsLeftOut IsLeft n e.ask e.said × Stay IsLeft n (map asked log) ys). stay-legal IsLeft n faults ring (next_point p e) q log ys (v ∙ sym (out-volumes IsLeft n p.volumes e.ask e.said o.0))
+    (h ∙ sym (out-head IsLeft n p.head (CountRose faults e.before.faults) p.volumes ring e o.0 l.0.3)) before after l.1 o.1)
+    (λ (o : (zs : Events) × (ys ≡ asked e ∷ zs) × IsCallAsk e.ask × Stay IsLeft (suc n) (map asked log) zs).
+    let r = stay-legal IsLeft (suc n) faults ring (next_point p e) (next_point q e) log o.0 (ap (λ x. volumes_after x e.ask e.said) v) (ap (λ x. head_after x e.said) h) (omega arith, omega arith) (omega arith, omega arith) l.1 o.3 in
     (e ∷ r.0, ap (λ t. asked e ∷ t) r.1 ∙ sym o.1, (follows, r.2), r.3, r.4)) s
   where
     before : Rises q.before e.before
@@ -54,11 +54,11 @@ stay-legal IsLeft n faults ring p q (e ∷ log) ys v h b a l s = ⊎_elim
     after : Rises q.after e.after
     after = (let x = a.0 in let y = l.0.1.0 in omega (arith, x, y), let x = a.1 in let y = l.0.1.1 in omega (arith, x, y))
 
-    follows : Follows faults ring q e
-    follows = (before, after, l.0.2, subst (λ (x : Volumes × ℕ). Replies (Rose faults e.before.faults) x.0 ring x.1 e.ask e.said e.before e.after) (λ i. (sym v i, sym h i)) l.0.3)
+    follows : FollowsEntry faults ring q e
+    follows = (before, after, l.0.2, subst (λ (x : Volumes × ℕ). RepliesTo (CountRose faults e.before.faults) x.0 ring x.1 e.ask e.said e.before e.after) (λ i. (sym v i, sym h i)) l.0.3)
 
 -- the calls that stay lead where the whole history does
-pub stay-leads : (IsLeft : ℕ → Call → Type 0) (start s : State) (log : List Entry) (ys : Events) → Legal start log → s.volumes ≡ (point_after (point_of start) log).volumes → s.head ≡ (point_after (point_of start) log).head → Stay IsLeft 0 (map asked log) ys → Leads start ys s
+pub stay-leads : (IsLeft : ℕ → Call → Type 0) (start s : State) (log : List Entry) (ys : Events) → Legal start log → s.volumes ≡ (point_after (point_of start) log).volumes → s.head ≡ (point_after (point_of start) log).head → Stay IsLeft 0 (map asked log) ys → LeadsHistory start ys s
 stay-leads IsLeft start s log ys legal volumes head stay =
     let r = stay-legal IsLeft 0 start.counts.faults start.ring (point_of start) (point_of start) log ys refl refl (omega arith, omega arith) (omega arith, omega arith) legal stay in record {
       entries = r.0;

@@ -10,7 +10,7 @@ use Rattle.vx_turn.specs.declared.ask.Said.TheVariants.{Replied, Worked}
 use Rattle.vx_turn.specs.declared.meaning.Entry.{Entry}
 use Rattle.vx_turn.specs.declared.meaning.State.{State}
 use Rattle.vx_turn.specs.declared.passes.Pass.{Pass}
-use Rattle.vx_turn.specs.Acting.{Among}
+use Rattle.vx_turn.specs.Acting.{LiesAmong}
 use Rattle.vx_turn.specs.History.{asked}
 use Rattle.vx_turn.specs.Passing.{seen_of}
 use Rattle.vx_settle.specs.declared.peer.Stand.{Stand}
@@ -21,8 +21,8 @@ use Rattle.vx_burst_threads.specs.declared.writer.Writer.{Writer}
 use Rattle.vx_burst_threads.specs.declared.writer.Made.{Made}
 use Rattle.vx_burst_threads.specs.declared.worker.Worker.{Worker}
 use Rattle.vx_burst_threads.specs.declared.worker.Worker.TheVariants.{Writes, Drains}
-use Rattle.vx_burst_threads.specs.Planning.{call_for, IsTold}
-use Rattle.vx_burst_threads.specs.Writing.{Stands, IsMade, IsLeft, HasMade}
+use Rattle.vx_burst_threads.specs.Planning.{call_for, IsToldAs}
+use Rattle.vx_burst_threads.specs.Writing.{StandsInLog, IsMemberMade, IsStalledAt, HasMade}
 use Rattle.vx_burst_threads.specs.Working.{HasWorked}
 use Rattle.vx_burst_threads.specs.Joining.{IsMadeBy}
 use Rattle.vx_burst_threads.proofs.Making.{stands-more}
@@ -30,19 +30,19 @@ use Rattle.std.specs.List.Sorted.{IsNonDecreasingBy}
 use Rattle.vx_turn.specs.declared.ask.Job.TheVariants.{Wait}
 use Rattle.vx_turn.specs.declared.ask.JobReply.TheVariants as job
 use Rattle.vx_burst_threads.specs.declared.plan.Answered.{Answered}
-use Rattle.vx_burst_threads.specs.Laying.{LaidWith, answer_of}
+use Rattle.vx_burst_threads.specs.Laying.{LaidWith, answered_as}
 use Rattle.vx_burst.specs.declared.placing.Spot.{Spot}
-use Rattle.vx_burst.specs.Placing.{Noted, Numbered}
+use Rattle.vx_burst.specs.Placing.{SpotsNoted, SpotsNumbered}
 use Rattle.vx_burst.proofs.Placings.{once-same}
 use Rattle.vx_burst.proofs.Underways.{get-some, job_entry}
 use Rattle.vx_burst.proofs.Ends.{classify, of-plan, IsMadeAt, IsOpen, IsIdle}
 use Rattle.vx_burst.specs.Setting.{AreBlank}
 use Rattle.vx_burst.specs.Setting.{one_if}
-use Rattle.vx_burst.specs.Finishing.{IsLeftOut, IsOrdered, Stay, IsAskedAgain, unplaced, Underway, IsPlaced, Stage}
+use Rattle.vx_burst.specs.Finishing.{IsLeftOut, IsCallAsk, Stay, IsAskedAgain, unplaced, BurstUnderway, IsPlaced, BurstStage}
 use Rattle.vx_burst.proofs.Ends.{Joined, begins-of}
 
 -- an entry that stands at a place, as it is found
-pub stands-find : (log : List Entry) (place by : ℕ) (ask : Ask) (said : Said) → Stands log place by ask said → (n : ℕ) × (e : Entry) × (slice_get log n ≡ Some e) × (suc n ≡ place) × (e.caller ≡ by) × (e.ask ≡ ask) × (e.said ≡ said)
+pub stands-find : (log : List Entry) (place by : ℕ) (ask : Ask) (said : Said) → StandsInLog log place by ask said → (n : ℕ) × (e : Entry) × (slice_get log n ≡ Some e) × (suc n ≡ place) × (e.caller ≡ by) × (e.ask ≡ ask) × (e.said ≡ said)
 stands-find log place by ask said s = let e : Entry = record { caller = by; ask = ask; said = said; before = s.before; after = s.after } in
     (length s.front, e, subst (λ l. slice_get l (length s.front) ≡ Some e) (sym s.is) (here s.front e s.rest), (let a = s.at in omega (arith, a)), refl, refl, refl)
   where
@@ -55,22 +55,22 @@ abbrev pub Rising : ℕ → List ℕ → Type 0
 Rising n [] = Unit {0}
 Rising n (p ∷ ps) = (n < p) × Rising p ps
 
-rising-above : (n : ℕ) (ps : List ℕ) (p : ℕ) → Rising n ps → Among p ps → n < p
+rising-above : (n : ℕ) (ps : List ℕ) (p : ℕ) → Rising n ps → LiesAmong p ps → n < p
 rising-above n [] p r m = absurd (cc m.1)
 rising-above n (q ∷ qs) p r (zero, at) = let e : q ≡ p = some-one at in let a = r.0 in omega (arith, a, e)
 rising-above n (q ∷ qs) p r (suc i, at) = let a = r.0 in let b = rising-above q qs p r.1 (i, at) in omega (arith, a, b)
 
 -- the entry may be left out behind any number of calls that stay
 abbrev pub MayLeave : (ℕ → Call → Type 0) → Entry → Type 0
-MayLeave IsLeft e = (m : ℕ) → IsLeftOut IsLeft m e.ask e.said
+MayLeave IsStalledAt e = (m : ℕ) → IsLeftOut IsStalledAt m e.ask e.said
 
 -- where each event at a place that is none of these may be left out, those at these places stay
-pub stay-picked : (IsLeft : ℕ → Call → Type 0) (r : ℕ) (ev : ℕ → Ask × Said) (n : ℕ) (log : List Entry) (ps : List ℕ) → Rising n ps → ((p : ℕ) → Among p ps → p ≤ n + length log) → ((p : ℕ) → Among p ps → IsOrdered (ev p).0)
-    → ((i : ℕ) (e : Entry) → slice_get log i ≡ Some e → ev (suc (n + i)) ≡ asked e) → ((i : ℕ) (e : Entry) → slice_get log i ≡ Some e → Among (suc (n + i)) ps ⊎ MayLeave IsLeft e) → Stay IsLeft r (map asked log) (map ev ps)
-stay-picked IsLeft l ev n [] [] r top order is class = refl
-stay-picked IsLeft l ev n [] (p ∷ ps) r top order is class = absurd (let a = top p (0, refl) in let b = r.0 in omega (arith, a, b))
-stay-picked IsLeft l ev n (e ∷ es) ps r top order is class = step ps r top order (class 0 e refl)
-    (λ after qs s t o c. stay-picked IsLeft after ev (suc n) es qs s t o (λ i x at. let z : suc (n + suc i) ≡ suc (suc n + i) = omega arith in subst (λ m. ev m ≡ asked x) z (is (suc i) x at)) c) class
+pub stay-picked : (IsStalledAt : ℕ → Call → Type 0) (r : ℕ) (ev : ℕ → Ask × Said) (n : ℕ) (log : List Entry) (ps : List ℕ) → Rising n ps → ((p : ℕ) → LiesAmong p ps → p ≤ n + length log) → ((p : ℕ) → LiesAmong p ps → IsCallAsk (ev p).0)
+    → ((i : ℕ) (e : Entry) → slice_get log i ≡ Some e → ev (suc (n + i)) ≡ asked e) → ((i : ℕ) (e : Entry) → slice_get log i ≡ Some e → LiesAmong (suc (n + i)) ps ⊎ MayLeave IsStalledAt e) → Stay IsStalledAt r (map asked log) (map ev ps)
+stay-picked IsStalledAt l ev n [] [] r top order is class = refl
+stay-picked IsStalledAt l ev n [] (p ∷ ps) r top order is class = absurd (let a = top p (0, refl) in let b = r.0 in omega (arith, a, b))
+stay-picked IsStalledAt l ev n (e ∷ es) ps r top order is class = step ps r top order (class 0 e refl)
+    (λ after qs s t o c. stay-picked IsStalledAt after ev (suc n) es qs s t o (λ i x at. let z : suc (n + suc i) ≡ suc (suc n + i) = omega arith in subst (λ m. ev m ≡ asked x) z (is (suc i) x at)) c) class
   where
     first : ev (suc n) ≡ asked e
     first = let z : suc (n + 0) ≡ suc n = omega arith in subst (λ m. ev m ≡ asked e) z (is 0 e refl)
@@ -78,26 +78,26 @@ stay-picked IsLeft l ev n (e ∷ es) ps r top order is class = step ps r top ord
     shift : (i : ℕ) → suc (n + suc i) ≡ suc (suc n + i)
     shift i = omega arith
 
-    step : (ps : List ℕ) → Rising n ps → ((p : ℕ) → Among p ps → p ≤ n + length (e ∷ es)) → ((p : ℕ) → Among p ps → IsOrdered (ev p).0) → Among (suc (n + 0)) ps ⊎ MayLeave IsLeft e
-        → ((after : ℕ) (qs : List ℕ) → Rising (suc n) qs → ((p : ℕ) → Among p qs → p ≤ suc n + length es) → ((p : ℕ) → Among p qs → IsOrdered (ev p).0) → ((i : ℕ) (x : Entry) → slice_get es i ≡ Some x → Among (suc (suc n + i)) qs ⊎ MayLeave IsLeft x) → Stay IsLeft after (map asked es) (map ev qs))
-        → ((i : ℕ) (x : Entry) → slice_get (e ∷ es) i ≡ Some x → Among (suc (n + i)) ps ⊎ MayLeave IsLeft x) → Stay IsLeft l (map asked (e ∷ es)) (map ev ps)
-    step [] r top order c rest class = ⊎_elim (λ (m : Among (suc (n + 0)) []). absurd (cc m.1)) (λ (i : MayLeave IsLeft e). inl (
+    step : (ps : List ℕ) → Rising n ps → ((p : ℕ) → LiesAmong p ps → p ≤ n + length (e ∷ es)) → ((p : ℕ) → LiesAmong p ps → IsCallAsk (ev p).0) → LiesAmong (suc (n + 0)) ps ⊎ MayLeave IsStalledAt e
+        → ((after : ℕ) (qs : List ℕ) → Rising (suc n) qs → ((p : ℕ) → LiesAmong p qs → p ≤ suc n + length es) → ((p : ℕ) → LiesAmong p qs → IsCallAsk (ev p).0) → ((i : ℕ) (x : Entry) → slice_get es i ≡ Some x → LiesAmong (suc (suc n + i)) qs ⊎ MayLeave IsStalledAt x) → Stay IsStalledAt after (map asked es) (map ev qs))
+        → ((i : ℕ) (x : Entry) → slice_get (e ∷ es) i ≡ Some x → LiesAmong (suc (n + i)) ps ⊎ MayLeave IsStalledAt x) → Stay IsStalledAt l (map asked (e ∷ es)) (map ev ps)
+    step [] r top order c rest class = ⊎_elim (λ (m : LiesAmong (suc (n + 0)) []). absurd (cc m.1)) (λ (i : MayLeave IsStalledAt e). inl (
       i l,
       rest l [] tt (λ p m. absurd (cc m.1)) (λ p m. absurd (cc m.1))
-          (λ k x at. ⊎_elim (λ (m : Among (suc (n + suc k)) []). absurd (cc m.1)) (λ (m : MayLeave IsLeft x). inr m) (class (suc k) x at)),
+          (λ k x at. ⊎_elim (λ (m : LiesAmong (suc (n + suc k)) []). absurd (cc m.1)) (λ (m : MayLeave IsStalledAt x). inr m) (class (suc k) x at)),
     )) c
     step (p ∷ ps) r top order c rest class = ⊎_elim
         (λ (same : p ≡ suc n). inr (
           map ev ps,
           ap (λ y. y ∷ map ev ps) (ap ev same ∙ first),
-          subst (λ (y : Ask × Said). IsOrdered y.0) (ap ev same ∙ first) (order p (0, refl)),
+          subst (λ (y : Ask × Said). IsCallAsk y.0) (ap ev same ∙ first) (order p (0, refl)),
           rest (suc l) ps (subst (λ m. Rising m ps) same r.1) (λ q m. (let t = top q (suc m.0, m.1) in omega (arith, t))) (λ q m. order q (suc m.0, m.1))
-              (λ k x at. ⊎_elim (λ (m : Among (suc (n + suc k)) (p ∷ ps)). inl (tail (suc (n + suc k)) (suc (suc n + k)) (shift k) m (λ z. absurd (omega (arith, z, same))))) (λ (m : MayLeave IsLeft x). inr m) (class (suc k) x at)),
+              (λ k x at. ⊎_elim (λ (m : LiesAmong (suc (n + suc k)) (p ∷ ps)). inl (tail (suc (n + suc k)) (suc (suc n + k)) (shift k) m (λ z. absurd (omega (arith, z, same))))) (λ (m : MayLeave IsStalledAt x). inr m) (class (suc k) x at)),
         ))
         (λ (far : suc n < p). inl (
-          ⊎_elim (λ (m : Among (suc (n + 0)) (p ∷ ps)). absurd (low m far)) (λ (i : MayLeave IsLeft e). i l) c,
+          ⊎_elim (λ (m : LiesAmong (suc (n + 0)) (p ∷ ps)). absurd (low m far)) (λ (i : MayLeave IsStalledAt e). i l) c,
           rest l (p ∷ ps) (far, r.1) (λ q m. (let t = top q m in omega (arith, t))) order
-              (λ k x at. ⊎_elim (λ (m : Among (suc (n + suc k)) (p ∷ ps)). inl (subst (λ z. Among z (p ∷ ps)) (shift k) m)) (λ (m : MayLeave IsLeft x). inr m) (class (suc k) x at)),
+              (λ k x at. ⊎_elim (λ (m : LiesAmong (suc (n + suc k)) (p ∷ ps)). inl (subst (λ z. LiesAmong z (p ∷ ps)) (shift k) m)) (λ (m : MayLeave IsStalledAt x). inr m) (class (suc k) x at)),
         )) (which p r.0)
       where
         which : (p : ℕ) → n < p → (p ≡ suc n) ⊎ (suc n < p)
@@ -109,13 +109,13 @@ stay-picked IsLeft l ev n (e ∷ es) ps r top order is class = step ps r top ord
             cut (suc p) zero le = inr (omega arith)
             cut (suc p) (suc m) le = ⊎_elim (λ (x : p ≡ m). inl (ap suc x)) (λ (x : m < p). inr (omega (arith, x))) (cut p m (omega (arith, le)))
 
-        low : Among (suc (n + 0)) (p ∷ ps) → suc n < p → ⊥
+        low : LiesAmong (suc (n + 0)) (p ∷ ps) → suc n < p → ⊥
         low (zero, at) far = let z : p ≡ suc (n + 0) = some-one at in absurd (omega (arith, z, far))
         low (suc i, at) far = let b = rising-above p ps (suc (n + 0)) r.1 (i, at) in absurd (omega (arith, b, far))
 
-        tail : (a b : ℕ) → a ≡ b → Among a (p ∷ ps) → (p ≡ a → ⊥) → Among b ps
+        tail : (a b : ℕ) → a ≡ b → LiesAmong a (p ∷ ps) → (p ≡ a → ⊥) → LiesAmong b ps
         tail a b is (zero, at) not = absurd (not (some-one at))
-        tail a b is (suc i, at) not = subst (λ z. Among z ps) is (i, at)
+        tail a b is (suc i, at) not = subst (λ z. LiesAmong z ps) is (i, at)
 
 get-map : {A B : Type 0} (f : A → B) (xs : List A) (i : ℕ) (x : A) → slice_get xs i ≡ Some x → slice_get (map f xs) i ≡ Some (f x)
 get-map f [] i x at = absurd (cc at)
@@ -162,10 +162,10 @@ module _ {P : Type 0} (stand : P → Stand) (root : P → P) (z : TableId) (star
     pub i : ℕ
     pub x : Writer
     pub here : slice_get j.xs i ≡ Some (Writes x)
-    pub among : Among m x.made.items
+    pub among : LiesAmong m x.made.items
     pub stop : ℕ
-    pub has : HasMade plan (i + 1) stop x.pass x.made.items (IsLeft plan (i + 1) stop x.pass)
-    pub is : IsMade plan (i + 1) stop x.pass m
+    pub has : HasMade plan (i + 1) stop x.pass x.made.items (IsStalledAt plan (i + 1) stop x.pass)
+    pub is : IsMemberMade plan (i + 1) stop x.pass m
     pub caller : entry.caller ≡ i
     pub asks : entry.ask ≡ Ordered (call_for is.planned)
     pub says : entry.said ≡ Replied is.reply
@@ -177,7 +177,7 @@ module _ {P : Type 0} (stand : P → Stand) (root : P → P) (z : TableId) (star
       by-writer : (w : Worker P) → slice_get j.ws i ≡ Some w → HasWorked stand root plan w (Writes x) → MadeInfo m
       by-writer (Drains d) old h = absurd h
       by-writer (Writes w) old h = let s = j.set i (Writes w) old in let k = h.made s.0.none_made in
-          let has : HasMade plan (i + 1) k.0 x.pass x.made.items (IsLeft plan (i + 1) k.0 x.pass) = subst (λ t. HasMade plan t k.0 x.pass x.made.items (IsLeft plan t k.0 x.pass)) s.1 k.1 in
+          let has : HasMade plan (i + 1) k.0 x.pass x.made.items (IsStalledAt plan (i + 1) k.0 x.pass) = subst (λ t. HasMade plan t k.0 x.pass x.made.items (IsStalledAt plan t k.0 x.pass)) s.1 k.1 in
           let g = has.each m got in
           let f = stands-find log m.place x.pass.number (Ordered (call_for g.planned)) (Replied g.reply) (stands-more (seen_of x.pass) log m.place x.pass.number (Ordered (call_for g.planned)) (Replied g.reply) g.stands
           (begins-of stand root z start callers plan firsts p q out log j i (Writes x) here)) in record {
@@ -206,12 +206,12 @@ module _ {P : Type 0} (stand : P → Stand) (root : P → P) (z : TableId) (star
   -- of two calls of one thread the earlier in the plan has the earlier place
   pub made-order : (a b : Made) (s : MadeInfo a) (t : MadeInfo b) → s.i ≡ t.i → a.at < b.at → a.place < b.place
   made-order a b s t same lt = let x : s.x ≡ t.x = writer-same s.x t.x (some-one (sym s.here ∙ (ap (slice_get j.xs) same ∙ t.here))) in
-      go (subst (λ (y : Writer). Among a y.made.items) x s.among)
+      go (subst (λ (y : Writer). LiesAmong a y.made.items) x s.among)
     where
       writer-same : (v w : Writer) → as-worker v ≡ as-worker w → v ≡ w
       writer-same v w e = cc e
 
-      go : Among a t.x.made.items → a.place < b.place
+      go : LiesAmong a t.x.made.items → a.place < b.place
       go m = ⊎_elim (λ (e : m.0 ≡ t.among.0). absurd (let u : a ≡ b = some-one (sym m.1 ∙ (ap (slice_get t.x.made.items) e ∙ t.among.1)) in let v : a.at ≡ b.at = ap (λ (y : Made). y.at) u in omega (arith, v, lt)))
           (λ (o : (m.0 < t.among.0) ⊎ (t.among.0 < m.0)). ⊎_elim (λ (y : m.0 < t.among.0). (t.has.rises m.0 t.among.0 a b y m.1 t.among.1).1)
           (λ (y : t.among.0 < m.0). absurd (let r = (t.has.rises t.among.0 m.0 b a y t.among.1 m.1).0 in omega (arith, r, lt))) o) (order m.0 t.among.0)
@@ -229,17 +229,17 @@ module _ {P : Type 0} (stand : P → Stand) (root : P → P) (z : TableId) (star
   made-at a b s t same = let pl : s.is.planned ≡ t.is.planned = some-one (sym s.is.is ∙ (ap (slice_get plan) same ∙ t.is.is)) in
       let e : s.i + 1 ≡ t.i + 1 = sym s.is.own ∙ (ap (λ (y : Planned). y.thread) pl ∙ t.is.own) in let i : s.i ≡ t.i = omega (arith, e) in
       let x : s.x ≡ t.x = writer-same s.x t.x (some-one (sym s.here ∙ (ap (slice_get j.xs) i ∙ t.here))) in
-      go (subst (λ (y : Writer). Among a y.made.items) x s.among)
+      go (subst (λ (y : Writer). LiesAmong a y.made.items) x s.among)
     where
       writer-same : (v w : Writer) → as-worker v ≡ as-worker w → v ≡ w
       writer-same v w e = cc e
 
-      go : Among a t.x.made.items → a.place ≡ b.place
+      go : LiesAmong a t.x.made.items → a.place ≡ b.place
       go m = ⊎_elim (λ (e : m.0 ≡ t.among.0). let u : a ≡ b = some-one (sym m.1 ∙ (ap (slice_get t.x.made.items) e ∙ t.among.1)) in ap (λ (y : Made). y.place) u)
           (λ (o : (m.0 < t.among.0) ⊎ (t.among.0 < m.0)). ⊎_elim (λ (y : m.0 < t.among.0). absurd (let r = (t.has.rises m.0 t.among.0 a b y m.1 t.among.1).0 in omega (arith, r, same)))
           (λ (y : t.among.0 < m.0). absurd (let r = (t.has.rises t.among.0 m.0 b a y t.among.1 m.1).0 in omega (arith, r, same))) o) (order m.0 t.among.0)
 
-  module _ (blanks olds : List Answered) (spots : List Spot) (blank : AreBlank blanks) (laid : LaidWith (IsMadeBy j.xs) blanks olds) (long : length blanks ≡ length plan) (noted : Noted olds (length olds) spots)
+  module _ (blanks olds : List Answered) (spots : List Spot) (blank : AreBlank blanks) (laid : LaidWith (IsMadeBy j.xs) blanks olds) (long : length blanks ≡ length plan) (noted : SpotsNoted olds (length olds) spots)
       (rises : IsNonDecreasingBy (λ (s : Spot). s.place) spots) where
     -- what was made for a spot
     pub record SpotInfo (s : Spot) : Type 0 where
@@ -247,12 +247,12 @@ module _ {P : Type 0} (stand : P → Stand) (root : P → P) (z : TableId) (star
       pub by : IsMadeBy j.xs made
       pub at : made.at ≡ s.at
       pub place : made.place ≡ s.place
-      pub here : slice_get olds s.at ≡ Some (answer_of made)
+      pub here : slice_get olds s.at ≡ Some (answered_as made)
 
     pub spot-info : (i : ℕ) (s : Spot) → slice_get spots i ≡ Some s → SpotInfo s
     spot-info i s at = let n = noted.each i s at in let a = n.1 in ⊎_elim
         (λ (o : (slice_get blanks s.at ≡ Some a.0) × ((m : Made) → IsMadeBy j.xs m → m.at ≡ s.at → ⊥)). absurd (let b = blank s.at a.0 o.0 in let c = a.3 in omega (arith, b, c)))
-        (λ (o : (m : Made) × IsMadeBy j.xs m × (m.at ≡ s.at) × (a.0 ≡ answer_of m)). record { made = o.0; by = o.1; at = o.2; place = ap (λ (y : Answered). y.place) (sym o.3) ∙ sym a.2; here = a.1 ∙ ap Some o.3 }) (laid.each s.at a.0 a.1)
+        (λ (o : (m : Made) × IsMadeBy j.xs m × (m.at ≡ s.at) × (a.0 ≡ answered_as m)). record { made = o.0; by = o.1; at = o.2; place = ap (λ (y : Answered). y.place) (sym o.3) ∙ sym a.2; here = a.1 ∙ ap Some o.3 }) (laid.each s.at a.0 a.1)
 
     -- the spots' places rise strictly
     pub spots-rise : (i k : ℕ) (s t : Spot) → i < k → slice_get spots i ≡ Some s → slice_get spots k ≡ Some t → s.place < t.place
@@ -264,18 +264,18 @@ module _ {P : Type 0} (stand : P → Stand) (root : P → P) (z : TableId) (star
         (λ (o : (s.place < t.place) ⊎ (t.place < s.place)). ⊎_elim (λ (z : s.place < t.place). z) (λ (z : t.place < s.place). absurd (omega (arith, z, le))) o) (order s.place t.place)
 
     -- each call that was made has its spot
-    pub made-spot : (m : Made) → IsMadeBy j.xs m → (s : Spot) × Among s spots × (s.at ≡ m.at) × (s.place ≡ m.place)
+    pub made-spot : (m : Made) → IsMadeBy j.xs m → (s : Spot) × LiesAmong s spots × (s.at ≡ m.at) × (s.place ≡ m.place)
     made-spot m by = let info = made-info m by in let inside = get-inside plan m.at info.is.planned info.is.is in let l = laid.long in
         let a = get-some olds m.at (omega (arith, inside, l, long)) in ⊎_elim
         (λ (o : (slice_get blanks m.at ≡ Some a.0) × ((d : Made) → IsMadeBy j.xs d → d.at ≡ m.at → ⊥)). absurd (o.1 m by refl))
-        (λ (o : (d : Made) × IsMadeBy j.xs d × (d.at ≡ m.at) × (a.0 ≡ answer_of d)).
+        (λ (o : (d : Made) × IsMadeBy j.xs d × (d.at ≡ m.at) × (a.0 ≡ answered_as d)).
         let same = made-at o.0 m (made-info o.0 o.1) info o.2 in let pl : a.0.place ≡ o.0.place = ap (λ (y : Answered). y.place) o.3 in let up = info.place in
         let c = noted.cover m.at a.0 (get-inside olds m.at a.0 a.1) a.1 (omega (arith, pl, same, up)) in
         let n = noted.each c.1.0 c.0 c.1.1 in
         let b : n.1.0 ≡ a.0 = some-one (sym n.1.1 ∙ (ap (slice_get olds) c.2 ∙ a.1)) in
         (c.0, c.1, c.2, n.1.2 ∙ (ap (λ (y : Answered). y.place) b ∙ (pl ∙ same)))) (laid.each m.at a.0 a.1)
 
-    module _ (news : List Answered) (numbered : Numbered spots (length spots) olds news) where
+    module _ (news : List Answered) (numbered : SpotsNumbered spots (length spots) olds news) where
       -- where an answer has a number it has its spot
       pub news-spot : (k : ℕ) (b : Answered) → slice_get news k ≡ Some b → 0 < b.place → (i : ℕ) × (s : Spot) × (slice_get spots i ≡ Some s) × (s.at ≡ k) × (b.place ≡ i + 1)
       news-spot k b at some = let a = numbered.same k b at in ⊎_elim
@@ -285,7 +285,7 @@ module _ {P : Type 0} (stand : P → Stand) (root : P → P) (z : TableId) (star
           let same : d.0 ≡ b = some-one (sym d.1 ∙ (ap (slice_get news) c.2 ∙ at)) in (c.1.0, c.0, c.1.1, c.2, ap (λ (y : Answered). y.place) (sym same) ∙ d.2))
           (λ (low : a.0.place < 0). absurd (omega (arith, low))) o) (order 0 a.0.place)
 
-      pub joined-stage : (s : State) → Underway stand root start firsts log s out → (stays : Events) × Stage stand root start firsts plan log s out news (length spots) stays
+      pub joined-stage : (s : State) → BurstUnderway stand root start firsts log s out → (stays : Events) × BurstStage stand root start firsts plan log s out news (length spots) stays
       joined-stage s under = (
         map ev ps,
         record {
@@ -297,12 +297,12 @@ module _ {P : Type 0} (stand : P → Stand) (root : P → P) (z : TableId) (star
           long = numbered.long ∙ (laid.long ∙ long);
           each = λ k pl b get at some. let o = news-spot k b at some in let f = spot-info o.0 o.1 o.2 in let m = made-info f.made f.by in
               let same : m.is.planned ≡ pl = some-one (sym m.is.is ∙ (ap (slice_get plan) (f.at ∙ o.3) ∙ get)) in let old = numbered.same k b at in
-              let a : old.0 ≡ answer_of f.made = some-one (sym old.1 ∙ (ap (slice_get olds) (sym o.3) ∙ f.here)) in record {
+              let a : old.0 ≡ answered_as f.made = some-one (sym old.1 ∙ (ap (slice_get olds) (sym o.3) ∙ f.here)) in record {
                 reply = m.is.reply;
                 at = let n : b.place - 1 ≡ o.0 = (let v = o.4 in omega (arith, v)) in
                     subst (λ (y : ℕ × Planned). slice_get (map ev ps) y.0 ≡ Some (Ordered (call_for y.1), Replied m.is.reply)) (λ i. (sym n i, same i))
                     (get-map ev ps o.0 o.1.place (get-map (λ (t : Spot). t.place) spots o.0 o.1 o.2) ∙ ap Some (event o.0 o.1 o.2));
-                told = subst (IsTold m.is.reply) (ap (λ (y : Answered). y.reply) (sym a) ∙ sym old.2) m.is.told;
+                told = subst (IsToldAs m.is.reply) (ap (λ (y : Answered). y.reply) (sym a) ∙ sym old.2) m.is.told;
                 stalled = λ y. absurd (m.is.goes y.0 y.1);
               };
           apart = λ i k a b ia kb some same. let x = news-spot i a ia some in let y = news-spot k b kb (omega (arith, some, same)) in
@@ -337,12 +337,12 @@ module _ {P : Type 0} (stand : P → Stand) (root : P → P) (z : TableId) (star
           event i t at = let f = spot-info i t at in let m = made-info f.made f.by in let n : suc (0 + m.n) ≡ t.place = (let a = m.place in let b = f.place in omega (arith, a, b)) in
               ap ev (sym n) ∙ (is m.n m.entry m.at ∙ (λ k. (m.asks k, m.says k)))
 
-          top : (n : ℕ) → Among n ps → n ≤ 0 + length log
+          top : (n : ℕ) → LiesAmong n ps → n ≤ 0 + length log
           top n m = let t = map-get (λ (t : Spot). t.place) spots m.0 n m.1 in let f = spot-info m.0 t.0 t.1 in let i = made-info f.made f.by in
               let a = get-inside log i.n i.entry i.at in let b = i.place in let c = f.place in let d = t.2 in omega (arith, a, b, c, d)
 
-          ordered : (n : ℕ) → Among n ps → IsOrdered (ev n).0
-          ordered n m = let t = map-get (λ (t : Spot). t.place) spots m.0 n m.1 in subst (λ (y : Ask × Said). IsOrdered y.0) (sym (event m.0 t.0 t.1) ∙ ap ev t.2) tt
+          ordered : (n : ℕ) → LiesAmong n ps → IsCallAsk (ev n).0
+          ordered n m = let t = map-get (λ (t : Spot). t.place) spots m.0 n m.1 in subst (λ (y : Ask × Said). IsCallAsk y.0) (sym (event m.0 t.0 t.1) ∙ ap ev t.2) tt
 
           open-again : (m : ℕ) (call : Call) → IsOpen stand root z start callers plan firsts p q out log j 0 call → IsAskedAgain plan news m call
           open-again m call (k, pl, is, same, none) = let inside = get-inside plan k pl is in let l = numbered.long ∙ (laid.long ∙ long) in let b = get-some news k (omega (arith, inside, l)) in (
@@ -361,7 +361,7 @@ module _ {P : Type 0} (stand : P → Stand) (root : P → P) (z : TableId) (star
           may-leave (Ordered call) (Replied reply) h m = (h.0, open-again m call h.1)
           may-leave (Ordered call) (Worked reply into) h m = absurd h
 
-          class : (i : ℕ) (e : Entry) → slice_get log i ≡ Some e → Among (suc (0 + i)) ps ⊎ MayLeave (IsAskedAgain plan news) e
+          class : (i : ℕ) (e : Entry) → slice_get log i ≡ Some e → LiesAmong (suc (0 + i)) ps ⊎ MayLeave (IsAskedAgain plan news) e
           class i e at = ⊎_elim (λ (m : IsMadeAt stand root z start callers plan firsts p q out log j i e). let c = made-spot m.made m.by in let n : c.0.place ≡ suc (0 + i) = (let a = c.3 in let b = m.place in omega (arith, a, b)) in
               inl (c.1.0, get-map (λ (t : Spot). t.place) spots c.1.0 c.0 c.1.1 ∙ ap Some n))
               (λ (m : IsIdle stand root z start callers plan firsts p q out log j e.ask e.said × Rattle.vx_burst.specs.Finishing.AckWithin stand root out e.ask × Rattle.vx_burst.specs.Finishing.IsOfPlan plan e.ask). inr (may-leave e.ask e.said m.0)) (classify stand root z start callers plan firsts p q out log j i e at)

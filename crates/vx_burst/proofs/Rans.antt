@@ -10,7 +10,7 @@ use Rattle.vx_burst_threads.specs.declared.plan.Planned.{Planned}
 use Rattle.vx_burst_threads.specs.declared.plan.Answered.{Answered}
 use Rattle.vx_burst.specs.Setting.{AreBlank, one_if}
 use Rattle.vx_burst.specs.Placing.{Renumbered}
-use Rattle.vx_burst.specs.Finishing.{Stage, StagesOn, ArePlaced, IsAskedAgain, unplaced, WaitsOn}
+use Rattle.vx_burst.specs.Finishing.{BurstStage, StagesOn, ArePlaced, IsAskedAgain, unplaced, WaitsOn}
 use Rattle.vx_burst.specs.Ending.{HasJoined, Ran}
 use Rattle.vx_burst.proofs.Underways.{get-some}
 use Rattle.vx_burst.proofs.Ends.{joined-of, joined-underway}
@@ -45,22 +45,22 @@ module _ {P : Type 0} (stand : P → Stand) (root : P → P) where
   -- what the threads left is the first stage
   pub joined-stages : {E : Type 0} (state : E → State) (base : E → E) (first : E) (z : TableId) (callers : ℕ) (plan : List Planned) (firsts : List P) (blanks : List Answered) (engine : E) (out : List P) (olds news : List Answered) (n : ℕ)
       → HasJoined stand root state base first z callers plan firsts blanks engine out olds → AreBlank blanks → length blanks ≡ length plan → Renumbered olds news n
-      → (log : List Entry) × (stays : Events) × Stage stand root (state first) firsts plan log (state engine) out news n stays
+      → (log : List Entry) × (stays : Events) × BurstStage stand root (state first) firsts plan log (state engine) out news n stays
   joined-stages state base first z callers plan firsts blanks engine out olds news n h blank long r =
       let o = joined-of stand root state base first z callers plan firsts blanks engine out olds h in
       let u = joined-underway stand root z (state first) callers plan firsts h.pass h.last out h.closes.log o.0 (state engine) o.2 o.3 in
       let s = joined-stage stand root z (state first) callers plan firsts h.pass h.last out h.closes.log o.0 blanks olds r.spots blank o.1 long r.noted r.rises news r.numbered (state engine) u in
-      (h.closes.log, s.0, subst (λ m. Stage stand root (state first) firsts plan h.closes.log (state engine) out news m s.0) r.long s.1)
+      (h.closes.log, s.0, subst (λ m. BurstStage stand root (state first) firsts plan h.closes.log (state engine) out news m s.0) r.long s.1)
 
   -- the links of the peers are the engine's still
-  pub stage-links : (start : State) (firsts : List P) (plan : List Planned) (log : List Entry) (s : State) (ps : List P) (answers : List Answered) (n : ℕ) (stays : Events) → Stage stand root start firsts plan log s ps answers n stays
+  pub stage-links : (start : State) (firsts : List P) (plan : List Planned) (log : List Entry) (s : State) (ps : List P) (answers : List Answered) (n : ℕ) (stays : Events) → BurstStage stand root start firsts plan log s ps answers n stays
       → HaveLinks stand start firsts → HaveLinks stand s ps
   stage-links start firsts plan log s ps answers n stays g links i q now = let u = g.underway in let inside = get-inside ps i q now in let k = u.long in let p = get-some firsts i (omega (arith, k, inside)) in
       let w = (u.each i p.0 q p.1 now).goes.link in let l = links i p.0 p.1 in let e = u.fits.0.links in omega (arith, w, l, e)
 
   -- the calls that were left open were asked, and the logged ones were waited for
   pub ran : {E : Type 0} (state : E → State) (base : E → E) (plan : List Planned) (first : E) (firsts : List P) (log : List Entry) (stays : Events) (s : State) (ps : List P) (xs : List Answered) (n : ℕ)
-      (t : State) (qs : List P) (ys : List Answered) (m : ℕ) (engine : E) (rs : List P) (zs : List Answered) → Stage stand root (state first) firsts plan log s ps xs n stays → StagesOn stand root plan s ps xs n t qs ys m
+      (t : State) (qs : List P) (ys : List Answered) (m : ℕ) (engine : E) (rs : List P) (zs : List Answered) → BurstStage stand root (state first) firsts plan log s ps xs n stays → StagesOn stand root plan s ps xs n t qs ys m
       → ArePlaced ys (length plan) → WaitsOn stand root t qs ys (length ys) (state engine) rs zs → base engine ≡ base first → Ran stand root state base plan first firsts engine rs zs
   ran state base plan first firsts log stays s ps xs n t qs ys m engine rs zs g on placed waits rooted =
       let a = on (state first) firsts log stays g in
@@ -69,7 +69,7 @@ module _ {P : Type 0} (stand : P → Stand) (root : P → P) where
       let w = waits (state first) firsts plan a.0 m a.1 a.2 all in
       let none = unplaced-none ys all in
       let count : m ≡ length plan = omega (arith, rest, none) in
-      let stage : Stage stand root (state first) firsts plan w.log (state engine) rs zs (length plan) a.1 = subst (λ k. Stage stand root (state first) firsts plan w.log (state engine) rs zs k a.1) count w.stage in record {
+      let stage : BurstStage stand root (state first) firsts plan w.log (state engine) rs zs (length plan) a.1 = subst (λ k. BurstStage stand root (state first) firsts plan w.log (state engine) rs zs k a.1) count w.stage in record {
         log = w.log;
         stays = a.1;
         stage = stage;

@@ -6,7 +6,7 @@ use Rattle.vx_burst_threads.specs.declared.plan.Planned.{Planned}
 use Rattle.vx_burst_threads.specs.declared.plan.Answered.{Answered}
 use Rattle.vx_burst_threads.specs.Planning.{own_count}
 use Rattle.vx_burst.specs.declared.rooms.Space.{Space}
-use Rattle.vx_burst.specs.Setting.{AreBlank, AreRooms, one_if}
+use Rattle.vx_burst.specs.Setting.{AreBlank, AreThreadRooms, one_if}
 
 pub blank-none : (xs : List Answered) → xs ≡ [] → AreBlank xs
 blank-none xs is k a at = absurd (cc (subst (λ l. slice_get l k ≡ Some a) is at))
@@ -14,10 +14,10 @@ blank-none xs is k a at = absurd (cc (subst (λ l. slice_get l k ≡ Some a) is 
 pub blank-more : (xs ys : List Answered) (a : Answered) → ys ≡ xs ++ a ∷ [] → a.place ≡ 0 → AreBlank xs → AreBlank ys
 blank-more xs ys a is none b k x at = ⊎_elim (λ (o : slice_get xs k ≡ Some x). b k x o) (λ (o : (k ≡ length xs) × (a ≡ x)). ap (λ (y : Answered). y.place) (sym o.1) ∙ none) (get-snoc xs a x k (subst (λ l. slice_get l k ≡ Some x) is at))
 
-pub spaces-none : (plan : List Planned) (threads : ℕ) (xs : List Space) → xs ≡ [] → AreRooms plan threads xs
+pub spaces-none : (plan : List Planned) (threads : ℕ) (xs : List Space) → xs ≡ [] → AreThreadRooms plan threads xs
 spaces-none plan threads xs is i r at = absurd (cc (subst (λ l. slice_get l i ≡ Some r) is at))
 
-pub spaces-more : (plan : List Planned) (threads thread : ℕ) (xs ys : List Space) (r : Space) → ys ≡ xs ++ r ∷ [] → r.made.items ≡ [] → own_count thread plan ≤ vec_capacity r.made → length xs + thread ≡ threads → AreRooms plan threads xs → AreRooms plan threads ys
+pub spaces-more : (plan : List Planned) (threads thread : ℕ) (xs ys : List Space) (r : Space) → ys ≡ xs ++ r ∷ [] → r.made.items ≡ [] → own_count thread plan ≤ vec_capacity r.made → length xs + thread ≡ threads → AreThreadRooms plan threads xs → AreThreadRooms plan threads ys
 spaces-more plan threads thread xs ys r is none room sum b i x at = ⊎_elim (λ (o : slice_get xs i ≡ Some x). b i x o)
     (λ (o : (i ≡ length xs) × (r ≡ x)). let t : thread ≡ threads - i = (let n = o.0 in omega (arith, sum, n)) in
     subst (λ (y : ℕ × Space). (y.1.made.items ≡ []) × (own_count y.0 plan ≤ vec_capacity y.1.made)) (λ k. (t k, o.1 k)) (none, room)) (get-snoc xs r x i (subst (λ l. slice_get l i ≡ Some x) is at))

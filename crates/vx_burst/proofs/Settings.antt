@@ -5,7 +5,7 @@ use Rattle.atomic_table.specs.Seated.{TableId}
 use Rattle.vx_turn.specs.declared.meaning.State.{State}
 use Rattle.vx_turn.specs.declared.passes.Pass.{Pass}
 use Rattle.vx_turn.specs.declared.passes.Passes.{Passes}
-use Rattle.vx_turn.specs.Passing.{IsNew, AreDealt, Pops}
+use Rattle.vx_turn.specs.Passing.{IsNewPass, AreDealt, Pops}
 use Rattle.vx_turn.proofs.Dealing.{get-snoc, get-longer, get-last}
 use Rattle.vx_settle.specs.declared.peer.Stand.{Stand}
 use Rattle.vx_settle.specs.Bringing.{HaveLinks}
@@ -17,7 +17,7 @@ use Rattle.vx_burst_threads.specs.declared.worker.Worker.TheVariants.{Writes, Dr
 use Rattle.vx_burst_threads.specs.Planning.{AllCalls, own_count}
 use Rattle.vx_burst_threads.specs.Joining.{backs}
 use Rattle.vx_burst.specs.declared.rooms.Space.{Space}
-use Rattle.vx_burst.specs.Setting.{AreRooms, IsSetUp, Set}
+use Rattle.vx_burst.specs.Setting.{AreThreadRooms, IsSetUp, Set}
 
 pub snoc-long : {A : Type 0} (xs ws : List A) (w : A) → xs ≡ ws ++ w ∷ [] → length xs ≡ length ws + 1
 snoc-long xs ws w is = let e : length xs ≡ length (ws ++ w ∷ []) = ap (λ l. length l) is in let a = length-append ws (w ∷ []) in omega (arith, e, a)
@@ -36,18 +36,18 @@ module _ {P : Type 0} where
   -- a pass is left where not all callers have their workers
   pub set-pass : (stand : P → Stand) (z : TableId) (start : State) (callers : ℕ) (plan : List Planned) (ws : List (Worker P)) (old new : Passes) (given : Option Pass) → Set stand z start callers plan ws old → Pops old given new
       → given ≡ None → callers ≤ length ws
-  set-pass stand z start callers plan ws old new given s p none = let m : MatchOption None (((callers - length ws) ≡ 0) × AreDealt z start callers 0 new) (λ q. (0 < callers - length ws) × IsNew z start callers (callers - (callers - length ws)) q × AreDealt z start callers ((callers - length ws) - 1) new) =
-      subst (λ g. MatchOption g (((callers - length ws) ≡ 0) × AreDealt z start callers 0 new) (λ q. (0 < callers - length ws) × IsNew z start callers (callers - (callers - length ws)) q × AreDealt z start callers ((callers - length ws) - 1) new)) none (p z start callers (callers - length ws) s.dealt) in
+  set-pass stand z start callers plan ws old new given s p none = let m : MatchOption None (((callers - length ws) ≡ 0) × AreDealt z start callers 0 new) (λ q. (0 < callers - length ws) × IsNewPass z start callers (callers - (callers - length ws)) q × AreDealt z start callers ((callers - length ws) - 1) new) =
+      subst (λ g. MatchOption g (((callers - length ws) ≡ 0) × AreDealt z start callers 0 new) (λ q. (0 < callers - length ws) × IsNewPass z start callers (callers - (callers - length ws)) q × AreDealt z start callers ((callers - length ws) - 1) new)) none (p z start callers (callers - length ws) s.dealt) in
       let e = m.0 in omega (arith, e)
 
   -- the pass that is given out has the number of the next worker
   pub set-given : (stand : P → Stand) (z : TableId) (start : State) (callers : ℕ) (plan : List Planned) (ws : List (Worker P)) (old new : Passes) (given : Option Pass) (q : Pass) → Set stand z start callers plan ws old → Pops old given new
-      → given ≡ Some q → IsNew z start callers (length ws) q × AreDealt z start callers (callers - (length ws + 1)) new × (length ws + 1 ≤ callers)
-  set-given stand z start callers plan ws old new given q s p is = let m : (0 < callers - length ws) × IsNew z start callers (callers - (callers - length ws)) q × AreDealt z start callers ((callers - length ws) - 1) new =
-      subst (λ g. MatchOption g (((callers - length ws) ≡ 0) × AreDealt z start callers 0 new) (λ r. (0 < callers - length ws) × IsNew z start callers (callers - (callers - length ws)) r × AreDealt z start callers ((callers - length ws) - 1) new)) is (p z start callers (callers - length ws) s.dealt) in
+      → given ≡ Some q → IsNewPass z start callers (length ws) q × AreDealt z start callers (callers - (length ws + 1)) new × (length ws + 1 ≤ callers)
+  set-given stand z start callers plan ws old new given q s p is = let m : (0 < callers - length ws) × IsNewPass z start callers (callers - (callers - length ws)) q × AreDealt z start callers ((callers - length ws) - 1) new =
+      subst (λ g. MatchOption g (((callers - length ws) ≡ 0) × AreDealt z start callers 0 new) (λ r. (0 < callers - length ws) × IsNewPass z start callers (callers - (callers - length ws)) r × AreDealt z start callers ((callers - length ws) - 1) new)) is (p z start callers (callers - length ws) s.dealt) in
       let b = s.below in let some = m.0 in
       let here : callers - (callers - length ws) ≡ length ws = omega (arith, b, some) in let rest : (callers - length ws) - 1 ≡ callers - (length ws + 1) = omega (arith, b, some) in
-      (subst (λ n. IsNew z start callers n q) here m.1, subst (λ n. AreDealt z start callers n new) rest m.2, omega (arith, b, some))
+      (subst (λ n. IsNewPass z start callers n q) here m.1, subst (λ n. AreDealt z start callers n new) rest m.2, omega (arith, b, some))
 
   pub set-more : (stand : P → Stand) (z : TableId) (start : State) (callers : ℕ) (plan : List Planned) (ws xs : List (Worker P)) (w : Worker P) (old new : Passes) → xs ≡ ws ++ w ∷ [] → Set stand z start callers plan ws old
       → IsSetUp stand z start callers plan (length ws) w → AreDealt z start callers (callers - (length ws + 1)) new → length ws + 1 ≤ callers → Set stand z start callers plan xs new
@@ -62,7 +62,7 @@ module _ {P : Type 0} where
   pub record Writing (stand : P → Stand) (z : TableId) (start : State) (callers : ℕ) (plan : List Planned) (threads k : ℕ) (rooms : List Space) (ws : List (Worker P)) (passes : Passes) : Type 0 where
     pub set : Set stand z start callers plan ws passes
     pub long : length ws ≡ k
-    pub spaces : AreRooms plan threads rooms
+    pub spaces : AreThreadRooms plan threads rooms
     pub left : length rooms + k ≡ threads
     pub back : backs ws ≡ []
 

@@ -12,12 +12,12 @@ use Rattle.vx_turn.specs.declared.ask.Job.TheVariants.{Acked}
 use Rattle.vx_turn.specs.declared.ask.JobReply.TheVariants as job
 use Rattle.vx_turn.specs.declared.meaning.Entry.{Entry}
 use Rattle.vx_turn.specs.declared.meaning.State.{State}
-use Rattle.vx_turn.specs.Acting.{Among, Rose}
+use Rattle.vx_turn.specs.Acting.{LiesAmong, CountRose}
 use Rattle.vx_turn.specs.History.{HasLogged, asked}
 use Rattle.vx_turn.proofs.Histories.{made, rose-wider, logged-more, among-split}
 use Rattle.vx_turn.proofs.Dealing.{get-longer, get-last}
 use Rattle.vx_settle.specs.declared.peer.Stand.{Stand}
-use Rattle.vx_settle.specs.Peers.{Goes, LiesIn}
+use Rattle.vx_settle.specs.Peers.{PeerGoes, LiesIn}
 use Rattle.vx_settle.specs.Bringing.{Events, IsJob, HaveLinks, NoLimit, HasAcked, Drains, BringsAll}
 use Rattle.vx_settle.proofs.Bringings.{among-left, among-one, calm-first}
 use Rattle.vx_settle.proofs.ManyPeers.{some-one, get-set, set-long, get-inside}
@@ -25,27 +25,27 @@ use Rattle.vx_burst_threads.specs.declared.plan.Planned.{Planned}
 use Rattle.vx_burst_threads.specs.declared.plan.Answered.{Answered}
 use Rattle.vx_burst_threads.specs.Planning.{call_for}
 use Rattle.vx_burst.specs.Setting.{one_if}
-use Rattle.vx_burst.specs.Finishing.{AckWithin, Went, Underway, IsSound, AreApart, Excused, IsCalm, Splits, head_behind, IsLeftOut, IsOrdered, IsOfPlan, Stay, IsAskedAgain, AreBefore, unplaced, ArePlaced, HasExcuse, IsPlaced, Stage, StagesOn, AskedOne}
+use Rattle.vx_burst.specs.Finishing.{AckWithin, Went, BurstUnderway, IsSoundRun, PeersApart, Excused, IsCalm, Splits, head_behind, IsLeftOut, IsCallAsk, IsOfPlan, Stay, IsAskedAgain, AreBefore, unplaced, ArePlaced, HasExcuse, IsPlaced, BurstStage, StagesOn, AskedOne}
 use Rattle.vx_burst.proofs.Underways.{job_entry, jobs-among, asked-jobs, get-some, underway-brings, underway-acts}
 
 -- jobs at the end change nothing of what stays
-pub stay-jobs : (IsLeft : ℕ → Call → Type 0) (n : ℕ) (xs more ys : Events) → ((ask : Ask) (said : Said) → Among (ask, said) more → IsJob ask said) → Stay IsLeft n xs ys → Stay IsLeft n (xs ++ more) ys
+pub stay-jobs : (IsLeft : ℕ → Call → Type 0) (n : ℕ) (xs more ys : Events) → ((ask : Ask) (said : Said) → LiesAmong (ask, said) more → IsJob ask said) → Stay IsLeft n xs ys → Stay IsLeft n (xs ++ more) ys
 stay-jobs IsLeft n [] [] ys jobs s = s
 stay-jobs IsLeft n [] ((Charged j, said) ∷ ms) ys jobs s = inl (tt, stay-jobs IsLeft n [] ms ys (λ ask other m. jobs ask other (suc m.0, m.1)) s)
 stay-jobs IsLeft n [] ((Ordered c, said) ∷ ms) ys jobs s = absurd (jobs (Ordered c) said (0, refl))
 stay-jobs IsLeft n (x ∷ xs) more ys jobs s = ⊎_elim (λ (o : IsLeftOut IsLeft n x.0 x.1 × Stay IsLeft n xs ys). inl (o.0, stay-jobs IsLeft n xs more ys jobs o.1))
-    (λ (o : (zs : Events) × (ys ≡ x ∷ zs) × IsOrdered x.0 × Stay IsLeft (suc n) xs zs). inr (o.0, o.1, o.2, stay-jobs IsLeft (suc n) xs more o.0 jobs o.3)) s
+    (λ (o : (zs : Events) × (ys ≡ x ∷ zs) × IsCallAsk x.0 × Stay IsLeft (suc n) xs zs). inr (o.0, o.1, o.2, stay-jobs IsLeft (suc n) xs more o.0 jobs o.3)) s
 
-pub stay-call : (IsLeft : ℕ → Call → Type 0) (n : ℕ) (xs ys : Events) (x : Ask × Said) → IsOrdered x.0 → Stay IsLeft n xs ys → Stay IsLeft n (xs ++ x ∷ []) (ys ++ x ∷ [])
+pub stay-call : (IsLeft : ℕ → Call → Type 0) (n : ℕ) (xs ys : Events) (x : Ask × Said) → IsCallAsk x.0 → Stay IsLeft n xs ys → Stay IsLeft n (xs ++ x ∷ []) (ys ++ x ∷ [])
 stay-call IsLeft n [] ys x o s = inr ([], ap (λ l. l ++ x ∷ []) s, o, refl)
 stay-call IsLeft n (z ∷ xs) ys x o s = ⊎_elim (λ (p : IsLeftOut IsLeft n z.0 z.1 × Stay IsLeft n xs ys). inl (p.0, stay-call IsLeft n xs ys x o p.1))
-    (λ (p : (zs : Events) × (ys ≡ z ∷ zs) × IsOrdered z.0 × Stay IsLeft (suc n) xs zs). inr (p.0 ++ x ∷ [], ap (λ l. l ++ x ∷ []) p.1, p.2, stay-call IsLeft (suc n) xs p.0 x o p.3)) s
+    (λ (p : (zs : Events) × (ys ≡ z ∷ zs) × IsCallAsk z.0 × Stay IsLeft (suc n) xs zs). inr (p.0 ++ x ∷ [], ap (λ l. l ++ x ∷ []) p.1, p.2, stay-call IsLeft (suc n) xs p.0 x o p.3)) s
 
 -- the same calls stay where another reason to leave one out holds wherever the first does
 pub stay-as : (IsLeft IsToo : ℕ → Call → Type 0) (n : ℕ) (xs ys : Events) → ((m : ℕ) (call : Call) → m ≤ n + length ys → IsLeft m call → IsToo m call) → Stay IsLeft n xs ys → Stay IsToo n xs ys
 stay-as IsLeft IsToo n [] ys f s = s
 stay-as IsLeft IsToo n (x ∷ xs) ys f s = ⊎_elim (λ (o : IsLeftOut IsLeft n x.0 x.1 × Stay IsLeft n xs ys). inl (one x.0 x.1 o.0, stay-as IsLeft IsToo n xs ys f o.1))
-    (λ (o : (zs : Events) × (ys ≡ x ∷ zs) × IsOrdered x.0 × Stay IsLeft (suc n) xs zs).
+    (λ (o : (zs : Events) × (ys ≡ x ∷ zs) × IsCallAsk x.0 × Stay IsLeft (suc n) xs zs).
     let long : length ys ≡ suc (length o.0) = ap (λ l. length l) o.1 in inr (o.0, o.1, o.2, stay-as IsLeft IsToo (suc n) xs o.0 (λ m call le. f m call (omega (arith, le, long))) o.3)) s
   where
     one : (ask : Ask) (said : Said) → IsLeftOut IsLeft n ask said → IsLeftOut IsToo n ask said
@@ -101,7 +101,7 @@ unplaced-set (x ∷ xs) zero a b at none some = let e : one_if (x.place == 0) �
 unplaced-set (x ∷ xs) (suc k) a b at none some = let r = unplaced-set xs k a b at none some in omega (arith, r)
 
 -- an event of a history is that of one of its entries
-asked-entry : (es : List Entry) (i : ℕ) (x : Ask × Said) → slice_get (map asked es) i ≡ Some x → (e : Entry) × Among e es × (asked e ≡ x)
+asked-entry : (es : List Entry) (i : ℕ) (x : Ask × Said) → slice_get (map asked es) i ≡ Some x → (e : Entry) × LiesAmong e es × (asked e ≡ x)
 asked-entry [] i x at = absurd (cc at)
 asked-entry (e ∷ es) zero x at = (e, (0, refl), some-one at)
 asked-entry (e ∷ es) (suc i) x at = let r = asked-entry es i x at in (r.0, (suc r.1.0, r.1.1), r.2)
@@ -114,12 +114,12 @@ job-of-plan plan (Ordered call) said is = absurd is
 module _ {P : Type 0} (stand : P → Stand) (root : P → P) where
   -- an excuse holds on
   pub excuse-later : (start : State) (firsts : List P) (log more : List Entry) (s t : State) (ps qs : List P) (ask : Ask) (IsSaid : Said → Type 0) (IsMoment : List Entry → Type 0) (number : List Entry → ℕ) → s.counts.faults ≤ t.counts.faults → length qs ≡ length ps
-      → ((i : ℕ) (p q : P) → slice_get ps i ≡ Some p → slice_get qs i ≡ Some q → Goes (stand p) (stand q)) → HasExcuse stand root start firsts log s ps ask IsSaid IsMoment number → HasExcuse stand root start firsts (log ++ more) t qs ask IsSaid IsMoment number
+      → ((i : ℕ) (p q : P) → slice_get ps i ≡ Some p → slice_get qs i ≡ Some q → PeerGoes (stand p) (stand q)) → HasExcuse stand root start firsts log s ps ask IsSaid IsMoment number → HasExcuse stand root start firsts (log ++ more) t qs ask IsSaid IsMoment number
   excuse-later start firsts log more s t ps qs ask IsSaid IsMoment number rises long goes h calm =
       let was : IsCalm start log s = (
         calm-first start.counts.faults s.counts.faults t.counts.faults rises calm.0,
         λ j cause into m. calm.1 j cause into
-            (subst (Among (Charged j, Worked (job.Refused cause) into)) (sym (map-append asked log more)) (among-left (Charged j, Worked (job.Refused cause) into) (map asked log) (map asked more) m)),
+            (subst (LiesAmong (Charged j, Worked (job.Refused cause) into)) (sym (map-append asked log more)) (among-left (Charged j, Worked (job.Refused cause) into) (map asked log) (map asked more) m)),
       ) in
       let x = h was in
       let f = x.2 in (
@@ -142,8 +142,8 @@ module _ {P : Type 0} (stand : P → Stand) (root : P → P) where
       decide false n = refl
 
   -- no acknowledgement of a peer's link has a number above the peer's, where no other is of this link
-  below-peer : (start : State) (firsts : List P) (log : List Entry) (s : State) (ps : List P) → Underway stand root start firsts log s ps → (i : ℕ) (p q : P) (n stored : ℕ) (said : Said) → AreApart stand root firsts
-      → slice_get firsts i ≡ Some p → slice_get ps i ≡ Some q → Among (Charged (Acked (stand p).link n stored), said) (map asked log) → n ≤ (stand q).net
+  below-peer : (start : State) (firsts : List P) (log : List Entry) (s : State) (ps : List P) → BurstUnderway stand root start firsts log s ps → (i : ℕ) (p q : P) (n stored : ℕ) (said : Said) → PeersApart stand root firsts
+      → slice_get firsts i ≡ Some p → slice_get ps i ≡ Some q → LiesAmong (Charged (Acked (stand p).link n stored), said) (map asked log) → n ≤ (stand q).net
   below-peer start firsts log s ps u i p q n stored said apart first now m =
       let e = asked-entry log m.0 (Charged (Acked (stand p).link n stored), said) m.1 in
       let w : AckWithin stand root ps (Charged (Acked (stand p).link n stored)) = subst (λ (x : Ask × Said). AckWithin stand root ps x.0) e.2 (u.acks e.0 e.1) in
@@ -154,8 +154,8 @@ module _ {P : Type 0} (stand : P → Stand) (root : P → P) where
       let net : (stand w.1).net ≡ (stand q).net = ap (λ (x : P). (stand x).net) is in let low = w.4 in omega (arith, net, low)
 
   -- the peers were brought: each that is sound has acknowledged the last logged number
-  pub brought-excuse : (start : State) (firsts : List P) (log : List Entry) (s mid t : State) (ps qs : List P) → Underway stand root start firsts log s ps → (b : BringsAll stand root s ps mid qs) → mid.counts.faults ≤ t.counts.faults
-      → (Rose start.counts.faults t.counts.faults → ⊥) → NoLimit b.moves.more → (number : ℕ) → number ≤ s.head → Excused stand root start firsts qs (log ++ map (job_entry s.counts) b.moves.more) number
+  pub brought-excuse : (start : State) (firsts : List P) (log : List Entry) (s mid t : State) (ps qs : List P) → BurstUnderway stand root start firsts log s ps → (b : BringsAll stand root s ps mid qs) → mid.counts.faults ≤ t.counts.faults
+      → (CountRose start.counts.faults t.counts.faults → ⊥) → NoLimit b.moves.more → (number : ℕ) → number ≤ s.head → Excused stand root start firsts qs (log ++ map (job_entry s.counts) b.moves.more) number
   brought-excuse start firsts log s mid t ps qs a b on calm limit number below i p q first now =
       let inside = get-inside qs i q now in let n = b.long in let g = get-some ps i (omega (arith, n, inside)) in
       let w = a.each i p g.0 first g.1 in let r = b.each i g.0 q g.1 now in let go = r.walks.goes in (
@@ -172,9 +172,9 @@ module _ {P : Type 0} (stand : P → Stand) (root : P → P) where
               limit = limit;
               line = w.goes.line ∙ (sound.line ∙ sym a.fits.0.line_is);
               sound = λ x. sound.calm (rose-wider (stand p).faults (stand g.0).faults (stand q).faults (stand q).faults w.goes.faults (omega arith) x);
-              within = λ u m. subst (λ l. LiesIn l u) (sym w.goes.sizes) (⊎_elim (λ (k : Among u start.kept). sound.kept u k)
+              within = λ u m. subst (λ l. LiesIn l u) (sym w.goes.sizes) (⊎_elim (λ (k : LiesAmong u start.kept). sound.kept u k)
                   (λ (k : HasLogged start.line log u). sound.logged u (logged-more start.line log (map (job_entry s.counts) b.moves.more) u k)) (a.fits.0.keeps u m));
-              there = λ low into m. sound.there low into (subst (Among (Charged (Rattle.vx_turn.specs.declared.ask.Job.TheVariants.Fetch ((stand q).net + 1)), Worked (job.Gone low) into)) (sym seen)
+              there = λ low into m. sound.there low into (subst (LiesAmong (Charged (Rattle.vx_turn.specs.declared.ask.Job.TheVariants.Fetch ((stand q).net + 1)), Worked (job.Gone low) into)) (sym seen)
                   (Rattle.vx_settle.proofs.Bringings.among-right (Charged (Rattle.vx_turn.specs.declared.ask.Job.TheVariants.Fetch ((stand q).net + 1)), Worked (job.Gone low) into) (map asked log) b.moves.more m));
             } in
             let k : HasAcked (stand g.0).link s.head b.moves.more = r.acked d in
@@ -185,31 +185,31 @@ module _ {P : Type 0} (stand : P → Stand) (root : P → P) where
               k.3,
               omega (arith, x, below),
               omega (arith, y, below),
-              subst (Among (Charged (Rattle.vx_turn.specs.declared.ask.Job.TheVariants.Acked (stand p).link k.0 k.1), Worked (job.Done k.2) k.3)) (sym seen)
+              subst (LiesAmong (Charged (Rattle.vx_turn.specs.declared.ask.Job.TheVariants.Acked (stand p).link k.0 k.1), Worked (job.Done k.2) k.3)) (sym seen)
                   (Rattle.vx_settle.proofs.Bringings.among-right (Charged (Rattle.vx_turn.specs.declared.ask.Job.TheVariants.Acked (stand p).link k.0 k.1), Worked (job.Done k.2) k.3) (map asked log) b.moves.more
-                  (subst (λ l. Among (Charged (Rattle.vx_turn.specs.declared.ask.Job.TheVariants.Acked l k.0 k.1), Worked (job.Done k.2) k.3) b.moves.more) w.goes.link k.6)),
+                  (subst (λ l. LiesAmong (Charged (Rattle.vx_turn.specs.declared.ask.Job.TheVariants.Acked l k.0 k.1), Worked (job.Done k.2) k.3) b.moves.more) w.goes.link k.6)),
             ),
       )
 
   -- a placed answer has a place that is taken
-  placed-below : (start : State) (firsts : List P) (plan : List Planned) (log : List Entry) (s : State) (ps : List P) (answers : List Answered) (n : ℕ) (stays : Events) → Stage stand root start firsts plan log s ps answers n stays
+  placed-below : (start : State) (firsts : List P) (plan : List Planned) (log : List Entry) (s : State) (ps : List P) (answers : List Answered) (n : ℕ) (stays : Events) → BurstStage stand root start firsts plan log s ps answers n stays
       → (k : ℕ) (a : Answered) → slice_get answers k ≡ Some a → 0 < a.place → a.place ≤ n
   placed-below start firsts plan log s ps answers n stays g k a at some = let inside = get-inside answers k a at in let l = g.long in let pl = get-some plan k (omega (arith, l, inside)) in
       let x = get-inside stays (a.place - 1) (Ordered (call_for pl.0), Replied (g.each k pl.0 a pl.1 at some).reply) (g.each k pl.0 a pl.1 at some).at in let c = g.count in omega (arith, x, c, some)
 
   pub stage-asked : (start : State) (firsts : List P) (plan : List Planned) (log : List Entry) (s t : State) (ps qs : List P) (answers : List Answered) (n : ℕ) (stays : Events) (k : ℕ) (pl : Planned) (old a : Answered)
-      → Stage stand root start firsts plan log s ps answers n stays → slice_get plan k ≡ Some pl → slice_get answers k ≡ Some old → old.place ≡ 0 → ArePlaced answers k → AskedOne stand root s ps pl (n + 1) a t qs
-      → (log2 : List Entry) × (stays2 : Events) × Stage stand root start firsts plan log2 t qs (slice_set answers k a) (n + 1) stays2
+      → BurstStage stand root start firsts plan log s ps answers n stays → slice_get plan k ≡ Some pl → slice_get answers k ≡ Some old → old.place ≡ 0 → ArePlaced answers k → AskedOne stand root s ps pl (n + 1) a t qs
+      → (log2 : List Entry) × (stays2 : Events) × BurstStage stand root start firsts plan log2 t qs (slice_set answers k a) (n + 1) stays2
   stage-asked start firsts plan log s t ps qs answers n stays k pl old a g at was none placed (reply, again, told, place) = (
     log ++ more,
     stays2,
     record {
-      underway = subst (λ l. Underway stand root start firsts l t qs) whole (underway-acts stand root start firsts (log ++ jobs) mid t qs (Ordered (call_for pl)) (Replied reply) tt (underway-brings stand root start firsts log s mid ps qs g.underway b) again.acts);
+      underway = subst (λ l. BurstUnderway stand root start firsts l t qs) whole (underway-acts stand root start firsts (log ++ jobs) mid t qs (Ordered (call_for pl)) (Replied reply) tt (underway-brings stand root start firsts log s mid ps qs g.underway b) again.acts);
       left = subst (λ l. Stay (IsAskedAgain plan (slice_set answers k a)) 0 l stays2) (sym seen) (stay-call (IsAskedAgain plan (slice_set answers k a)) 0 (map asked log ++ b.moves.more) stays (Ordered (call_for pl), Replied reply) tt
           (stay-jobs (IsAskedAgain plan (slice_set answers k a)) 0 (map asked log) b.moves.more stays b.moves.jobs
           (stay-as (IsAskedAgain plan answers) (IsAskedAgain plan (slice_set answers k a)) 0 (map asked log) stays (λ m call le h. again-set plan answers k old a n m call was none place (let c = g.count in omega (arith, c, le)) h) g.left)));
-      calls = λ e m. ⊎_elim (λ (x : Among e log). g.calls e x) (λ (x : Among e more). ⊎_elim (λ (y : Among e jobs). job-of-plan plan e.ask e.said (b.moves.jobs e.ask e.said (jobs-among s.counts b.moves.more e y)))
-          (λ (y : Among e (last ∷ [])). subst (λ (z : Entry). IsOfPlan plan z.ask) (among-one e last y) (k, pl, at, refl)) (among-split e jobs (last ∷ []) x)) (among-split e log more m);
+      calls = λ e m. ⊎_elim (λ (x : LiesAmong e log). g.calls e x) (λ (x : LiesAmong e more). ⊎_elim (λ (y : LiesAmong e jobs). job-of-plan plan e.ask e.said (b.moves.jobs e.ask e.said (jobs-among s.counts b.moves.more e y)))
+          (λ (y : LiesAmong e (last ∷ [])). subst (λ (z : Entry). IsOfPlan plan z.ask) (among-one e last y) (k, pl, at, refl)) (among-split e jobs (last ∷ []) x)) (among-split e log more m);
       count = let c = g.count in let z = Rattle.std.proofs.Common.length-append stays ((Ordered (call_for pl), Replied reply) ∷ []) in omega (arith, c, z);
       rest = let r = g.rest in let u = unplaced-set answers k old a was none (omega (arith, place)) in omega (arith, r, u);
       long = set-long answers k a ∙ g.long;
@@ -282,7 +282,7 @@ module _ {P : Type 0} (stand : P → Stand) (root : P → P) where
             record { entry = last; rest = []; is = sym whole ∙ sym (append-nil ((log ++ jobs) ++ last ∷ [])); asks = refl; says = refl },
             moment,
             brought-excuse start firsts log s again.mid t ps qs g.underway again.brings again.acts.rises.0 calm.0
-                (λ j cause into m. calm.1 j cause into (subst (Among (Charged j, Worked (job.Refused cause) into)) (sym seen)
+                (λ j cause into m. calm.1 j cause into (subst (LiesAmong (Charged j, Worked (job.Refused cause) into)) (sym seen)
                 (among-left (Charged j, Worked (job.Refused cause) into) (map asked log ++ again.brings.moves.more) ((Ordered (call_for pl), Replied reply) ∷ [])
                 (Rattle.vx_settle.proofs.Bringings.among-right (Charged j, Worked (job.Refused cause) into) (map asked log) again.brings.moves.more m))))
                 (head_behind start (log ++ jobs)) top,

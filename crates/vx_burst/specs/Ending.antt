@@ -2,11 +2,11 @@
 use Rattle.std.specs.Prelude.{◌≡◌, ℕ, suc, List, [], length, slice_get, Some}
 use Rattle.vx_turn.specs.declared.meaning.Entry.{Entry}
 use Rattle.vx_settle.specs.Bringing.{Events}
-use Rattle.vx_burst.specs.Finishing.{Stage, ArePlaced, Leads, IsWaited}
+use Rattle.vx_burst.specs.Finishing.{BurstStage, ArePlaced, LeadsHistory, IsWaited}
 use Rattle.atomic_table.specs.Seated.{TableId}
 use Rattle.vx_turn.specs.declared.passes.Pass.{Pass}
 use Rattle.vx_turn.specs.declared.meaning.State.{State}
-use Rattle.vx_turn.specs.Passing.{IsNew, Closes}
+use Rattle.vx_turn.specs.Passing.{IsNewPass, ClosesTurn}
 use Rattle.vx_settle.specs.declared.peer.Stand.{Stand}
 use Rattle.vx_burst_threads.specs.declared.plan.Planned.{Planned}
 use Rattle.vx_burst_threads.specs.declared.plan.Answered.{Answered}
@@ -21,18 +21,18 @@ pub record HasJoined {E P : Type 0} (stand : P → Stand) (root : P → P) (stat
   pub back : backs ws ≡ firsts
   pub all : callers ≡ suc (length ws)
   pub pass : Pass
-  pub own : IsNew z (state first) callers (length ws) pass
+  pub own : IsNewPass z (state first) callers (length ws) pass
   pub last : Pass
   pub worked : WorkedAndMet stand root plan pass [] ws olds last out news
-  pub closes : Closes state base first last engine
+  pub closes : ClosesTurn state base first last engine
 
 -- the whole burst: one legal history leads from the engine that was handed in to the one that comes back; the answers have the places 1 to
 -- the plan's length among the calls of it that stay, which are a legal history too, and each that is logged was waited for
 pub record Ran {E P : Type 0} (stand : P → Stand) (root : P → P) (state : E → State) (base : E → E) (plan : List Planned) (first : E) (firsts : List P) (engine : E) (peers : List P) (answers : List Answered) : Type 0 where
   pub log : List Entry
   pub stays : Events
-  pub stage : Stage stand root (state first) firsts plan log (state engine) peers answers (length plan) stays
+  pub stage : BurstStage stand root (state first) firsts plan log (state engine) peers answers (length plan) stays
   pub placed : ArePlaced answers (length plan)
-  pub leads : Leads (state first) stays (state engine)
+  pub leads : LeadsHistory (state first) stays (state engine)
   pub waited : (k : ℕ) (a : Answered) → slice_get answers k ≡ Some a → IsWaited stand root (state first) firsts log (state engine) peers a
   pub rooted : base engine ≡ base first

@@ -12,11 +12,11 @@ use Rattle.vx_model.specs.declared.no.No.TheVariants as no
 use Rattle.vx_turn.specs.declared.ask.JobReply.TheVariants as job
 use Rattle.vx_turn.specs.declared.meaning.Entry.{Entry}
 use Rattle.vx_turn.specs.declared.meaning.State.{State}
-use Rattle.vx_turn.specs.Acting.{Among, Rose}
-use Rattle.vx_turn.specs.History.{Legal, Fits, HasLogged, asked, point_of, point_after}
+use Rattle.vx_turn.specs.Acting.{LiesAmong, CountRose}
+use Rattle.vx_turn.specs.History.{Legal, FitsHistory, HasLogged, asked, point_of, point_after}
 use Rattle.vx_settle.specs.declared.peer.Stand.{Stand}
-use Rattle.vx_settle.specs.Peers.{Goes, LiesIn}
-use Rattle.vx_settle.specs.Bringing.{Events, NoLimit, NoGone, HasAcked, AsksAgain, Waits}
+use Rattle.vx_settle.specs.Peers.{PeerGoes, LiesIn}
+use Rattle.vx_settle.specs.Bringing.{Events, NoLimit, NoGone, HasAcked, AsksAgain, WaitsFor}
 use Rattle.vx_settle.specs.declared.bringing.Ended.{Ended}
 use Rattle.vx_settle.specs.declared.bringing.Ended.TheVariants as ended
 use Rattle.vx_burst_threads.specs.declared.plan.Told.{Told}
@@ -25,20 +25,20 @@ use Rattle.vx_burst_threads.specs.declared.plan.Planned.{Planned}
 use Rattle.vx_burst_threads.specs.declared.plan.Answered.{Answered}
 use Rattle.vx_burst_threads.specs.declared.plan.Told.TheVariants as told
 use Rattle.vx_burst_threads.specs.declared.plan.Waited.TheVariants as waited
-use Rattle.vx_burst_threads.specs.Planning.{call_for, IsTold, IsStalled}
+use Rattle.vx_burst_threads.specs.Planning.{call_for, IsToldAs, IsStalled}
 use Rattle.vx_burst.specs.Setting.{one_if}
 
 -- no acknowledgement of this link has a number above this one
 abbrev pub NoneAbove : ℕ → ℕ → Events → Type 0
-NoneAbove link net es = (n stored : ℕ) (said : Said) → Among (Charged (Acked link n stored), said) es → n ≤ net
+NoneAbove link net es = (n stored : ℕ) (said : Said) → LiesAmong (Charged (Acked link n stored), said) es → n ≤ net
 
 module _ {P : Type 0} (stand : P → Stand) (root : P → P) where
   -- the peer p became q: each update that it got was logged in the history, or kept at the start
   pub record Went (start : State) (log : List Entry) (p q : P) : Type 0 where
-    pub goes : Goes (stand p) (stand q)
+    pub goes : PeerGoes (stand p) (stand q)
     pub got : List Update
     pub handed : (stand q).handed ≡ (stand p).handed ++ got
-    pub from : (u : Update) → Among u got → Among u start.kept ⊎ HasLogged start.line log u
+    pub from : (u : Update) → LiesAmong u got → LiesAmong u start.kept ⊎ HasLogged start.line log u
     pub rooted : root q ≡ root p
 
   -- an acknowledgement is of one of the peers, and its numbers are not above that peer's
@@ -47,34 +47,34 @@ module _ {P : Type 0} (stand : P → Stand) (root : P → P) where
   AckWithin ps ask = Unit {0}
 
   -- the engine is where a legal history has come to, and each peer went on by what that history logged
-  pub record Underway (start : State) (firsts : List P) (log : List Entry) (s : State) (ps : List P) : Type 0 where
+  pub record BurstUnderway (start : State) (firsts : List P) (log : List Entry) (s : State) (ps : List P) : Type 0 where
     pub legal : Legal start log
-    pub fits : Fits start log s
+    pub fits : FitsHistory start log s
     pub long : length ps ≡ length firsts
     pub each : (i : ℕ) (p q : P) → slice_get firsts i ≡ Some p → slice_get ps i ≡ Some q → Went start log p q
-    pub acks : (e : Entry) → Among e log → AckWithin ps e.ask
+    pub acks : (e : Entry) → LiesAmong e log → AckWithin ps e.ask
 
   -- nothing stood in the way of the link in the whole run, up to the end of these events, where the peer had received up to net
-  pub record IsSound (start : State) (front : List Entry) (p q : P) (net : ℕ) : Type 0 where
+  pub record IsSoundRun (start : State) (front : List Entry) (p q : P) (net : ℕ) : Type 0 where
     pub line : (stand p).line ≡ start.line
-    pub calm : Rose (stand p).faults (stand q).faults → ⊥
-    pub kept : (u : Update) → Among u start.kept → LiesIn (stand p).sizes u
+    pub calm : CountRose (stand p).faults (stand q).faults → ⊥
+    pub kept : (u : Update) → LiesAmong u start.kept → LiesIn (stand p).sizes u
     pub logged : (u : Update) → HasLogged start.line front u → LiesIn (stand p).sizes u
     pub there : NoGone (net + 1) (map asked front)
 
   -- no two peers are of one link
-  abbrev pub AreApart : List P → Type 0
-  AreApart ps = (i j : ℕ) (p q : P) → slice_get ps i ≡ Some p → slice_get ps j ≡ Some q → (stand p).link ≡ (stand q).link → i ≡ j
+  abbrev pub PeersApart : List P → Type 0
+  PeersApart ps = (i j : ℕ) (p q : P) → slice_get ps i ≡ Some p → slice_get ps j ≡ Some q → (stand p).link ≡ (stand q).link → i ≡ j
 
   -- each peer that is sound at the end of these events, where it has received up to net, had acknowledged this number before it, and was
   -- not refused. No acknowledgement of its link has a number above net until then
   abbrev pub Excused : State → List P → List P → List Entry → ℕ → Type 0
   Excused start firsts ps front number = (i : ℕ) (p q : P) → slice_get firsts i ≡ Some p → slice_get ps i ≡ Some q
-      → (net : ℕ) × ((stand p).net ≤ net) × (net ≤ (stand q).net) × (AreApart firsts → NoneAbove (stand p).link net (map asked front)) × (IsSound start front p q net → HasAcked (stand p).link number (map asked front))
+      → (net : ℕ) × ((stand p).net ≤ net) × (net ≤ (stand q).net) × (PeersApart firsts → NoneAbove (stand p).link net (map asked front)) × (IsSoundRun start front p q net → HasAcked (stand p).link number (map asked front))
 
 -- the count of faults did not rise in the run, and no job was refused for a greatest number or a digest
 abbrev pub IsCalm : State → List Entry → State → Type 0
-IsCalm start log s = (Rose start.counts.faults s.counts.faults → ⊥) × NoLimit (map asked log)
+IsCalm start log s = (CountRose start.counts.faults s.counts.faults → ⊥) × NoLimit (map asked log)
 
 -- the history is front, and then an entry that asked this and was said that, and then some more
 pub record Splits (log front : List Entry) (ask : Ask) (said : Said) : Type 0 where
@@ -88,9 +88,9 @@ pub record Splits (log front : List Entry) (ask : Ask) (said : Said) : Type 0 wh
 abbrev pub head_behind : State → List Entry → ℕ
 head_behind start front = (point_after (point_of start) front).head
 
-abbrev pub IsOrdered : Ask → Type 0
-IsOrdered (Ordered call) = Unit {0}
-IsOrdered ask = ⊥
+abbrev pub IsCallAsk : Ask → Type 0
+IsCallAsk (Ordered call) = Unit {0}
+IsCallAsk ask = ⊥
 
 -- a job is left out, and so may be a stalled answer to a call for which IsLeft says so, behind so many calls that stay
 abbrev pub IsLeftOut : (ℕ → Call → Type 0) → ℕ → Ask → Said → Type 0
@@ -101,10 +101,10 @@ IsLeftOut IsLeft n ask said = ⊥
 -- the calls that stay of these events, behind n that stay before them
 abbrev pub Stay : (ℕ → Call → Type 0) → ℕ → Events → Events → Type 0
 Stay IsLeft n [] ys = ys ≡ []
-Stay IsLeft n (x ∷ xs) ys = (IsLeftOut IsLeft n x.0 x.1 × Stay IsLeft n xs ys) ⊎ ((zs : Events) × (ys ≡ x ∷ zs) × IsOrdered x.0 × Stay IsLeft (suc n) xs zs)
+Stay IsLeft n (x ∷ xs) ys = (IsLeftOut IsLeft n x.0 x.1 × Stay IsLeft n xs ys) ⊎ ((zs : Events) × (ys ≡ x ∷ zs) × IsCallAsk x.0 × Stay IsLeft (suc n) xs zs)
 
 -- these calls are themselves a legal history, which leads to the engine's volumes and last number
-pub record Leads (start : State) (calls : Events) (s : State) : Type 0 where
+pub record LeadsHistory (start : State) (calls : Events) (s : State) : Type 0 where
   pub entries : List Entry
   pub are : map asked entries ≡ calls
   pub legal : Legal start entries
@@ -147,14 +147,14 @@ module _ {P : Type 0} (stand : P → Stand) (root : P → P) where
   pub record IsPlaced (start : State) (firsts : List P) (log : List Entry) (s : State) (ps : List P) (stays : Events) (pl : Planned) (a : Answered) : Type 0 where
     pub reply : Reply
     pub at : slice_get stays (a.place - 1) ≡ Some (Ordered (call_for pl), Replied reply)
-    pub told : IsTold reply a.reply
+    pub told : IsToldAs reply a.reply
     pub stalled : IsStalled reply → HasExcuse start firsts log s ps (Ordered (call_for pl)) (λ said. said ≡ Replied reply) (AreBefore (take (a.place - 1) stays)) (head_behind start)
 
   -- so many of the plan's members have their places, from 1, each once, and rising in each thread
-  pub record Stage (start : State) (firsts : List P) (plan : List Planned) (log : List Entry) (s : State) (ps : List P) (answers : List Answered) (taken : ℕ) (stays : Events) : Type 0 where
-    pub underway : Underway stand root start firsts log s ps
+  pub record BurstStage (start : State) (firsts : List P) (plan : List Planned) (log : List Entry) (s : State) (ps : List P) (answers : List Answered) (taken : ℕ) (stays : Events) : Type 0 where
+    pub underway : BurstUnderway stand root start firsts log s ps
     pub left : Stay (IsAskedAgain plan answers) 0 (map asked log) stays
-    pub calls : (e : Entry) → Among e log → IsOfPlan plan e.ask
+    pub calls : (e : Entry) → LiesAmong e log → IsOfPlan plan e.ask
     pub count : length stays ≡ taken
     pub rest : taken + unplaced answers ≡ length plan
     pub long : length answers ≡ length plan
@@ -165,36 +165,36 @@ module _ {P : Type 0} (stand : P → Stand) (root : P → P) where
 
   -- a stage is followed by another one
   abbrev pub StagesOn : List Planned → State → List P → List Answered → ℕ → State → List P → List Answered → ℕ → Type 0
-  StagesOn plan s ps as1 n t qs bs m = (start : State) (firsts : List P) (log : List Entry) (stays : Events) → Stage start firsts plan log s ps as1 n stays
-      → (log2 : List Entry) × (stays2 : Events) × Stage start firsts plan log2 t qs bs m stays2
+  StagesOn plan s ps as1 n t qs bs m = (start : State) (firsts : List P) (log : List Entry) (stays : Events) → BurstStage start firsts plan log s ps as1 n stays
+      → (log2 : List Entry) × (stays2 : Events) × BurstStage start firsts plan log2 t qs bs m stays2
 
   -- the call was asked again, behind everything that the peers could be brought to take
   abbrev pub AskedOne : State → List P → Planned → ℕ → Answered → State → List P → Type 0
-  AskedOne s ps pl place a t qs = (reply : Reply) × AsksAgain stand root s ps (call_for pl) reply t qs × IsTold reply a.reply × (a.place ≡ place)
+  AskedOne s ps pl place a t qs = (reply : Reply) × AsksAgain stand root s ps (call_for pl) reply t qs × IsToldAs reply a.reply × (a.place ≡ place)
 
   -- how the waiting for a logged write ended, and why it did not
   pub record IsWaited (start : State) (firsts : List P) (log : List Entry) (s : State) (ps : List P) (a : Answered) : Type 0 where
-    pub done : a.waited ≡ waited.Done → (n : ℕ) × (into : Update) × (a.reply ≡ told.Logged n) × Among (Charged (Wait n), Worked (job.Done n) into) (map asked log)
-    pub unconfirmed : a.waited ≡ waited.Unconfirmed → (n : ℕ) × (into : Update) × (a.reply ≡ told.Logged n) × Among (Charged (Wait n), Worked (job.Refused (no.Unconfirmed n)) into) (map asked log)
+    pub done : a.waited ≡ waited.Done → (n : ℕ) × (into : Update) × (a.reply ≡ told.Logged n) × LiesAmong (Charged (Wait n), Worked (job.Done n) into) (map asked log)
+    pub unconfirmed : a.waited ≡ waited.Unconfirmed → (n : ℕ) × (into : Update) × (a.reply ≡ told.Logged n) × LiesAmong (Charged (Wait n), Worked (job.Refused (no.Unconfirmed n)) into) (map asked log)
     pub no : a.waited ≡ waited.No → (n : ℕ) → a.reply ≡ told.Logged n → HasExcuse start firsts log s ps (Charged (Wait n)) IsNothing (λ front. Unit {0}) (λ front. n)
 
-abbrev pub ended_as : Ended → Waited
-ended_as ended.No = waited.No
-ended_as ended.Done = waited.Done
-ended_as ended.Unconfirmed = waited.Unconfirmed
+abbrev pub waiting_end : Ended → Waited
+waiting_end ended.No = waited.No
+waiting_end ended.Done = waited.Done
+waiting_end ended.Unconfirmed = waited.Unconfirmed
 
 module _ {P : Type 0} (stand : P → Stand) (root : P → P) where
   -- a logged call was waited for, and for another nothing was done
   abbrev pub WaitedOne : State → List P → Told → Waited → State → List P → Type 0
-  WaitedOne s ps reply r t qs = ((n : ℕ) × (e : Ended) × (reply ≡ told.Logged n) × Waits stand root s ps n e t qs × (r ≡ ended_as e))
+  WaitedOne s ps reply r t qs = ((n : ℕ) × (e : Ended) × (reply ≡ told.Logged n) × WaitsFor stand root s ps n e t qs × (r ≡ waiting_end e))
       ⊎ (((n : ℕ) → reply ≡ told.Logged n → ⊥) × (r ≡ waited.No) × (t ≡ s) × (qs ≡ ps))
 
   -- the first k answers were waited for: each stage is followed by one with the same answers but for that
   pub record WaitedOn (start : State) (firsts : List P) (plan : List Planned) (n : ℕ) (stays : Events) (k : ℕ) (t : State) (qs : List P) (answers : List Answered) : Type 0 where
     pub log : List Entry
-    pub stage : Stage stand root start firsts plan log t qs answers n stays
+    pub stage : BurstStage stand root start firsts plan log t qs answers n stays
     pub waited : (j : ℕ) (a : Answered) → j < k → slice_get answers j ≡ Some a → IsWaited stand root start firsts log t qs a
 
   abbrev pub WaitsOn : State → List P → List Answered → ℕ → State → List P → List Answered → Type 0
-  WaitsOn s ps olds k t qs answers = (start : State) (firsts : List P) (plan : List Planned) (log : List Entry) (n : ℕ) (stays : Events) → Stage stand root start firsts plan log s ps olds n stays → ArePlaced olds (length olds)
+  WaitsOn s ps olds k t qs answers = (start : State) (firsts : List P) (plan : List Planned) (log : List Entry) (n : ℕ) (stays : Events) → BurstStage stand root start firsts plan log s ps olds n stays → ArePlaced olds (length olds)
       → WaitedOn start firsts plan n stays k t qs answers

@@ -1,9 +1,9 @@
 // A burst.
-ghost use Rattle.vx_turn.specs.Passing.{table_of, first_of, AreDealt};
+ghost use Rattle.vx_turn.specs.Passing.{table_of, first_engine, AreDealt};
 ghost use Rattle.std.specs.Prelude.{◌≡◌, ◌≤◌, ◌<◌, ◌+◌, false, [], length, vec_capacity, IfOk, IfErr};
 ghost use Rattle.vx_settle.specs.Bringing.{HaveLinks};
 ghost use Rattle.vx_burst_threads.specs.Planning.{AllCalls};
-ghost use Rattle.vx_burst.specs.Setting.{HasRoom, AreRooms};
+ghost use Rattle.vx_burst.specs.Setting.{HasBurstRoom, AreThreadRooms};
 ghost use Rattle.vx_burst.specs.Ending.{HasJoined, Ran};
 
 use crate::finishing::{ask_rest, wait_all};
@@ -50,14 +50,14 @@ fn join_all<H: Threads + Wait + Sync, E: Engine, P: Peer, G: Gate>(
     back: Vec<P>,
     answers: &mut [Answered],
 ) -> Left<E, P>
-    requires dealt { AreDealt (table_of turn) (E.state (first_of turn)) callers callers passes }
-    requires links { HaveLinks P.stand (E.state (first_of turn)) peers.items }
+    requires dealt { AreDealt (table_of turn) (E.state (first_engine turn)) callers callers passes }
+    requires links { HaveLinks P.stand (E.state (first_engine turn)) peers.items }
     requires calls { AllCalls plan.now }
-    requires rooms { AreRooms plan.now threads made.items × (length made.items ≡ threads) }
+    requires rooms { AreThreadRooms plan.now threads made.items × (length made.items ≡ threads) }
     requires room { (workers.items ≡ []) × (threads + length peers.items ≤ vec_capacity workers) }
     requires callers { callers ≡ threads + length peers.items + 1 }
     requires back { (back.items ≡ []) × (callers ≤ vec_capacity back + 1) }
-    ensures { HasJoined P.stand P.root E.state E.root (first_of turn) (table_of turn) callers plan.now peers.items answers.old result.engine result.peers.items answers.new }
+    ensures { HasJoined P.stand P.root E.state E.root (first_engine turn) (table_of turn) callers plan.now peers.items answers.old result.engine result.peers.items answers.new }
 {
     let mut passes = passes;
     let mut peers = peers;
@@ -83,12 +83,12 @@ fn work_all<H: Threads + Wait + Sync, E: Engine, P: Peer, G: Gate>(
     gate: &G,
     room: Room<P>,
 ) -> Outcome<E, P>
-    requires room { HasRoom plan.now threads (length peers.items) room }
-    requires dealt { AreDealt (table_of turn) (E.state (first_of turn).inner) (threads + length peers.items + 1) (threads + length peers.items + 1) passes }
-    requires links { HaveLinks P.stand (E.state (first_of turn).inner) peers.items }
+    requires room { HasBurstRoom plan.now threads (length peers.items) room }
+    requires dealt { AreDealt (table_of turn) (E.state (first_engine turn).inner) (threads + length peers.items + 1) (threads + length peers.items + 1) passes }
+    requires links { HaveLinks P.stand (E.state (first_engine turn).inner) peers.items }
     requires calls { AllCalls plan.now }
     requires few { (threads ≤ MOST_THREADS) × (length peers.items ≤ MOST_PEERS) }
-    ensures { Ran P.stand P.root E.state E.root plan.now (first_of turn.entry).inner peers.items result.engine result.peers.items result.answers.items }
+    ensures { Ran P.stand P.root E.state E.root plan.now (first_engine turn.entry).inner peers.items result.engine result.peers.items result.answers.items }
 {
     let Room {
         answers,

@@ -2,7 +2,7 @@
 ghost use Rattle.std.specs.Prelude.{◌≡◌, ◌≤◌, ◌<◌, ◌+◌, length};
 ghost use Rattle.vx_settle.specs.Bringing.{HaveLinks};
 ghost use Rattle.vx_burst_threads.specs.Planning.{IsCall, AllCalls};
-ghost use Rattle.vx_burst.specs.Finishing.{AskedOne, StagesOn, ArePlaced, unplaced, ended_as, WaitedOne, WaitsOn};
+ghost use Rattle.vx_burst.specs.Finishing.{AskedOne, StagesOn, ArePlaced, unplaced, waiting_end, WaitedOne, WaitsOn};
 
 use vx_burst_threads::{Answered, Planned, Told, Waited, call_of, tell};
 use vx_settle::{Ended, Peer, answer_again, wait_for};
@@ -10,7 +10,7 @@ use vx_turn::Engine;
 
 // How the waiting ended.
 fn waited(ended: Ended) -> Waited
-    ensures { result ≡ ended_as ended }
+    ensures { result ≡ waiting_end ended }
 {
     match ended {
         Ended::No => Waited::No,

@@ -1,6 +1,6 @@
 // The places of calls among those that stay, by their places in the history.
 ghost use Rattle.std.specs.Prelude.{◌≡◌, ◌≤◌, ◌+◌, ◌++◌, [], length, vec_capacity};
-ghost use Rattle.vx_burst.specs.Placing.{spot_of, Noted, Sorted, Once, AreInside, Numbered, Renumbered};
+ghost use Rattle.vx_burst.specs.Placing.{spot_of, SpotsNoted, Sorted, NotedOnce, SpotsInside, SpotsNumbered, Renumbered};
 
 use vx_burst_threads::Answered;
 
@@ -25,7 +25,7 @@ fn note_one(order: &mut Vec<Spot>, place: u64, at: usize)
 // Notes each answer that has a place.
 fn note(answers: &[Answered], order: Vec<Spot>) -> Vec<Spot>
     requires { (order.items ≡ []) × (length answers.now ≤ vec_capacity order) }
-    ensures { Noted answers.now (length answers.now) result.items }
+    ensures { SpotsNoted answers.now (length answers.now) result.items }
 {
     let mut order = order;
     for k in 0..answers.len() {
@@ -45,9 +45,9 @@ fn sort(order: Vec<Spot>) -> Vec<Spot>
 
 // Gives each answer that was noted its place among them.
 fn number(answers: &mut [Answered], order: &[Spot])
-    requires once { Once order.now }
-    requires inside { AreInside (length answers.old) order.now }
-    ensures { Numbered order.now (length order.now) answers.old answers.new }
+    requires once { NotedOnce order.now }
+    requires inside { SpotsInside (length answers.old) order.now }
+    ensures { SpotsNumbered order.now (length order.now) answers.old answers.new }
 {
     for k in 0..order.len() {
         let at = order[k].at;

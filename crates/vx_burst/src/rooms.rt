@@ -1,7 +1,7 @@
 // The memory of a burst, all of which is taken before its first call.
 ghost use Rattle.std.specs.Prelude.{◌≡◌, ◌≤◌, ◌==◌, length, IfSome};
 ghost use Rattle.vx_burst_threads.specs.Planning.{own_count};
-ghost use Rattle.vx_burst.specs.Setting.{AreBlank, AreRooms, HasRoom, one_if};
+ghost use Rattle.vx_burst.specs.Setting.{AreBlank, AreThreadRooms, HasBurstRoom, one_if};
 
 use crate::limits::{MOST_PEERS, MOST_THREADS};
 use crate::placing::Spot;
@@ -69,7 +69,7 @@ fn own(plan: &[Planned], thread: u32) -> usize
 
 // Room for what each thread makes, the last thread's first.
 fn spaces(alloc: Global, plan: &[Planned], threads: u32) -> Option<Vec<Space>>
-    ensures { IfSome result (λ v. AreRooms plan.now threads v.items × (length v.items ≡ threads)) }
+    ensures { IfSome result (λ v. AreThreadRooms plan.now threads v.items × (length v.items ≡ threads)) }
 {
     let Ok(mut all) = Vec::with_capacity(alloc, threads as usize) else {
         return None;
@@ -95,7 +95,7 @@ pub(crate) fn take_room<P: Drop>(
     peers: usize,
 ) -> Option<Room<P>>
     requires { (peers ≤ MOST_PEERS) × (threads ≤ MOST_THREADS) }
-    ensures { IfSome result (λ r. HasRoom plan.now threads peers r) }
+    ensures { IfSome result (λ r. HasBurstRoom plan.now threads peers r) }
 {
     let answers = blanks(alloc, plan.len())?;
     let made = spaces(alloc, plan, threads)?;

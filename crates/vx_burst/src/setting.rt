@@ -1,10 +1,10 @@
 // The workers of a burst, before they work.
 ghost use Rattle.std.specs.Prelude.{◌≡◌, ◌+◌, ◌≤◌, ◌<◌, [], length, vec_capacity};
-ghost use Rattle.vx_turn.specs.Passing.{table_of, first_of};
+ghost use Rattle.vx_turn.specs.Passing.{table_of, first_engine};
 ghost use Rattle.vx_settle.specs.Bringing.{HaveLinks};
 ghost use Rattle.vx_burst_threads.specs.Planning.{AllCalls};
 ghost use Rattle.vx_burst_threads.specs.Joining.{backs};
-ghost use Rattle.vx_burst.specs.Setting.{AreRooms, Set};
+ghost use Rattle.vx_burst.specs.Setting.{AreThreadRooms, Set};
 
 use crate::rooms::Space;
 use vx_burst_threads::{Drainer, Planned, Worker, Writer};
@@ -21,12 +21,12 @@ pub(crate) fn set_writers<E: Engine, P: Peer>(
     threads: u32,
     workers: Vec<Worker<P>>,
 ) -> Vec<Worker<P>>
-    requires set { Set P.stand (table_of turn.now) (E.state (first_of turn.now)) callers plan.now workers.items passes.old }
+    requires set { Set P.stand (table_of turn.now) (E.state (first_engine turn.now)) callers plan.now workers.items passes.old }
     requires none { workers.items ≡ [] }
     requires calls { AllCalls plan.now }
-    requires rooms { AreRooms plan.now threads rooms.items × (length rooms.items ≡ threads) }
+    requires rooms { AreThreadRooms plan.now threads rooms.items × (length rooms.items ≡ threads) }
     requires room { (threads < callers) × (threads ≤ vec_capacity workers) }
-    ensures set { Set P.stand (table_of turn.now) (E.state (first_of turn.now)) callers plan.now result.items passes.new }
+    ensures set { Set P.stand (table_of turn.now) (E.state (first_engine turn.now)) callers plan.now result.items passes.new }
     ensures back { (backs result.items ≡ []) × (length result.items ≡ threads) }
     ensures room { vec_capacity workers ≤ vec_capacity result }
 {
@@ -60,11 +60,11 @@ pub(crate) fn set_drainers<E: Engine, P: Peer>(
     peers: &mut Vec<P>,
     workers: Vec<Worker<P>>,
 ) -> Vec<Worker<P>>
-    requires set { Set P.stand (table_of turn.now) (E.state (first_of turn.now)) callers plan.now workers.items passes.old }
-    requires links { HaveLinks P.stand (E.state (first_of turn.now)) peers.old.items }
+    requires set { Set P.stand (table_of turn.now) (E.state (first_engine turn.now)) callers plan.now workers.items passes.old }
+    requires links { HaveLinks P.stand (E.state (first_engine turn.now)) peers.old.items }
     requires room { (length workers.items + length peers.old.items < callers) × (length workers.items + length peers.old.items ≤ vec_capacity workers) }
     requires back { backs workers.items ≡ [] }
-    ensures set { Set P.stand (table_of turn.now) (E.state (first_of turn.now)) callers plan.now result.items passes.new }
+    ensures set { Set P.stand (table_of turn.now) (E.state (first_engine turn.now)) callers plan.now result.items passes.new }
     ensures back { backs result.items ≡ peers.old.items }
     ensures none { peers.new.items ≡ [] }
     ensures long { length result.items ≡ length workers.items + length peers.old.items }

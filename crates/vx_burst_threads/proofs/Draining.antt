@@ -13,19 +13,19 @@ use Rattle.vx_model.specs.declared.call.Update.{Update}
 use Rattle.vx_turn.specs.declared.meaning.Entry.{Entry}
 use Rattle.vx_turn.specs.declared.meaning.State.{State}
 use Rattle.vx_turn.specs.declared.passes.Pass.{Pass}
-use Rattle.vx_turn.specs.Acting.{Among}
-use Rattle.vx_turn.specs.History.{Begins, HasLogged, places_from}
-use Rattle.vx_turn.specs.Passing.{seen_of, start_of, mine_of, IsSame, Calls, Jobs}
+use Rattle.vx_turn.specs.Acting.{LiesAmong}
+use Rattle.vx_turn.specs.History.{BeginsWith, HasLogged, places_from}
+use Rattle.vx_turn.specs.Passing.{seen_of, start_of, mine_of, IsSame, PassCalls, Jobs}
 use Rattle.vx_turn.proofs.Histories.{begins-self, begins-trans, among-split, logged-more}
 use Rattle.vx_settle.specs.declared.peer.Ack.{Ack}
 use Rattle.vx_settle.specs.declared.peer.Stand.{Stand}
-use Rattle.vx_settle.specs.Peers.{Goes, Hands, Finishes}
+use Rattle.vx_settle.specs.Peers.{PeerGoes, Hands, Finishes}
 use Rattle.vx_settle.proofs.Bringings.{goes-none, goes-then, among-one}
-use Rattle.vx_burst_threads.specs.Writing.{Keeps}
+use Rattle.vx_burst_threads.specs.Writing.{KeepsPass}
 use Rattle.vx_burst_threads.specs.Draining.{JobFits, JobsFit, Drained}
 use Rattle.vx_burst_threads.proofs.Making.{keeps-self, keeps-then, called-keeps, called-behind}
 
-pub fits-later : (a b : Stand) → Goes a b → (ask : Ask) → JobFits a ask → JobFits b ask
+pub fits-later : (a b : Stand) → PeerGoes a b → (ask : Ask) → JobFits a ask → JobFits b ask
 fits-later a b g (Charged (Acked link net stored)) f = (f.0 ∙ sym g.link, (let x = f.1 in let y = g.net in omega (arith, x, y)), (let x = f.2 in let y = g.stored in omega (arith, x, y)))
 fits-later a b g (Charged (Apply n)) f = tt
 fits-later a b g (Charged (Fetch n)) f = tt
@@ -41,19 +41,19 @@ drained-then p q r a b c x y = record {
   goes = goes-then a b c x.goes y.goes;
   got = x.got ++ y.got;
   handed = y.handed ∙ (ap (λ l. l ++ y.got) x.handed ∙ append_assoc a.handed x.got y.got);
-  from = λ u m. ⊎_elim (λ (o : Among u x.got). ⊎_elim (λ (k : Among u (start_of q).kept). inl (subst (λ (s : State). Among u s.kept) (sym y.keeps.1) k))
+  from = λ u m. ⊎_elim (λ (o : LiesAmong u x.got). ⊎_elim (λ (k : LiesAmong u (start_of q).kept). inl (subst (λ (s : State). LiesAmong u s.kept) (sym y.keeps.1) k))
       (λ (k : HasLogged (start_of q).line (seen_of q) u). inr (subst (λ (z : State × List Entry). HasLogged z.0.line z.1 u) (λ i. (sym y.keeps.1 i, sym y.keeps.4.1 i)) (logged-more (start_of q).line (seen_of q) y.keeps.4.0 u k))) (x.from u o))
-      (λ (o : Among u y.got). y.from u o) (among-split u x.got y.got m);
+      (λ (o : LiesAmong u y.got). y.from u o) (among-split u x.got y.got m);
   jobs = λ f. y.jobs (x.jobs f);
   within = λ f. y.within (x.within f);
 }
 
 -- the peer alone went on
-pub drained-peer : (p : Pass) (a b : Stand) → Goes a b → b.handed ≡ a.handed → Drained p a p b
+pub drained-peer : (p : Pass) (a b : Stand) → PeerGoes a b → b.handed ≡ a.handed → Drained p a p b
 drained-peer p a b g same = record { keeps = keeps-self p; goes = g; got = []; handed = same ∙ sym (append-nil a.handed); from = λ u m. absurd (cc m.1); jobs = λ f e m by. fits-later a b g e.ask (f e m by); within = λ f. f }
 
 -- none of these entries is the caller's
-pub none-of : (n by : ℕ) (xs : List Entry) → places_from n by xs ≡ [] → (e : Entry) → Among e xs → e.caller ≡ by → ⊥
+pub none-of : (n by : ℕ) (xs : List Entry) → places_from n by xs ≡ [] → (e : Entry) → LiesAmong e xs → e.caller ≡ by → ⊥
 none-of n by [] none e m is = absurd (cc m.1)
 none-of n by (x ∷ xs) none e (zero, at) is = let same : x ≡ e = some-one at in
     let here : places_from n by (x ∷ xs) ≡ suc n ∷ places_from (suc n) by xs = ap (λ b. cond b (suc n ∷ places_from (suc n) by xs) (places_from (suc n) by xs)) (eq-eqb x.caller by (ap (λ (y : Entry). y.caller) same ∙ is)) in
@@ -76,13 +76,13 @@ drained-job p q a j reply into w same fit = let c = w.1 in record {
   handed = sym (append-nil a.handed);
   from = λ u m. absurd (cc m.1);
   within = λ f place m. let behind = called-behind p q (Charged j) (Worked reply into) w.0 c in let long = c.long in
-      ⊎_elim (λ (o : Among place (mine_of p)). (let x = f place o in omega (arith, x, behind, long))) (λ (o : Among place (w.0 ∷ [])). (let x = among-one place w.0 o in omega (arith, x, long))) (among-split place (mine_of p) (w.0 ∷ []) (subst (Among place) c.mine m));
+      ⊎_elim (λ (o : LiesAmong place (mine_of p)). (let x = f place o in omega (arith, x, behind, long))) (λ (o : LiesAmong place (w.0 ∷ [])). (let x = among-one place w.0 o in omega (arith, x, long))) (among-split place (mine_of p) (w.0 ∷ []) (subst (LiesAmong place) c.mine m));
   jobs = λ f e m by. let mine : e.caller ≡ p.number = by ∙ same.1 in let last : Entry = record { caller = p.number; ask = Charged j; said = Worked reply into; before = c.before; after = c.after } in
-      ⊎_elim (λ (x : Among e (seen_of p ++ c.between)). ⊎_elim (λ (y : Among e (seen_of p)). f e y mine) (λ (y : Among e c.between). absurd (none-of (length (seen_of p)) p.number c.between c.others e y mine)) (among-split e (seen_of p) c.between x))
-      (λ (x : Among e (last ∷ [])). subst (λ (z : Entry). JobFits a z.ask) (only last e x) fit) (among-split e (seen_of p ++ c.between) (last ∷ []) (subst (Among e) c.ends m));
+      ⊎_elim (λ (x : LiesAmong e (seen_of p ++ c.between)). ⊎_elim (λ (y : LiesAmong e (seen_of p)). f e y mine) (λ (y : LiesAmong e c.between). absurd (none-of (length (seen_of p)) p.number c.between c.others e y mine)) (among-split e (seen_of p) c.between x))
+      (λ (x : LiesAmong e (last ∷ [])). subst (λ (z : Entry). JobFits a z.ask) (only last e x) fit) (among-split e (seen_of p ++ c.between) (last ∷ []) (subst (LiesAmong e) c.ends m));
 }
   where
-    only : (x e : Entry) → Among e (x ∷ []) → x ≡ e
+    only : (x e : Entry) → LiesAmong e (x ∷ []) → x ≡ e
     only x e (zero, at) = cc at
     only x e (suc i, at) = absurd (cc at)
 
@@ -90,12 +90,12 @@ drained-job p q a j reply into w same fit = let c = w.1 in record {
 pub drained-hand : (p q : Pass) (a b : Stand) (n m : ℕ) (reply : JobReply) (into : Update) (ack : Ack) → Jobs p (Fetch n) reply into q → IsSame p q → reply ≡ job.Done m → Hands a into ack b → Drained p a q b
 drained-hand p q a b n m reply into ack w same is h = drained-then p q q a a b (drained-job p q a (Fetch n) reply into w same tt) handed
   where
-    given : Among into (start_of q).kept ⊎ HasLogged (start_of q).line (seen_of q) into
+    given : LiesAmong into (start_of q).kept ⊎ HasLogged (start_of q).line (seen_of q) into
     given = let v : Jobs p (Fetch n) (job.Done m) into q = subst (λ r. Jobs p (Fetch n) r into q) is w in let c = v.1 in
-        ⊎_elim (λ (x : Among into (start_of q).kept). inl x) (λ (x : HasLogged (start_of q).line (seen_of p ++ c.between) into). inr (subst (λ l. HasLogged (start_of q).line l into) (sym c.ends)
+        ⊎_elim (λ (x : LiesAmong into (start_of q).kept). inl x) (λ (x : HasLogged (start_of q).line (seen_of p ++ c.between) into). inr (subst (λ l. HasLogged (start_of q).line l into) (sym c.ends)
         (logged-more (start_of q).line (seen_of p ++ c.between) (record { caller = p.number; ask = Charged (Fetch n); said = Worked (job.Done m) into; before = c.before; after = c.after } ∷ []) into x))) c.given.2
 
-    one : (x u : Update) → Among u (x ∷ []) → x ≡ u
+    one : (x u : Update) → LiesAmong u (x ∷ []) → x ≡ u
     one x u (zero, at) = cc at
     one x u (suc i, at) = absurd (cc at)
 
@@ -106,7 +106,7 @@ drained-hand p q a b n m reply into ack w same is h = drained-then p q q a a b (
           goes = h.goes;
           got = into ∷ [];
           handed = k.1;
-          from = λ u x. subst (λ v. Among v (start_of q).kept ⊎ HasLogged (start_of q).line (seen_of q) v) (one into u x) given;
+          from = λ u x. subst (λ v. LiesAmong v (start_of q).kept ⊎ HasLogged (start_of q).line (seen_of q) v) (one into u x) given;
           jobs = λ f e x by. fits-later a b h.goes e.ask (f e x by);
           within = λ f. f;
         }) h.handed

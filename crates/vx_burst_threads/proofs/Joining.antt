@@ -2,8 +2,8 @@
 use Rattle.std.proofs.Common.{◌≡◌, ◌⊎◌, ℕ, zero, suc, ◌+◌, ◌<◌, ◌≤◌, List, [], ◌∷◌, ◌++◌, length, refl, ap, sym, ◌∙◌, subst, ⊎_elim, inl, inr, arith, append_assoc, length-append, Some}
 use Rattle.std.proofs.lemmas.List.{append-nil}
 use Rattle.vx_turn.specs.declared.passes.Pass.{Pass}
-use Rattle.vx_turn.specs.Acting.{Among}
-use Rattle.vx_turn.specs.History.{Begins}
+use Rattle.vx_turn.specs.Acting.{LiesAmong}
+use Rattle.vx_turn.specs.History.{BeginsWith}
 use Rattle.vx_turn.specs.Passing.{seen_of, mine_of, met_of, table_id_of, IsSame, Meets}
 use Rattle.vx_turn.proofs.Histories.{begins-self, begins-trans, among-cons}
 use Rattle.vx_settle.proofs.Bringings.{among-left, among-right}
@@ -23,7 +23,7 @@ use Rattle.vx_burst_threads.specs.declared.writer.Writer.{Writer}
 use Rattle.vx_burst_threads.specs.Laying.{LaidWith}
 use Rattle.vx_burst_threads.proofs.Layings.{laid-none, laid-then, laid-as}
 
-pub among-head : {A : Type 0} (x : A) (xs ys : List A) → Among x (xs ++ x ∷ ys)
+pub among-head : {A : Type 0} (x : A) (xs ys : List A) → LiesAmong x (xs ++ x ∷ ys)
 among-head x xs ys = among-right x xs (x ∷ ys) (0, refl)
 
 module _ {P : Type 0} where
@@ -46,15 +46,15 @@ module _ {P : Type 0} where
     callers = m.callers ∙ a.callers;
     mine = m.mine ∙ a.mine;
     begins = begins-trans (seen_of p) (seen_of q) (seen_of r) a.begins m.first;
-    each = λ v at. ⊎_elim (λ (e : w ≡ v). subst (λ u. Begins (seen_of (pass_of u)) (seen_of r) × Among ((pass_of u).number, mine_of (pass_of u)) (met_of r)) e
-        (m.second, subst (Among ((pass_of w).number, mine_of (pass_of w))) (sym m.met) (among-head ((pass_of w).number, mine_of (pass_of w)) (met_of q) (met_of (pass_of w)))))
-        (λ (e : Among v done). let o = a.each v e in (begins-trans (seen_of (pass_of v)) (seen_of q) (seen_of r) o.0 m.first, keep ((pass_of v).number, mine_of (pass_of v)) o.1)) (among-cons v w done at);
+    each = λ v at. ⊎_elim (λ (e : w ≡ v). subst (λ u. BeginsWith (seen_of (pass_of u)) (seen_of r) × LiesAmong ((pass_of u).number, mine_of (pass_of u)) (met_of r)) e
+        (m.second, subst (LiesAmong ((pass_of w).number, mine_of (pass_of w))) (sym m.met) (among-head ((pass_of w).number, mine_of (pass_of w)) (met_of q) (met_of (pass_of w)))))
+        (λ (e : LiesAmong v done). let o = a.each v e in (begins-trans (seen_of (pass_of v)) (seen_of q) (seen_of r) o.0 m.first, keep ((pass_of v).number, mine_of (pass_of v)) o.1)) (among-cons v w done at);
     old = λ x at. keep x (a.old x at);
     back = b;
   }
     where
-      keep : (x : ℕ × List ℕ) → Among x (met_of q) → Among x (met_of r)
-      keep x at = subst (Among x) (sym m.met) (among-left x (met_of q) (((pass_of w).number, mine_of (pass_of w)) ∷ met_of (pass_of w)) at)
+      keep : (x : ℕ × List ℕ) → LiesAmong x (met_of q) → LiesAmong x (met_of r)
+      keep x at = subst (LiesAmong x) (sym m.met) (among-left x (met_of q) (((pass_of w).number, mine_of (pass_of w)) ∷ met_of (pass_of w)) at)
 
   pub loop-more : (p q r : Pass) (peers out next : List P) (ws left less : List (Worker P)) (olds bs cs : List Answered) (w : Worker P) → left ≡ less ++ w ∷ [] → Loop p peers ws left olds q out bs → LaidWith (IsMadeBy (w ∷ [])) bs cs → Meets q (pass_of w) r → IsSame q r
       → next ≡ out ++ backs (w ∷ []) → Loop p peers ws less olds r next cs
@@ -94,14 +94,14 @@ module _ {P : Type 0} where
   abbrev pub alone : Writer → List (Worker P)
   alone x = Writes x ∷ []
 
-  pub lays-writer : (x : Writer) (olds bs : List Answered) → LaidWith (λ m. Among m x.made.items) olds bs → LaidWith (IsMadeBy (alone x)) olds bs
-  lays-writer x olds bs l = laid-as (λ m. Among m x.made.items) (IsMadeBy (alone x)) olds bs back (λ m a. (x, (0, refl), a)) l
+  pub lays-writer : (x : Writer) (olds bs : List Answered) → LaidWith (λ m. LiesAmong m x.made.items) olds bs → LaidWith (IsMadeBy (alone x)) olds bs
+  lays-writer x olds bs l = laid-as (λ m. LiesAmong m x.made.items) (IsMadeBy (alone x)) olds bs back (λ m a. (x, (0, refl), a)) l
     where
       writes-one : (v w : Writer) → slice_get (alone v) 0 ≡ Some (Writes w) → v ≡ w
       writes-one v w e = cc e
 
-      back : (m : Made) → IsMadeBy (alone x) m → Among m x.made.items
-      back m (y, (zero, e), k) = subst (λ z. Among m z.made.items) (sym (writes-one x y e)) k
+      back : (m : Made) → IsMadeBy (alone x) m → LiesAmong m x.made.items
+      back m (y, (zero, e), k) = subst (λ z. LiesAmong m z.made.items) (sym (writes-one x y e)) k
       back m (y, (suc i, e), k) = absurd (cc e)
 
   pub loop-last : (p q : Pass) (peers out : List P) (ws left : List (Worker P)) (olds bs : List Answered) → left ≡ [] → Loop p peers ws left olds q out bs → Meeting p peers ws q out × LaidWith (IsMadeBy ws) olds bs

@@ -9,15 +9,15 @@ use Rattle.vx_turn.specs.declared.ask.JobReply.{JobReply}
 use Rattle.vx_turn.specs.declared.ask.JobReply.TheVariants as job
 use Rattle.vx_turn.specs.declared.meaning.Entry.{Entry}
 use Rattle.vx_turn.specs.declared.passes.Pass.{Pass}
-use Rattle.vx_turn.specs.Acting.{Among, Rose}
+use Rattle.vx_turn.specs.Acting.{LiesAmong, CountRose}
 use Rattle.vx_turn.specs.History.{HasLogged}
 use Rattle.vx_turn.specs.Passing.{seen_of, start_of, mine_of}
 use Rattle.vx_settle.specs.declared.peer.Stand.{Stand}
-use Rattle.vx_settle.specs.Peers.{Goes, LiesIn}
+use Rattle.vx_settle.specs.Peers.{PeerGoes, LiesIn}
 use Rattle.vx_burst_threads.specs.declared.drainer.Drainer.{Drainer}
 use Rattle.vx_burst_threads.specs.declared.drainer.Next.{Next}
 use Rattle.vx_burst_threads.specs.declared.drainer.Next.TheVariants as next
-use Rattle.vx_burst_threads.specs.Writing.{Keeps}
+use Rattle.vx_burst_threads.specs.Writing.{KeepsPass}
 
 -- the peer's link is one of the engine's
 abbrev pub IsLinked : Pass → Stand → Type 0
@@ -31,25 +31,25 @@ JobFits a ask = Unit {0}
 
 -- so is each entry of this caller
 abbrev pub JobsFit : List Entry → ℕ → Stand → Type 0
-JobsFit log by a = (e : Entry) → Among e log → e.caller ≡ by → JobFits a e.ask
+JobsFit log by a = (e : Entry) → LiesAmong e log → e.caller ≡ by → JobFits a e.ask
 
 -- the pass has seen all of its own entries
 abbrev pub MineWithin : Pass → Type 0
-MineWithin p = (place : ℕ) → Among place (mine_of p) → place ≤ length (seen_of p)
+MineWithin p = (place : ℕ) → LiesAmong place (mine_of p) → place ≤ length (seen_of p)
 
 -- the worker went on: what its peer got was logged in what it has seen, or kept at the start
 pub record Drained (p : Pass) (a : Stand) (q : Pass) (b : Stand) : Type 0 where
-  pub keeps : Keeps p q
-  pub goes : Goes a b
+  pub keeps : KeepsPass p q
+  pub goes : PeerGoes a b
   pub got : List Update
   pub handed : b.handed ≡ a.handed ++ got
-  pub from : (u : Update) → Among u got → Among u (start_of q).kept ⊎ HasLogged (start_of q).line (seen_of q) u
+  pub from : (u : Update) → LiesAmong u got → LiesAmong u (start_of q).kept ⊎ HasLogged (start_of q).line (seen_of q) u
   pub jobs : JobsFit (seen_of p) p.number a → JobsFit (seen_of q) q.number b
   pub within : MineWithin p → MineWithin q
 
 -- a fetch gave no update, or one that a peer which had no fault meanwhile could not take: of another line, or past its volumes
 abbrev pub GaveNothing : JobReply → Update → Stand → Stand → Type 0
-GaveNothing (job.Done m) into a b = (Rose a.faults b.faults → ⊥) → into.line ≡ b.line → LiesIn b.sizes into → ⊥
+GaveNothing (job.Done m) into a b = (CountRose a.faults b.faults → ⊥) → into.line ≡ b.line → LiesIn b.sizes into → ⊥
 GaveNothing reply into a b = Unit {0}
 
 -- the caller asked for the update of this number, and got nothing to hand over
@@ -57,7 +57,7 @@ pub record AskedLast (log : List Entry) (by number : ℕ) (a b : Stand) : Type 0
   pub entry : Entry
   pub reply : JobReply
   pub into : Update
-  pub among : Among entry log
+  pub among : LiesAmong entry log
   pub caller : entry.caller ≡ by
   pub asks : entry.ask ≡ Charged (Fetch number)
   pub says : entry.said ≡ Worked reply into

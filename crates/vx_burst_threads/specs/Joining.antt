@@ -2,10 +2,10 @@
 use Rattle.std.specs.Prelude.{◌≡◌, ℕ, List, [], ◌∷◌, ◌++◌}
 use Rattle.atomic_table.specs.Seated.{TableId}
 use Rattle.vx_turn.specs.declared.passes.Pass.{Pass}
-use Rattle.vx_turn.specs.Acting.{Among}
-use Rattle.vx_turn.specs.History.{Begins, Legal, places}
+use Rattle.vx_turn.specs.Acting.{LiesAmong}
+use Rattle.vx_turn.specs.History.{BeginsWith, Legal, places}
 use Rattle.vx_turn.specs.Turning.{Has}
-use Rattle.vx_turn.specs.Passing.{view_of, seen_of, start_of, mine_of, met_of, callers_of, table_id_of, IsSame}
+use Rattle.vx_turn.specs.Passing.{pass_view, seen_of, start_of, mine_of, met_of, callers_of, table_id_of, IsSame}
 use Rattle.vx_settle.specs.declared.peer.Stand.{Stand}
 use Rattle.vx_burst_threads.specs.declared.plan.Planned.{Planned}
 use Rattle.vx_burst_threads.specs.declared.plan.Answered.{Answered}
@@ -22,11 +22,11 @@ module _ {P : Type 0} where
   pass_of (Drains d) = d.pass
 
   abbrev pub AllOf : TableId → List (Worker P) → Type 0
-  AllOf z ws = (w : Worker P) → Among w ws → table_id_of (pass_of w) ≡ z
+  AllOf z ws = (w : Worker P) → LiesAmong w ws → table_id_of (pass_of w) ≡ z
 
   -- one of the writers made this
   abbrev pub IsMadeBy : List (Worker P) → Made → Type 0
-  IsMadeBy ws m = (x : Writer) × Among (Writes x) ws × Among m x.made.items
+  IsMadeBy ws m = (x : Writer) × LiesAmong (Writes x) ws × LiesAmong m x.made.items
 
   -- the peers of the workers, the last worker's first
   abbrev pub backs : List (Worker P) → List P
@@ -40,9 +40,9 @@ module _ {P : Type 0} where
     pub start : start_of q ≡ start_of p
     pub callers : callers_of q ≡ callers_of p
     pub mine : mine_of q ≡ mine_of p
-    pub begins : Begins (seen_of p) (seen_of q)
-    pub each : (w : Worker P) → Among w ws → Begins (seen_of (pass_of w)) (seen_of q) × Among ((pass_of w).number, mine_of (pass_of w)) (met_of q)
-    pub old : (x : ℕ × List ℕ) → Among x (met_of p) → Among x (met_of q)
+    pub begins : BeginsWith (seen_of p) (seen_of q)
+    pub each : (w : Worker P) → LiesAmong w ws → BeginsWith (seen_of (pass_of w)) (seen_of q) × LiesAmong ((pass_of w).number, mine_of (pass_of w)) (met_of q)
+    pub old : (x : ℕ × List ℕ) → LiesAmong x (met_of p) → LiesAmong x (met_of q)
     pub back : out ≡ peers ++ backs ws
 
   -- the workers ws became some xs, each by its own work, all were met, and what they made was laid

@@ -32,12 +32,12 @@ abbrev pub call_for : Planned → Call
 call_for pl = call_with pl.fill pl
 
 -- of the blocks that were read the first is told, and all else is told as it is
-abbrev pub IsTold : Reply → Told → Type 0
-IsTold (reply.Got bytes) (told.Got block) = block ≡ take BLOCK bytes
-IsTold (reply.Done n) (told.Done m) = m ≡ n
-IsTold (reply.Logged n) (told.Logged m) = m ≡ n
-IsTold (reply.Refused cause) (told.Refused said) = said ≡ cause
-IsTold r t = ⊥
+abbrev pub IsToldAs : Reply → Told → Type 0
+IsToldAs (reply.Got bytes) (told.Got block) = block ≡ take BLOCK bytes
+IsToldAs (reply.Done n) (told.Done m) = m ≡ n
+IsToldAs (reply.Logged n) (told.Logged m) = m ≡ n
+IsToldAs (reply.Refused cause) (told.Refused said) = said ≡ cause
+IsToldAs r t = ⊥
 
 -- 13
 abbrev pub IsStall : No → Type 0

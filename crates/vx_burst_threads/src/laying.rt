@@ -1,5 +1,5 @@
 // What the threads made, laid at the places of the plan.
-ghost use Rattle.vx_turn.specs.Acting.{Among};
+ghost use Rattle.vx_turn.specs.Acting.{LiesAmong};
 ghost use Rattle.vx_burst_threads.specs.Laying.{LaidWith};
 
 use crate::plan::{Answered, Waited};
@@ -7,7 +7,7 @@ use crate::writer::Made;
 
 /// Lays what one thread made.
 pub(crate) fn lay(answers: &mut [Answered], made: Vec<Made>)
-    ensures { LaidWith (λ m. Among m made.items) answers.old answers.new }
+    ensures { LaidWith (λ m. LiesAmong m made.items) answers.old answers.new }
 {
     let mut made = made;
     while let Some(one) = made.pop() {

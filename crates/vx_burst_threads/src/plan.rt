@@ -1,6 +1,6 @@
 // What the threads of a burst ask, and what they are answered.
 ghost use Rattle.std.specs.Prelude.{◌≡◌, take, MatchBool};
-ghost use Rattle.vx_burst_threads.specs.Planning.{IsCall, call_for, IsTold, IsStalled, IsNotStalled, IsStall, IsNoStall};
+ghost use Rattle.vx_burst_threads.specs.Planning.{IsCall, call_for, IsToldAs, IsStalled, IsNotStalled, IsStall, IsNoStall};
 
 use vx_model::limits::BLOCK;
 use vx_model::{Block, Blocks, Call, No, Reply};
@@ -75,7 +75,7 @@ fn first_block(bytes: &Blocks) -> Block
 
 /// What a reply tells.
 pub fn tell(reply: &Reply) -> Told
-    ensures { IsTold reply.now result }
+    ensures { IsToldAs reply.now result }
 {
     match reply {
         Reply::Got(bytes) => Told::Got(first_block(bytes)),

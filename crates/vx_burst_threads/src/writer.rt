@@ -2,7 +2,7 @@
 ghost use Rattle.std.specs.Prelude.{◌≡◌, ◌≤◌, ◌<◌, [], length, vec_capacity};
 ghost use Rattle.vx_turn.specs.Passing.{table_of, table_id_of};
 ghost use Rattle.vx_burst_threads.specs.Planning.{IsCall, AllCalls, own_count};
-ghost use Rattle.vx_burst_threads.specs.Writing.{Asked, Goes, Wrote};
+ghost use Rattle.vx_burst_threads.specs.Writing.{WasAsked, WriterGoes, WriterWrote};
 
 use crate::gate::Gate;
 use crate::plan::{Planned, Told, call_of, is_stalled, tell};
@@ -36,7 +36,7 @@ fn ask<H: Wait, E: Engine, G: Gate>(
 ) -> Option<Made>
     requires table { table_id_of pass.old ≡ table_of turn.now }
     requires call { IsCall planned.now }
-    ensures { Asked planned.now at pass.old result pass.new }
+    ensures { WasAsked planned.now at pass.old result pass.new }
 {
     gate.pass(3);
     let (place, reply) = turn.call(rt, pass, &call_of(planned));
@@ -64,7 +64,7 @@ impl Writer {
         requires table { table_id_of self.old.pass ≡ table_of turn.now }
         requires call { IsCall planned.now }
         requires room { planned.now.thread ≡ self.old.thread → length self.old.made.items < vec_capacity self.old.made }
-        ensures { Goes planned.now at self.old result self.new }
+        ensures { WriterGoes planned.now at self.old result self.new }
     {
         if planned.thread != self.thread {
             return true;
@@ -91,7 +91,7 @@ impl Writer {
         requires table { table_id_of self.old.pass ≡ table_of turn.now }
         requires calls { AllCalls plan.now }
         requires room { (self.old.made.items ≡ []) × (own_count self.old.thread plan.now ≤ vec_capacity self.old.made) }
-        ensures { Wrote plan.now self.old self.new }
+        ensures { WriterWrote plan.now self.old self.new }
     {
         for k in 0..plan.len() {
             let Some(planned) = plan.get(k) else {

@@ -7,21 +7,21 @@ use Rattle.vx_history.specs.Doubts.{Doubted}
 use Rattle.vx_history.specs.World.{empty_world}
 use Rattle.vx_events.specs.Doubts.{sure}
 use Rattle.vx_script.specs.declared.line.ScriptLine.{ScriptLine}
-use Rattle.vx_script.specs.Lines.{lines_of}
-use Rattle.vx_stream.specs.Causes.{Rose}
+use Rattle.vx_script.specs.Lines.{split_lines}
+use Rattle.vx_stream.specs.Causes.{StreamRose}
 use Rattle.vx_yard.specs.Lines.{script_line}
 use Rattle.vx_yard.specs.Stands.{RoseAll, times}
-use Rattle.vx_yard.specs.Steps.{SaidStep, LineStep}
+use Rattle.vx_yard.specs.Steps.{SaidStep, BytesStep}
 use Rattle.vx_events.specs.Fails.{Fails}
 use Rattle.vx_cli.specs.declared.status.Status.{Status}
 use Rattle.vx_cli.specs.declared.status.Status.TheVariants.{Done, Usage, BadLine, ReadFault, WriteFault, OutOfMemory, TooLong}
 use Rattle.vx_cli.specs.Reading.{MayHave}
-use Rattle.vx_cli.specs.Runs.{Run, all_fails}
-use Rattle.vx_cli.specs.Ends.{IsBadNext, IsNonEmpty, Outcome, RunIs}
-use Rattle.vx_cli.specs.Complete.{AllGood, IsUncut, IsGoodScript, FirstBad, IsTooLong, IsStill, AreStill, no_fails, CleanRun, IsClean}
+use Rattle.vx_cli.specs.Runs.{RunsLines, fails_of_lines}
+use Rattle.vx_cli.specs.Ends.{IsBadNext, IsNonEmpty, RunOutcome, RunIs}
+use Rattle.vx_cli.specs.Complete.{AllLinesGood, IsUncut, IsGoodScript, FirstBad, IsTooLong, IsStillCount, AreStill, no_fails, CleanRun, IsClean}
 
 -- good lines alone end before the first wrong one
-ends_before : (lines others before more : List (List ℕ)) (bad : List ℕ) (c : ℕ) → lines ++ others ≡ before ++ bad ∷ more → AllGood lines → script_line bad ≡ Err c → length lines ≤ length before
+ends_before : (lines others before more : List (List ℕ)) (bad : List ℕ) (c : ℕ) → lines ++ others ≡ before ++ bad ∷ more → AllLinesGood lines → script_line bad ≡ Err c → length lines ≤ length before
 ends_before [] others before more bad c e good wrong = omega arith
 ends_before (line ∷ lines) others [] more bad c e good wrong = let same : line ≡ bad = cc in absurd (good.0 c (ap script_line same ∙ wrong))
 ends_before (line ∷ lines) others (first ∷ before) more bad c e good wrong =
@@ -32,7 +32,7 @@ one_column : (a b : ℕ) (r : Result (Option ScriptLine) ℕ) → r ≡ Err a �
 one_column a b r p q = cc
 
 -- two ways to say where the first wrong line stands are one
-first_bad : (lines others before more : List (List ℕ)) (bad : List ℕ) (column c : ℕ) → lines ++ others ≡ before ++ bad ∷ more → AllGood lines → AllGood before
+first_bad : (lines others before more : List (List ℕ)) (bad : List ℕ) (column c : ℕ) → lines ++ others ≡ before ++ bad ∷ more → AllLinesGood lines → AllLinesGood before
     → script_line bad ≡ Err c → IsBadNext others column → (length lines ≡ length before) × (column ≡ c)
 first_bad [] [] before more bad column c e good fine wrong next = absurd next
 first_bad [] (line ∷ others) [] more bad column c e good fine wrong next =
@@ -48,7 +48,7 @@ first_bad (line ∷ lines) others (first ∷ before) more bad column c e good fi
     (ap (λ (k : ℕ). suc k) below.0, below.1)
 
 -- a wrong line does not stand among good ones
-not_inside : (lines others before more : List (List ℕ)) (column : ℕ) → lines ++ others ≡ before ++ more → length lines < length before → AllGood before → IsBadNext others column → ⊥
+not_inside : (lines others before more : List (List ℕ)) (column : ℕ) → lines ++ others ≡ before ++ more → length lines < length before → AllLinesGood before → IsBadNext others column → ⊥
 not_inside [] others [] more column e short good next = absurd (omega arith)
 not_inside [] [] (first ∷ before) more column e short good next = next
 not_inside [] (line ∷ others) (first ∷ before) more column e short good next =
@@ -59,11 +59,11 @@ not_inside (line ∷ lines) others (first ∷ before) more column e short good n
     let rest : lines ++ others ≡ before ++ more = cc in
     not_inside lines others before more column rest (omega arith) good.1 next
 
-others_good : (lines others : List (List ℕ)) → AllGood (lines ++ others) → AllGood others
+others_good : (lines others : List (List ℕ)) → AllLinesGood (lines ++ others) → AllLinesGood others
 others_good [] others good = good
 others_good (line ∷ lines) others good = others_good lines others good.1
 
-not_bad : (others : List (List ℕ)) (column : ℕ) → AllGood others → IsBadNext others column → ⊥
+not_bad : (others : List (List ℕ)) (column : ℕ) → AllLinesGood others → IsBadNext others column → ⊥
 not_bad [] column good next = next
 not_bad (line ∷ others) column good next = good.0 column next
 
@@ -97,7 +97,7 @@ still_none (f ∷ fails) old new rose still =
     let same = still.each f.0 f.1 in
     absurd (omega (arith, rose.each f.0 f.1, same.same, same.below, named_once f.0 f.1 fails))
 
-not_risen : (before now : ℕ) → IsStill before now → Rose before now → ⊥
+not_risen : (before now : ℕ) → IsStillCount before now → StreamRose before now → ⊥
 not_risen before now still rose = omega (arith, still.same, still.below, rose.rose)
 
 module _ (told : Type 0) (files : Bool) where
@@ -106,7 +106,7 @@ module _ (told : Type 0) (files : Bool) where
   said_good old new (Ok l) fails text step column e = cc
   said_good old new (Err c) fails text step column e = step
 
-  run_good : (old new : Doubted) (lines : List (List ℕ)) (failures : List Fails) (texts : List (List ℕ)) → Run told files old lines failures texts new → AllGood lines
+  run_good : (old new : Doubted) (lines : List (List ℕ)) (failures : List Fails) (texts : List (List ℕ)) → RunsLines told files old lines failures texts new → AllLinesGood lines
   run_good old new [] [] [] run = tt
   run_good old new [] [] (text ∷ texts) run = tt
   run_good old new [] (fails ∷ failures) texts run = tt
@@ -116,20 +116,20 @@ module _ (told : Type 0) (files : Bool) where
       (said_good old run.0 (script_line line) fails text run.1, run_good run.0 new lines failures texts run.2)
 
   -- where no call failed in all lines, none failed in each
-  run_clean : (old new : Doubted) (lines : List (List ℕ)) (failures : List Fails) (texts : List (List ℕ)) → Run told files old lines failures texts new → all_fails failures ≡ []
-      → Run told files old lines (no_fails lines) texts new
+  run_clean : (old new : Doubted) (lines : List (List ℕ)) (failures : List Fails) (texts : List (List ℕ)) → RunsLines told files old lines failures texts new → fails_of_lines failures ≡ []
+      → RunsLines told files old lines (no_fails lines) texts new
   run_clean old new [] [] texts run none = run
   run_clean old new [] (fails ∷ failures) texts run none = absurd run
   run_clean old new (line ∷ lines) [] texts run none = absurd run
   run_clean old new (line ∷ lines) (fails ∷ failures) [] run none = absurd run
   run_clean old new (line ∷ lines) (fails ∷ failures) (text ∷ texts) run none =
-      let both = both_empty fails (all_fails failures) none in
-      (run.0, subst (λ (f : Fails). LineStep told files old line f text run.0) both.0 run.1, run_clean run.0 new lines failures texts run.2 both.1)
+      let both = both_empty fails (fails_of_lines failures) none in
+      (run.0, subst (λ (f : Fails). BytesStep told files old line f text run.0) both.0 run.1, run_clean run.0 new lines failures texts run.2 both.1)
 
   module _ {Leaves : Doubted → Type 0} where
     -- a wrong line is answered as such, unless something cut the run off
     bad_is : (input : List ℕ) (status : Status) (left w0 w1 : Option (List ℕ)) (f0 f1 : ℕ → ℕ → ℕ) (line column : ℕ)
-        → Outcome told files Leaves 0 (sure empty_world) input status left w0 w1 f0 f1 → FirstBad input line column → IsUncut status → status ≡ BadLine line column
+        → RunOutcome told files Leaves 0 (sure empty_world) input status left w0 w1 f0 f1 → FirstBad input line column → IsUncut status → status ≡ BadLine line column
     bad_is input Done left w0 w1 f0 f1 line column o bad uncut =
         let good = run_good (sure empty_world) o.behind o.part.lines o.part.failures o.part.texts o.run in
         let e : o.part.lines ++ o.part.others ≡ bad.before ++ bad.bad ∷ bad.others = sym o.split ∙ bad.split in
@@ -152,10 +152,10 @@ module _ (told : Type 0) (files : Bool) where
 
     -- a good script is done, unless something cut the run off
     done_is : (input : List ℕ) (status : Status) (left w0 w1 : Option (List ℕ)) (f0 f1 : ℕ → ℕ → ℕ)
-        → Outcome told files Leaves 0 (sure empty_world) input status left w0 w1 f0 f1 → IsGoodScript input → IsUncut status → status ≡ Done
+        → RunOutcome told files Leaves 0 (sure empty_world) input status left w0 w1 f0 f1 → IsGoodScript input → IsUncut status → status ≡ Done
     done_is input Done left w0 w1 f0 f1 o script uncut = refl
     done_is input (BadLine l c) left w0 w1 f0 f1 o script uncut =
-        absurd (not_bad o.part.others c (others_good o.part.lines o.part.others (subst AllGood o.split script.good)) o.ends.1)
+        absurd (not_bad o.part.others c (others_good o.part.lines o.part.others (subst AllLinesGood o.split script.good)) o.ends.1)
     done_is input TooLong left w0 w1 f0 f1 o script uncut =
         absurd (omega (arith, script.few, ap length o.split, length-append o.part.lines o.part.others, o.ends.0, some_length o.part.others o.ends.1))
     done_is input Usage left w0 w1 f0 f1 o script uncut = absurd o.ends
@@ -165,7 +165,7 @@ module _ (told : Type 0) (files : Bool) where
 
     -- a script with too many lines is answered as such, unless something cut the run off
     long_is : (input : List ℕ) (status : Status) (left w0 w1 : Option (List ℕ)) (f0 f1 : ℕ → ℕ → ℕ)
-        → Outcome told files Leaves 0 (sure empty_world) input status left w0 w1 f0 f1 → IsTooLong input → IsUncut status → status ≡ TooLong
+        → RunOutcome told files Leaves 0 (sure empty_world) input status left w0 w1 f0 f1 → IsTooLong input → IsUncut status → status ≡ TooLong
     long_is input Done left w0 w1 f0 f1 o long uncut =
         let e : o.part.lines ++ o.part.others ≡ long.before ++ long.next ∷ long.others = sym o.split ∙ long.split in
         let none : length o.part.others ≡ 0 = ap length o.ends.0 in
@@ -179,21 +179,21 @@ module _ (told : Type 0) (files : Bool) where
     long_is input OutOfMemory left w0 w1 f0 f1 o long uncut = absurd uncut
 
     -- a run that was done, of which no call failed
-    clean_done : (input : List ℕ) (left w0 w1 : Option (List ℕ)) (f0 f1 : ℕ → ℕ → ℕ) → Outcome told files Leaves 0 (sure empty_world) input Done left w0 w1 f0 f1 → AreStill f0 f1
-        → CleanRun told files Leaves (lines_of input) w0 w1
+    clean_done : (input : List ℕ) (left w0 w1 : Option (List ℕ)) (f0 f1 : ℕ → ℕ → ℕ) → RunOutcome told files Leaves 0 (sure empty_world) input Done left w0 w1 f0 f1 → AreStill f0 f1
+        → CleanRun told files Leaves (split_lines input) w0 w1
     clean_done input left w0 w1 f0 f1 o still =
-        let all : lines_of input ≡ o.part.lines = o.split ∙ ap (λ (ls : List (List ℕ)). o.part.lines ++ ls) o.ends.0 ∙ append-nil o.part.lines in
+        let all : split_lines input ≡ o.part.lines = o.split ∙ ap (λ (ls : List (List ℕ)). o.part.lines ++ ls) o.ends.0 ∙ append-nil o.part.lines in
         subst (λ (ls : List (List ℕ)). CleanRun told files Leaves ls w0 w1) (sym all)
         (record {
           texts = o.part.texts;
           world = o.behind;
-          run = run_clean (sure empty_world) o.behind o.part.lines o.part.failures o.part.texts o.run (still_none (all_fails o.part.failures) f0 f1 o.rose still);
+          run = run_clean (sure empty_world) o.behind o.part.lines o.part.failures o.part.texts o.run (still_none (fails_of_lines o.part.failures) f0 f1 o.rose still);
           appends = subst (λ (t : List ℕ). Appends w0 w1 t) o.ends.2 o.appends;
           leaves = subst Leaves o.last o.leaves;
         })
 
-    clean_is : (input : List ℕ) (status : Status) (left w0 w1 : Option (List ℕ)) (f0 f1 : ℕ → ℕ → ℕ) → Outcome told files Leaves 0 (sure empty_world) input status left w0 w1 f0 f1
-        → IsGoodScript input → (status ≡ ReadFault → ⊥) → (status ≡ WriteFault → ⊥) → AreStill f0 f1 → IsClean told files Leaves status (lines_of input) w0 w1
+    clean_is : (input : List ℕ) (status : Status) (left w0 w1 : Option (List ℕ)) (f0 f1 : ℕ → ℕ → ℕ) → RunOutcome told files Leaves 0 (sure empty_world) input status left w0 w1 f0 f1
+        → IsGoodScript input → (status ≡ ReadFault → ⊥) → (status ≡ WriteFault → ⊥) → AreStill f0 f1 → IsClean told files Leaves status (split_lines input) w0 w1
     clean_is input Done left w0 w1 f0 f1 o script read write still = inl (refl, clean_done input left w0 w1 f0 f1 o still)
     clean_is input (BadLine l c) left w0 w1 f0 f1 o script read write still = let e : BadLine l c ≡ Done = done_is input (BadLine l c) left w0 w1 f0 f1 o script tt in absurd (cc)
     clean_is input TooLong left w0 w1 f0 f1 o script read write still = let e : TooLong ≡ Done = done_is input TooLong left w0 w1 f0 f1 o script tt in absurd (cc)
@@ -204,10 +204,10 @@ module _ (told : Type 0) (files : Bool) where
 
     -- over the bytes that the source told
     over : (status : Status) (left now_left w0 w1 : Option (List ℕ)) (f0 f1 : ℕ → ℕ → ℕ) (input : List ℕ) → RunIs told files Leaves status left now_left w0 w1 f0 f1 → left ≡ Some input
-        → Outcome told files Leaves 0 (sure empty_world) input status now_left w0 w1 f0 f1
+        → RunOutcome told files Leaves 0 (sure empty_world) input status now_left w0 w1 f0 f1
     over status left now_left w0 w1 f0 f1 input run e =
         let same : run.input ≡ input = subst (λ (l : Option (List ℕ)). MayHave l run.input) e run.has in
-        subst (λ (bytes : List ℕ). Outcome told files Leaves 0 (sure empty_world) bytes status now_left w0 w1 f0 f1) same run.outcome
+        subst (λ (bytes : List ℕ). RunOutcome told files Leaves 0 (sure empty_world) bytes status now_left w0 w1 f0 f1) same run.outcome
 
     pub run_complete : (status : Status) (left now_left w0 w1 : Option (List ℕ)) (f0 f1 : ℕ → ℕ → ℕ) → RunIs told files Leaves status left now_left w0 w1 f0 f1
         → (input : List ℕ) → left ≡ Some input → IsGoodScript input → IsUncut status → status ≡ Done
@@ -223,10 +223,10 @@ module _ (told : Type 0) (files : Bool) where
     run_long status left now_left w0 w1 f0 f1 run input e long uncut = long_is input status now_left w0 w1 f0 f1 (over status left now_left w0 w1 f0 f1 input run e) long uncut
 
     pub run_clean_is : (status : Status) (left now_left w0 w1 : Option (List ℕ)) (f0 f1 : ℕ → ℕ → ℕ) → RunIs told files Leaves status left now_left w0 w1 f0 f1
-        → (wanted : Bool) → wanted ≡ files → (r0 r1 s0 s1 : ℕ) → (status ≡ ReadFault → Rose r0 r1) → (status ≡ WriteFault → Rose s0 s1)
-        → (input : List ℕ) → left ≡ Some input → IsGoodScript input → IsStill r0 r1 → IsStill s0 s1 → AreStill f0 f1 → IsClean told wanted Leaves status (lines_of input) w0 w1
+        → (wanted : Bool) → wanted ≡ files → (r0 r1 s0 s1 : ℕ) → (status ≡ ReadFault → StreamRose r0 r1) → (status ≡ WriteFault → StreamRose s0 s1)
+        → (input : List ℕ) → left ≡ Some input → IsGoodScript input → IsStillCount r0 r1 → IsStillCount s0 s1 → AreStill f0 f1 → IsClean told wanted Leaves status (split_lines input) w0 w1
     run_clean_is status left now_left w0 w1 f0 f1 run wanted same r0 r1 s0 s1 reads writes input e script read write still =
-        subst (λ (f : Bool). IsClean told f Leaves status (lines_of input) w0 w1) (sym same)
+        subst (λ (f : Bool). IsClean told f Leaves status (split_lines input) w0 w1) (sym same)
         (clean_is input status now_left w0 w1 f0 f1 (over status left now_left w0 w1 f0 f1 input run e) script
         (λ at. not_risen r0 r1 read (reads at)) (λ at. not_risen s0 s1 write (writes at)) still)
 

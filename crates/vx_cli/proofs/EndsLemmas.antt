@@ -3,21 +3,21 @@ use Rattle.std.proofs.Common.{◌≡◌, ◌≤◌, ◌<◌, ℕ, suc, ◌+◌, 
 use Rattle.std.specs.List.{concat}
 use Rattle.std.specs.Io.KnownBytes.{Appends}
 use Rattle.vx_history.specs.Doubts.{Doubted}
-use Rattle.vx_script.specs.Lines.{lines_of}
+use Rattle.vx_script.specs.Lines.{split_lines}
 use Rattle.vx_script.specs.declared.line.ScriptLine.{ScriptLine}
 use Rattle.vx_stream.proofs.SendLemmas.{appends_then}
 use Rattle.vx_yard.specs.Lines.{script_line}
 use Rattle.vx_yard.specs.Stands.{RoseAll}
-use Rattle.vx_yard.specs.Steps.{LineStep}
+use Rattle.vx_yard.specs.Steps.{BytesStep}
 use Rattle.vx_events.specs.Fails.{Fails}
 use Rattle.vx_events.specs.Parts.{StopsInPart}
 use Rattle.vx_events.proofs.Parts.{none_done}
 use Rattle.vx_cli.specs.declared.status.Status.{Status}
 use Rattle.vx_cli.specs.declared.status.Status.TheVariants.{Done, Usage, BadLine, ReadFault, WriteFault, OutOfMemory, TooLong}
-use Rattle.vx_cli.specs.Reading.{IsWhole}
-use Rattle.vx_cli.specs.Runs.{all_fails}
-use Rattle.vx_cli.specs.Texts.{bad_text, IsCut}
-use Rattle.vx_cli.specs.Ends.{IsBadNext, Part, WriteEnds, AtReply, AtBad, MemoryEnds, ReadEnds, Ends, PartOfLine, PartOfNext, LastWorld, Outcome}
+use Rattle.vx_cli.specs.Reading.{IsWholeLine}
+use Rattle.vx_cli.specs.Runs.{fails_of_lines}
+use Rattle.vx_cli.specs.Texts.{bad_text, IsTextCut}
+use Rattle.vx_cli.specs.Ends.{IsBadNext, RunPart, WriteEnds, AtReply, AtBad, MemoryEnds, ReadEnds, RunEnds, PartOfLine, PartOfNext, LastWorld, RunOutcome}
 use Rattle.vx_cli.proofs.StepLemmas.{rose_more}
 
 -- a number of lines, one further on
@@ -28,23 +28,23 @@ at_number : (n k column : ℕ) → bad_text (n + 1 + k + 1) column ≡ bad_text 
 at_number n k column = ap (λ (m : ℕ). bad_text (m + 1) column) (same_number n k)
 
 -- a line before the others of a part
-abbrev pub with_line : List ℕ → Fails → List ℕ → Part → Part
+abbrev pub with_line : List ℕ → Fails → List ℕ → RunPart → RunPart
 with_line line fails text part = record { lines = line ∷ part.lines; others = part.others; failures = fails ∷ part.failures; texts = text ∷ part.texts }
 
 onto_text : (text out all end : List ℕ) → out ≡ all ++ end → text ++ out ≡ (text ++ all) ++ end
 onto_text text out all end e = ap (λ (t : List ℕ). text ++ t) e ∙ sym (append_assoc text all end)
 
-write_more : (n : ℕ) (part : Part) (line : List ℕ) (fails : Fails) (text out : List ℕ) → WriteEnds (n + 1) part out → WriteEnds n (with_line line fails text part) (text ++ out)
+write_more : (n : ℕ) (part : RunPart) (line : List ℕ) (fails : Fails) (text out : List ℕ) → WriteEnds (n + 1) part out → WriteEnds n (with_line line fails text part) (text ++ out)
 write_more n part line fails text out (AtReply before last sent e cut is) =
     AtReply (text ∷ before) last sent (ap (λ (ts : List (List ℕ)). text ∷ ts) e) cut (onto_text text out (concat before) sent is)
 write_more n part line fails text out (AtBad column sent bad few cut is) =
-    AtBad column sent bad (omega (arith, few)) (subst (λ (t : List ℕ). IsCut t sent) (at_number n (length part.lines) column) cut) (onto_text text out (concat part.texts) sent is)
+    AtBad column sent bad (omega (arith, few)) (subst (λ (t : List ℕ). IsTextCut t sent) (at_number n (length part.lines) column) cut) (onto_text text out (concat part.texts) sent is)
 
-memory_more : (part : Part) (line : List ℕ) (fails : Fails) (text out : List ℕ) → MemoryEnds part out → MemoryEnds (with_line line fails text part) (text ++ out)
+memory_more : (part : RunPart) (line : List ℕ) (fails : Fails) (text out : List ℕ) → MemoryEnds part out → MemoryEnds (with_line line fails text part) (text ++ out)
 memory_more part line fails text out x =
     record { sent = text ∷ x.sent; unsent = x.unsent; texts = ap (λ (ts : List (List ℕ)). text ∷ ts) x.texts; last = x.last; is = ap (λ (t : List ℕ). text ++ t) x.is }
 
-read_more : (raw line after : List ℕ) (left : Option (List ℕ)) (part : Part) (fails : Fails) (text out : List ℕ) → IsWhole raw line → ReadEnds after left part out
+read_more : (raw line after : List ℕ) (left : Option (List ℕ)) (part : RunPart) (fails : Fails) (text out : List ℕ) → IsWholeLine raw line → ReadEnds after left part out
     → ReadEnds (raw ++ after) left (with_line line fails text part) (text ++ out)
 read_more raw line after left part fails text out whole x = record {
   got = raw ++ x.got;
@@ -55,8 +55,8 @@ read_more raw line after left part fails text out whole x = record {
   is = ap (λ (t : List ℕ). text ++ t) x.is;
 }
 
-ends_more : (n : ℕ) (status : Status) (raw line after : List ℕ) (left : Option (List ℕ)) (part : Part) (fails : Fails) (text out : List ℕ)
-    → IsWhole raw line → Ends (n + 1) status after left part out → Ends n status (raw ++ after) left (with_line line fails text part) (text ++ out)
+ends_more : (n : ℕ) (status : Status) (raw line after : List ℕ) (left : Option (List ℕ)) (part : RunPart) (fails : Fails) (text out : List ℕ)
+    → IsWholeLine raw line → RunEnds (n + 1) status after left part out → RunEnds n status (raw ++ after) left (with_line line fails text part) (text ++ out)
 ends_more n Done raw line after left part fails text out whole is = (is.0, is.1, ap (λ (t : List ℕ). text ++ t) is.2)
 ends_more n (BadLine at column) raw line after left part fails text out whole is = (
   is.0 ∙ ap (λ (k : ℕ). k + 1) (same_number n (length part.lines)),
@@ -72,11 +72,11 @@ ends_more n TooLong raw line after left part fails text out whole is =
 ends_more n Usage raw line after left part fails text out whole is = absurd is
 
 -- no line was done
-abbrev pub no_part : List ℕ → Part
-no_part bytes = record { lines = []; others = lines_of bytes; failures = []; texts = [] }
+abbrev pub no_part : List ℕ → RunPart
+no_part bytes = record { lines = []; others = split_lines bytes; failures = []; texts = [] }
 
 -- one line was done
-abbrev pub one_part : List ℕ → List (List ℕ) → Fails → List ℕ → Part
+abbrev pub one_part : List ℕ → List (List ℕ) → Fails → List ℕ → RunPart
 one_part line others fails text = record { lines = line ∷ []; others = others; failures = fails ∷ []; texts = text ∷ [] }
 
 -- nothing of the next line was done
@@ -96,8 +96,8 @@ last_same told other others w = refl
 module _ {told : Type 0} {files : Bool} {Leaves : Doubted → Type 0} where
   -- a run goes on after a line as the rest does from there
   pub outcome_more : (n : ℕ) (old mid : Doubted) (raw line after : List ℕ) (status : Status) (left w0 w1 w2 : Option (List ℕ)) (f0 f1 f2 : ℕ → ℕ → ℕ) (fails : Fails) (text : List ℕ)
-      → IsWhole raw line → LineStep told files old line fails text mid → Appends w0 w1 text → RoseAll fails f0 f1
-      → Outcome told files Leaves (n + 1) mid after status left w1 w2 f1 f2 → Outcome told files Leaves n old (raw ++ after) status left w0 w2 f0 f2
+      → IsWholeLine raw line → BytesStep told files old line fails text mid → Appends w0 w1 text → RoseAll fails f0 f1
+      → RunOutcome told files Leaves (n + 1) mid after status left w1 w2 f1 f2 → RunOutcome told files Leaves n old (raw ++ after) status left w0 w2 f0 f2
   outcome_more n old mid raw line after status left w0 w1 w2 f0 f1 f2 fails text whole step wrote rose rest =
       record {
         part = with_line line fails text rest.part;
@@ -110,28 +110,28 @@ module _ {told : Type 0} {files : Bool} {Leaves : Doubted → Type 0} where
         last = rest.last;
         ends = ends_more n status raw line after left rest.part fails text rest.out whole rest.ends;
         appends = appends_then w0 w1 w2 text rest.out wrote rest.appends;
-        rose = rose_more fails (all_fails rest.part.failures) f0 f1 f2 rose rest.rose;
+        rose = rose_more fails (fails_of_lines rest.part.failures) f0 f1 f2 rose rest.rose;
         leaves = rest.leaves;
       }
 
   -- the run ends within its next line
   pub ends_within : (n : ℕ) (old new : Doubted) (bytes : List ℕ) (status : Status) (left w0 w1 : Option (List ℕ)) (f0 f1 : ℕ → ℕ → ℕ) (out : List ℕ)
-      → n ≤ 1000000 → LastWorld told status (lines_of bytes) old new → Ends n status bytes left (no_part bytes) out → Appends w0 w1 out → RoseAll [] f0 f1 → Leaves new
-      → Outcome told files Leaves n old bytes status left w0 w1 f0 f1
+      → n ≤ 1000000 → LastWorld told status (split_lines bytes) old new → RunEnds n status bytes left (no_part bytes) out → Appends w0 w1 out → RoseAll [] f0 f1 → Leaves new
+      → RunOutcome told files Leaves n old bytes status left w0 w1 f0 f1
   ends_within n old new bytes status left w0 w1 f0 f1 out few last ends wrote rose leaves =
       record { part = no_part bytes; world = new; out = out; split = refl; few = omega arith; behind = old; run = refl; last = last; ends = ends; appends = wrote; rose = rose; leaves = leaves }
 
   -- the run ends before its next line
   pub ends_here : (n : ℕ) (old : Doubted) (bytes : List ℕ) (status : Status) (left w0 w1 : Option (List ℕ)) (f0 f1 : ℕ → ℕ → ℕ) (out : List ℕ)
-      → n ≤ 1000000 → Ends n status bytes left (no_part bytes) out → Appends w0 w1 out → RoseAll [] f0 f1 → Leaves old
-      → Outcome told files Leaves n old bytes status left w0 w1 f0 f1
+      → n ≤ 1000000 → RunEnds n status bytes left (no_part bytes) out → Appends w0 w1 out → RoseAll [] f0 f1 → Leaves old
+      → RunOutcome told files Leaves n old bytes status left w0 w1 f0 f1
   ends_here n old bytes status left w0 w1 f0 f1 out few ends wrote rose leaves =
-      ends_within n old old bytes status left w0 w1 f0 f1 out few (last_same told status (lines_of bytes) old) ends wrote rose leaves
+      ends_within n old old bytes status left w0 w1 f0 f1 out few (last_same told status (split_lines bytes) old) ends wrote rose leaves
 
   -- the run ends with a line
   pub ends_one : (n : ℕ) (old new : Doubted) (bytes line : List ℕ) (others : List (List ℕ)) (status : Status) (left w0 w1 : Option (List ℕ)) (f0 f1 : ℕ → ℕ → ℕ)
-      (fails : Fails) (text out : List ℕ) → n < 1000000 → lines_of bytes ≡ line ∷ others → LineStep told files old line fails text new → RoseAll fails f0 f1
-      → Ends n status bytes left (one_part line others fails text) out → Appends w0 w1 out → Leaves new → Outcome told files Leaves n old bytes status left w0 w1 f0 f1
+      (fails : Fails) (text out : List ℕ) → n < 1000000 → split_lines bytes ≡ line ∷ others → BytesStep told files old line fails text new → RoseAll fails f0 f1
+      → RunEnds n status bytes left (one_part line others fails text) out → Appends w0 w1 out → Leaves new → RunOutcome told files Leaves n old bytes status left w0 w1 f0 f1
   ends_one n old new bytes line others status left w0 w1 f0 f1 fails text out few split step rose ends wrote leaves =
       record {
         part = one_part line others fails text;
@@ -155,5 +155,5 @@ pub zero_more : (n : ℕ) → n + 1 ≡ n + 0 + 1
 zero_more n = omega arith
 
 -- the first line was wrong
-pub bad_first : (n column : ℕ) (sent : List ℕ) → IsCut (bad_text (n + 1) column) sent → IsCut (bad_text (n + 0 + 1) column) sent
-bad_first n column sent cut = subst (λ (k : ℕ). IsCut (bad_text k column) sent) (zero_more n) cut
+pub bad_first : (n column : ℕ) (sent : List ℕ) → IsTextCut (bad_text (n + 1) column) sent → IsTextCut (bad_text (n + 0 + 1) column) sent
+bad_first n column sent cut = subst (λ (k : ℕ). IsTextCut (bad_text k column) sent) (zero_more n) cut

@@ -1,9 +1,9 @@
 -- The reader of lines, over plain lists.
 use Rattle.std.proofs.Common.{◌≡◌, ◌≤◌, ◌<◌, ℕ, ◌+◌, ◌-◌, Bool, true, false, List, [], ◌∷◌, ◌++◌, length, take, drop, get_or, Option, Some, None, Result, Ok, Err, refl, arith, ◌∙◌, ap, eqb, sym, subst, append_assoc}
 use Rattle.std.proofs.lemmas.List.{take-append-drop, drop_more, get_or-take, length-take}
-use Rattle.vx_script.specs.Lines.{lines_of, whole_lines_of, without_return, IsPlain}
+use Rattle.vx_script.specs.Lines.{split_lines, whole_lines_of, without_return, HasNoNewline}
 use Rattle.vx_script.proofs.LineLemmas.{plain_from, lines_of_line, whole_lines_of_line, lines_of_last, lines_of_long, BeginsLong, without_return_strips, without_return_keeps}
-use Rattle.vx_cli.specs.Reading.{Ahead, Follows, FillIs, CutIs, NextIs, IsMore, MoreIs}
+use Rattle.vx_cli.specs.Reading.{Ahead, FollowsInput, FillIs, CutIs, NextIs, IsByteAhead, MoreIs}
 use Rattle.vx_cli.specs.declared.reader.ReadError.{ReadError}
 use Rattle.vx_cli.specs.declared.reader.ReadError.TheVariants.{Fault, Memory}
 use Rattle.vx_cli.specs.declared.reader.Next.TheVariants.{Line, Last, End, Long}
@@ -13,10 +13,10 @@ pub ahead_some : (held : List ℕ) (left : Option (List ℕ)) → (bytes : List 
 ahead_some held None = (held ++ [], record { rest = []; has = tt; is = refl })
 ahead_some held (Some told) = (held ++ told, record { rest = told; has = refl; is = refl })
 
-pub follows_same : (held : List ℕ) (left : Option (List ℕ)) → Follows held left [] held left
+pub follows_same : (held : List ℕ) (left : Option (List ℕ)) → FollowsInput held left [] held left
 follows_same held left = record { before = λ bytes ahead. ahead }
 
-pub follows_then : (a b c : List ℕ) (u v w : Option (List ℕ)) (done : List ℕ) → Follows a u [] b v → Follows b v done c w → Follows a u done c w
+pub follows_then : (a b c : List ℕ) (u v w : Option (List ℕ)) (done : List ℕ) → FollowsInput a u [] b v → FollowsInput b v done c w → FollowsInput a u done c w
 follows_then a b c u v w done first second = record { before = λ bytes ahead. first.before (done ++ bytes) (second.before bytes ahead) }
 
 split_at : (xs : List ℕ) (n : ℕ) → n < length xs → get_or xs n 0 ≡ 10 → xs ≡ take n xs ++ 10 ∷ drop (n + 1) xs
@@ -55,13 +55,13 @@ more_is (Ok false) held new left now none is some = (subst (Ahead held left) non
 more_is (Err Fault) held new left now none is some = (is.0 ∙ none, is.1)
 more_is (Err Memory) held new left now none is some = tt
 
-pub more_held : (held : List ℕ) (left : Option (List ℕ)) → 0 < length held → IsMore held left
+pub more_held : (held : List ℕ) (left : Option (List ℕ)) → 0 < length held → IsByteAhead held left
 more_held [] left some = absurd (omega arith)
 more_held (b ∷ held) left some =
     let some = ahead_some (b ∷ held) left in let at = some.1 in
     record { first = b; others = held ++ at.rest; ahead = record { rest = at.rest; has = at.has; is = refl } }
 
-follows_cut : (held raw new : List ℕ) (left : Option (List ℕ)) → held ≡ raw ++ 10 ∷ new → Follows held left (raw ++ 10 ∷ []) new left
+follows_cut : (held raw new : List ℕ) (left : Option (List ℕ)) → held ≡ raw ++ 10 ∷ new → FollowsInput held left (raw ++ 10 ∷ []) new left
 follows_cut held raw new left cut = record {
   before = λ bytes ahead. record {
     rest = ahead.rest;
@@ -71,18 +71,18 @@ follows_cut held raw new left cut = record {
 }
 
 -- a line that was cut off is the next one
-pub next_cut : (first held line new : List ℕ) (left0 left : Option (List ℕ)) → CutIs true held line new → Follows first left0 [] held left → NextIs first left0 (Ok Line) line new left
+pub next_cut : (first held line new : List ℕ) (left0 left : Option (List ℕ)) → CutIs true held line new → FollowsInput first left0 [] held left → NextIs first left0 (Ok Line) line new left
 next_cut first held line new left0 left cut before = (
   cut.0 ++ 10 ∷ [],
   record {
-    lines = λ tail. ap lines_of (append_assoc cut.0 (10 ∷ []) tail) ∙ lines_of_line cut.0 tail cut.1 ∙ ap (λ (l : List ℕ). l ∷ lines_of tail) (sym cut.3);
+    lines = λ tail. ap split_lines (append_assoc cut.0 (10 ∷ []) tail) ∙ lines_of_line cut.0 tail cut.1 ∙ ap (λ (l : List ℕ). l ∷ split_lines tail) (sym cut.3);
     whole = λ tail. ap whole_lines_of (append_assoc cut.0 (10 ∷ []) tail) ∙ whole_lines_of_line cut.0 tail cut.1 ∙ ap (λ (l : List ℕ). l ∷ whole_lines_of tail) (sym cut.3);
   },
   follows_then _ _ _ _ _ _ _ before (follows_cut held cut.0 new left cut.2),
 )
 
 -- a last line
-pub next_last : (first held line new : List ℕ) (left0 left now : Option (List ℕ)) → Follows first left0 [] held left → IsPlain held → 0 < length held
+pub next_last : (first held line new : List ℕ) (left0 left now : Option (List ℕ)) → FollowsInput first left0 [] held left → HasNoNewline held → 0 < length held
     → FillIs held left (Ok false) new now → line ≡ new → NextIs first left0 (Ok Last) line [] now
 next_last first held line new left0 left now before plain some is same = (
   record {
@@ -93,12 +93,12 @@ next_last first held line new left0 left now before plain some is same = (
   is.1,
 )
 
-pub next_end : (first held line new : List ℕ) (left0 left now : Option (List ℕ)) → Follows first left0 [] held left → length new ≡ 0 → FillIs held left (Ok false) new now
+pub next_end : (first held line new : List ℕ) (left0 left now : Option (List ℕ)) → FollowsInput first left0 [] held left → length new ≡ 0 → FillIs held left (Ok false) new now
     → NextIs first left0 (Ok End) line new now
 next_end first [] line new left0 left now before none is = (before.before [] is.2, is.1)
 next_end first (b ∷ held) line new left0 left now before none is = absurd (omega (arith, ap length is.0))
 
-pub next_long : (first held line : List ℕ) (left0 left : Option (List ℕ)) → Follows first left0 [] held left → IsPlain held → 4098 ≤ length held → NextIs first left0 (Ok Long) line held left
+pub next_long : (first held line : List ℕ) (left0 left : Option (List ℕ)) → FollowsInput first left0 [] held left → HasNoNewline held → 4098 ≤ length held → NextIs first left0 (Ok Long) line held left
 next_long first held line left0 left before plain long =
     let at = (ahead_some held left).1 in
     let begins : BeginsLong (held ++ at.rest) (length held) = lines_of_long held at.rest plain (omega arith) in
@@ -112,5 +112,5 @@ next_long first held line left0 left before plain long =
     }
 
 -- a cut that found nothing
-pub follows_uncut : (first held new : List ℕ) (left0 left : Option (List ℕ)) → new ≡ held → Follows first left0 [] held left → Follows first left0 [] new left
-follows_uncut first held new left0 left same before = subst (λ (h : List ℕ). Follows first left0 [] h left) (sym same) before
+pub follows_uncut : (first held new : List ℕ) (left0 left : Option (List ℕ)) → new ≡ held → FollowsInput first left0 [] held left → FollowsInput first left0 [] new left
+follows_uncut first held new left0 left same before = subst (λ (h : List ℕ). FollowsInput first left0 [] h left) (sym same) before

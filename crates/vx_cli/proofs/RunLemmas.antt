@@ -18,7 +18,7 @@ use Rattle.vx_yard.specs.Yards.{IsTold, count_of, in_files}
 use Rattle.vx_cli.specs.declared.status.Status.{Status}
 use Rattle.vx_cli.specs.declared.status.Status.TheVariants.{OutOfMemory}
 use Rattle.vx_cli.specs.Reading.{MayHave}
-use Rattle.vx_cli.specs.Runs.{Run, Leaves, all_fails}
+use Rattle.vx_cli.specs.Runs.{RunsLines, LeavesRacks, fails_of_lines}
 use Rattle.vx_cli.specs.Ends.{RunIs}
 use Rattle.vx_cli.specs.Turns.{YardComes}
 use Rattle.vx_cli.proofs.EndsLemmas.{ends_here}
@@ -27,7 +27,7 @@ use Rattle.vx_cli.proofs.StepLemmas.{last_told, line_told, rose_none, rose_same}
 
 -- a run where contents are told is one where even more is told
 run_told : {T U : Type 0} (f : U → T) (files : Bool) (w : Doubted) (lines : List (List ℕ)) (failures : List Fails) (texts : List (List ℕ)) (new : Doubted)
-    → Run T files w lines failures texts new → Run U files w lines failures texts new
+    → RunsLines T files w lines failures texts new → RunsLines U files w lines failures texts new
 run_told f files w [] [] [] new run = run
 run_told f files w [] [] (text ∷ texts) new run = run
 run_told f files w [] (fails ∷ failures) texts new run = run
@@ -50,7 +50,7 @@ module _ {R : Type 0} {g : Ghosts R} where
       → YardComes 0 (sure empty_world) [] left status old new now_left w0 w1 → in_files old ≡ files
       → ((d : Doubted) → StandsFor d new → RacksHold g.meaning d racks) → ((w : Doubted) → StandsFor w new → RacksTell g.meaning racks → IsTold new)
       → ((s d : ℕ) → count_of old s d ≡ f0 s d) → ((w : Doubted) → StandsFor w new → (s d : ℕ) → f1 s d ≡ count_of new s d)
-      → RunIs (RacksTell g.meaning racks) files (Leaves g.meaning racks) status left now_left w0 w1 f0 f1
+      → RunIs (RacksTell g.meaning racks) files (LeavesRacks g.meaning racks) status left now_left w0 w1 f0 f1
   run_is files racks status old new left now_left w0 w1 f0 f1 comes kept holds told counts after =
       let o = comes.outcome in
       record {
@@ -63,12 +63,12 @@ module _ {R : Type 0} {g : Ghosts R} where
           split = o.split;
           few = o.few;
           behind = o.behind;
-          run = subst (λ (f : Bool). Run (RacksTell g.meaning racks) f (sure empty_world) o.part.lines o.part.failures o.part.texts o.behind) kept
+          run = subst (λ (f : Bool). RunsLines (RacksTell g.meaning racks) f (sure empty_world) o.part.lines o.part.failures o.part.texts o.behind) kept
               (run_told (told o.world o.leaves.stands) (in_files old) (sure empty_world) o.part.lines o.part.failures o.part.texts o.behind o.run);
           last = last_told (told o.world o.leaves.stands) status o.part.others o.behind o.world o.last;
           ends = o.ends;
           appends = o.appends;
-          rose = rose_same (all_fails o.part.failures) (count_of old) (count_of new) f0 f1 (λ s d. sym (counts s d)) (after o.world o.leaves.stands) o.rose;
+          rose = rose_same (fails_of_lines o.part.failures) (count_of old) (count_of new) f0 f1 (λ s d. sym (counts s d)) (after o.world o.leaves.stands) o.rose;
           leaves = record {
             good = λ tells. o.leaves.good (told o.world o.leaves.stands tells);
             holds = holds o.world o.leaves.stands;
@@ -78,15 +78,15 @@ module _ {R : Type 0} {g : Ghosts R} where
 
 module _ {R : Type 0} (meaning : R → Meaning) where
   -- the racks of a world without sites hold it
-  fresh_leave : (racks : List R) → AreFresh meaning racks → Leaves meaning racks (sure empty_world)
+  fresh_leave : (racks : List R) → AreFresh meaning racks → LeavesRacks meaning racks (sure empty_world)
   fresh_leave racks fresh = record { good = λ _. begins_good; holds = record { eight = fresh.eight; each = λ s r below at. absurd (omega arith) } }
 
   -- memory ran out before the run began
   pub run_stops : (T : Type 0) (files : Bool) (racks now : List R) (left w0 : Option (List ℕ)) → AreFresh meaning racks → now ≡ racks
-      → RunIs T files (Leaves meaning now) OutOfMemory left left w0 w0 (rack_faults meaning racks) (rack_faults meaning now)
+      → RunIs T files (LeavesRacks meaning now) OutOfMemory left left w0 w0 (rack_faults meaning racks) (rack_faults meaning now)
   run_stops T files racks now left w0 fresh same =
       let some = ahead_some [] left in let at = some.1 in
-      subst (λ (rs : List R). RunIs T files (Leaves meaning rs) OutOfMemory left left w0 w0 (rack_faults meaning racks) (rack_faults meaning rs)) (sym same)
+      subst (λ (rs : List R). RunIs T files (LeavesRacks meaning rs) OutOfMemory left left w0 w0 (rack_faults meaning racks) (rack_faults meaning rs)) (sym same)
       (record {
         input = at.rest;
         has = at.has;

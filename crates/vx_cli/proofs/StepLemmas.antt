@@ -12,19 +12,19 @@ use Rattle.vx_script.specs.Grammar.{line_of}
 use Rattle.vx_script.specs.declared.line.ScriptLine.{ScriptLine}
 use Rattle.vx_script.specs.declared.line.ScriptLine.TheVariants.{Write, Put}
 use Rattle.vx_script.proofs.GrammarLemmas.{line_of_long}
-use Rattle.vx_events.specs.Doubts.{chosen}
+use Rattle.vx_events.specs.Doubts.{doubt_chosen}
 use Rattle.vx_events.specs.Ends.{Ends, AllDone, DiskFails, HeaderFails, FuseRunsOut, NoNumber, ShowsReceived, FindsLinks, FindsNone, place_of}
 use Rattle.vx_events.specs.Fails.{Fails}
 use Rattle.vx_events.specs.LinkEnds.{LinkEnds, LinksDone, LinksHalt, AppliesPart, AppliesCut, LinksCut, LinksFind, LogUnread, NoHeader}
 use Rattle.vx_events.specs.LinkedFacts.{refused_by}
-use Rattle.vx_events.specs.Lines.{Counts, EndsBy, StepBy, is_of_links}
+use Rattle.vx_events.specs.Lines.{CountsCalls, EndsBy, StepBy, is_of_links}
 use Rattle.vx_events.specs.Lists.{events_of}
 use Rattle.vx_events.specs.Parts.{StopsBetween, StopsInPart, StopsShort}
 use Rattle.vx_events.specs.Sayings.{RepeatsOf, Replies}
 use Rattle.vx_events.specs.declared.said.Said.{Said}
 use Rattle.vx_yard.specs.Lines.{script_line, only_built, if_built, is_built}
 use Rattle.vx_yard.specs.Stands.{RoseAll, times}
-use Rattle.vx_yard.specs.Steps.{SaidStep, LineStep}
+use Rattle.vx_yard.specs.Steps.{SaidStep, BytesStep}
 use Rattle.vx_cli.specs.Ends.{LastWorld, PartOfLine, PartOfNext}
 use Rattle.vx_cli.specs.declared.status.Status.{Status}
 use Rattle.vx_cli.specs.declared.status.Status.TheVariants.{OutOfMemory}
@@ -55,7 +55,7 @@ module _ {T U : Type 0} (f : U → T) where
 
   replies_told : (line : ScriptLine) (s : ℕ) (taken : Bool) (d : Doubted) (es : List Event) (said : Said) → Replies T line s taken d es said → Replies U line s taken d es said
   replies_told line s taken d [] said x = x
-  replies_told line s taken d (e ∷ []) said x = repeats_told s e (step (chosen taken d e).world e) said x
+  replies_told line s taken d (e ∷ []) said x = repeats_told s e (step (doubt_chosen taken d e).world e) said x
   replies_told line s taken d (e ∷ b ∷ es) said x = replies_told line s taken (happened d e taken) (b ∷ es) said x
 
   ends_told : (d : Doubted) (line : ScriptLine) (s : ℕ) (fails : Fails) (said : Said) (new : Doubted) → Ends T d line s fails said new → Ends U d line s fails said new
@@ -83,7 +83,7 @@ module _ {T U : Type 0} (f : U → T) where
   kind_told true d line fails said new x = links_told d line fails said new x
   kind_told false d line fails said new x = ends_told d line (place_of d.world line) fails said new x
 
-  counts_told : (w : World) (line : ScriptLine) (said : Said) → Counts T w line said → Counts U w line said
+  counts_told : (w : World) (line : ScriptLine) (said : Said) → CountsCalls T w line said → CountsCalls U w line said
   counts_told w (Write site volume start count fill) said x = record { done = λ u. x.done (f u); off = λ u. x.off (f u) }
   counts_told w (Put site volume start bytes) said x = record { done = λ u. x.done (f u); off = λ u. x.off (f u) }
   counts_told w other said x = x
@@ -99,7 +99,7 @@ module _ {T U : Type 0} (f : U → T) where
       record { said = x.said; step = step_by_told (refused_by d.world files line) d line fails x.said new x.step; is = x.is }
   said_told files d (Err column) fails text new x = x
 
-  pub line_told : (files : Bool) (d : Doubted) (line : List ℕ) (fails : Fails) (text : List ℕ) (new : Doubted) → LineStep T files d line fails text new → LineStep U files d line fails text new
+  pub line_told : (files : Bool) (d : Doubted) (line : List ℕ) (fails : Fails) (text : List ℕ) (new : Doubted) → BytesStep T files d line fails text new → BytesStep U files d line fails text new
   line_told files d line fails text new x = said_told files d (script_line line) fails text new x
 
   short_told : (d : Doubted) (line : ScriptLine) (new : Doubted) → StopsShort T d line new → StopsShort U d line new

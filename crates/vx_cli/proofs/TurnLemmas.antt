@@ -5,7 +5,7 @@ use Rattle.vx_history.specs.Doubts.{Doubted}
 use Rattle.vx_history.specs.World.{empty_world}
 use Rattle.vx_events.specs.Doubts.{sure}
 use Rattle.vx_disk.specs.declared.shelf.Shelf.{Ghosts}
-use Rattle.vx_script.specs.Lines.{lines_of, IsPlain}
+use Rattle.vx_script.specs.Lines.{split_lines, HasNoNewline}
 use Rattle.vx_script.specs.declared.line.ScriptLine.{ScriptLine}
 use Rattle.vx_script.proofs.LineLemmas.{whole_lines_of_last, some_line}
 use Rattle.vx_stream.proofs.SendLemmas.{appends_none}
@@ -17,10 +17,10 @@ use Rattle.vx_yard.specs.Yards.{IsTold, count_of, in_files}
 use Rattle.vx_cli.specs.declared.reader.Next.TheVariants as nexts
 use Rattle.vx_cli.specs.declared.status.Status.{Status}
 use Rattle.vx_cli.specs.declared.status.Status.TheVariants.{Done, Usage, BadLine, ReadFault, WriteFault, OutOfMemory, TooLong}
-use Rattle.vx_cli.specs.Reading.{MayHave, Ahead, Follows, IsWhole, IsLong, IsMore, NextIs}
+use Rattle.vx_cli.specs.Reading.{MayHave, Ahead, FollowsInput, IsWholeLine, IsLong, IsByteAhead, NextIs}
 use Rattle.vx_cli.specs.Texts.{bad_text}
-use Rattle.vx_cli.specs.Ends.{IsNonEmpty, AtReply, AtBad, Ends, PartOfLine, PartOfNext, Outcome}
-use Rattle.vx_cli.specs.Turns.{BadIs, Did, DidPart, StaysFor, MemoryStops, StopsBefore, StopsWithin, StopsBehind, WriteStops, StopsAtReply, StopsAtBad, AnswerIs, YardComes, TurnIs, Reaches}
+use Rattle.vx_cli.specs.Ends.{IsNonEmpty, AtReply, AtBad, RunEnds, PartOfLine, PartOfNext, RunOutcome}
+use Rattle.vx_cli.specs.Turns.{BadIs, Did, DidPart, StaysServing, MemoryStops, StopsBefore, StopsWithin, StopsBehind, WriteStops, StopsAtReply, StopsAtBad, AnswerIs, YardComes, TurnIs, TurnReaches}
 use Rattle.vx_cli.proofs.StepLemmas.{script_line_long, rose_none, line_told}
 use Rattle.vx_cli.proofs.EndsLemmas.{no_part, one_part, outcome_more, ends_within, ends_here, ends_one, bad_next, bad_first, zero_more}
 use Rattle.vx_cli.proofs.ReaderLemmas.{ahead_some}
@@ -28,7 +28,7 @@ use Rattle.vx_cli.proofs.Sounds.{part_good, said_good}
 
 module _ {R : Type 0} {g : Ghosts R} where
   -- nothing was done
-  pub stays : (w : Doubted) (y : Yard R g) → Serves w y → StaysFor w y y
+  pub stays : (w : Doubted) (y : Yard R g) → Serves w y → StaysServing w y y
   stays w y serves = record { serves = serves; rose = rose_none (count_of y) }
 
   -- an empty line or a comment
@@ -90,7 +90,7 @@ module _ {R : Type 0} {g : Ghosts R} where
 
   -- the run ends before its next line
   comes_here : (n : ℕ) (w : Doubted) (held : List ℕ) (left : Option (List ℕ)) (bytes : List ℕ) (status : Status) (old new : Yard R g) (now_left w0 w1 : Option (List ℕ)) (out : List ℕ)
-      → Ahead held left bytes → n ≤ 1000000 → Ends n status bytes now_left (no_part bytes) out → Appends w0 w1 out → StaysFor w old new
+      → Ahead held left bytes → n ≤ 1000000 → RunEnds n status bytes now_left (no_part bytes) out → Appends w0 w1 out → StaysServing w old new
       → YardComes n w held left status old new now_left w0 w1
   comes_here n w held left bytes status old new now_left w0 w1 out ahead few ends wrote same = record {
     bytes = bytes;
@@ -100,8 +100,8 @@ module _ {R : Type 0} {g : Ghosts R} where
 
   -- the run ends with a line
   comes_one : (n : ℕ) (w : Doubted) (held : List ℕ) (left : Option (List ℕ)) (bytes line : List ℕ) (others : List (List ℕ)) (status : Status) (old new : Yard R g)
-      (now_left w0 w1 : Option (List ℕ)) (text out : List ℕ) → Ahead held left bytes → n < 1000000 → lines_of bytes ≡ line ∷ others → (did : Did w line old new text)
-      → Ends n status bytes now_left (one_part line others did.fails text) out → Appends w0 w1 out → YardComes n w held left status old new now_left w0 w1
+      (now_left w0 w1 : Option (List ℕ)) (text out : List ℕ) → Ahead held left bytes → n < 1000000 → split_lines bytes ≡ line ∷ others → (did : Did w line old new text)
+      → RunEnds n status bytes now_left (one_part line others did.fails text) out → Appends w0 w1 out → YardComes n w held left status old new now_left w0 w1
   comes_one n w held left bytes line others status old new now_left w0 w1 text out ahead few split did ends wrote = record {
     bytes = bytes;
     ahead = ahead;
@@ -109,16 +109,16 @@ module _ {R : Type 0} {g : Ghosts R} where
   }
 
   write_stops : (n : ℕ) (w : Doubted) (held : List ℕ) (left : Option (List ℕ)) (bytes line : List ℕ) (others : List (List ℕ)) (old new : Yard R g) (now_left w0 w1 : Option (List ℕ))
-      → Ahead held left bytes → lines_of bytes ≡ line ∷ others → WriteStops n w line old new w0 w1 → n < 1000000 → YardComes n w held left WriteFault old new now_left w0 w1
+      → Ahead held left bytes → split_lines bytes ≡ line ∷ others → WriteStops n w line old new w0 w1 → n < 1000000 → YardComes n w held left WriteFault old new now_left w0 w1
   write_stops n w held left bytes line others old new now_left w0 w1 ahead split (StopsAtReply text sent did cut wrote) few =
       comes_one n w held left bytes line others WriteFault old new now_left w0 w1 text sent ahead few split did (AtReply [] text sent refl cut refl) wrote
   write_stops n w held left bytes line others old new now_left w0 w1 ahead split (StopsAtBad column sent e same cut wrote) few =
       comes_here n w held left bytes WriteFault old new now_left w0 w1 sent ahead (omega arith)
-      (AtBad column sent (bad_next (lines_of bytes) line others column split e) (omega arith) (bad_first n column sent cut) refl) wrote same
+      (AtBad column sent (bad_next (split_lines bytes) line others column split e) (omega arith) (bad_first n column sent cut) refl) wrote same
 
   -- memory ran out within a line
   comes_within : (n : ℕ) (w : Doubted) (held : List ℕ) (left : Option (List ℕ)) (bytes line : List ℕ) (others : List (List ℕ)) (words : ScriptLine) (old new : Yard R g)
-      (now_left w0 w1 : Option (List ℕ)) → Ahead held left bytes → lines_of bytes ≡ line ∷ others → n < 1000000 → script_line line ≡ Ok (Some words)
+      (now_left w0 w1 : Option (List ℕ)) → Ahead held left bytes → split_lines bytes ≡ line ∷ others → n < 1000000 → script_line line ≡ Ok (Some words)
       → DidPart w words old new → Appends w0 w1 [] → YardComes n w held left OutOfMemory old new now_left w0 w1
   comes_within n w held left bytes line others words old new now_left w0 w1 ahead split few e short wrote =
       let part : PartOfLine (IsTold new) (script_line line) w short.next = subst (λ (r : Result (Option ScriptLine) ℕ). PartOfLine (IsTold new) r w short.next) (sym e) short.part in
@@ -131,7 +131,7 @@ module _ {R : Type 0} {g : Ghosts R} where
       }
 
   memory_stops : (n : ℕ) (w : Doubted) (held : List ℕ) (left : Option (List ℕ)) (bytes line : List ℕ) (others : List (List ℕ)) (old new : Yard R g) (now_left w0 w1 : Option (List ℕ))
-      → Ahead held left bytes → lines_of bytes ≡ line ∷ others → MemoryStops w line old new → Appends w0 w1 [] → n < 1000000
+      → Ahead held left bytes → split_lines bytes ≡ line ∷ others → MemoryStops w line old new → Appends w0 w1 [] → n < 1000000
       → YardComes n w held left OutOfMemory old new now_left w0 w1
   memory_stops n w held left bytes line others old new now_left w0 w1 ahead split (StopsBefore same) wrote few =
       comes_here n w held left bytes OutOfMemory old new now_left w0 w1 [] ahead (omega arith) (record { sent = []; unsent = []; texts = refl; last = omega arith; is = refl }) wrote same
@@ -143,11 +143,11 @@ module _ {R : Type 0} {g : Ghosts R} where
 
   -- the run ends at a line that was read
   pub turn_stop : (n : ℕ) (w : Doubted) (held : List ℕ) (left : Option (List ℕ)) (bytes line : List ℕ) (others : List (List ℕ)) (status : Status) (old new : Yard R g)
-      (now_left w0 w1 : Option (List ℕ)) → Ahead held left bytes → lines_of bytes ≡ line ∷ others → AnswerIs n w line (Some status) old new w0 w1 → n < 1000000
+      (now_left w0 w1 : Option (List ℕ)) → Ahead held left bytes → split_lines bytes ≡ line ∷ others → AnswerIs n w line (Some status) old new w0 w1 → n < 1000000
       → YardComes n w held left status old new now_left w0 w1
   turn_stop n w held left bytes line others (BadLine at column) old new now_left w0 w1 ahead split is few =
       comes_here n w held left bytes (BadLine at column) old new now_left w0 w1 (bad_text at column) ahead (omega arith)
-      (is.0 ∙ zero_more n, bad_next (lines_of bytes) line others column split is.1, omega arith, refl) is.3 is.2
+      (is.0 ∙ zero_more n, bad_next (split_lines bytes) line others column split is.1, omega arith, refl) is.3 is.2
   turn_stop n w held left bytes line others WriteFault old new now_left w0 w1 ahead split is few = write_stops n w held left bytes line others old new now_left w0 w1 ahead split is few
   turn_stop n w held left bytes line others OutOfMemory old new now_left w0 w1 ahead split is few =
       memory_stops n w held left bytes line others old new now_left w0 w1 ahead split is.0 is.1 few
@@ -162,7 +162,7 @@ module _ {R : Type 0} {g : Ghosts R} where
   turn_line n w held left line None old new now_held now_left w0 w1 next is few = (line, next.0, next.1, next.2, is)
   turn_line n w held left line (Some status) old new now_held now_left w0 w1 next is few =
       let after = ahead_some now_held now_left in
-      turn_stop n w held left (next.0 ++ after.0) line (lines_of after.0) status old new now_left w0 w1 (next.2.before after.0 after.1) (next.1.lines after.0) is few
+      turn_stop n w held left (next.0 ++ after.0) line (split_lines after.0) status old new now_left w0 w1 (next.2.before after.0 after.1) (next.1.lines after.0) is few
 
   -- the last line was answered
   pub turn_last : (n : ℕ) (w : Doubted) (held : List ℕ) (left : Option (List ℕ)) (line : List ℕ) (old new : Yard R g) (now_held : List ℕ) (now_left w0 w1 : Option (List ℕ))
@@ -184,7 +184,7 @@ module _ {R : Type 0} {g : Ghosts R} where
 
   -- the source failed
   pub turn_fault : (n : ℕ) (w : Doubted) (held : List ℕ) (left : Option (List ℕ)) (y : Yard R g) (now_held : List ℕ) (now_left written : Option (List ℕ))
-      → IsPlain now_held → Follows held left [] now_held now_left → n ≤ 1000000 → Serves w y → YardComes n w held left ReadFault y y now_left written written
+      → HasNoNewline now_held → FollowsInput held left [] now_held now_left → n ≤ 1000000 → Serves w y → YardComes n w held left ReadFault y y now_left written written
   turn_fault n w held left y now_held now_left written plain follows few serves =
       let some = ahead_some now_held now_left in let at = some.1 in
       comes_here n w held left some.0 ReadFault y y now_left written written [] (follows.before some.0 at) few
@@ -206,7 +206,7 @@ module _ {R : Type 0} {g : Ghosts R} where
 
   -- as many lines as may be were done, and another byte follows
   pub turn_most : (n : ℕ) (w : Doubted) (held : List ℕ) (left : Option (List ℕ)) (y : Yard R g) (now_left written : Option (List ℕ))
-      → n ≡ 1000000 → IsMore held left → Serves w y → YardComes n w held left TooLong y y now_left written written
+      → n ≡ 1000000 → IsByteAhead held left → Serves w y → YardComes n w held left TooLong y y now_left written written
   turn_most n w held left y now_left written most more serves =
       let first = some_line more.first more.others in
       comes_here n w held left (more.first ∷ more.others) TooLong y y now_left written written [] more.ahead (omega (arith, most))
@@ -214,7 +214,7 @@ module _ {R : Type 0} {g : Ghosts R} where
 
   -- the rest of a run with a line before it
   pub comes_more : (n : ℕ) (w : Doubted) (held : List ℕ) (left : Option (List ℕ)) (raw line text now_held : List ℕ) (now_left : Option (List ℕ)) (status : Status) (old new last : Yard R g)
-      (last_left w0 w1 w2 : Option (List ℕ)) → IsWhole raw line → Follows held left raw now_held now_left → (did : Did w line old new text) → Appends w0 w1 text
+      (last_left w0 w1 w2 : Option (List ℕ)) → IsWholeLine raw line → FollowsInput held left raw now_held now_left → (did : Did w line old new text) → Appends w0 w1 text
       → (IsTold last → IsTold new) → in_files new ≡ in_files old
       → YardComes (n + 1) did.world now_held now_left status new last last_left w1 w2 → YardComes n w held left status old last last_left w0 w2
   comes_more n w held left raw line text now_held now_left status old new last last_left w0 w1 w2 whole follows did wrote told files rest =
@@ -223,17 +223,17 @@ module _ {R : Type 0} {g : Ghosts R} where
         ahead = follows.before rest.bytes rest.ahead;
         outcome = outcome_more n w did.world raw line rest.bytes status last_left w0 w1 w2 (count_of old) (count_of new) (count_of last) did.fails text whole
             (line_told told (in_files old) w line did.fails text did.world did.step) wrote did.rose
-            (subst (λ (f : Bool). Outcome (IsTold last) f (λ v. Serves v last) (n + 1) did.world rest.bytes status last_left w1 w2 (count_of new) (count_of last)) files rest.outcome);
+            (subst (λ (f : Bool). RunOutcome (IsTold last) f (λ v. Serves v last) (n + 1) did.world rest.bytes status last_left w1 w2 (count_of new) (count_of last)) files rest.outcome);
       }
 
   -- where the loop begins, and where it stands after one more line
-  pub reaches_first : (y : Yard R g) (held : List ℕ) (left written : Option (List ℕ)) → Serves (sure empty_world) y → held ≡ [] → Reaches 0 y y [] held left left written written
-  reaches_first y held left written serves none = subst (λ (h : List ℕ). Reaches 0 y y [] h left left written written) (sym none)
+  pub reaches_first : (y : Yard R g) (held : List ℕ) (left written : Option (List ℕ)) → Serves (sure empty_world) y → held ≡ [] → TurnReaches 0 y y [] held left left written written
+  reaches_first y held left written serves none = subst (λ (h : List ℕ). TurnReaches 0 y y [] h left left written written) (sym none)
       (record { world = (sure empty_world); serves = serves; goes = λ last status last_left last_written told rest. rest })
 
   pub reaches_more : (n : ℕ) (first old new : Yard R g) (held0 held now_held : List ℕ) (left0 left now_left w0 w1 w2 : Option (List ℕ))
-      → (at : Reaches n first old held0 held left0 left w0 w1) → TurnIs n at.world held left None old new now_held now_left w1 w2
-      → (IsTold new → IsTold old) → in_files new ≡ in_files old → Reaches (n + 1) first new held0 now_held left0 now_left w0 w2
+      → (at : TurnReaches n first old held0 held left0 left w0 w1) → TurnIs n at.world held left None old new now_held now_left w1 w2
+      → (IsTold new → IsTold old) → in_files new ≡ in_files old → TurnReaches (n + 1) first new held0 now_held left0 now_left w0 w2
   reaches_more n first old new held0 held now_held left0 left now_left w0 w1 w2 at is told files =
       let did = is.4.1 in
       record {
@@ -245,6 +245,6 @@ module _ {R : Type 0} {g : Ghosts R} where
 
   -- the run ends in the middle of the loop
   pub reaches_end : (n : ℕ) (first now last : Yard R g) (held0 held : List ℕ) (left0 left w0 w1 : Option (List ℕ)) (status : Status) (last_left w2 : Option (List ℕ))
-      → (at : Reaches n first now held0 held left0 left w0 w1) → (IsTold last → IsTold now) → YardComes n at.world held left status now last last_left w1 w2
+      → (at : TurnReaches n first now held0 held left0 left w0 w1) → (IsTold last → IsTold now) → YardComes n at.world held left status now last last_left w1 w2
       → YardComes 0 (sure empty_world) held0 left0 status first last last_left w0 w2
   reaches_end n first now last held0 held left0 left w0 w1 status last_left w2 at told rest = at.goes last status last_left w2 told rest

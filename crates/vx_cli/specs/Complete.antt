@@ -7,18 +7,18 @@ use Rattle.vx_history.specs.World.{empty_world}
 use Rattle.vx_events.specs.Doubts.{sure}
 use Rattle.vx_yard.specs.Lines.{script_line}
 use Rattle.vx_events.specs.Fails.{Fails}
-use Rattle.vx_script.specs.Lines.{lines_of}
-use Rattle.vx_cli.specs.Runs.{Run}
+use Rattle.vx_script.specs.Lines.{split_lines}
+use Rattle.vx_cli.specs.Runs.{RunsLines}
 use Rattle.vx_cli.specs.declared.status.Status.{Status}
 use Rattle.vx_cli.specs.declared.status.Status.TheVariants.{Done, Usage, BadLine, ReadFault, WriteFault, OutOfMemory, TooLong}
 
 -- a line of the grammar whose kind is built, or an empty one or a comment
-abbrev pub IsGood : List ℕ → Type 0
-IsGood line = (column : ℕ) → script_line line ≡ Err column → ⊥
+abbrev pub IsGoodLine : List ℕ → Type 0
+IsGoodLine line = (column : ℕ) → script_line line ≡ Err column → ⊥
 
-abbrev pub AllGood : List (List ℕ) → Type 0
-AllGood [] = Unit {0}
-AllGood (line ∷ lines) = IsGood line × AllGood lines
+abbrev pub AllLinesGood : List (List ℕ) → Type 0
+AllLinesGood [] = Unit {0}
+AllLinesGood (line ∷ lines) = IsGoodLine line × AllLinesGood lines
 
 -- the run was not cut off by a fault of its ends or by want of memory
 abbrev pub IsUncut : Status → Type 0
@@ -32,16 +32,16 @@ IsUncut OutOfMemory = ⊥
 
 -- each line is good, and they are at most 1,000,000
 pub record IsGoodScript (input : List ℕ) : Type 0 where
-  pub good : AllGood (lines_of input)
-  pub few : length (lines_of input) ≤ 1000000
+  pub good : AllLinesGood (split_lines input)
+  pub few : length (split_lines input) ≤ 1000000
 
 -- the first line that is wrong, and from which column on
 pub record FirstBad (input : List ℕ) (line column : ℕ) : Type 0 where
   pub before : List (List ℕ)
   pub bad : List ℕ
   pub others : List (List ℕ)
-  pub split : lines_of input ≡ before ++ bad ∷ others
-  pub good : AllGood before
+  pub split : split_lines input ≡ before ++ bad ∷ others
+  pub good : AllLinesGood before
   pub wrong : script_line bad ≡ Err column
   pub number : line ≡ length before + 1
   pub few : length before < 1000000
@@ -51,18 +51,18 @@ pub record IsTooLong (input : List ℕ) : Type 0 where
   pub before : List (List ℕ)
   pub next : List ℕ
   pub others : List (List ℕ)
-  pub split : lines_of input ≡ before ++ next ∷ others
-  pub good : AllGood before
+  pub split : split_lines input ≡ before ++ next ∷ others
+  pub good : AllLinesGood before
   pub number : length before ≡ 1000000
 
 -- a count that did not rise, and that does not stand at its greatest value
-pub record IsStill (before now : ℕ) : Type 0 where
+pub record IsStillCount (before now : ℕ) : Type 0 where
   pub same : now ≡ before
   pub below : now < 0xffff_ffff_ffff_ffff
 
 -- the counts of all disks
 pub record AreStill (before now : ℕ → ℕ → ℕ) : Type 0 where
-  pub each : (s d : ℕ) → IsStill (before s d) (now s d)
+  pub each : (s d : ℕ) → IsStillCount (before s d) (now s d)
 
 -- no call failed in any line
 abbrev pub no_fails : List (List ℕ) → List Fails
@@ -72,7 +72,7 @@ no_fails lines = map (λ line. []) lines
 pub record CleanRun (told : Type 0) (files : Bool) (Leaves : Doubted → Type 0) (lines : List (List ℕ)) (written now : Option (List ℕ)) : Type 0 where
   pub texts : List (List ℕ)
   pub world : Doubted
-  pub run : Run told files (sure empty_world) lines (no_fails lines) texts world
+  pub run : RunsLines told files (sure empty_world) lines (no_fails lines) texts world
   pub appends : Appends written now (concat texts)
   pub leaves : Leaves world
 

@@ -9,16 +9,16 @@ use Rattle.vx_yard.specs.Lines.{script_line}
 use Rattle.vx_yard.specs.Stands.{RoseAll}
 use Rattle.vx_events.specs.Fails.{Fails}
 use Rattle.vx_events.specs.Parts.{StopsShort, goes_in_parts}
-use Rattle.vx_script.specs.Lines.{lines_of, whole_lines_of}
+use Rattle.vx_script.specs.Lines.{split_lines, whole_lines_of}
 use Rattle.vx_script.specs.declared.line.ScriptLine.{ScriptLine}
 use Rattle.vx_cli.specs.Reading.{MayHave}
-use Rattle.vx_cli.specs.Runs.{Run, all_fails}
-use Rattle.vx_cli.specs.Texts.{bad_text, IsCut}
+use Rattle.vx_cli.specs.Runs.{RunsLines, fails_of_lines}
+use Rattle.vx_cli.specs.Texts.{bad_text, IsTextCut}
 use Rattle.vx_cli.specs.declared.status.Status.{Status}
 use Rattle.vx_cli.specs.declared.status.Status.TheVariants.{Done, Usage, BadLine, ReadFault, WriteFault, OutOfMemory, TooLong}
 
 -- What a run did: the lines that it did and those that it did not, the failed calls in each and the text of each.
-pub record Part : Type 0 where
+pub record RunPart : Type 0 where
   pub lines : List (List ℕ)
   pub others : List (List ℕ)
   pub failures : List Fails
@@ -35,13 +35,13 @@ IsNonEmpty (line ∷ lines) = Unit {0}
 
 -- The sink failed at the reply of the last line that was done, or at the line that says where the script is wrong. All
 -- before it was written, and of it a front part. n lines came before.
-pub data WriteEnds (n : ℕ) (part : Part) (out : List ℕ) : Type 0 where
-  AtReply : (before : List (List ℕ)) (last sent : List ℕ) → part.texts ≡ before ++ last ∷ [] → IsCut last sent → out ≡ concat before ++ sent → WriteEnds n part out
-  AtBad : (column : ℕ) (sent : List ℕ) → IsBadNext part.others column → n + length part.lines < 1000000 → IsCut (bad_text (n + length part.lines + 1) column) sent
+pub data WriteEnds (n : ℕ) (part : RunPart) (out : List ℕ) : Type 0 where
+  AtReply : (before : List (List ℕ)) (last sent : List ℕ) → part.texts ≡ before ++ last ∷ [] → IsTextCut last sent → out ≡ concat before ++ sent → WriteEnds n part out
+  AtBad : (column : ℕ) (sent : List ℕ) → IsBadNext part.others column → n + length part.lines < 1000000 → IsTextCut (bad_text (n + length part.lines + 1) column) sent
       → out ≡ concat part.texts ++ sent → WriteEnds n part out
 
 -- the reply of each line that was done was written, or of each but the last
-pub record MemoryEnds (part : Part) (out : List ℕ) : Type 0 where
+pub record MemoryEnds (part : RunPart) (out : List ℕ) : Type 0 where
   pub sent : List (List ℕ)
   pub unsent : List (List ℕ)
   pub texts : part.texts ≡ sent ++ unsent
@@ -49,7 +49,7 @@ pub record MemoryEnds (part : Part) (out : List ℕ) : Type 0 where
   pub is : out ≡ concat sent
 
 -- the lines that were done are the whole lines of the bytes that were read, and the source has the others left
-pub record ReadEnds (bytes : List ℕ) (left : Option (List ℕ)) (part : Part) (out : List ℕ) : Type 0 where
+pub record ReadEnds (bytes : List ℕ) (left : Option (List ℕ)) (part : RunPart) (out : List ℕ) : Type 0 where
   pub got : List ℕ
   pub rest : List ℕ
   pub has : MayHave left rest
@@ -58,18 +58,18 @@ pub record ReadEnds (bytes : List ℕ) (left : Option (List ℕ)) (part : Part) 
   pub is : out ≡ concat part.texts
 
 -- By the status: where the run stopped in bytes, what the source has left, and what was written. n lines came before.
-abbrev pub Ends : ℕ → Status → List ℕ → Option (List ℕ) → Part → List ℕ → Type 0
+abbrev pub RunEnds : ℕ → Status → List ℕ → Option (List ℕ) → RunPart → List ℕ → Type 0
 -- all lines were done, the input was read to its end, and each reply was written
-Ends n Done bytes left part out = (part.others ≡ []) × MayHave left [] × (out ≡ concat part.texts)
+RunEnds n Done bytes left part out = (part.others ≡ []) × MayHave left [] × (out ≡ concat part.texts)
 -- the next line is wrong from that column on, and the last line of the output says so
-Ends n (BadLine line column) bytes left part out =
+RunEnds n (BadLine line column) bytes left part out =
     (line ≡ n + length part.lines + 1) × IsBadNext part.others column × (n + length part.lines < 1000000) × (out ≡ concat part.texts ++ bad_text line column)
-Ends n ReadFault bytes left part out = ReadEnds bytes left part out
-Ends n WriteFault bytes left part out = WriteEnds n part out
-Ends n OutOfMemory bytes left part out = MemoryEnds part out
+RunEnds n ReadFault bytes left part out = ReadEnds bytes left part out
+RunEnds n WriteFault bytes left part out = WriteEnds n part out
+RunEnds n OutOfMemory bytes left part out = MemoryEnds part out
 -- so many lines were done, and another byte follows
-Ends n TooLong bytes left part out = (n + length part.lines ≡ 1000000) × IsNonEmpty part.others × (out ≡ concat part.texts)
-Ends n Usage bytes left part out = ⊥
+RunEnds n TooLong bytes left part out = (n + length part.lines ≡ 1000000) × IsNonEmpty part.others × (out ≡ concat part.texts)
+RunEnds n Usage bytes left part out = ⊥
 
 -- what want of memory may leave of a line that was read, over disks that tell their contents or not
 abbrev pub PartOfLine : Type 0 → Result (Option ScriptLine) ℕ → Doubted → Doubted → Type 0
@@ -100,19 +100,19 @@ LastWorld told other others d last = last ≡ d
 
 -- What a run over these bytes came to, from a world in which n lines were done. Its lines are the first of the bytes', and
 -- each is a step. What was written is their replies, by the status. The counts of the disks rose by the failed calls.
-pub record Outcome (told : Type 0) (files : Bool) (Leaves : Doubted → Type 0) (n : ℕ) (old : Doubted) (bytes : List ℕ) (status : Status)
+pub record RunOutcome (told : Type 0) (files : Bool) (Leaves : Doubted → Type 0) (n : ℕ) (old : Doubted) (bytes : List ℕ) (status : Status)
     (left written now_written : Option (List ℕ)) (faults now_faults : ℕ → ℕ → ℕ) : Type 0 where
-  pub part : Part
+  pub part : RunPart
   pub world : Doubted
   pub out : List ℕ
-  pub split : lines_of bytes ≡ part.lines ++ part.others
+  pub split : split_lines bytes ≡ part.lines ++ part.others
   pub few : n + length part.lines ≤ 1000000
   pub behind : Doubted
-  pub run : Run told files old part.lines part.failures part.texts behind
+  pub run : RunsLines told files old part.lines part.failures part.texts behind
   pub last : LastWorld told status part.others behind world
-  pub ends : Ends n status bytes left part out
+  pub ends : RunEnds n status bytes left part out
   pub appends : Appends written now_written out
-  pub rose : RoseAll (all_fails part.failures) faults now_faults
+  pub rose : RoseAll (fails_of_lines part.failures) faults now_faults
   pub leaves : Leaves world
 
 -- what a run came to over its whole input, which is the one that the source told, if it told any
@@ -120,4 +120,4 @@ pub record RunIs (told : Type 0) (files : Bool) (Leaves : Doubted → Type 0) (s
     (left now_left written now_written : Option (List ℕ)) (faults now_faults : ℕ → ℕ → ℕ) : Type 0 where
   pub input : List ℕ
   pub has : MayHave left input
-  pub outcome : Outcome told files Leaves 0 (sure empty_world) input status now_left written now_written faults now_faults
+  pub outcome : RunOutcome told files Leaves 0 (sure empty_world) input status now_left written now_written faults now_faults

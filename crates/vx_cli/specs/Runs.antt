@@ -4,27 +4,27 @@ use Rattle.vx_history.specs.Doubts.{Doubted}
 use Rattle.vx_world.specs.Lines.{GoodDoubted}
 use Rattle.vx_disk.specs.Shelf.{Meaning}
 use Rattle.vx_yard.specs.Holds.{RacksHold, RacksTell}
-use Rattle.vx_yard.specs.Steps.{LineStep}
+use Rattle.vx_yard.specs.Steps.{BytesStep}
 use Rattle.vx_events.specs.Fails.{Fails}
 
 -- the lines, one after another, each a step from the world that the line before it left
-abbrev pub Run : Type 0 → Bool → Doubted → List (List ℕ) → List Fails → List (List ℕ) → Doubted → Type 0
-Run told files d [] [] [] new = new ≡ d
-Run told files d (line ∷ lines) (fails ∷ failures) (text ∷ texts) new =
-    (mid : Doubted) × LineStep told files d line fails text mid × Run told files mid lines failures texts new
-Run told files d [] [] (text ∷ texts) new = ⊥
-Run told files d [] (fails ∷ failures) texts new = ⊥
-Run told files d (line ∷ lines) [] texts new = ⊥
-Run told files d (line ∷ lines) (fails ∷ failures) [] new = ⊥
+abbrev pub RunsLines : Type 0 → Bool → Doubted → List (List ℕ) → List Fails → List (List ℕ) → Doubted → Type 0
+RunsLines told files d [] [] [] new = new ≡ d
+RunsLines told files d (line ∷ lines) (fails ∷ failures) (text ∷ texts) new =
+    (mid : Doubted) × BytesStep told files d line fails text mid × RunsLines told files mid lines failures texts new
+RunsLines told files d [] [] (text ∷ texts) new = ⊥
+RunsLines told files d [] (fails ∷ failures) texts new = ⊥
+RunsLines told files d (line ∷ lines) [] texts new = ⊥
+RunsLines told files d (line ∷ lines) (fails ∷ failures) [] new = ⊥
 
 -- the failed calls of all lines
-abbrev pub all_fails : List Fails → Fails
-all_fails [] = []
-all_fails (fails ∷ failures) = fails ++ all_fails failures
+abbrev pub fails_of_lines : List Fails → Fails
+fails_of_lines [] = []
+fails_of_lines (fails ∷ failures) = fails ++ fails_of_lines failures
 
 module _ {R : Type 0} (meaning : R → Meaning) where
   -- The world at the end of a run: the racks hold it. Where they tell their contents it is good, as every world is that comes about, whichever
   -- of the sites in doubt are as they may be on their disks.
-  pub record Leaves (racks : List R) (d : Doubted) : Type 0 where
+  pub record LeavesRacks (racks : List R) (d : Doubted) : Type 0 where
     pub good : RacksTell meaning racks → GoodDoubted d
     pub holds : RacksHold meaning d racks

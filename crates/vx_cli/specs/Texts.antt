@@ -7,7 +7,7 @@ unfoldable pub bad_text : ℕ → ℕ → List ℕ
 bad_text line column = codes "bad " ++ decimal line ++ 32 ∷ decimal column ++ 10 ∷ []
 
 -- a text of which a front part was sent, and something is missing
-pub record IsCut (text sent : List ℕ) : Type 0 where
+pub record IsTextCut (text sent : List ℕ) : Type 0 where
   pub unsent : List ℕ
   pub is : text ≡ sent ++ unsent
   pub some : unsent ≢ []

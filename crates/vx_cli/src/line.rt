@@ -1,14 +1,14 @@
 // What a line says, where its kind is built.
 ghost use Rattle.std.specs.Prelude.{◌≡◌};
 ghost use Rattle.vx_script.specs.Parsed.{IsParsed};
-ghost use Rattle.vx_yard.specs.Lines.{is_built, is_fail, script_line};
+ghost use Rattle.vx_yard.specs.Lines.{is_built, is_fail_prot, script_line};
 
 use std::alloc::Global;
 use vx_model::Prot;
 use vx_script::{LineErr, ScriptLine, parse};
 
 fn is_fail(prot: &Prot) -> bool
-    ensures { result ≡ is_fail prot.now }
+    ensures { result ≡ is_fail_prot prot.now }
 {
     matches!(prot, Prot::Fail)
 }

@@ -1,6 +1,6 @@
 // The lines of a source.
 ghost use Rattle.std.specs.Prelude.{◌≡◌, ◌≤◌, ◌<◌, ◌==◌, ℕ, List, [], ◌∷◌, true, false, Ok, Err, length, drop, vec_len, slice_index, IfOk, OnErr};
-ghost use Rattle.vx_stream.specs.Causes.{Rose};
+ghost use Rattle.vx_stream.specs.Causes.{StreamRose};
 ghost use Rattle.vx_script.specs.Lines.{without_return};
 ghost use Rattle.vx_cli.specs.Reading.{FillIs, CutIs, NextIs, MoreIs};
 ghost use Rattle.vx_cli.specs.declared.reader.ReadError.TheVariants.{Memory};
@@ -92,7 +92,7 @@ fn fill<S: Source>(source: &mut S, held: &mut Vec<u8>) -> Result<bool, ReadError
     ensures fill { FillIs held.old.items (S.left source.old) result held.new.items (S.left source.new) }
     ensures more { result ≡ Ok true → vec_len held.old < vec_len held.new }
     ensures later { S.faults source.old ≤ S.faults source.new }
-    ensures cause { result ≡ Err ReadError.Fault → Rose (S.faults source.old) (S.faults source.new) }
+    ensures cause { result ≡ Err ReadError.Fault → StreamRose (S.faults source.old) (S.faults source.new) }
 {
     let mut piece = [0; 512];
     match source.take(&mut piece) {
@@ -112,7 +112,7 @@ pub fn next_line<S: Source>(
 ) -> Result<Next, ReadError>
     ensures next { NextIs held.old.items (S.left source.old) result line.new.items held.new.items (S.left source.new) }
     ensures later { S.faults source.old ≤ S.faults source.new }
-    ensures cause { result ≡ Err ReadError.Fault → Rose (S.faults source.old) (S.faults source.new) }
+    ensures cause { result ≡ Err ReadError.Fault → StreamRose (S.faults source.old) (S.faults source.new) }
 {
     while held.len() < LIMIT {
         if cut(held, line)? {
@@ -139,7 +139,7 @@ pub fn next_line<S: Source>(
 pub fn more<S: Source>(source: &mut S, held: &mut Vec<u8>) -> Result<bool, ReadError>
     ensures more { MoreIs held.old.items (S.left source.old) result held.new.items (S.left source.new) }
     ensures later { S.faults source.old ≤ S.faults source.new }
-    ensures cause { result ≡ Err ReadError.Fault → Rose (S.faults source.old) (S.faults source.new) }
+    ensures cause { result ≡ Err ReadError.Fault → StreamRose (S.faults source.old) (S.faults source.new) }
 {
     if held.is_empty() {
         fill(source, held)

@@ -2,11 +2,11 @@
 ghost use Rattle.std.specs.Prelude.{◌≡◌, ◌≤◌, ℕ, [], is_some};
 ghost use Rattle.vx_history.specs.World.{empty_world};
 ghost use Rattle.vx_events.specs.Doubts.{sure};
-ghost use Rattle.vx_stream.specs.Causes.{Rose};
+ghost use Rattle.vx_stream.specs.Causes.{StreamRose};
 ghost use Rattle.vx_yard.specs.Holds.{AreFresh, RacksTell, rack_faults};
 ghost use Rattle.vx_yard.specs.Standing.{Serves};
 ghost use Rattle.vx_cli.specs.Ends.{RunIs};
-ghost use Rattle.vx_cli.specs.Runs.{Leaves};
+ghost use Rattle.vx_cli.specs.Runs.{LeavesRacks};
 ghost use Rattle.vx_cli.specs.Turns.{YardComes};
 
 use crate::Status;
@@ -28,9 +28,9 @@ fn answer_all<I: Source, O: Sink, R: Rack>(
     requires serves { Serves (sure empty_world) yard.old }
     ensures run { YardComes 0 (sure empty_world) [] (I.left source.old) result yard.old yard.new (I.left source.new) (O.written sink.old) (O.written sink.new) }
     ensures read_later { I.faults source.old ≤ I.faults source.new }
-    ensures read { result ≡ Status.ReadFault → Rose (I.faults source.old) (I.faults source.new) }
+    ensures read { result ≡ Status.ReadFault → StreamRose (I.faults source.old) (I.faults source.new) }
     ensures write_later { O.faults sink.old ≤ O.faults sink.new }
-    ensures write { result ≡ Status.WriteFault → Rose (O.faults sink.old) (O.faults sink.new) }
+    ensures write { result ≡ Status.WriteFault → StreamRose (O.faults sink.old) (O.faults sink.new) }
 {
     let mut held = Vec::new(alloc);
     let mut line = Vec::new(alloc);
@@ -61,13 +61,13 @@ pub fn run<I: Source, O: Sink, R: Rack>(
     dir: Option<&str>,
 ) -> Status
     requires fresh { AreFresh R.meaning racks.old.items }
-    ensures run { RunIs (RacksTell R.meaning racks.new.items) (is_some dir.entry) (Leaves R.meaning racks.new.items) result
+    ensures run { RunIs (RacksTell R.meaning racks.new.items) (is_some dir.entry) (LeavesRacks R.meaning racks.new.items) result
         (I.left source.old) (I.left source.new) (O.written sink.old) (O.written sink.new)
         (rack_faults R.meaning racks.old.items) (rack_faults R.meaning racks.new.items) }
     ensures read_later { I.faults source.old ≤ I.faults source.new }
-    ensures read { result ≡ Status.ReadFault → Rose (I.faults source.old) (I.faults source.new) }
+    ensures read { result ≡ Status.ReadFault → StreamRose (I.faults source.old) (I.faults source.new) }
     ensures write_later { O.faults sink.old ≤ O.faults sink.new }
-    ensures write { result ≡ Status.WriteFault → Rose (O.faults sink.old) (O.faults sink.new) }
+    ensures write { result ≡ Status.WriteFault → StreamRose (O.faults sink.old) (O.faults sink.new) }
 {
     let taken = mem::replace(racks, Vec::new(alloc));
     match Yard::new(alloc, taken, dir) {

@@ -1,6 +1,6 @@
 // What is written of a script that is wrong.
 ghost use Rattle.std.specs.Prelude.{◌≡◌, ◌≤◌, IfOk};
-ghost use Rattle.vx_stream.specs.Causes.{Rose};
+ghost use Rattle.vx_stream.specs.Causes.{StreamRose};
 ghost use Rattle.vx_cli.specs.Texts.{bad_text};
 ghost use Rattle.vx_cli.specs.Turns.{BadIs};
 
@@ -20,7 +20,7 @@ pub fn bad<O: Sink>(alloc: Global, sink: &mut O, line: u64, column: u64) -> Stat
     ensures bad { BadIs line column result (O.written sink.old) (O.written sink.new) }
     ensures reading { result ≡ Status.ReadFault → ⊥ }
     ensures later { O.faults sink.old ≤ O.faults sink.new }
-    ensures cause { result ≡ Status.WriteFault → Rose (O.faults sink.old) (O.faults sink.new) }
+    ensures cause { result ≡ Status.WriteFault → StreamRose (O.faults sink.old) (O.faults sink.new) }
 {
     match bad_line(alloc, line, column) {
         Ok(text) => match send(sink, &text) {

@@ -1,9 +1,9 @@
 // One turn of the loop: a line is read and answered.
 ghost use Rattle.std.specs.Prelude.{◌≡◌, ◌≤◌, ◌<◌, ◌^◌, ℕ, Some};
 ghost use Rattle.vx_history.specs.Doubts.{Doubted};
-ghost use Rattle.vx_stream.specs.Causes.{Rose};
+ghost use Rattle.vx_stream.specs.Causes.{StreamRose};
 ghost use Rattle.vx_yard.specs.Standing.{Serves};
-ghost use Rattle.vx_yard.specs.Yards.{IsKept, IsTold, in_files};
+ghost use Rattle.vx_yard.specs.Yards.{IsYardKept, IsTold, in_files};
 ghost use Rattle.vx_cli.specs.Turns.{AnswerIs, TurnIs};
 
 use crate::Status;
@@ -26,7 +26,7 @@ fn answer<O: Sink, R: Rack>(
     number: u64,
     line: &[u8],
 ) -> Option<Status>
-    requires kept { IsKept yard.old }
+    requires kept { IsYardKept yard.old }
     requires few { number ≤ MOST_NUMBER }
     ensures answer { (d : Doubted) → Serves d yard.old
         → AnswerIs number d line.now result yard.old yard.new (O.written sink.old) (O.written sink.new) }
@@ -34,7 +34,7 @@ fn answer<O: Sink, R: Rack>(
     ensures files { in_files yard.new ≡ in_files yard.old }
     ensures reading { result ≡ Some Status.ReadFault → ⊥ }
     ensures later { O.faults sink.old ≤ O.faults sink.new }
-    ensures cause { result ≡ Some Status.WriteFault → Rose (O.faults sink.old) (O.faults sink.new) }
+    ensures cause { result ≡ Some Status.WriteFault → StreamRose (O.faults sink.old) (O.faults sink.new) }
 {
     match line_of(alloc, line, number + 1) {
         Ok(None) => None,
@@ -58,16 +58,16 @@ pub fn turn<I: Source, O: Sink, R: Rack>(
     line: &mut Vec<u8>,
     number: u64,
 ) -> Option<Status>
-    requires kept { IsKept yard.old }
+    requires kept { IsYardKept yard.old }
     requires few { number < 1000000 }
     ensures turn { (d : Doubted) → Serves d yard.old
         → TurnIs number d held.old.items (I.left source.old) result yard.old yard.new held.new.items (I.left source.new) (O.written sink.old) (O.written sink.new) }
     ensures told { IsTold yard.new → IsTold yard.old }
     ensures files { in_files yard.new ≡ in_files yard.old }
     ensures read_later { I.faults source.old ≤ I.faults source.new }
-    ensures read { result ≡ Some Status.ReadFault → Rose (I.faults source.old) (I.faults source.new) }
+    ensures read { result ≡ Some Status.ReadFault → StreamRose (I.faults source.old) (I.faults source.new) }
     ensures write_later { O.faults sink.old ≤ O.faults sink.new }
-    ensures write { result ≡ Some Status.WriteFault → Rose (O.faults sink.old) (O.faults sink.new) }
+    ensures write { result ≡ Some Status.WriteFault → StreamRose (O.faults sink.old) (O.faults sink.new) }
 {
     match next_line(source, held, line) {
         Ok(Next::Line) => answer(alloc, yard, sink, number, line),

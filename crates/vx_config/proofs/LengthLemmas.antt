@@ -8,7 +8,7 @@ use Rattle.std.proofs.lemmas.List.Sums.{sum_by-cons}
 use Rattle.vx_model.specs.declared.units.Units.{Units}
 use Rattle.vx_wire.specs.Numbers.{be_bytes}
 use Rattle.vx_wire.proofs.NumberLemmas.{length-be_bytes}
-use Rattle.vx_config.specs.Configs.{spelled, HasSpelling, plex_subdisks, volume_subdisks, subdisk_count}
+use Rattle.vx_config.specs.Configs.{spelled_config, HasSpelling, plex_subdisks, volume_subdisks, subdisk_count}
 use Rattle.vx_config.specs.Forms.{Form, number, flag, flag_code, name, spell_if, FitsIf}
 use Rattle.vx_config.specs.Table.{disk, subdisk, log, state_code, state, plex, preferred_number, ways, Ways, volume, units, format_1, config}
 use Rattle.vx_config.specs.declared.config.Config.{Config}
@@ -161,8 +161,8 @@ length-group None fits = omega (arith, length-be_bytes 1 0)
 length-group (Some u) fits = omega (arith, length-append (be_bytes 1 1) (units.spell u), length-be_bytes 1 1, length-units u fits)
 
 -- a configuration with few subdisks is short
-pub length-spelled : (c : Config) → HasSpelling c → subdisk_count c ≤ 1024 → length (spelled c) ≤ 65024
-unfolding spelled HasSpelling config format_1
+pub length-spelled : (c : Config) → HasSpelling c → subdisk_count c ≤ 1024 → length (spelled_config c) ≤ 65024
+unfolding spelled_config HasSpelling config format_1
 length-spelled c fits few =
     let group : List ℕ = spell_if units c.rvg in
     let volumes : List ℕ = be_bytes 1 (length c.volumes) ++ flat_map volume.spell c.volumes in

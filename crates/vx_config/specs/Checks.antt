@@ -156,3 +156,16 @@ is_sound c =
     && pairwise differ c.volumes
     && list_all is_volume c.volumes
     && group_or_none c.volumes c.rvg
+
+abbrev pub plexes_or : Option VolumeEntry → ℕ
+plexes_or None = 0
+plexes_or (Some v) = length v.plexes
+
+-- how many plexes a volume has
+abbrev pub plexes_of : Config → ℕ → ℕ
+plexes_of c v = plexes_or (slice_get c.volumes v)
+
+-- the blocks of a disk, which are none where there is no disk
+abbrev pub blocks_or : Option DiskEntry → ℕ
+blocks_or None = 0
+blocks_or (Some d) = d.blocks

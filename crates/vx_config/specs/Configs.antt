@@ -11,8 +11,8 @@ use Rattle.vx_config.specs.declared.wrong.Wrong.TheVariants.{Left, Memory}
 use Rattle.vx_config.specs.declared.stop.ConfigStop.TheVariants.{BadConfig, OutOfMemory}
 
 -- the bytes of a configuration
-unfoldable pub spelled : Config → List ℕ
-spelled c = config.spell c
+unfoldable pub spelled_config : Config → List ℕ
+spelled_config c = config.spell c
 
 -- it has a spelling: each number fits its field, and each list its count
 unfoldable pub HasSpelling : Config → Type 0
@@ -21,20 +21,20 @@ HasSpelling c = config.Fits c
 -- these bytes are the spelling of this configuration
 pub record IsSpelling (bytes : List ℕ) (c : Config) : Type 0 where
   pub has : HasSpelling c
-  pub is : bytes ≡ spelled c
+  pub is : bytes ≡ spelled_config c
 
 -- some configuration is spelled at the front of the bytes
 pub record HasFront (bytes : List ℕ) : Type 0 where
   pub value : Config
   pub rest : List ℕ
   pub has : HasSpelling value
-  pub is : bytes ≡ spelled value ++ rest
+  pub is : bytes ≡ spelled_config value ++ rest
 
 -- some configuration is spelled as the bytes are, up to this byte
 pub record AgreesUpTo (at : ℕ) (bytes : List ℕ) : Type 0 where
   pub value : Config
   pub has : HasSpelling value
-  pub same : take at (spelled value) ≡ take at bytes
+  pub same : take at (spelled_config value) ≡ take at bytes
 
 -- read from the left, the first field that is wrong or missing begins at this byte
 pub record IsFirstWrong (at : ℕ) (bytes : List ℕ) : Type 0 where

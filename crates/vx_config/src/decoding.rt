@@ -1,6 +1,6 @@
 // From bytes to configurations.
 ghost use Rattle.std.specs.Prelude.{ℕ, List, ◌≡◌, ◌≤◌, ◌++◌, length, take, IfOk, IfErr};
-ghost use Rattle.vx_config.specs.Configs.{stop_of as stop_of_is, HasSpelling, IsSpelling, Stops, Reads, spelled};
+ghost use Rattle.vx_config.specs.Configs.{stop_of as stop_of_is, HasSpelling, IsSpelling, Stops, Reads, spelled_config};
 ghost use Rattle.vx_config.specs.declared.config.Config.{Config as ConfigValue};
 
 use crate::cursor::Cursor;
@@ -26,7 +26,7 @@ pub fn decode(alloc: Global, bytes: &[u8]) -> Result<(Config, usize), ConfigStop
     ensures found { IfOk result (λ found. IsSpelling (take found.1 bytes.now) found.0) }
     ensures len { IfOk result (λ found. found.1 ≤ length bytes.now) }
     // What is spelled so is read, whatever follows it.
-    ensures only { (c : ConfigValue) (rest : List ℕ) → HasSpelling c → bytes.now ≡ spelled c ++ rest → Reads result c (length (spelled c)) }
+    ensures only { (c : ConfigValue) (rest : List ℕ) → HasSpelling c → bytes.now ≡ spelled_config c ++ rest → Reads result c (length (spelled_config c)) }
     // Bytes are refused exactly where no front of them is a configuration, at the first field that is wrong or missing.
     ensures stop { IfErr result (λ stop. Stops bytes.now stop) }
 {

@@ -1,6 +1,6 @@
 // From configurations to bytes.
 ghost use Rattle.std.specs.Prelude.{◌≡◌, ◌<◌, ◌≤◌, length, IfOk, IsOkUnless, Err};
-ghost use Rattle.vx_config.specs.Configs.{CanSpell, HasSpelling, IsSpelling, spelled, subdisk_count};
+ghost use Rattle.vx_config.specs.Configs.{CanSpell, HasSpelling, IsSpelling, spelled_config, subdisk_count};
 ghost use Rattle.vx_model.specs.declared.errors.Stop.TheVariants.{OutOfMemory as MemoryStop, No as Refused};
 ghost use Rattle.vx_model.specs.declared.no.No.TheVariants.{Limit};
 ghost use Rattle.vx_model.specs.declared.no.Counted.TheVariants.{Subdisks};
@@ -38,9 +38,9 @@ pub fn encode(alloc: Global, config: &Config) -> Result<Bytes, Stop>
 pub fn encode_into(config: &Config, into: &mut [u8]) -> usize
     requires can { CanSpell config.now }
     requires few { subdisk_count config.now ≤ MOST_SUBDISKS }
-    requires room { length (spelled config.now) ≤ length into.old }
-    ensures len { result ≡ length (spelled config.now) }
-    ensures bytes { into.new ≡ put_at 0 (spelled config.now) into.old }
+    requires room { length (spelled_config config.now) ≤ length into.old }
+    ensures len { result ≡ length (spelled_config config.now) }
+    ensures bytes { into.new ≡ put_at 0 (spelled_config config.now) into.old }
     ensures has { HasSpelling config.now }
 {
     is_short(config);
@@ -55,7 +55,7 @@ pub fn encode_into(config: &Config, into: &mut [u8]) -> usize
 pub fn is_short(config: &Config)
     requires can { CanSpell config.now }
     requires few { subdisk_count config.now ≤ MOST_SUBDISKS }
-    ensures { length (spelled config.now) ≤ 65024 }
+    ensures { length (spelled_config config.now) ≤ 65024 }
 {
     config_fits(config);
 }

@@ -2,7 +2,7 @@
 ghost use Rattle.std.specs.Prelude.{List, ℕ, ◌≡◌, ◌∷◌, ◌++◌, [], Bool, Some, length, slice_get, true};
 ghost use Rattle.vx_config.specs.Changes.{has_live, lost, names_below, stated, with_volumes};
 ghost use Rattle.vx_config.specs.Checks.{is_sound};
-ghost use Rattle.vx_config.specs.Configs.{HasSpelling, spelled};
+ghost use Rattle.vx_config.specs.Configs.{HasSpelling, spelled_config};
 ghost use Rattle.vx_config.specs.declared.config.Config.{Config as ConfigValue};
 ghost use Rattle.vx_config.specs.declared.entry.PlexEntry.{PlexEntry as PlexValue};
 ghost use Rattle.vx_config.specs.declared.entry.VolumeEntry.{VolumeEntry as VolumeValue};
@@ -11,7 +11,7 @@ ghost use Rattle.vx_model.specs.declared.site.PlexState.{PlexState as StateValue
 
 /// No spelling of a configuration begins another, so that what bytes begin with is one configuration at most.
 pub fn one_spelling()
-    ensures { (c d : ConfigValue) (rest more : List ℕ) → HasSpelling c → HasSpelling d → spelled c ++ rest ≡ spelled d ++ more → (c ≡ d) × (rest ≡ more) }
+    ensures { (c d : ConfigValue) (rest more : List ℕ) → HasSpelling c → HasSpelling d → spelled_config c ++ rest ≡ spelled_config d ++ more → (c ≡ d) × (rest ≡ more) }
 {}
 
 /// What is sound stays so where the state of a plex leaves its volume one that is not stale, where a log is lost or not, and where the

@@ -38,6 +38,3 @@ pub use subdisks::Subdisks;
 pub use volumes::Volumes;
 pub use vx_model::PlexState;
 use wrong::Wrong;
-
-#[cfg(test)]
-mod tests;

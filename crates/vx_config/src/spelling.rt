@@ -1,6 +1,6 @@
 // The parts of a configuration, put one after the other.
 ghost use Rattle.std.specs.Prelude.{◌≡◌, ◌≤◌, ◌<◌, [], length, IfSome, All};
-ghost use Rattle.vx_config.specs.Configs.{CanSpell, UnitsFit, spelled};
+ghost use Rattle.vx_config.specs.Configs.{CanSpell, UnitsFit, spelled_config};
 ghost use Rattle.vx_config.specs.Forms.{flag as flag_form, number, optional, counted};
 ghost use Rattle.vx_config.specs.Pages.{onto};
 ghost use Rattle.vx_config.specs.Table.{disk as disk_form, subdisk as subdisk_form, log as log_form, plex as plex_form, state as state_form, ways as ways_form, volume as volume_form, units as units_form, format_1, preferred_number as preferred_number_is};
@@ -206,10 +206,10 @@ fn put_format_1(page: &mut Page, config: &Config)
 }
 
 // A page with the bytes of a configuration, as far as there is room.
-#[tactic(auto, unfolding(crate::specs::Configs::spelled, crate::specs::Table::config), using(crate::proofs::PageLemmas::joined))]
+#[tactic(auto, unfolding(crate::specs::Configs::spelled_config, crate::specs::Table::config), using(crate::proofs::PageLemmas::joined))]
 fn cut_page(config: &Config) -> Page
     requires { CanSpell config.now }
-    ensures { result ≡ onto [] (spelled config.now) }
+    ensures { result ≡ onto [] (spelled_config config.now) }
 {
     let mut page = Page::new();
     page.u32(VERSION);
@@ -220,8 +220,8 @@ fn cut_page(config: &Config) -> Page
 /// A page with the bytes of a configuration, for which there is room.
 pub fn page_of(config: &Config) -> Page
     requires can { CanSpell config.now }
-    requires short { length (spelled config.now) ≤ 65024 }
-    ensures { result ≡ spelled config.now }
+    requires short { length (spelled_config config.now) ≤ 65024 }
+    ensures { result ≡ spelled_config config.now }
 {
     cut_page(config)
 }

@@ -4,7 +4,7 @@ use Rattle.std.specs.Prelude.{◌&&◌, ◌==◌, if◌then◌else◌}
 use Rattle.std.proofs.lemmas.Bool.{and_parts, eqb-true}
 use Rattle.std.proofs.lemmas.List.{append-nil, take_all, take-append-drop, length-drop}
 use Rattle.vx_config.specs.Checks.{is_sound}
-use Rattle.vx_config.specs.Configs.{IsRefused, IsSpelling, spelled}
+use Rattle.vx_config.specs.Configs.{IsRefused, IsSpelling, spelled_config}
 use Rattle.vx_config.specs.Table.{config}
 use Rattle.vx_config.specs.declared.config.Config.{Config}
 use Rattle.vx_config.specs.declared.entry.DiskEntry.{DiskEntry}
@@ -34,13 +34,13 @@ reads-same m n s t bytes units same = wanted-same m n s t (alone (config.read by
 pub read_whole : (units : ℕ) (size : ℕ → ℕ) (bytes : List ℕ) (c : Config) (n : ℕ) → IsSpelling (take n bytes) c → n ≡ length bytes → is_wanted units size c ≡ true → Some c ≡ reads_in units size bytes
 unfolding reads_in
 read_whole units size bytes c n is len wanted =
-    let all : bytes ≡ spelled c ++ [] = sym (take_all n bytes (omega (arith, len))) ∙ is.is ∙ sym (append-nil (spelled c)) in
+    let all : bytes ≡ spelled_config c ++ [] = sym (take_all n bytes (omega (arith, len))) ∙ is.is ∙ sym (append-nil (spelled_config c)) in
     rw (spelled-read bytes c [] is.has all, wanted) refl
 
 pub read_unwanted : (units : ℕ) (size : ℕ → ℕ) (bytes : List ℕ) (c : Config) (n : ℕ) → IsSpelling (take n bytes) c → n ≡ length bytes → is_wanted units size c ≡ false → None ≡ reads_in units size bytes
 unfolding reads_in
 read_unwanted units size bytes c n is len wanted =
-    let all : bytes ≡ spelled c ++ [] = sym (take_all n bytes (omega (arith, len))) ∙ is.is ∙ sym (append-nil (spelled c)) in
+    let all : bytes ≡ spelled_config c ++ [] = sym (take_all n bytes (omega (arith, len))) ∙ is.is ∙ sym (append-nil (spelled_config c)) in
     rw (spelled-read bytes c [] is.has all, wanted) refl
 
 with_rest : (c : Config) (rest : List ℕ) → 0 < length rest → alone (Ok (c, rest)) ≡ None
@@ -50,7 +50,7 @@ with_rest c (x ∷ rest) some = refl
 pub read_longer : (units : ℕ) (size : ℕ → ℕ) (bytes : List ℕ) (c : Config) (n : ℕ) → IsSpelling (take n bytes) c → n ≤ length bytes → (n ≡ length bytes → ⊥) → None ≡ reads_in units size bytes
 unfolding reads_in
 read_longer units size bytes c n is few apart =
-    let all : bytes ≡ spelled c ++ drop n bytes = sym (take-append-drop n bytes) ∙ ap (λ (t : List ℕ). t ++ drop n bytes) is.is in
+    let all : bytes ≡ spelled_config c ++ drop n bytes = sym (take-append-drop n bytes) ∙ ap (λ (t : List ℕ). t ++ drop n bytes) is.is in
     let some : 0 < length (drop n bytes) = omega (arith, length-drop n bytes, few, apart) in
     let none : alone (config.read bytes) ≡ None = ap alone (spelled-read bytes c (drop n bytes) is.has all) ∙ with_rest c (drop n bytes) some in
     rw none refl

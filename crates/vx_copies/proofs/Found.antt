@@ -6,7 +6,7 @@ use Rattle.vx_disk.specs.Moves.{Along, Beside}
 use Rattle.vx_disk.specs.Shelf.{Each, Image, Lawful, Meaning}
 use Rattle.vx_disk.proofs.Moving.{wider}
 use Rattle.vx_copyfmt.specs.Copies.{Disk, Holds}
-use Rattle.vx_copyfmt.specs.Commits.{Amid, Among, FindsNew, FindsOld, FromNew, FromOld, Gives, Older, Spoilt, Torn}
+use Rattle.vx_copyfmt.specs.Commits.{Amid, Among, FindsNew, FindsOld, FromNew, FromOld, GivesConfig, Older, Spoilt, Torn}
 use Rattle.vx_copyfmt.specs.Imports.{import_of, is_label, settle}
 use Rattle.vx_copyfmt.specs.Labels.{seen_in}
 use Rattle.vx_copyfmt.proofs.Areas.{lower_older, no_torn}
@@ -20,7 +20,7 @@ use Rattle.vx_config.specs.declared.config.Config.{Config}
 use Rattle.vx_config.specs.declared.entry.DiskEntry.{DiskEntry}
 use Rattle.vx_copies.specs.Answers.{good_set}
 use Rattle.vx_copies.specs.Bodies.{failed_in}
-use Rattle.vx_copies.specs.Commits.{AllFailed, AreTidy, Becomes, Begins, Below, CommitStops, Counted, Done, Finds, Grown, HaveLabels, Held, IsBefore, IsFew, IsNone, IsOne, IsTry, Marked, MayFind, OldOrBegun, Outcome, OwnCopy, Ready, Remain, Silent, Spared, Stage, Stands, StayFit, TriesEnd, Underway, WasCommitted, WereTidy}
+use Rattle.vx_copies.specs.Commits.{AllFailed, AreTidy, Becomes, Begins, Below, CommitStops, Counted, Done, Finds, Grown, HaveLabels, HeldGood, IsBefore, IsFew, IsNone, IsOne, IsTry, Marked, MayFind, OldOrBegun, FoundOutcome, OwnCopy, ReadyDisks, Remain, Silent, Spared, Stage, CopiesStand, StayFit, TriesEnd, Underway, WasCommitted, WereTidy}
 use Rattle.vx_copies.specs.Looking.{on_shelf}
 use Rattle.vx_copies.specs.Marks.{HasGood, NoneGood, failed_at, good_count}
 use Rattle.vx_copies.proofs.Goods.{good_bit}
@@ -42,31 +42,31 @@ module _ (begun : ℕ → Config → Type 0) (c : Config) (old new : Meaning) (l
   older_all : Below c old → (u : ℕ) → u < old.units → Older (on_shelf old) (c.serial + 1) (old.leaves u)
   older_all below u lt = lower_older (on_shelf old) (c.serial + 1) (old.leaves u) (below.each u lt)
 
-  out_of_reach : (i : Image) → Beside (AreasOf (Held c old)) old.leaves i → (u b : ℕ) → old.units ≤ u → old.leaves u b (i u b)
-  out_of_reach i beside u b le = ⊎_elim (λ was. was) (λ (mine : AreasOf (Held c old) u b). absurd (omega (arith, le, mine.on.below))) (beside u b)
+  out_of_reach : (i : Image) → Beside (AreasOf (HeldGood c old)) old.leaves i → (u b : ℕ) → old.units ≤ u → old.leaves u b (i u b)
+  out_of_reach i beside u b le = ⊎_elim (λ was. was) (λ (mine : AreasOf (HeldGood c old) u b). absurd (omega (arith, le, mine.on.below))) (beside u b)
 
-  failed_left : (i : Image) → Beside (AreasOf (Held c old)) old.leaves i → (u b : ℕ) → failed_at c.disks u ≡ true → old.leaves u b (i u b)
-  failed_left i beside u b failed = ⊎_elim (λ was. was) (λ (mine : AreasOf (Held c old) u b). absurd (not_both (failed_at c.disks u) mine.on.good failed)) (beside u b)
+  failed_left : (i : Image) → Beside (AreasOf (HeldGood c old)) old.leaves i → (u b : ℕ) → failed_at c.disks u ≡ true → old.leaves u b (i u b)
+  failed_left i beside u b failed = ⊎_elim (λ was. was) (λ (mine : AreasOf (HeldGood c old) u b). absurd (not_both (failed_at c.disks u) mine.on.good failed)) (beside u b)
 
-  amid : Ready c old → (i : Image) → Beside (AreasOf (Held c old)) old.leaves i → OldOrBegun begun c old i → Amid (on_shelf old) begun (Held c old) old.units old.leaves i
+  amid : ReadyDisks c old → (i : Image) → Beside (AreasOf (HeldGood c old)) old.leaves i → OldOrBegun begun c old i → Amid (on_shelf old) begun (HeldGood c old) old.units old.leaves i
   amid ready i beside seen u lt = elim (held_or c.disks u) [
-    | inl good ↦ let mine : Held c old u = record { below = lt; good = good } in with_held u mine (seen.each ready u mine)
+    | inl good ↦ let mine : HeldGood c old u = record { below = lt; good = good } in with_held u mine (seen.each ready u mine)
     | inr failed ↦ inl (as_before (on_shelf old) (old.leaves u) (i u) (λ b. failed_left i beside u b failed))
   ]
     where
-      with_held : (v : ℕ) → Held c old v → Becomes begun old v (i v) → FromOld (on_shelf old) (old.leaves v) (i v) ⊎ FromNew (on_shelf old) begun (old.leaves v) (i v) ⊎ (Held c old v × Torn (on_shelf old) (old.leaves v) (i v))
+      with_held : (v : ℕ) → HeldGood c old v → Becomes begun old v (i v) → FromOld (on_shelf old) (old.leaves v) (i v) ⊎ FromNew (on_shelf old) begun (old.leaves v) (i v) ⊎ (HeldGood c old v × Torn (on_shelf old) (old.leaves v) (i v))
       with_held v mine (inl from) = inl from
       with_held v mine (inr (inl from)) = inr (inl from)
       with_held v mine (inr (inr torn)) = inr (inr (mine, torn))
 
   -- with some image of before
-  find_of : Ready c old → (base : Image) → Each old.leaves base → (i : Image) → Beside (AreasOf (Held c old)) old.leaves i → OldOrBegun begun c old i → MayFind begun c old i
+  find_of : ReadyDisks c old → (base : Image) → Each old.leaves base → (i : Image) → Beside (AreasOf (HeldGood c old)) old.leaves i → OldOrBegun begun c old i → MayFind begun c old i
   find_of ready base has i beside seen = record {
-    each = λ readable. torn_gives (on_shelf old) failed_in begun (c.serial + 1) late (Held c old) old.units old.leaves i base (amid ready i beside seen) has (out_of_reach i beside) (older_all ready.below) readable;
+    each = λ readable. torn_gives (on_shelf old) failed_in begun (c.serial + 1) late (HeldGood c old) old.units old.leaves i base (amid ready i beside seen) has (out_of_reach i beside) (older_all ready.below) readable;
   }
 
   module _ (before : Lawful old) (after : Lawful new) where
-    pub since : Ready c old → Along old new (MayFind begun c old)
+    pub since : ReadyDisks c old → Along old new (MayFind begun c old)
     since ready = record {
       each = λ t i le left.
           let some = base_of c old new before begins.moves.tells (λ none. after.never none t i left) in
@@ -76,7 +76,7 @@ module _ (begun : ℕ → Config → Type 0) (c : Config) (old new : Meaning) (l
           ];
     }
 
-    pub now : Ready c old → (i : Image) → Each new.leaves i → MayFind begun c old i
+    pub now : ReadyDisks c old → (i : Image) → Each new.leaves i → MayFind begun c old i
     now ready i left =
         let some = base_of c old new before begins.moves.tells (λ none. after.none none 0 0 (i 0 0) (left 0 0)) in
         find_of ready some.0 some.1 i (λ u b. begins.moves.leaves u b (i u b) (left u b)) (begins.leaves i left)
@@ -102,7 +102,7 @@ module _ (good : ℕ) (c d : Config) (old new : Meaning) (underway : Underway go
 
     begins_so : Begins begun c old new
     begins_so = record {
-      moves = wider (AreasOf (Held c old)) (AreasOf (Held c old)) (Stage good c d.serial underway.tries old) (OldOrBegun begun c old) old new underway.moves (λ u b mine. mine) (λ i beside seen. of_stage i seen);
+      moves = wider (AreasOf (HeldGood c old)) (AreasOf (HeldGood c old)) (Stage good c d.serial underway.tries old) (OldOrBegun begun c old) old new underway.moves (λ u b mine. mine) (λ i beside seen. of_stage i seen);
       leaves = λ i left. of_stage i (underway.now i left);
     }
 
@@ -135,8 +135,8 @@ module _ (good : ℕ) (c d : Config) (old new : Meaning) (underway : Underway go
 
   -- ---- one configuration for all imports
 
-  module _ (before : Lawful old) (after : Lawful new) (held : Option Config) (was : WasCommitted good held old) (ready : Ready c old) (labels : HaveLabels old) where
-    outcome_since : Along old new (Outcome (IsTry c d.serial old new) held c old)
+  module _ (before : Lawful old) (after : Lawful new) (held : Option Config) (was : WasCommitted good held old) (ready : ReadyDisks c old) (labels : HaveLabels old) where
+    outcome_since : Along old new (FoundOutcome (IsTry c d.serial old new) held c old)
     outcome_since = record {
       each = λ t i le left.
           let some = base_of c old new before underway.moves.tells (λ none. after.never none t i left) in
@@ -146,7 +146,7 @@ module _ (good : ℕ) (c d : Config) (old new : Meaning) (underway : Underway go
           ];
     }
 
-    outcome_now : (i : Image) → Each new.leaves i → Outcome (IsTry c d.serial old new) held c old i
+    outcome_now : (i : Image) → Each new.leaves i → FoundOutcome (IsTry c d.serial old new) held c old i
     outcome_now i left =
         let some = base_of c old new before underway.moves.tells (λ none. after.none none 0 0 (i 0 0) (left 0 0)) in
         outcome good c d old new underway held was ready labels some.0 some.1 i (λ u b. underway.moves.leaves u b (i u b) (left u b)) (underway.now i left)
@@ -163,9 +163,9 @@ module _ (good : ℕ) (c d : Config) (old new : Meaning) (underway : Underway go
 
   -- ---- behind it
 
-  module _ (count : length d.disks ≡ old.units) (before : Lawful old) (after : Lawful new) (left : HasGood d.disks good) (later : c.serial < d.serial) (stands : Stands c d old new) where
+  module _ (count : length d.disks ≡ old.units) (before : Lawful old) (after : Lawful new) (left : HasGood d.disks good) (later : c.serial < d.serial) (stands : CopiesStand c d old new) where
     block_kept : (u : ℕ) (v : List ℕ) → new.leaves u 0 v → old.leaves u 0 v
-    block_kept u v is = ⊎_elim (λ was. was) (λ (mine : AreasOf (Held c old) u 0). absurd (omega (arith, mine.first))) (underway.moves.leaves u 0 v is)
+    block_kept u v is = ⊎_elim (λ was. was) (λ (mine : AreasOf (HeldGood c old) u 0). absurd (omega (arith, mine.first))) (underway.moves.leaves u 0 v is)
 
     still_good : (s : ℕ) (x : Config) → IsBefore c d old new s x → failed_in x left.disk ≡ false
     still_good s x made = elim (held_or x.disks left.disk) [
@@ -205,7 +205,7 @@ module _ (good : ℕ) (c d : Config) (old new : Meaning) (underway : Underway go
 
       left_so : (u : ℕ) → failed_at c.disks u ≡ true → Among (old.leaves u) (i u)
       left_so u failed b =
-          ⊎_elim (λ was. was) (λ (mine : AreasOf (Held c old) u b). absurd (not_both (failed_at c.disks u) mine.on.good failed)) (underway.moves.leaves u b (i u b) (is u b))
+          ⊎_elim (λ was. was) (λ (mine : AreasOf (HeldGood c old) u b). absurd (not_both (failed_at c.disks u) mine.on.good failed)) (underway.moves.leaves u b (i u b) (is u b))
 
       of_marked : (u : ℕ) → Marked c d old u → Becomes (IsBefore c d old new) old u (i u)
           → FromOld (on_shelf old) (old.leaves u) (i u) ⊎ FromNew (on_shelf old) (IsBefore c d old new) (old.leaves u) (i u) ⊎ (Marked c d old u × Torn (on_shelf old) (old.leaves u) (i u))
@@ -225,7 +225,7 @@ module _ (good : ℕ) (c d : Config) (old new : Meaning) (underway : Underway go
       ]
 
       far : (u b : ℕ) → old.units ≤ u → old.leaves u b (i u b)
-      far u b le = ⊎_elim (λ was. was) (λ (mine : AreasOf (Held c old) u b). absurd (omega (arith, le, mine.on.below))) (underway.moves.leaves u b (i u b) (is u b))
+      far u b le = ⊎_elim (λ was. was) (λ (mine : AreasOf (HeldGood c old) u b). absurd (omega (arith, le, mine.on.below))) (underway.moves.leaves u b (i u b) (is u b))
 
       tells : IsFalse old.tells → ⊥
       tells none = after.none (underway.moves.tells ∙ none) 0 0 (i 0 0) (is 0 0)
@@ -238,14 +238,14 @@ module _ (good : ℕ) (c d : Config) (old new : Meaning) (underway : Underway go
           (λ u lt. lower_older (on_shelf old) (c.serial + 1) (old.leaves u) (below.each u lt)) readable
 
       gives : (held : Option Config) → WasCommitted good held old → Counted c d old → (readable : ℕ → Bool)
-          → Gives d (import_of (on_shelf old) failed_in old.units readable i) ⊎ Spoilt (on_shelf old) failed_in (Marked c d old) old.units old.leaves readable i
+          → GivesConfig d (import_of (on_shelf old) failed_in old.units readable i) ⊎ Spoilt (on_shelf old) failed_in (Marked c d old) old.units old.leaves readable i
       gives held was counted readable =
           commit_gives failed_in (on_shelf old) d.serial d old.units i readable labelled (stands.each below i is)
           held (IsBefore c d old new) (Marked c d old) old.leaves left.disk leading left.held (was.members left.disk leading left.member) was.committed still_good
           (finds_now counted readable)
 
       -- where no disk that was marked could be torn
-      gives_all : (held : Option Config) → WasCommitted good held old → WereTidy c d old → (readable : ℕ → Bool) → Gives d (import_of (on_shelf old) failed_in old.units readable i)
+      gives_all : (held : Option Config) → WasCommitted good held old → WereTidy c d old → (readable : ℕ → Bool) → GivesConfig d (import_of (on_shelf old) failed_in old.units readable i)
       gives_all held was tidy readable =
           ⊎_elim (λ given. given)
           (λ (spoilt : Spoilt (on_shelf old) failed_in (Marked c d old) old.units old.leaves readable i).
@@ -253,9 +253,9 @@ module _ (good : ℕ) (c d : Config) (old new : Meaning) (underway : Underway go
           (gives held was (record { each = λ u marked. (tidy.each u marked).fit.counts }) readable)
 
       -- where none was marked, and the others say nothing
-      gives_again : Silent c old → d.disks ≡ c.disks → (readable : ℕ → Bool) → Gives d (import_of (on_shelf old) failed_in old.units readable i)
+      gives_again : Silent c old → d.disks ≡ c.disks → (readable : ℕ → Bool) → GivesConfig d (import_of (on_shelf old) failed_in old.units readable i)
       gives_again silent same readable = elim some_read [
-        | inl found ↦ subst (Gives d) (sym (reads_one readable found.0 found.1 found.2 found.3)) (settle_gives failed_in old.units readable d)
+        | inl found ↦ subst (GivesConfig d) (sym (reads_one readable found.0 found.1 found.2 found.3)) (settle_gives failed_in old.units readable d)
         | inr none ↦ none_gives d (import_of (on_shelf old) failed_in old.units readable i)
             (quiet good c d old new underway before i readable tells is silent (λ u held. none u held.below (subst (λ (ds : List DiskEntry). failed_at ds u ≡ false) (sym same) held.good)))
       ]
@@ -282,10 +282,10 @@ module _ (good : ℕ) (c d : Config) (old new : Meaning) (underway : Underway go
           some_read : ((g : ℕ) × (g < old.units) × (failed_at d.disks g ≡ false) × (readable g ≡ true)) ⊎ ((u : ℕ) → u < old.units → failed_at d.disks u ≡ false → readable u ≡ false)
           some_read = some_of old.units (omega arith)
 
-    newly_committed : ((i : Image) (readable : ℕ → Bool) → Each new.leaves i → Gives d (import_of (on_shelf old) failed_in old.units readable i)) → WasCommitted (good_set d.disks) (Some d) new
+    newly_committed : ((i : Image) (readable : ℕ → Bool) → Each new.leaves i → GivesConfig d (import_of (on_shelf old) failed_in old.units readable i)) → WasCommitted (good_set d.disks) (Some d) new
     newly_committed all = record {
       committed = record {
-        each = λ i readable is. over_new (λ r n. Gives d (import_of r failed_in n readable i)) (all i readable is);
+        each = λ i readable is. over_new (λ r n. GivesConfig d (import_of r failed_in n readable i)) (all i readable is);
       };
       members = λ u lt bit. is_good (failed_at d.disks u) (sym (good_bit d.disks u (omega (arith, count, lt, underway.moves.units))) ∙ bit);
     }

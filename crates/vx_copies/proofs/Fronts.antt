@@ -7,13 +7,13 @@ use Rattle.vx_wire.specs.Numbers.{be_bytes}
 use Rattle.vx_wire.specs.Places.{put_at}
 use Rattle.vx_wire.proofs.NumberLemmas.{length-be_bytes}
 use Rattle.vx_wire.proofs.PlaceLemmas.{length-put_at, put_at-put_at}
-use Rattle.vx_config.specs.Configs.{spelled}
+use Rattle.vx_config.specs.Configs.{spelled_config}
 use Rattle.vx_config.specs.Table.{config, format_1}
 use Rattle.vx_config.specs.declared.config.Config.{Config}
 
 -- it begins with its version
-pub spelled_some : (c : Config) → 0 < length (spelled c)
-unfolding spelled config
+pub spelled_some : (c : Config) → 0 < length (spelled_config c)
+unfolding spelled_config config
 spelled_some c = omega (arith, length-append (be_bytes 4 1) (format_1.spell c), length-be_bytes 4 1)
 
 front_kept : (n : ℕ) (new bytes : List ℕ) → n ≤ length bytes → take n (put_at n new bytes) ≡ take n bytes

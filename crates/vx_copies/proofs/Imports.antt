@@ -8,10 +8,10 @@ use Rattle.vx_model.specs.declared.no.No.{No}
 use Rattle.vx_disk.specs.Counts.{Rose}
 use Rattle.vx_disk.specs.Shelf.{Meaning, Image, Lawful}
 use Rattle.vx_copyfmt.specs.Copies.{Disk}
-use Rattle.vx_copyfmt.specs.Imports.{first_of, missing, or_missing, by_labels, by_newest, newest, import_of}
+use Rattle.vx_copyfmt.specs.Imports.{first_of, missing, or_missing, by_labels, by_newest, newest_found, import_of}
 use Rattle.vx_config.specs.declared.config.Config.{Config}
 use Rattle.vx_config.specs.declared.entry.DiskEntry.{DiskEntry}
-use Rattle.vx_copies.specs.Answers.{IsAnswer, Imported, answer_of, flag_at, returned_from}
+use Rattle.vx_copies.specs.Answers.{IsAnswer, Imported, answer_to, flag_at, returned_from}
 use Rattle.vx_copies.specs.Bodies.{failed_in}
 use Rattle.vx_copies.specs.Looking.{FitsBody, body_view, on_shelf}
 use Rattle.vx_copies.specs.Searching.{FitsBest, Searched, best_view}
@@ -43,26 +43,26 @@ returned_same p q k (d ∷ ds) same =
     ∙ ap (λ (t : List DiskEntry). record { blocks = d.blocks; failed = d.failed && not (q k) } ∷ t) (returned_same p q (k + 1) ds (λ u low high. same u (omega (arith, low)) (omega (arith, high))))
 
 module _ (units : ℕ) (p q : ℕ → Bool) (agree : (u : ℕ) → u < units → u < 8 → p u ≡ q u) where
-  holds_same : (c : Config) → (length c.disks ≡ units) × (length c.disks ≤ 8) → answer_of p (or_missing c (missing (failed_in c) p units)) ≡ answer_of q (or_missing c (missing (failed_in c) q units))
+  holds_same : (c : Config) → (length c.disks ≡ units) × (length c.disks ≤ 8) → answer_to p (or_missing c (missing (failed_in c) p units)) ≡ answer_to q (or_missing c (missing (failed_in c) q units))
   holds_same c fits =
       let below : (u : ℕ) → u < units → p u ≡ q u = λ u lt. agree u lt (omega (arith, lt, fits.0, fits.1)) in
-      ap (λ (o : Option ℕ). answer_of p (or_missing c o)) (missing_same (failed_in c) p q units below) ∙ by_missing (missing (failed_in c) q units)
+      ap (λ (o : Option ℕ). answer_to p (or_missing c o)) (missing_same (failed_in c) p q units below) ∙ by_missing (missing (failed_in c) q units)
     where
-      by_missing : (o : Option ℕ) → answer_of p (or_missing c o) ≡ answer_of q (or_missing c o)
+      by_missing : (o : Option ℕ) → answer_to p (or_missing c o) ≡ answer_to q (or_missing c o)
       by_missing (Some d) = refl
       by_missing None =
           let disks : returned_from p 0 c.disks ≡ returned_from q 0 c.disks = returned_same p q 0 c.disks (λ u low high. agree u (omega (arith, high, fits.0)) (omega (arith, high, fits.1))) in
           rw disks refl
 
   answer_same : (format : Option ℕ) (best : Option Best) → FitsBest units best
-      → answer_of p (by_labels format (by_newest failed_in units p (best_view best))) ≡ answer_of q (by_labels format (by_newest failed_in units q (best_view best)))
+      → answer_to p (by_labels format (by_newest failed_in units p (best_view best))) ≡ answer_to q (by_labels format (by_newest failed_in units q (best_view best)))
   answer_same (Some v) best fits = refl
   answer_same None None fits = refl
   answer_same None (Some x) fits = by_body x.copy.body fits
     where
       by_body : (b : BodySeen) → FitsBody units b
-          → answer_of p (by_newest failed_in units p (Some (x.disk, record { serial = x.copy.serial; area = x.copy.area; body = body_view b })))
-          ≡ answer_of q (by_newest failed_in units q (Some (x.disk, record { serial = x.copy.serial; area = x.copy.area; body = body_view b })))
+          → answer_to p (by_newest failed_in units p (Some (x.disk, record { serial = x.copy.serial; area = x.copy.area; body = body_view b })))
+          ≡ answer_to q (by_newest failed_in units q (Some (x.disk, record { serial = x.copy.serial; area = x.copy.area; body = body_view b })))
       by_body (body.Holds c) fit = holds_same c fit
       by_body (body.Differs s t) fit = refl
 
@@ -97,7 +97,7 @@ imported_none old new lawful le =
       blamed = λ u lt out. other_rose (old.faults u) (new.faults u) (le u) out;
       still = λ u lt on. eqb-true (new.faults u) (old.faults u) on;
       read = λ tells u b. fill_read old lawful u b tells;
-      answer = no_memory (answer_of p (import_of (on_shelf old) failed_in old.units p (λ u b. fill old lawful u b)));
+      answer = no_memory (answer_to p (import_of (on_shelf old) failed_in old.units p (λ u b. fill old lawful u b)));
     }
 
 module _ (old new : Meaning) (lawful : Lawful old) (s : Search) (found : Searched old.units old new s) where
@@ -119,19 +119,19 @@ module _ (old new : Meaning) (lawful : Lawful old) (s : Search) (found : Searche
   is_import : import_of (on_shelf old) failed_in old.units found.readable whole ≡ by_labels s.format (by_newest failed_in old.units found.readable (best_view s.best))
   unfolding import_of
   is_import =
-      ap (λ (o : Option ℕ). by_labels o (by_newest failed_in old.units found.readable (newest (on_shelf old) found.readable whole old.units)))
+      ap (λ (o : Option ℕ). by_labels o (by_newest failed_in old.units found.readable (newest_found (on_shelf old) found.readable whole old.units)))
       (strange_below found.readable found.readable whole found.image old.units (λ u lt. refl) (λ u lt. at_same u (cases_lt u old.units) lt) ∙ found.format)
       ∙ ap (λ o. by_labels s.format (by_newest failed_in old.units found.readable o))
       (newest_below (on_shelf old) found.readable found.readable whole found.image old.units (λ u lt. refl) (λ u lt. at_same u (cases_lt u old.units) lt) ∙ found.best)
 
-  is_answer : answer_of found.readable (import_of (on_shelf old) failed_in old.units found.readable whole) ≡ answer_of (flag_at s.readable) (by_labels s.format (by_newest failed_in old.units (flag_at s.readable) (best_view s.best)))
-  is_answer = ap (answer_of found.readable) is_import ∙ answer_same old.units found.readable (flag_at s.readable) (λ u lt small. sym (found.flags u lt small)) s.format s.best found.fits
+  is_answer : answer_to found.readable (import_of (on_shelf old) failed_in old.units found.readable whole) ≡ answer_to (flag_at s.readable) (by_labels s.format (by_newest failed_in old.units (flag_at s.readable) (best_view s.best)))
+  is_answer = ap (answer_to found.readable) is_import ∙ answer_same old.units found.readable (flag_at s.readable) (λ u lt small. sym (found.flags u lt small)) s.format s.best found.fits
 
-  made : (result : Final) → IsAnswer (answer_of found.readable (import_of (on_shelf old) failed_in old.units found.readable whole)) result → Imported old new result
+  made : (result : Final) → IsAnswer (answer_to found.readable (import_of (on_shelf old) failed_in old.units found.readable whole)) result → Imported old new result
   made result answer = record { readable = found.readable; image = whole; blamed = found.blamed; still = found.still; read = λ tells u b. at_read tells u b (cases_lt u old.units); answer = answer }
 
-  pub imported_ok : (units : ℕ) (x : Config × ℕ) → units ≡ old.units → Ok x ≡ answer_of (flag_at s.readable) (by_labels s.format (by_newest failed_in units (flag_at s.readable) (best_view s.best))) → Imported old new (Ok x)
-  imported_ok units x same is = made (Ok x) (ok_answer _ x (subst (λ (n : ℕ). Ok x ≡ answer_of (flag_at s.readable) (by_labels s.format (by_newest failed_in n (flag_at s.readable) (best_view s.best)))) same is ∙ sym is_answer))
+  pub imported_ok : (units : ℕ) (x : Config × ℕ) → units ≡ old.units → Ok x ≡ answer_to (flag_at s.readable) (by_labels s.format (by_newest failed_in units (flag_at s.readable) (best_view s.best))) → Imported old new (Ok x)
+  imported_ok units x same is = made (Ok x) (ok_answer _ x (subst (λ (n : ℕ). Ok x ≡ answer_to (flag_at s.readable) (by_labels s.format (by_newest failed_in n (flag_at s.readable) (best_view s.best)))) same is ∙ sym is_answer))
 
-  pub imported_err : (units : ℕ) (why : No) → units ≡ old.units → Err why ≡ answer_of (flag_at s.readable) (by_labels s.format (by_newest failed_in units (flag_at s.readable) (best_view s.best))) → Imported old new (Err (Refused why))
-  imported_err units why same is = made (Err (Refused why)) (err_answer _ why (subst (λ (n : ℕ). Err why ≡ answer_of (flag_at s.readable) (by_labels s.format (by_newest failed_in n (flag_at s.readable) (best_view s.best)))) same is ∙ sym is_answer))
+  pub imported_err : (units : ℕ) (why : No) → units ≡ old.units → Err why ≡ answer_to (flag_at s.readable) (by_labels s.format (by_newest failed_in units (flag_at s.readable) (best_view s.best))) → Imported old new (Err (Refused why))
+  imported_err units why same is = made (Err (Refused why)) (err_answer _ why (subst (λ (n : ℕ). Err why ≡ answer_to (flag_at s.readable) (by_labels s.format (by_newest failed_in n (flag_at s.readable) (best_view s.best)))) same is ∙ sym is_answer))

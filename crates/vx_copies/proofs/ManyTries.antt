@@ -8,7 +8,7 @@ use Rattle.vx_disk.specs.Moves.{Beside}
 use Rattle.vx_disk.specs.Shelf.{Each, Image, Lawful, Meaning}
 use Rattle.vx_disk.proofs.Moving.{goes_on, still, wider}
 use Rattle.vx_copyfmt.specs.Copies.{Copy, Disk, Holds, copy_of}
-use Rattle.vx_copyfmt.specs.Commits.{Among, Counts, Forged, FromNew, FromOld, Older, Slots, Tidy, Torn, Written, exactly}
+use Rattle.vx_copyfmt.specs.Commits.{Among, Counts, Forged, FromNew, FromOld, Older, Slots, Tidy, Torn, CopyWritten, exactly}
 use Rattle.vx_copyfmt.specs.Labels.{seen_in}
 use Rattle.vx_copyfmt.proofs.Areas.{lower_older, no_forged, no_torn, one_tidy}
 use Rattle.vx_copyfmt.proofs.Subs.{counts_sub, forged_sub, old_sub, tidy_more, tidy_sub, torn_sub}
@@ -17,7 +17,7 @@ use Rattle.vx_copyio.specs.Putting.{AreasOf, LeavesSame}
 use Rattle.vx_config.specs.Table.{greatest}
 use Rattle.vx_config.specs.declared.config.Config.{Config}
 use Rattle.vx_copies.specs.Bodies.{failed_in}
-use Rattle.vx_copies.specs.Commits.{AreTidy, Becomes, Behind, Below, Held, IsBefore, IsBlamed, IsOne, LeavesLater, NamesFailed, Ready, Remain, Stage, Stands, Underway, lowest_member}
+use Rattle.vx_copies.specs.Commits.{AreTidy, Becomes, Behind, Below, HeldGood, IsBefore, IsBlamed, IsOne, LeavesLater, NamesFailed, ReadyDisks, Remain, Stage, CopiesStand, Underway, lowest_member}
 use Rattle.vx_copies.specs.Looking.{on_shelf}
 use Rattle.vx_copies.specs.Marks.{NoneGood, failed_at}
 use Rattle.vx_disk.proofs.Causing.{Rose_after}
@@ -34,7 +34,7 @@ none_yet good c m = record {
   tries = λ s. c;
   tried = λ s above within. absurd (omega (arith, above, within));
   chain = λ s t above le within u failed. failed;
-  moves = still (AreasOf (Held c m)) (Stage good c c.serial (λ s. c) m) m;
+  moves = still (AreasOf (HeldGood c m)) (Stage good c c.serial (λ s. c) m) m;
   below = λ below. below;
   leaves = λ below u e held counts among. inl (as_before (on_shelf m) (m.leaves u) e among);
   fits = λ below u e held counts among. inl (one_tidy (on_shelf m) (c.serial + 1) (m.leaves u) e (record { counts = counts; below = below.each u held.below }) among);
@@ -67,11 +67,11 @@ module _ (good : ℕ) (a c d : Config) (old mid new : Meaning) (one : Underway g
   same : on_shelf old ≡ on_shelf mid
   same = shelf_same old mid one.moves.units one.moves.size
 
-  held_first : (u : ℕ) → Held c mid u → Held a old u
+  held_first : (u : ℕ) → HeldGood c mid u → HeldGood a old u
   held_first u held = record { below = omega (arith, held.below, one.moves.units); good = kept_good one.grown u held.good }
 
   labels : (u : ℕ) (v : List ℕ) → mid.leaves u 0 v → old.leaves u 0 v
-  labels u v left = ⊎_elim (λ was. was) (λ (mine : AreasOf (Held a old) u 0). absurd (omega (arith, mine.first))) (one.moves.leaves u 0 v left)
+  labels u v left = ⊎_elim (λ was. was) (λ (mine : AreasOf (HeldGood a old) u 0). absurd (omega (arith, mine.first))) (one.moves.leaves u 0 v left)
 
   before_one : (s : ℕ) (x : Config) → IsBefore a c old mid s x → IsBefore a d old new s x
   before_one = before_later old mid new one.moves.faults two.moves.faults a c d two.serial two.grown
@@ -138,32 +138,32 @@ module _ (good : ℕ) (a c d : Config) (old mid new : Meaning) (one : Underway g
 
   -- ---- disks that are ready in between
 
-  older : Below a old → (u : ℕ) → Held a old u → Older (on_shelf old) (a.serial + 1) (old.leaves u)
+  older : Below a old → (u : ℕ) → HeldGood a old u → Older (on_shelf old) (a.serial + 1) (old.leaves u)
   older below u held = lower_older (on_shelf old) (a.serial + 1) (old.leaves u) (below.each u held.below)
 
-  counts_mid : Below a old → (u : ℕ) → Held c mid u → Counts (on_shelf old) (old.leaves u) → Counts (on_shelf mid) (mid.leaves u)
+  counts_mid : Below a old → (u : ℕ) → HeldGood c mid u → Counts (on_shelf old) (old.leaves u) → Counts (on_shelf mid) (mid.leaves u)
   counts_mid below u held counts = elim (remain.each u held) [
     | inl is ↦ subst (λ (r : ℕ → List ℕ → Option Config). Counts r (mid.leaves u)) same (counts_sub (on_shelf old) (old.leaves u) (mid.leaves u) is.each counts)
     | inr later ↦ (later.tidy below).fit.counts
   ]
 
-  ready_mid : Ready a old → Ready c mid
+  ready_mid : ReadyDisks a old → ReadyDisks c mid
   ready_mid ready = record { below = one.below ready.below; counts = λ u held. counts_mid ready.below u held (ready.counts u (held_first u held)) }
 
-  torn_mid : Below a old → (u : ℕ) (e : Disk) → Held c mid u → Torn (on_shelf mid) (mid.leaves u) e → Torn (on_shelf old) (old.leaves u) e
+  torn_mid : Below a old → (u : ℕ) (e : Disk) → HeldGood c mid u → Torn (on_shelf mid) (mid.leaves u) e → Torn (on_shelf old) (old.leaves u) e
   torn_mid below u e held torn = elim (remain.each u held) [
     | inl is ↦ torn_sub (on_shelf old) (old.leaves u) (mid.leaves u) is.each e (subst (λ (r : ℕ → List ℕ → Option Config). Torn r (mid.leaves u) e) (sym same) torn)
     | inr later ↦ absurd (no_torn (on_shelf mid) (c.serial + 1) (mid.leaves u) e (later.tidy below) torn)
   ]
 
-  forged_mid : Below a old → (u : ℕ) (e : Disk) → Held c mid u → Forged (mid.leaves u) e → Forged (old.leaves u) e
+  forged_mid : Below a old → (u : ℕ) (e : Disk) → HeldGood c mid u → Forged (mid.leaves u) e → Forged (old.leaves u) e
   forged_mid below u e held forged = elim (remain.each u held) [
     | inl is ↦ forged_sub (old.leaves u) (mid.leaves u) is.each e forged
     | inr later ↦ absurd (no_forged (on_shelf mid) (c.serial + 1) (mid.leaves u) e (later.tidy below) forged)
   ]
 
   -- what might have been left in between
-  old_mid : Below a old → (u : ℕ) (e : Disk) → Held c mid u → Counts (on_shelf old) (old.leaves u) → FromOld (on_shelf mid) (mid.leaves u) e → Becomes (IsOne a d.serial tries u) old u e
+  old_mid : Below a old → (u : ℕ) (e : Disk) → HeldGood c mid u → Counts (on_shelf old) (old.leaves u) → FromOld (on_shelf mid) (mid.leaves u) e → Becomes (IsOne a d.serial tries u) old u e
   old_mid below u e held counts there = by_remain (remain.each u held)
     where
       from : FromOld (on_shelf old) (mid.leaves u) e
@@ -184,7 +184,7 @@ module _ (good : ℕ) (a c d : Config) (old mid new : Meaning) (one : Underway g
       by_remain (inr later) = by_kind later (one.leaves below u from.disk (held_first u held) counts from.among)
 
   -- a disk on which the second part may have written
-  of_two : Below a old → (u : ℕ) (e : Disk) → Held c mid u → Counts (on_shelf old) (old.leaves u) → Becomes (IsOne c d.serial two.tries u) mid u e → Becomes (IsOne a d.serial tries u) old u e
+  of_two : Below a old → (u : ℕ) (e : Disk) → HeldGood c mid u → Counts (on_shelf old) (old.leaves u) → Becomes (IsOne c d.serial two.tries u) mid u e → Becomes (IsOne a d.serial tries u) old u e
   of_two below u e held counts (inl from) = old_mid below u e held counts from
   of_two below u e held counts (inr (inl from)) = inr (inl (second_new u e from).0)
   of_two below u e held counts (inr (inr torn)) = inr (inr (torn_mid below u e held torn))
@@ -195,17 +195,17 @@ module _ (good : ℕ) (a c d : Config) (old mid new : Meaning) (one : Underway g
   widen u e (inr (inr torn)) = inr (inr torn)
 
   -- one on which it did not
-  of_one : Below a old → (u : ℕ) (e : Disk) → Held a old u → Counts (on_shelf old) (old.leaves u) → Among (mid.leaves u) e → Becomes (IsOne a d.serial tries u) old u e
+  of_one : Below a old → (u : ℕ) (e : Disk) → HeldGood a old u → Counts (on_shelf old) (old.leaves u) → Among (mid.leaves u) e → Becomes (IsOne a d.serial tries u) old u e
   of_one below u e held counts among = widen u e (one.leaves below u e held counts among)
 
-  left_alone : (u b : ℕ) (v : List ℕ) → (Held c mid u → ⊥) → mid.leaves u b v ⊎ AreasOf (Held c mid) u b → mid.leaves u b v
+  left_alone : (u b : ℕ) (v : List ℕ) → (HeldGood c mid u → ⊥) → mid.leaves u b v ⊎ AreasOf (HeldGood c mid) u b → mid.leaves u b v
   left_alone u b v out (inl was) = was
   left_alone u b v out (inr mine) = absurd (out mine.on)
 
-  not_held : (u : ℕ) → failed_at c.disks u ≡ true → Held c mid u → ⊥
+  not_held : (u : ℕ) → failed_at c.disks u ≡ true → HeldGood c mid u → ⊥
   not_held u failed held = not_both (failed_at c.disks u) held.good failed
 
-  fit_two : Below a old → (u : ℕ) (e : Disk) → Held c mid u → Tidy (on_shelf mid) (d.serial + 1) (exactly e) ⊎ Forged (mid.leaves u) e → Tidy (on_shelf old) (d.serial + 1) (exactly e) ⊎ Forged (old.leaves u) e
+  fit_two : Below a old → (u : ℕ) (e : Disk) → HeldGood c mid u → Tidy (on_shelf mid) (d.serial + 1) (exactly e) ⊎ Forged (mid.leaves u) e → Tidy (on_shelf old) (d.serial + 1) (exactly e) ⊎ Forged (old.leaves u) e
   fit_two below u e held (inl tidy) = inl (subst (λ (r : ℕ → List ℕ → Option Config). Tidy r (d.serial + 1) (exactly e)) (sym same) tidy)
   fit_two below u e held (inr forged) = inr (forged_mid below u e held forged)
 
@@ -213,17 +213,17 @@ module _ (good : ℕ) (a c d : Config) (old mid new : Meaning) (one : Underway g
   fit_later u e (inl tidy) = inl (tidy_more (on_shelf old) (c.serial + 1) (d.serial + 1) (exactly e) (omega (arith, two.serial)) tidy)
   fit_later u e (inr forged) = inr forged
 
-  fit_one : Below a old → (u : ℕ) (e : Disk) → Held a old u → Counts (on_shelf old) (old.leaves u) → Among (mid.leaves u) e → Tidy (on_shelf old) (d.serial + 1) (exactly e) ⊎ Forged (old.leaves u) e
+  fit_one : Below a old → (u : ℕ) (e : Disk) → HeldGood a old u → Counts (on_shelf old) (old.leaves u) → Among (mid.leaves u) e → Tidy (on_shelf old) (d.serial + 1) (exactly e) ⊎ Forged (old.leaves u) e
   fit_one below u e held counts among = fit_later u e (one.fits below u e held counts among)
 
   -- ---- an image in the second part, and one from before it
 
-  module _ (first : Ready a old) (i : Image) (beside : Beside (AreasOf (Held c mid)) mid.leaves i) (seen : Stage good c d.serial two.tries mid i) (base : Image) (has : Each mid.leaves base) where
+  module _ (first : ReadyDisks a old) (i : Image) (beside : Beside (AreasOf (HeldGood c mid)) mid.leaves i) (seen : Stage good c d.serial two.tries mid i) (base : Image) (has : Each mid.leaves base) where
     -- the disk is this one, or has its label and copy, or a copy of the second part; or it is torn
     abbrev Under : ℕ → Disk → Type 0
     Under v e =
         (i v ≡ e)
-        ⊎ (Held c mid v
+        ⊎ (HeldGood c mid v
         × (((seen_in (i v 0) ≡ seen_in (e 0)) × (copy_of (on_shelf mid) (i v) ≡ copy_of (on_shelf mid) e))
         ⊎ FromNew (on_shelf mid) (IsOne c d.serial two.tries v) (mid.leaves v) (i v)
         ⊎ ((torn : Torn (on_shelf mid) (mid.leaves v) (i v)) × (torn.disk ≡ e))))
@@ -231,12 +231,12 @@ module _ (good : ℕ) (a c d : Config) (old mid new : Meaning) (one : Underway g
     abbrev Base : ℕ → Type 0
     Base v = (e : Disk) × Among (mid.leaves v) e × Under v e
 
-    of_each : (v : ℕ) → Held c mid v → Becomes (IsOne c d.serial two.tries v) mid v (i v) → Base v
+    of_each : (v : ℕ) → HeldGood c mid v → Becomes (IsOne c d.serial two.tries v) mid v (i v) → Base v
     of_each v held (inl from) = (from.disk, from.among, inr (held, inl (from.label, from.copy)))
     of_each v held (inr (inl from)) = (base v, (λ b. has v b), inr (held, inr (inl from)))
     of_each v held (inr (inr torn)) = (torn.disk, torn.among, inr (held, inr (inr (torn, refl))))
 
-    of_itself : (v : ℕ) → (Held c mid v → ⊥) → Base v
+    of_itself : (v : ℕ) → (HeldGood c mid v → ⊥) → Base v
     of_itself v out = (i v, (λ b. left_alone v b (i v b) out (beside v b)), inl refl)
 
     based : (v : ℕ) → Base v
@@ -244,7 +244,7 @@ module _ (good : ℕ) (a c d : Config) (old mid new : Meaning) (one : Underway g
       | inr above ↦ of_itself v (λ held. omega (arith, above, held.below))
       | inl lt ↦ elim (held_or c.disks v) [
         | inr failed ↦ of_itself v (not_held v failed)
-        | inl good ↦ let held : Held c mid v = record { below = lt; good = good } in of_each v held (seen.each (ready_mid first) v held)
+        | inl good ↦ let held : HeldGood c mid v = record { below = lt; good = good } in of_each v held (seen.each (ready_mid first) v held)
       ]
     ]
 
@@ -255,7 +255,7 @@ module _ (good : ℕ) (a c d : Config) (old mid new : Meaning) (one : Underway g
     before = one.now under (λ v b. (based v).1 b)
 
     -- a copy that was begun in the first part stands, or a later one
-    carried : (v : ℕ) (e : Disk) → Among (mid.leaves v) e → Under v e → Held a old v → (n : FromNew (on_shelf old) (IsOne a c.serial one.tries v) (old.leaves v) e)
+    carried : (v : ℕ) (e : Disk) → Among (mid.leaves v) e → Under v e → HeldGood a old v → (n : FromNew (on_shelf old) (IsOne a c.serial one.tries v) (old.leaves v) e)
         → (f : FromNew (on_shelf old) (IsOne a d.serial tries v) (old.leaves v) (i v)) × (n.serial ≤ f.serial)
     carried v e among (inl itself) mine n =
         (new_alike (on_shelf old) (old.leaves v) (IsOne a c.serial one.tries v) (IsOne a d.serial tries v) (i v) e (one_wide v) (ap (λ (x : Disk). seen_in (x 0)) itself) (ap (copy_of (on_shelf old)) itself) n, omega arith)
@@ -296,7 +296,7 @@ module _ (good : ℕ) (a c d : Config) (old mid new : Meaning) (one : Underway g
         (ap (λ (x : Disk). seen_in (x 0)) itself) (ap (copy_of (on_shelf old)) itself) behind.from) (omega arith)))
     led_itself u itself (inr (inr torn)) = inr (inr (subst (Torn (on_shelf old) (old.leaves u)) (sym itself) torn))
 
-    led_alike : (u : ℕ) → Held a old u → LeavesLater a c.serial u old mid → seen_in (i u 0) ≡ seen_in (under u 0) → copy_of (on_shelf mid) (i u) ≡ copy_of (on_shelf mid) (under u) → Led u under → LedOn u
+    led_alike : (u : ℕ) → HeldGood a old u → LeavesLater a c.serial u old mid → seen_in (i u 0) ≡ seen_in (under u 0) → copy_of (on_shelf mid) (i u) ≡ copy_of (on_shelf mid) (under u) → Led u under → LedOn u
     led_alike u mine later label copy (inl from) =
         let x = later.newer first.below (based u).0 (based u).1 in
         absurd (later_old (on_shelf old) (old.leaves u) a.serial (based u).0 x.0 (older first.below u mine) x.1 x.2 from)
@@ -307,7 +307,7 @@ module _ (good : ℕ) (a c d : Config) (old mid new : Meaning) (one : Underway g
         let x = later.newer first.below (based u).0 (based u).1 in
         absurd (later_torn (on_shelf old) (old.leaves u) a.serial (based u).0 x.0 (older first.below u mine) x.1 x.2 torn)
 
-    led_old : (u : ℕ) → Held a old u → Held c mid u → FromOld (on_shelf mid) (mid.leaves u) (i u) → Under u (under u) → Led u under → LedOn u
+    led_old : (u : ℕ) → HeldGood a old u → HeldGood c mid u → FromOld (on_shelf mid) (mid.leaves u) (i u) → Under u (under u) → Led u under → LedOn u
     led_old u mine held from (inl itself) led = led_itself u itself led
     led_old u mine held from (inr (here, inr (inl new))) led =
         let less : Older (on_shelf mid) (c.serial + 1) (mid.leaves u) = lower_older (on_shelf mid) (c.serial + 1) (mid.leaves u) ((one.below first.below).each u held.below) in
@@ -324,7 +324,7 @@ module _ (good : ℕ) (a c d : Config) (old mid new : Meaning) (one : Underway g
     led_out u failed (inr (here, other)) led = absurd (not_held u failed here)
 
     -- and one on which it may have written
-    led_in : (u : ℕ) → Held a old u → Held c mid u → FromOld (on_shelf mid) (mid.leaves u) (i u) ⊎ Behind good c d.serial two.tries mid i u ⊎ Torn (on_shelf mid) (mid.leaves u) (i u) → Led u under → LedOn u
+    led_in : (u : ℕ) → HeldGood a old u → HeldGood c mid u → FromOld (on_shelf mid) (mid.leaves u) (i u) ⊎ Behind good c d.serial two.tries mid i u ⊎ Torn (on_shelf mid) (mid.leaves u) (i u) → Led u under → LedOn u
     led_in u mine held (inl from) led = led_old u mine held from (based u).2 led
     led_in u mine held (inr (inl behind)) led =
         let own = second_new u (i u) behind.from in
@@ -334,29 +334,29 @@ module _ (good : ℕ) (a c d : Config) (old mid new : Meaning) (one : Underway g
 
     -- ---- of each disk
 
-    held_mid : (u : ℕ) → Held a old u → failed_at c.disks u ≡ false → Held c mid u
+    held_mid : (u : ℕ) → HeldGood a old u → failed_at c.disks u ≡ false → HeldGood c mid u
     held_mid u held stays = record { below = omega (arith, held.below, one.moves.units); good = stays }
 
-    each_both : (u : ℕ) → Held a old u → Becomes (IsOne a d.serial tries u) old u (i u)
+    each_both : (u : ℕ) → HeldGood a old u → Becomes (IsOne a d.serial tries u) old u (i u)
     each_both u held = elim (held_or c.disks u) [
       | inl stays ↦ of_two first.below u (i u) (held_mid u held stays) (first.counts u held) (seen.each (ready_mid first) u (held_mid u held stays))
       | inr failed ↦ of_one first.below u (i u) held (first.counts u held) (λ b. left_alone u b (i u b) (not_held u failed) (beside u b))
     ]
 
-    fit_both : (u : ℕ) → Held a old u → Tidy (on_shelf old) (d.serial + 1) (exactly (i u)) ⊎ Forged (old.leaves u) (i u)
+    fit_both : (u : ℕ) → HeldGood a old u → Tidy (on_shelf old) (d.serial + 1) (exactly (i u)) ⊎ Forged (old.leaves u) (i u)
     fit_both u held = elim (held_or c.disks u) [
       | inl stays ↦ fit_two first.below u (i u) (held_mid u held stays) (seen.fit (ready_mid first) u (held_mid u held stays))
       | inr failed ↦ fit_one first.below u (i u) held (first.counts u held) (λ b. left_alone u b (i u b) (not_held u failed) (beside u b))
     ]
 
-    led_both : (u : ℕ) → Held a old u → bit_at good u ≡ false → LedOn u
+    led_both : (u : ℕ) → HeldGood a old u → bit_at good u ≡ false → LedOn u
     led_both u held out = elim (held_or c.disks u) [
       | inl stays ↦ led_in u held (held_mid u held stays) (seen.led (ready_mid first) u (held_mid u held stays) out) (before.led first u held out)
       | inr failed ↦ led_out u failed (based u).2 (before.led first u held out)
     ]
 
   module _ (lawful : Lawful mid) where
-    some_base : (i : Image) → Beside (AreasOf (Held c mid)) mid.leaves i → (base : Image) × Each mid.leaves base
+    some_base : (i : Image) → Beside (AreasOf (HeldGood c mid)) mid.leaves i → (base : Image) × Each mid.leaves base
     some_base i beside = by_tells mid.tells refl
       where
         far : mid.leaves mid.units 0 (i mid.units 0)
@@ -366,7 +366,7 @@ module _ (good : ℕ) (a c d : Config) (old mid new : Meaning) (one : Underway g
         by_tells true tells = let some = lawful.image tells in (some.0, lawful.within some.0 some.1)
         by_tells false tells = absurd (lawful.none tells mid.units 0 (i mid.units 0) far)
 
-    stage_both : (i : Image) → Beside (AreasOf (Held c mid)) mid.leaves i → Stage good c d.serial two.tries mid i → Stage good a d.serial tries old i
+    stage_both : (i : Image) → Beside (AreasOf (HeldGood c mid)) mid.leaves i → Stage good c d.serial two.tries mid i → Stage good a d.serial tries old i
     stage_both i beside seen =
         let some = some_base i beside in
         record { each = λ first u held. each_both first i beside seen some.0 some.1 u held; led = λ first u held out. led_both first i beside seen some.0 some.1 u held out; fit = λ first u held. fit_both first i beside seen some.0 some.1 u held }
@@ -398,35 +398,35 @@ module _ (good : ℕ) (a c d : Config) (old mid new : Meaning) (one : Underway g
       tries = tries;
       tried = both_tried;
       chain = both_chain;
-      moves = goes_on (AreasOf (Held a old)) (AreasOf (Held c mid)) (Stage good a d.serial tries old) (Stage good c d.serial two.tries mid) old mid new
-          (wider (AreasOf (Held a old)) (AreasOf (Held a old)) (Stage good a c.serial one.tries old) (Stage good a d.serial tries old) old mid one.moves (λ u b mine. mine) (λ i beside seen. one_stage i seen))
+      moves = goes_on (AreasOf (HeldGood a old)) (AreasOf (HeldGood c mid)) (Stage good a d.serial tries old) (Stage good c d.serial two.tries mid) old mid new
+          (wider (AreasOf (HeldGood a old)) (AreasOf (HeldGood a old)) (Stage good a c.serial one.tries old) (Stage good a d.serial tries old) old mid one.moves (λ u b mine. mine) (λ i beside seen. one_stage i seen))
           two.moves (λ u b mine. record { on = held_first u mine.on; first = mine.first; last = mine.last }) stage_both;
       below = λ below. two.below (one.below below);
       leaves = λ below u e held counts among. elim (held_or c.disks u) [
         | inl stays ↦
-            let here : Held c mid u = record { below = omega (arith, held.below, one.moves.units); good = stays } in
+            let here : HeldGood c mid u = record { below = omega (arith, held.below, one.moves.units); good = stays } in
             of_two below u e here counts (two.leaves (one.below below) u e here (counts_mid below u here counts) among)
         | inr failed ↦ of_one below u e held counts (λ b. left_alone u b (e b) (not_held u failed) (two.moves.leaves u b (e b) (among b)))
       ];
       fits = λ below u e held counts among. elim (held_or c.disks u) [
         | inl stays ↦
-            let here : Held c mid u = record { below = omega (arith, held.below, one.moves.units); good = stays } in
+            let here : HeldGood c mid u = record { below = omega (arith, held.below, one.moves.units); good = stays } in
             fit_two below u e here (two.fits (one.below below) u e here (counts_mid below u here counts) among)
         | inr failed ↦ fit_one below u e held counts (λ b. left_alone u b (e b) (not_held u failed) (two.moves.leaves u b (e b) (among b)))
       ];
       now = λ i left. stage_both i (λ u b. two.moves.leaves u b (i u b) (left u b)) (two.now i left);
     }
 
-  pub both_stand : Stands c d mid new → Stands a d old new
+  pub both_stand : CopiesStand c d mid new → CopiesStand a d old new
   both_stand stands = record {
-    each = λ below i left. subst (λ (n : ℕ). Written (on_shelf old) failed_in d.serial d n i) one.moves.units
-        (subst (λ (r : ℕ → List ℕ → Option Config). Written r failed_in d.serial d mid.units i) (sym same) (stands.each (one.below below) i left));
+    each = λ below i left. subst (λ (n : ℕ). CopyWritten (on_shelf old) failed_in d.serial d n i) one.moves.units
+        (subst (λ (r : ℕ → List ℕ → Option Config). CopyWritten r failed_in d.serial d mid.units i) (sym same) (stands.each (one.below below) i left));
   }
 
   pub both_tidy : AreTidy c d mid new → AreTidy a d old new
   both_tidy tidy = record { each = λ below u held. tidy.each (one.below below) u held }
 
-  remain_both : (u : ℕ) → Held c mid u → LeavesSame u old mid ⊎ LeavesLater a c.serial u old mid → LeavesSame u mid new ⊎ LeavesLater c d.serial u mid new → LeavesSame u old new ⊎ LeavesLater a d.serial u old new
+  remain_both : (u : ℕ) → HeldGood c mid u → LeavesSame u old mid ⊎ LeavesLater a c.serial u old mid → LeavesSame u mid new ⊎ LeavesLater c d.serial u mid new → LeavesSame u old new ⊎ LeavesLater a d.serial u old new
   remain_both u held (inl was) (inl is) = inl (record { each = λ b v left. was.each b v (is.each b v left) })
   remain_both u held (inr was) (inl is) = inr (record {
     tidy = λ below. tidy_more (on_shelf new) (c.serial + 1) (d.serial + 1) (new.leaves u) (omega (arith, two.serial))
@@ -444,7 +444,7 @@ module _ (good : ℕ) (a c d : Config) (old mid new : Meaning) (one : Underway g
   pub both_remain : Remain c d mid new → Remain a d old new
   both_remain next = record {
     each = λ u held.
-        let here : Held c mid u = record { below = omega (arith, held.below, two.moves.units); good = kept_good two.grown u held.good } in
+        let here : HeldGood c mid u = record { below = omega (arith, held.below, two.moves.units); good = kept_good two.grown u held.good } in
         remain_both u here (remain.each u here) (next.each u held);
   }
 

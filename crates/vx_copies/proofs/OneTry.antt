@@ -15,7 +15,7 @@ use Rattle.vx_config.specs.declared.config.Config.{Config}
 use Rattle.vx_config.specs.declared.entry.DiskEntry.{DiskEntry}
 use Rattle.vx_copies.specs.Answers.{good_set}
 use Rattle.vx_copies.specs.Bodies.{fits_units, have_blocks, is_wanted, of_serial}
-use Rattle.vx_copies.specs.Commits.{AreTidy, Becomes, Behind, Below, Grown, Held, IsBefore, IsOne, LeavesLater, Remain, Stage, Stands, Underway}
+use Rattle.vx_copies.specs.Commits.{AreTidy, Becomes, Behind, Below, Grown, HeldGood, IsBefore, IsOne, LeavesLater, Remain, Stage, CopiesStand, Underway}
 use Rattle.vx_copies.specs.Looking.{on_shelf}
 use Rattle.vx_copies.specs.Marks.{HasGood, failed_at}
 use Rattle.vx_copies.specs.Orders.{InOrderThis, OrderedThis}
@@ -69,13 +69,13 @@ kept_good {old} {new} {c} {d} grown u is = by_failed (held_or c.disks u)
     by_failed (inr failed) = absurd (not_both (failed_at d.disks u) is (grown.disks.stays u failed))
 
 module _ (c : Config) (m : Meaning) (count : length c.disks ≡ m.units) where
-  pub member_held : (u : ℕ) → IsMember (bit_at (good_set c.disks)) m.units u → Held c m u
+  pub member_held : (u : ℕ) → IsMember (bit_at (good_set c.disks)) m.units u → HeldGood c m u
   member_held u member = record {
     below = member.below;
     good = not_true (failed_at c.disks u) (sym (good_bit c.disks u (omega (arith, count, member.below))) ∙ member.is);
   }
 
-  pub held_member : (u : ℕ) → Held c m u → IsMember (bit_at (good_set c.disks)) m.units u
+  pub held_member : (u : ℕ) → HeldGood c m u → IsMember (bit_at (good_set c.disks)) m.units u
   held_member u held = record { below = held.below; is = good_bit c.disks u (omega (arith, count, held.below)) ∙ ap not held.good }
 
 -- the parts of a set
@@ -124,10 +124,10 @@ module _ (c t d : Config) (old new : Meaning) (next : t.serial ≡ c.serial + 1)
   abbrev reads : ℕ → List ℕ → Option Config
   reads = on_shelf old
 
-  mine_held : (u : ℕ) → Mine u → Held c old u
+  mine_held : (u : ℕ) → Mine u → HeldGood c old u
   mine_held u mine = let held = member_held t old count u mine in record { below = held.below; good = subst (λ (ds : List DiskEntry). failed_at ds u ≡ false) as_c held.good }
 
-  held_mine : (u : ℕ) → Held c old u → Mine u
+  held_mine : (u : ℕ) → HeldGood c old u → Mine u
   held_mine u held = held_member t old count u (record { below = held.below; good = subst (λ (ds : List DiskEntry). failed_at ds u ≡ false) (sym as_c) held.good })
 
   -- what was held as failed is as it was
@@ -137,7 +137,7 @@ module _ (c t d : Config) (old new : Meaning) (next : t.serial ≡ c.serial + 1)
   lower_next : Below c old → (u : ℕ) → u < old.units → Lower t.serial (old.leaves u)
   lower_next below u lt = subst (λ (n : ℕ). Lower n (old.leaves u)) (sym next) (below.each u lt)
 
-  fit_next : Below c old → (u : ℕ) → Held c old u → Counts reads (old.leaves u) → Fit reads t.serial (old.leaves u)
+  fit_next : Below c old → (u : ℕ) → HeldGood c old u → Counts reads (old.leaves u) → Fit reads t.serial (old.leaves u)
   fit_next below u held counts = record { counts = counts; below = lower_next below u held.below }
 
   -- no header is above the new ones
@@ -159,7 +159,7 @@ module _ (c t d : Config) (old new : Meaning) (next : t.serial ≡ c.serial + 1)
   abbrev tries : ℕ → Config
   tries s = t
 
-  these_one : (u : ℕ) → Held c old u → (s : ℕ) (x : Config) → IsThis t s x → IsOne c d.serial tries u s x
+  these_one : (u : ℕ) → HeldGood c old u → (s : ℕ) (x : Config) → IsThis t s x → IsOne c d.serial tries u s x
   these_one u held s x this = record {
     above = omega (arith, this.serial_is, next);
     within = omega (arith, this.serial_is, next, after);
@@ -167,7 +167,7 @@ module _ (c t d : Config) (old new : Meaning) (next : t.serial ≡ c.serial + 1)
     holds = subst (λ (k : Config). failed_at k.disks u ≡ false) (sym this.config_is) (subst (λ (ds : List DiskEntry). failed_at ds u ≡ false) (sym as_c) held.good);
   }
 
-  of_this : (u : ℕ) (e : Disk) → OldOrThis t u old e → Below c old → Held c old u → Counts reads (old.leaves u) → Becomes (IsOne c d.serial tries u) old u e
+  of_this : (u : ℕ) (e : Disk) → OldOrThis t u old e → Below c old → HeldGood c old u → Counts reads (old.leaves u) → Becomes (IsOne c d.serial tries u) old u e
   of_this u e one below held counts = by_kind (one.each (fit_next below u held counts))
     where
       by_kind : FromOld reads (old.leaves u) e ⊎ FromNew reads (IsThis t) (old.leaves u) e ⊎ Torn reads (old.leaves u) e → Becomes (IsOne c d.serial tries u) old u e
@@ -175,7 +175,7 @@ module _ (c t d : Config) (old new : Meaning) (next : t.serial ≡ c.serial + 1)
       by_kind (inr (inl from)) = inr (inl (new_wider reads (IsThis t) (IsOne c d.serial tries u) (old.leaves u) e (these_one u held) from))
       by_kind (inr (inr torn)) = inr (inr torn)
 
-  fit_this : (u : ℕ) (e : Disk) → OldOrThis t u old e → Below c old → Held c old u → Counts reads (old.leaves u) → Tidy reads (d.serial + 1) (exactly e) ⊎ Forged (old.leaves u) e
+  fit_this : (u : ℕ) (e : Disk) → OldOrThis t u old e → Below c old → HeldGood c old u → Counts reads (old.leaves u) → Tidy reads (d.serial + 1) (exactly e) ⊎ Forged (old.leaves u) e
   fit_this u e one below held counts =
       ⊎_elim (λ tidy. inl (tidy_more reads (t.serial + 1) (d.serial + 1) (exactly e) (omega (arith, next, after)) tidy)) (λ forged. inr forged) (one.fit (fit_next below u held counts))
 
@@ -186,10 +186,10 @@ module _ (c t d : Config) (old new : Meaning) (next : t.serial ≡ c.serial + 1)
     abbrev Second : ℕ → Type 0
     Second = IsMember (part_of (good_set t.disks) good false) old.units
 
-    second_of : (u : ℕ) → Held c old u → bit_at good u ≡ false → Second u
+    second_of : (u : ℕ) → HeldGood c old u → bit_at good u ≡ false → Second u
     second_of u held out = let mine = held_mine u held in record { below = mine.below; is = second_bit (bit_at (good_set t.disks) u) (bit_at good u) mine.is out }
 
-    leads : Held c old some.disk
+    leads : HeldGood c old some.disk
     leads = record { below = omega (arith, some.below, count, ap (λ (ds : List DiskEntry). length ds) as_c); good = some.held }
 
     first_of : First some.disk
@@ -215,7 +215,7 @@ module _ (c t d : Config) (old new : Meaning) (next : t.serial ≡ c.serial + 1)
     }
 
     -- a crash in the try leaves such a stage
-    try_since : (s : ℕ) (i : Image) → s ≤ old.moment → new.left_since s i → old.left_since s i ⊎ (Beside (AreasOf (Held c old)) old.leaves i × Stage good c d.serial tries old i)
+    try_since : (s : ℕ) (i : Image) → s ≤ old.moment → new.left_since s i → old.left_since s i ⊎ (Beside (AreasOf (HeldGood c old)) old.leaves i × Stage good c d.serial tries old i)
     try_since s i le left = elim (tried.moves.since s i le left) [
       | inl was ↦ inl was
       | inr now ↦ elim (order.along.each s i le left) [
@@ -227,7 +227,7 @@ module _ (c t d : Config) (old new : Meaning) (next : t.serial ≡ c.serial + 1)
       ]
     ]
 
-    try_moves : Moves (AreasOf (Held c old)) (Stage good c d.serial tries old) old new
+    try_moves : Moves (AreasOf (HeldGood c old)) (Stage good c d.serial tries old) old new
     try_moves = record {
       units = tried.moves.units;
       size = tried.moves.size;
@@ -275,10 +275,10 @@ module _ (c t d : Config) (old new : Meaning) (next : t.serial ≡ c.serial + 1)
         (record { serial = from.serial; area = from.area; body = Holds from.config }, from.copy, omega (arith, from.made.serial_is, next));
   }
 
-  pub try_remain : ((u : ℕ) → Held d old u → LeavesSame u old new ⊎ HasThis t u old new) → Remain c d old new
+  pub try_remain : ((u : ℕ) → HeldGood d old u → LeavesSame u old new ⊎ HasThis t u old new) → Remain c d old new
   try_remain others = record {
     each = λ u held.
-        let here : Held d old u = record { below = omega (arith, held.below, tried.moves.units); good = held.good } in
+        let here : HeldGood d old u = record { below = omega (arith, held.below, tried.moves.units); good = held.good } in
         ⊎_elim (λ same. inl same) (λ has. inr (later_than u here.below has)) (others u here);
   }
 
@@ -289,14 +289,14 @@ module _ (c t : Config) (old new : Meaning) (next : t.serial ≡ c.serial + 1) (
   try_new : Below c old → (i : Image) → Each new.leaves i → (u : ℕ) → u < old.units → failed_at t.disks u ≡ false
       → (area : ℕ) × (copy_of (on_shelf old) (i u) ≡ Some (record { serial = t.serial; area = area; body = Holds t }))
   try_new below i left u lt good =
-      let held : Held c old u = record { below = lt; good = subst (λ (ds : List DiskEntry). failed_at ds u ≡ false) as_c good } in
+      let held : HeldGood c old u = record { below = lt; good = subst (λ (ds : List DiskEntry). failed_at ds u ≡ false) as_c good } in
       let from = (all.each u (held_mine c t t old new next as_c next count own own tried u held)).made (i u) (lower_next c t t old new next as_c next count own own tried below u lt) (λ b. left u b) in (
         from.area,
         from.copy ∙ ap (λ (n : ℕ). Some (record { serial = n; area = from.area; body = Holds from.config })) from.made.serial_is
             ∙ ap (λ (x : Config). Some (record { serial = t.serial; area = from.area; body = Holds x })) from.made.config_is,
       )
 
-  pub try_stands : Stands c t old new
+  pub try_stands : CopiesStand c t old new
   try_stands = record {
     each = λ below i left. record {
       new = try_new below i left;
@@ -311,6 +311,6 @@ module _ (c t : Config) (old new : Meaning) (next : t.serial ≡ c.serial + 1) (
   pub try_tidy : AreTidy c t old new
   try_tidy = record {
     each = λ below u held.
-        let here : Held t old u = record { below = omega (arith, held.below, tried.moves.units); good = held.good } in
+        let here : HeldGood t old u = record { below = omega (arith, held.below, tried.moves.units); good = held.good } in
         tidy_there c t t old new next as_c next count own own tried u ((all.each u (held_member t old count u here)).tidy (lower_next c t t old new next as_c next count own own tried below u here.below));
   }

@@ -6,17 +6,17 @@ use Rattle.vx_disk.specs.Blocks.{bit_at}
 use Rattle.vx_disk.specs.Moves.{Beside}
 use Rattle.vx_disk.specs.Shelf.{Each, Image, Meaning}
 use Rattle.vx_copyfmt.specs.Copies.{Copy, Disk, Holds, copy_of}
-use Rattle.vx_copyfmt.specs.Commits.{Answers, FromNew, FromOld, Gives, Older, Torn}
+use Rattle.vx_copyfmt.specs.Commits.{Answers, FromNew, FromOld, GivesConfig, Older, Torn}
 use Rattle.vx_copyfmt.proofs.Areas.{lower_older}
 use Rattle.vx_copyfmt.proofs.Spoiling.{Beside as Near, Kept, WasTorn, import_torn}
-use Rattle.vx_copyfmt.specs.Imports.{import_of, is_label, later, newest, on_disk}
+use Rattle.vx_copyfmt.specs.Imports.{import_of, is_label, later, newest_found, on_disk}
 use Rattle.vx_copyfmt.specs.Labels.{seen_in}
 use Rattle.vx_copyfmt.proofs.Committing.{found_wants, no_strange, old_misses, settle_gives, settle_misses}
 use Rattle.vx_copyfmt.proofs.Newest.{Below, BelowCopy, amid_gives, below_later, below_on, import_new, later_either, later_keeps, later_none, later_takes}
 use Rattle.vx_copyio.specs.Putting.{AreasOf}
 use Rattle.vx_config.specs.declared.config.Config.{Config}
 use Rattle.vx_copies.specs.Bodies.{failed_in}
-use Rattle.vx_copies.specs.Commits.{Becomes, Behind, Below as Under, HaveLabels, Held, IsOne, IsTry, Outcome, Ready, Stage, Underway, WasCommitted}
+use Rattle.vx_copies.specs.Commits.{Becomes, Behind, Below as Under, HaveLabels, HeldGood, IsOne, IsTry, FoundOutcome, ReadyDisks, Stage, Underway, WasCommitted}
 use Rattle.vx_copies.specs.Looking.{on_shelf}
 use Rattle.vx_copies.specs.Marks.{failed_at}
 use Rattle.vx_copies.proofs.OneTry.{as_before, held_or, later_torn, not_both}
@@ -73,10 +73,10 @@ module _ (reads : ℕ → List ℕ → Option Config) (s : ℕ) (x : Config) (un
         ]
       ]
 
-  next_top : (n : ℕ) → n < units → Top n (newest reads readable i n) → (b : Bool) → readable n ≡ b → Top (suc n) (newest reads readable i (suc n))
-  next_top n lt before b is = subst (λ (t : Bool). Top (suc n) (later (newest reads readable i n) (Put t n))) (sym is) (one_more n (newest reads readable i n) lt before b is)
+  next_top : (n : ℕ) → n < units → Top n (newest_found reads readable i n) → (b : Bool) → readable n ≡ b → Top (suc n) (newest_found reads readable i (suc n))
+  next_top n lt before b is = subst (λ (t : Bool). Top (suc n) (later (newest_found reads readable i n) (Put t n))) (sym is) (one_more n (newest_found reads readable i n) lt before b is)
 
-  pub top_of : (n : ℕ) → n ≤ units → Top n (newest reads readable i n)
+  pub top_of : (n : ℕ) → n ≤ units → Top n (newest_found reads readable i n)
   top_of zero le = inr (tt, λ u lt. absurd (omega (arith, lt)))
   top_of (suc n) le = next_top n (omega (arith, le)) (top_of n (omega (arith, le))) (readable n) refl
 
@@ -90,9 +90,9 @@ record OneFound (begun : ℕ → Config → Type 0) (held : Option Config) (m : 
 
 -- an image without a torn disk
 module _ (good : ℕ) (c d : Config) (old new : Meaning) (underway : Underway good c d old new) (held : Option Config) (was : WasCommitted good held old) (below : Under c old) (labels : HaveLabels old)
-    (base : Image) (has : Each old.leaves base) (i : Image) (beside : Beside (AreasOf (Held c old)) old.leaves i)
-    (plain : (u : ℕ) → Held c old u → FromOld (on_shelf old) (old.leaves u) (i u) ⊎ FromNew (on_shelf old) (IsOne c d.serial underway.tries u) (old.leaves u) (i u))
-    (led : (u : ℕ) → Held c old u → bit_at good u ≡ false → FromOld (on_shelf old) (old.leaves u) (i u) ⊎ Behind good c d.serial underway.tries old i u) where
+    (base : Image) (has : Each old.leaves base) (i : Image) (beside : Beside (AreasOf (HeldGood c old)) old.leaves i)
+    (plain : (u : ℕ) → HeldGood c old u → FromOld (on_shelf old) (old.leaves u) (i u) ⊎ FromNew (on_shelf old) (IsOne c d.serial underway.tries u) (old.leaves u) (i u))
+    (led : (u : ℕ) → HeldGood c old u → bit_at good u ≡ false → FromOld (on_shelf old) (old.leaves u) (i u) ⊎ Behind good c d.serial underway.tries old i u) where
   abbrev reads : ℕ → List ℕ → Option Config
   reads = on_shelf old
 
@@ -102,20 +102,20 @@ module _ (good : ℕ) (c d : Config) (old new : Meaning) (underway : Underway go
   abbrev Old : ℕ → Type 0
   Old u = FromOld reads (old.leaves u) (i u)
 
-  failed_left : (u b : ℕ) → (Held c old u → ⊥) → old.leaves u b (i u b)
-  failed_left u b out = ⊎_elim (λ is. is) (λ (mine : AreasOf (Held c old) u b). absurd (out mine.on)) (beside u b)
+  failed_left : (u b : ℕ) → (HeldGood c old u → ⊥) → old.leaves u b (i u b)
+  failed_left u b out = ⊎_elim (λ is. is) (λ (mine : AreasOf (HeldGood c old) u b). absurd (out mine.on)) (beside u b)
 
   -- each disk is as one of before, or has a copy that was begun
-  kind : (u : ℕ) → u < old.units → Old u ⊎ (Held c old u × New u)
+  kind : (u : ℕ) → u < old.units → Old u ⊎ (HeldGood c old u × New u)
   kind u lt = elim (held_or c.disks u) [
     | inr failed ↦ inl (as_before reads (old.leaves u) (i u) (λ b. failed_left u b (λ mine. not_both (failed_at c.disks u) mine.good failed)))
     | inl stays ↦
-        let mine : Held c old u = record { below = lt; good = stays } in
+        let mine : HeldGood c old u = record { below = lt; good = stays } in
         ⊎_elim (λ from. inl from) (λ from. inr (mine, from)) (plain u mine)
   ]
 
   labelled : (u : ℕ) → u < old.units → is_label (seen_in (i u 0)) ≡ true
-  labelled u lt = labels.each u (i u 0) lt (⊎_elim (λ is. is) (λ (mine : AreasOf (Held c old) u 0). absurd (omega (arith, mine.first))) (beside u 0))
+  labelled u lt = labels.each u (i u 0) lt (⊎_elim (λ is. is) (λ (mine : AreasOf (HeldGood c old) u 0). absurd (omega (arith, mine.first))) (beside u 0))
 
   older : (u : ℕ) → u < old.units → Older reads (c.serial + 1) (old.leaves u)
   older u lt = lower_older reads (c.serial + 1) (old.leaves u) (below.each u lt)
@@ -138,7 +138,7 @@ module _ (good : ℕ) (c d : Config) (old new : Meaning) (underway : Underway go
 
   -- on this disk, and the others have no greater one
   abbrev Crown : ℕ → Type 0
-  Crown n = (u : ℕ) × Held c old u × (from : New u) × ((v : ℕ) → v < n → Old v ⊎ ((f : New v) × (f.serial ≤ from.serial)))
+  Crown n = (u : ℕ) × HeldGood c old u × (from : New u) × ((v : ℕ) → v < n → Old v ⊎ ((f : New v) × (f.serial ≤ from.serial)))
 
   extend : (n s : ℕ) → ((v : ℕ) → v < n → Old v ⊎ ((f : New v) × (f.serial ≤ s))) → Old n ⊎ ((f : New n) × (f.serial ≤ s)) → (v : ℕ) → v < suc n → Old v ⊎ ((f : New v) × (f.serial ≤ s))
   extend n s before here v lt = elim (cases_lt v n) [
@@ -156,7 +156,7 @@ module _ (good : ℕ) (c d : Config) (old new : Meaning) (underway : Underway go
     | inr last ↦ let same : n ≡ v = omega (arith, lt, last) in subst Old same here
   ]
 
-  crown_more : (n : ℕ) → ((v : ℕ) → v < n → Old v) ⊎ Crown n → Old n ⊎ (Held c old n × New n) → ((v : ℕ) → v < suc n → Old v) ⊎ Crown (suc n)
+  crown_more : (n : ℕ) → ((v : ℕ) → v < n → Old v) ⊎ Crown n → Old n ⊎ (HeldGood c old n × New n) → ((v : ℕ) → v < suc n → Old v) ⊎ Crown (suc n)
   crown_more n (inl all) (inl from) = inl (all_old n all from)
   crown_more n (inl all) (inr new_here) = inr (n, new_here.0, new_here.1, extend n new_here.1.serial (λ v lt. inl (all v lt)) (inr (new_here.1, omega arith)))
   crown_more n (inr crown) (inl from) = inr (crown.0, crown.1, crown.2, extend n crown.2.serial crown.3 (inl from))
@@ -171,7 +171,7 @@ module _ (good : ℕ) (c d : Config) (old new : Meaning) (underway : Underway go
 
   -- ---- what imports find then
 
-  module _ (u : ℕ) (mine : Held c old u) (from : New u) (most : (v : ℕ) → v < old.units → Old v ⊎ ((f : New v) × (f.serial ≤ from.serial))) where
+  module _ (u : ℕ) (mine : HeldGood c old u) (from : New u) (most : (v : ℕ) → v < old.units → Old v ⊎ ((f : New v) × (f.serial ≤ from.serial))) where
     class : (v : ℕ) → v < old.units → ((area : ℕ) × (copy_of reads (i v) ≡ Some (record { serial = from.serial; area = area; body = Holds from.config }))) ⊎ BelowCopy from.serial (copy_of reads (i v))
     class v lt = elim (most v lt) [
       | inl before ↦ inr (by_copy (copy_of reads (i v)) refl before)
@@ -201,10 +201,10 @@ module _ (good : ℕ) (c d : Config) (old new : Meaning) (underway : Underway go
         by_read true is = let less : f.serial < from.serial = subst (BelowCopy from.serial) f.copy (below is) in absurd (omega (arith, less, le))
 
     -- a disk of the set that has one
-    leading : (g : ℕ) × Held c old g × (bit_at good g ≡ true) × (f : New g) × (from.serial ≤ f.serial)
+    leading : (g : ℕ) × HeldGood c old g × (bit_at good g ≡ true) × (f : New g) × (from.serial ≤ f.serial)
     leading = by_bit (bit_at good u) refl
       where
-        by_bit : (b : Bool) → bit_at good u ≡ b → (g : ℕ) × Held c old g × (bit_at good g ≡ true) × (f : New g) × (from.serial ≤ f.serial)
+        by_bit : (b : Bool) → bit_at good u ≡ b → (g : ℕ) × HeldGood c old g × (bit_at good g ≡ true) × (f : New g) × (from.serial ≤ f.serial)
         by_bit true is = (u, mine, is, from, omega arith)
         by_bit false is = elim (led u mine is) [
           | inl before ↦ absurd (too_late (older u mine.below) before)
@@ -254,19 +254,19 @@ module _ (good : ℕ) (c d : Config) (old new : Meaning) (underway : Underway go
           absurd (not_both (failed_at (underway.tries from.serial).disks u) (subst (λ (k : Config). failed_at k.disks u ≡ false) from.made.is from.made.holds) late)
     ]
 
-    each_gives : (readable : ℕ → Bool) → Gives from.config (import_of reads failed_in old.units readable i)
+    each_gives : (readable : ℕ → Bool) → GivesConfig from.config (import_of reads failed_in old.units readable i)
     each_gives readable = elim (top_of reads from.serial from.config old.units i readable labelled class old.units (omega arith)) [
-      | inl top ↦ subst (Gives from.config) (sym (import_new reads failed_in (λ s y. ⊥) from.serial (λ s y no. absurd no) old.units readable i top.0 (record { serial = from.serial; area = top.1; body = Holds from.config }) from.config
+      | inl top ↦ subst (GivesConfig from.config) (sym (import_new reads failed_in (λ s y. ⊥) from.serial (λ s y no. absurd no) old.units readable i top.0 (record { serial = from.serial; area = top.1; body = Holds from.config }) from.config
           (no_strange readable i old.units labelled) top.2 refl)) (settle_gives failed_in old.units readable from.config)
       | inr rest ↦
           let out : readable u ≡ false = unread readable u from (omega arith) (rest.1 u mine.below) in
           let lead = leading in
           let lead_out : readable lead.0 ≡ false = unread readable lead.0 lead.3 lead.4 (rest.1 lead.0 lead.1.below) in
           elim (amid_gives reads failed_in Begun (c.serial + 1) (λ s y begun. omega (arith, begun.0)) old.units old.leaves i base begun_kind has far older readable) [
-            | inl before ↦ subst (Gives from.config) (sym before.same)
+            | inl before ↦ subst (GivesConfig from.config) (sym before.same)
                 (old_misses failed_in held from.config readable lead.0 (was.members lead.0 lead.1.below lead.2) lead_out (import_of reads failed_in old.units readable before.image) (was.committed.each before.image readable before.left)
                 (found_wants failed_in reads old.units readable before.image lead.0 lead.1.below))
-            | inr made ↦ subst (Gives from.config) (sym made.found) (settle_misses failed_in old.units readable made.config from.config u mine.below (holds_it made.serial made.config made.made) out)
+            | inr made ↦ subst (GivesConfig from.config) (sym made.found) (settle_misses failed_in old.units readable made.config from.config u mine.below (holds_it made.serial made.config made.made) out)
           ]
     ]
 
@@ -285,8 +285,8 @@ module _ (good : ℕ) (c d : Config) (old new : Meaning) (underway : Underway go
 
 -- ---- an image of which a disk may be torn
 
-module _ (good : ℕ) (c d : Config) (old new : Meaning) (underway : Underway good c d old new) (held : Option Config) (was : WasCommitted good held old) (ready : Ready c old) (labels : HaveLabels old)
-    (base : Image) (has : Each old.leaves base) (i : Image) (beside : Beside (AreasOf (Held c old)) old.leaves i) (stage : Stage good c d.serial underway.tries old i) where
+module _ (good : ℕ) (c d : Config) (old new : Meaning) (underway : Underway good c d old new) (held : Option Config) (was : WasCommitted good held old) (ready : ReadyDisks c old) (labels : HaveLabels old)
+    (base : Image) (has : Each old.leaves base) (i : Image) (beside : Beside (AreasOf (HeldGood c old)) old.leaves i) (stage : Stage good c d.serial underway.tries old i) where
   abbrev bodies : ℕ → List ℕ → Option Config
   bodies = on_shelf old
 
@@ -297,14 +297,14 @@ module _ (good : ℕ) (c d : Config) (old new : Meaning) (underway : Underway go
   OldOn u e = FromOld bodies (old.leaves u) e
 
   abbrev Kind : ℕ → Type 0
-  Kind u = (Held c old u → ⊥) ⊎ (Held c old u × Becomes (IsOne c d.serial underway.tries u) old u (i u))
+  Kind u = (HeldGood c old u → ⊥) ⊎ (HeldGood c old u × Becomes (IsOne c d.serial underway.tries u) old u (i u))
 
   kind_of : (u : ℕ) → Kind u
   kind_of u = elim (cases_lt u old.units) [
     | inr above ↦ inl (λ mine. omega (arith, above, mine.below))
     | inl lt ↦ elim (held_or c.disks u) [
       | inr failed ↦ inl (λ mine. not_both (failed_at c.disks u) mine.good failed)
-      | inl good_one ↦ let mine : Held c old u = record { below = lt; good = good_one } in inr (mine, stage.each ready u mine)
+      | inl good_one ↦ let mine : HeldGood c old u = record { below = lt; good = good_one } in inr (mine, stage.each ready u mine)
     ]
   ]
 
@@ -318,72 +318,72 @@ module _ (good : ℕ) (c d : Config) (old new : Meaning) (underway : Underway go
   abbrev whole : Image
   whole u = mended u (kind_of u)
 
-  whole_beside : (u b : ℕ) (k : Kind u) → old.leaves u b (mended u k b) ⊎ AreasOf (Held c old) u b
+  whole_beside : (u b : ℕ) (k : Kind u) → old.leaves u b (mended u k b) ⊎ AreasOf (HeldGood c old) u b
   whole_beside u b (inl out) = beside u b
   whole_beside u b (inr (mine, inl from)) = beside u b
   whole_beside u b (inr (mine, inr (inl from))) = beside u b
   whole_beside u b (inr (mine, inr (inr torn))) = inl (torn.among b)
 
-  whole_plain : (u : ℕ) (k : Kind u) → Held c old u → OldOn u (mended u k) ⊎ NewOn u (mended u k)
+  whole_plain : (u : ℕ) (k : Kind u) → HeldGood c old u → OldOn u (mended u k) ⊎ NewOn u (mended u k)
   whole_plain u (inl out) mine = absurd (out mine)
   whole_plain u (inr (here, inl from)) mine = inl from
   whole_plain u (inr (here, inr (inl from))) mine = inr from
   whole_plain u (inr (here, inr (inr torn))) mine = inl (as_before bodies (old.leaves u) torn.disk torn.among)
 
   -- a copy that was begun is on no torn disk
-  not_torn : (u : ℕ) → Held c old u → NewOn u (i u) → Torn bodies (old.leaves u) (i u) → ⊥
+  not_torn : (u : ℕ) → HeldGood c old u → NewOn u (i u) → Torn bodies (old.leaves u) (i u) → ⊥
   not_torn u mine from torn =
       later_torn bodies (old.leaves u) c.serial (i u) (record { serial = from.serial; area = from.area; body = Holds from.config })
       (lower_older bodies (c.serial + 1) (old.leaves u) (ready.below.each u mine.below)) from.copy from.made.above torn
 
-  kept_new : (u : ℕ) (k : Kind u) → Held c old u → (from : NewOn u (i u)) → (f : NewOn u (mended u k)) × (from.serial ≤ f.serial)
+  kept_new : (u : ℕ) (k : Kind u) → HeldGood c old u → (from : NewOn u (i u)) → (f : NewOn u (mended u k)) × (from.serial ≤ f.serial)
   kept_new u (inl out) mine from = (from, omega arith)
   kept_new u (inr (here, inl was_old)) mine from = (from, omega arith)
   kept_new u (inr (here, inr (inl made))) mine from = (from, omega arith)
   kept_new u (inr (here, inr (inr torn))) mine from = absurd (not_torn u mine from torn)
 
-  by_led : (u : ℕ) → Held c old u → NewOn u (i u) → FromOld bodies (old.leaves u) (i u) ⊎ Behind good c d.serial underway.tries old i u ⊎ Torn bodies (old.leaves u) (i u)
-      → OldOn u (i u) ⊎ ((from : NewOn u (i u)) × (g : ℕ) × Held c old g × (bit_at good g ≡ true) × (f : NewOn g (whole g)) × (from.serial ≤ f.serial))
+  by_led : (u : ℕ) → HeldGood c old u → NewOn u (i u) → FromOld bodies (old.leaves u) (i u) ⊎ Behind good c d.serial underway.tries old i u ⊎ Torn bodies (old.leaves u) (i u)
+      → OldOn u (i u) ⊎ ((from : NewOn u (i u)) × (g : ℕ) × HeldGood c old g × (bit_at good g ≡ true) × (f : NewOn g (whole g)) × (from.serial ≤ f.serial))
   by_led u mine made (inl from) = inl from
   by_led u mine made (inr (inl behind)) =
       let f = kept_new behind.leader (kind_of behind.leader) behind.held behind.front in
       inr (behind.from, behind.leader, behind.held, behind.member, f.0, omega (arith, behind.ahead, f.1))
   by_led u mine made (inr (inr torn)) = absurd (not_torn u mine made torn)
 
-  whole_led : (u : ℕ) (k : Kind u) → Held c old u → bit_at good u ≡ false
-      → OldOn u (mended u k) ⊎ ((from : NewOn u (mended u k)) × (g : ℕ) × Held c old g × (bit_at good g ≡ true) × (f : NewOn g (whole g)) × (from.serial ≤ f.serial))
+  whole_led : (u : ℕ) (k : Kind u) → HeldGood c old u → bit_at good u ≡ false
+      → OldOn u (mended u k) ⊎ ((from : NewOn u (mended u k)) × (g : ℕ) × HeldGood c old g × (bit_at good g ≡ true) × (f : NewOn g (whole g)) × (from.serial ≤ f.serial))
   whole_led u (inl out) mine outside = absurd (out mine)
   whole_led u (inr (here, inl from)) mine outside = inl from
   whole_led u (inr (here, inr (inl made))) mine outside = by_led u mine made (stage.led ready u mine outside)
   whole_led u (inr (here, inr (inr torn))) mine outside = inl (as_before bodies (old.leaves u) torn.disk torn.among)
 
-  led_whole : (u : ℕ) → Held c old u → bit_at good u ≡ false → OldOn u (whole u) ⊎ Behind good c d.serial underway.tries old whole u
+  led_whole : (u : ℕ) → HeldGood c old u → bit_at good u ≡ false → OldOn u (whole u) ⊎ Behind good c d.serial underway.tries old whole u
   led_whole u mine outside = ⊎_elim (λ from. inl from) (λ x. inr (record { from = x.0; leader = x.1; held = x.2; member = x.3; front = x.4; ahead = x.5 })) (whole_led u (kind_of u) mine outside)
 
   alike_whole : (u : ℕ) (k : Kind u) → (seen_in (i u 0) ≡ seen_in (mended u k 0))
-      × ((copy_of bodies (i u) ≡ copy_of bodies (mended u k)) ⊎ (Held c old u × ((torn : Torn bodies (old.leaves u) (i u)) × (copy_of bodies (mended u k) ≡ Some torn.was))))
+      × ((copy_of bodies (i u) ≡ copy_of bodies (mended u k)) ⊎ (HeldGood c old u × ((torn : Torn bodies (old.leaves u) (i u)) × (copy_of bodies (mended u k) ≡ Some torn.was))))
   alike_whole u (inl out) = (refl, inl refl)
   alike_whole u (inr (here, inl from)) = (refl, inl refl)
   alike_whole u (inr (here, inr (inl made))) = (refl, inl refl)
   alike_whole u (inr (here, inr (inr torn))) = (torn.label, inr (here, (torn, torn.copy)))
 
-  near_whole : (u : ℕ) → Near bodies failed_in (Held c old) old.units old.leaves i whole u
+  near_whole : (u : ℕ) → Near bodies failed_in (HeldGood c old) old.units old.leaves i whole u
   near_whole u = by_alike (alike_whole u (kind_of u))
     where
-      by_alike : (seen_in (i u 0) ≡ seen_in (whole u 0)) × ((copy_of bodies (i u) ≡ copy_of bodies (whole u)) ⊎ (Held c old u × ((torn : Torn bodies (old.leaves u) (i u)) × (copy_of bodies (whole u) ≡ Some torn.was))))
-          → Near bodies failed_in (Held c old) old.units old.leaves i whole u
+      by_alike : (seen_in (i u 0) ≡ seen_in (whole u 0)) × ((copy_of bodies (i u) ≡ copy_of bodies (whole u)) ⊎ (HeldGood c old u × ((torn : Torn bodies (old.leaves u) (i u)) × (copy_of bodies (whole u) ≡ Some torn.was))))
+          → Near bodies failed_in (HeldGood c old) old.units old.leaves i whole u
       by_alike (label, inl copy) = Kept label copy
       by_alike (label, inr (mine, (torn, copy))) = WasTorn label mine torn copy
 
   plain_found : OneFound (IsTry c d.serial old new) held old whole
   plain_found = one_found good c d old new underway held was ready.below labels base has whole (λ u b. whole_beside u b (kind_of u)) (λ u mine. whole_plain u (kind_of u) mine) led_whole
 
-  pub outcome : Outcome (IsTry c d.serial old new) held c old i
+  pub outcome : FoundOutcome (IsTry c d.serial old new) held c old i
   outcome =
       let one = plain_found in
       record {
         found = one.found;
         which = one.which;
         each = λ readable. ⊎_elim (λ is. inl (subst (Answers one.found) (sym is) (one.each readable))) (λ spoilt. inr spoilt)
-            (import_torn bodies failed_in (Held c old) old.units old.leaves i whole readable (λ u lt. near_whole u));
+            (import_torn bodies failed_in (HeldGood c old) old.units old.leaves i whole readable (λ u lt. near_whole u));
       }

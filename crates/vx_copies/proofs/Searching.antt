@@ -6,14 +6,14 @@ use Rattle.vx_disk.specs.Counts.{Rose}
 use Rattle.vx_disk.specs.Shelf.{Meaning, Image, Lawful, Goes, Nothing}
 use Rattle.vx_disk.proofs.Causing.{Rose_after, Rose_before}
 use Rattle.vx_copyfmt.specs.Copies.{Disk, Copy, copy_of}
-use Rattle.vx_copyfmt.specs.Imports.{first_of, is_label, later, newest, on_disk, strange, strange_label}
+use Rattle.vx_copyfmt.specs.Imports.{first_of, is_label, later, newest_found, on_disk, strange, strange_label}
 use Rattle.vx_copyfmt.specs.Labels.{seen_in}
 use Rattle.vx_copyfmt.specs.declared.label.LabelSeen.{LabelSeen}
 use Rattle.vx_copyfmt.specs.declared.label.LabelSeen.TheVariants as label
 use Rattle.vx_copyfmt.proofs.Told.{false_from}
 use Rattle.vx_config.specs.declared.config.Config.{Config}
 use Rattle.vx_copies.specs.Answers.{flag_at}
-use Rattle.vx_copies.specs.Looking.{CountsDisk, IsRead, SeesDisk, ShowsDisk, ShowsFormat, FitsDisk, copy_view, on_shelf}
+use Rattle.vx_copies.specs.Looking.{CountsDisk, IsDiskRead, SeesDisk, ShowsDisk, ShowsFormat, FitsDisk, copy_view, on_shelf}
 use Rattle.vx_copies.specs.Searching.{FitsBest, Searched, best_view, seen_format, seen_readable, seen_view}
 use Rattle.vx_copies.specs.declared.search.Search.{Search}
 use Rattle.vx_copies.specs.declared.seen.CopySeen.{CopySeen}
@@ -30,12 +30,12 @@ strange_below p q i j (suc n) same alike =
     ∙ ap (λ (b : Bool). first_of (strange q j n) (if b then strange_label (seen_in (i n 0)) else None)) (same n (omega arith))
     ∙ ap (λ (d : Disk). first_of (strange q j n) (if q n then strange_label (seen_in (d 0)) else None)) (alike n (omega arith))
 
-pub newest_below : (r : ℕ → List ℕ → Option Config) (p q : ℕ → Bool) (i j : Image) (n : ℕ) → ((u : ℕ) → u < n → p u ≡ q u) → ((u : ℕ) → u < n → i u ≡ j u) → newest r p i n ≡ newest r q j n
+pub newest_below : (r : ℕ → List ℕ → Option Config) (p q : ℕ → Bool) (i j : Image) (n : ℕ) → ((u : ℕ) → u < n → p u ≡ q u) → ((u : ℕ) → u < n → i u ≡ j u) → newest_found r p i n ≡ newest_found r q j n
 newest_below r p q i j zero same alike = refl
 newest_below r p q i j (suc n) same alike =
     ap (λ (o : Option (ℕ × Copy Config)). later o (if p n && is_label (seen_in (i n 0)) then on_disk n (copy_of r (i n)) else None)) (newest_below r p q i j n (λ u lt. same u (omega (arith, lt))) (λ u lt. alike u (omega (arith, lt))))
-    ∙ ap (λ (b : Bool). later (newest r q j n) (if b && is_label (seen_in (i n 0)) then on_disk n (copy_of r (i n)) else None)) (same n (omega arith))
-    ∙ ap (λ (d : Disk). later (newest r q j n) (if q n && is_label (seen_in (d 0)) then on_disk n (copy_of r d) else None)) (alike n (omega arith))
+    ∙ ap (λ (b : Bool). later (newest_found r q j n) (if b && is_label (seen_in (i n 0)) then on_disk n (copy_of r (i n)) else None)) (same n (omega arith))
+    ∙ ap (λ (d : Disk). later (newest_found r q j n) (if q n && is_label (seen_in (d 0)) then on_disk n (copy_of r d) else None)) (alike n (omega arith))
 
 -- ---- one more
 
@@ -93,7 +93,7 @@ add k old mid new s t f d format best so_far goes adds format_is best_is flags f
     ∙ ap (λ (b : Bool). first_of s.format (if b then strange_label (seen_in (i k 0)) else None)) (flag_here f k so_far.readable)
     ∙ ap (λ (e : Disk). first_of s.format (if f then strange_label (seen_in (e 0)) else None)) (disk_here d k so_far.image)
     ∙ ap (first_of s.format) adds.version ∙ sym format_is in
-    let bests : newest (on_shelf old) p i (suc k) ≡ best_view t.best =
+    let bests : newest_found (on_shelf old) p i (suc k) ≡ best_view t.best =
     ap (λ (o : Option (ℕ × Copy Config)). later o (if p k && is_label (seen_in (i k 0)) then on_disk k (copy_of (on_shelf old) (i k)) else None))
     (newest_below (on_shelf old) p so_far.readable i so_far.image k (λ u lt. flag_below f k so_far.readable u lt) (λ u lt. disk_below d k so_far.image u lt) ∙ so_far.best)
     ∙ ap (λ (b : Bool). later (best_view s.best) (if b && is_label (seen_in (i k 0)) then on_disk k (copy_of (on_shelf old) (i k)) else None)) (flag_here f k so_far.readable)
@@ -120,7 +120,7 @@ add k old mid new s t f d format best so_far goes adds format_is best_is flags f
       ];
       alone = λ u le. adds.others u (λ same. omega (arith, le, same)) ∙ so_far.alone u (omega (arith, le));
       format = ap (strange p i) count ∙ formats;
-      best = ap (newest (on_shelf old) p i) count ∙ bests;
+      best = ap (newest_found (on_shelf old) p i) count ∙ bests;
       flags = λ u lt small. elim (below_or u k lt) [
         | inl below ↦ flags u small ∙ ap (λ (b : Bool). if b then f else flag_at s.readable u) (other_is u k below) ∙ so_far.flags u below small ∙ sym (flag_below f k so_far.readable u below)
         | inr same ↦
@@ -131,7 +131,7 @@ add k old mid new s t f d format best so_far goes adds format_is best_is flags f
     }
 
 module _ (k : ℕ) (old mid new : Meaning) (lawful : Lawful old) (still : StillUp old mid) where
-  read_before : (d : Disk) → IsRead k mid d → IsTrue old.tells → (b : ℕ) → old.reads k b (d b)
+  read_before : (d : Disk) → IsDiskRead k mid d → IsTrue old.tells → (b : ℕ) → old.reads k b (d b)
   read_before d is tells b = still_read old mid still k b (d b) (is.each (told_still old mid still tells) b)
 
   sees_format : (version : ℕ) → ShowsFormat k mid version → mid.faults k ≡ old.faults k → ((u : ℕ) → new.faults u ≡ mid.faults u) → (d : Disk) × Adds k old mid new true d (Some version) None

@@ -4,15 +4,15 @@ use Rattle.std.specs.Prelude.{◌&&◌, if◌then◌else◌}
 use Rattle.std.proofs.lemmas.Bool.{cases_lt}
 use Rattle.vx_disk.specs.Shelf.{Each, Image, Lawful, Meaning}
 use Rattle.vx_copyfmt.specs.Copies.{Copy, Disk, copy_of}
-use Rattle.vx_copyfmt.specs.Commits.{Gives}
-use Rattle.vx_copyfmt.specs.Imports.{Damaged, Format, Found, Missing, NoConfig, Outcome as Finding, by_labels, by_newest, first_of, import_of, is_label, later, newest, on_disk, strange, strange_label}
+use Rattle.vx_copyfmt.specs.Commits.{GivesConfig}
+use Rattle.vx_copyfmt.specs.Imports.{Damaged, Format, Found, Missing, NoConfig, ImportOutcome as Finding, by_labels, by_newest, first_of, import_of, is_label, later, newest_found, on_disk, strange, strange_label}
 use Rattle.vx_copyfmt.specs.Labels.{seen_in}
 use Rattle.vx_copyfmt.proofs.Committing.{found_wants}
 use Rattle.vx_copyfmt.proofs.Newest.{same_import}
 use Rattle.vx_copyio.specs.Putting.{AreasOf}
 use Rattle.vx_config.specs.declared.config.Config.{Config}
 use Rattle.vx_copies.specs.Bodies.{failed_in}
-use Rattle.vx_copies.specs.Commits.{Held, IsNone, ReadsFailed, Silent, Underway, WasCommitted}
+use Rattle.vx_copies.specs.Commits.{HeldGood, IsNone, ReadsFailed, Silent, Underway, WasCommitted}
 use Rattle.vx_copies.specs.Looking.{on_shelf}
 use Rattle.vx_copies.specs.Marks.{HasGood, failed_at}
 use Rattle.vx_copies.proofs.OneTry.{held_or, not_both}
@@ -40,25 +40,25 @@ module _ {C : Type 0} (reads : ℕ → List ℕ → Option C) (readable : ℕ �
       ap (λ (o : Option ℕ). first_of o (Label i n (readable n))) (strange_read n (λ u lt. same u (omega (arith, lt))))
       ∙ ap (first_of (strange readable j n)) (label_read n (readable n) (same n (omega arith)))
 
-  newest_read : (n : ℕ) → ((u : ℕ) → u < n → readable u ≡ true → i u ≡ j u) → newest reads readable i n ≡ newest reads readable j n
+  newest_read : (n : ℕ) → ((u : ℕ) → u < n → readable u ≡ true → i u ≡ j u) → newest_found reads readable i n ≡ newest_found reads readable j n
   newest_read zero same = refl
   newest_read (suc n) same =
       ap (λ (o : Option (ℕ × Copy C)). later o (Put i n (readable n))) (newest_read n (λ u lt. same u (omega (arith, lt))))
-      ∙ ap (later (newest reads readable j n)) (put_read n (readable n) (same n (omega arith)))
+      ∙ ap (later (newest_found reads readable j n)) (put_read n (readable n) (same n (omega arith)))
 
   -- one that reads none finds none
   none_strange : (n : ℕ) → ((u : ℕ) → u < n → readable u ≡ false) → strange readable i n ≡ None
   none_strange zero out = refl
   none_strange (suc n) out = ap (λ (o : Option ℕ). first_of o (Label i n (readable n))) (none_strange n (λ u lt. out u (omega (arith, lt)))) ∙ ap (Label i n) (out n (omega arith))
 
-  none_newest : (n : ℕ) → ((u : ℕ) → u < n → readable u ≡ false) → newest reads readable i n ≡ None
+  none_newest : (n : ℕ) → ((u : ℕ) → u < n → readable u ≡ false) → newest_found reads readable i n ≡ None
   none_newest zero out = refl
   none_newest (suc n) out = ap (λ (o : Option (ℕ × Copy C)). later o (Put i n (readable n))) (none_newest n (λ u lt. out u (omega (arith, lt)))) ∙ ap (Put i n) (out n (omega arith))
 
   pub import_none : (failed : C → ℕ → Bool) (units : ℕ) → ((u : ℕ) → u < units → readable u ≡ false) → import_of reads failed units readable i ≡ NoConfig
   unfolding import_of
   import_none failed units out =
-      ap (λ (o : Option ℕ). by_labels o (by_newest failed units readable (newest reads readable i units))) (none_strange units out)
+      ap (λ (o : Option ℕ). by_labels o (by_newest failed units readable (newest_found reads readable i units))) (none_strange units out)
       ∙ ap (λ (o : Option (ℕ × Copy C)). by_newest failed units readable o) (none_newest units out)
 
   pub import_read : (failed : C → ℕ → Bool) (units : ℕ) → ((u : ℕ) → u < units → readable u ≡ true → i u ≡ j u) → import_of reads failed units readable i ≡ import_of reads failed units readable j
@@ -66,7 +66,7 @@ module _ {C : Type 0} (reads : ℕ → List ℕ → Option C) (readable : ℕ �
 
 -- ---- findings that are none
 
-pub none_gives : (d : Config) (o : Finding Config) → IsNone o → Gives d o
+pub none_gives : (d : Config) (o : Finding Config) → IsNone o → GivesConfig d o
 none_gives d (Found x) is = absurd is
 none_gives d (Missing disk) is = tt
 none_gives d NoConfig is = tt
@@ -74,7 +74,7 @@ none_gives d (Damaged disk block s t) is = absurd is
 none_gives d (Format v) is = absurd is
 
 -- a configuration misses a disk of its own
-misses : (d : Config) (o : Finding Config) → Gives d o → ((x : Config) → o ≡ Found x → x ≡ d → ⊥) → IsNone o
+misses : (d : Config) (o : Finding Config) → GivesConfig d o → ((x : Config) → o ≡ Found x → x ≡ d → ⊥) → IsNone o
 misses d (Found x) gives never = never x refl gives
 misses d (Missing disk) gives never = tt
 misses d NoConfig gives never = tt
@@ -93,7 +93,7 @@ committed_silent good members d m some lt was = record {
 -- ---- a disk that was held as failed is as it was
 
 module _ (good : ℕ) (c d : Config) (old new : Meaning) (underway : Underway good c d old new) (lawful : Lawful old) where
-  held_here : (u : ℕ) → Held c old u ⊎ (Held c old u → ⊥)
+  held_here : (u : ℕ) → HeldGood c old u ⊎ (HeldGood c old u → ⊥)
   held_here u = elim (cases_lt u old.units) [
     | inr above ↦ inr (λ held. omega (arith, above, held.below))
     | inl lt ↦ elim (held_or c.disks u) [
@@ -103,19 +103,19 @@ module _ (good : ℕ) (c d : Config) (old new : Meaning) (underway : Underway go
   ]
 
   module _ (i base : Image) (left : Each new.leaves i) (has : Each old.leaves base) where
-    abbrev at_disk : (u : ℕ) → Held c old u ⊎ (Held c old u → ⊥) → Disk
+    abbrev at_disk : (u : ℕ) → HeldGood c old u ⊎ (HeldGood c old u → ⊥) → Disk
     at_disk u (inl held) = base u
     at_disk u (inr out) = i u
 
-    at_among : (u b : ℕ) (k : Held c old u ⊎ (Held c old u → ⊥)) → old.leaves u b (at_disk u k b)
+    at_among : (u b : ℕ) (k : HeldGood c old u ⊎ (HeldGood c old u → ⊥)) → old.leaves u b (at_disk u k b)
     at_among u b (inl held) = has u b
-    at_among u b (inr out) = ⊎_elim (λ was. was) (λ (mine : AreasOf (Held c old) u b). absurd (out mine.on)) (underway.moves.leaves u b (i u b) (left u b))
+    at_among u b (inr out) = ⊎_elim (λ was. was) (λ (mine : AreasOf (HeldGood c old) u b). absurd (out mine.on)) (underway.moves.leaves u b (i u b) (left u b))
 
-    at_read : (readable : ℕ → Bool) → ((u : ℕ) → Held c old u → readable u ≡ false) → (u : ℕ) (k : Held c old u ⊎ (Held c old u → ⊥)) → readable u ≡ true → i u ≡ at_disk u k
+    at_read : (readable : ℕ → Bool) → ((u : ℕ) → HeldGood c old u → readable u ≡ false) → (u : ℕ) (k : HeldGood c old u ⊎ (HeldGood c old u → ⊥)) → readable u ≡ true → i u ≡ at_disk u k
     at_read readable unread u (inl held) is = absurd (not_both (readable u) (unread u held) is)
     at_read readable unread u (inr out) is = refl
 
-    quiet_over : (readable : ℕ → Bool) → Silent c old → ReadsFailed c old readable → ((u : ℕ) → Held c old u → readable u ≡ false) → IsNone (import_of (on_shelf old) failed_in old.units readable i)
+    quiet_over : (readable : ℕ → Bool) → Silent c old → ReadsFailed c old readable → ((u : ℕ) → HeldGood c old u → readable u ≡ false) → IsNone (import_of (on_shelf old) failed_in old.units readable i)
     quiet_over readable silent reads_one unread =
         let j : Image = λ u. at_disk u (held_here u) in
         subst IsNone (sym (import_read (on_shelf old) readable i j failed_in old.units (λ u lt is. at_read readable unread u (held_here u) is)))
@@ -137,7 +137,7 @@ module _ (good : ℕ) (c d : Config) (old new : Meaning) (underway : Underway go
       ])
 
   -- so what these say by themselves is as it was
-  pub quiet : (i : Image) (readable : ℕ → Bool) → (IsFalse old.tells → ⊥) → Each new.leaves i → Silent c old → ((u : ℕ) → Held c old u → readable u ≡ false)
+  pub quiet : (i : Image) (readable : ℕ → Bool) → (IsFalse old.tells → ⊥) → Each new.leaves i → Silent c old → ((u : ℕ) → HeldGood c old u → readable u ≡ false)
       → IsNone (import_of (on_shelf old) failed_in old.units readable i)
   quiet i readable tells left silent unread = by_tells old.tells refl
     where

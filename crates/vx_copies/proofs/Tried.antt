@@ -8,10 +8,10 @@ use Rattle.vx_copyfmt.specs.Copies.{Disk}
 use Rattle.vx_copyfmt.specs.Commits.{Fit, FromNew, FromOld, Lower, Slots, Tidy, Torn, exactly}
 use Rattle.vx_copyfmt.specs.declared.area.AreaHeader.{AreaHeader}
 use Rattle.vx_copyio.specs.Orders.{InOrder, Ordered}
-use Rattle.vx_copyio.specs.Putting.{AllNew, AreasOf, Copied, CopyStops, InImages, IsMade, IsMember, LeavesNew, OldOrNew, those}
+use Rattle.vx_copyio.specs.Putting.{AllNew, AreasOf, Copied, CopyStops, InImages, IsCopyMade, IsMember, LeavesNew, OldOrNew, those}
 use Rattle.vx_copyio.specs.declared.spread.CopyFailed.{CopyFailed}
 use Rattle.vx_copyio.proofs.Counting.{counts, fit_bytes, new_read, old_read, read_counts, tidy_read, torn_read}
-use Rattle.vx_config.specs.Configs.{HasSpelling, spelled}
+use Rattle.vx_config.specs.Configs.{HasSpelling, spelled_config}
 use Rattle.vx_config.specs.declared.config.Config.{Config}
 use Rattle.vx_config.proofs.DecodeLemmas.{spelled-read}
 use Rattle.vx_copies.specs.Bodies.{is_wanted, of_serial, reads_in}
@@ -20,10 +20,10 @@ use Rattle.vx_copies.specs.Orders.{InOrderThis, OrderedThis}
 use Rattle.vx_copies.specs.Tries.{AllThis, HasThis, IsThis, OldOrThese, OldOrThis, Tried, TryStops}
 
 -- a spelling is read as its configuration
-pub spelling_reads : (units : ℕ) (size : ℕ → ℕ) (bytes : List ℕ) (c : Config) → HasSpelling c → bytes ≡ spelled c → is_wanted units size c ≡ true → reads_in units size bytes ≡ Some c
+pub spelling_reads : (units : ℕ) (size : ℕ → ℕ) (bytes : List ℕ) (c : Config) → HasSpelling c → bytes ≡ spelled_config c → is_wanted units size c ≡ true → reads_in units size bytes ≡ Some c
 unfolding reads_in
 spelling_reads units size bytes c has is wanted =
-    let all : bytes ≡ spelled c ++ [] = is ∙ sym (append-nil (spelled c)) in
+    let all : bytes ≡ spelled_config c ++ [] = is ∙ sym (append-nil (spelled_config c)) in
     rw (spelled-read bytes c [] has all, wanted) refl
 
 -- and behind a header of its serial
@@ -55,7 +55,7 @@ module _ (h : AreaHeader) (body : List ℕ) (c : Config) (old : Meaning) (serial
     fit = λ fit. ⊎_elim (λ tidy. inl (tidy_here (exactly d) tidy)) (λ forged. inr forged) (one.fit (counts reads) (fit_here u fit) counted);
   }
     where
-      by_kind : FromOld (those (counts reads)) (old.leaves u) d ⊎ FromNew (those (counts reads)) (IsMade h body) (old.leaves u) d ⊎ Torn (those (counts reads)) (old.leaves u) d
+      by_kind : FromOld (those (counts reads)) (old.leaves u) d ⊎ FromNew (those (counts reads)) (IsCopyMade h body) (old.leaves u) d ⊎ Torn (those (counts reads)) (old.leaves u) d
           → FromOld reads (old.leaves u) d ⊎ FromNew reads (IsThis c) (old.leaves u) d ⊎ Torn reads (old.leaves u) d
       by_kind (inl from) = inl (old_read reads (old.leaves u) d from)
       by_kind (inr (inl from)) = inr (inl (new_read reads (IsThis c) h body c (old.leaves u) d is this from))

@@ -6,7 +6,7 @@ use Rattle.vx_model.specs.declared.no.No.{No}
 use Rattle.vx_model.specs.declared.no.No.TheVariants as refusal
 use Rattle.vx_disk.specs.Counts.{Rose}
 use Rattle.vx_disk.specs.Shelf.{Meaning, Image, Each}
-use Rattle.vx_copyfmt.specs.Imports.{Outcome, Found, Missing, NoConfig, Damaged, Format, import_of}
+use Rattle.vx_copyfmt.specs.Imports.{ImportOutcome, Found, Missing, NoConfig, Damaged, Format, import_of}
 use Rattle.vx_config.specs.declared.config.Config.{Config}
 use Rattle.vx_config.specs.declared.entry.DiskEntry.{DiskEntry}
 use Rattle.vx_copies.specs.Bodies.{failed_in}
@@ -27,12 +27,12 @@ good_set [] = 0
 good_set (d ∷ ds) = 2 * good_set ds + (if d.failed then 0 else 1)
 
 -- the answer to what was found
-abbrev pub answer_of : (ℕ → Bool) → Outcome Config → Result (Config × ℕ) No
-answer_of readable (Found c) = Ok (returned readable c, good_set c.disks)
-answer_of readable (Missing disk) = Err (refusal.Missing disk)
-answer_of readable NoConfig = Err refusal.NoConfig
-answer_of readable (Damaged disk block stored computed) = Err (refusal.Damaged disk block stored computed)
-answer_of readable (Format version) = Err (refusal.Format version)
+abbrev pub answer_to : (ℕ → Bool) → ImportOutcome Config → Result (Config × ℕ) No
+answer_to readable (Found c) = Ok (returned readable c, good_set c.disks)
+answer_to readable (Missing disk) = Err (refusal.Missing disk)
+answer_to readable NoConfig = Err refusal.NoConfig
+answer_to readable (Damaged disk block stored computed) = Err (refusal.Damaged disk block stored computed)
+answer_to readable (Format version) = Err (refusal.Format version)
 
 -- this answer, or memory ran out
 abbrev pub IsAnswer : Result (Config × ℕ) No → Result (Config × ℕ) Stop → Type 0
@@ -47,7 +47,7 @@ pub record Imported (old new : Meaning) (result : Result (Config × ℕ) Stop) :
   pub blamed : (u : ℕ) → u < old.units → readable u ≡ false → Rose (old.faults u) (new.faults u)
   pub still : (u : ℕ) → u < old.units → readable u ≡ true → new.faults u ≡ old.faults u
   pub read : IsTrue old.tells → Each old.reads image
-  pub answer : IsAnswer (answer_of readable (import_of (on_shelf old) failed_in old.units readable image)) result
+  pub answer : IsAnswer (answer_to readable (import_of (on_shelf old) failed_in old.units readable image)) result
 
 -- what an array of flags says of a disk
 abbrev pub flag_at : List Bool → ℕ → Bool

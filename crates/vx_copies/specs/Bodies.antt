@@ -1,9 +1,9 @@
 -- Which bodies are configurations of the disks of a shelf.
 use Rattle.std.specs.Prelude.{ℕ, ◌+◌, ◌-◌, ◌*◌, ◌/◌, ◌≤◌, Bool, true, false, ◌&&◌, ◌==◌, if◌then◌else◌, Option, Some, None, Result, Ok, Err, List, [], ◌∷◌, ◌++◌, length, map, slice_index_or}
 use Rattle.vx_model.specs.declared.limits.TheConstants.{MOST_DISKS}
-use Rattle.vx_wire.specs.Fields.{zeros}
+use Rattle.vx_wire.specs.Fields.{zero_bytes}
 use Rattle.vx_config.specs.Checks.{is_sound}
-use Rattle.vx_config.specs.Configs.{spelled}
+use Rattle.vx_config.specs.Configs.{spelled_config}
 use Rattle.vx_config.specs.Table.{config}
 use Rattle.vx_config.specs.declared.config.Config.{Config}
 use Rattle.vx_config.specs.declared.entry.DiskEntry.{DiskEntry}
@@ -51,8 +51,8 @@ HasFewDisks (Some c) = length c.disks ≤ MOST_DISKS
 
 -- the bytes of the whole blocks of its body
 abbrev pub body_bytes : Config → ℕ
-body_bytes c = 512 * ((length (spelled c) + 511) / 512)
+body_bytes c = 512 * ((length (spelled_config c) + 511) / 512)
 
 -- the body of a copy: its spelling, with zeros up to whole blocks
-abbrev pub body_of : Config → List ℕ
-body_of c = spelled c ++ zeros (body_bytes c - length (spelled c))
+abbrev pub body_for : Config → List ℕ
+body_for c = spelled_config c ++ zero_bytes (body_bytes c - length (spelled_config c))

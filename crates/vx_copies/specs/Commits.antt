@@ -16,8 +16,8 @@ use Rattle.vx_config.specs.Table.{greatest}
 use Rattle.vx_config.specs.declared.config.Config.{Config}
 use Rattle.vx_config.specs.declared.entry.DiskEntry.{DiskEntry}
 use Rattle.vx_copyfmt.specs.Copies.{Copy, Disk, Holds, copy_of}
-use Rattle.vx_copyfmt.specs.Commits.{Among, Answers, Committed, Counts, FindsNew, FindsOld, Forged, FromNew, FromOld, Gives, IsGood, Lower, Spoilt, Tidy, Torn, Written, exactly}
-use Rattle.vx_copyfmt.specs.Imports.{Outcome as Finding, Damaged, Format, Found, Missing, NoConfig, import_of, is_label, settle}
+use Rattle.vx_copyfmt.specs.Commits.{Among, Answers, Committed, Counts, FindsNew, FindsOld, Forged, FromNew, FromOld, GivesConfig, IsGood, Lower, Spoilt, Tidy, Torn, CopyWritten, exactly}
+use Rattle.vx_copyfmt.specs.Imports.{ImportOutcome as Finding, Damaged, Format, Found, Missing, NoConfig, import_of, is_label, settle}
 use Rattle.vx_copyfmt.specs.Labels.{seen_in}
 use Rattle.vx_copyio.specs.Putting.{AreasOf, LeavesSame}
 use Rattle.vx_copies.specs.Answers.{good_set}
@@ -26,7 +26,7 @@ use Rattle.vx_copies.specs.Looking.{on_shelf}
 use Rattle.vx_copies.specs.Marks.{HasGood, NoneGood, blocks_at, failed_at, good_count}
 
 -- a disk that the configuration holds as good
-pub record Held (c : Config) (m : Meaning) (u : ℕ) : Type 0 where
+pub record HeldGood (c : Config) (m : Meaning) (u : ℕ) : Type 0 where
   pub below : u < m.units
   pub good : failed_at c.disks u ≡ false
 
@@ -35,9 +35,9 @@ pub record Below (c : Config) (m : Meaning) : Type 0 where
   pub each : (u : ℕ) → u < m.units → Lower (c.serial + 1) (m.leaves u)
 
 -- the disks are ready for the next serial: whatever a crash leaves of one that is held as good, its greater header counts
-pub record Ready (c : Config) (m : Meaning) : Type 0 where
+pub record ReadyDisks (c : Config) (m : Meaning) : Type 0 where
   pub below : Below c m
-  pub counts : (u : ℕ) → Held c m u → Counts (on_shelf m) (m.leaves u)
+  pub counts : (u : ℕ) → HeldGood c m u → Counts (on_shelf m) (m.leaves u)
 
 -- the same disks, of which more are held as failed: the count of each of these rose
 pub record MoreFailed (old new : Meaning) (before after : List DiskEntry) : Type 0 where
@@ -71,12 +71,12 @@ Becomes begun m u d = FromOld (on_shelf m) (m.leaves u) d ⊎ FromNew (on_shelf 
 
 -- where the disks were ready, so it is in the image with each that was held as good
 pub record OldOrBegun (begun : ℕ → Config → Type 0) (c : Config) (m : Meaning) (i : Image) : Type 0 where
-  pub each : Ready c m → (u : ℕ) → Held c m u → Becomes begun m u (i u)
+  pub each : ReadyDisks c m → (u : ℕ) → HeldGood c m u → Becomes begun m u (i u)
 
 -- Copies were begun: at each moment a crash leaves each disk that was held as good with its copy of before or one that was begun, and every
 -- other block as it was; and so it does now.
 pub record Begins (begun : ℕ → Config → Type 0) (c : Config) (old new : Meaning) : Type 0 where
-  pub moves : Moves (AreasOf (Held c old)) (OldOrBegun begun c old) old new
+  pub moves : Moves (AreasOf (HeldGood c old)) (OldOrBegun begun c old) old new
   pub leaves : (i : Image) → Each new.leaves i → OldOrBegun begun c old i
 
 -- one of the configurations that were begun, by a table of them, that holds this disk as good
@@ -90,7 +90,7 @@ pub record IsOne (c : Config) (last : ℕ) (tries : ℕ → Config) (u serial : 
 pub record Behind (good : ℕ) (c : Config) (last : ℕ) (tries : ℕ → Config) (m : Meaning) (i : Image) (u : ℕ) : Type 0 where
   pub from : FromNew (on_shelf m) (IsOne c last tries u) (m.leaves u) (i u)
   pub leader : ℕ
-  pub held : Held c m leader
+  pub held : HeldGood c m leader
   pub member : bit_at good leader ≡ true
   pub front : FromNew (on_shelf m) (IsOne c last tries leader) (m.leaves leader) (i leader)
   pub ahead : from.serial ≤ front.serial
@@ -98,9 +98,9 @@ pub record Behind (good : ℕ) (c : Config) (last : ℕ) (tries : ℕ → Config
 -- Where the disks were ready, each that was held as good has in the image its copy of before, or one that was begun, or that of before is torn;
 -- and it is ready for the next serial. One that is no member of the set has such a copy only behind one that is.
 pub record Stage (good : ℕ) (c : Config) (last : ℕ) (tries : ℕ → Config) (m : Meaning) (i : Image) : Type 0 where
-  pub each : Ready c m → (u : ℕ) → Held c m u → Becomes (IsOne c last tries u) m u (i u)
-  pub led : Ready c m → (u : ℕ) → Held c m u → bit_at good u ≡ false → FromOld (on_shelf m) (m.leaves u) (i u) ⊎ Behind good c last tries m i u ⊎ Torn (on_shelf m) (m.leaves u) (i u)
-  pub fit : Ready c m → (u : ℕ) → Held c m u → Tidy (on_shelf m) (last + 1) (exactly (i u)) ⊎ Forged (m.leaves u) (i u)
+  pub each : ReadyDisks c m → (u : ℕ) → HeldGood c m u → Becomes (IsOne c last tries u) m u (i u)
+  pub led : ReadyDisks c m → (u : ℕ) → HeldGood c m u → bit_at good u ≡ false → FromOld (on_shelf m) (m.leaves u) (i u) ⊎ Behind good c last tries m i u ⊎ Torn (on_shelf m) (m.leaves u) (i u)
+  pub fit : ReadyDisks c m → (u : ℕ) → HeldGood c m u → Tidy (on_shelf m) (last + 1) (exactly (i u)) ⊎ Forged (m.leaves u) (i u)
 
 -- Tries were made, from one configuration to another: under each serial one, of which a later one has no fewer failed disks.
 pub record Underway (good : ℕ) (c d : Config) (old new : Meaning) : Type 0 where
@@ -109,15 +109,15 @@ pub record Underway (good : ℕ) (c d : Config) (old new : Meaning) : Type 0 whe
   pub tries : ℕ → Config
   pub tried : (s : ℕ) → c.serial < s → s ≤ d.serial → IsBefore c d old new s (tries s)
   pub chain : (s t : ℕ) → c.serial < s → s ≤ t → t ≤ d.serial → (u : ℕ) → failed_at (tries s).disks u ≡ true → failed_at (tries t).disks u ≡ true
-  pub moves : Moves (AreasOf (Held c old)) (Stage good c d.serial tries old) old new
+  pub moves : Moves (AreasOf (HeldGood c old)) (Stage good c d.serial tries old) old new
   pub below : Below c old → Below d new
-  pub leaves : Below c old → (u : ℕ) (e : Disk) → Held c old u → Counts (on_shelf old) (old.leaves u) → Among (new.leaves u) e → Becomes (IsOne c d.serial tries u) old u e
-  pub fits : Below c old → (u : ℕ) (e : Disk) → Held c old u → Counts (on_shelf old) (old.leaves u) → Among (new.leaves u) e → Tidy (on_shelf old) (d.serial + 1) (exactly e) ⊎ Forged (old.leaves u) e
+  pub leaves : Below c old → (u : ℕ) (e : Disk) → HeldGood c old u → Counts (on_shelf old) (old.leaves u) → Among (new.leaves u) e → Becomes (IsOne c d.serial tries u) old u e
+  pub fits : Below c old → (u : ℕ) (e : Disk) → HeldGood c old u → Counts (on_shelf old) (old.leaves u) → Among (new.leaves u) e → Tidy (on_shelf old) (d.serial + 1) (exactly e) ⊎ Forged (old.leaves u) e
   pub now : (i : Image) → Each new.leaves i → Stage good c d.serial tries old i
 
 -- whatever a crash leaves of a disk that is held as good, the next copy goes to one area
 pub record AreTidy (c d : Config) (old new : Meaning) : Type 0 where
-  pub each : Below c old → (u : ℕ) → Held d new u → Tidy (on_shelf new) (d.serial + 1) (new.leaves u)
+  pub each : Below c old → (u : ℕ) → HeldGood d new u → Tidy (on_shelf new) (d.serial + 1) (new.leaves u)
 
 -- whatever a crash leaves of the disk, it has a copy with a later serial, and the one behind the last goes to one area
 pub record LeavesLater (c : Config) (last : ℕ) (u : ℕ) (old new : Meaning) : Type 0 where
@@ -126,11 +126,11 @@ pub record LeavesLater (c : Config) (last : ℕ) (u : ℕ) (old new : Meaning) :
 
 -- so it is with a disk that is held as good, or the disk is as it was
 pub record Remain (c d : Config) (old new : Meaning) : Type 0 where
-  pub each : (u : ℕ) → Held d new u → LeavesSame u old new ⊎ LeavesLater c d.serial u old new
+  pub each : (u : ℕ) → HeldGood d new u → LeavesSame u old new ⊎ LeavesLater c d.serial u old new
 
 -- each disk that the configuration holds as good has its copy, and the others lesser ones
-pub record Stands (c d : Config) (old new : Meaning) : Type 0 where
-  pub each : Below c old → (i : Image) → Each new.leaves i → Written (on_shelf old) failed_in d.serial d old.units i
+pub record CopiesStand (c d : Config) (old new : Meaning) : Type 0 where
+  pub each : Below c old → (i : Image) → Each new.leaves i → CopyWritten (on_shelf old) failed_in d.serial d old.units i
 
 -- one disk more is held as failed: a call on it failed
 pub record OneMarked (c d : Config) (old new : Meaning) (disk : ℕ) : Type 0 where
@@ -145,7 +145,7 @@ IsFew more c d = d.serial + good_count d.disks ≤ c.serial + more + good_count 
 
 -- how a try ends: as it began; or with one good disk less and a fault; or with the shelf down
 abbrev pub TryEnds : {T : Type 0} → Config → Config → Meaning → Meaning → Result T ShelfError → Type 0
-TryEnds c d old new (Ok x) = (d.disks ≡ c.disks) × AreTidy c d old new × Stands c d old new
+TryEnds c d old new (Ok x) = (d.disks ≡ c.disks) × AreTidy c d old new × CopiesStand c d old new
 TryEnds c d old new (Err (Fault disk)) = OneMarked c d old new disk × Remain c d old new
 TryEnds c d old new (Err IsDown) = IsTrue new.down
 
@@ -160,7 +160,7 @@ IsBlamed good c old new disk = Rose (old.disk_faults disk) (new.disk_faults disk
 -- how tries end: with the configuration on its disks, of which one is a good disk of the set; or with none of these left, or no serial; or with
 -- the shelf down
 abbrev pub TriesEnd : {T : Type 0} → ℕ → Config → Config → Meaning → Meaning → Result T No → Type 0
-TriesEnd good c d old new (Ok x) = (c.serial < d.serial) × HasGood d.disks good × AreTidy c d old new × Stands c d old new × IsFew 1 c d
+TriesEnd good c d old new (Ok x) = (c.serial < d.serial) × HasGood d.disks good × AreTidy c d old new × CopiesStand c d old new × IsFew 1 c d
 TriesEnd good c d old new (Err (refusal.Device disk)) = IsBlamed good c old new disk × (NoneGood d.disks (length d.disks) good ⊎ (greatest ≤ d.serial)) × Remain c d old new × IsFew 0 c d
 TriesEnd good c d old new (Err refusal.Down) = IsTrue new.down × (d.serial ≤ c.serial + good_count c.disks)
 TriesEnd good c d old new (Err other) = ⊥
@@ -171,7 +171,7 @@ pub record AllFailed (good : ℕ) (c : Config) (old new : Meaning) : Type 0 wher
 
 -- a disk that was held as good is as it was, or has a later copy, unless its count rose
 pub record Spared (c : Config) (last : ℕ) (old new : Meaning) : Type 0 where
-  pub each : (u : ℕ) → Held c old u → Rose (old.faults u) (new.faults u) ⊎ LeavesSame u old new ⊎ LeavesLater c last u old new
+  pub each : (u : ℕ) → HeldGood c old u → Rose (old.faults u) (new.faults u) ⊎ LeavesSame u old new ⊎ LeavesLater c last u old new
 
 -- why a commit is refused: with 7 where each disk of the set failed or the last serial was used, and disks of which no call failed are spared;
 -- with 6 where the shelf is down; with 19 where no serial was left
@@ -220,7 +220,7 @@ pub record ReadsFailed (c : Config) (m : Meaning) (readable : ℕ → Bool) : Ty
 
 -- an import that reads disks that are held as failed, and none of the others, finds none; so it is where none is held as failed
 pub record Silent (c : Config) (m : Meaning) : Type 0 where
-  pub each : (i : Image) (readable : ℕ → Bool) → Each m.leaves i → ReadsFailed c m readable → ((u : ℕ) → Held c m u → readable u ≡ false) → IsNone (import_of (on_shelf m) failed_in m.units readable i)
+  pub each : (i : Image) (readable : ℕ → Bool) → Each m.leaves i → ReadsFailed c m readable → ((u : ℕ) → HeldGood c m u → readable u ≡ false) → IsNone (import_of (on_shelf m) failed_in m.units readable i)
 
 -- A refused commit changes the serial alone, which is the last one that it began; each but this one cost a disk. No header is above it, and what the failed disks say by
 -- themselves stays none.
@@ -244,21 +244,21 @@ pub record WasCommitted (good : ℕ) (held : Option Config) (m : Meaning) : Type
 -- Whichever disks can be read, an import over the image finds what it might have found before, or one of these; or a disk that was held as
 -- good is torn, and it is refused with 22 for that disk, unless the torn body has the digest of its header and no later copy is read.
 pub record MayFind (begun : ℕ → Config → Type 0) (c : Config) (m : Meaning) (i : Image) : Type 0 where
-  pub each : (readable : ℕ → Bool) → FindsOld (on_shelf m) failed_in m.units m.leaves readable i ⊎ FindsNew (on_shelf m) failed_in begun m.units readable i ⊎ Spoilt (on_shelf m) failed_in (Held c m) m.units m.leaves readable i
+  pub each : (readable : ℕ → Bool) → FindsOld (on_shelf m) failed_in m.units m.leaves readable i ⊎ FindsNew (on_shelf m) failed_in begun m.units readable i ⊎ Spoilt (on_shelf m) failed_in (HeldGood c m) m.units m.leaves readable i
 
 -- but for torn disks, whichever disks can be read, an import over the image finds one configuration, or is refused with 8 or 9: the committed
 -- one, or one of these
-pub record Outcome (begun : ℕ → Config → Type 0) (held : Option Config) (c : Config) (m : Meaning) (i : Image) : Type 0 where
+pub record FoundOutcome (begun : ℕ → Config → Type 0) (held : Option Config) (c : Config) (m : Meaning) (i : Image) : Type 0 where
   pub found : Option Config
   pub which : (found ≡ held) ⊎ ((serial : ℕ) × (d : Config) × (found ≡ Some d) × begun serial d)
-  pub each : (readable : ℕ → Bool) → Answers found (import_of (on_shelf m) failed_in m.units readable i) ⊎ Spoilt (on_shelf m) failed_in (Held c m) m.units m.leaves readable i
+  pub each : (readable : ℕ → Bool) → Answers found (import_of (on_shelf m) failed_in m.units readable i) ⊎ Spoilt (on_shelf m) failed_in (HeldGood c m) m.units m.leaves readable i
 
 -- what imports find at each moment of the call, and now, where the disks were ready
 pub record Finds (good : ℕ) (begun : ℕ → Config → Type 0) (c : Config) (old new : Meaning) : Type 0 where
-  pub since : Ready c old → Along old new (MayFind begun c old)
-  pub now : Ready c old → (i : Image) → Each new.leaves i → MayFind begun c old i
-  pub outcome_since : (held : Option Config) → WasCommitted good held old → Ready c old → HaveLabels old → Along old new (Outcome begun held c old)
-  pub outcome_now : (held : Option Config) → WasCommitted good held old → Ready c old → HaveLabels old → (i : Image) → Each new.leaves i → Outcome begun held c old i
+  pub since : ReadyDisks c old → Along old new (MayFind begun c old)
+  pub now : ReadyDisks c old → (i : Image) → Each new.leaves i → MayFind begun c old i
+  pub outcome_since : (held : Option Config) → WasCommitted good held old → ReadyDisks c old → HaveLabels old → Along old new (FoundOutcome begun held c old)
+  pub outcome_now : (held : Option Config) → WasCommitted good held old → ReadyDisks c old → HaveLabels old → (i : Image) → Each new.leaves i → FoundOutcome begun held c old i
 
 -- the disk has a copy, of its own serial, of a configuration that holds it as good
 pub record OwnCopy (m : Meaning) (u : ℕ) (d : Disk) : Type 0 where
@@ -270,18 +270,18 @@ pub record OwnCopy (m : Meaning) (u : ℕ) (d : Disk) : Type 0 where
 -- each disk that was held as good is in the image by itself ready for the serial behind this one, unless a torn body has the digest of its header;
 -- and it has a copy of before, or one of its own, or that of before is torn
 pub record AreFit (c : Config) (last : ℕ) (m : Meaning) (i : Image) : Type 0 where
-  pub each : (u : ℕ) → Held c m u → Tidy (on_shelf m) (last + 1) (exactly (i u)) ⊎ Forged (m.leaves u) (i u)
-  pub own : (u : ℕ) → Held c m u → FromOld (on_shelf m) (m.leaves u) (i u) ⊎ OwnCopy m u (i u) ⊎ Torn (on_shelf m) (m.leaves u) (i u)
+  pub each : (u : ℕ) → HeldGood c m u → Tidy (on_shelf m) (last + 1) (exactly (i u)) ⊎ Forged (m.leaves u) (i u)
+  pub own : (u : ℕ) → HeldGood c m u → FromOld (on_shelf m) (m.leaves u) (i u) ⊎ OwnCopy m u (i u) ⊎ Torn (on_shelf m) (m.leaves u) (i u)
 
 -- so it is at each moment of the call, where the disks were ready; and now with each disk that was
 pub record StayFit (c : Config) (last : ℕ) (old new : Meaning) : Type 0 where
-  pub since : Ready c old → Along old new (AreFit c last old)
-  pub now : Below c old → (u : ℕ) (e : Disk) → Held c old u → Counts (on_shelf old) (old.leaves u) → Among (new.leaves u) e → Tidy (on_shelf old) (last + 1) (exactly e) ⊎ Forged (old.leaves u) e
-  pub own : Below c old → (u : ℕ) (e : Disk) → Held c old u → Counts (on_shelf old) (old.leaves u) → Among (new.leaves u) e → FromOld (on_shelf old) (old.leaves u) e ⊎ OwnCopy old u e ⊎ Torn (on_shelf old) (old.leaves u) e
+  pub since : ReadyDisks c old → Along old new (AreFit c last old)
+  pub now : Below c old → (u : ℕ) (e : Disk) → HeldGood c old u → Counts (on_shelf old) (old.leaves u) → Among (new.leaves u) e → Tidy (on_shelf old) (last + 1) (exactly e) ⊎ Forged (old.leaves u) e
+  pub own : Below c old → (u : ℕ) (e : Disk) → HeldGood c old u → Counts (on_shelf old) (old.leaves u) → Among (new.leaves u) e → FromOld (on_shelf old) (old.leaves u) e ⊎ OwnCopy old u e ⊎ Torn (on_shelf old) (old.leaves u) e
 
 -- a disk that the call came to hold as failed
 pub record Marked (c d : Config) (m : Meaning) (u : ℕ) : Type 0 where
-  pub held : Held c m u
+  pub held : HeldGood c m u
   pub failed : failed_at d.disks u ≡ true
 
 -- whatever a crash left of such a disk before the call, its greater header counted
@@ -302,11 +302,11 @@ pub record Done (good : ℕ) (c d : Config) (old new : Meaning) : Type 0 where
   pub left : HasGood d.disks good
   pub below : Below c old → Below d new
   pub tidy : AreTidy c d old new
-  pub stands : Stands c d old new
-  pub found : Below c old → HaveLabels old → (i : Image) (readable : ℕ → Bool) (g : ℕ) → Each new.leaves i → Held d new g → readable g ≡ true
+  pub stands : CopiesStand c d old new
+  pub found : Below c old → HaveLabels old → (i : Image) (readable : ℕ → Bool) (g : ℕ) → Each new.leaves i → HeldGood d new g → readable g ≡ true
       → import_of (on_shelf new) failed_in new.units readable i ≡ settle failed_in new.units readable d
   pub newest : (held : Option Config) → WasCommitted good held old → Below c old → Counted c d old → HaveLabels old → (i : Image) (readable : ℕ → Bool) → Each new.leaves i
-      → Gives d (import_of (on_shelf old) failed_in old.units readable i) ⊎ Spoilt (on_shelf old) failed_in (Marked c d old) old.units old.leaves readable i
+      → GivesConfig d (import_of (on_shelf old) failed_in old.units readable i) ⊎ Spoilt (on_shelf old) failed_in (Marked c d old) old.units old.leaves readable i
   pub committed : (held : Option Config) → WasCommitted good held old → Below c old → WereTidy c d old → HaveLabels old → WasCommitted (good_set d.disks) (Some d) new
   pub again : Below c old → Silent c old → HaveLabels old → d.disks ≡ c.disks → WasCommitted (good_set d.disks) (Some d) new
   pub silent : WasCommitted (good_set d.disks) (Some d) new → Silent d new

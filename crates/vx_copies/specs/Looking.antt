@@ -31,18 +31,18 @@ abbrev pub FitsBody : ℕ → BodySeen → Type 0
 FitsBody units (body.Holds c) = (length c.disks ≡ units) × (length c.disks ≤ MOST_DISKS)
 FitsBody units (body.Differs stored computed) = Unit {0}
 
-abbrev pub Fits : ℕ → Option CopySeen → Type 0
-Fits units None = Unit {0}
-Fits units (Some x) = FitsBody units x.body
+abbrev pub CopyFits : ℕ → Option CopySeen → Type 0
+CopyFits units None = Unit {0}
+CopyFits units (Some x) = FitsBody units x.body
 
 abbrev pub FitsArea : ℕ → AreaSeen → Type 0
 FitsArea units area.Unreadable = Unit {0}
-FitsArea units (area.Seen copy) = Fits units copy
+FitsArea units (area.Seen copy) = CopyFits units copy
 
 abbrev pub FitsDisk : ℕ → DiskSeen → Type 0
 FitsDisk units disk.Unreadable = Unit {0}
 FitsDisk units (disk.Format version) = Unit {0}
-FitsDisk units (disk.Seen copy) = Fits units copy
+FitsDisk units (disk.Seen copy) = CopyFits units copy
 
 -- what a body counts as on this shelf, behind a header of this serial
 abbrev pub on_shelf : Meaning → ℕ → List ℕ → Option Config
@@ -85,19 +85,19 @@ SeesAreas u old new (disk.Format version) = ⊥
 SeesAreas u old new (disk.Seen copy) = ShowsAreas u old copy
 
 -- a disk as reads gave it
-pub record IsRead (u : ℕ) (m : Meaning) (blocks : Disk) : Type 0 where
+pub record IsDiskRead (u : ℕ) (m : Meaning) (blocks : Disk) : Type 0 where
   pub each : IsTrue m.tells → (b : ℕ) → m.reads u b (blocks b)
 
 -- its label is of a version that is not known
 pub record ShowsFormat (u : ℕ) (m : Meaning) (version : ℕ) : Type 0 where
   pub blocks : Disk
-  pub read : IsRead u m blocks
+  pub read : IsDiskRead u m blocks
   pub label : strange_label (seen_in (blocks 0)) ≡ Some version
 
 -- its label is known or none; where it has one, its greater copy is this
 pub record ShowsDisk (u : ℕ) (m : Meaning) (seen : Option CopySeen) : Type 0 where
   pub blocks : Disk
-  pub read : IsRead u m blocks
+  pub read : IsDiskRead u m blocks
   pub label : strange_label (seen_in (blocks 0)) ≡ None
   pub copy : (if is_label (seen_in (blocks 0)) then copy_of (on_shelf m) blocks else None) ≡ copy_view seen
 

@@ -4,7 +4,7 @@ use Rattle.vx_model.specs.declared.limits.TheConstants.{MOST_DISKS}
 use Rattle.vx_disk.specs.Counts.{Rose}
 use Rattle.vx_disk.specs.Shelf.{Meaning, Image}
 use Rattle.vx_copyfmt.specs.Copies.{Copy}
-use Rattle.vx_copyfmt.specs.Imports.{newest, on_disk, strange}
+use Rattle.vx_copyfmt.specs.Imports.{newest_found, on_disk, strange}
 use Rattle.vx_config.specs.declared.config.Config.{Config}
 use Rattle.vx_copies.specs.Answers.{flag_at}
 use Rattle.vx_copies.specs.Looking.{copy_view, on_shelf, body_view, FitsBody}
@@ -47,6 +47,6 @@ pub record Searched (n : ℕ) (old new : Meaning) (s : Search) : Type 0 where
   pub still : (u : ℕ) → u < n → readable u ≡ true → new.faults u ≡ old.faults u
   pub alone : (u : ℕ) → n ≤ u → new.faults u ≡ old.faults u
   pub format : strange readable image n ≡ s.format
-  pub best : newest (on_shelf old) readable image n ≡ best_view s.best
+  pub best : newest_found (on_shelf old) readable image n ≡ best_view s.best
   pub flags : (u : ℕ) → u < n → u < MOST_DISKS → flag_at s.readable u ≡ readable u
   pub fits : FitsBest old.units s.best

@@ -3,7 +3,7 @@ ghost use Rattle.std.specs.Prelude.{◌≡◌, ◌+◌, ◌*◌, ◌<◌, ◌≤
 ghost use Rattle.vx_copyfmt.specs.Areas.{CanSpellArea};
 ghost use Rattle.vx_copyfmt.specs.Copies.{copy_with};
 ghost use Rattle.vx_copyfmt.specs.Commits.{IsHeaderBlock};
-ghost use Rattle.vx_copies.specs.Looking.{CountsArea, Fits, FitsArea, SeesArea, SeesBody, copy_view, on_shelf};
+ghost use Rattle.vx_copies.specs.Looking.{CountsArea, CopyFits, FitsArea, SeesArea, SeesBody, copy_view, on_shelf};
 ghost use Rattle.vx_disk.specs.Causes.{OnDisks};
 ghost use Rattle.vx_disk.specs.Disks.{Untouched};
 ghost use Rattle.vx_disk.specs.Shelf.{Goes, Nothing};
@@ -25,7 +25,7 @@ fn judge<S: Shelf>(
     body: &[u8],
 ) -> Result<Option<CopySeen>, OutOfMemory>
     ensures copy { IfOk result (λ seen. copy_with (on_shelf (S.meaning shelf.now)) area header.now body.now ≡ copy_view seen) }
-    ensures fits { IfOk result (Fits (S.meaning shelf.now).units) }
+    ensures fits { IfOk result (CopyFits (S.meaning shelf.now).units) }
 {
     let computed = digest(body);
     let (serial, stored) = (header.serial, header.digest);

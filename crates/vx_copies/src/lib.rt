@@ -19,6 +19,7 @@ mod settle;
 mod spelling;
 mod trying;
 
+pub use body::is_wanted;
 pub use calls::{commit, commit_in, commit_named};
 pub use importing::import;
 use marking::{has_good, mark};
@@ -27,8 +28,3 @@ use seen::{AreaSeen, BodySeen, CopySeen, DiskSeen};
 use spelling::spell;
 use trying::put_config;
 pub use vx_copyio::label;
-
-#[cfg(test)]
-mod settled_tests;
-#[cfg(test)]
-mod tests;

@@ -1,7 +1,7 @@
 // What a disk shows.
 ghost use Rattle.std.specs.Prelude.{◌≡◌, ◌<◌, ◌≤◌, ℕ, length, IfOk, IsTrue};
 ghost use Rattle.vx_copyfmt.specs.Copies.{greater};
-ghost use Rattle.vx_copies.specs.Looking.{CountsDisk, Fits, FitsDisk, SeesAreas, SeesDisk, copy_view};
+ghost use Rattle.vx_copies.specs.Looking.{CountsDisk, CopyFits, FitsDisk, SeesAreas, SeesDisk, copy_view};
 ghost use Rattle.vx_disk.specs.Causes.{OnDisks};
 ghost use Rattle.vx_disk.specs.Disks.{Untouched};
 ghost use Rattle.vx_disk.specs.Shelf.{Goes, Nothing};
@@ -17,7 +17,7 @@ use vx_model::OutOfMemory;
 // The greater of two copies: the first where both have one serial.
 fn greater(first: Option<CopySeen>, second: Option<CopySeen>) -> Option<CopySeen>
     ensures copy { copy_view result ≡ greater (copy_view first) (copy_view second) }
-    ensures fits { (units : ℕ) → Fits units first → Fits units second → Fits units result }
+    ensures fits { (units : ℕ) → CopyFits units first → CopyFits units second → CopyFits units result }
 {
     match (first, second) {
         (None, second) => second,

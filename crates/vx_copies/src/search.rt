@@ -3,7 +3,7 @@ ghost use Rattle.std.specs.Prelude.{◌≡◌, ◌<◌, ℕ, ◌==◌, if◌then
 ghost use Rattle.vx_copyfmt.specs.Imports.{first_of, later, on_disk};
 ghost use Rattle.vx_copyio.specs.Labelling.{AreLarge};
 ghost use Rattle.vx_copies.specs.Answers.{flag_at};
-ghost use Rattle.vx_copies.specs.Looking.{Fits, FitsDisk, copy_view};
+ghost use Rattle.vx_copies.specs.Looking.{CopyFits, FitsDisk, copy_view};
 ghost use Rattle.vx_copies.specs.Searching.{FitsBest, Searched, best_view, seen_format, seen_readable, seen_view};
 ghost use Rattle.vx_disk.specs.Causes.{OnDisks};
 ghost use Rattle.vx_disk.specs.Disks.{Untouched};
@@ -56,7 +56,7 @@ fn first(format: Option<u32>, version: u32) -> Option<u32>
 // The greater of the best copy and one of this disk: the best one where both have one serial.
 fn later(best: Option<Best>, disk: u32, copy: Option<CopySeen>) -> Option<Best>
     ensures best { best_view result ≡ later (best_view best) (on_disk disk (copy_view copy)) }
-    ensures fits { (units : ℕ) → FitsBest units best → Fits units copy → FitsBest units result }
+    ensures fits { (units : ℕ) → FitsBest units best → CopyFits units copy → FitsBest units result }
 {
     match (best, copy) {
         (best, None) => best,

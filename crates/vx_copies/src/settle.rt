@@ -1,7 +1,7 @@
 // The answer to what was found on the disks.
 ghost use Rattle.std.specs.Prelude.{◌≡◌, ◌≤◌, length};
 ghost use Rattle.vx_copyfmt.specs.Imports.{by_labels, by_newest, missing, settle};
-ghost use Rattle.vx_copies.specs.Answers.{answer_of, flag_at, good_set, returned, returned_from};
+ghost use Rattle.vx_copies.specs.Answers.{answer_to, flag_at, good_set, returned, returned_from};
 ghost use Rattle.vx_copies.specs.Bodies.{failed_in};
 ghost use Rattle.vx_copies.specs.Searching.{FitsBest, best_view};
 
@@ -56,7 +56,7 @@ fn returned_disks(disks: &Disks, readable: &[bool; DISK_PLACES]) -> Disks
 
 // A configuration with its returned disks held as good again, and the disks that it held as good.
 fn settled(config: Config, readable: &[bool; DISK_PLACES]) -> Result<(Config, u8), No>
-    ensures { result ≡ answer_of (flag_at readable.now) (settle failed_in (length config.disks) (flag_at readable.now) config) }
+    ensures { result ≡ answer_to (flag_at readable.now) (settle failed_in (length config.disks) (flag_at readable.now) config) }
 {
     match lowest_missing(&config, readable) {
         Some(disk) => Err(No::Missing { disk }),
@@ -78,7 +78,7 @@ fn settled(config: Config, readable: &[bool; DISK_PLACES]) -> Result<(Config, u8
 // The answer.
 pub fn concluded(search: Search, units: u32) -> Result<(Config, u8), No>
     requires fits { FitsBest units search.best }
-    ensures { result ≡ answer_of (flag_at search.readable) (by_labels search.format (by_newest failed_in units (flag_at search.readable) (best_view search.best))) }
+    ensures { result ≡ answer_to (flag_at search.readable) (by_labels search.format (by_newest failed_in units (flag_at search.readable) (best_view search.best))) }
 {
     let readable = search.readable;
     if let Some(version) = search.format {

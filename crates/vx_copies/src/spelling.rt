@@ -1,8 +1,8 @@
 // The body of a copy.
 ghost use Rattle.std.specs.Prelude.{◌≡◌, ◌%◌, ◌≤◌, length, take};
-ghost use Rattle.vx_config.specs.Configs.{CanSpell, HasSpelling, spelled, subdisk_count};
+ghost use Rattle.vx_config.specs.Configs.{CanSpell, HasSpelling, spelled_config, subdisk_count};
 ghost use Rattle.vx_copyfmt.specs.Areas.{CanSpellArea};
-ghost use Rattle.vx_copies.specs.Bodies.{body_bytes, body_of};
+ghost use Rattle.vx_copies.specs.Bodies.{body_bytes, body_for};
 ghost use Rattle.vx_wire.specs.Places.{put_at};
 ghost use Rattle.vx_wire.specs.Seals.{digest_of};
 ghost use Rattle.vx_model.specs.declared.limits.TheConstants.{MOST_SUBDISKS};
@@ -19,10 +19,10 @@ pub fn spell(config: &Config, room: &mut [u8]) -> (AreaHeader, usize)
     requires room { body_bytes config.now ≤ length room.old }
     ensures can { CanSpellArea result.0 }
     ensures serial { result.0.serial ≡ config.now.serial }
-    ensures long { result.0.length ≡ length (spelled config.now) }
-    ensures digest { result.0.digest ≡ digest_of (spelled config.now) }
-    ensures text { room.new ≡ put_at 0 (body_of config.now) room.old }
-    ensures body { take result.0.length room.new ≡ spelled config.now }
+    ensures long { result.0.length ≡ length (spelled_config config.now) }
+    ensures digest { result.0.digest ≡ digest_of (spelled_config config.now) }
+    ensures text { room.new ≡ put_at 0 (body_for config.now) room.old }
+    ensures body { take result.0.length room.new ≡ spelled_config config.now }
     ensures bytes { result.1 ≡ body_bytes config.now }
     ensures inside { result.0.length ≤ result.1 }
     ensures whole { result.1 % 512 ≡ 0 }

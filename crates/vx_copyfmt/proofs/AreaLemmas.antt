@@ -3,7 +3,7 @@ use Rattle.std.proofs.Common.{◌≡◌, ◌≤◌, ℕ, ◌-◌, ◌^◌, ◌<�
 use Rattle.std.specs.Prelude.{nat_lt, ◌==◌, bytes_eq, if◌then◌else◌}
 use Rattle.std.proofs.lemmas.Bool.{and_parts, and_from, ltb-true, lt-ltb, eqb-true, eq-eqb}
 use Rattle.std.proofs.lemmas.List.{drop_at, take_at, length-append}
-use Rattle.vx_wire.specs.Fields.{spelled, zeros}
+use Rattle.vx_wire.specs.Fields.{spelled, zero_bytes}
 use Rattle.vx_wire.specs.Numbers.{be_bytes, number_at}
 use Rattle.vx_wire.specs.Places.{cut}
 use Rattle.vx_wire.specs.Seals.{sealed, filled, digest_of, IsSealed}
@@ -41,7 +41,7 @@ split : (h : AreaHeader) → (tail : List ℕ) × (area_block h ≡ spelled (are
 unfolding area_block area_fields sealed filled
 split h =
     let table : List ℕ = spelled (area_table h) in
-    let pad : List ℕ = zeros (480 - length (table ++ h.digest)) in
+    let pad : List ℕ = zero_bytes (480 - length (table ++ h.digest)) in
     let seal : List ℕ = digest_of ((table ++ h.digest) ++ pad) in
     (pad ++ seal, append_assoc (table ++ h.digest) pad seal ∙ append_assoc table h.digest (pad ++ seal))
 
@@ -124,7 +124,7 @@ header_of-none block none =
     let test : is_area block (area_in block) ≡ false = false_from (is_area block (area_in block)) (λ is. none (area_in block) (area_from block (area_in block) is)) in
     rw test refl
 
-pub header_of-zeros : header_of (zeros 512) ≡ None
-header_of-zeros = header_of-none (zeros 512) (λ h is.
+pub header_of-zeros : header_of (zero_bytes 512) ≡ None
+header_of-zeros = header_of-none (zero_bytes 512) (λ h is.
     let clash : 0 ≡ 86 = ap first_byte (is.is ∙ (split h).1) ∙ begins h (h.digest ++ (split h).0) in
     absurd (omega (arith, clash)))

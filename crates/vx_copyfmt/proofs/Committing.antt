@@ -7,8 +7,8 @@ use Rattle.vx_copyfmt.specs.Labels.{seen_in}
 use Rattle.vx_copyfmt.specs.declared.label.LabelSeen.{LabelSeen}
 use Rattle.vx_copyfmt.specs.declared.label.LabelSeen.TheVariants as seen
 use Rattle.vx_copyfmt.specs.Copies.{Copy, Body, Holds, Differs, copy_of}
-use Rattle.vx_copyfmt.specs.Imports.{Outcome, Found, Missing, NoConfig, Damaged, Format, is_label, strange_label, first_of, later, on_disk, strange, missing, or_missing, settle, by_body, by_newest, by_labels, newest, import_of}
-use Rattle.vx_copyfmt.specs.Commits.{FindsOld, FindsNew, Gives, Answers, Committed, IsGood, Written, Spoilt}
+use Rattle.vx_copyfmt.specs.Imports.{ImportOutcome, Found, Missing, NoConfig, Damaged, Format, is_label, strange_label, first_of, later, on_disk, strange, missing, or_missing, settle, by_body, by_newest, by_labels, newest_found, import_of}
+use Rattle.vx_copyfmt.specs.Commits.{FindsOld, FindsNew, GivesConfig, Answers, Committed, IsGood, CopyWritten, Spoilt}
 use Rattle.vx_copyfmt.proofs.Newest.{import_new, Below, BelowCopy, later_none, later_takes, later_keeps, below_later, below_on, later_either}
 
 -- ---- labels that are known
@@ -53,25 +53,25 @@ none_missing failed readable (suc n) none d lt good =
 
 module _ {C : Type 0} (failed : C → ℕ → Bool) where
   -- what is settled is this configuration, or misses a disk
-  pub settle_gives : (units : ℕ) (readable : ℕ → Bool) (c : C) → Gives c (settle failed units readable c)
+  pub settle_gives : (units : ℕ) (readable : ℕ → Bool) (c : C) → GivesConfig c (settle failed units readable c)
   settle_gives units readable c = by_missing (missing (failed c) readable units)
     where
-      by_missing : (o : Option ℕ) → Gives c (or_missing c o)
+      by_missing : (o : Option ℕ) → GivesConfig c (or_missing c o)
       by_missing None = refl
       by_missing (Some d) = tt
 
   -- a configuration one of whose disks cannot be read is not found
-  pub settle_misses : (units : ℕ) (readable : ℕ → Bool) (c f : C) (g : ℕ) → g < units → failed c g ≡ false → readable g ≡ false → Gives f (settle failed units readable c)
+  pub settle_misses : (units : ℕ) (readable : ℕ → Bool) (c f : C) (g : ℕ) → g < units → failed c g ≡ false → readable g ≡ false → GivesConfig f (settle failed units readable c)
   settle_misses units readable c f g lt good out = by_missing (missing (failed c) readable units) refl
     where
-      by_missing : (o : Option ℕ) → missing (failed c) readable units ≡ o → Gives f (or_missing c o)
+      by_missing : (o : Option ℕ) → missing (failed c) readable units ≡ o → GivesConfig f (or_missing c o)
       by_missing (Some d) is = tt
       by_missing None is = let there : false ≡ true = sym out ∙ none_missing (failed c) readable units is g lt good in absurd cc
 
   -- and so does what was committed before
-  pub old_misses : (held : Option C) (f : C) (readable : ℕ → Bool) (g : ℕ) → IsGood failed held g → readable g ≡ false → (o : Outcome C) → Answers held o
-      → ((c : C) → o ≡ Found c → failed c g ≡ false → readable g ≡ true) → Gives f o
-  old_misses None f readable g was out o answers wants = subst (Gives f) (sym answers) tt
+  pub old_misses : (held : Option C) (f : C) (readable : ℕ → Bool) (g : ℕ) → IsGood failed held g → readable g ≡ false → (o : ImportOutcome C) → Answers held o
+      → ((c : C) → o ≡ Found c → failed c g ≡ false → readable g ≡ true) → GivesConfig f o
+  old_misses None f readable g was out o answers wants = subst (GivesConfig f) (sym answers) tt
   old_misses (Some c) f readable g was out (Found x) answers wants =
       let there : false ≡ true = sym out ∙ wants x refl (subst (λ (k : C). failed k g ≡ false) (sym answers) was) in absurd cc
   old_misses (Some c) f readable g was out (Missing d) answers wants = tt
@@ -99,14 +99,14 @@ module _ {C : Type 0} (failed : C → ℕ → Bool) where
 
   pub found_wants : (reads : ℕ → List ℕ → Option C) (units : ℕ) (readable : ℕ → Bool) (i : Image) (g : ℕ) → g < units → (c : C) → import_of reads failed units readable i ≡ Found c → failed c g ≡ false → readable g ≡ true
   unfolding import_of
-  found_wants reads units readable i g lt c is good = labels_want reads units readable (strange readable i units) (newest reads readable i units) g lt c is good
+  found_wants reads units readable i g lt c is good = labels_want reads units readable (strange readable i units) (newest_found reads readable i units) g lt c is good
 
-  module _ (reads : ℕ → List ℕ → Option C) (serial : ℕ) (f : C) (units : ℕ) (i : Image) (readable : ℕ → Bool) (labels : (u : ℕ) → u < units → is_label (seen_in (i u 0)) ≡ true) (written : Written reads failed serial f units i) where
+  module _ (reads : ℕ → List ℕ → Option C) (serial : ℕ) (f : C) (units : ℕ) (i : Image) (readable : ℕ → Bool) (labels : (u : ℕ) → u < units → is_label (seen_in (i u 0)) ≡ true) (written : CopyWritten reads failed serial f units i) where
     -- the greatest copy is the new one, or each disk so far that can be read is held as failed
     abbrev Top : ℕ → Type 0
     Top n =
-        ((u : ℕ) × (area : ℕ) × (newest reads readable i n ≡ Some (u, record { serial = serial; area = area; body = Holds f })))
-        ⊎ (Below serial (newest reads readable i n) × ((u : ℕ) → u < n → readable u ≡ true → failed f u ≡ true))
+        ((u : ℕ) × (area : ℕ) × (newest_found reads readable i n ≡ Some (u, record { serial = serial; area = area; body = Holds f })))
+        ⊎ (Below serial (newest_found reads readable i n) × ((u : ℕ) → u < n → readable u ≡ true → failed f u ≡ true))
 
     abbrev Put : Bool → ℕ → Option (ℕ × Copy C)
     Put t n = if t && is_label (seen_in (i n 0)) then on_disk n (copy_of reads (i n)) else None
@@ -124,17 +124,17 @@ module _ {C : Type 0} (failed : C → ℕ → Bool) where
       | inr last ↦ let same : n ≡ u = omega (arith, lt, last) in subst (λ (k : ℕ). failed f k ≡ true) same (here (subst (λ (k : ℕ). readable k ≡ true) (sym same) reads_it))
     ]
 
-    skipped : (n : ℕ) → readable n ≡ false → Top n → (((u : ℕ) × (area : ℕ) × (later (newest reads readable i n) (Put (readable n) n) ≡ Some (u, record { serial = serial; area = area; body = Holds f })))
-        ⊎ (Below serial (later (newest reads readable i n) (Put (readable n) n)) × ((u : ℕ) → u < suc n → readable u ≡ true → failed f u ≡ true)))
+    skipped : (n : ℕ) → readable n ≡ false → Top n → (((u : ℕ) × (area : ℕ) × (later (newest_found reads readable i n) (Put (readable n) n) ≡ Some (u, record { serial = serial; area = area; body = Holds f })))
+        ⊎ (Below serial (later (newest_found reads readable i n) (Put (readable n) n)) × ((u : ℕ) → u < suc n → readable u ≡ true → failed f u ≡ true)))
     skipped n out top =
-        let none : later (newest reads readable i n) (Put (readable n) n) ≡ newest reads readable i n = ap (λ (t : Bool). later (newest reads readable i n) (Put t n)) out ∙ later_none (newest reads readable i n) in
+        let none : later (newest_found reads readable i n) (Put (readable n) n) ≡ newest_found reads readable i n = ap (λ (t : Bool). later (newest_found reads readable i n) (Put t n)) out ∙ later_none (newest_found reads readable i n) in
         elim top [
           | inl new ↦ inl (new.0, new.1, none ∙ new.2)
           | inr old ↦ inr (subst (Below serial) (sym none) old.0, longer n old.1 (λ is. let clash : false ≡ true = sym out ∙ is in absurd cc))
         ]
 
-    taken : (n : ℕ) → n < units → readable n ≡ true → (b : Bool) → failed f n ≡ b → Top n → (((u : ℕ) × (area : ℕ) × (later (newest reads readable i n) (Put (readable n) n) ≡ Some (u, record { serial = serial; area = area; body = Holds f })))
-        ⊎ (Below serial (later (newest reads readable i n) (Put (readable n) n)) × ((u : ℕ) → u < suc n → readable u ≡ true → failed f u ≡ true)))
+    taken : (n : ℕ) → n < units → readable n ≡ true → (b : Bool) → failed f n ≡ b → Top n → (((u : ℕ) × (area : ℕ) × (later (newest_found reads readable i n) (Put (readable n) n) ≡ Some (u, record { serial = serial; area = area; body = Holds f })))
+        ⊎ (Below serial (later (newest_found reads readable i n) (Put (readable n) n)) × ((u : ℕ) → u < suc n → readable u ≡ true → failed f u ≡ true)))
     taken n lt in_it true fails top =
         let put : Put (readable n) n ≡ on_disk n (copy_of reads (i n)) = ap (λ (t : Bool). Put t n) in_it ∙ put_all n lt in
         let below : Below serial (on_disk n (copy_of reads (i n))) = below_on serial n (copy_of reads (i n)) (older_copy n lt fails (copy_of reads (i n)) refl) in
@@ -146,7 +146,7 @@ module _ {C : Type 0} (failed : C → ℕ → Bool) where
                 ∙ later_keeps serial (new.0, record { serial = serial; area = new.1; body = Holds f }) (on_disk n (copy_of reads (i n))) (omega arith) below,
           )
           | inr old ↦ inr (
-            subst (λ (o : Option (ℕ × Copy C)). Below serial (later (newest reads readable i n) o)) (sym put) (below_later serial (newest reads readable i n) (on_disk n (copy_of reads (i n))) old.0 below),
+            subst (λ (o : Option (ℕ × Copy C)). Below serial (later (newest_found reads readable i n) o)) (sym put) (below_later serial (newest_found reads readable i n) (on_disk n (copy_of reads (i n))) old.0 below),
             longer n old.1 (λ is. fails),
           )
         ]
@@ -157,12 +157,12 @@ module _ {C : Type 0} (failed : C → ℕ → Bool) where
         elim top [
           | inl new ↦
               let y : ℕ × Copy C = (new.0, record { serial = serial; area = new.1; body = Holds f }) in
-              let is : later (newest reads readable i n) (Put (readable n) n) ≡ later (Some y) (Some x) = ap (λ (o : Option (ℕ × Copy C)). later o (Put (readable n) n)) new.2 ∙ ap (λ (o : Option (ℕ × Copy C)). later (Some y) o) put in
+              let is : later (newest_found reads readable i n) (Put (readable n) n) ≡ later (Some y) (Some x) = ap (λ (o : Option (ℕ × Copy C)). later o (Put (readable n) n)) new.2 ∙ ap (λ (o : Option (ℕ × Copy C)). later (Some y) o) put in
               elim (later_either y x) [
                 | inl first ↦ inl (new.0, new.1, is ∙ first)
                 | inr second ↦ inl (n, copy.0, is ∙ second)
               ]
-          | inr old ↦ inl (n, copy.0, ap (λ (o : Option (ℕ × Copy C)). later (newest reads readable i n) o) put ∙ later_takes serial (newest reads readable i n) x (omega arith) old.0)
+          | inr old ↦ inl (n, copy.0, ap (λ (o : Option (ℕ × Copy C)). later (newest_found reads readable i n) o) put ∙ later_takes serial (newest_found reads readable i n) x (omega arith) old.0)
         ]
 
     one_more : (n : ℕ) → suc n ≤ units → Top n → (b : Bool) → readable n ≡ b → Top (suc n)
@@ -176,7 +176,7 @@ module _ {C : Type 0} (failed : C → ℕ → Bool) where
     no_labels : strange readable i units ≡ None
     no_labels = no_strange readable i units labels
 
-    abbrev out : Outcome C
+    abbrev out : ImportOutcome C
     out = import_of reads failed units readable i
 
     -- an import that can read the disk g, which has the new configuration, finds it, unless one of its disks is missing
@@ -190,13 +190,13 @@ module _ {C : Type 0} (failed : C → ℕ → Bool) where
     pub commit_gives : (held : Option C) (begun : ℕ → C → Type 0) (disks : ℕ → Type 0) (leaves : Values) (g : ℕ) → g < units → failed f g ≡ false → IsGood failed held g → Committed reads failed units held leaves
         → ((s : ℕ) (c : C) → begun s c → failed c g ≡ false)
         → FindsOld reads failed units leaves readable i ⊎ FindsNew reads failed begun units readable i ⊎ Spoilt reads failed disks units leaves readable i
-        → Gives f out ⊎ Spoilt reads failed disks units leaves readable i
+        → GivesConfig f out ⊎ Spoilt reads failed disks units leaves readable i
     commit_gives held begun disks leaves g lt good was_good committed grows finds = by_read (readable g) refl
       where
-        by_read : (b : Bool) → readable g ≡ b → Gives f out ⊎ Spoilt reads failed disks units leaves readable i
-        by_read true in_it = inl (subst (Gives f) (sym (front_settles g lt good in_it)) (settle_gives units readable f))
+        by_read : (b : Bool) → readable g ≡ b → GivesConfig f out ⊎ Spoilt reads failed disks units leaves readable i
+        by_read true in_it = inl (subst (GivesConfig f) (sym (front_settles g lt good in_it)) (settle_gives units readable f))
         by_read false not_read = elim finds [
-          | inl old ↦ inl (subst (Gives f) (sym old.same) (old_misses held f readable g was_good not_read (import_of reads failed units readable old.image) (committed.each old.image readable old.left) (found_wants reads units readable old.image g lt)))
-          | inr (inl new) ↦ inl (subst (Gives f) (sym new.found) (settle_misses units readable new.config f g lt (grows new.serial new.config new.made) not_read))
+          | inl old ↦ inl (subst (GivesConfig f) (sym old.same) (old_misses held f readable g was_good not_read (import_of reads failed units readable old.image) (committed.each old.image readable old.left) (found_wants reads units readable old.image g lt)))
+          | inr (inl new) ↦ inl (subst (GivesConfig f) (sym new.found) (settle_misses units readable new.config f g lt (grows new.serial new.config new.made) not_read))
           | inr (inr refused) ↦ inr refused
         ]

@@ -2,7 +2,7 @@
 use Rattle.std.proofs.Common.{◌≡◌, ◌≤◌, ℕ, ◌-◌, Bool, true, false, ◌&&◌, List, ◌++◌, length, take, drop, refl, ap, sym, subst, append_assoc, ◌∙◌, arith}
 use Rattle.std.specs.Prelude.{◌==◌, bytes_eq}
 use Rattle.std.proofs.lemmas.Bool.{and_parts, and_from, eqb-true, eq-eqb}
-use Rattle.vx_wire.specs.Fields.{spelled, zeros}
+use Rattle.vx_wire.specs.Fields.{spelled, zero_bytes}
 use Rattle.vx_wire.specs.Numbers.{be_bytes, number_at}
 use Rattle.vx_wire.specs.Seals.{sealed, filled, digest_of, IsSealed}
 use Rattle.vx_wire.proofs.SealLemmas.{take-sealed, IsSealed-sealed, length-sealed}
@@ -38,7 +38,7 @@ label_in-has block l has = rw (has.site, has.disk, has.blocks) refl
 split : (l : Label) → (tail : List ℕ) × (label_block l ≡ label_fields l ++ tail)
 unfolding label_block sealed filled
 split l =
-    let pad : List ℕ = zeros (480 - length (label_fields l)) in
+    let pad : List ℕ = zero_bytes (480 - length (label_fields l)) in
     let seal : List ℕ = digest_of (label_fields l ++ pad) in
     (pad ++ seal, append_assoc (label_fields l) pad seal)
 

@@ -5,7 +5,7 @@ use Rattle.std.proofs.lemmas.Bool.{cases_lt, lt-ltb, le-ltb}
 use Rattle.vx_disk.specs.Shelf.{Image, Values, Each}
 use Rattle.vx_copyfmt.specs.Labels.{seen_in}
 use Rattle.vx_copyfmt.specs.Copies.{Disk, Copy, Body, Holds, copy_of}
-use Rattle.vx_copyfmt.specs.Imports.{is_label, strange_label, first_of, later, on_disk, strange, settle, by_body, by_newest, by_labels, newest, import_of}
+use Rattle.vx_copyfmt.specs.Imports.{is_label, strange_label, first_of, later, on_disk, strange, settle, by_body, by_newest, by_labels, newest_found, import_of}
 use Rattle.vx_copyfmt.specs.Commits.{Slots, Among, FromOld, FromNew, FindsOld, FindsNew, Older}
 
 -- ---- labels
@@ -63,19 +63,19 @@ module _ {C : Type 0} where
 -- ---- what is found hangs on the labels and the greatest copy
 
 module _ {C : Type 0} (reads : ℕ → List ℕ → Option C) (failed : C → ℕ → Bool) where
-  pub same_import : (units : ℕ) (readable : ℕ → Bool) (i j : Image) → strange readable i units ≡ strange readable j units → newest reads readable i units ≡ newest reads readable j units
+  pub same_import : (units : ℕ) (readable : ℕ → Bool) (i j : Image) → strange readable i units ≡ strange readable j units → newest_found reads readable i units ≡ newest_found reads readable j units
       → import_of reads failed units readable i ≡ import_of reads failed units readable j
   unfolding import_of
   same_import units readable i j labels tops =
-      ap (λ (o : Option ℕ). by_labels o (by_newest failed units readable (newest reads readable i units))) labels
+      ap (λ (o : Option ℕ). by_labels o (by_newest failed units readable (newest_found reads readable i units))) labels
       ∙ ap (λ (o : Option (ℕ × Copy C)). by_labels (strange readable j units) (by_newest failed units readable o)) tops
 
   pub same_format : (units : ℕ) (readable : ℕ → Bool) (i j : Image) (v : ℕ) → strange readable i units ≡ Some v → strange readable j units ≡ Some v
       → import_of reads failed units readable i ≡ import_of reads failed units readable j
   unfolding import_of
   same_format units readable i j v one two =
-      ap (λ (o : Option ℕ). by_labels o (by_newest failed units readable (newest reads readable i units))) one
-      ∙ sym (ap (λ (o : Option ℕ). by_labels o (by_newest failed units readable (newest reads readable j units))) two)
+      ap (λ (o : Option ℕ). by_labels o (by_newest failed units readable (newest_found reads readable i units))) one
+      ∙ sym (ap (λ (o : Option ℕ). by_labels o (by_newest failed units readable (newest_found reads readable j units))) two)
 
 -- ---- copies that were made since
 
@@ -97,8 +97,8 @@ module _ {C : Type 0} (reads : ℕ → List ℕ → Option C) (failed : C → �
   -- the greatest copy is that of before, or one that was made since
   abbrev Tops : (ℕ → Bool) → Image → Image → ℕ → Type 0
   Tops readable i j n =
-      ((newest reads readable i n ≡ newest reads readable j n) × Below s (newest reads readable i n))
-      ⊎ ((u : ℕ) × (x : Copy C) × IsMade begun x × (newest reads readable i n ≡ Some (u, x)))
+      ((newest_found reads readable i n ≡ newest_found reads readable j n) × Below s (newest_found reads readable i n))
+      ⊎ ((u : ℕ) × (x : Copy C) × IsMade begun x × (newest_found reads readable i n ≡ Some (u, x)))
 
   made_serial : (x : Copy C) → IsMade begun x → s ≤ x.serial
   made_serial x is = let le : s ≤ is.serial = late is.serial is.config is.made in let same : x.serial ≡ is.serial = ap (λ (y : Copy C). y.serial) is.is in omega (arith, le, same)
@@ -133,15 +133,15 @@ module _ {C : Type 0} (reads : ℕ → List ℕ → Option C) (failed : C → �
   tops readable leaves i j (suc n) older alike =
       let here = alike n (omega arith) in
       let before : Tops readable i j n = tops readable leaves i j n (λ u lt. older u (omega (arith, lt))) (λ u lt. alike u (omega (arith, lt))) in
-      let step = more n (newest reads readable i n) (newest reads readable j n) (readable n && is_label (seen_in (i n 0))) (copy_of reads (i n)) (copy_of reads (j n)) before
+      let step = more n (newest_found reads readable i n) (newest_found reads readable j n) (readable n && is_label (seen_in (i n 0))) (copy_of reads (i n)) (copy_of reads (j n)) before
       (elim here.copies [
         | inl same ↦ inl (same, below_old (copy_of reads (i n)) refl (copy_of reads (j n)) same (older n (omega arith)) here.among)
         | inr new ↦ inr new
       ]) in
       subst
-      (λ t. ((later (newest reads readable i n) (Put (readable n && is_label (seen_in (i n 0))) n (copy_of reads (i n))) ≡ later (newest reads readable j n) (Put (readable n && is_label t) n (copy_of reads (j n))))
-      × Below s (later (newest reads readable i n) (Put (readable n && is_label (seen_in (i n 0))) n (copy_of reads (i n)))))
-      ⊎ ((u : ℕ) × (x : Copy C) × IsMade begun x × (later (newest reads readable i n) (Put (readable n && is_label (seen_in (i n 0))) n (copy_of reads (i n))) ≡ Some (u, x))))
+      (λ t. ((later (newest_found reads readable i n) (Put (readable n && is_label (seen_in (i n 0))) n (copy_of reads (i n))) ≡ later (newest_found reads readable j n) (Put (readable n && is_label t) n (copy_of reads (j n))))
+      × Below s (later (newest_found reads readable i n) (Put (readable n && is_label (seen_in (i n 0))) n (copy_of reads (i n)))))
+      ⊎ ((u : ℕ) × (x : Copy C) × IsMade begun x × (later (newest_found reads readable i n) (Put (readable n && is_label (seen_in (i n 0))) n (copy_of reads (i n))) ≡ Some (u, x))))
       here.label step
     where
       below_old : (o : Option (Copy C)) → copy_of reads (i n) ≡ o → (p : Option (Copy C)) → o ≡ copy_of reads (j n) → Older reads s (leaves n) → Among (leaves n) (j n) → BelowCopy s o
@@ -149,11 +149,11 @@ module _ {C : Type 0} (reads : ℕ → List ℕ → Option C) (failed : C → �
       below_old (Some x) is p same old among = old.below (j n) x among (sym same)
 
   -- what is found follows
-  pub import_new : (units : ℕ) (readable : ℕ → Bool) (i : Image) (u : ℕ) (x : Copy C) (c : C) → strange readable i units ≡ None → newest reads readable i units ≡ Some (u, x) → x.body ≡ Holds c
+  pub import_new : (units : ℕ) (readable : ℕ → Bool) (i : Image) (u : ℕ) (x : Copy C) (c : C) → strange readable i units ≡ None → newest_found reads readable i units ≡ Some (u, x) → x.body ≡ Holds c
       → import_of reads failed units readable i ≡ settle failed units readable c
   unfolding import_of
   import_new units readable i u x c labels top body =
-      ap (λ (o : Option ℕ). by_labels o (by_newest failed units readable (newest reads readable i units))) labels
+      ap (λ (o : Option ℕ). by_labels o (by_newest failed units readable (newest_found reads readable i units))) labels
       ∙ ap (λ (o : Option (ℕ × Copy C)). by_newest failed units readable o) top
       ∙ ap (λ (b : Body C). by_body failed units readable u x.area b) body
 

@@ -5,16 +5,16 @@ use Rattle.std.proofs.lemmas.Bool.{cases_lt, le-ltb, lt-ltb}
 use Rattle.vx_disk.specs.Shelf.{Image, Values, Each}
 use Rattle.vx_copyfmt.specs.Labels.{seen_in}
 use Rattle.vx_copyfmt.specs.Copies.{Disk, Copy, Body, Differs, copy_of}
-use Rattle.vx_copyfmt.specs.Imports.{Damaged, is_label, later, on_disk, strange, by_body, by_newest, by_labels, newest, import_of}
+use Rattle.vx_copyfmt.specs.Imports.{Damaged, is_label, later, on_disk, strange, by_body, by_newest, by_labels, newest_found, import_of}
 use Rattle.vx_copyfmt.specs.Commits.{FromOld, FromNew, Torn, Broken, Forged, Amid, FindsOld, FindsNew, NamesDamaged, Spoilt, Older}
 use Rattle.vx_copyfmt.proofs.Newest.{strange_same, amid_gives, same_format, same_import}
 
 module _ {C : Type 0} (reads : ℕ → List ℕ → Option C) (failed : C → ℕ → Bool) where
-  import_damaged : (units : ℕ) (readable : ℕ → Bool) (i : Image) (x : ℕ × Copy C) (stored computed : List ℕ) → strange readable i units ≡ None → newest reads readable i units ≡ Some x → x.1.body ≡ Differs stored computed
+  import_damaged : (units : ℕ) (readable : ℕ → Bool) (i : Image) (x : ℕ × Copy C) (stored computed : List ℕ) → strange readable i units ≡ None → newest_found reads readable i units ≡ Some x → x.1.body ≡ Differs stored computed
       → import_of reads failed units readable i ≡ Damaged x.0 (suc x.1.area) stored computed
   unfolding import_of
   import_damaged units readable i x stored computed labels top body =
-      ap (λ (o : Option ℕ). by_labels o (by_newest failed units readable (newest reads readable i units))) labels
+      ap (λ (o : Option ℕ). by_labels o (by_newest failed units readable (newest_found reads readable i units))) labels
       ∙ ap (λ (o : Option (ℕ × Copy C)). by_newest failed units readable o) top
       ∙ ap (λ (b : Body C). by_body failed units readable x.0 x.1.area b) body
 
@@ -168,12 +168,12 @@ module _ {C : Type 0} (reads : ℕ → List ℕ → Option C) (failed : C → �
       put_disk n l (WasTorn label is torn copy) = put_torn n l (readable n) refl is torn copy
 
       module _ (beside : (u : ℕ) → u < units → Beside u) where
-        pairs : (n : ℕ) → n ≤ units → Pair n (newest reads readable i n) (newest reads readable j n)
+        pairs : (n : ℕ) → n ≤ units → Pair n (newest_found reads readable i n) (newest_found reads readable j n)
         pairs zero le = Neither refl refl
         pairs (suc n) le =
             let here : Beside n = beside n (omega (arith, le)) in
-            let a : Option (ℕ × Copy C) = newest reads readable i n in
-            let b : Option (ℕ × Copy C) = newest reads readable j n in
+            let a : Option (ℕ × Copy C) = newest_found reads readable i n in
+            let b : Option (ℕ × Copy C) = newest_found reads readable j n in
             let p : Option (ℕ × Copy C) = Put (readable n && is_label (seen_in (i n 0))) n (copy_of reads (i n)) in
             let q : Option (ℕ × Copy C) = Put (readable n && is_label (seen_in (i n 0))) n (copy_of reads (j n)) in
             subst (λ l. Pair (suc n) (later a p) (later b (Put (readable n && is_label l) n (copy_of reads (j n))))) (beside_label n here)
@@ -186,7 +186,7 @@ module _ {C : Type 0} (reads : ℕ → List ℕ → Option C) (failed : C → �
             labels : strange readable i units ≡ strange readable j units
             labels = strange_same readable i j units (λ u lt. beside_label u (beside u lt))
 
-            by_pair : strange readable i units ≡ None → Pair units (newest reads readable i units) (newest reads readable j units)
+            by_pair : strange readable i units ≡ None → Pair units (newest_found reads readable i units) (newest_found reads readable j units)
                 → (import_of reads failed units readable i ≡ import_of reads failed units readable j) ⊎ Refused
             by_pair known (Neither one two) = inl (same_import reads failed units readable i j labels (one ∙ sym two))
             by_pair known (Both x y one two same (inl it)) = inl (same_import reads failed units readable i j labels (one ∙ ap (λ (z : ℕ × Copy C). Some z) it ∙ sym two))

@@ -4,7 +4,7 @@ use Rattle.vx_disk.specs.Shelf.{Image, Values, Each}
 use Rattle.vx_wire.specs.Seals.{digest_of}
 use Rattle.vx_copyfmt.specs.Areas.{header_of}
 use Rattle.vx_copyfmt.specs.Copies.{Disk, Copy, Holds, Differs, area_a, area_b, body_of, copy_at, copy_of}
-use Rattle.vx_copyfmt.specs.Imports.{Outcome, Found, Missing, NoConfig, Damaged, Format, import_of, newest, settle}
+use Rattle.vx_copyfmt.specs.Imports.{ImportOutcome, Found, Missing, NoConfig, Damaged, Format, import_of, newest_found, settle}
 use Rattle.vx_copyfmt.specs.Labels.{seen_in}
 use Rattle.vx_copyfmt.specs.declared.area.AreaHeader.{AreaHeader}
 
@@ -134,7 +134,7 @@ pub record FindsNew {C : Type 0} (reads : ℕ → List ℕ → Option C) (failed
   pub found : import_of reads failed units readable i ≡ settle failed units readable config
 
 -- the disk is damaged, as an import found it
-abbrev pub NamesDamaged : {C : Type 0} → ℕ → Outcome C → Type 0
+abbrev pub NamesDamaged : {C : Type 0} → ℕ → ImportOutcome C → Type 0
 NamesDamaged u (Found x) = ⊥
 NamesDamaged u (Missing disk) = ⊥
 NamesDamaged u NoConfig = ⊥
@@ -143,7 +143,7 @@ NamesDamaged u (Format version) = ⊥
 
 -- no copy that the import reads is later than this serial
 pub record NoneLater {C : Type 0} (reads : ℕ → List ℕ → Option C) (units : ℕ) (readable : ℕ → Bool) (i : Image) (serial : ℕ) : Type 0 where
-  pub each : (x : ℕ × Copy C) → newest reads readable i units ≡ Some x → x.1.serial ≤ serial
+  pub each : (x : ℕ × Copy C) → newest_found reads readable i units ≡ Some x → x.1.serial ≤ serial
 
 -- An import reads one of these disks, and its greater copy is torn: the import is refused with 22 for it, unless the torn body has the digest
 -- of its header and no copy that is read is later.
@@ -160,17 +160,17 @@ pub record Older {C : Type 0} (reads : ℕ → List ℕ → Option C) (serial : 
   pub below : (d : Disk) (x : Copy C) → Among slots d → copy_of reads d ≡ Some x → x.serial < serial
 
 -- this configuration is found, or one of the disks is missing, or no disk has a configuration
-abbrev pub Gives : {C : Type 0} → C → Outcome C → Type 0
-Gives c (Found x) = x ≡ c
-Gives c (Missing disk) = Unit {0}
-Gives c NoConfig = Unit {0}
-Gives c (Damaged disk block stored computed) = ⊥
-Gives c (Format version) = ⊥
+abbrev pub GivesConfig : {C : Type 0} → C → ImportOutcome C → Type 0
+GivesConfig c (Found x) = x ≡ c
+GivesConfig c (Missing disk) = Unit {0}
+GivesConfig c NoConfig = Unit {0}
+GivesConfig c (Damaged disk block stored computed) = ⊥
+GivesConfig c (Format version) = ⊥
 
 -- what an import over the disks finds, where this is the newest committed configuration, or none was committed
-abbrev pub Answers : {C : Type 0} → Option C → Outcome C → Type 0
+abbrev pub Answers : {C : Type 0} → Option C → ImportOutcome C → Type 0
 Answers None o = o ≡ NoConfig
-Answers (Some c) o = Gives c o
+Answers (Some c) o = GivesConfig c o
 
 -- whatever a crash leaves and whichever disks can be read, an import finds the committed configuration or is refused with 8 or 9
 pub record Committed {C : Type 0} (reads : ℕ → List ℕ → Option C) (failed : C → ℕ → Bool) (units : ℕ) (held : Option C) (leaves : Values) : Type 0 where
@@ -182,6 +182,6 @@ IsGood failed None disk = Unit {0}
 IsGood failed (Some c) disk = failed c disk ≡ false
 
 -- each disk that the new configuration holds as good has its copy, and the others the copies of before, or earlier ones of the call
-pub record Written {C : Type 0} (reads : ℕ → List ℕ → Option C) (failed : C → ℕ → Bool) (serial : ℕ) (config : C) (units : ℕ) (i : Image) : Type 0 where
+pub record CopyWritten {C : Type 0} (reads : ℕ → List ℕ → Option C) (failed : C → ℕ → Bool) (serial : ℕ) (config : C) (units : ℕ) (i : Image) : Type 0 where
   pub new : (u : ℕ) → u < units → failed config u ≡ false → (area : ℕ) × (copy_of reads (i u) ≡ Some (record { serial = serial; area = area; body = Holds config }))
   pub older : (u : ℕ) (x : Copy C) → u < units → failed config u ≡ true → copy_of reads (i u) ≡ Some x → x.serial < serial

@@ -8,12 +8,12 @@ use Rattle.vx_copyfmt.specs.declared.label.LabelSeen.TheVariants as seen
 
 -- the newest configuration as its body was read; or a disk that it holds as good cannot be read; or no disk has one; or the newest
 -- body is damaged, by its disk, its first block and both digests; or a label has a version that is not known
-pub data Outcome (C : Type 0) : Type 0 where
-  Found : C → Outcome C
-  Missing : ℕ → Outcome C
-  NoConfig : Outcome C
-  Damaged : ℕ → ℕ → List ℕ → List ℕ → Outcome C
-  Format : ℕ → Outcome C
+pub data ImportOutcome (C : Type 0) : Type 0 where
+  Found : C → ImportOutcome C
+  Missing : ℕ → ImportOutcome C
+  NoConfig : ImportOutcome C
+  Damaged : ℕ → ℕ → List ℕ → List ℕ → ImportOutcome C
+  Format : ℕ → ImportOutcome C
 
 -- whether a block is a label
 abbrev pub is_label : LabelSeen → Bool
@@ -52,32 +52,32 @@ abbrev pub missing : (ℕ → Bool) → (ℕ → Bool) → ℕ → Option ℕ
 missing failed readable zero = None
 missing failed readable (suc n) = first_of (missing failed readable n) (if failed n || readable n then None else Some n)
 
-abbrev pub or_missing : {C : Type 0} → C → Option ℕ → Outcome C
+abbrev pub or_missing : {C : Type 0} → C → Option ℕ → ImportOutcome C
 or_missing c None = Found c
 or_missing c (Some disk) = Missing disk
 
 -- a configuration, unless one of its disks is missing
-abbrev pub settle : {C : Type 0} → (C → ℕ → Bool) → ℕ → (ℕ → Bool) → C → Outcome C
+abbrev pub settle : {C : Type 0} → (C → ℕ → Bool) → ℕ → (ℕ → Bool) → C → ImportOutcome C
 settle failed units readable c = or_missing c (missing (failed c) readable units)
 
-abbrev pub by_body : {C : Type 0} → (C → ℕ → Bool) → ℕ → (ℕ → Bool) → ℕ → ℕ → Body C → Outcome C
+abbrev pub by_body : {C : Type 0} → (C → ℕ → Bool) → ℕ → (ℕ → Bool) → ℕ → ℕ → Body C → ImportOutcome C
 by_body failed units readable disk area (Holds c) = settle failed units readable c
 by_body failed units readable disk area (Differs stored computed) = Damaged disk (suc area) stored computed
 
-abbrev pub by_newest : {C : Type 0} → (C → ℕ → Bool) → ℕ → (ℕ → Bool) → Option (ℕ × Copy C) → Outcome C
+abbrev pub by_newest : {C : Type 0} → (C → ℕ → Bool) → ℕ → (ℕ → Bool) → Option (ℕ × Copy C) → ImportOutcome C
 by_newest failed units readable None = NoConfig
 by_newest failed units readable (Some x) = by_body failed units readable x.0 x.1.area x.1.body
 
-abbrev pub by_labels : {C : Type 0} → Option ℕ → Outcome C → Outcome C
+abbrev pub by_labels : {C : Type 0} → Option ℕ → ImportOutcome C → ImportOutcome C
 by_labels None outcome = outcome
 by_labels (Some version) outcome = Format version
 
 module _ {C : Type 0} (reads : ℕ → List ℕ → Option C) where
   -- the greatest copy on the disks below n that can be read and have a label: the lowest disk where several have it
-  abbrev pub newest : (ℕ → Bool) → Image → ℕ → Option (ℕ × Copy C)
-  newest readable i zero = None
-  newest readable i (suc n) = later (newest readable i n) (if readable n && is_label (seen_in (i n 0)) then on_disk n (copy_of reads (i n)) else None)
+  abbrev pub newest_found : (ℕ → Bool) → Image → ℕ → Option (ℕ × Copy C)
+  newest_found readable i zero = None
+  newest_found readable i (suc n) = later (newest_found readable i n) (if readable n && is_label (seen_in (i n 0)) then on_disk n (copy_of reads (i n)) else None)
 
   -- what an import of these units finds; a configuration tells by `failed` which disks it holds as failed
-  unfoldable pub import_of : (C → ℕ → Bool) → ℕ → (ℕ → Bool) → Image → Outcome C
-  import_of failed units readable i = by_labels (strange readable i units) (by_newest failed units readable (newest readable i units))
+  unfoldable pub import_of : (C → ℕ → Bool) → ℕ → (ℕ → Bool) → Image → ImportOutcome C
+  import_of failed units readable i = by_labels (strange readable i units) (by_newest failed units readable (newest_found readable i units))

@@ -47,10 +47,10 @@ pub record HasVersion (block : List ℕ) (version : ℕ) : Type 0 where
   pub other : version ≢ label_version
 
 -- what a block is as a label
-abbrev pub IsSeen : List ℕ → LabelSeen → Type 0
-IsSeen block (seen.Label l) = IsLabel block l
-IsSeen block (seen.Format version) = HasVersion block version
-IsSeen block seen.Other = ((l : Label) → IsLabel block l → ⊥) × ((version : ℕ) → HasVersion block version → ⊥)
+abbrev pub IsLabelSeen : List ℕ → LabelSeen → Type 0
+IsLabelSeen block (seen.Label l) = IsLabel block l
+IsLabelSeen block (seen.Format version) = HasVersion block version
+IsLabelSeen block seen.Other = ((l : Label) → IsLabel block l → ⊥) × ((version : ℕ) → HasVersion block version → ⊥)
 
 -- what stands in the places of the fields, whether or not the block is a label
 unfoldable pub label_in : List ℕ → Label

@@ -1,7 +1,7 @@
 -- Headers that are written over with zeros.
 use Rattle.std.proofs.Common.{◌≡◌, inl, inr, ⊎_elim, ℕ, ◌+◌, ◌<◌, Option, Some, None, List, length, refl, ap, sym, subst, ◌∙◌, arith}
 use Rattle.std.proofs.lemmas.Bool.{cases_lt}
-use Rattle.vx_wire.specs.Fields.{zeros}
+use Rattle.vx_wire.specs.Fields.{zero_bytes}
 use Rattle.vx_disk.specs.Shelf.{Flushed, Goes, Holds, Meaning, Nothing, Or, Written, Wrote, piece}
 use Rattle.vx_disk.proofs.Runs.{both_Goes, now_holds, piece_one, same_Goes, still_holds, then_nothing, weaker}
 use Rattle.vx_copyfmt.specs.Areas.{header_of}
@@ -11,7 +11,7 @@ use Rattle.vx_copyio.specs.Settling.{AllCleared, HeadersZero, NoHeaders}
 
 -- ---- one disk
 
-module _ (disk : ℕ) (bytes : List ℕ) (is : bytes ≡ zeros 512) (size : length bytes ≡ 512) (old mid new : Meaning) (there : disk < old.units) where
+module _ (disk : ℕ) (bytes : List ℕ) (is : bytes ≡ zero_bytes 512) (size : length bytes ≡ 512) (old mid new : Meaning) (there : disk < old.units) where
   zero_at : (block : ℕ) → IsHeaderBlock block → (u b : ℕ) (v : List ℕ) → Written disk block bytes u b v → HeadersZero old u b v
   zero_at block header u b v put =
       let here : u ≡ disk = put.covers.there in

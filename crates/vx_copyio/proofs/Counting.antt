@@ -6,7 +6,7 @@ use Rattle.vx_copyfmt.specs.Areas.{header_of}
 use Rattle.vx_copyfmt.specs.Copies.{Disk, Body, Holds, Differs, Copy, area_a, area_b, body_of, greater, judged, copy_under, copy_at, copy_of}
 use Rattle.vx_copyfmt.specs.Commits.{Broken, Counts, Fit, FromNew, FromOld, Slots, Tidy, Torn}
 use Rattle.vx_copyfmt.specs.declared.area.AreaHeader.{AreaHeader}
-use Rattle.vx_copyio.specs.Putting.{IsMade, those}
+use Rattle.vx_copyio.specs.Putting.{IsCopyMade, those}
 
 module _ {C : Type 0} (reads : ℕ → List ℕ → Option C) where
   -- the bodies that are read as something
@@ -150,7 +150,7 @@ module _ {C : Type 0} (reads : ℕ → List ℕ → Option C) where
       }
 
   pub new_read : (begun : ℕ → C → Type 0) (h : AreaHeader) (body : List ℕ) (c : C) (slots : Slots) (d : Disk) → reads h.serial (take h.length body) ≡ Some c → begun h.serial c
-      → FromNew (those counts) (IsMade h body) slots d → FromNew reads begun slots d
+      → FromNew (those counts) (IsCopyMade h body) slots d → FromNew reads begun slots d
   new_read begun h body c slots d is made from = record {
     serial = h.serial;
     config = c;

@@ -12,7 +12,7 @@ use Rattle.vx_copyfmt.proofs.AreaLemmas.{header_of-is}
 use Rattle.vx_copyfmt.proofs.Areas.{becomes, under_holds}
 use Rattle.vx_copyfmt.proofs.Targets.{target_lesser}
 use Rattle.vx_copyfmt.proofs.Bodies.{body_is}
-use Rattle.vx_copyio.specs.Putting.{IsMade, those}
+use Rattle.vx_copyio.specs.Putting.{IsCopyMade, those}
 
 -- the bytes fill whole blocks, 127 at most
 pub record FillsBlocks (bytes : List ℕ) : Type 0 where
@@ -54,7 +54,7 @@ module _ (h : AreaHeader) (body : List ℕ) (can : CanSpellArea h) (fills : Fill
       read_there = ap (those counts h.serial) same_body ∙ read_is
 
       -- with both it has the new copy
-      pub new_copy : ((a : ℕ) → IsHeaderBlock a → (a ≡ area → ⊥) → slots a (d a)) → slots 0 (d 0) → FromNew (those counts) (IsMade h body) slots d
+      pub new_copy : ((a : ℕ) → IsHeaderBlock a → (a ≡ area → ⊥) → slots a (d a)) → slots 0 (d 0) → FromNew (those counts) (IsCopyMade h body) slots d
       new_copy other label = record {
         serial = h.serial;
         config = take h.length body;
@@ -108,7 +108,7 @@ target_first (Some g) q h is less = rw (is, lt-ltb g.serial h.serial (less g ref
 
 module _ (h : AreaHeader) (body : List ℕ) (can : CanSpellArea h) (fills : FillsBlocks body) (long : h.length ≤ length body) (digest : h.digest ≡ digest_of (take h.length body))
     (counts : ℕ → List ℕ → Bool) (counted : counts h.serial (take h.length body) ≡ true) (old new : Slots) (lower : Lower h.serial old) (area : ℕ) (one : IsHeaderBlock area) (landed : Landed area h body old new) where
-  pub landed_new : (d : Disk) → Among new d → FromNew (those counts) (IsMade h body) old d
+  pub landed_new : (d : Disk) → Among new d → FromNew (those counts) (IsCopyMade h body) old d
   landed_new d among =
       new_copy h body can fills long digest counts counted old lower area one d (landed.header (d area) (among area)) (λ b low high. landed.pieces b (d b) low high (among b))
       (λ a is apart. landed.rest a (d a) (other_out area a one is apart a (omega arith) (omega arith)) (among a)) (landed.rest 0 (d 0) (zero_out area one) (among 0))

@@ -17,7 +17,7 @@ use Rattle.vx_copyfmt.specs.declared.area.AreaHeader.{AreaHeader}
 use Rattle.vx_copyio.specs.declared.spread.CopyFailed.{CopyFailed}
 use Rattle.vx_copyfmt.proofs.Subs.{fit_sub, forged_sub, lower_sub, new_sub, old_sub, tidy_sub, torn_sub}
 use Rattle.vx_copyio.proofs.Putting.{as_before, as_old}
-use Rattle.vx_copyio.specs.Putting.{AllNew, AreasOf, Copied, CopyStops, FailedOn, InImage, InImages, IsMade, IsMember, LeavesNew, LeavesOldOrNew, LeavesSame, OldOrNew, part_of, those}
+use Rattle.vx_copyio.specs.Putting.{AllNew, AreasOf, Copied, CopyStops, FailedOn, InImage, InImages, IsCopyMade, IsMember, LeavesNew, LeavesOldOrNew, LeavesSame, OldOrNew, part_of, those}
 
 -- ---- fewer values
 
@@ -26,7 +26,7 @@ module _ (h : AreaHeader) (body : List ℕ) where
   narrow u old mid d sub is = record {
     each = λ counts fit counted. elim (is.each counts (fit_sub (those counts) (old.leaves u) (mid.leaves u) sub h.serial fit) counted) [
       | inl from ↦ inl (old_sub (those counts) (old.leaves u) (mid.leaves u) sub d from)
-      | inr (inl from) ↦ inr (inl (new_sub (those counts) (old.leaves u) (mid.leaves u) sub (IsMade h body) d from))
+      | inr (inl from) ↦ inr (inl (new_sub (those counts) (old.leaves u) (mid.leaves u) sub (IsCopyMade h body) d from))
       | inr (inr torn) ↦ inr (inr (torn_sub (those counts) (old.leaves u) (mid.leaves u) sub d torn))
     ];
     fit = λ counts fit counted. elim (is.fit counts (fit_sub (those counts) (old.leaves u) (mid.leaves u) sub h.serial fit) counted) [
@@ -57,7 +57,7 @@ module _ (h : AreaHeader) (body : List ℕ) where
 
   pub new_after : (u : ℕ) (old mid new : Meaning) → ((b : ℕ) (v : List ℕ) → mid.leaves u b v → old.leaves u b v) → LeavesNew u h body mid new → LeavesNew u h body old new
   new_after u old mid new sub now = record {
-    each = λ counts d lower counted among. new_sub (those counts) (old.leaves u) (mid.leaves u) sub (IsMade h body) d
+    each = λ counts d lower counted among. new_sub (those counts) (old.leaves u) (mid.leaves u) sub (IsCopyMade h body) d
         (now.each counts d (lower_sub (old.leaves u) (mid.leaves u) sub h.serial lower) counted among);
     tidy = λ counts lower counted. now.tidy counts (lower_sub (old.leaves u) (mid.leaves u) sub h.serial lower) counted;
   }

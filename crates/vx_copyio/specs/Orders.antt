@@ -5,11 +5,11 @@ use Rattle.vx_disk.specs.Shelf.{Each, Image, Meaning}
 use Rattle.vx_copyfmt.specs.Copies.{Disk}
 use Rattle.vx_copyfmt.specs.Commits.{Among, FromNew, Lower}
 use Rattle.vx_copyfmt.specs.declared.area.AreaHeader.{AreaHeader}
-use Rattle.vx_copyio.specs.Putting.{IsMade, those}
+use Rattle.vx_copyio.specs.Putting.{IsCopyMade, those}
 
 -- the disk has the new copy
 pub record HasNew (u : ℕ) (h : AreaHeader) (body : List ℕ) (m : Meaning) (d : Disk) : Type 0 where
-  pub each : (counts : ℕ → List ℕ → Bool) → Lower h.serial (m.leaves u) → counts h.serial (take h.length body) ≡ true → FromNew (those counts) (IsMade h body) (m.leaves u) d
+  pub each : (counts : ℕ → List ℕ → Bool) → Lower h.serial (m.leaves u) → counts h.serial (take h.length body) ≡ true → FromNew (those counts) (IsCopyMade h body) (m.leaves u) d
 
 -- each of the second disks is as one of before, or each of the first has the new copy
 abbrev pub InOrder : (ℕ → Type 0) → (ℕ → Type 0) → AreaHeader → List ℕ → Meaning → Image → Type 0

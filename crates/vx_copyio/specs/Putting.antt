@@ -25,7 +25,7 @@ pub record IsTarget (disk area : ℕ) (m : Meaning) : Type 0 where
   pub is : area ≡ target_of (header_of first) (header_of second)
 
 -- this serial and this body
-pub record IsMade (h : AreaHeader) (body : List ℕ) (serial : ℕ) (found : List ℕ) : Type 0 where
+pub record IsCopyMade (h : AreaHeader) (body : List ℕ) (serial : ℕ) (found : List ℕ) : Type 0 where
   pub serial_is : serial ≡ h.serial
   pub body_is : found ≡ take h.length body
 
@@ -33,7 +33,7 @@ pub record IsMade (h : AreaHeader) (body : List ℕ) (serial : ℕ) (found : Lis
 -- and it is ready for the next copy.
 pub record OldOrNew (disk : ℕ) (h : AreaHeader) (body : List ℕ) (m : Meaning) (d : Disk) : Type 0 where
   pub each : (counts : ℕ → List ℕ → Bool) → Fit (those counts) h.serial (m.leaves disk) → counts h.serial (take h.length body) ≡ true
-      → FromOld (those counts) (m.leaves disk) d ⊎ FromNew (those counts) (IsMade h body) (m.leaves disk) d ⊎ Torn (those counts) (m.leaves disk) d
+      → FromOld (those counts) (m.leaves disk) d ⊎ FromNew (those counts) (IsCopyMade h body) (m.leaves disk) d ⊎ Torn (those counts) (m.leaves disk) d
   pub fit : (counts : ℕ → List ℕ → Bool) → Fit (those counts) h.serial (m.leaves disk) → counts h.serial (take h.length body) ≡ true
       → Tidy (those counts) (h.serial + 1) (exactly d) ⊎ Forged (m.leaves disk) d
 
@@ -49,7 +49,7 @@ pub record LeavesOldOrNew (disk : ℕ) (h : AreaHeader) (body : List ℕ) (old n
 -- where no header has this serial or a greater one, whatever a crash leaves of the disk has the new copy, and the next one goes to one area
 pub record LeavesNew (disk : ℕ) (h : AreaHeader) (body : List ℕ) (old new : Meaning) : Type 0 where
   pub each : (counts : ℕ → List ℕ → Bool) (d : Disk) → Lower h.serial (old.leaves disk) → counts h.serial (take h.length body) ≡ true → Among (new.leaves disk) d
-      → FromNew (those counts) (IsMade h body) (old.leaves disk) d
+      → FromNew (those counts) (IsCopyMade h body) (old.leaves disk) d
   pub tidy : (counts : ℕ → List ℕ → Bool) → Lower h.serial (old.leaves disk) → counts h.serial (take h.length body) ≡ true → Tidy (those counts) (h.serial + 1) (new.leaves disk)
 
 -- a crash leaves of the disk what it might have left before

@@ -1,7 +1,7 @@
 -- Headers of areas that are written again: as they were read, so that each has one value, or as zeros, so that none is one.
 use Rattle.std.specs.Prelude.{◌≡◌, ℕ, ◌<◌, IsTrue, None, List}
 use Rattle.vx_disk.specs.Shelf.{Meaning}
-use Rattle.vx_wire.specs.Fields.{zeros}
+use Rattle.vx_wire.specs.Fields.{zero_bytes}
 use Rattle.vx_copyfmt.specs.Areas.{header_of}
 use Rattle.vx_copyfmt.specs.Commits.{IsHeaderBlock}
 
@@ -29,7 +29,7 @@ pub record OneLeft (u : ℕ) (m : Meaning) : Type 0 where
 pub record HeadersZero (m : Meaning) (u b : ℕ) (v : List ℕ) : Type 0 where
   pub there : u < m.units
   pub header : IsHeaderBlock b
-  pub value : v ≡ zeros 512
+  pub value : v ≡ zero_bytes 512
 
 -- a crash leaves no header in the areas of the disk
 pub record NoHeaders (u : ℕ) (m : Meaning) : Type 0 where

@@ -8,7 +8,7 @@ use Rattle.std.proofs.lemmas.List.Elements.{All-get_or, All-push}
 use Rattle.std.proofs.lemmas.Option.{get_or_from_slice_get, slice_get-map, slice_get_within}
 use Rattle.vx_history.specs.Events.{packet_at}
 use Rattle.vx_history.specs.World.{Packet}
-use Rattle.vx_net.specs.Flights.{Flying, first_of, greatest, most_kept, newest, nothing_sent, packet_at as bytes_at, sent, sent_all}
+use Rattle.vx_net.specs.Flights.{Flying, oldest_of, greatest_packet, most_kept, newest_packets, nothing_sent, kept_packet as bytes_at, sent, sent_all}
 use Rattle.vx_net.proofs.Sent.{after, all-sent, dropped-after, given-after}
 use Rattle.vx_packet.specs.Packets.{IsPacket}
 use Rattle.vx_packet.specs.declared.part.Part.{Part}
@@ -34,7 +34,7 @@ pub count_is : (ps : List Packet) (f : Flying) → FlightStands ps f → f.count
 count_is ps f stands = ap (λ (g : Flying). g.count) (as_sent ps f stands) ∙ long ps
 
 -- one more packet is sent
-pub sends_one : (ps : List Packet) (f : Flying) (p : Packet) → FlightStands ps f → f.count < greatest → CanFly p → FlightStands (ps ++ p ∷ []) (sent f (carrier p))
+pub sends_one : (ps : List Packet) (f : Flying) (p : Packet) → FlightStands ps f → f.count < greatest_packet → CanFly p → FlightStands (ps ++ p ∷ []) (sent f (carrier p))
 sends_one ps f p stands room one = record {
   each = All-push CanFly ps p stands.each one;
   few = omega (arith, room, count_is ps f stands, length-append ps (p ∷ []));
@@ -42,19 +42,19 @@ sends_one ps f p stands room one = record {
 }
 
 -- a packet more is one more at most
-by_room : (f : Flying) (b : List ℕ) (t : Bool) → (if t then record { count = f.count + 1; kept = newest (f.kept ++ b ∷ []) } else f).count ≤ f.count + 1
+by_room : (f : Flying) (b : List ℕ) (t : Bool) → (if t then record { count = f.count + 1; kept = newest_packets (f.kept ++ b ∷ []) } else f).count ≤ f.count + 1
 by_room f b true = omega arith
 by_room f b false = omega arith
 
 pub count_next : (f f' : Flying) (b : List ℕ) → f' ≡ sent f b → f'.count ≤ f.count + 1
-count_next f f' b is = omega (arith, ap (λ (g : Flying). g.count) is, by_room f b (ltb f.count greatest))
+count_next f f' b is = omega (arith, ap (λ (g : Flying). g.count) is, by_room f b (ltb f.count greatest_packet))
 
 -- ---- the packet of a number
 
 zero_none : (bs : List (List ℕ)) → bytes_at (after bs) 0 ≡ None
 zero_none bs =
-    let rest : length (newest bs) ≡ length bs - (length bs - most_kept) = length-drop (length bs - most_kept) bs in
-    let below : ltb 0 (first_of (after bs)) ≡ true = grind (arith, rest) in
+    let rest : length (newest_packets bs) ≡ length bs - (length bs - most_kept) = length-drop (length bs - most_kept) bs in
+    let below : ltb 0 (oldest_of (after bs)) ≡ true = grind (arith, rest) in
     rw below refl
 
 dropped : (ps : List Packet) (k : ℕ) → leb (suc k + 65536) (length ps) ≡ true → bytes_at (after (map carrier ps)) (suc k) ≡ option_map carrier (packet_at ps (suc k))

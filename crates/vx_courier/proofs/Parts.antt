@@ -4,12 +4,12 @@ use Rattle.std.proofs.lemmas.List.{append_assoc}
 use Rattle.vx_model.specs.declared.history.Line.{Line}
 use Rattle.vx_history.specs.Sends.{packet, packets_from, packets_of, parts_of}
 use Rattle.vx_history.specs.World.{Message, Packet}
-use Rattle.vx_net.specs.Flights.{Flying, greatest, sent}
-use Rattle.vx_packet.specs.Messages.{CanSpell, IsTyped, parts_of as parts_in_bytes}
-use Rattle.vx_packet.specs.Packets.{IsPacket, packet_of, part_of}
+use Rattle.vx_net.specs.Flights.{Flying, greatest_packet, sent}
+use Rattle.vx_packet.specs.Messages.{CanSpellMessage, IsTyped, count_of_parts as parts_in_bytes}
+use Rattle.vx_packet.specs.Packets.{IsPacket, part_packet, part_numbered}
 use Rattle.vx_packet.specs.declared.message.Envelope.{Envelope}
 use Rattle.vx_packet.specs.declared.message.Message.{Message as Spelled}
-use Rattle.vx_parts.specs.Spelling.{spelled}
+use Rattle.vx_parts.specs.Spelling.{spelled_message}
 use Rattle.vx_parts.proofs.Counting.{parts_are}
 use Rattle.vx_courier.specs.UnderWay.{CanFly, FlightStands, carrier}
 use Rattle.vx_courier.proofs.Flying.{count_is, sends_one}
@@ -26,27 +26,27 @@ so_many : (s t : ℕ) (line : Line) (m : Message) (a k : ℕ) → length (packet
 so_many s t line m a zero = refl
 so_many s t line m a (suc k) = ap suc (so_many s t line m (a + 1) k)
 
-module _ (e : Envelope) (m : Message) (message : Spelled) (is : message ≡ spelled m) (can : CanSpell message) (typed : IsTyped message) where
+module _ (e : Envelope) (m : Message) (message : Spelled) (is : message ≡ spelled_message m) (can : CanSpellMessage message) (typed : IsTyped message) where
   -- what was sent of it
   abbrev gone : ℕ → List Packet
   gone k = packets_from e.source e.target e.line m 0 k
 
-  part_flies : (k : ℕ) → k < parts_in_bytes message → IsPacket (packet_of e message k) (part_of e message k) → CanFly (packet e.source e.target e.line m k)
+  part_flies : (k : ℕ) → k < parts_in_bytes message → IsPacket (part_packet e message k) (part_numbered e message k) → CanFly (packet e.source e.target e.line m k)
   part_flies k low packs = record {
-    can = subst CanSpell is can;
+    can = subst CanSpellMessage is can;
     typed = subst IsTyped is typed;
     within = omega (arith, low, ap parts_in_bytes is, parts_are m);
-    packet = subst (λ (x : Spelled). IsPacket (packet_of e x k) (part_of e x k)) is packs;
+    packet = subst (λ (x : Spelled). IsPacket (part_packet e x k) (part_numbered e x k)) is packs;
   }
 
-  pub part_sent : (ps : List Packet) (k next : ℕ) (old f f' : Flying) (bytes : List ℕ) → FlightStands ps old → old.count + parts_of m ≤ greatest → FlightStands (ps ++ gone k) f → k < parts_in_bytes message → next ≡ suc k
-      → IsPacket (packet_of e message k) (part_of e message k) → bytes ≡ packet_of e message k → f' ≡ sent f bytes → FlightStands (ps ++ gone next) f'
+  pub part_sent : (ps : List Packet) (k next : ℕ) (old f f' : Flying) (bytes : List ℕ) → FlightStands ps old → old.count + parts_of m ≤ greatest_packet → FlightStands (ps ++ gone k) f → k < parts_in_bytes message → next ≡ suc k
+      → IsPacket (part_packet e message k) (part_numbered e message k) → bytes ≡ part_packet e message k → f' ≡ sent f bytes → FlightStands (ps ++ gone next) f'
   part_sent ps k next old f f' bytes first room stands low more packs bytes_are after =
       let one : Packet = packet e.source e.target e.line m k in
       let count : f.count ≡ length ps + k = count_is (ps ++ gone k) f stands ∙ length-append ps (gone k) ∙ ap (λ (n : ℕ). length ps + n) (so_many e.source e.target e.line m 0 k) in
       let below : k < parts_of m = omega (arith, low, ap parts_in_bytes is, parts_are m) in
-      let free : f.count < greatest = omega (arith, count, room, below, count_is ps old first) in
-      let sent_is : sent f (carrier one) ≡ f' = sym (after ∙ ap (λ (bs : List ℕ). sent f bs) (bytes_are ∙ ap (λ (x : Spelled). packet_of e x k) is)) in
+      let free : f.count < greatest_packet = omega (arith, count, room, below, count_is ps old first) in
+      let sent_is : sent f (carrier one) ≡ f' = sym (after ∙ ap (λ (bs : List ℕ). sent f bs) (bytes_are ∙ ap (λ (x : Spelled). part_packet e x k) is)) in
       let goes : FlightStands ((ps ++ gone k) ++ one ∷ []) (sent f (carrier one)) = sends_one (ps ++ gone k) f one stands free (part_flies k low packs) in
       let list : (ps ++ gone k) ++ one ∷ [] ≡ ps ++ gone next
       = let here : 0 + k ≡ k = omega arith in

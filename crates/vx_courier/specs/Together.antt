@@ -3,26 +3,26 @@ use Rattle.std.specs.Prelude.{◌≡◌, ℕ, List, Option, Some, None, slice_ge
 use Rattle.vx_model.specs.Content.{Write}
 use Rattle.vx_history.specs.Gatherings.{completes, left_by}
 use Rattle.vx_history.specs.World.{Gathering, Packet, Update}
-use Rattle.vx_packet.specs.Assemblies.{Assembled, Held}
-use Rattle.vx_packet.specs.Takings.{HoldsSome, message_key}
+use Rattle.vx_packet.specs.Assemblies.{Assembled, HeldParts}
+use Rattle.vx_packet.specs.Takings.{HoldsSome, key_of_message}
 use Rattle.vx_packet.specs.declared.assembly.Taken.{Taken}
 use Rattle.vx_packet.specs.declared.assembly.Taken.TheVariants as taken
-use Rattle.vx_parts.specs.Spelling.{IsTied, spelled}
+use Rattle.vx_parts.specs.Spelling.{IsTied, spelled_message}
 use Rattle.vx_courier.specs.UnderWay.{way_of}
 
 -- what is in assembly are parts of a message that was sent to the site
-pub record ComesFrom (ps : List Packet) (site : ℕ) (a : Assembled) (h : Held) : Type 0 where
+pub record ComesFrom (ps : List Packet) (site : ℕ) (a : Assembled) (h : HeldParts) : Type 0 where
   pub place : ℕ
   pub packet : Packet
   pub there : slice_get ps place ≡ Some packet
   pub target : packet.target ≡ site
-  pub key : h.key ≡ message_key (way_of packet) (spelled packet.message)
-  pub some : HoldsSome (way_of packet) (spelled packet.message) a
+  pub key : h.key ≡ key_of_message (way_of packet) (spelled_message packet.message)
+  pub some : HoldsSome (way_of packet) (spelled_message packet.message) a
 
 -- it is what the world has there
 pub record AssemblyStands (ps : List Packet) (site : ℕ) (g : Option Gathering) (a : Assembled) : Type 0 where
   pub tied : IsTied a.held g
-  pub each : (h : Held) → a.held ≡ Some h → ComesFrom ps site a h
+  pub each : (h : HeldParts) → a.held ≡ Some h → ComesFrom ps site a h
 
 -- all updates of one line and number carry one write, as in every good world
 pub record AreOne (ps : List Packet) : Type 0 where
@@ -32,5 +32,5 @@ pub record AreOne (ps : List Packet) : Type 0 where
 -- A packet that was put to what is in assembly: another part is missing, or its message is whole.
 abbrev pub IsPutTo : List Packet → (site : ℕ) → Option Gathering → Packet → Taken → Assembled → Type 0
 IsPutTo ps site g p taken.Kept new = (completes g p ≡ false) × AssemblyStands ps site (left_by g p) new
-IsPutTo ps site g p taken.Whole new = (completes g p ≡ true) × AssemblyStands ps site (left_by g p) new × (new.whole ≡ Some (spelled p.message))
+IsPutTo ps site g p taken.Whole new = (completes g p ≡ true) × AssemblyStands ps site (left_by g p) new × (new.whole ≡ Some (spelled_message p.message))
 IsPutTo ps site g p taken.Bad new = ⊥

@@ -3,9 +3,9 @@ ghost use Rattle.std.specs.Prelude.{◌≡◌, ◌+◌, ◌≤◌, ◌++◌, Lis
 ghost use Rattle.vx_courier.specs.UnderWay.{FlightStands};
 ghost use Rattle.vx_history.specs.Sends.{packets_of, parts_of};
 ghost use Rattle.vx_history.specs.World.{Message as PlainMessage, Packet};
-ghost use Rattle.vx_net.specs.Flights.{greatest};
-ghost use Rattle.vx_packet.specs.Messages.{CanSpell, IsCounted, IsTyped, parts_of as parts_in_bytes};
-ghost use Rattle.vx_parts.specs.Spelling.{spelled};
+ghost use Rattle.vx_net.specs.Flights.{greatest_packet};
+ghost use Rattle.vx_packet.specs.Messages.{CanSpellMessage, IsCounted, IsTyped, count_of_parts as parts_in_bytes};
+ghost use Rattle.vx_parts.specs.Spelling.{spelled_message};
 
 use vx_model::Line;
 use vx_net::Net;
@@ -84,9 +84,9 @@ fn is_typed(message: &Message<'_>)
 /// Sends a message, in a packet for each of its parts, in their order.
 pub fn send_message<N: Net>(flight: &mut N, envelope: &Envelope, message: &Message<'_>)
     requires generation { IsCounted envelope.now.line.generation }
-    requires message { CanSpell message.now }
-    ensures sends { (ps : List Packet) (m : PlainMessage) → message.now ≡ spelled m → FlightStands ps (N.flying flight.old)
-        → (N.flying flight.old).count + parts_of m ≤ greatest
+    requires message { CanSpellMessage message.now }
+    ensures sends { (ps : List Packet) (m : PlainMessage) → message.now ≡ spelled_message m → FlightStands ps (N.flying flight.old)
+        → (N.flying flight.old).count + parts_of m ≤ greatest_packet
         → FlightStands (ps ++ packets_of envelope.now.source envelope.now.target envelope.now.line m) (N.flying flight.new) }
     ensures count { (N.flying flight.new).count ≤ (N.flying flight.old).count + parts_in_bytes message.now }
 {

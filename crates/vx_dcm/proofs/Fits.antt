@@ -3,9 +3,10 @@ use Rattle.std.proofs.Common.{◌≡◌, ◌∙◌, ⊎_elim, ℕ, ◌+◌, ◌*
 use Rattle.std.specs.Prelude.{slice_index}
 use Rattle.std.proofs.lemmas.Bool.{cases_eq}
 use Rattle.std.proofs.lemmas.List.Sums.{sum_by-cons}
+use Rattle.vx_disk.specs.Maps.{maps_of}
 use Rattle.vx_model.specs.Sizes.{map_blocks}
 use Rattle.vx_disk.specs.Shelf.{Meaning}
-use Rattle.vx_dcm.specs.Places.{maps_in, maps_of}
+use Rattle.vx_dcm.specs.Places.{maps_in}
 
 -- the first n units exist
 pub record ExistBelow (n : ℕ) (vols : List ℕ) (m : Meaning) : Type 0 where

@@ -1,6 +1,7 @@
 -- Where the map of each place of a link and each volume lies.
 use Rattle.std.specs.Prelude.{◌≡◌, ℕ, ◌+◌, ◌*◌, ◌<◌, ◌≤◌, Bool, List, length, map, take, slice_index}
 use Rattle.std.specs.List.{sum_by}
+use Rattle.vx_disk.specs.Maps.{maps_of}
 use Rattle.vx_model.specs.Sizes.{map_blocks, regions_of}
 use Rattle.vx_model.specs.declared.limits.TheConstants.{LINK_PLACES, MAP_REGIONS, MOST_DATA_VOLUMES}
 use Rattle.vx_model.specs.declared.units.Units.{Units}
@@ -18,25 +19,21 @@ pub record Maps : Type 0 where
 abbrev pub maps_in : List ℕ → ℕ
 maps_in sizes = sum_by (λ n. map_blocks n) sizes
 
--- how many blocks the maps of one place of a link take, as the shelf has the volumes
-abbrev pub maps_of : List ℕ → Meaning → ℕ
-maps_of vols m = sum_by (λ u. map_blocks (m.size u)) vols
-
 -- the blocks of a volume
-abbrev pub size_of : Maps → ℕ → ℕ
-size_of d v = slice_index d.sizes v
+abbrev pub mapped_size : Maps → ℕ → ℕ
+mapped_size d v = slice_index d.sizes v
 
 -- the first block of a map: behind the maps of the places before, and of the volumes before
-abbrev pub first_of : List ℕ → ℕ → ℕ → ℕ
-first_of sizes slot v = slot * maps_in sizes + maps_in (take v sizes)
+abbrev pub map_first : List ℕ → ℕ → ℕ → ℕ
+map_first sizes slot v = slot * maps_in sizes + maps_in (take v sizes)
 
 -- the place of a region of a map among the regions of all maps
-abbrev pub place_of : Maps → ℕ → ℕ → ℕ → ℕ
-place_of d slot v r = MAP_REGIONS * first_of d.sizes slot v + r
+abbrev pub region_place : Maps → ℕ → ℕ → ℕ → ℕ
+region_place d slot v r = MAP_REGIONS * map_first d.sizes slot v + r
 
 -- whether a region of a volume is marked for a place of a link
 abbrev pub has_mark : Maps → ℕ → ℕ → ℕ → Bool
-has_mark d slot v r = is_marked d.map.bytes (place_of d slot v r)
+has_mark d slot v r = is_marked d.map.bytes (region_place d slot v r)
 
 -- there is such a place and volume
 pub record HasMap (d : Maps) (slot v : ℕ) : Type 0 where
@@ -46,14 +43,14 @@ pub record HasMap (d : Maps) (slot v : ℕ) : Type 0 where
 -- and the volume has such a region
 pub record HasRegion (d : Maps) (slot v r : ℕ) : Type 0 where
   pub map : HasMap d slot v
-  pub region : r < regions_of (size_of d v)
+  pub region : r < regions_of (mapped_size d v)
 
 -- each other region of each map is as it was
-pub record OthersSame (slot v r : ℕ) (old new : Maps) : Type 0 where
+pub record OtherMapsSame (slot v r : ℕ) (old new : Maps) : Type 0 where
   pub each : (k w q : ℕ) → HasRegion old k w q → ((k ≡ slot) × (w ≡ v) × (q ≡ r) → ⊥) → has_mark new k w q ≡ has_mark old k w q
 
 -- for each place of a link there is a map of each volume, and the maps are not too many
-pub record IsKept (map : Map) (sizes : List ℕ) (stride : ℕ) : Type 0 where
+pub record AreMapsKept (map : Map) (sizes : List ℕ) (stride : ℕ) : Type 0 where
   pub stride_is : stride ≡ maps_in sizes
   pub long : length map.bytes ≡ 512 * (LINK_PLACES * stride)
   pub few : LINK_PLACES * stride ≤ MOST_MAP_BLOCKS

@@ -1,11 +1,11 @@
 // The change maps of a group.
 ghost use Rattle.std.specs.Prelude.{◌≡◌, ◌+◌, ◌*◌, ◌<◌, ◌≤◌, IfErr, IfOk, IsFalse, OnOk, true};
-ghost use Rattle.vx_bitmap.specs.Maps.{ChangedAt, Changing, IsRead, Lies, LoadCause, MapOn, SamePlace, UnitCause, blocks_of, regions_of};
+ghost use Rattle.vx_bitmap.specs.Maps.{ChangedAt, Changing, IsRead, Lies, LoadCause, MapOn, SamePlace, UnitCause, map_block_count, regions_mapped};
 ghost use Rattle.vx_disk.specs.Causes.{DeviceCause};
 ghost use Rattle.vx_disk.specs.Moves.{Moves, Run, Settled};
 ghost use Rattle.vx_disk.specs.Shelf.{Goes, Nothing};
-ghost use Rattle.vx_dcm.specs.Counts.{left_in as left_in_is, left_of};
-ghost use Rattle.vx_dcm.specs.Places.{DcmLoaded, HasMap, HasRegion, MapsFit, OthersSame, has_mark, place_of, size_of};
+ghost use Rattle.vx_dcm.specs.Counts.{left_in as left_in_is, marks_left};
+ghost use Rattle.vx_dcm.specs.Places.{DcmLoaded, HasMap, HasRegion, MapsFit, OtherMapsSame, has_mark, region_place, mapped_size};
 ghost use Rattle.vx_model.specs.Sizes.{map_blocks as map_blocks_is};
 ghost use Rattle.vx_model.specs.declared.limits.TheConstants.{LINK_PLACES, MAP_REGIONS};
 
@@ -31,13 +31,13 @@ pub struct Dcm {
 }
 
 impl Model for Dcm {
-    ghost use Rattle.vx_dcm.specs.Places.{IsKept, Maps};
+    ghost use Rattle.vx_dcm.specs.Places.{AreMapsKept, Maps};
 
     ghost Value = { Maps };
 
     ghost view = { λ d. record { map = d.map; sizes = d.sizes.items } };
 
-    ghost invariant = { λ d. IsKept d.map d.sizes.items d.stride };
+    ghost invariant = { λ d. AreMapsKept d.map d.sizes.items d.stride };
 }
 
 impl Dcm {
@@ -51,7 +51,7 @@ impl Dcm {
         ensures loaded { IfOk result (λ dcm. DcmLoaded units.now (S.meaning shelf.old) dcm) }
         ensures lies { IfOk result (λ dcm. Lies dcm.map (S.meaning shelf.new)) }
         ensures read { IfOk result (λ dcm. IsRead dcm.map (S.meaning shelf.old)) }
-        ensures stands { IfOk result (λ dcm. Settled (S.meaning shelf.old) (Run dcm.map.unit dcm.map.first (blocks_of dcm.map)) → MapOn dcm.map (S.meaning shelf.new)) }
+        ensures stands { IfOk result (λ dcm. Settled (S.meaning shelf.old) (Run dcm.map.unit dcm.map.first (map_block_count dcm.map)) → MapOn dcm.map (S.meaning shelf.new)) }
         ensures goes { Goes Nothing (S.meaning shelf.old) (S.meaning shelf.new) }
         ensures cause { IfErr result (LoadCause (S.meaning shelf.old) (S.meaning shelf.new)) }
     {
@@ -80,9 +80,9 @@ impl Dcm {
     // The place of the first region of a map among those of all maps.
     fn base(&self, slot: u32, vol: u32) -> u64
         requires exists { HasMap self.now slot vol }
-        ensures is { result ≡ place_of self.now slot vol 0 }
-        ensures within { result + MAP_REGIONS * map_blocks_is (size_of self.now vol) ≤ regions_of self.now.map }
-        ensures few { regions_of self.now.map ≤ 268435456 }
+        ensures is { result ≡ region_place self.now slot vol 0 }
+        ensures within { result + MAP_REGIONS * map_blocks_is (mapped_size self.now vol) ≤ regions_mapped self.now.map }
+        ensures few { regions_mapped self.now.map ≤ 268435456 }
     {
         MAP_REGIONS * (u64::from(slot) * self.stride + maps_to(&self.sizes, vol as usize))
     }
@@ -90,8 +90,8 @@ impl Dcm {
     // The place of a region among those of all maps.
     fn place(&self, slot: u32, vol: u32, region: u64) -> u64
         requires exists { HasRegion self.now slot vol region }
-        ensures is { result ≡ place_of self.now slot vol region }
-        ensures within { result < regions_of self.now.map }
+        ensures is { result ≡ region_place self.now slot vol region }
+        ensures within { result < regions_mapped self.now.map }
     {
         self.base(slot, vol) + region
     }
@@ -110,12 +110,12 @@ impl Dcm {
     ) -> Result<(), No>
         requires lies { Lies self.old.map (S.meaning shelf.old) }
         requires exists { HasRegion self.old slot vol region }
-        ensures moves { Moves (Run self.old.map.unit self.old.map.first (blocks_of self.old.map)) (Changing self.old.map (place_of self.old slot vol region) (place_of self.old slot vol region) on (S.meaning shelf.old)) (S.meaning shelf.old) (S.meaning shelf.new) }
-        ensures writes { Goes (ChangedAt self.old.map (place_of self.old slot vol region) (place_of self.old slot vol region) on (S.meaning shelf.old)) (S.meaning shelf.old) (S.meaning shelf.new) }
+        ensures moves { Moves (Run self.old.map.unit self.old.map.first (map_block_count self.old.map)) (Changing self.old.map (region_place self.old slot vol region) (region_place self.old slot vol region) on (S.meaning shelf.old)) (S.meaning shelf.old) (S.meaning shelf.new) }
+        ensures writes { Goes (ChangedAt self.old.map (region_place self.old slot vol region) (region_place self.old slot vol region) on (S.meaning shelf.old)) (S.meaning shelf.old) (S.meaning shelf.new) }
         ensures stands { OnOk result (MapOn self.old.map (S.meaning shelf.old) → MapOn self.new.map (S.meaning shelf.new)) }
         ensures marked { OnOk result (has_mark self.new slot vol region ≡ on) }
         ensures stays { has_mark self.old slot vol region ≡ on → has_mark self.new slot vol region ≡ on }
-        ensures others { OthersSame slot vol region self.old self.new }
+        ensures others { OtherMapsSame slot vol region self.old self.new }
         ensures place { SamePlace self.old.map self.new.map }
         ensures sizes { self.new.sizes ≡ self.old.sizes }
         ensures cause { IfErr result (DeviceCause (S.meaning shelf.old) (S.meaning shelf.new)) }
@@ -150,7 +150,7 @@ impl Dcm {
     /// How many regions of all volumes are marked in the maps of a place of a link.
     pub fn left(&self, slot: u32) -> u32
         requires exists { slot < LINK_PLACES }
-        ensures { result ≡ left_of self.now slot }
+        ensures { result ≡ marks_left self.now slot }
     {
         let mut total = 0;
         for vol in 0..self.sizes.len() as u32 {

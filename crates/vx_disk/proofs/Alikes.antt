@@ -2,7 +2,7 @@
 use Rattle.std.proofs.Common.{◌≡◌, ◌∙◌, inl, inr, ℕ, ◌%◌, List, IsTrue, cond, false, sym, ap, arith}
 use Rattle.std.proofs.lemmas.Bool.{cases_Bool}
 use Rattle.vx_disk.specs.Blocks.{bit_at}
-use Rattle.vx_disk.specs.Disks.{Disks, picked, place}
+use Rattle.vx_disk.specs.Disks.{Disks, picked, loose_place}
 use Rattle.vx_disk.specs.Moves.{Blocks, Surely, Settled, Everywhere}
 use Rattle.vx_disk.specs.Racks.{Alike, IsRack, SameContents, Stopped}
 use Rattle.vx_disk.specs.Shelf.{Values, Meaning, Lawful, Goes, Holds, Keeps}
@@ -57,7 +57,7 @@ module _ (old new : Meaning) (stopped : Stopped old new) where
 -- a crash keeps the stable value of a block that is not loose
 pub picked_stable : (size : ℕ → ℕ) (d : Disks) (pick u b : ℕ) → d.loose u b ≡ false → picked size d pick u b ≡ d.stable u b
 unfolding picked
-picked_stable size d pick u b is = ap (λ l. cond l (cond (bit_at pick (place size d.loose u b % 64)) (d.latest u b) (d.stable u b)) (d.stable u b)) is
+picked_stable size d pick u b is = ap (λ l. cond l (cond (bit_at pick (loose_place size d.loose u b % 64)) (d.latest u b) (d.stable u b)) (d.stable u b)) is
 
 -- where a rack is down, a crash leaves one value of each block
 pub rest_Settled : (m : Meaning) → Lawful m → IsRack m → IsTrue m.down → Settled m Everywhere

@@ -5,7 +5,7 @@ use Rattle.std.proofs.lemmas.List.Sums.{fold_more}
 use Rattle.std.proofs.lemmas.Bool.{cases_lt}
 use Rattle.vx_disk.specs.declared.unit.MemUnit.{MemUnit}
 use Rattle.vx_disk.specs.Blocks.{block_at, kept, bit_at, trues}
-use Rattle.vx_disk.specs.Disks.{Crashed, count_below, sum_below, place, picked}
+use Rattle.vx_disk.specs.Disks.{Crashed, count_below, sum_below, loose_place, picked}
 use Rattle.vx_disk.specs.Memory.{stable_of, latest_of, loose_of, size_of, failing_of, disks_of, Settled, SettledUnit, loose_before, NoneLoose}
 use Rattle.vx_disk.proofs.Flags.{no_loose}
 
@@ -61,7 +61,7 @@ module _ (old new : List MemUnit) (pick : ℕ) (fuse : Option (ℕ × ℕ)) (set
     of_new : {A : Type 0} (f : MemUnit → A) (e : A) → get_or (map f new) u e ≡ f is
     of_new f e = get_or-map f new u d e (omega (arith, settled.number))
 
-    number : (b : ℕ) → (loose_before old u % 64 + trues (take b was.loose.items)) % 64 ≡ place (size_of old) loose_at u b % 64
+    number : (b : ℕ) → (loose_before old u % 64 + trues (take b was.loose.items)) % 64 ≡ loose_place (size_of old) loose_at u b % 64
     number b =
         let row : loose_of old u ≡ was.loose.items = of_old (λ m. m.loose.items) [] in
         let here : count_below (loose_at u) b ≡ trues (take b was.loose.items) = count_list (loose_of old u) b ∙ ap (λ l. trues (take b l)) row in
@@ -95,7 +95,7 @@ module _ (old new : List MemUnit) (pick : ℕ) (fuse : Option (ℕ × ℕ)) (set
   not_picked u b past =
       let loose = none_at (λ m. m.loose.items) [] old u past in
       let stable = none_at (λ m. m.stable.items) [] old u past in
-      λ i. cond (get_or (loose i) b false) (cond (bit_at pick (place (size_of old) loose_at u b % 64)) (block_at (latest_of old u) b) (block_at (stable i) b)) (block_at (stable i) b)
+      λ i. cond (get_or (loose i) b false) (cond (bit_at pick (loose_place (size_of old) loose_at u b % 64)) (block_at (latest_of old u) b) (block_at (stable i) b)) (block_at (stable i) b)
 
   pub settled-Crashed : Crashed (size_of old) pick (disks_of old fuse) (disks_of new None)
   settled-Crashed = record {

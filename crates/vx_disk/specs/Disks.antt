@@ -24,12 +24,12 @@ sum_below f zero = 0
 sum_below f (suc n) = sum_below f n + f n
 
 -- the place of a block in the list of the loose ones, by unit and then by block
-abbrev pub place : (ℕ → ℕ) → (ℕ → ℕ → Bool) → ℕ → ℕ → ℕ
-place size loose u b = sum_below (λ w. count_below (loose w) (size w)) u + count_below (loose u) b
+abbrev pub loose_place : (ℕ → ℕ) → (ℕ → ℕ → Bool) → ℕ → ℕ → ℕ
+loose_place size loose u b = sum_below (λ w. count_below (loose w) (size w)) u + count_below (loose u) b
 
 -- what a crash keeps of a block
 unfoldable pub picked : (ℕ → ℕ) → Disks → ℕ → ℕ → ℕ → List ℕ
-picked size d pick u b = cond (d.loose u b) (cond (bit_at pick (place size d.loose u b % 64)) (d.latest u b) (d.stable u b)) (d.stable u b)
+picked size d pick u b = cond (d.loose u b) (cond (bit_at pick (loose_place size d.loose u b % 64)) (d.latest u b) (d.stable u b)) (d.stable u b)
 
 -- no block changed
 pub record SameBlocks (old new : Disks) : Type 0 where

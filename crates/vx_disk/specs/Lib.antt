@@ -11,3 +11,4 @@ pub mod Plans
 pub mod Racks
 pub mod Runs
 pub mod Shelf
+pub mod Maps

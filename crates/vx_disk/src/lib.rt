@@ -12,8 +12,6 @@ mod plan;
 mod rack;
 mod shelf;
 mod steps;
-#[cfg(test)]
-mod tests;
 mod unit;
 
 pub use errors::refusal;

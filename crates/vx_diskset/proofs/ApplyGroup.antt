@@ -5,10 +5,10 @@ use Rattle.vx_history.specs.Steps.{burned}
 use Rattle.vx_history.specs.World.{Node}
 use Rattle.vx_model.specs.declared.no.No.{No}
 use Rattle.vx_model.specs.declared.no.No.TheVariants.{Device, Down}
-use Rattle.vx_diskset.specs.Holds.{Beside}
+use Rattle.vx_diskset.specs.Holds.{KeptBeside}
 use Rattle.vx_disk.specs.Shelf.{Meaning, Image, Lawful}
 use Rattle.vx_disk.specs.Moves.{Moves}
-use Rattle.vx_rvg.specs.Groups.{ApplyIs, Applies, Ended, unless_halted, with_applied}
+use Rattle.vx_rvg.specs.Groups.{ApplyIs, Applies, Ended, halted_or, core_applied}
 use Rattle.vx_rvg.specs.Stands.{Resting, Rests}
 use Rattle.vx_rvg.specs.Views.{Core, IsSound, Waits, last_of}
 use Rattle.vx_diskset.specs.DiskSets.{CanApply, halted_at, worked}
@@ -21,7 +21,7 @@ use Rattle.vx_diskset.proofs.LastWrites.{rests_with, resting_found}
 use Rattle.vx_diskset.proofs.StaysUp.{told_now, never_both, left_moved, up_found, SameLog, up_with, held_moved, fused_by, fuse_moved}
 
 -- a log with nothing changed beside
-pub applied_log : (c : Core) (number k : ℕ) (c' : Core) → c' ≡ with_applied c number k → SameLog c c'
+pub applied_log : (c : Core) (number k : ℕ) (c' : Core) → c' ≡ core_applied c number k → SameLog c c'
 applied_log c number k c' is = record {
   units = ap (λ (x : Core). x.units) is;
   ring = ap (λ (x : Core). x.log.ring) is;
@@ -32,7 +32,7 @@ applied_log c number k c' is = record {
 pub ended_log : (c : Core) (h : Option ℕ) (c' : Core) → Ended c h c' → SameLog c c'
 ended_log c h c' ended = record { units = ended.units; ring = ended.ring; header = ended.header; held = ended.held }
 
-module _ {beside : Beside} (n : Node) (c c' : Core) (m new : Meaning) (up : IsUpAt beside n c m) (can : CanApply n) (lawful : Lawful m) (after : Lawful new)
+module _ {beside : KeptBeside} (n : Node) (c c' : Core) (m new : Meaning) (up : IsUpAt beside n c m) (can : CanApply n) (lawful : Lawful m) (after : Lawful new)
     (moves : Moves (Waits c m) (Resting c m) m new) where
   -- whatever a crash leaves behind it
   rested : (i : Image) → new.now i → HasSite beside n i
@@ -45,7 +45,7 @@ module _ {beside : Beside} (n : Node) (c c' : Core) (m new : Meaning) (up : IsUp
   fuse = fuse_moved n.fuse (Waits c m) (Resting c m) m new moves up.fuse
 
   -- it is up as before
-  pub applied_up : IsFalse new.down → Rests c c' m new → (number k : ℕ) → c' ≡ with_applied c number k → IsUpAt beside (worked n) c' new
+  pub applied_up : IsFalse new.down → Rests c c' m new → (number k : ℕ) → c' ≡ core_applied c number k → IsUpAt beside (worked n) c' new
   applied_up still rests number k is =
       up_with n c c' m new n.halted (burned n.fuse) (Waits c m) (Resting c m) moves still fuse up (applied_log c number k c' is) (ap (λ (x : Core). x.halted) is ∙ up.halted) (λ none. none)
       (λ none told. rests_with c c' n.log n.base m new (applied_log c number k c' is).ring (applied_log c number k c' is).header rests (up.content none (sym moves.tells ∙ told))) rested
@@ -60,7 +60,7 @@ module _ {beside : Beside} (n : Node) (c c' : Core) (m new : Meaning) (up : IsUp
       never e = cc
 
 -- an apply whose fuse ran out
-pub applied_cut : {beside : Beside} (n : Node) (c : Core) (m new : Meaning) → IsUpAt beside n c m → CanApply n → Lawful m → Lawful new → Moves (Waits c m) (Resting c m) m new → IsTrue new.down → IsFused n.fuse × IsHeldAt beside n new
+pub applied_cut : {beside : KeptBeside} (n : Node) (c : Core) (m new : Meaning) → IsUpAt beside n c m → CanApply n → Lawful m → Lawful new → Moves (Waits c m) (Resting c m) m new → IsTrue new.down → IsFused n.fuse × IsHeldAt beside n new
 applied_cut n c m new up can lawful after moves down = (
   fused_by n.fuse (Waits c m) (Resting c m) m new moves up.fuse up.up down,
   held_moved n c m new (Waits c m) (Resting c m) moves up (rested n c c m new up can lawful after moves),
@@ -75,7 +75,7 @@ applied_reached (Some why) c to m new c' number is = absurd (let e : Ok number �
 reached : (applied to last safe number : ℕ) → applied ≤ last → last ≡ safe → number ≡ max applied (min to last) → (min to safe ≤ number) × (number ≤ safe)
 reached applied to last safe number known head is = (omega arith, omega arith)
 
-by_result : {beside : Beside} (n : Node) (to : ℕ) (c c' : Core) (m new : Meaning) (result : Result ℕ No) → IsUpAt beside n c m → CanApply n → IsSound c m → Lawful m → Lawful new → IsFalse new.down
+by_result : {beside : KeptBeside} (n : Node) (to : ℕ) (c c' : Core) (m new : Meaning) (result : Result ℕ No) → IsUpAt beside n c m → CanApply n → IsSound c m → Lawful m → Lawful new → IsFalse new.down
     → Applies c to m new c' result → OnOk result (Rests c c' m new) → Moves (Waits c m) (Resting c m) m new → AppliedAs beside n to c' m new result
 by_result n to c c' m new (Ok number) up can sound lawful after still applies rests moves =
     let number_is = reached c.applied to (last_of c) n.safe number sound.known up.head applies.0 in
@@ -85,8 +85,8 @@ by_result n to c c' m new (Err Down) up can sound lawful after still fails rests
 by_result n to c c' m new (Err other) up can sound lawful after still fails rests moves = fails
 
 -- an apply after which the shelf is up
-pub applied_as : {beside : Beside} (n : Node) (to : ℕ) (c c' : Core) (m new : Meaning) (result : Result ℕ No) → IsUpAt beside n c m → CanApply n → IsSound c m → Lawful m → Lawful new → IsFalse new.down
-    → ApplyIs (unless_halted c.halted None) c to m new c' result → OnOk result (Rests c c' m new) → Moves (Waits c m) (Resting c m) m new → AppliedAs beside n to c' m new result
+pub applied_as : {beside : KeptBeside} (n : Node) (to : ℕ) (c c' : Core) (m new : Meaning) (result : Result ℕ No) → IsUpAt beside n c m → CanApply n → IsSound c m → Lawful m → Lawful new → IsFalse new.down
+    → ApplyIs (halted_or c.halted None) c to m new c' result → OnOk result (Rests c c' m new) → Moves (Waits c m) (Resting c m) m new → AppliedAs beside n to c' m new result
 applied_as n to c c' m new result up can sound lawful after still is rests moves =
     by_result n to c c' m new result up can sound lawful after still
-    (subst (λ (o : Option ℕ). ApplyIs (unless_halted o None) c to m new c' result) (up.halted ∙ can.running) is) rests moves
+    (subst (λ (o : Option ℕ). ApplyIs (halted_or o None) c to m new c' result) (up.halted ∙ can.running) is) rests moves

@@ -5,7 +5,7 @@ use Rattle.vx_disk.specs.Causes.{OnDisks}
 use Rattle.vx_disk.specs.Disks.{Disks, Crashed, SameBlocks}
 use Rattle.vx_disk.specs.declared.shelf.Shelf.{Ghosts}
 use Rattle.vx_rvg.specs.declared.group.Rvg.{Rvg}
-use Rattle.vx_diskset.specs.Asked.{CrashesBy, disks_in}
+use Rattle.vx_diskset.specs.Asked.{CrashesBy, disks_told}
 use Rattle.vx_diskset.specs.declared.disk_set.DiskSet.{DiskSet}
 use Rattle.vx_diskset.specs.declared.disk_set.DiskSet.TheVariants.{Up, Down}
 
@@ -19,5 +19,5 @@ module _ {R : Type 0} {g : Ghosts R} where
 
   -- what is told of the shelf of a group is told of its disk set
   pub fuse_did : (e : DiskSet R g) (rvg : Rvg R g) (new : Option Disks) (calls pick : ℕ) → e ≡ Up rvg → OnDisks (g.meaning rvg.shelf).disks new (λ o n. SameBlocks o n × (n.fuse ≡ Some (calls, pick)))
-      → OnDisks (disks_in e) new (λ o n. SameBlocks o n × (n.fuse ≡ Some (calls, pick)))
-  fuse_did e rvg new calls pick is did = subst (λ (x : DiskSet R g). OnDisks (disks_in x) new (λ o n. SameBlocks o n × (n.fuse ≡ Some (calls, pick)))) (sym is) did
+      → OnDisks (disks_told e) new (λ o n. SameBlocks o n × (n.fuse ≡ Some (calls, pick)))
+  fuse_did e rvg new calls pick is did = subst (λ (x : DiskSet R g). OnDisks (disks_told x) new (λ o n. SameBlocks o n × (n.fuse ≡ Some (calls, pick)))) (sym is) did

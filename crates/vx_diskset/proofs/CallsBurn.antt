@@ -4,7 +4,7 @@ use Rattle.std.specs.Prelude.{Option, Some, None, Result, Ok, Err, OnOk, IsFalse
 use Rattle.vx_model.specs.Answer.{is_too_large}
 use Rattle.vx_model.specs.declared.no.No.{No}
 use Rattle.vx_model.specs.declared.no.No.TheVariants.{Device, Size, Range, Limit, Down as IsDown}
-use Rattle.vx_diskset.specs.Holds.{Beside}
+use Rattle.vx_diskset.specs.Holds.{KeptBeside}
 use Rattle.vx_model.specs.declared.no.Counted.TheVariants.{Number}
 use Rattle.vx_model.specs.Content.{blocks_in}
 use Rattle.vx_disk.specs.Burns.{FallsShort, RackIsShort}
@@ -15,7 +15,7 @@ use Rattle.vx_disk.specs.declared.shelf.Shelf.{Ghosts}
 use Rattle.vx_disk.proofs.Alikes.{picked_stable}
 use Rattle.vx_ringio.proofs.Spending.{loses_none, loses_both, loses_fewer, works_since}
 use Rattle.vx_ringio.specs.Spends.{BurntOut, Loses, MakesAtLeast, Passed, Spends, Spent}
-use Rattle.vx_rvg.specs.Groups.{ApplyIs, Fails, WriteIs, unless_halted, write_refusal}
+use Rattle.vx_rvg.specs.Groups.{ApplyIs, GroupFails, WriteIs, halted_or, write_refusal}
 use Rattle.vx_rvg.specs.Saves.{SaveIs, change_refusal, reclaim_refusal}
 use Rattle.vx_rvg.specs.Views.{Core, last_of}
 use Rattle.vx_rvg.specs.declared.group.Rvg.{Rvg}
@@ -23,11 +23,11 @@ use Rattle.vx_srl.specs.Views.{BodyFits, free_of, most_number}
 use Rattle.vx_events.specs.declared.said.Said.{Said}
 use Rattle.vx_events.specs.declared.said.Said.TheVariants.{Refused}
 use Rattle.vx_history.specs.World.{Node}
-use Rattle.vx_diskset.specs.Asked.{CutsShort, LeavesFuse, MayCrash, disks_in, size_in}
+use Rattle.vx_diskset.specs.Asked.{CutsShort, LeavesFuse, MayCrash, disks_told, size_in}
 use Rattle.vx_diskset.specs.Burning.{Burnt, NoMore, IsLogged, OffIf, said_by}
 use Rattle.vx_diskset.specs.DiskSets.{is_off}
 use Rattle.vx_diskset.specs.Keeps.{done_by}
-use Rattle.vx_diskset.specs.Stands.{IsUpAt, StandsAt}
+use Rattle.vx_diskset.specs.Stands.{IsUpAt, SiteStands}
 use Rattle.vx_diskset.specs.declared.disk_set.DiskSet.{DiskSet}
 use Rattle.vx_diskset.specs.declared.disk_set.DiskSet.TheVariants.{Up}
 use Rattle.vx_diskset.proofs.StaysUp.{never_both}
@@ -42,11 +42,11 @@ one_of : (b : Bool) (x y : Option No) → never_down x → never_down y → neve
 one_of true x y one two = one
 one_of false x y one two = two
 
-unless : (halted : Option ℕ) (rest : Option No) → never_down rest → never_down (unless_halted halted rest)
+unless : (halted : Option ℕ) (rest : Option No) → never_down rest → never_down (halted_or halted rest)
 unless None rest never = never
 unless (Some disk) rest never = refl
 
-fails_off : (c : Core) (old new : Meaning) (c' : Core) (why : No) → IsFalse new.down → Fails c old new c' why → new.down ≡ is_off why
+fails_off : (c : Core) (old new : Meaning) (c' : Core) (why : No) → IsFalse new.down → GroupFails c old new c' why → new.down ≡ is_off why
 fails_off c old new c' (Device disk) up fails = up
 fails_off c old new c' IsDown up fails = absurd (never_both new.down fails.1 up)
 fails_off c old new c' other up fails = absurd fails
@@ -59,8 +59,8 @@ apply_by (Some why) c count old new c' r never up is = err_off r why new.down ne
 apply_by None c count old new c' (Ok number) never up is = up
 apply_by None c count old new c' (Err why) never up is = fails_off c old new c' why up is
 
-pub apply_off : (c : Core) (count : ℕ) (old new : Meaning) (c' : Core) (r : Result ℕ No) → IsFalse new.down → ApplyIs (unless_halted c.halted None) c count old new c' r → OffIf r new.down
-apply_off c count old new c' r up is = apply_by (unless_halted c.halted None) c count old new c' r (unless c.halted None tt) up is
+pub apply_off : (c : Core) (count : ℕ) (old new : Meaning) (c' : Core) (r : Result ℕ No) → IsFalse new.down → ApplyIs (halted_or c.halted None) c count old new c' r → OffIf r new.down
+apply_off c count old new c' r up is = apply_by (halted_or c.halted None) c count old new c' r (unless c.halted None tt) up is
 
 save_by : (refusal : Option No) (c after : Core) (old new : Meaning) (c' : Core) (r : Result (Unit {0}) No) → never_down refusal → IsFalse new.down → SaveIs refusal c after old new c' r → OffIf r new.down
 save_by (Some why) c after old new c' r never up is = err_off r why new.down never up is.0
@@ -223,7 +223,7 @@ as_out : (P : Disks → Disks → Type 0) (why : No) (size : ℕ → ℕ) (o n :
 as_out P IsDown size o n off burnt = burnt
 as_out P other size o n off burnt = absurd (let e : false ≡ true = off in cc)
 
-still_on : (o : Option Disks) → OnDisks o o Passed
+pub still_on : (o : Option Disks) → OnDisks o o Passed
 still_on None = tt
 still_on (Some d) = (passed_none d, λ u. refl)
 
@@ -254,11 +254,11 @@ module _ {R : Type 0} {g : Ghosts R} where
   up_same rvg there is = cc
 
   -- of a site that is up
-  pub cuts_up : (beside : Beside) (n : Node) (e : DiskSet R g) (there : Rvg R g) (bytes : List ℕ) (r : Result ℕ No) → e ≡ Up there → StandsAt beside n e
+  pub cuts_up : (beside : KeptBeside) (n : Node) (e : DiskSet R g) (there : Rvg R g) (bytes : List ℕ) (r : Result ℕ No) → e ≡ Up there → SiteStands beside n e
       → (IsFalse (g.meaning there.shelf).down → blocks_in bytes < free_of there.core.log → BodyFits there.core.log bytes → r ≡ Err IsDown → RackIsShort 4 (g.meaning there.shelf).disks) → CutsShort bytes (said_by r) e
   cuts_up beside n e there bytes r at stands cuts = record {
     short = λ rvg is hand fits said.
-        let up : IsUpAt beside n there.core (g.meaning there.shelf) = subst (λ (x : DiskSet R g). StandsAt beside n x) at stands in
+        let up : IsUpAt beside n there.core (g.meaning there.shelf) = subst (λ (x : DiskSet R g). SiteStands beside n x) at stands in
         let same : there ≡ rvg = up_same rvg there (sym at ∙ is) in
         subst (λ (k : Rvg R g). RackIsShort 4 (g.meaning k.shelf).disks) same
         (cuts up.up (subst (λ (k : Rvg R g). blocks_in bytes < free_of k.core.log) (sym same) hand) (subst (λ (k : Rvg R g). BodyFits k.core.log bytes) (sym same) fits) (off_result r said));
@@ -276,27 +276,30 @@ module _ {R : Type 0} {g : Ghosts R} where
       → Spends (g.meaning old.shelf) (g.meaning new.shelf) → LeavesFuse P (said_by r) (Up old) (Up new)
   called_by P r old new up off done spends = record {
     told = burnt_on P (g.meaning old.shelf).size (g.meaning old.shelf).down (g.meaning new.shelf).down r (g.meaning old.shelf).disks (g.meaning new.shelf).disks up off done spends.told;
+    sizes = spends.size;
   }
 
   -- a call that answers nothing
   pub done_called : (r : Result (Unit {0}) No) (old new : Rvg R g) → IsFalse (g.meaning old.shelf).down → OffIf r (g.meaning new.shelf).down → Spends (g.meaning old.shelf) (g.meaning new.shelf) → LeavesFuse NoMore (done_by r) (Up old) (Up new)
   done_called r old new up off spends = record {
     told = done_burnt (g.meaning old.shelf).size (g.meaning old.shelf).down (g.meaning new.shelf).down r (g.meaning old.shelf).disks (g.meaning new.shelf).disks up off spends.told;
+    sizes = spends.size;
   }
 
   -- a call that did nothing, and was not answered 6
   pub called_still : (P : Disks → Disks → Type 0) (why : No) (e : DiskSet R g) → is_off why ≡ false → LeavesFuse P (Refused why) e e
-  called_still P why e on = record { told = still_by P why (size_in e) (disks_in e) on }
+  called_still P why e on = record { told = still_by P why (size_in e) (disks_told e) on; sizes = λ u. refl }
 
   -- a call in which the fuse ran out, and behind which the disks crashed
   pub called_cut : (P : Disks → Disks → Type 0) (why : No) (pick : ℕ) (a b c : DiskSet R g) → is_off why ≡ true → LeavesFuse P (Refused why) a b → MayCrash pick b c → LeavesFuse P (Refused why) a c
   called_cut P why pick a b c off one two = record {
-    told = as_out P why (size_in a) (disks_in a) (disks_in c) off
-        (again_on (size_in a) (size_in b) pick (disks_in a) (disks_in b) (disks_in c) (out_as P why (size_in a) (disks_in a) (disks_in b) off one.told) two.told);
+    told = as_out P why (size_in a) (disks_told a) (disks_told c) off
+        (again_on (size_in a) (size_in b) pick (disks_told a) (disks_told b) (disks_told c) (out_as P why (size_in a) (disks_told a) (disks_told b) off one.told) two.told);
+    sizes = λ u. two.sizes u ∙ one.sizes u;
   }
 
   -- a call on the group of a site that is up
-  pub called_up : (P : Disks → Disks → Type 0) (said : Said) (beside : Beside) (n : Node) (e after : DiskSet R g) (rvg : Rvg R g) → e ≡ Up rvg → StandsAt beside n e → (IsUpAt beside n rvg.core (g.meaning rvg.shelf) → LeavesFuse P said (Up rvg) after) → LeavesFuse P said e after
+  pub called_up : (P : Disks → Disks → Type 0) (said : Said) (beside : KeptBeside) (n : Node) (e after : DiskSet R g) (rvg : Rvg R g) → e ≡ Up rvg → SiteStands beside n e → (IsUpAt beside n rvg.core (g.meaning rvg.shelf) → LeavesFuse P said (Up rvg) after) → LeavesFuse P said e after
   called_up P said beside n e after rvg is stands called =
-      let up : IsUpAt beside n rvg.core (g.meaning rvg.shelf) = subst (λ (x : DiskSet R g). StandsAt beside n x) is stands in
+      let up : IsUpAt beside n rvg.core (g.meaning rvg.shelf) = subst (λ (x : DiskSet R g). SiteStands beside n x) is stands in
       subst (λ (x : DiskSet R g). LeavesFuse P said x after) (sym is) (called up)

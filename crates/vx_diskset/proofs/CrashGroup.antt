@@ -8,7 +8,7 @@ use Rattle.vx_history.specs.Steps.{crashed, half_begun}
 use Rattle.vx_model.specs.declared.state.State.{State}
 use Rattle.vx_model.specs.declared.units.Units.{Units}
 use Rattle.vx_srlfmt.specs.Kinds.{Kind}
-use Rattle.vx_diskset.specs.Holds.{Beside}
+use Rattle.vx_diskset.specs.Holds.{KeptBeside}
 use Rattle.vx_disk.specs.Racks.{IsRack, Stopped}
 use Rattle.vx_disk.specs.Shelf.{Meaning, Image, Keeps, Lawful}
 use Rattle.vx_overlay.specs.Writes.{newest_of}
@@ -17,7 +17,7 @@ use Rattle.vx_ringio.proofs.Following.{class_here, class_beyond, left_image}
 use Rattle.vx_ringlog.specs.Chain.{Recovers}
 use Rattle.vx_rvg.specs.Contents.{HasSizes}
 use Rattle.vx_rvg.specs.Holdings.{Holding}
-use Rattle.vx_rvg.specs.Stands.{Found, Left}
+use Rattle.vx_rvg.specs.Stands.{FoundGroup, LeftGroup}
 use Rattle.vx_rvg.specs.Views.{Core, unit_of}
 use Rattle.vx_rvg.proofs.ContentFacts.{has_content, has_maps}
 use Rattle.vx_disk.specs.declared.shelf.Shelf.{Ghosts}
@@ -29,7 +29,7 @@ use Rattle.vx_model.specs.declared.no.No.{No}
 use Rattle.vx_model.specs.declared.no.No.TheVariants.{Device, Limit, Down as Off}
 use Rattle.vx_events.specs.Facts.{values_from}
 use Rattle.vx_diskset.specs.Lasts.{FoundWith, LeftWith}
-use Rattle.vx_diskset.specs.Holds.{HasDoubted, HasWrites, Kept, itself, state_with, sure_of}
+use Rattle.vx_diskset.specs.Holds.{HasDoubted, HasWrites, KeptSite, itself, state_with, sure_of}
 use Rattle.vx_diskset.specs.Layouts.{LiesOn, raw_units, units_of}
 use Rattle.vx_diskset.specs.Holds.{most_with}
 use Rattle.vx_diskset.specs.Stands.{IsUpAt, IsHeldAt, IsDownAt, CutAt, IsToldAt}
@@ -72,7 +72,7 @@ abbrev with_maps : Units → Meaning → Image → Holding → Holding
 with_maps units m i h = record { low = h.low; writes = h.writes; place = h.place; content = h.content; maps = values_from (λ b. i units.maps b) 0 (m.size units.maps) }
 
 found_left : (units : Units) (ring : ℕ) (state : State) (session stamp : ℕ) (h : Holding) (m : Meaning) (i : Image) → IsTrue m.tells
-    → ((u b : ℕ) → Keeps m u b (i u b)) → HasSizes units.vols h.content m → Found units ring state session stamp i h → Left units ring state session stamp (with_maps units m i h) m
+    → ((u b : ℕ) → Keeps m u b (i u b)) → HasSizes units.vols h.content m → FoundGroup units ring state session stamp i h → LeftGroup units ring state session stamp (with_maps units m i h) m
 found_left units ring state session stamp h m i tells one sizes found = record {
   header = found.header;
   records = found.records;
@@ -115,7 +115,7 @@ found_left_with units ring state session stamp xs c m i tells one sizes with = r
 
 -- and what is left says what each image has
 pub left_found : (units : Units) (ring : ℕ) (state : State) (session stamp : ℕ) (h : Holding) (m : Meaning) (i : Image) → Lawful m → m.now i
-    → Left units ring state session stamp h m → Found units ring state session stamp i h
+    → LeftGroup units ring state session stamp h m → FoundGroup units ring state session stamp i h
 left_found units ring state session stamp h m i lawful now left = record {
   header = left.header;
   records = left.records;
@@ -158,15 +158,15 @@ site_sizes disks blocks c m some size here none = record {
 
 -- what a crash kept: the site as its node says it, or what it might be besides, with so many of its writes, and what it left of them where
 -- contents are told
-pub record Fell (beside : Beside) (n : Node) (m : Meaning) : Type 0 where
-  pub kept : Kept
+pub record Fell (beside : KeptBeside) (n : Node) (m : Meaning) : Type 0 where
+  pub kept : KeptSite
   pub is : (kept ≡ itself beside n) ⊎ (beside.doubt ≡ Some kept)
   pub count : ℕ
   pub least : kept.node.safe ≤ count
   pub most : count ≤ length kept.node.log
   pub down : IsDownAt (sure_of kept) (crashed kept.node count) m
 
-module _ (k : Kept) (m new : Meaning) (lies : LiesOn k.node m) (low : k.node.low ≡ 1) (begun : IsTrue m.tells → 0 < k.node.session) (lawful : Lawful new) (rack : IsRack new) (stopped : Stopped m new) where
+module _ (k : KeptSite) (m new : Meaning) (lies : LiesOn k.node m) (low : k.node.low ≡ 1) (begun : IsTrue m.tells → 0 < k.node.session) (lawful : Lawful new) (rack : IsRack new) (stopped : Stopped m new) where
   abbrev n : Node
   n = k.node
 
@@ -197,7 +197,7 @@ module _ (k : Kept) (m new : Meaning) (lies : LiesOn k.node m) (low : k.node.low
     left = left;
   }
 
-module _ {beside : Beside} (n : Node) (m new : Meaning) (up : IsHeldAt beside n m) (lawful : Lawful new) (rack : IsRack new) (stopped : Stopped m new) where
+module _ {beside : KeptBeside} (n : Node) (m new : Meaning) (up : IsHeldAt beside n m) (lawful : Lawful new) (rack : IsRack new) (stopped : Stopped m new) where
   fell_itself : (i : Image) → HasWrites beside n i → new.now i → IsTrue new.tells → Fell beside n new
   fell_itself i has now tells =
       let own = writes_itself n i has in
@@ -213,7 +213,7 @@ module _ {beside : Beside} (n : Node) (m new : Meaning) (up : IsHeldAt beside n 
   fell_besides : (i : Image) → HasDoubted beside.doubt i → new.now i → IsTrue new.tells → Fell beside n new
   fell_besides i has now tells =
       let d = doubted beside.doubt i has in
-      let k : Kept = d.0 in
+      let k : KeptSite = d.0 in
       let may = up.may k d.1 in
       record {
         kept = k;
@@ -245,37 +245,37 @@ module _ {beside : Beside} (n : Node) (m new : Meaning) (up : IsHeldAt beside n 
   crash_down = fell_by new.tells refl
 
 module _ {R : Type 0} {g : Ghosts R} where
-  pub held_crashed : {beside : Beside} (n : Node) (old shelf new : R) → shelf ≡ old → IsHeldAt beside n (g.meaning old) → Lawful (g.meaning new) → IsRack (g.meaning new) → Stopped (g.meaning shelf) (g.meaning new) → CrashedAt {g = g} beside n (Down new)
+  pub held_crashed : {beside : KeptBeside} (n : Node) (old shelf new : R) → shelf ≡ old → IsHeldAt beside n (g.meaning old) → Lawful (g.meaning new) → IsRack (g.meaning new) → Stopped (g.meaning shelf) (g.meaning new) → CrashedAt {g = g} beside n (Down new)
   held_crashed n old shelf new is held lawful rack stopped =
       let k = crash_down n (g.meaning old) (g.meaning new) held lawful rack (subst (λ (r : R). Stopped (g.meaning r) (g.meaning new)) is stopped) in
       record { kept = k.kept; is = k.is; count = k.count; least = k.least; most = k.most; stands = k.down }
 
   -- the disk set of a site that crashed
-  pub crashed_at : {beside : Beside} (n : Node) (core : Core) (old shelf new : R) → shelf ≡ old → IsUpAt beside n core (g.meaning old) → Lawful (g.meaning new) → IsRack (g.meaning new) → Stopped (g.meaning shelf) (g.meaning new)
+  pub crashed_at : {beside : KeptBeside} (n : Node) (core : Core) (old shelf new : R) → shelf ≡ old → IsUpAt beside n core (g.meaning old) → Lawful (g.meaning new) → IsRack (g.meaning new) → Stopped (g.meaning shelf) (g.meaning new)
       → CrashedAt {g = g} beside n (Down new)
   crashed_at n core old shelf new is up lawful rack stopped = held_crashed n old shelf new is (held_up n core (g.meaning old) up) lawful rack stopped
 
   -- the same where its fuse ran out before
-  pub cut_crashed : {beside : Beside} (n : Node) (e : DiskSet R g) (rvg : Rvg R g) (shelf new : R) → e ≡ Up rvg → shelf ≡ rvg.shelf → CutAt beside n e → Lawful (g.meaning new) → IsRack (g.meaning new) → Stopped (g.meaning shelf) (g.meaning new)
+  pub cut_crashed : {beside : KeptBeside} (n : Node) (e : DiskSet R g) (rvg : Rvg R g) (shelf new : R) → e ≡ Up rvg → shelf ≡ rvg.shelf → CutAt beside n e → Lawful (g.meaning new) → IsRack (g.meaning new) → Stopped (g.meaning shelf) (g.meaning new)
       → CrashedAt {g = g} beside n (Down new)
   cut_crashed {beside} n e rvg shelf new is same cut lawful rack stopped = held_crashed n rvg.shelf shelf new same (subst (CutAt beside n) is cut) lawful rack stopped
 
   -- a write or an apply whose fuse ran out, and the crash behind it
-  pub wrote_off : {beside : Beside} (n : Node) (x : Write) (old mid new : DiskSet R g) (why : No) → is_off why ≡ true → WroteUp beside n x old mid (Err why) → (CutAt beside (half_begun n x) mid → CrashedAt beside (half_begun n x) new) → (IsToldAt new → IsToldAt mid) → WroteAt beside n x old new (Err why)
+  pub wrote_off : {beside : KeptBeside} (n : Node) (x : Write) (old mid new : DiskSet R g) (why : No) → is_off why ≡ true → WroteUp beside n x old mid (Err why) → (CutAt beside (half_begun n x) mid → CrashedAt beside (half_begun n x) new) → (IsToldAt new → IsToldAt mid) → WroteAt beside n x old new (Err why)
   wrote_off n x old mid new Off off is falls later = (is.0, falls is.1, (λ calls told exact. is.2 calls (later told) exact), is.3)
   wrote_off n x old mid new other off is falls later = absurd (cc)
 
-  pub wrote_on : (beside : Beside) (n : Node) (x : Write) (old new : DiskSet R g) (why : No) → is_off why ≡ false → WroteUp beside n x old new (Err why) → WroteAt beside n x old new (Err why)
+  pub wrote_on : (beside : KeptBeside) (n : Node) (x : Write) (old new : DiskSet R g) (why : No) → is_off why ≡ false → WroteUp beside n x old new (Err why) → WroteAt beside n x old new (Err why)
   wrote_on beside n x old new Off off is = absurd (cc)
   wrote_on beside n x old new (Device disk) off is = is
   wrote_on beside n x old new (Limit what most) off is = is
   wrote_on beside n x old new other off is = is
 
-  pub applied_off : {beside : Beside} (n : Node) (to : ℕ) (old mid new : DiskSet R g) (why : No) → is_off why ≡ true → AppliedUp beside n to old mid (Err why) → (CutAt beside n mid → CrashedAt beside n new) → AppliedAt beside n to old new (Err why)
+  pub applied_off : {beside : KeptBeside} (n : Node) (to : ℕ) (old mid new : DiskSet R g) (why : No) → is_off why ≡ true → AppliedUp beside n to old mid (Err why) → (CutAt beside n mid → CrashedAt beside n new) → AppliedAt beside n to old new (Err why)
   applied_off n to old mid new Off off is falls = (is.0, falls is.1)
   applied_off n to old mid new other off is falls = absurd (cc)
 
-  pub applied_on : (beside : Beside) (n : Node) (to : ℕ) (old new : DiskSet R g) (why : No) → is_off why ≡ false → AppliedUp beside n to old new (Err why) → AppliedAt beside n to old new (Err why)
+  pub applied_on : (beside : KeptBeside) (n : Node) (to : ℕ) (old new : DiskSet R g) (why : No) → is_off why ≡ false → AppliedUp beside n to old new (Err why) → AppliedAt beside n to old new (Err why)
   applied_on beside n to old new Off off is = absurd (cc)
   applied_on beside n to old new (Device disk) off is = is
   applied_on beside n to old new other off is = is

@@ -8,50 +8,50 @@ use Rattle.vx_model.specs.Sites.{is_origin}
 use Rattle.vx_model.specs.declared.limits.TheConstants.{MOST_CALL_BLOCKS}
 use Rattle.vx_history.specs.World.{Node, Fuse, FuseSet}
 use Rattle.vx_model.specs.declared.no.No.{No}
-use Rattle.vx_diskset.specs.Holds.{Beside}
+use Rattle.vx_diskset.specs.Holds.{KeptBeside}
 use Rattle.vx_disk.specs.Causes.{WithDisks}
 use Rattle.vx_disk.specs.Disks.{Disks}
 use Rattle.vx_disk.specs.Shelf.{Meaning}
 use Rattle.vx_disk.specs.declared.shelf.Shelf.{Ghosts}
 use Rattle.vx_rvg.specs.declared.group.Rvg.{Rvg}
 use Rattle.vx_disk.specs.Burns.{FewerLeft, MakesCalls, IsShort, RackIsShort, FallsShort}
-use Rattle.vx_srl.specs.Views.{Log, BodyFits, all_of, end_of, free_of, kept_of, widths}
+use Rattle.vx_srl.specs.Views.{Log, BodyFits, all_of, end_of, free_of, kept_record, widths}
 use Rattle.vx_srl.specs.declared.kept.Kept.{Kept}
 use Rattle.vx_srl.proofs.LogLists.{place_sum}
 use Rattle.vx_srl.proofs.Shared_S1.{widths_append}
 use Rattle.vx_rvg.specs.Holdings.{blocks_taken}
 use Rattle.vx_rvg.specs.Views.{Core, IsSound}
 use Rattle.vx_rvg.proofs.FetchGives.{widths_beside}
-use Rattle.vx_diskset.specs.Lasts.{StandsWith}
-use Rattle.vx_rvg.specs.Groups.{with_write}
-use Rattle.vx_diskset.specs.Fuses.{HasFuse, IsFirst, LetsPass}
-use Rattle.vx_events.specs.Fuses.{IsExact, KeepsAll, taken}
+use Rattle.vx_diskset.specs.Lasts.{StandsHolding}
+use Rattle.vx_rvg.specs.Groups.{core_with_write}
+use Rattle.vx_diskset.specs.Fuses.{HasFuse, IsFirstLog, LetsPass}
+use Rattle.vx_events.specs.Fuses.{IsExact, KeepsAllWrites, ring_taken}
 use Rattle.vx_diskset.specs.Stands.{IsUpAt}
 
-pub taken_push : (xs : List Write) (x : Write) → taken (xs ++ x ∷ []) ≡ taken xs + (blocks_in x.bytes + 1)
+pub taken_push : (xs : List Write) (x : Write) → ring_taken (xs ++ x ∷ []) ≡ ring_taken xs + (blocks_in x.bytes + 1)
 taken_push [] x = omega arith
 taken_push (y ∷ xs) x = let rest = taken_push xs x in omega (arith, rest)
 
-pub taken_many : (xs : List Write) → length xs ≤ taken xs
+pub taken_many : (xs : List Write) → length xs ≤ ring_taken xs
 taken_many [] = omega arith
 taken_many (x ∷ xs) = let rest = taken_many xs in omega (arith, rest)
 
 -- a log with room for one write more
-module _ (l : Log) (xs : List Write) (bytes : List ℕ) (first : IsFirst l xs) (idle : l.staged ≡ []) (some : 0 < blocks_in bytes) (room : taken xs + (blocks_in bytes + 1) ≤ l.ring) where
+module _ (l : Log) (xs : List Write) (bytes : List ℕ) (first : IsFirstLog l xs) (idle : l.staged ≡ []) (some : 0 < blocks_in bytes) (room : ring_taken xs + (blocks_in bytes + 1) ≤ l.ring) where
   all_is : all_of l ≡ l.held
   all_is = ap (λ (ks : List Kept). l.held ++ ks) idle ∙ append-nil l.held
 
-  used : widths (all_of l) ≡ taken xs
+  used : widths (all_of l) ≡ ring_taken xs
   used = ap widths all_is ∙ first.widths_are
 
   pub at_hand : blocks_in bytes < free_of l
   at_hand = omega (arith, used, room)
 
-  end_is : end_of l ≡ taken xs
+  end_is : end_of l ≡ ring_taken xs
   end_is =
       place_sum l.ring l.header.place (all_of l) (omega (arith, first.place, room))
       ∙ mod-eq_of_lt (omega (arith, first.place, used, room))
-      ∙ (let sum : l.header.place + widths (all_of l) ≡ taken xs = omega (arith, first.place, used) in sum)
+      ∙ (let sum : l.header.place + widths (all_of l) ≡ ring_taken xs = omega (arith, first.place, used) in sum)
 
   pub fits : BodyFits l bytes
   fits =
@@ -59,12 +59,12 @@ module _ (l : Log) (xs : List Write) (bytes : List ℕ) (first : IsFirst l xs) (
       omega (arith, small, end_is, room)
 
 -- with the write
-pub first_pushed : (c c' : Core) (xs : List Write) (volume start : ℕ) (bytes : List ℕ) → c' ≡ with_write c volume start bytes → c.log.staged ≡ [] → IsFirst c.log xs
-    → IsFirst c'.log (xs ++ record { volume = volume; start = start; bytes = bytes } ∷ [])
+pub first_pushed : (c c' : Core) (xs : List Write) (volume start : ℕ) (bytes : List ℕ) → c' ≡ core_with_write c volume start bytes → c.log.staged ≡ [] → IsFirstLog c.log xs
+    → IsFirstLog c'.log (xs ++ record { volume = volume; start = start; bytes = bytes } ∷ [])
 first_pushed c c' xs volume start bytes is idle first = record {
   place = ap (λ (k : Core). k.log.header.place) is ∙ first.place;
   widths_are =
-      let k : Kept = kept_of c.log volume start bytes in
+      let k : Kept = kept_record c.log volume start bytes in
       let held : widths (c.log.held ++ (c.log.staged ++ k ∷ [])) ≡ widths c.log.held + widths (k ∷ []) =
       widths_append c.log.held (c.log.staged ++ k ∷ []) ∙ ap (λ (ks : List Kept). widths c.log.held + widths (ks ++ k ∷ [])) idle in
       let more = taken_push xs (record { volume = volume; start = start; bytes = bytes }) in
@@ -72,11 +72,11 @@ first_pushed c c' xs volume start bytes is idle first = record {
 }
 
 -- a log that holds all of its writes
-pub taken_same : (xs : List Write) → blocks_taken xs ≡ taken xs
+pub taken_same : (xs : List Write) → blocks_taken xs ≡ ring_taken xs
 taken_same [] = refl
 taken_same (x ∷ xs) = let rest = taken_same xs in omega (arith, rest)
 
-first_whole : (c : Core) (xs : List Write) (base : Content) (m : Meaning) → StandsWith c xs base m → taken xs + (MOST_CALL_BLOCKS + 1) ≤ c.log.ring → IsFirst c.log xs
+first_whole : (c : Core) (xs : List Write) (base : Content) (m : Meaning) → StandsHolding c xs base m → ring_taken xs + (MOST_CALL_BLOCKS + 1) ≤ c.log.ring → IsFirstLog c.log xs
 first_whole c xs base m stood room =
     let whole = stood.has.whole room in
     let none : stood.held.low - 1 ≡ 0 = omega (arith, whole.0) in
@@ -112,14 +112,14 @@ lets_pass : (n : Node) (m : Meaning) (calls : ℕ) → n.fuse ≡ FuseSet calls 
 lets_pass n m calls set has = subst (λ (f : Fuse). HasFuse f m) set has
 
 -- a site that is up, and a write that is exactly four calls
-module _ {beside : Beside} (n : Node) (c : Core) (m : Meaning) (volume start : ℕ) (bytes : List ℕ) (up : IsUpAt beside n c m) (none : n.halted ≡ None) (origin : is_origin n.role ≡ true) (sound : IsSound c m) (told : IsTrue m.tells) (some : 0 < blocks_in bytes)
-    (keeps : KeepsAll n) (room : taken n.log + (blocks_in bytes + 1) ≤ n.ring) where
+module _ {beside : KeptBeside} (n : Node) (c : Core) (m : Meaning) (volume start : ℕ) (bytes : List ℕ) (up : IsUpAt beside n c m) (none : n.halted ≡ None) (origin : is_origin n.role ≡ true) (sound : IsSound c m) (told : IsTrue m.tells) (some : 0 < blocks_in bytes)
+    (keeps : KeepsAllWrites n) (room : ring_taken n.log + (blocks_in bytes + 1) ≤ n.ring) where
   idle : c.log.staged ≡ []
   idle = sound.idle (up.halted ∙ none) up.up
 
-  pub first_here : IsFirst c.log n.log
+  pub first_here : IsFirstLog c.log n.log
   first_here =
-      ⊎_elim (λ one. up.fresh origin told none one (omega (arith, room))) (λ (most : taken n.log + (MOST_CALL_BLOCKS + 1) ≤ n.ring). first_whole c n.log n.base m (up.content none told) (omega (arith, most, up.ring))) keeps
+      ⊎_elim (λ one. up.fresh origin told none one (omega (arith, room))) (λ (most : ring_taken n.log + (MOST_CALL_BLOCKS + 1) ≤ n.ring). first_whole c n.log n.base m (up.content none told) (omega (arith, most, up.ring))) keeps
 
   pub hand_here : blocks_in bytes < free_of c.log
   hand_here = at_hand c.log n.log bytes first_here idle some (omega (arith, room, up.ring))
@@ -127,7 +127,7 @@ module _ {beside : Beside} (n : Node) (c : Core) (m : Meaning) (volume start : �
   pub fits_here : BodyFits c.log bytes
   fits_here = fits c.log n.log bytes first_here idle some (omega (arith, room, up.ring))
 
-  pub pushed_here : (c' : Core) → c' ≡ with_write c volume start bytes → IsFirst c'.log (n.log ++ record { volume = volume; start = start; bytes = bytes } ∷ [])
+  pub pushed_here : (c' : Core) → c' ≡ core_with_write c volume start bytes → IsFirstLog c'.log (n.log ++ record { volume = volume; start = start; bytes = bytes } ∷ [])
   pushed_here c' is = first_pushed c c' n.log volume start bytes is idle first_here
 
   pub four_here : (new : Meaning) (calls : ℕ) → n.fuse ≡ FuseSet calls → MakesCalls 4 m new → 4 ≤ calls
@@ -138,14 +138,14 @@ module _ {beside : Beside} (n : Node) (c : Core) (m : Meaning) (volume start : �
 
 -- ---- the same of a group before and behind the making of room, which changed nothing
 
-module _ {beside : Beside} {R : Type 0} {g : Ghosts R} (n : Node) (old mid : Rvg R g) (volume start : ℕ) (bytes : List ℕ) (up : IsUpAt beside n old.core (g.meaning old.shelf)) (none : n.halted ≡ None) (origin : is_origin n.role ≡ true) (told : IsTrue (g.meaning old.shelf).tells)
+module _ {beside : KeptBeside} {R : Type 0} {g : Ghosts R} (n : Node) (old mid : Rvg R g) (volume start : ℕ) (bytes : List ℕ) (up : IsUpAt beside n old.core (g.meaning old.shelf)) (none : n.halted ≡ None) (origin : is_origin n.role ≡ true) (told : IsTrue (g.meaning old.shelf).tells)
     (some : 0 < blocks_in bytes) where
-  at_once : KeepsAll n → taken n.log + (blocks_in bytes + 1) ≤ n.ring → (blocks_in bytes < free_of old.core.log → mid ≡ old) → mid ≡ old
+  at_once : KeepsAllWrites n → ring_taken n.log + (blocks_in bytes + 1) ≤ n.ring → (blocks_in bytes < free_of old.core.log → mid ≡ old) → mid ≡ old
   at_once keeps room idle = idle (hand_here n old.core (g.meaning old.shelf) volume start bytes up none origin old.sound told some keeps room)
 
-  pub first_after : KeepsAll n → taken n.log + (blocks_in bytes + 1) ≤ n.ring → (blocks_in bytes < free_of old.core.log → mid ≡ old) → IsFirst mid.core.log n.log
+  pub first_after : KeepsAllWrites n → ring_taken n.log + (blocks_in bytes + 1) ≤ n.ring → (blocks_in bytes < free_of old.core.log → mid ≡ old) → IsFirstLog mid.core.log n.log
   first_after keeps room idle =
-      subst (λ (r : Rvg R g). IsFirst r.core.log n.log) (sym (at_once keeps room idle)) (first_here n old.core (g.meaning old.shelf) volume start bytes up none origin old.sound told some keeps room)
+      subst (λ (r : Rvg R g). IsFirstLog r.core.log n.log) (sym (at_once keeps room idle)) (first_here n old.core (g.meaning old.shelf) volume start bytes up none origin old.sound told some keeps room)
 
   falls_less : (r : Rvg R g) → r ≡ old → (new : Meaning) (calls : ℕ) → IsExact n (record { volume = volume; start = start; bytes = bytes }) calls
       → (BodyFits r.core.log bytes → FallsShort 4 (g.meaning r.shelf) new) → IsTrue new.down → calls < 4

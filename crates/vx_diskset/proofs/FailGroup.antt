@@ -1,24 +1,32 @@
--- Which disks of a site are made to fail is nothing by which its disk set stands.
-use Rattle.std.proofs.Common.{◌≡◌, ℕ, Bool, ap}
+-- Which disks of a site are made to fail, and what it notes of its group, is nothing by which its disk set stands.
+use Rattle.std.proofs.Common.{◌≡◌, ◌∙◌, ℕ, Bool, ap, refl}
+use Rattle.std.specs.Prelude.{Option}
+use Rattle.vx_model.specs.declared.site.SiteState.TheVariants.{Bare as IsBare}
+use Rattle.vx_history.specs.Groups.{GroupNode}
 use Rattle.vx_history.specs.World.{Node}
-use Rattle.vx_diskset.specs.Holds.{Beside}
+use Rattle.vx_diskset.specs.Holds.{KeptBeside}
 use Rattle.vx_disk.specs.declared.shelf.Shelf.{Ghosts}
-use Rattle.vx_diskset.specs.Stands.{StandsAt, bare_with}
+use Rattle.vx_diskset.specs.Stands.{SiteStands, bare_with}
 use Rattle.vx_diskset.specs.declared.disk_set.DiskSet.{DiskSet}
 use Rattle.vx_diskset.specs.declared.disk_set.DiskSet.TheVariants.{Bare, Spoiled, Up, Receives, Down, Gone}
 use Rattle.vx_diskset.proofs.BesideLemmas.{site_map}
 
-bare_failing : (n : Node) (failing : ℕ → Bool) → n ≡ bare_with n → record n { failing = failing } ≡ bare_with (record n { failing = failing })
-bare_failing n failing is = ap (λ (k : Node). let m : Node = record k { failing = failing } in m) is
+-- a bare site notes no other group
+bare_noted : (n : Node) (failing : ℕ → Bool) (group : Option GroupNode) → (n.state ≡ IsBare → group ≡ n.group) → n ≡ bare_with n
+    → record n { failing = failing; group = group } ≡ bare_with (record n { failing = failing; group = group })
+bare_noted n failing group same is =
+    ap (λ (g : Option GroupNode). let m : Node = record n { failing = failing; group = g } in m) (same (ap (λ (k : Node). k.state) is))
+    ∙ ap (λ (k : Node). let m : Node = record k { failing = failing } in m) is
 
 module _ {R : Type 0} {g : Ghosts R} where
-  pub stands_failing : (beside : Beside) (n : Node) (failing : ℕ → Bool) (e : DiskSet R g) → StandsAt beside n e → StandsAt beside (record n { failing = failing }) e
-  stands_failing beside n failing (Bare rack) h = record {
-    bare = record { is = bare_failing n failing h.bare.is; fitted = h.bare.fitted; unarmed = h.bare.unarmed; few = h.bare.few; some = h.bare.some; blank = h.bare.blank };
+  pub stands_noted : (beside : KeptBeside) (n : Node) (failing : ℕ → Bool) (group : Option GroupNode) (e : DiskSet R g) → (n.state ≡ IsBare → group ≡ n.group)
+      → SiteStands beside n e → SiteStands beside (record n { failing = failing; group = group }) e
+  stands_noted beside n failing group (Bare rack) same h = record {
+    bare = record { is = bare_noted n failing group same h.bare.is; fitted = h.bare.fitted; unarmed = h.bare.unarmed; few = h.bare.few; some = h.bare.some; blank = h.bare.blank };
     front = h.front;
   }
-  stands_failing beside n failing (Spoiled rack) h = record { is = bare_failing n failing h.is; fitted = h.fitted; unarmed = h.unarmed; few = h.few; some = h.some; blank = h.blank }
-  stands_failing beside n failing (Up rvg) h = record {
+  stands_noted beside n failing group (Spoiled rack) same h = record { is = bare_noted n failing group same h.is; fitted = h.fitted; unarmed = h.unarmed; few = h.few; some = h.some; blank = h.blank }
+  stands_noted beside n failing group (Up rvg) same h = record {
     state = h.state;
     up = h.up;
     fuse = h.fuse;
@@ -40,11 +48,11 @@ module _ {R : Type 0} {g : Ghosts R} where
     durable = h.durable;
     takes = h.takes;
     content = h.content;
-    left = λ i now. site_map n (record n { failing = failing }) i (λ has. record { count = has.count; least = has.least; most = has.most; found = has.found }) (h.left i now);
+    left = λ i now. site_map n (record n { failing = failing; group = group }) i (λ has. record { count = has.count; least = has.least; most = has.most; found = has.found }) (h.left i now);
     sure = h.sure;
     may = h.may;
   }
-  stands_failing beside n failing (Receives s) h = record {
+  stands_noted beside n failing group (Receives s) same h = record {
     state = h.state;
     role = h.role;
     up = h.up;
@@ -67,11 +75,11 @@ module _ {R : Type 0} {g : Ghosts R} where
     waits = h.waits;
     takes = h.takes;
     content = h.content;
-    left = λ i now. site_map n (record n { failing = failing }) i (λ has. record { count = has.count; least = has.least; most = has.most; found = has.found }) (h.left i now);
+    left = λ i now. site_map n (record n { failing = failing; group = group }) i (λ has. record { count = has.count; least = has.least; most = has.most; found = has.found }) (h.left i now);
     sure = h.sure;
     may = h.may;
   }
-  stands_failing beside n failing (Down rack) h = record {
+  stands_noted beside n failing group (Down rack) same h = record {
     state = h.state;
     unfused = h.unfused;
     down = h.down;
@@ -83,4 +91,7 @@ module _ {R : Type 0} {g : Ghosts R} where
     begun = h.begun;
     left = h.left;
   }
-  stands_failing beside n failing Gone h = absurd h
+  stands_noted beside n failing group Gone same h = absurd h
+
+  pub stands_failing : (beside : KeptBeside) (n : Node) (failing : ℕ → Bool) (e : DiskSet R g) → SiteStands beside n e → SiteStands beside (record n { failing = failing }) e
+  stands_failing beside n failing e h = stands_noted beside n failing n.group e (λ _. refl) h

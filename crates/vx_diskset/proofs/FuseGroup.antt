@@ -1,7 +1,7 @@
 -- What the setting of the fuse leaves of a site.
 use Rattle.std.proofs.Common.{◌≡◌, ◌∙◌, ℕ, List, sym, refl, Option, Some, None, MatchOption}
 use Rattle.vx_history.specs.World.{Node, FuseSet}
-use Rattle.vx_diskset.specs.Holds.{Beside}
+use Rattle.vx_diskset.specs.Holds.{KeptBeside}
 use Rattle.vx_disk.specs.Causes.{OnDisks}
 use Rattle.vx_disk.specs.Disks.{Disks, SameBlocks}
 use Rattle.vx_disk.specs.Racks.{IsRack, Alike}
@@ -72,7 +72,7 @@ lets_by calls pick (Some o) None with d is = absurd with
 lets_by calls pick (Some o) (Some n) with d is = (pick, with.0.1)
 
 -- a site that is up, with its fuse
-pub up_fused : {beside : Beside} (n : Node) (c : Core) (m new : Meaning) (calls pick : ℕ) → IsRack new → Alike m new → new.down ≡ m.down → OnDisks m.disks new.disks (λ o n. SameBlocks o n × (n.fuse ≡ Some (calls, pick)))
+pub up_fused : {beside : KeptBeside} (n : Node) (c : Core) (m new : Meaning) (calls pick : ℕ) → IsRack new → Alike m new → new.down ≡ m.down → OnDisks m.disks new.disks (λ o n. SameBlocks o n × (n.fuse ≡ Some (calls, pick)))
     → IsUpAt beside n c m → IsUpAt beside (record n { fuse = FuseSet calls }) c new
 up_fused n c m new calls pick rack alike down disks up = record {
   state = up.state;

@@ -15,7 +15,7 @@ use Rattle.vx_srl.specs.declared.kept.Kept.{Kept as KeptRecord}
 use Rattle.vx_disk.specs.Counts.{Rose}
 use Rattle.vx_disk.specs.Moves.{Moves, Run}
 use Rattle.vx_disk.specs.Shelf.{Image, Lawful, Meaning}
-use Rattle.vx_rvg.specs.Groups.{Ended, unless_halted}
+use Rattle.vx_rvg.specs.Groups.{Ended, halted_or}
 use Rattle.vx_rvg.specs.Holdings.{Holding}
 use Rattle.vx_rvg.specs.Saves.{SaveIs, change_refusal, with_new_state}
 use Rattle.vx_rvg.specs.Stands.{FoundAs, Retains, Saving, Stands}
@@ -28,9 +28,9 @@ use Rattle.vx_diskset.specs.declared.disk_set.DiskSet.{DiskSet}
 use Rattle.vx_diskset.specs.declared.disk_set.DiskSet.TheVariants.{Up}
 use Rattle.vx_diskset.specs.DiskSets.{CrashedAt, halted_at, is_off, no_number, worked}
 use Rattle.vx_diskset.specs.Fuses.{HasFuse}
-use Rattle.vx_diskset.specs.Holds.{Beside, HasSite, HasWrites, Kept, MayBe, most_header, most_with, state_with, sure_of}
+use Rattle.vx_diskset.specs.Holds.{KeptBeside, HasSite, HasWrites, KeptSite, MayBe, most_header, most_with, state_with, sure_of}
 use Rattle.vx_diskset.specs.Keeps.{CanKeep, KeptAt, KeptUp, doubting, kept_anew, restated}
-use Rattle.vx_diskset.specs.Lasts.{StandsWith}
+use Rattle.vx_diskset.specs.Lasts.{StandsHolding}
 use Rattle.vx_diskset.specs.Layouts.{LiesOn}
 use Rattle.vx_diskset.specs.Needs.{NoneNeeds, hold_of, is_needing}
 use Rattle.vx_diskset.specs.Stands.{CutAt, IsHeldAt, IsUpAt}
@@ -41,7 +41,7 @@ use Rattle.vx_diskset.proofs.NeedLemmas.{takes_same}
 use Rattle.vx_diskset.proofs.StaysUp.{found_below, fuse_moved, fused_by, kept_whole, left_moved, never_both, told_now, up_found, writes_found}
 
 -- what a state that is kept answers of a group
-abbrev pub KeptAs : Beside → Node → State → Meaning → Core → Meaning → Result (Unit {0}) No → Type 0
+abbrev pub KeptAs : KeptBeside → Node → State → Meaning → Core → Meaning → Result (Unit {0}) No → Type 0
 KeptAs beside n s m c' new (Ok done) = IsUpAt (sure_of (kept_anew beside n s)) (worked (restated n s)) c' new
 KeptAs beside n s m c' new (Err (Device disk)) = IsUpAt (doubting beside n s disk) (halted_at n disk) c' new × Rose (m.disk_faults disk) (new.disk_faults disk)
 KeptAs beside n s m c' new (Err (Limit what most)) = (Limit what most ≡ no_number) × (IsTrue new.tells → most_number ≤ most_header beside n) × IsUpAt beside n c' new
@@ -49,7 +49,7 @@ KeptAs beside n s m c' new (Err IsOff) = IsFused n.fuse × IsHeldAt (doubting be
 KeptAs beside n s m c' new (Err other) = ⊥
 
 -- an image with the site's writes has them of one that is halted, whose log may have one header more
-has_halted : {beside : Beside} (n : Node) (s : State) (disk : ℕ) (i : Image) → HasWrites beside n i → HasWrites (doubting beside n s disk) (halted_at n disk) i
+has_halted : {beside : KeptBeside} (n : Node) (s : State) (disk : ℕ) (i : Image) → HasWrites beside n i → HasWrites (doubting beside n s disk) (halted_at n disk) i
 has_halted {beside} n s disk i has = record {
   count = has.count;
   least = has.least;
@@ -63,10 +63,10 @@ has_halted {beside} n s disk i has = record {
 }
 
 -- the same of one with the new state
-has_anew : (beside : Beside) (n : Node) (s : State) (disk : ℕ) (i : Image) → HasWrites (sure_of (kept_anew beside n s)) (restated n s) i → HasWrites (sure_of (record (kept_anew beside n s) { node = halted_at (restated n s) disk })) (halted_at (restated n s) disk) i
+has_anew : (beside : KeptBeside) (n : Node) (s : State) (disk : ℕ) (i : Image) → HasWrites (sure_of (kept_anew beside n s)) (restated n s) i → HasWrites (sure_of (record (kept_anew beside n s) { node = halted_at (restated n s) disk })) (halted_at (restated n s) disk) i
 has_anew beside n s disk i has = record { count = has.count; least = has.least; most = has.most; found = has.found }
 
-module _ {beside : Beside} (n : Node) (c : Core) (m : Meaning) (s : State) (up : IsUpAt beside n c m) (can : CanKeep beside n s) where
+module _ {beside : KeptBeside} (n : Node) (c : Core) (m : Meaning) (s : State) (up : IsUpAt beside n c m) (can : CanKeep beside n s) where
   many : length n.log ≡ n.safe
   many = omega (arith, up.logged, up.durable can.running)
 
@@ -99,7 +99,7 @@ module _ {beside : Beside} (n : Node) (c : Core) (m : Meaning) (s : State) (up :
       (λ next. inr (anew_found i told (subst (λ (h : Holding). FoundAs (with_new_state c s) i h) (kept_all c stood.held m stood.stands) next)))
       (saving.each stood.held stood.stands)
 
-module _ {beside : Beside} (n : Node) (c c' : Core) (m new : Meaning) (s : State) (up : IsUpAt beside n c m) (can : CanKeep beside n s) (lawful : Lawful m) (after : Lawful new)
+module _ {beside : KeptBeside} (n : Node) (c c' : Core) (m new : Meaning) (s : State) (up : IsUpAt beside n c m) (can : CanKeep beside n s) (lawful : Lawful m) (after : Lawful new)
     (moves : Moves (Run c.units.srl 0 (c.log.ring + 2)) (Saving c (with_new_state c s) m) m new) where
   fuse_here : HasFuse (burned n.fuse) new
   fuse_here = fuse_moved n.fuse (Run c.units.srl 0 (c.log.ring + 2)) (Saving c (with_new_state c s) m) m new moves up.fuse
@@ -118,8 +118,8 @@ module _ {beside : Beside} (n : Node) (c c' : Core) (m new : Meaning) (s : State
   may_here : (disk : ℕ) → MayBe (record (kept_anew beside n s) { node = halted_at (restated n s) disk }) new
   may_here disk = record { state = up.state; lies = lies_here; low = up.low; logged = up.logged; begun = λ told. up.begun (sym moves.tells ∙ told) }
 
-  may_be : (disk : ℕ) (k : Kept) → (doubting beside n s disk).doubt ≡ Some k → MayBe k new
-  may_be disk k is = subst (λ (x : Kept). MayBe x new) (some_same is) (may_here disk)
+  may_be : (disk : ℕ) (k : KeptSite) → (doubting beside n s disk).doubt ≡ Some k → MayBe k new
+  may_be disk k is = subst (λ (x : KeptSite). MayBe x new) (some_same is) (may_here disk)
 
   -- its fuse ran out
   pub keep_cut : IsTrue new.down → IsFused n.fuse × IsHeldAt (doubting beside n s 0) (halted_at n 0) new
@@ -133,7 +133,7 @@ module _ {beside : Beside} (n : Node) (c c' : Core) (m new : Meaning) (s : State
     kept_up : c' ≡ with_new_state c s → Retains c c' m new → IsUpAt (sure_of (kept_anew beside n s)) (worked (restated n s)) c' new
     kept_up is retains = subst (λ (k : Core). Retains c k m new → k.log.unit ≡ k.units.srl → IsUpAt (sure_of (kept_anew beside n s)) (worked (restated n s)) k new) (sym is) (λ rests unit. by rests unit) retains unit_is
       where
-        stood_anew : Retains c (with_new_state c s) m new → IsTrue new.tells → StandsWith (with_new_state c s) n.log n.base new
+        stood_anew : Retains c (with_new_state c s) m new → IsTrue new.tells → StandsHolding (with_new_state c s) n.log n.base new
         stood_anew rests told =
             let before : IsTrue m.tells = sym moves.tells ∙ told in
             let stood = up.content can.running before in
@@ -232,11 +232,11 @@ module _ {beside : Beside} (n : Node) (c c' : Core) (m new : Meaning) (s : State
     kept_as result is unchanged rests =
         let runs : c.halted ≡ None = up.halted ∙ can.running in
         by_refusal (leb most_number c.log.header.stamp) refl result
-        (subst (λ (h : Option ℕ). SaveIs (unless_halted h (if leb most_number c.log.header.stamp then Some no_number else None)) c (with_new_state c s) m new c' result) runs is)
-        (subst (λ (h : Option ℕ). IsSome (unless_halted h (if leb most_number c.log.header.stamp then Some no_number else None)) → new ≡ m) runs unchanged) rests
+        (subst (λ (h : Option ℕ). SaveIs (halted_or h (if leb most_number c.log.header.stamp then Some no_number else None)) c (with_new_state c s) m new c' result) runs is)
+        (subst (λ (h : Option ℕ). IsSome (halted_or h (if leb most_number c.log.header.stamp then Some no_number else None)) → new ≡ m) runs unchanged) rests
 
 module _ {R : Type 0} {g : Ghosts R} where
-  pub kept_at : (beside : Beside) (n : Node) (s : State) (old new : Rvg R g) (result : Result (Unit {0}) No) → KeptAs beside n s (g.meaning old.shelf) new.core (g.meaning new.shelf) result → KeptUp beside n s (Up old) (Up new) result
+  pub kept_at : (beside : KeptBeside) (n : Node) (s : State) (old new : Rvg R g) (result : Result (Unit {0}) No) → KeptAs beside n s (g.meaning old.shelf) new.core (g.meaning new.shelf) result → KeptUp beside n s (Up old) (Up new) result
   kept_at beside n s old new (Ok done) is = is
   kept_at beside n s old new (Err (Device disk)) is = is
   kept_at beside n s old new (Err (Limit what most)) is = is
@@ -244,12 +244,12 @@ module _ {R : Type 0} {g : Ghosts R} where
   kept_at beside n s old new (Err other) is = is
 
   -- a state whose keeping the fuse cut, and the crash behind it
-  pub kept_off : (beside : Beside) (n : Node) (s : State) (old mid new : DiskSet R g) (why : No) → is_off why ≡ true → KeptUp beside n s old mid (Err why) → (CutAt (doubting beside n s 0) (halted_at n 0) mid → CrashedAt (doubting beside n s 0) (halted_at n 0) new)
+  pub kept_off : (beside : KeptBeside) (n : Node) (s : State) (old mid new : DiskSet R g) (why : No) → is_off why ≡ true → KeptUp beside n s old mid (Err why) → (CutAt (doubting beside n s 0) (halted_at n 0) mid → CrashedAt (doubting beside n s 0) (halted_at n 0) new)
       → KeptAt beside n s old new (Err why)
   kept_off beside n s old mid new IsOff off is falls = (is.0, falls is.1)
   kept_off beside n s old mid new other off is falls = absurd (cc)
 
-  pub kept_on : (beside : Beside) (n : Node) (s : State) (old new : DiskSet R g) (why : No) → is_off why ≡ false → KeptUp beside n s old new (Err why) → KeptAt beside n s old new (Err why)
+  pub kept_on : (beside : KeptBeside) (n : Node) (s : State) (old new : DiskSet R g) (why : No) → is_off why ≡ false → KeptUp beside n s old new (Err why) → KeptAt beside n s old new (Err why)
   kept_on beside n s old new IsOff off is = absurd (cc)
   kept_on beside n s old new (Device disk) off is = is
   kept_on beside n s old new (Limit what most) off is = is

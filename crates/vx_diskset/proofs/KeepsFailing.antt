@@ -1,5 +1,5 @@
 -- A call that sets no disk makes none of its site fail.
-use Rattle.std.proofs.Common.{◌≡◌, ◌∙◌, ◌⊎◌, inl, inr, ℕ, sym, subst, refl, Bool}
+use Rattle.std.proofs.Common.{◌≡◌, ◌∙◌, ◌⊎◌, inl, inr, ℕ, ap, sym, subst, refl, Bool}
 use Rattle.std.specs.Prelude.{Option, Some, None}
 use Rattle.vx_disk.specs.Causes.{OnDisks, WithDisks}
 use Rattle.vx_disk.specs.Disks.{Disks, Crashed, Untouched}
@@ -7,7 +7,7 @@ use Rattle.vx_disk.specs.Shelf.{Meaning}
 use Rattle.vx_disk.specs.declared.shelf.Shelf.{Ghosts}
 use Rattle.vx_ringio.specs.Spends.{Spends, Spent}
 use Rattle.vx_rvg.specs.declared.group.Rvg.{Rvg}
-use Rattle.vx_diskset.specs.Asked.{SameFailing, LeavesAlone, MayCrash, disks_in, size_in}
+use Rattle.vx_diskset.specs.Asked.{SameFailing, LeavesAlone, MayCrash, disks_told, size_in}
 use Rattle.vx_diskset.specs.declared.disk_set.DiskSet.{DiskSet}
 use Rattle.vx_diskset.specs.declared.disk_set.DiskSet.TheVariants.{Up, Down}
 
@@ -57,26 +57,27 @@ may_rest size pick (Some d) = (inr (record { blocks = record { stable = λ u b. 
 
 module _ {R : Type 0} {g : Ghosts R} where
   pub failing_same : (e : DiskSet R g) → SameFailing e e
-  failing_same e = record { told = same_disks (disks_in e) }
+  failing_same e = record { told = same_disks (disks_told e) }
 
   pub failing_then : (a b c : DiskSet R g) → SameFailing a b → SameFailing b c → SameFailing a c
-  failing_then a b c one two = record { told = same_then (disks_in a) (disks_in b) (disks_in c) one.told two.told }
+  failing_then a b c one two = record { told = same_then (disks_told a) (disks_told b) (disks_told c) one.told two.told }
 
   pub alone_same : (e : DiskSet R g) → LeavesAlone e e
-  alone_same e = record { told = untouched_none (disks_in e) }
+  alone_same e = record { told = untouched_none (disks_told e); sizes = λ u. refl }
 
   -- the shelf of a group that crashed
   pub stopped_up : (e : DiskSet R g) (rvg : Rvg R g) (shelf new : R) (pick : ℕ) → e ≡ Up rvg → shelf ≡ rvg.shelf
-      → OnDisks (g.meaning shelf).disks (g.meaning new).disks (Crashed (g.meaning shelf).size pick) → MayCrash pick e (Down new)
-  stopped_up e rvg shelf new pick is same did =
+      → OnDisks (g.meaning shelf).disks (g.meaning new).disks (Crashed (g.meaning shelf).size pick) → ((u : ℕ) → (g.meaning new).size u ≡ (g.meaning shelf).size u) → MayCrash pick e (Down new)
+  stopped_up e rvg shelf new pick is same did sizes =
       subst (λ (x : DiskSet R g). MayCrash pick x (Down new)) (sym is)
       (record {
         told = subst (λ (r : R). OnDisks (g.meaning r).disks (g.meaning new).disks (λ x y. Crashed (g.meaning r).size pick x y ⊎ Untouched x y)) same
             (may_crash (g.meaning shelf).size pick (g.meaning shelf).disks (g.meaning new).disks did);
+        sizes = λ u. sizes u ∙ ap (λ (r : R). (g.meaning r).size u) same;
       })
 
   pub stopped_none : (pick : ℕ) (e : DiskSet R g) → MayCrash pick e e
-  stopped_none pick e = record { told = may_rest (size_in e) pick (disks_in e) }
+  stopped_none pick e = record { told = may_rest (size_in e) pick (disks_told e); sizes = λ u. refl }
 
   pub failing_stopped : (pick : ℕ) (a b : DiskSet R g) → MayCrash pick a b → SameFailing a b
-  failing_stopped pick a b stopped = record { told = same_on (λ o n. Crashed (size_in a) pick o n ⊎ Untouched o n) (disks_in a) (disks_in b) stopped.told }
+  failing_stopped pick a b stopped = record { told = same_on (λ o n. Crashed (size_in a) pick o n ⊎ Untouched o n) (disks_told a) (disks_told b) stopped.told }

@@ -4,6 +4,7 @@ use Rattle.std.specs.Fmt.{decimal}
 use Rattle.std.specs.Prelude.{Some, slice_get, codes}
 use Rattle.std.proofs.lemmas.Bool.Decides.{nat_tests}
 use Rattle.std.proofs.lemmas.Option.{slice_get_within}
+use Rattle.vx_disk.specs.Maps.{maps_of}
 use Rattle.vx_model.specs.Content.{Content}
 use Rattle.vx_model.specs.Sizes.{map_blocks, ring_of}
 use Rattle.vx_model.specs.declared.limits.TheConstants.{LINK_PLACES}
@@ -13,7 +14,7 @@ use Rattle.vx_history.specs.World.{Node, Volume}
 use Rattle.vx_disk.specs.Moves.{Blocks, Says, Moves}
 use Rattle.vx_disk.specs.Shelf.{Meaning}
 use Rattle.vx_rvg.specs.Contents.{HasSizes}
-use Rattle.vx_rvg.specs.Views.{maps_of, unit_of}
+use Rattle.vx_rvg.specs.Views.{unit_of}
 use Rattle.std.proofs.lemmas.List.Sums.{sum_by-cons, sum_by_push}
 use Rattle.vx_events.specs.Facts.{values_from}
 use Rattle.vx_events.proofs.Values.{length-values_from, slice_index-values_from, values_from-push}

@@ -7,8 +7,8 @@ use Rattle.vx_model.specs.declared.no.No.{No}
 use Rattle.vx_model.specs.declared.no.No.TheVariants.{Device, Limit, Down, Range, Size}
 use Rattle.vx_model.specs.declared.no.Counted.TheVariants.{Number}
 use Rattle.vx_disk.specs.Shelf.{Meaning}
-use Rattle.vx_srl.specs.Views.{Log, head_of, most_number}
-use Rattle.vx_rvg.specs.Groups.{ApplyIs, Fails, WriteIs, has_numbers, unless_halted, write_refusal}
+use Rattle.vx_srl.specs.Views.{Log, head_number, most_number}
+use Rattle.vx_rvg.specs.Groups.{ApplyIs, GroupFails, WriteIs, has_numbers, halted_or, write_refusal}
 use Rattle.vx_rvg.specs.Saves.{SaveIs, reclaim_refusal, reclaimed, log_without}
 use Rattle.vx_rvg.specs.Views.{Core, last_of}
 use Rattle.vx_diskset.specs.Rooms.{HasNumbers, NeverLimit, TakesOne}
@@ -35,13 +35,13 @@ never_as T U other never = tt
 refused_never : {T : Type 0} (r : Result T No) (why : No) → NotLimit why → r ≡ Err why → NeverLimit r
 refused_never {T} r why not is = subst (λ x. NeverLimit x) (sym is) (err_never T why not)
 
-fails_not : (c : Core) (old new : Meaning) (c' : Core) (why : No) → Fails c old new c' why → NotLimit why
+fails_not : (c : Core) (old new : Meaning) (c' : Core) (why : No) → GroupFails c old new c' why → NotLimit why
 fails_not c old new c' (Device disk) fails = tt
 fails_not c old new c' Down fails = tt
 fails_not c old new c' (Limit what most) fails = fails
 fails_not c old new c' other fails = absurd fails
 
-unless : (halted : Option ℕ) (rest : Option No) → NotSome rest → NotSome (unless_halted halted rest)
+unless : (halted : Option ℕ) (rest : Option No) → NotSome rest → NotSome (halted_or halted rest)
 unless None rest not = not
 unless (Some disk) rest not = tt
 
@@ -56,8 +56,8 @@ apply_by (Some why) c count old new c' r not is = refused_never r why not is.0
 apply_by None c count old new c' (Ok number) not is = tt
 apply_by None c count old new c' (Err why) not is = err_never ℕ why (fails_not c old new c' why is)
 
-pub apply_never : (c : Core) (count : ℕ) (old new : Meaning) (c' : Core) (r : Result ℕ No) → ApplyIs (unless_halted c.halted None) c count old new c' r → NeverLimit r
-apply_never c count old new c' r is = apply_by (unless_halted c.halted None) c count old new c' r (unless c.halted None tt) is
+pub apply_never : (c : Core) (count : ℕ) (old new : Meaning) (c' : Core) (r : Result ℕ No) → ApplyIs (halted_or c.halted None) c count old new c' r → NeverLimit r
+apply_never c count old new c' r is = apply_by (halted_or c.halted None) c count old new c' r (unless c.halted None tt) is
 
 -- ---- what a log gives up
 
@@ -96,7 +96,7 @@ reclaim_takes c to old new c' r some known is = record {
 pub numbers_log : (c d : Core) (count : ℕ) → d.log ≡ c.log → HasNumbers c count → HasNumbers d count
 numbers_log c d count is has = record {
   stamps = omega (arith, has.stamps, ap (λ (l : Log). l.header.stamp) is);
-  numbers = omega (arith, has.numbers, ap (λ (l : Log). head_of l) is);
+  numbers = omega (arith, has.numbers, ap (λ (l : Log). head_number l) is);
 }
 
 write_not : (c : Core) (size start count : ℕ) → last_of c + 1 ≤ most_number → NotSome (write_refusal c size start count)

@@ -1,3 +1,4 @@
+pub mod AloneCalls
 pub mod ApplyGroup
 pub mod Asking
 pub mod BesideLemmas
@@ -6,6 +7,7 @@ pub mod CrashGroup
 pub mod ExactWrite
 pub mod FailGroup
 pub mod FuseGroup
+pub mod HeadCalls
 pub mod KeepGroup
 pub mod KeepsFailing
 pub mod LastWrites
@@ -25,6 +27,7 @@ pub mod StartBare
 pub mod StartGroup
 pub mod StaysUp
 pub mod TakenBack
+pub mod ThenUnder
 pub mod Worked
 pub mod WriteGroup
 pub mod WriteLeaves

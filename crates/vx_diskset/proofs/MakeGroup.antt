@@ -2,7 +2,8 @@
 use Rattle.std.proofs.Common.{inl, ◌≡◌, ◌∙◌, ◌+◌, ◌-◌, ◌*◌, ◌<◌, ◌≤◌, ℕ, zero, suc, List, [], length, ap, ⊎_elim, sym, subst, refl, arith, IsTrue}
 use Rattle.std.specs.Prelude.{IsFalse, Option, Some, None, slice_get, replicate}
 use Rattle.std.proofs.lemmas.List.{length-replicate}
-use Rattle.vx_diskset.specs.Holds.{Beside}
+use Rattle.vx_disk.specs.Maps.{maps_of}
+use Rattle.vx_diskset.specs.Holds.{KeptBeside}
 use Rattle.vx_disk.specs.Causes.{WithDisks, OnDisks}
 use Rattle.vx_disk.specs.Disks.{Disks, Untouched, is_set}
 use Rattle.vx_disk.specs.Racks.{IsRack}
@@ -19,7 +20,7 @@ use Rattle.vx_model.specs.declared.state.State.{State}
 use Rattle.vx_disk.specs.Shelf.{Meaning, Image, Lawful, Goes, Nothing, Keeps}
 use Rattle.vx_disk.specs.Moves.{Moves, Run, Anything}
 use Rattle.vx_disk.proofs.Moving.{kept_beside}
-use Rattle.vx_rvg.specs.Views.{Core, Placed, maps_of, unit_of, last_of}
+use Rattle.vx_rvg.specs.Views.{Core, UnitsPlaced, unit_of, last_of}
 use Rattle.vx_model.specs.declared.limits.TheConstants.{LINK_PLACES}
 use Rattle.vx_rvg.specs.Groups.{new_core, MakeCause}
 use Rattle.vx_srl.specs.Views.{widths}
@@ -33,15 +34,15 @@ use Rattle.vx_diskset.specs.declared.disk_set.DiskSet.TheVariants.{Spoiled}
 use Rattle.vx_diskset.specs.DiskSets.{MadeIs}
 use Rattle.std.specs.Prelude.{Err}
 use Rattle.vx_rvg.specs.Holdings.{nothing_logged}
-use Rattle.vx_rvg.specs.Stands.{Holds, Stands}
+use Rattle.vx_rvg.specs.Stands.{HoldsContent, Stands}
 use Rattle.vx_rvg.proofs.ReadStands.{rest_stands}
 use Rattle.vx_diskset.proofs.CrashGroup.{site_sizes}
-use Rattle.vx_diskset.specs.Lasts.{StandsWith}
+use Rattle.vx_diskset.specs.Lasts.{StandsHolding}
 use Rattle.vx_diskset.proofs.BesideLemmas.{may_same, never_besides}
 use Rattle.vx_diskset.proofs.LastWrites.{stands_with, still_with}
 use Rattle.vx_diskset.proofs.NeedLemmas.{none_of, takes_none}
 use Rattle.vx_diskset.proofs.StaysUp.{never_both, told_now, fitted_moved, stays_up, writes_found}
-use Rattle.vx_diskset.specs.Holds.{alone, state_with}
+use Rattle.vx_diskset.specs.Holds.{site_alone, state_with}
 use Rattle.vx_diskset.specs.Layouts.{raw_units, CanBeRaw}
 use Rattle.vx_diskset.proofs.Laying.{lies_as, raw_lies, raw_size, raw_none}
 use Rattle.vx_diskset.specs.Fuses.{HasFuse, LetsPass}
@@ -92,7 +93,7 @@ bare_still n m new goes down armed bare = record {
 }
 
 -- a site that is up stays so over calls that change no contents
-pub up_still : {beside : Beside} (n : Node) (c : Core) (m new : Meaning) → Goes Nothing m new → ((i : Image) → new.now i → m.now i) → new.down ≡ m.down → HasFuse n.fuse new → IsUpAt beside n c m → IsUpAt beside n c new
+pub up_still : {beside : KeptBeside} (n : Node) (c : Core) (m new : Meaning) → Goes Nothing m new → ((i : Image) → new.now i → m.now i) → new.down ≡ m.down → HasFuse n.fuse new → IsUpAt beside n c m → IsUpAt beside n c new
 up_still n c m new goes now down fuse up =
     let still : IsFalse new.down = down ∙ up.up in
     record {
@@ -123,7 +124,7 @@ up_still n c m new goes now down fuse up =
     }
 
 -- the volumes of a group are those of its site
-pub up_volumes : {beside : Beside} (n : Node) (c : Core) (m : Meaning) → IsUpAt beside n c m → length c.units.vols ≡ length n.volumes
+pub up_volumes : {beside : KeptBeside} (n : Node) (c : Core) (m : Meaning) → IsUpAt beside n c m → length c.units.vols ≡ length n.volumes
 up_volumes n c m up = ap (λ (u : Units). length u.vols) up.units ∙ up.lies.laid.count
 
 -- what was done to disk 0 alone leaves a bare site bare
@@ -138,7 +139,7 @@ bare_moved n count m new moves bare = record {
 }
 
 -- the units of a raw set are there, and none is another
-pub placed_raw : (disks : ℕ) (m : Meaning) → disks ≡ m.units → 3 ≤ disks → LINK_PLACES * maps_of (raw_units disks).vols m ≤ m.size (raw_units disks).maps → Placed (raw_units disks) m
+pub placed_raw : (disks : ℕ) (m : Meaning) → disks ≡ m.units → 3 ≤ disks → LINK_PLACES * maps_of (raw_units disks).vols m ≤ m.size (raw_units disks).maps → UnitsPlaced (raw_units disks) m
 placed_raw disks m is some maps = record {
   maps_fit = maps;
   log_exists = omega arith;
@@ -184,7 +185,7 @@ one_of_all (suc n) zero bytes is = (omega arith, same is)
 one_of_all (suc n) (suc b) bytes is = let more = one_of_all n b bytes is in (omega (arith, more.0), more.1)
 
 -- the volumes and the maps of a bare site hold zeros
-raw_holds : (n : Node) (m : Meaning) → IsBareAt n m → 3 ≤ n.disks → Holds (raw_units n.disks) (raw_content n.disks n.blocks) (replicate n.blocks zero_block) m
+raw_holds : (n : Node) (m : Meaning) → IsBareAt n m → 3 ≤ n.disks → HoldsContent (raw_units n.disks) (raw_content n.disks n.blocks) (replicate n.blocks zero_block) m
 raw_holds n m bare some = record {
   sizes = site_sizes n.disks n.blocks (raw_content n.disks n.blocks) m some bare.fitted.size (raw_size n.disks n.blocks) (raw_none n.disks n.blocks);
   blocks = λ v b below. ⊎_elim
@@ -202,7 +203,7 @@ raw_holds n m bare some = record {
 
 -- a raw set as it is made
 pub raw_stands : (site : ℕ) (n : Node) (c : Core) (m new : Meaning) → Lawful new → c.log.unit ≡ c.units.srl → IsBareAt n m → CanBeRaw n.disks n.blocks → c ≡ new_core (raw_units n.disks) (first_state site) (ring_of (m.size 0))
-    → Moves (Run 0 0 (ring_of (m.size 0) + 2)) Anything m new → (IsTrue m.tells → (k : Content) (maps : List (List ℕ)) → Holds (raw_units n.disks) k maps m → Stands c (nothing_logged k maps) new) → IsUpAt alone (raw_set site n) c new
+    → Moves (Run 0 0 (ring_of (m.size 0) + 2)) Anything m new → (IsTrue m.tells → (k : Content) (maps : List (List ℕ)) → HoldsContent (raw_units n.disks) k maps m → Stands c (nothing_logged k maps) new) → IsUpAt site_alone (raw_set site n) c new
 raw_stands site n c m new lawful unit_is bare can is moves stands = record {
   state = refl;
   up = stays_up (Run 0 0 (ring_of (m.size 0) + 2)) Anything m new moves bare.unarmed bare.fitted.up;
@@ -242,7 +243,7 @@ raw_stands site n c m new lawful unit_is bare can is moves stands = record {
     head_here : last_of c ≡ 0
     head_here = ap (λ (k : Core). last_of k) is
 
-    content : IsTrue new.tells → StandsWith c [] (raw_content n.disks n.blocks) new
+    content : IsTrue new.tells → StandsHolding c [] (raw_content n.disks n.blocks) new
     content told = record {
       held = nothing_logged (raw_content n.disks n.blocks) (replicate n.blocks zero_block);
       has = record { some = omega arith; last = refl; writes = refl; content = refl; whole = λ room. (refl, refl) };
@@ -253,13 +254,13 @@ raw_stands site n c m new lawful unit_is bare can is moves stands = record {
 -- the same with the units as they were made
 pub made_stands : (site d : ℕ) (n : Node) (c : Core) (units : Units) (state : State) (m new : Meaning) → units ≡ raw_units d → state ≡ first_state site → d ≡ m.units → Lawful new → c.log.unit ≡ c.units.srl
     → IsBareAt n m → CanBeRaw n.disks n.blocks → c ≡ new_core units state (ring_of (m.size units.srl)) → Moves (Run units.srl 0 (ring_of (m.size units.srl) + 2)) Anything m new
-    → (IsTrue m.tells → (k : Content) (maps : List (List ℕ)) → Holds units k maps m → Stands c (nothing_logged k maps) new) → IsUpAt alone (raw_set site n) c new
+    → (IsTrue m.tells → (k : Content) (maps : List (List ℕ)) → HoldsContent units k maps m → Stands c (nothing_logged k maps) new) → IsUpAt site_alone (raw_set site n) c new
 made_stands site d n c units state m new units_is state_is d_is lawful unit_is bare can core moves stands =
     let is : units ≡ raw_units n.disks = units_is ∙ ap raw_units (d_is ∙ bare.fitted.units) in
     raw_stands site n c m new lawful unit_is bare can
     (subst (λ (s : State). c ≡ new_core (raw_units n.disks) s (ring_of (m.size 0))) state_is (subst (λ (u : Units). c ≡ new_core u state (ring_of (m.size u.srl))) is core))
     (subst (λ (u : Units). Moves (Run u.srl 0 (ring_of (m.size u.srl) + 2)) Anything m new) is moves)
-    (subst (λ (u : Units). IsTrue m.tells → (k : Content) (maps : List (List ℕ)) → Holds u k maps m → Stands c (nothing_logged k maps) new) is stands)
+    (subst (λ (u : Units). IsTrue m.tells → (k : Content) (maps : List (List ℕ)) → HoldsContent u k maps m → Stands c (nothing_logged k maps) new) is stands)
 
 module _ {R : Type 0} {g : Ghosts R} where
   -- a raw set that was not made

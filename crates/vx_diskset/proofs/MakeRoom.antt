@@ -9,17 +9,17 @@ use Rattle.vx_model.specs.declared.no.No.{No}
 use Rattle.vx_model.specs.declared.no.No.TheVariants.{Device, Limit, Down}
 use Rattle.vx_srl.specs.Calls.{saved}
 use Rattle.vx_srl.specs.Headers.{without}
-use Rattle.vx_srl.specs.Views.{Log, most_number, count_to, head_of, free_of, widths, all_of}
+use Rattle.vx_srl.specs.Views.{Log, most_number, count_to, head_number, free_of, widths, all_of}
 use Rattle.vx_srl.specs.declared.kept.Kept.{Kept}
-use Rattle.vx_diskset.specs.Holds.{Beside}
+use Rattle.vx_diskset.specs.Holds.{KeptBeside}
 use Rattle.vx_disk.specs.Counts.{Rose}
 use Rattle.vx_disk.specs.Shelf.{Meaning, Image, Lawful}
 use Rattle.vx_disk.specs.Moves.{Moves, Run}
-use Rattle.vx_rvg.specs.Groups.{ApplyIs, Fails, Ended, unless_halted}
+use Rattle.vx_rvg.specs.Groups.{ApplyIs, GroupFails, Ended, halted_or}
 use Rattle.vx_rvg.specs.Saves.{SaveIs, reclaim_refusal, reclaimed, log_without}
 use Rattle.vx_model.specs.Content.{Write}
 use Rattle.vx_model.specs.declared.limits.TheConstants.{MOST_CALL_BLOCKS}
-use Rattle.vx_events.specs.Fuses.{taken}
+use Rattle.vx_events.specs.Fuses.{ring_taken}
 use Rattle.vx_diskset.specs.Holds.{most_header}
 use Rattle.vx_model.specs.declared.state.State.{State}
 use Rattle.vx_diskset.specs.Needs.{HasRoom, NoneNeeds}
@@ -41,7 +41,7 @@ use Rattle.vx_diskset.proofs.LastWrites.{retains_with, saving_with}
 use Rattle.vx_diskset.proofs.StaysUp.{told_now, never_both, left_moved, kept_whole, up_found, writes_found, up_with, up_worked, held_moved, fused_by, fuse_moved, fuse_burned, burned_twice, fused_before}
 
 -- a log that uses no stamp
-pub roomy_now : {beside : Beside} (n : Node) (c : Core) (m : Meaning) → IsUpAt beside n c m → n.halted ≡ None → IsRoomy beside n c m
+pub roomy_now : {beside : KeptBeside} (n : Node) (c : Core) (m : Meaning) → IsUpAt beside n c m → n.halted ≡ None → IsRoomy beside n c m
 roomy_now n c m up none = record {
   up = up.up;
   lies = up.lies;
@@ -70,12 +70,12 @@ pub record GivenUp (l l' : Log) (to : ℕ) : Type 0 where
   pub least : l.header.low ≤ l'.header.low
   pub past : to < l'.header.low
   pub low : (l'.header.low ≡ l.header.low) ⊎ (l'.header.low ≡ to + 1)
-  pub head : head_of l' ≡ head_of l
+  pub head : head_number l' ≡ head_number l
   pub few : length l'.held ≤ length l.held
   pub held : l'.held ≡ drop (l'.header.low - l.header.low) l.held
   pub stamp : (l'.header.stamp ≡ l.header.stamp) ⊎ (l'.header.stamp ≡ l.header.stamp + 1)
 
-given_by : (l : Log) (to : ℕ) (b : Bool) → leb l.header.low to ≡ b → 0 < l.header.low → to ≤ head_of l → GivenUp l (if b then saved l (without l to) (count_to l to) else l) to
+given_by : (l : Log) (to : ℕ) (b : Bool) → leb l.header.low to ≡ b → 0 < l.header.low → to ≤ head_number l → GivenUp l (if b then saved l (without l to) (count_to l to) else l) to
 given_by l to true is first below =
     let low : l.header.low ≤ to = grind (arith, nat_tests) in
     let less = length-drop (count_to l to) l.held in
@@ -108,7 +108,7 @@ given_by l to false is first below =
       stamp = inl refl;
     }
 
-pub given_up : (l : Log) (to : ℕ) → 0 < l.header.low → to ≤ head_of l → GivenUp l (log_without l to) to
+pub given_up : (l : Log) (to : ℕ) → 0 < l.header.low → to ≤ head_number l → GivenUp l (log_without l to) to
 given_up l to first below = given_by l to (leb l.header.low to) refl first below
 
 -- why it is refused
@@ -130,21 +130,21 @@ limits low stamp to = limit_by (leb low to) (leb most_number stamp) (leb most_nu
 
 -- ---- a log without room for the largest write
 
-taken_drop : (k : ℕ) (xs : List Write) → blocks_taken (drop k xs) ≤ taken xs
+taken_drop : (k : ℕ) (xs : List Write) → blocks_taken (drop k xs) ≤ ring_taken xs
 taken_drop zero [] = omega arith
 taken_drop zero (x ∷ xs) = let rest = taken_drop zero xs in omega (arith, rest)
 taken_drop (suc k) [] = omega arith
 taken_drop (suc k) (x ∷ xs) = let rest = taken_drop k xs in omega (arith, rest)
 
 -- gave writes up that the site has
-pub full_here : {beside : Beside} (n : Node) (c : Core) (m : Meaning) → IsUpAt beside n c m → n.halted ≡ None → free_of c.log ≤ MOST_CALL_BLOCKS → IsTrue m.tells → taken n.log + (MOST_CALL_BLOCKS + 1) ≤ n.ring → ⊥
+pub full_here : {beside : KeptBeside} (n : Node) (c : Core) (m : Meaning) → IsUpAt beside n c m → n.halted ≡ None → free_of c.log ≤ MOST_CALL_BLOCKS → IsTrue m.tells → ring_taken n.log + (MOST_CALL_BLOCKS + 1) ≤ n.ring → ⊥
 full_here n c m up none less told room =
     let stood = up.content none told in
     let free = free_beside c stood.held m stood.stands in
     let some = taken_drop (stood.held.low - 1) n.log in
     omega (arith, less, free, ap (λ (xs : List Write). blocks_taken xs) stood.has.writes, some, room, up.ring)
 
-module _ {beside : Beside} (n : Node) (c : Core) (m : Meaning) (to : ℕ) (up : IsUpAt beside n c m) (below : to ≤ n.safe) (unneeded : NoneNeeds beside.links to) where
+module _ {beside : KeptBeside} (n : Node) (c : Core) (m : Meaning) (to : ℕ) (up : IsUpAt beside n c m) (below : to ≤ n.safe) (unneeded : NoneNeeds beside.links to) where
   log : GivenUp c.log (log_without c.log to) to
   log = given_up c.log to up.first (omega (arith, below, up.head))
 
@@ -180,7 +180,7 @@ module _ {beside : Beside} (n : Node) (c : Core) (m : Meaning) (to : ℕ) (up : 
       (saving_with c (reclaimed c to) n.log n.base m log.first (last_here none) log.few log.ring
       (λ room. full_here n c m up none less told (omega (arith, room, up.ring))) (needs_here none told) i saving (up.content none told))
 
-module _ {beside : Beside} (n : Node) (c c' : Core) (m new : Meaning) (to : ℕ) (up : IsUpAt beside n c m) (below : to ≤ n.safe) (unneeded : NoneNeeds beside.links to) (none : n.halted ≡ None) (less : free_of c.log ≤ MOST_CALL_BLOCKS) (lawful : Lawful m) (after : Lawful new)
+module _ {beside : KeptBeside} (n : Node) (c c' : Core) (m new : Meaning) (to : ℕ) (up : IsUpAt beside n c m) (below : to ≤ n.safe) (unneeded : NoneNeeds beside.links to) (none : n.halted ≡ None) (less : free_of c.log ≤ MOST_CALL_BLOCKS) (lawful : Lawful m) (after : Lawful new)
     (moves : Moves (Run c.units.srl 0 (c.log.ring + 2)) (Saving c (reclaimed c to) m) m new) (still : IsFalse new.down) where
   fuse_here : HasFuse (burned n.fuse) new
   fuse_here = fuse_moved n.fuse (Run c.units.srl 0 (c.log.ring + 2)) (Saving c (reclaimed c to) m) m new moves up.fuse
@@ -212,15 +212,15 @@ module _ {beside : Beside} (n : Node) (c c' : Core) (m new : Meaning) (to : ℕ)
   })
 
   -- and the blocks of the numbers above it alone are taken
-  pub free_reclaimed : (count : ℕ) → c' ≡ reclaimed c to → IsSound c' new → count + 1 + taken (drop to n.log) ≤ n.ring → count < free_of c'.log
+  pub free_reclaimed : (count : ℕ) → c' ≡ reclaimed c to → IsSound c' new → count + 1 + ring_taken (drop to n.log) ≤ n.ring → count < free_of c'.log
   free_reclaimed count is sound room =
       let running : c'.halted ≡ None = ap (λ (k : Core). k.halted) is ∙ up.halted ∙ none in
       let ring : c'.log.ring ≡ n.ring = ap (λ (k : Core). k.log.ring) is ∙ given.ring ∙ up.ring in
       let takes = takes_last c.log (log_without c.log to) n.log given.least given.held (up.takes none) in
-      let whole : widths (drop ((log_without c.log to).header.low - 1 + 1 - (log_without c.log to).header.low) (log_without c.log to).held) ≡ taken (drop ((log_without c.log to).header.low - 1) n.log)
+      let whole : widths (drop ((log_without c.log to).header.low - 1 + 1 - (log_without c.log to).header.low) (log_without c.log to).held) ≡ ring_taken (drop ((log_without c.log to).header.low - 1) n.log)
       = takes.each ((log_without c.log to).header.low - 1) (omega arith) in
       let none_gone : (log_without c.log to).header.low - 1 + 1 - (log_without c.log to).header.low ≡ 0 = omega (arith, given.first) in
-      let all : widths (log_without c.log to).held ≡ taken (drop ((log_without c.log to).header.low - 1) n.log) = sym (ap (λ (k : ℕ). widths (drop k (log_without c.log to).held)) none_gone) ∙ whole in
+      let all : widths (log_without c.log to).held ≡ ring_taken (drop ((log_without c.log to).header.low - 1) n.log) = sym (ap (λ (k : ℕ). widths (drop k (log_without c.log to).held)) none_gone) ∙ whole in
       let less = taken_less to ((log_without c.log to).header.low - 1) n.log (omega (arith, given.past)) in
       let held : widths (all_of c'.log) ≡ widths (log_without c.log to).held = ap (λ (ks : List Kept). widths (c'.log.held ++ ks)) (sound.idle running still) ∙ ap (λ (ks : List Kept). widths ks) (append-nil c'.log.held) ∙ ap (λ (k : Core). widths k.log.held) is in
       omega (arith, held, all, less, room, ring)
@@ -262,11 +262,11 @@ module _ {beside : Beside} (n : Node) (c c' : Core) (m new : Meaning) (to : ℕ)
   reclaimed_as result is unchanged rests =
       let runs : c.halted ≡ None = up.halted ∙ none in
       by_answer (reclaim_no c.log.header.low c.log.header.stamp to) result refl
-      (subst (λ (h : Option ℕ). SaveIs (unless_halted h (reclaim_no c.log.header.low c.log.header.stamp to)) c (reclaimed c to) m new c' result) runs is)
-      (subst (λ (h : Option ℕ). IsSome (unless_halted h (reclaim_no c.log.header.low c.log.header.stamp to)) → new ≡ m) runs unchanged) rests
+      (subst (λ (h : Option ℕ). SaveIs (halted_or h (reclaim_no c.log.header.low c.log.header.stamp to)) c (reclaimed c to) m new c' result) runs is)
+      (subst (λ (h : Option ℕ). IsSome (halted_or h (reclaim_no c.log.header.low c.log.header.stamp to)) → new ≡ m) runs unchanged) rests
 
 -- a reclaim whose fuse ran out
-pub reclaim_cut : {beside : Beside} (n : Node) (c : Core) (m new : Meaning) (to : ℕ) → IsUpAt beside n c m → to ≤ n.safe → NoneNeeds beside.links to → n.halted ≡ None → free_of c.log ≤ MOST_CALL_BLOCKS → Lawful m → Lawful new
+pub reclaim_cut : {beside : KeptBeside} (n : Node) (c : Core) (m new : Meaning) (to : ℕ) → IsUpAt beside n c m → to ≤ n.safe → NoneNeeds beside.links to → n.halted ≡ None → free_of c.log ≤ MOST_CALL_BLOCKS → Lawful m → Lawful new
     → Moves (Run c.units.srl 0 (c.log.ring + 2)) (Saving c (reclaimed c to) m) m new → IsTrue new.down → IsFused n.fuse × IsHeldAt beside n new
 reclaim_cut n c m new to up below unneeded none less lawful after moves down = (
   fused_by n.fuse (Run c.units.srl 0 (c.log.ring + 2)) (Saving c (reclaimed c to) m) m new moves up.fuse up.up down,
@@ -284,15 +284,15 @@ rose_later old mid new le rose = record {
 }
 
 -- an apply that was refused
-pub room_unapplied : (beside : Beside) (n : Node) (to : ℕ) (c' : Core) (m new : Meaning) (no : No) → AppliedAs beside n to c' m new (Err no) → RoomIs beside n m c' new (Err no)
+pub room_unapplied : (beside : KeptBeside) (n : Node) (to : ℕ) (c' : Core) (m new : Meaning) (no : No) → AppliedAs beside n to c' m new (Err no) → RoomIs beside n m c' new (Err no)
 room_unapplied beside n to c' m new (Device disk) is = is
 room_unapplied beside n to c' m new (Limit what most) is = absurd is
 room_unapplied beside n to c' m new Down is = is
 room_unapplied beside n to c' m new other is = is
 
 -- a site without room at hand has room beside the numbers above the one that an apply of it came to
-pub room_after : (beside : Beside) (n : Node) (hold count number applied to : ℕ) (c' : Core) (m new : Meaning) → length n.log ≡ n.safe → applied ≡ number → to ≡ min hold applied → AppliedAs beside n hold c' m new (Ok number) → HasRoom beside.links n hold count
-    → NoneNeeds beside.links to × (count + 1 + taken (drop to n.log) ≤ n.ring)
+pub room_after : (beside : KeptBeside) (n : Node) (hold count number applied to : ℕ) (c' : Core) (m new : Meaning) → length n.log ≡ n.safe → applied ≡ number → to ≡ min hold applied → AppliedAs beside n hold c' m new (Ok number) → HasRoom beside.links n hold count
+    → NoneNeeds beside.links to × (count + 1 + ring_taken (drop to n.log) ≤ n.ring)
 room_after beside n hold count number applied to c' m new many came is done has =
     let less = taken_to hold to n.log (omega (arith, many, came, is, done.0)) in (
       needs_less beside.links hold to (omega (arith, is)) has.unneeded,
@@ -300,7 +300,7 @@ room_after beside n hold count number applied to c' m new many came is done has 
     )
 
 -- a call that moved the shelf, and then a reclaim
-pub room_later : (beside : Beside) (n : Node) (c' : Core) (m mid new : Meaning) (result : Result (Unit {0}) No) → ((d : ℕ) → m.disk_faults d ≤ mid.disk_faults d) → RoomIs beside n mid c' new result → RoomIs beside n m c' new result
+pub room_later : (beside : KeptBeside) (n : Node) (c' : Core) (m mid new : Meaning) (result : Result (Unit {0}) No) → ((d : ℕ) → m.disk_faults d ≤ mid.disk_faults d) → RoomIs beside n mid c' new result → RoomIs beside n m c' new result
 room_later beside n c' m mid new (Ok done) later is = is
 room_later beside n c' m mid new (Err (Device disk)) later is = (is.0, rose_later (m.disk_faults disk) (mid.disk_faults disk) (new.disk_faults disk) (later disk) is.1)
 room_later beside n c' m mid new (Err (Limit what most)) later is = is
@@ -312,16 +312,16 @@ saved_by None c after m new c' done is = is
 saved_by (Some why) c after m new c' done is = absurd (let e : Ok done ≡ Err why = is.0 in cc)
 
 -- and leaves room
-pub roomed_at : {beside : Beside} (n : Node) (c c' : Core) (m new : Meaning) (to count : ℕ) → IsUpAt beside n c m → to ≤ n.safe → NoneNeeds beside.links to → n.halted ≡ None → free_of c.log ≤ MOST_CALL_BLOCKS → Lawful m → Lawful new
+pub roomed_at : {beside : KeptBeside} (n : Node) (c c' : Core) (m new : Meaning) (to count : ℕ) → IsUpAt beside n c m → to ≤ n.safe → NoneNeeds beside.links to → n.halted ≡ None → free_of c.log ≤ MOST_CALL_BLOCKS → Lawful m → Lawful new
     → Moves (Run c.units.srl 0 (c.log.ring + 2)) (Saving c (reclaimed c to) m) m new → IsFalse new.down → (result : Result (Unit {0}) No) → SaveIs (reclaim_refusal c to) c (reclaimed c to) m new c' result
-    → IsSound c' new → count + 1 + taken (drop to n.log) ≤ n.ring → OnOk result (count < free_of c'.log)
+    → IsSound c' new → count + 1 + ring_taken (drop to n.log) ≤ n.ring → OnOk result (count < free_of c'.log)
 roomed_at n c c' m new to count up below unneeded none less lawful after moves still (Ok done) saves sound room =
     free_reclaimed n c c' m new to up below unneeded none less lawful after moves still count (saved_by (reclaim_refusal c to) c (reclaimed c to) m new c' done saves) sound room
 roomed_at n c c' m new to count up below unneeded none less lawful after moves still (Err why) saves sound room = tt
 
 -- ---- a site whose fuse burns twice
 
-held_again : {beside : Beside} (n : Node) (m : Meaning) → IsHeldAt beside (worked n) m → IsHeldAt beside n m
+held_again : {beside : KeptBeside} (n : Node) (m : Meaning) → IsHeldAt beside (worked n) m → IsHeldAt beside n m
 held_again n m held = record {
   lies = held.lies;
   logged = held.logged;
@@ -331,7 +331,7 @@ held_again n m held = record {
   may = held.may;
 }
 
-roomy_again : {beside : Beside} (n : Node) (c : Core) (m : Meaning) → IsRoomy beside (worked n) c m → IsRoomy beside n c m
+roomy_again : {beside : KeptBeside} (n : Node) (c : Core) (m : Meaning) → IsRoomy beside (worked n) c m → IsRoomy beside n c m
 roomy_again n c m roomy = record {
   up = roomy.up;
   lies = roomy.lies;
@@ -350,7 +350,7 @@ roomy_again n c m roomy = record {
   content = roomy.content;
 }
 
-pub room_again : (beside : Beside) (n : Node) (c' : Core) (m new : Meaning) (result : Result (Unit {0}) No) → RoomIs beside (worked n) m c' new result → RoomIs beside n m c' new result
+pub room_again : (beside : KeptBeside) (n : Node) (c' : Core) (m new : Meaning) (result : Result (Unit {0}) No) → RoomIs beside (worked n) m c' new result → RoomIs beside n m c' new result
 room_again beside n c' m new (Ok done) is = roomy_again n c' new is
 room_again beside n c' m new (Err (Device disk)) is = (subst (λ (f : Fuse). IsUpAt beside (record n { halted = Some disk; fuse = f }) c' new) (burned_twice n.fuse) is.0, is.1)
 room_again beside n c' m new (Err (Limit what most)) is = (is.0, is.1, subst (λ (f : Fuse). IsUpAt beside (record n { fuse = f }) c' new) (burned_twice n.fuse) is.2)
@@ -364,7 +364,7 @@ apply_log None c count m new c' (Ok number) is = ap (λ (k : Core). k.log) is.1.
 apply_log r c count m new c' (Err why) is = tt
 
 -- the units stay
-fails_units : (c c' : Core) (m new : Meaning) (why : No) → Fails c m new c' why → c'.units ≡ c.units
+fails_units : (c c' : Core) (m new : Meaning) (why : No) → GroupFails c m new c' why → c'.units ≡ c.units
 fails_units c c' m new (Device disk) is = is.0.units
 fails_units c c' m new Down is = is.0.units
 fails_units c c' m new (Limit what most) is = absurd is

@@ -9,15 +9,15 @@ use Rattle.vx_model.specs.declared.no.Counted.TheVariants.{Number}
 use Rattle.vx_model.specs.declared.state.State.{State}
 use Rattle.vx_srlfmt.specs.declared.header.Header.{Header}
 use Rattle.vx_srl.specs.Views.{most_number}
-use Rattle.vx_srl.specs.Views.{kept_of}
+use Rattle.vx_srl.specs.Views.{kept_record}
 use Rattle.vx_srl.specs.declared.kept.Kept.{Kept}
 use Rattle.vx_disk.specs.Shelf.{Meaning}
-use Rattle.vx_rvg.specs.Groups.{ApplyIs, WriteIs, Writes, unless_halted, write_refusal}
+use Rattle.vx_rvg.specs.Groups.{ApplyIs, WriteIs, Writes, halted_or, write_refusal}
 use Rattle.vx_rvg.specs.Saves.{SaveIs, log_without, reclaimed}
 use Rattle.vx_rvg.specs.Views.{Core, IsSound, last_of}
 use Rattle.vx_secondary.specs.Receivers.{Wait}
 use Rattle.vx_secondary.proofs.Waits.{wait_moved}
-use Rattle.vx_diskset.specs.Rooms.{IsMore, count_of}
+use Rattle.vx_diskset.specs.Rooms.{IsMore, logged_count}
 use Rattle.vx_diskset.proofs.ApplyGroup.{applied_log}
 use Rattle.vx_diskset.proofs.MakeRoom.{GivenUp, given_up}
 use Rattle.vx_diskset.proofs.Receiving.{failed_log, same_log, wait_as}
@@ -69,19 +69,19 @@ module _ (c d : Core) (vol start : ℕ) (bytes : List ℕ) (m new : Meaning) (so
         units = refl;
         ring = refl;
         line = refl;
-        last = pushed c.log.header.low c.log.held c.log.staged (kept_of c.log vol start bytes) some (ap (λ (ks : List Kept). length ks) idle);
+        last = pushed c.log.header.low c.log.held c.log.staged (kept_record c.log vol start bytes) some (ap (λ (ks : List Kept). length ks) idle);
       })
 
-  by_write : (o : Option No) (result : Result ℕ No) → (o ≡ None → c.halted ≡ None) → WriteIs o c vol start bytes m new d result → IsMore (count_of result) c d
-  by_write (Some why) result running is = subst (λ (r : Result ℕ No). IsMore (count_of r) c d) (sym is.0) (more_log c d (same_log c d is.1))
+  by_write : (o : Option No) (result : Result ℕ No) → (o ≡ None → c.halted ≡ None) → WriteIs o c vol start bytes m new d result → IsMore (logged_count result) c d
+  by_write (Some why) result running is = subst (λ (r : Result ℕ No). IsMore (logged_count r) c d) (sym is.0) (more_log c d (same_log c d is.1))
   by_write None (Ok number) running is = done_more number (running refl) is
   by_write None (Err why) running is = more_log c d (failed_log c d m new why is)
 
-  runs : (h : Option ℕ) (rest : Option No) → unless_halted h rest ≡ None → h ≡ None
+  runs : (h : Option ℕ) (rest : Option No) → halted_or h rest ≡ None → h ≡ None
   runs None rest is = refl
   runs (Some disk) rest is = absurd (cc)
 
-  pub more_written : (size count : ℕ) (result : Result ℕ No) → WriteIs (write_refusal c size start count) c vol start bytes m new d result → IsMore (count_of result) c d
+  pub more_written : (size count : ℕ) (result : Result ℕ No) → WriteIs (write_refusal c size start count) c vol start bytes m new d result → IsMore (logged_count result) c d
   more_written size count result is =
       by_write (write_refusal c size start count) result
       (λ none. runs c.halted (if is_too_large c.log.ring count then Some Size else if ltb size (start + count) then Some Range else if leb most_number (last_of c) then Some (Limit Number most_number) else None) none) is

@@ -8,7 +8,7 @@ use Rattle.vx_model.specs.declared.link.Link.{Link as PlainLink}
 use Rattle.vx_model.specs.declared.link.Mode.{Mode}
 use Rattle.vx_model.specs.declared.link.Mode.TheVariants.{Log, Dcm, Replay, Fork, Stale}
 use Rattle.vx_model.specs.declared.no.No.TheVariants.{Damaged, Device, Down as IsOff}
-use Rattle.vx_diskset.specs.Holds.{Beside}
+use Rattle.vx_diskset.specs.Holds.{KeptBeside}
 use Rattle.vx_model.specs.declared.state.State.{State}
 use Rattle.vx_history.specs.KeptLinks.{kept_link, kept_mode, kept_start}
 use Rattle.vx_history.specs.LinkForms.{plain_link}
@@ -23,8 +23,8 @@ use Rattle.vx_net.specs.Flights.{Flying}
 use Rattle.vx_peers.specs.Senders.{LinkMoved, ReadCause, SendsFrom}
 use Rattle.vx_rvg.specs.Views.{Core, last_of}
 use Rattle.vx_rvg.specs.declared.group.Rvg.{Rvg}
-use Rattle.vx_diskset.specs.Holds.{beside_of, links_of}
-use Rattle.vx_diskset.specs.Needs.{hold_of, is_needing, mode_hold, mode_needs}
+use Rattle.vx_diskset.specs.Holds.{beside_of, header_links}
+use Rattle.vx_diskset.specs.Needs.{hold_of, is_needing, kept_mode_hold, mode_needs}
 use Rattle.vx_diskset.specs.Pumps.{PumpStop, PumpedIs}
 use Rattle.vx_peers.specs.Senders.{SendsBy, pump_asks, way_from}
 use Rattle.vx_model.specs.declared.history.Line.{Line}
@@ -34,7 +34,7 @@ use Rattle.vx_diskset.proofs.StaysUp.{all_taken, never_both}
 
 -- ---- what a link by the log needs
 
-mode_by : (m : Mode) (stored : ℕ) → by_log m ≡ true → (mode_needs (kept_mode m) ≡ true) × (mode_hold (kept_mode m) (kept_start m) stored ≤ stored)
+mode_by : (m : Mode) (stored : ℕ) → by_log m ≡ true → (mode_needs (kept_mode m) ≡ true) × (kept_mode_hold (kept_mode m) (kept_start m) stored ≤ stored)
 mode_by Log stored is = (refl, omega arith)
 mode_by Dcm stored is = absurd (let e : false ≡ true = is in cc)
 mode_by (Replay id phase left start end) stored is = (refl, omega arith)
@@ -47,7 +47,7 @@ needing_by to l logs attached = let by = mode_by l.mode l.stored logs in (ap (λ
 module _ {R : Type 0} {g : Ghosts R} where
   -- so it is there
   pub never_lacks : (d : Doubted) (site to k : ℕ) (rvg : Rvg R g) (link : PlainLink) → IsUpAt (beside_of d site) (d.world.nodes site) rvg.core (g.meaning rvg.shelf) → (d.world.nodes site).halted ≡ None → IsTrue (g.meaning rvg.shelf).tells
-      → slice_get (links_of d.world site) k ≡ Some (kept_link to (d.world.links site to)) → link ≡ plain_link to (d.world.links site to) → by_log link.mode ≡ true → link.attached ≡ true → rvg.core.log.header.low ≤ link.stored + 1
+      → slice_get (header_links d.world site) k ≡ Some (kept_link to (d.world.links site to)) → link ≡ plain_link to (d.world.links site to) → by_log link.mode ≡ true → link.attached ≡ true → rvg.core.log.header.low ≤ link.stored + 1
   never_lacks d site to k rvg link up none told there is logs attached =
       let l : Link = d.world.links site to in
       let by = needing_by to l (sym (ap (λ (x : PlainLink). by_log x.mode) is) ∙ logs) (sym (ap (λ (x : PlainLink). x.attached) is) ∙ attached) in
@@ -56,7 +56,7 @@ module _ {R : Type 0} {g : Ghosts R} where
 
 -- ---- the site as the sending end of a link
 
-sends_from : {beside : Beside} (n : Node) (c : Core) (m : Meaning) → IsUpAt beside n c m → n.halted ≡ None → IsTrue m.tells → SendsFrom n c m
+sends_from : {beside : KeptBeside} (n : Node) (c : Core) (m : Meaning) → IsUpAt beside n c m → n.halted ≡ None → IsTrue m.tells → SendsFrom n c m
 sends_from n c m up none told =
     let stood = up.content none told in
     record {
@@ -81,7 +81,7 @@ pumped_is d site c m new link l f f' (Err (Refused (Damaged unit block stored co
 pumped_is d site c m new link l f f' (Err (Refused other)) up none told down is flight moved cause = absurd cause
 
 -- whether contents are told or not
-pub pump_stops : {beside : Beside} (n : Node) (c : Core) (m new : Meaning) (result : Result (Unit {0}) Stop) → IsUpAt beside n c m → new.down ≡ m.down → IfErr result (ReadCause c m new) → IfErr result (PumpStop m.disk_faults new.disk_faults)
+pub pump_stops : {beside : KeptBeside} (n : Node) (c : Core) (m new : Meaning) (result : Result (Unit {0}) Stop) → IsUpAt beside n c m → new.down ≡ m.down → IfErr result (ReadCause c m new) → IfErr result (PumpStop m.disk_faults new.disk_faults)
 pump_stops n c m new (Ok done) up down cause = tt
 pump_stops n c m new (Err OutOfMemory) up down cause = tt
 pump_stops n c m new (Err (Refused (Device disk))) up down cause = cause
@@ -89,7 +89,7 @@ pump_stops n c m new (Err (Refused IsOff)) up down cause = absurd (never_both ne
 pump_stops n c m new (Err (Refused (Damaged unit block stored computed))) up down cause = tt
 pump_stops n c m new (Err (Refused other)) up down cause = absurd cause
 
-pub pump_sends : {beside : Beside} (n : Node) (c : Core) (m : Meaning) (site : ℕ) (l : PlainLink) (f f' : Flying) (result : Result (Unit {0}) Stop) → IsUpAt beside n c m
+pub pump_sends : {beside : KeptBeside} (n : Node) (c : Core) (m : Meaning) (site : ℕ) (l : PlainLink) (f f' : Flying) (result : Result (Unit {0}) Stop) → IsUpAt beside n c m
     → OnOk result (SendsBy (pump_asks l (last_of c)) (way_from site l.site c.log.header.state.line) f f') → OnOk result (SendsBy (pump_asks l n.safe) (way_from site l.site n.line) f f')
 pump_sends n c m site l f f' (Ok done) up sends =
     subst (λ (k : ℕ). SendsBy (pump_asks l k) (way_from site l.site n.line) f f') up.head

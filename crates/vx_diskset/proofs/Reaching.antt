@@ -20,14 +20,14 @@ use Rattle.vx_disk.specs.Shelf.{Image, Meaning}
 use Rattle.vx_disk.specs.declared.shelf.Shelf.{Ghosts}
 use Rattle.vx_rvg.specs.Views.{Core, last_of, unit_of}
 use Rattle.vx_rvg.specs.declared.group.Rvg.{Rvg}
-use Rattle.vx_secondary.specs.Receivers.{Wait, write_of, writes_of}
+use Rattle.vx_secondary.specs.Receivers.{Wait, write_of_update, writes_of_updates}
 use Rattle.vx_secondary.proofs.Writings.{can_parts}
 use Rattle.vx_diskset.specs.declared.receivers.Reached.{Reached}
 use Rattle.vx_diskset.specs.declared.disk_set.DiskSet.{DiskSet}
 use Rattle.vx_diskset.specs.declared.disk_set.DiskSet.TheVariants.{Up, Receives}
 use Rattle.vx_diskset.specs.DiskSets.{CanLog, LoggedUp, halted_at, halted_with, worked, CrashedAt, is_off}
 use Rattle.vx_diskset.specs.Fuses.{HasFuse}
-use Rattle.vx_diskset.specs.Holds.{Beside, HasWrites, most_with, state_with}
+use Rattle.vx_diskset.specs.Holds.{KeptBeside, HasWrites, most_with, state_with}
 use Rattle.vx_diskset.specs.Lasts.{FoundWith}
 use Rattle.vx_diskset.specs.Layouts.{units_of}
 use Rattle.vx_diskset.specs.Needs.{HasRoom}
@@ -37,8 +37,8 @@ use Rattle.vx_rvg.specs.Groups.{has_numbers}
 use Rattle.vx_srl.specs.Views.{most_number}
 use Rattle.vx_diskset.specs.Rooms.{AppliedAs, HasNumbers, IsMore, NeverLimit}
 use Rattle.vx_diskset.proofs.LeavesNumbers.{lacks_them}
-use Rattle.vx_diskset.specs.Stands.{IsHeldAt, IsReceiverAt, IsUpAt, CutAt, StandsAt}
-use Rattle.vx_events.specs.Fuses.{taken}
+use Rattle.vx_diskset.specs.Stands.{IsHeldAt, IsReceiverAt, IsUpAt, CutAt, SiteStands}
+use Rattle.vx_events.specs.Fuses.{ring_taken}
 use Rattle.vx_diskset.proofs.BesideLemmas.{never_besides, site_map}
 use Rattle.vx_ringio.specs.Spends.{Spends}
 use Rattle.vx_ringio.proofs.Spending.{spends_none, then_spends}
@@ -74,14 +74,14 @@ content_more c a j k xs le low most = fold_both c (drop a (take j xs)) (drop j (
 
 -- ---- a receiver with other parts of its node
 
-like : {beside : Beside} (n : Node) (b b' : Content) (s s' : ℕ) (f f' : Fuse) (c : Core) (us : List Update) (m : Meaning) → b ≡ b' → s ≡ s' → f ≡ f'
+like : {beside : KeptBeside} (n : Node) (b b' : Content) (s s' : ℕ) (f f' : Fuse) (c : Core) (us : List Update) (m : Meaning) → b ≡ b' → s ≡ s' → f ≡ f'
     → IsReceiverAt beside (record n { base = b; safe = s; fuse = f }) c us m → IsReceiverAt beside (record n { base = b'; safe = s'; fuse = f' }) c us m
 like {beside} n b b' s s' f f' c us m eb es ef r =
     subst (λ (x : Fuse). IsReceiverAt beside (record n { base = b'; safe = s'; fuse = x }) c us m) ef
     (subst (λ (x : ℕ). IsReceiverAt beside (record n { base = b'; safe = x; fuse = f }) c us m) es
     (subst (λ (x : Content). IsReceiverAt beside (record n { base = x; safe = s; fuse = f }) c us m) eb r))
 
-pub receiver_burned : {beside : Beside} (n : Node) (c : Core) (us : List Update) (m : Meaning) → IsReceiverAt beside n c us m → IsReceiverAt beside (worked n) c us m
+pub receiver_burned : {beside : KeptBeside} (n : Node) (c : Core) (us : List Update) (m : Meaning) → IsReceiverAt beside n c us m → IsReceiverAt beside (worked n) c us m
 receiver_burned n c us m r = record {
   state = r.state;
   role = r.role;
@@ -111,21 +111,21 @@ receiver_burned n c us m r = record {
 }
 
 -- none is applied yet
-pub reached_none : {beside : Beside} (n : Node) (c : Core) (us : List Update) (m : Meaning) → IsReceiverAt beside n c us m → IsReceiverAt beside (reached n n.safe) c us m
+pub reached_none : {beside : KeptBeside} (n : Node) (c : Core) (us : List Update) (m : Meaning) → IsReceiverAt beside n c us m → IsReceiverAt beside (reached n n.safe) c us m
 reached_none n c us m r = like n n.base (fold_writes n.base (drop n.safe (take n.safe n.log))) n.safe n.safe (burned n.fuse) (burned n.fuse) c us m (durable_content n) refl refl (receiver_burned n c us m r)
 
-pub reached_worked : {beside : Beside} (n : Node) (c : Core) (us : List Update) (m : Meaning) → IsReceiverAt beside (worked n) c us m → IsReceiverAt beside (reached n n.safe) c us m
+pub reached_worked : {beside : KeptBeside} (n : Node) (c : Core) (us : List Update) (m : Meaning) → IsReceiverAt beside (worked n) c us m → IsReceiverAt beside (reached n n.safe) c us m
 reached_worked n c us m r = like n n.base (fold_writes n.base (drop n.safe (take n.safe n.log))) n.safe n.safe (burned n.fuse) (burned n.fuse) c us m (durable_content n) refl refl r
 
 -- those up to j, and from there up to k
-pub reached_more : {beside : Beside} (n : Node) (j k : ℕ) (c : Core) (us : List Update) (m : Meaning) → n.safe ≤ j → j ≤ k → k ≤ length n.log → IsReceiverAt beside (reached (reached n j) k) c us m → IsReceiverAt beside (reached n k) c us m
+pub reached_more : {beside : KeptBeside} (n : Node) (j k : ℕ) (c : Core) (us : List Update) (m : Meaning) → n.safe ≤ j → j ≤ k → k ≤ length n.log → IsReceiverAt beside (reached (reached n j) k) c us m → IsReceiverAt beside (reached n k) c us m
 reached_more n j k c us m le low most r =
     like n (fold_writes (fold_writes n.base (drop n.safe (take j n.log))) (drop j (take k n.log))) (fold_writes n.base (drop n.safe (take k n.log))) k k (burned (burned n.fuse)) (burned n.fuse) c us m
     (content_more n.base n.safe j k n.log le low most) refl (burned_twice n.fuse) r
 
 -- ---- back to the site as it was before
 
-back_writes : {beside : Beside} (n : Node) (number : ℕ) (i : Image) → n.safe ≤ number → HasWrites beside (reached n number) i → HasWrites beside n i
+back_writes : {beside : KeptBeside} (n : Node) (number : ℕ) (i : Image) → n.safe ≤ number → HasWrites beside (reached n number) i → HasWrites beside n i
 back_writes {beside} n number i le has = record {
   count = has.count;
   least = omega (arith, le, has.least);
@@ -135,7 +135,7 @@ back_writes {beside} n number i le has = record {
 }
 
 -- the sizes of its volumes are those of its first content
-pub back_held : {beside : Beside} (n : Node) (number : ℕ) (m : Meaning) → n.safe ≤ number → n.safe ≤ length n.log → IsHeldAt beside (reached n number) m → IsHeldAt beside n m
+pub back_held : {beside : KeptBeside} (n : Node) (number : ℕ) (m : Meaning) → n.safe ≤ number → n.safe ≤ length n.log → IsHeldAt beside (reached n number) m → IsHeldAt beside n m
 back_held n number m le some held = record {
   lies = lies_sized (reached n number) n.base.size m (λ v. sym (folded_size n.base (drop n.safe (take number n.log)) v)) held.lies;
   low = held.low;
@@ -145,7 +145,7 @@ back_held n number m le some held = record {
   may = held.may;
 }
 
-pub back_halted : {beside : Beside} (n : Node) (number disk : ℕ) (c : Core) (us : List Update) (m : Meaning) → n.safe ≤ number → IsReceiverAt beside (halted_at (reached n number) disk) c us m → IsReceiverAt beside (halted_at n disk) c us m
+pub back_halted : {beside : KeptBeside} (n : Node) (number disk : ℕ) (c : Core) (us : List Update) (m : Meaning) → n.safe ≤ number → IsReceiverAt beside (halted_at (reached n number) disk) c us m → IsReceiverAt beside (halted_at n disk) c us m
 back_halted {beside} n number disk c us m le r = record {
   state = r.state;
   role = r.role;
@@ -185,7 +185,7 @@ fuse_less k (FuseSet calls) m has = tt
 fuse_less k (FuseLit most) m has = tt
 
 -- a site that is up, with a like content and a fuse of which less is known
-up_like : {beside : Beside} (n : Node) (b : Content) (f : Fuse) (c : Core) (m : Meaning) → n.base ≡ b → HasFuse f m → IsUpAt beside n c m → IsUpAt beside (record n { base = b; fuse = f }) c m
+up_like : {beside : KeptBeside} (n : Node) (b : Content) (f : Fuse) (c : Core) (m : Meaning) → n.base ≡ b → HasFuse f m → IsUpAt beside n c m → IsUpAt beside (record n { base = b; fuse = f }) c m
 up_like {beside} n b f c m eb fuse up = subst (λ (x : Content). IsUpAt beside (record n { base = x; fuse = f }) c m) eb (record {
   state = up.state;
   up = up.up;
@@ -214,7 +214,7 @@ up_like {beside} n b f c m eb fuse up = subst (λ (x : Content). IsUpAt beside (
 })
 
 -- an image that has the first j writes has the site's
-first_writes : {beside : Beside} (k : Node) (log : List Write) (j : ℕ) (i : Image) → k.log ≡ take j log → j ≤ length log → HasWrites beside k i → HasWrites beside (record k { log = log }) i
+first_writes : {beside : KeptBeside} (k : Node) (log : List Write) (j : ℕ) (i : Image) → k.log ≡ take j log → j ≤ length log → HasWrites beside k i → HasWrites beside (record k { log = log }) i
 first_writes {beside} k log j i front most has = record {
   count = has.count;
   least = has.least;
@@ -226,21 +226,21 @@ first_writes {beside} k log j i front most has = record {
     below : has.count ≤ j
     below = omega (arith, has.most, ap (λ (ws : List Write). length ws) front, length-take j log)
 
-module _ {beside : Beside} (n : Node) (c : Core) (us rest : List Update) (u : Update) (m : Meaning) (r : IsReceiverAt beside n c us m) (can : CanReceive beside n) (front : us ≡ u ∷ rest) where
+module _ {beside : KeptBeside} (n : Node) (c : Core) (us rest : List Update) (u : Update) (m : Meaning) (r : IsReceiverAt beside n c us m) (can : CanReceive beside n) (front : us ≡ u ∷ rest) where
   abbrev pub x : Write
-  x = write_of u
+  x = write_of_update u
 
-  split : drop n.safe n.log ≡ x ∷ writes_of rest
-  split = sym (r.waits ∙ ap (λ (k : ℕ). drop k n.log) (r.head can.running)) ∙ ap (λ (vs : List Update). writes_of vs) front
+  split : drop n.safe n.log ≡ x ∷ writes_of_updates rest
+  split = sym (r.waits ∙ ap (λ (k : ℕ). drop k n.log) (r.head can.running)) ∙ ap (λ (vs : List Update). writes_of_updates vs) front
 
   more : suc n.safe ≡ n.safe + 1
   more = omega arith
 
   front_next : take n.safe n.log ++ x ∷ [] ≡ take (n.safe + 1) n.log
-  front_next = sym (next_of n.safe n.log x (writes_of rest) split).0 ∙ ap (λ (k : ℕ). take k n.log) more
+  front_next = sym (next_of n.safe n.log x (writes_of_updates rest) split).0 ∙ ap (λ (k : ℕ). take k n.log) more
 
-  rest_next : writes_of rest ≡ drop (n.safe + 1) n.log
-  rest_next = sym (next_of n.safe n.log x (writes_of rest) split).1 ∙ ap (λ (k : ℕ). drop k n.log) more
+  rest_next : writes_of_updates rest ≡ drop (n.safe + 1) n.log
+  rest_next = sym (next_of n.safe n.log x (writes_of_updates rest) split).1 ∙ ap (λ (k : ℕ). drop k n.log) more
 
   long : n.safe ≤ length n.log
   long = omega (arith, r.least, r.most)
@@ -268,7 +268,7 @@ module _ {beside : Beside} (n : Node) (c : Core) (us rest : List Update) (u : Up
   room_next able hold is = record {
     unneeded = needs_less beside.links (length n.log) hold (omega (arith, is, r.most)) can.unneeded;
     room =
-        let none = ap (λ (k : ℕ). taken (drop k (take n.safe n.log))) (is ∙ r.head can.running) ∙ ap (λ (ws : List Write). taken ws) (drop-take_none n.safe n.log) in
+        let none = ap (λ (k : ℕ). ring_taken (drop k (take n.safe n.log))) (is ∙ r.head can.running) ∙ ap (λ (ws : List Write). ring_taken ws) (drop-take_none n.safe n.log) in
         omega (arith, none, able.fits);
   }
 
@@ -336,12 +336,12 @@ pub front_is : (us : List Update) (u : Update) → Some u ≡ slice_get us 0 →
 front_is [] u is = absurd (cc)
 front_is (v ∷ vs) u is = let same : u ≡ v = cc in ap (λ (w : Update). w ∷ vs) (sym same)
 
-pub next_can : {beside : Beside} (n : Node) (number : ℕ) → CanReceive beside n → CanReceive beside (reached n number)
+pub next_can : {beside : KeptBeside} (n : Node) (number : ℕ) → CanReceive beside n → CanReceive beside (reached n number)
 next_can n number can = record { receives = can.receives; up = can.up; running = can.running; unneeded = can.unneeded }
 
 -- so many of the updates are logged
 pub record LoggedSo (us : List Update) (k : ℕ) (c d : Core) (m mid : Meaning) (left : List Update) : Type 0 where
-  pub each : (beside : Beside) (n : Node) → IsReceiverAt beside n c us m → CanReceive beside n → IsReceiverAt beside (reached n (n.safe + k)) d left mid
+  pub each : (beside : KeptBeside) (n : Node) → IsReceiverAt beside n c us m → CanReceive beside n → IsReceiverAt beside (reached n (n.safe + k)) d left mid
   pub left_is : left ≡ drop k us
   pub more : IsMore k c d
   pub stamp : d.log.header.stamp ≤ c.log.header.stamp + k
@@ -372,7 +372,7 @@ module _ (us : List Update) (k : ℕ) (c d e : Core) (m mid new : Meaning) (left
   pub numbers_left : (count : ℕ) → k < count → HasNumbers c count → HasNumbers d 1
   numbers_left count low has = record { stamps = omega (arith, at.stamp, low, has.stamps); numbers = omega (arith, at.more.last, low, has.numbers) }
 
-  pub logged_more : (after : List Update) → ((beside : Beside) (n : Node) → IsReceiverAt beside n d left mid → CanReceive beside n → IsReceiverAt beside (reached n (n.safe + 1)) e after new)
+  pub logged_more : (after : List Update) → ((beside : KeptBeside) (n : Node) → IsReceiverAt beside n d left mid → CanReceive beside n → IsReceiverAt beside (reached n (n.safe + 1)) e after new)
       → after ≡ drop 1 left → IsMore 1 d e → e.log.header.stamp ≤ d.log.header.stamp + 1 → Spends mid new → (IsFalse mid.down → IsFalse new.down) → ((disk : ℕ) → mid.disk_faults disk ≤ new.disk_faults disk) → (IsTrue new.tells → IsTrue mid.tells)
       → LoggedSo us (k + 1) c e m new after
   logged_more after next left_is more stamp spends up counts told = record {
@@ -391,19 +391,19 @@ module _ (us : List Update) (k : ℕ) (c d e : Core) (m mid new : Meaning) (left
   }
 
   -- what a later call answers of the site
-  pub failed_more : {beside : Beside} (n : Node) (count : ℕ) (after : List Update) (why : No) → IsReceiverAt beside n c us m → CanReceive beside n → LoggedTo beside (reached n (n.safe + k)) 1 after e mid new (Err why) → LoggedTo beside n count after e m new (Err why)
+  pub failed_more : {beside : KeptBeside} (n : Node) (count : ℕ) (after : List Update) (why : No) → IsReceiverAt beside n c us m → CanReceive beside n → LoggedTo beside (reached n (n.safe + k)) 1 after e mid new (Err why) → LoggedTo beside n count after e m new (Err why)
   failed_more n count after (Device disk) r can h = (back_halted n (n.safe + k) disk e after new (omega arith) h.0, rose_later (m.disk_faults disk) (mid.disk_faults disk) (new.disk_faults disk) (at.counts disk) h.1)
   failed_more n count after IsOff r can h = (fused_before n.fuse h.0, back_held n (n.safe + k) new (omega arith) (omega (arith, r.least, r.most)) h.1)
   failed_more n count after other r can h = h
 
 -- ---- and applied
 
-module _ {beside : Beside} (n : Node) (number : ℕ) (c d : Core) (us : List Update) (m mid new : Meaning) (low : n.safe ≤ number) (some : n.safe ≤ length n.log) (r : IsReceiverAt beside (reached n number) c us mid) (running : n.halted ≡ None)
+module _ {beside : KeptBeside} (n : Node) (number : ℕ) (c d : Core) (us : List Update) (m mid new : Meaning) (low : n.safe ≤ number) (some : n.safe ≤ length n.log) (r : IsReceiverAt beside (reached n number) c us mid) (running : n.halted ≡ None)
     (counts : (disk : ℕ) → m.disk_faults disk ≤ mid.disk_faults disk) where
   long_here : number ≤ length n.log
   long_here = omega (arith, r.least, r.most)
 
-  waits_here : writes_of us ≡ drop number n.log
+  waits_here : writes_of_updates us ≡ drop number n.log
   waits_here = r.waits ∙ ap (λ (k : ℕ). drop k n.log) (r.head running)
 
   pub applied_done : (to got : ℕ) → AppliedAs beside (durable_of (reached n number)) to d mid new (Ok got) → IsReceiverAt beside (reached n number) d us new
@@ -447,10 +447,10 @@ rule_some n count few is some low = by (eqb (min count (length n.log - n.safe)) 
 -- ---- the same of disk sets
 
 module _ {R : Type 0} {g : Ghosts R} where
-  count_waits : {beside : Beside} (n : Node) (s : Secondary R g) → IsReceiverAt beside n s.rvg.core s.waiting (g.meaning s.rvg.shelf) → n.halted ≡ None → length s.waiting ≡ length n.log - n.safe
-  count_waits n s r running = omega (arith, ap (λ (ws : List Write). length ws) r.waits, length-map s.waiting write_of, length-drop (last_of s.rvg.core) n.log, r.head running)
+  count_waits : {beside : KeptBeside} (n : Node) (s : Secondary R g) → IsReceiverAt beside n s.rvg.core s.waiting (g.meaning s.rvg.shelf) → n.halted ≡ None → length s.waiting ≡ length n.log - n.safe
+  count_waits n s r running = omega (arith, ap (λ (ws : List Write). length ws) r.waits, length-map s.waiting write_of_update, length-drop (last_of s.rvg.core) n.log, r.head running)
 
-  by_result : (beside : Beside) (n : Node) (count few : ℕ) (s new : Secondary R g) (result : Result Reached No) → IsReceiverAt beside n s.rvg.core s.waiting (g.meaning s.rvg.shelf) → n.halted ≡ None → few ≡ min count (length s.waiting) → 0 < few
+  by_result : (beside : KeptBeside) (n : Node) (count few : ℕ) (s new : Secondary R g) (result : Result Reached No) → IsReceiverAt beside n s.rvg.core s.waiting (g.meaning s.rvg.shelf) → n.halted ≡ None → few ≡ min count (length s.waiting) → 0 < few
       → ReachedTo beside n few new.waiting new.rvg.core (g.meaning s.rvg.shelf) (g.meaning new.rvg.shelf) result → ReachedUp beside n count (Receives s) (Receives new) result
   by_result beside n count few s new (Ok r) here running is some h =
       subst (λ (a : RAction). ReachedBy a beside n r (Receives new)) (sym (rule_some n count few (is ∙ ap (λ (k : ℕ). min count k) (count_waits n s here running)) some (omega (arith, here.least, here.most)))) h
@@ -459,27 +459,27 @@ module _ {R : Type 0} {g : Ghosts R} where
   by_result beside n count few s new (Err IsOff) here running is some h = h
   by_result beside n count few s new (Err other) here running is some h = h
 
-  pub reached_up : (beside : Beside) (n : Node) (count few : ℕ) (old : DiskSet R g) (s new : Secondary R g) (result : Result Reached No) → old ≡ Receives s → few ≡ min count (length s.waiting) → 0 < few
+  pub reached_up : (beside : KeptBeside) (n : Node) (count few : ℕ) (old : DiskSet R g) (s new : Secondary R g) (result : Result Reached No) → old ≡ Receives s → few ≡ min count (length s.waiting) → 0 < few
       → (IsReceiverAt beside n s.rvg.core s.waiting (g.meaning s.rvg.shelf) → CanReceive beside n → ReachedTo beside n few new.waiting new.rvg.core (g.meaning s.rvg.shelf) (g.meaning new.rvg.shelf) result)
-      → StandsAt beside n old → CanReceive beside n → ReachedUp beside n count old (Receives new) result
+      → SiteStands beside n old → CanReceive beside n → ReachedUp beside n count old (Receives new) result
   reached_up beside n count few old s new result is few_is some reaches stands can =
-      let here = (let r : IsReceiverAt beside n s.rvg.core s.waiting (g.meaning s.rvg.shelf) = subst (λ (e : DiskSet R g). StandsAt beside n e) is stands in r) in
+      let here = (let r : IsReceiverAt beside n s.rvg.core s.waiting (g.meaning s.rvg.shelf) = subst (λ (e : DiskSet R g). SiteStands beside n e) is stands in r) in
       subst (λ (e : DiskSet R g). ReachedUp beside n count e (Receives new) result) (sym is) (by_result beside n count few s new result here can.running few_is some (reaches here can))
 
   -- nothing is asked for, or nothing waits
-  pub reached_idle : (beside : Beside) (n : Node) (count few head : ℕ) (old : DiskSet R g) (s : Secondary R g) → old ≡ Receives s → few ≡ min count (length s.waiting) → few ≡ 0 → head ≡ last_of s.rvg.core → StandsAt beside n old → CanReceive beside n
+  pub reached_idle : (beside : KeptBeside) (n : Node) (count few head : ℕ) (old : DiskSet R g) (s : Secondary R g) → old ≡ Receives s → few ≡ min count (length s.waiting) → few ≡ 0 → head ≡ last_of s.rvg.core → SiteStands beside n old → CanReceive beside n
       → ReachedUp beside n count old (Receives s) (Ok (record { number = head; acks = false }))
   reached_idle beside n count few head old s is few_is none head_is stands can =
-      let here = (let r : IsReceiverAt beside n s.rvg.core s.waiting (g.meaning s.rvg.shelf) = subst (λ (e : DiskSet R g). StandsAt beside n e) is stands in r) in
+      let here = (let r : IsReceiverAt beside n s.rvg.core s.waiting (g.meaning s.rvg.shelf) = subst (λ (e : DiskSet R g). SiteStands beside n e) is stands in r) in
       subst (λ (a : RAction). ReachedBy a beside n (record { number = head; acks = false }) (Receives s))
       (sym (rule_none n count (sym (ap (λ (k : ℕ). min count k) (count_waits n s here can.running)) ∙ sym few_is ∙ none)))
       (head_is ∙ here.head can.running, refl, receiver_burned n s.rvg.core s.waiting (g.meaning s.rvg.shelf) here)
 
   -- no number is left for all of them
-  pub reached_full : (beside : Beside) (n : Node) (count few : ℕ) (old : DiskSet R g) (s : Secondary R g) → old ≡ Receives s → few ≡ min count (length s.waiting) → has_numbers s.rvg.core few ≡ false → StandsAt beside n old → CanReceive beside n
+  pub reached_full : (beside : KeptBeside) (n : Node) (count few : ℕ) (old : DiskSet R g) (s : Secondary R g) → old ≡ Receives s → few ≡ min count (length s.waiting) → has_numbers s.rvg.core few ≡ false → SiteStands beside n old → CanReceive beside n
       → ReachedUp beside n count old (Receives s) (Err (Limit Number most_number))
   reached_full beside n count few old s is few_is full stands can =
-      let here = (let r : IsReceiverAt beside n s.rvg.core s.waiting (g.meaning s.rvg.shelf) = subst (λ (e : DiskSet R g). StandsAt beside n e) is stands in r) in
+      let here = (let r : IsReceiverAt beside n s.rvg.core s.waiting (g.meaning s.rvg.shelf) = subst (λ (e : DiskSet R g). SiteStands beside n e) is stands in r) in
       let long = count_waits n s here can.running in (
         refl,
         (λ told.
@@ -489,20 +489,20 @@ module _ {R : Type 0} {g : Ghosts R} where
       )
 
   -- nothing waits at a site that was not started as one that receives
-  pub reached_none_up : (beside : Beside) (n : Node) (count head : ℕ) (old : DiskSet R g) (rvg : Rvg R g) → old ≡ Up rvg → head ≡ last_of rvg.core → StandsAt beside n old → CanReceive beside n
+  pub reached_none_up : (beside : KeptBeside) (n : Node) (count head : ℕ) (old : DiskSet R g) (rvg : Rvg R g) → old ≡ Up rvg → head ≡ last_of rvg.core → SiteStands beside n old → CanReceive beside n
       → ReachedUp beside n count old (Up rvg) (Ok (record { number = head; acks = false }))
   reached_none_up beside n count head old rvg is head_is stands can =
-      let here = (let r : IsUpAt beside n rvg.core (g.meaning rvg.shelf) = subst (λ (e : DiskSet R g). StandsAt beside n e) is stands in r) in
+      let here = (let r : IsUpAt beside n rvg.core (g.meaning rvg.shelf) = subst (λ (e : DiskSet R g). SiteStands beside n e) is stands in r) in
       let whole = here.durable can.running in
       subst (λ (a : RAction). ReachedBy a beside n (record { number = head; acks = false }) (Up rvg)) (sym (rule_none n count (omega (arith, whole))))
       (head_is ∙ here.head, refl, up_worked n rvg.core (g.meaning rvg.shelf) here)
 
   -- an apply whose fuse ran out, and the crash behind it
-  pub reached_off : {beside : Beside} (n : Node) (count : ℕ) (old mid new : DiskSet R g) (why : No) → is_off why ≡ true → ReachedUp beside n count old mid (Err why) → (CutAt beside n mid → CrashedAt beside n new) → ReachedAt beside n count old new (Err why)
+  pub reached_off : {beside : KeptBeside} (n : Node) (count : ℕ) (old mid new : DiskSet R g) (why : No) → is_off why ≡ true → ReachedUp beside n count old mid (Err why) → (CutAt beside n mid → CrashedAt beside n new) → ReachedAt beside n count old new (Err why)
   reached_off n count old mid new IsOff off is falls = (is.0, falls is.1)
   reached_off n count old mid new other off is falls = absurd (cc)
 
-  pub reached_on : (beside : Beside) (n : Node) (count : ℕ) (old new : DiskSet R g) (why : No) → is_off why ≡ false → ReachedUp beside n count old new (Err why) → ReachedAt beside n count old new (Err why)
+  pub reached_on : (beside : KeptBeside) (n : Node) (count : ℕ) (old new : DiskSet R g) (why : No) → is_off why ≡ false → ReachedUp beside n count old new (Err why) → ReachedAt beside n count old new (Err why)
   reached_on beside n count old new IsOff off is = absurd (cc)
   reached_on beside n count old new (Device disk) off is = is
   reached_on beside n count old new (Limit what most) off is = is

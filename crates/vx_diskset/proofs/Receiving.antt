@@ -10,7 +10,7 @@ use Rattle.vx_model.specs.declared.no.No.TheVariants.{Device, Limit, Down as IsO
 use Rattle.vx_model.specs.declared.state.KeptLink.{KeptLink}
 use Rattle.vx_model.specs.declared.state.State.{State}
 use Rattle.vx_model.specs.declared.units.Units.{Units}
-use Rattle.vx_rvg.specs.Contents.{Shows}
+use Rattle.vx_rvg.specs.Contents.{ShowsContent}
 use Rattle.vx_rvg.specs.Holdings.{Holding}
 use Rattle.vx_rvg.specs.Stands.{Stands}
 use Rattle.vx_rvg.specs.declared.group.Rvg.{Rvg}
@@ -21,22 +21,22 @@ use Rattle.vx_disk.specs.Causes.{OnDisks}
 use Rattle.vx_disk.specs.Disks.{SameBlocks, Untouched}
 use Rattle.vx_disk.specs.Racks.{Alike, IsRack}
 use Rattle.vx_disk.specs.Shelf.{Goes, Image, Lawful, Meaning, Nothing}
-use Rattle.vx_rvg.specs.Groups.{ApplyIs, Fails, ReadIs, read_refusal}
+use Rattle.vx_rvg.specs.Groups.{ApplyIs, GroupFails, ReadIs, read_refusal}
 use Rattle.vx_rvg.specs.Saves.{SaveIs, with_new_state}
 use Rattle.vx_rvg.specs.Views.{Core, last_of, unit_of}
 use Rattle.vx_rvg.proofs.ReadStands.{rest_stands}
-use Rattle.vx_secondary.specs.Receivers.{Wait, writes_of}
+use Rattle.vx_secondary.specs.Receivers.{Wait, writes_of_updates}
 use Rattle.vx_secondary.proofs.Writings.{can_same}
 use Rattle.vx_diskset.proofs.MakeGroup.{fuse_untouched}
 use Rattle.vx_diskset.proofs.ReadGroup.{ReadAs, read_as, reads_up}
 use Rattle.vx_events.specs.Sayings.{received_content}
 use Rattle.vx_diskset.specs.Received.{ShowedAt}
 use Rattle.vx_diskset.specs.Fuses.{HasFuse}
-use Rattle.vx_diskset.specs.Holds.{Beside, HasDoubted, HasWrites, Kept, MayBe, alone, most_with, state_with}
-use Rattle.vx_diskset.specs.Lasts.{FoundWith, StandsWith}
+use Rattle.vx_diskset.specs.Holds.{KeptBeside, HasDoubted, HasWrites, KeptSite, MayBe, site_alone, most_with, state_with}
+use Rattle.vx_diskset.specs.Lasts.{FoundWith, StandsHolding}
 use Rattle.vx_diskset.specs.Layouts.{units_of}
 use Rattle.vx_diskset.specs.Needs.{TakesAs}
-use Rattle.vx_diskset.specs.Stands.{IsHeldAt, IsReceiverAt, IsUpAt, RoleIs, StandsAt, IsToldAt}
+use Rattle.vx_diskset.specs.Stands.{IsHeldAt, IsReceiverAt, IsUpAt, RoleIs, SiteStands, IsToldAt}
 use Rattle.vx_diskset.specs.Rooms.{AppliedAs}
 use Rattle.vx_diskset.specs.DiskSets.{AppliedUp, ReadAt, halted_at, worked, BareUp, BareUpBy, CameUp, CameUpBy, CanRead}
 use Rattle.vx_diskset.specs.Keeps.{KeptUp, doubting, restated}
@@ -73,7 +73,7 @@ wait_log c d one two us same sizes wait =
     wait_as c d one two us same.units same.ring (ap (λ (h : Header). h.state.line) same.header)
     (omega (arith, ap (λ (h : Header). h.low) same.header, ap (λ (ks : List KeptRecord). length ks) same.held)) sizes wait
 
-pub failed_log : (c d : Core) (m new : Meaning) (why : No) → Fails c m new d why → SameLog c d
+pub failed_log : (c d : Core) (m new : Meaning) (why : No) → GroupFails c m new d why → SameLog c d
 failed_log c d m new (Device disk) fails = ended_log c (Some disk) d fails.0
 failed_log c d m new IsOff fails = ended_log c c.halted d fails.0
 failed_log c d m new other fails = absurd fails
@@ -104,7 +104,7 @@ never_both_roles b origin none = let e : true ≡ false = sym origin ∙ none in
 abbrev pub durable_of : Node → Node
 durable_of n = record n { log = take n.safe n.log }
 
-pub receiver_up : {beside : Beside} (n : Node) (c : Core) (us : List Update) (m : Meaning) → IsReceiverAt beside n c us m → n.halted ≡ None → Lawful m → c.log.unit ≡ c.units.srl → IsUpAt beside (durable_of n) c m
+pub receiver_up : {beside : KeptBeside} (n : Node) (c : Core) (us : List Update) (m : Meaning) → IsReceiverAt beside n c us m → n.halted ≡ None → Lawful m → c.log.unit ≡ c.units.srl → IsUpAt beside (durable_of n) c m
 receiver_up {beside} n c us m r running lawful unit_is = record {
   state = r.state;
   up = r.up;
@@ -139,7 +139,7 @@ receiver_up {beside} n c us m r running lawful unit_is = record {
     long = omega (arith, length-take n.safe n.log, r.least, r.most)
 
 -- what an image has of the durable writes it has of all
-pub more_writes : {beside : Beside} (k : Node) (log : List Write) (i : Image) → k.log ≡ take k.safe log → k.safe ≤ length log → HasWrites beside k i → HasWrites beside (record k { log = log }) i
+pub more_writes : {beside : KeptBeside} (k : Node) (log : List Write) (i : Image) → k.log ≡ take k.safe log → k.safe ≤ length log → HasWrites beside k i → HasWrites beside (record k { log = log }) i
 more_writes {beside} k log i front most has = record {
   count = has.count;
   least = has.least;
@@ -155,8 +155,8 @@ more_writes {beside} k log i front most has = record {
     all = omega (arith, has.least, has.most, long)
 
 -- a site that has its durable writes is a receiver with more of them, behind which these wait
-pub up_receiver : {beside : Beside} (doubt : Option Kept) (k : Node) (log : List Write) (c : Core) (us : List Update) (m : Meaning) → is_origin k.role ≡ false → k.log ≡ take k.safe log → k.safe ≤ length log → writes_of us ≡ drop k.safe log
-    → ((i : Image) → HasDoubted beside.doubt i → HasDoubted doubt i) → ((x : Kept) → doubt ≡ Some x → MayBe x m) → (k.halted ≡ None → doubt ≡ None)
+pub up_receiver : {beside : KeptBeside} (doubt : Option KeptSite) (k : Node) (log : List Write) (c : Core) (us : List Update) (m : Meaning) → is_origin k.role ≡ false → k.log ≡ take k.safe log → k.safe ≤ length log → writes_of_updates us ≡ drop k.safe log
+    → ((i : Image) → HasDoubted beside.doubt i → HasDoubted doubt i) → ((x : KeptSite) → doubt ≡ Some x → MayBe x m) → (k.halted ≡ None → doubt ≡ None)
     → IsUpAt beside k c m → IsReceiverAt (record beside { doubt = doubt }) (record k { log = log }) c us m
 up_receiver {beside} doubt k log c us m role front most waits same may sure up = record {
   state = up.state;
@@ -180,7 +180,7 @@ up_receiver {beside} doubt k log c us m role front most waits same may sure up =
   halted = up.halted;
   waits = waits ∙ ap (λ (j : ℕ). drop j log) (sym up.head);
   takes = λ none. subst (λ (ws : List Write). TakesAs c.log ws) front (up.takes none);
-  content = λ none told. subst (λ (ws : List Write). StandsWith c ws k.base m) front (up.content none told);
+  content = λ none told. subst (λ (ws : List Write). StandsHolding c ws k.base m) front (up.content none told);
   left = λ i now. ⊎_elim (λ one. inl (of_doubt (more_writes k log i front most one))) (λ other. inr (same i other)) (up.left i now);
   sure = sure;
   may = may;
@@ -190,8 +190,8 @@ up_receiver {beside} doubt k log c us m role front most waits same may sure up =
     of_doubt has = record { count = has.count; least = has.least; most = has.most; found = has.found }
 
 -- the same of one whose shelf is down
-pub held_receiver : {beside : Beside} (doubt : Option Kept) (k : Node) (log : List Write) (m : Meaning) → k.log ≡ take k.safe log → k.safe ≤ length log
-    → ((i : Image) → HasDoubted beside.doubt i → HasDoubted doubt i) → ((x : Kept) → doubt ≡ Some x → MayBe x m) → IsHeldAt beside k m → IsHeldAt (record beside { doubt = doubt }) (record k { log = log }) m
+pub held_receiver : {beside : KeptBeside} (doubt : Option KeptSite) (k : Node) (log : List Write) (m : Meaning) → k.log ≡ take k.safe log → k.safe ≤ length log
+    → ((i : Image) → HasDoubted beside.doubt i → HasDoubted doubt i) → ((x : KeptSite) → doubt ≡ Some x → MayBe x m) → IsHeldAt beside k m → IsHeldAt (record beside { doubt = doubt }) (record k { log = log }) m
 held_receiver {beside} doubt k log m front most same may held = record {
   lies = held.lies;
   low = held.low;
@@ -206,10 +206,10 @@ held_receiver {beside} doubt k log m front most same may held = record {
 
 -- ---- a receiver over calls that change no contents
 
-pub receiver_held : {beside : Beside} (n : Node) (c : Core) (us : List Update) (m : Meaning) → IsReceiverAt beside n c us m → IsHeldAt beside n m
+pub receiver_held : {beside : KeptBeside} (n : Node) (c : Core) (us : List Update) (m : Meaning) → IsReceiverAt beside n c us m → IsHeldAt beside n m
 receiver_held n c us m r = record { lies = r.lies; low = r.low; logged = omega (arith, r.least, r.most); begun = r.begun; left = r.left; may = r.may }
 
-pub receiver_still : {beside : Beside} (n : Node) (c : Core) (us : List Update) (m new : Meaning) → Goes Nothing m new → ((i : Image) → new.now i → m.now i) → new.down ≡ m.down → HasFuse n.fuse new
+pub receiver_still : {beside : KeptBeside} (n : Node) (c : Core) (us : List Update) (m new : Meaning) → Goes Nothing m new → ((i : Image) → new.now i → m.now i) → new.down ≡ m.down → HasFuse n.fuse new
     → IsReceiverAt beside n c us m → IsReceiverAt beside n c us new
 receiver_still n c us m new goes now down fuse r =
     let still : IsFalse new.down = down ∙ r.up in
@@ -242,7 +242,7 @@ receiver_still n c us m new goes now down fuse r =
     }
 
 -- with its fuse
-pub receiver_fused : {beside : Beside} (n : Node) (c : Core) (us : List Update) (m new : Meaning) (calls pick : ℕ) → IsRack new → Alike m new → new.down ≡ m.down → OnDisks m.disks new.disks (λ o n. SameBlocks o n × (n.fuse ≡ Some (calls, pick)))
+pub receiver_fused : {beside : KeptBeside} (n : Node) (c : Core) (us : List Update) (m new : Meaning) (calls pick : ℕ) → IsRack new → Alike m new → new.down ≡ m.down → OnDisks m.disks new.disks (λ o n. SameBlocks o n × (n.fuse ≡ Some (calls, pick)))
     → IsReceiverAt beside n c us m → IsReceiverAt beside (record n { fuse = FuseSet calls }) c us new
 receiver_fused n c us m new calls pick rack alike down disks r = record {
   state = r.state;
@@ -273,21 +273,21 @@ receiver_fused n c us m new calls pick rack alike down disks r = record {
 }
 
 -- the volumes of its group are those of the site
-pub receiver_volumes : {beside : Beside} (n : Node) (c : Core) (us : List Update) (m : Meaning) → IsReceiverAt beside n c us m → length c.units.vols ≡ length n.volumes
+pub receiver_volumes : {beside : KeptBeside} (n : Node) (c : Core) (us : List Update) (m : Meaning) → IsReceiverAt beside n c us m → length c.units.vols ≡ length n.volumes
 receiver_volumes n c us m r = ap (λ (u : Units). length u.vols) r.units ∙ r.lies.laid.count
 
 -- ---- what calls on a receiver that runs leave of it
 
-never_may : (beside : Beside) (m : Meaning) → beside.doubt ≡ None → (x : Kept) → beside.doubt ≡ Some x → MayBe x m
+never_may : (beside : KeptBeside) (m : Meaning) → beside.doubt ≡ None → (x : KeptSite) → beside.doubt ≡ Some x → MayBe x m
 never_may beside m sure x is = never_besides beside.doubt m sure x is
 
 -- a receiver whose node is this one with another halt and another fuse
-pub as_receiver : {beside : Beside} (n : Node) (us : List Update) (halted : Option ℕ) (fuse : Fuse) (c : Core) (m : Meaning) → beside.doubt ≡ None → is_origin n.role ≡ false → n.safe ≤ length n.log → writes_of us ≡ drop n.safe n.log
+pub as_receiver : {beside : KeptBeside} (n : Node) (us : List Update) (halted : Option ℕ) (fuse : Fuse) (c : Core) (m : Meaning) → beside.doubt ≡ None → is_origin n.role ≡ false → n.safe ≤ length n.log → writes_of_updates us ≡ drop n.safe n.log
     → IsUpAt beside (record (durable_of n) { halted = halted; fuse = fuse }) c m → IsReceiverAt beside (record n { halted = halted; fuse = fuse }) c us m
 as_receiver {beside} n us halted fuse c m sure role most waits up =
     up_receiver beside.doubt (record (durable_of n) { halted = halted; fuse = fuse }) n.log c us m role refl most waits (λ i has. has) (never_may beside m sure) (λ none. sure) up
 
-pub as_held : {beside : Beside} (n : Node) (m : Meaning) → beside.doubt ≡ None → n.safe ≤ length n.log → IsHeldAt beside (durable_of n) m → IsHeldAt beside n m
+pub as_held : {beside : KeptBeside} (n : Node) (m : Meaning) → beside.doubt ≡ None → n.safe ≤ length n.log → IsHeldAt beside (durable_of n) m → IsHeldAt beside n m
 as_held {beside} n m sure most held = held_receiver beside.doubt (durable_of n) n.log m refl most (λ i has. has) (never_may beside m sure) held
 
 -- ---- the same of disk sets
@@ -301,24 +301,24 @@ wait_core c d m new us is sizes wait = wait_log c d m.size new.size us (same_log
 
 module _ {R : Type 0} {g : Ghosts R} where
   -- what is known of a receiver
-  abbrev At : Beside → Node → Secondary R g → Type 0
+  abbrev At : KeptBeside → Node → Secondary R g → Type 0
   At beside n s = IsReceiverAt beside n s.rvg.core s.waiting (g.meaning s.rvg.shelf)
 
   -- the writes that wait at one that runs
-  waits_safe : {beside : Beside} (n : Node) (s : Secondary R g) → At beside n s → n.halted ≡ None → writes_of s.waiting ≡ drop n.safe n.log
+  waits_safe : {beside : KeptBeside} (n : Node) (s : Secondary R g) → At beside n s → n.halted ≡ None → writes_of_updates s.waiting ≡ drop n.safe n.log
   waits_safe n s r running = r.waits ∙ ap (λ (k : ℕ). drop k n.log) (r.head running)
 
   -- as a site with its durable writes
-  pub receiver_as : (beside : Beside) (n : Node) (old : DiskSet R g) (s : Secondary R g) → old ≡ Receives s → StandsAt beside n old → n.halted ≡ None → Lawful (g.meaning s.rvg.shelf) → IsUpAt beside (durable_of n) s.rvg.core (g.meaning s.rvg.shelf)
+  pub receiver_as : (beside : KeptBeside) (n : Node) (old : DiskSet R g) (s : Secondary R g) → old ≡ Receives s → SiteStands beside n old → n.halted ≡ None → Lawful (g.meaning s.rvg.shelf) → IsUpAt beside (durable_of n) s.rvg.core (g.meaning s.rvg.shelf)
   receiver_as beside n old s is stands running lawful =
-      receiver_up n s.rvg.core s.waiting (g.meaning s.rvg.shelf) (subst (λ (e : DiskSet R g). StandsAt beside n e) is stands) running lawful s.rvg.sound.log_unit
+      receiver_up n s.rvg.core s.waiting (g.meaning s.rvg.shelf) (subst (λ (e : DiskSet R g). SiteStands beside n e) is stands) running lawful s.rvg.sound.log_unit
 
-  module _ (beside : Beside) (n : Node) (old : DiskSet R g) (s new : Secondary R g) (is : old ≡ Receives s) (stands : StandsAt beside n old) (running : n.halted ≡ None) (waiting : new.waiting ≡ s.waiting) where
+  module _ (beside : KeptBeside) (n : Node) (old : DiskSet R g) (s new : Secondary R g) (is : old ≡ Receives s) (stands : SiteStands beside n old) (running : n.halted ≡ None) (waiting : new.waiting ≡ s.waiting) where
     here : At beside n s
-    here = subst (λ (e : DiskSet R g). StandsAt beside n e) is stands
+    here = subst (λ (e : DiskSet R g). SiteStands beside n e) is stands
 
-    waits_new : writes_of new.waiting ≡ drop n.safe n.log
-    waits_new = ap (λ (us : List Update). writes_of us) waiting ∙ waits_safe n s here running
+    waits_new : writes_of_updates new.waiting ≡ drop n.safe n.log
+    waits_new = ap (λ (us : List Update). writes_of_updates us) waiting ∙ waits_safe n s here running
 
     long : n.safe ≤ length n.log
     long = omega (arith, here.least, here.most)
@@ -348,16 +348,16 @@ module _ {R : Type 0} {g : Ghosts R} where
 
     -- a state that is kept
     module _ (k : State) (same_role : is_origin k.role ≡ is_origin n.role) where
-      abbrev doubted : ℕ → Kept
+      abbrev doubted : ℕ → KeptSite
       doubted disk = record { node = halted_at (restated n k) disk; links = k.links; headers = beside.headers + 1 }
 
       has_doubted : (disk : ℕ) (i : Image) → HasDoubted (doubting beside (durable_of n) k disk).doubt i → HasDoubted (Some (doubted disk)) i
       has_doubted disk i has = more_writes (halted_at (restated (durable_of n) k) disk) n.log i refl long has
 
-      may_doubted : (disk : ℕ) (m : Meaning) → ((x : Kept) → (doubting beside (durable_of n) k disk).doubt ≡ Some x → MayBe x m) → (x : Kept) → Some (doubted disk) ≡ Some x → MayBe x m
+      may_doubted : (disk : ℕ) (m : Meaning) → ((x : KeptSite) → (doubting beside (durable_of n) k disk).doubt ≡ Some x → MayBe x m) → (x : KeptSite) → Some (doubted disk) ≡ Some x → MayBe x m
       may_doubted disk m may x is =
           let own = may (record { node = halted_at (restated (durable_of n) k) disk; links = k.links; headers = beside.headers + 1 }) refl in
-          subst (λ (y : Kept). MayBe y m) (some_same is) (record { state = own.state; lies = own.lies; low = own.low; logged = long; begun = own.begun })
+          subst (λ (y : KeptSite). MayBe y m) (some_same is) (record { state = own.state; lies = own.lies; low = own.low; logged = long; begun = own.begun })
 
       by_keep : (result : Result (Unit {0}) No) → KeptUp beside (durable_of n) k (Up s.rvg) (Up new.rvg) result → KeptUp beside n k (Receives s) (Receives new) result
       by_keep (Ok done) h =
@@ -377,7 +377,7 @@ module _ {R : Type 0} {g : Ghosts R} where
 -- ---- what is shown of a receiver
 
 module _ {R : Type 0} {g : Ghosts R} where
-  module _ (beside : Beside) (n : Node) (s new : Secondary R g) (volume start count : ℕ) (bytes : List ℕ) (r : IsReceiverAt beside n s.rvg.core s.waiting (g.meaning s.rvg.shelf)) (can : CanRead n volume start count)
+  module _ (beside : KeptBeside) (n : Node) (s new : Secondary R g) (volume start count : ℕ) (bytes : List ℕ) (r : IsReceiverAt beside n s.rvg.core s.waiting (g.meaning s.rvg.shelf)) (can : CanRead n volume start count)
       (lawful : Lawful (g.meaning s.rvg.shelf)) (after : Lawful (g.meaning new.rvg.shelf)) (same : new.rvg.core ≡ s.rvg.core) (waiting : new.waiting ≡ s.waiting) (goes : Goes Nothing (g.meaning s.rvg.shelf) (g.meaning new.rvg.shelf))
       (down : (g.meaning new.rvg.shelf).down ≡ (g.meaning s.rvg.shelf).down) (disks : OnDisks (g.meaning s.rvg.shelf).disks (g.meaning new.rvg.shelf).disks Untouched) (rack : IsRack (g.meaning s.rvg.shelf)) (rack' : IsRack (g.meaning new.rvg.shelf)) where
     up : IsUpAt beside (durable_of n) s.rvg.core (g.meaning s.rvg.shelf)
@@ -386,12 +386,12 @@ module _ {R : Type 0} {g : Ghosts R} where
     fuse : HasFuse n.fuse (g.meaning new.rvg.shelf)
     fuse = fuse_untouched n.fuse (g.meaning s.rvg.shelf) (g.meaning new.rvg.shelf) disks rack rack' r.fuse
 
-    waits : writes_of s.waiting ≡ drop n.safe n.log
+    waits : writes_of_updates s.waiting ≡ drop n.safe n.log
     waits = r.waits ∙ ap (λ (k : ℕ). drop k n.log) (r.head can.running)
 
     shown_with : (c : Core) → c ≡ s.rvg.core → IsUpAt beside (durable_of n) c (g.meaning new.rvg.shelf) → IsReceiverAt beside n c new.waiting (g.meaning new.rvg.shelf)
     shown_with c is here =
-        as_receiver n new.waiting n.halted n.fuse c (g.meaning new.rvg.shelf) (r.sure can.running) r.role (omega (arith, r.least, r.most)) (ap (λ (us : List Update). writes_of us) waiting ∙ waits) here
+        as_receiver n new.waiting n.halted n.fuse c (g.meaning new.rvg.shelf) (r.sure can.running) r.role (omega (arith, r.least, r.most)) (ap (λ (us : List Update). writes_of_updates us) waiting ∙ waits) here
 
     stands : IsReceiverAt beside n new.rvg.core new.waiting (g.meaning new.rvg.shelf)
     stands = shown_with new.rvg.core same (subst (λ (c : Core). IsUpAt beside (durable_of n) c (g.meaning new.rvg.shelf)) (sym same)
@@ -409,61 +409,61 @@ module _ {R : Type 0} {g : Ghosts R} where
     by_why other is = is
 
     pub showed : (result : Result (Unit {0}) No) → ReadIs (read_refusal s.rvg.core ((g.meaning s.rvg.shelf).size (unit_of s.rvg.core.units.vols volume)) start count) (g.meaning s.rvg.shelf) (g.meaning new.rvg.shelf) result
-        → OnOk result ((h : Holding) → Stands s.rvg.core h (g.meaning s.rvg.shelf) → IsTrue (g.meaning s.rvg.shelf).tells → Shows (fold_writes h.content (writes_of s.waiting)) volume start count bytes)
+        → OnOk result ((h : Holding) → Stands s.rvg.core h (g.meaning s.rvg.shelf) → IsTrue (g.meaning s.rvg.shelf).tells → ShowsContent (fold_writes h.content (writes_of_updates s.waiting)) volume start count bytes)
         → ShowedAt beside n volume start count bytes (Receives s) (Receives new) result
     showed (Ok done) is gives = (
       (λ told.
           let here : IsTrue (g.meaning s.rvg.shelf).tells = sym goes.tells ∙ told in
           let stood = r.content can.running here in
-          subst (λ (c : Content). Shows c volume start count bytes) (ap (λ (c : Content). fold_writes c (writes_of s.waiting)) stood.has.content ∙ ap (λ (xs : List Write). fold_writes n.base xs) waits) (gives stood.held stood.stands here)),
+          subst (λ (c : Content). ShowsContent c volume start count bytes) (ap (λ (c : Content). fold_writes c (writes_of_updates s.waiting)) stood.has.content ∙ ap (λ (xs : List Write). fold_writes n.base xs) waits) (gives stood.held stood.stands here)),
       stands,
     )
     showed (Err why) is gives = by_why why (refused why is)
 
-  pub showed_at : (beside : Beside) (n : Node) (old new : DiskSet R g) (s : Secondary R g) (volume start count : ℕ) (bytes : List ℕ) (result : Result (Unit {0}) No) → old ≡ Receives s
-      → (IsReceiverAt beside n s.rvg.core s.waiting (g.meaning s.rvg.shelf) → ShowedAt beside n volume start count bytes (Receives s) new result) → StandsAt beside n old → ShowedAt beside n volume start count bytes old new result
+  pub showed_at : (beside : KeptBeside) (n : Node) (old new : DiskSet R g) (s : Secondary R g) (volume start count : ℕ) (bytes : List ℕ) (result : Result (Unit {0}) No) → old ≡ Receives s
+      → (IsReceiverAt beside n s.rvg.core s.waiting (g.meaning s.rvg.shelf) → ShowedAt beside n volume start count bytes (Receives s) new result) → SiteStands beside n old → ShowedAt beside n volume start count bytes old new result
   showed_at beside n old new s volume start count bytes result is shows stands =
-      subst (λ (e : DiskSet R g). ShowedAt beside n volume start count bytes e new result) (sym is) (shows (subst (λ (e : DiskSet R g). StandsAt beside n e) is stands))
+      subst (λ (e : DiskSet R g). ShowedAt beside n volume start count bytes e new result) (sym is) (shows (subst (λ (e : DiskSet R g). SiteStands beside n e) is stands))
 
   -- nothing waits at a site that does not receive
-  pub read_showed : (beside : Beside) (n : Node) (old new : DiskSet R g) (rvg : Rvg R g) (volume start count : ℕ) (bytes : List ℕ) (result : Result (Unit {0}) No) → old ≡ Up rvg → StandsAt beside n old → n.halted ≡ None
+  pub read_showed : (beside : KeptBeside) (n : Node) (old new : DiskSet R g) (rvg : Rvg R g) (volume start count : ℕ) (bytes : List ℕ) (result : Result (Unit {0}) No) → old ≡ Up rvg → SiteStands beside n old → n.halted ≡ None
       → ReadAt beside n volume start count bytes old new result → ShowedAt beside n volume start count bytes old new result
   read_showed beside n old new rvg volume start count bytes result is stands running read = by result read
     where
       up : IsUpAt beside n rvg.core (g.meaning rvg.shelf)
-      up = subst (λ (e : DiskSet R g). StandsAt beside n e) is stands
+      up = subst (λ (e : DiskSet R g). SiteStands beside n e) is stands
 
       same : n.base ≡ received_content n
       same = ap (λ (xs : List Write). fold_writes n.base xs) (sym (drop_all n.safe n.log (up.durable running)))
 
       by : (result : Result (Unit {0}) No) → ReadAt beside n volume start count bytes old new result → ShowedAt beside n volume start count bytes old new result
-      by (Ok done) h = ((λ told. subst (λ (c : Content). Shows c volume start count bytes) same (h.0 told)), h.1)
+      by (Ok done) h = ((λ told. subst (λ (c : Content). ShowsContent c volume start count bytes) same (h.0 told)), h.1)
       by (Err (Device disk)) h = h
       by (Err other) h = h
 
 -- ---- a site that came up
 
 -- with all writes durable
-pub risen_receiver : {beside : Beside} (n : Node) (c : Core) (m : Meaning) → IsUpAt beside n c m → n.halted ≡ None → length n.log ≡ n.safe → is_origin c.log.header.state.role ≡ false → IsReceiverAt beside n c [] m
+pub risen_receiver : {beside : KeptBeside} (n : Node) (c : Core) (m : Meaning) → IsUpAt beside n c m → n.halted ≡ None → length n.log ≡ n.safe → is_origin c.log.header.state.role ≡ false → IsReceiverAt beside n c [] m
 risen_receiver {beside} n c m up running whole role =
     up_receiver beside.doubt n n.log c [] m (sym (ap (λ (s : State). is_origin s.role) up.kept) ∙ role) (sym (take_all n.safe n.log (omega (arith, whole)))) (omega (arith, whole)) (sym (drop_all n.safe n.log (omega (arith, whole))))
     (λ i has. has) (λ x is. up.may x is) up.sure up
 
 module _ {R : Type 0} {g : Ghosts R} where
-  pub risen_at : (beside : Beside) (n : Node) (old : DiskSet R g) (rvg : Rvg R g) (s : Secondary R g) → old ≡ Up rvg → s.rvg ≡ rvg → s.waiting ≡ [] → is_origin rvg.core.log.header.state.role ≡ false → StandsAt beside n old → n.halted ≡ None → length n.log ≡ n.safe
+  pub risen_at : (beside : KeptBeside) (n : Node) (old : DiskSet R g) (rvg : Rvg R g) (s : Secondary R g) → old ≡ Up rvg → s.rvg ≡ rvg → s.waiting ≡ [] → is_origin rvg.core.log.header.state.role ≡ false → SiteStands beside n old → n.halted ≡ None → length n.log ≡ n.safe
       → IsReceiverAt beside n s.rvg.core s.waiting (g.meaning s.rvg.shelf)
   risen_at beside n old rvg s is group none role stands running whole =
       subst (λ (us : List Update). IsReceiverAt beside n s.rvg.core us (g.meaning s.rvg.shelf)) (sym none)
       (subst (λ (k : Rvg R g). IsReceiverAt beside n k.core [] (g.meaning k.shelf)) (sym group)
-      (risen_receiver n rvg.core (g.meaning rvg.shelf) (subst (λ (e : DiskSet R g). StandsAt beside n e) is stands) running whole role))
+      (risen_receiver n rvg.core (g.meaning rvg.shelf) (subst (λ (e : DiskSet R g). SiteStands beside n e) is stands) running whole role))
 
   -- by its role it is an origin
-  pub risen_origin : (beside : Beside) (n : Node) (e : DiskSet R g) (rvg : Rvg R g) → e ≡ Up rvg → is_origin rvg.core.log.header.state.role ≡ true → StandsAt beside n e → is_origin n.role ≡ true
+  pub risen_origin : (beside : KeptBeside) (n : Node) (e : DiskSet R g) (rvg : Rvg R g) → e ≡ Up rvg → is_origin rvg.core.log.header.state.role ≡ true → SiteStands beside n e → is_origin n.role ≡ true
   risen_origin beside n e rvg is role stands =
-      let up : IsUpAt beside n rvg.core (g.meaning rvg.shelf) = subst (λ (x : DiskSet R g). StandsAt beside n x) is stands in
+      let up : IsUpAt beside n rvg.core (g.meaning rvg.shelf) = subst (λ (x : DiskSet R g). SiteStands beside n x) is stands in
       sym (ap (λ (s : State). is_origin s.role) up.kept) ∙ role
 
-  pub came_role : {beside : Beside} (n : Node) (mid new : DiskSet R g) → CameUp beside n mid → ((k : Node) → StandsAt beside k mid → k.halted ≡ None → length k.log ≡ k.safe → StandsAt beside k new) → ((k : Node) → StandsAt beside k mid → RoleIs k new)
+  pub came_role : {beside : KeptBeside} (n : Node) (mid new : DiskSet R g) → CameUp beside n mid → ((k : Node) → SiteStands beside k mid → k.halted ≡ None → length k.log ≡ k.safe → SiteStands beside k new) → ((k : Node) → SiteStands beside k mid → RoleIs k new)
       → (IsToldAt new → IsToldAt mid) → CameUpBy beside n new
   came_role n mid new came rises role told = record {
     came = record {
@@ -477,7 +477,7 @@ module _ {R : Type 0} {g : Ghosts R} where
     role = role came.node came.stands;
   }
 
-  pub bare_role : (n : Node) (mid new : DiskSet R g) → BareUp n mid → ((beside : Beside) (k : Node) → StandsAt beside k mid → k.halted ≡ None → length k.log ≡ k.safe → StandsAt beside k new) → ((beside : Beside) (k : Node) → StandsAt beside k mid → RoleIs k new)
+  pub bare_role : (n : Node) (mid new : DiskSet R g) → BareUp n mid → ((beside : KeptBeside) (k : Node) → SiteStands beside k mid → k.halted ≡ None → length k.log ≡ k.safe → SiteStands beside k new) → ((beside : KeptBeside) (k : Node) → SiteStands beside k mid → RoleIs k new)
       → (IsToldAt new → IsToldAt mid) → BareUpBy n new
   bare_role n mid new came rises role told = record {
     came = record {
@@ -487,5 +487,5 @@ module _ {R : Type 0} {g : Ghosts R} where
       whole = came.whole;
       stands = λ beside sure. rises beside came.node (came.stands beside sure) came.same.running came.whole;
     };
-    role = role alone came.node (came.stands alone refl);
+    role = role site_alone came.node (came.stands site_alone refl);
   }

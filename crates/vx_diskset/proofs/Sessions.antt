@@ -7,7 +7,7 @@ use Rattle.vx_model.specs.declared.units.Units.{Units}
 use Rattle.vx_disk.specs.Shelf.{Image}
 use Rattle.vx_ringio.specs.Classes.{class_of, classes, narrowed, is_of_ring}
 use Rattle.vx_rvg.specs.Holdings.{Holding}
-use Rattle.vx_rvg.specs.Stands.{Found}
+use Rattle.vx_rvg.specs.Stands.{FoundGroup}
 use Rattle.vx_srl.specs.Views.{most_number}
 use Rattle.vx_srlfmt.specs.Kinds.{Kind, Top, Front, Body, Damaged, Other, IsKind, kind_of}
 use Rattle.vx_srlfmt.specs.declared.header.Header.{Header}
@@ -37,7 +37,7 @@ classes_top unit ring b i h e = by (nat_lt b (ring + 2)) e
     by true e = class_top ring (i unit b) h e
     by false e = absurd (cc)
 
-pub header_below : (units : Units) (ring : ℕ) (state : State) (session stamp : ℕ) (i : Image) (h : Holding) → Found units ring state session stamp i h → session < 2 ^ 63
+pub header_below : (units : Units) (ring : ℕ) (state : State) (session stamp : ℕ) (i : Image) (h : Holding) → FoundGroup units ring state session stamp i h → session < 2 ^ 63
 header_below units ring state session stamp i h found =
     subst (λ (k : ℕ). k < 2 ^ 63) found.session_is
     (⊎_elim (λ one. classes_top units.srl ring 0 i found.header one.0) (λ two. classes_top units.srl ring 1 i found.header two.0) found.recovers.starts.counts)

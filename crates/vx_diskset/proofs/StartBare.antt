@@ -16,14 +16,14 @@ use Rattle.vx_srlfmt.specs.Headers.{header_magic}
 use Rattle.vx_srlfmt.specs.Kinds.{Top}
 use Rattle.vx_srlfmt.specs.declared.header.Header.{Header}
 use Rattle.vx_srlfmt.proofs.HeaderAgain.{begins_header}
-use Rattle.vx_diskset.specs.Holds.{Beside}
+use Rattle.vx_diskset.specs.Holds.{KeptBeside}
 use Rattle.vx_disk.specs.Counts.{Rose}
 use Rattle.vx_disk.specs.Moves.{Moves, Run}
 use Rattle.vx_disk.specs.Racks.{Alike, Stopped}
 use Rattle.vx_disk.specs.Shelf.{Meaning, Keeps, Lawful, Goes, Nothing}
 use Rattle.vx_disk.specs.declared.shelf.Shelf.{Ghosts}
 use Rattle.vx_ringio.specs.Classes.{class_of}
-use Rattle.vx_ringio.specs.Reading.{IsTop, SeesTop}
+use Rattle.vx_ringio.specs.Reading.{IsTopSeen, SeesTop}
 use Rattle.vx_ringio.specs.declared.top.TopSeen.{TopSeen}
 use Rattle.vx_ringio.specs.declared.top.TopSeen.TheVariants as top
 use Rattle.vx_ringio.proofs.Classing.{top_class}
@@ -60,13 +60,13 @@ not_begun begins =
 zero_top : (ring : ℕ) (h : Header) → class_of ring zero_block ≡ Top h → ⊥
 zero_top ring h is = not_begun (begins_header zero_block h (top_class ring zero_block h is))
 
-pub zeros_seen : (ring b : ℕ) (m : Meaning) (seen : TopSeen) → Lawful m → Keeps m 0 b zero_block → SeesTop 0 ring b m seen → IsTop ring zero_block seen
-zeros_seen ring b m seen lawful keeps sees = subst (λ (v : List ℕ). IsTop ring v seen) (keeps.only sees.bytes (lawful.shown 0 b sees.bytes sees.read)) sees.is
+pub zeros_seen : (ring b : ℕ) (m : Meaning) (seen : TopSeen) → Lawful m → Keeps m 0 b zero_block → SeesTop 0 ring b m seen → IsTopSeen ring zero_block seen
+zeros_seen ring b m seen lawful keeps sees = subst (λ (v : List ℕ). IsTopSeen ring v seen) (keeps.only sees.bytes (lawful.shown 0 b sees.bytes sees.read)) sees.is
 
-pub never_valid : (ring : ℕ) (h : Header) → IsTop ring zero_block (top.Valid h) → ⊥
+pub never_valid : (ring : ℕ) (h : Header) → IsTopSeen ring zero_block (top.Valid h) → ⊥
 never_valid ring h is = zero_top ring h is
 
-pub never_broken : (ring : ℕ) (stored computed : List ℕ) → IsTop ring zero_block (top.Broken stored computed) → ⊥
+pub never_broken : (ring : ℕ) (stored computed : List ℕ) → IsTopSeen ring zero_block (top.Broken stored computed) → ⊥
 never_broken ring stored computed is = not_begun is.1.begins
 
 -- ---- the disks of a bare site
@@ -108,9 +108,9 @@ module _ (n : Node) (m up new : Meaning) (core : Core) (clean : IsCleanAt n m) (
   ring_here = ap ring_of (goes.size 0 ∙ clean.bare.fitted.size 0 (omega (arith, can.some)))
 
   pub found_same : SameDisks (raw_set 0 n) (found_bare n core)
-  found_same = record { name = refl; disks = refl; blocks = refl; volumes = refl; up = refl; running = refl; failing = refl; fuse = refl }
+  found_same = record { name = refl; disks = refl; blocks = refl; volumes = refl; up = refl; running = refl; failing = refl; fuse = refl; group = refl }
 
-  pub found_up : (beside : Beside) → beside.doubt ≡ None → IsUpAt beside (found_bare n core) core new
+  pub found_up : (beside : KeptBeside) → beside.doubt ≡ None → IsUpAt beside (found_bare n core) core new
   found_up beside sure = record {
     state = refl;
     up = not_true new.down still;

@@ -1,6 +1,7 @@
 -- What the start of a site that crashed leaves of it.
 use Rattle.std.proofs.Common.{◌-◌, ◌≡◌, ◌⊎◌, inl, inr, ⊎_elim, ℕ, ◌+◌, ◌*◌, ◌<◌, ◌≤◌, Bool, true, false, List, [], length, Option, None, IsTrue, refl, sym, ◌∙◌, ap, subst, arith}
 use Rattle.std.specs.Prelude.{IsFalse}
+use Rattle.vx_disk.specs.Maps.{maps_of}
 use Rattle.vx_model.specs.Content.{Content, Write}
 use Rattle.vx_history.specs.World.{Node, Fuse}
 use Rattle.vx_history.specs.Steps.{recovered}
@@ -11,7 +12,7 @@ use Rattle.vx_model.specs.declared.no.No.TheVariants.{Device, Limit, NoConfig, D
 use Rattle.vx_model.specs.declared.site.SiteState.TheVariants.{Bare as IsBare, Up as IsUp, Down as IsDown}
 use Rattle.vx_model.specs.declared.state.State.{State}
 use Rattle.vx_model.specs.declared.units.Units.{Units}
-use Rattle.vx_diskset.specs.Holds.{Beside}
+use Rattle.vx_diskset.specs.Holds.{KeptBeside}
 use Rattle.vx_disk.specs.Counts.{Rose}
 use Rattle.vx_disk.specs.Moves.{Moves, Run}
 use Rattle.vx_disk.specs.Racks.{IsRack, Alike, Stopped}
@@ -19,9 +20,9 @@ use Rattle.vx_disk.specs.Shelf.{Meaning, Image, Keeps, Lawful, Goes, Nothing}
 use Rattle.vx_overlay.specs.Writes.{newest_of}
 use Rattle.std.specs.Prelude.{MatchOption, Some, Err}
 use Rattle.vx_rvg.specs.Holdings.{Holding}
-use Rattle.vx_rvg.specs.Stands.{Left}
+use Rattle.vx_rvg.specs.Stands.{LeftGroup}
 use Rattle.vx_rvg.specs.Starts.{IsStarted, Starting, StartCause, NothingLeft, ring_in}
-use Rattle.vx_rvg.specs.Views.{Core, Placed, last_of, maps_of, unit_of}
+use Rattle.vx_rvg.specs.Views.{Core, UnitsPlaced, last_of, unit_of}
 use Rattle.vx_rvg.proofs.WriteSound.{maps_fit_as}
 use Rattle.vx_model.specs.declared.limits.TheConstants.{LINK_PLACES}
 use Rattle.vx_rvg.proofs.ContentFacts.{stands_last}
@@ -39,8 +40,8 @@ use Rattle.vx_diskset.specs.Layouts.{LiesOn, raw_units, units_of}
 use Rattle.vx_diskset.proofs.Laying.{lies_as, maps_fit, sizes_of}
 use Rattle.vx_diskset.specs.Holds.{most_header}
 use Rattle.vx_diskset.specs.Fuses.{HasFuse}
-use Rattle.vx_diskset.specs.Stands.{IsUpAt, IsDownAt, StandsAt, faults_at}
-use Rattle.vx_diskset.specs.Lasts.{FoundWith, HasLast, LeftWith, StandsWith}
+use Rattle.vx_diskset.specs.Stands.{IsUpAt, IsDownAt, SiteStands, faults_at}
+use Rattle.vx_diskset.specs.Lasts.{FoundWith, HasLast, LeftWith, StandsHolding}
 use Rattle.vx_diskset.proofs.CrashGroup.{one_value, found_left_with, left_with}
 use Rattle.vx_diskset.proofs.BesideLemmas.{never_besides}
 use Rattle.vx_diskset.proofs.LastWrites.{stands_with}
@@ -57,7 +58,7 @@ keeps_less m new u b bytes (Some x) less is = is
 keeps_less m new u b bytes None less keeps = record { only = λ v left. keeps.only v (less v left) }
 
 pub left_still : (units : Units) (ring : ℕ) (state : State) (session stamp : ℕ) (h : Holding) (m new : Meaning) → new.tells ≡ m.tells → ((u : ℕ) → new.size u ≡ m.size u)
-    → ((u b : ℕ) (v : List ℕ) → new.leaves u b v → m.leaves u b v) → Left units ring state session stamp h m → Left units ring state session stamp h new
+    → ((u b : ℕ) (v : List ℕ) → new.leaves u b v → m.leaves u b v) → LeftGroup units ring state session stamp h m → LeftGroup units ring state session stamp h new
 left_still units ring state session stamp h m new tells size less left = record {
   header = left.header;
   records = left.records;
@@ -90,7 +91,7 @@ pub left_still_with : (units : Units) (ring : ℕ) (state : State) (session stam
 left_still_with units ring state session stamp xs c m new tells size less with = record { held = with.held; has = with.has; needs = with.needs; left = left_still units ring state session stamp with.held m new tells size less with.left }
 
 -- a site that is down stays so
-pub down_still : {beside : Beside} (n : Node) (m new : Meaning) → Goes Nothing m new → new.down ≡ m.down → new.armed ≡ m.armed → IsDownAt beside n m → IsDownAt beside n new
+pub down_still : {beside : KeptBeside} (n : Node) (m new : Meaning) → Goes Nothing m new → new.down ≡ m.down → new.armed ≡ m.armed → IsDownAt beside n m → IsDownAt beside n new
 down_still {beside} n m new goes down armed is = record {
   state = is.state;
   unfused = is.unfused;
@@ -127,7 +128,7 @@ found_site n state session last log = record n {
 }
 
 -- a site that came up, as a start has it
-pub record Came (beside : Beside) (n : Node) (core : Core) (m : Meaning) : Type 0 where
+pub record Came (beside : KeptBeside) (n : Node) (core : Core) (m : Meaning) : Type 0 where
   pub node : Node
   pub is : IsTrue m.tells → node ≡ recovered n
   pub same : SameDisks n node
@@ -138,7 +139,7 @@ never_untold : {b : Bool} → b ≡ true → b ≡ false → ⊥
 never_untold is not = cc
 
 -- a site that is down, revived and started
-module _ {beside : Beside} (n : Node) (m up : Meaning) (is : IsDownAt beside n m) (alike : Alike m up) (risen : IsFalse up.down) (armed : up.armed ≡ m.armed) where
+module _ {beside : KeptBeside} (n : Node) (m up : Meaning) (is : IsDownAt beside n m) (alike : Alike m up) (risen : IsFalse up.down) (armed : up.armed ≡ m.armed) where
   abbrev units : Units
   units = raw_units n.disks
 
@@ -161,7 +162,7 @@ module _ {beside : Beside} (n : Node) (m up : Meaning) (is : IsDownAt beside n m
     -- with the log that a start took up
     started_up : (core : Core) (state : State) (session last : ℕ) (log : List Write) → (IsTrue new.tells → 1 < session) → IsStarted units up core new → core.log.header.state ≡ state → (IsTrue new.tells → state.links ≡ beside.links)
         → core.log.header.incarnation ≡ session → (IsTrue new.tells → core.log.header.stamp + 1 ≤ most_header beside (found_site n state session last log)) → last_of core ≡ last → length log ≡ last
-        → TakesAs core.log log → (IsTrue new.tells → StandsWith core log n.base new) → ((i : Image) → new.now i → HasWrites beside (found_site n state session last log) i)
+        → TakesAs core.log log → (IsTrue new.tells → StandsHolding core log n.base new) → ((i : Image) → new.now i → HasWrites beside (found_site n state session last log) i)
         → IsUpAt beside (found_site n state session last log) core new
     started_up core state session last log begun started kept unlinked incarnation stamp head logged takes content left = record {
       state = refl;
@@ -191,14 +192,14 @@ module _ {beside : Beside} (n : Node) (m up : Meaning) (is : IsDownAt beside n m
     }
 
     same_disks : (state : State) (session last : ℕ) (log : List Write) → SameDisks n (found_site n state session last log)
-    same_disks state session last log = record { name = refl; disks = refl; blocks = refl; volumes = refl; up = refl; running = refl; failing = refl; fuse = refl }
+    same_disks state session last log = record { name = refl; disks = refl; blocks = refl; volumes = refl; up = refl; running = refl; failing = refl; fuse = refl; group = refl }
 
     came_by : (b : Bool) → new.tells ≡ b → (core : Core) → core.log.unit ≡ core.units.srl → core.log.staged ≡ [] → IsStarted units up core new → Came beside n core new
     came_by true tells core unit_is idle started =
         let told : IsTrue up.tells = sym moves.tells ∙ tells in
         let with = left_up told in
         let has = started.each (state_with n beside.links) n.session (most_header beside n) with.held with.left in
-        let stood : StandsWith core n.log n.base new = record {
+        let stood : StandsHolding core n.log n.base new = record {
           held = with.held;
           has = subst (λ (r : ℕ). HasLast r n.log n.base with.held) (sym started.ring_is) with.has;
           needs = subst (λ (s : State). NoneNeeds s.links (with.held.low - 1)) (sym has.0) with.needs;
@@ -233,7 +234,7 @@ module _ {beside : Beside} (n : Node) (m up : Meaning) (is : IsDownAt beside n m
 -- ---- a start that was refused, and the crash behind it
 
 -- why a site stays down
-abbrev pub RefusedAs : Beside → Node → Meaning → Meaning → No → Type 0
+abbrev pub RefusedAs : KeptBeside → Node → Meaning → Meaning → No → Type 0
 RefusedAs beside n m last (Device disk) = (IsDownAt beside n last ⊎ (IsDownAt beside (record n { session = n.session + 1 }) last × (n.session < most_number))) × Rose (m.disk_faults disk) (last.disk_faults disk)
 RefusedAs beside n m last (Limit what most) =
     (Limit what most ≡ no_number) × (IsTrue last.tells → most_number ≤ most_header beside n + 2) × IsDownAt beside n last
@@ -242,7 +243,7 @@ RefusedAs beside n m last other = (IsTrue last.tells → ⊥) × IsDownAt beside
 limit_same : {a b : Counted} {x y : ℕ} → a ≡ b → x ≡ y → Limit a x ≡ Limit b y
 limit_same e f = λ i. Limit (e i) (f i)
 
-module _ {beside : Beside} (n : Node) (m up new last : Meaning) (is : IsDownAt beside n m) (alike : Alike m up) (risen : IsFalse up.down) (armed : up.armed ≡ m.armed) (lawful : Lawful up) (after : Lawful new)
+module _ {beside : KeptBeside} (n : Node) (m up new last : Meaning) (is : IsDownAt beside n m) (alike : Alike m up) (risen : IsFalse up.down) (armed : up.armed ≡ m.armed) (lawful : Lawful up) (after : Lawful new)
     (moves : Moves (Run (raw_units n.disks).srl 0 (ring_in (raw_units n.disks) up + 2)) (Starting (raw_units n.disks) up) up new)
     (stopped : Stopped new last) (law : Lawful last) (rack : IsRack last) where
   told_up : IsTrue last.tells → IsTrue up.tells
@@ -337,7 +338,7 @@ module _ {beside : Beside} (n : Node) (m up new last : Meaning) (is : IsDownAt b
 -- ---- the disk set of the site
 
 -- a site that is down can be started
-pub can_start : {beside : Beside} (n : Node) (m : Meaning) (ring : ℕ) → IsDownAt beside n m → ring ≡ n.ring → CanStart ring m
+pub can_start : {beside : KeptBeside} (n : Node) (m : Meaning) (ring : ℕ) → IsDownAt beside n m → ring ≡ n.ring → CanStart ring m
 can_start n m ring is ring_is = record {
   holds = record {
     some = omega (arith, is.lies.units, is.lies.can.some);
@@ -351,17 +352,17 @@ can_start n m ring is ring_is = record {
 
 -- what a start needs
 pub start_needs : (disks ring : ℕ) (units : Units) (m up : Meaning) → CanStart ring m → Alike m up → units ≡ raw_units disks → disks ≡ up.units
-    → Placed units up × (8 ≤ up.size units.srl) × (ring ≡ ring_in units up)
+    → UnitsPlaced units up × (8 ≤ up.size units.srl) × (ring ≡ ring_in units up)
 start_needs disks ring units m up can alike is disks_is =
     let size : up.size units.srl ≡ m.size 0 = ap (λ (u : Units). up.size u.srl) is ∙ alike.contents.size 0 in (
-      subst (λ (u : Units). Placed u up) (sym is) (placed_raw disks up disks_is (omega (arith, disks_is, alike.contents.units, can.holds.some))
+      subst (λ (u : Units). UnitsPlaced u up) (sym is) (placed_raw disks up disks_is (omega (arith, disks_is, alike.contents.units, can.holds.some))
           (subst (λ (k : ℕ). LINK_PLACES * maps_of (raw_units k).vols up ≤ up.size (raw_units k).maps) (sym alike.contents.units ∙ sym disks_is) (maps_fit_as (raw_units m.units) m up alike.contents.size can.holds.maps))),
       omega (arith, size, can.holds.large),
       can.holds.is_ring ∙ sym (ap ring_of size),
     )
 
 module _ {R : Type 0} {g : Ghosts R} where
-  never_down : (beside : Beside) (n : Node) (e : DiskSet R g) → StandsAt beside n e → n.state ≡ IsDown → ((rack : R) → e ≡ Down rack → ⊥) → ⊥
+  never_down : (beside : KeptBeside) (n : Node) (e : DiskSet R g) → SiteStands beside n e → n.state ≡ IsDown → ((rack : R) → e ≡ Down rack → ⊥) → ⊥
   never_down beside n (Bare rack) h down none = let e : IsBare ≡ IsDown = sym (ap (λ (x : Node). x.state) h.bare.is) ∙ down in absurd (cc)
   never_down beside n (Spoiled rack) h down none = let e : IsBare ≡ IsDown = sym (ap (λ (x : Node). x.state) h.is) ∙ down in absurd (cc)
   never_down beside n (Up rvg) h down none = let e : IsUp ≡ IsDown = sym h.state ∙ down in absurd (cc)
@@ -369,7 +370,7 @@ module _ {R : Type 0} {g : Ghosts R} where
   never_down beside n (Down rack) h down none = none rack refl
   never_down beside n Gone h down none = h
 
-  pub came_at : {beside : Beside} (n : Node) (disks : ℕ) (units : Units) (rack up : R) (rvg : Rvg R g) → units ≡ raw_units disks → disks ≡ (g.meaning up).units → IsDownAt beside n (g.meaning rack)
+  pub came_at : {beside : KeptBeside} (n : Node) (disks : ℕ) (units : Units) (rack up : R) (rvg : Rvg R g) → units ≡ raw_units disks → disks ≡ (g.meaning up).units → IsDownAt beside n (g.meaning rack)
       → Alike (g.meaning rack) (g.meaning up) → IsFalse (g.meaning up).down → (g.meaning up).armed ≡ (g.meaning rack).armed → Lawful (g.meaning up) → Lawful (g.meaning rvg.shelf)
       → IsStarted units (g.meaning up) rvg.core (g.meaning rvg.shelf) → Moves (Run units.srl 0 (ring_in units (g.meaning up) + 2)) (Starting units (g.meaning up)) (g.meaning up) (g.meaning rvg.shelf)
       → CameUp beside n (Up rvg)
@@ -380,12 +381,12 @@ module _ {R : Type 0} {g : Ghosts R} where
       rvg.core rvg.sound.log_unit (rvg.sound.idle started.running (not_true (g.meaning rvg.shelf).down (λ fell. never_both (g.meaning up).down (moves.safe (armed ∙ down.unarmed) fell) risen))) (subst (λ (u : Units). IsStarted u (g.meaning up) rvg.core (g.meaning rvg.shelf)) same started) in
       record { node = c.node; is = c.is; same = c.same; whole = omega (arith, c.stands.logged, c.stands.durable c.same.running); stands = c.stands; next = c.next }
 
-  down_as : (beside : Beside) (n : Node) (old : DiskSet R g) (rack last : R) (why : No) → old ≡ Down rack → RefusedAs beside n (g.meaning rack) (g.meaning last) why → CameUpIs beside n old (Down last) (Err why)
+  down_as : (beside : KeptBeside) (n : Node) (old : DiskSet R g) (rack last : R) (why : No) → old ≡ Down rack → RefusedAs beside n (g.meaning rack) (g.meaning last) why → CameUpIs beside n old (Down last) (Err why)
   down_as beside n old rack last (Device disk) is h = (h.0, subst (λ (e : DiskSet R g). Rose (faults_at e disk) ((g.meaning last).disk_faults disk)) (sym is) h.1)
   down_as beside n old rack last (Limit what most) is h = h
   down_as beside n old rack last other is h = h
 
-  pub refused_at : {beside : Beside} (n : Node) (disks : ℕ) (units : Units) (old : DiskSet R g) (rack up back last : R) (why : No) → old ≡ Down rack → units ≡ raw_units disks → disks ≡ (g.meaning up).units → IsDownAt beside n (g.meaning rack)
+  pub refused_at : {beside : KeptBeside} (n : Node) (disks : ℕ) (units : Units) (old : DiskSet R g) (rack up back last : R) (why : No) → old ≡ Down rack → units ≡ raw_units disks → disks ≡ (g.meaning up).units → IsDownAt beside n (g.meaning rack)
       → Alike (g.meaning rack) (g.meaning up) → IsFalse (g.meaning up).down → (g.meaning up).armed ≡ (g.meaning rack).armed → Lawful (g.meaning up) → Lawful (g.meaning back)
       → StartCause units (g.meaning up) (g.meaning back) why → ReadsAtLimit (g.meaning up) (g.meaning back) why → Moves (Run units.srl 0 (ring_in units (g.meaning up) + 2)) (Starting units (g.meaning up)) (g.meaning up) (g.meaning back)
       → Stopped (g.meaning back) (g.meaning last) → Lawful (g.meaning last) → IsRack (g.meaning last) → CameUpIs beside n old (Down last) (Err why)
@@ -397,5 +398,5 @@ module _ {R : Type 0} {g : Ghosts R} where
       stopped law is_rack why (subst (λ (u : Units). StartCause u (g.meaning up) (g.meaning back) why) same cause) read)
 
   -- no site that is down has another disk set, or disks that cannot be started
-  pub not_started : (beside : Beside) (n : Node) (e new : DiskSet R g) (why : No) → StandsAt beside n e → n.state ≡ IsDown → ((rack : R) → e ≡ Down rack → ⊥) → CameUpIs beside n e new (Err why)
+  pub not_started : (beside : KeptBeside) (n : Node) (e new : DiskSet R g) (why : No) → SiteStands beside n e → n.state ≡ IsDown → ((rack : R) → e ≡ Down rack → ⊥) → CameUpIs beside n e new (Err why)
   not_started beside n e new why h down none = absurd (never_down beside n e h down none)

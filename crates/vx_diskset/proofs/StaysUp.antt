@@ -10,11 +10,11 @@ use Rattle.vx_model.specs.declared.units.Units.{Units}
 use Rattle.vx_srlfmt.specs.declared.header.Header.{Header}
 use Rattle.vx_srl.specs.Views.{widths}
 use Rattle.vx_srl.specs.declared.kept.Kept.{Kept}
-use Rattle.vx_diskset.specs.Holds.{Beside}
+use Rattle.vx_diskset.specs.Holds.{KeptBeside}
 use Rattle.vx_disk.specs.Shelf.{Meaning, Image, Lawful}
 use Rattle.vx_disk.specs.Moves.{Blocks, Says, Moves}
 use Rattle.vx_rvg.specs.Holdings.{Holding}
-use Rattle.vx_rvg.specs.Stands.{Found}
+use Rattle.vx_rvg.specs.Stands.{FoundGroup}
 use Rattle.vx_rvg.specs.Views.{Core}
 use Rattle.vx_diskset.specs.Holds.{HasSite, HasWrites, state_with}
 use Rattle.vx_diskset.specs.Layouts.{units_of}
@@ -23,7 +23,7 @@ use Rattle.vx_diskset.specs.Holds.{most_header}
 use Rattle.vx_diskset.specs.DiskSets.{worked}
 use Rattle.vx_diskset.specs.Fuses.{HasFuse}
 use Rattle.vx_history.specs.Stops.{IsFused}
-use Rattle.vx_diskset.specs.Lasts.{FoundWith, StandsWith}
+use Rattle.vx_diskset.specs.Lasts.{FoundWith, StandsHolding}
 use Rattle.vx_diskset.proofs.LastWrites.{FoundOf}
 use Rattle.vx_diskset.proofs.BesideLemmas.{may_same, site_map}
 use Rattle.vx_diskset.proofs.NeedLemmas.{takes_same}
@@ -98,7 +98,7 @@ fused_before (FuseLit most) is = tt
 -- ---- an image with the group's content has the site's
 
 -- a greater stamp is one that no header has either
-pub found_below : (units : Units) (ring : ℕ) (state : State) (session stamp most : ℕ) (i : Image) (h : Holding) → stamp ≤ most → Found units ring state session stamp i h → Found units ring state session most i h
+pub found_below : (units : Units) (ring : ℕ) (state : State) (session stamp most : ℕ) (i : Image) (h : Holding) → stamp ≤ most → FoundGroup units ring state session stamp i h → FoundGroup units ring state session most i h
 found_below units ring state session stamp most i h le found = record {
   header = found.header;
   records = found.records;
@@ -139,7 +139,7 @@ durable_content n = ap (λ (xs : List Write). fold_writes n.base xs) (sym (drop-
 pub all_taken : (n : Node) → length n.log ≡ n.safe → n.log ≡ take n.safe n.log
 all_taken n many = sym (take_all n.safe n.log (omega (arith, many)))
 
-pub writes_found : {beside : Beside} (n : Node) (core : Core) (i : Image) → core.units ≡ units_of n → core.log.ring ≡ n.ring → core.log.header.state ≡ state_with n beside.links → core.log.header.incarnation ≡ n.session
+pub writes_found : {beside : KeptBeside} (n : Node) (core : Core) (i : Image) → core.units ≡ units_of n → core.log.ring ≡ n.ring → core.log.header.state ≡ state_with n beside.links → core.log.header.incarnation ≡ n.session
     → core.log.header.stamp ≤ most_header beside n → length n.log ≡ n.safe → FoundOf core i n.log n.base → HasWrites beside n i
 writes_found {beside} n core i units ring state session stamp many found = record {
   count = n.safe;
@@ -150,11 +150,11 @@ writes_found {beside} n core i units ring state session stamp many found = recor
 }
 
 -- what the header keeps, where contents are told
-pub kept_whole : {beside : Beside} (n : Node) (c : Core) (m : Meaning) → IsUpAt beside n c m → IsTrue m.tells → c.log.header.state ≡ state_with n beside.links
+pub kept_whole : {beside : KeptBeside} (n : Node) (c : Core) (m : Meaning) → IsUpAt beside n c m → IsTrue m.tells → c.log.header.state ≡ state_with n beside.links
 kept_whole n c m up told = up.kept ∙ ap (state_with n) (up.linked told)
 
 -- an image in a call on a running group that changes no content
-pub up_found : {beside : Beside} (n : Node) (c : Core) (m : Meaning) (i : Image) → IsUpAt beside n c m → n.halted ≡ None → IsTrue m.tells → FoundOf c i n.log n.base → HasWrites beside n i
+pub up_found : {beside : KeptBeside} (n : Node) (c : Core) (m : Meaning) (i : Image) → IsUpAt beside n c m → n.halted ≡ None → IsTrue m.tells → FoundOf c i n.log n.base → HasWrites beside n i
 up_found n c m i up running told found =
     writes_found n c i up.units up.ring (kept_whole n c m up told) up.session (let t = up.stamp told running in omega (arith, t)) (omega (arith, up.logged, up.durable running)) found
 
@@ -168,8 +168,8 @@ pub record SameLog (c c' : Core) : Type 0 where
   pub held : c'.log.held ≡ c.log.held
 
 -- a site that is up after a call that leaves its log alone, maybe halted by it
-pub up_with : {beside : Beside} (n : Node) (c c' : Core) (m new : Meaning) (h : Option ℕ) (f : Fuse) (mine : Blocks) (P : Says) → Moves mine P m new → IsFalse new.down → HasFuse f new → IsUpAt beside n c m → SameLog c c' → c'.halted ≡ h
-    → (h ≡ None → n.halted ≡ None) → (h ≡ None → IsTrue new.tells → StandsWith c' n.log n.base new) → ((i : Image) → new.now i → HasSite beside n i) → IsUpAt beside (record n { halted = h; fuse = f }) c' new
+pub up_with : {beside : KeptBeside} (n : Node) (c c' : Core) (m new : Meaning) (h : Option ℕ) (f : Fuse) (mine : Blocks) (P : Says) → Moves mine P m new → IsFalse new.down → HasFuse f new → IsUpAt beside n c m → SameLog c c' → c'.halted ≡ h
+    → (h ≡ None → n.halted ≡ None) → (h ≡ None → IsTrue new.tells → StandsHolding c' n.log n.base new) → ((i : Image) → new.now i → HasSite beside n i) → IsUpAt beside (record n { halted = h; fuse = f }) c' new
 up_with n c c' m new h f mine P moves still fuse up same halted running content left = record {
   state = up.state;
   up = still;
@@ -199,7 +199,7 @@ up_with n c c' m new h f mine P moves still fuse up same halted running content 
 }
 
 -- a site that is up, with a fuse of which less is known
-pub up_worked : {beside : Beside} (n : Node) (c : Core) (m : Meaning) → IsUpAt beside n c m → IsUpAt beside (worked n) c m
+pub up_worked : {beside : KeptBeside} (n : Node) (c : Core) (m : Meaning) → IsUpAt beside n c m → IsUpAt beside (worked n) c m
 up_worked n c m up = record {
   state = up.state;
   up = up.up;
@@ -229,7 +229,7 @@ up_worked n c m up = record {
 
 -- ---- whatever befell the disks of a site that was up
 
-pub held_moved : {beside : Beside} (n : Node) (c : Core) (m new : Meaning) (mine : Blocks) (P : Says) → Moves mine P m new → IsUpAt beside n c m → ((i : Image) → new.now i → HasSite beside n i) → IsHeldAt beside n new
+pub held_moved : {beside : KeptBeside} (n : Node) (c : Core) (m new : Meaning) (mine : Blocks) (P : Says) → Moves mine P m new → IsUpAt beside n c m → ((i : Image) → new.now i → HasSite beside n i) → IsHeldAt beside n new
 held_moved n c m new mine P moves up left = record {
   lies = lies_moved n mine P m new moves up.lies;
   logged = up.logged;
@@ -239,7 +239,7 @@ held_moved n c m new mine P moves up left = record {
   may = λ k is. may_same k m new moves.units moves.size moves.tells (up.may k is);
 }
 
-pub held_up : {beside : Beside} (n : Node) (c : Core) (m : Meaning) → IsUpAt beside n c m → IsHeldAt beside n m
+pub held_up : {beside : KeptBeside} (n : Node) (c : Core) (m : Meaning) → IsUpAt beside n c m → IsHeldAt beside n m
 held_up n c m up = record {
   lies = up.lies;
   logged = up.logged;

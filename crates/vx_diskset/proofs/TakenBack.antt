@@ -12,16 +12,16 @@ use Rattle.vx_events.proofs.Values.{length-values_from, slice_index-values_from}
 use Rattle.vx_model.specs.declared.call.Update.{Update}
 use Rattle.vx_diskset.specs.declared.disk_set.DiskSet.{DiskSet}
 use Rattle.vx_diskset.specs.declared.disk_set.DiskSet.TheVariants.{Bare, Spoiled, Up, Receives, Down, Gone}
-use Rattle.vx_diskset.specs.Holds.{Beside}
+use Rattle.vx_diskset.specs.Holds.{KeptBeside}
 use Rattle.vx_diskset.specs.Layouts.{LiesOn, raw_units}
-use Rattle.vx_diskset.specs.Stands.{IsCleanAt, IsDownAt, IsReceiverAt, IsToldAt, IsUpAt, StandsAt}
+use Rattle.vx_diskset.specs.Stands.{IsCleanAt, IsDownAt, IsReceiverAt, IsToldAt, IsUpAt, SiteStands}
 use Rattle.vx_diskset.specs.Withdrawn.{IsBareOf, Revived}
 use Rattle.vx_diskset.proofs.BesideLemmas.{never_besides}
 use Rattle.vx_diskset.proofs.StaysUp.{not_true, told_now}
 
 -- ---- any links
 
-up_beside : (b other : Beside) (n : Node) (feeder : ℕ) (c : Core) (m : Meaning) → Lawful m → (IsTrue m.tells → ⊥) → other.doubt ≡ None → IsUpAt b n c m
+up_beside : (b other : KeptBeside) (n : Node) (feeder : ℕ) (c : Core) (m : Meaning) → Lawful m → (IsTrue m.tells → ⊥) → other.doubt ≡ None → IsUpAt b n c m
     → IsUpAt other (record n { fed_by = feeder }) c m
 up_beside b other n feeder c m lawful untold sure h = record {
   state = h.state;
@@ -50,7 +50,7 @@ up_beside b other n feeder c m lawful untold sure h = record {
   may = never_besides other.doubt m sure;
 }
 
-receiver_beside : (b other : Beside) (n : Node) (feeder : ℕ) (c : Core) (us : List Update) (m : Meaning) → Lawful m → (IsTrue m.tells → ⊥) → other.doubt ≡ None → IsReceiverAt b n c us m
+receiver_beside : (b other : KeptBeside) (n : Node) (feeder : ℕ) (c : Core) (us : List Update) (m : Meaning) → Lawful m → (IsTrue m.tells → ⊥) → other.doubt ≡ None → IsReceiverAt b n c us m
     → IsReceiverAt other (record n { fed_by = feeder }) c us m
 receiver_beside b other n feeder c us m lawful untold sure h = record {
   state = h.state;
@@ -110,7 +110,7 @@ lies_again n k m was h disks blocks h0 = record {
     same u there = sized u there ∙ sym (h0.size u there)
 
 -- the disks of a site that is down are those of any other that was down on as many of them
-down_again : (b other : Beside) (n k : Node) (m was : Meaning) → (IsTrue m.tells → ⊥) → IsDownAt b k m → k.disks ≡ n.disks → k.blocks ≡ n.blocks → IsDownAt other n was → IsDownAt other n m
+down_again : (b other : KeptBeside) (n k : Node) (m was : Meaning) → (IsTrue m.tells → ⊥) → IsDownAt b k m → k.disks ≡ n.disks → k.blocks ≡ n.blocks → IsDownAt other n was → IsDownAt other n m
 down_again b other n k m was untold h disks blocks h0 = record {
   state = h0.state;
   unfused = h0.unfused;
@@ -149,8 +149,8 @@ bare_withdrawn n k m last lawful lies rose of untold = record {
 
 module _ {R : Type 0} {g : Ghosts R} (lawful : (r : R) → Lawful (g.meaning r)) where
   -- whatever links its log keeps, and whoever feeds it
-  pub any_links : (b other : Beside) (n : Node) (feeder : ℕ) (e : DiskSet R g) → (IsToldAt e → ⊥) → other.doubt ≡ None → n.state ≡ IsUp → StandsAt b n e
-      → StandsAt other (record n { fed_by = feeder }) e
+  pub any_links : (b other : KeptBeside) (n : Node) (feeder : ℕ) (e : DiskSet R g) → (IsToldAt e → ⊥) → other.doubt ≡ None → n.state ≡ IsUp → SiteStands b n e
+      → SiteStands other (record n { fed_by = feeder }) e
   any_links b other n feeder (Bare rack) untold sure up h = let e : IsUp ≡ IsBare = sym up ∙ ap (λ (x : Node). x.state) h.bare.is in absurd (cc)
   any_links b other n feeder (Spoiled rack) untold sure up h = let e : IsUp ≡ IsBare = sym up ∙ ap (λ (x : Node). x.state) h.is in absurd (cc)
   any_links b other n feeder (Up rvg) untold sure up h = up_beside b other n feeder rvg.core (g.meaning rvg.shelf) (lawful rvg.shelf) untold sure h
@@ -160,11 +160,11 @@ module _ {R : Type 0} {g : Ghosts R} (lawful : (r : R) → Lawful (g.meaning r))
 
 module _ {R : Type 0} {g : Ghosts R} where
   -- a site that is down again is any that was down on them
-  pub any_down : (b other : Beside) (n k : Node) (before after : DiskSet R g) → (IsToldAt after → ⊥) → n.state ≡ IsDown → k.state ≡ IsDown → k.disks ≡ n.disks → k.blocks ≡ n.blocks
-      → StandsAt other n before → StandsAt b k after → StandsAt other n after
+  pub any_down : (b other : KeptBeside) (n k : Node) (before after : DiskSet R g) → (IsToldAt after → ⊥) → n.state ≡ IsDown → k.state ≡ IsDown → k.disks ≡ n.disks → k.blocks ≡ n.blocks
+      → SiteStands other n before → SiteStands b k after → SiteStands other n after
   any_down b other n k before (Down rack) untold state up disks blocks h0 h = by_before before h0
     where
-      by_before : (e : DiskSet R g) → StandsAt other n e → IsDownAt other n (g.meaning rack)
+      by_before : (e : DiskSet R g) → SiteStands other n e → IsDownAt other n (g.meaning rack)
       by_before (Down was) h0 = down_again b other n k (g.meaning rack) (g.meaning was) untold h disks blocks h0
       by_before (Bare was) h0 = let e : IsBare ≡ IsDown = sym (ap (λ (x : Node). x.state) h0.bare.is) ∙ state in absurd (cc)
       by_before (Spoiled was) h0 = let e : IsBare ≡ IsDown = sym (ap (λ (x : Node). x.state) h0.is) ∙ state in absurd (cc)

@@ -5,8 +5,8 @@ use Rattle.vx_history.specs.World.{Fuse, NoFuse, Node}
 use Rattle.vx_disk.specs.Shelf.{Meaning}
 use Rattle.vx_disk.specs.declared.shelf.Shelf.{Ghosts}
 use Rattle.vx_diskset.specs.DiskSets.{worked}
-use Rattle.vx_diskset.specs.Holds.{Beside}
-use Rattle.vx_diskset.specs.Stands.{IsBareAt, IsCleanAt, IsDownAt, StandsAt}
+use Rattle.vx_diskset.specs.Holds.{KeptBeside}
+use Rattle.vx_diskset.specs.Stands.{IsBareAt, IsCleanAt, IsDownAt, SiteStands}
 use Rattle.vx_diskset.specs.declared.disk_set.DiskSet.{DiskSet}
 use Rattle.vx_diskset.specs.declared.disk_set.DiskSet.TheVariants.{Bare, Spoiled, Up, Receives, Down, Gone}
 use Rattle.vx_diskset.proofs.Reaching.{receiver_burned}
@@ -15,11 +15,11 @@ use Rattle.vx_diskset.proofs.StaysUp.{up_worked}
 bare_worked : (n : Node) (m : Meaning) → IsBareAt n m → n ≡ worked n
 bare_worked n m bare = let none : n.fuse ≡ NoFuse = ap (λ (k : Node). k.fuse) bare.is in ap (λ (x : Fuse). record n { fuse = x }) (none ∙ sym (ap (λ (x : Fuse). burned x) none))
 
-down_worked : {beside : Beside} (n : Node) (m : Meaning) → IsDownAt beside n m → n ≡ worked n
+down_worked : {beside : KeptBeside} (n : Node) (m : Meaning) → IsDownAt beside n m → n ≡ worked n
 down_worked n m down = ap (λ (x : Fuse). record n { fuse = x }) (down.unfused ∙ sym (ap (λ (x : Fuse). burned x) down.unfused))
 
 module _ {R : Type 0} {g : Ghosts R} where
-  pub stands_worked : (beside : Beside) (n : Node) (e : DiskSet R g) → StandsAt beside n e → StandsAt beside (worked n) e
+  pub stands_worked : (beside : KeptBeside) (n : Node) (e : DiskSet R g) → SiteStands beside n e → SiteStands beside (worked n) e
   stands_worked beside n (Bare rack) stands = subst (λ (k : Node). IsCleanAt k (g.meaning rack)) (bare_worked n (g.meaning rack) stands.bare) stands
   stands_worked beside n (Spoiled rack) stands = subst (λ (k : Node). IsBareAt k (g.meaning rack)) (bare_worked n (g.meaning rack) stands) stands
   stands_worked beside n (Up rvg) stands = up_worked n rvg.core (g.meaning rvg.shelf) stands

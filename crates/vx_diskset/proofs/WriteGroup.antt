@@ -10,9 +10,9 @@ use Rattle.vx_history.specs.World.{Node, Fuse}
 use Rattle.vx_model.specs.declared.no.No.{No}
 use Rattle.vx_model.specs.declared.no.No.TheVariants.{Device, Limit, Down, Size, Range}
 use Rattle.vx_model.specs.declared.units.Units.{Units}
-use Rattle.vx_srl.specs.Views.{most_number, kept_of}
+use Rattle.vx_srl.specs.Views.{most_number, kept_record}
 use Rattle.vx_srl.specs.declared.kept.Kept.{Kept}
-use Rattle.vx_diskset.specs.Holds.{Beside}
+use Rattle.vx_diskset.specs.Holds.{KeptBeside}
 use Rattle.vx_disk.specs.Counts.{Rose}
 use Rattle.vx_disk.specs.Shelf.{Meaning, Image, Lawful}
 use Rattle.vx_disk.specs.Moves.{Moves, Run}
@@ -20,7 +20,7 @@ use Rattle.vx_disk.specs.declared.shelf.Shelf.{Ghosts}
 use Rattle.vx_rvg.specs.declared.group.Rvg.{Rvg}
 use Rattle.vx_diskset.specs.declared.disk_set.DiskSet.{DiskSet}
 use Rattle.vx_diskset.specs.declared.disk_set.DiskSet.TheVariants.{Up}
-use Rattle.vx_rvg.specs.Groups.{unless_halted, write_refusal, WriteIs, Writes, with_write}
+use Rattle.vx_rvg.specs.Groups.{halted_or, write_refusal, WriteIs, Writes, core_with_write}
 use Rattle.vx_rvg.specs.Holdings.{Holding, with_writes}
 use Rattle.vx_rvg.specs.Stands.{Writing, Stands}
 use Rattle.vx_rvg.specs.Views.{Core, IsSound, last_of, unit_of}
@@ -30,9 +30,9 @@ use Rattle.vx_diskset.specs.Layouts.{LiesOn}
 use Rattle.vx_diskset.specs.Holds.{most_header}
 use Rattle.vx_diskset.specs.Needs.{TakesAs}
 use Rattle.vx_diskset.specs.Rooms.{IsRoomy, RoomIs}
-use Rattle.vx_diskset.specs.Fuses.{HasFuse, IsFirst}
+use Rattle.vx_diskset.specs.Fuses.{HasFuse, IsFirstLog}
 use Rattle.vx_history.specs.Stops.{IsFused}
-use Rattle.vx_events.specs.Fuses.{IsExact, taken}
+use Rattle.vx_events.specs.Fuses.{IsExact, ring_taken}
 use Rattle.vx_diskset.specs.Stands.{IsUpAt, IsHeldAt}
 use Rattle.vx_diskset.proofs.ApplyGroup.{ended_log}
 use Rattle.vx_diskset.proofs.BesideLemmas.{never_besides, site_map}
@@ -45,7 +45,7 @@ use Rattle.vx_diskset.proofs.NeedLemmas.{takes_push}
 use Rattle.vx_diskset.proofs.StaysUp.{told_now, up_worked, never_both, left_moved, fused_by, fuse_moved, burned_twice, fused_before}
 
 -- what a write answers of a site
-abbrev pub WroteAs : Beside → Node → Write → Meaning → Core → Meaning → Result ℕ No → Type 0
+abbrev pub WroteAs : KeptBeside → Node → Write → Meaning → Core → Meaning → Result ℕ No → Type 0
 WroteAs beside n x m c' new (Ok number) = (number ≡ n.safe + 1) × (n.safe < most_number) × IsUpAt beside (logged n x) c' new × (is_origin n.role ≡ true → (calls : ℕ) → IsTrue new.tells → IsExact n x calls → 4 ≤ calls)
 WroteAs beside n x m c' new (Err (Device disk)) = IsUpAt beside (halted_with n x disk) c' new × Rose (m.disk_faults disk) (new.disk_faults disk)
 WroteAs beside n x m c' new (Err (Limit what most)) = (Limit what most ≡ no_number) × (IsTrue new.tells → most_number ≤ most_header beside n) × IsUpAt beside (worked n) c' new
@@ -80,7 +80,7 @@ number_by last false is = SomeLeft (grind (arith, nat_tests)) refl
 pub pushed : (low : ℕ) (held staged : List Kept) (k : Kept) → 0 < low → length staged ≡ 0 → low + length (held ++ (staged ++ k ∷ [])) - 1 ≡ low + length held - 1 + 1
 pushed low held staged k first idle = omega (arith, first, idle, length-append held (staged ++ k ∷ []), length-append staged (k ∷ []))
 
-module _ {beside : Beside} (n : Node) (volume start : ℕ) (bytes : List ℕ) (c0 c c' : Core) (m0 m new : Meaning) (up : IsUpAt beside n c0 m0) (can : CanLog n volume start (blocks_in bytes)) (roomy : IsRoomy beside n c m)
+module _ {beside : KeptBeside} (n : Node) (volume start : ℕ) (bytes : List ℕ) (c0 c c' : Core) (m0 m new : Meaning) (up : IsUpAt beside n c0 m0) (can : CanLog n volume start (blocks_in bytes)) (roomy : IsRoomy beside n c m)
     (before : IsTrue m.tells → IsTrue m0.tells) (lawful : Lawful m) (after : Lawful new) (sound : IsSound c m) (sound' : IsSound c' new)
     (moves : Moves (Run c.units.srl 0 (c.log.ring + 2)) (Writing c (record { volume = volume; start = start; bytes = bytes } ∷ []) m) m new) where
   abbrev x : Write
@@ -125,18 +125,18 @@ module _ {beside : Beside} (n : Node) (volume start : ℕ) (bytes : List ℕ) (c
     },
   )
 
-  head_more : c' ≡ with_write c volume start bytes → last_of c' ≡ last_of c + 1
+  head_more : c' ≡ core_with_write c volume start bytes → last_of c' ≡ last_of c + 1
   head_more is =
       ap (λ (k : Core). last_of k) is
-      ∙ pushed c.log.header.low c.log.held c.log.staged (kept_of c.log volume start bytes) roomy.first (ap (λ (ks : List Kept). length ks) (sound.idle roomy.running roomy.up))
+      ∙ pushed c.log.header.low c.log.held c.log.staged (kept_record c.log volume start bytes) roomy.first (ap (λ (ks : List Kept). length ks) (sound.idle roomy.running roomy.up))
 
-  takes_more : c' ≡ with_write c volume start bytes → TakesAs c'.log (n.log ++ x ∷ [])
+  takes_more : c' ≡ core_with_write c volume start bytes → TakesAs c'.log (n.log ++ x ∷ [])
   takes_more is =
-      takes_push c.log c'.log (kept_of c.log volume start bytes) n.log x roomy.first (omega (arith, roomy.first, roomy.head, many)) (ap (λ (k : Core). k.log.header.low) is)
-      (ap (λ (k : Core). k.log.held) is ∙ ap (λ (ks : List Kept). c.log.held ++ (ks ++ kept_of c.log volume start bytes ∷ [])) (sound.idle roomy.running roomy.up)) refl roomy.takes
+      takes_push c.log c'.log (kept_record c.log volume start bytes) n.log x roomy.first (omega (arith, roomy.first, roomy.head, many)) (ap (λ (k : Core). k.log.header.low) is)
+      (ap (λ (k : Core). k.log.held) is ∙ ap (λ (ks : List Kept). c.log.held ++ (ks ++ kept_record c.log volume start bytes ∷ [])) (sound.idle roomy.running roomy.up)) refl roomy.takes
 
   -- the shelf is up behind it
-  module _ (below_most : n.safe < most_number) (still : IsFalse new.down) (first : is_origin n.role ≡ true → IsTrue m.tells → n.session ≡ 1 → taken n.log + (blocks_in bytes + 1) ≤ n.ring → IsFirst c.log n.log) where
+  module _ (below_most : n.safe < most_number) (still : IsFalse new.down) (first : is_origin n.role ≡ true → IsTrue m.tells → n.session ≡ 1 → ring_taken n.log + (blocks_in bytes + 1) ≤ n.ring → IsFirstLog c.log n.log) where
     lies_new : LiesOn n new
     lies_new = lies_moved n (Run c.units.srl 0 (c.log.ring + 2)) (Writing c (x ∷ []) m) m new moves roomy.lies
 
@@ -168,13 +168,13 @@ module _ {beside : Beside} (n : Node) (volume start : ℕ) (bytes : List ℕ) (c
         → OnOk result ((h : Holding) → Stands c h m → Stands c' (with_writes (x ∷ []) h) new) → (is_origin n.role ≡ true → (calls : ℕ) → IsTrue new.tells → IsExact n x calls → OnOk result (4 ≤ calls)) → WroteAs beside n x m c' new result
     written_as result is unchanged stands exact =
         let refusal : write_refusal c (m.size (unit_of c.units.vols volume)) start (blocks_in bytes) ≡ number_test (last_of c)
-        = ap (λ (h : Option ℕ). unless_halted h (tests c.log.ring (m.size (unit_of c.units.vols volume)) start (blocks_in bytes) (last_of c))) roomy.running
+        = ap (λ (h : Option ℕ). halted_or h (tests c.log.ring (m.size (unit_of c.units.vols volume)) start (blocks_in bytes) (last_of c))) roomy.running
         ∙ tests_pass c.log.ring (m.size (unit_of c.units.vols volume)) start (blocks_in bytes) (last_of c) (omega (arith, can.fits, roomy.ring)) (omega (arith, can.within, size)) in
         by_number (number_test (last_of c)) result (number_by (last_of c) (leb most_number (last_of c)) refl)
         (subst (λ (o : Option No). WriteIs o c volume start bytes m new c' result) refusal is)
         (subst (λ (o : Option No). IsSome o → new ≡ m) refusal unchanged) stands exact
 
-held_begun : {beside : Beside} (n : Node) (x : Write) (m : Meaning) → IsHeldAt beside n m → IsHeldAt beside (half_begun n x) m
+held_begun : {beside : KeptBeside} (n : Node) (x : Write) (m : Meaning) → IsHeldAt beside n m → IsHeldAt beside (half_begun n x) m
 held_begun n x m held = record {
   lies = held.lies;
   logged = omega (arith, held.logged, length-append n.log (x ∷ []));
@@ -185,14 +185,14 @@ held_begun n x m held = record {
 }
 
 -- room that was not made refuses the write
-pub unroomed : (beside : Beside) (n : Node) (x : Write) (c' : Core) (m new : Meaning) (no : No) → (is_origin n.role ≡ true → (calls : ℕ) → IsTrue new.tells → IsExact n x calls → ⊥) → RoomIs beside n m c' new (Err no) → WroteAs beside n x m c' new (Err no)
+pub unroomed : (beside : KeptBeside) (n : Node) (x : Write) (c' : Core) (m new : Meaning) (no : No) → (is_origin n.role ≡ true → (calls : ℕ) → IsTrue new.tells → IsExact n x calls → ⊥) → RoomIs beside n m c' new (Err no) → WroteAs beside n x m c' new (Err no)
 unroomed beside n x c' m new (Device disk) never is = (half_of n x disk c' new is.0, is.1)
 unroomed beside n x c' m new (Limit what most) never is = is
 unroomed beside n x c' m new Down never is = (is.0, held_begun n x new is.1, λ origin calls told exact. absurd (never origin calls told exact))
 unroomed beside n x c' m new other never is = is
 
 -- a call that moved the shelf, and then the write
-pub wrote_later : (beside : Beside) (n : Node) (x : Write) (c' : Core) (m mid new : Meaning) (result : Result ℕ No) → ((d : ℕ) → m.disk_faults d ≤ mid.disk_faults d) → WroteAs beside n x mid c' new result → WroteAs beside n x m c' new result
+pub wrote_later : (beside : KeptBeside) (n : Node) (x : Write) (c' : Core) (m mid new : Meaning) (result : Result ℕ No) → ((d : ℕ) → m.disk_faults d ≤ mid.disk_faults d) → WroteAs beside n x mid c' new result → WroteAs beside n x m c' new result
 wrote_later beside n x c' m mid new (Ok number) later is = is
 wrote_later beside n x c' m mid new (Err (Device disk)) later is = (is.0, rose_later (m.disk_faults disk) (mid.disk_faults disk) (new.disk_faults disk) (later disk) is.1)
 wrote_later beside n x c' m mid new (Err (Limit what most)) later is = is
@@ -202,7 +202,7 @@ wrote_later beside n x c' m mid new (Err other) later is = is
 -- ---- the same of disk sets
 
 module _ {R : Type 0} {g : Ghosts R} where
-  pub wrote_at : (beside : Beside) (n : Node) (x : Write) (old new : Rvg R g) (result : Result ℕ No) → n.safe < most_number → WroteAs beside n x (g.meaning old.shelf) new.core (g.meaning new.shelf) result → LoggedUp beside n x (Up old) (Up new) result
+  pub wrote_at : (beside : KeptBeside) (n : Node) (x : Write) (old new : Rvg R g) (result : Result ℕ No) → n.safe < most_number → WroteAs beside n x (g.meaning old.shelf) new.core (g.meaning new.shelf) result → LoggedUp beside n x (Up old) (Up new) result
   wrote_at beside n x old new (Ok number) below is = is
   wrote_at beside n x old new (Err (Device disk)) below is = (is.0, is.1, below)
   wrote_at beside n x old new (Err (Limit what most)) below is = is
@@ -210,11 +210,11 @@ module _ {R : Type 0} {g : Ghosts R} where
   wrote_at beside n x old new (Err other) below is = is
 
   -- no number is left
-  pub wrote_none : {beside : Beside} (n : Node) (x : Write) (rvg : Rvg R g) → IsUpAt beside n rvg.core (g.meaning rvg.shelf) → most_number ≤ last_of rvg.core → LoggedUp beside n x (Up rvg) (Up rvg) (Err no_number)
+  pub wrote_none : {beside : KeptBeside} (n : Node) (x : Write) (rvg : Rvg R g) → IsUpAt beside n rvg.core (g.meaning rvg.shelf) → most_number ≤ last_of rvg.core → LoggedUp beside n x (Up rvg) (Up rvg) (Err no_number)
   wrote_none n x rvg up full = (refl, (λ told. omega (arith, full, up.head)), up_worked n rvg.core (g.meaning rvg.shelf) up)
 
   -- a write of an origin
-  pub logged_wrote : (beside : Beside) (n : Node) (x : Write) (old new : DiskSet R g) (result : Result ℕ No) → is_origin n.role ≡ true → LoggedUp beside n x old new result → WroteUp beside n x old new result
+  pub logged_wrote : (beside : KeptBeside) (n : Node) (x : Write) (old new : DiskSet R g) (result : Result ℕ No) → is_origin n.role ≡ true → LoggedUp beside n x old new result → WroteUp beside n x old new result
   logged_wrote beside n x old new (Ok number) origin h = (h.0, h.1, h.2, λ calls told exact. h.3 origin calls told exact)
   logged_wrote beside n x old new (Err (Device disk)) origin h = h
   logged_wrote beside n x old new (Err (Limit what most)) origin h = h

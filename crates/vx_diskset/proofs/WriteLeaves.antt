@@ -7,7 +7,7 @@ use Rattle.vx_model.specs.Sites.{is_origin}
 use Rattle.vx_history.specs.World.{Node}
 use Rattle.vx_history.specs.Steps.{logged, half_begun, burned, write_calls}
 use Rattle.vx_model.specs.declared.state.KeptLink.{KeptLink}
-use Rattle.vx_diskset.specs.Holds.{Beside}
+use Rattle.vx_diskset.specs.Holds.{KeptBeside}
 use Rattle.vx_srlfmt.specs.declared.header.Header.{Header}
 use Rattle.vx_disk.specs.Shelf.{Meaning, Image, Lawful}
 use Rattle.vx_rvg.specs.Views.{Core, last_of}
@@ -15,11 +15,11 @@ use Rattle.vx_diskset.specs.DiskSets.{halted_with, halted_at}
 use Rattle.vx_diskset.specs.Holds.{HasWrites, state_with}
 use Rattle.vx_diskset.specs.Layouts.{LiesOn, units_of}
 use Rattle.vx_diskset.specs.Holds.{most_header, most_with}
-use Rattle.vx_diskset.specs.Lasts.{FoundWith, StandsWith}
+use Rattle.vx_diskset.specs.Lasts.{FoundWith, StandsHolding}
 use Rattle.vx_diskset.specs.Needs.{TakesAs}
 use Rattle.vx_diskset.specs.Rooms.{IsRoomy}
-use Rattle.vx_diskset.specs.Fuses.{HasFuse, IsFirst}
-use Rattle.vx_events.specs.Fuses.{taken}
+use Rattle.vx_diskset.specs.Fuses.{HasFuse, IsFirstLog}
+use Rattle.vx_events.specs.Fuses.{ring_taken}
 use Rattle.vx_diskset.specs.Stands.{IsUpAt}
 use Rattle.vx_diskset.proofs.BesideLemmas.{never_besides, site_map}
 use Rattle.vx_diskset.proofs.LastWrites.{FoundOf, stands_with}
@@ -38,7 +38,7 @@ content_pushed n x many =
     ∙ ap (λ (k : ℕ). drop n.safe (take k (n.log ++ x ∷ []))) more)
 
 -- an image with the site's writes, where one more was begun
-pub has_begun : {beside : Beside} (n : Node) (x : Write) (i : Image) → HasWrites beside n i → HasWrites beside (half_begun n x) i
+pub has_begun : {beside : KeptBeside} (n : Node) (x : Write) (i : Image) → HasWrites beside n i → HasWrites beside (half_begun n x) i
 has_begun {beside} n x i has = record {
   count = has.count;
   least = has.least;
@@ -48,11 +48,11 @@ has_begun {beside} n x i has = record {
 }
 
 -- the same of one that a disk halted
-pub half_begins : {beside : Beside} (n : Node) (x : Write) (disk : ℕ) (i : Image) → HasWrites beside (halted_with n x disk) i → HasWrites beside (half_begun n x) i
+pub half_begins : {beside : KeptBeside} (n : Node) (x : Write) (disk : ℕ) (i : Image) → HasWrites beside (halted_with n x disk) i → HasWrites beside (half_begun n x) i
 half_begins n x disk i has = record { count = has.count; least = has.least; most = has.most; found = has.found }
 
 -- an image with the site's writes, where one more may stand or not
-pub has_half : {beside : Beside} (n : Node) (x : Write) (disk : ℕ) (i : Image) → HasWrites beside n i → HasWrites beside (halted_with n x disk) i
+pub has_half : {beside : KeptBeside} (n : Node) (x : Write) (disk : ℕ) (i : Image) → HasWrites beside n i → HasWrites beside (halted_with n x disk) i
 has_half {beside} n x disk i has = record {
   count = has.count;
   least = has.least;
@@ -62,11 +62,11 @@ has_half {beside} n x disk i has = record {
 }
 
 -- what the header of a log keeps, where contents are told
-pub roomy_kept : {beside : Beside} (n : Node) (c : Core) (m : Meaning) → IsRoomy beside n c m → IsTrue m.tells → c.log.header.state ≡ state_with n beside.links
+pub roomy_kept : {beside : KeptBeside} (n : Node) (c : Core) (m : Meaning) → IsRoomy beside n c m → IsTrue m.tells → c.log.header.state ≡ state_with n beside.links
 roomy_kept n c m roomy told = roomy.kept ∙ ap (λ (ls : List KeptLink). state_with n ls) (roomy.linked told)
 
 -- an image in a write that has it
-pub has_whole : {beside : Beside} (n : Node) (c : Core) (m : Meaning) (x : Write) (disk : ℕ) (i : Image) → IsRoomy beside n c m → IsTrue m.tells → length n.log ≡ n.safe → FoundOf c i (n.log ++ x ∷ []) (put n.base x) → HasWrites beside (halted_with n x disk) i
+pub has_whole : {beside : KeptBeside} (n : Node) (c : Core) (m : Meaning) (x : Write) (disk : ℕ) (i : Image) → IsRoomy beside n c m → IsTrue m.tells → length n.log ≡ n.safe → FoundOf c i (n.log ++ x ∷ []) (put n.base x) → HasWrites beside (halted_with n x disk) i
 has_whole {beside} n c m x disk i roomy told many found = record {
   count = n.safe + 1;
   least = omega arith;
@@ -77,7 +77,7 @@ has_whole {beside} n c m x disk i roomy told many found = record {
 }
 
 -- or that does not
-pub has_safe : {beside : Beside} (n : Node) (c : Core) (m : Meaning) (i : Image) → IsRoomy beside n c m → IsTrue m.tells → length n.log ≡ n.safe → FoundOf c i n.log n.base → HasWrites beside n i
+pub has_safe : {beside : KeptBeside} (n : Node) (c : Core) (m : Meaning) (i : Image) → IsRoomy beside n c m → IsTrue m.tells → length n.log ≡ n.safe → FoundOf c i n.log n.base → HasWrites beside n i
 has_safe n c m i roomy told many found = writes_found n c i roomy.units roomy.ring (roomy_kept n c m roomy told) roomy.session (roomy.stamp told) many found
 
 never_none : {k : ℕ} → Some k ≡ None → ⊥
@@ -86,7 +86,7 @@ never_none e = cc
 -- a site that a disk halted in a write
 module _ (n : Node) (x : Write) (disk : ℕ) where
   -- before anything of the write was logged
-  pub half_of : {beside : Beside} (c : Core) (m : Meaning) → IsUpAt beside (halted_at n disk) c m → IsUpAt beside (halted_with n x disk) c m
+  pub half_of : {beside : KeptBeside} (c : Core) (m : Meaning) → IsUpAt beside (halted_at n disk) c m → IsUpAt beside (halted_with n x disk) c m
   half_of c m up = record {
     state = up.state;
     up = up.up;
@@ -115,7 +115,7 @@ module _ (n : Node) (x : Write) (disk : ℕ) where
   }
 
   -- while it was logged
-  pub up_half : {beside : Beside} (c0 c c' : Core) (m0 m new : Meaning) → IsUpAt beside n c0 m0 → IsRoomy beside n c m → new.tells ≡ m.tells → IsFalse new.down → LiesOn n new → HasFuse (burned n.fuse) new → (IsTrue new.tells → 0 < n.session) → SameLog c c' → c'.halted ≡ Some disk → beside.doubt ≡ None
+  pub up_half : {beside : KeptBeside} (c0 c c' : Core) (m0 m new : Meaning) → IsUpAt beside n c0 m0 → IsRoomy beside n c m → new.tells ≡ m.tells → IsFalse new.down → LiesOn n new → HasFuse (burned n.fuse) new → (IsTrue new.tells → 0 < n.session) → SameLog c c' → c'.halted ≡ Some disk → beside.doubt ≡ None
       → ((i : Image) → new.now i → HasWrites beside (halted_with n x disk) i) → IsUpAt beside (halted_with n x disk) c' new
   up_half {beside} c0 c c' m0 m new up roomy tells still lies fuse begun same halted sure left = record {
     state = up.state;
@@ -145,9 +145,9 @@ module _ (n : Node) (x : Write) (disk : ℕ) where
   }
 
 -- a site with one more write
-pub up_logged : {beside : Beside} (n : Node) (x : Write) (c0 c c' : Core) (m0 m new : Meaning) → IsUpAt beside n c0 m0 → n.halted ≡ None → IsRoomy beside n c m → Lawful new → c'.log.unit ≡ c'.units.srl → new.tells ≡ m.tells
-    → IsFalse new.down → LiesOn n new → HasFuse (burned n.fuse) new → (IsTrue new.tells → 0 < n.session) → (is_origin n.role ≡ true → IsTrue new.tells → n.session ≡ 1 → taken (n.log ++ x ∷ []) ≤ n.ring → IsFirst c'.log (n.log ++ x ∷ [])) → TakesAs c'.log (n.log ++ x ∷ []) → c'.units ≡ c.units → c'.log.ring ≡ c.log.ring → c'.log.header ≡ c.log.header → c'.halted ≡ c.halted → last_of c' ≡ last_of c + 1
-    → (IsTrue new.tells → StandsWith c' (n.log ++ x ∷ []) (put n.base x) new) → IsUpAt beside (logged n x) c' new
+pub up_logged : {beside : KeptBeside} (n : Node) (x : Write) (c0 c c' : Core) (m0 m new : Meaning) → IsUpAt beside n c0 m0 → n.halted ≡ None → IsRoomy beside n c m → Lawful new → c'.log.unit ≡ c'.units.srl → new.tells ≡ m.tells
+    → IsFalse new.down → LiesOn n new → HasFuse (burned n.fuse) new → (IsTrue new.tells → 0 < n.session) → (is_origin n.role ≡ true → IsTrue new.tells → n.session ≡ 1 → ring_taken (n.log ++ x ∷ []) ≤ n.ring → IsFirstLog c'.log (n.log ++ x ∷ [])) → TakesAs c'.log (n.log ++ x ∷ []) → c'.units ≡ c.units → c'.log.ring ≡ c.log.ring → c'.log.header ≡ c.log.header → c'.halted ≡ c.halted → last_of c' ≡ last_of c + 1
+    → (IsTrue new.tells → StandsHolding c' (n.log ++ x ∷ []) (put n.base x) new) → IsUpAt beside (logged n x) c' new
 up_logged {beside} n x c0 c c' m0 m new up none roomy lawful unit_is tells still lies fuse begun fresh takes units ring header halted head content = record {
   state = up.state;
   up = still;

@@ -1,10 +1,10 @@
 -- What a call asks of the rack of a site: a disk, a number of calls or a pick, as the rack itself takes them. Other calls make no disk fail,
 -- and one that writes crashes the disks only where their fuse has no call left.
-use Rattle.std.specs.Prelude.{◌≡◌, ◌≢◌, ◌⊎◌, ℕ, ◌<◌, List, Bool, true, Option, Some, None}
+use Rattle.std.specs.Prelude.{◌≡◌, ◌≢◌, ◌⊎◌, ℕ, ◌<◌, ltb, if◌then◌else◌, List, Bool, true, Option, Some, None}
 use Rattle.vx_model.specs.Content.{blocks_in}
 use Rattle.vx_model.specs.declared.no.No.TheVariants.{Down as IsOff}
 use Rattle.vx_history.specs.World.{Node}
-use Rattle.vx_disk.specs.Burns.{RackIsShort}
+use Rattle.vx_disk.specs.Burns.{FewerLeft, RackIsShort}
 use Rattle.vx_disk.specs.Causes.{OnDisks, WithDisks}
 use Rattle.vx_disk.specs.Disks.{Disks, Crashed, SameBlocks, Untouched}
 use Rattle.vx_disk.specs.declared.shelf.Shelf.{Ghosts}
@@ -14,18 +14,32 @@ use Rattle.vx_events.specs.declared.said.Said.{Said}
 use Rattle.vx_events.specs.declared.said.Said.TheVariants.{Refused}
 use Rattle.vx_diskset.specs.declared.disk_set.DiskSet.{DiskSet}
 use Rattle.vx_diskset.specs.declared.disk_set.DiskSet.TheVariants.{Bare, Spoiled, Up, Receives, Down, Gone}
-use Rattle.vx_diskset.specs.Burning.{Burnt, IsLogged}
+use Rattle.vx_diskset.specs.Burning.{Burnt, IsLogged, NoMore}
 use Rattle.vx_diskset.specs.Fuses.{LeftAs}
+
+-- the calls of a header that is written where a link comes to count more as stored
+abbrev pub stored_calls : (old stored : ℕ) → ℕ
+stored_calls old stored = if ltb old stored then 2 else 0
+
+-- the calls of a line that was not refused so
+abbrev pub TakesBy : ℕ → Said → Option Disks → Option Disks → Type 0
+TakesBy calls (Refused why) old new = Unit {0}
+TakesBy calls other old new = WithDisks old new (λ o n. FewerLeft calls o.fuse n.fuse)
+
+-- a line that was answered 6 came under a fuse with fewer calls left than these
+abbrev pub ShortBy : ℕ → Said → Option Disks → Type 0
+ShortBy calls (Refused IsOff) old = RackIsShort calls old
+ShortBy calls other old = Unit {0}
 
 module _ {R : Type 0} {g : Ghosts R} where
   -- what is told of the disks of a disk set
-  abbrev pub disks_in : DiskSet R g → Option Disks
-  disks_in (Bare rack) = (g.meaning rack).disks
-  disks_in (Spoiled rack) = (g.meaning rack).disks
-  disks_in (Up rvg) = (g.meaning rvg.shelf).disks
-  disks_in (Receives s) = (g.meaning s.rvg.shelf).disks
-  disks_in (Down rack) = (g.meaning rack).disks
-  disks_in Gone = None
+  abbrev pub disks_told : DiskSet R g → Option Disks
+  disks_told (Bare rack) = (g.meaning rack).disks
+  disks_told (Spoiled rack) = (g.meaning rack).disks
+  disks_told (Up rvg) = (g.meaning rvg.shelf).disks
+  disks_told (Receives s) = (g.meaning s.rvg.shelf).disks
+  disks_told (Down rack) = (g.meaning rack).disks
+  disks_told Gone = None
 
   abbrev pub size_in : DiskSet R g → ℕ → ℕ
   size_in (Bare rack) = (g.meaning rack).size
@@ -47,39 +61,48 @@ module _ {R : Type 0} {g : Ghosts R} where
   -- each later call on this disk fails, or no longer, and nothing else changed
   abbrev pub SetsDisk : (disk : ℕ) → (on : Bool) → DiskSet R g → DiskSet R g → Type 0
   SetsDisk disk on old new =
-      WithDisks (disks_in old) (disks_in new) (λ o n. Untouched o n × (n.failing disk ≡ on) × ((u : ℕ) → u ≢ disk → n.failing u ≡ o.failing u))
+      WithDisks (disks_told old) (disks_told new) (λ o n. Untouched o n × (n.failing disk ≡ on) × ((u : ℕ) → u ≢ disk → n.failing u ≡ o.failing u))
 
   -- so many writes and flushes pass, and the next is a crash with this pick
   abbrev pub SetsFuse : (calls pick : ℕ) → DiskSet R g → DiskSet R g → Type 0
-  SetsFuse calls pick old new = OnDisks (disks_in old) (disks_in new) (λ o n. SameBlocks o n × (n.fuse ≡ Some (calls, pick)))
+  SetsFuse calls pick old new = OnDisks (disks_told old) (disks_told new) (λ o n. SameBlocks o n × (n.fuse ≡ Some (calls, pick)))
 
   -- the disks crashed with this pick
   abbrev pub CrashesBy : (pick : ℕ) → DiskSet R g → DiskSet R g → Type 0
-  CrashesBy pick old new = OnDisks (disks_in old) (disks_in new) (Crashed (size_in old) pick)
+  CrashesBy pick old new = OnDisks (disks_told old) (disks_told new) (Crashed (size_in old) pick)
 
   -- each disk is made to fail or not as it was before
   pub record SameFailing (old new : DiskSet R g) : Type 0 where
-    pub told : WithDisks (disks_in old) (disks_in new) (λ o n. (u : ℕ) → n.failing u ≡ o.failing u)
+    pub told : WithDisks (disks_told old) (disks_told new) (λ o n. (u : ℕ) → n.failing u ≡ o.failing u)
 
   -- the disks that lines made fail are made to fail
   pub record FailsAs (n : Node) (e : DiskSet R g) : Type 0 where
-    pub told : (d : Disks) → disks_in e ≡ Some d → (u : ℕ) → n.failing u ≡ true → d.failing u ≡ true
+    pub told : (d : Disks) → disks_told e ≡ Some d → (u : ℕ) → n.failing u ≡ true → d.failing u ≡ true
 
   -- the fuse of its disks has no more calls left than the world knows of
   pub record FusedAs (n : Node) (e : DiskSet R g) : Type 0 where
-    pub told : (d : Disks) → disks_in e ≡ Some d → LeftAs n.fuse d.fuse
+    pub told : (d : Disks) → disks_told e ≡ Some d → LeftAs n.fuse d.fuse
 
   -- no block, no fuse and no disk that is made to fail changed
   pub record LeavesAlone (old new : DiskSet R g) : Type 0 where
-    pub told : OnDisks (disks_in old) (disks_in new) Untouched
+    pub told : OnDisks (disks_told old) (disks_told new) Untouched
+    pub sizes : (u : ℕ) → size_in new u ≡ size_in old u
 
   -- the disks crashed with this pick, or nothing was done to them
   pub record MayCrash (pick : ℕ) (old new : DiskSet R g) : Type 0 where
-    pub told : OnDisks (disks_in old) (disks_in new) (λ o n. Crashed (size_in old) pick o n ⊎ Untouched o n)
+    pub told : OnDisks (disks_told old) (disks_told new) (λ o n. Crashed (size_in old) pick o n ⊎ Untouched o n)
+    pub sizes : (u : ℕ) → size_in new u ≡ size_in old u
 
   -- the calls of a line that was answered so
   pub record LeavesFuse (P : Disks → Disks → Type 0) (said : Said) (old new : DiskSet R g) : Type 0 where
-    pub told : OnDisks (disks_in old) (disks_in new) (Burnt P said (size_in old))
+    pub told : OnDisks (disks_told old) (disks_told new) (Burnt P said (size_in old))
+    pub sizes : (u : ℕ) → size_in new u ≡ size_in old u
+
+  -- The calls of a line that writes headers, so many calls in all where it is done. One that is answered 6 came under a fuse that had fewer left.
+  pub record HeadUnder (calls : ℕ) (said : Said) (old new : DiskSet R g) : Type 0 where
+    pub burns : LeavesFuse NoMore said old new
+    pub takes : TakesBy calls said (disks_told old) (disks_told new)
+    pub short : ShortBy calls said (disks_told old)
 
   -- A write of these bytes that is answered 6 where there is room at hand, and where its blocks do not pass the end of the ring, came under a
   -- fuse that had fewer than four calls left. It may be in any session, wherever the log begins.

@@ -1,5 +1,6 @@
 -- What the calls on the disks of a site promise.
 use Rattle.std.specs.Prelude.{◌≡◌, ℕ, ◌+◌, ◌*◌, ◌<◌, ◌≤◌, ◌++◌, ◌∷◌, [], ◌⊎◌, min, length, Option, Some, None, Result, Ok, Err, List, IsTrue, Bool, true, false}
+use Rattle.vx_disk.specs.Maps.{maps_of}
 use Rattle.vx_model.specs.declared.limits.TheConstants.{LEAST_BLOCKS, LINK_PLACES, MOST_DISKS}
 use Rattle.vx_model.specs.Content.{Write}
 use Rattle.vx_history.specs.World.{Node, bare_site}
@@ -7,7 +8,7 @@ use Rattle.vx_history.specs.Steps.{logged, raw_set, half_begun, crashed, recover
 use Rattle.vx_model.specs.Sites.{is_origin}
 use Rattle.vx_model.specs.Sizes.{ring_of}
 use Rattle.vx_model.specs.declared.site.SiteState.TheVariants.{Up as IsUp}
-use Rattle.vx_diskset.specs.Holds.{Beside, Kept, itself, sure_of}
+use Rattle.vx_diskset.specs.Holds.{KeptBeside, KeptSite, itself, sure_of}
 use Rattle.vx_model.specs.declared.errors.Stop.{Stop}
 use Rattle.vx_model.specs.declared.errors.Stop.TheVariants.{No as Refused, OutOfMemory}
 use Rattle.vx_model.specs.declared.no.No.{No}
@@ -17,8 +18,7 @@ use Rattle.vx_disk.specs.Counts.{Rose}
 use Rattle.vx_disk.specs.Racks.{most_blocks}
 use Rattle.vx_disk.specs.Shelf.{Meaning}
 use Rattle.vx_disk.specs.declared.shelf.Shelf.{Ghosts}
-use Rattle.vx_rvg.specs.Contents.{Shows}
-use Rattle.vx_rvg.specs.Views.{maps_of}
+use Rattle.vx_rvg.specs.Contents.{ShowsContent}
 use Rattle.vx_srl.specs.Views.{most_number}
 use Rattle.vx_diskset.specs.declared.disk_set.DiskSet.{DiskSet}
 use Rattle.vx_events.specs.Found.{SameDisks}
@@ -26,7 +26,7 @@ use Rattle.vx_diskset.specs.Holds.{most_header}
 use Rattle.vx_history.specs.Stops.{IsFused}
 use Rattle.vx_events.specs.Fuses.{IsExact}
 use Rattle.vx_diskset.specs.Layouts.{raw_units}
-use Rattle.vx_diskset.specs.Stands.{StandsAt, StandsAlone, CutAt, IsUnused, IsToldAt, RoleIs, faults_at}
+use Rattle.vx_diskset.specs.Stands.{SiteStands, StandsAlone, CutAt, IsUnused, IsToldAt, RoleIs, faults_at}
 
 -- a write that nothing but a failing disk or want of a number can refuse
 pub record CanWrite (n : Node) (volume start count : ℕ) : Type 0 where
@@ -102,7 +102,7 @@ module _ {R : Type 0} {g : Ghosts R} where
 
   -- the disks of a new site, whatever its name; or a failing disk, want of memory, or more blocks than there may be
   abbrev pub FitIs : {T : Type 0} → Option T → ℕ → ℕ → DiskSet R g → DiskSet R g → Result (Unit {0}) Stop → Type 0
-  FitIs dir disks blocks old new (Ok done) = (beside : Beside) (name : List ℕ) → StandsAt beside (bare_site name disks blocks) new
+  FitIs dir disks blocks old new (Ok done) = (beside : KeptBeside) (name : List ℕ) → SiteStands beside (bare_site name disks blocks) new
   FitIs dir disks blocks old new (Err OutOfMemory) = IsUnused new
   FitIs dir disks blocks old new (Err (Refused (Device disk))) = IsUnused new × RoseAt old new disk
   FitIs dir disks blocks old new (Err (Refused other)) = most_blocks dir < blocks
@@ -110,78 +110,78 @@ module _ {R : Type 0} {g : Ghosts R} where
   -- the disks of a bare site as a raw set without links, or as they were, with a failing disk or want of memory
   abbrev pub MadeIs : ℕ → Node → DiskSet R g → DiskSet R g → Result (Unit {0}) Stop → Type 0
   MadeIs site n old new (Ok done) = StandsAlone (raw_set site n) new
-  MadeIs site n old new (Err OutOfMemory) = (beside : Beside) → StandsAt beside n new
-  MadeIs site n old new (Err (Refused (Device disk))) = ((beside : Beside) → StandsAt beside n new) × RoseAt old new disk
+  MadeIs site n old new (Err OutOfMemory) = (beside : KeptBeside) → SiteStands beside n new
+  MadeIs site n old new (Err (Refused (Device disk))) = ((beside : KeptBeside) → SiteStands beside n new) × RoseAt old new disk
   MadeIs site n old new (Err (Refused other)) = ⊥
 
   -- a site that crashed, as its node says it or as what it might be besides, with one of the numbers of writes that a crash may keep
-  pub record CrashedAt (beside : Beside) (n : Node) (new : DiskSet R g) : Type 0 where
-    pub kept : Kept
+  pub record CrashedAt (beside : KeptBeside) (n : Node) (new : DiskSet R g) : Type 0 where
+    pub kept : KeptSite
     pub is : (kept ≡ itself beside n) ⊎ (beside.doubt ≡ Some kept)
     pub count : ℕ
     pub least : kept.node.safe ≤ count
     pub most : count ≤ length kept.node.log
-    pub stands : StandsAt (sure_of kept) (crashed kept.node count) new
+    pub stands : SiteStands (sure_of kept) (crashed kept.node count) new
 
   -- the next number, or a failing disk, or want of a number; or its fuse ran out, and then this holds of the site with the write begun
-  abbrev pub WroteWith : (Node → DiskSet R g → Type 0) → Beside → Node → Write → DiskSet R g → DiskSet R g → Result ℕ No → Type 0
-  WroteWith Off beside n x old new (Ok number) = (number ≡ n.safe + 1) × (n.safe < most_number) × StandsAt beside (logged n x) new × ((calls : ℕ) → IsToldAt new → IsExact n x calls → 4 ≤ calls)
-  WroteWith Off beside n x old new (Err (Device disk)) = StandsAt beside (halted_with n x disk) new × RoseAt old new disk × (n.safe < most_number)
-  WroteWith Off beside n x old new (Err (Limit what most)) = (Limit what most ≡ no_number) × (IsToldAt new → most_number ≤ most_header beside n) × StandsAt beside (worked n) new
+  abbrev pub WroteWith : (Node → DiskSet R g → Type 0) → KeptBeside → Node → Write → DiskSet R g → DiskSet R g → Result ℕ No → Type 0
+  WroteWith Off beside n x old new (Ok number) = (number ≡ n.safe + 1) × (n.safe < most_number) × SiteStands beside (logged n x) new × ((calls : ℕ) → IsToldAt new → IsExact n x calls → 4 ≤ calls)
+  WroteWith Off beside n x old new (Err (Device disk)) = SiteStands beside (halted_with n x disk) new × RoseAt old new disk × (n.safe < most_number)
+  WroteWith Off beside n x old new (Err (Limit what most)) = (Limit what most ≡ no_number) × (IsToldAt new → most_number ≤ most_header beside n) × SiteStands beside (worked n) new
   WroteWith Off beside n x old new (Err IsDown) = IsFused n.fuse × Off (half_begun n x) new × ((calls : ℕ) → IsToldAt new → IsExact n x calls → calls < 4) × (n.safe < most_number)
   WroteWith Off beside n x old new (Err other) = ⊥
 
   -- a write behind which the site of a fuse that ran out crashed, and one behind which it has not crashed yet
-  abbrev pub WroteAt : Beside → Node → Write → DiskSet R g → DiskSet R g → Result ℕ No → Type 0
+  abbrev pub WroteAt : KeptBeside → Node → Write → DiskSet R g → DiskSet R g → Result ℕ No → Type 0
   WroteAt beside n x old new result = WroteWith (λ k e. CrashedAt beside k e) beside n x old new result
 
-  abbrev pub WroteUp : Beside → Node → Write → DiskSet R g → DiskSet R g → Result ℕ No → Type 0
+  abbrev pub WroteUp : KeptBeside → Node → Write → DiskSet R g → DiskSet R g → Result ℕ No → Type 0
   WroteUp beside n x old new result = WroteWith (λ k e. CutAt beside k e) beside n x old new result
 
   -- the same of a site of any role, of which it is not known how many calls a write is
-  abbrev pub LoggedUp : Beside → Node → Write → DiskSet R g → DiskSet R g → Result ℕ No → Type 0
-  LoggedUp beside n x old new (Ok number) = (number ≡ n.safe + 1) × (n.safe < most_number) × StandsAt beside (logged n x) new × (is_origin n.role ≡ true → (calls : ℕ) → IsToldAt new → IsExact n x calls → 4 ≤ calls)
-  LoggedUp beside n x old new (Err (Device disk)) = StandsAt beside (halted_with n x disk) new × RoseAt old new disk × (n.safe < most_number)
-  LoggedUp beside n x old new (Err (Limit what most)) = (Limit what most ≡ no_number) × (IsToldAt new → most_number ≤ most_header beside n) × StandsAt beside (worked n) new
+  abbrev pub LoggedUp : KeptBeside → Node → Write → DiskSet R g → DiskSet R g → Result ℕ No → Type 0
+  LoggedUp beside n x old new (Ok number) = (number ≡ n.safe + 1) × (n.safe < most_number) × SiteStands beside (logged n x) new × (is_origin n.role ≡ true → (calls : ℕ) → IsToldAt new → IsExact n x calls → 4 ≤ calls)
+  LoggedUp beside n x old new (Err (Device disk)) = SiteStands beside (halted_with n x disk) new × RoseAt old new disk × (n.safe < most_number)
+  LoggedUp beside n x old new (Err (Limit what most)) = (Limit what most ≡ no_number) × (IsToldAt new → most_number ≤ most_header beside n) × SiteStands beside (worked n) new
   LoggedUp beside n x old new (Err IsDown) =
       IsFused n.fuse × CutAt beside (half_begun n x) new × (is_origin n.role ≡ true → (calls : ℕ) → IsToldAt new → IsExact n x calls → calls < 4) × (n.safe < most_number)
   LoggedUp beside n x old new (Err other) = ⊥
 
   -- the blocks, which are those of the content where it is told, or a failing disk
-  abbrev pub ReadAt : Beside → Node → ℕ → ℕ → ℕ → List ℕ → DiskSet R g → DiskSet R g → Result (Unit {0}) No → Type 0
-  ReadAt beside n volume start count bytes old new (Ok done) = (IsToldAt new → Shows n.base volume start count bytes) × StandsAt beside n new
-  ReadAt beside n volume start count bytes old new (Err (Device disk)) = StandsAt beside n new × RoseAt old new disk
+  abbrev pub ReadAt : KeptBeside → Node → ℕ → ℕ → ℕ → List ℕ → DiskSet R g → DiskSet R g → Result (Unit {0}) No → Type 0
+  ReadAt beside n volume start count bytes old new (Ok done) = (IsToldAt new → ShowsContent n.base volume start count bytes) × SiteStands beside n new
+  ReadAt beside n volume start count bytes old new (Err (Device disk)) = SiteStands beside n new × RoseAt old new disk
   ReadAt beside n volume start count bytes old new (Err other) = ⊥
 
   -- A site that came up: in its next session, where contents are told, and else with whatever stands on its disks.
-  pub record CameUp (beside : Beside) (n : Node) (new : DiskSet R g) : Type 0 where
+  pub record CameUp (beside : KeptBeside) (n : Node) (new : DiskSet R g) : Type 0 where
     pub node : Node
     pub is : IsToldAt new → node ≡ recovered n
     pub same : SameDisks n node
     -- all its writes are durable
     pub whole : length node.log ≡ node.safe
-    pub stands : StandsAt beside node new
+    pub stands : SiteStands beside node new
     -- there was a further session
     pub next : IsToldAt new → n.session < most_number
 
   -- the same, with its group as its role has it
-  pub record CameUpBy (beside : Beside) (n : Node) (new : DiskSet R g) : Type 0 where
+  pub record CameUpBy (beside : KeptBeside) (n : Node) (new : DiskSet R g) : Type 0 where
     pub came : CameUp beside n new
     pub role : RoleIs came.node new
 
   -- a site that stays down, maybe in the next session
-  abbrev pub StillDown : Beside → Node → DiskSet R g → Type 0
-  StillDown beside n new = StandsAt beside n new ⊎ (StandsAt beside (record n { session = n.session + 1 }) new × (n.session < most_number))
+  abbrev pub StillDown : KeptBeside → Node → DiskSet R g → Type 0
+  StillDown beside n new = SiteStands beside n new ⊎ (SiteStands beside (record n { session = n.session + 1 }) new × (n.session < most_number))
 
   -- it came up, or a disk failed, or no number is left; nothing else where contents are told
-  abbrev pub CameUpIs : Beside → Node → DiskSet R g → DiskSet R g → Result (Unit {0}) No → Type 0
+  abbrev pub CameUpIs : KeptBeside → Node → DiskSet R g → DiskSet R g → Result (Unit {0}) No → Type 0
   CameUpIs beside n old new (Ok done) = CameUp beside n new
   CameUpIs beside n old new (Err (Device disk)) = StillDown beside n new × RoseAt old new disk
-  CameUpIs beside n old new (Err (Limit what most)) = (Limit what most ≡ no_number) × (IsToldAt new → most_number ≤ most_header beside n + 2) × StandsAt beside n new
-  CameUpIs beside n old new (Err other) = (IsToldAt new → ⊥) × StandsAt beside n new
+  CameUpIs beside n old new (Err (Limit what most)) = (Limit what most ≡ no_number) × (IsToldAt new → most_number ≤ most_header beside n + 2) × SiteStands beside n new
+  CameUpIs beside n old new (Err other) = (IsToldAt new → ⊥) × SiteStands beside n new
 
   -- the same of a site that comes up by its role
-  abbrev pub CameUpByIs : Beside → Node → DiskSet R g → DiskSet R g → Result (Unit {0}) No → Type 0
+  abbrev pub CameUpByIs : KeptBeside → Node → DiskSet R g → DiskSet R g → Result (Unit {0}) No → Type 0
   CameUpByIs beside n old new (Ok done) = CameUpBy beside n new
   CameUpByIs beside n old new (Err why) = CameUpIs beside n old new (Err why)
 
@@ -191,7 +191,7 @@ module _ {R : Type 0} {g : Ghosts R} where
     pub node : Node
     pub same : SameDisks (raw_set 0 n) node
     pub whole : length node.log ≡ node.safe
-    pub stands : (beside : Beside) → beside.doubt ≡ None → StandsAt beside node new
+    pub stands : (beside : KeptBeside) → beside.doubt ≡ None → SiteStands beside node new
 
   -- the same, with its group as its role has it
   pub record BareUpBy (n : Node) (new : DiskSet R g) : Type 0 where
@@ -201,9 +201,9 @@ module _ {R : Type 0} {g : Ghosts R} where
   -- a bare site whose disks hold nothing, or one of which failed; or, where contents are not told, whatever stands on them
   abbrev pub BareUpIs : Node → DiskSet R g → DiskSet R g → Result (Unit {0}) No → Type 0
   BareUpIs n old new (Ok done) = BareUp n new
-  BareUpIs n old new (Err (Device disk)) = ((beside : Beside) → StandsAt beside n new) × RoseAt old new disk
-  BareUpIs n old new (Err NoConfig) = (beside : Beside) → StandsAt beside n new
-  BareUpIs n old new (Err other) = (IsToldAt new → ⊥) × ((beside : Beside) → StandsAt beside n new)
+  BareUpIs n old new (Err (Device disk)) = ((beside : KeptBeside) → SiteStands beside n new) × RoseAt old new disk
+  BareUpIs n old new (Err NoConfig) = (beside : KeptBeside) → SiteStands beside n new
+  BareUpIs n old new (Err other) = (IsToldAt new → ⊥) × ((beside : KeptBeside) → SiteStands beside n new)
 
   -- the same of a site that comes up by its role
   abbrev pub BareUpByIs : Node → DiskSet R g → DiskSet R g → Result (Unit {0}) No → Type 0
@@ -211,15 +211,15 @@ module _ {R : Type 0} {g : Ghosts R} where
   BareUpByIs n old new (Err why) = BareUpIs n old new (Err why)
 
   -- the number up to which all writes are in their volumes, or a failing disk; or its fuse ran out, and then this holds of the site
-  abbrev pub AppliedWith : (Node → DiskSet R g → Type 0) → Beside → Node → ℕ → DiskSet R g → DiskSet R g → Result ℕ No → Type 0
-  AppliedWith Off beside n to old new (Ok number) = (min to n.safe ≤ number) × (number ≤ n.safe) × StandsAt beside (worked n) new
-  AppliedWith Off beside n to old new (Err (Device disk)) = StandsAt beside (halted_at n disk) new × RoseAt old new disk
+  abbrev pub AppliedWith : (Node → DiskSet R g → Type 0) → KeptBeside → Node → ℕ → DiskSet R g → DiskSet R g → Result ℕ No → Type 0
+  AppliedWith Off beside n to old new (Ok number) = (min to n.safe ≤ number) × (number ≤ n.safe) × SiteStands beside (worked n) new
+  AppliedWith Off beside n to old new (Err (Device disk)) = SiteStands beside (halted_at n disk) new × RoseAt old new disk
   AppliedWith Off beside n to old new (Err IsDown) = IsFused n.fuse × Off n new
   AppliedWith Off beside n to old new (Err other) = ⊥
 
   -- an apply behind which the site of a fuse that ran out crashed, and one behind which it has not crashed yet
-  abbrev pub AppliedAt : Beside → Node → ℕ → DiskSet R g → DiskSet R g → Result ℕ No → Type 0
+  abbrev pub AppliedAt : KeptBeside → Node → ℕ → DiskSet R g → DiskSet R g → Result ℕ No → Type 0
   AppliedAt beside n to old new result = AppliedWith (λ k e. CrashedAt beside k e) beside n to old new result
 
-  abbrev pub AppliedUp : Beside → Node → ℕ → DiskSet R g → DiskSet R g → Result ℕ No → Type 0
+  abbrev pub AppliedUp : KeptBeside → Node → ℕ → DiskSet R g → DiskSet R g → Result ℕ No → Type 0
   AppliedUp beside n to old new result = AppliedWith (λ k e. CutAt beside k e) beside n to old new result

@@ -1,24 +1,24 @@
 -- What the disks of a site promise of blocks that are read into a place for them.
 use Rattle.std.specs.Prelude.{◌≡◌, ℕ, ◌*◌, List, length, Result, Ok, Err}
 use Rattle.vx_history.specs.World.{Node}
-use Rattle.vx_diskset.specs.Holds.{Beside}
+use Rattle.vx_diskset.specs.Holds.{KeptBeside}
 use Rattle.vx_model.specs.declared.no.No.{No}
 use Rattle.vx_model.specs.declared.no.No.TheVariants.{Device}
 use Rattle.vx_disk.specs.declared.shelf.Shelf.{Ghosts}
-use Rattle.vx_rvg.specs.Contents.{Shows}
+use Rattle.vx_rvg.specs.Contents.{ShowsContent}
 use Rattle.vx_diskset.specs.declared.disk_set.DiskSet.{DiskSet}
 use Rattle.vx_diskset.specs.DiskSets.{RoseAt}
-use Rattle.vx_diskset.specs.Stands.{StandsAt, IsToldAt}
+use Rattle.vx_diskset.specs.Stands.{SiteStands, IsToldAt}
 
 module _ {R : Type 0} {g : Ghosts R} where
   -- so many blocks, which are those of the content where it is told
-  pub record Gave (beside : Beside) (n : Node) (volume start count : ℕ) (bytes : List ℕ) (new : DiskSet R g) : Type 0 where
+  pub record Gave (beside : KeptBeside) (n : Node) (volume start count : ℕ) (bytes : List ℕ) (new : DiskSet R g) : Type 0 where
     pub size : length bytes ≡ 512 * count
-    pub shows : IsToldAt new → Shows n.base volume start count bytes
-    pub stands : StandsAt beside n new
+    pub shows : IsToldAt new → ShowsContent n.base volume start count bytes
+    pub stands : SiteStands beside n new
 
   -- the blocks, or a failing disk
-  abbrev pub GaveAt : Beside → Node → ℕ → ℕ → ℕ → DiskSet R g → DiskSet R g → Result (List ℕ) No → Type 0
+  abbrev pub GaveAt : KeptBeside → Node → ℕ → ℕ → ℕ → DiskSet R g → DiskSet R g → Result (List ℕ) No → Type 0
   GaveAt beside n volume start count old new (Ok bytes) = Gave beside n volume start count bytes new
-  GaveAt beside n volume start count old new (Err (Device disk)) = StandsAt beside n new × RoseAt old new disk
+  GaveAt beside n volume start count old new (Err (Device disk)) = SiteStands beside n new × RoseAt old new disk
   GaveAt beside n volume start count old new (Err other) = ⊥

@@ -5,7 +5,7 @@ use Rattle.vx_history.specs.World.{Fuse, NoFuse, FuseSet, FuseLit}
 use Rattle.vx_disk.specs.Disks.{Disks}
 use Rattle.vx_disk.specs.Shelf.{Meaning}
 use Rattle.vx_srl.specs.Views.{Log, widths}
-use Rattle.vx_events.specs.Fuses.{taken}
+use Rattle.vx_events.specs.Fuses.{ring_taken}
 
 -- the disks of a rack have a fuse that lets so many writes and flushes pass
 abbrev pub LetsPass : ℕ → Option Disks → Type 0
@@ -31,6 +31,6 @@ LeftAs (FuseSet calls) f = HasLeft calls f
 LeftAs (FuseLit most) f = HasLeft most f
 
 -- a log that holds these writes, from the beginning of its ring on
-pub record IsFirst (l : Log) (xs : List Write) : Type 0 where
+pub record IsFirstLog (l : Log) (xs : List Write) : Type 0 where
   pub place : l.header.place ≡ 0
-  pub widths_are : widths l.held ≡ taken xs
+  pub widths_are : widths l.held ≡ ring_taken xs

@@ -14,9 +14,9 @@ use Rattle.vx_events.specs.declared.said.Said.{Said}
 use Rattle.vx_events.specs.declared.said.Said.TheVariants.{Done, Refused}
 use Rattle.vx_diskset.specs.declared.disk_set.DiskSet.{DiskSet}
 use Rattle.vx_diskset.specs.DiskSets.{CrashedAt, RoseAt, halted_at, no_number, worked}
-use Rattle.vx_diskset.specs.Holds.{Beside, Kept, most_header, sure_of}
+use Rattle.vx_diskset.specs.Holds.{KeptBeside, KeptSite, most_header, sure_of}
 use Rattle.vx_diskset.specs.Needs.{hold_of, is_needing}
-use Rattle.vx_diskset.specs.Stands.{CutAt, IsToldAt, StandsAt}
+use Rattle.vx_diskset.specs.Stands.{CutAt, IsToldAt, SiteStands}
 
 -- a site of whose log the header keeps this state
 abbrev pub restated : Node → State → Node
@@ -34,11 +34,11 @@ restated n s = record n {
 }
 
 -- with one header more
-abbrev pub kept_anew : Beside → Node → State → Kept
+abbrev pub kept_anew : KeptBeside → Node → State → KeptSite
 kept_anew beside n s = record { node = restated n s; links = s.links; headers = beside.headers + 1 }
 
 -- a halted site that may have that header on its disks
-abbrev pub doubting : Beside → Node → State → (disk : ℕ) → Beside
+abbrev pub doubting : KeptBeside → Node → State → (disk : ℕ) → KeptBeside
 doubting beside n s disk = record {
   links = beside.links;
   headers = beside.headers + 1;
@@ -50,7 +50,7 @@ abbrev pub Suffices : List KeptLink → Node → KeptLink → Type 0
 Suffices links n l = (n.safe ≤ hold_of l) ⊎ ((j : ℕ) × ((o : KeptLink) × ((slice_get links j ≡ Some o) × ((is_needing o ≡ true) × (hold_of o ≤ hold_of l)))))
 
 -- a state of the site's line that nothing but a failing disk or want of a number keeps from its log
-pub record CanKeep (beside : Beside) (n : Node) (s : State) : Type 0 where
+pub record CanKeep (beside : KeptBeside) (n : Node) (s : State) : Type 0 where
   pub up : n.state ≡ IsUp
   pub running : n.halted ≡ None
   pub line : s.line ≡ n.line
@@ -65,15 +65,15 @@ done_by (Err why) = Refused why
 module _ {R : Type 0} {g : Ghosts R} where
   -- the state is durable; or a disk failed, and the site may have it or not; or no number is left; or its fuse ran out, and then this holds of
   -- the site that may have it or not
-  abbrev pub KeptWith : (Beside → Node → DiskSet R g → Type 0) → Beside → Node → State → DiskSet R g → DiskSet R g → Result (Unit {0}) No → Type 0
-  KeptWith Off beside n s old new (Ok done) = StandsAt (sure_of (kept_anew beside n s)) (worked (restated n s)) new
-  KeptWith Off beside n s old new (Err (Device disk)) = StandsAt (doubting beside n s disk) (halted_at n disk) new × RoseAt old new disk
-  KeptWith Off beside n s old new (Err (Limit what most)) = (Limit what most ≡ no_number) × (IsToldAt new → most_number ≤ most_header beside n) × StandsAt beside n new
+  abbrev pub KeptWith : (KeptBeside → Node → DiskSet R g → Type 0) → KeptBeside → Node → State → DiskSet R g → DiskSet R g → Result (Unit {0}) No → Type 0
+  KeptWith Off beside n s old new (Ok done) = SiteStands (sure_of (kept_anew beside n s)) (worked (restated n s)) new
+  KeptWith Off beside n s old new (Err (Device disk)) = SiteStands (doubting beside n s disk) (halted_at n disk) new × RoseAt old new disk
+  KeptWith Off beside n s old new (Err (Limit what most)) = (Limit what most ≡ no_number) × (IsToldAt new → most_number ≤ most_header beside n) × SiteStands beside n new
   KeptWith Off beside n s old new (Err IsDown) = IsFused n.fuse × Off (doubting beside n s 0) (halted_at n 0) new
   KeptWith Off beside n s old new (Err other) = ⊥
 
-  abbrev pub KeptAt : Beside → Node → State → DiskSet R g → DiskSet R g → Result (Unit {0}) No → Type 0
+  abbrev pub KeptAt : KeptBeside → Node → State → DiskSet R g → DiskSet R g → Result (Unit {0}) No → Type 0
   KeptAt beside n s old new result = KeptWith CrashedAt beside n s old new result
 
-  abbrev pub KeptUp : Beside → Node → State → DiskSet R g → DiskSet R g → Result (Unit {0}) No → Type 0
+  abbrev pub KeptUp : KeptBeside → Node → State → DiskSet R g → DiskSet R g → Result (Unit {0}) No → Type 0
   KeptUp beside n s old new result = KeptWith CutAt beside n s old new result

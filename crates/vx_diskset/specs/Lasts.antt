@@ -6,9 +6,9 @@ use Rattle.vx_model.specs.declared.state.State.{State}
 use Rattle.vx_model.specs.declared.units.Units.{Units}
 use Rattle.vx_disk.specs.Shelf.{Meaning, Image}
 use Rattle.vx_rvg.specs.Holdings.{Holding}
-use Rattle.vx_rvg.specs.Stands.{Found, Left, Stands}
+use Rattle.vx_rvg.specs.Stands.{FoundGroup, LeftGroup, Stands}
 use Rattle.vx_rvg.specs.Views.{Core}
-use Rattle.vx_events.specs.Fuses.{taken}
+use Rattle.vx_events.specs.Fuses.{ring_taken}
 use Rattle.vx_diskset.specs.Needs.{NoneNeeds}
 
 -- a group with so many ring blocks holds this content, and of these writes, of which the first has number 1, the last ones
@@ -18,10 +18,10 @@ pub record HasLast (ring : ℕ) (xs : List Write) (c : Content) (h : Holding) : 
   pub writes : h.writes ≡ drop (h.low - 1) xs
   pub content : h.content ≡ c
   -- while there is room for the largest write beside all of them, it holds all, from the beginning of the ring on
-  pub whole : taken xs + (MOST_CALL_BLOCKS + 1) ≤ ring → (h.low ≡ 1) × (h.place ≡ 0)
+  pub whole : ring_taken xs + (MOST_CALL_BLOCKS + 1) ≤ ring → (h.low ≡ 1) × (h.place ≡ 0)
 
 -- a group that stands with them, and with all that its links need
-pub record StandsWith (core : Core) (xs : List Write) (c : Content) (m : Meaning) : Type 0 where
+pub record StandsHolding (core : Core) (xs : List Write) (c : Content) (m : Meaning) : Type 0 where
   pub held : Holding
   pub has : HasLast core.log.ring xs c held
   pub needs : NoneNeeds core.log.header.state.links (held.low - 1)
@@ -32,11 +32,11 @@ pub record FoundWith (units : Units) (ring : ℕ) (state : State) (session stamp
   pub held : Holding
   pub has : HasLast ring xs c held
   pub needs : NoneNeeds state.links (held.low - 1)
-  pub found : Found units ring state session stamp i held
+  pub found : FoundGroup units ring state session stamp i held
 
 -- a crash left them
 pub record LeftWith (units : Units) (ring : ℕ) (state : State) (session stamp : ℕ) (xs : List Write) (c : Content) (m : Meaning) : Type 0 where
   pub held : Holding
   pub has : HasLast ring xs c held
   pub needs : NoneNeeds state.links (held.low - 1)
-  pub left : Left units ring state session stamp held m
+  pub left : LeftGroup units ring state session stamp held m

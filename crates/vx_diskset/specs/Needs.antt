@@ -6,7 +6,7 @@ use Rattle.vx_model.specs.declared.state.KeptMode.{KeptMode}
 use Rattle.vx_model.specs.declared.state.KeptMode.TheVariants.{Log as ByLog, Dcm, Replay, Fork, Stale}
 use Rattle.vx_history.specs.World.{Node}
 use Rattle.vx_srl.specs.Views.{Log, widths}
-use Rattle.vx_events.specs.Fuses.{taken}
+use Rattle.vx_events.specs.Fuses.{ring_taken}
 
 -- in these modes an attached link needs the numbers above its hold from the log
 abbrev pub mode_needs : KeptMode → Bool
@@ -17,19 +17,19 @@ mode_needs Fork = false
 mode_needs Stale = false
 
 -- the number up to which a link in this mode needs nothing of the log: a replay may need all above its start, or all that is not stored
-abbrev pub mode_hold : KeptMode → (start stored : ℕ) → ℕ
-mode_hold ByLog start stored = stored
-mode_hold Dcm start stored = stored
-mode_hold Replay start stored = min start stored
-mode_hold Fork start stored = stored
-mode_hold Stale start stored = stored
+abbrev pub kept_mode_hold : KeptMode → (start stored : ℕ) → ℕ
+kept_mode_hold ByLog start stored = stored
+kept_mode_hold Dcm start stored = stored
+kept_mode_hold Replay start stored = min start stored
+kept_mode_hold Fork start stored = stored
+kept_mode_hold Stale start stored = stored
 
 -- whether a link needs numbers of the log
 abbrev pub is_needing : KeptLink → Bool
 is_needing l = l.attached && mode_needs l.mode
 
 abbrev pub hold_of : KeptLink → ℕ
-hold_of l = mode_hold l.mode l.start l.stored
+hold_of l = kept_mode_hold l.mode l.start l.stored
 
 -- none of these links needs a number up to this one
 pub record NoneNeeds (links : List KeptLink) (number : ℕ) : Type 0 where
@@ -37,9 +37,9 @@ pub record NoneNeeds (links : List KeptLink) (number : ℕ) : Type 0 where
 
 -- from each number on that a log holds its records take as many blocks as these writes, of which the first has number 1
 pub record TakesAs (l : Log) (xs : List Write) : Type 0 where
-  pub each : (above : ℕ) → l.header.low ≤ above + 1 → widths (drop (above + 1 - l.header.low) l.held) ≡ taken (drop above xs)
+  pub each : (above : ℕ) → l.header.low ≤ above + 1 → widths (drop (above + 1 - l.header.low) l.held) ≡ ring_taken (drop above xs)
 
 -- the log of a site has room for a write of so many blocks beside all numbers above this one, and no link needs one up to it
 pub record HasRoom (links : List KeptLink) (n : Node) (hold count : ℕ) : Type 0 where
   pub unneeded : NoneNeeds links hold
-  pub room : count + 1 + taken (drop hold n.log) ≤ n.ring
+  pub room : count + 1 + ring_taken (drop hold n.log) ≤ n.ring

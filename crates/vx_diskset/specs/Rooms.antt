@@ -5,13 +5,13 @@ use Rattle.vx_model.specs.declared.no.No.{No}
 use Rattle.vx_history.specs.Steps.{burned}
 use Rattle.vx_model.specs.declared.no.No.TheVariants.{Device, Limit, Down}
 use Rattle.vx_model.specs.declared.state.KeptLink.{KeptLink}
-use Rattle.vx_diskset.specs.Holds.{Beside}
+use Rattle.vx_diskset.specs.Holds.{KeptBeside}
 use Rattle.vx_disk.specs.Counts.{Rose}
 use Rattle.vx_disk.specs.Shelf.{Meaning}
 use Rattle.vx_rvg.specs.Views.{Core, last_of}
 use Rattle.vx_srl.specs.Views.{most_number}
 use Rattle.vx_diskset.specs.DiskSets.{no_number, halted_at, worked}
-use Rattle.vx_diskset.specs.Lasts.{StandsWith}
+use Rattle.vx_diskset.specs.Lasts.{StandsHolding}
 use Rattle.vx_diskset.specs.Holds.{state_with}
 use Rattle.vx_diskset.specs.Layouts.{LiesOn, units_of}
 use Rattle.vx_diskset.specs.Needs.{TakesAs}
@@ -21,7 +21,7 @@ use Rattle.vx_history.specs.Stops.{IsFused}
 use Rattle.vx_diskset.specs.Stands.{IsUpAt, IsHeldAt}
 
 -- a site that is up and runs, before a write: its log may have used the one stamp that the write makes room for
-pub record IsRoomy (beside : Beside) (n : Node) (c : Core) (m : Meaning) : Type 0 where
+pub record IsRoomy (beside : KeptBeside) (n : Node) (c : Core) (m : Meaning) : Type 0 where
   pub up : IsFalse m.down
   pub lies : LiesOn n m
   pub fuse : HasFuse (burned n.fuse) m
@@ -36,17 +36,17 @@ pub record IsRoomy (beside : Beside) (n : Node) (c : Core) (m : Meaning) : Type 
   pub running : c.halted ≡ None
   pub stamp : IsTrue m.tells → c.log.header.stamp ≤ most_header beside n
   pub takes : TakesAs c.log n.log
-  pub content : IsTrue m.tells → StandsWith c n.log n.base m
+  pub content : IsTrue m.tells → StandsHolding c n.log n.base m
 
 -- what an apply answers of a site that is up: the number, or a failing disk; or its fuse ran out
-abbrev pub AppliedAs : Beside → Node → ℕ → Core → Meaning → Meaning → Result ℕ No → Type 0
+abbrev pub AppliedAs : KeptBeside → Node → ℕ → Core → Meaning → Meaning → Result ℕ No → Type 0
 AppliedAs beside n to c' m new (Ok number) = (min to n.safe ≤ number) × (number ≤ n.safe) × IsUpAt beside (worked n) c' new
 AppliedAs beside n to c' m new (Err (Device disk)) = IsUpAt beside (halted_at n disk) c' new × Rose (m.disk_faults disk) (new.disk_faults disk)
 AppliedAs beside n to c' m new (Err Down) = IsFused n.fuse × IsHeldAt beside n new
 AppliedAs beside n to c' m new (Err other) = ⊥
 
 -- the log of a site that is up has room; or a failing disk, or want of a number; or its fuse ran out
-abbrev pub RoomIs : Beside → Node → Meaning → Core → Meaning → Result (Unit {0}) No → Type 0
+abbrev pub RoomIs : KeptBeside → Node → Meaning → Core → Meaning → Result (Unit {0}) No → Type 0
 RoomIs beside n old c new (Ok done) = IsRoomy beside n c new
 RoomIs beside n old c new (Err (Device disk)) = IsUpAt beside (halted_at n disk) c new × Rose (old.disk_faults disk) (new.disk_faults disk)
 RoomIs beside n old c new (Err (Limit what most)) = (Limit what most ≡ no_number) × (IsTrue new.tells → most_number ≤ most_header beside n) × IsUpAt beside (worked n) c new
@@ -61,9 +61,9 @@ pub record IsMore (count : ℕ) (c c' : Core) : Type 0 where
   pub last : last_of c' ≡ last_of c + count
 
 -- how many writes a call logged that logs one
-abbrev pub count_of : {T : Type 0} → Result T No → ℕ
-count_of (Ok done) = 1
-count_of (Err why) = 0
+abbrev pub logged_count : {T : Type 0} → Result T No → ℕ
+logged_count (Ok done) = 1
+logged_count (Err why) = 0
 
 -- it is not for want of a number that a call was refused
 abbrev pub NeverLimit : {T : Type 0} → Result T No → Type 0

@@ -6,19 +6,19 @@ use Rattle.vx_model.specs.Sites.{is_origin}
 use Rattle.vx_model.specs.declared.call.Update.{Update}
 use Rattle.vx_history.specs.World.{Node, NoFuse, bare_site}
 use Rattle.vx_model.specs.declared.state.KeptLink.{KeptLink}
-use Rattle.vx_diskset.specs.Holds.{Beside}
+use Rattle.vx_diskset.specs.Holds.{KeptBeside}
 use Rattle.vx_model.specs.declared.site.SiteState.TheVariants.{Up as IsUp, Down as IsDown}
 use Rattle.vx_disk.specs.Shelf.{Meaning, Image, Keeps}
 use Rattle.vx_disk.specs.declared.shelf.Shelf.{Ghosts}
 use Rattle.vx_rvg.specs.Views.{Core, last_of}
-use Rattle.vx_secondary.specs.Receivers.{writes_of}
+use Rattle.vx_secondary.specs.Receivers.{writes_of_updates}
 use Rattle.vx_diskset.specs.declared.disk_set.DiskSet.{DiskSet}
 use Rattle.vx_diskset.specs.declared.disk_set.DiskSet.TheVariants.{Bare, Spoiled, Up, Receives, Down, Gone}
-use Rattle.vx_diskset.specs.Fuses.{HasFuse, IsFirst}
-use Rattle.vx_events.specs.Fuses.{taken}
-use Rattle.vx_diskset.specs.Holds.{HasSite, Kept, MayBe, alone, state_with}
+use Rattle.vx_diskset.specs.Fuses.{HasFuse, IsFirstLog}
+use Rattle.vx_events.specs.Fuses.{ring_taken}
+use Rattle.vx_diskset.specs.Holds.{HasSite, KeptSite, MayBe, site_alone, state_with}
 use Rattle.vx_diskset.specs.Holds.{most_header}
-use Rattle.vx_diskset.specs.Lasts.{LeftWith, StandsWith}
+use Rattle.vx_diskset.specs.Lasts.{LeftWith, StandsHolding}
 use Rattle.vx_diskset.specs.Layouts.{LiesOn, units_of}
 use Rattle.vx_diskset.specs.Needs.{TakesAs}
 
@@ -53,7 +53,7 @@ pub record IsCleanAt (n : Node) (m : Meaning) : Type 0 where
   pub front : (b : ℕ) → b < n.blocks → Keeps m 0 b zero_block
 
 -- the disks of a site under its replicated volume group, with what the world has of it beside its node
-pub record IsUpAt (beside : Beside) (n : Node) (c : Core) (m : Meaning) : Type 0 where
+pub record IsUpAt (beside : KeptBeside) (n : Node) (c : Core) (m : Meaning) : Type 0 where
   pub state : n.state ≡ IsUp
   pub up : IsFalse m.down
   pub fuse : HasFuse n.fuse m
@@ -69,7 +69,7 @@ pub record IsUpAt (beside : Beside) (n : Node) (c : Core) (m : Meaning) : Type 0
   pub begun : IsTrue m.tells → 0 < n.session
   pub stamp : IsTrue m.tells → n.halted ≡ None → c.log.header.stamp + 1 ≤ most_header beside n
   -- in its first session the log of an origin begins with the site's first write, as long as it did not go round
-  pub fresh : is_origin n.role ≡ true → IsTrue m.tells → n.halted ≡ None → n.session ≡ 1 → taken n.log ≤ n.ring → IsFirst c.log n.log
+  pub fresh : is_origin n.role ≡ true → IsTrue m.tells → n.halted ≡ None → n.session ≡ 1 → ring_taken n.log ≤ n.ring → IsFirstLog c.log n.log
   pub first : 0 < c.log.header.low
   pub head : last_of c ≡ n.safe
   pub halted : c.halted ≡ n.halted
@@ -78,15 +78,15 @@ pub record IsUpAt (beside : Beside) (n : Node) (c : Core) (m : Meaning) : Type 0
   pub durable : n.halted ≡ None → length n.log ≤ n.safe
   pub takes : n.halted ≡ None → TakesAs c.log n.log
   -- while no write failed, it has the content, and its log the last of the writes; and whatever a crash leaves has the writes that it may keep
-  pub content : n.halted ≡ None → IsTrue m.tells → StandsWith c n.log n.base m
+  pub content : n.halted ≡ None → IsTrue m.tells → StandsHolding c n.log n.base m
   pub left : (i : Image) → m.now i → HasSite beside n i
   -- a site that runs is what its node says
   pub sure : n.halted ≡ None → beside.doubt ≡ None
-  pub may : (k : Kept) → beside.doubt ≡ Some k → MayBe k m
+  pub may : (k : KeptSite) → beside.doubt ≡ Some k → MayBe k m
 
 -- The disks of a site that receives, under its replicated volume group, behind which these updates wait. Those that an apply logged before a
 -- disk ended it are in the log, and of the site they wait still.
-pub record IsReceiverAt (beside : Beside) (n : Node) (c : Core) (us : List Update) (m : Meaning) : Type 0 where
+pub record IsReceiverAt (beside : KeptBeside) (n : Node) (c : Core) (us : List Update) (m : Meaning) : Type 0 where
   pub state : n.state ≡ IsUp
   pub role : is_origin n.role ≡ false
   pub up : IsFalse m.down
@@ -106,25 +106,25 @@ pub record IsReceiverAt (beside : Beside) (n : Node) (c : Core) (us : List Updat
   pub most : last_of c ≤ length n.log
   pub head : n.halted ≡ None → last_of c ≡ n.safe
   pub halted : c.halted ≡ n.halted
-  pub waits : writes_of us ≡ drop (last_of c) n.log
+  pub waits : writes_of_updates us ≡ drop (last_of c) n.log
   pub takes : n.halted ≡ None → TakesAs c.log (take n.safe n.log)
   -- while no call failed, it has the content with the writes that are durable, and its log the last of these
-  pub content : n.halted ≡ None → IsTrue m.tells → StandsWith c (take n.safe n.log) n.base m
+  pub content : n.halted ≡ None → IsTrue m.tells → StandsHolding c (take n.safe n.log) n.base m
   pub left : (i : Image) → m.now i → HasSite beside n i
   pub sure : n.halted ≡ None → beside.doubt ≡ None
-  pub may : (k : Kept) → beside.doubt ≡ Some k → MayBe k m
+  pub may : (k : KeptSite) → beside.doubt ≡ Some k → MayBe k m
 
 -- the disks of a site, up or down: a crash leaves its writes on them
-pub record IsHeldAt (beside : Beside) (n : Node) (m : Meaning) : Type 0 where
+pub record IsHeldAt (beside : KeptBeside) (n : Node) (m : Meaning) : Type 0 where
   pub lies : LiesOn n m
   pub low : n.low ≡ 1
   pub logged : n.safe ≤ length n.log
   pub begun : IsTrue m.tells → 0 < n.session
   pub left : (i : Image) → m.now i → HasSite beside n i
-  pub may : (k : Kept) → beside.doubt ≡ Some k → MayBe k m
+  pub may : (k : KeptSite) → beside.doubt ≡ Some k → MayBe k m
 
 -- the disks of a site that crashed: they have one log and one content, that of the site
-pub record IsDownAt (beside : Beside) (n : Node) (m : Meaning) : Type 0 where
+pub record IsDownAt (beside : KeptBeside) (n : Node) (m : Meaning) : Type 0 where
   pub state : n.state ≡ IsDown
   pub unfused : n.fuse ≡ NoFuse
   pub down : IsTrue m.down
@@ -138,17 +138,17 @@ pub record IsDownAt (beside : Beside) (n : Node) (m : Meaning) : Type 0 where
 
 module _ {R : Type 0} {g : Ghosts R} where
   -- the disks of a site, with what the world has of it beside its node
-  abbrev pub StandsAt : Beside → Node → DiskSet R g → Type 0
-  StandsAt beside n (Bare rack) = IsCleanAt n (g.meaning rack)
-  StandsAt beside n (Spoiled rack) = IsBareAt n (g.meaning rack)
-  StandsAt beside n (Up rvg) = IsUpAt beside n rvg.core (g.meaning rvg.shelf)
-  StandsAt beside n (Receives s) = IsReceiverAt beside n s.rvg.core s.waiting (g.meaning s.rvg.shelf)
-  StandsAt beside n (Down rack) = IsDownAt beside n (g.meaning rack)
-  StandsAt beside n Gone = ⊥
+  abbrev pub SiteStands : KeptBeside → Node → DiskSet R g → Type 0
+  SiteStands beside n (Bare rack) = IsCleanAt n (g.meaning rack)
+  SiteStands beside n (Spoiled rack) = IsBareAt n (g.meaning rack)
+  SiteStands beside n (Up rvg) = IsUpAt beside n rvg.core (g.meaning rvg.shelf)
+  SiteStands beside n (Receives s) = IsReceiverAt beside n s.rvg.core s.waiting (g.meaning s.rvg.shelf)
+  SiteStands beside n (Down rack) = IsDownAt beside n (g.meaning rack)
+  SiteStands beside n Gone = ⊥
 
   -- the same of a site without links, as each is that the lines which are built make
   abbrev pub StandsAlone : Node → DiskSet R g → Type 0
-  StandsAlone n e = StandsAt alone n e
+  StandsAlone n e = SiteStands site_alone n e
 
   -- a site whose group is up without the room in which updates wait is an origin
   abbrev pub RoleIs : Node → DiskSet R g → Type 0
@@ -164,7 +164,7 @@ module _ {R : Type 0} {g : Ghosts R} where
     pub kept : (n : Node) → RoleIs n old → RoleIs n new
 
   -- a group whose shelf is down: a crash leaves the site's writes on its disks
-  abbrev pub CutAt : Beside → Node → DiskSet R g → Type 0
+  abbrev pub CutAt : KeptBeside → Node → DiskSet R g → Type 0
   CutAt beside n (Bare rack) = ⊥
   CutAt beside n (Spoiled rack) = ⊥
   CutAt beside n (Up rvg) = IsHeldAt beside n (g.meaning rvg.shelf)

@@ -1,9 +1,9 @@
 // The disks of a site.
 ghost use Rattle.std.specs.Prelude.{◌≡◌, ◌≤◌, ◌<◌, IfSome, IsSome, List, None};
-ghost use Rattle.vx_diskset.specs.Holds.{Beside};
+ghost use Rattle.vx_diskset.specs.Holds.{KeptBeside};
 ghost use Rattle.vx_history.specs.World.{Node};
 ghost use Rattle.vx_diskset.specs.DiskSets.{Later};
-ghost use Rattle.vx_diskset.specs.Stands.{KeepsRole, StandsAt};
+ghost use Rattle.vx_diskset.specs.Stands.{KeepsRole, SiteStands};
 ghost use Rattle.vx_rvg.specs.Views.{last_of};
 ghost use Rattle.vx_model.specs.declared.limits.TheConstants.{MOST_NUMBER};
 ghost use Rattle.vx_srlfmt.specs.Headers.{CanSpellState};
@@ -75,7 +75,7 @@ impl<R: Rack> DiskSet<R> {
 
     /// Makes each later call on a disk fail, or ends that.
     pub fn fail(&mut self, disk: u64, on: bool)
-        ensures stands { (beside : Beside) (n : Node) → StandsAt beside n self.old → StandsAt beside n self.new }
+        ensures stands { (beside : KeptBeside) (n : Node) → SiteStands beside n self.old → SiteStands beside n self.new }
         ensures asked { disk < units_in self.old → SetsDisk disk on self.old self.new }
         ensures role { KeepsRole self.old self.new }
         ensures later { Later self.old self.new }
@@ -94,8 +94,8 @@ impl<R: Rack> DiskSet<R> {
 
     /// Sets the fuse of a site that is up: so many writes and flushes pass, and the next is a crash.
     pub fn fuse(&mut self, calls: u64, pick: u64)
-        ensures fused { (beside : Beside) (n : Node) → StandsAt beside n self.old → n.state ≡ UpState → StandsAt beside (record n { fuse = FuseSet calls }) self.new }
-        ensures asked { (beside : Beside) (n : Node) → StandsAt beside n self.old → n.state ≡ UpState → SetsFuse calls pick self.old self.new }
+        ensures fused { (beside : KeptBeside) (n : Node) → SiteStands beside n self.old → n.state ≡ UpState → SiteStands beside (record n { fuse = FuseSet calls }) self.new }
+        ensures asked { (beside : KeptBeside) (n : Node) → SiteStands beside n self.old → n.state ≡ UpState → SetsFuse calls pick self.old self.new }
         ensures role { KeepsRole self.old self.new }
         ensures later { Later self.old self.new }
     {
@@ -108,9 +108,9 @@ impl<R: Rack> DiskSet<R> {
 
     /// Crashes a site that is up: of the loose blocks each takes its latest value where its bit in `pick` is 1.
     pub fn crash(self, pick: u64) -> DiskSet<R>
-        ensures crashed { (beside : Beside) (n : Node) → StandsAt beside n self → n.state ≡ UpState → CrashedAt beside n result }
-        ensures asked { (beside : Beside) (n : Node) → StandsAt beside n self → n.state ≡ UpState → CrashesBy pick self result }
-        ensures cut { (beside : Beside) (n : Node) → CutAt beside n self → CrashedAt beside n result }
+        ensures crashed { (beside : KeptBeside) (n : Node) → SiteStands beside n self → n.state ≡ UpState → CrashedAt beside n result }
+        ensures asked { (beside : KeptBeside) (n : Node) → SiteStands beside n self → n.state ≡ UpState → CrashesBy pick self result }
+        ensures cut { (beside : KeptBeside) (n : Node) → CutAt beside n self → CrashedAt beside n result }
         ensures stopped { MayCrash pick self result }
         ensures role { KeepsRole self result }
         ensures later { Later self result }
@@ -132,7 +132,7 @@ impl<R: Rack> DiskSet<R> {
 
     /// The number of the last write that is durable at a site that is up and runs.
     pub fn last(&self) -> u64
-        ensures is { (beside : Beside) (n : Node) → StandsAt beside n self.now → n.state ≡ UpState → n.halted ≡ None → result ≡ n.safe }
+        ensures is { (beside : KeptBeside) (n : Node) → SiteStands beside n self.now → n.state ≡ UpState → n.halted ≡ None → result ≡ n.safe }
         ensures few { result ≤ MOST_NUMBER }
     {
         match self {
@@ -144,8 +144,8 @@ impl<R: Rack> DiskSet<R> {
 
     /// What the log of a site that is up keeps of it; of its links only where contents are told.
     pub fn state(&self) -> Option<&State>
-        ensures is { (beside : Beside) (n : Node) → StandsAt beside n self.now → n.state ≡ UpState → IfSome result (λ state. state.now ≡ state_with n state.now.links) × IsSome result }
-        ensures links { (beside : Beside) (n : Node) → StandsAt beside n self.now → n.state ≡ UpState → IsToldAt self.now → IfSome result (λ state. state.now.links ≡ beside.links) }
+        ensures is { (beside : KeptBeside) (n : Node) → SiteStands beside n self.now → n.state ≡ UpState → IfSome result (λ state. state.now ≡ state_with n state.now.links) × IsSome result }
+        ensures links { (beside : KeptBeside) (n : Node) → SiteStands beside n self.now → n.state ≡ UpState → IsToldAt self.now → IfSome result (λ state. state.now.links ≡ beside.links) }
         ensures spelled { IfSome result (λ state. CanSpellState state.now) }
     {
         match self {
@@ -157,7 +157,7 @@ impl<R: Rack> DiskSet<R> {
 
     /// The session of a site that is up.
     pub fn session(&self) -> u64
-        ensures is { (beside : Beside) (n : Node) → StandsAt beside n self.now → n.state ≡ UpState → result ≡ n.session }
+        ensures is { (beside : KeptBeside) (n : Node) → SiteStands beside n self.now → n.state ≡ UpState → result ≡ n.session }
         ensures few { result ≤ MOST_NUMBER }
     {
         match self {

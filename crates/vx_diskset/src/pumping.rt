@@ -3,7 +3,7 @@ ghost use Rattle.std.specs.Prelude.{◌≡◌, ◌≤◌, ◌+◌, ◌&&◌, ℕ
 ghost use Rattle.vx_courier.specs.UnderWay.{FlightStands};
 ghost use Rattle.vx_model.specs.declared.site.SiteState.TheVariants.{Up as UpState};
 ghost use Rattle.vx_model.specs.Sites.{is_origin};
-ghost use Rattle.vx_history.specs.Admission.{is_live};
+ghost use Rattle.vx_history.specs.Admission.{is_live_link};
 ghost use Rattle.vx_history.specs.KeptLinks.{kept_link};
 ghost use Rattle.vx_history.specs.LinkForms.{plain_link};
 ghost use Rattle.vx_history.specs.Sending.{by_log};
@@ -11,11 +11,11 @@ ghost use Rattle.vx_history.specs.Doubts.{Doubted};
 ghost use Rattle.vx_history.specs.World.{Node};
 ghost use Rattle.vx_diskset.specs.Asked.{LeavesAlone};
 ghost use Rattle.vx_diskset.specs.DiskSets.{Later};
-ghost use Rattle.vx_diskset.specs.Holds.{Beside, beside_of, links_of};
+ghost use Rattle.vx_diskset.specs.Holds.{KeptBeside, beside_of, header_links};
 ghost use Rattle.vx_diskset.specs.Pumps.{PumpStop, PumpedIs};
 ghost use Rattle.vx_peers.specs.Senders.{SendsBy, pump_asks, pumped_at, way_from};
 ghost use Rattle.vx_rvg.specs.Views.{last_of};
-ghost use Rattle.vx_diskset.specs.Stands.{IsToldAt, IsUpAt, KeepsRole, StandsAt, faults_at};
+ghost use Rattle.vx_diskset.specs.Stands.{IsToldAt, IsUpAt, KeepsRole, SiteStands, faults_at};
 
 use crate::DiskSet;
 use std::alloc::Global;
@@ -52,11 +52,11 @@ fn pump_group<R: Rack, N: Net>(
     flight: &mut N,
 ) -> Result<(), Stop>
     ensures pumped { (d : Doubted) (k : ℕ) → IsUpAt (beside_of d site) (d.world.nodes site) rvg.old.core (R.meaning rvg.old.shelf) → (d.world.nodes site).halted ≡ None → IsTrue (R.meaning rvg.old.shelf).tells
-        → slice_get (links_of d.world site) k ≡ Some (kept_link link.old.site (d.world.links site link.old.site)) → link.old ≡ plain_link link.old.site (d.world.links site link.old.site) → FlightStands d.world.packets (N.flying flight.old)
+        → slice_get (header_links d.world site) k ≡ Some (kept_link link.old.site (d.world.links site link.old.site)) → link.old ≡ plain_link link.old.site (d.world.links site link.old.site) → FlightStands d.world.packets (N.flying flight.old)
         → PumpedIs d.world site link.old.site link.new (N.flying flight.new) (R.meaning rvg.old.shelf).disk_faults (R.meaning rvg.new.shelf).disk_faults result }
-    ensures stops { (beside : Beside) (n : Node) → IsUpAt beside n rvg.old.core (R.meaning rvg.old.shelf) → n.halted ≡ None → IfErr result (PumpStop (R.meaning rvg.old.shelf).disk_faults (R.meaning rvg.new.shelf).disk_faults) }
-    ensures stands { (beside : Beside) (n : Node) → IsUpAt beside n rvg.old.core (R.meaning rvg.old.shelf) → IsUpAt beside n rvg.new.core (R.meaning rvg.new.shelf) }
-    ensures more { (beside : Beside) (n : Node) → IsUpAt beside n rvg.old.core (R.meaning rvg.old.shelf)
+    ensures stops { (beside : KeptBeside) (n : Node) → IsUpAt beside n rvg.old.core (R.meaning rvg.old.shelf) → n.halted ≡ None → IfErr result (PumpStop (R.meaning rvg.old.shelf).disk_faults (R.meaning rvg.new.shelf).disk_faults) }
+    ensures stands { (beside : KeptBeside) (n : Node) → IsUpAt beside n rvg.old.core (R.meaning rvg.old.shelf) → IsUpAt beside n rvg.new.core (R.meaning rvg.new.shelf) }
+    ensures more { (beside : KeptBeside) (n : Node) → IsUpAt beside n rvg.old.core (R.meaning rvg.old.shelf)
         → OnOk result (SendsBy (pump_asks link.old n.safe) (way_from site link.old.site n.line) (N.flying flight.old) (N.flying flight.new)) }
     ensures rule { OnOk result (link.new ≡ pumped_at link.old (last_of rvg.old.core)) }
     ensures link { OnErr result (link.new ≡ link.old) }
@@ -97,14 +97,14 @@ impl<R: Rack> DiskSet<R> {
         site: u32,
         flight: &mut N,
     ) -> Result<(), Stop>
-        ensures pumped { (d : Doubted) (k : ℕ) → StandsAt (beside_of d site) (d.world.nodes site) self.old → is_origin (d.world.nodes site).role ≡ true → (d.world.nodes site).state ≡ UpState → (d.world.nodes site).halted ≡ None → IsToldAt self.old
-            → slice_get (links_of d.world site) k ≡ Some (kept_link link.old.site (d.world.links site link.old.site)) → link.old ≡ plain_link link.old.site (d.world.links site link.old.site) → FlightStands d.world.packets (N.flying flight.old)
+        ensures pumped { (d : Doubted) (k : ℕ) → SiteStands (beside_of d site) (d.world.nodes site) self.old → is_origin (d.world.nodes site).role ≡ true → (d.world.nodes site).state ≡ UpState → (d.world.nodes site).halted ≡ None → IsToldAt self.old
+            → slice_get (header_links d.world site) k ≡ Some (kept_link link.old.site (d.world.links site link.old.site)) → link.old ≡ plain_link link.old.site (d.world.links site link.old.site) → FlightStands d.world.packets (N.flying flight.old)
             → PumpedIs d.world site link.old.site link.new (N.flying flight.new) (faults_at self.old) (faults_at self.new) result }
-        ensures stops { (beside : Beside) (n : Node) → StandsAt beside n self.old → is_origin n.role ≡ true → n.state ≡ UpState → n.halted ≡ None → IfErr result (PumpStop (faults_at self.old) (faults_at self.new)) }
-        ensures stands { (beside : Beside) (n : Node) → StandsAt beside n self.old → StandsAt beside n self.new }
-        ensures more { (beside : Beside) (n : Node) → StandsAt beside n self.old
+        ensures stops { (beside : KeptBeside) (n : Node) → SiteStands beside n self.old → is_origin n.role ≡ true → n.state ≡ UpState → n.halted ≡ None → IfErr result (PumpStop (faults_at self.old) (faults_at self.new)) }
+        ensures stands { (beside : KeptBeside) (n : Node) → SiteStands beside n self.old → SiteStands beside n self.new }
+        ensures more { (beside : KeptBeside) (n : Node) → SiteStands beside n self.old
             → OnOk result (SendsBy (pump_asks link.old n.safe) (way_from site link.old.site n.line) (N.flying flight.old) (N.flying flight.new)) }
-        ensures rule { (beside : Beside) (n : Node) → StandsAt beside n self.old → OnOk result (link.new ≡ pumped_at link.old n.safe) }
+        ensures rule { (beside : KeptBeside) (n : Node) → SiteStands beside n self.old → OnOk result (link.new ≡ pumped_at link.old n.safe) }
         ensures link { OnErr result (link.new ≡ link.old) }
         ensures unsent { OnErr result (N.flying flight.new ≡ N.flying flight.old) }
         ensures still { LeavesAlone self.old self.new }

@@ -9,10 +9,10 @@ ghost use Rattle.vx_secondary.specs.Receivers.{Wait};
 ghost use Rattle.vx_diskset.specs.Asked.{LeavesAlone, LeavesFuse};
 ghost use Rattle.vx_diskset.specs.Burning.{NoMore, OffIf};
 ghost use Rattle.vx_diskset.specs.DiskSets.{CanRead, Later};
-ghost use Rattle.vx_diskset.specs.Holds.{Beside};
+ghost use Rattle.vx_diskset.specs.Holds.{KeptBeside};
 ghost use Rattle.vx_diskset.specs.Received.{CanReceive, LoggedTo, ReachedAt, ReachedTo, ReachedUp, ShowedAt, reached_by};
-ghost use Rattle.vx_diskset.specs.Rooms.{HasNumbers, IsMore, count_of};
-ghost use Rattle.vx_diskset.specs.Stands.{InVolumes, IsReceiverAt, KeepsRole, StandsAt};
+ghost use Rattle.vx_diskset.specs.Rooms.{HasNumbers, IsMore, logged_count};
+ghost use Rattle.vx_diskset.specs.Stands.{InVolumes, IsReceiverAt, KeepsRole, SiteStands};
 
 use crate::DiskSet;
 use crate::writing::{apply_group, is_off, write_group};
@@ -34,11 +34,11 @@ fn log_next<R: Rack>(rvg: &mut Rvg<R>, waiting: &mut Waiting) -> Result<(), No>
     requires waits { Wait rvg.old.core (R.meaning rvg.old.shelf).size waiting.old }
     requires some { 0 < length waiting.old }
     requires numbers { HasNumbers rvg.old.core 1 }
-    ensures logs { (beside : Beside) (n : Node) → IsReceiverAt beside n rvg.old.core waiting.old (R.meaning rvg.old.shelf) → CanReceive beside n
+    ensures logs { (beside : KeptBeside) (n : Node) → IsReceiverAt beside n rvg.old.core waiting.old (R.meaning rvg.old.shelf) → CanReceive beside n
         → LoggedTo beside n 1 waiting.new rvg.new.core (R.meaning rvg.old.shelf) (R.meaning rvg.new.shelf) result }
-    ensures left { waiting.new ≡ drop (count_of result) waiting.old }
+    ensures left { waiting.new ≡ drop (logged_count result) waiting.old }
     ensures stamp { OnOk result (rvg.new.core.log.header.stamp ≤ rvg.old.core.log.header.stamp + 1) }
-    ensures group { IsMore (count_of result) rvg.old.core rvg.new.core }
+    ensures group { IsMore (logged_count result) rvg.old.core rvg.new.core }
     ensures spends { Spends (R.meaning rvg.old.shelf) (R.meaning rvg.new.shelf) }
     ensures off { IsFalse (R.meaning rvg.old.shelf).down → OffIf result (R.meaning rvg.new.shelf).down }
     ensures later { Later (DiskSet.Up rvg.old) (DiskSet.Up rvg.new) }
@@ -58,7 +58,7 @@ fn log_waiting<R: Rack>(rvg: &mut Rvg<R>, waiting: &mut Waiting, count: u32) -> 
     requires waits { Wait rvg.old.core (R.meaning rvg.old.shelf).size waiting.old }
     requires some { count ≤ length waiting.old }
     requires numbers { HasNumbers rvg.old.core count }
-    ensures logs { (beside : Beside) (n : Node) → IsReceiverAt beside n rvg.old.core waiting.old (R.meaning rvg.old.shelf) → CanReceive beside n
+    ensures logs { (beside : KeptBeside) (n : Node) → IsReceiverAt beside n rvg.old.core waiting.old (R.meaning rvg.old.shelf) → CanReceive beside n
         → LoggedTo beside n count waiting.new rvg.new.core (R.meaning rvg.old.shelf) (R.meaning rvg.new.shelf) result }
     ensures waits { Wait rvg.new.core (R.meaning rvg.new.shelf).size waiting.new }
     ensures spends { Spends (R.meaning rvg.old.shelf) (R.meaning rvg.new.shelf) }
@@ -76,9 +76,9 @@ fn apply_oldest<R: Rack>(rvg: &mut Rvg<R>, waiting: &mut Waiting, count: u32) ->
     requires waits { Wait rvg.old.core (R.meaning rvg.old.shelf).size waiting.old }
     requires some { count ≤ length waiting.old }
     requires numbers { HasNumbers rvg.old.core count }
-    ensures reaches { (beside : Beside) (n : Node) → IsReceiverAt beside n rvg.old.core waiting.old (R.meaning rvg.old.shelf) → CanReceive beside n
+    ensures reaches { (beside : KeptBeside) (n : Node) → IsReceiverAt beside n rvg.old.core waiting.old (R.meaning rvg.old.shelf) → CanReceive beside n
         → ReachedTo beside n count waiting.new rvg.new.core (R.meaning rvg.old.shelf) (R.meaning rvg.new.shelf) result }
-    ensures brought { (beside : Beside) (n : Node) → IsReceiverAt beside n rvg.old.core waiting.old (R.meaning rvg.old.shelf) → CanReceive beside n → IfOk result (λ r. rvg.new.core.applied ≡ r.number) }
+    ensures brought { (beside : KeptBeside) (n : Node) → IsReceiverAt beside n rvg.old.core waiting.old (R.meaning rvg.old.shelf) → CanReceive beside n → IfOk result (λ r. rvg.new.core.applied ≡ r.number) }
     ensures waits { Wait rvg.new.core (R.meaning rvg.new.shelf).size waiting.new }
     ensures spends { Spends (R.meaning rvg.old.shelf) (R.meaning rvg.new.shelf) }
     ensures off { IsFalse (R.meaning rvg.old.shelf).down → OffIf result (R.meaning rvg.new.shelf).down }
@@ -93,7 +93,7 @@ fn apply_oldest<R: Rack>(rvg: &mut Rvg<R>, waiting: &mut Waiting, count: u32) ->
 impl<R: Rack> DiskSet<R> {
     /// How many writes a site that is up and runs has received, of all of its line: those that wait are among them.
     pub fn received(&self) -> u64
-        ensures { (beside : Beside) (n : Node) → StandsAt beside n self.now → n.state ≡ UpState → n.halted ≡ None → result ≡ length n.log }
+        ensures { (beside : KeptBeside) (n : Node) → SiteStands beside n self.now → n.state ≡ UpState → n.halted ≡ None → result ≡ length n.log }
     {
         match self {
             DiskSet::Up(rvg) => rvg.head(),
@@ -108,7 +108,7 @@ impl<R: Rack> DiskSet<R> {
 
     /// How many of them wait in memory.
     pub fn waiting(&self) -> u32
-        ensures { (beside : Beside) (n : Node) → StandsAt beside n self.now → n.state ≡ UpState → n.halted ≡ None → result ≡ length n.log - n.safe }
+        ensures { (beside : KeptBeside) (n : Node) → SiteStands beside n self.now → n.state ≡ UpState → n.halted ≡ None → result ≡ length n.log - n.safe }
     {
         match self {
             DiskSet::Receives(site) => site.waiting.len(),
@@ -122,7 +122,7 @@ impl<R: Rack> DiskSet<R> {
         requires some { 0 < length into.old }
         requires few { length into.old ≤ MOST_CALL_BYTES }
         requires whole { length into.old % 512 ≡ 0 }
-        ensures shows { (beside : Beside) (n : Node) → StandsAt beside n self.old → CanRead n volume start (blocks_in into.old)
+        ensures shows { (beside : KeptBeside) (n : Node) → SiteStands beside n self.old → CanRead n volume start (blocks_in into.old)
             → ShowedAt beside n volume start (blocks_in into.old) into.new self.old self.new result }
         ensures still { LeavesAlone self.old self.new }
         ensures role { KeepsRole self.old self.new }
@@ -150,9 +150,9 @@ impl<R: Rack> DiskSet<R> {
     /// Refusals: 19 where no number is left for one of them, which changes nothing; 7 where a disk failed: then the site is halted, and may
     /// have some of them in its log; 6 where its fuse ran out.
     pub fn apply_waiting(&mut self, count: u64) -> Result<Reached, No>
-        ensures applied { (beside : Beside) (n : Node) → StandsAt beside n self.old → CanReceive beside n → ReachedAt beside n count self.old self.new result }
-        ensures brought { (beside : Beside) (n : Node) → StandsAt beside n self.old → CanReceive beside n → IfOk result (λ r. r.acks ≡ true → InVolumes r.number self.new) }
-        ensures called { (beside : Beside) (n : Node) → StandsAt beside n self.old → LeavesFuse NoMore (reached_by result) self.old self.new }
+        ensures applied { (beside : KeptBeside) (n : Node) → SiteStands beside n self.old → CanReceive beside n → ReachedAt beside n count self.old self.new result }
+        ensures brought { (beside : KeptBeside) (n : Node) → SiteStands beside n self.old → CanReceive beside n → IfOk result (λ r. r.acks ≡ true → InVolumes r.number self.new) }
+        ensures called { (beside : KeptBeside) (n : Node) → SiteStands beside n self.old → LeavesFuse NoMore (reached_by result) self.old self.new }
         ensures role { KeepsRole self.old self.new }
         ensures later { Later self.old self.new }
     {
@@ -170,9 +170,9 @@ impl<R: Rack> DiskSet<R> {
 
     // The same, before it crashes.
     fn apply_received(&mut self, count: u64) -> Result<Reached, No>
-        ensures applied { (beside : Beside) (n : Node) → StandsAt beside n self.old → CanReceive beside n → ReachedUp beside n count self.old self.new result }
-        ensures brought { (beside : Beside) (n : Node) → StandsAt beside n self.old → CanReceive beside n → IfOk result (λ r. r.acks ≡ true → InVolumes r.number self.new) }
-        ensures called { (beside : Beside) (n : Node) → StandsAt beside n self.old → LeavesFuse NoMore (reached_by result) self.old self.new }
+        ensures applied { (beside : KeptBeside) (n : Node) → SiteStands beside n self.old → CanReceive beside n → ReachedUp beside n count self.old self.new result }
+        ensures brought { (beside : KeptBeside) (n : Node) → SiteStands beside n self.old → CanReceive beside n → IfOk result (λ r. r.acks ≡ true → InVolumes r.number self.new) }
+        ensures called { (beside : KeptBeside) (n : Node) → SiteStands beside n self.old → LeavesFuse NoMore (reached_by result) self.old self.new }
         ensures role { KeepsRole self.old self.new }
         ensures later { Later self.old self.new }
     {

@@ -1,19 +1,19 @@
 // How a group is made on the disks of a site, and how it is started again.
 ghost use Rattle.std.specs.Prelude.{◌≡◌, ◌≤◌, ◌<◌, ◌*◌, ℕ, [], length, None, IfOk, IfErr, IsTrue, IsFalse, List};
+ghost use Rattle.vx_disk.specs.Maps.{maps_of};
 ghost use Rattle.vx_model.specs.Content.{zero_block};
 ghost use Rattle.vx_model.specs.Sites.{is_origin as is_origin_is};
 ghost use Rattle.vx_model.specs.Sizes.{ring_of};
 ghost use Rattle.vx_disk.specs.Causes.{DeviceCause};
 ghost use Rattle.vx_disk.specs.Shelf.{Goes, Keeps, Nothing};
 ghost use Rattle.vx_ringio.specs.Spends.{Spends};
-ghost use Rattle.vx_ringio.specs.Tracks.{Lies};
-ghost use Rattle.vx_diskset.specs.Holds.{Beside};
+ghost use Rattle.vx_ringio.specs.Tracks.{RingLies};
+ghost use Rattle.vx_diskset.specs.Holds.{KeptBeside};
 ghost use Rattle.vx_history.specs.World.{Node};
 ghost use Rattle.vx_diskset.specs.Asked.{SameFailing};
 ghost use Rattle.vx_diskset.specs.DiskSets.{Later, CanHold, CanStart, MadeIs, BareUpIs};
 ghost use Rattle.vx_diskset.specs.Layouts.{CanBeRaw, raw_units as units_of};
 ghost use Rattle.vx_diskset.specs.Stands.{IsBareAt, IsCleanAt};
-ghost use Rattle.vx_rvg.specs.Views.{maps_of};
 
 use crate::DiskSet;
 use crate::units::raw_units;
@@ -58,7 +58,7 @@ fn make_group<R: Rack>(alloc: Global, rack: R, site: u32) -> (DiskSet<R>, Result
 
 // Whether a header of a log stands in this block of disk 0. The log of a bunker is none of a raw set.
 fn is_log<R: Rack>(rack: &mut R, ring: u64, block: u64) -> Result<bool, No>
-    requires lies { Lies 0 ring (R.meaning rack.old) }
+    requires lies { RingLies 0 ring (R.meaning rack.old) }
     requires header { block < 2 }
     ensures none { IfOk result (λ found. IsTrue (R.meaning rack.old).tells → Keeps (R.meaning rack.old) 0 block zero_block → IsFalse found) }
     ensures goes { Goes Nothing (R.meaning rack.old) (R.meaning rack.new) }
@@ -80,7 +80,7 @@ fn is_log<R: Rack>(rack: &mut R, ring: u64, block: u64) -> Result<bool, No>
 
 // The same of either of its header blocks.
 fn has_log<R: Rack>(rack: &mut R, ring: u64) -> Result<bool, No>
-    requires lies { Lies 0 ring (R.meaning rack.old) }
+    requires lies { RingLies 0 ring (R.meaning rack.old) }
     ensures none { IfOk result (λ found. IsTrue (R.meaning rack.old).tells → ((b : ℕ) → b < 2 → Keeps (R.meaning rack.old) 0 b zero_block) → IsFalse found) }
     ensures goes { Goes Nothing (R.meaning rack.old) (R.meaning rack.new) }
     ensures spends { Spends (R.meaning rack.old) (R.meaning rack.new) }
@@ -150,11 +150,11 @@ fn is_origin(role: &Role) -> bool
 impl<R: Rack> DiskSet<R> {
     ghost use Rattle.vx_model.specs.declared.site.SiteState.TheVariants.{Bare as BareState, Down as DownState};
     ghost use Rattle.vx_diskset.specs.DiskSets.{BareUpByIs, CameUpByIs, CameUpIs};
-    ghost use Rattle.vx_diskset.specs.Stands.{IsToldAt, RoleIs, StandsAt};
+    ghost use Rattle.vx_diskset.specs.Stands.{IsToldAt, RoleIs, SiteStands};
 
     /// Makes a bare site's disks a raw set: disk 0 the log, the last disk the maps, and each disk between a volume.
     pub fn make_raw(self, alloc: Global, site: u32) -> (DiskSet<R>, Result<(), Stop>)
-        ensures made { (beside : Beside) (n : Node) → StandsAt beside n self → n.state ≡ BareState → CanBeRaw n.disks n.blocks → MadeIs site n self result.0 result.1 }
+        ensures made { (beside : KeptBeside) (n : Node) → SiteStands beside n self → n.state ≡ BareState → CanBeRaw n.disks n.blocks → MadeIs site n self result.0 result.1 }
         ensures failing { SameFailing self result.0 }
         ensures later { Later self result.0 }
     {
@@ -167,7 +167,7 @@ impl<R: Rack> DiskSet<R> {
 
     /// Starts what stands on the disks of a site that crashed, with room taken before. Where it is refused, the disks crash again.
     pub fn recover(self, room: StartRoom) -> (DiskSet<R>, Result<(), No>)
-        ensures recovered { (beside : Beside) (n : Node) → StandsAt beside n self → n.state ≡ DownState → room.ring ≡ n.ring → CameUpIs beside n self result.0 result.1 }
+        ensures recovered { (beside : KeptBeside) (n : Node) → SiteStands beside n self → n.state ≡ DownState → room.ring ≡ n.ring → CameUpIs beside n self result.0 result.1 }
         ensures failing { SameFailing self result.0 }
         ensures later { Later self result.0 }
     {
@@ -195,8 +195,8 @@ impl<R: Rack> DiskSet<R> {
     // A site whose group runs and has all its writes: by its role it receives, with this room for what waits, or not.
     fn by_role(self, waiting: Waiting) -> DiskSet<R>
         requires none { waiting ≡ [] }
-        ensures rises { (beside : Beside) (n : Node) → StandsAt beside n self → n.halted ≡ None → length n.log ≡ n.safe → StandsAt beside n result }
-        ensures role { (beside : Beside) (n : Node) → StandsAt beside n self → RoleIs n result }
+        ensures rises { (beside : KeptBeside) (n : Node) → SiteStands beside n self → n.halted ≡ None → length n.log ≡ n.safe → SiteStands beside n result }
+        ensures role { (beside : KeptBeside) (n : Node) → SiteStands beside n self → RoleIs n result }
         ensures told { IsToldAt result → IsToldAt self }
         ensures failing { SameFailing self result }
         ensures later { Later self result }
@@ -217,7 +217,7 @@ impl<R: Rack> DiskSet<R> {
     /// it is refused, the disks crash again.
     pub fn recover_any(self, room: StartRoom, waiting: Waiting) -> (DiskSet<R>, Result<(), No>)
         requires none { waiting ≡ [] }
-        ensures recovered { (beside : Beside) (n : Node) → StandsAt beside n self → n.state ≡ DownState → room.ring ≡ n.ring → CameUpByIs beside n self result.0 result.1 }
+        ensures recovered { (beside : KeptBeside) (n : Node) → SiteStands beside n self → n.state ≡ DownState → room.ring ≡ n.ring → CameUpByIs beside n self result.0 result.1 }
         ensures failing { SameFailing self result.0 }
         ensures later { Later self result.0 }
     {
@@ -232,7 +232,7 @@ impl<R: Rack> DiskSet<R> {
     /// Where it is refused, the site stays bare.
     pub fn recover_bare_any(self, room: StartRoom, waiting: Waiting) -> (DiskSet<R>, Result<(), No>)
         requires none { waiting ≡ [] }
-        ensures found { (beside : Beside) (n : Node) → StandsAt beside n self → n.state ≡ BareState → CanBeRaw n.disks n.blocks → room.ring ≡ ring_of n.blocks → BareUpByIs n self result.0 result.1 }
+        ensures found { (beside : KeptBeside) (n : Node) → SiteStands beside n self → n.state ≡ BareState → CanBeRaw n.disks n.blocks → room.ring ≡ ring_of n.blocks → BareUpByIs n self result.0 result.1 }
         ensures failing { SameFailing self result.0 }
         ensures later { Later self result.0 }
     {
@@ -245,7 +245,7 @@ impl<R: Rack> DiskSet<R> {
 
     /// Starts what an earlier run left on the disks of a bare site, with room taken before. Where it is refused, the site stays bare.
     pub fn recover_bare(self, room: StartRoom) -> (DiskSet<R>, Result<(), No>)
-        ensures found { (beside : Beside) (n : Node) → StandsAt beside n self → n.state ≡ BareState → CanBeRaw n.disks n.blocks → room.ring ≡ ring_of n.blocks → BareUpIs n self result.0 result.1 }
+        ensures found { (beside : KeptBeside) (n : Node) → SiteStands beside n self → n.state ≡ BareState → CanBeRaw n.disks n.blocks → room.ring ≡ ring_of n.blocks → BareUpIs n self result.0 result.1 }
         ensures failing { SameFailing self result.0 }
         ensures later { Later self result.0 }
     {

@@ -3,7 +3,7 @@ ghost use Rattle.std.specs.Prelude.{◌≡◌};
 ghost use Rattle.vx_history.specs.World.{Node};
 ghost use Rattle.vx_diskset.specs.Asked.{SameFailing};
 ghost use Rattle.vx_diskset.specs.DiskSets.{Later};
-ghost use Rattle.vx_diskset.specs.Holds.{Beside};
+ghost use Rattle.vx_diskset.specs.Holds.{KeptBeside};
 ghost use Rattle.vx_diskset.specs.Withdrawn.{IsBareOf, Revived};
 
 use crate::DiskSet;
@@ -21,12 +21,12 @@ fn revived<R: Rack>(rack: R) -> R
 
 impl<R: Rack> DiskSet<R> {
     ghost use Rattle.vx_model.specs.declared.site.SiteState.TheVariants.{Up as UpState};
-    ghost use Rattle.vx_diskset.specs.Stands.{IsToldAt, StandsAt};
+    ghost use Rattle.vx_diskset.specs.Stands.{IsToldAt, SiteStands};
 
     /// Takes back what came up of the disks of a bare site: they crash, and the site is bare again. Where contents are told nothing comes up
     /// of them.
     pub fn withdraw(self) -> DiskSet<R>
-        ensures bare { (beside : Beside) (n k : Node) → StandsAt beside k self → k.state ≡ UpState → IsBareOf n k → (IsToldAt result → ⊥) → (other : Beside) → StandsAt other n result }
+        ensures bare { (beside : KeptBeside) (n k : Node) → SiteStands beside k self → k.state ≡ UpState → IsBareOf n k → (IsToldAt result → ⊥) → (other : KeptBeside) → SiteStands other n result }
         ensures failing { SameFailing self result }
         ensures later { Later self result }
     {

@@ -2,21 +2,21 @@
 ghost use Rattle.std.specs.Prelude.{◌≡◌, ◌≤◌, ◌<◌, ◌+◌, ◌*◌, ◌%◌, [], ℕ, drop, length, None, Err, IfOk, IfErr, OnOk, IsFalse, List};
 ghost use Rattle.vx_model.specs.Content.{blocks_in};
 ghost use Rattle.vx_model.specs.declared.limits.TheConstants.{MOST_CALL_BLOCKS, MOST_CALL_BYTES};
-ghost use Rattle.vx_diskset.specs.Holds.{Beside, alone};
+ghost use Rattle.vx_diskset.specs.Holds.{KeptBeside, site_alone};
 ghost use Rattle.vx_history.specs.World.{Node};
 ghost use Rattle.vx_model.specs.declared.call.Update.{Update};
 ghost use Rattle.vx_secondary.specs.Receivers.{Wait};
 ghost use Rattle.vx_ringio.specs.Spends.{Spends};
 ghost use Rattle.vx_disk.specs.Burns.{RackIsShort};
 ghost use Rattle.vx_model.specs.declared.no.No.TheVariants.{Down as IsOff};
-ghost use Rattle.vx_events.specs.Fuses.{taken};
+ghost use Rattle.vx_events.specs.Fuses.{ring_taken};
 ghost use Rattle.vx_srl.specs.Views.{BodyFits, free_of};
 ghost use Rattle.vx_diskset.specs.Asked.{LeavesFuse, WritesUnder};
 ghost use Rattle.vx_diskset.specs.Burning.{NoMore, IsLogged, OffIf, said_by};
 ghost use Rattle.vx_diskset.specs.DiskSets.{Later, CanLog, CanWrite, LoggedUp, WroteUp, is_off};
 ghost use Rattle.vx_diskset.specs.Needs.{HasRoom, NoneNeeds};
-ghost use Rattle.vx_diskset.specs.Rooms.{AppliedAs, IsMore, NeverLimit, RoomIs, TakesOne, count_of};
-ghost use Rattle.vx_diskset.specs.Stands.{IsUpAt, KeepsRole, StandsAlone, StandsAt};
+ghost use Rattle.vx_diskset.specs.Rooms.{AppliedAs, IsMore, NeverLimit, RoomIs, TakesOne, logged_count};
+ghost use Rattle.vx_diskset.specs.Stands.{IsUpAt, KeepsRole, StandsAlone, SiteStands};
 
 use crate::DiskSet;
 use std::mem;
@@ -34,7 +34,7 @@ pub(crate) fn is_off(no: &No) -> bool
 
 // Brings logged writes into their volumes. A shelf that is down behind it answers so.
 pub(crate) fn apply_group<R: Rack>(rvg: &mut Rvg<R>, to: u64) -> Result<u64, No>
-    ensures applied { (beside : Beside) (n : Node) → IsUpAt beside n rvg.old.core (R.meaning rvg.old.shelf) → n.halted ≡ None
+    ensures applied { (beside : KeptBeside) (n : Node) → IsUpAt beside n rvg.old.core (R.meaning rvg.old.shelf) → n.halted ≡ None
         → AppliedAs beside n to rvg.new.core (R.meaning rvg.old.shelf) (R.meaning rvg.new.shelf) result }
     ensures reached { IfOk result (λ number. rvg.new.core.applied ≡ number) }
     ensures never { NeverLimit result }
@@ -56,10 +56,10 @@ pub(crate) fn apply_group<R: Rack>(rvg: &mut Rvg<R>, to: u64) -> Result<u64, No>
 // Gives up what the log holds up to a number that is in the volumes, and that no link needs. A shelf that is down behind it answers so.
 fn reclaim_group<R: Rack>(rvg: &mut Rvg<R>, to: u64) -> Result<(), No>
     requires applied { to ≤ rvg.old.core.applied }
-    ensures made { (beside : Beside) (n : Node) → IsUpAt beside n rvg.old.core (R.meaning rvg.old.shelf) → n.halted ≡ None → NoneNeeds beside.links to
+    ensures made { (beside : KeptBeside) (n : Node) → IsUpAt beside n rvg.old.core (R.meaning rvg.old.shelf) → n.halted ≡ None → NoneNeeds beside.links to
         → free_of rvg.old.core.log ≤ MOST_CALL_BLOCKS → RoomIs beside n (R.meaning rvg.old.shelf) rvg.new.core (R.meaning rvg.new.shelf) result }
-    ensures room { (beside : Beside) (n : Node) (count : ℕ) → IsUpAt beside n rvg.old.core (R.meaning rvg.old.shelf) → n.halted ≡ None → NoneNeeds beside.links to
-        → free_of rvg.old.core.log ≤ MOST_CALL_BLOCKS → count + 1 + taken (drop to n.log) ≤ n.ring → OnOk result (count < free_of rvg.new.core.log) }
+    ensures room { (beside : KeptBeside) (n : Node) (count : ℕ) → IsUpAt beside n rvg.old.core (R.meaning rvg.old.shelf) → n.halted ≡ None → NoneNeeds beside.links to
+        → free_of rvg.old.core.log ≤ MOST_CALL_BLOCKS → count + 1 + ring_taken (drop to n.log) ≤ n.ring → OnOk result (count < free_of rvg.new.core.log) }
     ensures takes { TakesOne rvg.old.core rvg.new.core result }
     ensures units { rvg.new.core.units ≡ rvg.old.core.units }
     ensures group { IsMore 0 rvg.old.core rvg.new.core }
@@ -79,7 +79,7 @@ fn reclaim_group<R: Rack>(rvg: &mut Rvg<R>, to: u64) -> Result<(), No>
 // Makes room in the log for a write of so many blocks: what it holds up to a number that no link needs is applied, and then given up.
 fn make_room<R: Rack>(rvg: &mut Rvg<R>, count: u64, hold: u64) -> Result<(), No>
     ensures room { OnOk result (count < free_of rvg.new.core.log) }
-    ensures made { (beside : Beside) (n : Node) → IsUpAt beside n rvg.old.core (R.meaning rvg.old.shelf) → n.halted ≡ None → HasRoom beside.links n hold count
+    ensures made { (beside : KeptBeside) (n : Node) → IsUpAt beside n rvg.old.core (R.meaning rvg.old.shelf) → n.halted ≡ None → HasRoom beside.links n hold count
         → count ≤ MOST_CALL_BLOCKS → RoomIs beside n (R.meaning rvg.old.shelf) rvg.new.core (R.meaning rvg.new.shelf) result }
     ensures idle { count < free_of rvg.old.core.log → IfErr result (λ no. ⊥) × (rvg.new ≡ rvg.old) }
     ensures takes { TakesOne rvg.old.core rvg.new.core result }
@@ -114,13 +114,13 @@ pub(crate) fn write_group<R: Rack>(
     requires some { 0 < length bytes.now }
     requires few { length bytes.now ≤ MOST_CALL_BYTES }
     requires whole { length bytes.now % 512 ≡ 0 }
-    ensures wrote { (beside : Beside) (n : Node) → StandsAt beside n (DiskSet.Up rvg.old) → CanLog n volume start (blocks_in bytes.now) → HasRoom beside.links n hold (blocks_in bytes.now)
+    ensures wrote { (beside : KeptBeside) (n : Node) → SiteStands beside n (DiskSet.Up rvg.old) → CanLog n volume start (blocks_in bytes.now) → HasRoom beside.links n hold (blocks_in bytes.now)
         → LoggedUp beside n (record { volume = volume; start = start; bytes = bytes.now }) (DiskSet.Up rvg.old) (DiskSet.Up rvg.new) result }
     ensures takes { TakesOne rvg.old.core rvg.new.core result }
-    ensures group { IsMore (count_of result) rvg.old.core rvg.new.core }
+    ensures group { IsMore (logged_count result) rvg.old.core rvg.new.core }
     ensures spends { Spends (R.meaning rvg.old.shelf) (R.meaning rvg.new.shelf) }
     ensures off { IsFalse (R.meaning rvg.old.shelf).down → OffIf result (R.meaning rvg.new.shelf).down }
-    ensures called { (beside : Beside) (n : Node) → IsUpAt beside n rvg.old.core (R.meaning rvg.old.shelf) → LeavesFuse IsLogged (said_by result) (DiskSet.Up rvg.old) (DiskSet.Up rvg.new) }
+    ensures called { (beside : KeptBeside) (n : Node) → IsUpAt beside n rvg.old.core (R.meaning rvg.old.shelf) → LeavesFuse IsLogged (said_by result) (DiskSet.Up rvg.old) (DiskSet.Up rvg.new) }
     ensures cuts { IsFalse (R.meaning rvg.old.shelf).down → blocks_in bytes.now < free_of rvg.old.core.log → BodyFits rvg.old.core.log bytes.now → result ≡ Err IsOff → RackIsShort 4 (R.meaning rvg.old.shelf).disks }
     ensures later { Later (DiskSet.Up rvg.old) (DiskSet.Up rvg.new) }
 {
@@ -147,7 +147,7 @@ impl<R: Rack> DiskSet<R> {
 
     /// Crashes the disks of a group whose shelf is down.
     pub(crate) fn fall(&mut self)
-        ensures falls { (beside : Beside) (n : Node) → CutAt beside n self.old → CrashedAt beside n self.new }
+        ensures falls { (beside : KeptBeside) (n : Node) → CutAt beside n self.old → CrashedAt beside n self.new }
         ensures stopped { MayCrash 0xffff_ffff_ffff_ffff self.old self.new }
         ensures role { KeepsRole self.old self.new }
         ensures later { Later self.old self.new }
@@ -162,8 +162,8 @@ impl<R: Rack> DiskSet<R> {
         requires few { length bytes.now ≤ MOST_CALL_BYTES }
         requires whole { length bytes.now % 512 ≡ 0 }
         ensures wrote { (n : Node) → StandsAlone n self.old → CanWrite n volume start (blocks_in bytes.now)
-            → WroteAt alone n (record { volume = volume; start = start; bytes = bytes.now }) self.old self.new result }
-        ensures called { (beside : Beside) (n : Node) → StandsAt beside n self.old → WritesUnder bytes.now (said_by result) self.old self.new }
+            → WroteAt site_alone n (record { volume = volume; start = start; bytes = bytes.now }) self.old self.new result }
+        ensures called { (beside : KeptBeside) (n : Node) → SiteStands beside n self.old → WritesUnder bytes.now (said_by result) self.old self.new }
         ensures later { Later self.old self.new }
     {
         let hold = self.last();
@@ -183,9 +183,9 @@ impl<R: Rack> DiskSet<R> {
         requires some { 0 < length bytes.now }
         requires few { length bytes.now ≤ MOST_CALL_BYTES }
         requires whole { length bytes.now % 512 ≡ 0 }
-        ensures wrote { (beside : Beside) (n : Node) → StandsAt beside n self.old → CanWrite n volume start (blocks_in bytes.now) → HasRoom beside.links n hold (blocks_in bytes.now)
+        ensures wrote { (beside : KeptBeside) (n : Node) → SiteStands beside n self.old → CanWrite n volume start (blocks_in bytes.now) → HasRoom beside.links n hold (blocks_in bytes.now)
             → WroteAt beside n (record { volume = volume; start = start; bytes = bytes.now }) self.old self.new result }
-        ensures called { (beside : Beside) (n : Node) → StandsAt beside n self.old → WritesUnder bytes.now (said_by result) self.old self.new }
+        ensures called { (beside : KeptBeside) (n : Node) → SiteStands beside n self.old → WritesUnder bytes.now (said_by result) self.old self.new }
         ensures role { KeepsRole self.old self.new }
         ensures later { Later self.old self.new }
     {
@@ -207,9 +207,9 @@ impl<R: Rack> DiskSet<R> {
         requires some { 0 < length bytes.now }
         requires few { length bytes.now ≤ MOST_CALL_BYTES }
         requires whole { length bytes.now % 512 ≡ 0 }
-        ensures wrote { (beside : Beside) (n : Node) → StandsAt beside n self.old → CanWrite n volume start (blocks_in bytes.now) → HasRoom beside.links n hold (blocks_in bytes.now)
+        ensures wrote { (beside : KeptBeside) (n : Node) → SiteStands beside n self.old → CanWrite n volume start (blocks_in bytes.now) → HasRoom beside.links n hold (blocks_in bytes.now)
             → WroteUp beside n (record { volume = volume; start = start; bytes = bytes.now }) self.old self.new result }
-        ensures called { (beside : Beside) (n : Node) → StandsAt beside n self.old → WritesUnder bytes.now (said_by result) self.old self.new }
+        ensures called { (beside : KeptBeside) (n : Node) → SiteStands beside n self.old → WritesUnder bytes.now (said_by result) self.old self.new }
         ensures role { KeepsRole self.old self.new }
         ensures later { Later self.old self.new }
     {
@@ -235,7 +235,7 @@ impl<R: Rack> DiskSet<R> {
         requires some { 0 < length into.old }
         requires few { length into.old ≤ MOST_CALL_BYTES }
         requires whole { length into.old % 512 ≡ 0 }
-        ensures read { (beside : Beside) (n : Node) → StandsAt beside n self.old → CanRead n volume start (blocks_in into.old)
+        ensures read { (beside : KeptBeside) (n : Node) → SiteStands beside n self.old → CanRead n volume start (blocks_in into.old)
             → ReadAt beside n volume start (blocks_in into.old) into.new self.old self.new result }
         ensures still { LeavesAlone self.old self.new }
         ensures role { KeepsRole self.old self.new }
@@ -265,9 +265,9 @@ impl<R: Rack> DiskSet<R> {
     /// Brings the logged writes up to a number into their volumes. Answers the number up to which all are there now. A site whose fuse
     /// runs out crashes.
     pub fn apply(&mut self, to: u64) -> Result<u64, No>
-        ensures applied { (beside : Beside) (n : Node) → StandsAt beside n self.old → CanApply n → AppliedAt beside n to self.old self.new result }
+        ensures applied { (beside : KeptBeside) (n : Node) → SiteStands beside n self.old → CanApply n → AppliedAt beside n to self.old self.new result }
         ensures brought { IfOk result (λ number. InVolumes number self.new) }
-        ensures called { (beside : Beside) (n : Node) → StandsAt beside n self.old → LeavesFuse NoMore (said_by result) self.old self.new }
+        ensures called { (beside : KeptBeside) (n : Node) → SiteStands beside n self.old → LeavesFuse NoMore (said_by result) self.old self.new }
         ensures role { KeepsRole self.old self.new }
         ensures later { Later self.old self.new }
     {
@@ -285,9 +285,9 @@ impl<R: Rack> DiskSet<R> {
 
     // The same, before it crashes.
     fn apply_up(&mut self, to: u64) -> Result<u64, No>
-        ensures applied { (beside : Beside) (n : Node) → StandsAt beside n self.old → CanApply n → AppliedUp beside n to self.old self.new result }
+        ensures applied { (beside : KeptBeside) (n : Node) → SiteStands beside n self.old → CanApply n → AppliedUp beside n to self.old self.new result }
         ensures brought { IfOk result (λ number. InVolumes number self.new) }
-        ensures called { (beside : Beside) (n : Node) → StandsAt beside n self.old → LeavesFuse NoMore (said_by result) self.old self.new }
+        ensures called { (beside : KeptBeside) (n : Node) → SiteStands beside n self.old → LeavesFuse NoMore (said_by result) self.old self.new }
         ensures role { KeepsRole self.old self.new }
         ensures later { Later self.old self.new }
     {

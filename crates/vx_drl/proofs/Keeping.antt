@@ -9,10 +9,10 @@ use Rattle.vx_config.specs.Checks.{blocks_of}
 use Rattle.vx_config.specs.declared.config.Config.{Config}
 use Rattle.vx_config.specs.declared.entry.VolumeLog.TheVariants.{Drl as DrlLog}
 use Rattle.vx_maplog.specs.Logs.{LogLoaded}
-use Rattle.vx_drl.specs.Dirty.{Dirty, Holds, IsKept, held_with, is_dirty}
+use Rattle.vx_drl.specs.Dirty.{Dirty, HoldsMarks, IsDirtyKept, held_with, is_dirty}
 
 -- the map of a log has a bit for each region of the volume
-pub kept_of : (c : Config) (v : ℕ) (map : Map) (blocks regions : ℕ) → LogLoaded c v DrlLog map → blocks ≡ blocks_of c.volumes v → 0 < blocks → regions ≡ div_ceil blocks 64 → IsKept map regions
+pub kept_of : (c : Config) (v : ℕ) (map : Map) (blocks regions : ℕ) → LogLoaded c v DrlLog map → blocks ≡ blocks_of c.volumes v → 0 < blocks → regions ≡ div_ceil blocks 64 → IsDirtyKept map regions
 kept_of c v map blocks regions log is some count =
     let long : length map.bytes ≡ 512 * (1 * map_blocks (blocks_of c.volumes v)) = log.run.long in
     let long' : length map.bytes ≡ 512 * (1 * map_blocks blocks) = long ∙ ap (λ (n : ℕ). 512 * (1 * map_blocks n)) (sym is) in
@@ -21,7 +21,7 @@ kept_of c v map blocks regions log is some count =
 
 -- the marks that are held, by whether all regions were marked
 pub holds_of : (first last : ℕ) (old new : Dirty) (marked : Bool) → (marked ≡ true → AllAre first last true (is_dirty old)) → (AllAre first last true (is_dirty old) → marked ≡ true)
-    → new.held ≡ held_with marked first last old.held → Holds first last old new
+    → new.held ≡ held_with marked first last old.held → HoldsMarks first last old new
 holds_of first last old new true all each is = record { same = λ are. is; more = λ none. absurd (none (all refl)) }
 holds_of first last old new false all each is = record { same = λ are. absurd (let clash : false ≡ true = each are in cc); more = λ none. is }
 

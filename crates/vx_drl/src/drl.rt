@@ -1,13 +1,13 @@
 // The dirty region log of a volume.
 ghost use Rattle.std.specs.Prelude.{◌≡◌, ◌-◌, ◌<◌, ◌≤◌, true, false, IfErr, IfOk, IsFalse, OnErr, OnOk};
 ghost use Rattle.vx_bitmap.specs.Bits.{AllAre, Between, Changed};
-ghost use Rattle.vx_bitmap.specs.Maps.{ChangedAt, Changing, IsRead, Lies, LoadCause, MapOn, SamePlace, UnitCause, blocks_of as map_blocks, regions_of};
+ghost use Rattle.vx_bitmap.specs.Maps.{ChangedAt, Changing, IsRead, Lies, LoadCause, MapOn, SamePlace, UnitCause, map_block_count as map_blocks, regions_mapped};
 ghost use Rattle.vx_config.specs.declared.entry.VolumeLog.TheVariants.{Drl as DrlLog};
 ghost use Rattle.vx_disk.specs.Causes.{DeviceCause};
 ghost use Rattle.vx_disk.specs.Moves.{Moves, Run, Settled};
 ghost use Rattle.vx_disk.specs.Shelf.{Goes, Nothing};
-ghost use Rattle.vx_maplog.specs.Logs.{DisksFit, HasLog};
-ghost use Rattle.vx_drl.specs.Dirty.{Dirty, DrlLoaded, Holds, is_dirty};
+ghost use Rattle.vx_maplog.specs.Logs.{DisksReach, HasLog};
+ghost use Rattle.vx_drl.specs.Dirty.{Dirty, DrlLoaded, HoldsMarks, is_dirty};
 ghost use Rattle.vx_drl.specs.declared.marks.TheConstants.{MOST_HELD};
 
 use crate::marks::{MOST_HELD, are_marked, held_with};
@@ -29,13 +29,13 @@ pub struct Drl {
 }
 
 impl Model for Drl {
-    ghost use Rattle.vx_drl.specs.Dirty.{Dirty, IsKept};
+    ghost use Rattle.vx_drl.specs.Dirty.{Dirty, IsDirtyKept};
 
     ghost Value = { Dirty };
 
     ghost view = { λ d. record { map = d.map; regions = d.regions; held = d.held } };
 
-    ghost invariant = { λ d. IsKept d.map d.regions };
+    ghost invariant = { λ d. IsDirtyKept d.map d.regions };
 }
 
 impl Drl {
@@ -50,7 +50,7 @@ impl Drl {
         volume: u32,
     ) -> Result<Drl, Stop>
         requires has { HasLog config.now volume DrlLog }
-        requires disks { DisksFit config.now.disks (S.meaning shelf.old) }
+        requires disks { DisksReach config.now.disks (S.meaning shelf.old) }
         requires up { IsFalse (S.meaning shelf.old).down }
         ensures loaded { IfOk result (λ drl. DrlLoaded config.now volume drl) }
         ensures lies { IfOk result (λ drl. Lies drl.map (S.meaning shelf.new)) }
@@ -82,11 +82,11 @@ impl Drl {
         ensures moves { Moves (Run self.old.map.unit self.old.map.first (map_blocks self.old.map)) (Changing self.old.map first last true (S.meaning shelf.old)) (S.meaning shelf.old) (S.meaning shelf.new) }
         ensures writes { Goes (ChangedAt self.old.map first last true (S.meaning shelf.old)) (S.meaning shelf.old) (S.meaning shelf.new) }
         ensures stands { OnOk result (MapOn self.old.map (S.meaning shelf.old) → MapOn self.new.map (S.meaning shelf.new)) }
-        ensures changed { OnOk result (Changed first last true (regions_of self.old.map) (is_dirty self.old) (is_dirty self.new)) }
-        ensures part { Between first last true (regions_of self.old.map) (is_dirty self.old) (is_dirty self.new) }
+        ensures changed { OnOk result (Changed first last true (regions_mapped self.old.map) (is_dirty self.old) (is_dirty self.new)) }
+        ensures part { Between first last true (regions_mapped self.old.map) (is_dirty self.old) (is_dirty self.new) }
         ensures place { SamePlace self.old.map self.new.map }
         ensures regions { self.new.regions ≡ self.old.regions }
-        ensures held { Holds first last self.old self.new }
+        ensures held { HoldsMarks first last self.old self.new }
         ensures cause { IfErr result (DeviceCause (S.meaning shelf.old) (S.meaning shelf.new)) }
         ensures unit { UnitCause self.old.map.unit (S.meaning shelf.old) (S.meaning shelf.new) result }
         ensures nothing { AllAre first last true (is_dirty self.old) → shelf.new ≡ shelf.old }
@@ -105,10 +105,10 @@ impl Drl {
         ensures moves { Moves (Run self.old.map.unit self.old.map.first (map_blocks self.old.map)) (Changing self.old.map 0 (self.old.regions - 1) false (S.meaning shelf.old)) (S.meaning shelf.old) (S.meaning shelf.new) }
         ensures writes { Goes (ChangedAt self.old.map 0 (self.old.regions - 1) false (S.meaning shelf.old)) (S.meaning shelf.old) (S.meaning shelf.new) }
         ensures stands { OnOk result (MapOn self.old.map (S.meaning shelf.old) → MapOn self.new.map (S.meaning shelf.new)) }
-        ensures cleared { OnOk result (MOST_HELD < self.old.held → Changed 0 (self.old.regions - 1) false (regions_of self.old.map) (is_dirty self.old) (is_dirty self.new)) }
+        ensures cleared { OnOk result (MOST_HELD < self.old.held → Changed 0 (self.old.regions - 1) false (regions_mapped self.old.map) (is_dirty self.old) (is_dirty self.new)) }
         ensures empty { OnOk result (MOST_HELD < self.old.held → self.new.held ≡ 0) }
         ensures again { OnErr result (self.new.held ≡ self.old.held) }
-        ensures part { Between 0 (self.old.regions - 1) false (regions_of self.old.map) (is_dirty self.old) (is_dirty self.new) }
+        ensures part { Between 0 (self.old.regions - 1) false (regions_mapped self.old.map) (is_dirty self.old) (is_dirty self.new) }
         ensures place { SamePlace self.old.map self.new.map }
         ensures regions { self.new.regions ≡ self.old.regions }
         ensures cause { IfErr result (DeviceCause (S.meaning shelf.old) (S.meaning shelf.new)) }

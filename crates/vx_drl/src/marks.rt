@@ -1,7 +1,7 @@
 // Whether a run of regions is marked, and how many marks are held.
 ghost use Rattle.std.specs.Prelude.{◌≡◌, ◌+◌, ◌<◌, ◌≤◌, ◌^◌, true};
 ghost use Rattle.vx_bitmap.specs.Bits.{AllAre, is_marked};
-ghost use Rattle.vx_bitmap.specs.Maps.{regions_of};
+ghost use Rattle.vx_bitmap.specs.Maps.{regions_mapped};
 ghost use Rattle.vx_drl.specs.Dirty.{held_with as held_with_is};
 
 use vx_bitmap::Bitmap;
@@ -11,7 +11,7 @@ pub const MOST_HELD: u64 = 64;
 
 /// Whether the regions from `first` to `last`, both included, are marked.
 pub(crate) fn are_marked(map: &Bitmap, first: u64, last: u64) -> bool
-    requires inside { last < regions_of map.now }
+    requires inside { last < regions_mapped map.now }
     requires few { last + 1 < 2 ^ 64 }
     ensures all { result ≡ true → AllAre first last true (is_marked map.now.bytes) }
     ensures each { AllAre first last true (is_marked map.now.bytes) → result ≡ true }

@@ -10,6 +10,11 @@ use vx_disk::{MemShelf, Rack, Shelf};
 use vx_maplog::{disks_fit, has_log};
 use vx_model::{Name, No, OutOfMemory, PlexState, Stop};
 
+const DISK: DiskEntry = DiskEntry {
+    blocks: 16_384,
+    failed: false,
+};
+
 fn run(disk: u8, start: u64, blocks: u64) -> Subdisk {
     Subdisk {
         disk,
@@ -21,14 +26,8 @@ fn run(disk: u8, start: u64, blocks: u64) -> Subdisk {
 // A volume of 8,192 blocks on disk 0 whose dirty region log is block 600 of disk 1.
 fn group(alloc: Global) -> Result<Config, OutOfMemory> {
     let mut disks = Disks::new();
-    disks.push(DiskEntry {
-        blocks: 16_384,
-        failed: false,
-    });
-    disks.push(DiskEntry {
-        blocks: 16_384,
-        failed: false,
-    });
+    disks.push(DISK);
+    disks.push(DISK);
     let mut subdisks = Subdisks::new(alloc);
     subdisks.push(run(0, 512, 8192))?;
     let mut plexes = Plexes::new(alloc);

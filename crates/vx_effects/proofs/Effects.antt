@@ -10,7 +10,7 @@ use Rattle.vx_history.specs.Headers.{headers_by}
 use Rattle.vx_history.specs.Gatherings.{emptied}
 use Rattle.vx_history.specs.Refusals.{Outcome}
 use Rattle.vx_history.specs.Sends.{with_links}
-use Rattle.vx_history.specs.Step.{counted, done, outcome_of, step}
+use Rattle.vx_history.specs.Step.{headers_counted, done, outcome_of, step}
 use Rattle.vx_history.specs.Steps.{crash_left, crashed}
 use Rattle.vx_history.specs.World.{Gathering, Link, Node, Packet, World, updated, with_node}
 use Rattle.vx_history.specs.declared.event.Event.{Event}
@@ -113,7 +113,7 @@ pub effect_of : (d : Doubted) (e : Event) (o : Outcome) (s many : ℕ) {n : Node
     → headers_by e d.world o s ≡ many → ((i : ℕ) → (i ≡ s → ⊥) → headers_by e d.world o i ≡ 0)
     → EffectAt s d (record d { world = (step d.world e).world }) n row (d.world.headers s + many) (d.after s) packets gathered
 effect_of d e o s many {n} {row} {packets} {gathered} is t here others =
-    subst (λ (r : Outcome). EffectAt s d (record d { world = (counted d.world e r).world }) n row (d.world.headers s + many) (d.after s) packets gathered) (sym is)
+    subst (λ (r : Outcome). EffectAt s d (record d { world = (headers_counted d.world e r).world }) n row (d.world.headers s + many) (d.after s) packets gathered) (sym is)
     (record {
       site = record {
         sites = t.sites;

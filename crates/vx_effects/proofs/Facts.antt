@@ -10,7 +10,7 @@ use Rattle.vx_model.specs.declared.site.SiteState.TheVariants.{Bare, Up, Deporte
 use Rattle.vx_history.proofs.Updates.{by_test}
 use Rattle.vx_history.specs.Admission.{hold, is_holding}
 use Rattle.vx_history.specs.Doubts.{Doubted}
-use Rattle.vx_history.specs.Events.{applied, come_back, linked_sites, log_blocks, used_above}
+use Rattle.vx_history.specs.Events.{applied, come_back, linked_sites, logged_blocks, used_above}
 use Rattle.vx_history.specs.KeptLinks.{kept_links}
 use Rattle.vx_history.specs.LinkForms.{plain_link, plain_receiver}
 use Rattle.vx_history.specs.Receiving.{received_step}
@@ -103,7 +103,7 @@ facts_added d e n adds bare fit =
 
 -- the blocks above a hold, with one more write
 blocks_more : (h : ℕ) (xs : List Write) (x : Write)
-    → log_blocks (drop h (xs ++ x ∷ [])) ≡ (if ltb h (length xs + 1) then log_blocks (drop h xs) + (blocks_in x.bytes + 1) else log_blocks (drop h xs))
+    → logged_blocks (drop h (xs ++ x ∷ [])) ≡ (if ltb h (length xs + 1) then logged_blocks (drop h xs) + (blocks_in x.bytes + 1) else logged_blocks (drop h xs))
 blocks_more zero [] x =
     let less : ltb 0 (0 + 1) ≡ true = grind (arith, nat_tests) in
     let one : (blocks_in x.bytes + 1) + 0 ≡ 0 + (blocks_in x.bytes + 1) = omega arith in
@@ -112,24 +112,24 @@ blocks_more (suc h) [] x =
     let more : ltb (suc h) (0 + 1) ≡ false = grind (arith, nat_tests) in
     none h ∙ sym (ap (λ (b : Bool). if b then 0 + (blocks_in x.bytes + 1) else 0) more)
   where
-    none : (h : ℕ) → log_blocks (drop h (let xs : List Write = [] in xs)) ≡ 0
+    none : (h : ℕ) → logged_blocks (drop h (let xs : List Write = [] in xs)) ≡ 0
     none zero = refl
     none (suc h) = refl
 blocks_more zero (y ∷ xs) x =
     let less : ltb 0 (length (y ∷ xs) + 1) ≡ true = is_less (length (y ∷ xs)) in
-    let rest : log_blocks (xs ++ x ∷ []) ≡ log_blocks xs + (blocks_in x.bytes + 1) = all_blocks xs in
-    let sum : (blocks_in y.bytes + 1) + log_blocks (xs ++ x ∷ []) ≡ ((blocks_in y.bytes + 1) + log_blocks xs) + (blocks_in x.bytes + 1) = omega (arith, rest) in
-    sum ∙ sym (ap (λ (b : Bool). if b then log_blocks (y ∷ xs) + (blocks_in x.bytes + 1) else log_blocks (y ∷ xs)) less)
+    let rest : logged_blocks (xs ++ x ∷ []) ≡ logged_blocks xs + (blocks_in x.bytes + 1) = all_blocks xs in
+    let sum : (blocks_in y.bytes + 1) + logged_blocks (xs ++ x ∷ []) ≡ ((blocks_in y.bytes + 1) + logged_blocks xs) + (blocks_in x.bytes + 1) = omega (arith, rest) in
+    sum ∙ sym (ap (λ (b : Bool). if b then logged_blocks (y ∷ xs) + (blocks_in x.bytes + 1) else logged_blocks (y ∷ xs)) less)
   where
     is_less : (n : ℕ) → ltb 0 (n + 1) ≡ true
     is_less n = grind (arith, nat_tests)
 
-    all_blocks : (xs : List Write) → log_blocks (xs ++ x ∷ []) ≡ log_blocks xs + (blocks_in x.bytes + 1)
+    all_blocks : (xs : List Write) → logged_blocks (xs ++ x ∷ []) ≡ logged_blocks xs + (blocks_in x.bytes + 1)
     all_blocks [] = omega arith
-    all_blocks (y ∷ ys) = let rest : log_blocks (ys ++ x ∷ []) ≡ log_blocks ys + (blocks_in x.bytes + 1) = all_blocks ys in omega (arith, rest)
+    all_blocks (y ∷ ys) = let rest : logged_blocks (ys ++ x ∷ []) ≡ logged_blocks ys + (blocks_in x.bytes + 1) = all_blocks ys in omega (arith, rest)
 blocks_more (suc h) (y ∷ xs) x =
     let same : ltb (suc h) (length (y ∷ xs) + 1) ≡ ltb h (length xs + 1) = one_less h (length xs) in
-    blocks_more h xs x ∙ sym (ap (λ (b : Bool). if b then log_blocks (drop h xs) + (blocks_in x.bytes + 1) else log_blocks (drop h xs)) same)
+    blocks_more h xs x ∙ sym (ap (λ (b : Bool). if b then logged_blocks (drop h xs) + (blocks_in x.bytes + 1) else logged_blocks (drop h xs)) same)
   where
     one_less : (h n : ℕ) → ltb (suc h) (suc n + 1) ≡ ltb h (n + 1)
     one_less h n = grind (arith, nat_tests)
@@ -142,7 +142,7 @@ links_more n m x row log (s ∷ ss) =
     let l : Link = row s in
     let h : ℕ = hold (plain_link s l) in
     let more : used_above m s l ≡ (if ltb h (length n.log + 1) then used_above n s l + (blocks_in x.bytes + 1) else used_above n s l) =
-    ap (λ (xs : List Write). log_blocks (drop h xs)) log ∙ blocks_more h n.log x in
+    ap (λ (xs : List Write). logged_blocks (drop h xs)) log ∙ blocks_more h n.log x in
     ap (λ (k : ℕ). (let f : LinkFacts = record { link = plain_link s l; used = if is_holding (plain_link s l) then k else 0 } in f) ∷ link_facts m row ss) more
     ∙ ap (λ (k : ℕ). (let f : LinkFacts = record { link = plain_link s l; used = k } in f) ∷ link_facts m row ss)
     (by_hold (is_holding (plain_link s l)) (ltb h (length n.log + 1)) (used_above n s l) (blocks_in x.bytes + 1))
@@ -156,7 +156,7 @@ links_log : (n m : Node) (row : ℕ → Link) → m.log ≡ n.log → (ss : List
 links_log n m row log [] = refl
 links_log n m row log (s ∷ ss) =
     let l : Link = row s in
-    ap (λ (xs : List Write). (let f : LinkFacts = record { link = plain_link s l; used = if is_holding (plain_link s l) then log_blocks (drop (hold (plain_link s l)) xs) else 0 } in f) ∷ link_facts m row ss) log
+    ap (λ (xs : List Write). (let f : LinkFacts = record { link = plain_link s l; used = if is_holding (plain_link s l) then logged_blocks (drop (hold (plain_link s l)) xs) else 0 } in f) ∷ link_facts m row ss) log
     ∙ ap (λ (fs : List LinkFacts). link_fact n s l ∷ fs) (links_log n m row log ss)
 
 links_grown : (t : SiteState) (number blocks : ℕ) (fs : List LinkFacts) → links_by t (grown_links number blocks fs) ≡ grown_links number blocks (links_by t fs)

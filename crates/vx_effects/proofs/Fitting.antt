@@ -12,24 +12,25 @@ use Rattle.vx_model.specs.declared.site.Role.{Role}
 use Rattle.vx_model.specs.declared.site.Role.TheVariants.{Primary, Secondary, Handing, Bunker}
 use Rattle.vx_model.specs.declared.site.SPhase.TheVariants.{Quiet}
 use Rattle.vx_model.specs.declared.site.SiteState.TheVariants.{Bare, Down, Up}
+use Rattle.vx_history.proofs.CrashLemmas.{crash_state}
 use Rattle.vx_history.proofs.Places.{places_further, places_made}
 use Rattle.vx_history.proofs.Updates.{all_updated, and_left, at_place, by_test, eqb_equal}
 use Rattle.vx_history.specs.Doubts.{After, Doubted, Runs, happened, resolved, resolved_at, taken_up}
-use Rattle.vx_history.specs.Events.{crash_at, kept_of, new_link}
+use Rattle.vx_history.specs.Events.{crash_at, deport_at, kept_of, new_link}
 use Rattle.vx_history.specs.Headers.{headers_by}
-use Rattle.vx_history.specs.Refusals.{Outcome, at_site, both_at_work, follows, is_primary, is_running, links_of, refused, some_below, unless}
+use Rattle.vx_history.specs.Refusals.{Outcome, at_site, at_work, both_at_work, follows, is_primary, is_running, count_links_of, refused, some_below, unless}
 use Rattle.vx_history.specs.Sends.{is_linked, with_link}
 use Rattle.vx_history.specs.Step.{done, link_part, outcome_of, step}
 use Rattle.vx_history.specs.Steps.{crash_left, crashed, site_made}
 use Rattle.vx_history.specs.World.{Link as LinkOf, Node, World, bare_site, no_link, updated, with_node}
 use Rattle.vx_history.specs.declared.event.Event.{Event}
-use Rattle.vx_history.specs.declared.event.Event.TheVariants.{Site, Raw, Write, Read, Apply, Pump, Tick, Deliver, Connect, Cut, Pause, Resume, Wait, Link, Set, Crash, Recover, Fault}
+use Rattle.vx_history.specs.declared.event.Event.TheVariants.{Site, Raw, Group, Write, Read, Apply, Pump, Tick, Deliver, Connect, Cut, Pause, Resume, Wait, Link, Set, Crash, Deport, Recover, Fault}
 use Rattle.vx_history.specs.declared.event.LinkPart.TheVariants.{Joins, Made, Marked, Opened}
 use Rattle.vx_events.specs.Doubts.{run_as}
 use Rattle.vx_events.specs.LinksFit.{DoubtFits, IsBlank, IsPlain, IsRested, LinksFit, RowFits, StartsAt}
 use Rattle.vx_effects.proofs.Headers.{bare_none}
 use Rattle.vx_effects.proofs.Moves.{All, fit_moves, moves_like, moves_same}
-use Rattle.vx_effects.proofs.Outcomes.{IsSettled, crash_moves, outcome_moves}
+use Rattle.vx_effects.proofs.Outcomes.{IsSettled, crash_moves, deported_moves, outcome_moves}
 use Rattle.vx_effects.proofs.Tests
 
 -- ---- sites in doubt
@@ -194,13 +195,13 @@ new_plain place sync n = record { prot = refl; mode = refl; bunker = refl; trimm
 
 fit_link_made : (d : Doubted) (p s : ℕ) (sync : SyncMode) → s < d.world.sites → (s ≡ p → ⊥) → (d.world.nodes p).state ≡ Up → is_origin (d.world.nodes p).role ≡ true
     → is_linked (d.world.links p s) ≡ false → LinksFit d
-    → LinksFit (record d { world = with_link d.world p s (new_link (links_of d.world p) sync (d.world.nodes s)) })
+    → LinksFit (record d { world = with_link d.world p s (new_link (count_links_of d.world p) sync (d.world.nodes s)) })
 fit_link_made d p s sync below other up keeps free fit = record {
   rows = all_updated (λ (q : ℕ) (row : ℕ → LinkOf). RowFits q d.world.sites row) d.world.links p (updated (d.world.links p) s l)
       (record {
         places = places_made d.world.sites (d.world.links p) s l below free refl (fit.rows p).places;
         apart = all_updated (λ (k : ℕ) (m : LinkOf). is_linked m ≡ true → k ≡ p → ⊥) (d.world.links p) s l (λ _. other) (λ k _. (fit.rows p).apart k);
-        plain = all_updated (λ (k : ℕ) (m : LinkOf). is_linked m ≡ true → IsPlain m) (d.world.links p) s l (λ _. new_plain (links_of d.world p) sync (d.world.nodes s))
+        plain = all_updated (λ (k : ℕ) (m : LinkOf). is_linked m ≡ true → IsPlain m) (d.world.links p) s l (λ _. new_plain (count_links_of d.world p) sync (d.world.nodes s))
             (λ k _. (fit.rows p).plain k);
         none = all_updated (λ (k : ℕ) (m : LinkOf). is_linked m ≡ false → m ≡ no_link) (d.world.links p) s l (λ e. let f : true ≡ false = e in absurd (cc)) (λ k _. (fit.rows p).none k);
       }) (λ q _. fit.rows q);
@@ -222,7 +223,7 @@ fit_link_made d p s sync below other up keeps free fit = record {
 }
   where
     l : LinkOf
-    l = new_link (links_of d.world p) sync (d.world.nodes s)
+    l = new_link (count_links_of d.world p) sync (d.world.nodes s)
 
 primary_leads : (r : Role) → is_primary r ≡ true → is_origin r ≡ true
 primary_leads Primary e = refl
@@ -258,7 +259,7 @@ fit_made : (d : Doubted) (p s : ℕ) (sync : SyncMode) → LinksFit d → LinksF
 fit_made d p s sync fit =
     let w : World = d.world in
     let e : Event = Link p s sync Made in
-    let o : Outcome = done (with_link w p s (new_link (links_of w p) sync (w.nodes s))) in
+    let o : Outcome = done (with_link w p s (new_link (count_links_of w p) sync (w.nodes s))) in
     let free : Outcome = unless (is_linked (w.links p s)) (Exists (w.nodes s).name) w o in
     let part : Outcome = link_part Made w p s sync in
     let Q : Outcome → Type 0 = λ (r : Outcome).
@@ -300,10 +301,34 @@ fit_crash r s kept sure fit =
     ))) in
     fit_counted (record r { world = (outcome_of w (Crash s kept)).world }) (λ i. w.headers i + 0) (λ p _. none_more (w.headers p) 0 refl ∙ sym (all.1 p)) all.0
 
+-- a site that is deported runs, so that it is in no doubt
+fit_deported : (d : Doubted) (s : ℕ) → (d.world.nodes s).state ≡ Up → (d.world.nodes s).halted ≡ None → LinksFit d → LinksFit (record d { world = deport_at d.world s })
+fit_deported d s up runs fit =
+    let k : ℕ = kept_of (d.world.nodes s) 0 in
+    let mid : Doubted = record d { world = crash_at d.world s k } in
+    fit_moves mid (record d { world = deport_at d.world s }) (deported_moves All mid.world s (crash_state d.world s k)) (λ p _. refl) (λ p a is. (is, tt))
+    (fit_crashed d s k (sure (d.after s) refl) up fit)
+  where
+    sure : (o : Option After) → d.after s ≡ o → d.after s ≡ None
+    sure None is = is
+    sure (Some a) is = let e : true ≡ false = sym (ap is_running runs) ∙ (fit.doubts s a is).halted in absurd (cc)
+
+fit_deport : (d : Doubted) (s : ℕ) → LinksFit d → LinksFit (record d { world = (step d.world (Deport s)).world })
+fit_deport d s fit =
+    let w : World = d.world in
+    let o : Outcome = done (deport_at w s) in
+    let Q : Outcome → Type 0 = λ (x : Outcome). (LinksFit (record d { world = x.world })) × ((p : ℕ) → x.world.headers p ≡ w.headers p) in
+    let refusals : (why : No) → Q (refused w why) = λ why. (fit, λ p. refl) in
+    let all : Q (outcome_of w (Deport s)) =
+    Tests.site_ends Q w refusals s (at_work w s o)
+    (λ _. Tests.work_ends Q w refusals s o (λ up runs. (fit_deported d s up runs fit, λ p. crash_headers w s (kept_of (w.nodes s) 0) p))) in
+    fit_counted (record d { world = (outcome_of w (Deport s)).world }) (λ i. w.headers i + 0) (λ p _. none_more (w.headers p) 0 refl ∙ sym (all.1 p)) all.0
+
 -- whatever happens
 pub fit_happened : (d : Doubted) (e : Event) (taken : Bool) → LinksFit d → LinksFit (happened d e taken)
 fit_happened d (Site name disks blocks) taken fit = fit_site d name disks blocks fit
 fit_happened d (Raw s) taken fit = fit_settled d (Raw s) tt fit
+fit_happened d (Group s) taken fit = fit_settled d (Group s) tt fit
 fit_happened d (Write s volume start bytes fails) taken fit = fit_settled d (Write s volume start bytes fails) tt fit
 fit_happened d (Read s volume start count) taken fit = fit_settled d (Read s volume start count) tt fit
 fit_happened d (Apply s count reached) taken fit = fit_settled d (Apply s count reached) tt fit
@@ -321,6 +346,7 @@ fit_happened d (Link p s sync Marked) taken fit = fit_settled d (Link p s sync M
 fit_happened d (Link p s sync Opened) taken fit = fit_settled d (Link p s sync Opened) tt fit
 fit_happened d (Set p s sync) taken fit = fit_settled d (Set p s sync) tt fit
 fit_happened d (Crash s kept) taken fit = fit_crash (resolved_at d s taken) s kept (at_place d.after s None) (fit_resolved d s taken fit)
+fit_happened d (Deport s) taken fit = fit_deport d s fit
 fit_happened d (Recover s fails) taken fit = fit_settled d (Recover s fails) tt fit
 fit_happened d (Fault s disk) taken fit = fit_settled d (Fault s disk) tt fit
 

@@ -13,12 +13,12 @@ use Rattle.vx_history.proofs.Updates.{by_test, eqb_equal}
 use Rattle.vx_history.specs.Admission.{mode_holds}
 use Rattle.vx_history.specs.Events.{admitted, delivered, gathers, handed, heard, packet_at, written_if}
 use Rattle.vx_history.specs.Headers.{count_at, headers_by, heard_headers, is_given_up, is_refused, one_at, part_writes}
-use Rattle.vx_history.specs.Refusals.{Outcome, at_site, both_at_work, count_below, is_running, refused, says}
+use Rattle.vx_history.specs.Refusals.{Outcome, at_site, both_at_work, how_many_below, is_running, refused, says}
 use Rattle.vx_history.specs.Sends.{with_link}
 use Rattle.vx_history.specs.Step.{done, link_part, outcome_of}
 use Rattle.vx_history.specs.World.{Link as LinkOf, Packet, World}
 use Rattle.vx_history.specs.declared.event.Event.{Event}
-use Rattle.vx_history.specs.declared.event.Event.TheVariants.{Site, Raw, Write, Read, Apply, Pump, Tick, Deliver, Connect, Cut, Pause, Resume, Wait, Link, Set, Crash, Recover, Fault}
+use Rattle.vx_history.specs.declared.event.Event.TheVariants.{Site, Raw, Group, Write, Read, Apply, Pump, Tick, Deliver, Connect, Cut, Pause, Resume, Wait, Link, Set, Crash, Deport, Recover, Fault}
 use Rattle.vx_history.specs.declared.event.LinkPart.{LinkPart}
 use Rattle.vx_history.specs.declared.event.LinkPart.TheVariants.{Joins, Made, Marked, Opened}
 use Rattle.vx_history.specs.declared.event.Said.TheVariants.{Ignored as IsIgnored}
@@ -30,10 +30,10 @@ none_at site i n k = by_test (λ (m : ℕ). m ≡ 0) (eqb site i) n 0 (λ e. k (
 abbrev one_by : Bool → ℕ
 one_by b = if b then 1 else 0
 
-pub count_none : (n : ℕ) (test : ℕ → Bool) → ((k : ℕ) → test k ≡ false) → count_below n test ≡ 0
+pub count_none : (n : ℕ) (test : ℕ → Bool) → ((k : ℕ) → test k ≡ false) → how_many_below n test ≡ 0
 count_none zero test none = refl
 count_none (suc k) test none =
-    let rest : count_below k test ≡ 0 = count_none k test none in
+    let rest : how_many_below k test ≡ 0 = count_none k test none in
     let here : one_by (test k) ≡ one_by false = ap one_by (none k) in
     omega (arith, rest, here)
 
@@ -53,9 +53,9 @@ module _ (w : World) (i : ℕ) (bare : (w.nodes i).state ≡ Bare) where
   never_up p is up = let e : (w.nodes p).state ≡ Bare = subst (λ (k : ℕ). (w.nodes k).state ≡ Bare) (sym is) bare in let f : Up ≡ Bare = sym up ∙ e in cc
 
   written_none : (p : ℕ) (x : WriteBlocks) (fails : Option ℕ) → p ≡ i
-      → count_below w.sites (λ k. is_given_up (w.links p k) ((outcome_of w (Write p x.volume x.start x.bytes fails)).world.links p k)) ≡ 0
+      → how_many_below w.sites (λ k. is_given_up (w.links p k) ((outcome_of w (Write p x.volume x.start x.bytes fails)).world.links p k)) ≡ 0
   written_none p x fails is =
-      Tests.volume_ends (λ (o : Outcome). count_below w.sites (λ k. is_given_up (w.links p k) (o.world.links p k)) ≡ 0) w
+      Tests.volume_ends (λ (o : Outcome). how_many_below w.sites (λ k. is_given_up (w.links p k) (o.world.links p k)) ≡ 0) w
       (λ why. count_none w.sites (λ k. is_given_up (w.links p k) (w.links p k)) (λ k. none_given (w.links p k) (w.links p k) refl))
       p x.volume x.start (blocks_in x.bytes) (is_too_large (w.nodes p).ring (blocks_in x.bytes)) (written_if (admitted w p x) w p x fails)
       (λ up. absurd (never_up p is up))
@@ -90,6 +90,7 @@ module _ (w : World) (i : ℕ) (bare : (w.nodes i).state ≡ Bare) where
   pub bare_none : (e : Event) → headers_by e w (outcome_of w e) i ≡ 0
   bare_none (Site name disks blocks) = refl
   bare_none (Raw s) = refl
+  bare_none (Group s) = refl
   bare_none (Write p volume start bytes fails) = none_at p i _ (written_none p (record { volume = volume; start = start; bytes = bytes }) fails)
   bare_none (Read p volume start count) = refl
   bare_none (Apply s count reached) = refl
@@ -111,5 +112,6 @@ module _ (w : World) (i : ℕ) (bare : (w.nodes i).state ≡ Bare) where
       let o : Outcome = done (with_link w p s (record (w.links p s) { sync = sync; prot = FailsWhenFull })) in
       Tests.link_ends (None_at p) w (refused_none p) is_origin p s o (λ up _. up_none p o up)
   bare_none (Crash s kept) = refl
+  bare_none (Deport s) = refl
   bare_none (Recover s fails) = refl
   bare_none (Fault s disk) = refl

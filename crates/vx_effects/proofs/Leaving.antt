@@ -5,14 +5,14 @@ use Rattle.vx_history.proofs.Updates.{all_updated, at_place, by_test, eqb_equal}
 use Rattle.vx_history.specs.Doubts.{After, Doubted, crashed_as, halved, resolved_at, taken_up}
 use Rattle.vx_history.specs.Events.{kept_of, new_link, packet_at}
 use Rattle.vx_history.specs.Headers.{headers_by}
-use Rattle.vx_history.specs.Refusals.{Outcome, at_site, both_at_work, follows, is_primary, is_running, links_of, refused, unless}
+use Rattle.vx_history.specs.Refusals.{Outcome, at_site, both_at_work, follows, is_primary, is_running, count_links_of, refused, unless}
 use Rattle.vx_history.specs.Sends.{is_linked, with_link}
 use Rattle.vx_history.specs.Step.{done, link_part, outcome_of, step}
 use Rattle.vx_history.specs.Steps.{burned, fused, stopped_by, worked_on}
 use Rattle.vx_history.specs.Stops.{IsOpen, WritesAt}
 use Rattle.vx_history.specs.World.{FuseSet, empty_world, Node, Packet, World, updated, with_node, Link as LinkOf}
 use Rattle.vx_history.specs.declared.event.Event.{Event}
-use Rattle.vx_history.specs.declared.event.Event.TheVariants.{Site, Raw, Write, Read, Apply, Pump, Tick, Deliver, Connect, Cut, Pause, Resume, Wait, Link, Set, Crash, Recover, Fault}
+use Rattle.vx_history.specs.declared.event.Event.TheVariants.{Site, Raw, Group, Write, Read, Apply, Pump, Tick, Deliver, Connect, Cut, Pause, Resume, Wait, Link, Set, Crash, Deport, Recover, Fault}
 use Rattle.vx_history.specs.declared.event.LinkPart.TheVariants.{Joins, Made, Marked, Opened}
 use Rattle.vx_model.specs.declared.link.SyncMode.{SyncMode}
 use Rattle.vx_model.specs.declared.no.No.{No}
@@ -60,7 +60,7 @@ settled_remains w e s m = record { sites = m.sites; up = λ up. (m.stays s tt).u
 -- a link that is made changes no site
 made_remains : (w : World) (p q : ℕ) (sync : SyncMode) (s : ℕ) → Remains w (step w (Link p q sync Made)).world s
 made_remains w p q sync s =
-    let o : Outcome = done (with_link w p q (new_link (links_of w p) sync (w.nodes q))) in
+    let o : Outcome = done (with_link w p q (new_link (count_links_of w p) sync (w.nodes q))) in
     let free : Outcome = unless (is_linked (w.links p q)) (Exists (w.nodes q).name) w o in
     let part : Outcome = link_part Made w p q sync in
     let Q : Outcome → Type 0 = λ (r : Outcome). (r.world.sites ≡ w.sites) × ((i : ℕ) → r.world.nodes i ≡ w.nodes i) in
@@ -76,6 +76,7 @@ made_remains w p q sync s =
 writes_remains : (d : Doubted) (e : Event) (s : ℕ) → LinksFit d → WritesAt d.world e s → Remains d.world (step d.world e).world s
 writes_remains d (Site name disks blocks) s fit writes = absurd writes
 writes_remains d (Raw p) s fit writes = absurd writes
+writes_remains d (Group p) s fit writes = absurd writes
 writes_remains d (Write p volume start bytes fails) s fit writes = settled_remains d.world (Write p volume start bytes fails) s (outcome_moves d.world (Write p volume start bytes fails) tt)
 writes_remains d (Read p volume start count) s fit writes = absurd writes
 writes_remains d (Apply p count reached) s fit writes = absurd writes
@@ -93,6 +94,7 @@ writes_remains d (Link p q sync Marked) s fit writes = settled_remains d.world (
 writes_remains d (Link p q sync Opened) s fit writes = settled_remains d.world (Link p q sync Opened) s (outcome_moves d.world (Link p q sync Opened) tt)
 writes_remains d (Set p q sync) s fit writes = settled_remains d.world (Set p q sync) s (outcome_moves d.world (Set p q sync) tt)
 writes_remains d (Crash p kept) s fit writes = absurd writes
+writes_remains d (Deport p) s fit writes = absurd writes
 writes_remains d (Recover p fails) s fit writes = absurd writes
 writes_remains d (Fault p disk) s fit writes = settled_remains d.world (Fault p disk) s (outcome_moves d.world (Fault p disk) tt)
 
@@ -100,6 +102,7 @@ writes_remains d (Fault p disk) s fit writes = settled_remains d.world (Fault p 
 written_done : (d : Doubted) (e : Event) (s : ℕ) → WritesAt d.world e s → LinksFit d → LinksFit (record d { world = (step d.world e).world })
 written_done d (Site name disks blocks) s writes fit = absurd writes
 written_done d (Raw p) s writes fit = absurd writes
+written_done d (Group p) s writes fit = absurd writes
 written_done d (Write p volume start bytes fails) s writes fit = fit_happened d (Write p volume start bytes fails) false fit
 written_done d (Read p volume start count) s writes fit = absurd writes
 written_done d (Apply p count reached) s writes fit = absurd writes
@@ -114,6 +117,7 @@ written_done d (Wait p number) s writes fit = absurd writes
 written_done d (Link p q sync part) s writes fit = fit_happened d (Link p q sync part) false fit
 written_done d (Set p q sync) s writes fit = fit_happened d (Set p q sync) false fit
 written_done d (Crash p kept) s writes fit = absurd writes
+written_done d (Deport p) s writes fit = absurd writes
 written_done d (Recover p fails) s writes fit = absurd writes
 written_done d (Fault p disk) s writes fit = fit_happened d (Fault p disk) false fit
 
@@ -175,7 +179,7 @@ pub fit_worked : (d : Doubted) (s : ℕ) → LinksFit d → LinksFit (record d {
 fit_worked d s fit = fit_note d s (record (d.world.nodes s) { fuse = burned (d.world.nodes s).fuse }) refl refl refl (still (λ e. e) (λ e. e)) fit
 
 pub fit_disks : (taken : Bool) (s : ℕ) (w : World) (d : Doubted) → LinksFit d → LinksFit (record d { world = with_disks taken s w d.world })
-fit_disks true s w d fit = fit_note d s (record (d.world.nodes s) { failing = (w.nodes s).failing }) refl refl refl (still (λ e. e) (λ e. e)) fit
+fit_disks true s w d fit = fit_note d s (record (d.world.nodes s) { failing = (w.nodes s).failing; group = (w.nodes s).group }) refl refl refl (still (λ e. e) (λ e. e)) fit
 fit_disks false s w d fit = fit
 
 pub fit_noted : (s : ℕ) (line : ScriptLine) (d : Doubted) → LinksFit d → LinksFit (record d { world = noted s line d.world })

@@ -5,6 +5,7 @@ pub mod Moves
 pub mod Outcomes
 pub mod Headers
 pub mod Fitting
+pub mod Groups
 pub mod Leaving
 pub mod Finding
 pub mod Effects

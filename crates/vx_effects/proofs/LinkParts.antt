@@ -15,7 +15,7 @@ use Rattle.vx_history.specs.Doubts.{Doubted, happened}
 use Rattle.vx_history.specs.Events.{joined, new_link, opened}
 use Rattle.vx_history.specs.Gatherings.{emptied}
 use Rattle.vx_history.specs.Receiving.{phase_takes}
-use Rattle.vx_history.specs.Refusals.{Outcome, agree, at_site, both_at_work, follows, is_consistent, is_empty, is_fresh, is_primary, is_stale, links_of, may_link, refused, rings_fit, unless, unless_halted}
+use Rattle.vx_history.specs.Refusals.{Outcome, agree, at_site, both_at_work, follows, is_consistent, is_empty, is_fresh, is_primary, is_stale_mode, count_links_of, may_link, refused, rings_fit, unless, unless_halted}
 use Rattle.vx_history.specs.Sends.{is_linked, with_link}
 use Rattle.vx_history.specs.Step.{done, link_part, outcome_of, run, step}
 use Rattle.vx_history.specs.World.{Gathering, Link as LinkOf, Node, World, updated, with_node}
@@ -77,7 +77,7 @@ module _ (w : World) (p s : ℕ) (sync : SyncMode) where
   behind_joins = emptied (with_node w s (joined (w.nodes p) p (w.nodes s))) s
 
   abbrev behind_made : World
-  behind_made = with_link w p s (new_link (links_of w p) sync (w.nodes s))
+  behind_made = with_link w p s (new_link (count_links_of w p) sync (w.nodes s))
 
   abbrev behind_marked : World
   behind_marked = with_node w s (record (w.nodes s) { mark = Consistent })
@@ -90,13 +90,13 @@ module _ (w : World) (p s : ℕ) (sync : SyncMode) where
   joins_done said =
       let o : Outcome = done behind_joins in
       let sized : Outcome = unless (not (agree (w.nodes p).volumes (w.nodes s).volumes && rings_fit (w.nodes p) (w.nodes s))) Size w o in
-      let few : Outcome = unless (leb MOST_LINKS (links_of w p)) (Limit Links MOST_LINKS) w sized in
+      let few : Outcome = unless (leb MOST_LINKS (count_links_of w p)) (Limit Links MOST_LINKS) w sized in
       let free : Outcome = unless (is_linked (w.links p s)) (Exists (w.nodes s).name) w few in
       let Q : Outcome → Type 0 = λ (r : Outcome). r.said ≡ Done → (may_link w p s ≡ true) × (is_linked (w.links p s) ≡ false) × (r ≡ o) in
       let none : (why : No) → Q (refused w why) = λ why e. absurd (never why e) in
       Tests.unless_ends Q w none (not (may_link w p s)) WrongRole free
       (λ may. Tests.unless_ends Q w none (is_linked (w.links p s)) (Exists (w.nodes s).name) few
-      (λ unlinked. Tests.unless_ends Q w none (leb MOST_LINKS (links_of w p)) (Limit Links MOST_LINKS) sized
+      (λ unlinked. Tests.unless_ends Q w none (leb MOST_LINKS (count_links_of w p)) (Limit Links MOST_LINKS) sized
       (λ _. Tests.unless_ends Q w none (not (agree (w.nodes p).volumes (w.nodes s).volumes && rings_fit (w.nodes p) (w.nodes s))) Size o
       (λ _ e. (Tests.not_false (may_link w p s) may, unlinked, refl))))) (part_done Joins said)
 
@@ -121,7 +121,7 @@ module _ (w : World) (p s : ℕ) (sync : SyncMode) where
   abbrev pub may_open : Bool
   may_open =
       is_primary (w.nodes p).role
-      && (follows w p s && (is_linked (w.links p s) && (is_empty (w.nodes p).log && (is_stale (w.links p s).mode && (phase_takes (w.nodes s).phase && is_consistent (w.nodes s).mark)))))
+      && (follows w p s && (is_linked (w.links p s) && (is_empty (w.nodes p).log && (is_stale_mode (w.links p s).mode && (phase_takes (w.nodes s).phase && is_consistent (w.nodes s).mark)))))
 
   pub opened_done : (step w (Link p s sync Opened)).said ≡ Done → (may_open ≡ true) × (link_part Opened w p s sync ≡ done behind_opened)
   opened_done said =
@@ -170,10 +170,10 @@ module _ (d : Doubted) (p s : ℕ) (sync : SyncMode) (taken : Bool) where
       }) (one_here s) (λ i apart. none_there s i apart)
 
   pub made_effect : (step w (Link p s sync Made)).said ≡ Done
-      → EffectAt p d (happened d (Link p s sync Made) taken) (w.nodes p) (updated (w.links p) s (new_link (links_of w p) sync (w.nodes s))) (w.headers p + 1) (d.after p) w.packets (w.gathering p)
+      → EffectAt p d (happened d (Link p s sync Made) taken) (w.nodes p) (updated (w.links p) s (new_link (count_links_of w p) sync (w.nodes s))) (w.headers p + 1) (d.after p) w.packets (w.gathering p)
   made_effect said =
       effect_of d (Link p s sync Made) (done (behind_made w p s sync)) p 1 ((two_done w p s sync Made said).1 ∙ (made_done w p s sync said).1)
-      (turns_link p s w (new_link (links_of w p) sync (w.nodes s))) (one_here p) (λ i apart. none_there p i apart)
+      (turns_link p s w (new_link (count_links_of w p) sync (w.nodes s))) (one_here p) (λ i apart. none_there p i apart)
 
   pub marked_effect : (step w (Link p s sync Marked)).said ≡ Done
       → EffectAt s d (happened d (Link p s sync Marked) taken) (record (w.nodes s) { mark = Consistent }) (w.links s) (w.headers s + 1) (d.after s) w.packets (w.gathering s)
@@ -277,7 +277,7 @@ module _ (w : World) (p s : ℕ) (sync : SyncMode) where
       ∙ off (is_linked (w.links p s)) (Exists (w.nodes s).name) w o (ap is_linked q.link ∙ free))
 
   -- the link that was made goes by nothing
-  made_pairs : (l : LinkOf) → IsPaired w p s l → (step w (Link p s sync Made)).said ≡ Done → IsPaired (after Made) p s (new_link (links_of w p) sync (w.nodes s))
+  made_pairs : (l : LinkOf) → IsPaired w p s l → (step w (Link p s sync Made)).said ≡ Done → IsPaired (after Made) p s (new_link (count_links_of w p) sync (w.nodes s))
   made_pairs l q said =
       let f = made_effect (sure w) p s sync true said in
       record {
@@ -285,7 +285,7 @@ module _ (w : World) (p s : ℕ) (sync : SyncMode) where
         second = omega (arith, q.second, f.site.sites);
         apart = q.apart;
         pair = subst (λ (n : Node). IsPair n ((after Made).nodes s)) (sym f.is.node) (subst (λ (n : Node). IsPair (w.nodes p) n) (sym (f.site.nodes s q.apart)) q.pair);
-        link = f.is.links s ∙ at_place (w.links p) s (new_link (links_of w p) sync (w.nodes s));
+        link = f.is.links s ∙ at_place (w.links p) s (new_link (count_links_of w p) sync (w.nodes s));
       }
 
   marked_goes : (l : LinkOf) → IsPaired w p s l → is_linked l ≡ true → (step w (Link p s sync Marked)).said ≡ Done
@@ -322,20 +322,20 @@ module _ (w : World) (p s : ℕ) (sync : SyncMode) where
         ap (λ (n : Node). is_consistent n.mark) f.is.node,
       )
 
-  opened_goes : (l : LinkOf) → IsPaired w p s l → is_linked l ≡ true → is_stale l.mode ≡ true → is_consistent (w.nodes s).mark ≡ true → (step w (Link p s sync Opened)).said ≡ Done
+  opened_goes : (l : LinkOf) → IsPaired w p s l → is_linked l ≡ true → is_stale_mode l.mode ≡ true → is_consistent (w.nodes s).mark ≡ true → (step w (Link p s sync Opened)).said ≡ Done
   opened_goes l q linked stale marked =
       let a : Node = w.nodes p in
       let b : Node = w.nodes s in
       let m : LinkOf = w.links p s in
       let there : is_linked m ≡ true = ap is_linked q.link ∙ linked in
-      let waits : is_stale m.mode ≡ true = ap (λ (x : LinkOf). is_stale x.mode) q.link ∙ stale in
+      let waits : is_stale_mode m.mode ≡ true = ap (λ (x : LinkOf). is_stale_mode x.mode) q.link ∙ stale in
       let c1 = both_true (phase_takes b.phase) (is_consistent b.mark) q.pair.takes marked in
-      let c2 = both_true (is_stale m.mode) (phase_takes b.phase && is_consistent b.mark) waits c1 in
-      let c3 = both_true (is_empty a.log) (is_stale m.mode && (phase_takes b.phase && is_consistent b.mark)) q.pair.empty c2 in
-      let c4 = both_true (is_linked m) (is_empty a.log && (is_stale m.mode && (phase_takes b.phase && is_consistent b.mark))) there c3 in
-      let c5 = both_true (follows w p s) (is_linked m && (is_empty a.log && (is_stale m.mode && (phase_takes b.phase && is_consistent b.mark)))) q.pair.follows c4 in
+      let c2 = both_true (is_stale_mode m.mode) (phase_takes b.phase && is_consistent b.mark) waits c1 in
+      let c3 = both_true (is_empty a.log) (is_stale_mode m.mode && (phase_takes b.phase && is_consistent b.mark)) q.pair.empty c2 in
+      let c4 = both_true (is_linked m) (is_empty a.log && (is_stale_mode m.mode && (phase_takes b.phase && is_consistent b.mark))) there c3 in
+      let c5 = both_true (follows w p s) (is_linked m && (is_empty a.log && (is_stale_mode m.mode && (phase_takes b.phase && is_consistent b.mark)))) q.pair.follows c4 in
       let all : may_open w p s sync ≡ true =
-      both_true (is_primary a.role) (follows w p s && (is_linked m && (is_empty a.log && (is_stale m.mode && (phase_takes b.phase && is_consistent b.mark))))) q.pair.primary c5 in
+      both_true (is_primary a.role) (follows w p s && (is_linked m && (is_empty a.log && (is_stale_mode m.mode && (phase_takes b.phase && is_consistent b.mark))))) q.pair.primary c5 in
       ap (λ (r : Outcome). r.said)
       (two_pass w p s sync Opened (two_of w p s l q) ∙ off (not (may_open w p s sync)) WrongRole w (done (behind_opened w p s sync)) (ap not all))
 
@@ -353,7 +353,7 @@ module _ (w : World) (p s : ℕ) (sync : SyncMode) (said : (step w (Link p s syn
   made_follows = let q = joins_pairs w p s sync said in made_goes one p s sync (w.links p s) q.0 q.1
 
   abbrev link_there : LinkOf
-  link_there = new_link (links_of one p) sync (one.nodes s)
+  link_there = new_link (count_links_of one p) sync (one.nodes s)
 
   two_paired : IsPaired two p s link_there
   two_paired = made_pairs one p s sync (w.links p s) (joins_pairs w p s sync said).0 made_follows

@@ -3,8 +3,8 @@ use Rattle.std.proofs.Common.{◌≡◌, ◌∙◌, ℕ, Bool, true, false, refl
 use Rattle.std.specs.Prelude.{ltb, eqb, max, min, ◌&&◌, ◌+◌, if◌then◌else◌}
 use Rattle.vx_history.proofs.Places.{places_same}
 use Rattle.vx_history.proofs.Updates.{by_test}
-use Rattle.vx_history.specs.Admission.{blocks, change, change_by, changed_mode, full_log, full_log_of, is_live}
-use Rattle.vx_history.specs.Events.{facts_of, link_after, lost_touch, restarted_link, used_above}
+use Rattle.vx_history.specs.Admission.{blocks, change, change_by, changed_mode, full_log, full_log_of, is_live_link}
+use Rattle.vx_history.specs.Events.{receiver_facts, link_after, lost_touch, restarted_link, used_above}
 use Rattle.vx_history.specs.LinkForms.{plain_link, with_plain}
 use Rattle.vx_history.specs.Sending.{Sent, by_log, disk_acknowledged, greeted, greeted_anew, greeted_apart, greeted_by_log, if_on_line, memory_acknowledged, mode_overtaken, mode_restarted, pumped, pumped_up_to, sent_step, with_ignored, with_nothing, with_taken}
 use Rattle.vx_history.specs.Sends.{is_linked, is_made}
@@ -80,7 +80,7 @@ module _ (l : PlainLink) (mode : is_plain_mode l.mode ≡ true) (trimmed : l.tri
 
   pumped_plain : (safe : ℕ) → PlainSent (pumped l safe)
   pumped_plain safe =
-      by_test PlainSent (is_live l && by_log l.mode) (pumped_up_to l (max l.sent l.stored) (min safe (l.net + MOST_AHEAD))) (with_nothing l)
+      by_test PlainSent (is_live_link l && by_log l.mode) (pumped_up_to l (max l.sent l.stored) (min safe (l.net + MOST_AHEAD))) (with_nothing l)
       (λ _. by_test PlainSent (ltb (max l.sent l.stored) (min safe (l.net + MOST_AHEAD)))
       (record { link = record l { sent = min safe (l.net + MOST_AHEAD) }; action = Updates (max l.sent l.stored + 1) (min safe (l.net + MOST_AHEAD)) })
       (with_nothing (record l { sent = max l.sent l.stored }))
@@ -159,7 +159,7 @@ keeps_touch l = record {
 pub keeps_restarted : (n : Node) (s : ℕ) (l : Link) → KeepsLink l (restarted_link n s l)
 keeps_restarted n s l = record {
   made = refl;
-  plain = λ p. stepped_plain s l Restart (facts_of n n.line) l.since p;
+  plain = λ p. stepped_plain s l Restart (receiver_facts n n.line) l.since p;
   none = λ e. ap (λ (k : Link). restarted_link n s k) e;
 }
 
@@ -171,7 +171,7 @@ by_prot p false bunker e = ap (λ (q : Prot). change_by (full_log q false) bunke
 pub change_stays : (need room : ℕ) (l : PlainLink) (used : ℕ) → l.prot ≡ Fail → change need room l used ≡ Stays
 change_stays need room l used prot =
     by_test (λ (c : Change). c ≡ Stays) (blocks need room l used) (change_by (full_log_of l) l.bunker) Stays
-    (λ _. by_prot l.prot (is_live l) l.bunker prot) (λ _. refl)
+    (λ _. by_prot l.prot (is_live_link l) l.bunker prot) (λ _. refl)
 
 with_mode : Link → Change → Link
 with_mode l c = record l { mode = changed_mode c l.mode }

@@ -1,5 +1,5 @@
 -- What each event keeps of links, of the states of sites and of sites in doubt, but for those that make a site or a link, or crash a site.
-use Rattle.std.proofs.Common.{◌≡◌, ◌∙◌, ℕ, zero, suc, ◌+◌, ◌<◌, [], ◌∷◌, ◌++◌, length, Bool, true, false, refl, sym, subst, arith}
+use Rattle.std.proofs.Common.{◌≡◌, ◌∙◌, ℕ, zero, suc, ◌+◌, ◌<◌, [], ◌∷◌, ◌++◌, length, Bool, true, false, refl, ap, sym, subst, arith}
 use Rattle.std.proofs.lemmas.Bool.Decides.{nat_tests}
 use Rattle.std.specs.Prelude.{not, ◌&&◌, ◌||◌, eqb, leb, ltb, Option, Some, None, if◌then◌else◌}
 use Rattle.vx_model.specs.Answer.{is_too_large}
@@ -19,17 +19,18 @@ use Rattle.vx_model.specs.declared.site.SiteState.{SiteState}
 use Rattle.vx_model.specs.declared.site.SiteState.TheVariants.{Bare, Up, Deported, Down}
 use Rattle.vx_history.proofs.Updates.{and_left, and_right, by_test, eqb_equal}
 use Rattle.vx_history.specs.Admission.{Admitted, Goes, Held_by}
-use Rattle.vx_history.specs.Events.{acknowledged, admitted, applied, applied_by, apply_at, come_back, crash_at, delivered, facts_of, from_memory, gathered_if, greeting_back, handed, heard, is_taken, joined, link_after, link_event, link_heard, link_step, links_changed, lost_touch, opened, packet_at, promises_of, put_in, reached_at, recover_from, recovered_at, recovery, restarted_link, taken_if, ticked_at, ticked_link, update_taken, waited, with_write, written_if}
+use Rattle.vx_history.specs.Events.{acknowledged, admitted, applied, applied_by, apply_at, come_back, crash_at, delivered, receiver_facts, from_memory, gathered_if, greeting_back, handed, heard, is_taken, joined, link_after, link_event, link_heard, link_step, links_changed, lost_touch, opened, packet_at, promises_of, put_in, reached_at, recover_from, recovered_at, recovery, restarted_link, taken_if, ticked_at, ticked_link, update_taken, waited, with_write, written_if}
 use Rattle.vx_history.specs.Gatherings.{completes, emptied, gathered}
 use Rattle.vx_history.specs.LinkForms.{plain_receiver, with_plain}
 use Rattle.vx_history.specs.Receiving.{Received, phase_takes, received_step}
-use Rattle.vx_history.specs.Refusals.{Outcome, agree, at_site, at_work, both_at_work, follows, holds_back, is_consistent, is_empty, is_fresh, is_primary, is_running, is_stale, is_unconfirmed, keeps_links, links_of, may_link, refused, rings_fit, says, some_below, unless, when_live}
+use Rattle.vx_history.specs.Refusals.{Outcome, agree, at_site, at_work, both_at_work, follows, holds_back, is_consistent, is_empty, is_fresh, is_primary, is_running, is_stale_mode, is_unconfirmed, keeps_links, count_links_of, may_link, refused, rings_fit, says, some_below, unless, when_live}
 use Rattle.vx_history.specs.Sends.{is_linked, promising, sending, with_link, with_links}
 use Rattle.vx_history.specs.Step.{done, joined_blocks, link_part, outcome_of}
-use Rattle.vx_history.specs.Steps.{burned, crash_left, crashed, half_written, logged, raw_made, raw_set, recovered, stopped_by, written}
+use Rattle.vx_history.specs.Sound.{is_at_rest}
+use Rattle.vx_history.specs.Steps.{burned, crash_left, crashed, deported_site, deported_world, group_made, group_set, half_written, logged, raw_made, raw_set, recovered, stopped_by, written}
 use Rattle.vx_history.specs.World.{DataAck, Hello, Link as LinkOf, Message, NetAck, Node, Packet, Update, World, with_node}
 use Rattle.vx_history.specs.declared.event.Event.{Event}
-use Rattle.vx_history.specs.declared.event.Event.TheVariants.{Site, Raw, Write, Read, Apply, Pump, Tick, Deliver, Connect, Cut, Pause, Resume, Wait, Link, Set, Crash, Recover, Fault}
+use Rattle.vx_history.specs.declared.event.Event.TheVariants.{Site, Raw, Group, Write, Read, Apply, Pump, Tick, Deliver, Connect, Cut, Pause, Resume, Wait, Link, Set, Crash, Deport, Recover, Fault}
 use Rattle.vx_history.specs.declared.event.LinkPart.{LinkPart}
 use Rattle.vx_history.specs.declared.event.LinkPart.TheVariants.{Joins, Made, Marked, Opened}
 use Rattle.vx_history.specs.declared.event.Said.TheVariants.{DoneAt, Got, Ignored as IsIgnored, Pending, Refused}
@@ -44,10 +45,11 @@ use Rattle.vx_effects.proofs.Links.{KeepsLink, keeps_restarted, keeps_stepped, k
 use Rattle.vx_effects.proofs.Moves.{All, Moves, Rests, Stays, StillKeeps, keeps_role, moves_alike, moves_kept, moves_like, moves_link, moves_node, moves_row, moves_same, moves_then}
 use Rattle.vx_effects.proofs.Tests
 
--- the event makes no site and no link, and crashes no site
+-- the event makes no site and no link, and crashes or deports no site
 abbrev pub IsSettled : Event → Type 0
 IsSettled (Site name disks blocks) = ⊥
 IsSettled (Raw s) = Unit {0}
+IsSettled (Group s) = Unit {0}
 IsSettled (Write s volume start bytes fails) = Unit {0}
 IsSettled (Read s volume start count) = Unit {0}
 IsSettled (Apply s count reached) = Unit {0}
@@ -65,6 +67,7 @@ IsSettled (Link p s sync Marked) = Unit {0}
 IsSettled (Link p s sync Opened) = Unit {0}
 IsSettled (Set p s sync) = Unit {0}
 IsSettled (Crash s kept) = ⊥
+IsSettled (Deport s) = ⊥
 IsSettled (Recover s fails) = Unit {0}
 IsSettled (Fault s disk) = Unit {0}
 
@@ -168,6 +171,21 @@ module _ (E : ℕ → Type 0) (w : World) where
       (moves_node E w s n (λ b. bare) (λ h b. absurd (omega (arith, below, h))) (λ e. not_up (w.nodes s) n (λ up. let f : Up ≡ Bare = sym up ∙ bare in cc))
       (λ k _ _ _. refl) (awake (w.nodes s) n refl (λ e. e)))
 
+  pub group_moves : (s : ℕ) → s < w.sites → (w.nodes s).state ≡ Bare → Moves E w (group_made w s)
+  group_moves s below bare =
+      let n : Node = group_set s (w.nodes s) in
+      moves_like E w (with_node w s n) (group_made w s) refl (λ p. refl) (λ p k. refl)
+      (moves_node E w s n (λ b. bare) (λ h b. absurd (omega (arith, below, h))) (λ e. not_up (w.nodes s) n (λ up. let f : Up ≡ Bare = sym up ∙ bare in cc))
+      (λ k _ _ _. refl) (awake (w.nodes s) n refl (λ e. e)))
+
+  -- a site that is down and gives its disks up
+  pub deported_moves : (s : ℕ) → (w.nodes s).state ≡ Down → Moves E w (deported_world w s)
+  deported_moves s down =
+      let n : Node = deported_site (w.nodes s) in
+      moves_node E w s n (λ b. let f : Deported ≡ Bare = b in absurd (cc)) (λ h b. let f : Down ≡ Bare = sym down ∙ b in absurd (cc))
+      (λ e. not_up (w.nodes s) n (λ up. let f : Up ≡ Down = sym up ∙ down in cc))
+      (keeps_role w.sites (w.links s) (w.nodes s) n refl) (calm (λ e. e) (λ _ d. let f : Deported ≡ Down = d in absurd (cc)))
+
   pub linked_moves : (p s : ℕ) (l : LinkOf) → KeepsLink (w.links p s) l → (v : World) → v.sites ≡ w.sites → ((i : ℕ) → v.nodes i ≡ w.nodes i)
       → ((i k : ℕ) → v.links i k ≡ (with_link w p s l).links i k) → Moves E w v
   linked_moves p s l keeps v sites nodes links = moves_like E w (with_link w p s l) v sites nodes links (moves_link E w p s l keeps)
@@ -176,7 +194,7 @@ module _ (E : ℕ → Type 0) (w : World) where
   event_moves p s e linked =
       linked_moves p s (with_plain (w.links p s) (link_step w p s e).link) (keeps_stepped s (w.links p s) e _ linked) (link_event w p s e) refl (λ i. refl) (λ i k. refl)
 
-  -- a site that comes up was down
+  -- a site that comes up was down or deported
   back_up : (n : Node) → (come_back n).state ≡ Up
   back_up n =
       let r : RState = (received_step (plain_receiver n) (RestartSite (length n.log) (n.session + 1))).state in
@@ -193,16 +211,16 @@ module _ (E : ℕ → Type 0) (w : World) where
       let r : RState = (received_step (plain_receiver n) (RestartSite (length n.log) (n.session + 1))).state in
       by_test (λ (m : Node). m.phase ≡ n.phase) (is_origin n.role) (recovered n) (record (recovered n) { session = r.session; mark = r.mark }) (λ _. refl) (λ _. refl)
 
-  pub recovered_moves : (s : ℕ) → (w.nodes s).state ≡ Down → Moves E w (recovered_at w s)
-  recovered_moves s down =
+  pub recovered_moves : (s : ℕ) → is_at_rest (w.nodes s).state ≡ true → Moves E w (recovered_at w s)
+  recovered_moves s rest =
       let n : Node = come_back (w.nodes s) in
       let up : n.state ≡ Up = back_up (w.nodes s) in
       let v : World = with_node w s n in
       let u : World = with_links v s (λ to. restarted_link n to (w.links s to)) in
       moves_like E w u (recovered_at w s) refl (λ p. refl) (λ p k. refl)
       (moves_then E w v u
-      (moves_node E w s n (λ b. let f : Up ≡ Bare = sym up ∙ b in absurd (cc)) (λ h b. let f : Down ≡ Bare = sym down ∙ b in absurd (cc))
-      (λ e. not_up (w.nodes s) n (λ is. let f : Up ≡ Down = sym is ∙ down in cc))
+      (moves_node E w s n (λ b. let f : Up ≡ Bare = sym up ∙ b in absurd (cc)) (λ h b. let f : false ≡ true = sym (ap is_at_rest b) ∙ rest in absurd (cc))
+      (λ e. not_up (w.nodes s) n (λ up. let f : false ≡ true = sym (ap is_at_rest up) ∙ rest in cc))
       (keeps_role w.sites (w.links s) (w.nodes s) n (same_role (w.nodes s))) (awake (w.nodes s) n up (λ e. same_phase (w.nodes s) ∙ e)))
       (moves_row E v s (λ to. restarted_link n to (w.links s to)) (λ k. keeps_restarted n k (w.links s k))))
 
@@ -253,16 +271,17 @@ module _ (w : World) where
       let n : Node = applied (w.nodes s) number r.mark in
       moves_like All w (with_node w s n) (acknowledged w s n) refl (λ p. refl) (λ p k. refl) (moves_alike All w s n refl refl refl (calm (λ e. e) (λ e. e)))
 
-  recovery_moves : (s : ℕ) (fails : Option ℕ) → (w.nodes s).state ≡ Down → Leaves (recovery w s fails)
-  recovery_moves s None down = recovered_moves All w s down
-  recovery_moves s (Some disk) down = moves_alike All w s (record (w.nodes s) { session = (w.nodes s).session + 1 }) refl refl refl (calm (λ e. e) (λ e. e))
+  recovery_moves : (s : ℕ) (fails : Option ℕ) → is_at_rest (w.nodes s).state ≡ true → Leaves (recovery w s fails)
+  recovery_moves s None rest = recovered_moves All w s rest
+  recovery_moves s (Some disk) rest = moves_alike All w s (record (w.nodes s) { session = (w.nodes s).session + 1 }) refl refl refl (calm (λ e. e) (λ e. e))
 
   recover_moves : (state : SiteState) (s : ℕ) (fails : Option ℕ) → (w.nodes s).state ≡ state → Leaves (recover_from state w s fails)
   recover_moves Bare s fails e = moves_same All w
   recover_moves Up s fails e = moves_same All w
-  recover_moves Deported s fails e = moves_same All w
+  recover_moves Deported s fails e =
+      Tests.unless_ends Leaves w refusals (leb MOST_NUMBER (w.nodes s).session) (Limit Number MOST_NUMBER) (recovery w s fails) (λ _. recovery_moves s fails (ap is_at_rest e))
   recover_moves Down s fails e =
-      Tests.unless_ends Leaves w refusals (leb MOST_NUMBER (w.nodes s).session) (Limit Number MOST_NUMBER) (recovery w s fails) (λ _. recovery_moves s fails e)
+      Tests.unless_ends Leaves w refusals (leb MOST_NUMBER (w.nodes s).session) (Limit Number MOST_NUMBER) (recovery w s fails) (λ _. recovery_moves s fails (ap is_at_rest e))
 
   -- packets that are delivered
   heard_by_link : (p : Packet) (e : SEvent) → Leaves (link_heard w p e)
@@ -314,11 +333,11 @@ module _ (w : World) where
       let n : Node = joined (w.nodes p) p (w.nodes s) in
       let o : Outcome = done (emptied (with_node w s n) s) in
       let sized : Outcome = unless (not (agree (w.nodes p).volumes (w.nodes s).volumes && rings_fit (w.nodes p) (w.nodes s))) Size w o in
-      let few : Outcome = unless (leb MOST_LINKS (links_of w p)) (Limit Links MOST_LINKS) w sized in
+      let few : Outcome = unless (leb MOST_LINKS (count_links_of w p)) (Limit Links MOST_LINKS) w sized in
       let free : Outcome = unless (is_linked (w.links p s)) (Exists (w.nodes s).name) w few in
       Tests.unless_ends Leaves w refusals (not (may_link w p s)) WrongRole free
       (λ may. Tests.unless_ends Leaves w refusals (is_linked (w.links p s)) (Exists (w.nodes s).name) few
-      (λ _. Tests.unless_ends Leaves w refusals (leb MOST_LINKS (links_of w p)) (Limit Links MOST_LINKS) sized
+      (λ _. Tests.unless_ends Leaves w refusals (leb MOST_LINKS (count_links_of w p)) (Limit Links MOST_LINKS) sized
       (λ _. Tests.unless_ends Leaves w refusals (not (agree (w.nodes p).volumes (w.nodes s).volumes && rings_fit (w.nodes p) (w.nodes s))) Size o
       (λ _. moves_like All w (with_node w s n) (emptied (with_node w s n) s) refl (λ i. refl) (λ i k. refl)
       (moves_kept All w s n refl refl (joins_without w p s (Tests.not_false (may_link w p s) may)) (calm (λ _. refl) (λ _ _. refl)))))))
@@ -327,7 +346,7 @@ module _ (w : World) where
       Tests.unless_ends Leaves w refusals _ WrongRole _ (λ _. moves_alike All w s (record (w.nodes s) { mark = Consistent }) refl refl refl (calm (λ e. e) (λ e. e)))
   part_moves Opened p s sync one =
       let l : LinkOf = w.links p s in
-      let rest : Bool = is_empty (w.nodes p).log && (is_stale l.mode && (phase_takes (w.nodes s).phase && is_consistent (w.nodes s).mark)) in
+      let rest : Bool = is_empty (w.nodes p).log && (is_stale_mode l.mode && (phase_takes (w.nodes s).phase && is_consistent (w.nodes s).mark)) in
       Tests.unless_ends Leaves w refusals (not (is_primary (w.nodes p).role && (follows w p s && (is_linked l && rest)))) WrongRole
       (done (with_link w p s (opened l (w.nodes p).safe)))
       (λ e. moves_link All w p s (opened l (w.nodes p).safe) (keeps_opened l (w.nodes p).safe (third (is_primary (w.nodes p).role) (follows w p s) (is_linked l) rest e)))
@@ -357,6 +376,11 @@ module _ (w : World) where
       (λ below. Tests.unless_ends Leaves w refusals (not (is_bare (w.nodes s).state)) WrongRole sized
       (λ bare. Tests.unless_ends Leaves w refusals (not (is_raw_shape (w.nodes s).disks (w.nodes s).blocks)) Size o
       (λ _. raw_moves All w s below (Tests.bare_is (w.nodes s).state (Tests.not_false (is_bare (w.nodes s).state) bare)))))
+  outcome_moves (Group s) one =
+      let o : Outcome = done (group_made w s) in
+      Tests.site_ends Leaves w refusals s (unless (not (is_bare (w.nodes s).state)) WrongRole w o)
+      (λ below. Tests.unless_ends Leaves w refusals (not (is_bare (w.nodes s).state)) WrongRole o
+      (λ bare. group_moves All w s below (Tests.bare_is (w.nodes s).state (Tests.not_false (is_bare (w.nodes s).state) bare))))
   outcome_moves (Write s volume start bytes fails) one =
       let x : WriteBlocks = record { volume = volume; start = start; bytes = bytes } in
       Tests.volume_ends Leaves w refusals s volume start (blocks_in bytes) (is_too_large (w.nodes s).ring (blocks_in bytes)) (written_if (admitted w s x) w s x fails)
@@ -373,7 +397,7 @@ module _ (w : World) where
       Tests.link_ends Leaves w refusals keeps_links p s (when_live w s (w.links p s) (done (link_event w p s PumpLink)))
       (λ _ linked. Tests.live_ends Leaves w refusals s (w.links p s) (done (link_event w p s PumpLink)) (event_moves All w p s PumpLink linked))
   outcome_moves (Tick p s) one =
-      Tests.link_ends Leaves w refusals keeps_links p s (done (ticked_at w p s)) (λ _ linked. moves_link All w p s (ticked_link w p s) (keeps_ticked s (w.links p s) (facts_of (w.nodes p) (w.nodes p).line) linked))
+      Tests.link_ends Leaves w refusals keeps_links p s (done (ticked_at w p s)) (λ _ linked. moves_link All w p s (ticked_link w p s) (keeps_ticked s (w.links p s) (receiver_facts (w.nodes p) (w.nodes p).line) linked))
   outcome_moves (Deliver number) one = delivered_moves number (packet_at w.packets number)
   outcome_moves (Connect p s) one =
       Tests.link_ends Leaves w refusals keeps_links p s (done (sending (link_event w p s ConnectLink) (greeting_back w p s)))
@@ -396,6 +420,7 @@ module _ (w : World) where
       Tests.link_ends Leaves w refusals is_origin p s (done (with_link w p s (record (w.links p s) { sync = sync; prot = FailsWhenFull })))
       (λ _ linked. moves_link All w p s (record (w.links p s) { sync = sync; prot = FailsWhenFull }) (keeps_set (w.links p s) sync linked))
   outcome_moves (Crash s kept) one = absurd one
+  outcome_moves (Deport s) one = absurd one
   outcome_moves (Recover s fails) one =
       Tests.site_ends Leaves w refusals s (recover_from (w.nodes s).state w s fails) (λ _. recover_moves (w.nodes s).state s fails refl)
   outcome_moves (Fault s disk) one =

@@ -18,7 +18,7 @@ use Rattle.vx_history.specs.Events.{is_in_place, link_in_place, linked_sites, pu
 use Rattle.vx_history.specs.KeptLinks.{kept_link, kept_links, kept_mode, kept_start}
 use Rattle.vx_history.specs.LinkForms.{plain_link}
 use Rattle.vx_history.specs.Listed.{HasPlaces, IsAmong, links_in}
-use Rattle.vx_history.specs.Refusals.{count_below}
+use Rattle.vx_history.specs.Refusals.{how_many_below}
 use Rattle.vx_history.specs.Sending.{mode_restarted}
 use Rattle.vx_history.specs.Sends.{is_linked, is_made}
 use Rattle.vx_history.specs.World.{Link, Node, no_link, updated}
@@ -27,7 +27,7 @@ use Rattle.vx_events.proofs.LinkTesting.{AllLinked, all_linked}
 use Rattle.vx_events.proofs.Steps.{no_sites}
 use Rattle.vx_events.specs.LinkedFacts.{link_facts, needed_by}
 use Rattle.vx_events.specs.LinksFit.{IsPlain, RowFits, is_plain_mode}
-use Rattle.vx_effects.specs.Restarts.{IsAgain, are_fine, fact_again, facts_again, is_failing_prot, is_fine, is_plain_kept, leads_there, link_again, link_found, mode_again, needs_of, row_of, row_with}
+use Rattle.vx_effects.specs.Restarts.{IsAgain, are_fine, fact_again, facts_again, is_failing_prot, is_fine, is_plain_kept, leads_there, link_again, link_found, mode_again, needs_of, row_of_kept, row_with}
 use Rattle.vx_effects.proofs.Fitting.{never_some, updated_other}
 use Rattle.vx_effects.proofs.Headers.{count_none}
 use Rattle.vx_effects.proofs.Links.{by_bool, restarted_plain}
@@ -132,26 +132,26 @@ fine_is p sites l e =
 abbrev one_by : Bool → ℕ
 one_by b = if b then 1 else 0
 
-count_same : (n : ℕ) (f g : ℕ → Bool) → ((k : ℕ) → k < n → g k ≡ f k) → count_below n g ≡ count_below n f
+count_same : (n : ℕ) (f g : ℕ → Bool) → ((k : ℕ) → k < n → g k ≡ f k) → how_many_below n g ≡ how_many_below n f
 count_same zero f g same = refl
 count_same (suc k) f g same =
     let here : one_by (g k) ≡ one_by (f k) = ap one_by (same k (omega arith)) in
-    let rest : count_below k g ≡ count_below k f = count_same k f g (λ i h. same i (omega (arith, h))) in
+    let rest : how_many_below k g ≡ how_many_below k f = count_same k f g (λ i h. same i (omega (arith, h))) in
     omega (arith, here, rest)
 
-count_more : (n s : ℕ) (f g : ℕ → Bool) → s < n → f s ≡ false → g s ≡ true → ((k : ℕ) → (k ≡ s → ⊥) → g k ≡ f k) → count_below n g ≡ suc (count_below n f)
+count_more : (n s : ℕ) (f g : ℕ → Bool) → s < n → f s ≡ false → g s ≡ true → ((k : ℕ) → (k ≡ s → ⊥) → g k ≡ f k) → how_many_below n g ≡ suc (how_many_below n f)
 count_more zero s f g h old new same = absurd (omega (arith, h))
 count_more (suc k) s f g h old new same =
     by_bool (eqb k s)
     (λ e.
     let at : k ≡ s = eqb_equal k s e in
-    let rest : count_below k g ≡ count_below k f = count_same k f g (λ i below. same i (λ (is : i ≡ s). omega (arith, below, at, is))) in
+    let rest : how_many_below k g ≡ how_many_below k f = count_same k f g (λ i below. same i (λ (is : i ≡ s). omega (arith, below, at, is))) in
     let one : one_by (g k) ≡ 1 = ap one_by (ap g at ∙ new) in
     let none : one_by (f k) ≡ 0 = ap one_by (ap f at ∙ old) in
     omega (arith, rest, one, none))
     (λ e.
     let other : k ≡ s → ⊥ = eqb_apart k s e in
-    let rest : count_below k g ≡ suc (count_below k f) = count_more k s f g (less s k h other) old new same in
+    let rest : how_many_below k g ≡ suc (how_many_below k f) = count_more k s f g (less s k h other) old new same in
     let here : one_by (g k) ≡ one_by (f k) = ap one_by (same k other) in
     omega (arith, rest, here))
   where
@@ -374,17 +374,17 @@ module _ (p sites : ℕ) where
   again_none : IsAgain (λ s. no_link)
   again_none k e = let f : false ≡ true = e in absurd (cc)
 
-  all_found : (ls : List KeptLink) → are_fine p sites ls ≡ true → (Found p sites (row_of ls) ls) × (IsAgain (row_of ls))
+  all_found : (ls : List KeptLink) → are_fine p sites ls ≡ true → (Found p sites (row_of_kept ls) ls) × (IsAgain (row_of_kept ls))
   all_found ls fine =
       rows_found ls (λ s. no_link) 0 [] none_found (count_none sites (λ k. is_linked no_link) (λ k. refl)) again_none (leave_all ls) fine
 
-  pub found_fits : (ls : List KeptLink) → are_fine p sites ls ≡ true → RowFits p sites (row_of ls)
+  pub found_fits : (ls : List KeptLink) → are_fine p sites ls ≡ true → RowFits p sites (row_of_kept ls)
   found_fits ls fine = (all_found ls fine).0.fits
 
-  pub found_kept : (ls : List KeptLink) → are_fine p sites ls ≡ true → kept_links (row_of ls) (linked_sites (row_of ls) sites 0 sites) ≡ ls
+  pub found_kept : (ls : List KeptLink) → are_fine p sites ls ≡ true → kept_links (row_of_kept ls) (linked_sites (row_of_kept ls) sites 0 sites) ≡ ls
   found_kept ls fine = (all_found ls fine).0.kept
 
-  pub found_again : (ls : List KeptLink) → are_fine p sites ls ≡ true → IsAgain (row_of ls)
+  pub found_again : (ls : List KeptLink) → are_fine p sites ls ≡ true → IsAgain (row_of_kept ls)
   found_again ls fine = (all_found ls fine).1
 
   -- ---- what the header keeps of a row that fits

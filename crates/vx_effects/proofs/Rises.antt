@@ -180,7 +180,7 @@ noted_quiet s (ApplyLine site to) d = effect_quiet s d _ (note_effect d s (recor
 noted_quiet s other d = quiet_same s d
 
 disks_quiet : (taken : Bool) (s : ℕ) (w : World) (d : Doubted) → ChangesAt s d (record d { world = with_disks taken s w d.world })
-disks_quiet true s w d = effect_quiet s d _ (note_effect d s (record (d.world.nodes s) { failing = (w.nodes s).failing }))
+disks_quiet true s w d = effect_quiet s d _ (note_effect d s (record (d.world.nodes s) { failing = (w.nodes s).failing; group = (w.nodes s).group }))
 disks_quiet false s w d = quiet_same s d
 
 as_quiet : (s : ℕ) (d new : Doubted) (v : World) → IsAs d v new → ChangesAt s d (record d { world = v }) → ChangesAt s d new

@@ -7,8 +7,8 @@ use Rattle.vx_model.specs.declared.link.Link.{Link as PlainLink}
 use Rattle.vx_model.specs.declared.link.Prot.{Prot}
 use Rattle.vx_model.specs.declared.link.Prot.TheVariants.{Fail}
 use Rattle.vx_history.proofs.Places.{links_listed}
-use Rattle.vx_history.specs.Admission.{Goes, Held, Held_by, blocks, first_down, first_full, full_log, full_log_of, held_by_room, held_when_full, is_holding, is_live, or_else, unless_held}
-use Rattle.vx_history.specs.Events.{admitted, linked_sites, plain_links, used_above, uses}
+use Rattle.vx_history.specs.Admission.{Goes, Held, Held_by, blocks, first_down, first_full, full_log, full_log_of, held_by_room, held_when_full, is_holding, is_live_link, or_else, unless_held}
+use Rattle.vx_history.specs.Events.{admitted, linked_sites, plain_links, used_above, log_uses}
 use Rattle.vx_history.specs.LinkForms.{plain_link}
 use Rattle.vx_history.specs.Listed.{IsAmong}
 use Rattle.vx_history.specs.Sends.{is_linked}
@@ -30,7 +30,7 @@ rest_none : (a b : Option Held) → or_else a b ≡ None → b ≡ None
 rest_none (Some x) b e = absurd (cc)
 rest_none None b e = e
 
-each_none : (need room : ℕ) (n : Node) (row : ℕ → Link) (ss : List ℕ) (s : ℕ) → first_full need room (zip (plain_links row ss) (uses n row ss)) ≡ None → IsAmong s ss
+each_none : (need room : ℕ) (n : Node) (row : ℕ → Link) (ss : List ℕ) (s : ℕ) → first_full need room (zip (plain_links row ss) (log_uses n row ss)) ≡ None → IsAmong s ss
     → held_by_room need room (plain_link s (row s)) (used_above n s (row s)) ≡ None
 each_none need room n row [] s e among = absurd among
 each_none need room n row (t ∷ ts) s e (inl same) =
@@ -58,8 +58,8 @@ has_room w s x cs fit goes k linked holding =
     let need : ℕ = blocks_in x.bytes + 1 in
     let l : PlainLink = plain_link k (row k) in
     let used : ℕ = used_above n k (row k) in
-    let none : first_full need n.ring (zip (plain_links row ss) (uses n row ss)) ≡ None = full_none (first_down (plain_links row ss)) _ _ cs goes in
+    let none : first_full need n.ring (zip (plain_links row ss) (log_uses n row ss)) ≡ None = full_none (first_down (plain_links row ss)) _ _ cs goes in
     let one : held_by_room need n.ring l used ≡ None = each_none need n.ring n row ss k none (links_listed w.sites row fit.places k linked) in
     let free : blocks need n.ring l used ≡ false =
-    not_blocking (blocks need n.ring l used) (held_when_full (full_log_of l) l.site) (never_none l.prot (is_live l) l.site (fit.plain k linked).prot) one in
+    not_blocking (blocks need n.ring l used) (held_when_full (full_log_of l) l.site) (never_none l.prot (is_live_link l) l.site (fit.plain k linked).prot) one in
     at_most n.ring (need + used) (sym (ap (λ (b : Bool). b && ltb n.ring (need + used)) holding) ∙ free)

@@ -11,7 +11,7 @@ use Rattle.vx_history.specs.Admission.{Admitted, Goes, Held_by}
 use Rattle.vx_history.specs.Doubts.{Doubted, happened}
 use Rattle.vx_history.specs.Events.{admitted, link_after, links_changed, put_in, said_of_write, written_if}
 use Rattle.vx_history.specs.Headers.{headers_by, is_given_up}
-use Rattle.vx_history.specs.Refusals.{Outcome, count_below, is_waited_for, refused, some_below}
+use Rattle.vx_history.specs.Refusals.{Outcome, how_many_below, is_waited_for, refused, some_below}
 use Rattle.vx_history.specs.Step.{outcome_of, step}
 use Rattle.vx_history.specs.Steps.{burned, half_written, logged, written}
 use Rattle.vx_history.specs.World.{Link, Node, World, updated}
@@ -34,24 +34,24 @@ module _ (w : World) (s : ℕ) (x : WriteBlocks) (fit : RowFits s w.sites (w.lin
   changed_same i k =
       all_updated (λ (j : ℕ) (r : ℕ → Link). r k ≡ w.links j k) w.links s (λ j. link_after (w.nodes s) x j (w.links s j)) (row_after (w.nodes s) x s w.sites (w.links s) fit k) (λ j _. refl) i
 
-  none_given_up : (o : Outcome) → ((k : ℕ) → o.world.links s k ≡ w.links s k) → count_below w.sites (λ k. is_given_up (w.links s k) (o.world.links s k)) ≡ 0
+  none_given_up : (o : Outcome) → ((k : ℕ) → o.world.links s k ≡ w.links s k) → how_many_below w.sites (λ k. is_given_up (w.links s k) (o.world.links s k)) ≡ 0
   none_given_up o same = count_none w.sites (λ k. is_given_up (w.links s k) (o.world.links s k)) (λ k. none_given (w.links s k) (o.world.links s k) (same k))
 
   -- no header, whatever comes of it
-  put_none : (fails : Option ℕ) → count_below w.sites (λ k. is_given_up (w.links s k) ((put_in v s x fails).world.links s k)) ≡ 0
+  put_none : (fails : Option ℕ) → how_many_below w.sites (λ k. is_given_up (w.links s k) ((put_in v s x fails).world.links s k)) ≡ 0
   put_none None = none_given_up (put_in v s x None) (changed_same s)
   put_none (Some disk) = none_given_up (put_in v s x (Some disk)) (changed_same s)
 
-  admitted_none : (a : Admitted) (fails : Option ℕ) → count_below w.sites (λ k. is_given_up (w.links s k) ((written_if a w s x fails).world.links s k)) ≡ 0
+  admitted_none : (a : Admitted) (fails : Option ℕ) → how_many_below w.sites (λ k. is_given_up (w.links s k) ((written_if a w s x fails).world.links s k)) ≡ 0
   admitted_none (Held_by why) fails = none_given_up (written_if (Held_by why) w s x fails) (λ k. refl)
   admitted_none (Goes changes) fails =
-      Tests.unless_ends (λ (o : Outcome). count_below w.sites (λ k. is_given_up (w.links s k) (o.world.links s k)) ≡ 0) w (λ why. none_given_up (refused w why) (λ k. refl))
+      Tests.unless_ends (λ (o : Outcome). how_many_below w.sites (λ k. is_given_up (w.links s k) (o.world.links s k)) ≡ 0) w (λ why. none_given_up (refused w why) (λ k. refl))
       (leb MOST_NUMBER (w.nodes s).safe) (Limit Number MOST_NUMBER) (put_in v s x fails) (λ _. put_none fails)
 
   pub write_none : (fails : Option ℕ) (i : ℕ) → headers_by (Write s x.volume x.start x.bytes fails) w (outcome_of w (Write s x.volume x.start x.bytes fails)) i ≡ 0
   write_none fails i =
       none_at s i _
-      (λ _. Tests.volume_ends (λ (o : Outcome). count_below w.sites (λ k. is_given_up (w.links s k) (o.world.links s k)) ≡ 0) w (λ why. none_given_up (refused w why) (λ k. refl))
+      (λ _. Tests.volume_ends (λ (o : Outcome). how_many_below w.sites (λ k. is_given_up (w.links s k) (o.world.links s k)) ≡ 0) w (λ why. none_given_up (refused w why) (λ k. refl))
       s x.volume x.start (blocks_in x.bytes) (is_too_large (w.nodes s).ring (blocks_in x.bytes)) (written_if (admitted w s x) w s x fails) (λ _. admitted_none (admitted w s x) fails))
 
   pub put_step : (fails : Option ℕ) → IsLetIn w s x → outcome_of w (Write s x.volume x.start x.bytes fails) ≡ put_in v s x fails

@@ -105,8 +105,8 @@ row_with row place [] = row
 row_with row place (l ∷ ls) = row_with (updated row l.site (link_found place l)) (place + 1) ls
 
 -- the row of these links
-abbrev pub row_of : List KeptLink → ℕ → Link
-row_of ls = row_with (λ s. no_link) 0 ls
+abbrev pub row_of_kept : List KeptLink → ℕ → Link
+row_of_kept ls = row_with (λ s. no_link) 0 ls
 
 -- each link of the row shows in memory as a header keeps it
 abbrev pub IsAgain : (row : ℕ → Link) → Type 0

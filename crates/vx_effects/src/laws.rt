@@ -18,11 +18,11 @@ ghost use Rattle.vx_history.specs.LinkForms.{plain_link};
 ghost use Rattle.vx_history.specs.declared.admission.Change.{Change};
 ghost use Rattle.vx_history.specs.Sends.{is_linked, packets_of};
 ghost use Rattle.vx_history.specs.Step.{outcome_of, step};
-ghost use Rattle.vx_history.specs.Steps.{burned, crashed, half_begun, logged, raw_set, recovered, site_made, worked_on};
+ghost use Rattle.vx_history.specs.Steps.{burned, crashed, deported_site, group_set, half_begun, logged, raw_set, recovered, site_made, worked_on};
 ghost use Rattle.vx_history.specs.Stops.{IsOpen, WritesAt};
 ghost use Rattle.vx_history.specs.World.{DataAck, Link, Node, World, bare_site, empty_world, updated, with_node};
 ghost use Rattle.vx_history.specs.declared.event.Event.{Event};
-ghost use Rattle.vx_history.specs.declared.event.Event.TheVariants.{Apply, Crash, Fault, Raw, Read, Recover, Set, Site, Write};
+ghost use Rattle.vx_history.specs.declared.event.Event.TheVariants.{Apply, Crash, Deport, Fault, Group, Raw, Read, Recover, Set, Site, Write};
 ghost use Rattle.vx_history.specs.declared.event.Said.TheVariants.{Done};
 ghost use Rattle.vx_script.specs.declared.line.ScriptLine.{ScriptLine};
 ghost use Rattle.vx_events.specs.Doubts.{run_as, sure};
@@ -39,7 +39,7 @@ ghost use Rattle.vx_events.specs.Stamps.{waiting_of};
 ghost use Rattle.vx_events.specs.declared.said.Said.{Said};
 ghost use Rattle.vx_effects.specs.Applies.{applied_up_to, behind_apply};
 ghost use Rattle.vx_effects.specs.Facts.{down_fact, fact_of, half_fact, halted_fact, logged_fact, marked_fact, risen_fact};
-ghost use Rattle.vx_effects.specs.Restarts.{IsAgain, are_fine, facts_again, needs_of, row_of};
+ghost use Rattle.vx_effects.specs.Restarts.{IsAgain, are_fine, facts_again, needs_of, row_of_kept};
 ghost use Rattle.vx_effects.specs.Writes.{IsLetIn};
 
 /// The links of the world without sites fit. Events that are done, one that a failing disk ends, a crash of a site in doubt, and what a line notes keep
@@ -98,6 +98,11 @@ pub fn changes_one_site()
         (d.world.headers s + 1) (d.after s) d.world.packets (d.world.gathering s) }
     ensures raw { (d : Doubted) (s : ℕ) (taken : Bool) → s < d.world.sites → (d.world.nodes s).state ≡ Bare → is_raw_shape (d.world.nodes s).disks (d.world.nodes s).blocks ≡ true
         → EffectAt s d (happened d (Raw s) taken) (raw_set s (d.world.nodes s)) (d.world.links s) (d.world.headers s) (d.after s) d.world.packets (d.world.gathering s) }
+    ensures group { (d : Doubted) (s : ℕ) (taken : Bool) → s < d.world.sites → (d.world.nodes s).state ≡ Bare
+        → EffectAt s d (happened d (Group s) taken) (group_set s (d.world.nodes s)) (d.world.links s) (d.world.headers s) (d.after s) d.world.packets (d.world.gathering s) }
+    ensures deport { (d : Doubted) (s : ℕ) (taken : Bool) → s < d.world.sites → (d.world.nodes s).state ≡ Up → (d.world.nodes s).halted ≡ None
+        → EffectAt s d (happened d (Deport s) taken) (deported_site (crashed (d.world.nodes s) (kept_of (d.world.nodes s) 0))) (λ k. lost_touch (d.world.links s k)) (d.world.headers s) (d.after s)
+        d.world.packets None }
     ensures note { (d : Doubted) (s : ℕ) (n : Node) → EffectAt s d (record d { world = with_node d.world s n }) n (d.world.links s) (d.world.headers s) (d.after s) d.world.packets (d.world.gathering s) }
     ensures left { (s : ℕ) (line : ScriptLine) (taken : Bool) (d last new : Doubted) → IsLeft s line taken d last new → ChangesAt s last new }
     ensures site { (d : Doubted) (name : List ℕ) (disks blocks : ℕ) (taken : Bool) → outcome_of d.world (Site name disks blocks) ≡ record { world = site_made d.world name disks blocks; said = Done }
@@ -145,9 +150,9 @@ pub fn headers_keep_the_same()
 /// Links that a header keeps, and that a site may keep, are those of a row that fits; those of a row that fits are such links. In memory a site that
 /// comes up has them as its header keeps them, each with the blocks that it needs.
 pub fn links_come_back()
-    ensures fits { (p sites : ℕ) (ls : List KeptLink) → are_fine p sites ls ≡ true → RowFits p sites (row_of ls) }
-    ensures kept { (p sites : ℕ) (ls : List KeptLink) → are_fine p sites ls ≡ true → kept_links (row_of ls) (linked_sites (row_of ls) sites 0 sites) ≡ ls }
-    ensures found { (p sites : ℕ) (ls : List KeptLink) → are_fine p sites ls ≡ true → IsAgain (row_of ls) }
+    ensures fits { (p sites : ℕ) (ls : List KeptLink) → are_fine p sites ls ≡ true → RowFits p sites (row_of_kept ls) }
+    ensures kept { (p sites : ℕ) (ls : List KeptLink) → are_fine p sites ls ≡ true → kept_links (row_of_kept ls) (linked_sites (row_of_kept ls) sites 0 sites) ≡ ls }
+    ensures found { (p sites : ℕ) (ls : List KeptLink) → are_fine p sites ls ≡ true → IsAgain (row_of_kept ls) }
     ensures fine { (p sites : ℕ) (row : ℕ → Link) → RowFits p sites row → are_fine p sites (kept_links row (linked_sites row sites 0 sites)) ≡ true }
     ensures restarted { (p sites : ℕ) (row : ℕ → Link) → RowFits p sites row → (n : Node) → IsAgain (λ k. restarted_link n k (row k)) }
     ensures facts { (n : Node) (row : ℕ → Link) (sites : ℕ) → IsAgain row

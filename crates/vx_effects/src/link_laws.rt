@@ -8,7 +8,7 @@ ghost use Rattle.vx_history.specs.Doubts.{After, Doubted, happened};
 ghost use Rattle.vx_history.specs.Events.{joined, linked_sites, new_link, opened};
 ghost use Rattle.vx_history.specs.KeptLinks.{kept_link, kept_links};
 ghost use Rattle.vx_history.specs.Listed.{HasPlaces, links_in};
-ghost use Rattle.vx_history.specs.Refusals.{links_of};
+ghost use Rattle.vx_history.specs.Refusals.{count_links_of};
 ghost use Rattle.vx_history.specs.Sends.{is_linked};
 ghost use Rattle.vx_history.specs.Step.{run, step};
 ghost use Rattle.vx_history.specs.Steps.{worked_on};
@@ -28,7 +28,7 @@ pub fn parts_change_one_site()
     ensures joins { (d : Doubted) (p s : ℕ) (sync : SyncMode) (taken : Bool) → (step d.world (LinkAt p s sync Joins)).said ≡ Done
         → EffectAt s d (happened d (LinkAt p s sync Joins) taken) (joined (d.world.nodes p) p (d.world.nodes s)) (d.world.links s) (d.world.headers s + 1) (d.after s) d.world.packets None }
     ensures made { (d : Doubted) (p s : ℕ) (sync : SyncMode) (taken : Bool) → (step d.world (LinkAt p s sync Made)).said ≡ Done
-        → EffectAt p d (happened d (LinkAt p s sync Made) taken) (d.world.nodes p) (updated (d.world.links p) s (new_link (links_of d.world p) sync (d.world.nodes s)))
+        → EffectAt p d (happened d (LinkAt p s sync Made) taken) (d.world.nodes p) (updated (d.world.links p) s (new_link (count_links_of d.world p) sync (d.world.nodes s)))
         (d.world.headers p + 1) (d.after p) d.world.packets (d.world.gathering p) }
     ensures marked { (d : Doubted) (p s : ℕ) (sync : SyncMode) (taken : Bool) → (step d.world (LinkAt p s sync Marked)).said ≡ Done
         → EffectAt s d (happened d (LinkAt p s sync Marked) taken) (record (d.world.nodes s) { mark = Consistent }) (d.world.links s) (d.world.headers s + 1) (d.after s) d.world.packets

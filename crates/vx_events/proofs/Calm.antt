@@ -10,7 +10,7 @@ use Rattle.vx_history.specs.Doubts.{After, Doubted, crashed_by, happened, resolv
 use Rattle.vx_history.specs.Step.{step, run}
 use Rattle.vx_history.specs.World.{World}
 use Rattle.vx_history.specs.declared.event.Event.{Event}
-use Rattle.vx_order.specs.Order.{refusal_of}
+use Rattle.vx_order.specs.Order.{line_refusal}
 use Rattle.vx_order.specs.declared.facts.SiteFacts.{SiteFacts}
 use Rattle.vx_report.specs.declared.view.LinkView.{LinkView}
 use Rattle.vx_report.specs.declared.view.SiteView.{SiteView}
@@ -18,7 +18,7 @@ use Rattle.vx_script.specs.declared.line.ScriptLine.{ScriptLine}
 use Rattle.vx_script.specs.declared.line.ScriptLine.TheVariants.{Deliver}
 use Rattle.vx_events.proofs.LinkTesting.{no_links_seen}
 use Rattle.vx_events.proofs.Steps.{no_sites}
-use Rattle.vx_events.specs.Doubts.{sure, chosen, run_as}
+use Rattle.vx_events.specs.Doubts.{sure, doubt_chosen, run_as}
 use Rattle.vx_events.specs.Ends.{IsLeft, noted}
 use Rattle.vx_events.specs.Facts.{facts_of}
 use Rattle.vx_events.specs.LinkViews.{link_views, linked_view, views_by}
@@ -36,7 +36,7 @@ resolved_world : (o : Option ℕ) (d : Doubted) → (resolved_for o d false).wor
 resolved_world None d = refl
 resolved_world (Some s) d = refl
 
-pub chosen_world : (d : Doubted) (e : Event) → (chosen false d e).world ≡ d.world
+pub chosen_world : (d : Doubted) (e : Event) → (doubt_chosen false d e).world ≡ d.world
 chosen_world d e = resolved_world (crashed_by e) d
 
 pub run_world : (d : Doubted) (es : List Event) → (run_as false d es).world ≡ run d.world es
@@ -87,9 +87,9 @@ none_sent w new same =
 -- ---- refusals
 
 -- a line that is none of links is refused by what the tests see without links
-pub refused_same : (w : World) (files : Bool) (line : ScriptLine) → IsUnlinked w → is_of_links line ≡ false → refused_by w files line ≡ refusal_of (facts_of w) files line
+pub refused_same : (w : World) (files : Bool) (line : ScriptLine) → IsUnlinked w → is_of_links line ≡ false → refused_by w files line ≡ line_refusal (facts_of w) files line
 refused_same w files (Deliver number) none is = absurd (cc)
-refused_same w files other none is = ap (λ (fs : List SiteFacts). refusal_of fs files other) (no_links_seen w none)
+refused_same w files other none is = ap (λ (fs : List SiteFacts). line_refusal fs files other) (no_links_seen w none)
 
 -- ---- numbers
 

@@ -17,7 +17,7 @@ use Rattle.vx_model.specs.declared.site.SiteState.{SiteState}
 use Rattle.vx_model.specs.declared.site.SiteState.TheVariants.{Bare, Up, Deported, Down}
 use Rattle.vx_history.proofs.Updates.{all_updated}
 use Rattle.vx_history.specs.Admission.{Admitted, Held_by, Goes}
-use Rattle.vx_history.specs.Events.{admitted, written_if, put_in, links_changed, link_after, acknowledged, applied, applied_by, apply_at, reached_at, crash_at, crash_world, kept_of, lost_touch, recover_from, recovery, recovered_at, restarted_link, come_back, recovery_greeting}
+use Rattle.vx_history.specs.Events.{admitted, written_if, put_in, links_changed, link_after, acknowledged, applied, applied_by, apply_at, reached_at, crash_at, deport_at, crash_world, kept_of, lost_touch, recover_from, recovery, recovered_at, restarted_link, come_back, recovery_greeting}
 use Rattle.vx_history.specs.LinkForms.{plain_receiver}
 use Rattle.vx_history.specs.Receiving.{Received, received_step}
 use Rattle.vx_history.specs.Refusals.{Outcome, says, unless, unless_halted, is_primary, some_below, at_site, at_work, on_volume}
@@ -25,10 +25,10 @@ use Rattle.vx_history.specs.Sends.{is_linked, with_links, sending}
 use Rattle.vx_history.specs.Headers.{headers_by}
 use Rattle.vx_history.specs.Step.{step, outcome_of, run, done, joined_blocks}
 use Rattle.vx_history.specs.declared.event.Said.TheVariants.{Got, Refused}
-use Rattle.vx_history.specs.Steps.{site_made, raw_made, raw_set, written, logged, half_written, crashed, crash_left, session_begun, stopped_by, recovered, burned}
+use Rattle.vx_history.specs.Steps.{site_made, raw_made, raw_set, group_made, group_set, written, logged, half_written, crashed, crash_left, deported_site, deported_world, session_begun, stopped_by, recovered, burned}
 use Rattle.vx_history.specs.World.{Node, Link as LinkOf, World, bare_site, updated, with_node}
 use Rattle.vx_history.specs.declared.event.Event.{Event}
-use Rattle.vx_history.specs.declared.event.Event.TheVariants.{Site, Raw, Write, Read, Apply, Pump, Tick, Deliver, Connect, Cut, Pause, Resume, Wait, Link, Set, Crash, Recover, Fault}
+use Rattle.vx_history.specs.declared.event.Event.TheVariants.{Site, Raw, Group, Write, Read, Apply, Pump, Tick, Deliver, Connect, Cut, Pause, Resume, Wait, Link, Set, Crash, Deport, Recover, Fault}
 use Rattle.vx_history.specs.declared.receiver.RAction.{RAction}
 use Rattle.vx_history.specs.declared.receiver.RAction.TheVariants.{Nothing, Ignored, IgnoredAck, Take, DataAck}
 use Rattle.vx_history.specs.declared.receiver.RState.{RState}
@@ -39,10 +39,12 @@ use Rattle.vx_events.specs.Plain.{IsUnlinked, ArePrimaries}
 abbrev pub IsSingle : Event → Type 0
 IsSingle (Site name disks blocks) = Unit {0}
 IsSingle (Raw s) = Unit {0}
+IsSingle (Group s) = Unit {0}
 IsSingle (Write s volume start bytes fails) = Unit {0}
 IsSingle (Read s volume start count) = Unit {0}
 IsSingle (Apply s count reached) = Unit {0}
 IsSingle (Crash s kept) = Unit {0}
+IsSingle (Deport s) = Unit {0}
 IsSingle (Recover s fails) = Unit {0}
 IsSingle (Fault s disk) = Unit {0}
 IsSingle other = ⊥
@@ -55,11 +57,13 @@ AllSingle (e ∷ es) = IsSingle e × AllSingle es
 pub record KeptBy (P : World → Type 0) : Type 0 where
   pub site : (w : World) (name : List ℕ) (disks blocks : ℕ) → P w → P (site_made w name disks blocks)
   pub raw : (w : World) (s : ℕ) → P w → P (raw_made w s)
+  pub group : (w : World) (s : ℕ) → P w → P (group_made w s)
   pub links : (w : World) (s : ℕ) (x : WriteBlocks) → P w → P (links_changed w s x)
   pub write : (w : World) (s : ℕ) (x : WriteBlocks) → P w → P (written w s x)
   pub half : (w : World) (s : ℕ) (x : WriteBlocks) (disk : ℕ) → P w → P (half_written w s x disk)
   pub apply : (w : World) (s number : ℕ) (mark : Mark) → P w → P (acknowledged w s (applied (w.nodes s) number mark))
   pub crash : (w : World) (s kept : ℕ) → P w → P (crash_at w s kept)
+  pub deport : (w : World) (s : ℕ) → P w → P (deported_world w s)
   pub recover : (w : World) (s : ℕ) → P w → P (recovered_at w s)
   pub session : (w : World) (s : ℕ) → P w → P (session_begun w s)
   pub stop : (w : World) (s disk : ℕ) → P w → P (stopped_by w s disk)
@@ -131,7 +135,7 @@ module _ (P : World → Type 0) (keeps : KeptBy P) where
   recover_keeps : (state : SiteState) (w : World) (s : ℕ) (fails : Option ℕ) → P w → Holds P (recover_from state w s fails)
   recover_keeps Bare w s fails p = p
   recover_keeps Up w s fails p = p
-  recover_keeps Deported w s fails p = p
+  recover_keeps Deported w s fails p = past P (leb MOST_NUMBER (w.nodes s).session) (Limit Number MOST_NUMBER) w (recovery w s fails) p (recovery_keeps w s fails p)
   recover_keeps Down w s fails p = past P (leb MOST_NUMBER (w.nodes s).session) (Limit Number MOST_NUMBER) w (recovery w s fails) p (recovery_keeps w s fails p)
 
   outcome_keeps : (w : World) (e : Event) → IsSingle e → P w → P (outcome_of w e).world
@@ -150,6 +154,10 @@ module _ (P : World → Type 0) (keeps : KeptBy P) where
       past_site P w s (unless (not (is_bare (w.nodes s).state)) WrongRole w sized) p
       (past P (not (is_bare (w.nodes s).state)) WrongRole w sized p
       (past P (not (is_raw_shape (w.nodes s).disks (w.nodes s).blocks)) Size w o p (keeps.raw w s p)))
+  outcome_keeps w (Group s) one p =
+      let o : Outcome = done (group_made w s) in
+      past_site P w s (unless (not (is_bare (w.nodes s).state)) WrongRole w o) p
+      (past P (not (is_bare (w.nodes s).state)) WrongRole w o p (keeps.group w s p))
   outcome_keeps w (Write s volume start bytes fails) one p =
       let x : WriteBlocks = record { volume = volume; start = start; bytes = bytes } in
       past_volume P w s volume start (blocks_in bytes) (is_too_large (w.nodes s).ring (blocks_in bytes)) (written_if (admitted w s x) w s x fails) p (written_keeps (admitted w s x) w s x fails p)
@@ -162,6 +170,10 @@ module _ (P : World → Type 0) (keeps : KeptBy P) where
       let o : Outcome = done (crash_at w s (kept_of (w.nodes s) kept)) in
       past_site P w s (unless (not (is_up (w.nodes s).state)) NotUp w o) p
       (past P (not (is_up (w.nodes s).state)) NotUp w o p (keeps.crash w s (kept_of (w.nodes s) kept) p))
+  outcome_keeps w (Deport s) one p =
+      let k : ℕ = kept_of (w.nodes s) 0 in
+      let o : Outcome = done (deport_at w s) in
+      past_site P w s (at_work w s o) p (past_work P w s o p (keeps.deport (crash_at w s k) s (keeps.crash w s k p)))
   outcome_keeps w (Recover s fails) one p = past_site P w s (recover_from (w.nodes s).state w s fails) p (recover_keeps (w.nodes s).state w s fails p)
   outcome_keeps w (Fault s disk) one p =
       let o : Outcome = says (stopped_by w s disk) (Refused (Device disk)) in
@@ -204,6 +216,7 @@ unlinked_kept : KeptBy IsUnlinked
 unlinked_kept = record {
   site = λ w name disks blocks none. same_links w (site_made w name disks blocks) (λ p s. refl) none;
   raw = λ w s none. same_links w (raw_made w s) (λ p q. refl) none;
+  group = λ w s none. same_links w (group_made w s) (λ p q. refl) none;
   links = λ w s x none. row_unlinked w s (λ k. link_after (w.nodes s) x k (w.links s k)) none (λ k. refl);
   write = λ w s x none. same_links w (written w s x) (λ p q. refl) none;
   half = λ w s x disk none. same_links w (half_written w s x disk) (λ p q. refl) none;
@@ -212,6 +225,7 @@ unlinked_kept = record {
       same_links (with_links (crash_world w s kept) s (λ to. lost_touch (w.links s to))) (crash_at w s kept) (λ p q. refl)
       (row_unlinked (crash_world w s kept) s (λ to. lost_touch (w.links s to)) (same_links w (crash_world w s kept) (crash_links (is_origin (w.nodes s).role) w s kept) none)
       (λ k. ap (λ (l : LinkOf). is_linked l) (sym (crash_links (is_origin (w.nodes s).role) w s kept s k))));
+  deport = λ w s none. same_links w (deported_world w s) (λ p q. refl) none;
   recover = λ w s none.
       let n : Node = come_back (w.nodes s) in
       let v : World = with_links (with_node w s n) s (λ to. restarted_link n to (w.links s to)) in
@@ -251,11 +265,13 @@ primaries_kept : KeptBy ArePrimaries
 primaries_kept = record {
   site = λ w name disks blocks all. node_primary w (site_made w name disks blocks) w.sites (bare_site name disks blocks) (λ k. refl) refl all;
   raw = λ w s all. node_primary w (raw_made w s) s (raw_set s (w.nodes s)) (λ k. refl) refl all;
+  group = λ w s all. node_primary w (group_made w s) s (group_set s (w.nodes s)) (λ k. refl) refl all;
   links = λ w s x all. record { each = all.each };
   write = λ w s x all. node_primary w (written w s x) s (logged (w.nodes s) x) (λ k. refl) (all.each s) all;
   half = λ w s x disk all. node_primary w (half_written w s x disk) s (record (w.nodes s) { log = (w.nodes s).log ++ x ∷ []; halted = Some disk; fuse = burned (w.nodes s).fuse }) (λ k. refl) (all.each s) all;
   apply = λ w s number mark all. node_primary w (acknowledged w s (applied (w.nodes s) number mark)) s (applied (w.nodes s) number mark) (λ k. refl) (all.each s) all;
   crash = λ w s kept all. node_primary w (crash_at w s kept) s (crashed (w.nodes s) kept) (crash_nodes_are w s kept) (all.each s) all;
+  deport = λ w s all. node_primary w (deported_world w s) s (deported_site (w.nodes s)) (λ k. refl) (all.each s) all;
   recover = λ w s all.
       node_primary w (recovered_at w s) s (come_back (w.nodes s)) (λ k. refl) (ap (λ (n : Node). n.role) (back_primary (w.nodes s) (all.each s)) ∙ all.each s) all;
   session = λ w s all. node_primary w (session_begun w s) s (record (w.nodes s) { session = (w.nodes s).session + 1 }) (λ k. refl) (all.each s) all;

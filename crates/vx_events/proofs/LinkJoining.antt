@@ -18,7 +18,7 @@ use Rattle.vx_model.specs.declared.site.SiteState.TheVariants.{Up}
 use Rattle.vx_history.specs.Events.{linked_sites, joined}
 use Rattle.vx_history.specs.Gatherings.{emptied}
 use Rattle.vx_history.specs.Refusals as history
-use Rattle.vx_history.specs.Refusals.{Outcome, unless, unless_halted, at_site, both_at_work, may_join, may_link, is_fresh, agree, is_empty, links_of, some_below}
+use Rattle.vx_history.specs.Refusals.{Outcome, unless, unless_halted, at_site, both_at_work, may_join, may_link, is_fresh, agree, is_empty, count_links_of, some_below, is_primary}
 use Rattle.vx_history.specs.Sends.{is_linked}
 use Rattle.vx_history.specs.Step.{step, outcome_of, done}
 use Rattle.vx_history.specs.World.{Node, Link as LinkOf, Volume, World, with_node}
@@ -29,16 +29,15 @@ use Rattle.vx_order.specs.declared.facts.SiteFacts.{SiteFacts}
 use Rattle.vx_order.specs.declared.facts.LinkFacts.{LinkFacts}
 use Rattle.vx_order.specs.declared.facts.RvgFacts.{RvgFacts}
 use Rattle.vx_order.specs.Asks.{ask_of}
-use Rattle.vx_order.specs.Calls.{is_primary}
 use Rattle.vx_order.specs.Joining.{is_unused, on_first, are_two, can_link, linked_already, data_sizes, same_sizes, volumes_agree, ring_fits}
 use Rattle.vx_order.specs.Links.{place_named, link_to, link_towards, link_count}
 use Rattle.vx_order.specs.Sites.{site_named, site_off, rvg_of, halted_one}
 use Rattle.vx_order.specs.Subject.{first_name, second_name, need_of, halt_of}
-use Rattle.vx_order.specs.Tests.{when, before, first_of}
+use Rattle.vx_order.specs.Tests.{when, before, first_said_no}
 use Rattle.vx_script.specs.declared.line.ScriptLine.TheVariants.{Link}
 use Rattle.vx_events.specs.Durables.{AreDurable}
 use Rattle.vx_events.specs.Facts.{site_number, volume_fact, group_fact, group_by, head_of}
-use Rattle.vx_events.specs.LinkedFacts.{link_fact, link_facts, links_by, links_in, linked_fact, linked_facts, refused_by}
+use Rattle.vx_events.specs.LinkedFacts.{link_fact, link_facts, links_by, links_of_site, linked_fact, linked_facts, refused_by}
 use Rattle.vx_history.specs.Listed.{IsAmong, AreListed}
 use Rattle.vx_events.proofs.LinkTesting.{Seat, seat_at, shown, up_state}
 use Rattle.vx_events.proofs.Passing.{off, is_site, above}
@@ -153,14 +152,14 @@ record MayJoin (w : World) (a b : ℕ) : Type 0 where
   second : IsHere w b
   may : may_link w a b ≡ true
   free : is_linked (w.links a b) ≡ false
-  few : links_of w a < MOST_LINKS
+  few : count_links_of w a < MOST_LINKS
   fits : (agree (w.nodes a).volumes (w.nodes b).volumes && history.rings_fit (w.nodes a) (w.nodes b)) ≡ true
 
 joins_step : (w : World) (a b : ℕ) (sync : SyncMode) → MayJoin w a b → outcome_of w (LinkAt a b sync Joins) ≡ done (emptied (with_node w b (joined (w.nodes a) a (w.nodes b))) b)
 joins_step w a b sync m =
     let o : Outcome = done (emptied (with_node w b (joined (w.nodes a) a (w.nodes b))) b) in
     let sized : Outcome = unless (not (agree (w.nodes a).volumes (w.nodes b).volumes && history.rings_fit (w.nodes a) (w.nodes b))) Size w o in
-    let room : Outcome = unless (leb MOST_LINKS (links_of w a)) (Limit Links MOST_LINKS) w sized in
+    let room : Outcome = unless (leb MOST_LINKS (count_links_of w a)) (Limit Links MOST_LINKS) w sized in
     let free : Outcome = unless (is_linked (w.links a b)) (Exists (w.nodes b).name) w room in
     let joins : Outcome = may_join w a b o in
     let second : Outcome = unless_halted (w.nodes b).halted w joins in
@@ -173,7 +172,7 @@ joins_step w a b sync m =
     ∙ ap (λ (h : Option ℕ). unless_halted h w joins) m.second.running
     ∙ off (not (may_link w a b)) WrongRole w free (ap not m.may)
     ∙ off (is_linked (w.links a b)) (Exists (w.nodes b).name) w room m.free
-    ∙ off (leb MOST_LINKS (links_of w a)) (Limit Links MOST_LINKS) w sized (above MOST_LINKS (links_of w a) m.few)
+    ∙ off (leb MOST_LINKS (count_links_of w a)) (Limit Links MOST_LINKS) w sized (above MOST_LINKS (count_links_of w a) m.few)
     ∙ off (not (agree (w.nodes a).volumes (w.nodes b).volumes && history.rings_fit (w.nodes a) (w.nodes b))) Size w o (ap not m.fits)
 
 pub both_hold : (x y : Bool) → x ≡ true → y ≡ true → (x && y) ≡ true
@@ -193,7 +192,7 @@ module _ (w : World) (whole : AreDurable w) (listed : AreListed w) (p s : List �
   row_of i = linked_sites (w.links i) w.sites 0 w.sites
 
   counted_here : (i : ℕ) → (w.nodes i).state ≡ Up → link_count (Some (linked_fact w i)) ≡ length (row_of i)
-  counted_here i up = ap (λ (t : SiteState). if is_up t then length (links_by t (links_in w i)) else 0) up ∙ length-link_facts (w.nodes i) (w.links i) (row_of i)
+  counted_here i up = ap (λ (t : SiteState). if is_up t then length (links_by t (links_of_site w i)) else 0) up ∙ length-link_facts (w.nodes i) (w.links i) (row_of i)
 
   fresh : link_count (Some (linked_fact w b)) ≡ 0 → some_below w.sites (λ k. is_linked (w.links b k)) ≡ false
   fresh e =
@@ -223,7 +222,7 @@ module _ (w : World) (whole : AreDurable w) (listed : AreListed w) (p s : List �
   free_here e =
       by_test (is_linked (w.links a b))
       (λ is. among_found (w.nodes a) (w.links a) b (row_of a) (listed.each a b two.below is)
-      (sym (ap (λ (t : SiteState). if is_up t then link_to (links_by t (links_in w a)) (Some b) else None) here.up) ∙ e))
+      (sym (ap (λ (t : SiteState). if is_up t then link_to (links_by t (links_of_site w a)) (Some b) else None) here.up) ∙ e))
 
   fits_here : (volumes_agree (Some (linked_fact w a)) (Some (linked_fact w b)) && ring_fits (rvg_of (Some (linked_fact w a))) (rvg_of (Some (linked_fact w b)))) ≡ true
       → (agree (w.nodes a).volumes (w.nodes b).volumes && history.rings_fit (w.nodes a) (w.nodes b)) ≡ true
@@ -234,7 +233,7 @@ module _ (w : World) (whole : AreDurable w) (listed : AreListed w) (p s : List �
 
 pub join_agrees : (w : World) (files : Bool) (p s : List ℕ) (sync : SyncMode) (prot : Prot) → AreDurable w → AreListed w → refused_by w files (Link p s sync prot) ≡ None
     → (step w (LinkAt (site_number w p) (site_number w s) sync Joins)).said ≡ Done
-unfolding first_name second_name need_of halt_of ask_of first_of
+unfolding first_name second_name need_of halt_of ask_of first_said_no
 join_agrees w files p s sync prot whole listed free =
     let t = passes (linked_facts w) files (Link p s sync prot) free in
     let a : ℕ = site_number w p in
@@ -264,7 +263,7 @@ join_agrees w files p s sync prot whole listed free =
     (when_none (not (volumes_agree (Some (linked_fact w a)) (Some (linked_fact w b)) && ring_fits (rvg_of (Some (linked_fact w a))) (rvg_of (Some (linked_fact w b))))) _
     (subst (λ (o : Option SiteFacts). when (not (volumes_agree (Some (linked_fact w a)) o && ring_fits (rvg_of (Some (linked_fact w a))) (rvg_of o))) Size ≡ None) two.found
     (subst (λ (o : Option SiteFacts). when (not (volumes_agree o (site_named (linked_facts w) s) && ring_fits (rvg_of o) (rvg_of (site_named (linked_facts w) s)))) Size ≡ None) one.found t.link_size))) in
-    let links : links_of w a ≡ link_count (Some (linked_fact w a)) = listed.count a ∙ sym (counted_here w whole listed p s one two here there a here.up) in
+    let links : count_links_of w a ≡ link_count (Some (linked_fact w a)) = listed.count a ∙ sym (counted_here w whole listed p s one two here there a here.up) in
     ap (λ (o : Outcome). o.said)
     (joins_step w a b sync (record {
       below_a = one.below;

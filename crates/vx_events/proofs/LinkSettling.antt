@@ -9,7 +9,7 @@ use Rattle.vx_model.specs.declared.site.Role.{Role}
 use Rattle.vx_model.specs.declared.site.Role.TheVariants.{Primary, Secondary, Handing, Bunker}
 use Rattle.vx_history.proofs.Updates.{same_line_equal}
 use Rattle.vx_history.specs.Doubts.{Doubted}
-use Rattle.vx_history.specs.Refusals.{is_stale, keeps_links}
+use Rattle.vx_history.specs.Refusals.{is_stale_mode, keeps_links}
 use Rattle.vx_history.specs.Settling.{MaySettle}
 use Rattle.vx_history.specs.World.{Link as LinkOf, World}
 use Rattle.vx_order.specs.declared.facts.LinkFacts.{LinkFacts}
@@ -20,7 +20,7 @@ use Rattle.vx_order.specs.Links.{link_towards, place_named}
 use Rattle.vx_order.specs.Sending.{cut_off, goes_by_nothing, held_up, is_fork, is_taker, leads_astray, sends, takes_from}
 use Rattle.vx_order.specs.Sites.{halted_one, rvg_of, site_named, site_off}
 use Rattle.vx_order.specs.Subject.{first_name, second_name, need_of, halt_of}
-use Rattle.vx_order.specs.Tests.{first_of, when}
+use Rattle.vx_order.specs.Tests.{first_said_no, when}
 use Rattle.vx_script.specs.declared.line.ScriptLine.TheVariants.{Settle}
 use Rattle.vx_events.specs.Facts.{group_fact, site_number}
 use Rattle.vx_events.specs.LinkedFacts.{link_fact, linked_fact, linked_facts, refused_by}
@@ -31,7 +31,7 @@ use Rattle.vx_events.proofs.LinkTesting.{on_link_by, seat_at, shown}
 use Rattle.vx_events.proofs.Refused.{neither, not_false, passes, when_none}
 
 -- a plain link that goes by something goes by the log
-by_log : (m : Mode) → is_plain_mode m ≡ true → is_stale m ≡ false → m ≡ Log
+by_log : (m : Mode) → is_plain_mode m ≡ true → is_stale_mode m ≡ false → m ≡ Log
 by_log Log plain goes = refl
 by_log Dcm plain goes = absurd (cc)
 by_log (Replay id phase left start end) plain goes = absurd (cc)
@@ -56,7 +56,7 @@ ends_on mode bunker f g log none leads =
 
 pub settle_agrees : (d : Doubted) (files : Bool) (p s : List ℕ) → LinksFit d → refused_by d.world files (Settle p s) ≡ None
     → CanSettle d.world (site_number d.world p) (site_number d.world s)
-unfolding first_name second_name need_of halt_of ask_of first_of
+unfolding first_name second_name need_of halt_of ask_of first_said_no
 settle_agrees d files p s fits free =
     let w : World = d.world in
     let t = passes (linked_facts w) files (Settle p s) free in

@@ -12,11 +12,11 @@ use Rattle.vx_history.specs.declared.event.Event.TheVariants.{Site as MakeSite, 
 use Rattle.vx_script.specs.declared.line.ScriptLine.{ScriptLine}
 use Rattle.vx_script.specs.declared.line.ScriptLine.TheVariants.{Link, Set, Crash}
 use Rattle.vx_order.specs.Asks.{ask_of}
-use Rattle.vx_order.specs.Order.{refusal_of}
+use Rattle.vx_order.specs.Order.{line_refusal}
 use Rattle.vx_order.specs.Shapes.{line_role, line_unknown, taken, over_limit, wrong_size}
 use Rattle.vx_order.specs.Spans.{span_of}
 use Rattle.vx_order.specs.Subject.{first_name, second_name, need_of, halt_of}
-use Rattle.vx_order.specs.Tests.{first_of}
+use Rattle.vx_order.specs.Tests.{first_said_no}
 use Rattle.vx_events.proofs.Stopping.{runs_as}
 use Rattle.vx_events.specs.Doubts.{run_as, sure, with_disks}
 use Rattle.vx_events.specs.Ends.{AllDone}
@@ -44,7 +44,7 @@ abbrev link_line : ScriptLine
 link_line = Link a b NeverWaits FailsWhenFull
 
 links : LineStep (Unit {0}) false two link_line [] Done (behind two link_line)
-unfolding refusal_of first_of first_name second_name need_of halt_of line_role line_unknown taken over_limit wrong_size span_of ask_of is_raw_shape
+unfolding line_refusal first_said_no first_name second_name need_of halt_of line_role line_unknown taken over_limit wrong_size span_of ask_of is_raw_shape
 links = record {
   ends = LinksDone (run_as false two (link_events two.world link_line)) (runs_as false two (link_events two.world link_line)) refl refl refl (record { world = refl; after = λ s. refl });
   counts = tt;
@@ -62,7 +62,7 @@ doubt =
     let last = halved d (SetAt 0 1 FailsIfNotLive) 0 0 in record last { world = link_noted d.world set_line last.world }
 
 sets : LineStep (Unit {0}) false (behind two link_line) set_line ((0, 0) ∷ []) (Refused (Device 0)) doubt
-unfolding refusal_of first_of first_name second_name need_of halt_of line_role line_unknown taken over_limit wrong_size span_of ask_of is_raw_shape
+unfolding line_refusal first_said_no first_name second_name need_of halt_of line_role line_unknown taken over_limit wrong_size span_of ask_of is_raw_shape
 sets = record {
   ends = LinksHalt (SetAt 0 1 FailsIfNotLive) 0 0 (behind two link_line)
       (record { before = []; rest = []; split = refl; runs = refl; fails = refl; opens = (refl, refl); writes = refl }) refl refl (record { world = refl; after = λ s. refl });
@@ -80,7 +80,7 @@ crashed taken =
     let last = run_as taken doubt (CrashAt 0 0 ∷ []) in record last { world = with_disks taken 0 doubt.world last.world }
 
 crashes : (taken : Bool) → LineStep (Unit {0}) false doubt crash_line [] Done (crashed taken)
-unfolding refusal_of first_of first_name second_name need_of halt_of line_role line_unknown taken over_limit wrong_size span_of ask_of is_raw_shape
+unfolding line_refusal first_said_no first_name second_name need_of halt_of line_role line_unknown taken over_limit wrong_size span_of ask_of is_raw_shape
 crashes true = record {
   ends = AllDone (record { kept = 0; reached = 0 }) true refl refl (record { world = refl; after = λ s. refl });
   counts = tt;

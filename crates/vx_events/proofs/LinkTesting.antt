@@ -21,7 +21,7 @@ use Rattle.vx_order.specs.Sending.{not_linked}
 use Rattle.vx_order.specs.Sites.{site_named, unknown_one, site_off, rvg_of, halted_one}
 use Rattle.vx_order.specs.Tests.{when}
 use Rattle.vx_events.specs.Facts.{site_fact, facts_of, values_from, seat_of, site_number, group_fact, group_by}
-use Rattle.vx_events.specs.LinkedFacts.{link_fact, link_facts, links_by, links_in, linked_fact, linked_facts}
+use Rattle.vx_events.specs.LinkedFacts.{link_fact, link_facts, links_by, links_of_site, linked_fact, linked_facts}
 use Rattle.vx_events.specs.Plain.{IsUnlinked}
 use Rattle.vx_events.proofs.Steps.{no_sites}
 use Rattle.vx_events.proofs.Places.{position_within, some_same, never_some}
@@ -151,10 +151,10 @@ on_link_by w p s tests test same known other up running role link =
     let group : rvg_of (Some (linked_fact w a)) ≡ Some (group_fact n) = shown w a up_here in
     let role_here : when (not (tests (Some (group_fact n)))) WrongRole ≡ None =
     subst (λ (o : Option RvgFacts). when (not (tests o)) WrongRole ≡ None) group (subst (λ (o : Option SiteFacts). when (not (tests (rvg_of o))) WrongRole ≡ None) first.found role) in
-    let towards : link_towards (site_named (linked_facts w) p) (place_named (linked_facts w) (Some s)) ≡ find (λ (x : LinkFacts). x.link.site == b) (links_in w a) =
+    let towards : link_towards (site_named (linked_facts w) p) (place_named (linked_facts w) (Some s)) ≡ find (λ (x : LinkFacts). x.link.site == b) (links_of_site w a) =
     ap (λ (o : Option SiteFacts). link_towards o (place_named (linked_facts w) (Some s))) first.found
     ∙ ap (λ (o : Option ℕ). link_towards (Some (linked_fact w a)) o) second.place
-    ∙ ap (λ (t : SiteState). if is_up t then link_to (links_by t (links_in w a)) (Some b) else None) up_here in
+    ∙ ap (λ (t : SiteState). if is_up t then link_to (links_by t (links_of_site w a)) (Some b) else None) up_here in
     let linked = linked_none _ _ (subst (λ (o : Option SiteFacts). not_linked (link_towards (site_named (linked_facts w) p) (place_named (linked_facts w) (Some s))) o ≡ None) second.found link) in
     let is = found_link n (w.links a) (linked_sites (w.links a) w.sites 0 w.sites) b linked.0 (all_linked (w.links a) w.sites 0 w.sites) (sym towards ∙ linked.1) in
     record {

@@ -23,7 +23,7 @@ use Rattle.vx_order.specs.Subject.{first_name, second_name, need_of, halt_of}
 use Rattle.vx_order.specs.Tests.{when}
 use Rattle.vx_script.specs.declared.line.ScriptLine.TheVariants.{Wait}
 use Rattle.vx_events.specs.Facts.{site_number, group_fact, head_of}
-use Rattle.vx_events.specs.LinkedFacts.{link_fact, link_facts, links_by, links_in, linked_fact, linked_facts, refused_by}
+use Rattle.vx_events.specs.LinkedFacts.{link_fact, link_facts, links_by, links_of_site, linked_fact, linked_facts, refused_by}
 use Rattle.vx_history.specs.Listed.{IsAmong, AreListed}
 use Rattle.vx_events.proofs.LinkJoining.{IsHere, here_by, all_of, both_hold, by_test}
 use Rattle.vx_events.proofs.LinkTesting.{seat_at}
@@ -64,12 +64,12 @@ module _ (w : World) (listed : AreListed w) (a number : ℕ) (below : a < w.site
 
   none_unconfirmed : unconfirmed_at (Some (linked_fact w a)) number ≡ None → some_below w.sites (λ k. is_unconfirmed number k (w.links a k)) ≡ false
   none_unconfirmed e =
-      let none : list_any (lacks number) (links_in w a) ≡ false =
-      sym (ap (λ (t : SiteState). is_up t && list_any (lacks number) (links_by t (links_in w a))) here.up) ∙ when_none (is_up n.state && list_any (lacks number) (links_by n.state (links_in w a))) _ e in
+      let none : list_any (lacks number) (links_of_site w a) ≡ false =
+      sym (ap (λ (t : SiteState). is_up t && list_any (lacks number) (links_by t (links_of_site w a))) here.up) ∙ when_none (is_up n.state && list_any (lacks number) (links_by n.state (links_of_site w a))) _ e in
       none_under w.sites (λ k. is_unconfirmed number k (w.links a k))
       (λ k small. by_test (is_unconfirmed number k (w.links a k))
       (λ is. let both = lacking number n k (w.links a k) is in
-      never_both (list_any (lacks number) (links_in w a)) (any_among number n (w.links a) k (linked_sites (w.links a) w.sites 0 w.sites) (listed.each a k small both.0) both.1) none))
+      never_both (list_any (lacks number) (links_of_site w a)) (any_among number n (w.links a) k (linked_sites (w.links a) w.sites 0 w.sites) (listed.each a k small both.0) both.1) none))
 
   -- confirmed, or not yet
   answers : (b : Bool) → ((if b then says w (Pending number) else says (promising w (promises_of n number (w.links a) w.sites)) (DoneAt number)).said ≡ DoneAt number)

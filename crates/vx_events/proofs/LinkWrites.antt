@@ -7,7 +7,7 @@ use Rattle.vx_model.specs.Sites.{is_up}
 use Rattle.vx_model.specs.declared.no.No.TheVariants.{LinkDown}
 use Rattle.vx_model.specs.declared.site.SiteState.{SiteState}
 use Rattle.vx_history.specs.Admission.{Held, Link_is_down, Log_is_full, Log_stalls, Goes, is_down, first_down, first_full, full_log_of, held_by_room, held_when_full, is_holding, or_else, unless_held, changes}
-use Rattle.vx_history.specs.Events.{admitted, linked_sites, plain_links, uses, used_above}
+use Rattle.vx_history.specs.Events.{admitted, linked_sites, plain_links, log_uses, used_above}
 use Rattle.vx_history.specs.LinkForms.{plain_link}
 use Rattle.vx_model.specs.declared.link.Link.{Link as PlainLink}
 use Rattle.vx_history.specs.World.{Node, Link, World}
@@ -29,7 +29,7 @@ use Rattle.vx_order.specs.Subject.{first_name, halt_of}
 use Rattle.vx_order.specs.Tests.{before}
 use Rattle.vx_script.specs.declared.line.ScriptLine.TheVariants.{Write, Put}
 use Rattle.vx_events.specs.Facts.{site_number, group_by}
-use Rattle.vx_events.specs.LinkedFacts.{link_facts, links_by, links_in, linked_fact, linked_facts, refused_by}
+use Rattle.vx_events.specs.LinkedFacts.{link_facts, links_by, links_of_site, linked_fact, linked_facts, refused_by}
 use Rattle.vx_events.specs.Lines.{write_in}
 use Rattle.vx_events.proofs.LinkTesting.{Seat, seat_at}
 use Rattle.vx_events.proofs.Refused.{passes}
@@ -57,14 +57,14 @@ module _ (sites : List SiteFacts) (n : Node) (row : ℕ → Link) where
       by false more is = more is
 
   -- none leaves too little room
-  full_none : (need room : ℕ) (ss : List ℕ) → full_link sites need room (link_facts n row ss) ≡ None → first_full need room (zip (plain_links row ss) (uses n row ss)) ≡ None
+  full_none : (need room : ℕ) (ss : List ℕ) → full_link sites need room (link_facts n row ss) ≡ None → first_full need room (zip (plain_links row ss) (log_uses n row ss)) ≡ None
   full_none need room [] e = refl
   full_none need room (s ∷ ss) e =
       by (held_by_room need room (plain_link s (row s)) (used_above n s (row s))) (λ is. full_none need room ss is)
       (subst (λ (h : Option Held). before (with_name (site_name sites s) (refusal_if h)) (full_link sites need room (link_facts n row ss)) ≡ None) (held_needed need room (plain_link s (row s)) (used_above n s (row s))) e)
     where
-      by : (h : Option Held) → (full_link sites need room (link_facts n row ss) ≡ None → first_full need room (zip (plain_links row ss) (uses n row ss)) ≡ None) → before (with_name (site_name sites s) (refusal_if h)) (full_link sites need room (link_facts n row ss)) ≡ None
-          → or_else h (first_full need room (zip (plain_links row ss) (uses n row ss))) ≡ None
+      by : (h : Option Held) → (full_link sites need room (link_facts n row ss) ≡ None → first_full need room (zip (plain_links row ss) (log_uses n row ss)) ≡ None) → before (with_name (site_name sites s) (refusal_if h)) (full_link sites need room (link_facts n row ss)) ≡ None
+          → or_else h (first_full need room (zip (plain_links row ss) (log_uses n row ss))) ≡ None
       by None more is = more is
       by (Some (Link_is_down t)) more is = absurd (cc)
       by (Some (Log_is_full t)) more is = absurd (cc)
@@ -98,23 +98,23 @@ module _ (w : World) (name : List ℕ) (span : Span) (way : span.way ≡ Writes)
   none_down : first_down (plain_links (w.links a) ss) ≡ None
   none_down =
       down_none (linked_facts w) n (w.links a) ss
-      (sym (ap (λ (t : SiteState). if is_up t then down_link (linked_facts w) (links_by t (links_in w a)) else None) c.up)
+      (sym (ap (λ (t : SiteState). if is_up t then down_link (linked_facts w) (links_by t (links_of_site w a)) else None) c.up)
       ∙ ap (λ (o : Option ℕ). held_down (linked_facts w) (Some (linked_fact w a)) o) (sym record_there)
       ∙ ap (λ (o : Option SiteFacts). span_down (linked_facts w) o (Some span)) (sym seat.found) ∙ down)
 
-  none_full : first_full (span.count + 1) n.ring (zip (plain_links (w.links a) ss) (uses n (w.links a) ss)) ≡ None
+  none_full : first_full (span.count + 1) n.ring (zip (plain_links (w.links a) ss) (log_uses n (w.links a) ss)) ≡ None
   none_full =
       full_none (linked_facts w) n (w.links a) (span.count + 1) n.ring ss
-      (sym (ap (λ (t : SiteState). if is_up t then full_in (linked_facts w) (span.count + 1) (group_by t n) (links_by t (links_in w a)) else None) c.up)
+      (sym (ap (λ (t : SiteState). if is_up t then full_in (linked_facts w) (span.count + 1) (group_by t n) (links_by t (links_of_site w a)) else None) c.up)
       ∙ ap (λ (o : Option ℕ). held_full (linked_facts w) (Some (linked_fact w a)) o) (sym record_there)
       ∙ ap (λ (o : Option SiteFacts). span_full (linked_facts w) o (Some span)) (sym seat.found) ∙ full)
 
   pub let_in : (bytes : List ℕ) → blocks_in bytes ≡ span.count → (cs : List Change) × (admitted w a (write_in w name span.volume span.start bytes) ≡ Goes cs)
   let_in bytes many =
-      let all : List Change = changes (span.count + 1) n.ring (zip (plain_links (w.links a) ss) (uses n (w.links a) ss)) in (
+      let all : List Change = changes (span.count + 1) n.ring (zip (plain_links (w.links a) ss) (log_uses n (w.links a) ss)) in (
         all,
-        ap (λ (k : ℕ). unless_held (first_down (plain_links (w.links a) ss)) (unless_held (first_full (k + 1) n.ring (zip (plain_links (w.links a) ss) (uses n (w.links a) ss))) (Goes (changes (k + 1) n.ring (zip (plain_links (w.links a) ss) (uses n (w.links a) ss)))))) many
-            ∙ ap (λ (o : Option Held). unless_held o (unless_held (first_full (span.count + 1) n.ring (zip (plain_links (w.links a) ss) (uses n (w.links a) ss))) (Goes all))) none_down
+        ap (λ (k : ℕ). unless_held (first_down (plain_links (w.links a) ss)) (unless_held (first_full (k + 1) n.ring (zip (plain_links (w.links a) ss) (log_uses n (w.links a) ss))) (Goes (changes (k + 1) n.ring (zip (plain_links (w.links a) ss) (log_uses n (w.links a) ss)))))) many
+            ∙ ap (λ (o : Option Held). unless_held o (unless_held (first_full (span.count + 1) n.ring (zip (plain_links (w.links a) ss) (log_uses n (w.links a) ss))) (Goes all))) none_down
             ∙ ap (λ (o : Option Held). unless_held o (Goes all)) none_full,
       )
 

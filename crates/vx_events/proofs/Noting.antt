@@ -4,6 +4,7 @@ use Rattle.std.specs.Prelude.{Option, Some, None, ltb}
 use Rattle.vx_history.proofs.Updates.{all_updated, by_test}
 use Rattle.vx_history.specs.Doubts.{Doubted}
 use Rattle.vx_history.specs.Events.{packet_at}
+use Rattle.vx_history.specs.Groups.{GroupNode}
 use Rattle.vx_history.specs.Likes.{IsLike}
 use Rattle.vx_history.specs.Steps.{burned, worked_on}
 use Rattle.vx_history.specs.Stops.{IsLikeDoubted}
@@ -30,7 +31,7 @@ like_self w = record {
 like_noted : (v : World) (s : ℕ) (f : Fuse) → IsLike v (with_node v s (record (v.nodes s) { fuse = f }))
 like_noted v s f = record {
   sites = refl;
-  nodes = all_updated (λ i (n : Node). n ≡ record (v.nodes i) { fuse = n.fuse; failing = n.failing }) v.nodes s (record (v.nodes s) { fuse = f }) refl (λ k _. refl);
+  nodes = all_updated (λ i (n : Node). n ≡ record (v.nodes i) { fuse = n.fuse; failing = n.failing; group = n.group }) v.nodes s (record (v.nodes s) { fuse = f }) refl (λ k _. refl);
   links = λ p q. record { linked = refl; same = λ _. refl };
   lines = λ l. refl;
   packets = refl;
@@ -38,10 +39,10 @@ like_noted v s f = record {
   gathering = λ i. refl;
 }
 
-like_failing : (v : World) (s : ℕ) (failing : ℕ → Bool) → IsLike v (with_node v s (record (v.nodes s) { failing = failing }))
-like_failing v s failing = record {
+like_disks : (v : World) (s : ℕ) (failing : ℕ → Bool) (group : Option GroupNode) → IsLike v (with_node v s (record (v.nodes s) { failing = failing; group = group }))
+like_disks v s failing group = record {
   sites = refl;
-  nodes = all_updated (λ i (n : Node). n ≡ record (v.nodes i) { fuse = n.fuse; failing = n.failing }) v.nodes s (record (v.nodes s) { failing = failing }) refl (λ k _. refl);
+  nodes = all_updated (λ i (n : Node). n ≡ record (v.nodes i) { fuse = n.fuse; failing = n.failing; group = n.group }) v.nodes s (record (v.nodes s) { failing = failing; group = group }) refl (λ k _. refl);
   links = λ p q. record { linked = refl; same = λ _. refl };
   lines = λ l. refl;
   packets = refl;
@@ -50,7 +51,7 @@ like_failing v s failing = record {
 }
 
 line_noted : (s : ℕ) (line : ScriptLine) (v : World) → IsLike v (noted s line v)
-line_noted s (DiskLine site disk state) v = like_failing v s (updated (v.nodes s).failing disk (is_failing state))
+line_noted s (DiskLine site disk state) v = like_disks v s (updated (v.nodes s).failing disk (is_failing state)) (v.nodes s).group
 line_noted s (FuseLine site calls pick) v = like_noted v s (FuseSet calls)
 line_noted s (Write site volume start count fill) v = like_noted v s (burned (v.nodes s).fuse)
 line_noted s (Put site volume start bytes) v = like_noted v s (burned (v.nodes s).fuse)
@@ -60,7 +61,7 @@ line_noted s other v = like_self v
 pub like_then : {x y z : World} → IsLike x y → IsLike y z → IsLike x z
 like_then {x} {y} {z} a b = record {
   sites = b.sites ∙ a.sites;
-  nodes = λ i. b.nodes i ∙ ap (λ (n : Node). record n { fuse = (z.nodes i).fuse; failing = (z.nodes i).failing }) (a.nodes i);
+  nodes = λ i. b.nodes i ∙ ap (λ (n : Node). record n { fuse = (z.nodes i).fuse; failing = (z.nodes i).failing; group = (z.nodes i).group }) (a.nodes i);
   links = λ p q. record { linked = (b.links p q).linked ∙ (a.links p q).linked; same = λ is. (b.links p q).same ((a.links p q).linked ∙ is) ∙ (a.links p q).same is };
   lines = λ l. b.lines l ∙ a.lines l;
   packets = b.packets ∙ a.packets;
@@ -73,7 +74,7 @@ pub as_like : (last new : Doubted) (v : World) → IsLike last.world v → IsAs 
 as_like last new v like is = record { worlds = subst (λ (x : World). IsLike last.world x) (sym is.world) like; after = is.after }
 
 disks_like : (taken : Bool) (s : ℕ) (w v : World) → IsLike v (with_disks taken s w v)
-disks_like true s w v = like_failing v s (w.nodes s).failing
+disks_like true s w v = like_disks v s (w.nodes s).failing (w.nodes s).group
 disks_like false s w v = like_self v
 
 pub same_like : (d new : Doubted) → new ≡ d → IsLikeDoubted d new

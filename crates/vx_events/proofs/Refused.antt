@@ -13,13 +13,13 @@ use Rattle.vx_script.specs.declared.line.ScriptLine.{ScriptLine}
 use Rattle.vx_script.specs.declared.line.ScriptLine.TheVariants.{Site, Raw, Disk, Crash, Fuse, Recover, Apply, Status}
 use Rattle.vx_order.specs.declared.facts.SiteFacts.{SiteFacts}
 use Rattle.vx_order.specs.declared.facts.RvgFacts.{RvgFacts}
-use Rattle.vx_order.specs.Order.{refusal_of}
-use Rattle.vx_order.specs.Tests.{when, first_of}
+use Rattle.vx_order.specs.Order.{line_refusal}
+use Rattle.vx_order.specs.Tests.{when, first_said_no}
 use Rattle.vx_order.specs.Subject.{first_name, second_name, need_of, halt_of}
 use Rattle.vx_order.specs.Spans.{span_of}
-use Rattle.vx_order.specs.Sites.{facts_of, site_named, unknown_one, down_by, halted_by, site_off, rvg_of, halted_disk, halted_rvg, halted_one}
+use Rattle.vx_order.specs.Sites.{named_facts, site_named, unknown_one, down_by, halted_by, site_off, rvg_of, halted_disk, halted_rvg, halted_one}
 use Rattle.vx_model.specs.Sites.{is_up, is_bare}
-use Rattle.vx_order.specs.Shapes.{line_role, line_unknown, taken, over_limit, wrong_size, site_limit, most_blocks, raw_role, raw_size, disk_unknown}
+use Rattle.vx_order.specs.Shapes.{line_role, line_unknown, taken, over_limit, wrong_size, site_limit, most_disk_blocks, raw_role, raw_size, disk_unknown}
 use Rattle.vx_model.specs.Sizes.{is_raw_shape, map_blocks}
 use Rattle.vx_model.specs.declared.limits.TheConstants.{LINK_PLACES}
 use Rattle.vx_order.specs.Calls.{span_role, span_unknown, span_size, span_range}
@@ -41,9 +41,9 @@ pub record Passes (sites : List SiteFacts) (files : Bool) (line : ScriptLine) (f
   pub other : line_unknown line first ≡ None
   pub volume : span_unknown first (span_of line) ≡ None
   pub link : ask_unknown (ask_of line) there first second ≡ None
-  pub free : taken sites line ≡ None
+  pub free : taken sites line first ≡ None
   pub link_free : ask_taken (ask_of line) there first second ≡ None
-  pub limit : over_limit (length sites) files line ≡ None
+  pub limit : over_limit (length sites) files line first ≡ None
   pub link_limit : ask_limit (ask_of line) first ≡ None
   pub size : wrong_size line first ≡ None
   pub link_size : ask_size (ask_of line) first second ≡ None
@@ -56,19 +56,19 @@ pub record Passes (sites : List SiteFacts) (files : Bool) (line : ScriptLine) (f
   pub call_room : span_full sites first (span_of line) ≡ None
   pub confirmed : ask_unconfirmed (ask_of line) first ≡ None
 
-here_none : (test : Option No) (tests : List (Option No)) → first_of (test ∷ tests) ≡ None → test ≡ None
-unfolding first_of
+here_none : (test : Option No) (tests : List (Option No)) → first_said_no (test ∷ tests) ≡ None → test ≡ None
+unfolding first_said_no
 here_none None tests e = refl
 here_none (Some x) tests e = absurd (cc)
 
-rest : (test : Option No) (tests : List (Option No)) → first_of (test ∷ tests) ≡ None → first_of tests ≡ None
-unfolding first_of
+rest : (test : Option No) (tests : List (Option No)) → first_said_no (test ∷ tests) ≡ None → first_said_no tests ≡ None
+unfolding first_said_no
 rest None tests e = e
 rest (Some x) tests e = absurd (cc)
 
-pub passes : (sites : List SiteFacts) (files : Bool) (line : ScriptLine) → refusal_of sites files line ≡ None
-    → Passes sites files line (facts_of sites (first_name line)) (facts_of sites (second_name line)) (place_named sites (first_name line)) (place_named sites (second_name line))
-unfolding refusal_of
+pub passes : (sites : List SiteFacts) (files : Bool) (line : ScriptLine) → line_refusal sites files line ≡ None
+    → Passes sites files line (named_facts sites (first_name line)) (named_facts sites (second_name line)) (place_named sites (first_name line)) (place_named sites (second_name line))
+unfolding line_refusal
 passes sites files line e =
     let e1 = rest _ _ e in
     let e2 = rest _ _ e1 in
@@ -187,16 +187,16 @@ pub record Named (sites : List SiteFacts) (name : List ℕ) : Type 0 where
   pub found : site_named sites name ≡ Some facts
   pub at : FoundAt (λ (site : SiteFacts). bytes_eq site.name name) sites facts
 
-pub named : (sites : List SiteFacts) (name : List ℕ) → unknown_one (Some name) (facts_of sites (Some name)) ≡ None → Named sites name
+pub named : (sites : List SiteFacts) (name : List ℕ) → unknown_one (Some name) (named_facts sites (Some name)) ≡ None → Named sites name
 named sites name e =
-    let known = unknown_none name (facts_of sites (Some name)) e in
+    let known = unknown_none name (named_facts sites (Some name)) e in
     record { facts = known.0; found = known.1; at = found_at (λ site. bytes_eq site.name name) sites known.0 known.1 }
 
 -- what is known of a `site` line
 pub record SiteMay (sites : List SiteFacts) (files : Bool) (disks blocks : ℕ) : Type 0 where
   pub few_sites : length sites < 8
   pub few_disks : disks ≤ 8
-  pub few_blocks : blocks ≤ most_blocks files
+  pub few_blocks : blocks ≤ most_disk_blocks files
   pub some_disks : 1 ≤ disks
   pub some_blocks : 8 ≤ blocks
 
@@ -206,12 +206,12 @@ no_limit false true c x y z e = absurd (cc)
 no_limit false false true x y z e = absurd (cc)
 no_limit false false false x y z e = (refl, refl, refl)
 
-limit_none : (sites : ℕ) (files : Bool) (disks blocks : ℕ) → site_limit sites files disks blocks ≡ None → (sites < 8) × (disks ≤ 8) × (blocks ≤ most_blocks files)
+limit_none : (sites : ℕ) (files : Bool) (disks blocks : ℕ) → site_limit sites files disks blocks ≡ None → (sites < 8) × (disks ≤ 8) × (blocks ≤ most_disk_blocks files)
 limit_none sites files disks blocks e =
-    let tests = no_limit (nat_le 8 sites) (nat_lt 8 disks) (nat_lt (most_blocks files) blocks) _ _ _ e in
-    (le_false 8 sites tests.0, lt_false 8 disks tests.1, lt_false (most_blocks files) blocks tests.2)
+    let tests = no_limit (nat_le 8 sites) (nat_lt 8 disks) (nat_lt (most_disk_blocks files) blocks) _ _ _ e in
+    (le_false 8 sites tests.0, lt_false 8 disks tests.1, lt_false (most_disk_blocks files) blocks tests.2)
 
-pub site_may : (sites : List SiteFacts) (files : Bool) (name : List ℕ) (disks blocks : ℕ) → refusal_of sites files (Site name disks blocks) ≡ None → SiteMay sites files disks blocks
+pub site_may : (sites : List SiteFacts) (files : Bool) (name : List ℕ) (disks blocks : ℕ) → line_refusal sites files (Site name disks blocks) ≡ None → SiteMay sites files disks blocks
 unfolding over_limit wrong_size
 site_may sites files name disks blocks e =
     let p = passes sites files (Site name disks blocks) e in
@@ -244,7 +244,7 @@ raw_size_none site e = raw_set site.disks site.blocks (not_false (is_raw_shape s
 disk_none : (disk : ℕ) (site : SiteFacts) → disk_unknown disk (Some site) ≡ None → disk < site.disks
 disk_none disk site e = le_false site.disks disk (when_none (nat_le site.disks disk) _ e)
 
-pub raw_may : (sites : List SiteFacts) (files : Bool) (name : List ℕ) → refusal_of sites files (Raw name) ≡ None → (site : Named sites name) × (site.facts.state ≡ Bare) × (3 ≤ site.facts.disks) × (8 ≤ site.facts.blocks)
+pub raw_may : (sites : List SiteFacts) (files : Bool) (name : List ℕ) → line_refusal sites files (Raw name) ≡ None → (site : Named sites name) × (site.facts.state ≡ Bare) × (3 ≤ site.facts.disks) × (8 ≤ site.facts.blocks)
     × (LINK_PLACES * (site.facts.disks - 2) * map_blocks site.facts.blocks ≤ site.facts.blocks)
 unfolding first_name line_role wrong_size
 raw_may sites files name e =
@@ -255,7 +255,7 @@ raw_may sites files name e =
     let sizes = raw_size_none site.facts size in
     (site, raw_role_none site.facts role, sizes.0, sizes.1, sizes.2)
 
-pub disk_may : (sites : List SiteFacts) (files : Bool) (name : List ℕ) (disk : ℕ) (state : _) → refusal_of sites files (Disk name disk state) ≡ None → (site : Named sites name) × (disk < site.facts.disks)
+pub disk_may : (sites : List SiteFacts) (files : Bool) (name : List ℕ) (disk : ℕ) (state : _) → line_refusal sites files (Disk name disk state) ≡ None → (site : Named sites name) × (disk < site.facts.disks)
 unfolding first_name line_unknown
 disk_may sites files name disk state e =
     let p = passes sites files (Disk name disk state) e in
@@ -270,7 +270,7 @@ not_halted (Some disk) e = absurd (cc)
 pub running_by : (site : SiteFacts) (rvg : RvgFacts) → halted_one (Some site) ≡ None → rvg_of (Some site) ≡ site.rvg → site.rvg ≡ Some rvg → rvg.halted ≡ None
 running_by site rvg e same is = not_halted rvg.halted (subst (λ (o : Option RvgFacts). halted_rvg o ≡ None) (same ∙ is) e)
 
-pub status_may : (sites : List SiteFacts) (files : Bool) (name : List ℕ) → refusal_of sites files (Status name) ≡ None → Named sites name
+pub status_may : (sites : List SiteFacts) (files : Bool) (name : List ℕ) → line_refusal sites files (Status name) ≡ None → Named sites name
 unfolding first_name
 status_may sites files name e = named sites name (passes sites files (Status name) e).known
 
@@ -284,21 +284,21 @@ up_by Down e = absurd (cc)
 not_off : (site : SiteFacts) → when (site_off (Some site)) NotUp ≡ None → site.state ≡ Up
 not_off site e = up_by site.state (not_false (is_up site.state) (when_none (not (is_up site.state)) _ e))
 
-pub crash_may : (sites : List SiteFacts) (files : Bool) (name : List ℕ) (pick : ℕ) → refusal_of sites files (Crash name pick) ≡ None → (site : Named sites name) × (site.facts.state ≡ Up)
+pub crash_may : (sites : List SiteFacts) (files : Bool) (name : List ℕ) (pick : ℕ) → line_refusal sites files (Crash name pick) ≡ None → (site : Named sites name) × (site.facts.state ≡ Up)
 unfolding first_name need_of
 crash_may sites files name pick e =
     let p = passes sites files (Crash name pick) e in
     let site = named sites name p.known in
     (site, not_off site.facts (subst (λ (o : Option SiteFacts). when (site_off o) NotUp ≡ None) site.found p.up))
 
-pub fuse_may : (sites : List SiteFacts) (files : Bool) (name : List ℕ) (calls pick : ℕ) → refusal_of sites files (Fuse name calls pick) ≡ None → (site : Named sites name) × (site.facts.state ≡ Up)
+pub fuse_may : (sites : List SiteFacts) (files : Bool) (name : List ℕ) (calls pick : ℕ) → line_refusal sites files (Fuse name calls pick) ≡ None → (site : Named sites name) × (site.facts.state ≡ Up)
 unfolding first_name need_of
 fuse_may sites files name calls pick e =
     let p = passes sites files (Fuse name calls pick) e in
     let site = named sites name p.known in
     (site, not_off site.facts (subst (λ (o : Option SiteFacts). when (site_off o) NotUp ≡ None) site.found p.up))
 
-pub recover_may : (sites : List SiteFacts) (files : Bool) (name : List ℕ) → refusal_of sites files (Recover name) ≡ None → Named sites name
+pub recover_may : (sites : List SiteFacts) (files : Bool) (name : List ℕ) → line_refusal sites files (Recover name) ≡ None → Named sites name
 unfolding first_name
 recover_may sites files name e = named sites name (passes sites files (Recover name) e).known
 
@@ -308,7 +308,7 @@ pub record ApplyMay (sites : List SiteFacts) (name : List ℕ) : Type 0 where
   pub up : site.facts.state ≡ Up
   pub running : (rvg : RvgFacts) → site.facts.rvg ≡ Some rvg → rvg.halted ≡ None
 
-pub apply_may : (sites : List SiteFacts) (files : Bool) (name : List ℕ) (to : ℕ) → refusal_of sites files (Apply name to) ≡ None → ApplyMay sites name
+pub apply_may : (sites : List SiteFacts) (files : Bool) (name : List ℕ) (to : ℕ) → line_refusal sites files (Apply name to) ≡ None → ApplyMay sites name
 unfolding first_name need_of halt_of
 apply_may sites files name to e =
     let p = passes sites files (Apply name to) e in

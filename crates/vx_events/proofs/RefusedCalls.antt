@@ -14,7 +14,7 @@ use Rattle.vx_order.specs.declared.facts.VolumeKind.TheVariants.{Data}
 use Rattle.vx_order.specs.declared.span.Span.{Span}
 use Rattle.vx_order.specs.declared.span.Way.{Way}
 use Rattle.vx_order.specs.declared.span.Way.TheVariants.{Writes, Reads, Shows}
-use Rattle.vx_order.specs.Order.{refusal_of}
+use Rattle.vx_order.specs.Order.{line_refusal}
 use Rattle.vx_order.specs.Subject.{first_name, halt_of}
 use Rattle.vx_order.specs.Spans.{span_of}
 use Rattle.vx_order.specs.Sites.{site_named, volume_of, rvg_of, halted_one}
@@ -135,28 +135,28 @@ write_of sites name span way run =
     let c = calling run.site.facts span run.volume in
     record { call = call_by sites name span run c; fits = λ rvg is kind. fits_of run.site.facts span c run.call_size way rvg is kind }
 
-pub write_may : (sites : List SiteFacts) (files : Bool) (name volume : List ℕ) (start count fill : ℕ) → refusal_of sites files (Write name volume start count fill) ≡ None → WriteMay sites name volume start count
+pub write_may : (sites : List SiteFacts) (files : Bool) (name volume : List ℕ) (start count fill : ℕ) → line_refusal sites files (Write name volume start count fill) ≡ None → WriteMay sites name volume start count
 unfolding first_name span_of halt_of
 write_may sites files name volume start count fill e =
     let p = passes sites files (Write name volume start count fill) e in
     let span : Span = record { volume = volume; start = start; count = count; way = Writes } in
     write_of sites name span refl (run_of sites name span (named sites name p.known) p.running p.volume p.call_size p.range)
 
-pub put_may : (sites : List SiteFacts) (files : Bool) (name volume : List ℕ) (start : ℕ) (bytes : List ℕ) → refusal_of sites files (Put name volume start bytes) ≡ None → WriteMay sites name volume start 1
+pub put_may : (sites : List SiteFacts) (files : Bool) (name volume : List ℕ) (start : ℕ) (bytes : List ℕ) → line_refusal sites files (Put name volume start bytes) ≡ None → WriteMay sites name volume start 1
 unfolding first_name span_of halt_of
 put_may sites files name volume start bytes e =
     let p = passes sites files (Put name volume start bytes) e in
     let span : Span = record { volume = volume; start = start; count = 1; way = Writes } in
     write_of sites name span refl (run_of sites name span (named sites name p.known) p.running p.volume p.call_size p.range)
 
-pub read_may : (sites : List SiteFacts) (files : Bool) (name volume : List ℕ) (start count : ℕ) → refusal_of sites files (Read name volume start count) ≡ None → CallMay sites name volume start count
+pub read_may : (sites : List SiteFacts) (files : Bool) (name volume : List ℕ) (start count : ℕ) → line_refusal sites files (Read name volume start count) ≡ None → CallMay sites name volume start count
 unfolding first_name span_of halt_of
 read_may sites files name volume start count e =
     let p = passes sites files (Read name volume start count) e in
     let span : Span = record { volume = volume; start = start; count = count; way = Reads } in
     call_of sites name span (run_of sites name span (named sites name p.known) p.running p.volume p.call_size p.range)
 
-pub show_may : (sites : List SiteFacts) (files : Bool) (name volume : List ℕ) (start count : ℕ) → refusal_of sites files (Show name volume start count) ≡ None → CallMay sites name volume start count
+pub show_may : (sites : List SiteFacts) (files : Bool) (name volume : List ℕ) (start count : ℕ) → line_refusal sites files (Show name volume start count) ≡ None → CallMay sites name volume start count
 unfolding first_name span_of halt_of
 show_may sites files name volume start count e =
     let p = passes sites files (Show name volume start count) e in

@@ -19,11 +19,11 @@ use Rattle.vx_history.specs.Step.{step, run}
 use Rattle.vx_script.specs.declared.line.ScriptLine.{ScriptLine}
 use Rattle.vx_script.specs.declared.line.ScriptLine.TheVariants.{Site, Raw, Crash, Recover, Write, Read, Wait, Link, Connect, Cut, Pump, Deliver, Settle}
 use Rattle.vx_order.specs.Asks.{ask_of}
-use Rattle.vx_order.specs.Order.{refusal_of}
+use Rattle.vx_order.specs.Order.{line_refusal}
 use Rattle.vx_order.specs.Shapes.{line_role, line_unknown, taken, over_limit, wrong_size}
 use Rattle.vx_order.specs.Spans.{span_of}
 use Rattle.vx_order.specs.Subject.{first_name, second_name, need_of, halt_of}
-use Rattle.vx_order.specs.Tests.{first_of}
+use Rattle.vx_order.specs.Tests.{first_said_no}
 use Rattle.vx_events.specs.LinkedFacts.{refused_by}
 use Rattle.vx_events.specs.LinkLists.{link_events}
 use Rattle.vx_report.specs.Statuses.{status_text, rvg_text, link_way}
@@ -94,13 +94,13 @@ confirmed_row : printed empty_world (linked 64 FailsIfNotLive ++ put_one 0 17 �
     ≡ says Done ∷ says Done ∷ says Done ∷ says Done ∷ says Done ∷ sends Done 1 1
     ∷ says (Logged 1) ∷ says (Pending 1) ∷ sends Done 2 2 ∷ sends Taken 3 3 ∷ says Taken ∷ says (DoneAt 1) ∷ says (Logged 2) ∷ says Done
     ∷ says (Refused (Unconfirmed 2)) ∷ says (Refused (LinkDown (Known b))) ∷ says (Refused (Unknown (Number 3))) ∷ []
-unfolding refusal_of first_of first_name second_name need_of halt_of line_role line_unknown taken over_limit wrong_size span_of ask_of is_raw_shape digits
+unfolding line_refusal first_said_no first_name second_name need_of halt_of line_role line_unknown taken over_limit wrong_size span_of ask_of is_raw_shape digits
 confirmed_row = refl
 
 -- a receiver that crashes with a record in memory
 restarted_row : printed (worked empty_world (linked 64 FailsIfNotLive)) (put_one 0 17 ∷ Wait a 1 ∷ Pump a b ∷ Deliver 2 ∷ Crash b 0 ∷ Recover b ∷ Deliver 4 ∷ Deliver 3 ∷ Wait a 1 ∷ [])
     ≡ says (Logged 1) ∷ says (Pending 1) ∷ sends Done 2 2 ∷ sends Taken 3 3 ∷ says Done ∷ sends (Recovered 0) 4 4 ∷ says Taken ∷ says Ignored ∷ says (Pending 1) ∷ []
-unfolding refusal_of first_of first_name second_name need_of halt_of line_role line_unknown taken over_limit wrong_size span_of ask_of is_raw_shape digits
+unfolding line_refusal first_said_no first_name second_name need_of halt_of line_role line_unknown taken over_limit wrong_size span_of ask_of is_raw_shape digits
 restarted_row = refl
 
 -- a full log: a live link stalls the write, and one that is cut fails it
@@ -117,24 +117,24 @@ settled = filled ++ put_one 4 4 ∷ Settle a b ∷ put_one 4 4 ∷ Crash a 0 ∷
 
 settled_row : printed (worked empty_world (linked 10 NeverWaits)) settled
     ≡ says (DoneAt 1) ∷ says (DoneAt 2) ∷ says (DoneAt 3) ∷ says (Refused (Stalled (Known b))) ∷ sends Taken 2 10 ∷ says (DoneAt 4) ∷ says Done ∷ says (Recovered 4) ∷ []
-unfolding refusal_of first_of first_name second_name need_of halt_of line_role line_unknown taken over_limit wrong_size span_of ask_of is_raw_shape digits
+unfolding line_refusal first_said_no first_name second_name need_of halt_of line_role line_unknown taken over_limit wrong_size span_of ask_of is_raw_shape digits
 settled_row = refl
 
 settled_status : status (linked 10 NeverWaits ++ settled)
     ≡ codes "site a up\nrvg primary 1 a head 4 mark consistent session 2\nlink b attached cut running log net 3 stored 3\n"
-unfolding refusal_of first_of first_name second_name need_of halt_of line_role line_unknown taken over_limit wrong_size span_of ask_of is_raw_shape digits status_text rvg_text link_way
+unfolding line_refusal first_said_no first_name second_name need_of halt_of line_role line_unknown taken over_limit wrong_size span_of ask_of is_raw_shape digits status_text rvg_text link_way
 settled_status = refl
 
 stalled_row : printed (worked empty_world (linked 10 NeverWaits)) (filled ++ put_one 4 4 ∷ Cut a b ∷ put_one 4 4 ∷ [])
     ≡ says (DoneAt 1) ∷ says (DoneAt 2) ∷ says (DoneAt 3) ∷ says (Refused (Stalled (Known b))) ∷ says Done ∷ says (Refused (LogFull (Known b))) ∷ []
-unfolding refusal_of first_of first_name second_name need_of halt_of line_role line_unknown taken over_limit wrong_size span_of ask_of is_raw_shape digits
+unfolding line_refusal first_said_no first_name second_name need_of halt_of line_role line_unknown taken over_limit wrong_size span_of ask_of is_raw_shape digits
 stalled_row = refl
 
 -- updates that come out of order and twice
 disordered_row : printed (worked empty_world (linked 64 NeverWaits)) (put_one 0 17 ∷ put_one 1 34 ∷ Pump a b ∷ Deliver 3 ∷ Deliver 2 ∷ Deliver 2 ∷ Deliver 3 ∷ Read b d1 0 1 ∷ Deliver 9 ∷ [])
     ≡ says (DoneAt 1) ∷ says (DoneAt 2) ∷ sends Done 2 3 ∷ says Ignored ∷ sends Taken 4 4 ∷ sends Ignored 5 5 ∷ sends Taken 6 6
     ∷ says (Refused WrongRole) ∷ says (Refused (Unknown (Number 9))) ∷ []
-unfolding refusal_of first_of first_name second_name need_of halt_of line_role line_unknown taken over_limit wrong_size span_of ask_of is_raw_shape digits
+unfolding line_refusal first_said_no first_name second_name need_of halt_of line_role line_unknown taken over_limit wrong_size span_of ask_of is_raw_shape digits
 disordered_row = refl
 
 -- a site has four links at most
@@ -148,5 +148,5 @@ link_to_site letter = Link a (letter ∷ []) NeverWaits FailsWhenFull
 
 fifth_row : printed (worked (worked empty_world (linked 64 NeverWaits)) more_sites) (link_to_site 99 ∷ link_to_site 100 ∷ link_to_site 101 ∷ link_to_site 102 ∷ link_to_site 97 ∷ link_to_site 99 ∷ [])
     ≡ says Done ∷ says Done ∷ says Done ∷ says (Refused (Limit Links 4)) ∷ says (Refused WrongRole) ∷ says (Refused WrongRole) ∷ []
-unfolding refusal_of first_of first_name second_name need_of halt_of line_role line_unknown taken over_limit wrong_size span_of ask_of is_raw_shape digits
+unfolding line_refusal first_said_no first_name second_name need_of halt_of line_role line_unknown taken over_limit wrong_size span_of ask_of is_raw_shape digits
 fifth_row = refl

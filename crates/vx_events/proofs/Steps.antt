@@ -12,13 +12,13 @@ use Rattle.vx_model.specs.declared.site.SiteState.{SiteState}
 use Rattle.vx_model.specs.declared.site.SiteState.TheVariants.{Bare, Up, Down}
 use Rattle.vx_history.proofs.Updates.{at_place}
 use Rattle.vx_history.specs.Admission.{Admitted, Goes, admit}
-use Rattle.vx_history.specs.Events.{admitted, written_if, put_in, links_changed, link_after, said_of_write, is_in_place, link_in_place, put_before, linked_sites, plain_links, uses, reached_at, apply_at, crash_at, kept_of, recover_from, recovery}
+use Rattle.vx_history.specs.Events.{admitted, written_if, put_in, links_changed, link_after, said_of_write, is_in_place, link_in_place, put_before, linked_sites, plain_links, log_uses, reached_at, apply_at, crash_at, deport_at, kept_of, recover_from, recovery}
 use Rattle.vx_history.specs.Refusals.{Outcome, says, unless, at_work, some_below, is_waited_for, waits, goes, refused}
 use Rattle.vx_history.specs.Sends.{is_made, is_linked}
 use Rattle.vx_history.specs.Step.{outcome_of, done, joined_blocks}
-use Rattle.vx_history.specs.Steps.{site_made, raw_made, written, half_written, stopped_by}
+use Rattle.vx_history.specs.Steps.{site_made, raw_made, group_made, written, half_written, stopped_by}
 use Rattle.vx_history.specs.World.{Node, Link as LinkOf, World}
-use Rattle.vx_history.specs.declared.event.Event.TheVariants.{Site, Raw, Write, Read, Apply, Crash, Recover, Fault}
+use Rattle.vx_history.specs.declared.event.Event.TheVariants.{Site, Raw, Group, Write, Read, Apply, Crash, Deport, Recover, Fault}
 use Rattle.vx_history.specs.declared.event.Said.{Said}
 use Rattle.vx_history.specs.declared.event.Said.TheVariants.{DoneAt, Logged, Got, Refused}
 use Rattle.vx_events.specs.Plain.{IsUnlinked}
@@ -46,13 +46,22 @@ raw_step w s below bare shape =
     ∙ off (not (is_bare (w.nodes s).state)) WrongRole w sized (ap (λ (t : SiteState). not (is_bare t)) bare)
     ∙ off (not (is_raw_shape (w.nodes s).disks (w.nodes s).blocks)) Size w o (ap (λ (b : Bool). not b) shape)
 
--- ---- crashes, recoveries and failing disks
+pub group_step : (w : World) (s : ℕ) → s < w.sites → (w.nodes s).state ≡ Bare → outcome_of w (Group s) ≡ done (group_made w s)
+group_step w s below bare =
+    let o : Outcome = done (group_made w s) in
+    is_site w s (unless (not (is_bare (w.nodes s).state)) WrongRole w o) below
+    ∙ off (not (is_bare (w.nodes s).state)) WrongRole w o (ap (λ (t : SiteState). not (is_bare t)) bare)
+
+-- ---- crashes, deports, recoveries and failing disks
 
 pub crash_step : (w : World) (s kept : ℕ) → s < w.sites → (w.nodes s).state ≡ Up → outcome_of w (Crash s kept) ≡ done (crash_at w s (kept_of (w.nodes s) kept))
 crash_step w s kept below up =
     let o : Outcome = done (crash_at w s (kept_of (w.nodes s) kept)) in
     is_site w s (unless (not (is_up (w.nodes s).state)) NotUp w o) below
     ∙ off (not (is_up (w.nodes s).state)) NotUp w o (ap (λ (t : SiteState). not (is_up t)) up)
+
+pub deport_step : (w : World) (s : ℕ) → s < w.sites → (w.nodes s).state ≡ Up → (w.nodes s).halted ≡ None → outcome_of w (Deport s) ≡ done (deport_at w s)
+deport_step w s below up runs = let o : Outcome = done (deport_at w s) in is_site w s (at_work w s o) below ∙ is_at_work w s o up runs
 
 pub kept_is : (n : Node) (k : ℕ) → n.safe ≤ k → k ≤ length n.log → kept_of n k ≡ k
 kept_is n k least most = omega arith
@@ -97,7 +106,7 @@ no_sites row sites place (suc k) none =
 
 pub lets_in : (w : World) (s : ℕ) (x : WriteBlocks) → IsUnlinked w → admitted w s x ≡ Goes []
 lets_in w s x none =
-    ap (λ (sites : List ℕ). admit (blocks_in x.bytes + 1) (w.nodes s).ring (plain_links (w.links s) sites) (uses (w.nodes s) (w.links s) sites))
+    ap (λ (sites : List ℕ). admit (blocks_in x.bytes + 1) (w.nodes s).ring (plain_links (w.links s) sites) (log_uses (w.nodes s) (w.links s) sites))
     (no_sites (w.links s) w.sites 0 w.sites (none.none s))
 
 -- a write that nothing but a failing disk can refuse

@@ -6,7 +6,7 @@ use Rattle.vx_model.specs.declared.no.No.{No}
 use Rattle.vx_model.specs.declared.site.SiteState.{SiteState}
 use Rattle.vx_model.specs.declared.site.SiteState.TheVariants.{Bare, Up, Deported, Down}
 use Rattle.vx_history.specs.Doubts.{Doubted, Runs, halved, happened}
-use Rattle.vx_history.specs.Stops.{Stops, AllDone as EventsDone, Halts, Cuts, Reads, IsOpen, IsFused, IsLikeDoubted, all_fails, told_fails, of_disk}
+use Rattle.vx_history.specs.Stops.{EventsEnd, AllDone as EventsDone, Halts, Cuts, Reads, IsOpen, IsFused, IsLikeDoubted, all_fails, told_fails, of_disk}
 use Rattle.vx_history.specs.World.{World}
 use Rattle.vx_history.specs.declared.event.Event.{Event}
 use Rattle.vx_history.specs.declared.event.Event.TheVariants.{Site as MakeSite, Raw as MakeRaw, Write as WriteAt, Read as ReadAt, Apply as ApplyAt, Crash as CrashAt, Recover as RecoverAt, Fault}
@@ -26,7 +26,7 @@ use Rattle.vx_events.specs.Doubts.{run_as}
 use Rattle.vx_events.specs.Ends.{Ends, AllDone, DiskFails, HeaderFails, FuseRunsOut, NoNumber, ShowsReceived, FindsLinks, FindsNone, place_of, LeavesOf, BegunOf, WritesAHeader}
 use Rattle.vx_events.specs.Facts.{site_number, group_fact, group_by}
 use Rattle.vx_events.specs.Fails.{Fails}
-use Rattle.vx_events.specs.Lines.{LineStep, StepBy, EndsBy, IsRefused, is_of_links}
+use Rattle.vx_events.specs.Lines.{LineStep, StepBy, EndsBy, IsRefusedLine, is_of_links}
 use Rattle.vx_events.specs.LinkEnds.{FirstCame}
 use Rattle.vx_events.specs.LinkLists.{link_events}
 use Rattle.vx_events.specs.LinkedFacts.{linked_fact, linked_facts, refused_by}
@@ -41,14 +41,14 @@ runs_as taken d [] = refl
 runs_as taken d (e ∷ es) = (taken, runs_as taken (happened d e taken) es)
 
 -- all of these events are done
-all_stop : (taken : Bool) (d : Doubted) (es : List Event) (fails : Fails) (new : Doubted) → fails ≡ all_fails es → IsLikeDoubted (run_as taken d es) new → Stops d es fails new
+all_stop : (taken : Bool) (d : Doubted) (es : List Event) (fails : Fails) (new : Doubted) → fails ≡ all_fails es → IsLikeDoubted (run_as taken d es) new → EventsEnd d es fails new
 all_stop taken d es fails new is like = EventsDone (run_as taken d es) (runs_as taken d es) is like
 
 -- the events of a line that ended so
 record CameTo (d : Doubted) (all : List Event) (s kept : ℕ) (fails : Fails) (new : Doubted) : Type 0 where
   events : List Event
   came : CameOf d.world all s kept events
-  stops : Stops d events fails new
+  stops : EventsEnd d events fails new
 
 -- ---- the events of a line are at its site, and none of them tells of a failing disk
 
@@ -301,7 +301,7 @@ module _ (told : Type 0) (is_told : told) (d : Doubted) (files : Bool) (line : S
   ended_by_kind false fails said new ends = ended fails said new ends
 
 -- a line that a test refuses stands for none of its events
-refused : (links : Bool) (d : Doubted) (line : ScriptLine) (why : No) (fails : Fails) (said : Said) (new : Doubted) → IsRefused why d fails said new → StopsBy links d line fails new
+refused : (links : Bool) (d : Doubted) (line : ScriptLine) (why : No) (fails : Fails) (said : Said) (new : Doubted) → IsRefusedLine why d fails said new → StopsBy links d line fails new
 refused true d line why fails said new is = record {
   events = [];
   came = FirstCame (link_events d.world line) refl;

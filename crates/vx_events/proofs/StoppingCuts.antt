@@ -112,8 +112,8 @@ gathering_are : (b : Bool) (w : World) (s : ℕ) (n : Node) (h : History) → (i
 gathering_are true w s n h = refl
 gathering_are false w s n h = refl
 
-like_node : (a b : Node) → b ≡ a → b ≡ record a { fuse = b.fuse; failing = b.failing }
-like_node a b e = subst (λ (x : Node). x ≡ record a { fuse = x.fuse; failing = x.failing }) (sym e) refl
+like_node : (a b : Node) → b ≡ a → b ≡ record a { fuse = b.fuse; failing = b.failing; group = b.group }
+like_node a b e = subst (λ (x : Node). x ≡ record a { fuse = x.fuse; failing = x.failing; group = x.group }) (sym e) refl
 
 like_link : (a b : LinkOf) → b ≡ a → SameLink a b
 like_link a b e = record { linked = ap is_linked e; same = λ _. e }

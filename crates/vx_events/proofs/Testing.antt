@@ -13,14 +13,14 @@ use Rattle.vx_model.specs.declared.site.Role.{Role}
 use Rattle.vx_model.specs.declared.site.Role.TheVariants.{Primary, Secondary, Handing, Bunker}
 use Rattle.vx_model.specs.declared.site.SiteState.{SiteState}
 use Rattle.vx_model.specs.declared.site.SiteState.TheVariants.{Up as IsUp}
-use Rattle.vx_history.specs.Refusals.{some_below}
+use Rattle.vx_history.specs.Refusals.{some_below, is_primary}
 use Rattle.vx_history.specs.Step.{outcome_of, done}
 use Rattle.vx_history.specs.Steps.{site_made, raw_made}
 use Rattle.vx_history.specs.World.{Node, World, Volume}
 use Rattle.vx_history.specs.declared.event.Event.TheVariants.{Site as MakeSite, Raw as MakeRaw}
 use Rattle.vx_script.specs.declared.line.ScriptLine.TheVariants.{Site, Raw, Write, Put, Read}
-use Rattle.vx_order.specs.Calls.{asks_role, is_primary, takes_calls, call_role, call_unknown, span_role, span_unknown}
-use Rattle.vx_order.specs.Order.{refusal_of}
+use Rattle.vx_order.specs.Calls.{asks_role, takes_calls, call_role, call_unknown, span_role, span_unknown}
+use Rattle.vx_order.specs.Order.{line_refusal}
 use Rattle.vx_order.specs.Shapes.{raw_size, taken, wrong_size}
 use Rattle.vx_order.specs.Sites.{site_named, volume_of, rvg_of}
 use Rattle.vx_order.specs.Spans.{span_of}
@@ -37,7 +37,7 @@ use Rattle.vx_order.specs.declared.span.Way.TheVariants.{Writes, Reads}
 use Rattle.vx_events.specs.Facts.{site_fact, facts_of, values_from, site_number, volume_fact, volume_number, place_of, group_by, group_fact}
 use Rattle.vx_events.specs.Lines.{write_in}
 use Rattle.vx_events.specs.LinkedFacts.{linked_fact}
-use Rattle.vx_events.specs.Plain.{IsUnlinked, IsSized}
+use Rattle.vx_events.specs.Plain.{IsUnlinked, IsSizedAs}
 use Rattle.vx_events.proofs.Passing.{IsCall, neither}
 use Rattle.vx_events.proofs.Steps.{site_step, raw_step, CanPut}
 use Rattle.vx_events.proofs.Refused.{when_none, not_false, Named, passes, site_may, raw_may}
@@ -87,7 +87,7 @@ pub none_under : (n : ℕ) (test : ℕ → Bool) → ((k : ℕ) → k < n → te
 none_under zero test none = refl
 none_under (suc k) test none = neither (test k) (some_below k test) (none k (omega arith)) (none_under k test (λ j h. none j (omega (arith, h))))
 
-pub site_free : (w : World) (files : Bool) (name : List ℕ) (disks blocks : ℕ) → refusal_of (facts_of w) files (Site name disks blocks) ≡ None → outcome_of w (MakeSite name disks blocks) ≡ done (site_made w name disks blocks)
+pub site_free : (w : World) (files : Bool) (name : List ℕ) (disks blocks : ℕ) → line_refusal (facts_of w) files (Site name disks blocks) ≡ None → outcome_of w (MakeSite name disks blocks) ≡ done (site_made w name disks blocks)
 unfolding taken
 site_free w files name disks blocks free =
     let p = passes (facts_of w) files (Site name disks blocks) free in
@@ -99,7 +99,7 @@ site_free w files name disks blocks free =
     (λ k h. let start : 0 + k ≡ k = omega arith in subst (λ (j : ℕ). bytes_eq (w.nodes j).name name ≡ false) start (none_named w.nodes name 0 w.sites none k h)))
     (omega (arith, may.few_sites, many)) may.few_disks may.some_disks may.some_blocks
 
-pub raw_free : (w : World) (files : Bool) (name : List ℕ) → refusal_of (facts_of w) files (Raw name) ≡ None → outcome_of w (MakeRaw (site_number w name)) ≡ done (raw_made w (site_number w name))
+pub raw_free : (w : World) (files : Bool) (name : List ℕ) → line_refusal (facts_of w) files (Raw name) ≡ None → outcome_of w (MakeRaw (site_number w name)) ≡ done (raw_made w (site_number w name))
 unfolding first_name wrong_size
 raw_free w files name free =
     let p = passes (facts_of w) files (Raw name) free in
@@ -186,7 +186,7 @@ pub record Called (w : World) (name volume : List ℕ) (start count : ℕ) : Typ
   pub few : count ≤ 16
   pub within : start + count ≤ (w.nodes (site_number w name)).base.size (volume_number (w.nodes (site_number w name)) volume)
 
-pub called : (w : World) (name volume : List ℕ) (start count : ℕ) → IsSized (w.nodes (site_number w name)) → CallMay (facts_of w) name volume start count → Called w name volume start count
+pub called : (w : World) (name volume : List ℕ) (start count : ℕ) → IsSizedAs (w.nodes (site_number w name)) → CallMay (facts_of w) name volume start count → Called w name volume start count
 called w name volume start count sized may =
     let n : Node = w.nodes (site_number w name) in
     let seat = seat_in w name may.site in
@@ -210,14 +210,14 @@ pub call_of : (w : World) (name volume : List ℕ) (start count : ℕ) → Calle
     → IsCall w (site_number w name) (volume_number (w.nodes (site_number w name)) volume) start count
 call_of w name volume start count c primary = record { site = c.below; up = c.up; running = c.running; primary = primary; known = c.known; some = c.some; few = c.few; within = c.within }
 
-pub write_primary : (w : World) (files : Bool) (name volume : List ℕ) (start count fill : ℕ) → refusal_of (facts_of w) files (Write name volume start count fill) ≡ None → (w.nodes (site_number w name)).role ≡ Primary
+pub write_primary : (w : World) (files : Bool) (name volume : List ℕ) (start count fill : ℕ) → line_refusal (facts_of w) files (Write name volume start count fill) ≡ None → (w.nodes (site_number w name)).role ≡ Primary
 unfolding first_name span_of
 write_primary w files name volume start count fill free =
     let p = passes (facts_of w) files (Write name volume start count fill) free in
     let may = write_may (facts_of w) files name volume start count fill free in
     primary_in w name volume start count Writes may.call.site refl (up_in w name may.call.site may.call.up) p.volume p.call_role
 
-pub put_primary : (w : World) (files : Bool) (name volume : List ℕ) (start : ℕ) (bytes : List ℕ) → refusal_of (facts_of w) files (Put name volume start bytes) ≡ None → (w.nodes (site_number w name)).role ≡ Primary
+pub put_primary : (w : World) (files : Bool) (name volume : List ℕ) (start : ℕ) (bytes : List ℕ) → line_refusal (facts_of w) files (Put name volume start bytes) ≡ None → (w.nodes (site_number w name)).role ≡ Primary
 unfolding first_name span_of
 put_primary w files name volume start bytes free =
     let p = passes (facts_of w) files (Put name volume start bytes) free in
@@ -225,7 +225,7 @@ put_primary w files name volume start bytes free =
     primary_in w name volume start 1 Writes may.call.site refl (up_in w name may.call.site may.call.up) p.volume p.call_role
 
 -- a read that no test refuses is at a primary
-pub read_primary : (w : World) (files : Bool) (name volume : List ℕ) (start count : ℕ) → refusal_of (facts_of w) files (Read name volume start count) ≡ None → (w.nodes (site_number w name)).role ≡ Primary
+pub read_primary : (w : World) (files : Bool) (name volume : List ℕ) (start count : ℕ) → line_refusal (facts_of w) files (Read name volume start count) ≡ None → (w.nodes (site_number w name)).role ≡ Primary
 unfolding first_name span_of
 read_primary w files name volume start count free =
     let p = passes (facts_of w) files (Read name volume start count) free in
@@ -234,7 +234,7 @@ read_primary w files name volume start count free =
 
 -- the same of the site that these facts, among others, are of
 pub read_role : (w : World) (s : ℕ) (sites : List SiteFacts) (files : Bool) (name volume : List ℕ) (start count : ℕ) (n : Named sites name) → n.facts ≡ linked_fact w s → (w.nodes s).state ≡ IsUp
-    → refusal_of sites files (Read name volume start count) ≡ None → (w.nodes s).role ≡ Primary
+    → line_refusal sites files (Read name volume start count) ≡ None → (w.nodes s).role ≡ Primary
 unfolding first_name span_of
 read_role w s sites files name volume start count n is up free =
     let p = passes sites files (Read name volume start count) free in
@@ -246,7 +246,7 @@ pub blocks_filled : (count fill : ℕ) → blocks_in (replicate (512 * count) fi
 blocks_filled count fill = let many : length (replicate (512 * count) fill) ≡ 512 * count = length-replicate {A = ℕ} (512 * count) fill in omega (arith, many)
 
 -- a write that no test of the line refuses, and that is not one too many
-pub can_put : (w : World) (name volume : List ℕ) (start count : ℕ) (bytes : List ℕ) → IsSized (w.nodes (site_number w name)) → IsUnlinked w → (may : WriteMay (facts_of w) name volume start count) → blocks_in bytes ≡ count
+pub can_put : (w : World) (name volume : List ℕ) (start count : ℕ) (bytes : List ℕ) → IsSizedAs (w.nodes (site_number w name)) → IsUnlinked w → (may : WriteMay (facts_of w) name volume start count) → blocks_in bytes ≡ count
     → (w.nodes (site_number w name)).role ≡ Primary → (w.nodes (site_number w name)).safe < MOST_NUMBER → CanPut w (site_number w name) (write_in w name volume start bytes)
 can_put w name volume start count bytes sized none may many primary free =
     let n : Node = w.nodes (site_number w name) in

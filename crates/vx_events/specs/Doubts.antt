@@ -9,17 +9,18 @@ abbrev pub sure : World → Doubted
 sure w = record { world = w; after = λ s. None }
 
 -- what an event begins with: where it crashes a site in doubt, that site is first one of the two
-abbrev pub chosen : (taken : Bool) → Doubted → Event → Doubted
-chosen taken d e = resolved_for (crashed_by e) d taken
+abbrev pub doubt_chosen : (taken : Bool) → Doubted → Event → Doubted
+doubt_chosen taken d e = resolved_for (crashed_by e) d taken
 
 -- what the events of a line lead to, if a site in doubt that they crash is what it may be on its disks, or is not
 abbrev pub run_as : (taken : Bool) → Doubted → List Event → Doubted
 run_as taken d [] = d
 run_as taken d (e ∷ es) = run_as taken (happened d e taken) es
 
--- A site that turns out to be what it was in doubt of has the disks that it had: those that were made to fail since then are made to fail.
+-- A site that turns out to be what it was in doubt of has the disks that it had: those that were made to fail since then are made to fail,
+-- and the group is the one that they are.
 abbrev pub with_disks : (taken : Bool) → (site : ℕ) → (before after : World) → World
-with_disks true s w v = with_node v s (record (v.nodes s) { failing = (w.nodes s).failing })
+with_disks true s w v = with_node v s (record (v.nodes s) { failing = (w.nodes s).failing; group = (w.nodes s).group })
 with_disks false s w v = v
 
 -- v with the doubts of d

@@ -29,7 +29,7 @@ use Rattle.vx_events.specs.Found.{ComesUpAs}
 use Rattle.vx_history.specs.Stops.{IsFused}
 use Rattle.vx_events.specs.Lists.{Choice, events_of}
 use Rattle.vx_events.specs.LinkViews.{linked_view}
-use Rattle.vx_events.specs.Sayings.{Gives, Replies, received_content}
+use Rattle.vx_events.specs.Sayings.{GivesBlocks, Replies, received_content}
 use Rattle.vx_events.specs.Stamps.{most_stamp_at, waiting_of}
 use Rattle.vx_events.specs.declared.said.Said.{Said}
 use Rattle.vx_events.specs.declared.said.Said.TheVariants.{Recovered, Refused}
@@ -142,7 +142,7 @@ pub data Ends (told : Type 0) (d : Doubted) (line : ScriptLine) (s : ℕ) (fails
       → IsLeft s line taken d (run_as taken d before) new → Ends told d line s fails said new
   -- a site that is no primary shows its blocks with all writes that came to it, of which some may wait
   ShowsReceived : (site volume : List ℕ) (start count : ℕ) → line ≡ Show site volume start count → is_primary (d.world.nodes s).role ≡ false
-      → Gives told count (HasGot (joined_blocks (blocks_from (received_content (d.world.nodes s)) (volume_number (d.world.nodes s) volume) start count))) said
+      → GivesBlocks told count (HasGot (joined_blocks (blocks_from (received_content (d.world.nodes s)) (volume_number (d.world.nodes s) volume) start count))) said
       → fails ≡ [] → IsLeft s line false d d new → Ends told d line s fails said new
   -- what stood on disks that tell no contents came up with the links that its header keeps, or was refused
   FindsLinks : (told → ⊥) → (c : Choice) (taken : Bool) (site : List ℕ) (mid : Doubted) (n k : Node) (row : ℕ → Link) → line ≡ Recover site

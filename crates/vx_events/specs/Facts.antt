@@ -1,5 +1,5 @@
 -- What the tests of a line see of the world.
-use Rattle.std.specs.Prelude.{ℕ, zero, suc, ◌+◌, List, [], ◌∷◌, map, length, Option, Some, None, unwrap_or, if◌then◌else◌}
+use Rattle.std.specs.Prelude.{ℕ, false, zero, suc, ◌+◌, List, [], ◌∷◌, map, length, Option, Some, None, unwrap_or, if◌then◌else◌}
 use Rattle.std.specs.List.{position}
 use Rattle.std.specs.Str.{bytes_eq}
 use Rattle.vx_model.specs.Sites.{is_origin}
@@ -13,7 +13,7 @@ use Rattle.vx_order.specs.declared.facts.VolumeKind.TheVariants.{Data}
 
 -- a data volume of a raw set
 abbrev pub volume_fact : Volume → VolumeFacts
-volume_fact v = record { name = v.name; blocks = v.blocks; kind = Data }
+volume_fact v = record { name = v.name; blocks = v.blocks; kind = Data; plexes = 0 }
 
 -- the number of the last write that a site has: where writes arise the last durable one, and at a receiver the last that came
 abbrev pub head_of : Node → ℕ
@@ -44,6 +44,7 @@ site_fact n = record {
   state = n.state;
   disks = n.disks;
   blocks = n.blocks;
+  grouped = false;
   volumes = map volume_fact n.volumes;
   rvg = group_by n.state n;
   links = [];

@@ -5,7 +5,7 @@ use Rattle.vx_model.specs.declared.site.SPhase.TheVariants.{Quiet}
 use Rattle.vx_model.specs.declared.site.SiteState.TheVariants.{Up}
 use Rattle.vx_events.specs.LinksFit.{RowFits, StartsAt}
 
--- the same disks and volumes, up and running, with the same notes of the disks: those that are made to fail, and the fuse
+-- the same disks and volumes, up and running, with the same notes of the disks: those that are made to fail, the fuse, and the group
 pub record SameDisks (n k : Node) : Type 0 where
   pub name : k.name ≡ n.name
   pub disks : k.disks ≡ n.disks
@@ -15,6 +15,7 @@ pub record SameDisks (n k : Node) : Type 0 where
   pub running : k.halted ≡ None
   pub failing : k.failing ≡ n.failing
   pub fuse : k.fuse ≡ n.fuse
+  pub group : k.group ≡ n.group
 
 -- Site s, which was n, comes up as k with these links, among so many sites: all writes of its log are durable, it is in no replay and was fed by none
 -- since, and it has links only where writes arise.

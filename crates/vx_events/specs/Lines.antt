@@ -28,12 +28,12 @@ abbrev pub write_in : World → (site volume : List ℕ) → (start : ℕ) → (
 write_in w site volume start bytes = record { volume = volume_number (w.nodes (site_number w site)) volume; start = start; bytes = bytes }
 
 -- what is known of the calls of a line: how many a write makes
-abbrev pub Counts : Type 0 → World → ScriptLine → Said → Type 0
-Counts told w (Write site volume start count fill) said =
+abbrev pub CountsCalls : Type 0 → World → ScriptLine → Said → Type 0
+CountsCalls told w (Write site volume start count fill) said =
     IsCutBelow told (w.nodes (site_number w site)) (write_in w site volume start (replicate (512 * count) fill)) said
-Counts told w (Put site volume start bytes) said =
+CountsCalls told w (Put site volume start bytes) said =
     IsCutBelow told (w.nodes (site_number w site)) (write_in w site volume start bytes) said
-Counts told w other said = Unit {0}
+CountsCalls told w other said = Unit {0}
 
 -- whether a line is one of links or packets
 abbrev pub is_of_links : ScriptLine → Bool
@@ -56,7 +56,7 @@ EndsBy true told d line fails said new = LinkEnds told d line fails said new
 EndsBy false told d line fails said new = Ends told d line (place_of d.world line) fails said new
 
 -- a refused line changes nothing
-pub record IsRefused (why : No) (d : Doubted) (fails : Fails) (said : Said) (new : Doubted) : Type 0 where
+pub record IsRefusedLine (why : No) (d : Doubted) (fails : Fails) (said : Said) (new : Doubted) : Type 0 where
   pub none : fails ≡ []
   pub says : said ≡ Refused why
   pub stays : new ≡ d
@@ -64,12 +64,12 @@ pub record IsRefused (why : No) (d : Doubted) (fails : Fails) (said : Said) (new
 -- a line that no test refuses
 pub record IsDone (told : Type 0) (d : Doubted) (line : ScriptLine) (fails : Fails) (said : Said) (new : Doubted) : Type 0 where
   pub ends : EndsBy (is_of_links line) told d line fails said new
-  pub counts : Counts told d.world line said
+  pub counts : CountsCalls told d.world line said
   pub works : NeedsLog d.world line said
   pub calls : NeedsCalls d.world line said
 
 abbrev pub StepBy : Option No → Type 0 → Doubted → ScriptLine → Fails → Said → Doubted → Type 0
-StepBy (Some why) told d line fails said new = IsRefused why d fails said new
+StepBy (Some why) told d line fails said new = IsRefusedLine why d fails said new
 StepBy None told d line fails said new = IsDone told d line fails said new
 
 -- The first refusal that holds in the one order is the reply, and nothing changes. Where there is none, the events of the line happen.

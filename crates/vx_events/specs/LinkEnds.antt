@@ -6,7 +6,7 @@ use Rattle.vx_model.specs.declared.no.Counted.TheVariants.{Number}
 use Rattle.vx_model.specs.declared.no.No.TheVariants.{Device, Limit, Down as IsOff}
 use Rattle.vx_history.specs.Doubts.{Doubted, Runs, halved, crashed_as}
 use Rattle.vx_history.specs.Events.{packet_at}
-use Rattle.vx_history.specs.Stops.{Stops, IsFused, IsHeardAt, IsOpen, IsPartAt, ComesTo, all_fails}
+use Rattle.vx_history.specs.Stops.{EventsEnd, IsFused, IsHeardAt, IsOpen, IsPartAt, ComesTo, all_fails}
 use Rattle.vx_history.specs.Steps.{worked_on}
 use Rattle.vx_history.specs.World.{Packet, World}
 use Rattle.vx_history.specs.declared.event.Event.{Event}
@@ -107,4 +107,4 @@ pub data CameOfLinks (all events : List Event) : Type 0 where
 pub record LinkStops (d : Doubted) (line : ScriptLine) (fails : Fails) (new : Doubted) : Type 0 where
   pub events : List Event
   pub came : CameOfLinks (link_events d.world line) events
-  pub stops : Stops d events fails new
+  pub stops : EventsEnd d events fails new

@@ -1,7 +1,7 @@
 -- What the status of a site shows of its links.
 use Rattle.std.specs.Prelude.{ℕ, ◌+◌, List, [], ◌∷◌}
 use Rattle.vx_history.specs.Events.{linked_sites}
-use Rattle.vx_history.specs.Refusals.{count_below}
+use Rattle.vx_history.specs.Refusals.{how_many_below}
 use Rattle.vx_history.specs.World.{Link, Regions, Volume, World}
 use Rattle.vx_model.specs.Sizes.{regions_of}
 use Rattle.vx_model.specs.declared.site.SiteState.{SiteState}
@@ -13,7 +13,7 @@ use Rattle.vx_events.specs.Views.{name_of, view_of}
 -- how many regions of these volumes a map marks; the first of them has number v
 abbrev pub marked_from : Regions → (v : ℕ) → List Volume → ℕ
 marked_from map v [] = 0
-marked_from map v (x ∷ xs) = count_below (regions_of x.blocks) (map v) + marked_from map (v + 1) xs
+marked_from map v (x ∷ xs) = how_many_below (regions_of x.blocks) (map v) + marked_from map (v + 1) xs
 
 -- the link of site p to site s
 abbrev pub link_view : World → (p s : ℕ) → Link → LinkView

@@ -9,7 +9,7 @@ use Rattle.vx_model.specs.declared.site.SiteState.{SiteState}
 use Rattle.vx_model.specs.declared.site.SiteState.TheVariants.{Bare, Up, Deported, Down}
 use Rattle.vx_order.specs.declared.facts.SiteFacts.{SiteFacts}
 use Rattle.vx_order.specs.declared.facts.LinkFacts.{LinkFacts}
-use Rattle.vx_order.specs.Order.{refusal_of}
+use Rattle.vx_order.specs.Order.{line_refusal}
 use Rattle.vx_order.specs.Packets.{packet_unknown}
 use Rattle.vx_script.specs.declared.line.ScriptLine.{ScriptLine}
 use Rattle.vx_script.specs.declared.line.ScriptLine.TheVariants.{Deliver}
@@ -35,11 +35,11 @@ links_by Deported links = []
 links_by Down links = []
 
 -- the links of site i in the order of their making
-abbrev pub links_in : World → ℕ → List LinkFacts
-links_in w i = link_facts (w.nodes i) (w.links i) (linked_sites (w.links i) w.sites 0 w.sites)
+abbrev pub links_of_site : World → ℕ → List LinkFacts
+links_of_site w i = link_facts (w.nodes i) (w.links i) (linked_sites (w.links i) w.sites 0 w.sites)
 
 abbrev pub linked_fact : World → ℕ → SiteFacts
-linked_fact w i = record (site_fact (w.nodes i)) { links = links_by (w.nodes i).state (links_in w i) }
+linked_fact w i = record (site_fact (w.nodes i)) { links = links_by (w.nodes i).state (links_of_site w i) }
 
 -- the sites in the order of their numbers, with their links
 abbrev pub linked_facts : World → List SiteFacts
@@ -48,4 +48,4 @@ linked_facts w = values_from (λ i. linked_fact w i) 0 w.sites
 -- the first refusal of a line before it works
 abbrev pub refused_by : World → Bool → ScriptLine → Option No
 refused_by w files (Deliver number) = packet_unknown (length w.packets) number
-refused_by w files other = refusal_of (linked_facts w) files other
+refused_by w files other = line_refusal (linked_facts w) files other

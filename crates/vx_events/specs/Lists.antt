@@ -22,8 +22,8 @@ recovery_of Deported s kept = RecoverAt s None ∷ []
 recovery_of Down s kept = RecoverAt s None ∷ []
 
 -- so many blocks from `start` on of a volume are written
-abbrev pub write_of : World → (site volume : List ℕ) → (start : ℕ) → (bytes : List ℕ) → List Event
-write_of w site volume start bytes =
+abbrev pub writing_events : World → (site volume : List ℕ) → (start : ℕ) → (bytes : List ℕ) → List Event
+writing_events w site volume start bytes =
     let s = site_number w site in WriteAt s (volume_number (w.nodes s) volume) start bytes None ∷ []
 
 abbrev pub read_of : World → (site volume : List ℕ) → (start count : ℕ) → List Event
@@ -37,8 +37,8 @@ events_of w (Disk site disk state) c = []
 events_of w (Crash site pick) c = CrashAt (site_number w site) c.kept ∷ []
 events_of w (Fuse site calls pick) c = []
 events_of w (Recover site) c = let s = site_number w site in recovery_of (w.nodes s).state s c.kept
-events_of w (Write site volume start count fill) c = write_of w site volume start (replicate (512 * count) fill)
-events_of w (Put site volume start bytes) c = write_of w site volume start bytes
+events_of w (Write site volume start count fill) c = writing_events w site volume start (replicate (512 * count) fill)
+events_of w (Put site volume start bytes) c = writing_events w site volume start bytes
 events_of w (Read site volume start count) c = read_of w site volume start count
 events_of w (Show site volume start count) c = read_of w site volume start count
 events_of w (Apply site to) c = ApplyAt (site_number w site) to c.reached ∷ []

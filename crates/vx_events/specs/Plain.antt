@@ -13,5 +13,5 @@ pub record ArePrimaries (w : World) : Type 0 where
   pub each : (i : ℕ) → (w.nodes i).role ≡ Primary
 
 -- each volume of a site has as many blocks as the site's content has there
-pub record IsSized (n : Node) : Type 0 where
+pub record IsSizedAs (n : Node) : Type 0 where
   pub each : (v : ℕ) (x : Volume) → slice_get n.volumes v ≡ Some x → n.base.size v ≡ x.blocks

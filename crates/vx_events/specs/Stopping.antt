@@ -1,7 +1,7 @@
 -- A line that ended, as the events of a world in which sites may be in doubt: what those keep good, the line keeps good.
 use Rattle.std.specs.Prelude.{◌≡◌, ℕ, Bool, true, false, List, [], ◌∷◌, ◌++◌}
 use Rattle.vx_history.specs.Doubts.{Doubted}
-use Rattle.vx_history.specs.Stops.{Stops}
+use Rattle.vx_history.specs.Stops.{EventsEnd}
 use Rattle.vx_history.specs.World.{World}
 use Rattle.vx_history.specs.declared.event.Event.{Event}
 use Rattle.vx_history.specs.declared.event.Event.TheVariants.{Crash as CrashAt}
@@ -25,7 +25,7 @@ pub record StopsAs (d : Doubted) (line : ScriptLine) (s : ℕ) (fails : Fails) (
   pub choice : Choice
   pub events : List Event
   pub came : CameOf d.world (events_of d.world line choice) s choice.kept events
-  pub stops : Stops d events fails new
+  pub stops : EventsEnd d events fails new
 
 -- the same of a line of any kind: one of links, or another
 abbrev pub StopsBy : Bool → Doubted → ScriptLine → Fails → Doubted → Type 0

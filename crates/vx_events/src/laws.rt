@@ -11,7 +11,7 @@ ghost use Rattle.vx_history.specs.Step.{step, joined_blocks};
 ghost use Rattle.vx_history.specs.World.{World};
 ghost use Rattle.vx_history.specs.declared.event.Event.TheVariants.{Site as MakeSite, Raw as MakeRaw, Write as WriteAt, Read as ReadAt, Apply as ApplyAt, Crash as CrashAt};
 ghost use Rattle.vx_history.specs.declared.event.Said.TheVariants.{Done, DoneAt, Got};
-ghost use Rattle.vx_order.specs.Order.{refusal_of};
+ghost use Rattle.vx_order.specs.Order.{line_refusal};
 ghost use Rattle.vx_script.specs.declared.line.ScriptLine.{ScriptLine};
 ghost use Rattle.vx_script.specs.declared.line.ScriptLine.TheVariants.{Site, Raw, Crash, Write as WriteLine, Put, Read, Show, Apply};
 ghost use Rattle.vx_events.specs.Facts.{facts_of, site_number, volume_number};
@@ -19,7 +19,7 @@ ghost use Rattle.vx_events.specs.Fails.{Fails};
 ghost use Rattle.vx_events.specs.Lines.{LineStep, is_of_links};
 ghost use Rattle.vx_events.specs.Lists.{Choice};
 ghost use Rattle.vx_events.specs.Parts.{DonePart, StopsShort, first_part, goes_in_parts};
-ghost use Rattle.vx_events.specs.Plain.{IsUnlinked, IsSized};
+ghost use Rattle.vx_events.specs.Plain.{IsUnlinked, IsSizedAs};
 ghost use Rattle.vx_events.specs.Stopping.{StopsBy};
 ghost use Rattle.vx_events.specs.declared.said.Said.{Said};
 
@@ -31,29 +31,29 @@ pub fn lets_every_write_in()
 /// Where no test of a line refuses, its event is not refused by the world: so there is one order of refusals. A write has to find a number,
 /// a world without links, and volumes as large as their table says; a read such volumes; a show those and a primary; and an apply a site where writes arise.
 pub fn tests_agree()
-    ensures site { (w : World) (files : Bool) (name : List ℕ) (disks blocks : ℕ) → refusal_of (facts_of w) files (Site name disks blocks) ≡ None
+    ensures site { (w : World) (files : Bool) (name : List ℕ) (disks blocks : ℕ) → line_refusal (facts_of w) files (Site name disks blocks) ≡ None
         → (step w (MakeSite name disks blocks)).said ≡ Done }
-    ensures raw { (w : World) (files : Bool) (name : List ℕ) → refusal_of (facts_of w) files (Raw name) ≡ None
+    ensures raw { (w : World) (files : Bool) (name : List ℕ) → line_refusal (facts_of w) files (Raw name) ≡ None
         → (step w (MakeRaw (site_number w name))).said ≡ Done }
-    ensures crash { (w : World) (files : Bool) (name : List ℕ) (pick kept : ℕ) → refusal_of (facts_of w) files (Crash name pick) ≡ None
+    ensures crash { (w : World) (files : Bool) (name : List ℕ) (pick kept : ℕ) → line_refusal (facts_of w) files (Crash name pick) ≡ None
         → (step w (CrashAt (site_number w name) kept)).said ≡ Done }
-    ensures write { (w : World) (files : Bool) (name volume : List ℕ) (start count fill : ℕ) → refusal_of (facts_of w) files (WriteLine name volume start count fill) ≡ None
-        → IsUnlinked w → IsSized (w.nodes (site_number w name)) → (w.nodes (site_number w name)).safe < MOST_NUMBER
+    ensures write { (w : World) (files : Bool) (name volume : List ℕ) (start count fill : ℕ) → line_refusal (facts_of w) files (WriteLine name volume start count fill) ≡ None
+        → IsUnlinked w → IsSizedAs (w.nodes (site_number w name)) → (w.nodes (site_number w name)).safe < MOST_NUMBER
         → (step w (WriteAt (site_number w name) (volume_number (w.nodes (site_number w name)) volume) start (replicate (512 * count) fill) None)).said
         ≡ DoneAt ((w.nodes (site_number w name)).safe + 1) }
-    ensures put { (w : World) (files : Bool) (name volume : List ℕ) (start : ℕ) (bytes : List ℕ) → refusal_of (facts_of w) files (Put name volume start bytes) ≡ None
-        → length bytes ≡ 512 → IsUnlinked w → IsSized (w.nodes (site_number w name)) → (w.nodes (site_number w name)).safe < MOST_NUMBER
+    ensures put { (w : World) (files : Bool) (name volume : List ℕ) (start : ℕ) (bytes : List ℕ) → line_refusal (facts_of w) files (Put name volume start bytes) ≡ None
+        → length bytes ≡ 512 → IsUnlinked w → IsSizedAs (w.nodes (site_number w name)) → (w.nodes (site_number w name)).safe < MOST_NUMBER
         → (step w (WriteAt (site_number w name) (volume_number (w.nodes (site_number w name)) volume) start bytes None)).said
         ≡ DoneAt ((w.nodes (site_number w name)).safe + 1) }
-    ensures read { (w : World) (files : Bool) (name volume : List ℕ) (start count : ℕ) → refusal_of (facts_of w) files (Read name volume start count) ≡ None
-        → IsSized (w.nodes (site_number w name))
+    ensures read { (w : World) (files : Bool) (name volume : List ℕ) (start count : ℕ) → line_refusal (facts_of w) files (Read name volume start count) ≡ None
+        → IsSizedAs (w.nodes (site_number w name))
         → (step w (ReadAt (site_number w name) (volume_number (w.nodes (site_number w name)) volume) start count)).said
         ≡ Got (joined_blocks (blocks_from (w.nodes (site_number w name)).base (volume_number (w.nodes (site_number w name)) volume) start count)) }
-    ensures show { (w : World) (files : Bool) (name volume : List ℕ) (start count : ℕ) → refusal_of (facts_of w) files (Show name volume start count) ≡ None
-        → IsSized (w.nodes (site_number w name)) → (w.nodes (site_number w name)).role ≡ Primary
+    ensures show { (w : World) (files : Bool) (name volume : List ℕ) (start count : ℕ) → line_refusal (facts_of w) files (Show name volume start count) ≡ None
+        → IsSizedAs (w.nodes (site_number w name)) → (w.nodes (site_number w name)).role ≡ Primary
         → (step w (ReadAt (site_number w name) (volume_number (w.nodes (site_number w name)) volume) start count)).said
         ≡ Got (joined_blocks (blocks_from (w.nodes (site_number w name)).base (volume_number (w.nodes (site_number w name)) volume) start count)) }
-    ensures apply { (w : World) (files : Bool) (name : List ℕ) (to reached : ℕ) → refusal_of (facts_of w) files (Apply name to) ≡ None
+    ensures apply { (w : World) (files : Bool) (name : List ℕ) (to reached : ℕ) → line_refusal (facts_of w) files (Apply name to) ≡ None
         → is_origin (w.nodes (site_number w name)).role ≡ true → min to (w.nodes (site_number w name)).safe ≤ reached → reached ≤ (w.nodes (site_number w name)).safe
         → (step w (ApplyAt (site_number w name) to reached)).said ≡ DoneAt reached }
 {}

@@ -7,7 +7,7 @@ use Rattle.vx_disk.specs.Shelf.{Goes, Meaning, Values}
 use Rattle.vx_disk.proofs.Alikes.{picked_stable}
 use Rattle.vx_model.specs.declared.errors.Stop.{Stop}
 use Rattle.vx_filedisk.specs.declared.files.DiskFiles.{DiskFiles}
-use Rattle.vx_filedisk.specs.Hosts.{AsMany, blank, host_meaning, shown}
+use Rattle.vx_filedisk.specs.Hosts.{AsMany, blank_disks, host_meaning, shown}
 
 -- a call on a shelf in memory
 module _ (c d : ℕ → ℕ) (a b : Meaning) where
@@ -29,16 +29,16 @@ module _ (c d : ℕ → ℕ) (a b : Meaning) where
   }
 
 -- the blocks of files look the same whatever was done
-pub blank_SameBlocks : (o n : Disks) → SameBlocks (blank o) (blank n)
+pub blank_SameBlocks : (o n : Disks) → SameBlocks (blank_disks o) (blank_disks n)
 blank_SameBlocks o n = record { stable = λ u b. refl; latest = λ u b. refl; loose = λ u b. refl }
 
-pub blank_Untouched : (o n : Disks) → Untouched o n → Untouched (blank o) (blank n)
+pub blank_Untouched : (o n : Disks) → Untouched o n → Untouched (blank_disks o) (blank_disks n)
 blank_Untouched o n same = record { blocks = blank_SameBlocks o n; fuse = same.fuse }
 
-pub blank_Crashed : (size sizes : ℕ → ℕ) (pick : ℕ) (o n : Disks) → Crashed size pick o n → Crashed sizes pick (blank o) (blank n)
+pub blank_Crashed : (size sizes : ℕ → ℕ) (pick : ℕ) (o n : Disks) → Crashed size pick o n → Crashed sizes pick (blank_disks o) (blank_disks n)
 blank_Crashed size sizes pick o n crashed = record {
-  stable = λ u b. sym (picked_stable sizes (blank o) pick u b refl);
-  latest = λ u b. sym (picked_stable sizes (blank o) pick u b refl);
+  stable = λ u b. sym (picked_stable sizes (blank_disks o) pick u b refl);
+  latest = λ u b. sym (picked_stable sizes (blank_disks o) pick u b refl);
   loose = λ u b. refl;
   fuse = crashed.fuse;
 }

@@ -12,9 +12,9 @@ Told unit (Err _) (Err (Fault disk)) = disk ≡ unit
 Told unit (Err _) (Err Down) = ⊥
 
 -- a call that may pass is answered with Ok or a fault of the disk, and any other as it was before the files were reached
-abbrev pub Follows : {T : Type 0} → ℕ → Result T ShelfError → Result T ShelfError → Type 0
-Follows unit (Ok _) (Ok _) = Unit {0}
-Follows unit (Ok _) (Err (Fault disk)) = disk ≡ unit
-Follows unit (Ok _) (Err Down) = ⊥
-Follows unit (Err before) (Ok _) = ⊥
-Follows unit (Err before) (Err after) = after ≡ before
+abbrev pub FollowsFiles : {T : Type 0} → ℕ → Result T ShelfError → Result T ShelfError → Type 0
+FollowsFiles unit (Ok _) (Ok _) = Unit {0}
+FollowsFiles unit (Ok _) (Err (Fault disk)) = disk ≡ unit
+FollowsFiles unit (Ok _) (Err Down) = ⊥
+FollowsFiles unit (Err before) (Ok _) = ⊥
+FollowsFiles unit (Err before) (Err after) = after ≡ before

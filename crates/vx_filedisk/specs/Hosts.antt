@@ -10,9 +10,9 @@ abbrev pub AsMany : Option DiskFiles → Meaning → Type 0
 AsMany files m = ForSome files (λ f. (length f.files.items ≡ m.units) × (0 < m.units) × ((u : ℕ) → u < m.units → 8 ≤ m.size u))
 
 -- a file's size is its number of blocks
-abbrev pub sizes : Option DiskFiles → (ℕ → ℕ) → ℕ → ℕ
-sizes None size u = size u
-sizes (Some f) size u = f.blocks
+abbrev pub disk_sizes : Option DiskFiles → (ℕ → ℕ) → ℕ → ℕ
+disk_sizes None size u = size u
+disk_sizes (Some f) size u = f.blocks
 
 -- nothing is told of the contents of files
 abbrev pub telling : Option DiskFiles → Bool → Bool
@@ -28,8 +28,8 @@ images None known i = known i
 images (Some f) known i = ⊥
 
 -- of files only the fuse is told, and which disks are made to fail
-abbrev pub blank : Disks → Disks
-blank d = record {
+abbrev pub blank_disks : Disks → Disks
+blank_disks d = record {
   stable = λ u b. [];
   latest = λ u b. [];
   loose = λ u b. false;
@@ -40,13 +40,13 @@ blank d = record {
 abbrev pub shown : Option DiskFiles → Option Disks → Option Disks
 shown None disks = disks
 shown (Some f) None = None
-shown (Some f) (Some d) = Some (blank d)
+shown (Some f) (Some d) = Some (blank_disks d)
 
 -- the rack has its own counts, and all else by the shelf within it
 abbrev pub host_meaning : Option DiskFiles → (ℕ → ℕ) → Meaning → Meaning
 host_meaning files counts m = record {
   units = m.units;
-  size = sizes files m.size;
+  size = disk_sizes files m.size;
   tells = telling files m.tells;
   reads = values files m.reads;
   leaves = values files m.leaves;

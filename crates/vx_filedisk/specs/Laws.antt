@@ -8,7 +8,7 @@ use Rattle.vx_disk.specs.Shelf.{Lawful, Meaning}
 use Rattle.vx_filedisk.specs.declared.files.DiskFiles.{DiskFiles}
 use Rattle.vx_filedisk.specs.declared.host.HostRack.{HostRack}
 use Rattle.vx_filedisk.specs.Counting.{counts_of}
-use Rattle.vx_filedisk.specs.Hosts.{blank, host_meaning, shown}
+use Rattle.vx_filedisk.specs.Hosts.{blank_disks, host_meaning, shown}
 use Rattle.vx_filedisk.specs.Meanings.{rack_meaning}
 
 pub never : {A : Type 0} → IsTrue false → A
@@ -52,7 +52,7 @@ host-IsRack None counts m rack = record {
   at_rest = rack.at_rest;
 }
 host-IsRack (Some f) counts m rack = record {
-  told = blank rack.told;
+  told = blank_disks rack.told;
   is = ap (λ o. shown (Some f) o) rack.is;
   counts = λ u. refl;
   armed = rack.armed;

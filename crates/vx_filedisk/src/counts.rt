@@ -1,7 +1,7 @@
 // The failed calls on each of a rack's disks.
 ghost use Rattle.std.specs.Prelude.{◌≡◌, ◌≢◌, ◌<◌, ℕ};
 ghost use Rattle.vx_disk.specs.Counts.{Rose};
-ghost use Rattle.vx_filedisk.specs.Counting.{Noted, counts_of};
+ghost use Rattle.vx_filedisk.specs.Counting.{CountsNoted, counts_of};
 
 use vx_disk::ShelfError;
 use vx_model::limits::DISK_PLACES;
@@ -43,7 +43,7 @@ impl Counts {
     /// A call on the disk was answered so.
     pub fn note(&mut self, disk: u32, answer: &Result<(), ShelfError>)
         requires { disk < DISK_PLACES }
-        ensures { Noted disk answer.now (counts_of self.old) (counts_of self.new) }
+        ensures { CountsNoted disk answer.now (counts_of self.old) (counts_of self.new) }
     {
         if let Err(ShelfError::Fault { disk: _ }) = answer {
             self.raise(disk);

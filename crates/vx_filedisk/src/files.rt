@@ -1,6 +1,6 @@
 // The files of the disks.
 ghost use Rattle.std.specs.Prelude.{◌≡◌, ◌<◌, ◌≤◌, length};
-ghost use Rattle.vx_filedisk.specs.Following.{Follows, Told};
+ghost use Rattle.vx_filedisk.specs.Following.{FollowsFiles, Told};
 ghost use Rattle.vx_model.specs.declared.limits.TheConstants.{MOST_FILE_BLOCKS};
 
 use std::fs::File;
@@ -27,7 +27,7 @@ impl DiskFiles {
     ) -> Result<(), ShelfError>
         requires unit { unit < length self.now.files.items }
         requires block { block ≤ self.now.blocks }
-        ensures { Follows unit passed result }
+        ensures { FollowsFiles unit passed result }
     {
         passed?;
         told(
@@ -46,7 +46,7 @@ impl DiskFiles {
     ) -> Result<(), ShelfError>
         requires unit { unit < length self.now.files.items }
         requires block { block ≤ self.now.blocks }
-        ensures { Follows unit passed result }
+        ensures { FollowsFiles unit passed result }
     {
         passed?;
         told(
@@ -58,7 +58,7 @@ impl DiskFiles {
     /// Brings to the device what was written, where the call may pass.
     pub fn flush(&self, passed: Result<(), ShelfError>, unit: u32) -> Result<(), ShelfError>
         requires { unit < length self.now.files.items }
-        ensures { Follows unit passed result }
+        ensures { FollowsFiles unit passed result }
     {
         passed?;
         told(unit, self.files[unit as usize].sync_data())

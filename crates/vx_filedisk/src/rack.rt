@@ -7,7 +7,7 @@ ghost use Rattle.vx_disk.specs.Causes.{Calls, Cause, CountsOnly, Names, OnDisks,
 ghost use Rattle.vx_disk.specs.Disks.{Untouched};
 ghost use Rattle.vx_disk.specs.Racks.{Fitted, FitStops, Telling, Unfitted, most_blocks};
 ghost use Rattle.vx_disk.specs.Shelf.{DisksFlushed, DisksWrote, Fits, Flushed, Goes, Nothing, Read, Written, Wrote};
-ghost use Rattle.vx_filedisk.specs.Counting.{Kept, Noted};
+ghost use Rattle.vx_filedisk.specs.Counting.{CountsKept, CountsNoted};
 ghost use Rattle.vx_filedisk.specs.Laws.{rack-IsRack, rack-Lawful};
 ghost use Rattle.vx_filedisk.specs.Meanings.{rack_meaning};
 
@@ -45,7 +45,7 @@ impl Shelf for HostRack {
         ensures names { Names (⟦<HostRack as Shelf>⟧.meaning self.old).disks unit result }
         ensures works { OnOk result (Works (⟦<HostRack as Shelf>⟧.meaning self.old).disks unit) }
         ensures disks { OnDisks (⟦<HostRack as Shelf>⟧.meaning self.old).disks (⟦<HostRack as Shelf>⟧.meaning self.new).disks Untouched }
-        ensures counted { Noted unit result (⟦<HostRack as Shelf>⟧.meaning self.old).faults (⟦<HostRack as Shelf>⟧.meaning self.new).faults }
+        ensures counted { CountsNoted unit result (⟦<HostRack as Shelf>⟧.meaning self.old).faults (⟦<HostRack as Shelf>⟧.meaning self.new).faults }
     {
         let Some(files) = &self.files else {
             let answer = self.memory.read(unit, block, into);
@@ -66,7 +66,7 @@ impl Shelf for HostRack {
         ensures names { Names (⟦<HostRack as Shelf>⟧.meaning self.old).disks unit result }
         ensures works { OnOk result (Works (⟦<HostRack as Shelf>⟧.meaning self.old).disks unit) }
         ensures disks { OnDisks (⟦<HostRack as Shelf>⟧.meaning self.old).disks (⟦<HostRack as Shelf>⟧.meaning self.new).disks (λ o n. Calls (⟦<HostRack as Shelf>⟧.meaning self.old) (DisksWrote unit block bytes.now) o n result) }
-        ensures counted { Noted unit result (⟦<HostRack as Shelf>⟧.meaning self.old).faults (⟦<HostRack as Shelf>⟧.meaning self.new).faults }
+        ensures counted { CountsNoted unit result (⟦<HostRack as Shelf>⟧.meaning self.old).faults (⟦<HostRack as Shelf>⟧.meaning self.new).faults }
     {
         let Some(files) = &self.files else {
             let answer = self.memory.write(unit, block, bytes);
@@ -87,7 +87,7 @@ impl Shelf for HostRack {
         ensures names { Names (⟦<HostRack as Shelf>⟧.meaning self.old).disks unit result }
         ensures works { OnOk result (Works (⟦<HostRack as Shelf>⟧.meaning self.old).disks unit) }
         ensures disks { OnDisks (⟦<HostRack as Shelf>⟧.meaning self.old).disks (⟦<HostRack as Shelf>⟧.meaning self.new).disks (λ o n. Calls (⟦<HostRack as Shelf>⟧.meaning self.old) (DisksFlushed unit) o n result) }
-        ensures counted { Noted unit result (⟦<HostRack as Shelf>⟧.meaning self.old).faults (⟦<HostRack as Shelf>⟧.meaning self.new).faults }
+        ensures counted { CountsNoted unit result (⟦<HostRack as Shelf>⟧.meaning self.old).faults (⟦<HostRack as Shelf>⟧.meaning self.new).faults }
     {
         let Some(files) = &self.files else {
             let answer = self.memory.flush(unit);
@@ -131,7 +131,7 @@ impl Rack for HostRack {
         ensures stops { disks ≤ MOST_DISKS → blocks ≤ most_blocks dir.entry → IfErr result (FitStops disks (⟦<HostRack as Shelf>⟧.meaning self.old) (⟦<HostRack as Shelf>⟧.meaning self.new)) }
         ensures unchanged { IfErr result (Unfitted (⟦<HostRack as Shelf>⟧.meaning self.old) (⟦<HostRack as Shelf>⟧.meaning self.new)) }
         ensures untold { OnOk result (OnSome dir.entry (IsFalse (⟦<HostRack as Shelf>⟧.meaning self.new).tells)) }
-        ensures kept { OnOk result (Kept (⟦<HostRack as Shelf>⟧.meaning self.old).faults (⟦<HostRack as Shelf>⟧.meaning self.new).faults) }
+        ensures kept { OnOk result (CountsKept (⟦<HostRack as Shelf>⟧.meaning self.old).faults (⟦<HostRack as Shelf>⟧.meaning self.new).faults) }
     {
         match dir {
             None => self.memory.fit(alloc, None, site, disks, blocks),
@@ -171,7 +171,7 @@ impl HostRack {
         requires up { IsFalse (rack_meaning self.old).down }
         ensures fitted { OnOk result (Fitted disks blocks (rack_meaning self.old) (rack_meaning self.new)) }
         ensures untold { OnOk result (IsFalse (rack_meaning self.new).tells) }
-        ensures kept { OnOk result (Kept (rack_meaning self.old).faults (rack_meaning self.new).faults) }
+        ensures kept { OnOk result (CountsKept (rack_meaning self.old).faults (rack_meaning self.new).faults) }
         ensures many_disks { MOST_DISKS < disks → result ≡ Err (Refused (Limit Disks MOST_DISKS)) }
         ensures many_blocks { disks ≤ MOST_DISKS → MOST_FILE_BLOCKS < blocks → result ≡ Err (Refused (Limit Blocks MOST_FILE_BLOCKS)) }
         ensures stops { disks ≤ MOST_DISKS → blocks ≤ MOST_FILE_BLOCKS → IfErr result (FitStops disks (rack_meaning self.old) (rack_meaning self.new)) }

@@ -1,13 +1,13 @@
 // The log of missed regions of a volume.
 ghost use Rattle.std.specs.Prelude.{◌≡◌, ◌+◌, ◌-◌, ◌*◌, ◌<◌, ◌≤◌, ℕ, true, false, IfErr, IfOk, IsFalse, OnOk, length};
 ghost use Rattle.vx_bitmap.specs.Bits.{AllAre, Between, Changed};
-ghost use Rattle.vx_bitmap.specs.Maps.{ChangedAt, Changing, IsRead, Lies, LoadCause, MapOn, SamePlace, UnitCause, blocks_of as map_blocks_of};
+ghost use Rattle.vx_bitmap.specs.Maps.{ChangedAt, Changing, IsRead, Lies, LoadCause, MapOn, SamePlace, UnitCause, map_block_count as map_blocks_of};
 ghost use Rattle.vx_config.specs.declared.entry.VolumeLog.TheVariants.{Fmr as FmrLog};
 ghost use Rattle.vx_disk.specs.Causes.{DeviceCause};
 ghost use Rattle.vx_disk.specs.Moves.{Moves, Run, Settled};
 ghost use Rattle.vx_disk.specs.Shelf.{Goes, Nothing};
-ghost use Rattle.vx_maplog.specs.Logs.{DisksFit, HasLog};
-ghost use Rattle.vx_fmr.specs.Missed.{FmrLoaded, OthersSame, SameShape, has_missed, place_of};
+ghost use Rattle.vx_maplog.specs.Logs.{DisksReach, HasLog};
+ghost use Rattle.vx_fmr.specs.Missed.{FmrLoaded, OthersSame, SameMissedShape, has_missed, missed_place};
 
 use std::alloc::Global;
 use std::marker::Model;
@@ -28,13 +28,13 @@ pub struct Fmr {
 }
 
 impl Model for Fmr {
-    ghost use Rattle.vx_fmr.specs.Missed.{IsKept, Missed};
+    ghost use Rattle.vx_fmr.specs.Missed.{IsMissedKept, Missed};
 
     ghost Value = { Missed };
 
     ghost view = { λ f. record { map = f.map; plexes = f.plexes; stride = f.stride; regions = f.regions } };
 
-    ghost invariant = { λ f. IsKept f.map f.plexes f.stride f.regions };
+    ghost invariant = { λ f. IsMissedKept f.map f.plexes f.stride f.regions };
 }
 
 impl Fmr {
@@ -49,7 +49,7 @@ impl Fmr {
         volume: u32,
     ) -> Result<Fmr, Stop>
         requires has { HasLog config.now volume FmrLog }
-        requires disks { DisksFit config.now.disks (S.meaning shelf.old) }
+        requires disks { DisksReach config.now.disks (S.meaning shelf.old) }
         requires up { IsFalse (S.meaning shelf.old).down }
         ensures loaded { IfOk result (λ fmr. FmrLoaded config.now volume fmr) }
         ensures lies { IfOk result (λ fmr. Lies fmr.map (S.meaning shelf.new)) }
@@ -79,7 +79,7 @@ impl Fmr {
     fn place(&self, plex: u32, region: u64) -> u64
         requires exists { plex < self.now.plexes }
         requires inside { region < self.now.stride }
-        ensures is { result ≡ place_of self.now plex region }
+        ensures is { result ≡ missed_place self.now plex region }
         ensures within { result < 8 * length self.now.map.bytes }
     {
         u64::from(plex) * self.stride + region
@@ -91,14 +91,14 @@ impl Fmr {
     pub fn begin<S: Shelf>(&mut self, shelf: &mut S, plex: u32) -> Result<(), No>
         requires lies { Lies self.old.map (S.meaning shelf.old) }
         requires exists { plex < self.old.plexes }
-        ensures moves { Moves (Run self.old.map.unit self.old.map.first (map_blocks_of self.old.map)) (Changing self.old.map (place_of self.old plex 0) (place_of self.old plex (self.old.stride - 1)) false (S.meaning shelf.old)) (S.meaning shelf.old) (S.meaning shelf.new) }
-        ensures writes { Goes (ChangedAt self.old.map (place_of self.old plex 0) (place_of self.old plex (self.old.stride - 1)) false (S.meaning shelf.old)) (S.meaning shelf.old) (S.meaning shelf.new) }
+        ensures moves { Moves (Run self.old.map.unit self.old.map.first (map_blocks_of self.old.map)) (Changing self.old.map (missed_place self.old plex 0) (missed_place self.old plex (self.old.stride - 1)) false (S.meaning shelf.old)) (S.meaning shelf.old) (S.meaning shelf.new) }
+        ensures writes { Goes (ChangedAt self.old.map (missed_place self.old plex 0) (missed_place self.old plex (self.old.stride - 1)) false (S.meaning shelf.old)) (S.meaning shelf.old) (S.meaning shelf.new) }
         ensures stands { OnOk result (MapOn self.old.map (S.meaning shelf.old) → MapOn self.new.map (S.meaning shelf.new)) }
         ensures changed { OnOk result (Changed 0 (self.old.stride - 1) false self.old.stride (has_missed self.old plex) (has_missed self.new plex)) }
         ensures part { Between 0 (self.old.stride - 1) false self.old.stride (has_missed self.old plex) (has_missed self.new plex) }
         ensures others { OthersSame plex self.old self.new }
         ensures place { SamePlace self.old.map self.new.map }
-        ensures shape { SameShape self.old self.new }
+        ensures shape { SameMissedShape self.old self.new }
         ensures cause { IfErr result (DeviceCause (S.meaning shelf.old) (S.meaning shelf.new)) }
         ensures unit { UnitCause self.old.map.unit (S.meaning shelf.old) (S.meaning shelf.new) result }
         ensures nothing { AllAre 0 (self.old.stride - 1) false (has_missed self.old plex) → shelf.new ≡ shelf.old }
@@ -123,14 +123,14 @@ impl Fmr {
         requires exists { plex < self.old.plexes }
         requires some { first ≤ last }
         requires inside { last < self.old.regions }
-        ensures moves { Moves (Run self.old.map.unit self.old.map.first (map_blocks_of self.old.map)) (Changing self.old.map (place_of self.old plex first) (place_of self.old plex last) true (S.meaning shelf.old)) (S.meaning shelf.old) (S.meaning shelf.new) }
-        ensures writes { Goes (ChangedAt self.old.map (place_of self.old plex first) (place_of self.old plex last) true (S.meaning shelf.old)) (S.meaning shelf.old) (S.meaning shelf.new) }
+        ensures moves { Moves (Run self.old.map.unit self.old.map.first (map_blocks_of self.old.map)) (Changing self.old.map (missed_place self.old plex first) (missed_place self.old plex last) true (S.meaning shelf.old)) (S.meaning shelf.old) (S.meaning shelf.new) }
+        ensures writes { Goes (ChangedAt self.old.map (missed_place self.old plex first) (missed_place self.old plex last) true (S.meaning shelf.old)) (S.meaning shelf.old) (S.meaning shelf.new) }
         ensures stands { OnOk result (MapOn self.old.map (S.meaning shelf.old) → MapOn self.new.map (S.meaning shelf.new)) }
         ensures changed { OnOk result (Changed first last true self.old.stride (has_missed self.old plex) (has_missed self.new plex)) }
         ensures part { Between first last true self.old.stride (has_missed self.old plex) (has_missed self.new plex) }
         ensures others { OthersSame plex self.old self.new }
         ensures place { SamePlace self.old.map self.new.map }
-        ensures shape { SameShape self.old self.new }
+        ensures shape { SameMissedShape self.old self.new }
         ensures cause { IfErr result (DeviceCause (S.meaning shelf.old) (S.meaning shelf.new)) }
         ensures unit { UnitCause self.old.map.unit (S.meaning shelf.old) (S.meaning shelf.new) result }
         ensures nothing { AllAre first last true (has_missed self.old plex) → shelf.new ≡ shelf.old }

@@ -10,6 +10,18 @@ use vx_disk::{MemShelf, Rack, Shelf};
 use vx_maplog::{disks_fit, has_log};
 use vx_model::{Name, No, OutOfMemory, PlexState, Stop};
 
+const DISK: DiskEntry = DiskEntry {
+    blocks: 16_384,
+    failed: false,
+};
+
+const LOG: LogEntry = LogEntry {
+    lost: false,
+    disk: 1,
+    start: 600,
+    blocks: 2,
+};
+
 fn run(disk: u8, start: u64, blocks: u64) -> Subdisk {
     Subdisk {
         disk,
@@ -21,14 +33,8 @@ fn run(disk: u8, start: u64, blocks: u64) -> Subdisk {
 // A volume of 7,872 blocks on two plexes, both on disk 0, whose log of missed regions is blocks 600 and 601 of disk 1.
 fn group(alloc: Global) -> Result<Config, OutOfMemory> {
     let mut disks = Disks::new();
-    disks.push(DiskEntry {
-        blocks: 16_384,
-        failed: false,
-    });
-    disks.push(DiskEntry {
-        blocks: 16_384,
-        failed: false,
-    });
+    disks.push(DISK);
+    disks.push(DISK);
     let mut one = Subdisks::new(alloc);
     one.push(run(0, 512, 7872))?;
     let mut two = Subdisks::new(alloc);
@@ -52,12 +58,7 @@ fn group(alloc: Global) -> Result<Config, OutOfMemory> {
         width: 0,
         prefer: None,
         drl: None,
-        fmr: Some(LogEntry {
-            lost: false,
-            disk: 1,
-            start: 600,
-            blocks: 2,
-        }),
+        fmr: Some(LOG),
         plexes,
     })?;
     Ok(Config {

@@ -21,9 +21,9 @@ use Rattle.vx_copies.proofs.OneTry.{wanted_same, wanted_serial}
 use Rattle.vx_layout.specs.Made.{with_volume}
 use Rattle.vx_layout.specs.Places.{place}
 use Rattle.vx_volume.specs.Plexes.{DisksFit, Inside, SomeActive, active}
-use Rattle.vx_kept.specs.Commits.{Member, Missed, Taken}
+use Rattle.vx_kept.specs.Commits.{Member, MissedCommit, Taken}
 use Rattle.vx_kept.specs.Groups.{group_meaning}
-use Rattle.vx_kept.specs.Keeping.{Acts, AllOn, Follows, IsTidy, Kept, Sees}
+use Rattle.vx_kept.specs.Keeping.{Acts, AllOn, MayBeNext, IsTidy, Kept, Sees}
 use Rattle.vx_kept.proofs.Chosen.{active_volumes, alike_shape, place_volumes, same_extends}
 use Rattle.vx_kept.proofs.Lasting.{low_Acts}
 use Rattle.vx_kept.proofs.Narrower.{stand_apart}
@@ -34,14 +34,14 @@ use Rattle.vx_kept.proofs.Whole.{sees_back}
 use Rattle.vx_kept.specs.Trusts.{Trusts}
 use Rattle.vx_group.specs.Blames.{Blames, fault_of}
 use Rattle.vx_group.specs.Makes.{AreZero, StayAsWere, ZerosOn}
-use Rattle.vx_group.specs.Nexts.{Added, IsNext}
-use Rattle.vx_group.specs.Stands.{Stands, counted, meaning_of}
+use Rattle.vx_group.specs.Nexts.{Added, IsNextConfig}
+use Rattle.vx_group.specs.Stands.{InnerStands, volume_faults, inner_meaning}
 use Rattle.vx_group.specs.declared.inner.Inner.{Inner}
 use Rattle.vx_group.proofs.DetachLemmas.{some_good, stop_sure}
 use Rattle.vx_group.proofs.LongerLemmas.{active_more, blocks_last, blocks_more, last_some, longer_count, longer_follows, longer_on}
 use Rattle.vx_group.proofs.Standing.{apart_of_core, can_of, fit_of, kept_of, low_Stands, made, still_large, tidy_of}
 
-module _ (core : Inner) (next : Config) (m : Meaning) (stands : Stands core m) (is_next : IsNext core.config next) where
+module _ (core : Inner) (next : Config) (m : Meaning) (stands : InnerStands core m) (is_next : IsNextConfig core.config next) where
   abbrev n : ℕ
   n = length core.config.volumes
 
@@ -60,8 +60,8 @@ module _ (core : Inner) (next : Config) (m : Meaning) (stands : Stands core m) (
   sound_more : is_sound (with_volume core.config is_next.volume) ≡ true
   sound_more = subst (λ (x : Config). is_sound x ≡ true) is_next.is is_next.sound
 
-  pub next_follows : Follows core.config next
-  next_follows = subst (Follows core.config) (sym is_next.is) (longer_follows core.config is_next.volume stands.on is_next.on sound_more)
+  pub next_follows : MayBeNext core.config next
+  next_follows = subst (MayBeNext core.config) (sym is_next.is) (longer_follows core.config is_next.volume stands.on is_next.on sound_more)
 
   pub next_some : SomeActive next n
   next_some = subst (λ (x : Config). SomeActive x n) (sym is_next.is) (last_some core.config is_next.volume stands.on is_next.on sound_more)
@@ -113,12 +113,12 @@ module _ (core : Inner) (next : Config) (m : Meaning) (stands : Stands core m) (
       omega (arith, lt, same)
 
   -- calls that put zeros there alone
-  acts_Goes : (m' : Meaning) → Lawful m' → Acts (ZerosOn next n) (Sees core.config (Member core.good m) m) m m' → Goes Nothing (meaning_of core m) (meaning_of core m')
-  acts_Goes m' after acts = group-Goes core.config core.config (Member core.good m) (counted core.faults) (counted core.faults) m m' (ZerosOn next n) Nothing acts (apart_of_core core m stands) (same_shape core.config) (λ w p is. is)
+  acts_Goes : (m' : Meaning) → Lawful m' → Acts (ZerosOn next n) (Sees core.config (Member core.good m) m) m m' → Goes Nothing (inner_meaning core m) (inner_meaning core m')
+  acts_Goes m' after acts = group-Goes core.config core.config (Member core.good m) (volume_faults core.faults) (volume_faults core.faults) m m' (ZerosOn next n) Nothing acts (apart_of_core core m stands) (same_shape core.config) (λ w p is. is)
       (λ w p b x in_it is_on put. zeros_off w p b x in_it is_on put) (λ w. omega arith) (λ not t i left. after.never not t i left)
 
   module _ (m1 : Meaning) (before : Lawful m) (mid : Lawful m1) (goes : Goes (ZerosOn next n) m m1) where
-    pub zero_Stands : Stands core m1
+    pub zero_Stands : InnerStands core m1
     zero_Stands = low_Stands core (ZerosOn next n) m m1 goes zeros_high before mid stands
 
     zero_acts : Acts (ZerosOn next n) (Sees core.config (Member core.good m) m) m m1
@@ -145,12 +145,12 @@ module _ (core : Inner) (next : Config) (m : Meaning) (stands : Stands core m) (
           (both_Acts (ZerosOn next n) Nothing (Sees core.config (Member core.good m) m) (Sees core.config (Member core.good m1) m1) m m1 m2 zero_acts commit (λ i sees. sees_back core.good core.config m m1 goes.units goes.size i sees))
           (λ u b x. ⊎_elim (λ put. put) (λ none. absurd none))
 
-      whole_goes : Goes Nothing (meaning_of core m) (group_meaning core.config (counted e.faults) m2)
-      whole_goes = subst (λ (f : List ℕ). Goes Nothing (meaning_of core m) (group_meaning core.config (counted f) m2)) (sym faults) (acts_Goes m2 after whole_acts)
+      whole_goes : Goes Nothing (inner_meaning core m) (group_meaning core.config (volume_faults e.faults) m2)
+      whole_goes = subst (λ (f : List ℕ). Goes Nothing (inner_meaning core m) (group_meaning core.config (volume_faults f) m2)) (sym faults) (acts_Goes m2 after whole_acts)
 
       -- done
       module _ (taken : Taken core.config next e.config m1 m2) (good : e.good ≡ good_set e.config.disks) (wanted : is_wanted m2.units m2.size e.config ≡ true) (can : CanSpell e.config) (on : AllOn e.config) where
-        pub added_Stands : Trusts e.committed e.agreed (good_set e.config.disks) m2 → Stands e m2
+        pub added_Stands : Trusts e.committed e.agreed (good_set e.config.disks) m2 → InnerStands e m2
         added_Stands trusts = made e m2 wanted can (let few = is_next.few in let same = ap length taken.grown.volumes in omega (arith, few, same))
             (λ w. let small = next_small w in let same = ap (λ (vs : List VolumeEntry). blocks_of vs w) taken.grown.volumes in omega (arith, small, same))
             (still_large m m2 whole_acts.units whole_acts.size stands.large) on
@@ -184,7 +184,7 @@ module _ (core : Inner) (next : Config) (m : Meaning) (stands : Stands core m) (
         }
 
       -- refused
-      module _ (d : Config) (why : No) (missed : Missed core.good core.config next d m1 m2 why) (can : CanSpell d) (good : e.good ≡ core.good) (un : e.unsettled ≡ true)
+      module _ (d : Config) (why : No) (missed : MissedCommit core.good core.config next d m1 m2 why) (can : CanSpell d) (good : e.good ≡ core.good) (un : e.unsettled ≡ true)
           (config : e.config ≡ record { serial = d.serial; site = core.config.site; disks = core.config.disks; volumes = core.config.volumes; rvg = core.config.rvg }) where
         abbrev back : Config
         back = record { serial = d.serial; site = core.config.site; disks = core.config.disks; volumes = core.config.volumes; rvg = core.config.rvg }
@@ -192,7 +192,7 @@ module _ (core : Inner) (next : Config) (m : Meaning) (stands : Stands core m) (
         back_wanted : is_wanted m2.units m2.size back ≡ true
         back_wanted = wanted_same m m2 back whole_acts.units whole_acts.size (wanted_serial m.units m.size core.config d.serial stands.wanted)
 
-        pub missed_Stands : Trusts e.committed e.agreed core.good m2 → Stands e m2
+        pub missed_Stands : Trusts e.committed e.agreed core.good m2 → InnerStands e m2
         missed_Stands trusts = made e m2 (subst (λ (x : Config). is_wanted m2.units m2.size x ≡ true) (sym config) back_wanted) (subst CanSpell (sym config) (can_serial d.serial core.config d (can_of core m stands) can refl))
             (let few = stands.few in let same = ap (λ (x : Config). length x.volumes) config in omega (arith, few, same))
             (λ w. let small = stands.small w in let same = ap (λ (x : Config). blocks_of x.volumes w) config in omega (arith, small, same))

@@ -15,7 +15,7 @@ use Rattle.vx_volume.specs.Copies.{CopyCause, IsCopied, OnCopy}
 use Rattle.vx_volume.specs.Plexes.{Inside, SomeActive, active}
 use Rattle.vx_volume.specs.Sets.{bits}
 use Rattle.vx_kept.specs.Commits.{Member}
-use Rattle.vx_kept.specs.Groups.{Apart, OnSome, Outside, Shows, seen}
+use Rattle.vx_kept.specs.Groups.{PlacesApart, OnSome, OutsideVolumes, Shows, seen}
 use Rattle.vx_kept.specs.Keeping.{Acts, SameShape, Sees}
 use Rattle.vx_kept.specs.States.{AreOn, SomeLeft, whole_of}
 use Rattle.vx_kept.proofs.Lasting.{low_Acts}
@@ -26,7 +26,7 @@ use Rattle.vx_group.specs.Attaches.{AnyImage, Attaches, HasOther, MayAttach, att
 use Rattle.vx_group.specs.Blames.{Blames}
 use Rattle.vx_group.specs.Holding.{with_config}
 use Rattle.vx_group.specs.Moves.{Narrows}
-use Rattle.vx_group.specs.Stands.{Stands, counted, meaning_of}
+use Rattle.vx_group.specs.Stands.{InnerStands, volume_faults, inner_meaning}
 use Rattle.vx_group.specs.declared.inner.Inner.{Inner}
 use Rattle.vx_group.proofs.CallLemmas.{narrows_Goes}
 use Rattle.vx_group.proofs.DetLemmas.{bit_other, no_flags}
@@ -44,7 +44,7 @@ on_back c d v p shape u b x put = record { number = put.number; inside = inside_
 
 pub then_attaches : (v p : ℕ) (c d e : Inner) (m0 m1 m2 : Meaning) → Attaches v p c d m0 m1 → Attaches v p d e m1 m2 → Attaches v p c e m0 m2
 then_attaches v p c d e m0 m1 m2 one two = record {
-  goes = then_nothing Nothing (meaning_of c m0) (meaning_of d m1) (meaning_of e m2) one.goes two.goes;
+  goes = then_nothing Nothing (inner_meaning c m0) (inner_meaning d m1) (inner_meaning e m2) one.goes two.goes;
   acts = wide_Acts (Or (OnCopy c.config v p) (OnCopy d.config v p)) (OnCopy c.config v p) AnyImage m0 m2
       (both_Acts (OnCopy c.config v p) (OnCopy d.config v p) AnyImage AnyImage m0 m1 m2 one.acts two.acts (λ i now. tt))
       (λ u b x. ⊎_elim (λ put. put) (λ put. on_back c.config d.config v p one.shape u b x put));
@@ -55,9 +55,9 @@ then_attaches v p c d e m0 m1 m2 one two = record {
 }
 
 -- a commit that changes no other plex
-pub narrows_attaches : (v p : ℕ) (c d : Inner) (m m' : Meaning) → Lawful m' → Stands c m → Narrows c d m m' → ((w q : ℕ) → (w ≡ v → q ≡ p → ⊥) → active d.config w q ≡ active c.config w q) → Attaches v p c d m m'
+pub narrows_attaches : (v p : ℕ) (c d : Inner) (m m' : Meaning) → Lawful m' → InnerStands c m → Narrows c d m m' → ((w q : ℕ) → (w ≡ v → q ≡ p → ⊥) → active d.config w q ≡ active c.config w q) → Attaches v p c d m m'
 narrows_attaches v p c d m m' after stands narrows others = record {
-  goes = narrows_Goes c d m m' after stands narrows (counted c.faults) (counted d.faults) (λ u. let same = ap (λ (f : List ℕ). counted f u) narrows.faults in omega (arith, same));
+  goes = narrows_Goes c d m m' after stands narrows (volume_faults c.faults) (volume_faults d.faults) (λ u. let same = ap (λ (f : List ℕ). volume_faults f u) narrows.faults in omega (arith, same));
   acts = any_acts Nothing (OnCopy c.config v p) (Sees c.config (Member c.good m) m) m m' narrows.acts (λ u k x none. absurd none);
   shape = narrows.shape;
   others = others;
@@ -67,7 +67,7 @@ narrows_attaches v p c d m m' after stands narrows others = record {
 
 -- ---- the copy
 
-module _ (core : Inner) (v p : ℕ) (there : Present core.config v p) (off : active core.config v p ≡ false) (m m' : Meaning) (before : Lawful m) (after : Lawful m') (stands : Stands core m)
+module _ (core : Inner) (v p : ℕ) (there : Present core.config v p) (off : active core.config v p ≡ false) (m m' : Meaning) (before : Lawful m) (after : Lawful m') (stands : InnerStands core m)
     (goes : Goes (OnCopy (attached v p core.config) v p) m m') where
   abbrev c : Config
   c = core.config
@@ -78,7 +78,7 @@ module _ (core : Inner) (v p : ℕ) (there : Present core.config v p) (off : act
   shape : SameShape d c
   shape = open_shape c v p there
 
-  apart_wide : Apart d
+  apart_wide : PlacesApart d
   apart_wide = stand_apart d (open_sound c v p there (sound_of core m stands))
 
   high : (u b : ℕ) (x : List ℕ) → OnCopy d v p u b x → 512 ≤ b
@@ -87,10 +87,10 @@ module _ (core : Inner) (v p : ℕ) (there : Present core.config v p) (off : act
       let is : (place d v p put.number).1 ≡ b = ap (λ (q : ℕ × ℕ). q.1) put.at in
       omega (arith, far, is)
 
-  pub missed_Stands : Stands core m'
+  pub missed_Stands : InnerStands core m'
   missed_Stands = low_Stands core (OnCopy d v p) m m' goes high before after stands
 
-  pub copied_Stands : Stands (opened v p core) m'
+  pub copied_Stands : InnerStands (opened v p core) m'
   copied_Stands = low_Stands (opened v p core) (OnCopy d v p) m m' goes high before after (open_Stands core v p there m stands)
 
   low : Acts (OnCopy d v p) (Sees c (Member core.good m) m) m m'
@@ -102,8 +102,8 @@ module _ (core : Inner) (v p : ℕ) (there : Present core.config v p) (off : act
       let at : IsTrue (active c v p) = subst (λ (y : ℕ). IsTrue (active c y p)) one.0 (subst (λ (r : ℕ). IsTrue (active c w r)) one.1 is_on) in
       let clash : false ≡ true = sym off ∙ at in cc
 
-  narrow_goes : Goes Nothing (meaning_of core m) (meaning_of core m')
-  narrow_goes = group-Goes c c (Member core.good m) (counted core.faults) (counted core.faults) m m' (OnCopy d v p) Nothing low (apart_of_core core m stands) (same_shape c) (λ w q is. is)
+  narrow_goes : Goes Nothing (inner_meaning core m) (inner_meaning core m')
+  narrow_goes = group-Goes c c (Member core.good m) (volume_faults core.faults) (volume_faults core.faults) m m' (OnCopy d v p) Nothing low (apart_of_core core m stands) (same_shape c) (λ w q is. is)
       (λ w q b x in_it is_on put. absurd (not_here w q b x in_it is_on put)) (λ w. omega arith) (λ not t i left. after.never not t i left)
 
   plex_acts : Acts (OnCopy c v p) AnyImage m m'
@@ -145,7 +145,7 @@ module _ (core : Inner) (v p : ℕ) (there : Present core.config v p) (off : act
         was : (w ≡ v → is.plex ≡ p → ⊥) → OnSome c s w b x
         was apart = record { inside = inside_same d c shape w b is.inside; plex = is.plex; is_on = sym (open_others c v p there w is.plex apart) ∙ is.is_on; value = old_at s w is.plex b x is.value }
 
-    out_c : (told : Bool) (w b : ℕ) (x : List ℕ) → Outside told d w b x → Outside told c w b x
+    out_c : (told : Bool) (w b : ℕ) (x : List ℕ) → OutsideVolumes told d w b x → OutsideVolumes told c w b x
     out_c told w b x out = record { tells = out.tells; outside = λ in_it. out.outside (inside_back d c shape w b in_it); empty = out.empty }
 
     source_seen : (s : Values) (w b : ℕ) (x : List ℕ) → w ≡ v → Inside c v b → s (place c v source b).0 (place c v source b).1 x → OnSome c s w b x
@@ -165,7 +165,7 @@ module _ (core : Inner) (v p : ℕ) (there : Present core.config v p) (off : act
     ]
     wide_leaves w b x (inr out) = narrow_goes.leaves w b x (inr (out_c m'.tells w b x out))
 
-    wide_goes : Goes Nothing (meaning_of core m) (meaning_of (opened v p core) m')
+    wide_goes : Goes Nothing (inner_meaning core m) (inner_meaning (opened v p core) m')
     wide_goes = record {
       units = shape.volumes;
       size = shape.blocks;
@@ -211,13 +211,13 @@ no_bit q in_it = let clash : false ≡ true = sym (zero_bit 0 q refl) ∙ in_it 
 
 -- ---- the configuration as the code has it
 
-module _ (core : Inner) (v p : ℕ) (may : MayAttach core.config v p) (off : active core.config v p ≡ false) (m m' : Meaning) (before : Lawful m) (after : Lawful m') (stands : Stands core m)
+module _ (core : Inner) (v p : ℕ) (may : MayAttach core.config v p) (off : active core.config v p ≡ false) (m m' : Meaning) (before : Lawful m) (after : Lawful m') (stands : InnerStands core m)
     (e : Config) (is : e ≡ attached v p core.config) (goes : Goes (OnCopy e v p) m m') where
   goes_by : Goes (OnCopy (attached v p core.config) v p) m m'
   goes_by = subst (λ (x : Config). Goes (OnCopy x v p) m m') is goes
 
-  pub to_Stands : Stands (with_config e core) m'
-  to_Stands = subst (λ (x : Config). Stands (with_config x core) m') (sym is) (copied_Stands core v p (present core.config v p may) off m m' before after stands goes_by)
+  pub to_Stands : InnerStands (with_config e core) m'
+  to_Stands = subst (λ (x : Config). InnerStands (with_config x core) m') (sym is) (copied_Stands core v p (present core.config v p may) off m m' before after stands goes_by)
 
   pub to_attaches : (source : ℕ) → IsTrue (active core.config v source) → IsCopied e v source p m m' → Attaches v p core (with_config e core) m m'
   to_attaches source from copied =
@@ -228,8 +228,8 @@ module _ (core : Inner) (v p : ℕ) (may : MayAttach core.config v p) (off : act
     pub same_back : f ≡ core.config
     same_back = back ∙ ap (stated v p Stale whole) is ∙ closed core.config v p (present core.config v p may) stands.on off whole flag
 
-    pub back_Stands : Stands (with_config f core) m'
-    back_Stands = subst (λ (x : Config). Stands (with_config x core) m') (sym same_back) (missed_Stands core v p (present core.config v p may) off m m' before after stands goes_by)
+    pub back_Stands : InnerStands (with_config f core) m'
+    back_Stands = subst (λ (x : Config). InnerStands (with_config x core) m') (sym same_back) (missed_Stands core v p (present core.config v p may) off m m' before after stands goes_by)
 
     pub back_attaches : Attaches v p core (with_config f core) m m'
     back_attaches = subst (λ (x : Config). Attaches v p core (with_config x core) m m') (sym same_back) (missed_attaches core v p (present core.config v p may) off m m' before after stands goes_by)

@@ -10,7 +10,7 @@ use Rattle.vx_layout.specs.Made.{with_volume}
 use Rattle.vx_layout.specs.Places.{place}
 use Rattle.vx_volume.specs.Plexes.{active}
 use Rattle.vx_volume.specs.Volumes.{PlexFlushed}
-use Rattle.vx_kept.specs.Cleans.{cleaned, marked}
+use Rattle.vx_kept.specs.Cleans.{cleaned, is_unsure}
 use Rattle.vx_kept.specs.Commits.{Member}
 use Rattle.vx_kept.specs.Groups.{group_meaning}
 use Rattle.vx_kept.specs.Keeping.{SameShape, Sees}
@@ -24,9 +24,9 @@ use Rattle.vx_group.specs.Deports.{Deported, DeportedBy, IsVolumeOf}
 use Rattle.vx_group.specs.Holding.{GroupStands, config_by, volumes_by, wide}
 use Rattle.vx_group.specs.Makes.{AreZero, StayAsWere}
 use Rattle.vx_group.specs.Moves.{Narrows}
-use Rattle.vx_group.specs.Nexts.{Added, IsNext}
+use Rattle.vx_group.specs.Nexts.{Added, IsNextConfig}
 use Rattle.vx_group.specs.Quiesces.{GivenBack, NoVolume, QuiescesBy, SameParts}
-use Rattle.vx_group.specs.Stands.{counted, meaning_of}
+use Rattle.vx_group.specs.Stands.{volume_faults, inner_meaning}
 use Rattle.vx_group.specs.declared.group_core.GroupCore.{GroupCore}
 use Rattle.vx_group.specs.declared.group_core.Held.{Held}
 use Rattle.vx_group.specs.declared.inner.Inner.{Inner}
@@ -47,7 +47,7 @@ by_same (Some h) c d same = active_at_volumes h.vol h.plex c d same
 
 pub no_stays : (c : GroupCore) (m : Meaning) → GroupStays c c m m
 no_stays c m = record {
-  goes = same_Goes Nothing (meaning_of (wide c) m);
+  goes = same_Goes Nothing (inner_meaning (wide c) m);
   shape = same_extends c.inner.config c.inner.config (same_shape c.inner.config);
   on = λ v p lt. refl;
   faults = refl;
@@ -57,8 +57,8 @@ no_stays c m = record {
 module _ (c0 mid : GroupCore) (m m1 : Meaning) (stands : GroupStands c0 m) (narrows : Narrows (wide c0) (wide mid) m m1) (volumes : mid.inner.config.volumes ≡ c0.inner.config.volumes) (mid_stands : GroupStands mid m1) (lawful : Lawful m1) where
   pub released_stays : GroupStays c0 mid m m1
   released_stays = record {
-    goes = nothing_then Nothing (meaning_of (wide c0) m) (meaning_of (wide mid) m1) (group_meaning (config_by mid.held c0.inner.config) (counted mid.inner.faults) m1) (released_goes c0 mid m m1 stands narrows volumes lawful)
-        (volumes_Goes (wide mid).config (config_by mid.held c0.inner.config) (counted mid.inner.faults) m1 lawful (apart_of_core (wide mid) m1 mid_stands.stands) (sym (by_same mid.held c0.inner.config mid.inner.config volumes)));
+    goes = nothing_then Nothing (inner_meaning (wide c0) m) (inner_meaning (wide mid) m1) (group_meaning (config_by mid.held c0.inner.config) (volume_faults mid.inner.faults) m1) (released_goes c0 mid m m1 stands narrows volumes lawful)
+        (volumes_Goes (wide mid).config (config_by mid.held c0.inner.config) (volume_faults mid.inner.faults) m1 lawful (apart_of_core (wide mid) m1 mid_stands.stands) (sym (by_same mid.held c0.inner.config mid.inner.config volumes)));
     shape = same_extends mid.inner.config c0.inner.config (released_shape c0 mid m m1 stands narrows volumes);
     on = λ v p lt. released_active c0 mid m m1 stands narrows volumes v p;
     faults = narrows.faults;
@@ -69,24 +69,24 @@ module _ (c0 mid : GroupCore) (m m1 : Meaning) (stands : GroupStands c0 m) (narr
     abbrev new : GroupCore
     new = record { inner = d; held = mid.held }
 
-    last_goes : Goes Nothing (meaning_of mid.inner m1) (group_meaning c0.inner.config (counted d.faults) m2)
-    last_goes = nothing_then Nothing (meaning_of mid.inner m1) (group_meaning mid.inner.config (counted d.faults) m2) (group_meaning c0.inner.config (counted d.faults) m2) stay.goes
-        (volumes_Goes mid.inner.config c0.inner.config (counted d.faults) m2 after (apart_of_core mid.inner m1 (from_none mid m1 none mid_stands)) (sym volumes))
+    last_goes : Goes Nothing (inner_meaning mid.inner m1) (group_meaning c0.inner.config (volume_faults d.faults) m2)
+    last_goes = nothing_then Nothing (inner_meaning mid.inner m1) (group_meaning mid.inner.config (volume_faults d.faults) m2) (group_meaning c0.inner.config (volume_faults d.faults) m2) stay.goes
+        (volumes_Goes mid.inner.config c0.inner.config (volume_faults d.faults) m2 after (apart_of_core mid.inner m1 (from_none mid m1 none mid_stands)) (sym volumes))
 
     pub later_stays : GroupStays c0 new m m2
     later_stays = record {
-      goes = subst (λ (o : Option Held). Goes Nothing (meaning_of (wide c0) m) (group_meaning (config_by o c0.inner.config) (counted d.faults) m2)) (sym none)
-          (nothing_then Nothing (meaning_of (wide c0) m) (meaning_of (wide mid) m1) (group_meaning c0.inner.config (counted d.faults) m2) (released_goes c0 mid m m1 stands narrows volumes lawful)
-          (subst (λ (i : Inner). Goes Nothing (meaning_of i m1) (group_meaning c0.inner.config (counted d.faults) m2)) (sym (wide_none mid none)) last_goes));
+      goes = subst (λ (o : Option Held). Goes Nothing (inner_meaning (wide c0) m) (group_meaning (config_by o c0.inner.config) (volume_faults d.faults) m2)) (sym none)
+          (nothing_then Nothing (inner_meaning (wide c0) m) (inner_meaning (wide mid) m1) (group_meaning c0.inner.config (volume_faults d.faults) m2) (released_goes c0 mid m m1 stands narrows volumes lawful)
+          (subst (λ (i : Inner). Goes Nothing (inner_meaning i m1) (group_meaning c0.inner.config (volume_faults d.faults) m2)) (sym (wide_none mid none)) last_goes));
       shape = extends_volumes d.config mid.inner.config c0.inner.config (sym volumes) stay.shape;
       on = λ v p lt. stay.on v p (let count = ap length volumes in omega (arith, lt, count)) ∙ released_active c0 mid m m1 stands narrows volumes v p;
       faults = stay.faults ∙ narrows.faults;
       unsure = stay.unsure ∙ narrows.unsure;
     }
 
-pub behind_next : (m m1 : Meaning) (c mid next last : Config) → mid.volumes ≡ c.volumes → SameParts c mid → MoreFailed m m1 c.disks mid.disks → IsNext c next
-    → last ≡ record { serial = mid.serial; site = next.site; disks = mid.disks; volumes = next.volumes; rvg = next.rvg } → IsNext mid last
-behind_next m m1 c mid next last volumes parts failing is_next is = subst (λ (x : Config). IsNext mid x) (sym is) (record {
+pub behind_next : (m m1 : Meaning) (c mid next last : Config) → mid.volumes ≡ c.volumes → SameParts c mid → MoreFailed m m1 c.disks mid.disks → IsNextConfig c next
+    → last ≡ record { serial = mid.serial; site = next.site; disks = mid.disks; volumes = next.volumes; rvg = next.rvg } → IsNextConfig mid last
+behind_next m m1 c mid next last volumes parts failing is_next is = subst (λ (x : Config). IsNextConfig mid x) (sym is) (record {
   volume = is_next.volume;
   is = config_is (record { serial = mid.serial; site = next.site; disks = mid.disks; volumes = next.volumes; rvg = next.rvg }) (with_volume mid is_next.volume)
       refl (ap (λ (x : Config). x.site) is_next.is ∙ sym parts.site) refl
@@ -123,8 +123,8 @@ group_still c m stands = record {
 }
 
 module _ (c0 mid : GroupCore) (m m1 : Meaning) (stands : GroupStands c0 m) (narrows : Narrows (wide c0) (wide mid) m m1) (volumes : mid.inner.config.volumes ≡ c0.inner.config.volumes) (failing : MoreFailed m m1 c0.inner.config.disks mid.inner.config.disks) where
-  unmarked : (v : ℕ) → marked mid.inner.unsure v ≡ false → marked c0.inner.unsure v ≡ false
-  unmarked v is = ap (λ (u : List Bool). marked u v) (sym narrows.unsure) ∙ is
+  unmarked : (v : ℕ) → is_unsure mid.inner.unsure v ≡ false → is_unsure c0.inner.unsure v ≡ false
+  unmarked v is = ap (λ (u : List Bool). is_unsure u v) (sym narrows.unsure) ∙ is
 
   pub released_back : GroupStands mid m1 → GroupBack c0 mid m m1
   released_back it = record {

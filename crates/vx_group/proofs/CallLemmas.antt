@@ -18,10 +18,10 @@ use Rattle.vx_kept.specs.Keeping.{Acts, Kept, IsTidy, Sees}
 use Rattle.vx_kept.proofs.StateLemmas.{same_shape, then_shape}
 use Rattle.vx_kept.proofs.Steps.{both_Acts, group-Goes, wide_Acts}
 use Rattle.vx_kept.proofs.Whole.{sees_back}
-use Rattle.vx_group.specs.Blames.{Blames, BlamesOr, Counts, fault_of}
+use Rattle.vx_group.specs.Blames.{Blames, BlamesOr, CountsRise, fault_of}
 use Rattle.vx_group.specs.Moves.{AreOff, Narrows}
 use Rattle.vx_kept.specs.Trusts.{Trusts}
-use Rattle.vx_group.specs.Stands.{Stands}
+use Rattle.vx_group.specs.Stands.{InnerStands}
 use Rattle.vx_group.specs.declared.inner.Inner.{Inner}
 use Rattle.vx_group.proofs.ReadyLemmas.{kin_volumes}
 use Rattle.vx_group.proofs.Standing.{apart_of_core, made, can_of, still_large}
@@ -49,12 +49,12 @@ blames_later (Ok x) old mid new before up = up
 blames_later (Err (Fault d)) old mid new before why = (Rose_before (old.disk_faults d) (mid.disk_faults d) (new.disk_faults d) (before d) why.0, why.1)
 blames_later (Err Down) old mid new before down = down
 
-pub counts_less : (error : ShelfError) (v : ℕ) (old new : ℕ → ℕ) → Counts error v old new → (u : ℕ) → old u ≤ new u
+pub counts_less : (error : ShelfError) (v : ℕ) (old new : ℕ → ℕ) → CountsRise error v old new → (u : ℕ) → old u ≤ new u
 counts_less (Fault d) v old new raised u = raised.no_less u
 counts_less Down v old new same u = let is = same u in omega (arith, is)
 
 -- a failed call whose fault was counted
-pub cause_by : (T : Type 0) (error : ShelfError) (c d : Config) (v : ℕ) (f f' : ℕ → ℕ) (m m' : Meaning) → (IsTrue m.down → ⊥) → Blames {T = T} m m' (Err error) → Counts error v f f'
+pub cause_by : (T : Type 0) (error : ShelfError) (c d : Config) (v : ℕ) (f f' : ℕ → ℕ) (m m' : Meaning) → (IsTrue m.down → ⊥) → Blames {T = T} m m' (Err error) → CountsRise error v f f'
     → Cause {T = T} (group_meaning c f m) (group_meaning d f' m') v (Err error)
 cause_by T (Fault disk) c d v f f' m m' up why counts = (record { count = counts.rose; disk_count = why.0 }, record { before = up; after = why.1 })
 cause_by T Down c d v f f' m m' up down counts = down
@@ -64,7 +64,7 @@ not_down r d is off down = let clash : false ≡ true = sym off ∙ is ∙ down 
 
 -- ---- calls that change no block of a plex
 
-module _ (core d : Inner) (m m' : Meaning) (after : Lawful m') (stands : Stands core m) (narrows : Narrows core d m m') where
+module _ (core d : Inner) (m m' : Meaning) (after : Lawful m') (stands : InnerStands core m) (narrows : Narrows core d m m') where
   pub narrows_Goes : (f f' : ℕ → ℕ) → ((u : ℕ) → f u ≤ f' u) → Goes Nothing (group_meaning core.config f m) (group_meaning d.config f' m')
   narrows_Goes f f' no_less = group-Goes core.config d.config (Member core.good m) f f' m m' Nothing Nothing narrows.acts (apart_of_core core m stands) narrows.shape narrows.on
       (λ v p b x in_it is_on none. none) no_less (λ not t i left. after.never not t i left)
@@ -122,7 +122,7 @@ left_done c d v set done old new on but off p is_on = by (bit_at set p) refl
 
 -- ---- with other marks
 
-pub with_Stands : (core : Inner) (next faults : List ℕ) (m : Meaning) → Stands core m → Stands (record { config = core.config; good = core.good; room = core.room; unsettled = core.unsettled; committed = core.committed; agreed = core.agreed; next = next; faults = faults; unsure = core.unsure }) m
+pub with_Stands : (core : Inner) (next faults : List ℕ) (m : Meaning) → InnerStands core m → InnerStands (record { config = core.config; good = core.good; room = core.room; unsettled = core.unsettled; committed = core.committed; agreed = core.agreed; next = next; faults = faults; unsure = core.unsure }) m
 with_Stands core next faults m s = record {
   wanted = s.wanted;
   serial = s.serial;
@@ -140,11 +140,11 @@ with_Stands core next faults m s = record {
 
 -- ---- headers that were written back
 
-module _ (core : Inner) (b : Bool) (m m' : Meaning) (stands : Stands core m) (kept : Kept core.config (Member core.good m') m') (acts : Acts Nothing (Sees core.config (Member core.good m) m) m m') where
+module _ (core : Inner) (b : Bool) (m m' : Meaning) (stands : InnerStands core m) (kept : Kept core.config (Member core.good m') m') (acts : Acts Nothing (Sees core.config (Member core.good m) m) m m') where
   abbrev settled : Inner
   settled = record { config = core.config; good = core.good; room = core.room; unsettled = b; committed = core.committed; agreed = core.agreed; next = core.next; faults = core.faults; unsure = core.unsure }
 
-  pub settled_Stands : (b ≡ false → IsTidy core.config m') → Trusts core.committed core.agreed core.good m' → Stands settled m'
+  pub settled_Stands : (b ≡ false → IsTidy core.config m') → Trusts core.committed core.agreed core.good m' → InnerStands settled m'
   settled_Stands tidy trusts = made settled m' (wanted_same m m' core.config acts.units acts.size stands.wanted) (can_of core m stands) stands.few stands.small (still_large m m' acts.units acts.size stands.large) stands.on stands.some kept tidy trusts
 
   pub settled_Narrows : (d : Inner) (last : Meaning) → Narrows settled d m' last → Narrows core d m last

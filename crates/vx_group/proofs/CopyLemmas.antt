@@ -19,11 +19,11 @@ use Rattle.vx_kept.proofs.Lasting.{low_Acts, sees_same}
 use Rattle.vx_kept.proofs.StateLemmas.{same_shape, then_shape}
 use Rattle.vx_kept.proofs.Steps.{both_Acts, inside_back, inside_same, same_Acts, wide_Acts}
 use Rattle.vx_kept.proofs.Whole.{sees_back, whole_Acts}
-use Rattle.vx_group.specs.Copying.{CopyMoved, FromSource, Mirrored, NoMember, RunCopied, Spent}
+use Rattle.vx_group.specs.Copying.{CopyMoved, FromSource, Mirrored, NoMember, RunCopied, SpentBy}
 use Rattle.vx_group.specs.Moves.{AllFlushed, Narrows}
-use Rattle.vx_group.specs.Stands.{Stands, counted, meaning_of}
+use Rattle.vx_group.specs.Stands.{InnerStands, volume_faults, inner_meaning}
 use Rattle.vx_group.specs.declared.inner.Inner.{Inner}
-use Rattle.vx_group.specs.Loses.{Loses}
+use Rattle.vx_group.specs.Loses.{LosesPlexes}
 use Rattle.vx_group.proofs.LoseLemmas.{loses_same, then_loses}
 use Rattle.vx_group.proofs.Standing.{apart_of_core, fit_of, kept_of, sound_of}
 use Rattle.vx_group.proofs.WriteLemmas.{flushed_Stands, run_inside, wrote_Stands}
@@ -67,6 +67,8 @@ sees_wider c d G m m' shape on units size i sees =
         volumes = let le = kin.shape.volumes in let same = shape.volumes in omega (arith, le, same);
         blocks = λ w lt. kin.shape.blocks w (there w lt) ∙ shape.blocks w;
         place = λ w p b lt. kin.shape.place w p b (there w lt) ∙ shape.place w p b;
+        logs = λ w log lt. kin.shape.logs w log (there w lt) ∙ shape.logs w log;
+        trusted = λ w log lt is. shape.trusted w log (kin.shape.trusted w log (there w lt) is);
       };
       on = λ w p lt is. on w p (kin.on w p (there w lt) is);
       some = λ w lt. kin.some w (there w lt);
@@ -74,7 +76,7 @@ sees_wider c d G m m' shape on units size i sees =
 
 -- ---- serials that were used
 
-pub spent_none : (c : Config) (m m' : Meaning) → Spent c c m m'
+pub spent_none : (c : Config) (m m' : Meaning) → SpentBy c c m m'
 spent_none c m m' = record { any = inl refl; loses = loses_same c m m' }
 
 any_both : (c d e : Config) (m0 m1 m2 : Meaning) → ((u : ℕ) → m0.disk_faults u ≤ m1.disk_faults u) → ((u : ℕ) → m1.disk_faults u ≤ m2.disk_faults u)
@@ -85,14 +87,14 @@ any_both c d e m0 m1 m2 before after (inl same) (inl more) = inl (more ∙ same)
 any_both c d e m0 m1 m2 before after (inl same) (inr rose) = inr (rose.0, Rose_before (m0.disk_faults rose.0) (m1.disk_faults rose.0) (m2.disk_faults rose.0) (before rose.0) rose.1)
 
 pub spent_both : (c d e : Config) (m0 m1 m2 : Meaning) → ((u : ℕ) → m0.disk_faults u ≤ m1.disk_faults u) → ((u : ℕ) → m1.disk_faults u ≤ m2.disk_faults u) → ((u : ℕ) → m0.faults u ≤ m1.faults u) → ((u : ℕ) → m1.faults u ≤ m2.faults u)
-    → Spent c d m0 m1 → Spent d e m1 m2 → Spent c e m0 m2
+    → SpentBy c d m0 m1 → SpentBy d e m1 m2 → SpentBy c e m0 m2
 spent_both c d e m0 m1 m2 before after first second one two = record {
   any = any_both c d e m0 m1 m2 before after one.any two.any;
   loses = then_loses m0 m1 m2 first second c d e one.loses two.loses;
 }
 
 -- a disk failed between
-pub spent_by : (c d : Config) (m0 m1 m2 m3 : Meaning) (disk : ℕ) → ((u : ℕ) → m0.disk_faults u ≤ m1.disk_faults u) → ((u : ℕ) → m2.disk_faults u ≤ m3.disk_faults u) → Rose (m1.disk_faults disk) (m2.disk_faults disk) → Loses c d m0 m3 → Spent c d m0 m3
+pub spent_by : (c d : Config) (m0 m1 m2 m3 : Meaning) (disk : ℕ) → ((u : ℕ) → m0.disk_faults u ≤ m1.disk_faults u) → ((u : ℕ) → m2.disk_faults u ≤ m3.disk_faults u) → Rose (m1.disk_faults disk) (m2.disk_faults disk) → LosesPlexes c d m0 m3 → SpentBy c d m0 m3
 spent_by c d m0 m1 m2 m3 disk before after rose loses = record {
   any = inr (
     disk,
@@ -103,7 +105,7 @@ spent_by c d m0 m1 m2 m3 disk before after rose loses = record {
 
 -- ---- a read alone
 
-module _ (core : Inner) (v source : ℕ) (m0 m1 : Meaning) (law0 : Lawful m0) (law1 : Lawful m1) (stands : Stands core m0) (read : Goes Nothing m0 m1) where
+module _ (core : Inner) (v source : ℕ) (m0 m1 : Meaning) (law0 : Lawful m0) (law1 : Lawful m1) (stands : InnerStands core m0) (read : Goes Nothing m0 m1) where
   pub read_acts : Acts Nothing (Sees core.config (Member core.good m0) m0) m0 m1
   read_acts = low_Acts core.config (Member core.good m0) m0 m1 Nothing read (λ u b x none. absurd none) law0 law1 (kept_of core m0 stands)
 
@@ -121,7 +123,7 @@ module _ (core : Inner) (v source : ℕ) (m0 m1 : Meaning) (law0 : Lawful m0) (l
   }
 
 -- what is asked of a read of the source
-module _ (core : Inner) (v source block n : ℕ) (m : Meaning) (stands : Stands core m) (is_on : IsTrue (active core.config v source)) (fits : Fits (meaning_of core m) v block n) where
+module _ (core : Inner) (v source block n : ℕ) (m : Meaning) (stands : InnerStands core m) (is_on : IsTrue (active core.config v source)) (fits : Fits (inner_meaning core m) v block n) where
   run_in : (k : ℕ) → InRun block (n / 512) k → Inside core.config v k
   run_in k run = record { volume = fits.exists; within = let last : k < block + n / 512 = run.last in omega (arith, last, fits.within) }
 
@@ -132,34 +134,34 @@ module _ (core : Inner) (v source block n : ℕ) (m : Meaning) (stands : Stands 
   fits_source = fits_of core.config (sound_of core m stands) v source block (n / 512) m (fit_of core m stands) is_on run_in
 
   -- and of the write behind it
-  pub fits_again : (m' : Meaning) → Fits (meaning_of core m') v block n
+  pub fits_again : (m' : Meaning) → Fits (inner_meaning core m') v block n
   fits_again m' = record { exists = fits.exists; some = fits.some; whole = fits.whole; within = fits.within }
 
 -- ---- a read, a write, and a commit or none
 
-module _ (core d : Inner) (v source block : ℕ) (bytes : List ℕ) (m0 m1 m2 m3 : Meaning) (law0 : Lawful m0) (law1 : Lawful m1) (law2 : Lawful m2) (law3 : Lawful m3) (stands : Stands core m0)
-    (fits : Fits (meaning_of core m0) v block (length bytes)) (read : Goes Nothing m0 m1) (was_read : PlexRead core.config v source block block (length bytes / 512) bytes m0)
-    (write : Goes (OnPlexes core.config v block (length bytes / 512) bytes) m1 m2) (narrows : Narrows core d m2 m3) (stands3 : Stands d m3) (spent : Spent core.config d.config m0 m3) (others_on : (w p : ℕ) → (w ≡ v → ⊥) → active d.config w p ≡ active core.config w p) where
+module _ (core d : Inner) (v source block : ℕ) (bytes : List ℕ) (m0 m1 m2 m3 : Meaning) (law0 : Lawful m0) (law1 : Lawful m1) (law2 : Lawful m2) (law3 : Lawful m3) (stands : InnerStands core m0)
+    (fits : Fits (inner_meaning core m0) v block (length bytes)) (read : Goes Nothing m0 m1) (was_read : PlexRead core.config v source block block (length bytes / 512) bytes m0)
+    (write : Goes (OnPlexes core.config v block (length bytes / 512) bytes) m1 m2) (narrows : Narrows core d m2 m3) (stands3 : InnerStands d m3) (spent : SpentBy core.config d.config m0 m3) (others_on : (w p : ℕ) → (w ≡ v → ⊥) → active d.config w p ≡ active core.config w p) where
   abbrev n : ℕ
   n = length bytes / 512
 
   abbrev W : Values
   W = OnPlexes core.config v block n bytes
 
-  stands1 : Stands core m1
+  stands1 : InnerStands core m1
   stands1 = flushed_Stands core v m0 m1 law0 law1 stands read
 
-  fits1 : Fits (meaning_of core m1) v block (length bytes)
+  fits1 : Fits (inner_meaning core m1) v block (length bytes)
   fits1 = record { exists = fits.exists; some = fits.some; whole = fits.whole; within = fits.within }
 
   in_run : (k : ℕ) → InRun block n k → Inside core.config v k
   in_run = run_inside core v block bytes m1 m2 law1 law2 stands1 fits1 write
 
-  no_less : (u : ℕ) → counted core.faults u ≤ counted d.faults u
-  no_less u = let same : counted d.faults u ≡ counted core.faults u = ap (λ (f : List ℕ). counted f u) narrows.faults in omega (arith, same)
+  no_less : (u : ℕ) → volume_faults core.faults u ≤ volume_faults d.faults u
+  no_less u = let same : volume_faults d.faults u ≡ volume_faults core.faults u = ap (λ (f : List ℕ). volume_faults f u) narrows.faults in omega (arith, same)
 
   put_acts : Acts W (Sees core.config (Member core.good m1) m1) m1 m3
-  put_acts = whole_Acts core.good core.config d.config v block bytes (counted core.faults) (counted d.faults) m1 m2 m3 law1 law2 law3 (kept_of core m1 stands1) (apart_of_core core m1 stands1) in_run fits.whole write
+  put_acts = whole_Acts core.good core.config d.config v block bytes (volume_faults core.faults) (volume_faults d.faults) m1 m2 m3 law1 law2 law3 (kept_of core m1 stands1) (apart_of_core core m1 stands1) in_run fits.whole write
       narrows.acts narrows.shape narrows.on no_less
 
   run_acts : Acts (Or Nothing W) (Sees core.config (Member core.good m0) m0) m0 m3
@@ -234,18 +236,18 @@ module _ (core d : Inner) (v source block : ℕ) (bytes : List ℕ) (m0 m1 m2 m3
     }
 
 -- the same where the bytes have the length of those that were handed in
-module _ (core : Inner) (v source block len : ℕ) (bytes : List ℕ) (m0 m1 m2 : Meaning) (law0 : Lawful m0) (law1 : Lawful m1) (law2 : Lawful m2) (stands : Stands core m0) (same : length bytes ≡ len)
-    (fits : Fits (meaning_of core m0) v block len) (read : Goes Nothing m0 m1) (was_read : PlexRead core.config v source block block (len / 512) bytes m0) (write : Goes (OnPlexes core.config v block (length bytes / 512) bytes) m1 m2) where
-  fits_len : Fits (meaning_of core m0) v block (length bytes)
-  fits_len = subst (λ (n : ℕ). Fits (meaning_of core m0) v block n) (sym same) fits
+module _ (core : Inner) (v source block len : ℕ) (bytes : List ℕ) (m0 m1 m2 : Meaning) (law0 : Lawful m0) (law1 : Lawful m1) (law2 : Lawful m2) (stands : InnerStands core m0) (same : length bytes ≡ len)
+    (fits : Fits (inner_meaning core m0) v block len) (read : Goes Nothing m0 m1) (was_read : PlexRead core.config v source block block (len / 512) bytes m0) (write : Goes (OnPlexes core.config v block (length bytes / 512) bytes) m1 m2) where
+  fits_len : Fits (inner_meaning core m0) v block (length bytes)
+  fits_len = subst (λ (n : ℕ). Fits (inner_meaning core m0) v block n) (sym same) fits
 
   read_len : PlexRead core.config v source block block (length bytes / 512) bytes m0
   read_len = subst (λ (n : ℕ). PlexRead core.config v source block block (n / 512) bytes m0) (sym same) was_read
 
-  pub put_Stands : Stands core m2
+  pub put_Stands : InnerStands core m2
   put_Stands = wrote_Stands core v block bytes m1 m2 law1 law2 (flushed_Stands core v m0 m1 law0 law1 stands read) (record { exists = fits_len.exists; some = fits_len.some; whole = fits_len.whole; within = fits_len.within }) write
 
-  module _ (d : Inner) (m3 : Meaning) (law3 : Lawful m3) (narrows : Narrows core d m2 m3) (stands3 : Stands d m3) (spent : Spent core.config d.config m0 m3) (others_on : (w p : ℕ) → (w ≡ v → ⊥) → active d.config w p ≡ active core.config w p) where
+  module _ (d : Inner) (m3 : Meaning) (law3 : Lawful m3) (narrows : Narrows core d m2 m3) (stands3 : InnerStands d m3) (spent : SpentBy core.config d.config m0 m3) (others_on : (w p : ℕ) → (w ≡ v → ⊥) → active d.config w p ≡ active core.config w p) where
     pub put_Moved : CopyMoved core v source d m0 m3
     put_Moved = run_Moved core d v source block bytes m0 m1 m2 m3 law0 law1 law2 law3 stands fits_len read read_len write narrows stands3 spent others_on
 
@@ -260,7 +262,7 @@ ok_both P Q (Err e) p q = tt
 
 -- ---- no block, and two runs in a row
 
-pub none_Copied : (core : Inner) (v source : ℕ) (m : Meaning) → Stands core m → core.unsettled ≡ false → IsTrue (active core.config v source) → (IsTrue m.down → ⊥) → RunCopied core v source 0 0 core m m
+pub none_Copied : (core : Inner) (v source : ℕ) (m : Meaning) → InnerStands core m → core.unsettled ≡ false → IsTrue (active core.config v source) → (IsTrue m.down → ⊥) → RunCopied core v source 0 0 core m m
 none_Copied core v source m stands settled is_on up = record {
   moved = record {
     stands = stands;
@@ -373,7 +375,7 @@ module _ (core d e : Inner) (v source first n : ℕ) (m0 m1 m2 : Meaning) (one :
     }
 
   -- and a flush behind them
-  module _ (narrows : Narrows d e m1 m2) (spent : Spent d.config e.config m1 m2) (others_on : (w p : ℕ) → (w ≡ v → ⊥) → active e.config w p ≡ active d.config w p) (stands : Stands e m2) where
+  module _ (narrows : Narrows d e m1 m2) (spent : SpentBy d.config e.config m1 m2) (others_on : (w p : ℕ) → (w ≡ v → ⊥) → active e.config w p ≡ active d.config w p) (stands : InnerStands e m2) where
     narrows_Moved : CopyMoved d v source e m1 m2
     narrows_Moved = record {
       stands = stands;
@@ -430,7 +432,7 @@ ok_blamed Q P (Err error) old new is why made_by = tt
 -- ---- one run of the loop
 
 pub run_fits : (core d : Inner) (v done count len total : ℕ) (m : Meaning) → SameShape d.config core.config → v < length core.config.volumes → len ≡ 512 * count → 0 < count → done + count ≤ total → total ≡ blocks_of core.config.volumes v
-    → Fits (meaning_of d m) v done len
+    → Fits (inner_meaning d m) v done len
 run_fits core d v done count len total m shape there long some within is = record {
   exists = let same : length d.config.volumes ≡ length core.config.volumes = shape.volumes in omega (arith, same, there);
   some = omega (arith, long, some);

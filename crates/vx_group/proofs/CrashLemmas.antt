@@ -7,7 +7,7 @@ use Rattle.vx_disk.specs.Shelf.{Each, Image, Meaning}
 use Rattle.vx_copyfmt.specs.Areas.{header_of}
 use Rattle.vx_copyfmt.specs.Copies.{Body, Copy, Differs, Disk, Holds, area_a, area_b, body_of, copy_at, copy_of, copy_under, greater, holding, judged}
 use Rattle.vx_copyfmt.specs.Commits.{Counts, IsHeaderBlock, IsTop, target_of}
-use Rattle.vx_copyfmt.specs.Imports.{Damaged, Format, Found, Missing, NoConfig, Outcome, by_body, by_labels, by_newest, first_of, import_of, is_label, later, missing, newest, on_disk, or_missing, strange, strange_label}
+use Rattle.vx_copyfmt.specs.Imports.{Damaged, Format, Found, Missing, NoConfig, ImportOutcome, by_body, by_labels, by_newest, first_of, import_of, is_label, later, missing, newest_found, on_disk, or_missing, strange, strange_label}
 use Rattle.vx_copyfmt.specs.Labels.{seen_in}
 use Rattle.vx_copyfmt.specs.declared.area.AreaHeader.{AreaHeader}
 use Rattle.vx_copyfmt.proofs.Areas.{serial_under, top_copy}
@@ -17,7 +17,7 @@ use Rattle.vx_copyfmt.proofs.Told.{false_from}
 use Rattle.vx_config.specs.declared.config.Config.{Config}
 use Rattle.vx_copies.specs.Answers.{good_set}
 use Rattle.vx_copies.specs.Bodies.{failed_in, of_serial, reads_in}
-use Rattle.vx_copies.specs.Commits.{Held, IsNone, Silent}
+use Rattle.vx_copies.specs.Commits.{HeldGood, IsNone, Silent}
 use Rattle.vx_copies.specs.Looking.{on_shelf}
 use Rattle.vx_copies.specs.Marks.{failed_at}
 use Rattle.vx_copies.proofs.OneTry.{shelf_same}
@@ -31,7 +31,7 @@ use Rattle.vx_kept.proofs.Facts.{from_fact}
 use Rattle.vx_kept.proofs.Low.{found_same, import_low}
 use Rattle.vx_group.specs.Deports.{DeportedBy}
 use Rattle.vx_group.specs.Resumes.{AtRest, CanImport}
-use Rattle.vx_group.specs.Stands.{Stands}
+use Rattle.vx_group.specs.Stands.{InnerStands}
 use Rattle.vx_group.proofs.Standing.{kept_of}
 use Rattle.vx_group.specs.declared.inner.Inner.{Inner}
 
@@ -96,18 +96,18 @@ module _ {C : Type 0} (reads : ℕ → List ℕ → Option C) (j : Image) where
   Put n = if true && is_label (seen_in (j n 0)) then on_disk n (copy_of reads (j n)) else None
 
   newest_most : (units : ℕ) → ((u : ℕ) → u < units → is_label (seen_in (j u 0)) ≡ true) → (n : ℕ) → n ≤ units → (u : ℕ) (y : Copy C) → u < n → copy_of reads (j u) ≡ Some y
-      → (z : ℕ × Copy C) × (newest reads (λ u. true) j n ≡ Some z) × (y.serial ≤ z.1.serial)
+      → (z : ℕ × Copy C) × (newest_found reads (λ u. true) j n ≡ Some z) × (y.serial ≤ z.1.serial)
   newest_most units labels zero le u y lt is = absurd (omega (arith, lt))
   newest_most units labels (suc n) le u y lt is = elim (cases_lt u n) [
     | inl below ↦
         let it = newest_most units labels n (omega (arith, le)) u y below is in
-        let more = later_most (newest reads (λ u. true) j n) (Put n) it.0 (inl it.1) in
+        let more = later_most (newest_found reads (λ u. true) j n) (Put n) it.0 (inl it.1) in
         (more.0, more.1, omega (arith, it.2, more.2))
     | inr last ↦
         let same : u ≡ n = omega (arith, lt, last) in
         let here : copy_of reads (j n) ≡ Some y = subst (λ (k : ℕ). copy_of reads (j k) ≡ Some y) same is in
         let put : Put n ≡ Some (n, y) = ap (λ (b : Bool). if b then on_disk n (copy_of reads (j n)) else None) (labels n (omega (arith, le))) ∙ ap (λ (o : Option (Copy C)). on_disk n o) here in
-        later_most (newest reads (λ u. true) j n) (Put n) (n, y) (inr put)
+        later_most (newest_found reads (λ u. true) j n) (Put n) (n, y) (inr put)
   ]
 
   put_is : (n : ℕ) (b : Bool) (o : Option (Copy C)) (z : ℕ × Copy C) → (if b then on_disk n o else None) ≡ Some z → (z.0 ≡ n) × (o ≡ Some z.1)
@@ -116,9 +116,9 @@ module _ {C : Type 0} (reads : ℕ → List ℕ → Option C) (j : Image) where
   put_is n false o z is = absurd cc
 
   -- and it stands on its disk
-  newest_on : (n : ℕ) (z : ℕ × Copy C) → newest reads (λ u. true) j n ≡ Some z → copy_of reads (j z.0) ≡ Some z.1
+  newest_on : (n : ℕ) (z : ℕ × Copy C) → newest_found reads (λ u. true) j n ≡ Some z → copy_of reads (j z.0) ≡ Some z.1
   newest_on zero z is = absurd cc
-  newest_on (suc n) z is = elim (later_one (newest reads (λ u. true) j n) (Put n) z is) [
+  newest_on (suc n) z is = elim (later_one (newest_found reads (λ u. true) j n) (Put n) z is) [
     | inl before ↦ newest_on n z before
     | inr here ↦ let it = put_is n (true && is_label (seen_in (j n 0))) (copy_of reads (j n)) z here in subst (λ (k : ℕ). copy_of reads (j k) ≡ Some z.1) (sym it.0) it.1
   ]
@@ -132,7 +132,7 @@ holds_of x units disk area (Holds c) is = by (missing (failed_in c) (λ u. true)
     by (Some k) e = absurd cc
 holds_of x units disk area (Differs s t) is = absurd cc
 
-found_newest : (reads : ℕ → List ℕ → Option Config) (units : ℕ) (j : Image) (x : Config) (z : ℕ × Copy Config) → newest reads (λ u. true) j units ≡ Some z → import_of reads failed_in units (λ u. true) j ≡ Found x → z.1.body ≡ Holds x
+found_newest : (reads : ℕ → List ℕ → Option Config) (units : ℕ) (j : Image) (x : Config) (z : ℕ × Copy Config) → newest_found reads (λ u. true) j units ≡ Some z → import_of reads failed_in units (λ u. true) j ≡ Found x → z.1.body ≡ Holds x
 unfolding import_of
 found_newest reads units j x z is finds = by (strange (λ u. true) j units) (subst (λ (o : Option (ℕ × Copy Config)). by_labels (strange (λ u. true) j units) (by_newest failed_in units (λ u. true) o) ≡ Found x) is finds)
   where
@@ -257,16 +257,16 @@ module _ (reads : ℕ → List ℕ → Option Config) (R : ℕ → Bool) (i : Im
       ap (λ (b : Bool). first_of (strange R i n) (if b then strange_label (seen_in (i n 0)) else None)) (off n (omega arith))
       ∙ ap (λ (o : Option ℕ). first_of o None) (strange_none n (λ u lt. off u (omega (arith, lt))))
 
-  newest_none : (n : ℕ) → ((u : ℕ) → u < n → R u ≡ false) → newest reads R i n ≡ None
+  newest_none : (n : ℕ) → ((u : ℕ) → u < n → R u ≡ false) → newest_found reads R i n ≡ None
   newest_none zero off = refl
   newest_none (suc n) off =
-      ap (λ (b : Bool). later (newest reads R i n) (if b && is_label (seen_in (i n 0)) then on_disk n (copy_of reads (i n)) else None)) (off n (omega arith))
+      ap (λ (b : Bool). later (newest_found reads R i n) (if b && is_label (seen_in (i n 0)) then on_disk n (copy_of reads (i n)) else None)) (off n (omega arith))
       ∙ ap (λ (o : Option (ℕ × Copy Config)). later o None) (newest_none n (λ u lt. off u (omega (arith, lt))))
 
   none_found : (units : ℕ) → ((u : ℕ) → u < units → R u ≡ false) → import_of reads failed_in units R i ≡ NoConfig
   unfolding import_of
   none_found units off =
-      ap (λ (o : Option ℕ). by_labels o (by_newest failed_in units R (newest reads R i units))) (strange_none units off)
+      ap (λ (o : Option ℕ). by_labels o (by_newest failed_in units R (newest_found reads R i units))) (strange_none units off)
       ∙ ap (λ (o : Option (ℕ × Copy Config)). by_newest failed_in units R o) (newest_none units off)
 
 must_fail : (f r : Bool) → (f ≡ false → r ≡ false) → r ≡ true → f ≡ true
@@ -282,7 +282,7 @@ module _ (by : Config) (core : Inner) (old new : Meaning) (it : DeportedBy by co
   deport_base i x each is =
       let both : Found it.config ≡ Found x = sym (it.finds i each) ∙ is in
       let same : it.config ≡ x = cc in
-      let kept = from_fact (at_serial it.config.serial it.behind.config) (Held it.config new) new it.kept in
+      let kept = from_fact (at_serial it.config.serial it.behind.config) (HeldGood it.config new) new it.kept in
       subst (λ (y : Config). Base y new) same (record { below = record { each = λ u lt. kept.below.each u lt }; counts = kept.counts; labels = kept.labels })
 
   -- where the disks that are held as failed say nothing by themselves
@@ -297,7 +297,7 @@ module _ (by : Config) (core : Inner) (old new : Meaning) (it : DeportedBy by co
         | inr off ↦ let clash : NoConfig ≡ Found x = sym (none_found (on_shelf new) R i new.units (λ u lt. off u lt refl)) ∙ is in cc
       ]
 
-      none_plain : (o : Outcome Config) → IsNone o → is_plain o ≡ true
+      none_plain : (o : ImportOutcome Config) → IsNone o → is_plain o ≡ true
       none_plain (Found x) none = refl
       none_plain (Missing disk) none = refl
       none_plain NoConfig none = refl
@@ -345,7 +345,7 @@ group_can by core old new it (inr silent) = record {
 
 -- ---- a group whose shelf fell
 
-pub rest_can : (core : Inner) (m : Meaning) → Stands core m → AtRest m → core.agreed ≡ true → CanImport m
+pub rest_can : (core : Inner) (m : Meaning) → InnerStands core m → AtRest m → core.agreed ≡ true → CanImport m
 rest_can core m stands rest agreed = record {
   base = λ j x each is. (crash_can core.config (Member core.good m) m m kept refl (λ u. refl) j each (λ u b v left. rest.one u b v (j u b) left (each u b)) core.committed core.good trusts).base j x each is;
   one = λ i j R x each_i each_j is. (crash_can core.config (Member core.good m) m m kept refl (λ u. refl) i each_i (λ u b v left. rest.one u b v (i u b) left (each_i u b)) core.committed core.good trusts).one i j R x each_i each_j is;

@@ -34,7 +34,7 @@ use Rattle.vx_kept.specs.Choice.{live}
 use Rattle.vx_kept.specs.Commits.{Member, Taken}
 use Rattle.vx_kept.specs.Keeping.{AllOn, Kept}
 use Rattle.vx_kept.specs.Trusts.{HasFailed, Trusts}
-use Rattle.vx_group.specs.Creates.{IsNew, IsReady, Prepared}
+use Rattle.vx_group.specs.Creates.{IsNewGroup, IsReady, PreparedDisks}
 use Rattle.vx_group.specs.declared.inner.Inner.{Inner}
 use Rattle.vx_group.proofs.DetachLemmas.{some_good}
 use Rattle.vx_group.proofs.Standing.{made}
@@ -87,7 +87,7 @@ module _ (site : ℕ) (m0 m1 m2 : Meaning) (small : site < 2 ^ 32) (before : Law
   first_apart b (inl is) first = omega (arith, is, first)
   first_apart b (inr is) first = omega (arith, is, first)
 
-  pub prepared : Prepared m0 m2
+  pub prepared : PreparedDisks m0 m2
   prepared = record {
     same = record { units = labels.units ∙ clears.units; size = λ u. labels.size u ∙ clears.size u };
     cleared = record {
@@ -116,7 +116,7 @@ pub failed_cause : (T : Type 0) (old new : Meaning) (error : ShelfError) → Fai
 failed_cause T old new (Fault disk) why = why
 failed_cause T old new Down down = down
 
-pub labels_ready : {T : Type 0} (site : ℕ) (m0 m1 m2 : Meaning) → ((d : ℕ) → m0.disk_faults d ≤ m1.disk_faults d) → (r : Result T Stop) → (Labelled site m1.units m1 m2 → Prepared m0 m2) → Labels site m1 m2 r → IsReady m0 m2 r
+pub labels_ready : {T : Type 0} (site : ℕ) (m0 m1 m2 : Meaning) → ((d : ℕ) → m0.disk_faults d ≤ m1.disk_faults d) → (r : Result T Stop) → (Labelled site m1.units m1 m2 → PreparedDisks m0 m2) → Labels site m1 m2 r → IsReady m0 m2 r
 labels_ready site m0 m1 m2 less (Ok x) ready labelled = ready labelled
 labels_ready site m0 m1 m2 less (Err (Refused why)) ready cause = cause_before m0 m1 m2 less why cause
 labels_ready site m0 m1 m2 less (Err OutOfMemory) ready none = absurd none
@@ -131,7 +131,7 @@ first_cause good c last old new some more other stops = absurd stops
 -- ---- the group
 
 pub new_Stands : (site : ℕ) (disks : List DiskEntry) (core : Inner) (old new : Meaning) → AreLarge new → CanSpell core.config → is_wanted new.units new.size core.config ≡ true
-    → Taken (empty_config site disks) (empty_config site disks) core.config old new → AllOn core.config → core.good ≡ good_set core.config.disks → Trusts core.committed core.agreed (good_set core.config.disks) new → (core.committed ≡ true) ⊎ HasFailed core.config.disks → IsNew site core new
+    → Taken (empty_config site disks) (empty_config site disks) core.config old new → AllOn core.config → core.good ≡ good_set core.config.disks → Trusts core.committed core.agreed (good_set core.config.disks) new → (core.committed ≡ true) ⊎ HasFailed core.config.disks → IsNewGroup site core new
 new_Stands site disks core old new large can wanted taken on good trusts trust = record {
   stands = made core new wanted can (let none = ap length taken.grown.volumes in omega (arith, none)) (λ v. let none = ap (λ vs. blocks_of vs v) taken.grown.volumes in omega (arith, none)) large on
       (subst (λ (g : ℕ). NoneGood core.config.disks (length core.config.disks) g → ⊥) (sym good) (some_good core.config.disks (good_set core.config.disks) taken.some))

@@ -11,11 +11,11 @@ use Rattle.vx_config.specs.Configs.{CanSpell}
 use Rattle.vx_config.specs.declared.config.Config.{Config}
 use Rattle.vx_copies.specs.Answers.{good_set}
 use Rattle.vx_copies.specs.Bodies.{is_wanted}
-use Rattle.vx_copies.specs.Commits.{Held}
+use Rattle.vx_copies.specs.Commits.{HeldGood}
 use Rattle.vx_layout.specs.Places.{plex_in}
 use Rattle.vx_volume.specs.Plexes.{active, active_or}
 use Rattle.vx_volume.proofs.PlaceLemmas.{active_few}
-use Rattle.vx_kept.specs.Cleans.{Shown, at_serial, cleaned, marked}
+use Rattle.vx_kept.specs.Cleans.{Shown, at_serial, cleaned, is_unsure}
 use Rattle.vx_kept.specs.Commits.{Left, Member}
 use Rattle.vx_kept.specs.Keeping.{Acts, Sees}
 use Rattle.vx_kept.proofs.Chosen.{active_volumes}
@@ -25,12 +25,12 @@ use Rattle.vx_kept.proofs.Facts.{to_fact}
 use Rattle.vx_kept.proofs.Narrower.{on_live}
 use Rattle.vx_kept.proofs.StateLemmas.{same_shape}
 use Rattle.vx_kept.specs.Trusts.{Trusts}
-use Rattle.vx_group.specs.Blames.{Blames, StopsBy}
+use Rattle.vx_group.specs.Blames.{Blames, StopsByDevice}
 use Rattle.vx_group.specs.Deports.{CleanCommitted, Closes, CommitCloses, CommitMissed, Deported, IsVolumeOf}
 use Rattle.vx_group.specs.Moves.{Narrows}
 use Rattle.vx_group.specs.Quiesces.{GivenBack, NoVolume, Quiesced, Quiesces}
 use Rattle.vx_group.specs.Settled.{SameBut}
-use Rattle.vx_group.specs.Stands.{Stands}
+use Rattle.vx_group.specs.Stands.{InnerStands}
 use Rattle.vx_group.specs.declared.inner.Inner.{Inner}
 use Rattle.vx_copies.specs.Commits.{MoreFailed}
 use Rattle.vx_group.proofs.FailingLemmas.{failing_from, no_failing, then_failing}
@@ -56,12 +56,12 @@ active_there c v p is = elim (cases_lt v (length c.volumes)) [
 
 -- ---- done
 
-module _ (core : Inner) (d : Config) (m m' : Meaning) (stands : Stands core m) (acts : Acts Nothing (Sees core.config (Member core.good m) m) m m')
+module _ (core : Inner) (d : Config) (m m' : Meaning) (stands : InnerStands core m) (acts : Acts Nothing (Sees core.config (Member core.good m) m) m m')
     (shown : Shown core.config (cleaned core.unsure core.config (length core.config.volumes)) d m m') (trusts : core.committed ≡ true → Trusts true true (good_set d.disks) m') where
   all : AllClean core.unsure (length core.config.volumes) core.config (cleaned core.unsure core.config (length core.config.volumes))
   all = all_clean core.unsure (length core.config.volumes) core.config
 
-  off_in : (v p : ℕ) → marked core.unsure v ≡ false → active d v p ≡ false
+  off_in : (v p : ℕ) → is_unsure core.unsure v ≡ false → active d v p ≡ false
   off_in v p sure = from_no (active d v p) (λ is_d.
       let a : Config = cleaned core.unsure core.config (length core.config.volumes) in
       let is : IsTrue (active a v p) = sym (active_volumes d a shown.grown.volumes v p) ∙ is_d in
@@ -80,13 +80,13 @@ module _ (core : Inner) (d : Config) (m m' : Meaning) (stands : Stands core m) (
     off = off_in;
     failing = failing_from m m' (cleaned core.unsure core.config (length core.config.volumes)).disks core.config.disks d.disks all.alike.disks shown.grown.disks;
     acts = acts;
-    kept = to_fact (at_serial d.serial core.config) (Held d m') m' shown.kept;
+    kept = to_fact (at_serial d.serial core.config) (HeldGood d m') m' shown.kept;
     trusts = trusts;
   }
 
 -- ---- refused
 
-module _ (core e : Inner) (m m' : Meaning) (stands : Stands core m) (acts : Acts Nothing (Sees core.config (Member core.good m) m) m m')
+module _ (core e : Inner) (m m' : Meaning) (stands : InnerStands core m) (acts : Acts Nothing (Sees core.config (Member core.good m) m) m m')
     (wanted : is_wanted m'.units m'.size e.config ≡ true) (can : CanSpell e.config) (faults : e.faults ≡ core.faults) (unsure : e.unsure ≡ core.unsure)
     (a : Config) (why : No) (left : Left core.good core.config a e.config m m' why) (good : e.good ≡ core.good) (un : e.unsettled ≡ true) (trusts : Trusts e.committed e.agreed core.good m') where
   pub given_back : CommitMissed core e m m'
@@ -106,10 +106,10 @@ committed_quiet : (c : Inner) (m m' : Meaning) → CleanCommitted c m m' → Qui
 committed_quiet c m m' it = quiet c c m m' (record { acts = it.acts; shape = same_shape c.config; on = λ v p is. is; faults = refl; unsure = refl }) refl (no_failing m m' c.config.disks c.config.disks refl)
 
 -- headers that were written back
-pub settled_back : (core mid : Inner) (m m1 : Meaning) → Stands mid m1 → Narrows core mid m m1 → SameBut core.config mid.config → MoreFailed m m1 core.config.disks mid.config.disks → GivenBack core mid m m1
+pub settled_back : (core mid : Inner) (m m1 : Meaning) → InnerStands mid m1 → Narrows core mid m m1 → SameBut core.config mid.config → MoreFailed m m1 core.config.disks mid.config.disks → GivenBack core mid m m1
 settled_back core mid m m1 stands narrows same failing = record { stands = stands; quiesces = quiet core mid m m1 narrows same.volumes failing }
 
-module _ (core mid fl d : Inner) (m m1 m2 last : Meaning) (begun : Stands core m) (narrows : Narrows core mid m m1) (same : SameBut core.config mid.config) (failing : MoreFailed m m1 core.config.disks mid.config.disks) (up1 : IsTrue m1.down → ⊥) (flag : mid.committed ≡ core.committed) where
+module _ (core mid fl d : Inner) (m m1 m2 last : Meaning) (begun : InnerStands core m) (narrows : Narrows core mid m m1) (same : SameBut core.config mid.config) (failing : MoreFailed m m1 core.config.disks mid.config.disks) (up1 : IsTrue m1.down → ⊥) (flag : mid.committed ≡ core.committed) where
   readied : Quiesces core mid NoVolume m m1
   readied = quiet core mid m m1 narrows same.volumes failing
 
@@ -152,12 +152,12 @@ module _ (core mid fl d : Inner) (m m1 m2 last : Meaning) (begun : Stands core m
     closes_later (Ok x) it = deported_later it
     closes_later (Err e) it = back_later it
 
-pub stops_later : {T : Type 0} (r : Result T ShelfError) (old mid new : Meaning) → ((d : ℕ) → old.disk_faults d ≤ mid.disk_faults d) → StopsBy mid new r → StopsBy old new r
+pub stops_later : {T : Type 0} (r : Result T ShelfError) (old mid new : Meaning) → ((d : ℕ) → old.disk_faults d ≤ mid.disk_faults d) → StopsByDevice mid new r → StopsByDevice old new r
 stops_later (Ok x) old mid new before up = tt
 stops_later (Err (Fault d)) old mid new before why = blames_later {T = Unit {0}} (Err (Fault d)) old mid new before why
 stops_later (Err Down) old mid new before down = down
 
-pub blames_stop : (old new : Meaning) (e : ShelfError) → Blames {T = Unit {0}} old new (Err e) → StopsBy {T = Unit {0}} old new (Err e)
+pub blames_stop : (old new : Meaning) (e : ShelfError) → Blames {T = Unit {0}} old new (Err e) → StopsByDevice {T = Unit {0}} old new (Err e)
 blames_stop old new (Fault d) why = why
 blames_stop old new Down down = down
 

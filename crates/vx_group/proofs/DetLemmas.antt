@@ -2,12 +2,13 @@
 use Rattle.std.proofs.Common.{◌≡◌, ◌≢◌, ◌⊎◌, inl, inr, ℕ, zero, suc, ◌+◌, ◌-◌, ◌<◌, Bool, true, false, IsTrue, Some, None, List, [], ◌∷◌, length, set, get_or, get_or-set_same, get_or-set_other, Result, Ok, Err, OnOk, refl, ap, sym, ◌∙◌, subst, arith}
 use Rattle.std.specs.Prelude.{◌&&◌, ◌||◌, ◌==◌, not, nat_le, nat_lt, if◌then◌else◌}
 use Rattle.std.proofs.lemmas.Bool.{and_parts, eq-eqb, cases_eq, cases_lt, lt-ltb}
+use Rattle.vx_config.specs.Checks.{plexes_of}
 use Rattle.vx_disk.specs.Blocks.{bit_at}
 use Rattle.vx_disk.specs.declared.shelf.ShelfError.{ShelfError}
 use Rattle.vx_model.specs.declared.no.No.{No}
 use Rattle.vx_config.specs.Table.{greatest}
 use Rattle.vx_config.specs.declared.config.Config.{Config}
-use Rattle.vx_volume.specs.Plexes.{active, plexes_of}
+use Rattle.vx_volume.specs.Plexes.{active}
 use Rattle.vx_volume.specs.Sets.{bits}
 use Rattle.vx_volume.proofs.BitLemmas.{bit_of}
 use Rattle.vx_kept.specs.States.{AreOn, SomeLeft}

@@ -29,7 +29,7 @@ use Rattle.vx_kept.proofs.StateLemmas.{active_left, is_staled, same_shape}
 use Rattle.vx_kept.specs.Trusts.{Trusts}
 use Rattle.vx_group.specs.Blames.{Blames, BlamesOr, fault_of}
 use Rattle.vx_group.specs.Moves.{AreOff, Narrows}
-use Rattle.vx_group.specs.Stands.{Stands}
+use Rattle.vx_group.specs.Stands.{InnerStands}
 use Rattle.vx_group.specs.declared.inner.Inner.{Inner}
 use Rattle.vx_group.proofs.Standing.{made, sound_of, still_large}
 
@@ -44,7 +44,7 @@ from_no : (b : Bool) → (IsTrue b → ⊥) → b ≡ false
 from_no true none = absurd (none refl)
 from_no false none = refl
 
-module _ (core e : Inner) (v set : ℕ) (m m' : Meaning) (stands : Stands core m) (acts : Acts Nothing (Sees core.config (Member core.good m) m) m m')
+module _ (core e : Inner) (v set : ℕ) (m m' : Meaning) (stands : InnerStands core m) (acts : Acts Nothing (Sees core.config (Member core.good m) m) m m')
     (wanted : is_wanted m'.units m'.size e.config ≡ true) (can : CanSpell e.config) (on : AllOn e.config) (faults : e.faults ≡ core.faults) (unsure : e.unsure ≡ core.unsure) where
   few_same : length e.config.volumes ≡ length core.config.volumes → length e.config.volumes ≤ 32
   few_same same = let few = stands.few in omega (arith, same, few)
@@ -60,7 +60,7 @@ module _ (core e : Inner) (v set : ℕ) (m m' : Meaning) (stands : Stands core m
     shape_was : SameShape e.config core.config
     shape_was = alike_shape e.config (staled v set core.config 8) core.config taken.grown.volumes (is_staled v set 8 core.config).shape
 
-    pub taken_Stands : Trusts e.committed e.agreed (good_set e.config.disks) m' → Stands e m'
+    pub taken_Stands : Trusts e.committed e.agreed (good_set e.config.disks) m' → InnerStands e m'
     taken_Stands trusts = made e m' wanted can (few_same shape_was.volumes) (small_same shape_was.blocks) (still_large m m' acts.units acts.size stands.large) on
         (subst (λ (g : ℕ). NoneGood e.config.disks (length e.config.disks) g → ⊥) (sym good) (some_good e.config.disks (good_set e.config.disks) taken.some))
         (subst (λ (g : ℕ). Kept e.config (Member g m') m') (sym good) taken.kept) (λ is. taken.tidy) (subst (λ (g : ℕ). Trusts e.committed e.agreed g m') (sym good) trusts)
@@ -86,7 +86,7 @@ module _ (core e : Inner) (v set : ℕ) (m m' : Meaning) (stands : Stands core m
 
   -- refused
   module _ (a : Config) (why : No) (left : Left core.good core.config a e.config m m' why) (good : e.good ≡ core.good) (un : e.unsettled ≡ true) where
-    pub left_Stands : Trusts e.committed e.agreed core.good m' → Stands e m'
+    pub left_Stands : Trusts e.committed e.agreed core.good m' → InnerStands e m'
     left_Stands trusts = made e m' wanted can (few_same (ap length left.volumes)) (small_same (λ x. ap (λ (vs : List VolumeEntry). blocks_of vs x) left.volumes)) (still_large m m' acts.units acts.size stands.large) on
         (subst (λ (g : ℕ). NoneGood e.config.disks (length e.config.disks) g → ⊥) (sym good)
         (subst (λ (ds : List DiskEntry). NoneGood ds (length ds) core.good → ⊥) (sym left.disks) stands.some))

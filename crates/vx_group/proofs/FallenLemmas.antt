@@ -9,7 +9,7 @@ use Rattle.vx_config.specs.declared.config.Config.{Config}
 use Rattle.vx_copies.specs.Looking.{on_shelf}
 use Rattle.vx_copies.proofs.OneTry.{shelf_same, wanted_same}
 use Rattle.vx_kept.specs.Commits.{Member}
-use Rattle.vx_kept.specs.Groups.{Imported, found_by, seen}
+use Rattle.vx_kept.specs.Groups.{ImportedImage, found_by, seen}
 use Rattle.vx_kept.specs.Keeping.{Kept}
 use Rattle.vx_kept.specs.Trusts.{is_plain}
 use Rattle.vx_kept.proofs.Committed.{fewer}
@@ -18,12 +18,12 @@ use Rattle.vx_kept.proofs.Lasting.{sees_same}
 use Rattle.vx_kept.proofs.Low.{found_same}
 use Rattle.vx_kept.proofs.Trusting.{less_trusts}
 use Rattle.vx_group.specs.Resumes.{CanImport}
-use Rattle.vx_group.specs.Stands.{Stands, meaning_of}
+use Rattle.vx_group.specs.Stands.{InnerStands, inner_meaning}
 use Rattle.vx_group.specs.declared.inner.Inner.{Inner}
 use Rattle.vx_group.proofs.CrashLemmas.{rest_can}
 use Rattle.vx_group.proofs.Standing.{kept_of, member_to, still_large}
 
-module _ (core : Inner) (m m' : Meaning) (stands : Stands core m) (law : Lawful m) (law' : Lawful m') (stopped : Stopped m m') where
+module _ (core : Inner) (m m' : Meaning) (stands : InnerStands core m) (law : Lawful m) (law' : Lawful m') (stopped : Stopped m m') where
   fallen_Kept : Kept core.config (Member core.good m) m'
   fallen_Kept =
       let kept = kept_of core m stands in
@@ -36,7 +36,7 @@ module _ (core : Inner) (m m' : Meaning) (stands : Stands core m) (law : Lawful 
       }
 
   -- the group stands on what it leaves
-  pub fallen_Stands : Stands core m'
+  pub fallen_Stands : InnerStands core m'
   fallen_Stands = record {
     wanted = wanted_same m m' core.config stopped.units stopped.size stands.wanted;
     serial = stands.serial;
@@ -71,7 +71,7 @@ module _ (core : Inner) (m m' : Meaning) (stands : Stands core m) (law : Lawful 
   of_leaves v b x (inl on) = inl (record { inside = on.inside; plex = on.plex; is_on = on.is_on; value = stopped.leaves _ _ x on.value })
   of_leaves v b x (inr out) = inr (record { tells = told out.tells; outside = out.outside; empty = out.empty })
 
-  of_image : (P Q : Image → Type 0) → ((i : Image) → P i → Q i) → (i : Image) → Imported core.config m' P i → Imported core.config m Q i
+  of_image : (P Q : Image → Type 0) → ((i : Image) → P i → Q i) → (i : Image) → ImportedImage core.config m' P i → ImportedImage core.config m Q i
   of_image P Q sub i it = record {
     image = it.image;
     left = sub it.image it.left;
@@ -80,7 +80,7 @@ module _ (core : Inner) (m m' : Meaning) (stands : Stands core m) (law : Lawful 
     shows = it.shows;
   }
 
-  to_image : (P Q : Image → Type 0) → ((i : Image) → P i → Q i) → (i : Image) → Imported core.config m P i → Imported core.config m' Q i
+  to_image : (P Q : Image → Type 0) → ((i : Image) → P i → Q i) → (i : Image) → ImportedImage core.config m P i → ImportedImage core.config m' Q i
   to_image P Q sub i it = record {
     image = it.image;
     left = sub it.image it.left;
@@ -89,7 +89,7 @@ module _ (core : Inner) (m m' : Meaning) (stands : Stands core m) (law : Lawful 
     shows = it.shows;
   }
 
-  pub fallen_volumes : Stopped (meaning_of core m) (meaning_of core m')
+  pub fallen_volumes : Stopped (inner_meaning core m) (inner_meaning core m')
   fallen_volumes = record {
     units = refl;
     size = λ v. refl;

@@ -23,7 +23,7 @@ use Rattle.vx_copies.specs.Marks.{NoneGood, blocks_at, failed_at}
 use Rattle.vx_layout.specs.Places.{place}
 use Rattle.vx_volume.specs.Plexes.{active}
 use Rattle.vx_volume.proofs.ReadRuns.{still}
-use Rattle.vx_kept.specs.Cleans.{at_serial, marked}
+use Rattle.vx_kept.specs.Cleans.{at_serial, is_unsure}
 use Rattle.vx_kept.specs.Commits.{Left, Member, Taken}
 use Rattle.vx_kept.specs.Keeping.{Acts, AllOn, Sees}
 use Rattle.vx_kept.specs.States.{stale_at, staled}
@@ -31,13 +31,13 @@ use Rattle.vx_kept.proofs.StateLemmas.{then_shape}
 use Rattle.vx_kept.proofs.Steps.{inside_back}
 use Rattle.vx_group.specs.Blames.{Blames}
 use Rattle.vx_group.specs.Finishes.{CommitMade, CommitsAs, Renews, SameOr}
-use Rattle.vx_group.specs.Loses.{Loses}
-use Rattle.vx_group.specs.Mends.{GoesOn, Mending}
+use Rattle.vx_group.specs.Loses.{LosesPlexes}
+use Rattle.vx_group.specs.Mends.{GroupGoesOn, Mending}
 use Rattle.vx_group.specs.Moves.{Narrows}
 use Rattle.vx_group.specs.Quiesces.{AnyFailed}
 use Rattle.vx_group.specs.Resumes.{IsMended, source_at}
 use Rattle.vx_kept.specs.Trusts.{HasFailed, Trusts}
-use Rattle.vx_group.specs.Stands.{Stands, counted, meaning_of}
+use Rattle.vx_group.specs.Stands.{InnerStands, volume_faults, inner_meaning}
 use Rattle.vx_group.specs.declared.inner.Inner.{Inner}
 use Rattle.vx_group.proofs.CallLemmas.{narrows_Goes}
 use Rattle.vx_group.proofs.LoseLemmas.{loses_none, then_loses}
@@ -47,26 +47,26 @@ use Rattle.vx_group.proofs.Standing.{apart_of_core}
 
 -- ---- a call that changes no block of a plex
 
-pub narrows_on : (core d : Inner) (m m' : Meaning) → Lawful m' → Stands core m → Stands d m' → Narrows core d m m' → GoesOn core d m m'
+pub narrows_on : (core d : Inner) (m m' : Meaning) → Lawful m' → InnerStands core m → InnerStands d m' → Narrows core d m m' → GroupGoesOn core d m m'
 narrows_on core d m m' after stands stands' narrows = record {
   stands = stands';
   shape = narrows.shape;
   on = narrows.on;
   faults = narrows.faults;
   unsure = narrows.unsure;
-  goes = narrows_Goes core d m m' after stands narrows (counted core.faults) (counted d.faults) (λ u. let same : counted d.faults u ≡ counted core.faults u = ap (λ (f : List ℕ). counted f u) narrows.faults in omega (arith, same));
+  goes = narrows_Goes core d m m' after stands narrows (volume_faults core.faults) (volume_faults d.faults) (λ u. let same : volume_faults d.faults u ≡ volume_faults core.faults u = ap (λ (f : List ℕ). volume_faults f u) narrows.faults in omega (arith, same));
   unit_faults = narrows.acts.faults;
   disk_faults = narrows.acts.disk_faults;
 }
 
-pub both_on : (core d e : Inner) (m0 m1 m2 : Meaning) → GoesOn core d m0 m1 → GoesOn d e m1 m2 → GoesOn core e m0 m2
+pub both_on : (core d e : Inner) (m0 m1 m2 : Meaning) → GroupGoesOn core d m0 m1 → GroupGoesOn d e m1 m2 → GroupGoesOn core e m0 m2
 both_on core d e m0 m1 m2 one two = record {
   stands = two.stands;
   shape = then_shape e.config d.config core.config two.shape one.shape;
   on = λ w p is. one.on w p (two.on w p is);
   faults = two.faults ∙ one.faults;
   unsure = two.unsure ∙ one.unsure;
-  goes = still (meaning_of core m0) (meaning_of d m1) (meaning_of e m2) one.goes two.goes;
+  goes = still (inner_meaning core m0) (inner_meaning d m1) (inner_meaning e m2) one.goes two.goes;
   unit_faults = λ u. let a = one.unit_faults u in let b = two.unit_faults u in omega (arith, a, b);
   disk_faults = λ u. let a = one.disk_faults u in let b = two.disk_faults u in omega (arith, a, b);
 }
@@ -130,10 +130,10 @@ none_staled : (v : ℕ) (c : Config) (n : ℕ) → staled v 0 c n ≡ c
 none_staled v c zero = refl
 none_staled v c (suc n) = ap (λ (b : Bool). if b then stale_at v n (staled v 0 c n) else staled v 0 c n) (zero_bit 0 n refl) ∙ none_staled v c n
 
-module _ (core e : Inner) (m m' : Meaning) (after : Lawful m') (stands : Stands core m) (acts : Acts Nothing (Sees core.config (Member core.good m) m) m m')
+module _ (core e : Inner) (m m' : Meaning) (after : Lawful m') (stands : InnerStands core m) (acts : Acts Nothing (Sees core.config (Member core.good m) m) m m')
     (wanted : is_wanted m'.units m'.size e.config ≡ true) (can : CanSpell e.config) (on : AllOn e.config) (faults : e.faults ≡ core.faults) (unsure : e.unsure ≡ core.unsure) where
   module _ (taken : Taken core.config (staled 0 0 core.config 8) e.config m m') (good : e.good ≡ good_set e.config.disks) (trusts : Trusts e.committed e.agreed (good_set e.config.disks) m') where
-    pub commit_on : GoesOn core e m m'
+    pub commit_on : GroupGoesOn core e m m'
     commit_on = narrows_on core e m m' after stands (taken_Stands core e 0 0 m m' stands acts wanted can on faults unsure taken good trusts) (taken_Narrows core e 0 0 m m' stands acts wanted can on faults unsure taken good)
 
     pub commit_made : e.unsettled ≡ false → (IsTrue m'.down → ⊥) → (e.committed ≡ true) ⊎ HasFailed e.config.disks → CommitMade core e m m'
@@ -142,12 +142,12 @@ module _ (core e : Inner) (m m' : Meaning) (after : Lawful m') (stands : Stands 
       settled = settled;
       up = up;
       same = subst (λ (c : Config). SameOr c e.config m m') (none_staled 0 core.config 8) (grown_same (staled 0 0 core.config 8) e.config m m' taken.later taken.grown);
-      loses = subst (λ (c : Config). Loses c e.config m m') (none_staled 0 core.config 8) (loses_none (staled 0 0 core.config 8) e.config m m' taken.grown.volumes taken.grown.disks);
+      loses = subst (λ (c : Config). LosesPlexes c e.config m m') (none_staled 0 core.config 8) (loses_none (staled 0 0 core.config 8) e.config m m' taken.grown.volumes taken.grown.disks);
       finds = taken.finds;
       trust = trust;
     }
 
-  pub commit_left : (why : No) → Left core.good core.config (staled 0 0 core.config 8) e.config m m' why → e.good ≡ core.good → e.unsettled ≡ true → Trusts e.committed e.agreed core.good m' → GoesOn core e m m' × (DeviceCause m m' why ⊎ ((why ≡ refusal.Limit Numbers greatest) × (greatest ≤ core.config.serial)))
+  pub commit_left : (why : No) → Left core.good core.config (staled 0 0 core.config 8) e.config m m' why → e.good ≡ core.good → e.unsettled ≡ true → Trusts e.committed e.agreed core.good m' → GroupGoesOn core e m m' × (DeviceCause m m' why ⊎ ((why ≡ refusal.Limit Numbers greatest) × (greatest ≤ core.config.serial)))
   commit_left why left good un trusts = (
     narrows_on core e m m' after stands (left_Stands core e 0 0 m m' stands acts wanted can on faults unsure (staled 0 0 core.config 8) why left good un trusts) (left_Narrows core e 0 0 m m' stands acts wanted can on faults unsure (staled 0 0 core.config 8) why left good un),
     subst (λ (c : Config). DeviceCause m m' why ⊎ ((why ≡ refusal.Limit Numbers greatest) × (greatest ≤ c.serial))) (none_staled 0 core.config 8)
@@ -156,11 +156,11 @@ module _ (core e : Inner) (m m' : Meaning) (after : Lawful m') (stands : Stands 
 
 -- ---- headers that were settled, and then volumes
 
-module _ (core d e f : Inner) (flags : List Bool) (sources : List ℕ) (m0 m1 m2 m3 : Meaning) (law1 : Lawful m1) (stands : Stands core m0) (stands1 : Stands d m1) (first : Narrows core d m0 m1) where
-  first_on : GoesOn core d m0 m1
+module _ (core d e f : Inner) (flags : List Bool) (sources : List ℕ) (m0 m1 m2 m3 : Meaning) (law1 : Lawful m1) (stands : InnerStands core m0) (stands1 : InnerStands d m1) (first : Narrows core d m0 m1) where
+  first_on : GroupGoesOn core d m0 m1
   first_on = narrows_on core d m0 m1 law1 stands stands1 first
 
-  pub stopped_on : GoesOn d e m1 m2 → GoesOn core e m0 m2
+  pub stopped_on : GroupGoesOn d e m1 m2 → GroupGoesOn core e m0 m2
   stopped_on two = both_on core d e m0 m1 m2 first_on two
 
   module _ (volumes : d.config.volumes ≡ core.config.volumes) (serial : d.config.serial ≡ core.config.serial) (unmoved : (d.config ≡ core.config) ⊎ AnyFailed m0 m1) (failing : MoreFailed m0 m1 core.config.disks d.config.disks) (up1 : IsTrue m1.down → ⊥)
@@ -168,7 +168,7 @@ module _ (core d e f : Inner) (flags : List Bool) (sources : List ℕ) (m0 m1 m2
     count_same : length d.config.volumes ≡ length core.config.volumes
     count_same = ap length volumes
 
-    mend_goes : GoesOn core e m0 m2
+    mend_goes : GroupGoesOn core e m0 m2
     mend_goes = both_on core d e m0 m1 m2 first_on mending.on
 
     -- a call that failed on the way
@@ -182,7 +182,7 @@ module _ (core d e f : Inner) (flags : List Bool) (sources : List ℕ) (m0 m1 m2
           (Rose_before (m0.disk_faults rose.0) (m1.disk_faults rose.0) (m2.disk_faults rose.0) (first.acts.disk_faults rose.0) rose.1) (le rose.0),
     )
 
-    module _ (last : GoesOn e f m2 m3) where
+    module _ (last : GroupGoesOn e f m2 m3) where
       since_first : (u : ℕ) → m1.disk_faults u ≤ m3.disk_faults u
       since_first u = let a = mending.on.disk_faults u in let b = last.disk_faults u in omega (arith, a, b)
 
@@ -206,12 +206,12 @@ module _ (core d e f : Inner) (flags : List Bool) (sources : List ℕ) (m0 m1 m2
           by (inl one) (inl two) (inr (inl rose)) = inr (inl (rose.0, Rose_before (m0.disk_faults rose.0) (m2.disk_faults rose.0) (m3.disk_faults rose.0) (mend_goes.disk_faults rose.0) rose.1))
           by (inl one) (inl two) (inr (inr rose)) = inr (inr (rose.0, Rose_before (m0.faults rose.0) (m2.faults rose.0) (m3.faults rose.0) (mend_goes.unit_faults rose.0) rose.1))
 
-      all_loses : Loses e.config f.config m2 m3 → Loses core.config f.config m0 m3
+      all_loses : LosesPlexes e.config f.config m2 m3 → LosesPlexes core.config f.config m0 m3
       all_loses end = then_loses m0 m2 m3 mend_goes.unit_faults last.unit_faults core.config e.config f.config
           (then_loses m0 m1 m2 first.acts.faults mending.on.unit_faults core.config d.config e.config (loses_none core.config d.config m0 m1 volumes failing) mending.spent.loses) end
 
       -- what was read of a volume that was made alike was so before the headers were settled
-      all_mended : ((v : ℕ) → v < length core.config.volumes → IsTrue (active core.config v (source_at sources v))) → (v : ℕ) → v < length core.config.volumes → marked flags v ≡ true → IsMended core.config v (source_at sources v) f m0 m3
+      all_mended : ((v : ℕ) → v < length core.config.volumes → IsTrue (active core.config v (source_at sources v))) → (v : ℕ) → v < length core.config.volumes → is_unsure flags v ≡ true → IsMended core.config v (source_at sources v) f m0 m3
       all_mended source_on v lt mark =
           let was = mending.mended v (omega (arith, lt, count_same)) mark in
           record {

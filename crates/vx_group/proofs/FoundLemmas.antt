@@ -6,7 +6,7 @@ use Rattle.vx_disk.specs.Shelf.{Image, Meaning}
 use Rattle.vx_wire.specs.Seals.{digest_of}
 use Rattle.vx_copyfmt.specs.Areas.{header_of}
 use Rattle.vx_copyfmt.specs.Copies.{Body, Copy, Differs, Disk, Holds, area_a, area_b, body_of, copy_at, copy_of, copy_under, greater, holding, judged}
-use Rattle.vx_copyfmt.specs.Imports.{Found, by_body, by_labels, by_newest, import_of, is_label, later, newest, on_disk, or_missing, missing, strange}
+use Rattle.vx_copyfmt.specs.Imports.{Found, by_body, by_labels, by_newest, import_of, is_label, later, newest_found, on_disk, or_missing, missing, strange}
 use Rattle.vx_copyfmt.specs.Labels.{seen_in}
 use Rattle.vx_copyfmt.specs.declared.area.AreaHeader.{AreaHeader}
 use Rattle.vx_config.specs.Checks.{ends_within, in_region, is_sound, runs, volume_runs}
@@ -42,9 +42,9 @@ put_is n true None z is = absurd cc
 put_is n true (Some y) z is = let same : (n, y) ≡ z = cc in (ap (λ (q : ℕ × Copy _). q.0) (sym same), ap (λ (q : ℕ × Copy _). Some q.1) same)
 put_is n false o z is = absurd cc
 
-newest_copy : {C : Type 0} (reads : ℕ → List ℕ → Option C) (R : ℕ → Bool) (j : Image) (n : ℕ) (z : ℕ × Copy C) → newest reads R j n ≡ Some z → copy_of reads (j z.0) ≡ Some z.1
+newest_copy : {C : Type 0} (reads : ℕ → List ℕ → Option C) (R : ℕ → Bool) (j : Image) (n : ℕ) (z : ℕ × Copy C) → newest_found reads R j n ≡ Some z → copy_of reads (j z.0) ≡ Some z.1
 newest_copy reads R j zero z is = absurd cc
-newest_copy reads R j (suc n) z is = elim (later_is (newest reads R j n) (if R n && is_label (seen_in (j n 0)) then on_disk n (copy_of reads (j n)) else None) z is) [
+newest_copy reads R j (suc n) z is = elim (later_is (newest_found reads R j n) (if R n && is_label (seen_in (j n 0)) then on_disk n (copy_of reads (j n)) else None) z is) [
   | inl before ↦ newest_copy reads R j n z before
   | inr here ↦ let it = put_is n (R n && is_label (seen_in (j n 0))) (copy_of reads (j n)) z here in subst (λ (k : ℕ). copy_of reads (j k) ≡ Some z.1) (sym it.0) it.1
 ]
@@ -93,12 +93,12 @@ found_was reads units R j x is = by_label (strange R j units) is
         missed (Some k) e = absurd cc
     body_is (Differs s t) disk area e = absurd cc
 
-    by_new : (o : Option (ℕ × Copy Config)) → newest reads R j units ≡ o → by_newest failed_in units R o ≡ Found x → WasRead reads x
+    by_new : (o : Option (ℕ × Copy Config)) → newest_found reads R j units ≡ o → by_newest failed_in units R o ≡ Found x → WasRead reads x
     by_new None at e = absurd cc
     by_new (Some z) at e = copy_was reads (j z.0) z.1 x (newest_copy reads R j units z at) (body_is z.1.body z.0 z.1.area e)
 
-    by_label : (o : Option ℕ) → by_labels o (by_newest failed_in units R (newest reads R j units)) ≡ Found x → WasRead reads x
-    by_label None e = by_new (newest reads R j units) refl e
+    by_label : (o : Option ℕ) → by_labels o (by_newest failed_in units R (newest_found reads R j units)) ≡ Found x → WasRead reads x
+    by_label None e = by_new (newest_found reads R j units) refl e
     by_label (Some v) e = absurd cc
 
 pub found_wanted : (m : Meaning) (R : ℕ → Bool) (j : Image) (x : Config) → import_of (on_shelf m) failed_in m.units R j ≡ Found x → is_wanted m.units m.size x ≡ true

@@ -14,10 +14,10 @@ use Rattle.vx_kept.proofs.Chosen.{place_volumes}
 use Rattle.vx_kept.proofs.Lasting.{cases_bool}
 use Rattle.vx_group.specs.Imports.{GivesImage}
 use Rattle.vx_group.specs.Resumes.{AtRest, CanImport, IsMended, stopped}
-use Rattle.vx_group.specs.Stands.{meaning_of}
+use Rattle.vx_group.specs.Stands.{inner_meaning}
 use Rattle.vx_group.specs.declared.inner.Inner.{Inner}
 
-module _ (old : Meaning) (config opened : Config) (core : Inner) (new : Meaning) (R : ℕ → Bool) (image : Image) (law : Lawful old) (law' : Lawful (meaning_of core new)) (can : CanImport old)
+module _ (old : Meaning) (config opened : Config) (core : Inner) (new : Meaning) (R : ℕ → Bool) (image : Image) (law : Lawful old) (law' : Lawful (inner_meaning core new)) (can : CanImport old)
     (read : IsTrue old.tells → Each old.reads image) (is : found_by old R image ≡ Found config) (opens : OpenVolumes 0 (returned R config) opened)
     (mended : (v : ℕ) → v < length opened.volumes → stopped config v ≡ true → IsMended opened v (chosen config v) core old new) where
   told_by : (i : Image) → Each old.leaves i → IsTrue old.tells
@@ -35,7 +35,7 @@ module _ (old : Meaning) (config opened : Config) (core : Inner) (new : Meaning)
   place_is : (v p b : ℕ) → place opened v p b ≡ place config v p b
   place_is v p b = opens.alike.shape.place v p b ∙ sym (place_volumes config (returned R config) refl v p b)
 
-  shown : (c : Config) (i above : Image) (v b : ℕ) (value : List ℕ) → AtRest old → Each old.leaves i → Extends config c → Shows c config i above → stopped config v ≡ true → Inside c v b → (meaning_of core new).reads v b value → value ≡ above v b
+  shown : (c : Config) (i above : Image) (v b : ℕ) (value : List ℕ) → AtRest old → Each old.leaves i → Extends config c → Shows c config i above → stopped config v ≡ true → Inside c v b → (inner_meaning core new).reads v b value → value ≡ above v b
   shown c i above v b value rest each extends shows stop in_it now =
       let lt : v < length c.volumes = in_it.volume in
       let more : length c.volumes ≤ length config.volumes = extends.volumes in

@@ -7,14 +7,14 @@ use Rattle.vx_disk.specs.Shelf.{Meaning}
 use Rattle.vx_model.specs.declared.site.PlexState.{PlexState}
 use Rattle.vx_model.specs.declared.site.PlexState.TheVariants.{Active, Stale}
 use Rattle.vx_config.specs.Changes.{changed_at, stated, with_plex, with_state, with_volumes}
-use Rattle.vx_config.specs.Checks.{blocks_of, is_sound}
+use Rattle.vx_config.specs.Checks.{blocks_of, is_sound, plexes_of, plexes_or}
 use Rattle.vx_config.specs.Configs.{CanSpell}
 use Rattle.vx_config.specs.declared.config.Config.{Config}
 use Rattle.vx_config.specs.declared.entry.VolumeEntry.{VolumeEntry}
 use Rattle.vx_config.proofs.Changed.{state_sound}
 use Rattle.vx_config.proofs.Fewer.{stated_back}
 use Rattle.vx_layout.specs.Places.{plex_at, plex_in}
-use Rattle.vx_volume.specs.Plexes.{SomeActive, active, plexes_of, plexes_or}
+use Rattle.vx_volume.specs.Plexes.{SomeActive, active}
 use Rattle.vx_kept.specs.Choice.{live}
 use Rattle.vx_kept.specs.Groups.{HasActive}
 use Rattle.vx_kept.specs.Keeping.{AllOn, SameShape}
@@ -26,7 +26,7 @@ use Rattle.vx_group.specs.Attaches.{HasOther}
 use Rattle.vx_group.specs.Dets.{any_below, det_refusal, is_other}
 use Rattle.vx_group.specs.Holding.{GroupStands, HeldBack, IsHeld, active_at, config_by, wide, with_config}
 use Rattle.vx_group.specs.Moves.{Narrows}
-use Rattle.vx_group.specs.Stands.{Stands}
+use Rattle.vx_group.specs.Stands.{InnerStands}
 use Rattle.vx_group.specs.declared.group_core.GroupCore.{GroupCore}
 use Rattle.vx_group.specs.declared.group_core.Held.{Held}
 use Rattle.vx_group.specs.declared.inner.Inner.{Inner}
@@ -94,14 +94,14 @@ pub none_not : {A : Type 0} (h : Held) → None ≡ Some h → A
 none_not h is = absurd (let no_one : None ≡ Some h = is in cc)
 
 -- no plex is held back
-pub whole_Stands : (i : Inner) (m : Meaning) → Stands i m → GroupStands (record { inner = i; held = None }) m
+pub whole_Stands : (i : Inner) (m : Meaning) → InnerStands i m → GroupStands (record { inner = i; held = None }) m
 whole_Stands i m stands = record { stands = stands; held = λ h is. none_not h is }
 
-pub none_Stands : (core : GroupCore) (m : Meaning) → core.held ≡ None → Stands core.inner m → GroupStands core m
-none_Stands core m none stands = record { stands = subst (λ (i : Inner). Stands i m) (sym (wide_none core none)) stands; held = λ h is. none_not h (sym none ∙ is) }
+pub none_Stands : (core : GroupCore) (m : Meaning) → core.held ≡ None → InnerStands core.inner m → GroupStands core m
+none_Stands core m none stands = record { stands = subst (λ (i : Inner). InnerStands i m) (sym (wide_none core none)) stands; held = λ h is. none_not h (sym none ∙ is) }
 
-pub from_none : (core : GroupCore) (m : Meaning) → core.held ≡ None → GroupStands core m → Stands core.inner m
-from_none core m none it = subst (λ (i : Inner). Stands i m) (wide_none core none) it.stands
+pub from_none : (core : GroupCore) (m : Meaning) → core.held ≡ None → GroupStands core m → InnerStands core.inner m
+from_none core m none it = subst (λ (i : Inner). InnerStands i m) (wide_none core none) it.stands
 
 -- ---- by cases on what is held back
 
@@ -182,9 +182,9 @@ module _ (v p : ℕ) (c d : GroupCore) (none : c.held ≡ None) (back : HeldBack
       by (inl same) = ap wide same.0 ∙ wide_none c none
       by (inr it) = ap wide it.0 ∙ ap (λ (x : Config). with_config x c.inner) (unstaled v p c.inner.config it.1)
 
-  pub back_Stands : (m : Meaning) → Stands c.inner m → GroupStands d m
+  pub back_Stands : (m : Meaning) → InnerStands c.inner m → GroupStands d m
   back_Stands m stands = record {
-    stands = subst (λ (i : Inner). Stands i m) (sym back_wide) stands;
+    stands = subst (λ (i : Inner). InnerStands i m) (sym back_wide) stands;
     held = λ h is. by back h is;
   }
     where
@@ -373,8 +373,8 @@ module _ (c0 : GroupCore) (h : Held) (m : Meaning) (it : GroupStands c0 m) (is :
       e_narrows m' narrows =
           subst (λ (i : Inner). Narrows (wide c0) i m m') (sym (back_wide h.vol h.plex c2 c3 none back ∙ inner)) (subst (λ (i : Inner). Narrows i e m m') x_is narrows)
 
-      pub e_Stands : (m' : Meaning) → Stands e m' → GroupStands c3 m'
-      e_Stands m' stands = back_Stands h.vol h.plex c2 c3 none back m' (subst (λ (i : Inner). Stands i m') (sym inner) stands)
+      pub e_Stands : (m' : Meaning) → InnerStands e m' → GroupStands c3 m'
+      e_Stands m' stands = back_Stands h.vol h.plex c2 c3 none back m' (subst (λ (i : Inner). InnerStands i m') (sym inner) stands)
 
 -- ---- one that may be detached
 

@@ -15,15 +15,15 @@ use Rattle.vx_layout.specs.Places.{place}
 use Rattle.vx_volume.specs.Plexes.{active}
 use Rattle.vx_volume.proofs.ReadRuns.{still}
 use Rattle.vx_kept.specs.Choice.{chosen}
-use Rattle.vx_kept.specs.Cleans.{marked}
+use Rattle.vx_kept.specs.Cleans.{is_unsure}
 use Rattle.vx_kept.specs.Groups.{group_meaning}
 use Rattle.vx_kept.proofs.Narrower.{wanted_sound}
 use Rattle.vx_group.specs.Finishes.{AnyFault, Renewed, StopsLate}
 use Rattle.vx_group.specs.Imports.{HalfResumed, ImportStops, Resumed}
 use Rattle.vx_group.specs.Laws.{group_lawful}
-use Rattle.vx_group.specs.Mends.{GoesOn}
-use Rattle.vx_group.specs.Resumes.{CanImport, IsMended, IsTaken, Takes, TakenUp, source_at, source_of, stopped}
-use Rattle.vx_group.specs.Stands.{counted, meaning_of}
+use Rattle.vx_group.specs.Mends.{GroupGoesOn}
+use Rattle.vx_group.specs.Resumes.{CanImport, IsMended, IsTaken, TakesPlan, TakenUp, source_at, source_of, stopped}
+use Rattle.vx_group.specs.Stands.{volume_faults, inner_meaning}
 use Rattle.vx_group.specs.declared.inner.Inner.{Inner}
 use Rattle.vx_group.specs.declared.taking.Plan.{Plan}
 use Rattle.vx_group.proofs.LoseLemmas.{loses_later}
@@ -73,7 +73,7 @@ module _ (old m1 : Meaning) (plan : Plan) (taken : IsTaken old m1 plan) where
       taken.made.sources v (in_back v lt) ∙ source_back taken.up.readable taken.config set v ∙ source_chosen taken.config v (wanted_sound old.units old.size taken.config x_wanted)
 
   module _ (new : Meaning) (law : Lawful old) (law1 : Lawful m1) (goes : Goes Nothing old m1) (large : AreLarge old) (can : CanImport old) (d : Inner) where
-    module _ (on : GoesOn plan.core d m1 new) where
+    module _ (on : GroupGoesOn plan.core d m1 new) where
       up_to : TakenUp old new taken.config opened
       up_to = record {
         readable = taken.up.readable;
@@ -84,9 +84,9 @@ module _ (old m1 : Meaning) (plan : Plan) (taken : IsTaken old m1 plan) where
         opens = taken.up.opens;
       }
 
-      whole_goes : Goes Nothing (group_meaning opened (λ v. 0) old) (meaning_of d new)
-      whole_goes = still (group_meaning opened (λ v. 0) old) (meaning_of plan.core m1) (meaning_of d new)
-          (taken_Goes old m1 law law1 goes large can taken.config opened taken.up.readable taken.up.image taken.up.read taken.up.is taken.up.opens (λ is. taken.made.sound) (counted plan.core.faults)) on.goes
+      whole_goes : Goes Nothing (group_meaning opened (λ v. 0) old) (inner_meaning d new)
+      whole_goes = still (group_meaning opened (λ v. 0) old) (inner_meaning plan.core m1) (inner_meaning d new)
+          (taken_Goes old m1 law law1 goes large can taken.config opened taken.up.readable taken.up.image taken.up.read taken.up.is taken.up.opens (λ is. taken.made.sound) (volume_faults plan.core.faults)) on.goes
 
       half : HalfResumed old new
       half = record { config = taken.config; core = d; opened = opened; taken = up_to; stands = on.stands; goes = whole_goes }
@@ -122,8 +122,8 @@ module _ (old m1 : Meaning) (plan : Plan) (taken : IsTaken old m1 plan) where
         settled = fin.made.settled;
         up = fin.made.up;
         fresh = record {
-          faults = λ v. ap (λ (f : List ℕ). counted f v) fin.made.on.faults ∙ taken.made.fresh.faults v;
-          sure = λ v. ap (λ (f : List Bool). marked f v) fin.made.on.unsure ∙ taken.made.fresh.sure v;
+          faults = λ v. ap (λ (f : List ℕ). volume_faults f v) fin.made.on.faults ∙ taken.made.fresh.faults v;
+          sure = λ v. ap (λ (f : List Bool). is_unsure f v) fin.made.on.unsure ∙ taken.made.fresh.sure v;
         };
         same = ⊎_elim (λ same. inl same) (λ fault. inr (fault_before fault)) fin.made.same;
         loses = loses_later opened d.config old m1 new goes.faults fin.made.on.unit_faults fin.made.loses;
@@ -138,10 +138,10 @@ module _ (old m1 : Meaning) (plan : Plan) (taken : IsTaken old m1 plan) where
     pub import_ok : Lawful new → (IsTrue m1.down → ⊥) → Renewed plan.core plan.stopped plan.sources d m1 new → Resumed old d new
     import_ok law2 up1 fin = resumed law2 up1 fin
 
-    pub import_late : (why : No) → GoesOn plan.core d m1 new × StopsLate m1 new why → ImportStops old new (Refused why)
+    pub import_late : (why : No) → GroupGoesOn plan.core d m1 new × StopsLate m1 new why → ImportStops old new (Refused why)
     import_late why stops = inr (half stops.0, stops_before why stops.1)
 
-pub import_early : (old new : Meaning) (stop : Stop) → Goes Nothing old new → Takes old new (Err stop) → ImportStops old new stop
+pub import_early : (old new : Meaning) (stop : Stop) → Goes Nothing old new → TakesPlan old new (Err stop) → ImportStops old new stop
 import_early old new (Refused why) goes (inl imported) = inl (goes, inr (inr (inl imported)))
 import_early old new (Refused why) goes (inr not) = inl (goes, inr (inr (inr not)))
 import_early old new OutOfMemory goes is = inl (goes, tt)

@@ -37,3 +37,5 @@ pub mod AttachLemmas
 pub mod UsesLemmas
 pub mod SourcesLemmas
 pub mod GiveLemmas
+pub mod ActsLemmas
+pub mod LostLemmas

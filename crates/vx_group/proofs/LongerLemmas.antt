@@ -12,13 +12,16 @@ use Rattle.vx_config.specs.declared.config.Config.{Config}
 use Rattle.vx_config.specs.declared.entry.DiskEntry.{DiskEntry}
 use Rattle.vx_config.specs.declared.entry.Subdisk.{Subdisk}
 use Rattle.vx_config.specs.declared.entry.VolumeEntry.{VolumeEntry}
+use Rattle.vx_config.specs.declared.entry.VolumeLog.{VolumeLog}
 use Rattle.vx_copies.specs.Bodies.{have_blocks}
 use Rattle.vx_layout.specs.Made.{made_plex, with_volume}
 use Rattle.vx_layout.specs.Places.{place, place_or, plex_in}
 use Rattle.vx_volume.specs.Plexes.{SomeActive, active, active_or}
 use Rattle.vx_kept.specs.Choice.{chosen, live, live_or}
-use Rattle.vx_kept.specs.Keeping.{AllOn, Extends, Follows}
+use Rattle.vx_kept.specs.Keeping.{AllOn, Extends, MayBeNext}
 use Rattle.vx_kept.proofs.Narrower.{sound_chosen}
+use Rattle.vx_kept.proofs.RunLemmas.{run_same, trust_from}
+use Rattle.vx_maplog.specs.Logs.{log_of, log_or}
 
 pub get_front : {A : Type 0} (xs ys : List A) (n : ℕ) → n < length xs → slice_get (xs ++ ys) n ≡ slice_get xs n
 get_front [] ys n lt = absurd (omega (arith, lt))
@@ -54,8 +57,17 @@ module _ (c : Config) (v : VolumeEntry) where
   unfolding live
   live_more w p lt = ap (λ (o : Option VolumeEntry). live_or (plex_in o p)) (get_front c.volumes (v ∷ []) w lt)
 
+  pub logs_more : (w : ℕ) (log : VolumeLog) → w < length c.volumes → log_of more w log ≡ log_of c w log
+  logs_more w log lt = ap (log_or log) (get_front c.volumes (v ∷ []) w lt)
+
   pub longer_extends : Extends more c
-  longer_extends = record { volumes = omega (arith, longer_count); blocks = blocks_more; place = place_more }
+  longer_extends = record {
+    volumes = omega (arith, longer_count);
+    blocks = blocks_more;
+    place = place_more;
+    logs = λ w log lt. run_same more c w w log (logs_more w log lt);
+    trusted = λ w log lt is. trust_from more c w w log (logs_more w log lt) is;
+  }
 
   module _ (on : AllOn c) (here : (p : ℕ) → IsTrue (live_or (slice_get v.plexes p)) → IsTrue (active_or (slice_get v.plexes p))) where
     last_on : (p : ℕ) → IsTrue (live more (length c.volumes) p) → IsTrue (active more (length c.volumes) p)
@@ -82,7 +94,7 @@ module _ (c : Config) (v : VolumeEntry) where
     }
 
     module _ (sound : is_sound more ≡ true) where
-      pub longer_follows : Follows c more
+      pub longer_follows : MayBeNext c more
       longer_follows = record {
         shape = longer_extends;
         serial = refl;

@@ -9,21 +9,21 @@ use Rattle.vx_volume.specs.Plexes.{active, uses}
 use Rattle.vx_volume.specs.Volumes.{PlexBlamed}
 use Rattle.vx_kept.specs.States.{staled}
 use Rattle.vx_kept.proofs.Chosen.{active_volumes}
-use Rattle.vx_group.specs.Loses.{Loses}
+use Rattle.vx_group.specs.Loses.{LosesPlexes}
 use Rattle.vx_group.proofs.FailingLemmas.{no_failing, then_failing}
 use Rattle.vx_group.proofs.UsesLemmas.{blamed_before, blamed_by, blamed_later, uses_staled, uses_volumes}
 
-pub loses_none : (c d : Config) (m m' : Meaning) → d.volumes ≡ c.volumes → MoreFailed m m' c.disks d.disks → Loses c d m m'
+pub loses_none : (c d : Config) (m m' : Meaning) → d.volumes ≡ c.volumes → MoreFailed m m' c.disks d.disks → LosesPlexes c d m m'
 loses_none c d m m' volumes more = record { lies = uses_volumes c d volumes; plexes = λ v p is. inl (active_volumes d c volumes v p ∙ is); disks = more }
 
-pub loses_same : (c : Config) (m m' : Meaning) → Loses c c m m'
+pub loses_same : (c : Config) (m m' : Meaning) → LosesPlexes c c m m'
 loses_same c m m' = loses_none c c m m' refl (no_failing m m' c.disks c.disks refl)
 
 pub staled_lies : (v set : ℕ) (c d : Config) → d.volumes ≡ (staled v set c 8).volumes → (w p u : ℕ) → uses d w p u ≡ uses c w p u
 staled_lies v set c d volumes w p u = uses_volumes (staled v set c 8) d volumes w p u ∙ uses_staled v set c 8 w p u
 
 module _ (m0 m1 m2 : Meaning) (one : (u : ℕ) → m0.faults u ≤ m1.faults u) (two : (u : ℕ) → m1.faults u ≤ m2.faults u) where
-  pub then_loses : (c d e : Config) → Loses c d m0 m1 → Loses d e m1 m2 → Loses c e m0 m2
+  pub then_loses : (c d e : Config) → LosesPlexes c d m0 m1 → LosesPlexes d e m1 m2 → LosesPlexes c e m0 m2
   then_loses c d e first second = record {
     lies = λ v p u. second.lies v p u ∙ first.lies v p u;
     plexes = λ v p is. elim (first.plexes v p is) [
@@ -38,7 +38,7 @@ module _ (m0 m1 m2 : Meaning) (one : (u : ℕ) → m0.faults u ≤ m1.faults u) 
 
   -- plexes that failed in a first call are detached by a second one
   pub loses_detach : (c d : Config) (v set : ℕ) → ((p : ℕ) → bit_at set p ≡ true → PlexBlamed c v p m0 m1) → ((w p u : ℕ) → uses d w p u ≡ uses c w p u)
-      → ((w p : ℕ) → (w ≡ v → bit_at set p ≡ true → ⊥) → active d w p ≡ active c w p) → MoreFailed m1 m2 c.disks d.disks → Loses c d m0 m2
+      → ((w p : ℕ) → (w ≡ v → bit_at set p ≡ true → ⊥) → active d w p ≡ active c w p) → MoreFailed m1 m2 c.disks d.disks → LosesPlexes c d m0 m2
   loses_detach c d v set blamed lies others more = record {
     lies = lies;
     plexes = λ w p is. elim (cases_eq w v) [
@@ -53,5 +53,5 @@ module _ (m0 m1 m2 : Meaning) (one : (u : ℕ) → m0.faults u ≤ m1.faults u) 
       by w p is same false bit = inl (others w p (λ at on. let clash : false ≡ true = sym bit ∙ on in cc) ∙ is)
 
 -- counted from an earlier moment
-pub loses_later : (c d : Config) (m0 m1 m2 : Meaning) → ((u : ℕ) → m0.faults u ≤ m1.faults u) → ((u : ℕ) → m1.faults u ≤ m2.faults u) → Loses c d m1 m2 → Loses c d m0 m2
+pub loses_later : (c d : Config) (m0 m1 m2 : Meaning) → ((u : ℕ) → m0.faults u ≤ m1.faults u) → ((u : ℕ) → m1.faults u ≤ m2.faults u) → LosesPlexes c d m1 m2 → LosesPlexes c d m0 m2
 loses_later c d m0 m1 m2 one two second = then_loses m0 m1 m2 one two c c d (loses_same c m0 m1) second

@@ -22,7 +22,7 @@ use Rattle.vx_config.specs.declared.entry.VolumeEntry.{VolumeEntry}
 use Rattle.vx_copies.specs.Bodies.{fits_units, have_blocks, is_wanted}
 use Rattle.vx_copies.proofs.OneTry.{wanted_same}
 use Rattle.vx_layout.specs.Made.{made_plex, with_volume}
-use Rattle.vx_layout.specs.Space.{Finds, IsFound, IsShape}
+use Rattle.vx_layout.specs.Space.{FindsSpace, IsFound, IsShape}
 use Rattle.vx_layout.specs.declared.shape.Found.{Found}
 use Rattle.vx_layout.specs.declared.shape.Shape.{Shape}
 use Rattle.vx_layout.proofs.SoundLemmas.{sound_stays}
@@ -30,17 +30,17 @@ use Rattle.vx_volume.specs.Plexes.{active_or}
 use Rattle.vx_volume.proofs.ReadRuns.{still}
 use Rattle.vx_kept.specs.Choice.{live_or}
 use Rattle.vx_kept.specs.Commits.{Member}
-use Rattle.vx_kept.specs.Groups.{Apart, group_meaning}
+use Rattle.vx_kept.specs.Groups.{PlacesApart, group_meaning}
 use Rattle.vx_kept.specs.Keeping.{Sees}
 use Rattle.vx_kept.proofs.Chosen.{active_volumes, alike_shape, extends_volumes, same_extends}
 use Rattle.vx_kept.proofs.StateLemmas.{same_shape}
 use Rattle.vx_kept.proofs.Steps.{group-Goes, same_Acts}
-use Rattle.vx_group.specs.Blames.{StopsBy}
+use Rattle.vx_group.specs.Blames.{StopsByDevice}
 use Rattle.vx_group.specs.Makes.{AreZero, IsVolume, MakeEnds, MakeStops, StayAsWere, Unmoved, VolumeMade, make_refusal}
 use Rattle.vx_group.specs.Moves.{Narrows}
-use Rattle.vx_group.specs.Nexts.{Added, Adds, IsNext, IsPlanned, LongerEnds, PlanEnds}
+use Rattle.vx_group.specs.Nexts.{Added, Adds, IsNextConfig, IsPlanned, LongerEnds, PlanEnds}
 use Rattle.vx_group.specs.Settled.{SameBut}
-use Rattle.vx_group.specs.Stands.{Stands, counted, meaning_of}
+use Rattle.vx_group.specs.Stands.{InnerStands, volume_faults, inner_meaning}
 use Rattle.vx_group.specs.declared.inner.Inner.{Inner}
 use Rattle.vx_group.proofs.CallLemmas.{narrows_Goes}
 use Rattle.vx_group.proofs.LongerLemmas.{longer_count, made_on, sound_disks}
@@ -68,12 +68,12 @@ planned c name want found v sound may shape prefer space volume (Err (Refused wh
     (record { found = found; space = space; many = inr (v, volume, too_many c name want found v sound (may_make c name want may) shape prefer space volume ends.1) }, refl)
 planned c name want found v sound may shape prefer space volume (Err OutOfMemory) ends = tt
 
-pub finds_plan : (c : Config) (name : List ℕ) (want : Shape) (stop : Stop) → Finds c want (Err stop) → PlanEnds c name want (Err stop)
+pub finds_plan : (c : Config) (name : List ℕ) (want : Shape) (stop : Stop) → FindsSpace c want (Err stop) → PlanEnds c name want (Err stop)
 finds_plan c name want (Refused (refusal.Space need have)) short = short
 finds_plan c name want (Refused other) none = absurd none
 finds_plan c name want OutOfMemory none = tt
 
-pub plan_next : (c : Config) (name : List ℕ) (want : Shape) (next : Config) → make_refusal c name want ≡ None → IsPlanned c name want next → IsNext c next
+pub plan_next : (c : Config) (name : List ℕ) (want : Shape) (next : Config) → make_refusal c name want ≡ None → IsPlanned c name want next → IsNextConfig c next
 plan_next c name want next may is = record {
   volume = is.volume;
   is = is.is;
@@ -96,17 +96,17 @@ config_is x y serial site disks volumes rvg =
     ∙ ap (λ (u : Option Units). record { serial = y.serial; site = y.site; disks = y.disks; volumes = y.volumes; rvg = u }) rvg
 
 -- another configuration with the same volumes in memory
-pub volumes_Goes : (c d : Config) (f : ℕ → ℕ) (m : Meaning) → Lawful m → Apart c → d.volumes ≡ c.volumes → Goes Nothing (group_meaning c f m) (group_meaning d f m)
+pub volumes_Goes : (c d : Config) (f : ℕ → ℕ) (m : Meaning) → Lawful m → PlacesApart c → d.volumes ≡ c.volumes → Goes Nothing (group_meaning c f m) (group_meaning d f m)
 volumes_Goes c d f m lawful apart same = group-Goes c d (Member 0 m) f f m m Nothing Nothing (same_Acts (Sees c (Member 0 m) m) m) apart
     (alike_shape d c c same (same_shape c)) (λ v p is_on. sym (active_volumes d c same v p) ∙ is_on) (λ v p b x in_it is_on none. none) (λ v. omega arith) (λ not t i left. lawful.never not t i left)
 
-module _ (core mid : Inner) (m m1 : Meaning) (lawful : Lawful m1) (stands : Stands core m) (stands1 : Stands mid m1) (narrows : Narrows core mid m m1) (same : SameBut core.config mid.config) where
+module _ (core mid : Inner) (m m1 : Meaning) (lawful : Lawful m1) (stands : InnerStands core m) (stands1 : InnerStands mid m1) (narrows : Narrows core mid m m1) (same : SameBut core.config mid.config) where
   blocks_at : have_blocks m.size 0 mid.config.disks ≡ true
   blocks_at =
       let wanted : is_wanted m.units m.size mid.config ≡ true = wanted_same m1 m mid.config (sym narrows.acts.units) (λ u. sym (narrows.acts.size u)) stands1.wanted in
       (and_parts _ (have_blocks m.size 0 mid.config.disks) (and_parts (is_sound mid.config) (fits_units m.units m.size mid.config) wanted).1).1
 
-  pub later_next : (next : Config) → IsNext core.config next → IsNext mid.config (record { serial = next.serial; site = next.site; disks = mid.config.disks; volumes = next.volumes; rvg = next.rvg })
+  pub later_next : (next : Config) → IsNextConfig core.config next → IsNextConfig mid.config (record { serial = next.serial; site = next.site; disks = mid.config.disks; volumes = next.volumes; rvg = next.rvg })
   later_next next is_next = record {
     volume = is_next.volume;
     is = config_is (record { serial = next.serial; site = next.site; disks = mid.config.disks; volumes = next.volumes; rvg = next.rvg }) (with_volume mid.config is_next.volume)
@@ -126,9 +126,9 @@ module _ (core mid : Inner) (m m1 : Meaning) (lawful : Lawful m1) (stands : Stan
   -- the headers alone
   pub settled_stay : StayAsWere core mid m m1
   settled_stay = record {
-    goes = still (meaning_of core m) (meaning_of mid m1) (group_meaning core.config (counted mid.faults) m1)
-        (narrows_Goes core mid m m1 lawful stands narrows (counted core.faults) (counted mid.faults) (λ u. let is = ap (λ (f : List ℕ). counted f u) narrows.faults in omega (arith, is)))
-        (volumes_Goes mid.config core.config (counted mid.faults) m1 lawful (apart_of_core mid m1 stands1) (sym same.volumes));
+    goes = still (inner_meaning core m) (inner_meaning mid m1) (group_meaning core.config (volume_faults mid.faults) m1)
+        (narrows_Goes core mid m m1 lawful stands narrows (volume_faults core.faults) (volume_faults mid.faults) (λ u. let is = ap (λ (f : List ℕ). volume_faults f u) narrows.faults in omega (arith, is)))
+        (volumes_Goes mid.config core.config (volume_faults mid.faults) m1 lawful (apart_of_core mid m1 stands1) (sym same.volumes));
     shape = same_extends mid.config core.config (alike_shape mid.config core.config core.config same.volumes (same_shape core.config));
     on = λ v p lt. active_volumes mid.config core.config same.volumes v p;
     faults = narrows.faults;
@@ -138,10 +138,10 @@ module _ (core mid : Inner) (m m1 : Meaning) (lawful : Lawful m1) (stands : Stan
   module _ (d : Inner) (m2 : Meaning) (after : Lawful m2) (stay : StayAsWere mid d m1 m2) where
     pub later_stay : StayAsWere core d m m2
     later_stay = record {
-      goes = still (meaning_of core m) (meaning_of mid m1) (group_meaning core.config (counted d.faults) m2)
-          (narrows_Goes core mid m m1 lawful stands narrows (counted core.faults) (counted mid.faults) (λ u. let is = ap (λ (f : List ℕ). counted f u) narrows.faults in omega (arith, is)))
-          (still (meaning_of mid m1) (group_meaning mid.config (counted d.faults) m2) (group_meaning core.config (counted d.faults) m2) stay.goes
-          (volumes_Goes mid.config core.config (counted d.faults) m2 after (apart_of_core mid m1 stands1) (sym same.volumes)));
+      goes = still (inner_meaning core m) (inner_meaning mid m1) (group_meaning core.config (volume_faults d.faults) m2)
+          (narrows_Goes core mid m m1 lawful stands narrows (volume_faults core.faults) (volume_faults mid.faults) (λ u. let is = ap (λ (f : List ℕ). volume_faults f u) narrows.faults in omega (arith, is)))
+          (still (inner_meaning mid m1) (group_meaning mid.config (volume_faults d.faults) m2) (group_meaning core.config (volume_faults d.faults) m2) stay.goes
+          (volumes_Goes mid.config core.config (volume_faults d.faults) m2 after (apart_of_core mid m1 stands1) (sym same.volumes)));
       shape = extends_volumes d.config mid.config core.config (sym same.volumes) stay.shape;
       on = λ v p lt. stay.on v p (let count = ap length same.volumes in omega (arith, lt, count)) ∙ active_volumes mid.config core.config same.volumes v p;
       faults = stay.faults ∙ narrows.faults;
@@ -160,7 +160,7 @@ module _ (core mid : Inner) (m m1 : Meaning) (lawful : Lawful m1) (stands : Stan
 -- no call
 pub no_stay : (core : Inner) (m : Meaning) → StayAsWere core core m m
 no_stay core m = record {
-  goes = same_Goes Nothing (meaning_of core m);
+  goes = same_Goes Nothing (inner_meaning core m);
   shape = same_extends core.config core.config (same_shape core.config);
   on = λ v p lt. refl;
   faults = refl;
@@ -179,7 +179,7 @@ module _ (core d : Inner) (name : List ℕ) (want : Shape) (next : Config) (m m'
     begins = added.begins;
   }
 
-pub stopped_by : (c : Config) (name : List ℕ) (want : Shape) (old new : Meaning) (e : ShelfError) → StopsBy {T = Unit {0}} old new (Err e) → MakeStops c name want old new (refusal_of e)
+pub stopped_by : (c : Config) (name : List ℕ) (want : Shape) (old new : Meaning) (e : ShelfError) → StopsByDevice {T = Unit {0}} old new (Err e) → MakeStops c name want old new (refusal_of e)
 stopped_by c name want old new (Fault disk) why = why.0
 stopped_by c name want old new Down down = down
 

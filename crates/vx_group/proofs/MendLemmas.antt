@@ -5,16 +5,16 @@ use Rattle.vx_disk.specs.Shelf.{Goes, Lawful, Meaning, Nothing, Or, Values}
 use Rattle.vx_layout.specs.Places.{place}
 use Rattle.vx_volume.specs.Plexes.{Inside, active}
 use Rattle.vx_volume.proofs.ReadRuns.{still}
-use Rattle.vx_kept.specs.Cleans.{marked}
-use Rattle.vx_kept.specs.Groups.{OnSome, Outside}
+use Rattle.vx_kept.specs.Cleans.{is_unsure}
+use Rattle.vx_kept.specs.Groups.{OnSome, OutsideVolumes}
 use Rattle.vx_kept.proofs.Lasting.{cases_bool}
 use Rattle.vx_kept.proofs.StateLemmas.{same_shape, then_shape}
 use Rattle.vx_kept.proofs.Steps.{group-Goes, inside_back}
 use Rattle.vx_group.specs.Copying.{CopyMoved, FromSource, Mirrored, NoMember}
 use Rattle.vx_group.specs.Laws.{group_lawful}
-use Rattle.vx_group.specs.Mends.{GoesOn, Mending}
+use Rattle.vx_group.specs.Mends.{GroupGoesOn, Mending}
 use Rattle.vx_group.specs.Resumes.{IsMended, source_at}
-use Rattle.vx_group.specs.Stands.{Stands, counted, meaning_of}
+use Rattle.vx_group.specs.Stands.{InnerStands, volume_faults, inner_meaning}
 use Rattle.vx_group.specs.declared.inner.Inner.{Inner}
 use Rattle.vx_group.proofs.CopyLemmas.{spent_both, spent_none}
 use Rattle.vx_group.proofs.Standing.{apart_of_core}
@@ -64,28 +64,28 @@ module _ (V : Values) (a b : Meaning) (before : Lawful a) (after : Lawful b) (go
 
 -- ---- a volume that was copied is to the group no step at all
 
-module _ (d e : Inner) (v source : ℕ) (m1 m2 : Meaning) (law1 : Lawful m1) (law2 : Lawful m2) (stands : Stands d m1) (is_on : IsTrue (active d.config v source)) (moved : CopyMoved d v source e m1 m2) where
+module _ (d e : Inner) (v source : ℕ) (m1 m2 : Meaning) (law1 : Lawful m1) (law2 : Lawful m2) (stands : InnerStands d m1) (is_on : IsTrue (active d.config v source)) (moved : CopyMoved d v source e m1 m2) where
   abbrev Put : Values
-  Put w k x = IsTrue m1.tells → (meaning_of d m1).reads w k x
+  Put w k x = IsTrue m1.tells → (inner_meaning d m1).reads w k x
 
-  no_less : (u : ℕ) → counted d.faults u ≤ counted e.faults u
-  no_less u = let same : counted e.faults u ≡ counted d.faults u = ap (λ (f : List ℕ). counted f u) moved.faults in omega (arith, same)
+  no_less : (u : ℕ) → volume_faults d.faults u ≤ volume_faults e.faults u
+  no_less u = let same : volume_faults e.faults u ≡ volume_faults d.faults u = ap (λ (f : List ℕ). volume_faults f u) moved.faults in omega (arith, same)
 
   in_volume : (w p k : ℕ) (x : List ℕ) → Inside d.config w k → IsTrue (active d.config w p) → FromSource d.config v source m1 (place d.config w p k).0 (place d.config w p k).1 x → Put w k x
   in_volume w p k x in_it on it tells =
       let one = (apart_of_core d m1 stands).one w p k v it.plex it.number in_it it.inside on it.is_on (sym it.at) in
-      subst (λ (y : ℕ). (meaning_of d m1).reads y k x) (sym one.0) (subst (λ (j : ℕ). (meaning_of d m1).reads v j x) (sym one.2) (inl (record { inside = it.inside; plex = source; is_on = is_on; value = it.value tells })))
+      subst (λ (y : ℕ). (inner_meaning d m1).reads y k x) (sym one.0) (subst (λ (j : ℕ). (inner_meaning d m1).reads v j x) (sym one.2) (inl (record { inside = it.inside; plex = source; is_on = is_on; value = it.value tells })))
 
-  copied_Goes : Goes Put (meaning_of d m1) (meaning_of e m2)
-  copied_Goes = group-Goes d.config e.config NoMember (counted d.faults) (counted e.faults) m1 m2 (FromSource d.config v source m1) Put moved.acts (apart_of_core d m1 stands) moved.shape moved.on in_volume no_less
+  copied_Goes : Goes Put (inner_meaning d m1) (inner_meaning e m2)
+  copied_Goes = group-Goes d.config e.config NoMember (volume_faults d.faults) (volume_faults e.faults) m1 m2 (FromSource d.config v source m1) Put moved.acts (apart_of_core d m1 stands) moved.shape moved.on in_volume no_less
       (λ not t i left. law2.never not t i left)
 
-  pub moved_Goes : Goes Nothing (meaning_of d m1) (meaning_of e m2)
-  moved_Goes = absorbed Put (meaning_of d m1) (meaning_of e m2) (group_lawful d m1 law1 stands) (group_lawful e m2 law2 moved.stands) copied_Goes (λ u k x tells put. put tells)
+  pub moved_Goes : Goes Nothing (inner_meaning d m1) (inner_meaning e m2)
+  moved_Goes = absorbed Put (inner_meaning d m1) (inner_meaning e m2) (group_lawful d m1 law1 stands) (group_lawful e m2 law2 moved.stands) copied_Goes (λ u k x tells put. put tells)
 
 -- ---- the loop over the volumes
 
-pub none_mended : (core : Inner) (flags : List Bool) (sources : List ℕ) (m : Meaning) → Stands core m → core.unsettled ≡ false → (IsTrue m.down → ⊥) → Goes Nothing (meaning_of core m) (meaning_of core m) → Mending core flags sources 0 core m m
+pub none_mended : (core : Inner) (flags : List Bool) (sources : List ℕ) (m : Meaning) → InnerStands core m → core.unsettled ≡ false → (IsTrue m.down → ⊥) → Goes Nothing (inner_meaning core m) (inner_meaning core m) → Mending core flags sources 0 core m m
 none_mended core flags sources m stands settled up goes = record {
   on = record { stands = stands; shape = same_shape core.config; on = λ w p is. is; faults = refl; unsure = refl; goes = goes; unit_faults = λ u. omega arith; disk_faults = λ u. omega arith };
   spent = spent_none core.config m m;
@@ -115,7 +115,7 @@ same_Goes m = record {
 }
 
 -- a volume that was made alike stays so in each call that changes nothing
-pub mended_later : (core d e : Inner) (v source : ℕ) (old m1 m2 : Meaning) → Goes Nothing (meaning_of d m1) (meaning_of e m2) → IsMended core.config v source d old m1 → IsMended core.config v source e old m2
+pub mended_later : (core d e : Inner) (v source : ℕ) (old m1 m2 : Meaning) → Goes Nothing (inner_meaning d m1) (inner_meaning e m2) → IsMended core.config v source d old m1 → IsMended core.config v source e old m2
 mended_later core d e v source old m1 m2 goes was = record {
   value = was.value;
   origin = was.origin;
@@ -123,7 +123,7 @@ mended_later core d e v source old m1 m2 goes was = record {
 }
 
 module _ (core d : Inner) (flags : List Bool) (sources : List ℕ) (n : ℕ) (old m1 : Meaning) (was : Mending core flags sources n d old m1) where
-  pub mend_skip : marked flags n ≡ false → Mending core flags sources (n + 1) d old m1
+  pub mend_skip : is_unsure flags n ≡ false → Mending core flags sources (n + 1) d old m1
   mend_skip off = record {
     on = was.on;
     spent = was.spent;
@@ -131,7 +131,7 @@ module _ (core d : Inner) (flags : List Bool) (sources : List ℕ) (n : ℕ) (ol
     up = was.up;
     mended = λ v lt mark. elim (cases_lt v n) [
       | inl less ↦ was.mended v less mark
-      | inr le ↦ let at : v ≡ n = omega (arith, lt, le) in absurd (let clash : false ≡ true = sym off ∙ subst (λ (w : ℕ). marked flags w ≡ true) at mark in cc)
+      | inr le ↦ let at : v ≡ n = omega (arith, lt, le) in absurd (let clash : false ≡ true = sym off ∙ subst (λ (w : ℕ). is_unsure flags w ≡ true) at mark in cc)
     ];
     rest = λ w p k x le in_it on is. was.rest w p k x (omega (arith, le)) in_it on is;
     still = λ w p le. was.still w p (omega (arith, le));
@@ -141,17 +141,17 @@ module _ (core d : Inner) (flags : List Bool) (sources : List ℕ) (n : ℕ) (ol
     source_on : IsTrue (active d.config n (source_at sources n))
     source_on = was.still n (source_at sources n) (omega arith) ∙ on_core
 
-    step_Goes : CopyMoved d n (source_at sources n) e m1 m2 → Goes Nothing (meaning_of d m1) (meaning_of e m2)
+    step_Goes : CopyMoved d n (source_at sources n) e m1 m2 → Goes Nothing (inner_meaning d m1) (inner_meaning e m2)
     step_Goes moved = moved_Goes d e n (source_at sources n) m1 m2 law1 law2 was.on.stands source_on moved
 
-    pub mend_on : CopyMoved d n (source_at sources n) e m1 m2 → GoesOn core e old m2
+    pub mend_on : CopyMoved d n (source_at sources n) e m1 m2 → GroupGoesOn core e old m2
     mend_on moved = record {
       stands = moved.stands;
       shape = then_shape e.config d.config core.config moved.shape was.on.shape;
       on = λ w p is. was.on.on w p (moved.on w p is);
       faults = moved.faults ∙ was.on.faults;
       unsure = moved.unsure ∙ was.on.unsure;
-      goes = still (meaning_of core old) (meaning_of d m1) (meaning_of e m2) was.on.goes (step_Goes moved);
+      goes = still (inner_meaning core old) (inner_meaning d m1) (inner_meaning e m2) was.on.goes (step_Goes moved);
       unit_faults = λ u. let one = was.on.unit_faults u in let two = moved.acts.faults u in omega (arith, one, two);
       disk_faults = λ u. let one = was.on.disk_faults u in let two = moved.acts.disk_faults u in omega (arith, one, two);
     }
@@ -186,7 +186,7 @@ module _ (core d : Inner) (flags : List Bool) (sources : List ℕ) (n : ℕ) (ol
           one = λ k x in_it left. by k x in_it left;
         }
           where
-            by : (k : ℕ) (x : List ℕ) → Inside core.config n k → OnSome e.config m2.leaves n k x ⊎ Outside m2.tells e.config n k x → x ≡ mirrored.value k
+            by : (k : ℕ) (x : List ℕ) → Inside core.config n k → OnSome e.config m2.leaves n k x ⊎ OutsideVolumes m2.tells e.config n k x → x ≡ mirrored.value k
             by k x in_it (inl at) =
                 mirrored.one at.plex k x (inside_back d.config core.config was.on.shape n k in_it) at.is_on (subst (λ (q : ℕ × ℕ). m2.leaves q.0 q.1 x) (moved.shape.place n at.plex k) at.value)
             by k x in_it (inr out) = absurd (out.outside (inside_back e.config d.config moved.shape n k (inside_back d.config core.config was.on.shape n k in_it)))

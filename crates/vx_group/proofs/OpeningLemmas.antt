@@ -7,7 +7,7 @@ use Rattle.vx_model.specs.declared.no.No.{No}
 use Rattle.vx_model.specs.declared.site.PlexState.{PlexState}
 use Rattle.vx_model.specs.declared.site.PlexState.TheVariants.{Active, Clean, Stale}
 use Rattle.vx_config.specs.Changes.{stated, with_state}
-use Rattle.vx_config.specs.Checks.{is_live, is_sound}
+use Rattle.vx_config.specs.Checks.{is_live, is_sound, plexes_of, plexes_or}
 use Rattle.vx_config.specs.Table.{greatest}
 use Rattle.vx_config.specs.declared.config.Config.{Config}
 use Rattle.vx_config.specs.declared.entry.PlexEntry.{PlexEntry}
@@ -16,17 +16,18 @@ use Rattle.vx_config.proofs.Changed.{state_sound}
 use Rattle.vx_config.proofs.Fewer.{stated_back}
 use Rattle.vx_copies.specs.Bodies.{fits_units, is_wanted}
 use Rattle.vx_layout.specs.Places.{plex_at, plex_in}
-use Rattle.vx_volume.specs.Plexes.{active, active_or, plexes_of, plexes_or}
+use Rattle.vx_volume.specs.Plexes.{active, active_or}
 use Rattle.vx_kept.specs.Choice.{live, live_or}
 use Rattle.vx_kept.specs.Commits.{Member}
 use Rattle.vx_kept.specs.Keeping.{AllOn, Kept, Kin, SameShape}
 use Rattle.vx_kept.specs.States.{whole_of, whole_or}
 use Rattle.vx_kept.proofs.Narrower.{live_has, on_live}
-use Rattle.vx_kept.proofs.StateLemmas.{active_apart, live_apart, map_one, plex_same, stated_shape}
+use Rattle.vx_kept.proofs.RunLemmas.{trust_from}
+use Rattle.vx_kept.proofs.StateLemmas.{active_apart, live_apart, map_one, plex_same, stated_logs, stated_shape}
 use Rattle.vx_group.specs.Attaches.{MayAttach, att_refusal, attached}
 use Rattle.vx_group.specs.Dets.{margin}
 use Rattle.vx_group.specs.Holding.{with_config}
-use Rattle.vx_group.specs.Stands.{Stands}
+use Rattle.vx_group.specs.Stands.{InnerStands}
 use Rattle.vx_group.specs.declared.inner.Inner.{Inner}
 use Rattle.vx_group.proofs.Standing.{can_of, kept_of, made, sound_of, tidy_of}
 
@@ -175,6 +176,8 @@ module _ (c : Config) (v p : ℕ) (there : Present c v p) where
       volumes = let le = kin.shape.volumes in let same = open_shape.volumes in omega (arith, le, same);
       blocks = λ w lt. kin.shape.blocks w (there_volume w lt) ∙ sym (open_shape.blocks w);
       place = λ w q b lt. kin.shape.place w q b (there_volume w lt) ∙ sym (open_shape.place w q b);
+      logs = λ w log lt. kin.shape.logs w log (there_volume w lt) ∙ sym (open_shape.logs w log);
+      trusted = λ w log lt is. trust_from c d w w log (sym (stated_logs v p Active false c w log)) (kin.shape.trusted w log (there_volume w lt) is);
     };
     on = λ w q lt is. open_wider w q (kin.on w q (there_volume w lt) is);
     some = λ w lt. kin.some w (there_volume w lt);
@@ -194,7 +197,7 @@ module _ (c : Config) (v p : ℕ) (there : Present c v p) where
 abbrev pub opened : ℕ → ℕ → Inner → Inner
 opened v p core = with_config (attached v p core.config) core
 
-module _ (core : Inner) (v p : ℕ) (there : Present core.config v p) (m : Meaning) (stands : Stands core m) where
+module _ (core : Inner) (v p : ℕ) (there : Present core.config v p) (m : Meaning) (stands : InnerStands core m) where
   sound_here : is_sound (attached v p core.config) ≡ true
   sound_here = open_sound core.config v p there (sound_of core m stands)
 
@@ -202,7 +205,7 @@ module _ (core : Inner) (v p : ℕ) (there : Present core.config v p) (m : Meani
   wanted_here = and_from (is_sound (attached v p core.config)) (fits_units m.units m.size (attached v p core.config)) sound_here
       (and_parts (is_sound core.config) (fits_units m.units m.size core.config) stands.wanted).1
 
-  pub open_Stands : Stands (opened v p core) m
+  pub open_Stands : InnerStands (opened v p core) m
   open_Stands = made (opened v p core) m wanted_here (record { serial = stands.serial; disks = stands.disks; rvg = (can_of core m stands).rvg })
       (let few = stands.few in let same = (open_shape core.config v p there).volumes in omega (arith, few, same))
       (λ w. let small = stands.small w in let same = (open_shape core.config v p there).blocks w in omega (arith, small, same))

@@ -10,20 +10,20 @@ use Rattle.vx_copies.specs.Commits.{MoreFailed}
 use Rattle.vx_layout.specs.Places.{place}
 use Rattle.vx_volume.specs.Plexes.{active}
 use Rattle.vx_volume.specs.Volumes.{PlexFlushed}
-use Rattle.vx_kept.specs.Cleans.{marked}
+use Rattle.vx_kept.specs.Cleans.{is_unsure}
 use Rattle.vx_kept.specs.Commits.{Member}
-use Rattle.vx_kept.specs.Groups.{Apart}
+use Rattle.vx_kept.specs.Groups.{PlacesApart}
 use Rattle.vx_kept.specs.Keeping.{SameShape, Sees}
 use Rattle.vx_kept.proofs.StateLemmas.{then_shape}
 use Rattle.vx_kept.proofs.Steps.{both_Acts, inside_back, wide_Acts}
-use Rattle.vx_group.specs.Blames.{Blames, Marks}
+use Rattle.vx_group.specs.Blames.{Blames, MarksUnsure}
 use Rattle.vx_group.specs.Copying.{NoMember}
 use Rattle.vx_group.specs.Deports.{IsVolumeOf}
 use Rattle.vx_group.specs.Moves.{AllFlushed, Narrows}
 use Rattle.vx_group.specs.Quiesces.{AnyFailed, GivenBack, GoesOnBy, NoVolume, QuiesceEnds, Quiesced, Quiesces, SameParts}
-use Rattle.vx_group.specs.Stands.{Stands}
+use Rattle.vx_group.specs.Stands.{InnerStands}
 use Rattle.vx_group.specs.declared.inner.Inner.{Inner}
-use Rattle.vx_group.specs.Loses.{Loses}
+use Rattle.vx_group.specs.Loses.{LosesPlexes}
 use Rattle.vx_group.proofs.FailingLemmas.{no_failing}
 use Rattle.vx_group.proofs.LoseLemmas.{loses_none, loses_same, then_loses}
 use Rattle.vx_group.proofs.CopyLemmas.{loose_Acts, sees_none, sees_wider}
@@ -37,7 +37,7 @@ or_failed x y z m0 m1 m2 before after (inr rose) two = inr (rose.0, Rose_after (
 or_failed x y z m0 m1 m2 before after (inl same) (inl more) = inl (more ∙ same)
 or_failed x y z m0 m1 m2 before after (inl same) (inr rose) = inr (rose.0, Rose_before (m0.disk_faults rose.0) (m1.disk_faults rose.0) (m2.disk_faults rose.0) (before rose.0) rose.1)
 
-module _ (c d e : Inner) (P Q R : ℕ → Type 0) (m0 m1 m2 : Meaning) (apart : Apart c.config) (one : Quiesces c d P m0 m1) (two : Quiesces d e Q m1 m2) (up : IsTrue m1.down → ⊥) (part : (v : ℕ) → R v → P v ⊎ Q v) where
+module _ (c d e : Inner) (P Q R : ℕ → Type 0) (m0 m1 m2 : Meaning) (apart : PlacesApart c.config) (one : Quiesces c d P m0 m1) (two : Quiesces d e Q m1 m2) (up : IsTrue m1.down → ⊥) (part : (v : ℕ) → R v → P v ⊎ Q v) where
   from_first : (v p : ℕ) → PlexFlushed c.config v p m0 m1 → IsTrue (active c.config v p) → PlexFlushed c.config v p m0 m2
   from_first v p was is_on = record {
     each = λ k x in_it left. was.each k x in_it (⊎_elim (λ is. is) (λ none. absurd none) (two.acts.leaves (place c.config v p k).0 (place c.config v p k).1 x (apart.above v p k in_it is_on) left));
@@ -82,15 +82,15 @@ both_parts c d e one two = record { site = two.site ∙ one.site; rvg = two.rvg 
 
 -- no block was touched, by a commit or none
 module _ (c d e : Inner) (which : ℕ → Type 0) (m m' : Meaning) (narrows : Narrows c d m m') where
-  pub stepped : (e.config ≡ d.config) → e.faults ≡ d.faults → (d.config.volumes ≡ c.config.volumes) ⊎ AnyFailed m m' → (e.unsure ≡ c.unsure) ⊎ AnyFailed m m' → ((v : ℕ) → marked e.unsure v ≡ false → marked c.unsure v ≡ false)
-      → ((v p : ℕ) → which v → marked e.unsure v ≡ false → IsTrue (active d.config v p) → PlexFlushed c.config v p m m') → Loses c.config d.config m m' → Quiesces c e which m m'
+  pub stepped : (e.config ≡ d.config) → e.faults ≡ d.faults → (d.config.volumes ≡ c.config.volumes) ⊎ AnyFailed m m' → (e.unsure ≡ c.unsure) ⊎ AnyFailed m m' → ((v : ℕ) → is_unsure e.unsure v ≡ false → is_unsure c.unsure v ≡ false)
+      → ((v p : ℕ) → which v → is_unsure e.unsure v ≡ false → IsTrue (active d.config v p) → PlexFlushed c.config v p m m') → LosesPlexes c.config d.config m m' → Quiesces c e which m m'
   stepped same counts volumes unsure sure flushed loses = record {
     acts = loose_Acts Nothing (Sees c.config (Member c.good m) m) (Sees c.config NoMember m) m m' narrows.acts (λ i sees. sees_none c.config (Member c.good m) m i sees);
     shape = subst (λ x. SameShape x c.config) (sym same) narrows.shape;
     on = λ v p is. narrows.on v p (ap (λ x. active x v p) (sym same) ∙ is);
     volumes = ⊎_elim (λ is. inl (ap (λ x. x.volumes) same ∙ is)) (λ rose. inr rose) volumes;
     unsure = unsure;
-    loses = subst (λ x. Loses c.config x m m') (sym same) loses;
+    loses = subst (λ x. LosesPlexes c.config x m m') (sym same) loses;
     sure = sure;
     faults = counts ∙ narrows.faults;
     flushed = λ v p it off is_on. flushed v p it off (ap (λ x. active x v p) (sym same) ∙ is_on);
@@ -98,11 +98,11 @@ module _ (c d e : Inner) (which : ℕ → Type 0) (m m' : Meaning) (narrows : Na
 
 -- no volume was flushed
 pub quiet : (c d : Inner) (m m' : Meaning) → Narrows c d m m' → d.config.volumes ≡ c.config.volumes → MoreFailed m m' c.config.disks d.config.disks → Quiesces c d NoVolume m m'
-quiet c d m m' narrows volumes failing = stepped c d d NoVolume m m' narrows refl refl (inl volumes) (inl narrows.unsure) (λ v is. ap (λ (u : List Bool). marked u v) (sym narrows.unsure) ∙ is) (λ v p none. absurd none)
+quiet c d m m' narrows volumes failing = stepped c d d NoVolume m m' narrows refl refl (inl volumes) (inl narrows.unsure) (λ v is. ap (λ (u : List Bool). is_unsure u v) (sym narrows.unsure) ∙ is) (λ v p none. absurd none)
     (loses_none c.config d.config m m' volumes failing)
 
 -- the plexes of one volume, as all its plexes were flushed
-pub flushed_one : (c d e : Inner) (vol : ℕ) (m m' : Meaning) → Narrows c d m m' → AllFlushed d.config vol m m' → (v p : ℕ) → v ≡ vol → marked e.unsure v ≡ false → IsTrue (active d.config v p) → PlexFlushed c.config v p m m'
+pub flushed_one : (c d e : Inner) (vol : ℕ) (m m' : Meaning) → Narrows c d m m' → AllFlushed d.config vol m m' → (v p : ℕ) → v ≡ vol → is_unsure e.unsure v ≡ false → IsTrue (active d.config v p) → PlexFlushed c.config v p m m'
 flushed_one c d e vol m m' narrows all v p at off is_on = record {
   each = λ k x in_it left.
       let was : PlexFlushed d.config v p m m' = subst (λ (w : ℕ). PlexFlushed d.config w p m m') (sym at) (all.each p (subst (λ (w : ℕ). IsTrue (active d.config w p)) at is_on)) in
@@ -112,18 +112,18 @@ flushed_one c d e vol m m' narrows all v p at off is_on = record {
 
 -- ---- marks
 
-pub sure_marked : (error : ShelfError) (vol : ℕ) (old new : List Bool) → Marks error vol old new → (v : ℕ) → marked new v ≡ false → marked old v ≡ false
+pub sure_marked : (error : ShelfError) (vol : ℕ) (old new : List Bool) → MarksUnsure error vol old new → (v : ℕ) → is_unsure new v ≡ false → is_unsure old v ≡ false
 sure_marked (Fault disk) vol old new it v off = elim (cases_eq v vol) [
-  | inl at ↦ absurd (let on : marked new v ≡ true = subst (λ (w : ℕ). marked new w ≡ true) (sym at) it.here in let clash : true ≡ false = sym on ∙ off in cc)
+  | inl at ↦ absurd (let on : is_unsure new v ≡ true = subst (λ (w : ℕ). is_unsure new w ≡ true) (sym at) it.here in let clash : true ≡ false = sym on ∙ off in cc)
   | inr other ↦ sym (it.others v other) ∙ off
 ]
-sure_marked Down vol old new it v off = ap (λ (u : List Bool). marked u v) (sym it) ∙ off
+sure_marked Down vol old new it v off = ap (λ (u : List Bool). is_unsure u v) (sym it) ∙ off
 
-pub or_marked : (error : ShelfError) (vol : ℕ) (old new : List Bool) (m m' : Meaning) → Marks error vol old new → Blames {T = Unit {0}} m m' (Err error) → (new ≡ old) ⊎ AnyFailed m m'
+pub or_marked : (error : ShelfError) (vol : ℕ) (old new : List Bool) (m m' : Meaning) → MarksUnsure error vol old new → Blames {T = Unit {0}} m m' (Err error) → (new ≡ old) ⊎ AnyFailed m m'
 or_marked (Fault disk) vol old new m m' it why = inr (disk, why.0)
 or_marked Down vol old new m m' it why = inl it
 
-pub unsure_Stands : (core : Inner) (unsure : List Bool) (m : Meaning) → Stands core m → Stands (record { config = core.config; good = core.good; room = core.room; unsettled = core.unsettled; committed = core.committed; agreed = core.agreed; next = core.next; faults = core.faults; unsure = unsure }) m
+pub unsure_Stands : (core : Inner) (unsure : List Bool) (m : Meaning) → InnerStands core m → InnerStands (record { config = core.config; good = core.good; room = core.room; unsettled = core.unsettled; committed = core.committed; agreed = core.agreed; next = core.next; faults = core.faults; unsure = unsure }) m
 unsure_Stands core unsure m s = record {
   wanted = s.wanted;
   serial = s.serial;
@@ -151,10 +151,10 @@ abbrev pub with_unsure : Inner → List Bool → Inner
 with_unsure core unsure = record { config = core.config; good = core.good; room = core.room; unsettled = core.unsettled; committed = core.committed; agreed = core.agreed; next = core.next; faults = core.faults; unsure = unsure }
 
 -- each plex failed, or the shelf fell
-module _ (core : Inner) (vol : ℕ) (m m' : Meaning) (stands : Stands core m') (narrows : Narrows core core m m') (settled : core.unsettled ≡ false) (more : core.config.serial < greatest)
-    (error : ShelfError) (unsure : List Bool) (marks : Marks error vol core.unsure unsure) (why : Blames {T = Unit {0}} m m' (Err error)) where
-  off_none : Marks error vol core.unsure unsure → (v p : ℕ) → v ≡ vol → marked unsure v ≡ false → marked unsure vol ≡ true → PlexFlushed core.config v p m m'
-  off_none it v p at off on = absurd (let is : marked unsure v ≡ true = subst (λ (w : ℕ). marked unsure w ≡ true) (sym at) on in let clash : true ≡ false = sym is ∙ off in cc)
+module _ (core : Inner) (vol : ℕ) (m m' : Meaning) (stands : InnerStands core m') (narrows : Narrows core core m m') (settled : core.unsettled ≡ false) (more : core.config.serial < greatest)
+    (error : ShelfError) (unsure : List Bool) (marks : MarksUnsure error vol core.unsure unsure) (why : Blames {T = Unit {0}} m m' (Err error)) where
+  off_none : MarksUnsure error vol core.unsure unsure → (v p : ℕ) → v ≡ vol → is_unsure unsure v ≡ false → is_unsure unsure vol ≡ true → PlexFlushed core.config v p m m'
+  off_none it v p at off on = absurd (let is : is_unsure unsure v ≡ true = subst (λ (w : ℕ). is_unsure unsure w ≡ true) (sym at) on in let clash : true ≡ false = sym is ∙ off in cc)
 
   pub left_back : GivenBack core (with_unsure core unsure) m m'
   left_back = record {
@@ -163,7 +163,7 @@ module _ (core : Inner) (vol : ℕ) (m m' : Meaning) (stands : Stands core m') (
         (loses_same core.config m m');
   }
 
-  pub left_on : marked unsure vol ≡ true → (IsTrue m'.down → ⊥) → Quiesced core (with_unsure core unsure) (is_volume vol) m m'
+  pub left_on : is_unsure unsure vol ≡ true → (IsTrue m'.down → ⊥) → Quiesced core (with_unsure core unsure) (is_volume vol) m m'
   left_on on up = record {
     stands = unsure_Stands core unsure m' stands;
     quiesces = stepped core core (with_unsure core unsure) (is_volume vol) m m' narrows refl refl (inl refl) (or_marked error vol core.unsure unsure m m' marks why) (sure_marked error vol core.unsure unsure marks)
@@ -175,8 +175,8 @@ module _ (core : Inner) (vol : ℕ) (m m' : Meaning) (stands : Stands core m') (
     more = more;
   }
 
-pub unsure_ends : (core : Inner) (vol : ℕ) (m m' : Meaning) → Stands core m' → Narrows core core m m' → core.unsettled ≡ false → core.config.serial < greatest → (error : ShelfError) (unsure : List Bool) (r : Result (Unit {0}) ShelfError)
-    → Marks error vol core.unsure unsure → GoesOnBy error r → Blames {T = Unit {0}} m m' (Err error) → QuiesceEnds (is_volume vol) core (with_unsure core unsure) m m' r
+pub unsure_ends : (core : Inner) (vol : ℕ) (m m' : Meaning) → InnerStands core m' → Narrows core core m m' → core.unsettled ≡ false → core.config.serial < greatest → (error : ShelfError) (unsure : List Bool) (r : Result (Unit {0}) ShelfError)
+    → MarksUnsure error vol core.unsure unsure → GoesOnBy error r → Blames {T = Unit {0}} m m' (Err error) → QuiesceEnds (is_volume vol) core (with_unsure core unsure) m m' r
 unsure_ends core vol m m' stands narrows settled more (Fault disk) unsure (Ok x) marks on why = left_on core vol m m' stands narrows settled more (Fault disk) unsure marks why marks.here why.1
 unsure_ends core vol m m' stands narrows settled more (Fault disk) unsure (Err error) marks on why = absurd on
 unsure_ends core vol m m' stands narrows settled more Down unsure (Ok x) marks on why = absurd on
@@ -191,9 +191,9 @@ unsure_blames m m' Down (Err (Fault disk)) on why = absurd on
 unsure_blames m m' Down (Err Down) on why = why
 
 -- no plex failed, or those that failed were detached
-module _ (core d : Inner) (vol : ℕ) (m m' : Meaning) (stands : Stands d m') (narrows : Narrows core d m m') (volumes : (d.config.volumes ≡ core.config.volumes) ⊎ AnyFailed m m') (loses : Loses core.config d.config m m') where
-  sure_as : (v : ℕ) → marked d.unsure v ≡ false → marked core.unsure v ≡ false
-  sure_as v is = ap (λ (u : List Bool). marked u v) (sym narrows.unsure) ∙ is
+module _ (core d : Inner) (vol : ℕ) (m m' : Meaning) (stands : InnerStands d m') (narrows : Narrows core d m m') (volumes : (d.config.volumes ≡ core.config.volumes) ⊎ AnyFailed m m') (loses : LosesPlexes core.config d.config m m') where
+  sure_as : (v : ℕ) → is_unsure d.unsure v ≡ false → is_unsure core.unsure v ≡ false
+  sure_as v is = ap (λ (u : List Bool). is_unsure u v) (sym narrows.unsure) ∙ is
 
   pub one_on : AllFlushed d.config vol m m' → SameParts core.config d.config → (core.committed ≡ true → d.committed ≡ true) → d.unsettled ≡ false → (IsTrue m'.down → ⊥) → d.config.serial < greatest → Quiesced core d (is_volume vol) m m'
   one_on all parts trust settled up more = record {
@@ -210,7 +210,7 @@ module _ (core d : Inner) (vol : ℕ) (m m' : Meaning) (stands : Stands d m') (n
   one_back = record { stands = stands; quiesces = stepped core d d NoVolume m m' narrows refl refl volumes (inl narrows.unsure) sure_as (λ v p none. absurd none) loses }
 
   -- the commit was refused
-  pub missed_back : (error : ShelfError) (unsure : List Bool) → Marks error vol d.unsure unsure → AnyFailed m m' → GivenBack core (with_unsure d unsure) m m'
+  pub missed_back : (error : ShelfError) (unsure : List Bool) → MarksUnsure error vol d.unsure unsure → AnyFailed m m' → GivenBack core (with_unsure d unsure) m m'
   missed_back error unsure marks rose = record {
     stands = unsure_Stands d unsure m' stands;
     quiesces = stepped core d (with_unsure d unsure) NoVolume m m' narrows refl refl volumes (inr rose) (λ v is. sure_as v (sure_marked error vol d.unsure unsure marks v is)) (λ v p none. absurd none) loses;
@@ -218,7 +218,7 @@ module _ (core d : Inner) (vol : ℕ) (m m' : Meaning) (stands : Stands d m') (n
 
 -- ---- the loop
 
-pub none_quiesced : (core : Inner) (m : Meaning) → Stands core m → core.unsettled ≡ false → (IsTrue m.down → ⊥) → core.config.serial < greatest → Quiesced core core (λ (v : ℕ). v < 0) m m
+pub none_quiesced : (core : Inner) (m : Meaning) → InnerStands core m → core.unsettled ≡ false → (IsTrue m.down → ⊥) → core.config.serial < greatest → Quiesced core core (λ (v : ℕ). v < 0) m m
 none_quiesced core m stands settled up more = record {
   stands = stands;
   quiesces = stepped core core core (λ (v : ℕ). v < 0) m m (no_commit core m) refl refl (inl refl) (inl refl) (λ v is. is) (λ v p lt. absurd (omega (arith, lt))) (loses_same core.config m m);
@@ -232,7 +232,7 @@ none_quiesced core m stands settled up more = record {
 below_next : (n v : ℕ) → v < n + 1 → (v < n) ⊎ (v ≡ n)
 below_next n v lt = elim (cases_lt v n) [ inl less ↦ inl less | inr le ↦ inr (omega (arith, lt, le)) ]
 
-module _ (core d e : Inner) (n : ℕ) (m0 m1 m2 : Meaning) (begun : Stands core m0) (was : Quiesced core d (λ (v : ℕ). v < n) m0 m1) where
+module _ (core d e : Inner) (n : ℕ) (m0 m1 m2 : Meaning) (begun : InnerStands core m0) (was : Quiesced core d (λ (v : ℕ). v < n) m0 m1) where
   pub one_more : Quiesced d e (is_volume n) m1 m2 → Quiesced core e (λ (v : ℕ). v < n + 1) m0 m2
   one_more now = record {
     stands = now.stands;
@@ -272,5 +272,5 @@ all_quiesced core e n m m' le was = record {
 }
 
 -- no call at all
-pub still_back : (core : Inner) (m : Meaning) → Stands core m → GivenBack core core m m
+pub still_back : (core : Inner) (m : Meaning) → InnerStands core m → GivenBack core core m m
 still_back core m stands = record { stands = stands; quiesces = quiet core core m m (no_commit core m) refl (no_failing m m core.config.disks core.config.disks refl) }

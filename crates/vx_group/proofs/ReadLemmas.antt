@@ -7,13 +7,13 @@ use Rattle.vx_volume.specs.Volumes.{PlexRead}
 use Rattle.vx_kept.specs.Groups.{seen}
 use Rattle.vx_kept.proofs.Steps.{inside_back, inside_same}
 use Rattle.vx_group.specs.Holding.{GroupStands, wide}
-use Rattle.vx_group.specs.Stands.{meaning_of}
+use Rattle.vx_group.specs.Stands.{inner_meaning}
 use Rattle.vx_group.specs.declared.group_core.GroupCore.{GroupCore}
 use Rattle.vx_group.specs.declared.inner.Inner.{Inner}
 use Rattle.vx_group.proofs.HoldLemmas.{narrow_size, narrow_units, narrow_wider, wide_shape}
 
-module _ (core : Inner) (v block : ℕ) (bytes : List ℕ) (m m' : Meaning) (fits : Fits (meaning_of core m) v block (length bytes)) where
-  pub group_read : (p : ℕ) → IsTrue (active core.config v p) → PlexRead core.config v p block block (length bytes / 512) bytes m → Read (meaning_of core m) v block bytes
+module _ (core : Inner) (v block : ℕ) (bytes : List ℕ) (m m' : Meaning) (fits : Fits (inner_meaning core m) v block (length bytes)) where
+  pub group_read : (p : ℕ) → IsTrue (active core.config v p) → PlexRead core.config v p block block (length bytes / 512) bytes m → Read (inner_meaning core m) v block bytes
   group_read p is_on read = record {
     each = λ tells b covers.
         let within : b < block + length bytes / 512 = omega (arith, covers.first, covers.last, fits.whole) in
@@ -23,7 +23,7 @@ module _ (core : Inner) (v block : ℕ) (bytes : List ℕ) (m m' : Meaning) (fit
 
 -- the same of a group of which a plex may be held back
 module _ (core : GroupCore) (m : Meaning) (stands : GroupStands core m) (v block : ℕ) where
-  pub narrow_fits : (before after : List ℕ) → length after ≡ length before → Fits (meaning_of (wide core) m) v block (length before) → Fits (meaning_of core.inner m) v block (length after)
+  pub narrow_fits : (before after : List ℕ) → length after ≡ length before → Fits (inner_meaning (wide core) m) v block (length before) → Fits (inner_meaning core.inner m) v block (length after)
   narrow_fits before after same fits = record {
     exists = let lt : v < length (wide core).config.volumes = fits.exists in let units = narrow_units core m stands in omega (arith, lt, units);
     some = let some = fits.some in omega (arith, some, same);
@@ -41,7 +41,7 @@ module _ (core : GroupCore) (m : Meaning) (stands : GroupStands core m) (v block
   })
   seen_wide tells values b x (inr out) = inr (record { tells = out.tells; outside = λ in_it. out.outside (inside_same (wide core).config core.inner.config (wide_shape core) v b in_it); empty = out.empty })
 
-  pub wide_read : (bytes : List ℕ) (m' : Meaning) → Fits (meaning_of core.inner m) v block (length bytes) → (p : ℕ) → IsTrue (active core.inner.config v p) → PlexRead core.inner.config v p block block (length bytes / 512) bytes m → Read (meaning_of (wide core) m) v block bytes
+  pub wide_read : (bytes : List ℕ) (m' : Meaning) → Fits (inner_meaning core.inner m) v block (length bytes) → (p : ℕ) → IsTrue (active core.inner.config v p) → PlexRead core.inner.config v p block block (length bytes / 512) bytes m → Read (inner_meaning (wide core) m) v block bytes
   wide_read bytes m' fits p is_on read =
       let narrow = group_read core.inner v block bytes m m' fits p is_on read in
       record { each = λ tells b covers. seen_wide m.tells m.reads b (piece block bytes b) (narrow.each tells b covers) }

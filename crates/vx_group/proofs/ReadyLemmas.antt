@@ -16,7 +16,7 @@ use Rattle.vx_config.specs.declared.config.Config.{Config}
 use Rattle.vx_config.specs.declared.entry.DiskEntry.{DiskEntry}
 use Rattle.vx_config.specs.declared.entry.VolumeEntry.{VolumeEntry}
 use Rattle.vx_copies.specs.Bodies.{is_wanted}
-use Rattle.vx_copies.specs.Commits.{Held, NamesFailed}
+use Rattle.vx_copies.specs.Commits.{HeldGood, NamesFailed}
 use Rattle.vx_copies.specs.Looking.{on_shelf}
 use Rattle.vx_copies.specs.Marks.{NoneGood, failed_at, marked}
 use Rattle.vx_copies.proofs.Marked.{failed_now}
@@ -36,7 +36,7 @@ use Rattle.vx_kept.proofs.Trusting.{less_trusts}
 use Rattle.vx_group.specs.Moves.{Narrows}
 use Rattle.vx_group.specs.Quiesces.{AnyFailed}
 use Rattle.vx_group.specs.Settled.{SameBut, SettledTo}
-use Rattle.vx_group.specs.Stands.{Stands}
+use Rattle.vx_group.specs.Stands.{InnerStands}
 use Rattle.vx_group.specs.declared.inner.Inner.{Inner}
 use Rattle.vx_group.proofs.FailingLemmas.{no_failing, then_failing}
 use Rattle.vx_group.proofs.Standing.{can_of, made, member_to, still_large}
@@ -94,7 +94,7 @@ module _ (good : ℕ) (c d : Config) (n device : ℕ) (failed : Bool) (m m1 : Me
     pub settle_less : (u b : ℕ) (v : List ℕ) → m2.leaves u b v → m.leaves u b v
     settle_less u b v left = so_far.less u b v (no_more c (Member good m1) n m1 m2 goes before after so_far.kept u b v left)
 
-    held_before : (e : Config) (u : ℕ) → Held e m2 u → Held e m1 u
+    held_before : (e : Config) (u : ℕ) → HeldGood e m2 u → HeldGood e m1 u
     held_before e u held = record { below = let b : u < m2.units = held.below in omega (arith, goes.units, b); good = held.good }
 
     later : failed ≡ true → Rose (m.disk_faults device) (m2.disk_faults device)
@@ -185,7 +185,7 @@ kept_volumes c d G m volumes serial kept = record {
 
 -- ---- the group with it
 
-module _ (core : Inner) (d : Config) (n device : ℕ) (failed : Bool) (m m1 : Meaning) (stands : Stands core m) (so_far : SettledTo core.good core.config d n device failed m m1) where
+module _ (core : Inner) (d : Config) (n device : ℕ) (failed : Bool) (m m1 : Meaning) (stands : InnerStands core m) (so_far : SettledTo core.good core.config d n device failed m m1) where
   abbrev with_disks : Inner
   with_disks = record { config = d; good = core.good; room = core.room; unsettled = false; committed = core.committed; agreed = core.agreed; next = core.next; faults = core.faults; unsure = core.unsure }
 
@@ -196,7 +196,7 @@ module _ (core : Inner) (d : Config) (n device : ℕ) (failed : Bool) (m m1 : Me
     rvg = subst (λ (o : Option Units). IfSome o UnitsFit) (sym so_far.same.rvg) (can_of core m stands).rvg;
   }
 
-  pub disks_Stands : (NoneGood d.disks (length d.disks) core.good → ⊥) → IsTidy d m1 → Trusts core.committed core.agreed core.good m1 → Stands with_disks m1
+  pub disks_Stands : (NoneGood d.disks (length d.disks) core.good → ⊥) → IsTidy d m1 → Trusts core.committed core.agreed core.good m1 → InnerStands with_disks m1
   disks_Stands some tidy trusts = made with_disks m1 (wanted_same m m1 d so_far.acts.units so_far.acts.size so_far.wanted) can_same
       (let few = stands.few in omega (arith, ap length so_far.same.volumes, few))
       (λ v. let small = stands.small v in omega (arith, ap (λ (vs : List VolumeEntry). blocks_of vs v) so_far.same.volumes, small))
@@ -239,7 +239,7 @@ pub fault_cause : (old new : Meaning) (n unit : ℕ) (error : ShelfError) → er
 fault_cause old new n unit error is cause = subst (λ (e : ShelfError). Cause {T = Unit {0}} old new n (Err e)) is cause
 
 -- where none of the set is left, one failed
-pub one_failed : (core l : Inner) (n device : ℕ) (failed : Bool) (m m1 : Meaning) → Stands core m → SettledTo core.good core.config l.config n device failed m m1
+pub one_failed : (core l : Inner) (n device : ℕ) (failed : Bool) (m m1 : Meaning) → InnerStands core m → SettledTo core.good core.config l.config n device failed m m1
     → l ≡ record { config = l.config; good = core.good; room = core.room; unsettled = core.unsettled; committed = core.committed; agreed = core.agreed; next = core.next; faults = core.faults; unsure = core.unsure } → NoneGood l.config.disks (length l.config.disks) l.good
     → Rose (m.disk_faults device) (m1.disk_faults device)
 one_failed core l n device failed m m1 stands so_far is none = by failed refl

@@ -23,7 +23,7 @@ use Rattle.vx_kept.proofs.StateLemmas.{same_shape}
 use Rattle.vx_kept.proofs.Steps.{same_Acts}
 use Rattle.vx_group.specs.Moves.{Narrows}
 use Rattle.vx_group.specs.Regains.{AreHeld, HeldOne, HoldsNow, LiesOnFailed, Regained, Regains, regained}
-use Rattle.vx_group.specs.Stands.{Stands}
+use Rattle.vx_group.specs.Stands.{InnerStands}
 use Rattle.vx_group.specs.declared.inner.Inner.{Inner}
 use Rattle.vx_group.proofs.FailingLemmas.{wanted_flags}
 use Rattle.vx_group.proofs.ReadyLemmas.{kept_volumes, same_but}
@@ -140,11 +140,11 @@ same_narrows c d m volumes faults unsure = record {
   unsure = unsure;
 }
 
-module _ (core : Inner) (d : Config) (v p n : ℕ) (any : Bool) (m : Meaning) (stands : Stands core m) (is : Regained core.config d v p n any) where
+module _ (core : Inner) (d : Config) (v p n : ℕ) (any : Bool) (m : Meaning) (stands : InnerStands core m) (is : Regained core.config d v p n any) where
   abbrev held_core : Inner
   held_core = record { config = d; good = core.good; room = core.room; unsettled = true; committed = core.committed; agreed = core.agreed; next = core.next; faults = core.faults; unsure = core.unsure }
 
-  pub regained_Stands : Stands held_core m
+  pub regained_Stands : InnerStands held_core m
   regained_Stands = made held_core m (wanted_flags m.units m.size core.config d is.same.count is.blocks is.same.volumes is.same.rvg stands.wanted)
       (record {
         serial = let le = stands.serial in omega (arith, is.same.serial, le);
@@ -221,7 +221,7 @@ all_holds (Err error) is = tt
 
 -- ---- the flags are put back
 
-module _ (core e : Inner) (ds : List DiskEntry) (m m' : Meaning) (stands : Stands core m) (stands' : Stands e m') (is : ds ≡ core.config.disks) (count : length e.config.disks ≡ length core.config.disks)
+module _ (core e : Inner) (ds : List DiskEntry) (m m' : Meaning) (stands : InnerStands core m) (stands' : InnerStands e m') (is : ds ≡ core.config.disks) (count : length e.config.disks ≡ length core.config.disks)
     (blocks : (u : ℕ) → blocks_at e.config.disks u ≡ blocks_at core.config.disks u) (good : e.good ≡ core.good) (un : e.unsettled ≡ true) where
   abbrev config_back : Config
   config_back = record { serial = e.config.serial; site = e.config.site; disks = ds; volumes = e.config.volumes; rvg = e.config.rvg }
@@ -229,7 +229,7 @@ module _ (core e : Inner) (ds : List DiskEntry) (m m' : Meaning) (stands : Stand
   abbrev back : Inner
   back = record { config = config_back; good = e.good; room = e.room; unsettled = e.unsettled; committed = e.committed; agreed = e.agreed; next = e.next; faults = e.faults; unsure = e.unsure }
 
-  pub flags_back : Stands back m'
+  pub flags_back : InnerStands back m'
   flags_back = made back m'
       (wanted_flags m'.units m'.size e.config config_back (ap length is ∙ sym count) (λ u. ap (λ (xs : List DiskEntry). blocks_at xs u) is ∙ sym (blocks u)) refl refl stands'.wanted)
       (record { serial = stands'.serial; disks = let some = stands.disks in omega (arith, ap length is, some); rvg = (can_of e m' stands').rvg })

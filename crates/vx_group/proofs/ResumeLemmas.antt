@@ -9,7 +9,7 @@ use Rattle.vx_model.specs.declared.units.Units.{Units}
 use Rattle.vx_copyfmt.specs.Commits.{Counts}
 use Rattle.vx_copyfmt.specs.Imports.{Found}
 use Rattle.vx_copyfmt.proofs.Subs.{counts_sub}
-use Rattle.vx_config.specs.Checks.{blocks_of, group_or_none, is_group, is_sound, other_than, pairwise}
+use Rattle.vx_config.specs.Checks.{blocks_of, group_or_none, is_group, is_sound, other_than, pairwise, plexes_or}
 use Rattle.vx_config.specs.Configs.{CanSpell, UnitsFit}
 use Rattle.vx_config.specs.Table.{greatest}
 use Rattle.vx_config.specs.declared.config.Config.{Config}
@@ -22,7 +22,6 @@ use Rattle.vx_copies.specs.Marks.{HasGood}
 use Rattle.vx_copies.proofs.OneTry.{shelf_same, wanted_same}
 use Rattle.vx_copyio.specs.Labelling.{AreLarge}
 use Rattle.vx_layout.specs.Places.{plex_in}
-use Rattle.vx_volume.specs.Plexes.{plexes_or}
 use Rattle.vx_volume.proofs.PlaceLemmas.{count_few}
 use Rattle.vx_kept.specs.Choice.{live, live_or}
 use Rattle.vx_kept.specs.Commits.{Member}
@@ -38,12 +37,13 @@ use Rattle.vx_kept.proofs.Chosen.{live_volumes, place_volumes, same_extends}
 use Rattle.vx_kept.proofs.Facts.{to_fact}
 use Rattle.vx_kept.proofs.Low.{found_same}
 use Rattle.vx_kept.proofs.Narrower.{sound_chosen, stand_apart, wanted_sound}
+use Rattle.vx_kept.proofs.RunLemmas.{run_same, trust_from}
 use Rattle.vx_kept.proofs.StateLemmas.{same_shape}
 use Rattle.vx_kept.proofs.Lasting.{cases_bool, low_Acts}
 use Rattle.vx_kept.proofs.Steps.{group-Goes}
 use Rattle.vx_group.specs.Copying.{NoMember}
 use Rattle.vx_group.specs.Resumes.{CanImport}
-use Rattle.vx_group.specs.Stands.{Stands}
+use Rattle.vx_group.specs.Stands.{InnerStands}
 use Rattle.vx_group.specs.declared.inner.Inner.{Inner}
 use Rattle.vx_group.proofs.DetachLemmas.{some_good}
 use Rattle.vx_group.proofs.FoundLemmas.{found_wanted, wanted_back_again}
@@ -147,6 +147,8 @@ module _ (old new : Meaning) (law : Lawful old) (law' : Lawful new) (goes : Goes
     volumes = sym opens.alike.shape.volumes;
     blocks = λ v. sym (opens.alike.shape.blocks v);
     place = λ v p b. place_volumes x (returned R x) refl v p b ∙ sym (opens.alike.shape.place v p b);
+    logs = λ v log. run_same x (returned R x) v v log refl ∙ sym (opens.alike.shape.logs v log);
+    trusted = λ v log is. trust_from x c v v log (sym (opens.alike.logs v log)) is;
   }
 
   -- the configuration that was found is of its kind
@@ -230,10 +232,10 @@ module _ (old new : Meaning) (law : Lawful old) (law' : Lawful new) (goes : Goes
           let both : Found y ≡ Found x = sym (was_found (λ u. true) i ∙ is) ∙ can.one image i R x (seen_image (told_by i each)) (here i each) finds in
           cc
 
-  pub resumed_Stands : (core : Inner) → core.config ≡ c → core.good ≡ good_set x.disks → core.unsettled ≡ true → core.committed ≡ true → core.agreed ≡ true → length c.volumes ≤ 32 → ((v : ℕ) → blocks_of c.volumes v < 2 ^ 64) → c.serial ≤ greatest → HasGood c.disks (good_set x.disks) → Stands core new
+  pub resumed_Stands : (core : Inner) → core.config ≡ c → core.good ≡ good_set x.disks → core.unsettled ≡ true → core.committed ≡ true → core.agreed ≡ true → length c.volumes ≤ 32 → ((v : ℕ) → blocks_of c.volumes v < 2 ^ 64) → c.serial ≤ greatest → HasGood c.disks (good_set x.disks) → InnerStands core new
   resumed_Stands core config good un was_committed was_agreed few small serial some =
-      subst (λ (k : Config). Stands (record { config = k; good = core.good; room = core.room; unsettled = core.unsettled; committed = core.committed; agreed = core.agreed; next = core.next; faults = core.faults; unsure = core.unsure }) new) (sym config)
-      (subst (λ (s : ℕ). Stands (record { config = c; good = s; room = core.room; unsettled = core.unsettled; committed = core.committed; agreed = core.agreed; next = core.next; faults = core.faults; unsure = core.unsure }) new) (sym good) (record {
+      subst (λ (k : Config). InnerStands (record { config = k; good = core.good; room = core.room; unsettled = core.unsettled; committed = core.committed; agreed = core.agreed; next = core.next; faults = core.faults; unsure = core.unsure }) new) (sym config)
+      (subst (λ (s : ℕ). InnerStands (record { config = c; good = s; room = core.room; unsettled = core.unsettled; committed = core.committed; agreed = core.agreed; next = core.next; faults = core.faults; unsure = core.unsure }) new) (sym good) (record {
         wanted = c_wanted;
         serial = serial;
         disks = let below : some.disk < length c.disks = some.below in omega (arith, below);

@@ -16,7 +16,7 @@ use Rattle.vx_config.specs.declared.entry.VolumeEntry.{VolumeEntry}
 use Rattle.vx_layout.specs.Space.{AreLogs, IsShape}
 use Rattle.vx_layout.specs.declared.shape.Shape.{Shape}
 use Rattle.vx_group.specs.Dets.{margin}
-use Rattle.vx_group.specs.Makes.{has_name, is_shape, log_or, make_refusal}
+use Rattle.vx_group.specs.Makes.{has_name, is_shape, lost_log, make_refusal}
 
 none_of : (a b d e f : Bool) (n1 n2 n3 n4 n5 : No) → (if a then Some n1 else (if b then Some n2 else (if d then Some n3 else (if e then Some n4 else (if f then Some n5 else None))))) ≡ None
     → (a ≡ false) × (b ≡ false) × (d ≡ false) × (e ≡ false) × (f ≡ false)
@@ -119,10 +119,10 @@ log_long want used disks false true logs is = ap length is.1
 log_long want used disks true true logs is = ap length is.2
 
 abbrev pub drl_is : Bool → List Subdisk → Option LogEntry
-drl_is a logs = if a then log_or (slice_get logs 0) else None
+drl_is a logs = if a then lost_log (slice_get logs 0) else None
 
 abbrev pub fmr_is : Bool → Bool → List Subdisk → Option LogEntry
-fmr_is a b logs = if b then log_or (slice_get logs (if a then 1 else 0)) else None
+fmr_is a b logs = if b then lost_log (slice_get logs (if a then 1 else 0)) else None
 
 pub logs_are : (a b : Bool) (logs : List Subdisk) → length logs ≡ (if a then 1 else 0) + (if b then 1 else 0)
     → (is_some (drl_is a logs) ≡ a) × (is_some (fmr_is a b logs) ≡ b) × (log_runs (drl_is a logs) ++ log_runs (fmr_is a b logs) ≡ logs)

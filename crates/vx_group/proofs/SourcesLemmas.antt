@@ -13,7 +13,7 @@ use Rattle.vx_volume.specs.Volumes.{PlexBlamed}
 use Rattle.vx_volume.proofs.PlaceLemmas.{active_few}
 use Rattle.vx_group.specs.Attaches.{Attaches, CopyTried, SourcesTried}
 use Rattle.vx_group.specs.Blames.{Blames}
-use Rattle.vx_group.specs.Stands.{Stands}
+use Rattle.vx_group.specs.Stands.{InnerStands}
 use Rattle.vx_group.specs.declared.inner.Inner.{Inner}
 use Rattle.vx_group.proofs.AttachLemmas.{narrows_attaches, then_attaches}
 use Rattle.vx_group.proofs.RegainLemmas.{same_narrows}
@@ -36,10 +36,10 @@ tried_by c v source p device old new (Err (Fault disk)) why = (inr (why.0, why.1
 tried_by c v source p device old new (Err Down) down = down
 
 -- no call was made
-pub no_attaches : (v p : ℕ) (core : Inner) (m : Meaning) → Lawful m → Stands core m → Attaches v p core core m m
+pub no_attaches : (v p : ℕ) (core : Inner) (m : Meaning) → Lawful m → InnerStands core m → Attaches v p core core m m
 no_attaches v p core m lawful stands = narrows_attaches v p core core m m lawful stands (same_narrows core core m refl refl refl) (λ w q apart. refl)
 
-pub sources_start : (core : Inner) (v p device : ℕ) (m : Meaning) → Lawful m → Stands core m → (IsTrue m.down → ⊥) → SourcesTried core v p 0 device m m
+pub sources_start : (core : Inner) (v p device : ℕ) (m : Meaning) → Lawful m → InnerStands core m → (IsTrue m.down → ⊥) → SourcesTried core v p 0 device m m
 sources_start core v p device m lawful stands up = record {
   stands = stands;
   attaches = no_attaches v p core m lawful stands;
@@ -73,9 +73,9 @@ module _ (core : Inner) (v p n device : ℕ) (m0 m1 m2 : Meaning) (so_far : Sour
     all_attaches = then_attaches v p core core core m0 m1 m2 so_far.attaches one_more
 
     -- one plex more was tried
-    pub sources_next : (disk : ℕ) (error : ShelfError) → error ≡ Fault disk → Stands d m2 → CopyTried {T = Unit {0}} l.config v n p device m1 m2 (Err error) → SourcesTried core v p (n + 1) disk m0 m2
+    pub sources_next : (disk : ℕ) (error : ShelfError) → error ≡ Fault disk → InnerStands d m2 → CopyTried {T = Unit {0}} l.config v n p device m1 m2 (Err error) → SourcesTried core v p (n + 1) disk m0 m2
     sources_next disk error fault stands tried = record {
-      stands = subst (λ (x : Inner). Stands x m2) core_is stands;
+      stands = subst (λ (x : Inner). InnerStands x m2) core_is stands;
       attaches = all_attaches;
       up = here.1;
       tried = λ q lt is_on. elim (cases_lt q n) [

@@ -16,7 +16,7 @@ use Rattle.vx_copyio.specs.Labelling.{AreLarge}
 use Rattle.vx_layout.specs.Places.{disk_blocks}
 use Rattle.vx_volume.specs.Plexes.{DisksFit, SomeActive}
 use Rattle.vx_kept.specs.Commits.{Member}
-use Rattle.vx_kept.specs.Groups.{Apart, HasActive}
+use Rattle.vx_kept.specs.Groups.{PlacesApart, HasActive}
 use Rattle.vx_kept.specs.Keeping.{AllOn, IsTidy, Kept}
 use Rattle.vx_kept.proofs.Facts.{from_fact, from_tidy, to_fact, to_tidy}
 use Rattle.vx_kept.proofs.Committed.{fewer}
@@ -24,7 +24,7 @@ use Rattle.vx_kept.proofs.Lasting.{low_Kept}
 use Rattle.vx_kept.proofs.Narrower.{has_active, stand_apart, wanted_sound}
 use Rattle.vx_kept.specs.Trusts.{Trusts}
 use Rattle.vx_kept.proofs.Trusting.{less_trusts}
-use Rattle.vx_group.specs.Stands.{Stands}
+use Rattle.vx_group.specs.Stands.{InnerStands}
 use Rattle.vx_group.specs.declared.inner.Inner.{Inner}
 
 -- ---- a configuration that fits the shelf
@@ -59,7 +59,7 @@ disks_fit c m wanted =
 
 -- ---- what the core says
 
-module _ (core : Inner) (m : Meaning) (stands : Stands core m) where
+module _ (core : Inner) (m : Meaning) (stands : InnerStands core m) where
   pub sound_of : is_sound core.config ≡ true
   sound_of = wanted_sound m.units m.size core.config stands.wanted
 
@@ -75,7 +75,7 @@ module _ (core : Inner) (m : Meaning) (stands : Stands core m) where
   pub tidy_of : core.unsettled ≡ false → IsTidy core.config m
   tidy_of is = from_tidy core.config (Member core.good m) m stands.kept (stands.tidy is)
 
-  pub apart_of_core : Apart core.config
+  pub apart_of_core : PlacesApart core.config
   apart_of_core = stand_apart core.config sound_of
 
   pub active_of : HasActive core.config
@@ -87,7 +87,7 @@ module _ (core : Inner) (m : Meaning) (stands : Stands core m) where
 -- ---- from the parts
 
 pub made : (core : Inner) (m : Meaning) → is_wanted m.units m.size core.config ≡ true → CanSpell core.config → length core.config.volumes ≤ 32 → ((v : ℕ) → blocks_of core.config.volumes v < 2 ^ 64) → AreLarge m → AllOn core.config
-    → (NoneGood core.config.disks (length core.config.disks) core.good → ⊥) → Kept core.config (Member core.good m) m → (core.unsettled ≡ false → IsTidy core.config m) → Trusts core.committed core.agreed core.good m → Stands core m
+    → (NoneGood core.config.disks (length core.config.disks) core.good → ⊥) → Kept core.config (Member core.good m) m → (core.unsettled ≡ false → IsTidy core.config m) → Trusts core.committed core.agreed core.good m → InnerStands core m
 made core m wanted can few small large on some kept tidy trusts = record {
   wanted = wanted;
   serial = can.serial;
@@ -111,11 +111,11 @@ pub member_to : (good : ℕ) (m m' : Meaning) → m'.units ≡ m.units → (u : 
 member_to good m m' units u it = record { below = omega (arith, units, it.below); is = it.is }
 
 -- calls that write behind the configuration areas alone
-module _ (core : Inner) (W : Values) (m m' : Meaning) (goes : Goes W m m') (above : (u b : ℕ) (x : List ℕ) → W u b x → 512 ≤ b) (lawful : Lawful m) (lawful' : Lawful m') (stands : Stands core m) where
+module _ (core : Inner) (W : Values) (m m' : Meaning) (goes : Goes W m m') (above : (u b : ℕ) (x : List ℕ) → W u b x → 512 ≤ b) (lawful : Lawful m) (lawful' : Lawful m') (stands : InnerStands core m) where
   low_same : (u b : ℕ) (v : List ℕ) → b < 512 → m'.leaves u b v → m.leaves u b v
   low_same u b v lt left = ⊎_elim (λ was. was) (λ w. absurd (let le : 512 ≤ b = above u b v w in omega (arith, le, lt))) (goes.leaves u b v left)
 
-  pub low_Stands : Stands core m'
+  pub low_Stands : InnerStands core m'
   low_Stands = record {
     wanted = wanted_same m m' core.config goes.units goes.size stands.wanted;
     serial = stands.serial;

@@ -3,28 +3,28 @@ use Rattle.std.proofs.Common.{◌≡◌, inl, inr, ℕ, Bool, true, List, Result
 use Rattle.vx_disk.specs.Shelf.{Goes, Lawful, Meaning, Nothing}
 use Rattle.vx_model.specs.declared.errors.Stop.{Stop}
 use Rattle.vx_model.specs.declared.errors.Stop.TheVariants.{No as Refused, OutOfMemory}
-use Rattle.vx_copyfmt.specs.Imports.{Damaged, Format, Found, Missing, NoConfig, Outcome}
+use Rattle.vx_copyfmt.specs.Imports.{Damaged, Format, Found, Missing, NoConfig, ImportOutcome}
 use Rattle.vx_config.specs.Checks.{is_sound}
 use Rattle.vx_config.specs.declared.config.Config.{Config}
 use Rattle.vx_config.specs.declared.entry.DiskEntry.{DiskEntry}
-use Rattle.vx_copies.specs.Answers.{Imported, IsAnswer, answer_of, good_set, returned}
+use Rattle.vx_copies.specs.Answers.{Imported, IsAnswer, answer_to, good_set, returned}
 use Rattle.vx_copies.specs.Marks.{HasGood}
 use Rattle.vx_copyio.specs.Labelling.{AreLarge}
 use Rattle.vx_kept.specs.Groups.{found_by}
 use Rattle.vx_kept.proofs.Narrower.{wanted_sound}
-use Rattle.vx_group.specs.Resumes.{CanImport, IsPlan, Planned, Takes}
+use Rattle.vx_group.specs.Resumes.{CanImport, IsPlan, Planned, TakesPlan}
 use Rattle.vx_group.specs.declared.taking.Plan.{Plan}
 use Rattle.vx_group.proofs.FoundLemmas.{found_wanted, wanted_back_again}
 use Rattle.vx_group.proofs.ResumeLemmas.{resumed_Stands}
 
 -- what was answered came of this configuration
-pub record CameOf (R : ℕ → Bool) (o : Outcome Config) (y : Config) (good : ℕ) : Type 0 where
+pub record CameOf (R : ℕ → Bool) (o : ImportOutcome Config) (y : Config) (good : ℕ) : Type 0 where
   pub config : Config
   pub found : o ≡ Found config
   pub is : y ≡ returned R config
   pub set : good ≡ good_set config.disks
 
-came_of : (R : ℕ → Bool) (o : Outcome Config) (y : Config) (good : ℕ) → IsAnswer (answer_of R o) (Ok (y, good)) → CameOf R o y good
+came_of : (R : ℕ → Bool) (o : ImportOutcome Config) (y : Config) (good : ℕ) → IsAnswer (answer_to R o) (Ok (y, good)) → CameOf R o y good
 came_of R (Found x) y good (inl is) = absurd cc
 came_of R (Found x) y good (inr is) =
     let pair : (y, good) ≡ (returned R x, good_set x.disks) = cc in
@@ -53,7 +53,7 @@ module _ (old new : Meaning) (y : Config) (good : ℕ) (imported : Imported old 
     as_refused : (r : Result Plan Stop) → Planned y good r → Planned (returned imported.readable came.config) (good_set came.config.disks) r
     as_refused r made = subst (λ (s : ℕ). Planned (returned imported.readable came.config) s r) came.set (subst (λ (c : Config). Planned c good r) came.is made)
 
-    pub takes_all : (r : Result Plan Stop) → Planned y good r → Takes old new r
+    pub takes_all : (r : Result Plan Stop) → Planned y good r → TakesPlan old new r
     takes_all (Ok plan) planned =
         let made = as_plan plan planned in
         let alike = made.opens.alike in
@@ -77,6 +77,6 @@ module _ (old new : Meaning) (y : Config) (good : ℕ) (imported : Imported old 
     })
     takes_all (Err OutOfMemory) planned = tt
 
-pub err_takes : (old new : Meaning) (stop : Stop) → Imported old new (Err stop) → Takes old new (Err stop)
+pub err_takes : (old new : Meaning) (stop : Stop) → Imported old new (Err stop) → TakesPlan old new (Err stop)
 err_takes old new (Refused why) imported = inl imported
 err_takes old new OutOfMemory imported = tt

@@ -27,10 +27,10 @@ use Rattle.vx_group.specs.Calls.{GroupAttaches, GroupNarrows, members_by}
 use Rattle.vx_group.specs.Copying.{NoMember}
 use Rattle.vx_group.specs.GivesUp.{EachBlamed, GivesUp}
 use Rattle.vx_group.specs.Holding.{GroupStands, HeldAgain, HeldBack, config_by, wide}
-use Rattle.vx_group.specs.Loses.{Loses}
+use Rattle.vx_group.specs.Loses.{LosesPlexes}
 use Rattle.vx_group.specs.Moves.{Narrows}
 use Rattle.vx_group.specs.Regains.{HoldsPlex, Regains}
-use Rattle.vx_group.specs.Stands.{Stands, counted, meaning_of}
+use Rattle.vx_group.specs.Stands.{InnerStands, volume_faults, inner_meaning}
 use Rattle.vx_group.specs.declared.group_core.GroupCore.{GroupCore}
 use Rattle.vx_group.specs.declared.group_core.Held.{Held}
 use Rattle.vx_group.specs.declared.inner.Inner.{Inner}
@@ -59,8 +59,8 @@ two_Acts c d e m m1 m2 one two = wide_Acts (Or Nothing Nothing) Nothing (Sees c.
     (λ u b x. ⊎_elim (λ none. none) (λ none. none))
 
 module _ (c0 mid : GroupCore) (m m1 : Meaning) (stands : GroupStands c0 m) (narrows : Narrows (wide c0) (wide mid) m m1) (volumes : mid.inner.config.volumes ≡ c0.inner.config.volumes) where
-  pub released_goes : Lawful m1 → Goes Nothing (meaning_of (wide c0) m) (meaning_of (wide mid) m1)
-  released_goes lawful = narrows_Goes (wide c0) (wide mid) m m1 lawful stands.stands narrows (counted c0.inner.faults) (counted mid.inner.faults) (λ u. let same = ap (λ (f : List ℕ). counted f u) narrows.faults in omega (arith, same))
+  pub released_goes : Lawful m1 → Goes Nothing (inner_meaning (wide c0) m) (inner_meaning (wide mid) m1)
+  released_goes lawful = narrows_Goes (wide c0) (wide mid) m m1 lawful stands.stands narrows (volume_faults c0.inner.faults) (volume_faults mid.inner.faults) (λ u. let same = ap (λ (f : List ℕ). volume_faults f u) narrows.faults in omega (arith, same))
 
   pub released_active : (w q : ℕ) → active mid.inner.config w q ≡ active c0.inner.config w q
   released_active w q = active_volumes mid.inner.config c0.inner.config volumes w q
@@ -109,17 +109,17 @@ module _ {T : Type 0} (meaning : T → Meaning) (s s1 : T) (c0 mid : GroupCore) 
 -- ---- a call behind it
 
 module _ (c0 mid new : GroupCore) (x e : Inner) (m m1 m2 : Meaning) (x_is : x ≡ wide mid) (e_is : wide new ≡ e) where
-  pub through_goes : (W : Values) → Goes Nothing (meaning_of (wide c0) m) (meaning_of (wide mid) m1) → Goes W (meaning_of x m1) (meaning_of e m2) → Goes W (meaning_of (wide c0) m) (meaning_of (wide new) m2)
+  pub through_goes : (W : Values) → Goes Nothing (inner_meaning (wide c0) m) (inner_meaning (wide mid) m1) → Goes W (inner_meaning x m1) (inner_meaning e m2) → Goes W (inner_meaning (wide c0) m) (inner_meaning (wide new) m2)
   through_goes W released goes =
-      subst (λ (i : Inner). Goes W (meaning_of (wide c0) m) (meaning_of i m2)) (sym e_is)
-      (nothing_then W (meaning_of (wide c0) m) (meaning_of (wide mid) m1) (meaning_of e m2) released (subst (λ (i : Inner). Goes W (meaning_of i m1) (meaning_of e m2)) x_is goes))
+      subst (λ (i : Inner). Goes W (inner_meaning (wide c0) m) (inner_meaning i m2)) (sym e_is)
+      (nothing_then W (inner_meaning (wide c0) m) (inner_meaning (wide mid) m1) (inner_meaning e m2) released (subst (λ (i : Inner). Goes W (inner_meaning i m1) (inner_meaning e m2)) x_is goes))
 
   -- what an answered call is told to have done
-  pub through_ok : (IsTrue m1.down → ⊥) → Goes Nothing (meaning_of (wide c0) m) (meaning_of (wide mid) m1) → (P : Meaning → Meaning → Type 0)
-      → ((a b d : Meaning) → Goes Nothing a b → (IsTrue b.down → ⊥) → P b d → P a d) → P (meaning_of x m1) (meaning_of e m2) → P (meaning_of (wide c0) m) (meaning_of (wide new) m2)
+  pub through_ok : (IsTrue m1.down → ⊥) → Goes Nothing (inner_meaning (wide c0) m) (inner_meaning (wide mid) m1) → (P : Meaning → Meaning → Type 0)
+      → ((a b d : Meaning) → Goes Nothing a b → (IsTrue b.down → ⊥) → P b d → P a d) → P (inner_meaning x m1) (inner_meaning e m2) → P (inner_meaning (wide c0) m) (inner_meaning (wide new) m2)
   through_ok up1 released P later done =
-      subst (λ (i : Inner). P (meaning_of (wide c0) m) (meaning_of i m2)) (sym e_is)
-      (later (meaning_of (wide c0) m) (meaning_of (wide mid) m1) (meaning_of e m2) released up1 (subst (λ (i : Inner). P (meaning_of i m1) (meaning_of e m2)) x_is done))
+      subst (λ (i : Inner). P (inner_meaning (wide c0) m) (inner_meaning i m2)) (sym e_is)
+      (later (inner_meaning (wide c0) m) (inner_meaning (wide mid) m1) (inner_meaning e m2) released up1 (subst (λ (i : Inner). P (inner_meaning i m1) (inner_meaning e m2)) x_is done))
 
   module _ (narrows : Narrows (wide c0) (wide mid) m m1) (up : IsTrue m.down → ⊥) where
     x_faults : x.faults ≡ c0.inner.faults
@@ -128,11 +128,11 @@ module _ (c0 mid new : GroupCore) (x e : Inner) (m m1 m2 : Meaning) (x_is : x �
     e_faults : e.faults ≡ new.inner.faults
     e_faults = sym (ap (λ (i : Inner). i.faults) e_is)
 
-    pub through_cause : {T : Type 0} (v : ℕ) (r : Result T ShelfError) → Cause (meaning_of x m1) (meaning_of e m2) v r → Cause (meaning_of (wide c0) m) (meaning_of (wide new) m2) v r
+    pub through_cause : {T : Type 0} (v : ℕ) (r : Result T ShelfError) → Cause (inner_meaning x m1) (inner_meaning e m2) v r → Cause (inner_meaning (wide c0) m) (inner_meaning (wide new) m2) v r
     through_cause v (Ok y) cause = record { before = up; after = cause.after }
     through_cause v (Err (Fault disk)) cause = (
       record {
-        count = subst (λ (f : List ℕ). Rose (counted c0.inner.faults v) (counted f v)) e_faults (subst (λ (f : List ℕ). Rose (counted f v) (counted e.faults v)) x_faults (cause.0).count);
+        count = subst (λ (f : List ℕ). Rose (volume_faults c0.inner.faults v) (volume_faults f v)) e_faults (subst (λ (f : List ℕ). Rose (volume_faults f v) (volume_faults e.faults v)) x_faults (cause.0).count);
         disk_count = Rose_before (m.disk_faults disk) (m1.disk_faults disk) (m2.disk_faults disk) (narrows.acts.disk_faults disk) (cause.0).disk_count;
       },
       record { before = up; after = (cause.1).after },
@@ -145,7 +145,7 @@ again_wide : (o : Option Held) (c2 c3 : GroupCore) → c2.held ≡ None → Held
 again_wide None c2 c3 none same = ap wide same ∙ wide_none c2 none
 again_wide (Some h) c2 c3 none back = back_wide h.vol h.plex c2 c3 none back
 
-again_Stands : (o : Option Held) (c2 c3 : GroupCore) (m : Meaning) → c2.held ≡ None → HeldAgain o c2 c3 → Stands c2.inner m → GroupStands c3 m
+again_Stands : (o : Option Held) (c2 c3 : GroupCore) (m : Meaning) → c2.held ≡ None → HeldAgain o c2 c3 → InnerStands c2.inner m → GroupStands c3 m
 again_Stands None c2 c3 m none same stands = subst (λ (k : GroupCore). GroupStands k m) (sym same) (none_Stands c2 m none stands)
 again_Stands (Some h) c2 c3 m none back stands = back_Stands h.vol h.plex c2 c3 none back m stands
 
@@ -170,7 +170,7 @@ module _ (c0 mid c2 new : GroupCore) (x : Inner) (m m1 m2 : Meaning) (stands : G
   pub new_wide : wide new ≡ c2.inner
   new_wide = again_wide o c2 new none again
 
-  pub new_Stands : Stands c2.inner m2 → GroupStands new m2
+  pub new_Stands : InnerStands c2.inner m2 → GroupStands new m2
   new_Stands it = again_Stands o c2 new m2 none again it
 
   -- no state changed
@@ -211,7 +211,7 @@ module _ (c0 mid c2 new : GroupCore) (x : Inner) (m m1 m2 : Meaning) (stands : G
   )
   through_gives v (Err Down) gives = tt
 
-  pub through_loses : ((u : ℕ) → m1.faults u ≤ m2.faults u) → MoreFailed m m1 c0.inner.config.disks mid.inner.config.disks → Loses x.config c2.inner.config m1 m2 → Loses c0.inner.config new.inner.config m m2
+  pub through_loses : ((u : ℕ) → m1.faults u ≤ m2.faults u) → MoreFailed m m1 c0.inner.config.disks mid.inner.config.disks → LosesPlexes x.config c2.inner.config m1 m2 → LosesPlexes c0.inner.config new.inner.config m m2
   through_loses later failing loses = record {
     lies = λ w q u. again_uses o c2 new again w q u ∙ loses.lies w q u ∙ x_uses w q u;
     plexes = λ w q is. elim (loses.plexes w q (to_x w q is)) [

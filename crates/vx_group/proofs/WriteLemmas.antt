@@ -13,7 +13,7 @@ use Rattle.vx_kept.proofs.Lasting.{low_Acts}
 use Rattle.vx_kept.proofs.Steps.{both_Acts, inside_same, same_Acts, wide_Acts}
 use Rattle.vx_kept.proofs.Whole.{sees_back, whole_Goes, whole_Wrote}
 use Rattle.vx_group.specs.Moves.{AllFlushed, AllWrote, Narrows}
-use Rattle.vx_group.specs.Stands.{Stands, counted, meaning_of}
+use Rattle.vx_group.specs.Stands.{InnerStands, volume_faults, inner_meaning}
 use Rattle.vx_group.specs.declared.inner.Inner.{Inner}
 use Rattle.vx_group.proofs.Standing.{apart_of_core, kept_of, low_Stands}
 
@@ -21,12 +21,12 @@ use Rattle.vx_group.proofs.Standing.{apart_of_core, kept_of, low_Stands}
 pub no_commit : (core : Inner) (m : Meaning) → Narrows core core m m
 no_commit core m = record { acts = same_Acts (Sees core.config (Member core.good m) m) m; shape = same_shape core.config; on = λ v p is. is; faults = refl; unsure = refl }
 
-module _ (core : Inner) (v block : ℕ) (bytes : List ℕ) (m m' : Meaning) (before : Lawful m) (after : Lawful m') (stands : Stands core m) (fits : Fits (meaning_of core m) v block (length bytes))
+module _ (core : Inner) (v block : ℕ) (bytes : List ℕ) (m m' : Meaning) (before : Lawful m) (after : Lawful m') (stands : InnerStands core m) (fits : Fits (inner_meaning core m) v block (length bytes))
     (write : Goes (OnPlexes core.config v block (length bytes / 512) bytes) m m') where
   pub run_inside : (k : ℕ) → InRun block (length bytes / 512) k → Inside core.config v k
   run_inside k run = record { volume = fits.exists; within = let last : k < block + length bytes / 512 = run.last in omega (arith, last, fits.within) }
 
-  pub wrote_Stands : Stands core m'
+  pub wrote_Stands : InnerStands core m'
   wrote_Stands = low_Stands core (OnPlexes core.config v block (length bytes / 512) bytes) m m' write
       (λ u b x put. behind u b x put) before after stands
     where
@@ -38,16 +38,16 @@ module _ (core : Inner) (v block : ℕ) (bytes : List ℕ) (m m' : Meaning) (bef
           omega (arith, far, is)
 
   module _ (d : Inner) (last : Meaning) (lawful : Lawful last) (narrows : Narrows core d m' last) where
-    no_less : (u : ℕ) → counted core.faults u ≤ counted d.faults u
-    no_less u = let same : counted d.faults u ≡ counted core.faults u = ap (λ (f : List ℕ). counted f u) narrows.faults in omega (arith, same)
+    no_less : (u : ℕ) → volume_faults core.faults u ≤ volume_faults d.faults u
+    no_less u = let same : volume_faults d.faults u ≡ volume_faults core.faults u = ap (λ (f : List ℕ). volume_faults f u) narrows.faults in omega (arith, same)
 
-    pub wrote_Goes : Goes (Written v block bytes) (meaning_of core m) (meaning_of d last)
-    wrote_Goes = whole_Goes core.good core.config d.config v block bytes (counted core.faults) (counted d.faults) m m' last before after lawful (kept_of core m stands) (apart_of_core core m stands) run_inside fits.whole write
+    pub wrote_Goes : Goes (Written v block bytes) (inner_meaning core m) (inner_meaning d last)
+    wrote_Goes = whole_Goes core.good core.config d.config v block bytes (volume_faults core.faults) (volume_faults d.faults) m m' last before after lawful (kept_of core m stands) (apart_of_core core m stands) run_inside fits.whole write
         narrows.acts narrows.shape narrows.on no_less
 
     module _ (up : IsTrue last.down → ⊥) (wrote : (p : ℕ) → IsTrue (active d.config v p) → PlexWrote core.config v p block (length bytes / 512) block (length bytes / 512) bytes m m') where
-      pub wrote_Wrote : Wrote v block bytes (meaning_of core m) (meaning_of d last)
-      wrote_Wrote = whole_Wrote core.good core.config d.config v block bytes (counted core.faults) (counted d.faults) m m' last before after lawful (kept_of core m stands) (apart_of_core core m stands) run_inside fits.whole write
+      pub wrote_Wrote : Wrote v block bytes (inner_meaning core m) (inner_meaning d last)
+      wrote_Wrote = whole_Wrote core.good core.config d.config v block bytes (volume_faults core.faults) (volume_faults d.faults) m m' last before after lawful (kept_of core m stands) (apart_of_core core m stands) run_inside fits.whole write
           narrows.acts narrows.shape narrows.on no_less up wrote
 
       pub wrote_all : AllWrote d.config v block bytes m last
@@ -70,21 +70,21 @@ module _ (core : Inner) (v block : ℕ) (bytes : List ℕ) (m m' : Meaning) (bef
 
 -- ---- a flush
 
-module _ (core : Inner) (v : ℕ) (m m' : Meaning) (before : Lawful m) (after : Lawful m') (stands : Stands core m) (flush : Goes Nothing m m') where
-  pub flushed_Stands : Stands core m'
+module _ (core : Inner) (v : ℕ) (m m' : Meaning) (before : Lawful m) (after : Lawful m') (stands : InnerStands core m) (flush : Goes Nothing m m') where
+  pub flushed_Stands : InnerStands core m'
   flushed_Stands = low_Stands core Nothing m m' flush (λ u b x none. absurd none) before after stands
 
   -- whatever is counted
-  pub plain_Goes : (f' : ℕ → ℕ) → ((u : ℕ) → counted core.faults u ≤ f' u) → Goes Nothing (meaning_of core m) (group_meaning core.config f' m')
-  plain_Goes f' no_less = flush_Goes core.good core.config core.config v (counted core.faults) f' m m' m' before after after (kept_of core m stands) (apart_of_core core m stands) flush
+  pub plain_Goes : (f' : ℕ → ℕ) → ((u : ℕ) → volume_faults core.faults u ≤ f' u) → Goes Nothing (inner_meaning core m) (group_meaning core.config f' m')
+  plain_Goes f' no_less = flush_Goes core.good core.config core.config v (volume_faults core.faults) f' m m' m' before after after (kept_of core m stands) (apart_of_core core m stands) flush
       (same_Acts (Sees core.config (Member core.good m') m') m') (same_shape core.config) (λ w p is. is) no_less
 
   module _ (d : Inner) (last : Meaning) (lawful : Lawful last) (narrows : Narrows core d m' last) where
-    flush_less : (u : ℕ) → counted core.faults u ≤ counted d.faults u
-    flush_less u = let same : counted d.faults u ≡ counted core.faults u = ap (λ (f : List ℕ). counted f u) narrows.faults in omega (arith, same)
+    flush_less : (u : ℕ) → volume_faults core.faults u ≤ volume_faults d.faults u
+    flush_less u = let same : volume_faults d.faults u ≡ volume_faults core.faults u = ap (λ (f : List ℕ). volume_faults f u) narrows.faults in omega (arith, same)
 
-    pub flushed_Goes : Goes Nothing (meaning_of core m) (meaning_of d last)
-    flushed_Goes = flush_Goes core.good core.config d.config v (counted core.faults) (counted d.faults) m m' last before after lawful (kept_of core m stands) (apart_of_core core m stands) flush
+    pub flushed_Goes : Goes Nothing (inner_meaning core m) (inner_meaning d last)
+    flushed_Goes = flush_Goes core.good core.config d.config v (volume_faults core.faults) (volume_faults d.faults) m m' last before after lawful (kept_of core m stands) (apart_of_core core m stands) flush
         narrows.acts narrows.shape narrows.on flush_less
 
     pub flushed_Narrows : Narrows core d m last
@@ -100,8 +100,8 @@ module _ (core : Inner) (v : ℕ) (m m' : Meaning) (before : Lawful m) (after : 
     }
 
     module _ (flushed : (p : ℕ) → IsTrue (active d.config v p) → PlexFlushed core.config v p m m') where
-      pub flushed_Flushed : Flushed v (meaning_of core m) (meaning_of d last)
-      flushed_Flushed = flush_Flushed core.good core.config d.config v (counted core.faults) (counted d.faults) m m' last before after lawful (kept_of core m stands) (apart_of_core core m stands) flush
+      pub flushed_Flushed : Flushed v (inner_meaning core m) (inner_meaning d last)
+      flushed_Flushed = flush_Flushed core.good core.config d.config v (volume_faults core.faults) (volume_faults d.faults) m m' last before after lawful (kept_of core m stands) (apart_of_core core m stands) flush
           narrows.acts narrows.shape narrows.on flush_less (λ p b x is_on in_it left. (flushed p is_on).each b x in_it left)
 
       pub flushed_all : AllFlushed d.config v m last

@@ -7,11 +7,11 @@ use Rattle.vx_disk.specs.Blocks.{bit_at}
 use Rattle.vx_disk.specs.Shelf.{Goes, Meaning, Nothing, Or, piece}
 use Rattle.vx_disk.specs.declared.shelf.ShelfError.TheVariants.{Fault}
 use Rattle.vx_disk.proofs.Runs.{both_Goes, same_Goes, weaker}
-use Rattle.vx_wire.specs.Fields.{zeros}
+use Rattle.vx_wire.specs.Fields.{zero_bytes}
 use Rattle.vx_config.specs.Checks.{blocks_of}
 use Rattle.vx_config.specs.declared.config.Config.{Config}
 use Rattle.vx_volume.specs.Plexes.{InRun, Inside}
-use Rattle.vx_volume.specs.Volumes.{AllBut, LastFailed, OnPlexes, PlexFlushed, PlexWrote}
+use Rattle.vx_volume.specs.Volumes.{AllBut, LastPlexFailed, OnPlexes, PlexFlushed, PlexWrote}
 use Rattle.vx_volume.specs.declared.sets.Failed.{Failed}
 use Rattle.vx_group.specs.Blames.{Blames}
 use Rattle.vx_group.specs.Makes.{AreZero, EachFlushed, ZeroBelow, ZeroLoop, ZeroRun, ZerosOn}
@@ -19,21 +19,21 @@ use Rattle.vx_group.proofs.DetachLemmas.{zero_bit}
 
 -- ---- a run
 
-piece_zero : (block count k : ℕ) → block ≤ k → k < block + count → piece block (zeros (512 * count)) k ≡ zeros 512
+piece_zero : (block count k : ℕ) → block ≤ k → k < block + count → piece block (zero_bytes (512 * count)) k ≡ zero_bytes 512
 piece_zero block count k first last =
     ap (take 512) (drop-replicate (512 * (k - block)) (512 * count) 0) ∙ take-replicate 512 (512 * count - 512 * (k - block)) 0 (omega (arith, first, last))
 
 pub inside_run : (c : Config) (v block count k : ℕ) → v < length c.volumes → block + count ≤ blocks_of c.volumes v → InRun block count k → Inside c v k
 inside_run c v block count k volume within run = record { volume = volume; within = let last : k < block + count = run.last in omega (arith, last, within) }
 
-pub run_is : (count : ℕ) → count ≤ 16 → take (512 * count) (replicate 8192 0) ≡ zeros (512 * count)
+pub run_is : (count : ℕ) → count ≤ 16 → take (512 * count) (replicate 8192 0) ≡ zero_bytes (512 * count)
 run_is count few = take-replicate (512 * count) 8192 0 (omega (arith, few))
 
-module _ (c : Config) (v block count : ℕ) (bytes : List ℕ) (old new : Meaning) (is : bytes ≡ zeros (512 * count)) (volume : v < length c.volumes) (within : block + count ≤ blocks_of c.volumes v) where
+module _ (c : Config) (v block count : ℕ) (bytes : List ℕ) (old new : Meaning) (is : bytes ≡ zero_bytes (512 * count)) (volume : v < length c.volumes) (within : block + count ≤ blocks_of c.volumes v) where
   n : length bytes / 512 ≡ count
   n = let long : length bytes ≡ 512 * count = ap length is ∙ length-replicate {A = ℕ} (512 * count) 0 in omega (arith, long)
 
-  value_of : (k : ℕ) (x : List ℕ) → InRun block (length bytes / 512) k → x ≡ piece block bytes k → x ≡ zeros 512
+  value_of : (k : ℕ) (x : List ℕ) → InRun block (length bytes / 512) k → x ≡ piece block bytes k → x ≡ zero_bytes 512
   value_of k x run at =
       let last : k < block + length bytes / 512 = run.last in
       at ∙ ap (λ (b : List ℕ). piece block b k) is ∙ piece_zero block count k run.first (omega (arith, last, n))
@@ -57,7 +57,7 @@ module _ (c : Config) (v block count : ℕ) (bytes : List ℕ) (old new : Meanin
   }
 
 -- some plex failed
-pub some_failed : (failed : Failed) (old new : Meaning) → (failed.set ≡ 0 → ⊥) → LastFailed failed old new → (IsTrue new.down → ⊥) → Blames {T = Unit {0}} old new (Err (Fault failed.disk))
+pub some_failed : (failed : Failed) (old new : Meaning) → (failed.set ≡ 0 → ⊥) → LastPlexFailed failed old new → (IsTrue new.down → ⊥) → Blames {T = Unit {0}} old new (Err (Fault failed.disk))
 some_failed failed old new some last up = (last.rose (omega (arith, some)), up)
 
 pub each_flushed : (c : Config) (v : ℕ) (failed : Failed) (old new : Meaning) → failed.set ≡ 0 → AllBut c v (bit_at failed.set) (λ p. PlexFlushed c v p old new) old new → EachFlushed c v old new

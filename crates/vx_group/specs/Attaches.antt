@@ -11,17 +11,17 @@ use Rattle.vx_model.specs.declared.no.No.{No}
 use Rattle.vx_model.specs.declared.no.No.TheVariants.{Limit, Unknown}
 use Rattle.vx_model.specs.declared.site.PlexState.TheVariants.{Active}
 use Rattle.vx_config.specs.Changes.{stated}
-use Rattle.vx_config.specs.Checks.{blocks_of}
+use Rattle.vx_config.specs.Checks.{blocks_of, plexes_of}
 use Rattle.vx_config.specs.Table.{greatest}
 use Rattle.vx_config.specs.declared.config.Config.{Config}
 use Rattle.vx_volume.specs.Copies.{OnCopy}
-use Rattle.vx_volume.specs.Plexes.{active, plexes_of}
+use Rattle.vx_volume.specs.Plexes.{active}
 use Rattle.vx_volume.specs.Volumes.{PlexBlamed}
 use Rattle.vx_kept.specs.Commits.{IsCommitted}
 use Rattle.vx_kept.specs.Keeping.{Acts, SameShape}
 use Rattle.vx_group.specs.Dets.{margin}
 use Rattle.vx_group.specs.GivesUp.{NoCommit}
-use Rattle.vx_group.specs.Stands.{Stands, meaning_of}
+use Rattle.vx_group.specs.Stands.{InnerStands, inner_meaning}
 use Rattle.vx_group.specs.declared.inner.Inner.{Inner}
 
 -- The first refusal that holds: no such volume, no such plex, too few serials.
@@ -52,7 +52,7 @@ AnyImage i = Unit {0}
 -- Each volume reads as before, at every moment and in every image; only blocks of this plex were written beside those of the configuration, and no other
 -- plex changed its state.
 pub record Attaches (v p : ℕ) (c d : Inner) (old new : Meaning) : Type 0 where
-  pub goes : Goes Nothing (meaning_of c old) (meaning_of d new)
+  pub goes : Goes Nothing (inner_meaning c old) (inner_meaning d new)
   pub acts : Acts (OnCopy c.config v p) AnyImage old new
   pub shape : SameShape d.config c.config
   pub others : (w q : ℕ) → (w ≡ v → q ≡ p → ⊥) → active d.config w q ≡ active c.config w q
@@ -74,7 +74,7 @@ CopyTried c v source p device old new (Err Down) = IsTrue new.down
 
 -- Each plex of the volume that is ACTIVE and below n was tried as the source of a copy, and the copy failed.
 pub record SourcesTried (core : Inner) (v p n device : ℕ) (old new : Meaning) : Type 0 where
-  pub stands : Stands core new
+  pub stands : InnerStands core new
   pub attaches : Attaches v p core core old new
   pub up : IsTrue new.down → ⊥
   pub tried : (q : ℕ) → q < n → IsTrue (active core.config v q) → (PlexBlamed core.config v q old new ⊎ PlexBlamed core.config v p old new) × Rose (old.disk_faults device) (new.disk_faults device)

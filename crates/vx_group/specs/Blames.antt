@@ -31,26 +31,26 @@ pub record Raised (v : ℕ) (old new : ℕ → ℕ) : Type 0 where
   pub no_less : (u : ℕ) → old u ≤ new u
   pub others : (u : ℕ) → u ≢ v → new u ≡ old u
 
-abbrev pub Counts : ShelfError → ℕ → (ℕ → ℕ) → (ℕ → ℕ) → Type 0
-Counts (Fault disk) v old new = Raised v old new
-Counts Down v old new = (u : ℕ) → new u ≡ old u
+abbrev pub CountsRise : ShelfError → ℕ → (ℕ → ℕ) → (ℕ → ℕ) → Type 0
+CountsRise (Fault disk) v old new = Raised v old new
+CountsRise Down v old new = (u : ℕ) → new u ≡ old u
 
 -- a fault comes only where the count of its disk rose, and Down only where the shelf is then down; what Ok leaves is not said
-abbrev pub StopsBy : {T : Type 0} → Meaning → Meaning → Result T ShelfError → Type 0
-StopsBy old new (Ok x) = Unit {0}
-StopsBy old new (Err (Fault disk)) = Rose (old.disk_faults disk) (new.disk_faults disk) × (IsTrue new.down → ⊥)
-StopsBy old new (Err Down) = IsTrue new.down
+abbrev pub StopsByDevice : {T : Type 0} → Meaning → Meaning → Result T ShelfError → Type 0
+StopsByDevice old new (Ok x) = Unit {0}
+StopsByDevice old new (Err (Fault disk)) = Rose (old.disk_faults disk) (new.disk_faults disk) × (IsTrue new.down → ⊥)
+StopsByDevice old new (Err Down) = IsTrue new.down
 
 -- a volume is marked as unsure, and no other mark changed
-pub record Marked (v : ℕ) (old new : List Bool) : Type 0 where
+pub record MarkedUnsure (v : ℕ) (old new : List Bool) : Type 0 where
   pub here : slice_index_or new v false ≡ true
   pub others : (u : ℕ) → u ≢ v → slice_index_or new u false ≡ slice_index_or old u false
 
-abbrev pub Marks : ShelfError → ℕ → List Bool → List Bool → Type 0
-Marks (Fault disk) v old new = Marked v old new
-Marks Down v old new = new ≡ old
+abbrev pub MarksUnsure : ShelfError → ℕ → List Bool → List Bool → Type 0
+MarksUnsure (Fault disk) v old new = MarkedUnsure v old new
+MarksUnsure Down v old new = new ≡ old
 
 -- a write or a flush of a volume marks it exactly where it fails with a fault
 abbrev pub MarksOn : {T : Type 0} → ℕ → List Bool → List Bool → Result T ShelfError → Type 0
 MarksOn v old new (Ok x) = new ≡ old
-MarksOn v old new (Err error) = Marks error v old new
+MarksOn v old new (Err error) = MarksUnsure error v old new

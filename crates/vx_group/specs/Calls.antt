@@ -15,12 +15,12 @@ use Rattle.vx_kept.specs.Groups.{group_meaning}
 use Rattle.vx_kept.specs.Keeping.{Acts, Extends, SameShape, Sees}
 use Rattle.vx_group.specs.Attaches.{AnyImage}
 use Rattle.vx_group.specs.Copying.{NoMember}
-use Rattle.vx_group.specs.Creates.{IsNew}
+use Rattle.vx_group.specs.Creates.{IsNewGroup}
 use Rattle.vx_group.specs.Deports.{DeportedBy}
 use Rattle.vx_group.specs.Holding.{GroupStands, config_by, wide}
 use Rattle.vx_group.specs.Imports.{ImportStops, Resumed}
 use Rattle.vx_group.specs.Quiesces.{NoVolume, QuiescesBy}
-use Rattle.vx_group.specs.Stands.{counted, meaning_of}
+use Rattle.vx_group.specs.Stands.{volume_faults, inner_meaning}
 use Rattle.vx_group.specs.declared.group_core.GroupCore.{GroupCore}
 use Rattle.vx_group.specs.declared.group_core.Held.{Held}
 
@@ -41,7 +41,7 @@ pub record GroupNarrows (c d : GroupCore) (old new : Meaning) : Type 0 where
 -- Each volume reads as before, at every moment and in every image; only blocks of this plex were written beside those of the configuration, and no other
 -- plex changed its state.
 pub record GroupAttaches (v p : ℕ) (c d : GroupCore) (old new : Meaning) : Type 0 where
-  pub goes : Goes Nothing (meaning_of (wide c) old) (meaning_of (wide d) new)
+  pub goes : Goes Nothing (inner_meaning (wide c) old) (inner_meaning (wide d) new)
   pub acts : Acts (OnCopy c.inner.config v p) AnyImage old new
   pub shape : SameShape d.inner.config c.inner.config
   pub others : (w q : ℕ) → (w ≡ v → q ≡ p → ⊥) → active d.inner.config w q ≡ active c.inner.config w q
@@ -50,7 +50,7 @@ pub record GroupAttaches (v p : ℕ) (c d : GroupCore) (old new : Meaning) : Typ
 
 -- The volumes that stood read as before, and their images are those of before; so are their plexes, and what is counted of them.
 pub record GroupStays (c d : GroupCore) (old new : Meaning) : Type 0 where
-  pub goes : Goes Nothing (meaning_of (wide c) old) (group_meaning (config_by d.held c.inner.config) (counted d.inner.faults) new)
+  pub goes : Goes Nothing (inner_meaning (wide c) old) (group_meaning (config_by d.held c.inner.config) (volume_faults d.inner.faults) new)
   pub shape : Extends d.inner.config c.inner.config
   pub on : (v p : ℕ) → v < length c.inner.config.volumes → active d.inner.config v p ≡ active c.inner.config v p
   pub faults : d.inner.faults ≡ c.inner.faults
@@ -78,7 +78,7 @@ IsFull c s core shelf (Err (g, stop)) = (stop ≡ Refused (Limit Numbers greates
 
 -- what is answered where a group is made, of which no plex is held back; else the shelf is handed back
 abbrev pub GroupCreated : {S G : Type 0} → ℕ → Meaning → (S → Meaning) → (G → GroupCore) → (G → S) → Result G (S × Stop) → Type 0
-GroupCreated site old meaning core shelf (Ok g) = IsNew site (core g).inner (meaning (shelf g)) × ((core g).held ≡ None)
+GroupCreated site old meaning core shelf (Ok g) = IsNewGroup site (core g).inner (meaning (shelf g)) × ((core g).held ≡ None)
 GroupCreated site old meaning core shelf (Err (s, Refused why)) = (HasSmall old × (why ≡ Size)) ⊎ DeviceCause old (meaning s) why
 GroupCreated site old meaning core shelf (Err (s, OutOfMemory)) = Unit {0}
 

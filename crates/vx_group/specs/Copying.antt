@@ -6,8 +6,8 @@ use Rattle.vx_config.specs.declared.config.Config.{Config}
 use Rattle.vx_layout.specs.Places.{place}
 use Rattle.vx_volume.specs.Plexes.{InRun, Inside, active}
 use Rattle.vx_kept.specs.Keeping.{Acts, SameShape, Sees}
-use Rattle.vx_group.specs.Loses.{Loses}
-use Rattle.vx_group.specs.Stands.{Stands}
+use Rattle.vx_group.specs.Loses.{LosesPlexes}
+use Rattle.vx_group.specs.Stands.{InnerStands}
 use Rattle.vx_group.specs.declared.inner.Inner.{Inner}
 
 -- no disk
@@ -24,19 +24,19 @@ pub record FromSource (c : Config) (v source : ℕ) (m : Meaning) (u b : ℕ) (x
   pub value : IsTrue m.tells → m.reads (place c v source number).0 (place c v source number).1 x
 
 -- no commit was made, or the count of some disk rose; and each plex that is not ACTIVE any more failed
-pub record Spent (c d : Config) (old new : Meaning) : Type 0 where
+pub record SpentBy (c d : Config) (old new : Meaning) : Type 0 where
   pub any : (d ≡ c) ⊎ ((disk : ℕ) × Rose (old.disk_faults disk) (new.disk_faults disk))
-  pub loses : Loses c d old new
+  pub loses : LosesPlexes c d old new
 
 -- Blocks of the volume were written as the source read them, and plexes that failed detached; no plex is ACTIVE that was not.
 pub record CopyMoved (core : Inner) (v source : ℕ) (d : Inner) (old new : Meaning) : Type 0 where
-  pub stands : Stands d new
+  pub stands : InnerStands d new
   pub shape : SameShape d.config core.config
   pub on : (w p : ℕ) → IsTrue (active d.config w p) → IsTrue (active core.config w p)
   pub others : (w p : ℕ) → (w ≡ v → ⊥) → active d.config w p ≡ active core.config w p
   pub faults : d.faults ≡ core.faults
   pub unsure : d.unsure ≡ core.unsure
-  pub spent : Spent core.config d.config old new
+  pub spent : SpentBy core.config d.config old new
   pub acts : Acts (FromSource core.config v source old) (Sees core.config NoMember old) old new
 
 -- Of these blocks each plex that is ACTIVE reads one value, which the source read; every other block reads as it did.

@@ -9,7 +9,7 @@ use Rattle.vx_copies.specs.Commits.{HaveLabels}
 use Rattle.vx_copyio.specs.Labelling.{HasSmall}
 use Rattle.vx_copyio.specs.Settling.{AllCleared}
 use Rattle.vx_kept.specs.Trusts.{HasFailed}
-use Rattle.vx_group.specs.Stands.{Stands}
+use Rattle.vx_group.specs.Stands.{InnerStands}
 use Rattle.vx_group.specs.declared.inner.Inner.{Inner}
 
 -- the same units
@@ -18,26 +18,26 @@ pub record SameUnits (old new : Meaning) : Type 0 where
   pub size : (u : ℕ) → new.size u ≡ old.size u
 
 -- each disk has a label and no header
-pub record Prepared (old new : Meaning) : Type 0 where
+pub record PreparedDisks (old new : Meaning) : Type 0 where
   pub same : SameUnits old new
   pub cleared : AllCleared new.units new
   pub labels : HaveLabels new
 
 -- the disks are ready for a first commit, or a call on one failed
 abbrev pub IsReady : {T : Type 0} → Meaning → Meaning → Result T Stop → Type 0
-IsReady old new (Ok x) = Prepared old new
+IsReady old new (Ok x) = PreparedDisks old new
 IsReady old new (Err (Refused why)) = DeviceCause old new why
 IsReady old new (Err OutOfMemory) = Unit {0}
 
 -- a group without volumes stands on the disks, and imports agree unless a disk is held as failed
-pub record IsNew (site : ℕ) (core : Inner) (m : Meaning) : Type 0 where
-  pub stands : Stands core m
+pub record IsNewGroup (site : ℕ) (core : Inner) (m : Meaning) : Type 0 where
+  pub stands : InnerStands core m
   pub site_is : core.config.site ≡ site
   pub volumes : core.config.volumes ≡ []
   pub trust : (core.committed ≡ true) ⊎ HasFailed core.config.disks
 
 -- what is answered where a group is made
 abbrev pub Created : ℕ → Meaning → Meaning → Result Inner Stop → Type 0
-Created site old new (Ok core) = IsNew site core new
+Created site old new (Ok core) = IsNewGroup site core new
 Created site old new (Err (Refused why)) = (HasSmall old × (why ≡ Size)) ⊎ DeviceCause old new why
 Created site old new (Err OutOfMemory) = Unit {0}

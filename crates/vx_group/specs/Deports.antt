@@ -7,8 +7,8 @@ use Rattle.vx_model.specs.declared.errors.Stop.TheVariants.{No as Refused, OutOf
 use Rattle.vx_config.specs.declared.config.Config.{Config}
 use Rattle.vx_copyfmt.specs.Imports.{Found, settle}
 use Rattle.vx_copies.specs.Bodies.{failed_in}
-use Rattle.vx_copies.specs.Commits.{Held, MoreFailed, Silent}
-use Rattle.vx_kept.specs.Cleans.{at_serial, cleaned, marked}
+use Rattle.vx_copies.specs.Commits.{HeldGood, MoreFailed, Silent}
+use Rattle.vx_kept.specs.Cleans.{at_serial, cleaned, is_unsure}
 use Rattle.vx_kept.specs.Commits.{Member}
 use Rattle.vx_kept.specs.Facts.{KeptFact}
 use Rattle.vx_kept.specs.Groups.{found, found_by}
@@ -19,7 +19,7 @@ use Rattle.vx_volume.specs.Plexes.{active}
 use Rattle.vx_group.specs.Moves.{Narrows}
 use Rattle.vx_group.specs.Quiesces.{GivenBack, QuiescesBy, SameParts}
 use Rattle.vx_group.specs.Resumes.{CanImport}
-use Rattle.vx_group.specs.Stands.{Stands}
+use Rattle.vx_group.specs.Stands.{InnerStands}
 use Rattle.vx_group.specs.declared.inner.Inner.{Inner}
 
 -- Whatever a crash leaves, an import that can read all disks finds one configuration: that of the group, with each plex that was ACTIVE
@@ -28,20 +28,20 @@ use Rattle.vx_group.specs.declared.inner.Inner.{Inner}
 pub record CleanCommitted (c : Inner) (old new : Meaning) : Type 0 where
   pub config : Config
   pub finds : (i : Image) → Each new.leaves i → found new i ≡ Found config
-  pub reads : (i : Image) (readable : ℕ → Bool) (g : ℕ) → Each new.leaves i → Held config new g → readable g ≡ true → found_by new readable i ≡ settle failed_in new.units readable config
+  pub reads : (i : Image) (readable : ℕ → Bool) (g : ℕ) → Each new.leaves i → HeldGood config new g → readable g ≡ true → found_by new readable i ≡ settle failed_in new.units readable config
   pub site : config.site ≡ c.config.site
   pub rvg : config.rvg ≡ c.config.rvg
   pub count : length config.disks ≡ length c.config.disks
   pub volumes : config.volumes ≡ (cleaned c.unsure c.config (length c.config.volumes)).volumes
-  pub off : (v p : ℕ) → marked c.unsure v ≡ false → active config v p ≡ false
+  pub off : (v p : ℕ) → is_unsure c.unsure v ≡ false → active config v p ≡ false
   pub failing : MoreFailed old new c.config.disks config.disks
   pub acts : Acts Nothing (Sees c.config (Member c.good old) old) old new
-  pub kept : KeptFact (at_serial config.serial c.config) (Held config new) new
+  pub kept : KeptFact (at_serial config.serial c.config) (HeldGood config new) new
   pub trusts : c.committed ≡ true → Trusts true true (good_set config.disks) new
 
 -- the group stands as it was, but for its serial and disks that failed
 pub record CommitMissed (c d : Inner) (old new : Meaning) : Type 0 where
-  pub stands : Stands d new
+  pub stands : InnerStands d new
   pub narrows : Narrows c d old new
   pub volumes : d.config.volumes ≡ c.config.volumes
   pub disks : d.config.disks ≡ c.config.disks
@@ -63,12 +63,12 @@ pub record DeportedBy (by : Config) (c : Inner) (old new : Meaning) : Type 0 whe
   pub quiesces : QuiescesBy by c behind (IsVolumeOf c) old new
   pub config : Config
   pub finds : (i : Image) → Each new.leaves i → found new i ≡ Found config
-  pub reads : (i : Image) (readable : ℕ → Bool) (g : ℕ) → Each new.leaves i → Held config new g → readable g ≡ true → found_by new readable i ≡ settle failed_in new.units readable config
+  pub reads : (i : Image) (readable : ℕ → Bool) (g : ℕ) → Each new.leaves i → HeldGood config new g → readable g ≡ true → found_by new readable i ≡ settle failed_in new.units readable config
   pub parts : SameParts c.config config
   pub volumes : config.volumes ≡ (cleaned behind.unsure behind.config (length c.config.volumes)).volumes
-  pub off : (v p : ℕ) → marked behind.unsure v ≡ false → active config v p ≡ false
+  pub off : (v p : ℕ) → is_unsure behind.unsure v ≡ false → active config v p ≡ false
   pub failing : MoreFailed old new c.config.disks config.disks
-  pub kept : KeptFact (at_serial config.serial behind.config) (Held config new) new
+  pub kept : KeptFact (at_serial config.serial behind.config) (HeldGood config new) new
   pub trusts : c.committed ≡ true → Trusts true true (good_set config.disks) new
 
 -- the same of a group that goes by its own configuration

@@ -1,5 +1,6 @@
 -- When a plex may not be detached.
 use Rattle.std.specs.Prelude.{ℕ, zero, suc, ◌-◌, Bool, false, not, ◌&&◌, ◌||◌, ◌==◌, nat_le, nat_lt, if◌then◌else◌, Option, Some, None, Result, Ok, Err, length}
+use Rattle.vx_config.specs.Checks.{plexes_of}
 use Rattle.vx_disk.specs.Causes.{DeviceCause}
 use Rattle.vx_disk.specs.Shelf.{Meaning}
 use Rattle.vx_model.specs.declared.errors.Stop.{Stop}
@@ -10,7 +11,7 @@ use Rattle.vx_model.specs.declared.no.No.{No}
 use Rattle.vx_model.specs.declared.no.No.TheVariants.{LastPlex, Limit, Unknown}
 use Rattle.vx_config.specs.Table.{greatest}
 use Rattle.vx_config.specs.declared.config.Config.{Config}
-use Rattle.vx_volume.specs.Plexes.{active, plexes_of}
+use Rattle.vx_volume.specs.Plexes.{active}
 
 -- one of the first n numbers passes
 abbrev pub any_below : (ℕ → Bool) → ℕ → Bool

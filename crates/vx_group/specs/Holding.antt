@@ -3,13 +3,13 @@ use Rattle.std.specs.Prelude.{◌≡◌, ◌⊎◌, ℕ, true, false, IsTrue, Op
 use Rattle.vx_disk.specs.Shelf.{Meaning}
 use Rattle.vx_model.specs.declared.site.PlexState.TheVariants.{Active}
 use Rattle.vx_config.specs.Changes.{stated, with_volumes}
-use Rattle.vx_config.specs.Checks.{is_sound}
+use Rattle.vx_config.specs.Checks.{is_sound, plexes_of}
 use Rattle.vx_config.specs.declared.config.Config.{Config}
 use Rattle.vx_config.specs.declared.entry.VolumeEntry.{VolumeEntry}
-use Rattle.vx_volume.specs.Plexes.{active, plexes_of}
+use Rattle.vx_volume.specs.Plexes.{active}
 use Rattle.vx_kept.specs.States.{stale_at, whole_of}
 use Rattle.vx_group.specs.Dets.{any_below, is_other}
-use Rattle.vx_group.specs.Stands.{Stands}
+use Rattle.vx_group.specs.Stands.{InnerStands}
 use Rattle.vx_group.specs.declared.group_core.GroupCore.{GroupCore}
 use Rattle.vx_group.specs.declared.group_core.Held.{Held}
 use Rattle.vx_group.specs.declared.inner.Inner.{Inner}
@@ -43,18 +43,18 @@ pub record IsHeld (c : Config) (v p : ℕ) : Type 0 where
 
 -- The group stands on the disks as they may keep it, and holds back a plex that is STALE in memory, or none.
 pub record GroupStands (core : GroupCore) (m : Meaning) : Type 0 where
-  pub stands : Stands (wide core) m
+  pub stands : InnerStands (wide core) m
   pub held : (h : Held) → core.held ≡ Some h → IsHeld core.inner.config h.vol h.plex
 
 -- with the plex held back
-abbrev pub holding : ℕ → ℕ → GroupCore → GroupCore
-holding v p c = record { inner = with_config (stale_at v p c.inner.config) c.inner; held = Some (record { vol = v; plex = p }) }
+abbrev pub holding_plex : ℕ → ℕ → GroupCore → GroupCore
+holding_plex v p c = record { inner = with_config (stale_at v p c.inner.config) c.inner; held = Some (record { vol = v; plex = p }) }
 
 -- a plex that is ACTIVE beside another one is held back; where it is not, or is the only one, nothing changes
 abbrev pub HeldBack : ℕ → ℕ → GroupCore → GroupCore → Type 0
 HeldBack v p c d =
     ((d ≡ c) × (IsTrue (active c.inner.config v p) → any_below (is_other c.inner.config v p) (plexes_of c.inner.config v) ≡ false))
-    ⊎ ((d ≡ holding v p c) × IsTrue (active c.inner.config v p) × (any_below (is_other c.inner.config v p) (plexes_of c.inner.config v) ≡ true))
+    ⊎ ((d ≡ holding_plex v p c) × IsTrue (active c.inner.config v p) × (any_below (is_other c.inner.config v p) (plexes_of c.inner.config v) ≡ true))
 
 abbrev pub HeldAgain : Option Held → GroupCore → GroupCore → Type 0
 HeldAgain None c d = d ≡ c

@@ -14,16 +14,16 @@ use Rattle.vx_kept.specs.Trusts.{HasFailed}
 use Rattle.vx_kept.specs.Groups.{Shows, found, group_meaning}
 use Rattle.vx_kept.specs.Keeping.{Extends}
 use Rattle.vx_group.specs.Finishes.{SameOr, StopsLate}
-use Rattle.vx_group.specs.Loses.{Loses}
+use Rattle.vx_group.specs.Loses.{LosesPlexes}
 use Rattle.vx_group.specs.Resumes.{AtRest, IsFresh, IsMended, NotTaken, TakenUp, stopped}
-use Rattle.vx_group.specs.Stands.{Stands, meaning_of}
+use Rattle.vx_group.specs.Stands.{InnerStands, inner_meaning}
 use Rattle.vx_group.specs.declared.inner.Inner.{Inner}
 
 -- Behind a crash the group gives what an image of the disks shows: a block of a volume that stopped uncleanly reads as the plex by which the image goes
 -- has it.
 pub record GivesImage (old : Meaning) (core : Inner) (new : Meaning) : Type 0 where
   pub reads : (c x : Config) (i above : Image) (v b : ℕ) (value : List ℕ) → AtRest old → Each old.leaves i → found old i ≡ Found x → Extends x c → Shows c x i above → stopped x v ≡ true → Inside c v b
-      → (meaning_of core new).reads v b value → value ≡ above v b
+      → (inner_meaning core new).reads v b value → value ≡ above v b
 
 -- A group stands on the disks as the one that was found, with each plex that took part ACTIVE, under a later serial; each image has its
 -- configuration. Its volumes read as the plexes that took part. A volume that stopped uncleanly reads as the plex by which an image of it
@@ -32,16 +32,16 @@ pub record Resumed (old : Meaning) (core : Inner) (new : Meaning) : Type 0 where
   pub config : Config
   pub opened : Config
   pub taken : TakenUp old new config opened
-  pub stands : Stands core new
+  pub stands : InnerStands core new
   pub settled : core.unsettled ≡ false
   pub up : IsTrue new.down → ⊥
   pub fresh : IsFresh core
   pub same : SameOr opened core.config old new
-  pub loses : Loses opened core.config old new
+  pub loses : LosesPlexes opened core.config old new
   pub on : (v p : ℕ) → IsTrue (active core.config v p) → IsTrue (active opened v p)
   pub finds : (i : Image) → Each new.leaves i → found new i ≡ Found core.config
   pub trust : (core.committed ≡ true) ⊎ HasFailed core.config.disks
-  pub goes : Goes Nothing (group_meaning opened (λ v. 0) old) (meaning_of core new)
+  pub goes : Goes Nothing (group_meaning opened (λ v. 0) old) (inner_meaning core new)
   pub mended : (v : ℕ) → v < length opened.volumes → stopped config v ≡ true → IsMended opened v (chosen config v) core old new
   pub gives : GivesImage old core new
 
@@ -51,8 +51,8 @@ pub record HalfResumed (old new : Meaning) : Type 0 where
   pub core : Inner
   pub opened : Config
   pub taken : TakenUp old new config opened
-  pub stands : Stands core new
-  pub goes : Goes Nothing (group_meaning opened (λ v. 0) old) (meaning_of core new)
+  pub stands : InnerStands core new
+  pub goes : Goes Nothing (group_meaning opened (λ v. 0) old) (inner_meaning core new)
 
 -- Why nothing is taken up: the shelf is down, or a disk is too small for one of a group, or what the reads gave says so, or what was found is
 -- not taken up.

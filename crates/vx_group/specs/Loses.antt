@@ -8,7 +8,7 @@ use Rattle.vx_volume.specs.Volumes.{PlexBlamed}
 
 -- Plexes lie on the disks on which they lay. One that was ACTIVE is so, or a call on one of its disks failed; a disk is newly held as failed
 -- only where a call on it failed.
-pub record Loses (c d : Config) (old new : Meaning) : Type 0 where
+pub record LosesPlexes (c d : Config) (old new : Meaning) : Type 0 where
   pub lies : (v p u : ℕ) → uses d v p u ≡ uses c v p u
   pub plexes : (v p : ℕ) → IsTrue (active c v p) → IsTrue (active d v p) ⊎ PlexBlamed c v p old new
   pub disks : MoreFailed old new c.disks d.disks

@@ -4,7 +4,7 @@ use Rattle.std.specs.List.{list_all, list_any}
 use Rattle.std.specs.Str.{bytes_eq}
 use Rattle.vx_disk.specs.Causes.{DeviceCause}
 use Rattle.vx_disk.specs.Shelf.{Goes, Meaning, Nothing}
-use Rattle.vx_wire.specs.Fields.{zeros}
+use Rattle.vx_wire.specs.Fields.{zero_bytes}
 use Rattle.vx_model.specs.declared.errors.Stop.{Stop}
 use Rattle.vx_model.specs.declared.errors.Stop.TheVariants.{No as Refused, OutOfMemory}
 use Rattle.vx_model.specs.declared.limits.TheConstants.{MOST_COLUMNS, MOST_PLEXES, MOST_SUBDISKS, MOST_VOLUMES}
@@ -17,9 +17,9 @@ use Rattle.vx_config.specs.declared.config.Config.{Config}
 use Rattle.vx_config.specs.declared.entry.LogEntry.{LogEntry}
 use Rattle.vx_config.specs.declared.entry.Subdisk.{Subdisk}
 use Rattle.vx_config.specs.declared.entry.VolumeEntry.{VolumeEntry}
-use Rattle.vx_layout.specs.Made.{IsMade, with_volume}
+use Rattle.vx_layout.specs.Made.{IsVolumeMade, with_volume}
 use Rattle.vx_layout.specs.Places.{place}
-use Rattle.vx_layout.specs.Space.{IsFound, IsShort}
+use Rattle.vx_layout.specs.Space.{IsFound, IsSpaceShort}
 use Rattle.vx_layout.specs.declared.shape.Found.{Found}
 use Rattle.vx_layout.specs.declared.shape.Shape.{Shape}
 use Rattle.vx_volume.specs.Plexes.{Inside, active}
@@ -27,7 +27,7 @@ use Rattle.vx_volume.specs.Volumes.{PlexFlushed}
 use Rattle.vx_kept.specs.Groups.{group_meaning}
 use Rattle.vx_kept.specs.Keeping.{Extends}
 use Rattle.vx_group.specs.Dets.{margin}
-use Rattle.vx_group.specs.Stands.{counted, meaning_of}
+use Rattle.vx_group.specs.Stands.{volume_faults, inner_meaning}
 use Rattle.vx_group.specs.declared.inner.Inner.{Inner}
 
 -- ---- refusals
@@ -55,9 +55,9 @@ abbrev pub log_count : Shape → ℕ
 log_count want = (if want.drl then 1 else 0) + (if want.fmr then 1 else 0)
 
 -- a log of which the maps are not kept yet
-abbrev pub log_or : Option Subdisk → Option LogEntry
-log_or None = None
-log_or (Some s) = Some (record { lost = true; disk = s.disk; start = s.start; blocks = s.blocks })
+abbrev pub lost_log : Option Subdisk → Option LogEntry
+lost_log None = None
+lost_log (Some s) = Some (record { lost = true; disk = s.disk; start = s.start; blocks = s.blocks })
 
 -- a plex of more runs has no spelling
 abbrev pub is_few : List Subdisk → Bool
@@ -65,7 +65,7 @@ is_few ss = nat_le (length ss) 255
 
 -- this volume has the space that was found, and its name
 pub record IsVolume (name : List ℕ) (want : Shape) (found : Found) (v : VolumeEntry) : Type 0 where
-  pub made : IsMade want found v
+  pub made : IsVolumeMade want found v
   pub named : v.name ≡ name
 
 -- the space that was found has too many runs
@@ -83,16 +83,16 @@ pub record ZerosOn (c : Config) (v u b : ℕ) (x : List ℕ) : Type 0 where
   pub is_on : IsTrue (active c v plex)
   pub inside : Inside c v number
   pub at : place c v plex number ≡ (u, b)
-  pub value : x ≡ zeros 512
+  pub value : x ≡ zero_bytes 512
 
 -- a part of the run was written, and elsewhere each plex reads what it read
 pub record ZeroRun (c : Config) (v first count : ℕ) (old new : Meaning) : Type 0 where
   pub each : (p k : ℕ) (x : List ℕ) → IsTrue (active c v p) → Inside c v k → new.reads (place c v p k).0 (place c v p k).1 x
-      → ((first ≤ k) × (k < first + count) × (x ≡ zeros 512)) ⊎ ((first ≤ k → k < first + count → ⊥) × old.reads (place c v p k).0 (place c v p k).1 x)
+      → ((first ≤ k) × (k < first + count) × (x ≡ zero_bytes 512)) ⊎ ((first ≤ k → k < first + count → ⊥) × old.reads (place c v p k).0 (place c v p k).1 x)
 
 -- the blocks below this one read as zeros
 pub record ZeroBelow (c : Config) (v count : ℕ) (m : Meaning) : Type 0 where
-  pub each : (p k : ℕ) (x : List ℕ) → IsTrue (active c v p) → Inside c v k → k < count → m.reads (place c v p k).0 (place c v p k).1 x → x ≡ zeros 512
+  pub each : (p k : ℕ) (x : List ℕ) → IsTrue (active c v p) → Inside c v k → k < count → m.reads (place c v p k).0 (place c v p k).1 x → x ≡ zero_bytes 512
 
 -- so it is behind the first calls
 pub record ZeroLoop (c : Config) (v count blocks : ℕ) (old m : Meaning) : Type 0 where
@@ -103,7 +103,7 @@ pub record ZeroLoop (c : Config) (v count blocks : ℕ) (old m : Meaning) : Type
 
 -- a crash leaves zeros in each block of each plex
 pub record AreZero (c : Config) (v : ℕ) (m : Meaning) : Type 0 where
-  pub each : (p k : ℕ) (x : List ℕ) → IsTrue (active c v p) → Inside c v k → m.leaves (place c v p k).0 (place c v p k).1 x → x ≡ zeros 512
+  pub each : (p k : ℕ) (x : List ℕ) → IsTrue (active c v p) → Inside c v k → m.leaves (place c v p k).0 (place c v p k).1 x → x ≡ zero_bytes 512
 
 -- each plex was flushed
 pub record EachFlushed (c : Config) (v : ℕ) (old new : Meaning) : Type 0 where
@@ -113,7 +113,7 @@ pub record EachFlushed (c : Config) (v : ℕ) (old new : Meaning) : Type 0 where
 
 -- The volumes that stood read as before, and their images are those of before; so are their plexes, and what is counted of them.
 pub record StayAsWere (c d : Inner) (old new : Meaning) : Type 0 where
-  pub goes : Goes Nothing (meaning_of c old) (group_meaning c.config (counted d.faults) new)
+  pub goes : Goes Nothing (inner_meaning c old) (group_meaning c.config (volume_faults d.faults) new)
   pub shape : Extends d.config c.config
   pub on : (v p : ℕ) → v < length c.config.volumes → active d.config v p ≡ active c.config v p
   pub faults : d.faults ≡ c.faults
@@ -131,7 +131,7 @@ pub record VolumeMade (name : List ℕ) (want : Shape) (vol : ℕ) (c d : Inner)
 
 -- why none was made
 abbrev pub MakeStops : Config → List ℕ → Shape → Meaning → Meaning → No → Type 0
-MakeStops c name want old new (refusal.Space need have) = IsShort c want need have
+MakeStops c name want old new (refusal.Space need have) = IsSpaceShort c want need have
 MakeStops c name want old new (refusal.Limit Subdisks most) = HasMany c name want × (most ≡ MOST_SUBDISKS)
 MakeStops c name want old new other = DeviceCause old new other
 

@@ -10,7 +10,7 @@ use Rattle.vx_config.specs.Checks.{is_sound}
 use Rattle.vx_config.specs.declared.config.Config.{Config}
 use Rattle.vx_config.specs.declared.entry.VolumeEntry.{VolumeEntry}
 use Rattle.vx_layout.specs.Made.{with_volume}
-use Rattle.vx_layout.specs.Space.{IsFound, IsShort}
+use Rattle.vx_layout.specs.Space.{IsFound, IsSpaceShort}
 use Rattle.vx_layout.specs.declared.shape.Found.{Found}
 use Rattle.vx_layout.specs.declared.shape.Shape.{Shape}
 use Rattle.vx_volume.specs.Plexes.{active_or}
@@ -35,13 +35,13 @@ pub record IsPlanned (c : Config) (name : List ℕ) (want : Shape) (next : Confi
 
 abbrev pub PlanEnds : Config → List ℕ → Shape → Result Config Stop → Type 0
 PlanEnds c name want (Ok next) = IsPlanned c name want next
-PlanEnds c name want (Err (Refused (refusal.Space need have))) = IsShort c want need have
+PlanEnds c name want (Err (Refused (refusal.Space need have))) = IsSpaceShort c want need have
 PlanEnds c name want (Err (Refused (refusal.Limit Subdisks most))) = HasMany c name want × (most ≡ MOST_SUBDISKS)
 PlanEnds c name want (Err (Refused other)) = ⊥
 PlanEnds c name want (Err OutOfMemory) = Unit {0}
 
 -- a checked configuration with a volume more, of which each plex that takes part is ACTIVE
-pub record IsNext (c next : Config) : Type 0 where
+pub record IsNextConfig (c next : Config) : Type 0 where
   pub volume : VolumeEntry
   pub is : next ≡ with_volume c volume
   pub sound : is_sound next ≡ true

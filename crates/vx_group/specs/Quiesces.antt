@@ -8,11 +8,11 @@ use Rattle.vx_config.specs.Table.{greatest}
 use Rattle.vx_config.specs.declared.config.Config.{Config}
 use Rattle.vx_volume.specs.Plexes.{active}
 use Rattle.vx_volume.specs.Volumes.{PlexFlushed}
-use Rattle.vx_kept.specs.Cleans.{marked}
+use Rattle.vx_kept.specs.Cleans.{is_unsure}
 use Rattle.vx_kept.specs.Keeping.{Acts, SameShape, Sees}
 use Rattle.vx_group.specs.Copying.{NoMember}
-use Rattle.vx_group.specs.Loses.{Loses}
-use Rattle.vx_group.specs.Stands.{Stands}
+use Rattle.vx_group.specs.Loses.{LosesPlexes}
+use Rattle.vx_group.specs.Stands.{InnerStands}
 use Rattle.vx_group.specs.declared.inner.Inner.{Inner}
 
 -- the count of some disk rose
@@ -34,10 +34,10 @@ pub record QuiescesBy (by : Config) (c d : Inner) (which : ℕ → Type 0) (old 
   pub on : (v p : ℕ) → IsTrue (active d.config v p) → IsTrue (active c.config v p)
   pub volumes : (d.config.volumes ≡ c.config.volumes) ⊎ AnyFailed old new
   pub unsure : (d.unsure ≡ c.unsure) ⊎ AnyFailed old new
-  pub loses : Loses c.config d.config old new
-  pub sure : (v : ℕ) → marked d.unsure v ≡ false → marked c.unsure v ≡ false
+  pub loses : LosesPlexes c.config d.config old new
+  pub sure : (v : ℕ) → is_unsure d.unsure v ≡ false → is_unsure c.unsure v ≡ false
   pub faults : d.faults ≡ c.faults
-  pub flushed : (v p : ℕ) → which v → marked d.unsure v ≡ false → IsTrue (active d.config v p) → PlexFlushed c.config v p old new
+  pub flushed : (v p : ℕ) → which v → is_unsure d.unsure v ≡ false → IsTrue (active d.config v p) → PlexFlushed c.config v p old new
 
 -- the same of a group that goes by its own configuration
 abbrev pub Quiesces : Inner → Inner → (ℕ → Type 0) → Meaning → Meaning → Type 0
@@ -49,7 +49,7 @@ NoVolume v = ⊥
 
 -- and the group is ready for a commit
 pub record Quiesced (c d : Inner) (which : ℕ → Type 0) (old new : Meaning) : Type 0 where
-  pub stands : Stands d new
+  pub stands : InnerStands d new
   pub quiesces : Quiesces c d which old new
   pub parts : SameParts c.config d.config
   pub trust : c.committed ≡ true → d.committed ≡ true
@@ -59,7 +59,7 @@ pub record Quiesced (c d : Inner) (which : ℕ → Type 0) (old new : Meaning) :
 
 -- The group stands. Plexes were detached, and volumes became unsure, only where a disk failed.
 pub record GivenBack (c d : Inner) (old new : Meaning) : Type 0 where
-  pub stands : Stands d new
+  pub stands : InnerStands d new
   pub quiesces : Quiesces c d NoVolume old new
 
 -- how the flushes end

@@ -10,7 +10,7 @@ use Rattle.vx_model.specs.declared.limits.TheConstants.{MOST_VOLUMES}
 use Rattle.vx_model.specs.declared.no.Counted.TheVariants.{Number as Numbers}
 use Rattle.vx_model.specs.declared.no.No.{No}
 use Rattle.vx_model.specs.declared.no.No.TheVariants as refusal
-use Rattle.vx_config.specs.Checks.{blocks_of, is_live, is_sound}
+use Rattle.vx_config.specs.Checks.{blocks_of, is_live, is_sound, plexes_of}
 use Rattle.vx_config.specs.Table.{greatest}
 use Rattle.vx_config.specs.declared.config.Config.{Config}
 use Rattle.vx_config.specs.declared.entry.PlexEntry.{PlexEntry}
@@ -19,15 +19,15 @@ use Rattle.vx_copyfmt.specs.Imports.{Found}
 use Rattle.vx_copies.specs.Answers.{Imported, good_set, returned}
 use Rattle.vx_copies.specs.Marks.{HasGood, NoneGood}
 use Rattle.vx_layout.specs.Places.{place}
-use Rattle.vx_volume.specs.Plexes.{Inside, active, plexes_of}
+use Rattle.vx_volume.specs.Plexes.{Inside, active}
 use Rattle.vx_kept.specs.Choice.{first_where}
-use Rattle.vx_kept.specs.Cleans.{marked}
+use Rattle.vx_kept.specs.Cleans.{is_unsure}
 use Rattle.vx_kept.specs.Groups.{found, found_by}
 use Rattle.vx_kept.specs.Keeping.{Base}
 use Rattle.vx_kept.specs.Trusts.{is_plain}
 use Rattle.vx_kept.specs.Opens.{OpenVolumes}
 use Rattle.vx_group.specs.Dets.{any_below, margin}
-use Rattle.vx_group.specs.Stands.{Stands, counted, meaning_of}
+use Rattle.vx_group.specs.Stands.{InnerStands, volume_faults, inner_meaning}
 use Rattle.vx_group.specs.declared.inner.Inner.{Inner}
 use Rattle.vx_group.specs.declared.taking.Plan.{Plan}
 
@@ -86,14 +86,14 @@ pub record TakenUp (old new : Meaning) (found opened : Config) : Type 0 where
   pub opens : OpenVolumes 0 (returned readable found) opened
 
 -- a configuration that is not taken up: too few serials are left, or no disk of the set is held as good
-abbrev pub Refuses : Config → ℕ → Option No → Type 0
-Refuses c good None = (c.serial ≤ greatest - margin) × HasGood c.disks good
-Refuses c good (Some why) = ((greatest - margin < c.serial) × (why ≡ refusal.Limit Numbers greatest)) ⊎ (NoneGood c.disks (length c.disks) good × (why ≡ refusal.NoConfig))
+abbrev pub RefusesPlan : Config → ℕ → Option No → Type 0
+RefusesPlan c good None = (c.serial ≤ greatest - margin) × HasGood c.disks good
+RefusesPlan c good (Some why) = ((greatest - margin < c.serial) × (why ≡ refusal.Limit Numbers greatest)) ⊎ (NoneGood c.disks (length c.disks) good × (why ≡ refusal.NoConfig))
 
 -- no count of a volume, and none marked
 pub record IsFresh (core : Inner) : Type 0 where
-  pub faults : (v : ℕ) → counted core.faults v ≡ 0
-  pub sure : (v : ℕ) → marked core.unsure v ≡ false
+  pub faults : (v : ℕ) → volume_faults core.faults v ≡ 0
+  pub sure : (v : ℕ) → is_unsure core.unsure v ≡ false
 
 -- What is made of a configuration: its plexes that are CLEAN are ACTIVE, which of its volumes stopped uncleanly, and which plex of each is gone by.
 pub record IsPlan (c : Config) (set : ℕ) (plan : Plan) : Type 0 where
@@ -108,12 +108,12 @@ pub record IsPlan (c : Config) (set : ℕ) (plan : Plan) : Type 0 where
   pub committed : plan.core.committed ≡ true
   pub agreed : plan.core.agreed ≡ true
   pub fresh : IsFresh plan.core
-  pub stopped : (v : ℕ) → v < length c.volumes → marked plan.stopped v ≡ stopped c v
+  pub stopped : (v : ℕ) → v < length c.volumes → is_unsure plan.stopped v ≡ stopped c v
   pub sources : (v : ℕ) → v < length c.volumes → source_at plan.sources v ≡ source_of set c v
 
 abbrev pub Planned : Config → ℕ → Result Plan Stop → Type 0
 Planned c good (Ok plan) = IsPlan c good plan
-Planned c good (Err (Refused why)) = Refuses c good (Some why)
+Planned c good (Err (Refused why)) = RefusesPlan c good (Some why)
 Planned c good (Err OutOfMemory) = Unit {0}
 
 -- the group of a plan stands on the disks that it was read from
@@ -121,7 +121,7 @@ pub record IsTaken (old new : Meaning) (plan : Plan) : Type 0 where
   pub config : Config
   pub up : TakenUp old new config plan.core.config
   pub made : IsPlan (returned up.readable config) (good_set config.disks) plan
-  pub stands : Stands plan.core new
+  pub stands : InnerStands plan.core new
 
 -- a configuration was found that is not taken up
 pub record NotTaken (old new : Meaning) (why : No) : Type 0 where
@@ -131,15 +131,15 @@ pub record NotTaken (old new : Meaning) (why : No) : Type 0 where
   pub blamed : (u : ℕ) → u < old.units → readable u ≡ false → Rose (old.faults u) (new.faults u)
   pub read : IsTrue old.tells → Each old.reads image
   pub is : found_by old readable image ≡ Found config
-  pub refuses : Refuses (returned readable config) (good_set config.disks) (Some why)
+  pub refuses : RefusesPlan (returned readable config) (good_set config.disks) (Some why)
 
-abbrev pub Takes : Meaning → Meaning → Result Plan Stop → Type 0
-Takes old new (Ok plan) = IsTaken old new plan
-Takes old new (Err (Refused why)) = Imported old new (Err (Refused why)) ⊎ NotTaken old new why
-Takes old new (Err OutOfMemory) = Unit {0}
+abbrev pub TakesPlan : Meaning → Meaning → Result Plan Stop → Type 0
+TakesPlan old new (Ok plan) = IsTaken old new plan
+TakesPlan old new (Err (Refused why)) = Imported old new (Err (Refused why)) ⊎ NotTaken old new why
+TakesPlan old new (Err OutOfMemory) = Unit {0}
 
 -- each block of the volume has one value on each plex that is ACTIVE, which a read of this plex gave
 pub record IsMended (opened : Config) (v source : ℕ) (core : Inner) (old new : Meaning) : Type 0 where
   pub value : ℕ → List ℕ
   pub origin : (k : ℕ) → Inside opened v k → IsTrue old.tells → old.reads (place opened v source k).0 (place opened v source k).1 (value k)
-  pub one : (k : ℕ) (x : List ℕ) → Inside opened v k → (meaning_of core new).leaves v k x → x ≡ value k
+  pub one : (k : ℕ) (x : List ℕ) → Inside opened v k → (inner_meaning core new).leaves v k x → x ≡ value k

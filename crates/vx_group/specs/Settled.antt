@@ -5,7 +5,7 @@ use Rattle.vx_disk.specs.Shelf.{Meaning, Nothing}
 use Rattle.vx_copyfmt.specs.Commits.{Tidy}
 use Rattle.vx_config.specs.declared.config.Config.{Config}
 use Rattle.vx_copies.specs.Bodies.{is_wanted}
-use Rattle.vx_copies.specs.Commits.{Held, MoreFailed}
+use Rattle.vx_copies.specs.Commits.{HeldGood, MoreFailed}
 use Rattle.vx_copies.specs.Looking.{on_shelf}
 use Rattle.vx_kept.specs.Commits.{Member}
 use Rattle.vx_kept.specs.Keeping.{Acts, Kept, Sees}
@@ -25,7 +25,7 @@ pub record SettledTo (good : ℕ) (c d : Config) (n device : ℕ) (failed : Bool
   pub acts : Acts Nothing (Sees c (Member good old) old) old new
   pub same : SameBut c d
   pub wanted : is_wanted old.units old.size d ≡ true
-  pub tidy : (u : ℕ) → u < n → Held d new u → Tidy (on_shelf new) (c.serial + 1) (new.leaves u)
+  pub tidy : (u : ℕ) → u < n → HeldGood d new u → Tidy (on_shelf new) (c.serial + 1) (new.leaves u)
   pub up : IsTrue new.down → ⊥
   pub rose : failed ≡ true → Rose (old.disk_faults device) (new.disk_faults device)
   pub none : failed ≡ false → d ≡ c

@@ -17,16 +17,16 @@ use Rattle.vx_kept.specs.Trusts.{Trusts}
 use Rattle.vx_group.specs.declared.inner.Inner.{Inner}
 
 -- the count of faults of a volume
-abbrev pub counted : List ℕ → ℕ → ℕ
-counted faults v = slice_index_or faults v 0
+abbrev pub volume_faults : List ℕ → ℕ → ℕ
+volume_faults faults v = slice_index_or faults v 0
 
 -- the group as a shelf
-abbrev pub meaning_of : Inner → Meaning → Meaning
-meaning_of core m = group_meaning core.config (counted core.faults) m
+abbrev pub inner_meaning : Inner → Meaning → Meaning
+inner_meaning core m = group_meaning core.config (volume_faults core.faults) m
 
 -- The configuration is checked and fits the shelf, each plex that takes part is ACTIVE, some disk of the set is held as good, and the disks
 -- keep it. They are ready for the next commit, unless one was refused; and imports find of them what the flags say.
-pub record Stands (core : Inner) (m : Meaning) : Type 0 where
+pub record InnerStands (core : Inner) (m : Meaning) : Type 0 where
   pub wanted : is_wanted m.units m.size core.config ≡ true
   pub serial : core.config.serial ≤ greatest
   pub disks : 0 < length core.config.disks

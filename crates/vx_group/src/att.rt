@@ -7,7 +7,7 @@ ghost use Rattle.vx_group.specs.Dets.{DetStops};
 ghost use Rattle.vx_group.specs.Calls.{GroupAttaches};
 ghost use Rattle.vx_group.specs.Holding.{GroupStands};
 ghost use Rattle.vx_group.specs.Regains.{HoldsPlex, Regains};
-ghost use Rattle.vx_group.specs.Stands.{Stands};
+ghost use Rattle.vx_group.specs.Stands.{InnerStands};
 ghost use Rattle.vx_model.specs.declared.errors.Stop.TheVariants.{No as Refused};
 ghost use Rattle.vx_model.specs.declared.no.No.{No as NoValue};
 ghost use Rattle.vx_volume.specs.Plexes.{active};
@@ -57,12 +57,12 @@ fn attach_held<S: Shelf>(
     vol: u32,
     plex: u32,
 ) -> Result<(), ShelfError>
-    requires stands { Stands core.old (S.meaning shelf.old) }
+    requires stands { InnerStands core.old (S.meaning shelf.old) }
     requires may { MayAttach core.old.config vol plex }
     requires more { core.old.config.serial + 9 < greatest }
     requires off { active core.old.config vol plex ≡ false }
     requires up { IsTrue (S.meaning shelf.old).down → ⊥ }
-    ensures stands { Stands core.new (S.meaning shelf.new) }
+    ensures stands { InnerStands core.new (S.meaning shelf.new) }
     ensures attaches { Attaches vol plex core.old core.new (S.meaning shelf.old) (S.meaning shelf.new) }
     ensures ends { AttachEnds vol plex core.new (S.meaning shelf.new) result }
     ensures regains { Regains core.old.config core.new.config vol plex (S.meaning shelf.old) (S.meaning shelf.new) }

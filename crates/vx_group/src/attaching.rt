@@ -5,7 +5,7 @@ ghost use Rattle.vx_copies.specs.Commits.{MoreFailed};
 ghost use Rattle.vx_group.specs.Attaches.{AttachEnds, Attaches, CopyTried, HasOther, MayAttach, NoSource, Opens};
 ghost use Rattle.vx_group.specs.Blames.{Blames};
 ghost use Rattle.vx_group.specs.GivesUp.{NoCommit};
-ghost use Rattle.vx_group.specs.Stands.{Stands};
+ghost use Rattle.vx_group.specs.Stands.{InnerStands};
 ghost use Rattle.vx_volume.specs.Copies.{CopyCause};
 ghost use Rattle.vx_volume.specs.Plexes.{active};
 
@@ -26,12 +26,12 @@ fn copy_from<S: Shelf>(
     source: u32,
     plex: u32,
 ) -> Result<(), ShelfError>
-    requires stands { Stands core.old (S.meaning shelf.old) }
+    requires stands { InnerStands core.old (S.meaning shelf.old) }
     requires may { MayAttach core.old.config vol plex }
     requires off { active core.old.config vol plex ≡ false }
     requires from { IsTrue (active core.old.config vol source) }
     requires up { IsTrue (S.meaning shelf.old).down → ⊥ }
-    ensures stands { Stands core.new (S.meaning shelf.new) }
+    ensures stands { InnerStands core.new (S.meaning shelf.new) }
     ensures attaches { Attaches vol plex core.old core.new (S.meaning shelf.old) (S.meaning shelf.new) }
     ensures opens { Opens vol plex core.new.config result }
     ensures settled { core.new.unsettled ≡ core.old.unsettled }
@@ -63,11 +63,11 @@ fn try_from<S: Shelf>(
     plex: u32,
     device: u32,
 ) -> Result<(), ShelfError>
-    requires stands { Stands core.old (S.meaning shelf.old) }
+    requires stands { InnerStands core.old (S.meaning shelf.old) }
     requires may { MayAttach core.old.config vol plex }
     requires off { active core.old.config vol plex ≡ false }
     requires up { IsTrue (S.meaning shelf.old).down → ⊥ }
-    ensures stands { Stands core.new (S.meaning shelf.new) }
+    ensures stands { InnerStands core.new (S.meaning shelf.new) }
     ensures attaches { Attaches vol plex core.old core.new (S.meaning shelf.old) (S.meaning shelf.new) }
     ensures opens { Opens vol plex core.new.config result }
     ensures settled { core.new.unsettled ≡ core.old.unsettled }
@@ -86,11 +86,11 @@ fn try_from<S: Shelf>(
 // Copies the content of the volume to a plex, which is then ACTIVE in memory, from the first plex that is ACTIVE and of which the copy does not
 // fail. Where each fails nothing has changed in memory.
 fn copy_to<S: Shelf>(shelf: &mut S, core: &mut Inner, vol: u32, plex: u32) -> Result<(), ShelfError>
-    requires stands { Stands core.old (S.meaning shelf.old) }
+    requires stands { InnerStands core.old (S.meaning shelf.old) }
     requires may { MayAttach core.old.config vol plex }
     requires off { active core.old.config vol plex ≡ false }
     requires up { IsTrue (S.meaning shelf.old).down → ⊥ }
-    ensures stands { Stands core.new (S.meaning shelf.new) }
+    ensures stands { InnerStands core.new (S.meaning shelf.new) }
     ensures attaches { Attaches vol plex core.old core.new (S.meaning shelf.old) (S.meaning shelf.new) }
     ensures opens { Opens vol plex core.new.config result }
     ensures settled { core.new.unsettled ≡ core.old.unsettled }
@@ -113,10 +113,10 @@ fn copy_to<S: Shelf>(shelf: &mut S, core: &mut Inner, vol: u32, plex: u32) -> Re
 
 // Detaches a plex that is ACTIVE, where it can.
 fn take_back<S: Shelf>(shelf: &mut S, core: &mut Inner, vol: u32, plex: u32)
-    requires stands { Stands core.old (S.meaning shelf.old) }
+    requires stands { InnerStands core.old (S.meaning shelf.old) }
     requires is_on { IsTrue (active core.old.config vol plex) }
     requires other { HasOther core.old.config vol plex }
-    ensures stands { Stands core.new (S.meaning shelf.new) }
+    ensures stands { InnerStands core.new (S.meaning shelf.new) }
     ensures attaches { Attaches vol plex core.old core.new (S.meaning shelf.old) (S.meaning shelf.new) }
     ensures off { (active core.new.config vol plex ≡ false) ⊎ NoCommit core.new (S.meaning shelf.new) }
     ensures failing { MoreFailed (S.meaning shelf.old) (S.meaning shelf.new) core.old.config.disks core.new.config.disks }
@@ -144,12 +144,12 @@ fn commit_open<S: Shelf>(
     vol: u32,
     plex: u32,
 ) -> Result<(), ShelfError>
-    requires stands { Stands core.old (S.meaning shelf.old) }
+    requires stands { InnerStands core.old (S.meaning shelf.old) }
     requires settled { core.old.unsettled ≡ false }
     requires more { core.old.config.serial < greatest }
     requires is_on { IsTrue (active core.old.config vol plex) }
     requires other { HasOther core.old.config vol plex }
-    ensures stands { Stands core.new (S.meaning shelf.new) }
+    ensures stands { InnerStands core.new (S.meaning shelf.new) }
     ensures attaches { Attaches vol plex core.old core.new (S.meaning shelf.old) (S.meaning shelf.new) }
     ensures ends { AttachEnds vol plex core.new (S.meaning shelf.new) result }
     ensures failing { MoreFailed (S.meaning shelf.old) (S.meaning shelf.new) core.old.config.disks core.new.config.disks }
@@ -176,11 +176,11 @@ pub fn attach<S: Shelf>(
     vol: u32,
     plex: u32,
 ) -> Result<(), ShelfError>
-    requires stands { Stands core.old (S.meaning shelf.old) }
+    requires stands { InnerStands core.old (S.meaning shelf.old) }
     requires may { MayAttach core.old.config vol plex }
     requires off { active core.old.config vol plex ≡ false }
     requires up { IsTrue (S.meaning shelf.old).down → ⊥ }
-    ensures stands { Stands core.new (S.meaning shelf.new) }
+    ensures stands { InnerStands core.new (S.meaning shelf.new) }
     ensures attaches { Attaches vol plex core.old core.new (S.meaning shelf.old) (S.meaning shelf.new) }
     ensures ends { AttachEnds vol plex core.new (S.meaning shelf.new) result }
     ensures failing { MoreFailed (S.meaning shelf.old) (S.meaning shelf.new) core.old.config.disks core.new.config.disks }

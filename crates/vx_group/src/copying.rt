@@ -4,7 +4,7 @@ ghost use Rattle.vx_config.specs.Checks.{blocks_of as blocks_of_is};
 ghost use Rattle.vx_disk.specs.Shelf.{Fits};
 ghost use Rattle.vx_group.specs.Blames.{Blames};
 ghost use Rattle.vx_group.specs.Copying.{RunCopied, Mirrored, CopyMoved};
-ghost use Rattle.vx_group.specs.Stands.{Stands, meaning_of};
+ghost use Rattle.vx_group.specs.Stands.{InnerStands, inner_meaning};
 ghost use Rattle.vx_volume.specs.Plexes.{active};
 
 use crate::detaching::{detach, fault_of};
@@ -28,10 +28,10 @@ fn copy_run<S: Shelf>(
     block: u64,
     bytes: &mut [u8],
 ) -> Result<(), ShelfError>
-    requires stands { Stands core.old (S.meaning shelf.old) }
+    requires stands { InnerStands core.old (S.meaning shelf.old) }
     requires settled { core.old.unsettled ≡ false }
     requires is_on { IsTrue (active core.old.config vol source) }
-    requires fits { Fits (meaning_of core.old (S.meaning shelf.old)) vol block (length bytes.old) }
+    requires fits { Fits (inner_meaning core.old (S.meaning shelf.old)) vol block (length bytes.old) }
     requires up { IsTrue (S.meaning shelf.old).down → ⊥ }
     ensures moved { CopyMoved core.old vol source core.new (S.meaning shelf.old) (S.meaning shelf.new) }
     ensures copied { OnOk result (RunCopied core.old vol source block (length bytes.old / 512) core.new (S.meaning shelf.old) (S.meaning shelf.new)) }
@@ -62,7 +62,7 @@ fn copy_blocks<S: Shelf>(
     vol: u32,
     source: u32,
 ) -> Result<(), ShelfError>
-    requires stands { Stands core.old (S.meaning shelf.old) }
+    requires stands { InnerStands core.old (S.meaning shelf.old) }
     requires settled { core.old.unsettled ≡ false }
     requires there { vol < length core.old.config.volumes }
     requires is_on { IsTrue (active core.old.config vol source) }
@@ -95,7 +95,7 @@ pub fn copy_volume<S: Shelf>(
     vol: u32,
     source: u32,
 ) -> Result<(), ShelfError>
-    requires stands { Stands core.old (S.meaning shelf.old) }
+    requires stands { InnerStands core.old (S.meaning shelf.old) }
     requires settled { core.old.unsettled ≡ false }
     requires there { vol < length core.old.config.volumes }
     requires is_on { IsTrue (active core.old.config vol source) }

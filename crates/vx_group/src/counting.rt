@@ -1,8 +1,8 @@
 // The counts of faults of the volumes.
 ghost use Rattle.std.specs.Prelude.{◌≡◌, ◌≢◌, ◌<◌, ◌≤◌, ℕ};
 ghost use Rattle.vx_disk.specs.Counts.{Rose};
-ghost use Rattle.vx_group.specs.Blames.{Counts, Marked, Marks};
-ghost use Rattle.vx_group.specs.Stands.{counted};
+ghost use Rattle.vx_group.specs.Blames.{CountsRise, MarkedUnsure, MarksUnsure};
+ghost use Rattle.vx_group.specs.Stands.{volume_faults};
 
 use vx_disk::ShelfError;
 use vx_model::limits::MOST_VOLUMES;
@@ -10,9 +10,9 @@ use vx_model::limits::MOST_VOLUMES;
 /// Counts a fault of a volume. The count stays at its greatest value.
 pub fn count_fault(faults: &mut [u64; MOST_VOLUMES], vol: u32)
     requires inside { vol < MOST_VOLUMES }
-    ensures rose { Rose (counted faults.old vol) (counted faults.new vol) }
-    ensures no_less { (u : ℕ) → counted faults.old u ≤ counted faults.new u }
-    ensures others { (u : ℕ) → u ≢ vol → counted faults.new u ≡ counted faults.old u }
+    ensures rose { Rose (volume_faults faults.old vol) (volume_faults faults.new vol) }
+    ensures no_less { (u : ℕ) → volume_faults faults.old u ≤ volume_faults faults.new u }
+    ensures others { (u : ℕ) → u ≢ vol → volume_faults faults.new u ≡ volume_faults faults.old u }
 {
     faults[vol as usize] = faults[vol as usize].saturating_add(1);
 }
@@ -20,7 +20,7 @@ pub fn count_fault(faults: &mut [u64; MOST_VOLUMES], vol: u32)
 //// Marks a volume as unsure.
 pub fn mark(unsure: &mut [bool; MOST_VOLUMES], vol: u32)
     requires inside { vol < MOST_VOLUMES }
-    ensures { Marked vol unsure.old unsure.new }
+    ensures { MarkedUnsure vol unsure.old unsure.new }
 {
     unsure[vol as usize] = true;
 }
@@ -33,8 +33,8 @@ pub fn give_up(
     error: ShelfError,
 )
     requires inside { vol < MOST_VOLUMES }
-    ensures counts { Counts error vol (counted faults.old) (counted faults.new) }
-    ensures marks { Marks error vol unsure.old unsure.new }
+    ensures counts { CountsRise error vol (volume_faults faults.old) (volume_faults faults.new) }
+    ensures marks { MarksUnsure error vol unsure.old unsure.new }
 {
     match error {
         ShelfError::Fault { .. } => {

@@ -5,7 +5,7 @@ ghost use Rattle.vx_disk.specs.Disks.{Crashed, Untouched};
 ghost use Rattle.vx_disk.specs.Racks.{Alike, Stopped};
 ghost use Rattle.vx_group.specs.Holding.{wide};
 ghost use Rattle.vx_group.specs.Resumes.{CanImport};
-ghost use Rattle.vx_group.specs.Stands.{Stands, meaning_of};
+ghost use Rattle.vx_group.specs.Stands.{InnerStands, inner_meaning};
 
 use crate::group_core::GroupCore;
 use vx_disk::Rack;
@@ -13,11 +13,11 @@ use vx_disk::Rack;
 /// Crashes the disks on which a group stands. To its volumes this is a crash too: each image that it keeps is one that it might have left.
 /// Where imports agree, the group may be imported behind it.
 pub fn crash_in<R: Rack>(rack: &mut R, core: &GroupCore, pick: u64)
-    requires stands { Stands (wide core.now) (R.meaning rack.old) }
+    requires stands { InnerStands (wide core.now) (R.meaning rack.old) }
     ensures stopped { Stopped (R.meaning rack.old) (R.meaning rack.new) }
     ensures disks { OnDisks (R.meaning rack.old).disks (R.meaning rack.new).disks (Crashed (R.meaning rack.old).size pick) }
-    ensures stands { Stands (wide core.now) (R.meaning rack.new) }
-    ensures volumes { Stopped (meaning_of (wide core.now) (R.meaning rack.old)) (meaning_of (wide core.now) (R.meaning rack.new)) }
+    ensures stands { InnerStands (wide core.now) (R.meaning rack.new) }
+    ensures volumes { Stopped (inner_meaning (wide core.now) (R.meaning rack.old)) (inner_meaning (wide core.now) (R.meaning rack.new)) }
     ensures can { core.now.inner.agreed ≡ true → CanImport (R.meaning rack.new) }
 {
     let _memory = core;

@@ -1,12 +1,12 @@
 // The flushes and the commit by which a group is deported.
 ghost use Rattle.std.specs.Prelude.{◌≡◌, ◌<◌, ◌≤◌, ◌-◌, false, Err, IsTrue};
 ghost use Rattle.vx_config.specs.Table.{greatest};
-ghost use Rattle.vx_group.specs.Blames.{StopsBy};
+ghost use Rattle.vx_group.specs.Blames.{StopsByDevice};
 ghost use Rattle.vx_group.specs.Deports.{Closes, CommitCloses};
 ghost use Rattle.vx_group.specs.Dets.{DetStops, margin};
 ghost use Rattle.vx_group.specs.Calls.{GroupCloses};
 ghost use Rattle.vx_group.specs.Holding.{GroupStands};
-ghost use Rattle.vx_group.specs.Stands.{Stands};
+ghost use Rattle.vx_group.specs.Stands.{InnerStands};
 ghost use Rattle.vx_model.specs.declared.errors.Stop.TheVariants.{No as Refused};
 ghost use Rattle.vx_model.specs.declared.no.Counted.TheVariants.{Number as Numbers};
 ghost use Rattle.vx_model.specs.declared.no.No.TheVariants.{Limit};
@@ -27,11 +27,11 @@ const MARGIN: u64 = 65_536;
 
 // Commits the configuration with plexes CLEAN.
 fn commit_closed<S: Shelf>(shelf: &mut S, core: &mut Inner) -> Result<(), ShelfError>
-    requires stands { Stands core.old (S.meaning shelf.old) }
+    requires stands { InnerStands core.old (S.meaning shelf.old) }
     requires settled { core.old.unsettled ≡ false }
     requires more { core.old.config.serial < greatest }
     ensures ends { CommitCloses core.old core.new (S.meaning shelf.old) (S.meaning shelf.new) result }
-    ensures cause { StopsBy (S.meaning shelf.old) (S.meaning shelf.new) result }
+    ensures cause { StopsByDevice (S.meaning shelf.old) (S.meaning shelf.new) result }
 {
     match commit_clean(
         shelf,
@@ -55,11 +55,11 @@ fn commit_closed<S: Shelf>(shelf: &mut S, core: &mut Inner) -> Result<(), ShelfE
 
 // The same, behind the headers that a refused commit asks for, and a flush of every volume.
 fn close<S: Shelf>(shelf: &mut S, core: &mut Inner) -> Result<(), ShelfError>
-    requires stands { Stands core.old (S.meaning shelf.old) }
+    requires stands { InnerStands core.old (S.meaning shelf.old) }
     requires more { core.old.config.serial < greatest }
     requires up { IsTrue (S.meaning shelf.old).down → ⊥ }
     ensures ends { Closes core.old core.new (S.meaning shelf.old) (S.meaning shelf.new) result }
-    ensures cause { StopsBy (S.meaning shelf.old) (S.meaning shelf.new) result }
+    ensures cause { StopsByDevice (S.meaning shelf.old) (S.meaning shelf.new) result }
 {
     match settle_headers(shelf, core) {
         Ok(()) => {}

@@ -7,7 +7,7 @@ ghost use Rattle.vx_group.specs.GivesUp.{KeepsVolumes, NoCommit};
 ghost use Rattle.vx_group.specs.Blames.{Blames, BlamesOr, fault_of as fault_is};
 ghost use Rattle.vx_group.specs.Moves.{AreOff, Narrows};
 ghost use Rattle.vx_group.specs.Quiesces.{SameParts};
-ghost use Rattle.vx_group.specs.Stands.{Stands};
+ghost use Rattle.vx_group.specs.Stands.{InnerStands};
 ghost use Rattle.vx_disk.specs.Blocks.{bit_at};
 ghost use Rattle.vx_kept.specs.Commits.{IsCommitted};
 ghost use Rattle.vx_kept.specs.Trusts.{HasFailed};
@@ -56,11 +56,11 @@ pub fn detach_named<S: Shelf>(
     vol: u32,
     failed: Failed,
 ) -> Result<u32, ShelfError>
-    requires stands { Stands core.old (S.meaning shelf.old) }
+    requires stands { InnerStands core.old (S.meaning shelf.old) }
     requires settled { core.old.unsettled ≡ false }
     requires left { vol < length core.old.config.volumes → SomeLeft core.old.config vol failed.set }
     requires those { AreOn core.old.config vol failed.set }
-    ensures stands { Stands core.new (S.meaning shelf.new) }
+    ensures stands { InnerStands core.new (S.meaning shelf.new) }
     ensures narrows { Narrows core.old core.new (S.meaning shelf.old) (S.meaning shelf.new) }
     ensures off { OnOk result (AreOff core.new.config vol failed.set) }
     ensures others { (w p : ℕ) → (w ≡ vol → bit_at failed.set p ≡ true → ⊥) → active core.new.config w p ≡ active core.old.config w p }
@@ -118,11 +118,11 @@ pub fn detach<S: Shelf>(
     vol: u32,
     failed: Failed,
 ) -> Result<(), ShelfError>
-    requires stands { Stands core.old (S.meaning shelf.old) }
+    requires stands { InnerStands core.old (S.meaning shelf.old) }
     requires settled { core.old.unsettled ≡ false }
     requires left { vol < length core.old.config.volumes → SomeLeft core.old.config vol failed.set }
     requires those { AreOn core.old.config vol failed.set }
-    ensures stands { Stands core.new (S.meaning shelf.new) }
+    ensures stands { InnerStands core.new (S.meaning shelf.new) }
     ensures narrows { Narrows core.old core.new (S.meaning shelf.old) (S.meaning shelf.new) }
     ensures off { OnOk result (AreOff core.new.config vol failed.set) }
     ensures others { (w p : ℕ) → (w ≡ vol → bit_at failed.set p ≡ true → ⊥) → active core.new.config w p ≡ active core.old.config w p }

@@ -3,7 +3,7 @@ ghost use Rattle.std.specs.Prelude.{◌≡◌, ◌<◌, ℕ, length, false, IsTr
 ghost use Rattle.vx_config.specs.Table.{greatest};
 ghost use Rattle.vx_group.specs.Finishes.{CommitsAs, Renews};
 ghost use Rattle.vx_group.specs.Resumes.{source_at};
-ghost use Rattle.vx_group.specs.Stands.{Stands};
+ghost use Rattle.vx_group.specs.Stands.{InnerStands};
 ghost use Rattle.vx_model.specs.declared.limits.TheConstants.{MOST_VOLUMES};
 ghost use Rattle.vx_volume.specs.Plexes.{active};
 
@@ -19,7 +19,7 @@ use vx_model::limits::MOST_VOLUMES;
 
 // Commits the configuration as it stands.
 fn commit_whole<S: Shelf>(shelf: &mut S, core: &mut Inner) -> Result<(), No>
-    requires stands { Stands core.old (S.meaning shelf.old) }
+    requires stands { InnerStands core.old (S.meaning shelf.old) }
     requires settled { core.old.unsettled ≡ false }
     ensures { CommitsAs core.old core.new (S.meaning shelf.old) (S.meaning shelf.new) result }
 {
@@ -49,7 +49,7 @@ pub fn renew<S: Shelf>(
     stopped: &[bool; MOST_VOLUMES],
     sources: &[u32; MOST_VOLUMES],
 ) -> Result<(), No>
-    requires stands { Stands core.old (S.meaning shelf.old) }
+    requires stands { InnerStands core.old (S.meaning shelf.old) }
     requires on { (v : ℕ) → v < length core.old.config.volumes → IsTrue (active core.old.config v (source_at sources.now v)) }
     requires more { core.old.config.serial < greatest }
     requires up { IsTrue (S.meaning shelf.old).down → ⊥ }

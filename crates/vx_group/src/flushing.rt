@@ -4,12 +4,13 @@ ghost use Rattle.vx_disk.specs.Causes.{Cause};
 ghost use Rattle.vx_disk.specs.Shelf.{Flushed, Goes, Nothing};
 ghost use Rattle.vx_config.specs.Table.{greatest};
 ghost use Rattle.vx_group.specs.Blames.{Blames, MarksOn};
-ghost use Rattle.vx_group.specs.Copying.{Spent};
+ghost use Rattle.vx_group.specs.Copying.{SpentBy};
 ghost use Rattle.vx_group.specs.GivesUp.{GivesUp};
 ghost use Rattle.vx_group.specs.Holding.{GroupStands, wide};
-ghost use Rattle.vx_group.specs.Loses.{Loses};
+ghost use Rattle.vx_group.specs.Loses.{LosesPlexes};
 ghost use Rattle.vx_group.specs.Moves.{AllFlushed, Narrows};
-ghost use Rattle.vx_group.specs.Stands.{Stands, meaning_of};
+ghost use Rattle.vx_kept.specs.PlexActs.{PlexActs};
+ghost use Rattle.vx_group.specs.Stands.{InnerStands, inner_meaning};
 ghost use Rattle.vx_volume.specs.Plexes.{active};
 
 use crate::counting::give_up;
@@ -24,17 +25,17 @@ use vx_volume::flush_all;
 
 /// Flushes each plex that is ACTIVE, and detaches those that failed.
 pub fn flush_plexes<S: Shelf>(shelf: &mut S, core: &mut Inner, vol: u32) -> Result<(), ShelfError>
-    requires stands { Stands core.old (S.meaning shelf.old) }
-    requires there { vol < (meaning_of core.old (S.meaning shelf.old)).units }
+    requires stands { InnerStands core.old (S.meaning shelf.old) }
+    requires there { vol < (inner_meaning core.old (S.meaning shelf.old)).units }
     requires up { IsTrue (S.meaning shelf.old).down → ⊥ }
-    ensures stands { Stands core.new (S.meaning shelf.new) }
-    ensures goes { Goes Nothing (meaning_of core.old (S.meaning shelf.old)) (meaning_of core.new (S.meaning shelf.new)) }
-    ensures ok { OnOk result (Flushed vol (meaning_of core.old (S.meaning shelf.old)) (meaning_of core.new (S.meaning shelf.new))) }
+    ensures stands { InnerStands core.new (S.meaning shelf.new) }
+    ensures goes { Goes Nothing (inner_meaning core.old (S.meaning shelf.old)) (inner_meaning core.new (S.meaning shelf.new)) }
+    ensures ok { OnOk result (Flushed vol (inner_meaning core.old (S.meaning shelf.old)) (inner_meaning core.new (S.meaning shelf.new))) }
     ensures all { OnOk result (AllFlushed core.new.config vol (S.meaning shelf.old) (S.meaning shelf.new)) }
     ensures narrows { Narrows core.old core.new (S.meaning shelf.old) (S.meaning shelf.new) }
     ensures settled { core.old.unsettled ≡ false → OnOk result (core.new.unsettled ≡ false) }
     ensures others { (w p : ℕ) → (w ≡ vol → ⊥) → active core.new.config w p ≡ active core.old.config w p }
-    ensures spent { Spent core.old.config core.new.config (S.meaning shelf.old) (S.meaning shelf.new) }
+    ensures spent { SpentBy core.old.config core.new.config (S.meaning shelf.old) (S.meaning shelf.new) }
     ensures faults { core.new.faults ≡ core.old.faults }
     ensures unsure { core.new.unsure ≡ core.old.unsure }
     ensures gave_up { GivesUp vol core.old core.new (S.meaning shelf.old) (S.meaning shelf.new) result }
@@ -58,16 +59,17 @@ pub fn flush_plexes<S: Shelf>(shelf: &mut S, core: &mut Inner, vol: u32) -> Resu
 
 /// Makes a volume durable.
 pub fn flush_in<S: Shelf>(shelf: &mut S, core: &mut Inner, vol: u32) -> Result<(), ShelfError>
-    requires stands { Stands core.old (S.meaning shelf.old) }
-    requires there { vol < (meaning_of core.old (S.meaning shelf.old)).units }
-    ensures stands { Stands core.new (S.meaning shelf.new) }
-    ensures goes { Goes Nothing (meaning_of core.old (S.meaning shelf.old)) (meaning_of core.new (S.meaning shelf.new)) }
-    ensures ok { OnOk result (Flushed vol (meaning_of core.old (S.meaning shelf.old)) (meaning_of core.new (S.meaning shelf.new))) }
+    requires stands { InnerStands core.old (S.meaning shelf.old) }
+    requires there { vol < (inner_meaning core.old (S.meaning shelf.old)).units }
+    ensures stands { InnerStands core.new (S.meaning shelf.new) }
+    ensures goes { Goes Nothing (inner_meaning core.old (S.meaning shelf.old)) (inner_meaning core.new (S.meaning shelf.new)) }
+    ensures ok { OnOk result (Flushed vol (inner_meaning core.old (S.meaning shelf.old)) (inner_meaning core.new (S.meaning shelf.new))) }
+    ensures acts { PlexActs Nothing core.old.config core.new.config (S.meaning shelf.old) (S.meaning shelf.new) }
     ensures gave_up { GivesUp vol core.old core.new (S.meaning shelf.old) (S.meaning shelf.new) result }
-    ensures loses { Loses core.old.config core.new.config (S.meaning shelf.old) (S.meaning shelf.new) }
+    ensures loses { LosesPlexes core.old.config core.new.config (S.meaning shelf.old) (S.meaning shelf.new) }
     ensures trust { OnOk result (core.old.committed ≡ true → core.new.committed ≡ true) }
     ensures agreed { IfErr result (λ e. core.old.committed ≡ true → core.new.agreed ≡ true) }
-    ensures cause { Cause (meaning_of core.old (S.meaning shelf.old)) (meaning_of core.new (S.meaning shelf.new)) vol result }
+    ensures cause { Cause (inner_meaning core.old (S.meaning shelf.old)) (inner_meaning core.new (S.meaning shelf.new)) vol result }
     ensures unit_faults { (u : ℕ) → (S.meaning shelf.old).faults u ≤ (S.meaning shelf.new).faults u }
     ensures marks { MarksOn vol core.old.unsure core.new.unsure result }
 {
@@ -97,16 +99,17 @@ pub fn flush_group<S: Shelf>(
     vol: u32,
 ) -> Result<(), ShelfError>
     requires stands { GroupStands core.old (S.meaning shelf.old) }
-    requires there { vol < (meaning_of (wide core.old) (S.meaning shelf.old)).units }
+    requires there { vol < (inner_meaning (wide core.old) (S.meaning shelf.old)).units }
     ensures stands { GroupStands core.new (S.meaning shelf.new) }
-    ensures goes { Goes Nothing (meaning_of (wide core.old) (S.meaning shelf.old)) (meaning_of (wide core.new) (S.meaning shelf.new)) }
-    ensures ok { OnOk result (Flushed vol (meaning_of (wide core.old) (S.meaning shelf.old)) (meaning_of (wide core.new) (S.meaning shelf.new))) }
+    ensures goes { Goes Nothing (inner_meaning (wide core.old) (S.meaning shelf.old)) (inner_meaning (wide core.new) (S.meaning shelf.new)) }
+    ensures ok { OnOk result (Flushed vol (inner_meaning (wide core.old) (S.meaning shelf.old)) (inner_meaning (wide core.new) (S.meaning shelf.new))) }
+    ensures acts { PlexActs Nothing (wide core.old).config (wide core.new).config (S.meaning shelf.old) (S.meaning shelf.new) }
     ensures gave_up { GivesUp vol core.old.inner core.new.inner (S.meaning shelf.old) (S.meaning shelf.new) result }
-    ensures loses { Loses core.old.inner.config core.new.inner.config (S.meaning shelf.old) (S.meaning shelf.new) }
+    ensures loses { LosesPlexes core.old.inner.config core.new.inner.config (S.meaning shelf.old) (S.meaning shelf.new) }
     ensures clear { core.old.inner.config.serial < greatest → OnOk result (core.new.held ≡ None) }
     ensures trust { OnOk result (core.old.inner.committed ≡ true → core.new.inner.committed ≡ true) }
     ensures agreed { IfErr result (λ e. core.old.inner.committed ≡ true → core.new.inner.agreed ≡ true) }
-    ensures cause { Cause (meaning_of (wide core.old) (S.meaning shelf.old)) (meaning_of (wide core.new) (S.meaning shelf.new)) vol result }
+    ensures cause { Cause (inner_meaning (wide core.old) (S.meaning shelf.old)) (inner_meaning (wide core.new) (S.meaning shelf.new)) vol result }
 {
     if shelf.is_down() {
         return Err(ShelfError::Down);

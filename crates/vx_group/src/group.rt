@@ -8,7 +8,7 @@ ghost use Rattle.vx_config.specs.Table.{greatest};
 ghost use Rattle.vx_group.specs.Attaches.{GroupAttachEnds, att_refusal, copied_regions};
 ghost use Rattle.vx_group.specs.Deports.{DeportStops, GroupCanImport};
 ghost use Rattle.vx_group.specs.Dets.{DetStops, det_refusal, margin};
-ghost use Rattle.vx_group.specs.Loses.{Loses};
+ghost use Rattle.vx_group.specs.Loses.{LosesPlexes};
 ghost use Rattle.vx_group.specs.Makes.{MakeEnds, Unmoved, make_refusal};
 ghost use Rattle.vx_model.specs.declared.no.No.{No as NoValue};
 ghost use Rattle.vx_volume.specs.Plexes.{active};
@@ -23,7 +23,7 @@ ghost use Rattle.vx_kept.specs.Trusts.{HasFailed};
 ghost use Rattle.vx_group.specs.Laws.{group_lawful};
 ghost use Rattle.vx_group.specs.Regains.{HoldsPlex, Regains};
 ghost use Rattle.vx_group.specs.Resumes.{AtRest, CanImport};
-ghost use Rattle.vx_group.specs.Stands.{meaning_of};
+ghost use Rattle.vx_group.specs.Stands.{inner_meaning};
 
 use crate::att::att_in;
 use crate::crashing::crash_in;
@@ -127,7 +127,7 @@ impl<S: Shelf> Group<S> {
     /// that write headers back, and takes no memory.
     pub fn det(&mut self, vol: u32, plex: u32) -> Result<(), Stop>
         ensures refused { (no : NoValue) → det_refusal self.old.core.inner.config vol plex ≡ Some no → (result ≡ Err (Refused no)) × (self.new.core ≡ self.old.core) × (self.new.shelf ≡ self.old.shelf) }
-        ensures goes { Goes Nothing (meaning_of (wide self.old.core) (S.meaning self.old.shelf)) (meaning_of (wide self.new.core) (S.meaning self.new.shelf)) }
+        ensures goes { Goes Nothing (inner_meaning (wide self.old.core) (S.meaning self.old.shelf)) (inner_meaning (wide self.new.core) (S.meaning self.new.shelf)) }
         ensures narrows { GroupNarrows self.old.core self.new.core (S.meaning self.old.shelf) (S.meaning self.new.shelf) }
         ensures off { OnOk result (active self.new.core.inner.config vol plex ≡ false) }
         ensures others { (w p : ℕ) → (w ≡ vol → p ≡ plex → ⊥) → active self.new.core.inner.config w p ≡ active self.old.core.inner.config w p }
@@ -220,7 +220,7 @@ impl<R: Rack> Group<R> {
     pub fn crash(self, pick: u64) -> R
         ensures stopped { Stopped (R.meaning self.shelf) (R.meaning result) }
         ensures disks { OnDisks (R.meaning self.shelf).disks (R.meaning result).disks (Crashed (R.meaning self.shelf).size pick) }
-        ensures volumes { Stopped (meaning_of (wide self.core) (R.meaning self.shelf)) (meaning_of (wide self.core) (R.meaning result)) }
+        ensures volumes { Stopped (inner_meaning (wide self.core) (R.meaning self.shelf)) (inner_meaning (wide self.core) (R.meaning result)) }
         ensures can { self.core.inner.agreed ≡ true → CanImport (R.meaning result) }
     {
         let mut rack = self.shelf;
@@ -231,7 +231,7 @@ impl<R: Rack> Group<R> {
 }
 
 impl<S: Shelf> Shelf for Group<S> {
-    ghost meaning = { λ g. meaning_of (wide g.core) (S.meaning g.shelf) };
+    ghost meaning = { λ g. inner_meaning (wide g.core) (S.meaning g.shelf) };
 
     fn units(&self) -> u32 {
         self.core.inner.config.volumes.as_slice().len() as u32
@@ -243,16 +243,16 @@ impl<S: Shelf> Shelf for Group<S> {
 
     /// Reads from one plex that is ACTIVE in the configuration.
     fn read(&mut self, unit: u32, block: u64, into: &mut [u8]) -> Result<(), ShelfError>
-        requires { Fits (meaning_of (wide self.old.core) (S.meaning self.old.shelf)) unit block (length into.old) }
-        ensures goes { Goes Nothing (meaning_of (wide self.old.core) (S.meaning self.old.shelf)) (meaning_of (wide self.new.core) (S.meaning self.new.shelf)) }
-        ensures ok { OnOk result (Read (meaning_of (wide self.old.core) (S.meaning self.old.shelf)) unit block into.new) }
-        ensures down { (meaning_of (wide self.new.core) (S.meaning self.new.shelf)).down ≡ (meaning_of (wide self.old.core) (S.meaning self.old.shelf)).down }
-        ensures cause { Cause (meaning_of (wide self.old.core) (S.meaning self.old.shelf)) (meaning_of (wide self.new.core) (S.meaning self.new.shelf)) unit result }
-        ensures counts { CountsOnly unit result (meaning_of (wide self.old.core) (S.meaning self.old.shelf)).faults (meaning_of (wide self.new.core) (S.meaning self.new.shelf)).faults }
-        ensures names { Names (meaning_of (wide self.old.core) (S.meaning self.old.shelf)).disks unit result }
-        ensures works { OnOk result (Works (meaning_of (wide self.old.core) (S.meaning self.old.shelf)).disks unit) }
-        ensures disks { OnDisks (meaning_of (wide self.old.core) (S.meaning self.old.shelf)).disks (meaning_of (wide self.new.core) (S.meaning self.new.shelf)).disks Untouched }
-        ensures shown { OnOk result (Read (meaning_of self.old.core.inner (S.meaning self.old.shelf)) unit block into.new) }
+        requires { Fits (inner_meaning (wide self.old.core) (S.meaning self.old.shelf)) unit block (length into.old) }
+        ensures goes { Goes Nothing (inner_meaning (wide self.old.core) (S.meaning self.old.shelf)) (inner_meaning (wide self.new.core) (S.meaning self.new.shelf)) }
+        ensures ok { OnOk result (Read (inner_meaning (wide self.old.core) (S.meaning self.old.shelf)) unit block into.new) }
+        ensures down { (inner_meaning (wide self.new.core) (S.meaning self.new.shelf)).down ≡ (inner_meaning (wide self.old.core) (S.meaning self.old.shelf)).down }
+        ensures cause { Cause (inner_meaning (wide self.old.core) (S.meaning self.old.shelf)) (inner_meaning (wide self.new.core) (S.meaning self.new.shelf)) unit result }
+        ensures counts { CountsOnly unit result (inner_meaning (wide self.old.core) (S.meaning self.old.shelf)).faults (inner_meaning (wide self.new.core) (S.meaning self.new.shelf)).faults }
+        ensures names { Names (inner_meaning (wide self.old.core) (S.meaning self.old.shelf)).disks unit result }
+        ensures works { OnOk result (Works (inner_meaning (wide self.old.core) (S.meaning self.old.shelf)).disks unit) }
+        ensures disks { OnDisks (inner_meaning (wide self.old.core) (S.meaning self.old.shelf)).disks (inner_meaning (wide self.new.core) (S.meaning self.new.shelf)).disks Untouched }
+        ensures shown { OnOk result (Read (inner_meaning self.old.core.inner (S.meaning self.old.shelf)) unit block into.new) }
         ensures same { self.new.core.inner.config ≡ self.old.core.inner.config }
     {
         read_in(&mut self.shelf, &mut self.core, unit, block, into)
@@ -261,15 +261,15 @@ impl<S: Shelf> Shelf for Group<S> {
     /// Writes to each plex that is ACTIVE. Where one is held back, it is detached by a commit first, while a serial is left. A fault comes only
     /// where each of them had a failed call on one of its disks in this call, or where a commit was refused; then no plex changes its state.
     fn write(&mut self, unit: u32, block: u64, bytes: &[u8]) -> Result<(), ShelfError>
-        requires { Fits (meaning_of (wide self.old.core) (S.meaning self.old.shelf)) unit block (length bytes.now) }
-        ensures goes { Goes (Written unit block bytes.now) (meaning_of (wide self.old.core) (S.meaning self.old.shelf)) (meaning_of (wide self.new.core) (S.meaning self.new.shelf)) }
-        ensures ok { OnOk result (Wrote unit block bytes.now (meaning_of (wide self.old.core) (S.meaning self.old.shelf)) (meaning_of (wide self.new.core) (S.meaning self.new.shelf))) }
-        ensures cause { Cause (meaning_of (wide self.old.core) (S.meaning self.old.shelf)) (meaning_of (wide self.new.core) (S.meaning self.new.shelf)) unit result }
-        ensures names { Names (meaning_of (wide self.old.core) (S.meaning self.old.shelf)).disks unit result }
-        ensures works { OnOk result (Works (meaning_of (wide self.old.core) (S.meaning self.old.shelf)).disks unit) }
-        ensures disks { OnDisks (meaning_of (wide self.old.core) (S.meaning self.old.shelf)).disks (meaning_of (wide self.new.core) (S.meaning self.new.shelf)).disks (λ o n. Calls (meaning_of (wide self.old.core) (S.meaning self.old.shelf)) (DisksWrote unit block bytes.now) o n result) }
+        requires { Fits (inner_meaning (wide self.old.core) (S.meaning self.old.shelf)) unit block (length bytes.now) }
+        ensures goes { Goes (Written unit block bytes.now) (inner_meaning (wide self.old.core) (S.meaning self.old.shelf)) (inner_meaning (wide self.new.core) (S.meaning self.new.shelf)) }
+        ensures ok { OnOk result (Wrote unit block bytes.now (inner_meaning (wide self.old.core) (S.meaning self.old.shelf)) (inner_meaning (wide self.new.core) (S.meaning self.new.shelf))) }
+        ensures cause { Cause (inner_meaning (wide self.old.core) (S.meaning self.old.shelf)) (inner_meaning (wide self.new.core) (S.meaning self.new.shelf)) unit result }
+        ensures names { Names (inner_meaning (wide self.old.core) (S.meaning self.old.shelf)).disks unit result }
+        ensures works { OnOk result (Works (inner_meaning (wide self.old.core) (S.meaning self.old.shelf)).disks unit) }
+        ensures disks { OnDisks (inner_meaning (wide self.old.core) (S.meaning self.old.shelf)).disks (inner_meaning (wide self.new.core) (S.meaning self.new.shelf)).disks (λ o n. Calls (inner_meaning (wide self.old.core) (S.meaning self.old.shelf)) (DisksWrote unit block bytes.now) o n result) }
         ensures gave_up { GivesUp unit self.old.core.inner self.new.core.inner (S.meaning self.old.shelf) (S.meaning self.new.shelf) result }
-        ensures loses { Loses self.old.core.inner.config self.new.core.inner.config (S.meaning self.old.shelf) (S.meaning self.new.shelf) }
+        ensures loses { LosesPlexes self.old.core.inner.config self.new.core.inner.config (S.meaning self.old.shelf) (S.meaning self.new.shelf) }
         ensures clear { self.old.core.inner.config.serial < greatest → OnOk result (self.new.core.held ≡ None) }
         ensures trust { OnOk result (self.old.core.inner.committed ≡ true → self.new.core.inner.committed ≡ true) }
         ensures agreed { IfErr result (λ e. self.old.core.inner.committed ≡ true → self.new.core.inner.agreed ≡ true) }
@@ -279,15 +279,15 @@ impl<S: Shelf> Shelf for Group<S> {
 
     /// Flushes each plex that is ACTIVE. A fault comes only as in a write.
     fn flush(&mut self, unit: u32) -> Result<(), ShelfError>
-        requires { unit < (meaning_of (wide self.old.core) (S.meaning self.old.shelf)).units }
-        ensures goes { Goes Nothing (meaning_of (wide self.old.core) (S.meaning self.old.shelf)) (meaning_of (wide self.new.core) (S.meaning self.new.shelf)) }
-        ensures ok { OnOk result (Flushed unit (meaning_of (wide self.old.core) (S.meaning self.old.shelf)) (meaning_of (wide self.new.core) (S.meaning self.new.shelf))) }
-        ensures cause { Cause (meaning_of (wide self.old.core) (S.meaning self.old.shelf)) (meaning_of (wide self.new.core) (S.meaning self.new.shelf)) unit result }
-        ensures names { Names (meaning_of (wide self.old.core) (S.meaning self.old.shelf)).disks unit result }
-        ensures works { OnOk result (Works (meaning_of (wide self.old.core) (S.meaning self.old.shelf)).disks unit) }
-        ensures disks { OnDisks (meaning_of (wide self.old.core) (S.meaning self.old.shelf)).disks (meaning_of (wide self.new.core) (S.meaning self.new.shelf)).disks (λ o n. Calls (meaning_of (wide self.old.core) (S.meaning self.old.shelf)) (DisksFlushed unit) o n result) }
+        requires { unit < (inner_meaning (wide self.old.core) (S.meaning self.old.shelf)).units }
+        ensures goes { Goes Nothing (inner_meaning (wide self.old.core) (S.meaning self.old.shelf)) (inner_meaning (wide self.new.core) (S.meaning self.new.shelf)) }
+        ensures ok { OnOk result (Flushed unit (inner_meaning (wide self.old.core) (S.meaning self.old.shelf)) (inner_meaning (wide self.new.core) (S.meaning self.new.shelf))) }
+        ensures cause { Cause (inner_meaning (wide self.old.core) (S.meaning self.old.shelf)) (inner_meaning (wide self.new.core) (S.meaning self.new.shelf)) unit result }
+        ensures names { Names (inner_meaning (wide self.old.core) (S.meaning self.old.shelf)).disks unit result }
+        ensures works { OnOk result (Works (inner_meaning (wide self.old.core) (S.meaning self.old.shelf)).disks unit) }
+        ensures disks { OnDisks (inner_meaning (wide self.old.core) (S.meaning self.old.shelf)).disks (inner_meaning (wide self.new.core) (S.meaning self.new.shelf)).disks (λ o n. Calls (inner_meaning (wide self.old.core) (S.meaning self.old.shelf)) (DisksFlushed unit) o n result) }
         ensures gave_up { GivesUp unit self.old.core.inner self.new.core.inner (S.meaning self.old.shelf) (S.meaning self.new.shelf) result }
-        ensures loses { Loses self.old.core.inner.config self.new.core.inner.config (S.meaning self.old.shelf) (S.meaning self.new.shelf) }
+        ensures loses { LosesPlexes self.old.core.inner.config self.new.core.inner.config (S.meaning self.old.shelf) (S.meaning self.new.shelf) }
         ensures clear { self.old.core.inner.config.serial < greatest → OnOk result (self.new.core.held ≡ None) }
         ensures trust { OnOk result (self.old.core.inner.committed ≡ true → self.new.core.inner.committed ≡ true) }
         ensures agreed { IfErr result (λ e. self.old.core.inner.committed ≡ true → self.new.core.inner.agreed ≡ true) }

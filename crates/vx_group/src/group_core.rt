@@ -4,15 +4,15 @@ use crate::inner::Inner;
 /// A plex that is held back.
 #[derive(Clone, Copy)]
 pub struct Held {
-    pub(crate) vol: u32,
-    pub(crate) plex: u32,
+    pub vol: u32,
+    pub plex: u32,
 }
 
 /// All of a group but the shelf below it.
 #[derive(Drop)]
 pub struct GroupCore {
-    pub(crate) inner: Inner,
+    pub inner: Inner,
     /// A plex that is STALE here and may be ACTIVE by what the disks keep: the commit that makes it ACTIVE was refused, and so was the one
     /// that takes this back.
-    pub(crate) held: Option<Held>,
+    pub held: Option<Held>,
 }

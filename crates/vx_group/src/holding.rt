@@ -1,8 +1,8 @@
 // A plex that is held back: STALE in memory, and ACTIVE by what the disks may keep.
 ghost use Rattle.std.specs.Prelude.{◌≡◌, None};
+ghost use Rattle.vx_config.specs.Checks.{plexes_of};
 ghost use Rattle.vx_group.specs.Dets.{any_below, is_other};
 ghost use Rattle.vx_group.specs.Holding.{HeldAgain, HeldBack, wide};
-ghost use Rattle.vx_volume.specs.Plexes.{plexes_of};
 
 use crate::group_core::{GroupCore, Held};
 use vx_config::{Config, PlexState};

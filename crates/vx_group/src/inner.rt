@@ -6,21 +6,21 @@ use vx_model::limits::MOST_VOLUMES;
 /// The configuration in memory, and what is known of the disks and of the volumes beside.
 #[derive(Drop)]
 pub struct Inner {
-    pub(crate) config: Config,
+    pub config: Config,
     /// The disks that the newest committed configuration holds as good.
-    pub(crate) good: u8,
+    pub good: u8,
     /// The memory of a commit.
-    pub(crate) room: Room,
+    pub room: Room,
     /// A commit was refused, and none was made since.
-    pub(crate) unsettled: bool,
+    pub unsettled: bool,
     /// The newest configuration is committed: it is that of each image that a crash may leave.
-    pub(crate) committed: bool,
+    pub committed: bool,
     /// Whichever disks can be read behind a crash, an import finds one configuration, or none.
-    pub(crate) agreed: bool,
+    pub agreed: bool,
     /// Of each volume the plex that the next read asks first.
-    pub(crate) next: [u32; MOST_VOLUMES],
+    pub next: [u32; MOST_VOLUMES],
     /// Of each volume how many calls on it failed.
-    pub(crate) faults: [u64; MOST_VOLUMES],
+    pub faults: [u64; MOST_VOLUMES],
     /// Of each volume whether a write or a flush of it failed with a fault since the group was made: its plexes may differ.
-    pub(crate) unsure: [bool; MOST_VOLUMES],
+    pub unsure: [bool; MOST_VOLUMES],
 }

@@ -5,13 +5,13 @@ ghost use Rattle.vx_config.specs.Configs.{CanSpell};
 ghost use Rattle.vx_config.specs.Table.{greatest};
 ghost use Rattle.vx_model.specs.declared.errors.Stop.TheVariants.{No as Refused};
 ghost use Rattle.vx_model.specs.declared.no.No.{No as NoValue};
-ghost use Rattle.vx_group.specs.Blames.{StopsBy};
+ghost use Rattle.vx_group.specs.Blames.{StopsByDevice};
 ghost use Rattle.vx_group.specs.Calls.{GroupStays};
 ghost use Rattle.vx_group.specs.Holding.{GroupStands};
 ghost use Rattle.vx_group.specs.Makes.{MakeEnds, StayAsWere, Unmoved, make_refusal};
-ghost use Rattle.vx_group.specs.Nexts.{Adds, IsNext, PlanEnds};
+ghost use Rattle.vx_group.specs.Nexts.{Adds, IsNextConfig, PlanEnds};
 ghost use Rattle.vx_kept.specs.Trusts.{HasFailed};
-ghost use Rattle.vx_group.specs.Stands.{Stands};
+ghost use Rattle.vx_group.specs.Stands.{InnerStands};
 
 use crate::detaching::{fault_of, good_of};
 use crate::group_core::GroupCore;
@@ -65,18 +65,18 @@ fn plan(alloc: Global, config: &Config, name: &Name, want: &Shape) -> Result<Con
 
 // Writes zeros to the plexes of the last volume of the next configuration, and commits it.
 fn add_last<S: Shelf>(shelf: &mut S, core: &mut Inner, next: Config) -> Result<(), ShelfError>
-    requires stands { Stands core.old (S.meaning shelf.old) }
+    requires stands { InnerStands core.old (S.meaning shelf.old) }
     requires settled { core.old.unsettled ≡ false }
     requires more { core.old.config.serial < greatest }
-    requires is_next { IsNext core.old.config next }
+    requires is_next { IsNextConfig core.old.config next }
     requires up { IsTrue (S.meaning shelf.old).down → ⊥ }
-    ensures stands { Stands core.new (S.meaning shelf.new) }
+    ensures stands { InnerStands core.new (S.meaning shelf.new) }
     ensures stays { StayAsWere core.old core.new (S.meaning shelf.old) (S.meaning shelf.new) }
     ensures adds { Adds core.old core.new next (S.meaning shelf.new) result }
     ensures trust { OnOk result (core.old.committed ≡ true → core.new.committed ≡ true) }
     ensures whole { OnOk result ((core.new.committed ≡ true) ⊎ HasFailed core.new.config.disks) }
     ensures agreed { IfErr result (λ e. core.old.committed ≡ true → core.new.agreed ≡ true) }
-    ensures cause { StopsBy (S.meaning shelf.old) (S.meaning shelf.new) result }
+    ensures cause { StopsByDevice (S.meaning shelf.old) (S.meaning shelf.new) result }
 {
     let mut next = next;
     let vol = core.config.volumes.as_slice().len() as u32;
@@ -107,17 +107,17 @@ fn add_last<S: Shelf>(shelf: &mut S, core: &mut Inner, next: Config) -> Result<(
 
 // The same, behind the headers that a refused commit asks for.
 fn add<S: Shelf>(shelf: &mut S, core: &mut Inner, next: Config) -> Result<(), ShelfError>
-    requires stands { Stands core.old (S.meaning shelf.old) }
+    requires stands { InnerStands core.old (S.meaning shelf.old) }
     requires more { core.old.config.serial < greatest }
-    requires is_next { IsNext core.old.config next }
+    requires is_next { IsNextConfig core.old.config next }
     requires up { IsTrue (S.meaning shelf.old).down → ⊥ }
-    ensures stands { Stands core.new (S.meaning shelf.new) }
+    ensures stands { InnerStands core.new (S.meaning shelf.new) }
     ensures stays { StayAsWere core.old core.new (S.meaning shelf.old) (S.meaning shelf.new) }
     ensures adds { Adds core.old core.new next (S.meaning shelf.new) result }
     ensures trust { OnOk result (core.old.committed ≡ true → core.new.committed ≡ true) }
     ensures whole { OnOk result ((core.new.committed ≡ true) ⊎ HasFailed core.new.config.disks) }
     ensures agreed { IfErr result (λ e. core.old.committed ≡ true → core.new.agreed ≡ true) }
-    ensures cause { StopsBy (S.meaning shelf.old) (S.meaning shelf.new) result }
+    ensures cause { StopsByDevice (S.meaning shelf.old) (S.meaning shelf.new) result }
 {
     match settle_headers(shelf, core) {
         Ok(()) => {}

@@ -3,8 +3,8 @@ ghost use Rattle.std.specs.Prelude.{◌≡◌, ◌<◌, ◌≤◌, ℕ, length, 
 ghost use Rattle.vx_group.specs.Blames.{Blames};
 ghost use Rattle.vx_group.specs.Mends.{Mended, Mending};
 ghost use Rattle.vx_group.specs.Resumes.{source_at};
-ghost use Rattle.vx_group.specs.Stands.{Stands};
-ghost use Rattle.vx_kept.specs.Cleans.{marked};
+ghost use Rattle.vx_group.specs.Stands.{InnerStands};
+ghost use Rattle.vx_kept.specs.Cleans.{is_unsure};
 ghost use Rattle.vx_model.specs.declared.limits.TheConstants.{MOST_VOLUMES};
 ghost use Rattle.vx_volume.specs.Plexes.{active};
 
@@ -20,7 +20,7 @@ pub fn mend_volumes<S: Shelf>(
     stopped: &[bool; MOST_VOLUMES],
     sources: &[u32; MOST_VOLUMES],
 ) -> Result<(), ShelfError>
-    requires stands { Stands core.old (S.meaning shelf.old) }
+    requires stands { InnerStands core.old (S.meaning shelf.old) }
     requires settled { core.old.unsettled ≡ false }
     requires on { (v : ℕ) → v < length core.old.config.volumes → IsTrue (active core.old.config v (source_at sources.now v)) }
     requires up { IsTrue (S.meaning shelf.old).down → ⊥ }

@@ -5,7 +5,7 @@ ghost use Rattle.vx_config.specs.Checks.{is_live as is_live_is};
 ghost use Rattle.vx_disk.specs.Blocks.{bit_at};
 ghost use Rattle.vx_group.specs.Resumes.{first_in, sits_in as sits_in_is, source_at, source_of as source_is, stopped, takes_in as takes_in_is};
 ghost use Rattle.vx_kept.specs.Choice.{first_where};
-ghost use Rattle.vx_kept.specs.Cleans.{marked};
+ghost use Rattle.vx_kept.specs.Cleans.{is_unsure};
 ghost use Rattle.vx_model.specs.declared.limits.TheConstants.{MOST_VOLUMES};
 
 use vx_config::{Config, PlexEntry, PlexState, Subdisk};
@@ -28,7 +28,7 @@ fn is_stopped(config: &Config, vol: u32) -> bool
 /// Of each volume whether it stopped uncleanly.
 pub fn stopped_of(config: &Config) -> [bool; MOST_VOLUMES]
     requires few { length config.now.volumes ≤ MOST_VOLUMES }
-    ensures { (v : ℕ) → v < length config.now.volumes → marked result v ≡ stopped config.now v }
+    ensures { (v : ℕ) → v < length config.now.volumes → is_unsure result v ≡ stopped config.now v }
 {
     let mut flags = [false; MOST_VOLUMES];
     for vol in 0..config.volumes.as_slice().len() {

@@ -1,10 +1,10 @@
 // The flushes that come before the commit of a deport.
 ghost use Rattle.std.specs.Prelude.{◌≡◌, ◌<◌, ℕ, length, false, IsTrue};
 ghost use Rattle.vx_config.specs.Table.{greatest};
-ghost use Rattle.vx_group.specs.Blames.{Blames, Marks};
+ghost use Rattle.vx_group.specs.Blames.{Blames, MarksUnsure};
 ghost use Rattle.vx_group.specs.Deports.{IsVolumeOf};
 ghost use Rattle.vx_group.specs.Quiesces.{GoesOnBy, QuiesceEnds};
-ghost use Rattle.vx_group.specs.Stands.{Stands};
+ghost use Rattle.vx_group.specs.Stands.{InnerStands};
 ghost use Rattle.vx_model.specs.declared.limits.TheConstants.{MOST_VOLUMES};
 
 use crate::counting::mark;
@@ -17,7 +17,7 @@ use vx_volume::flush_all;
 // Marks a volume as unsure, of which a flush failed with a fault.
 fn mark_failed(unsure: &mut [bool; MOST_VOLUMES], vol: u32, error: ShelfError)
     requires inside { vol < MOST_VOLUMES }
-    ensures { Marks error vol unsure.old unsure.new }
+    ensures { MarksUnsure error vol unsure.old unsure.new }
 {
     match error {
         ShelfError::Fault { .. } => mark(unsure, vol),
@@ -32,7 +32,7 @@ fn leave_unsure(
     error: ShelfError,
 ) -> Result<(), ShelfError>
     requires inside { vol < MOST_VOLUMES }
-    ensures marks { Marks error vol unsure.old unsure.new }
+    ensures marks { MarksUnsure error vol unsure.old unsure.new }
     ensures goes_on { GoesOnBy error result }
 {
     match error {
@@ -46,7 +46,7 @@ fn leave_unsure(
 
 // Flushes a volume, and detaches its plexes that failed. Where each failed it becomes unsure.
 fn flush_one<S: Shelf>(shelf: &mut S, core: &mut Inner, vol: u32) -> Result<(), ShelfError>
-    requires stands { Stands core.old (S.meaning shelf.old) }
+    requires stands { InnerStands core.old (S.meaning shelf.old) }
     requires there { vol < length core.old.config.volumes }
     requires settled { core.old.unsettled ≡ false }
     requires up { IsTrue (S.meaning shelf.old).down → ⊥ }
@@ -80,7 +80,7 @@ fn flush_one<S: Shelf>(shelf: &mut S, core: &mut Inner, vol: u32) -> Result<(), 
 /// Flushes every volume, and detaches plexes that failed. A volume of which each plex failed becomes unsure. A refusal comes where a plex
 /// could not be detached.
 pub fn flush_volumes<S: Shelf>(shelf: &mut S, core: &mut Inner) -> Result<(), ShelfError>
-    requires stands { Stands core.old (S.meaning shelf.old) }
+    requires stands { InnerStands core.old (S.meaning shelf.old) }
     requires settled { core.old.unsettled ≡ false }
     requires up { IsTrue (S.meaning shelf.old).down → ⊥ }
     requires more { core.old.config.serial < greatest }

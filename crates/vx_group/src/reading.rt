@@ -3,7 +3,7 @@ ghost use Rattle.std.specs.Prelude.{◌≡◌, length, OnOk};
 ghost use Rattle.vx_disk.specs.Causes.{Cause, CountsOnly};
 ghost use Rattle.vx_disk.specs.Shelf.{Fits, Goes, Nothing, Read};
 ghost use Rattle.vx_group.specs.Holding.{GroupStands, wide};
-ghost use Rattle.vx_group.specs.Stands.{meaning_of};
+ghost use Rattle.vx_group.specs.Stands.{inner_meaning};
 
 use crate::counting::count_fault;
 use crate::group_core::GroupCore;
@@ -20,14 +20,14 @@ pub fn read_in<S: Shelf>(
     into: &mut [u8],
 ) -> Result<(), ShelfError>
     requires stands { GroupStands core.old (S.meaning shelf.old) }
-    requires fits { Fits (meaning_of (wide core.old) (S.meaning shelf.old)) vol block (length into.old) }
+    requires fits { Fits (inner_meaning (wide core.old) (S.meaning shelf.old)) vol block (length into.old) }
     ensures stands { GroupStands core.new (S.meaning shelf.new) }
-    ensures goes { Goes Nothing (meaning_of (wide core.old) (S.meaning shelf.old)) (meaning_of (wide core.new) (S.meaning shelf.new)) }
-    ensures shown { OnOk result (Read (meaning_of core.old.inner (S.meaning shelf.old)) vol block into.new) }
-    ensures ok { OnOk result (Read (meaning_of (wide core.old) (S.meaning shelf.old)) vol block into.new) }
+    ensures goes { Goes Nothing (inner_meaning (wide core.old) (S.meaning shelf.old)) (inner_meaning (wide core.new) (S.meaning shelf.new)) }
+    ensures shown { OnOk result (Read (inner_meaning core.old.inner (S.meaning shelf.old)) vol block into.new) }
+    ensures ok { OnOk result (Read (inner_meaning (wide core.old) (S.meaning shelf.old)) vol block into.new) }
     ensures down { (S.meaning shelf.new).down ≡ (S.meaning shelf.old).down }
-    ensures cause { Cause (meaning_of (wide core.old) (S.meaning shelf.old)) (meaning_of (wide core.new) (S.meaning shelf.new)) vol result }
-    ensures counts { CountsOnly vol result (meaning_of (wide core.old) (S.meaning shelf.old)).faults (meaning_of (wide core.new) (S.meaning shelf.new)).faults }
+    ensures cause { Cause (inner_meaning (wide core.old) (S.meaning shelf.old)) (inner_meaning (wide core.new) (S.meaning shelf.new)) vol result }
+    ensures counts { CountsOnly vol result (inner_meaning (wide core.old) (S.meaning shelf.old)).faults (inner_meaning (wide core.new) (S.meaning shelf.new)).faults }
     ensures held { core.new.held ≡ core.old.held }
     ensures same { core.new.inner.config ≡ core.old.inner.config }
     ensures unsure { core.new.inner.unsure ≡ core.old.inner.unsure }

@@ -8,7 +8,7 @@ ghost use Rattle.vx_kept.specs.Commits.{IsCommitted};
 ghost use Rattle.vx_volume.specs.Plexes.{uses as uses_is};
 ghost use Rattle.vx_group.specs.Moves.{Narrows};
 ghost use Rattle.vx_group.specs.Regains.{AreHeld, HeldOne, HoldsNow, LiesOnFailed, Regained, Regains};
-ghost use Rattle.vx_group.specs.Stands.{Stands};
+ghost use Rattle.vx_group.specs.Stands.{InnerStands};
 ghost use Rattle.vx_model.specs.declared.limits.TheConstants.{MOST_DISKS};
 
 use crate::detaching::detach_named;
@@ -75,11 +75,11 @@ fn recommit<S: Shelf>(
     vol: u32,
     plex: u32,
 ) -> Result<(), ShelfError>
-    requires stands { Stands core.old (S.meaning shelf.old) }
+    requires stands { InnerStands core.old (S.meaning shelf.old) }
     requires more { core.old.config.serial < greatest }
     requires held { AreHeld core.old.config vol plex }
     requires up { IsTrue (S.meaning shelf.old).down → ⊥ }
-    ensures stands { Stands core.new (S.meaning shelf.new) }
+    ensures stands { InnerStands core.new (S.meaning shelf.new) }
     ensures narrows { Narrows core.old core.new (S.meaning shelf.old) (S.meaning shelf.new) }
     ensures volumes { core.new.config.volumes ≡ core.old.config.volumes }
     ensures failing { MoreFailed (S.meaning shelf.old) (S.meaning shelf.new) core.old.config.disks core.new.config.disks }
@@ -116,10 +116,10 @@ pub fn regain<S: Shelf>(
     vol: u32,
     plex: u32,
 ) -> Result<(), ShelfError>
-    requires stands { Stands core.old (S.meaning shelf.old) }
+    requires stands { InnerStands core.old (S.meaning shelf.old) }
     requires more { core.old.config.serial < greatest }
     requires up { IsTrue (S.meaning shelf.old).down → ⊥ }
-    ensures stands { Stands core.new (S.meaning shelf.new) }
+    ensures stands { InnerStands core.new (S.meaning shelf.new) }
     ensures narrows { Narrows core.old core.new (S.meaning shelf.old) (S.meaning shelf.new) }
     ensures volumes { core.new.config.volumes ≡ core.old.config.volumes }
     ensures few { OnOk result (core.new.config.serial ≤ core.old.config.serial + 9) }

@@ -8,7 +8,7 @@ ghost use Rattle.vx_group.specs.GivesUp.{NoCommit};
 ghost use Rattle.vx_group.specs.Holding.{GroupStands, wide};
 ghost use Rattle.vx_group.specs.Moves.{Narrows};
 ghost use Rattle.vx_group.specs.Quiesces.{SameParts};
-ghost use Rattle.vx_group.specs.Stands.{Stands};
+ghost use Rattle.vx_group.specs.Stands.{InnerStands};
 ghost use Rattle.vx_kept.specs.States.{stale_at};
 ghost use Rattle.vx_volume.specs.Plexes.{active};
 
@@ -28,12 +28,12 @@ pub fn detach_plex<S: Shelf>(
     vol: u32,
     plex: u32,
 ) -> Result<(), ShelfError>
-    requires stands { Stands core.old (S.meaning shelf.old) }
+    requires stands { InnerStands core.old (S.meaning shelf.old) }
     requires is_on { IsTrue (active core.old.config vol plex) }
     requires other { HasOther core.old.config vol plex }
     requires more { core.old.config.serial < greatest }
     requires up { IsTrue (S.meaning shelf.old).down → ⊥ }
-    ensures stands { Stands core.new (S.meaning shelf.new) }
+    ensures stands { InnerStands core.new (S.meaning shelf.new) }
     ensures narrows { Narrows core.old core.new (S.meaning shelf.old) (S.meaning shelf.new) }
     ensures off { OnOk result (active core.new.config vol plex ≡ false) }
     ensures others { (w p : ℕ) → (w ≡ vol → p ≡ plex → ⊥) → active core.new.config w p ≡ active core.old.config w p }

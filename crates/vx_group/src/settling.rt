@@ -6,7 +6,7 @@ ghost use Rattle.vx_group.specs.GivesUp.{NoCommit};
 ghost use Rattle.vx_group.specs.Moves.{Narrows};
 ghost use Rattle.vx_group.specs.Quiesces.{AnyFailed};
 ghost use Rattle.vx_group.specs.Settled.{SameBut};
-ghost use Rattle.vx_group.specs.Stands.{Stands};
+ghost use Rattle.vx_group.specs.Stands.{InnerStands};
 
 use crate::detaching::detach;
 use crate::inner::Inner;
@@ -21,9 +21,9 @@ use vx_volume::Failed;
 ///
 /// It answers the device that failed last, where a disk came to be held as failed.
 pub fn settle_named<S: Shelf>(shelf: &mut S, core: &mut Inner) -> Result<u32, ShelfError>
-    requires stands { Stands core.old (S.meaning shelf.old) }
+    requires stands { InnerStands core.old (S.meaning shelf.old) }
     requires up { IsTrue (S.meaning shelf.old).down → ⊥ }
-    ensures stands { Stands core.new (S.meaning shelf.new) }
+    ensures stands { InnerStands core.new (S.meaning shelf.new) }
     ensures narrows { Narrows core.old core.new (S.meaning shelf.old) (S.meaning shelf.new) }
     ensures volumes { core.new.config.volumes ≡ core.old.config.volumes }
     ensures serial { core.new.config.serial ≡ core.old.config.serial }
@@ -70,9 +70,9 @@ pub fn settle_named<S: Shelf>(shelf: &mut S, core: &mut Inner) -> Result<u32, Sh
 
 /// What `settle_named` does, without the device.
 pub fn settle_headers<S: Shelf>(shelf: &mut S, core: &mut Inner) -> Result<(), ShelfError>
-    requires stands { Stands core.old (S.meaning shelf.old) }
+    requires stands { InnerStands core.old (S.meaning shelf.old) }
     requires up { IsTrue (S.meaning shelf.old).down → ⊥ }
-    ensures stands { Stands core.new (S.meaning shelf.new) }
+    ensures stands { InnerStands core.new (S.meaning shelf.new) }
     ensures narrows { Narrows core.old core.new (S.meaning shelf.old) (S.meaning shelf.new) }
     ensures volumes { core.new.config.volumes ≡ core.old.config.volumes }
     ensures serial { core.new.config.serial ≡ core.old.config.serial }
@@ -95,9 +95,9 @@ pub fn settle_headers<S: Shelf>(shelf: &mut S, core: &mut Inner) -> Result<(), S
 /// Makes the group ready for a write: after a refused commit it writes headers back, and commits the configuration as it stands.
 /// Where no serial is left it does nothing.
 pub fn make_ready<S: Shelf>(shelf: &mut S, core: &mut Inner) -> Result<(), ShelfError>
-    requires stands { Stands core.old (S.meaning shelf.old) }
+    requires stands { InnerStands core.old (S.meaning shelf.old) }
     requires up { IsTrue (S.meaning shelf.old).down → ⊥ }
-    ensures stands { Stands core.new (S.meaning shelf.new) }
+    ensures stands { InnerStands core.new (S.meaning shelf.new) }
     ensures narrows { Narrows core.old core.new (S.meaning shelf.old) (S.meaning shelf.new) }
     ensures volumes { core.new.config.volumes ≡ core.old.config.volumes }
     ensures failing { MoreFailed (S.meaning shelf.old) (S.meaning shelf.new) core.old.config.disks core.new.config.disks }

@@ -5,7 +5,7 @@ ghost use Rattle.vx_model.specs.declared.limits.TheConstants.{MOST_PLEXES};
 ghost use Rattle.vx_model.specs.declared.no.No.TheVariants.{Limit};
 ghost use Rattle.vx_layout.specs.Made.{made_plex};
 ghost use Rattle.vx_layout.specs.Space.{IsShape};
-ghost use Rattle.vx_group.specs.Makes.{IsVolume, has_name, is_few, is_shape as is_shape_is, log_count, log_or, make_refusal};
+ghost use Rattle.vx_group.specs.Makes.{IsVolume, has_name, is_few, is_shape as is_shape_is, log_count, lost_log, make_refusal};
 
 use std::alloc::Global;
 use vx_config::{Config, LogEntry, PlexEntry, PlexState, Plexes, Subdisk, Subdisks, VolumeEntry};
@@ -109,7 +109,7 @@ fn plexes_of(alloc: Global, found: &[Runs]) -> Result<Plexes, OutOfMemory>
 
 // The log in such a run. Its maps are not kept yet, so they are not to be trusted.
 fn log_at(logs: &[Subdisk], place: usize) -> Option<LogEntry>
-    ensures { result ≡ log_or (slice_get logs.now place) }
+    ensures { result ≡ lost_log (slice_get logs.now place) }
 {
     match logs.get(place) {
         Some(run) => Some(LogEntry {
@@ -124,14 +124,14 @@ fn log_at(logs: &[Subdisk], place: usize) -> Option<LogEntry>
 
 // The log of the regions of writes, where it is wanted.
 fn drl_of(want: &Shape, logs: &[Subdisk]) -> Option<LogEntry>
-    ensures { result ≡ (if want.now.drl then log_or (slice_get logs.now 0) else None) }
+    ensures { result ≡ (if want.now.drl then lost_log (slice_get logs.now 0) else None) }
 {
     if want.drl { log_at(logs, 0) } else { None }
 }
 
 // The log of missed regions, where it is wanted.
 fn fmr_of(want: &Shape, logs: &[Subdisk]) -> Option<LogEntry>
-    ensures { result ≡ (if want.now.fmr then log_or (slice_get logs.now (if want.now.drl then 1 else 0)) else None) }
+    ensures { result ≡ (if want.now.fmr then lost_log (slice_get logs.now (if want.now.drl then 1 else 0)) else None) }
 {
     if want.fmr {
         log_at(logs, usize::from(want.drl))

@@ -4,7 +4,7 @@ ghost use Rattle.vx_model.specs.declared.limits.TheConstants.{MOST_VOLUMES};
 ghost use Rattle.vx_config.specs.Checks.{blocks_of as blocks_of_is, is_sound};
 ghost use Rattle.vx_copyio.specs.Labelling.{AreLarge};
 ghost use Rattle.vx_disk.specs.Shelf.{Goes, Nothing};
-ghost use Rattle.vx_group.specs.Resumes.{CanImport, Planned, Refuses, Takes};
+ghost use Rattle.vx_group.specs.Resumes.{CanImport, Planned, RefusesPlan, TakesPlan};
 
 use crate::inner::Inner;
 use crate::marking::has_good;
@@ -33,7 +33,7 @@ pub struct Plan {
 
 // Why a configuration is not taken up.
 fn refuse(config: &Config, good: u8) -> Option<No>
-    ensures { Refuses config.now good result }
+    ensures { RefusesPlan config.now good result }
 {
     if MOST_NUMBER - MARGIN < config.serial {
         return Some(No::Limit {
@@ -100,7 +100,7 @@ pub fn take_up<S: Shelf>(alloc: Global, shelf: &mut S) -> Result<Plan, Stop>
     requires can { CanImport (S.meaning shelf.old) }
     ensures goes { Goes Nothing (S.meaning shelf.old) (S.meaning shelf.new) }
     ensures down { (S.meaning shelf.new).down ≡ (S.meaning shelf.old).down }
-    ensures takes { Takes (S.meaning shelf.old) (S.meaning shelf.new) result }
+    ensures takes { TakesPlan (S.meaning shelf.old) (S.meaning shelf.new) result }
 {
     match import(alloc, shelf) {
         Ok((config, good)) => plan_of(alloc, config, good),

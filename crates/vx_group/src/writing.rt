@@ -1,14 +1,16 @@
 // A write of a volume.
-ghost use Rattle.std.specs.Prelude.{◌≡◌, ◌<◌, ◌≤◌, ℕ, length, IsTrue, None, OnOk, true, IfErr};
+ghost use Rattle.std.specs.Prelude.{◌≡◌, ◌/◌, ◌<◌, ◌≤◌, ℕ, length, IsTrue, None, OnOk, true, IfErr};
 ghost use Rattle.vx_disk.specs.Causes.{Cause};
 ghost use Rattle.vx_disk.specs.Shelf.{Fits, Goes, Written, Wrote};
 ghost use Rattle.vx_config.specs.Table.{greatest};
 ghost use Rattle.vx_group.specs.Blames.{Blames, MarksOn};
 ghost use Rattle.vx_group.specs.GivesUp.{GivesUp};
 ghost use Rattle.vx_group.specs.Holding.{GroupStands, wide};
-ghost use Rattle.vx_group.specs.Loses.{Loses};
+ghost use Rattle.vx_group.specs.Loses.{LosesPlexes};
 ghost use Rattle.vx_group.specs.Moves.{AllWrote};
-ghost use Rattle.vx_group.specs.Stands.{Stands, meaning_of};
+ghost use Rattle.vx_kept.specs.PlexActs.{PlexActs};
+ghost use Rattle.vx_volume.specs.Volumes.{OnPlexes};
+ghost use Rattle.vx_group.specs.Stands.{InnerStands, inner_meaning};
 
 use crate::counting::give_up;
 use crate::detaching::{detach, fault_of};
@@ -28,18 +30,19 @@ fn write_plexes<S: Shelf>(
     block: u64,
     bytes: &[u8],
 ) -> Result<(), ShelfError>
-    requires stands { Stands core.old (S.meaning shelf.old) }
-    requires fits { Fits (meaning_of core.old (S.meaning shelf.old)) vol block (length bytes.now) }
+    requires stands { InnerStands core.old (S.meaning shelf.old) }
+    requires fits { Fits (inner_meaning core.old (S.meaning shelf.old)) vol block (length bytes.now) }
     requires up { IsTrue (S.meaning shelf.old).down → ⊥ }
-    ensures stands { Stands core.new (S.meaning shelf.new) }
-    ensures goes { Goes (Written vol block bytes.now) (meaning_of core.old (S.meaning shelf.old)) (meaning_of core.new (S.meaning shelf.new)) }
-    ensures ok { OnOk result (Wrote vol block bytes.now (meaning_of core.old (S.meaning shelf.old)) (meaning_of core.new (S.meaning shelf.new))) }
+    ensures stands { InnerStands core.new (S.meaning shelf.new) }
+    ensures goes { Goes (Written vol block bytes.now) (inner_meaning core.old (S.meaning shelf.old)) (inner_meaning core.new (S.meaning shelf.new)) }
+    ensures ok { OnOk result (Wrote vol block bytes.now (inner_meaning core.old (S.meaning shelf.old)) (inner_meaning core.new (S.meaning shelf.new))) }
+    ensures acts { PlexActs (OnPlexes core.old.config vol block (length bytes.now / 512) bytes.now) core.old.config core.new.config (S.meaning shelf.old) (S.meaning shelf.new) }
     ensures all { OnOk result (AllWrote core.new.config vol block bytes.now (S.meaning shelf.old) (S.meaning shelf.new)) }
     ensures faults { core.new.faults ≡ core.old.faults }
     ensures unsure { core.new.unsure ≡ core.old.unsure }
     ensures unit_faults { (u : ℕ) → (S.meaning shelf.old).faults u ≤ (S.meaning shelf.new).faults u }
     ensures gave_up { GivesUp vol core.old core.new (S.meaning shelf.old) (S.meaning shelf.new) result }
-    ensures loses { Loses core.old.config core.new.config (S.meaning shelf.old) (S.meaning shelf.new) }
+    ensures loses { LosesPlexes core.old.config core.new.config (S.meaning shelf.old) (S.meaning shelf.new) }
     ensures trust { OnOk result (core.old.committed ≡ true → core.new.committed ≡ true) }
     ensures agreed { IfErr result (λ e. core.old.committed ≡ true → core.new.agreed ≡ true) }
     ensures cause { Blames (S.meaning shelf.old) (S.meaning shelf.new) result }
@@ -66,16 +69,17 @@ pub fn write_in<S: Shelf>(
     block: u64,
     bytes: &[u8],
 ) -> Result<(), ShelfError>
-    requires stands { Stands core.old (S.meaning shelf.old) }
-    requires fits { Fits (meaning_of core.old (S.meaning shelf.old)) vol block (length bytes.now) }
-    ensures stands { Stands core.new (S.meaning shelf.new) }
-    ensures goes { Goes (Written vol block bytes.now) (meaning_of core.old (S.meaning shelf.old)) (meaning_of core.new (S.meaning shelf.new)) }
-    ensures ok { OnOk result (Wrote vol block bytes.now (meaning_of core.old (S.meaning shelf.old)) (meaning_of core.new (S.meaning shelf.new))) }
+    requires stands { InnerStands core.old (S.meaning shelf.old) }
+    requires fits { Fits (inner_meaning core.old (S.meaning shelf.old)) vol block (length bytes.now) }
+    ensures stands { InnerStands core.new (S.meaning shelf.new) }
+    ensures goes { Goes (Written vol block bytes.now) (inner_meaning core.old (S.meaning shelf.old)) (inner_meaning core.new (S.meaning shelf.new)) }
+    ensures ok { OnOk result (Wrote vol block bytes.now (inner_meaning core.old (S.meaning shelf.old)) (inner_meaning core.new (S.meaning shelf.new))) }
+    ensures acts { PlexActs (OnPlexes core.old.config vol block (length bytes.now / 512) bytes.now) core.old.config core.new.config (S.meaning shelf.old) (S.meaning shelf.new) }
     ensures gave_up { GivesUp vol core.old core.new (S.meaning shelf.old) (S.meaning shelf.new) result }
-    ensures loses { Loses core.old.config core.new.config (S.meaning shelf.old) (S.meaning shelf.new) }
+    ensures loses { LosesPlexes core.old.config core.new.config (S.meaning shelf.old) (S.meaning shelf.new) }
     ensures trust { OnOk result (core.old.committed ≡ true → core.new.committed ≡ true) }
     ensures agreed { IfErr result (λ e. core.old.committed ≡ true → core.new.agreed ≡ true) }
-    ensures cause { Cause (meaning_of core.old (S.meaning shelf.old)) (meaning_of core.new (S.meaning shelf.new)) vol result }
+    ensures cause { Cause (inner_meaning core.old (S.meaning shelf.old)) (inner_meaning core.new (S.meaning shelf.new)) vol result }
     ensures unit_faults { (u : ℕ) → (S.meaning shelf.old).faults u ≤ (S.meaning shelf.new).faults u }
     ensures marks { MarksOn vol core.old.unsure core.new.unsure result }
 {
@@ -107,16 +111,17 @@ pub fn write_group<S: Shelf>(
     bytes: &[u8],
 ) -> Result<(), ShelfError>
     requires stands { GroupStands core.old (S.meaning shelf.old) }
-    requires fits { Fits (meaning_of (wide core.old) (S.meaning shelf.old)) vol block (length bytes.now) }
+    requires fits { Fits (inner_meaning (wide core.old) (S.meaning shelf.old)) vol block (length bytes.now) }
     ensures stands { GroupStands core.new (S.meaning shelf.new) }
-    ensures goes { Goes (Written vol block bytes.now) (meaning_of (wide core.old) (S.meaning shelf.old)) (meaning_of (wide core.new) (S.meaning shelf.new)) }
-    ensures ok { OnOk result (Wrote vol block bytes.now (meaning_of (wide core.old) (S.meaning shelf.old)) (meaning_of (wide core.new) (S.meaning shelf.new))) }
+    ensures goes { Goes (Written vol block bytes.now) (inner_meaning (wide core.old) (S.meaning shelf.old)) (inner_meaning (wide core.new) (S.meaning shelf.new)) }
+    ensures ok { OnOk result (Wrote vol block bytes.now (inner_meaning (wide core.old) (S.meaning shelf.old)) (inner_meaning (wide core.new) (S.meaning shelf.new))) }
+    ensures acts { PlexActs (OnPlexes (wide core.old).config vol block (length bytes.now / 512) bytes.now) (wide core.old).config (wide core.new).config (S.meaning shelf.old) (S.meaning shelf.new) }
     ensures gave_up { GivesUp vol core.old.inner core.new.inner (S.meaning shelf.old) (S.meaning shelf.new) result }
-    ensures loses { Loses core.old.inner.config core.new.inner.config (S.meaning shelf.old) (S.meaning shelf.new) }
+    ensures loses { LosesPlexes core.old.inner.config core.new.inner.config (S.meaning shelf.old) (S.meaning shelf.new) }
     ensures clear { core.old.inner.config.serial < greatest → OnOk result (core.new.held ≡ None) }
     ensures trust { OnOk result (core.old.inner.committed ≡ true → core.new.inner.committed ≡ true) }
     ensures agreed { IfErr result (λ e. core.old.inner.committed ≡ true → core.new.inner.agreed ≡ true) }
-    ensures cause { Cause (meaning_of (wide core.old) (S.meaning shelf.old)) (meaning_of (wide core.new) (S.meaning shelf.new)) vol result }
+    ensures cause { Cause (inner_meaning (wide core.old) (S.meaning shelf.old)) (inner_meaning (wide core.new) (S.meaning shelf.new)) vol result }
 {
     if shelf.is_down() {
         return Err(ShelfError::Down);

@@ -5,7 +5,7 @@ use Rattle.vx_copyfmt.specs.Copies.{area_a}
 use Rattle.vx_copies.proofs.OneTry.{wanted_same}
 use Rattle.vx_group.specs.Holding.{GroupStands, wide}
 use Rattle.vx_group.specs.Resumes.{CanImport}
-use Rattle.vx_group.specs.Stands.{Stands}
+use Rattle.vx_group.specs.Stands.{InnerStands}
 use Rattle.vx_group.specs.declared.group_core.GroupCore.{GroupCore}
 use Rattle.vx_group.specs.declared.inner.Inner.{Inner}
 use Rattle.vx_group.proofs.Standing.{still_large}
@@ -18,7 +18,7 @@ untold_can m none = record {
 }
 
 -- what a group goes by stands on one where it stood on one of the same units
-inner_stands : (core : Inner) (m m' : Meaning) → ((u b : ℕ) (v : List ℕ) → m'.leaves u b v → ⊥) → m'.units ≡ m.units → ((u : ℕ) → m'.size u ≡ m.size u) → Stands core m → Stands core m'
+inner_stands : (core : Inner) (m m' : Meaning) → ((u b : ℕ) (v : List ℕ) → m'.leaves u b v → ⊥) → m'.units ≡ m.units → ((u : ℕ) → m'.size u ≡ m.size u) → InnerStands core m → InnerStands core m'
 inner_stands core m m' none units size stands = record {
   wanted = wanted_same m m' core.config units size stands.wanted;
   serial = stands.serial;

@@ -94,6 +94,16 @@ fn each_call_of_an_attach_is_cut(rt: HostRuntime) -> Result<(), Fail> {
     Ok(())
 }
 
+const STRIPED: Shape = Shape {
+    blocks: 100,
+    mirrors: 1,
+    ncol: 2,
+    width: 16,
+    drl: false,
+    fmr: false,
+    prefer: None,
+};
+
 #[test]
 fn a_disk_is_away_over_a_deport(rt: HostRuntime) -> Result<(), Fail> {
     let alloc = rt.alloc();
@@ -124,16 +134,7 @@ fn a_disk_is_away_over_a_deport(rt: HostRuntime) -> Result<(), Fail> {
         make(alloc, &mut group, b"w", &plain(2000, 1)),
         Told::Space(2000, 1024)
     );
-    let striped = Shape {
-        blocks: 100,
-        mirrors: 1,
-        ncol: 2,
-        width: 16,
-        drl: false,
-        fmr: false,
-        prefer: None,
-    };
-    assert_eq!(rt; make(alloc, &mut group, b"s", &striped), Told::Volume(1));
+    assert_eq!(rt; make(alloc, &mut group, b"s", &STRIPED), Told::Volume(1));
     assert_eq!(rt; put(&mut group, 1, 40, 0x77), Told::Done);
     let (mut shelf, _core) = group.apart();
     assert_eq!(rt; get(&mut shelf, 0, 792), Told::Block(0x77));

@@ -5,8 +5,8 @@ use Rattle.std.proofs.lemmas.Bool.{cases_lt, eq-eqb}
 use Rattle.std.proofs.Math.Nat.{mul-zero}
 use Rattle.vx_bitmap.proofs.Blocks.{by_block}
 use Rattle.vx_bitmap.specs.Bits.{is_among, is_marked}
-use Rattle.vx_bitmap.specs.Maps.{ChangedAt, Map, MapOn, blocks_of, marks_with, regions_of}
-use Rattle.vx_config.specs.Checks.{blocks_of as blocks_in, is_sound}
+use Rattle.vx_bitmap.specs.Maps.{ChangedAt, Map, MapOn, map_block_count, marks_with, regions_mapped}
+use Rattle.vx_config.specs.Checks.{blocks_of as blocks_in, is_sound, plexes_of}
 use Rattle.vx_config.specs.declared.config.Config.{Config}
 use Rattle.vx_config.specs.declared.entry.LogEntry.{LogEntry}
 use Rattle.vx_config.specs.declared.entry.VolumeLog.{VolumeLog}
@@ -14,26 +14,26 @@ use Rattle.vx_config.specs.declared.entry.VolumeLog.TheVariants.{Drl as DrlLog, 
 use Rattle.vx_disk.specs.Shelf.{Goes, Meaning, Values}
 use Rattle.vx_disk.proofs.Runs.{weaker}
 use Rattle.vx_drl.proofs.Keeping.{kept_of}
-use Rattle.vx_drl.specs.Dirty.{Dirty, IsKept, is_dirty}
+use Rattle.vx_drl.specs.Dirty.{Dirty, IsDirtyKept, is_dirty}
 use Rattle.vx_fmr.specs.Missed.{Missed}
 use Rattle.vx_kept.specs.Groups.{OnSome}
 use Rattle.vx_layout.specs.Places.{place}
 use Rattle.vx_logs.specs.Dirtying.{DrlAt, DrlEnds}
 use Rattle.vx_logs.specs.Held.{DrlFits, DrlRun, FmrRun, LogsFit, LogsStand, stale}
 use Rattle.vx_logs.specs.Noting.{FmrEnds}
-use Rattle.vx_logs.specs.Writes.{Marked, MarkedAt}
+use Rattle.vx_logs.specs.Writes.{MarkedLogs, MarkedAt}
 use Rattle.vx_logs.specs.declared.logs.Logs.{Logs}
 use Rattle.vx_logs.specs.declared.logs.Lost.{Lost}
 use Rattle.vx_logs.proofs.LogLemmas.{log_lies}
 use Rattle.vx_logs.proofs.MarkLemmas.{drl_run, fmr_run, logs_apart, stands_beside}
 use Rattle.vx_logs.proofs.NoteLemmas.{among_is}
 use Rattle.vx_logs.proofs.WriteLemmas.{marked_run}
-use Rattle.vx_maplog.specs.Logs.{LogLoaded, log_of, maps_of, plexes_of}
+use Rattle.vx_maplog.specs.Logs.{LogLoaded, log_of, maps_in_log}
 use Rattle.vx_model.specs.declared.no.No.{No}
 use Rattle.vx_model.specs.declared.no.No.TheVariants as refusal
 use Rattle.vx_model.specs.Sizes.{map_blocks, regions_of as regions_in}
 use Rattle.vx_volume.specs.Plexes.{DisksFit, Inside, active}
-use Rattle.vx_grouplogs.specs.Clearing.{ClearedAt, Clears, DrlClears, DrlEnding, DrlLies, last_of}
+use Rattle.vx_grouplogs.specs.Clearing.{ClearedAt, Clears, DrlClears, DrlEnding, DrlLies, greatest_region}
 use Rattle.vx_grouplogs.specs.Covering.{AlikeBut, AllAlike, DiskCovers, KeepsOthers, MemoryCovers, OnLogs}
 use Rattle.vx_grouplogs.specs.Marking.{HoldRegions}
 use Rattle.vx_grouplogs.proofs.LogPlaces.{drl_alone, entry_blocks, logs_across, logs_beside, map_on, run_on}
@@ -66,10 +66,10 @@ module _ (c : Config) (sound : is_sound c ≡ true) (v : ℕ) (W : Values) (m m'
 
 -- ---- bits of regions
 
-region_inside : (blocks b : ℕ) → b < blocks → b / 64 < regions_in blocks
+pub region_inside : (blocks b : ℕ) → b < blocks → b / 64 < regions_in blocks
 region_inside blocks b lt = omega (arith, lt)
 
-low_of : (n len r : ℕ) → len ≡ 512 * n → r < 8 * len → r / 4096 < len / 512
+pub low_of : (n len r : ℕ) → len ≡ 512 * n → r < 8 * len → r / 4096 < len / 512
 low_of n len r long lt = omega (arith, long, lt)
 
 less_of : (t old new : Bool) → new ≡ (if t then true else old) → new ≡ false → old ≡ false
@@ -95,10 +95,10 @@ with_block map z r = ap (λ (t : Bool). if t then is_marked z (r % 4096) else is
 
 module _ (c : Config) (sound : is_sound c ≡ true) (v : ℕ) (some : 0 < blocks_in c.volumes v) (l : Logs) (fits : LogsFit c v l) (m : Meaning) (fit : DisksFit c.disks m) where
   -- the map has a bit for each region of the volume
-  bits_of : (d : Dirty) → DrlFits c v d → IsKept d.map d.regions
+  bits_of : (d : Dirty) → DrlFits c v d → IsDirtyKept d.map d.regions
   bits_of d it = kept_of c v d.map (blocks_in c.volumes v) d.regions it.log refl some it.regions
 
-  region_low : (d : Dirty) → DrlFits c v d → (r : ℕ) → r < regions_in (blocks_in c.volumes v) → r < regions_of d.map
+  pub region_low : (d : Dirty) → DrlFits c v d → (r : ℕ) → r < regions_in (blocks_in c.volumes v) → r < regions_mapped d.map
   region_low d it r lt = omega (arith, (bits_of d it).fit, it.regions, lt)
 
   module _ (first last : ℕ) (m' : Meaning) (goes : Goes (MarkedAt c v first last l m) m m') where
@@ -110,7 +110,7 @@ module _ (c : Config) (sound : is_sound c ≡ true) (v : ℕ) (some : 0 < blocks
 
     -- a region that a crash may leave without its mark had none in memory
     module _ (d : Dirty) (is : l.drl ≡ Some d) (on : MapOn d.map m) (r : ℕ) (lt : r < regions_in (blocks_in c.volumes v)) where
-      low : r / 4096 < blocks_of d.map
+      low : r / 4096 < map_block_count d.map
       low = low_of _ (length d.map.bytes) r (fits.drl d is).log.run.long (region_low d (fits.drl d is) r lt)
 
       here : DrlRun l.drl d.map.unit (d.map.first + r / 4096)
@@ -161,7 +161,7 @@ module _ (c : Config) (sound : is_sound c ≡ true) (v : ℕ) (some : 0 < blocks
 
     -- ---- done
 
-    module _ (lost : Lost) (l' : Logs) (marked : Marked c v first last lost l l' m m') where
+    module _ (lost : Lost) (l' : Logs) (marked : MarkedLogs c v first last lost l l' m m') where
       pub mark_memory : MemoryCovers c v l m → MemoryCovers c v l' m'
       mark_memory memory = record { so = λ e is. by e l.drl l'.drl refl is marked.drl }
         where
@@ -206,26 +206,26 @@ module _ (c : Config) (sound : is_sound c ≡ true) (v : ℕ) (some : 0 < blocks
 
 -- ---- other volumes
 
-module _ (c : Config) (sound : is_sound c ≡ true) (v : ℕ) (m m' : Meaning) (fit : DisksFit c.disks m) (goes : Goes (OnLogs c v) m m') where
-  -- a log with a block is one of a volume with blocks
-  some_of : (w : ℕ) (log : VolumeLog) (map : Map) (k : ℕ) → LogLoaded c w log map → k < blocks_of map → 0 < blocks_in c.volumes w
-  some_of w log map k l lt = elim (cases_lt 0 (blocks_in c.volumes w)) [ inl some ↦ some | inr none ↦ absurd (no_blocks log (blocks_in c.volumes w) (plexes_of c w) (length map.bytes) (omega (arith, none)) l.run.long (omega (arith, lt))) ]
-    where
-      no_blocks : (log : VolumeLog) (blocks plexes len : ℕ) → blocks ≡ 0 → len ≡ 512 * (maps_of log plexes * map_blocks blocks) → 0 < len / 512 → ⊥
-      no_blocks log blocks plexes len none long some =
-          let zero_maps : map_blocks blocks ≡ 0 = ap map_blocks none in
-          let zero_len : len ≡ 512 * (maps_of log plexes * 0) = long ∙ ap (λ (n : ℕ). 512 * (maps_of log plexes * n)) zero_maps in
-          let zero : maps_of log plexes * 0 ≡ 0 = mul-zero (maps_of log plexes) in
-          let len_zero : len ≡ 0 = zero_len ∙ ap (λ (n : ℕ). 512 * n) zero in
-          omega (arith, len_zero, some)
+-- a log with a block is one of a volume with blocks
+pub some_of : (c : Config) (w : ℕ) (log : VolumeLog) (map : Map) (k : ℕ) → LogLoaded c w log map → k < map_block_count map → 0 < blocks_in c.volumes w
+some_of c w log map k l lt = elim (cases_lt 0 (blocks_in c.volumes w)) [ inl some ↦ some | inr none ↦ absurd (no_blocks log (blocks_in c.volumes w) (plexes_of c w) (length map.bytes) (omega (arith, none)) l.run.long (omega (arith, lt))) ]
+  where
+    no_blocks : (log : VolumeLog) (blocks plexes len : ℕ) → blocks ≡ 0 → len ≡ 512 * (maps_in_log log plexes * map_blocks blocks) → 0 < len / 512 → ⊥
+    no_blocks log blocks plexes len none long some =
+        let zero_maps : map_blocks blocks ≡ 0 = ap map_blocks none in
+        let zero_len : len ≡ 512 * (maps_in_log log plexes * 0) = long ∙ ap (λ (n : ℕ). 512 * (maps_in_log log plexes * n)) zero_maps in
+        let zero : maps_in_log log plexes * 0 ≡ 0 = mul-zero (maps_in_log log plexes) in
+        let len_zero : len ≡ 0 = zero_len ∙ ap (λ (n : ℕ). 512 * n) zero in
+        omega (arith, len_zero, some)
 
+module _ (c : Config) (sound : is_sound c ≡ true) (v : ℕ) (m m' : Meaning) (fit : DisksFit c.disks m) (goes : Goes (OnLogs c v) m m') where
   map_still : (w : ℕ) (log : VolumeLog) (map : Map) → (w ≡ v → ⊥) → LogLoaded c w log map → MapOn map m → MapOn map m'
   map_still w log map apart l on = record {
     each = λ k lt. record {
       only = λ x left. elim (goes.leaves map.unit (map.first + k) x left) [
         | inl was ↦ (on.each k lt).only x was
         | inr now ↦ absurd (logs_across c sound v w apart map.unit (map.first + k) x x now
-            (map_on c sound w (some_of w log map k l lt) m fit log map l map.unit (map.first + k) x (record { there = refl; first = omega arith; last = omega (arith, lt) })))
+            (map_on c sound w (some_of c w log map k l lt) m fit log map l map.unit (map.first + k) x (record { there = refl; first = omega arith; last = omega (arith, lt) })))
       ];
     };
   }
@@ -256,7 +256,7 @@ module _ (c : Config) (sound : is_sound c ≡ true) (v : ℕ) (m m' : Meaning) (
 
 module _ (c : Config) (sound : is_sound c ≡ true) (v : ℕ) (some : 0 < blocks_in c.volumes v) (l : Logs) (fits : LogsFit c v l) (m m' : Meaning) (fit : DisksFit c.disks m) (goes : Goes (ClearedAt l.drl m) m m') where
   clear_logs : (u b : ℕ) (x : List ℕ) → ClearedAt l.drl m u b x → OnLogs c v u b x
-  clear_logs u b x at = run_on c sound v some m fit l fits u b x (inl (drl_run 0 (last_of l.drl) false l.drl m u b x at))
+  clear_logs u b x at = run_on c sound v some m fit l fits u b x (inl (drl_run 0 (greatest_region l.drl) false l.drl m u b x at))
 
   pub clear_goes : Goes (OnLogs c v) m m'
   clear_goes = weaker (ClearedAt l.drl m) (OnLogs c v) m m' goes clear_logs
@@ -272,7 +272,7 @@ module _ (c : Config) (sound : is_sound c ≡ true) (v : ℕ) (some : 0 < blocks
 
       fmr_still : (f : Missed) → l.fmr ≡ Some f → MapOn f.map m'
       fmr_still f is = stands_beside f.map (ClearedAt l.drl m) m m' goes
-          (λ u b x run at. logs_apart c sound v some l fits m fit u b (drl_run 0 (last_of l.drl) false l.drl m u b x at) (subst (λ (o : Option Missed). FmrRun o u b) (sym is) run)) (stand.fmr f is)
+          (λ u b x run at. logs_apart c sound v some l fits m fit u b (drl_run 0 (greatest_region l.drl) false l.drl m u b x at) (subst (λ (o : Option Missed). FmrRun o u b) (sym is) run)) (stand.fmr f is)
 
 -- the log in memory lies on its disk
 pub drl_lies : (c : Config) → is_sound c ≡ true → (v : ℕ) → 0 < blocks_in c.volumes v → (l : Logs) → LogsFit c v l → (m : Meaning) → DisksFit c.disks m → DrlLies l.drl m

@@ -1,6 +1,6 @@
-pub mod LosingLemmas
-pub mod GoneLemmas
 pub mod LogPlaces
 pub mod CoverLemmas
 pub mod GroupLemmas
 pub mod LoadedLemmas
+pub mod OnLemmas
+pub mod OnCalls

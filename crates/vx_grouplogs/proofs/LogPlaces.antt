@@ -2,7 +2,7 @@
 use Rattle.std.proofs.Common.{◌≡◌, ◌∙◌, ℕ, ◌+◌, ◌<◌, ◌≤◌, ◌⊎◌, inl, inr, Bool, true, false, Option, Some, None, List, ◌++◌, IsTrue, refl, sym, ap, arith}
 use Rattle.std.specs.Prelude.{◌||◌, ◌==◌, not, nat_le, min, max, slice_get, flat_map}
 use Rattle.std.proofs.lemmas.Bool.{cases_lt, eq-eqb, leb-true}
-use Rattle.vx_bitmap.specs.Maps.{Map, blocks_of}
+use Rattle.vx_bitmap.specs.Maps.{Map, map_block_count}
 use Rattle.vx_config.specs.Checks.{are_apart, blocks_of as blocks_in, in_region, is_sound, log_run, log_runs, plex_runs, runs, volume_runs}
 use Rattle.vx_config.specs.declared.config.Config.{Config}
 use Rattle.vx_config.specs.declared.entry.LogEntry.{LogEntry}
@@ -60,7 +60,7 @@ module _ (c : Config) (sound : is_sound c ≡ true) (v : ℕ) where
     pub entry_blocks : (e : LogEntry) → log_of c v Drl ≡ Some e → e.blocks ≡ map_blocks (blocks_in c.volumes v)
     entry_blocks e is = let at = placed c v Drl e m sound is some (holds_of c.disks m fit) in omega (arith, at.blocks)
 
-    pub map_on : (log : VolumeLog) (map : Map) → LogLoaded c v log map → (u b : ℕ) (x : List ℕ) → Run map.unit map.first (blocks_of map) u b → OnLogs c v u b x
+    pub map_on : (log : VolumeLog) (map : Map) → LogLoaded c v log map → (u b : ℕ) (x : List ℕ) → Run map.unit map.first (map_block_count map) u b → OnLogs c v u b x
     map_on log map l u b x run =
         let at = log_placed c v log map m sound some fit l in
         record {

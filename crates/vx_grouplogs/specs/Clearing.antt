@@ -1,7 +1,7 @@
 -- Marks that are taken off.
 use Rattle.std.specs.Prelude.{◌≡◌, ℕ, ◌-◌, ◌<◌, ◌≤◌, Bool, true, false, IsTrue, Option, Some, None, Result, Ok, Err}
 use Rattle.vx_bitmap.specs.Bits.{Changed}
-use Rattle.vx_bitmap.specs.Maps.{Lies, MapOn, regions_of}
+use Rattle.vx_bitmap.specs.Maps.{Lies, MapOn, regions_mapped}
 use Rattle.vx_disk.specs.Counts.{Rose}
 use Rattle.vx_disk.specs.Shelf.{Meaning, Values}
 use Rattle.vx_drl.specs.Dirty.{Dirty, is_dirty}
@@ -18,13 +18,13 @@ DrlLies None m = Unit {0}
 DrlLies (Some d) m = Lies d.map m
 
 -- the last region of a log
-abbrev pub last_of : Option Dirty → ℕ
-last_of None = 0
-last_of (Some d) = d.regions - 1
+abbrev pub greatest_region : Option Dirty → ℕ
+greatest_region None = 0
+greatest_region (Some d) = d.regions - 1
 
 -- a value of one of its blocks while marks are taken off
 abbrev pub ClearedAt : Option Dirty → Meaning → Values
-ClearedAt o m = DrlAt 0 (last_of o) false o m
+ClearedAt o m = DrlAt 0 (greatest_region o) false o m
 
 -- no more marks are held than may be
 abbrev pub DrlFew : Option Dirty → Type 0
@@ -34,7 +34,7 @@ DrlFew (Some d) = d.held ≤ MOST_HELD
 -- it stands where it stood; where more marks were held than may be, it has none
 pub record DrlCleared (d e : Dirty) (m m' : Meaning) : Type 0 where
   pub same : SameDrl d e
-  pub none : MOST_HELD < d.held → Changed 0 (d.regions - 1) false (regions_of d.map) (is_dirty d) (is_dirty e)
+  pub none : MOST_HELD < d.held → Changed 0 (d.regions - 1) false (regions_mapped d.map) (is_dirty d) (is_dirty e)
   pub held : MOST_HELD < d.held → e.held ≡ 0
   pub few : d.held ≤ MOST_HELD → e ≡ d
   pub stands : MapOn d.map m → MapOn e.map m'

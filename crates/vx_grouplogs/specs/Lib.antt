@@ -1,6 +1,6 @@
-pub mod Losses
 pub mod Covering
 pub mod Keeps
 pub mod Marking
 pub mod Clearing
 pub mod Loading
+pub mod On

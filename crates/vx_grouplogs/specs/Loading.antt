@@ -36,7 +36,7 @@ TakesUp c v o true m m' = (o ≡ None) × (is_used c v Drl ≡ true) × ((on_fai
 TakesUp c v o false m m' = DrlFound c v o m m' × (on_failed c v ≡ false)
 
 -- the refusals: the shelf is down, or memory ran out
-abbrev pub IsRefused : Meaning → Stop → Type 0
-IsRefused m (Refused refusal.Down) = IsTrue m.down
-IsRefused m (Refused other) = ⊥
-IsRefused m OutOfMemory = Unit {0}
+abbrev pub LoadIsRefused : Meaning → Stop → Type 0
+LoadIsRefused m (Refused refusal.Down) = IsTrue m.down
+LoadIsRefused m (Refused other) = ⊥
+LoadIsRefused m OutOfMemory = Unit {0}

@@ -1,16 +1,16 @@
-//! The logs of the volumes of a group: how they are read at an import, marked before a write, cleared behind a flush, and lost.
+//! The logs of the volumes of a group: how they are read at an import, marked before a write, and cleared behind a flush.
 //!
 //! Of a block of which the dirty region log has not the region, each plex that is ACTIVE has the same, whatever a crash leaves.
 #![tactic(auto)]
 
 mod clearing;
+mod guarding;
 mod loading;
-mod losing;
 mod running;
 #[cfg(test)]
 mod tests;
 
 pub use clearing::clear_marks;
+pub use guarding::{clear_run, guard_run};
 pub use loading::{Loaded, load_marks};
-pub use losing::make_lost;
 pub use running::mark_run;

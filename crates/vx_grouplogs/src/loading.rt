@@ -4,7 +4,7 @@ ghost use Rattle.vx_config.specs.Checks.{blocks_of as blocks_of_is, is_sound};
 ghost use Rattle.vx_config.specs.declared.entry.VolumeLog.TheVariants.{Drl as DrlLog};
 ghost use Rattle.vx_disk.specs.Shelf.{Goes, Nothing};
 ghost use Rattle.vx_drl.specs.Dirty.{Dirty};
-ghost use Rattle.vx_grouplogs.specs.Loading.{IsRefused, TakesUp, on_failed as on_failed_is};
+ghost use Rattle.vx_grouplogs.specs.Loading.{LoadIsRefused, TakesUp, on_failed as on_failed_is};
 ghost use Rattle.vx_logs.specs.Held.{DrlFits, is_used as is_used_is};
 ghost use Rattle.vx_volume.specs.Plexes.{DisksFit};
 
@@ -65,7 +65,7 @@ pub fn load_marks<S: Shelf>(
     ensures takes { IfOk result (λ loaded. TakesUp config.now vol loaded.drl loaded.gone (S.meaning shelf.old) (S.meaning shelf.new)) }
     ensures fits { IfOk result (λ loaded. (d : Dirty) → loaded.drl ≡ Some d → DrlFits config.now vol d) }
     ensures goes { Goes Nothing (S.meaning shelf.old) (S.meaning shelf.new) }
-    ensures cause { IfErr result (IsRefused (S.meaning shelf.new)) }
+    ensures cause { IfErr result (LoadIsRefused (S.meaning shelf.new)) }
 {
     if !is_used(config, vol) {
         return Ok(Loaded {

@@ -7,7 +7,7 @@ ghost use Rattle.vx_grouplogs.specs.Keeps.{KeepsGroup};
 ghost use Rattle.vx_grouplogs.specs.Marking.{HoldRegions};
 ghost use Rattle.vx_logs.specs.Dirtying.{DrlHolds};
 ghost use Rattle.vx_logs.specs.Held.{LogsFit, LogsStand};
-ghost use Rattle.vx_logs.specs.Writes.{Marks, StaleStill, first_region, last_region};
+ghost use Rattle.vx_logs.specs.Writes.{MarksLogs, StaleStill, first_region, last_region};
 ghost use Rattle.vx_volume.specs.Plexes.{DisksFit};
 
 use vx_config::Config;
@@ -38,7 +38,7 @@ pub fn mark_run<S: Shelf>(
     ensures goes { Goes (OnLogs config.now vol) (S.meaning shelf.old) (S.meaning shelf.new) }
     ensures group { KeepsGroup config.now (S.meaning shelf.old) (S.meaning shelf.new) }
     ensures others { KeepsOthers config.now vol (S.meaning shelf.old) (S.meaning shelf.new) }
-    ensures marks { Marks config.now vol (first_region block) (last_region block count) logs.old logs.new (S.meaning shelf.old) (S.meaning shelf.new) result }
+    ensures marks { MarksLogs config.now vol (first_region block) (last_region block count) logs.old logs.new (S.meaning shelf.old) (S.meaning shelf.new) result }
     ensures held { OnOk result (HoldRegions (first_region block) (last_region block count) logs.new) }
     ensures fits { LogsFit config.now vol logs.new }
     ensures stands { OnOk result (LogsStand logs.old (S.meaning shelf.old) → LogsStand logs.new (S.meaning shelf.new)) }

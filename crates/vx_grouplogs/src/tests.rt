@@ -8,8 +8,8 @@ use super::*;
 use std::alloc::Global;
 use std::test::*;
 use vx_config::{
-    Config, DiskEntry, Disks, LogEntry, PlexEntry, Plexes, Subdisk, Subdisks, VolumeEntry, Volumes,
-    check,
+    Config, DiskEntry, Disks, LogEntry, PlexEntry, Plexes, Subdisk, Subdisks, VolumeEntry,
+    VolumeLog, Volumes, check,
 };
 use vx_disk::{MemShelf, Rack, Shelf};
 use vx_logs::{Logs, Lost};
@@ -276,14 +276,7 @@ fn is_lost(volumes: &[VolumeEntry]) -> bool {
 fn a_lost_log_is_read_no_more(rt: HostRuntime) -> Result<(), Fail> {
     let alloc = rt.alloc();
     let mut config = mirror(alloc, false)?;
-    make_lost(
-        &mut config,
-        0,
-        Lost {
-            drl: true,
-            fmr: true,
-        },
-    );
+    config.set_lost(0, VolumeLog::Drl, true);
     assert!(rt; is_lost(config.volumes.as_slice()));
     let mut shelf = fitted(alloc, &[1])?;
     assert_eq!(rt; three_calls(alloc, &mut shelf, &config), [Told::Kept; 4]);

@@ -5,10 +5,13 @@ use Rattle.std.proofs.lemmas.List.{length-take, take-take, take-append-drop, tak
 use Rattle.vx_model.specs.Content.{Write, Content, fold_writes, IsPrefixOf}
 use Rattle.vx_history.specs.World.{Node, World, Fuse, FuseSet, with_node, with_history}
 use Rattle.vx_model.specs.Sites.{is_origin}
-use Rattle.vx_history.specs.Steps.{crashed, kept_by, crash_left, half_begun, cut_write, recovered, came_up, session_begun, stopped_by, worked_on, fused, burned}
+use Rattle.vx_history.specs.Steps.{crashed, kept_by, crash_left, half_begun, cut_write, deported_site, deported_world, recovered, came_up, session_begun, stopped_by, worked_on, fused, burned}
+use Rattle.vx_history.specs.Events.{crash_at}
 use Rattle.vx_history.specs.Good.{GoodNode, Good, IsMade, TellsContent}
 use Rattle.vx_model.specs.declared.history.Line.{Line}
+use Rattle.vx_model.specs.declared.site.SiteState.TheVariants.{Down}
 use Rattle.vx_model.specs.declared.site.Mark.TheVariants.{Consistent}
+use Rattle.vx_history.proofs.Updates.{by_test, at_place}
 use Rattle.vx_history.proofs.GoodLemmas.{made_is_given, good_changed, good_stays, fold_append, prefix_push}
 
 -- what a node has with its first k writes
@@ -99,6 +102,23 @@ stays_node : (w : World) (i : ℕ) (n : Node) → Good w → IsMade (w.nodes i) 
 stays_node w i n s made line good is =
     good_stays w i n s good (λ _. inl (subst (λ (l : Line). IsMade (w.nodes l.origin)) (sym line) (s.begun i made))) (λ _. is) (λ past. absurd (made (s.later i past)))
 
+-- a site that is down gives its disks up
+pub good_deported : (w : World) (i : ℕ) → Good w → IsMade (w.nodes i) → length (w.nodes i).log ≤ (w.nodes i).safe → Good (deported_world w i)
+good_deported w i s made whole =
+    let good = s.nodes i in
+    stays_node w i (deported_site (w.nodes i)) s made refl
+    (record {
+      safe_fits = good.safe_fits;
+      own_line = λ _ is. good.own_line made is;
+      receiver_log = λ _ not. good.receiver_log made not;
+      origin_log = λ _ is. good.origin_log made is;
+      origin_whole = λ _ _. whole;
+      origin_mark = good.origin_mark;
+      plain = λ bare. absurd (cc);
+      content = good.content;
+    })
+    (λ e. cc)
+
 -- a site with all its writes durable comes up again
 pub good_recovered : (w : World) (i : ℕ) → Good w → IsMade (w.nodes i) → length (w.nodes i).log ≤ (w.nodes i).safe → Good (came_up w i)
 good_recovered w i s made whole =
@@ -170,3 +190,10 @@ good_worked w i s made = good_fuse w i (burned (w.nodes i).fuse) s made
 
 pub good_fused : (w : World) (i calls : ℕ) → Good w → IsMade (w.nodes i) → Good (fused w i calls)
 good_fused w i calls s made = good_fuse w i (FuseSet calls) s made
+
+-- a site that crashed is down
+pub crash_state : (w : World) (i k : ℕ) → ((crash_at w i k).nodes i).state ≡ Down
+crash_state w i k =
+    by_test (λ (v : World). (v.nodes i).state ≡ Down) (is_origin (w.nodes i).role) (crash_left w i k) (with_node w i (crashed (w.nodes i) k))
+    (λ _. ap (λ (n : Node). n.state) (at_place w.nodes i (crashed (w.nodes i) k)))
+    (λ _. ap (λ (n : Node). n.state) (at_place w.nodes i (crashed (w.nodes i) k)))

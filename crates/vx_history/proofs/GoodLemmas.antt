@@ -1,12 +1,13 @@
 -- Each event of a primary without links leaves a good world good.
-use Rattle.std.proofs.Common.{◌≡◌, ℕ, ◌+◌, ◌≤◌, ◌<◌, List, [], ◌∷◌, ◌++◌, length, take, refl, ap, sym, ◌∙◌, subst, inl, inr, ◌⊎◌, arith, append_assoc, length-append, true, false, ⊎_elim}
+use Rattle.std.proofs.Common.{◌≡◌, ℕ, ◌+◌, ◌-◌, ◌≤◌, ◌<◌, List, [], ◌∷◌, ◌++◌, length, take, refl, ap, sym, ◌∙◌, subst, inl, inr, ◌⊎◌, arith, append_assoc, length-append, true, false, ⊎_elim}
 use Rattle.std.specs.Prelude.{Some, eqb}
 use Rattle.std.proofs.lemmas.Bool.{cases_lt}
 use Rattle.std.proofs.lemmas.List.{take_all, take-append-le}
 use Rattle.vx_model.specs.Content.{Write, Content, put, fold_writes, IsPrefixOf}
-use Rattle.vx_history.specs.World.{Node, History, World, updated, line_updated, with_node, with_history, empty_world, bare_site}
+use Rattle.vx_history.specs.World.{Node, History, Volume, World, no_volumes, updated, line_updated, with_node, with_history, empty_world, bare_site}
 use Rattle.vx_model.specs.Sites.{same_line}
-use Rattle.vx_history.specs.Steps.{site_made, raw_made, raw_set, raw_history, logged, told_of, written, half_written, burned}
+use Rattle.vx_model.specs.Sizes.{ring_of}
+use Rattle.vx_history.specs.Steps.{site_made, begun_site, begun_line, line_begun, raw_made, raw_volumes, raw_content, group_made, logged, told_of, written, half_written, burned}
 use Rattle.vx_history.specs.Good.{GoodNode, Good, IsMade, IsWorking}
 use Rattle.vx_model.specs.declared.history.Line.{Line}
 use Rattle.vx_model.specs.declared.site.SiteState.{SiteState}
@@ -112,9 +113,10 @@ good_site w name disks blocks s =
     (good_bare_site _ w.sites name disks blocks) (λ made. absurd (made refl)) (λ made. absurd (made bare)) (λ _. refl) in
     record { nodes = changed.nodes; begun = changed.begun; later = λ k past. changed.later k (omega arith); told = changed.told }
 
-pub good_raw : (w : World) (i : ℕ) → Good w → i < w.sites → (w.nodes i).state ≡ Bare → Good (raw_made w i)
-good_raw w i s given bare =
-    good_changed w i (raw_set i (w.nodes i)) (raw_history (w.nodes i)) s
+pub good_begun : (w : World) (i ring : ℕ) (volumes : List Volume) (content : Content) → Good w → i < w.sites → (w.nodes i).state ≡ Bare
+    → Good (line_begun w i ring volumes content)
+good_begun w i ring volumes content s given bare =
+    good_changed w i (begun_site i ring volumes content (w.nodes i)) (begun_line content) s
     (record {
       safe_fits = omega arith;
       own_line = λ _ _. refl;
@@ -128,6 +130,12 @@ good_raw w i s given bare =
     (λ e. cc) refl (omega arith)
     (λ k _ made e. absurd (subst (λ (l : Line). IsMade (w.nodes l.origin)) e (s.begun k made) bare))
     given
+
+pub good_raw : (w : World) (i : ℕ) → Good w → i < w.sites → (w.nodes i).state ≡ Bare → Good (raw_made w i)
+good_raw w i = let n : Node = w.nodes i in good_begun w i (ring_of n.blocks) (raw_volumes 1 (n.disks - 2) n.blocks) (raw_content n.disks n.blocks)
+
+pub good_group : (w : World) (i : ℕ) → Good w → i < w.sites → (w.nodes i).state ≡ Bare → Good (group_made w i)
+good_group w i = good_begun w i 0 [] no_volumes
 
 pub fold_append : (c : Content) (xs ys : List Write) → fold_writes c (xs ++ ys) ≡ fold_writes (fold_writes c xs) ys
 fold_append c [] ys = refl

@@ -5,7 +5,7 @@ use Rattle.std.proofs.lemmas.Bool.Decides.{nat_tests}
 use Rattle.vx_history.proofs.Updates.{all_updated, at_place, by_test, eqb_equal, eqb_self}
 use Rattle.vx_history.specs.Events.{is_in_place, link_in_place, linked_sites, put_before}
 use Rattle.vx_history.specs.Listed.{AreListed, HasPlaces, IsAmong, links_in}
-use Rattle.vx_history.specs.Refusals.{count_below}
+use Rattle.vx_history.specs.Refusals.{how_many_below}
 use Rattle.vx_history.specs.Sends.{is_linked, is_made}
 use Rattle.vx_history.specs.World.{Link, World, updated}
 
@@ -15,35 +15,35 @@ one_or_none : (b : Bool) (k n : ℕ) → k ≤ n → (if b then 1 else 0) + k �
 one_or_none true k n h = omega (arith, h)
 one_or_none false k n h = omega (arith, h)
 
-pub count_most : (n : ℕ) (test : ℕ → Bool) → count_below n test ≤ n
+pub count_most : (n : ℕ) (test : ℕ → Bool) → how_many_below n test ≤ n
 count_most zero test = omega arith
-count_most (suc k) test = one_or_none (test k) (count_below k test) k (count_most k test)
+count_most (suc k) test = one_or_none (test k) (how_many_below k test) k (count_most k test)
 
-pub count_same : (n : ℕ) (f g : ℕ → Bool) → ((k : ℕ) → k < n → g k ≡ f k) → count_below n g ≡ count_below n f
+pub count_same : (n : ℕ) (f g : ℕ → Bool) → ((k : ℕ) → k < n → g k ≡ f k) → how_many_below n g ≡ how_many_below n f
 count_same zero f g same = refl
 count_same (suc k) f g same =
-    ap (λ (b : Bool). (if b then 1 else 0) + count_below k g) (same k (omega arith))
+    ap (λ (b : Bool). (if b then 1 else 0) + how_many_below k g) (same k (omega arith))
     ∙ ap (λ (m : ℕ). (if f k then 1 else 0) + m) (count_same k f g (λ i h. same i (omega (arith, h))))
 
 abbrev one_by : Bool → ℕ
 one_by b = if b then 1 else 0
 
 -- one number more
-count_more : (n s : ℕ) (f g : ℕ → Bool) → s < n → f s ≡ false → g s ≡ true → ((k : ℕ) → (k ≡ s → ⊥) → g k ≡ f k) → count_below n g ≡ suc (count_below n f)
+count_more : (n s : ℕ) (f g : ℕ → Bool) → s < n → f s ≡ false → g s ≡ true → ((k : ℕ) → (k ≡ s → ⊥) → g k ≡ f k) → how_many_below n g ≡ suc (how_many_below n f)
 count_more zero s f g h old new same = absurd (omega (arith, h))
 count_more (suc k) s f g h old new same =
-    by_test (λ (m : ℕ). (if g k then 1 else 0) + count_below k g ≡ suc ((if f k then 1 else 0) + count_below k f)) (eqb k s) 0 0
+    by_test (λ (m : ℕ). (if g k then 1 else 0) + how_many_below k g ≡ suc ((if f k then 1 else 0) + how_many_below k f)) (eqb k s) 0 0
     (λ e.
     let at : k ≡ s = eqb_equal k s e in
     let was : f k ≡ false = subst (λ (i : ℕ). f i ≡ false) (sym at) old in
     let is : g k ≡ true = subst (λ (i : ℕ). g i ≡ true) (sym at) new in
-    let rest : count_below k g ≡ count_below k f = count_same k f g (λ i below. same i (λ (is : i ≡ s). omega (arith, below, at, is))) in
+    let rest : how_many_below k g ≡ how_many_below k f = count_same k f g (λ i below. same i (λ (is : i ≡ s). omega (arith, below, at, is))) in
     let one : one_by (g k) ≡ one_by true = ap one_by is in
     let none : one_by (f k) ≡ one_by false = ap one_by was in
     omega (arith, rest, one, none))
     (λ e.
     let apart : k ≡ s → ⊥ = not_equal k s e in
-    let rest : count_below k g ≡ suc (count_below k f) = count_more k s f g (less s k h apart) old new same in
+    let rest : how_many_below k g ≡ suc (how_many_below k f) = count_more k s f g (less s k h apart) old new same in
     let here : one_by (g k) ≡ one_by (f k) = ap one_by (same k apart) in
     omega (arith, rest, here))
   where

@@ -15,8 +15,8 @@ use Rattle.vx_model.specs.declared.link.Mode.{Mode}
 use Rattle.vx_model.specs.declared.link.Mode.TheVariants.{Log, Dcm, Replay, Fork, Stale}
 
 -- attached, connected and not paused
-abbrev pub is_live : Link → Bool
-is_live l = l.attached && (l.connected && not l.paused)
+abbrev pub is_live_link : Link → Bool
+is_live_link l = l.attached && (l.connected && not l.paused)
 
 abbrev pub is_log : Mode → Bool
 is_log Log = true
@@ -32,7 +32,7 @@ is_fail FailsIfNotLive = true
 
 -- whether a write can't be confirmed as the link says it has to be: attached, synchronous=fail, and not live or not in mode Log
 abbrev pub is_down : Link → Bool
-is_down l = l.attached && (is_fail l.sync && not (is_live l && is_log l.mode))
+is_down l = l.attached && (is_fail l.sync && not (is_live_link l && is_log l.mode))
 
 -- in these modes an attached link needs the numbers above its hold from the log
 abbrev pub mode_holds : Mode → Bool
@@ -79,7 +79,7 @@ full_log MapIfCut false = TurnsDcm
 full_log Autodcm live = TurnsDcm
 
 abbrev pub full_log_of : Link → FullLog
-full_log_of l = full_log l.prot (is_live l)
+full_log_of l = full_log l.prot (is_live_link l)
 
 -- why a write is not let in, and the number of the link's site
 pub data Held : Type 0 where

@@ -3,7 +3,7 @@ use Rattle.std.specs.Prelude.{ℕ, zero, suc, ◌+◌, min, max, Bool, true, fal
 use Rattle.vx_model.specs.Content.{Write, fold_writes, blocks_in}
 use Rattle.vx_history.specs.World.{Node, Link, Message, Packet, Promise, World, Hello, Update, NetAck, DataAck, Durable, InSession, no_regions, with_node}
 use Rattle.vx_model.specs.Sites.{is_origin, same_line}
-use Rattle.vx_history.specs.Steps.{crashed, crash_left, recovered, session_begun, written, half_written}
+use Rattle.vx_history.specs.Steps.{crashed, crash_left, deported_world, recovered, session_begun, written, half_written}
 use Rattle.vx_history.specs.Admission.{is_fail, hold, change, changed_mode, admit, Admitted, Held_by, Goes}
 use Rattle.vx_history.specs.Sending.{Sent, sent_step}
 use Rattle.vx_history.specs.Receiving.{received_step}
@@ -41,13 +41,13 @@ use Rattle.vx_model.specs.Sites.{is_up}
 -- ## Writes
 
 -- the blocks that these writes take in the log
-abbrev pub log_blocks : List Write → ℕ
-log_blocks [] = 0
-log_blocks (x ∷ xs) = (blocks_in x.bytes + 1) + log_blocks xs
+abbrev pub logged_blocks : List Write → ℕ
+logged_blocks [] = 0
+logged_blocks (x ∷ xs) = (blocks_in x.bytes + 1) + logged_blocks xs
 
 -- the blocks of the numbers above a link's hold
 abbrev pub used_above : Node → (site : ℕ) → Link → ℕ
-used_above n s l = log_blocks (drop (hold (plain_link s l)) n.log)
+used_above n s l = logged_blocks (drop (hold (plain_link s l)) n.log)
 
 abbrev pub is_in_place : Option ℕ → ℕ → Bool
 is_in_place None place = false
@@ -71,16 +71,16 @@ abbrev pub plain_links : (ℕ → Link) → List ℕ → List PlainLink
 plain_links row [] = []
 plain_links row (s ∷ ss) = plain_link s (row s) ∷ plain_links row ss
 
-abbrev pub uses : Node → (ℕ → Link) → List ℕ → List ℕ
-uses n row [] = []
-uses n row (s ∷ ss) = used_above n s (row s) ∷ uses n row ss
+abbrev pub log_uses : Node → (ℕ → Link) → List ℕ → List ℕ
+log_uses n row [] = []
+log_uses n row (s ∷ ss) = used_above n s (row s) ∷ log_uses n row ss
 
 -- whether the links of p let a write in
 abbrev pub admitted : World → ℕ → Write → Admitted
 admitted w p x =
     let n = w.nodes p in
     let sites = linked_sites (w.links p) w.sites 0 w.sites in
-    admit (blocks_in x.bytes + 1) n.ring (plain_links (w.links p) sites) (uses n (w.links p) sites)
+    admit (blocks_in x.bytes + 1) n.ring (plain_links (w.links p) sites) (log_uses n (w.links p) sites)
 
 -- a link after a write was let in
 abbrev pub link_after : Node → Write → (site : ℕ) → Link → Link
@@ -132,12 +132,12 @@ reached_at w p count reached =
 
 -- ## Links
 
-abbrev pub facts_of : Node → Line → SFacts
-facts_of n line = record { safe = n.safe; line_ok = same_line line n.line }
+abbrev pub receiver_facts : Node → Line → SFacts
+receiver_facts n line = record { safe = n.safe; line_ok = same_line line n.line }
 
 -- what the rule of a link says of an event of the line on which its site stands
 abbrev pub link_step : World → ℕ → ℕ → SEvent → Sent
-link_step w p s e = sent_step (plain_link s (w.links p s)) e (facts_of (w.nodes p) (w.nodes p).line)
+link_step w p s e = sent_step (plain_link s (w.links p s)) e (receiver_facts (w.nodes p) (w.nodes p).line)
 
 -- the link as the rule leaves it, and what is sent on it
 abbrev pub moved_by : World → ℕ → ℕ → Sent → World
@@ -200,7 +200,7 @@ abbrev pub link_heard : World → Packet → SEvent → Outcome
 link_heard w p e =
     let n = w.nodes p.target in
     let l = w.links p.target p.source in
-    let r = sent_step (plain_link p.source l) e (facts_of n p.line) in
+    let r = sent_step (plain_link p.source l) e (receiver_facts n p.line) in
     if keeps_links n.role && is_linked l
     then says (with_link w p.target p.source (with_plain l r.link)) (said_of_link r.action)
     else says w IsIgnored
@@ -282,6 +282,10 @@ crash_world w s k = if is_origin (w.nodes s).role then crash_left w s k else wit
 abbrev pub crash_at : World → ℕ → ℕ → World
 crash_at w s k = emptied (with_links (crash_world w s k) s (λ to. lost_touch (w.links s to))) s
 
+-- a deport is a crash that keeps no more than it has to, and the site is then deported
+abbrev pub deport_at : World → ℕ → World
+deport_at w s = deported_world (crash_at w s (kept_of (w.nodes s) 0)) s
+
 -- a site comes up again; a receiver may be consistent then, by the rule of receivers
 abbrev pub come_back : Node → Node
 come_back n =
@@ -289,7 +293,7 @@ come_back n =
     if is_origin n.role then recovered n else record (recovered n) { session = r.session; mark = r.mark }
 
 abbrev pub restarted_link : Node → (site : ℕ) → Link → Link
-restarted_link n s l = with_plain l (sent_step (plain_link s l) RestartLink (facts_of n n.line)).link
+restarted_link n s l = with_plain l (sent_step (plain_link s l) RestartLink (receiver_facts n n.line)).link
 
 -- a receiver greets its primary
 abbrev pub recovery_greeting : ℕ → Node → List Packet
@@ -300,7 +304,7 @@ recovered_at w s =
     let n = come_back (w.nodes s) in
     sending (with_links (with_node w s n) s (λ to. restarted_link n to (w.links s to))) (recovery_greeting s n)
 
--- the recovery of a site that is down, in which a disk may fail after the next session has begun
+-- the recovery of a site that is down or deported, in which a disk may fail after the next session has begun
 abbrev pub recovery : World → ℕ → Option ℕ → Outcome
 recovery w s None = says (recovered_at w s) (Recovered (length (w.nodes s).log))
 recovery w s (Some disk) = says (session_begun w s) (Refused (Device disk))
@@ -308,7 +312,7 @@ recovery w s (Some disk) = says (session_begun w s) (Refused (Device disk))
 abbrev pub recover_from : SiteState → World → ℕ → Option ℕ → Outcome
 recover_from Bare w s fails = refused w NoConfig
 recover_from Up w s fails = refused w WrongRole
-recover_from Deported w s fails = refused w WrongRole
+recover_from Deported w s fails = unless_at_most (w.nodes s).session w (recovery w s fails)
 recover_from Down w s fails = unless_at_most (w.nodes s).session w (recovery w s fails)
 
 -- ## The events of a link

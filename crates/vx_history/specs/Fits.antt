@@ -10,22 +10,22 @@ use Rattle.vx_history.specs.Good.{IsMade}
 use Rattle.vx_history.specs.Refusals.{agree, rings_fit}
 
 -- the blocks of a volume, of which there are none beyond the last
-abbrev pub size_of : List Volume → ℕ → ℕ
-size_of [] v = 0
-size_of (x ∷ xs) zero = x.blocks
-size_of (x ∷ xs) (suc v) = size_of xs v
+abbrev pub blocks_of_volume : List Volume → ℕ → ℕ
+blocks_of_volume [] v = 0
+blocks_of_volume (x ∷ xs) zero = x.blocks
+blocks_of_volume (x ∷ xs) (suc v) = blocks_of_volume xs v
 
 -- the write is as long as a call may be, has room in the ring, and ends within its volume
-pub record Fits (n : Node) (x : Write) : Type 0 where
+pub record WriteFits (n : Node) (x : Write) : Type 0 where
   pub some : 1 ≤ blocks_in x.bytes
   pub few : blocks_in x.bytes ≤ MOST_CALL_BLOCKS
   pub room : blocks_in x.bytes + 1 ≤ n.ring
-  pub within : x.start + blocks_in x.bytes ≤ size_of n.volumes x.volume
+  pub within : x.start + blocks_in x.bytes ≤ blocks_of_volume n.volumes x.volume
 
 -- what a site's volumes held and hold has their sizes, and a bare site has no ring
 pub record IsSized (n : Node) : Type 0 where
-  pub start : (v : ℕ) → n.start.size v ≡ size_of n.volumes v
-  pub base : (v : ℕ) → n.base.size v ≡ size_of n.volumes v
+  pub start : (v : ℕ) → n.start.size v ≡ blocks_of_volume n.volumes v
+  pub base : (v : ℕ) → n.base.size v ≡ blocks_of_volume n.volumes v
   pub bare : n.state ≡ Bare → n.ring ≡ 0
 
 -- a site on a line has the volumes of the site that began the line, and a ring that holds what that one's holds
@@ -37,6 +37,6 @@ pub record IsAlike (origin n : Node) : Type 0 where
 -- receiver takes fits it, as it is of the sizes of that site.
 pub record Fitting (w : World) : Type 0 where
   pub sized : (i : ℕ) → IsSized (w.nodes i)
-  pub logs : (i : ℕ) → AllByRecursion (Fits (w.nodes i)) (w.nodes i).log
-  pub held : (l : Line) → AllByRecursion (Fits (w.nodes l.origin)) (w.lines l).held
+  pub logs : (i : ℕ) → AllByRecursion (WriteFits (w.nodes i)) (w.nodes i).log
+  pub held : (l : Line) → AllByRecursion (WriteFits (w.nodes l.origin)) (w.lines l).held
   pub alike : (i : ℕ) → IsMade (w.nodes i) → IsAlike (w.nodes (w.nodes i).line.origin) (w.nodes i)

@@ -7,11 +7,11 @@ use Rattle.vx_history.specs.World.{Message, Packet, Key, Gathering, World, Hello
 use Rattle.vx_history.specs.Sends.{parts_of}
 
 -- the kind of a message, as its packets name it
-abbrev pub kind_of : Message → ℕ
-kind_of (Hello session number stored) = 1
-kind_of (Update number x) = 2
-kind_of (NetAck session number) = 3
-kind_of (DataAck number) = 4
+abbrev pub message_kind : Message → ℕ
+message_kind (Hello session number stored) = 1
+message_kind (Update number x) = 2
+message_kind (NetAck session number) = 3
+message_kind (DataAck number) = 4
 
 -- the session that its packets name, and 0 where they name none
 abbrev pub session_of : Message → ℕ
@@ -30,7 +30,7 @@ number_of (DataAck number) = number
 -- the key of a message from this site on this line
 abbrev pub message_key : (source : ℕ) → Line → Message → Key
 message_key source line m =
-    record { source = source; kind = kind_of m; line = line; session = session_of m; number = number_of m; parts = parts_of m }
+    record { source = source; kind = message_kind m; line = line; session = session_of m; number = number_of m; parts = parts_of m }
 
 abbrev pub key_of : Packet → Key
 key_of p = message_key p.source p.line p.message

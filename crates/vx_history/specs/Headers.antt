@@ -2,14 +2,14 @@
 use Rattle.std.specs.Prelude.{ℕ, Bool, true, false, not, ◌&&◌, eqb, ltb, Option, Some, None, if◌then◌else◌}
 use Rattle.vx_history.specs.World.{Link as LinkState, Packet, World}
 use Rattle.vx_history.specs.Admission.{mode_holds}
-use Rattle.vx_history.specs.Refusals.{Outcome, count_below}
+use Rattle.vx_history.specs.Refusals.{Outcome, how_many_below}
 use Rattle.vx_history.specs.Events.{packet_at}
 use Rattle.vx_history.specs.declared.event.Said.{Said}
 use Rattle.vx_history.specs.declared.event.Said.TheVariants.{Done, DoneAt, Logged, Pending, Got, Taken, Ignored, Recovered, Refused}
 use Rattle.vx_history.specs.declared.event.LinkPart.{LinkPart}
 use Rattle.vx_history.specs.declared.event.LinkPart.TheVariants.{Joins, Made, Marked, Opened}
 use Rattle.vx_history.specs.declared.event.Event.{Event}
-use Rattle.vx_history.specs.declared.event.Event.TheVariants.{Site, Raw, Write, Read, Apply, Pump, Tick, Deliver, Connect, Cut, Pause, Resume, Wait, Link, Set, Crash, Recover, Fault}
+use Rattle.vx_history.specs.declared.event.Event.TheVariants.{Site, Raw, Group, Write, Read, Apply, Pump, Tick, Deliver, Connect, Cut, Pause, Resume, Wait, Link, Set, Crash, Deport, Recover, Fault}
 
 abbrev pub is_refused : Said → Bool
 is_refused Done = false
@@ -52,8 +52,9 @@ heard_headers w v i (Some p) =
 abbrev pub headers_by : Event → World → Outcome → (i : ℕ) → ℕ
 headers_by (Site name disks blocks) w o i = 0
 headers_by (Raw s) w o i = 0
+headers_by (Group s) w o i = 0
 headers_by (Write p volume start bytes fails) w o i =
-    count_at p i (count_below w.sites (λ k. is_given_up (w.links p k) (o.world.links p k)))
+    count_at p i (how_many_below w.sites (λ k. is_given_up (w.links p k) (o.world.links p k)))
 headers_by (Read p volume start count) w o i = 0
 headers_by (Apply s count reached) w o i = 0
 headers_by (Pump p s) w o i = 0
@@ -67,5 +68,6 @@ headers_by (Wait p number) w o i = 0
 headers_by (Link p s sync part) w o i = one_at (part_writes part p s) i o.said
 headers_by (Set p s sync) w o i = one_at p i o.said
 headers_by (Crash s kept) w o i = 0
+headers_by (Deport s) w o i = 0
 headers_by (Recover s fails) w o i = 0
 headers_by (Fault s disk) w o i = 0

@@ -41,8 +41,8 @@ kept_links row [] = []
 kept_links row (s ∷ ss) = kept_link s (row s) ∷ kept_links row ss
 
 -- what the header of its log keeps of a site with these links, among so many sites
-abbrev pub state_of : Node → (row : ℕ → Link) → (sites : ℕ) → State
-state_of n row sites = record {
+abbrev pub header_state : Node → (row : ℕ → Link) → (sites : ℕ) → State
+header_state n row sites = record {
   line = n.line;
   top = n.top;
   role = n.role;

@@ -6,6 +6,7 @@ pub mod Gatherings
 pub mod Good
 pub mod GoodGatherings
 pub mod GoodWorld
+pub mod Groups
 pub mod Headers
 pub mod KeptLinks
 pub mod Likes

@@ -9,10 +9,10 @@ pub record SameLink (a b : Link) : Type 0 where
   pub linked : is_linked b ≡ is_linked a
   pub same : is_linked a ≡ true → b ≡ a
 
--- v is w but for the notes of its sites: their fuses, the disks that are made to fail, and how many headers were written
+-- v is w but for the notes of its sites: their fuses, the disks that are made to fail, their groups of disks, and how many headers were written
 pub record IsLike (w v : World) : Type 0 where
   pub sites : v.sites ≡ w.sites
-  pub nodes : (i : ℕ) → v.nodes i ≡ record (w.nodes i) { fuse = (v.nodes i).fuse; failing = (v.nodes i).failing }
+  pub nodes : (i : ℕ) → v.nodes i ≡ record (w.nodes i) { fuse = (v.nodes i).fuse; failing = (v.nodes i).failing; group = (v.nodes i).group }
   pub links : (p s : ℕ) → SameLink (w.links p s) (v.links p s)
   pub lines : (l : Line) → v.lines l ≡ w.lines l
   pub packets : v.packets ≡ w.packets

@@ -5,7 +5,7 @@ use Rattle.vx_model.specs.Content.{Write}
 use Rattle.vx_history.specs.World.{Node, Link, Volume, World}
 use Rattle.vx_model.specs.Sites.{is_origin, same_line, is_up, is_bare, first_line}
 use Rattle.vx_model.specs.Answer.{is_wrong_count, is_past}
-use Rattle.vx_history.specs.Admission.{is_live, is_log, is_fail, Held, Link_is_down, Log_is_full, Log_stalls}
+use Rattle.vx_history.specs.Admission.{is_live_link, is_log, is_fail, Held, Link_is_down, Log_is_full, Log_stalls}
 use Rattle.vx_history.specs.LinkForms.{plain_link}
 use Rattle.vx_model.specs.declared.site.Role.{Role}
 use Rattle.vx_model.specs.declared.site.Role.TheVariants.{Primary, Secondary, Handing, Bunker}
@@ -73,12 +73,12 @@ abbrev pub is_consistent : Mark → Bool
 is_consistent Consistent = true
 is_consistent Inconsistent = false
 
-abbrev pub is_stale : Mode → Bool
-is_stale Log = false
-is_stale Dcm = false
-is_stale (Replay id phase left start end) = false
-is_stale (Fork maps) = false
-is_stale Stale = true
+abbrev pub is_stale_mode : Mode → Bool
+is_stale_mode Log = false
+is_stale_mode Dcm = false
+is_stale_mode (Replay id phase left start end) = false
+is_stale_mode (Fork maps) = false
+is_stale_mode Stale = true
 
 abbrev pub is_empty : List Write → Bool
 is_empty xs = eqb (length xs) 0
@@ -89,9 +89,9 @@ some_below zero test = false
 some_below (suc k) test = test k || some_below k test
 
 -- how many numbers below this one it holds of
-abbrev pub count_below : ℕ → (ℕ → Bool) → ℕ
-count_below zero test = 0
-count_below (suc k) test = (if test k then 1 else 0) + count_below k test
+abbrev pub how_many_below : ℕ → (ℕ → Bool) → ℕ
+how_many_below zero test = 0
+how_many_below (suc k) test = (if test k then 1 else 0) + how_many_below k test
 
 -- 1: no site has this number
 abbrev pub at_site : World → ℕ → Outcome → Outcome
@@ -170,8 +170,8 @@ may_link w p s =
 abbrev pub rings_fit : Node → Node → Bool
 rings_fit a b = leb 17 b.ring || leb a.ring b.ring
 
-abbrev pub links_of : World → ℕ → ℕ
-links_of w p = count_below w.sites (λ k. is_linked (w.links p k))
+abbrev pub count_links_of : World → ℕ → ℕ
+count_links_of w p = how_many_below w.sites (λ k. is_linked (w.links p k))
 
 -- s stands on the line of p as one that receives
 abbrev pub follows : World → ℕ → ℕ → Bool
@@ -182,7 +182,7 @@ abbrev pub may_join : World → ℕ → ℕ → Outcome → Outcome
 may_join w p s o =
     unless (not (may_link w p s)) WrongRole w
     (unless (is_linked (w.links p s)) (Exists (w.nodes s).name) w
-    (unless (leb MOST_LINKS (links_of w p)) (Limit Links MOST_LINKS) w
+    (unless (leb MOST_LINKS (count_links_of w p)) (Limit Links MOST_LINKS) w
     (unless (not (agree (w.nodes p).volumes (w.nodes s).volumes && rings_fit (w.nodes p) (w.nodes s))) Size w o)))
 
 -- whether a link waits for the write of this number, or can't be waited for, or is one that writes wait for at all
@@ -193,7 +193,7 @@ waits FailsIfNotLive = true
 
 -- a live link by the log, at number s
 abbrev pub goes : ℕ → Link → Bool
-goes s l = is_live (plain_link s l) && is_log l.mode
+goes s l = is_live_link (plain_link s l) && is_log l.mode
 
 abbrev pub is_waited_for : ℕ → Link → Bool
 is_waited_for s l = is_linked l && (waits l.sync && goes s l)

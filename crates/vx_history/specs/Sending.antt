@@ -1,6 +1,6 @@
 -- What each event makes of a link at its sending end, and what then is to be done.
 use Rattle.std.specs.Prelude.{ℕ, ◌+◌, max, min, Bool, true, false, ◌&&◌, eqb, ltb, if◌then◌else◌}
-use Rattle.vx_history.specs.Admission.{is_live}
+use Rattle.vx_history.specs.Admission.{is_live_link}
 use Rattle.vx_model.specs.declared.limits.TheConstants.{MOST_AHEAD}
 use Rattle.vx_model.specs.declared.link.Link.{Link}
 use Rattle.vx_model.specs.declared.link.Phase.{Phase}
@@ -50,7 +50,7 @@ pumped_up_to l low high =
     else with_nothing (record l { sent = low })
 
 abbrev pub pumped : Link → (safe : ℕ) → Sent
-pumped l safe = if is_live l && by_log l.mode then pumped_up_to l (max l.sent l.stored) (min safe (l.net + MOST_AHEAD)) else with_nothing l
+pumped l safe = if is_live_link l && by_log l.mode then pumped_up_to l (max l.sent l.stored) (min safe (l.net + MOST_AHEAD)) else with_nothing l
 
 -- sending begins again behind what is acknowledged
 abbrev pub ticked : Link → Link

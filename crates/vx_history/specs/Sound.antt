@@ -10,7 +10,8 @@ use Rattle.vx_history.specs.Good.{Good, IsMade}
 use Rattle.vx_model.specs.declared.history.Line.{Line}
 use Rattle.vx_model.specs.declared.site.Mark.TheVariants.{Consistent}
 use Rattle.vx_model.specs.declared.site.SPhase.TheVariants.{Log as ByLog}
-use Rattle.vx_model.specs.declared.site.SiteState.TheVariants.{Up, Down}
+use Rattle.vx_model.specs.declared.site.SiteState.{SiteState}
+use Rattle.vx_model.specs.declared.site.SiteState.TheVariants.{Bare, Up, Deported, Down}
 use Rattle.vx_model.specs.declared.link.Mode.{Mode}
 use Rattle.vx_model.specs.declared.link.Mode.TheVariants.{Log, Dcm, Replay, Fork, Stale}
 use Rattle.vx_history.specs.Refusals.{keeps_links, is_bunker}
@@ -21,9 +22,17 @@ use Rattle.vx_history.specs.Sends.{is_linked}
 abbrev pub IsPresent : Node → ℕ → Type 0
 IsPresent n session = (n.state ≡ Up) × (n.session ≡ session)
 
--- Fact 2. A site that is down has no write that a further crash could lose: as it comes up it is not halted, and then an origin has none.
-abbrev pub IsWhole : Node → Type 0
-IsWhole n = n.state ≡ Down → length n.log ≤ n.safe
+-- down or deported: more than bare, and not up
+abbrev pub is_at_rest : SiteState → Bool
+is_at_rest Bare = false
+is_at_rest Up = false
+is_at_rest Deported = true
+is_at_rest Down = true
+
+-- Fact 2. A site that is down or deported has no write that a further crash could lose: as it comes up it is not halted, and then an origin
+-- has none.
+abbrev pub LosesNothing : Node → Type 0
+LosesNothing n = is_at_rest n.state ≡ true → length n.log ≤ n.safe
 
 -- Fact 3. What a receiver counts as its primary is the site that began its line.
 abbrev pub IsFed : Node → Type 0
@@ -179,7 +188,7 @@ FedByBunker nodes links p s =
 
 pub record Sound (w : World) : Type 0 where
   pub good : Good w
-  pub whole : (i : ℕ) → IsWhole (w.nodes i)
+  pub whole : (i : ℕ) → LosesNothing (w.nodes i)
   pub fed : (i : ℕ) → IsFed (w.nodes i)
   pub takes : (i : ℕ) → TakesUpdates (w.nodes i)
   pub marked : (i : ℕ) → IsMarked (w.nodes i)

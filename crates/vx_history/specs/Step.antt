@@ -7,7 +7,7 @@ use Rattle.vx_history.specs.Gatherings.{emptied}
 use Rattle.vx_model.specs.Sites.{is_origin}
 use Rattle.vx_model.specs.Answer.{is_too_large}
 use Rattle.vx_history.specs.Receiving.{phase_takes}
-use Rattle.vx_history.specs.Steps.{site_made, raw_made, stopped_by}
+use Rattle.vx_history.specs.Steps.{site_made, raw_made, group_made, stopped_by}
 use Rattle.vx_model.specs.declared.site.Mark.TheVariants.{Consistent}
 use Rattle.vx_model.specs.declared.link.SyncMode.{SyncMode}
 use Rattle.vx_model.specs.declared.link.Prot.TheVariants.{Fail as FailsWhenFull}
@@ -17,12 +17,12 @@ use Rattle.vx_history.specs.declared.event.Said.TheVariants.{Done, Got, Refused}
 use Rattle.vx_history.specs.declared.event.LinkPart.{LinkPart}
 use Rattle.vx_history.specs.declared.event.LinkPart.TheVariants.{Joins, Made, Marked, Opened}
 use Rattle.vx_history.specs.declared.event.Event.{Event}
-use Rattle.vx_history.specs.declared.event.Event.TheVariants.{Site, Raw, Write as WriteAt, Read, Apply, Pump, Tick, Deliver, Connect, Cut, Pause, Resume, Wait, Link, Set, Crash, Recover, Fault}
+use Rattle.vx_history.specs.declared.event.Event.TheVariants.{Site, Raw, Group, Write as WriteAt, Read, Apply, Pump, Tick, Deliver, Connect, Cut, Pause, Resume, Wait, Link, Set, Crash, Deport, Recover, Fault}
 use Rattle.vx_history.specs.Sends.{is_linked, with_link, sending}
-use Rattle.vx_history.specs.Refusals.{Outcome, says, unless, at_site, at_work, both_at_work, on_link, on_link_if, when_live, on_volume, may_be_site, may_join, is_primary, is_consistent, is_stale, is_empty, follows, links_of}
+use Rattle.vx_history.specs.Refusals.{Outcome, says, unless, at_site, at_work, both_at_work, on_link, on_link_if, when_live, on_volume, may_be_site, may_join, is_primary, is_consistent, is_stale_mode, is_empty, follows, count_links_of}
 use Rattle.vx_model.specs.Sizes.{is_raw_shape}
 use Rattle.vx_model.specs.Sites.{is_up, is_bare}
-use Rattle.vx_history.specs.Events.{admitted, written_if, apply_at, reached_at, link_event, ticked_at, greeting_back, delivered, packet_at, waited, kept_of, crash_at, recover_from, joined, new_link, opened}
+use Rattle.vx_history.specs.Events.{admitted, written_if, apply_at, reached_at, link_event, ticked_at, greeting_back, delivered, packet_at, waited, kept_of, crash_at, deport_at, recover_from, joined, new_link, opened}
 
 abbrev pub done : World → Outcome
 done w = says w Done
@@ -46,12 +46,12 @@ abbrev pub link_part : LinkPart → World → ℕ → ℕ → SyncMode → Outco
 link_part Joins w p s sync = may_join w p s (done (emptied (with_node w s (joined (w.nodes p) p (w.nodes s))) s))
 link_part Made w p s sync =
     unless (not (is_primary (w.nodes p).role && follows w p s)) WrongRole w
-    (unless (is_linked (w.links p s)) (Exists (w.nodes s).name) w (done (with_link w p s (new_link (links_of w p) sync (w.nodes s)))))
+    (unless (is_linked (w.links p s)) (Exists (w.nodes s).name) w (done (with_link w p s (new_link (count_links_of w p) sync (w.nodes s)))))
 link_part Marked w p s sync =
     unless (not (is_primary (w.nodes p).role && (follows w p s && (is_linked (w.links p s) && is_empty (w.nodes p).log)))) WrongRole w
     (done (with_node w s (record (w.nodes s) { mark = Consistent })))
 link_part Opened w p s sync =
-    unless (not (is_primary (w.nodes p).role && (follows w p s && (is_linked (w.links p s) && (is_empty (w.nodes p).log && (is_stale (w.links p s).mode && (phase_takes (w.nodes s).phase && is_consistent (w.nodes s).mark))))))) WrongRole w
+    unless (not (is_primary (w.nodes p).role && (follows w p s && (is_linked (w.links p s) && (is_empty (w.nodes p).log && (is_stale_mode (w.links p s).mode && (phase_takes (w.nodes s).phase && is_consistent (w.nodes s).mark))))))) WrongRole w
     (done (with_link w p s (opened (w.links p s) (w.nodes p).safe)))
 
 -- what an event makes of a world, but for the count of headers
@@ -61,6 +61,7 @@ outcome_of w (Raw s) =
     at_site w s
     (unless (not (is_bare (w.nodes s).state)) WrongRole w
     (unless (not (is_raw_shape (w.nodes s).disks (w.nodes s).blocks)) Size w (done (raw_made w s))))
+outcome_of w (Group s) = at_site w s (unless (not (is_bare (w.nodes s).state)) WrongRole w (done (group_made w s)))
 outcome_of w (WriteAt p volume start bytes fails) = write_at w p (record { volume = volume; start = start; bytes = bytes }) fails
 outcome_of w (Read p volume start count) = read_at w p volume start count
 outcome_of w (Apply s count reached) =
@@ -76,16 +77,17 @@ outcome_of w (Wait p number) = at_site w p (at_work w p (unless (not (is_origin 
 outcome_of w (Link p s sync part) = at_site w p (at_site w s (both_at_work w p s (link_part part w p s sync)))
 outcome_of w (Set p s sync) = on_link_if is_origin w p s (done (with_link w p s (record (w.links p s) { sync = sync; prot = FailsWhenFull })))
 outcome_of w (Crash s kept) = at_site w s (unless (not (is_up (w.nodes s).state)) NotUp w (done (crash_at w s (kept_of (w.nodes s) kept))))
+outcome_of w (Deport s) = at_site w s (at_work w s (done (deport_at w s)))
 outcome_of w (Recover s fails) = at_site w s (recover_from (w.nodes s).state w s fails)
 outcome_of w (Fault s disk) = at_site w s (unless (not (is_up (w.nodes s).state)) NotUp w (says (stopped_by w s disk) (Refused (Device disk))))
 
 -- the outcome with the headers counted
-abbrev pub counted : World → Event → Outcome → Outcome
-counted w e o = says (record o.world { headers = λ i. w.headers i + headers_by e w o i }) o.said
+abbrev pub headers_counted : World → Event → Outcome → Outcome
+headers_counted w e o = says (record o.world { headers = λ i. w.headers i + headers_by e w o i }) o.said
 
 -- what an event makes of a world
 abbrev pub step : World → Event → Outcome
-step w e = counted w e (outcome_of w e)
+step w e = headers_counted w e (outcome_of w e)
 
 -- the world after these events
 abbrev pub run : World → List Event → World

@@ -2,12 +2,12 @@
 use Rattle.std.specs.Prelude.{ℕ, ◌+◌, ◌-◌, List, [], ◌∷◌, ◌++◌, length, take, drop, ltb, if◌then◌else◌, Some, None, codes, zero, suc}
 use Rattle.std.specs.Fmt.{decimal}
 use Rattle.vx_model.specs.Content.{Write, Content, put, fold_writes, zeros}
-use Rattle.vx_history.specs.World.{Node, History, World, Volume, Fuse, NoFuse, FuseSet, FuseLit, bare_site, updated, with_node, with_history}
+use Rattle.vx_history.specs.World.{Node, History, World, Volume, Fuse, NoFuse, FuseSet, FuseLit, bare_site, no_volumes, updated, with_node, with_history}
 use Rattle.vx_model.specs.Sites.{no_line, first_line}
 use Rattle.vx_model.specs.Sizes.{ring_of}
 use Rattle.vx_model.specs.declared.site.Role.TheVariants.{Primary}
 use Rattle.vx_model.specs.declared.site.Mark.TheVariants.{Consistent}
-use Rattle.vx_model.specs.declared.site.SiteState.TheVariants.{Up, Down}
+use Rattle.vx_model.specs.declared.site.SiteState.TheVariants.{Up, Deported, Down}
 
 -- a further site, of which nothing is made yet
 abbrev pub site_made : World → List ℕ → ℕ → ℕ → World
@@ -22,30 +22,48 @@ raw_volumes k (suc n) blocks = record { name = codes "d" ++ decimal k; blocks = 
 abbrev pub raw_content : ℕ → ℕ → Content
 raw_content disks blocks = zeros (λ v. if ltb v (disks - 2) then blocks else 0)
 
--- a bare site as a raw set: disk 0 is its log, the last disk its maps, and each disk between a volume of zeros
-abbrev pub raw_set : ℕ → Node → Node
-raw_set site n = record n {
+-- a bare site as the primary of its first line, with these blocks of its log, these volumes and what they hold
+abbrev pub begun_site : ℕ → (ring : ℕ) → List Volume → Content → Node → Node
+begun_site site ring volumes content n = record n {
   state = Up;
-  ring = ring_of n.blocks;
-  volumes = raw_volumes 1 (n.disks - 2) n.blocks;
+  ring = ring;
+  volumes = volumes;
   role = Primary;
   mark = Consistent;
   line = first_line site;
   top = 1;
   stood = n.stood ++ first_line site ∷ [];
   session = 1;
-  start = raw_content n.disks n.blocks;
-  base = raw_content n.disks n.blocks;
+  start = content;
+  base = content;
   log = [];
   safe = 0;
   halted = None;
 }
 
+-- a line that begins, and holds no write
+abbrev pub begun_line : Content → History
+begun_line content = record { parent = no_line; fork = 0; start = content; held = []; told = 0 }
+
+abbrev pub line_begun : World → ℕ → (ring : ℕ) → List Volume → Content → World
+line_begun w s ring volumes content = with_history w s (begun_site s ring volumes content (w.nodes s)) (begun_line content)
+
+-- a bare site as a raw set: disk 0 is its log, the last disk its maps, and each disk between a volume of zeros
+abbrev pub raw_set : ℕ → Node → Node
+raw_set site n = begun_site site (ring_of n.blocks) (raw_volumes 1 (n.disks - 2) n.blocks) (raw_content n.disks n.blocks) n
+
 abbrev pub raw_history : Node → History
-raw_history n = record { parent = no_line; fork = 0; start = raw_content n.disks n.blocks; held = []; told = 0 }
+raw_history n = begun_line (raw_content n.disks n.blocks)
 
 abbrev pub raw_made : World → ℕ → World
 raw_made w s = with_history w s (raw_set s (w.nodes s)) (raw_history (w.nodes s))
+
+-- a bare site as a group of disks: it has no log yet, and no volumes
+abbrev pub group_set : ℕ → Node → Node
+group_set site n = begun_site site 0 [] no_volumes n
+
+abbrev pub group_made : World → ℕ → World
+group_made w s = line_begun w s 0 [] no_volumes
 
 -- a fuse behind a line that may write or flush
 abbrev pub burned : Fuse → Fuse
@@ -90,6 +108,13 @@ kept_by h n k = record h { held = take k n.log }
 
 abbrev pub crash_left : World → ℕ → ℕ → World
 crash_left w s k = let n = w.nodes s in with_history w s (crashed n k) (kept_by (w.lines n.line) n k)
+
+-- a site that gave its disks up
+abbrev pub deported_site : Node → Node
+deported_site n = record n { state = Deported }
+
+abbrev pub deported_world : World → ℕ → World
+deported_world w s = with_node w s (deported_site (w.nodes s))
 
 -- a site with a write that was begun
 abbrev pub half_begun : Node → Write → Node

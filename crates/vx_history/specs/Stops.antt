@@ -7,7 +7,7 @@ use Rattle.vx_history.specs.Events.{packet_at}
 use Rattle.vx_history.specs.declared.event.LinkPart.{LinkPart}
 use Rattle.vx_history.specs.declared.event.LinkPart.TheVariants.{Joins, Made, Marked, Opened}
 use Rattle.vx_history.specs.declared.event.Event.{Event}
-use Rattle.vx_history.specs.declared.event.Event.TheVariants.{Site, Raw, Write, Read, Apply, Pump, Tick, Deliver, Connect, Cut, Pause, Resume, Wait, Link, Set, Crash, Recover, Fault}
+use Rattle.vx_history.specs.declared.event.Event.TheVariants.{Site, Raw, Group, Write, Read, Apply, Pump, Tick, Deliver, Connect, Cut, Pause, Resume, Wait, Link, Set, Crash, Deport, Recover, Fault}
 use Rattle.vx_history.specs.Likes.{IsLike}
 use Rattle.vx_history.specs.Doubts.{Doubted, Runs, halved, crashed_as}
 
@@ -30,6 +30,7 @@ of_disk s (Some disk) = (s, disk) ∷ []
 abbrev pub told_fails : Event → List (ℕ × ℕ)
 told_fails (Site name disks blocks) = []
 told_fails (Raw p) = []
+told_fails (Group p) = []
 told_fails (Write p volume start bytes fails) = of_disk p fails
 told_fails (Read p volume start count) = []
 told_fails (Apply p count reached) = []
@@ -44,6 +45,7 @@ told_fails (Wait p number) = []
 told_fails (Link p q sync part) = []
 told_fails (Set p q sync) = []
 told_fails (Crash p kept) = []
+told_fails (Deport p) = []
 told_fails (Recover p fails) = of_disk p fails
 told_fails (Fault p disk) = (p, disk) ∷ []
 
@@ -71,6 +73,7 @@ IsPartAt Opened p s site = p ≡ site
 abbrev pub WritesAt : World → Event → (site : ℕ) → Type 0
 WritesAt w (Site name disks blocks) site = ⊥
 WritesAt w (Raw p) site = ⊥
+WritesAt w (Group p) site = ⊥
 WritesAt w (Write p volume start bytes None) site = ⊥
 WritesAt w (Write p volume start bytes (Some disk)) site = p ≡ site
 WritesAt w (Read p volume start count) site = ⊥
@@ -86,6 +89,7 @@ WritesAt w (Wait p number) site = ⊥
 WritesAt w (Link p q sync part) site = IsPartAt part p q site
 WritesAt w (Set p q sync) site = p ≡ site
 WritesAt w (Crash p kept) site = ⊥
+WritesAt w (Deport p) site = ⊥
 WritesAt w (Recover p fails) site = ⊥
 WritesAt w (Fault p disk) site = p ≡ site
 
@@ -100,14 +104,14 @@ pub record ComesTo (d : Doubted) (events : List Event) (e : Event) (site : ℕ) 
   pub writes : WritesAt middle.world e site
 
 -- How the events of a line end, and which disks failed in them.
-pub data Stops (d : Doubted) (events : List Event) (fails : List (ℕ × ℕ)) (new : Doubted) : Type 0 where
-  AllDone : (last : Doubted) → Runs d events last → fails ≡ all_fails events → IsLikeDoubted last new → Stops d events fails new
+pub data EventsEnd (d : Doubted) (events : List Event) (fails : List (ℕ × ℕ)) (new : Doubted) : Type 0 where
+  AllDone : (last : Doubted) → Runs d events last → fails ≡ all_fails events → IsLikeDoubted last new → EventsEnd d events fails new
   -- a disk of this site failed in this event
   Halts : (e : Event) (site disk : ℕ) (middle : Doubted) → ComesTo d events e site middle → fails ≡ (site, disk) ∷ []
-      → IsLikeDoubted (halved middle e site disk) new → Stops d events fails new
+      → IsLikeDoubted (halved middle e site disk) new → EventsEnd d events fails new
   -- the fuse of this site ran out in this event: it is down, with the event on its disks or not, and with so many of its writes
   Cuts : (e : Event) (site kept : ℕ) (taken : Bool) (middle : Doubted) → ComesTo d events e site middle → IsFused (d.world.nodes site).fuse
-      → fails ≡ [] → IsLikeDoubted (crashed_as (halved middle e site 0) site kept taken) new → Stops d events fails new
+      → fails ≡ [] → IsLikeDoubted (crashed_as (halved middle e site 0) site kept taken) new → EventsEnd d events fails new
   -- a read failed in this event: it is not begun, and those before it stand
   Reads : (before rest : List Event) (e : Event) (site disk : ℕ) (middle : Doubted) → events ≡ before ++ e ∷ rest → Runs d before middle
-      → all_fails before ≡ [] → fails ≡ (site, disk) ∷ [] → IsLikeDoubted middle new → Stops d events fails new
+      → all_fails before ≡ [] → fails ≡ (site, disk) ∷ [] → IsLikeDoubted middle new → EventsEnd d events fails new

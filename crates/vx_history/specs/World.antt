@@ -17,6 +17,7 @@ use Rattle.vx_model.specs.declared.link.Prot.{Prot}
 use Rattle.vx_model.specs.declared.link.Prot.TheVariants.{Off as NoProtection}
 use Rattle.vx_model.specs.declared.link.Mode.{Mode}
 use Rattle.vx_model.specs.declared.link.Mode.TheVariants.{Stale}
+use Rattle.vx_history.specs.Groups.{GroupNode}
 
 -- What is recorded of a line: the line and the number from which it came (generation 0 where it came from none), what its
 -- volumes held at number 0, the writes that are durable at its origin, number 1 first, and the greatest number answered.
@@ -90,6 +91,8 @@ pub record Node : Type 0 where
   pub fuse : Fuse
   -- which of its disks are made to fail; no event sets it
   pub failing : ℕ → Bool
+  -- what it notes of its group of disks; no event sets it
+  pub group : Option GroupNode
 
 -- a link, and the place in which it was made among those of its site
 pub record Link : Type 0 where
@@ -198,6 +201,7 @@ bare_site name disks blocks = record {
   fork_map = None;
   fuse = NoFuse;
   failing = λ d. false;
+  group = None;
 }
 
 abbrev pub no_link : Link

@@ -27,6 +27,10 @@ pub enum Event {
     Raw {
         site: u32,
     },
+    /// A bare site becomes a group of disks without volumes, and the primary of its first line.
+    Group {
+        site: u32,
+    },
     /// A write to a volume of a primary. `fails` is the disk that failed in it: it is then not known whether the write stands.
     Write {
         site: u32,
@@ -101,8 +105,12 @@ pub enum Event {
         site: u32,
         kept: u64,
     },
-    /// A site that is down comes up in its next session. `fails` is the disk that failed after that session had begun: the site
-    /// is then down still.
+    /// The site gives its disks up, and keeps what a crash keeps for certain.
+    Deport {
+        site: u32,
+    },
+    /// A site that is down or deported comes up in its next session. `fails` is the disk that failed after that session had begun:
+    /// the site is then down or deported still.
     Recover {
         site: u32,
         fails: Option<u32>,

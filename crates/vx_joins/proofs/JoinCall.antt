@@ -11,29 +11,30 @@ use Rattle.vx_disk.specs.declared.shelf.Shelf.{Ghosts}
 use Rattle.vx_rvg.specs.declared.group.Rvg.{Rvg}
 use Rattle.vx_secondary.specs.declared.secondary.Secondary.{Secondary}
 use Rattle.vx_events.specs.declared.said.Said.{Said}
-use Rattle.vx_diskset.specs.Asked.{LeavesFuse, disks_in, size_in}
+use Rattle.vx_events.specs.declared.said.Said.TheVariants.{Done}
+use Rattle.vx_diskset.specs.Asked.{HeadUnder, LeavesFuse, disks_told, size_in}
 use Rattle.vx_diskset.specs.Burning.{Burnt, NoMore}
 use Rattle.vx_diskset.specs.DiskSets.{CrashedAt, Later, halted_at, is_off}
-use Rattle.vx_diskset.specs.Holds.{Beside}
-use Rattle.vx_diskset.specs.Stands.{CutAt, IsReceiverAt, StandsAt}
+use Rattle.vx_diskset.specs.Holds.{KeptBeside}
+use Rattle.vx_diskset.specs.Stands.{CutAt, IsReceiverAt, SiteStands}
 use Rattle.vx_diskset.specs.declared.disk_set.DiskSet.{DiskSet}
 use Rattle.vx_diskset.specs.declared.disk_set.DiskSet.TheVariants.{Bare, Spoiled, Up, Receives, Down, Gone}
 use Rattle.vx_joins.specs.Joins.{CanJoin, JoinedAs, JoinedAt, joins_in_doubt}
 
 module _ {R : Type 0} {g : Ghosts R} where
   -- the group with the room for updates
-  pub receives_group : {beside : Beside} (n : Node) (s : Secondary R g) (v : Rvg R g) → s.rvg ≡ v → s.waiting ≡ [] → IsReceiverAt beside n v.core [] (g.meaning v.shelf) → StandsAt beside n (Receives s)
+  pub receives_group : {beside : KeptBeside} (n : Node) (s : Secondary R g) (v : Rvg R g) → s.rvg ≡ v → s.waiting ≡ [] → IsReceiverAt beside n v.core [] (g.meaning v.shelf) → SiteStands beside n (Receives s)
   receives_group {beside} n s v same none stands =
       subst (λ (us : List Update). IsReceiverAt beside n s.rvg.core us (g.meaning s.rvg.shelf)) (sym none)
       (subst (λ (k : Rvg R g). IsReceiverAt beside n k.core [] (g.meaning k.shelf)) (sym same) stands)
 
   -- the fuse ran out, and the site crashed
-  pub joined_off : (beside : Beside) (a : Node) (p : ℕ) (n : Node) (old mid : Rvg R g) (new : DiskSet R g) (why : No) → is_off why ≡ true → JoinedAs beside a p n (g.meaning old.shelf) mid.core (g.meaning mid.shelf) (Err why)
+  pub joined_off : (beside : KeptBeside) (a : Node) (p : ℕ) (n : Node) (old mid : Rvg R g) (new : DiskSet R g) (why : No) → is_off why ≡ true → JoinedAs beside a p n (g.meaning old.shelf) mid.core (g.meaning mid.shelf) (Err why)
       → (CutAt (joins_in_doubt beside a p n 0) (halted_at n 0) (Up mid) → CrashedAt (joins_in_doubt beside a p n 0) (halted_at n 0) new) → JoinedAt beside a p n (Up old) new (Err why)
   joined_off beside a p n old mid new IsOff off is falls = (is.0, falls is.1)
   joined_off beside a p n old mid new other off is falls = absurd (cc)
 
-  pub joined_on : (beside : Beside) (a : Node) (p : ℕ) (n : Node) (old mid : Rvg R g) (why : No) → is_off why ≡ false → JoinedAs beside a p n (g.meaning old.shelf) mid.core (g.meaning mid.shelf) (Err why)
+  pub joined_on : (beside : KeptBeside) (a : Node) (p : ℕ) (n : Node) (old mid : Rvg R g) (why : No) → is_off why ≡ false → JoinedAs beside a p n (g.meaning old.shelf) mid.core (g.meaning mid.shelf) (Err why)
       → JoinedAt beside a p n (Up old) (Up mid) (Err why)
   joined_on beside a p n old mid IsOff on is = absurd (cc)
   joined_on beside a p n old mid (Device disk) on is = is
@@ -43,8 +44,14 @@ module _ {R : Type 0} {g : Ghosts R} where
   -- with the room for updates the calls are the same
   pub called_group : (said : Said) (old mid : Rvg R g) (s : Secondary R g) → s.rvg ≡ mid → LeavesFuse NoMore said (Up old) (Up mid) → LeavesFuse NoMore said (Up old) (Receives s)
   called_group said old mid s same called = record {
-    told = subst (λ (v : Rvg R g). OnDisks (disks_in (Up old)) (g.meaning v.shelf).disks (Burnt NoMore said (size_in (Up old)))) (sym same) called.told;
+    told = subst (λ (v : Rvg R g). OnDisks (disks_told (Up old)) (g.meaning v.shelf).disks (Burnt NoMore said (size_in (Up old)))) (sym same) called.told;
+    sizes = λ u. ap (λ (v : Rvg R g). (g.meaning v.shelf).size u) same ∙ called.sizes u;
   }
+
+  pub head_group : (old mid : Rvg R g) (s : Secondary R g) → s.rvg ≡ mid → HeadUnder 2 Done (Up old) (Up mid) → HeadUnder 2 Done (Up old) (Receives s)
+  head_group old mid s same head =
+      let here : HeadUnder 2 Done (Up old) (Up s.rvg) = subst (λ (v : Rvg R g). HeadUnder 2 Done (Up old) (Up v)) (sym same) head in
+      record { burns = record { told = here.burns.told; sizes = here.burns.sizes }; takes = here.takes; short = here.short }
 
   pub later_receives : (old mid : Rvg R g) (s : Secondary R g) → s.rvg ≡ mid → Later (Up old) (Up mid) → Later (Up old) (Receives s)
   later_receives old mid s same later = record {
@@ -56,7 +63,7 @@ module _ {R : Type 0} {g : Ghosts R} where
   later_self e = record { counts = λ d. omega arith; told = λ t. t }
 
   -- no other disks are those of an origin that is up
-  pub never_joins : {beside : Beside} (n : Node) (e : DiskSet R g) → ((rvg : Rvg R g) → e ≡ Up rvg → ⊥) → StandsAt beside n e → CanJoin beside n → ⊥
+  pub never_joins : {beside : KeptBeside} (n : Node) (e : DiskSet R g) → ((rvg : Rvg R g) → e ≡ Up rvg → ⊥) → SiteStands beside n e → CanJoin beside n → ⊥
   never_joins n (Bare rack) other stands can = let e : IsBare ≡ IsUp = sym (ap (λ (x : Node). x.state) stands.bare.is) ∙ can.up in cc
   never_joins n (Spoiled rack) other stands can = let e : IsBare ≡ IsUp = sym (ap (λ (x : Node). x.state) stands.is) ∙ can.up in cc
   never_joins n (Up rvg) other stands can = other rvg refl

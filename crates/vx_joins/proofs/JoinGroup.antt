@@ -16,20 +16,21 @@ use Rattle.vx_srlfmt.specs.declared.header.Header.{Header}
 use Rattle.vx_srl.specs.Calls.{can_restart}
 use Rattle.vx_srl.specs.Views.{Log, most_number, widths}
 use Rattle.vx_srl.specs.declared.kept.Kept.{Kept as KeptRecord}
+use Rattle.vx_disk.specs.Burns.{MakesCalls}
 use Rattle.vx_disk.specs.Moves.{Blocks, Moves}
 use Rattle.vx_disk.specs.Shelf.{Image, Lawful, Meaning}
-use Rattle.vx_rvg.specs.Groups.{Fails, unless_halted}
+use Rattle.vx_rvg.specs.Groups.{GroupFails, halted_or}
 use Rattle.vx_rvg.specs.Holdings.{Holding, kept_in, with_last}
-use Rattle.vx_rvg.specs.Saves.{RestartIs, change_blocks, restart_refusal, with_restart}
+use Rattle.vx_rvg.specs.Saves.{AppliesNone, RestartIs, change_blocks, restart_refusal, with_restart}
 use Rattle.vx_rvg.specs.Stands.{FoundAs, Retains, Saving}
-use Rattle.vx_rvg.specs.Views.{Core}
-use Rattle.vx_events.specs.Fuses.{taken}
+use Rattle.vx_rvg.specs.Views.{Core, last_of}
+use Rattle.vx_events.specs.Fuses.{ring_taken}
 use Rattle.vx_events.proofs.Places.{some_same}
 use Rattle.vx_secondary.specs.Receivers.{Wait}
 use Rattle.vx_diskset.specs.DiskSets.{halted_at, no_number, worked}
 use Rattle.vx_diskset.specs.Fuses.{HasFuse}
-use Rattle.vx_diskset.specs.Holds.{Beside, HasSite, HasWrites, Kept, MayBe, most_with, state_with, sure_of}
-use Rattle.vx_diskset.specs.Lasts.{HasLast, StandsWith}
+use Rattle.vx_diskset.specs.Holds.{KeptBeside, HasSite, HasWrites, KeptSite, MayBe, most_with, state_with, sure_of}
+use Rattle.vx_diskset.specs.Lasts.{HasLast, StandsHolding}
 use Rattle.vx_diskset.specs.Layouts.{LiesOn}
 use Rattle.vx_diskset.specs.Needs.{TakesAs}
 use Rattle.vx_diskset.specs.Stands.{IsHeldAt, IsReceiverAt, IsUpAt}
@@ -72,7 +73,7 @@ none_left : (k : ℕ) → widths (drop k []) ≡ 0
 none_left zero = refl
 none_left (suc k) = refl
 
-none_gone : (k : ℕ) → taken (drop k []) ≡ 0
+none_gone : (k : ℕ) → ring_taken (drop k []) ≡ 0
 none_gone zero = refl
 none_gone (suc k) = refl
 
@@ -82,7 +83,7 @@ none_taken l held = record {
 }
 
 -- an image with the site's writes has them of one that is halted, whose log may have one header more
-has_halted : {beside : Beside} (a : Node) (p : ℕ) (n : Node) (disk : ℕ) (i : Image) → HasWrites beside n i → HasWrites (joins_in_doubt beside a p n disk) (halted_at n disk) i
+has_halted : {beside : KeptBeside} (a : Node) (p : ℕ) (n : Node) (disk : ℕ) (i : Image) → HasWrites beside n i → HasWrites (joins_in_doubt beside a p n disk) (halted_at n disk) i
 has_halted {beside} a p n disk i has = record {
   count = has.count;
   least = has.least;
@@ -96,11 +97,19 @@ has_halted {beside} a p n disk i has = record {
 }
 
 -- the same of one that came to the other line
-has_anew : (beside : Beside) (a : Node) (p : ℕ) (n : Node) (disk : ℕ) (i : Image) → HasWrites (sure_of (joined_anew beside a p n)) (joined a p n) i
+has_anew : (beside : KeptBeside) (a : Node) (p : ℕ) (n : Node) (disk : ℕ) (i : Image) → HasWrites (sure_of (joined_anew beside a p n)) (joined a p n) i
     → HasWrites (sure_of (record (joined_anew beside a p n) { node = halted_at (joined a p n) disk })) (halted_at (joined a p n) disk) i
 has_anew beside a p n disk i has = record { count = has.count; least = has.least; most = has.most; found = has.found }
 
-module _ {beside : Beside} (a : Node) (p : ℕ) (n : Node) (c : Core) (m : Meaning) (up : IsUpAt beside n c m) (can : CanJoin beside n) where
+-- the header is all that it writes
+pub none_applied : {beside : KeptBeside} (n : Node) (c : Core) (m : Meaning) → IsUpAt beside n c m → CanJoin beside n → AppliesNone (Some 0) c
+none_applied {beside} n c m up can = let all : last_of c ≤ c.applied = omega (arith, up.head, up.logged, ap (λ (xs : List Write). length xs) can.empty) in all
+
+pub join_calls : (c : Core) (m new : Meaning) (r : Result (Unit {0}) No) → OnOk r (AppliesNone (Some 0) c → MakesCalls 2 m new) → OnOk r ((beside : KeptBeside) (n : Node) → IsUpAt beside n c m → CanJoin beside n → MakesCalls 2 m new)
+join_calls c m new (Ok done) calls = λ beside n up can. calls (none_applied n c m up can)
+join_calls c m new (Err why) calls = tt
+
+module _ {beside : KeptBeside} (a : Node) (p : ℕ) (n : Node) (c : Core) (m : Meaning) (up : IsUpAt beside n c m) (can : CanJoin beside n) where
   none_safe : n.safe ≡ 0
   none_safe = omega (arith, up.logged, ap (λ (xs : List Write). length xs) can.empty)
 
@@ -126,7 +135,7 @@ module _ {beside : Beside} (a : Node) (p : ℕ) (n : Node) (c : Core) (m : Meani
       (λ next. inr (anew_found i told next))
       (saving.each stood.held stood.stands)
 
-module _ {beside : Beside} (a : Node) (p : ℕ) (n : Node) (c c' : Core) (m new : Meaning) (up : IsUpAt beside n c m) (can : CanJoin beside n) (lawful : Lawful m) (after : Lawful new)
+module _ {beside : KeptBeside} (a : Node) (p : ℕ) (n : Node) (c c' : Core) (m new : Meaning) (up : IsUpAt beside n c m) (can : CanJoin beside n) (lawful : Lawful m) (after : Lawful new)
     (moves : Moves (change_blocks (Some 0) c m) (Saving c (emptied_core c a p n) m) m new) where
   abbrev blocks : Blocks
   blocks = change_blocks (Some 0) c m
@@ -148,8 +157,8 @@ module _ {beside : Beside} (a : Node) (p : ℕ) (n : Node) (c c' : Core) (m new 
   may_here : (disk : ℕ) → MayBe (record (joined_anew beside a p n) { node = halted_at (joined a p n) disk }) new
   may_here disk = record { state = up.state; lies = lies_here; low = refl; logged = omega arith; begun = λ told. up.begun (sym moves.tells ∙ told) }
 
-  may_be : (disk : ℕ) (k : Kept) → (joins_in_doubt beside a p n disk).doubt ≡ Some k → MayBe k new
-  may_be disk k is = subst (λ (x : Kept). MayBe x new) (some_same is) (may_here disk)
+  may_be : (disk : ℕ) (k : KeptSite) → (joins_in_doubt beside a p n disk).doubt ≡ Some k → MayBe k new
+  may_be disk k is = subst (λ (x : KeptSite). MayBe x new) (some_same is) (may_here disk)
 
   -- its fuse ran out
   pub join_cut : IsTrue new.down → IsFused n.fuse × IsHeldAt (joins_in_doubt beside a p n 0) (halted_at n 0) new
@@ -163,7 +172,7 @@ module _ {beside : Beside} (a : Node) (p : ℕ) (n : Node) (c c' : Core) (m new 
     joined_up : c' ≡ emptied_core c a p n → Retains c c' m new → IsReceiverAt (sure_of (joined_anew beside a p n)) (worked (joined a p n)) c' [] new
     joined_up is retains = subst (λ (k : Core). Retains c k m new → k.log.unit ≡ k.units.srl → IsReceiverAt (sure_of (joined_anew beside a p n)) (worked (joined a p n)) k [] new) (sym is) (λ rests unit. by rests unit) retains unit_is
       where
-        stood_anew : Retains c (emptied_core c a p n) m new → IsTrue new.tells → StandsWith (emptied_core c a p n) [] n.base new
+        stood_anew : Retains c (emptied_core c a p n) m new → IsTrue new.tells → StandsHolding (emptied_core c a p n) [] n.base new
         stood_anew rests told =
             let stood = up.content can.running (sym moves.tells ∙ told) in
             record { held = kept_in (emptied_core c a p n) stood.held; has = held_last a p n c m up can stood.held stood.has; needs = none_of [] 0 refl; stands = rests.each stood.held stood.stands }
@@ -235,7 +244,7 @@ module _ {beside : Beside} (a : Node) (p : ℕ) (n : Node) (c c' : Core) (m new 
         never : {k : ℕ} → Some k ≡ None → ⊥
         never e = cc
 
-    by_fault : (d : Core) (why : No) → d.units ≡ c.units → d.log ≡ c.log → Fails d m new c' why → JoinedAs beside a p n m c' new (Err why)
+    by_fault : (d : Core) (why : No) → d.units ≡ c.units → d.log ≡ c.log → GroupFails d m new c' why → JoinedAs beside a p n m c' new (Err why)
     by_fault d (Device disk) units log fails = (
       join_halted disk (fails.0.units ∙ units) (fails.0.ring ∙ ap (λ (l : Log). l.ring) log) (fails.0.header ∙ ap (λ (l : Log). l.header) log) (fails.0.held ∙ ap (λ (l : Log). l.held) log) fails.0.halted_is,
       fails.1,
@@ -267,5 +276,5 @@ module _ {beside : Beside} (a : Node) (p : ℕ) (n : Node) (c c' : Core) (m new 
     joined_as result is unchanged rests =
         let runs_on : c.halted ≡ None = up.halted ∙ can.running in
         by_refusal (can_restart c.log 0) refl result
-        (subst (λ (h : Option ℕ). RestartIs (unless_halted h (if can_restart c.log 0 then None else Some no_number)) c (emptied_core c a p n) m new c' result) runs_on is)
-        (subst (λ (h : Option ℕ). IsSome (unless_halted h (if can_restart c.log 0 then None else Some no_number)) → new ≡ m) runs_on unchanged) rests
+        (subst (λ (h : Option ℕ). RestartIs (halted_or h (if can_restart c.log 0 then None else Some no_number)) c (emptied_core c a p n) m new c' result) runs_on is)
+        (subst (λ (h : Option ℕ). IsSome (halted_or h (if can_restart c.log 0 then None else Some no_number)) → new ≡ m) runs_on unchanged) rests

@@ -2,6 +2,7 @@
 use Rattle.std.proofs.Common.{◌≡◌, ◌∙◌, inr, ◌+◌, ◌<◌, ◌≤◌, ◌&&◌, ℕ, zero, suc, Bool, true, false, List, [], ◌∷◌, ap, sym, subst, refl, arith}
 use Rattle.std.specs.Prelude.{Option, Some, None, Result, Ok, Err, eqb, ltb, map, max, slice_get, if◌then◌else◌}
 use Rattle.std.proofs.lemmas.Bool.Decides.{nat_tests}
+use Rattle.vx_events.specs.LinksFit.{is_plain_mode}
 use Rattle.vx_model.specs.declared.errors.Stop.{Stop}
 use Rattle.vx_model.specs.declared.errors.Stop.TheVariants.{No as Refused, OutOfMemory}
 use Rattle.vx_model.specs.declared.history.Line.{Line}
@@ -14,7 +15,7 @@ use Rattle.vx_model.specs.declared.state.KeptLink.{KeptLink}
 use Rattle.vx_model.specs.declared.state.KeptMode.{KeptMode}
 use Rattle.vx_model.specs.declared.state.KeptMode.TheVariants as kept
 use Rattle.vx_model.specs.declared.state.State.{State}
-use Rattle.vx_history.specs.Events.{facts_of, gathered_if, is_taken, link_in_place, linked_sites, packet_at, put_before, said_of_link, is_in_place}
+use Rattle.vx_history.specs.Events.{receiver_facts, gathered_if, is_taken, link_in_place, linked_sites, packet_at, put_before, said_of_link, is_in_place}
 use Rattle.vx_history.specs.KeptLinks.{kept_link, kept_links, kept_mode, kept_start}
 use Rattle.vx_history.specs.LinkForms.{plain_link, with_plain}
 use Rattle.vx_history.specs.Refusals.{Outcome}
@@ -31,19 +32,19 @@ use Rattle.vx_disk.specs.Causes.{OnDisks}
 use Rattle.vx_disk.specs.Disks.{Disks}
 use Rattle.vx_ringio.proofs.Spending.{loses_none}
 use Rattle.vx_events.specs.declared.said.Said.TheVariants.{Done}
-use Rattle.vx_diskset.specs.Asked.{LeavesFuse, disks_in, size_in}
+use Rattle.vx_diskset.specs.Asked.{LeavesFuse, disks_told, size_in}
 use Rattle.vx_diskset.specs.Burning.{Burnt, NoMore}
 use Rattle.vx_disk.specs.declared.shelf.Shelf.{Ghosts}
 use Rattle.vx_packet.specs.Assemblies.{Assembled}
 use Rattle.vx_peers.specs.Answers.{AnsweredAt, Listens, PartAnsweredAt, is_answer}
 use Rattle.vx_peers.proofs.Hears.{event_for, outcome_is}
 use Rattle.vx_diskset.specs.DiskSets.{worked}
-use Rattle.vx_diskset.specs.Holds.{Beside, beside_of, links_of, row_links, state_with, sure_of}
+use Rattle.vx_diskset.specs.Holds.{KeptBeside, beside_of, header_links, row_links, state_with, sure_of}
 use Rattle.vx_diskset.specs.Keeps.{CanKeep, KeptAt, kept_anew, restated}
-use Rattle.vx_diskset.specs.Needs.{hold_of, is_needing, mode_hold}
-use Rattle.vx_diskset.specs.Stands.{StandsAt}
+use Rattle.vx_diskset.specs.Needs.{hold_of, is_needing, kept_mode_hold}
+use Rattle.vx_diskset.specs.Stands.{SiteStands}
 use Rattle.vx_diskset.specs.declared.disk_set.DiskSet.{DiskSet}
-use Rattle.vx_joins.specs.Hearings.{HeardAt, PartHeardAt, StoredIs, StoresAt, behind, is_plain_mode, links_stored, stored_at}
+use Rattle.vx_joins.specs.Hearings.{HeardAt, PartHeardAt, StoredIs, StoresAt, world_behind, links_stored, stored_at}
 
 -- ---- the rule keeps the mode of a link that goes by the log or by nothing, and what is stored does not fall
 
@@ -145,7 +146,7 @@ module _ (w : World) (number : ℕ) (p : Packet) (at : packet_at w.packets numbe
 
   -- what the rule of the link says of the message
   abbrev rule : Sent
-  rule = sent_step (plain_link p.source l) (event_for p.message) (facts_of (w.nodes p.target) p.line)
+  rule = sent_step (plain_link p.source l) (event_for p.message) (receiver_facts (w.nodes p.target) p.line)
 
   abbrev heard : PlainLink
   heard = rule.link
@@ -157,43 +158,43 @@ module _ (w : World) (number : ℕ) (p : Packet) (at : packet_at w.packets numbe
   gathered_same true v = (refl, refl)
   gathered_same false v = (refl, refl)
 
-  row_is : (behind w number).links p.target ≡ updated (w.links p.target) p.source (with_plain l heard)
+  row_is : (world_behind w number).links p.target ≡ updated (w.links p.target) p.source (with_plain l heard)
   row_is =
       ap (λ (o : Outcome). o.world.links p.target) (outcome_is w number p at answers f flight safe line listens)
       ∙ ap (λ (g : ℕ → ℕ → Link). g p.target) (gathered_same (is_taken (said_of_link rule.action)) moved).0
       ∙ at_place w.links p.target (updated (w.links p.target) p.source (with_plain l heard))
 
-  sites_is : (behind w number).sites ≡ w.sites
+  sites_is : (world_behind w number).sites ≡ w.sites
   sites_is =
       ap (λ (o : Outcome). o.world.sites) (outcome_is w number p at answers f flight safe line listens)
       ∙ (gathered_same (is_taken (said_of_link rule.action)) moved).1
 
   keeps : KeepsMode (plain_link p.source l) rule
-  keeps = answer_keeps (plain_link p.source l) p.message (facts_of (w.nodes p.target) p.line) answers plain
+  keeps = answer_keeps (plain_link p.source l) p.message (receiver_facts (w.nodes p.target) p.line) answers plain
 
-  pub stored_is : ((behind w number).links p.target p.source).stored ≡ heard.stored
+  pub stored_is : ((world_behind w number).links p.target p.source).stored ≡ heard.stored
   stored_is = ap (λ (row : ℕ → Link). (row p.source).stored) row_is ∙ ap (λ (x : Link). x.stored) (at_place (w.links p.target) p.source (with_plain l heard))
 
-  pub rises : l.stored ≤ ((behind w number).links p.target p.source).stored
+  pub rises : l.stored ≤ ((world_behind w number).links p.target p.source).stored
   rises = omega (arith, keeps.1, stored_is)
 
   made_same : (k : ℕ) → (updated (w.links p.target) p.source (with_plain l heard) k).made ≡ (w.links p.target k).made
   made_same = all_updated (λ k (x : Link). x.made ≡ (w.links p.target k).made) (w.links p.target) p.source (with_plain l heard) refl (λ k apart. refl)
 
-  pub links_are : links_of (behind w number) p.target ≡ links_stored p.source ((behind w number).links p.target p.source).stored (links_of w p.target)
+  pub links_are : header_links (world_behind w number) p.target ≡ links_stored p.source ((world_behind w number).links p.target p.source).stored (header_links w p.target)
   links_are =
       let row = w.links p.target in
       let new : ℕ → Link = updated row p.source (with_plain l heard) in
-      ap (λ (n : ℕ). row_links ((behind w number).links p.target) n) sites_is
+      ap (λ (n : ℕ). row_links ((world_behind w number).links p.target) n) sites_is
       ∙ ap (λ (x : ℕ → Link). row_links x w.sites) row_is
       ∙ ap (kept_links new) (sites_same row new made_same w.sites 0 w.sites)
       ∙ rows row p.source heard.stored (with_plain l heard) (kept_is p.source l heard keeps.0) (linked_sites row w.sites 0 w.sites)
-      ∙ ap (λ (k : ℕ). links_stored p.source k (links_of w p.target)) (sym stored_is)
+      ∙ ap (λ (k : ℕ). links_stored p.source k (header_links w p.target)) (sym stored_is)
 
   -- where no more is stored the header keeps the same
-  pub links_same : ltb l.stored ((behind w number).links p.target p.source).stored ≡ false → links_of (behind w number) p.target ≡ links_of w p.target
+  pub links_same : ltb l.stored ((world_behind w number).links p.target p.source).stored ≡ false → header_links (world_behind w number) p.target ≡ header_links w p.target
   links_same none =
-      links_are ∙ unchanged (w.links p.target) p.source ((behind w number).links p.target p.source).stored (no_more l.stored ((behind w number).links p.target p.source).stored none rises) (linked_sites (w.links p.target) w.sites 0 w.sites)
+      links_are ∙ unchanged (w.links p.target) p.source ((world_behind w number).links p.target p.source).stored (no_more l.stored ((world_behind w number).links p.target p.source).stored none rises) (linked_sites (w.links p.target) w.sites 0 w.sites)
     where
       no_more : (a b : ℕ) → ltb a b ≡ false → a ≤ b → b ≡ a
       no_more a b e le = grind (arith, nat_tests)
@@ -210,7 +211,7 @@ mapped f [] k y there = absurd (cc)
 mapped f (x ∷ xs) zero y there = let e : f x ≡ y = cc in (x, refl, sym e)
 mapped f (x ∷ xs) (suc k) y there = mapped f xs k y there
 
-hold_rises : (m : KeptMode) (start a b : ℕ) → a ≤ b → mode_hold m start a ≤ mode_hold m start b
+hold_rises : (m : KeptMode) (start a b : ℕ) → a ≤ b → kept_mode_hold m start a ≤ kept_mode_hold m start b
 hold_rises kept.Log start a b le = le
 hold_rises kept.Dcm start a b le = le
 hold_rises kept.Replay start a b le = omega (arith, le)
@@ -225,7 +226,7 @@ hold_more : (q number : ℕ) (x : KeptLink) → (x.site ≡ q → x.stored ≤ n
 hold_more q number x less true same = hold_rises x.mode x.start x.stored number (less (eqb_equal x.site q same))
 hold_more q number x less false same = omega arith
 
-pub can_store : (beside : Beside) (n : Node) (q number : ℕ) → n.state ≡ IsUp → n.halted ≡ None → ((k : ℕ) (x : KeptLink) → slice_get beside.links k ≡ Some x → x.site ≡ q → x.stored ≤ number)
+pub can_store : (beside : KeptBeside) (n : Node) (q number : ℕ) → n.state ≡ IsUp → n.halted ≡ None → ((k : ℕ) (x : KeptLink) → slice_get beside.links k ≡ Some x → x.site ≡ q → x.stored ≤ number)
     → CanKeep beside n (state_with n (links_stored q number beside.links))
 can_store beside n q number up running less = record {
   up = up;
@@ -240,7 +241,7 @@ can_store beside n q number up running less = record {
 }
 
 -- the links that the header of a site's log keeps have so much stored
-pub stored_there : (w : World) (s q k : ℕ) (x : KeptLink) → slice_get (links_of w s) k ≡ Some x → x.site ≡ q → x.stored ≡ (w.links s q).stored
+pub stored_there : (w : World) (s q k : ℕ) (x : KeptLink) → slice_get (header_links w s) k ≡ Some x → x.site ≡ q → x.stored ≡ (w.links s q).stored
 stored_there w s q k x there same =
     ap (λ (y : KeptLink). y.stored) (entry (w.links s) (linked_sites (w.links s) w.sites 0 w.sites) k x there) ∙ ap (λ (j : ℕ). (w.links s j).stored) same
 
@@ -248,7 +249,7 @@ stored_there w s q k x there same =
 
 module _ {R : Type 0} {g : Ghosts R} where
   -- no more is stored
-  pub stored_same : (beside : Beside) (n : Node) (to old stored : ℕ) (e new : DiskSet R g) → stored ≤ old → StandsAt beside n new → StoredIs beside n to old stored e new (Ok tt)
+  pub stored_same : (beside : KeptBeside) (n : Node) (to old stored : ℕ) (e new : DiskSet R g) → stored ≤ old → SiteStands beside n new → StoredIs beside n to old stored e new (Ok tt)
   stored_same beside n to old stored e new few stands =
       subst (λ (b : Bool). StoresAt beside n b (if b then links_stored to stored beside.links else beside.links) new) (sym (not_less old stored few)) stands
     where
@@ -256,15 +257,15 @@ module _ {R : Type 0} {g : Ghosts R} where
       not_less a b le = grind (arith, nat_tests)
 
   -- the header with more stored is kept, or not
-  pub stored_more : (beside : Beside) (n : Node) (to old stored : ℕ) (s : State) (e new : DiskSet R g) → old < stored → s ≡ state_with n (links_stored to stored beside.links) → KeptAt beside n s e new (Ok tt) → StoredIs beside n to old stored e new (Ok tt)
+  pub stored_more : (beside : KeptBeside) (n : Node) (to old stored : ℕ) (s : State) (e new : DiskSet R g) → old < stored → s ≡ state_with n (links_stored to stored beside.links) → KeptAt beside n s e new (Ok tt) → StoredIs beside n to old stored e new (Ok tt)
   stored_more beside n to old stored s e new more is kept =
       subst (λ (b : Bool). StoresAt beside n b (if b then links_stored to stored beside.links else beside.links) new) (sym (less old stored more))
-      (subst (λ (t : State). StandsAt (sure_of (kept_anew beside n t)) (worked (restated n t)) new) is kept)
+      (subst (λ (t : State). SiteStands (sure_of (kept_anew beside n t)) (worked (restated n t)) new) is kept)
     where
       less : (a b : ℕ) → a < b → ltb a b ≡ true
       less a b le = grind (arith, nat_tests)
 
-  pub stored_not : (beside : Beside) (n : Node) (to old stored : ℕ) (s : State) (e new : DiskSet R g) (why : No) → s ≡ state_with n (links_stored to stored beside.links) → KeptAt beside n s e new (Err why) → StoredIs beside n to old stored e new (Err (Refused why))
+  pub stored_not : (beside : KeptBeside) (n : Node) (to old stored : ℕ) (s : State) (e new : DiskSet R g) (why : No) → s ≡ state_with n (links_stored to stored beside.links) → KeptAt beside n s e new (Err why) → StoredIs beside n to old stored e new (Err (Refused why))
   stored_not beside n to old stored s e new why is kept = subst (λ (t : State). KeptAt beside n t e new (Err why)) is kept
 
 module _ (d : Doubted) (number : ℕ) (p : Packet) (at : packet_at d.world.packets number ≡ Some p) (answers : is_answer p.message ≡ true) (f : Flying) (flight : FlightStands d.world.packets f)
@@ -276,22 +277,22 @@ module _ (d : Doubted) (number : ℕ) (p : Packet) (at : packet_at d.world.packe
   before = (d.world.links s p.source).stored
 
   abbrev now : ℕ
-  now = ((behind d.world number).links s p.source).stored
+  now = ((world_behind d.world number).links s p.source).stored
 
-  links_now : links_of (behind d.world number) s ≡ links_stored p.source now (links_of d.world s)
+  links_now : header_links (world_behind d.world number) s ≡ links_stored p.source now (header_links d.world s)
   links_now = links_are d.world number p at answers f flight safe line listens plain
 
   -- no link that leads to that site has more stored
-  pub none_above : (link heard : PlainLink) → link ≡ plain_link p.source (d.world.links s p.source) → heard ≡ plain_link p.source ((behind d.world number).links s p.source)
-      → (k : ℕ) (x : KeptLink) → slice_get (links_of d.world s) k ≡ Some x → x.site ≡ link.site → x.stored ≤ heard.stored
+  pub none_above : (link heard : PlainLink) → link ≡ plain_link p.source (d.world.links s p.source) → heard ≡ plain_link p.source ((world_behind d.world number).links s p.source)
+      → (k : ℕ) (x : KeptLink) → slice_get (header_links d.world s) k ≡ Some x → x.site ≡ link.site → x.stored ≤ heard.stored
   none_above link heard link_is heard_is k x there same =
       let own = stored_there d.world s p.source k x there (same ∙ ap (λ (i : PlainLink). i.site) link_is) in
       let more = rises d.world number p at answers f flight safe line listens plain in
       omega (arith, own, more, ap (λ (i : PlainLink). i.stored) heard_is)
 
   module _ {R : Type 0} {g : Ghosts R} where
-    by_rose : (b : Bool) → ltb before now ≡ b → (new : DiskSet R g) → StoresAt (beside_of d s) (d.world.nodes s) b (if b then links_stored p.source now (links_of d.world s) else links_of d.world s) new
-        → StoresAt (beside_of d s) (d.world.nodes s) b (links_of (behind d.world number) s) new
+    by_rose : (b : Bool) → ltb before now ≡ b → (new : DiskSet R g) → StoresAt (beside_of d s) (d.world.nodes s) b (if b then links_stored p.source now (header_links d.world s) else header_links d.world s) new
+        → StoresAt (beside_of d s) (d.world.nodes s) b (header_links (world_behind d.world number) s) new
     by_rose true rose new stands = subst (λ (ls : List KeptLink). StoresAt (beside_of d s) (d.world.nodes s) true ls new) (sym links_now) stands
     by_rose false rose new stands = subst (λ (ls : List KeptLink). StoresAt (beside_of d s) (d.world.nodes s) false ls new) (sym (links_same d.world number p at answers f flight safe line listens plain rose)) stands
 
@@ -312,7 +313,7 @@ module _ (d : Doubted) (number : ℕ) (p : Packet) (at : packet_at d.world.packe
     part_heard_not old new l OutOfMemory stored = stored
 
     -- the link is that of the world
-    pub stored_as : (old new : DiskSet R g) (link heard : PlainLink) (result : Result (Unit {0}) Stop) → link ≡ plain_link p.source (d.world.links s p.source) → heard ≡ plain_link p.source ((behind d.world number).links s p.source)
+    pub stored_as : (old new : DiskSet R g) (link heard : PlainLink) (result : Result (Unit {0}) Stop) → link ≡ plain_link p.source (d.world.links s p.source) → heard ≡ plain_link p.source ((world_behind d.world number).links s p.source)
         → StoredIs (beside_of d s) (d.world.nodes s) link.site link.stored heard.stored old new result → StoredIs (beside_of d s) (d.world.nodes s) p.source before now old new result
     stored_as old new link heard result link_is heard_is stored =
         subst (λ (k : PlainLink). StoredIs (beside_of d s) (d.world.nodes s) p.source before k.stored old new result) heard_is
@@ -325,7 +326,7 @@ none_passed size None = tt
 none_passed size (Some d) = (record { fuse = loses_none d.fuse; still = λ f first last. record { stable = λ u b. refl; latest = λ u b. refl; loose = λ u b. refl } }, λ u. refl)
 
 pub called_none : {R : Type 0} {g : Ghosts R} (e : DiskSet R g) → LeavesFuse NoMore Done e e
-called_none e = record { told = none_passed (size_in e) (disks_in e) }
+called_none e = record { told = none_passed (size_in e) (disks_told e); sizes = λ u. refl }
 
 -- a stop under any result
 pub stop_under : (T V : Type 0) (x y : Stop) → (let r : Result T Stop = Err x in r ≡ Err y) → (let r : Result V Stop = Err x in r ≡ Err y)

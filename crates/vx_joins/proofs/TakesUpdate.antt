@@ -29,16 +29,16 @@ use Rattle.vx_disk.specs.Shelf.{Image, Meaning}
 use Rattle.vx_disk.specs.declared.shelf.Shelf.{Ghosts}
 use Rattle.vx_rvg.specs.Views.{Core, last_of}
 use Rattle.vx_rvg.specs.declared.group.Rvg.{Rvg}
-use Rattle.vx_peers.specs.Receivers.{Receives as ReceivesAt, StandsFor}
-use Rattle.vx_secondary.specs.Receivers.{receiver_of, write_of, writes_of}
+use Rattle.vx_peers.specs.Receivers.{ReceivesWrites as ReceivesAt, StandsForOutcome}
+use Rattle.vx_secondary.specs.Receivers.{receiver_of, write_of_update, writes_of_updates}
 use Rattle.vx_secondary.specs.declared.secondary.Secondary.{Secondary}
-use Rattle.vx_diskset.specs.Asked.{LeavesAlone, disks_in}
+use Rattle.vx_diskset.specs.Asked.{LeavesAlone, disks_told}
 use Rattle.vx_diskset.specs.DiskSets.{Later}
-use Rattle.vx_diskset.specs.Holds.{Beside, HasWrites, most_with, state_with}
-use Rattle.vx_diskset.specs.Lasts.{FoundWith, StandsWith}
+use Rattle.vx_diskset.specs.Holds.{KeptBeside, HasWrites, most_with, state_with}
+use Rattle.vx_diskset.specs.Lasts.{FoundWith, StandsHolding}
 use Rattle.vx_diskset.specs.Layouts.{units_of}
 use Rattle.vx_diskset.specs.Needs.{TakesAs}
-use Rattle.vx_diskset.specs.Stands.{IsReceiverAt, RoleIs, StandsAt}
+use Rattle.vx_diskset.specs.Stands.{IsReceiverAt, RoleIs, SiteStands}
 use Rattle.vx_diskset.specs.declared.disk_set.DiskSet.{DiskSet}
 use Rattle.vx_diskset.specs.declared.disk_set.DiskSet.TheVariants.{Bare, Spoiled, Up, Receives, Down, Gone}
 use Rattle.vx_diskset.proofs.BesideLemmas.{site_sure}
@@ -54,14 +54,14 @@ receiver_made c us n last_is waiting_is session_is s state named =
     ∙ ap (λ (k : ℕ). record (plain_receiver n) { waiting = k; session = c.log.header.incarnation }) waiting_is
     ∙ ap (λ (k : ℕ). record (plain_receiver n) { session = k }) session_is
 
-module _ {beside : Beside} (n : Node) (c : Core) (us : List Logged) (m : Meaning) (r : IsReceiverAt beside n c us m) (running : n.halted ≡ None) where
+module _ {beside : KeptBeside} (n : Node) (c : Core) (us : List Logged) (m : Meaning) (r : IsReceiverAt beside n c us m) (running : n.halted ≡ None) where
   many : length us ≡ length n.log - n.safe
   many =
       let head = r.head running in
-      let one : length (writes_of us) ≡ length (drop (last_of c) n.log) = ap (λ (xs : List Write). length xs) r.waits in
-      omega (arith, head, one, length-map us write_of, length-drop (last_of c) n.log)
+      let one : length (writes_of_updates us) ≡ length (drop (last_of c) n.log) = ap (λ (xs : List Write). length xs) r.waits in
+      omega (arith, head, one, length-map us write_of_update, length-drop (last_of c) n.log)
 
-  waits_safe : writes_of us ≡ drop n.safe n.log
+  waits_safe : writes_of_updates us ≡ drop n.safe n.log
   waits_safe = r.waits ∙ ap (λ (k : ℕ). drop k n.log) (r.head running)
 
   least_safe : n.safe ≤ length n.log
@@ -80,7 +80,7 @@ module _ {beside : Beside} (n : Node) (c : Core) (us : List Logged) (m : Meaning
 
   -- ---- with other updates behind it, which are its writes that wait
 
-  pub same_receiver : (vs : List Logged) → writes_of vs ≡ drop n.safe n.log → IsReceiverAt beside n c vs m
+  pub same_receiver : (vs : List Logged) → writes_of_updates vs ≡ drop n.safe n.log → IsReceiverAt beside n c vs m
   same_receiver vs waits = record {
     state = r.state;
     role = r.role;
@@ -126,7 +126,7 @@ module _ {beside : Beside} (n : Node) (c : Core) (us : List Logged) (m : Meaning
       found = subst (λ (ws : List Write). FoundWith (units_of n) n.ring (state_with n beside.links) n.session (most_with beside n has.count) i ws (fold_writes n.base (drop n.safe ws))) (sym (front has.count has.most)) has.found;
     }
 
-    pub more_receiver : (vs : List Logged) → writes_of vs ≡ drop n.safe (n.log ++ x ∷ []) → IsReceiverAt beside more c vs m
+    pub more_receiver : (vs : List Logged) → writes_of_updates vs ≡ drop n.safe (n.log ++ x ∷ []) → IsReceiverAt beside more c vs m
     more_receiver vs waits = record {
       state = r.state;
       role = r.role;
@@ -149,7 +149,7 @@ module _ {beside : Beside} (n : Node) (c : Core) (us : List Logged) (m : Meaning
       halted = r.halted;
       waits = waits ∙ sym (ap (λ (k : ℕ). drop k (n.log ++ x ∷ [])) (r.head running));
       takes = λ none. subst (λ (ws : List Write). TakesAs c.log ws) (sym (front n.safe least_safe)) (r.takes none);
-      content = λ none told. subst (λ (ws : List Write). StandsWith c ws n.base m) (sym (front n.safe least_safe)) (r.content none told);
+      content = λ none told. subst (λ (ws : List Write). StandsHolding c ws n.base m) (sym (front n.safe least_safe)) (r.content none told);
       left = λ i now. inl (has_more i (site_sure n i (r.sure running) (r.left i now)));
       sure = r.sure;
       may = r.may;
@@ -223,16 +223,16 @@ module _ (w : World) (number : ℕ) (p : Packet) (k : ℕ) (x : Write) (at : pac
       ap (delivered w number) at
       ∙ ap (gathers p) (either_way (is_up there.state) (is_running there.halted) (heard w p p.message) (says w IsIgnored) (⊎_elim (λ off. inl off) (λ origin. inr (unheard origin)) why))
 
-  module _ {R : Type 0} {g : Ghosts R} (beside : Beside) where
+  module _ {R : Type 0} {g : Ghosts R} (beside : KeptBeside) where
     pub ignored_to : (e : DiskSet R g) (fed : ℕ) (a : Assembled) (f : Flying) → ((is_up there.state ≡ false) ⊎ (is_running there.halted ≡ false)) ⊎ (is_origin there.role ≡ true)
-        → StandsAt beside there e → fed ≡ there.fed_by → AssemblyStands w.packets p.target (w.gathering p.target) a → FlightStands w.packets f → DeliveredTo behind beside p.target e fed a f IsIgnored
+        → SiteStands beside there e → fed ≡ there.fed_by → AssemblyStands w.packets p.target (w.gathering p.target) a → FlightStands w.packets f → DeliveredTo behind beside p.target e fed a f IsIgnored
     ignored_to e fed a f why stands fed_by assembly flight =
         subst (λ (o : Outcome). DeliveredTo o beside p.target e fed a f IsIgnored) (sym (ignored_is why))
         (record { says = refl; stands = stands; fed_by = fed_by; assembly = assembly; flight = flight })
 
     -- disks that receive nothing
     pub never_heard : (e : DiskSet R g) (fed : ℕ) (a : Assembled) (f : Flying) → ((s : Secondary R g) → e ≡ Receives s → ⊥) → RoleIs there e
-        → StandsAt beside there e → fed ≡ there.fed_by → AssemblyStands w.packets p.target (w.gathering p.target) a → FlightStands w.packets f → DeliveredTo behind beside p.target e fed a f IsIgnored
+        → SiteStands beside there e → fed ≡ there.fed_by → AssemblyStands w.packets p.target (w.gathering p.target) a → FlightStands w.packets f → DeliveredTo behind beside p.target e fed a f IsIgnored
     never_heard (Bare rack) fed a f other role stands = ignored_to (Bare rack) fed a f (inl (inl (ap (λ (n : Node). is_up n.state) stands.bare.is))) stands
     never_heard (Spoiled rack) fed a f other role stands = ignored_to (Spoiled rack) fed a f (inl (inl (ap (λ (n : Node). is_up n.state) stands.is))) stands
     never_heard (Up rvg) fed a f other role stands = ignored_to (Up rvg) fed a f (inr role) stands
@@ -241,13 +241,13 @@ module _ (w : World) (number : ℕ) (p : Packet) (k : ℕ) (x : Write) (at : pac
     never_heard Gone fed a f other role stands = absurd stands
 
     -- a receiver that is halted
-    pub halted_to : (s : Secondary R g) (disk : ℕ) (fed : ℕ) (a : Assembled) (f : Flying) → Some disk ≡ s.rvg.core.halted → StandsAt beside there (Receives s) → fed ≡ there.fed_by → AssemblyStands w.packets p.target (w.gathering p.target) a
+    pub halted_to : (s : Secondary R g) (disk : ℕ) (fed : ℕ) (a : Assembled) (f : Flying) → Some disk ≡ s.rvg.core.halted → SiteStands beside there (Receives s) → fed ≡ there.fed_by → AssemblyStands w.packets p.target (w.gathering p.target) a
         → FlightStands w.packets f → DeliveredTo behind beside p.target (Receives s) fed a f IsIgnored
     halted_to s disk fed a f is stands = ignored_to (Receives s) fed a f (inl (inr (halted_off there.halted disk (is ∙ stands.halted)))) stands
 
     -- one that runs
-    pub taken_to : (old new : Secondary R g) (fed : ℕ) (a : Assembled) (f : Flying) (said : Said) → new.rvg ≡ old.rvg → StandsAt beside there (Receives old) → there.halted ≡ None
-        → StandsFor behind p.target new.rvg.core new.waiting fed a f said → DeliveredTo behind beside p.target (Receives new) fed a f said
+    pub taken_to : (old new : Secondary R g) (fed : ℕ) (a : Assembled) (f : Flying) (said : Said) → new.rvg ≡ old.rvg → SiteStands beside there (Receives old) → there.halted ≡ None
+        → StandsForOutcome behind p.target new.rvg.core new.waiting fed a f said → DeliveredTo behind beside p.target (Receives new) fed a f said
     taken_to old new fed a f said same r running stood = record {
       says = stood.says;
       stands = subst (λ (v : Rvg R g). IsReceiverAt beside (behind.world.nodes p.target) v.core new.waiting (g.meaning v.shelf)) (sym same) (⊎_elim still more (node_behind w p x number k at message));
@@ -261,11 +261,11 @@ module _ (w : World) (number : ℕ) (p : Packet) (k : ℕ) (x : Write) (at : pac
 
         still : behind.world.nodes p.target ≡ there → IsReceiverAt beside (behind.world.nodes p.target) old.rvg.core new.waiting m
         still is = subst (λ (n : Node). IsReceiverAt beside n old.rvg.core new.waiting m) (sym is)
-            (same_receiver there old.rvg.core old.waiting m r running new.waiting (subst (λ (n : Node). writes_of new.waiting ≡ drop n.safe n.log) is stood.receiver.waits))
+            (same_receiver there old.rvg.core old.waiting m r running new.waiting (subst (λ (n : Node). writes_of_updates new.waiting ≡ drop n.safe n.log) is stood.receiver.waits))
 
         more : behind.world.nodes p.target ≡ with_write there p.source x → IsReceiverAt beside (behind.world.nodes p.target) old.rvg.core new.waiting m
         more is = subst (λ (n : Node). IsReceiverAt beside n old.rvg.core new.waiting m) (sym is)
-            (more_receiver there old.rvg.core old.waiting m r running p.source x new.waiting (subst (λ (n : Node). writes_of new.waiting ≡ drop n.safe n.log) is stood.receiver.waits))
+            (more_receiver there old.rvg.core old.waiting m r running p.source x new.waiting (subst (λ (n : Node). writes_of_updates new.waiting ≡ drop n.safe n.log) is stood.receiver.waits))
 
 -- ---- the disks
 
@@ -278,13 +278,16 @@ alone_self (Some d) = (untouched d, λ u. refl)
 
 module _ {R : Type 0} {g : Ghosts R} where
   pub alone_same : (e : DiskSet R g) → LeavesAlone e e
-  alone_same e = record { told = alone_self (disks_in e) }
+  alone_same e = record { told = alone_self (disks_told e); sizes = λ u. refl }
 
   pub later_same : (e : DiskSet R g) → Later e e
   later_same e = record { counts = λ d. omega arith; told = λ t. t }
 
   pub alone_group : (old new : Secondary R g) → new.rvg ≡ old.rvg → LeavesAlone (Receives old) (Receives new)
-  alone_group old new same = record { told = subst (λ (v : Rvg R g). OnDisks (g.meaning old.rvg.shelf).disks (g.meaning v.shelf).disks Untouched) (sym same) (alone_self (g.meaning old.rvg.shelf).disks) }
+  alone_group old new same = record {
+    told = subst (λ (v : Rvg R g). OnDisks (g.meaning old.rvg.shelf).disks (g.meaning v.shelf).disks Untouched) (sym same) (alone_self (g.meaning old.rvg.shelf).disks);
+    sizes = λ u. ap (λ (v : Rvg R g). (g.meaning v.shelf).size u) same;
+  }
 
   pub later_group : (old new : Secondary R g) → new.rvg ≡ old.rvg → Later (Receives old) (Receives new)
   later_group old new same = record {
@@ -292,7 +295,7 @@ module _ {R : Type 0} {g : Ghosts R} where
     told = λ t. subst (λ (v : Rvg R g). IsTrue (g.meaning v.shelf).tells) same t;
   }
 
-  pub same_stands : (old new : Secondary R g) (beside : Beside) (n : Node) → new.rvg ≡ old.rvg → new.waiting ≡ old.waiting → StandsAt beside n (Receives old) → StandsAt beside n (Receives new)
+  pub same_stands : (old new : Secondary R g) (beside : KeptBeside) (n : Node) → new.rvg ≡ old.rvg → new.waiting ≡ old.waiting → SiteStands beside n (Receives old) → SiteStands beside n (Receives new)
   same_stands old new beside n same waiting r =
       subst (λ (us : List Logged). IsReceiverAt beside n new.rvg.core us (g.meaning new.rvg.shelf)) (sym waiting)
       (subst (λ (v : Rvg R g). IsReceiverAt beside n v.core old.waiting (g.meaning v.shelf)) (sym same) r)

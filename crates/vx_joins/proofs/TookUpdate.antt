@@ -26,13 +26,13 @@ use Rattle.vx_disk.specs.Shelf.{Meaning}
 use Rattle.vx_disk.specs.declared.shelf.Shelf.{Ghosts}
 use Rattle.vx_rvg.specs.declared.group.Rvg.{Rvg}
 use Rattle.vx_peers.proofs.MorePackets.{more_none}
-use Rattle.vx_peers.specs.Receivers.{AcksAgain, IsIdle, NoneWaits, NotHeard, OneWaits, Receives as ReceivesAt, TookOne, acks_of, rule_at}
+use Rattle.vx_peers.specs.Receivers.{AcksAgain, IsIdle, NoneWaits, NotHeard, OneWaits, ReceivesWrites as ReceivesAt, TookOne, acks_of, rule_at}
 use Rattle.vx_peers.specs.Senders.{Sends}
 use Rattle.vx_events.specs.LinkFinds.{rule_of}
-use Rattle.vx_secondary.specs.Receivers.{write_of, writes_of}
+use Rattle.vx_secondary.specs.Receivers.{write_of_update, writes_of_updates}
 use Rattle.vx_secondary.specs.declared.secondary.Secondary.{Secondary}
-use Rattle.vx_diskset.specs.Holds.{Beside}
-use Rattle.vx_diskset.specs.Stands.{IsReceiverAt, RoleIs, StandsAt}
+use Rattle.vx_diskset.specs.Holds.{KeptBeside}
+use Rattle.vx_diskset.specs.Stands.{IsReceiverAt, RoleIs, SiteStands}
 use Rattle.vx_diskset.specs.declared.disk_set.DiskSet.{DiskSet}
 use Rattle.vx_diskset.specs.declared.disk_set.DiskSet.TheVariants.{Bare, Spoiled, Up, Receives, Down, Gone}
 use Rattle.vx_joins.specs.Deliveries.{IsUnheard, TakesNone, TakesOne, TookTo}
@@ -74,13 +74,13 @@ module _ (w : World) (number : ℕ) (p : Packet) (k : ℕ) (x : Write) (at : pac
   next_of : (m : ℕ) → rule_of w p k ≡ Take m → m ≡ k
   next_of m is = next_is (takes (plain_receiver there) p.line k) (repeats (plain_receiver there) p.line k) (with_next (plain_receiver there)) (plain_receiver there) k (length there.log) m is
 
-  module _ {R : Type 0} {g : Ghosts R} (beside : Beside) where
-    unheard : (e : DiskSet R g) (fed : ℕ) (a : Assembled) (f : Flying) → ((is_up there.state ≡ false) ⊎ (is_running there.halted ≡ false)) ⊎ (is_origin there.role ≡ true) → StandsAt beside there e → fed ≡ there.fed_by
+  module _ {R : Type 0} {g : Ghosts R} (beside : KeptBeside) where
+    unheard : (e : DiskSet R g) (fed : ℕ) (a : Assembled) (f : Flying) → ((is_up there.state ≡ false) ⊎ (is_running there.halted ≡ false)) ⊎ (is_origin there.role ≡ true) → SiteStands beside there e → fed ≡ there.fed_by
         → TookTo w number p k beside e fed a a f f IsIgnored
     unheard e fed a f why stands fed_by = IsUnheard [] (ignored_is w number p k x at message why ∙ nothing_sent) refl stands fed_by refl (more_none f f refl)
 
     -- disks that receive nothing
-    pub other_took : (e : DiskSet R g) (fed : ℕ) (a : Assembled) (f : Flying) → ((s : Secondary R g) → e ≡ Receives s → ⊥) → RoleIs there e → StandsAt beside there e → fed ≡ there.fed_by → TookTo w number p k beside e fed a a f f IsIgnored
+    pub other_took : (e : DiskSet R g) (fed : ℕ) (a : Assembled) (f : Flying) → ((s : Secondary R g) → e ≡ Receives s → ⊥) → RoleIs there e → SiteStands beside there e → fed ≡ there.fed_by → TookTo w number p k beside e fed a a f f IsIgnored
     other_took (Bare rack) fed a f other role stands = unheard (Bare rack) fed a f (inl (inl (ap (λ (n : Node). is_up n.state) stands.bare.is))) stands
     other_took (Spoiled rack) fed a f other role stands = unheard (Spoiled rack) fed a f (inl (inl (ap (λ (n : Node). is_up n.state) stands.is))) stands
     other_took (Up rvg) fed a f other role stands = unheard (Up rvg) fed a f (inr role) stands
@@ -89,22 +89,22 @@ module _ (w : World) (number : ℕ) (p : Packet) (k : ℕ) (x : Write) (at : pac
     other_took Gone fed a f other role stands = absurd stands
 
     -- a receiver that is halted
-    pub halted_took : (s : Secondary R g) (disk fed : ℕ) (a : Assembled) (f : Flying) → Some disk ≡ s.rvg.core.halted → StandsAt beside there (Receives s) → fed ≡ there.fed_by → TookTo w number p k beside (Receives s) fed a a f f IsIgnored
+    pub halted_took : (s : Secondary R g) (disk fed : ℕ) (a : Assembled) (f : Flying) → Some disk ≡ s.rvg.core.halted → SiteStands beside there (Receives s) → fed ≡ there.fed_by → TookTo w number p k beside (Receives s) fed a a f f IsIgnored
     halted_took s disk fed a f is stands = unheard (Receives s) fed a f (inl (inr (halted_off there.halted disk (is ∙ stands.halted)))) stands
 
     -- one that runs
-    module _ (old new : Secondary R g) (fed fed' : ℕ) (a a' : Assembled) (f f' : Flying) (same : new.rvg ≡ old.rvg) (r : StandsAt beside there (Receives old)) (running : there.halted ≡ None) (fed_by : fed ≡ there.fed_by) where
+    module _ (old new : Secondary R g) (fed fed' : ℕ) (a a' : Assembled) (f f' : Flying) (same : new.rvg ≡ old.rvg) (r : SiteStands beside there (Receives old)) (running : there.halted ≡ None) (fed_by : fed ≡ there.fed_by) where
       abbrev m : Meaning
       m = g.meaning old.rvg.shelf
 
-      waits : writes_of old.waiting ≡ drop there.safe there.log
+      waits : writes_of_updates old.waiting ≡ drop there.safe there.log
       waits = r.waits ∙ ap (λ (i : ℕ). drop i there.log) (r.head running)
 
-      group_same : (n : Node) → IsReceiverAt beside n old.rvg.core new.waiting m → StandsAt beside n (Receives new)
+      group_same : (n : Node) → IsReceiverAt beside n old.rvg.core new.waiting m → SiteStands beside n (Receives new)
       group_same n here = subst (λ (v : Rvg R g). IsReceiverAt beside n v.core new.waiting (g.meaning v.shelf)) (sym same) here
 
       same_waits : new.waiting ≡ old.waiting → IsReceiverAt beside there old.rvg.core new.waiting m
-      same_waits is = same_receiver there old.rvg.core old.waiting m r running new.waiting (ap (λ (us : List Logged). writes_of us) is ∙ waits)
+      same_waits is = same_receiver there old.rvg.core old.waiting m r running new.waiting (ap (λ (us : List Logged). writes_of_updates us) is ∙ waits)
 
       peer : ReceivesAt there old.rvg.core old.waiting fed
       peer = receives_at there old.rvg.core old.waiting m r running fed fed_by
@@ -121,11 +121,11 @@ module _ (w : World) (number : ℕ) (p : Packet) (k : ℕ) (x : Write) (at : pac
           → TookTo w number p k beside (Receives new) fed' a a' f f' said
       running_took said (OneWaits u n takes is from sends taken) =
           let next : n ≡ k = next_of n (sym rule ∙ takes) in
-          TakesOne (r.state, running) r.role (sym rule ∙ takes ∙ ap (λ (i : ℕ). Take i) next) (write_of u) taken
-          (group_same (with_write there p.source (write_of u))
-          (more_receiver there old.rvg.core old.waiting m r running p.source (write_of u) new.waiting
-          (ap (λ (us : List Logged). writes_of us) is ∙ map-append write_of old.waiting (u ∷ []) ∙ ap (λ (ws : List Write). ws ++ write_of u ∷ []) waits
-          ∙ sym (drop-append-le there.safe there.log (write_of u ∷ []) (omega (arith, r.least, r.most))))))
+          TakesOne (r.state, running) r.role (sym rule ∙ takes ∙ ap (λ (i : ℕ). Take i) next) (write_of_update u) taken
+          (group_same (with_write there p.source (write_of_update u))
+          (more_receiver there old.rvg.core old.waiting m r running p.source (write_of_update u) new.waiting
+          (ap (λ (us : List Logged). writes_of_updates us) is ∙ map-append write_of_update old.waiting (u ∷ []) ∙ ap (λ (ws : List Write). ws ++ write_of_update u ∷ []) waits
+          ∙ sym (drop-append-le there.safe there.log (write_of_update u ∷ []) (omega (arith, r.least, r.most))))))
           from (subst (λ (i : ℕ). Sends (packets_of p.target p.source there.line (NetAck there.session i)) f f') next (acks n sends))
       running_took said (NoneWaits n takes is from still how) =
           let next : n ≡ k = next_of n (sym rule ∙ takes) in

@@ -1,15 +1,16 @@
 // The disks of a site that come to the line of another one.
-ghost use Rattle.std.specs.Prelude.{◌≡◌, [], ℕ, IsFalse};
+ghost use Rattle.std.specs.Prelude.{◌≡◌, [], ℕ, IsFalse, OnOk};
+ghost use Rattle.vx_disk.specs.Burns.{FallsShort, MakesCalls};
 ghost use Rattle.vx_history.specs.Events.{joined};
 ghost use Rattle.vx_history.specs.World.{Node};
 ghost use Rattle.vx_ringio.specs.Spends.{Spends};
 ghost use Rattle.vx_srlfmt.specs.Headers.{CanSpellState};
-ghost use Rattle.vx_diskset.specs.Asked.{LeavesFuse};
+ghost use Rattle.vx_diskset.specs.Asked.{HeadUnder, LeavesFuse};
 ghost use Rattle.vx_diskset.specs.Burning.{NoMore, OffIf};
 ghost use Rattle.vx_diskset.specs.DiskSets.{Later, is_off};
-ghost use Rattle.vx_diskset.specs.Holds.{Beside, state_with};
+ghost use Rattle.vx_diskset.specs.Holds.{KeptBeside, state_with};
 ghost use Rattle.vx_diskset.specs.Keeps.{done_by};
-ghost use Rattle.vx_diskset.specs.Stands.{IsUpAt, StandsAt};
+ghost use Rattle.vx_diskset.specs.Stands.{IsUpAt, SiteStands};
 ghost use Rattle.vx_joins.specs.Joins.{CanJoin, JoinedAs, JoinedAt};
 
 use std::mem;
@@ -29,8 +30,11 @@ fn is_off(no: &No) -> bool
 // Brings a group to another line, behind an empty log. A shelf that is down behind it answers so.
 fn join_group<R: Rack>(rvg: &mut Rvg<R>, state: &State) -> Result<(), No>
     requires state { CanSpellState state.now }
-    ensures joined { (beside : Beside) (a : Node) (p : ℕ) (n : Node) → IsUpAt beside n rvg.old.core (R.meaning rvg.old.shelf) → CanJoin beside n → state.now ≡ state_with (joined a p n) []
+    ensures joined { (beside : KeptBeside) (a : Node) (p : ℕ) (n : Node) → IsUpAt beside n rvg.old.core (R.meaning rvg.old.shelf) → CanJoin beside n → state.now ≡ state_with (joined a p n) []
         → JoinedAs beside a p n (R.meaning rvg.old.shelf) rvg.new.core (R.meaning rvg.new.shelf) result }
+    // The header is all that it writes, as nothing is logged.
+    ensures calls { OnOk result ((beside : KeptBeside) (n : Node) → IsUpAt beside n rvg.old.core (R.meaning rvg.old.shelf) → CanJoin beside n → MakesCalls 2 (R.meaning rvg.old.shelf) (R.meaning rvg.new.shelf)) }
+    ensures short { (beside : KeptBeside) (n : Node) → IsUpAt beside n rvg.old.core (R.meaning rvg.old.shelf) → CanJoin beside n → FallsShort 2 (R.meaning rvg.old.shelf) (R.meaning rvg.new.shelf) }
     ensures spends { Spends (R.meaning rvg.old.shelf) (R.meaning rvg.new.shelf) }
     ensures off { IsFalse (R.meaning rvg.old.shelf).down → OffIf result (R.meaning rvg.new.shelf).down }
     ensures later { Later (DiskSet.Up rvg.old) (DiskSet.Up rvg.new) }
@@ -48,8 +52,9 @@ fn join_group<R: Rack>(rvg: &mut Rvg<R>, state: &State) -> Result<(), No>
 fn join_up<R: Rack>(rvg: Rvg<R>, state: &State, waiting: Waiting) -> (DiskSet<R>, Result<(), No>)
     requires state { CanSpellState state.now }
     requires empty { waiting ≡ [] }
-    ensures joined { (beside : Beside) (a : Node) (p : ℕ) (n : Node) → StandsAt beside n (DiskSet.Up rvg) → CanJoin beside n → state.now ≡ state_with (joined a p n) [] → JoinedAt beside a p n (DiskSet.Up rvg) result.0 result.1 }
-    ensures called { (beside : Beside) (n : Node) → StandsAt beside n (DiskSet.Up rvg) → LeavesFuse NoMore (done_by result.1) (DiskSet.Up rvg) result.0 }
+    ensures joined { (beside : KeptBeside) (a : Node) (p : ℕ) (n : Node) → SiteStands beside n (DiskSet.Up rvg) → CanJoin beside n → state.now ≡ state_with (joined a p n) [] → JoinedAt beside a p n (DiskSet.Up rvg) result.0 result.1 }
+    ensures called { (beside : KeptBeside) (n : Node) → SiteStands beside n (DiskSet.Up rvg) → LeavesFuse NoMore (done_by result.1) (DiskSet.Up rvg) result.0 }
+    ensures headed { (beside : KeptBeside) (n : Node) → SiteStands beside n (DiskSet.Up rvg) → CanJoin beside n → HeadUnder 2 (done_by result.1) (DiskSet.Up rvg) result.0 }
     ensures later { Later (DiskSet.Up rvg) result.0 }
 {
     let mut rvg = rvg;
@@ -74,8 +79,9 @@ fn join_up<R: Rack>(rvg: Rvg<R>, state: &State, waiting: Waiting) -> (DiskSet<R>
 pub fn join<R: Rack>(disks: &mut DiskSet<R>, state: &State, waiting: Waiting) -> Result<(), No>
     requires state { CanSpellState state.now }
     requires empty { waiting ≡ [] }
-    ensures joined { (beside : Beside) (a : Node) (p : ℕ) (n : Node) → StandsAt beside n disks.old → CanJoin beside n → state.now ≡ state_with (joined a p n) [] → JoinedAt beside a p n disks.old disks.new result }
-    ensures called { (beside : Beside) (n : Node) → StandsAt beside n disks.old → LeavesFuse NoMore (done_by result) disks.old disks.new }
+    ensures joined { (beside : KeptBeside) (a : Node) (p : ℕ) (n : Node) → SiteStands beside n disks.old → CanJoin beside n → state.now ≡ state_with (joined a p n) [] → JoinedAt beside a p n disks.old disks.new result }
+    ensures called { (beside : KeptBeside) (n : Node) → SiteStands beside n disks.old → LeavesFuse NoMore (done_by result) disks.old disks.new }
+    ensures headed { (beside : KeptBeside) (n : Node) → SiteStands beside n disks.old → CanJoin beside n → HeadUnder 2 (done_by result) disks.old disks.new }
     ensures later { Later disks.old disks.new }
 {
     match mem::replace(disks, DiskSet::Gone) {

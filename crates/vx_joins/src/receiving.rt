@@ -4,13 +4,13 @@ ghost use Rattle.vx_courier.specs.Together.{AreOne, AssemblyStands};
 ghost use Rattle.vx_courier.specs.UnderWay.{FlightStands};
 ghost use Rattle.vx_history.specs.Doubts.{Doubted};
 ghost use Rattle.vx_history.specs.Events.{delivered, packet_at};
-ghost use Rattle.vx_history.specs.Fits.{Fits};
+ghost use Rattle.vx_history.specs.Fits.{WriteFits};
 ghost use Rattle.vx_history.specs.World.{Node, Packet, Update as PlainUpdate};
 ghost use Rattle.vx_model.specs.Content.{Write};
 ghost use Rattle.vx_diskset.specs.Asked.{LeavesAlone};
 ghost use Rattle.vx_diskset.specs.DiskSets.{Later};
-ghost use Rattle.vx_diskset.specs.Holds.{Beside, beside_of};
-ghost use Rattle.vx_diskset.specs.Stands.{KeepsRole, RoleIs, StandsAt};
+ghost use Rattle.vx_diskset.specs.Holds.{KeptBeside, beside_of};
+ghost use Rattle.vx_diskset.specs.Stands.{KeepsRole, RoleIs, SiteStands};
 ghost use Rattle.vx_joins.specs.Deliveries.{DeliveredTo, TookTo};
 
 use vx_disk::Rack;
@@ -31,14 +31,14 @@ fn take_update<R: Rack, N: Net>(
     number: u64,
 ) -> Result<Said, OutOfMemory>
     ensures delivered { (d : Doubted) (p : Packet) (k : ℕ) (x : Write) → packet_at d.world.packets number ≡ Some p → p.target ≡ site → p.message ≡ PlainUpdate k x
-        → AreOne d.world.packets → FlightStands d.world.packets (N.flying flight.old) → StandsAt (beside_of d site) (d.world.nodes site) (DiskSet.Receives secondary.old)
+        → AreOne d.world.packets → FlightStands d.world.packets (N.flying flight.old) → SiteStands (beside_of d site) (d.world.nodes site) (DiskSet.Receives secondary.old)
         → fed_by.old ≡ (d.world.nodes site).fed_by → AssemblyStands d.world.packets site (d.world.gathering site) assembly.old
-        → (p.line ≡ (d.world.nodes site).line → Fits (d.world.nodes site) x)
+        → (p.line ≡ (d.world.nodes site).line → WriteFits (d.world.nodes site) x)
         → IfOk result (λ said. DeliveredTo (delivered d.world number (packet_at d.world.packets number)) (beside_of d site) site (DiskSet.Receives secondary.new) fed_by.new assembly.new (N.flying flight.new) said) }
     ensures took { (d : Doubted) (p : Packet) (k : ℕ) (x : Write) → packet_at d.world.packets number ≡ Some p → p.target ≡ site → p.message ≡ PlainUpdate k x
-        → FlightStands d.world.packets (N.flying flight.old) → StandsAt (beside_of d site) (d.world.nodes site) (DiskSet.Receives secondary.old) → fed_by.old ≡ (d.world.nodes site).fed_by
+        → FlightStands d.world.packets (N.flying flight.old) → SiteStands (beside_of d site) (d.world.nodes site) (DiskSet.Receives secondary.old) → fed_by.old ≡ (d.world.nodes site).fed_by
         → IfOk result (λ said. TookTo d.world number p k (beside_of d site) (DiskSet.Receives secondary.new) fed_by.new assembly.old assembly.new (N.flying flight.old) (N.flying flight.new) said) }
-    ensures stands { OnErr result ((beside : Beside) (n : Node) → StandsAt beside n (DiskSet.Receives secondary.old) → StandsAt beside n (DiskSet.Receives secondary.new)) }
+    ensures stands { OnErr result ((beside : KeptBeside) (n : Node) → SiteStands beside n (DiskSet.Receives secondary.old) → SiteStands beside n (DiskSet.Receives secondary.new)) }
     ensures fed_by { OnErr result (fed_by.new ≡ fed_by.old) }
     ensures assembly { OnErr result (assembly.new ≡ assembly.old) }
     ensures unsent { OnErr result (N.flying flight.new ≡ N.flying flight.old) }
@@ -66,14 +66,14 @@ pub fn deliver_update<R: Rack, N: Net>(
     number: u64,
 ) -> Result<Said, OutOfMemory>
     ensures delivered { (d : Doubted) (p : Packet) (k : ℕ) (x : Write) → packet_at d.world.packets number ≡ Some p → p.target ≡ site → p.message ≡ PlainUpdate k x
-        → AreOne d.world.packets → FlightStands d.world.packets (N.flying flight.old) → StandsAt (beside_of d site) (d.world.nodes site) disks.old → RoleIs (d.world.nodes site) disks.old
+        → AreOne d.world.packets → FlightStands d.world.packets (N.flying flight.old) → SiteStands (beside_of d site) (d.world.nodes site) disks.old → RoleIs (d.world.nodes site) disks.old
         → fed_by.old ≡ (d.world.nodes site).fed_by → AssemblyStands d.world.packets site (d.world.gathering site) assembly.old
-        → (p.line ≡ (d.world.nodes site).line → Fits (d.world.nodes site) x)
+        → (p.line ≡ (d.world.nodes site).line → WriteFits (d.world.nodes site) x)
         → IfOk result (λ said. DeliveredTo (delivered d.world number (packet_at d.world.packets number)) (beside_of d site) site disks.new fed_by.new assembly.new (N.flying flight.new) said) }
     ensures took { (d : Doubted) (p : Packet) (k : ℕ) (x : Write) → packet_at d.world.packets number ≡ Some p → p.target ≡ site → p.message ≡ PlainUpdate k x
-        → FlightStands d.world.packets (N.flying flight.old) → StandsAt (beside_of d site) (d.world.nodes site) disks.old → RoleIs (d.world.nodes site) disks.old → fed_by.old ≡ (d.world.nodes site).fed_by
+        → FlightStands d.world.packets (N.flying flight.old) → SiteStands (beside_of d site) (d.world.nodes site) disks.old → RoleIs (d.world.nodes site) disks.old → fed_by.old ≡ (d.world.nodes site).fed_by
         → IfOk result (λ said. TookTo d.world number p k (beside_of d site) disks.new fed_by.new assembly.old assembly.new (N.flying flight.old) (N.flying flight.new) said) }
-    ensures stands { OnErr result ((beside : Beside) (n : Node) → StandsAt beside n disks.old → StandsAt beside n disks.new) }
+    ensures stands { OnErr result ((beside : KeptBeside) (n : Node) → SiteStands beside n disks.old → SiteStands beside n disks.new) }
     ensures fed_by { OnErr result (fed_by.new ≡ fed_by.old) }
     ensures assembly { OnErr result (assembly.new ≡ assembly.old) }
     ensures unsent { OnErr result (N.flying flight.new ≡ N.flying flight.old) }

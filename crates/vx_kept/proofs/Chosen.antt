@@ -13,6 +13,7 @@ use Rattle.vx_kept.specs.Choice.{chosen, chosen_or, first_plex, first_where, is_
 use Rattle.vx_layout.specs.Places.{place, place_or, plex_in}
 use Rattle.vx_volume.specs.Plexes.{active, active_or}
 use Rattle.vx_kept.specs.Keeping.{Extends, SameShape}
+use Rattle.vx_kept.proofs.RunLemmas.{logs_volumes, run_same, trust_from}
 
 -- ---- where every disk can be read, none is missing
 
@@ -53,6 +54,8 @@ alike_shape x a c volumes shape = record {
   volumes = ap length volumes ∙ shape.volumes;
   blocks = λ v. ap (λ vs. blocks_of vs v) volumes ∙ shape.blocks v;
   place = λ v p b. place_volumes x a volumes v p b ∙ shape.place v p b;
+  logs = λ v log. run_same x a v v log (logs_volumes x a volumes v log) ∙ shape.logs v log;
+  trusted = λ v log is. shape.trusted v log (trust_from x a v v log (logs_volumes x a volumes v log) is);
 }
 
 pub alike_extends : (x a c : Config) → x.volumes ≡ a.volumes → Extends a c → Extends x c
@@ -60,10 +63,18 @@ alike_extends x a c volumes shape = record {
   volumes = let le = shape.volumes in omega (arith, ap length volumes, le);
   blocks = λ v lt. ap (λ vs. blocks_of vs v) volumes ∙ shape.blocks v lt;
   place = λ v p b lt. place_volumes x a volumes v p b ∙ shape.place v p b lt;
+  logs = λ v log lt. run_same x a v v log (logs_volumes x a volumes v log) ∙ shape.logs v log lt;
+  trusted = λ v log lt is. shape.trusted v log lt (trust_from x a v v log (logs_volumes x a volumes v log) is);
 }
 
 pub same_extends : (x c : Config) → SameShape x c → Extends x c
-same_extends x c same = record { volumes = let is = same.volumes in omega (arith, is); blocks = λ v lt. same.blocks v; place = λ v p b lt. same.place v p b }
+same_extends x c same = record {
+  volumes = let is = same.volumes in omega (arith, is);
+  blocks = λ v lt. same.blocks v;
+  place = λ v p b lt. same.place v p b;
+  logs = λ v log lt. same.logs v log;
+  trusted = λ v log lt. same.trusted v log;
+}
 
 -- the volumes of memory are the same
 pub extends_volumes : (x c e : Config) → e.volumes ≡ c.volumes → Extends x c → Extends x e
@@ -71,6 +82,8 @@ extends_volumes x c e volumes shape = record {
   volumes = let le = shape.volumes in omega (arith, ap length volumes, le);
   blocks = λ v lt. shape.blocks v (omega (arith, ap length volumes, lt)) ∙ ap (λ vs. blocks_of vs v) (sym volumes);
   place = λ v p b lt. shape.place v p b (omega (arith, ap length volumes, lt)) ∙ sym (place_volumes e c volumes v p b);
+  logs = λ v log lt. shape.logs v log (omega (arith, ap length volumes, lt)) ∙ sym (run_same e c v v log (logs_volumes e c volumes v log));
+  trusted = λ v log lt is. trust_from c e v v log (sym (logs_volumes e c volumes v log)) (shape.trusted v log (omega (arith, ap length volumes, lt)) is);
 }
 
 -- ---- the first that passes

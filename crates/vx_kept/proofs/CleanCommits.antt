@@ -14,15 +14,15 @@ use Rattle.vx_config.specs.declared.entry.DiskEntry.{DiskEntry}
 use Rattle.vx_config.specs.declared.entry.VolumeEntry.{VolumeEntry}
 use Rattle.vx_layout.specs.Places.{plex_in}
 use Rattle.vx_copies.specs.Bodies.{failed_in, fits_units, have_blocks, is_wanted}
-use Rattle.vx_copies.specs.Commits.{Begins, Done, Held, IsTry, Refused, StayFit}
+use Rattle.vx_copies.specs.Commits.{Begins, Done, HeldGood, IsTry, Refused, StayFit}
 use Rattle.vx_copies.specs.Looking.{on_shelf}
 use Rattle.vx_copies.specs.Marks.{failed_at}
 use Rattle.vx_copies.proofs.OneTry.{wanted_count}
 use Rattle.vx_volume.specs.Plexes.{active}
 use Rattle.vx_kept.specs.Choice.{chosen}
-use Rattle.vx_kept.specs.Cleans.{Shown, at_serial, clean_at, clean_plexes, cleaned, marked}
+use Rattle.vx_kept.specs.Cleans.{Shown, at_serial, clean_at, clean_plexes, cleaned, is_unsure}
 use Rattle.vx_kept.specs.Groups.{found_by}
-use Rattle.vx_kept.specs.Keeping.{AllOn, Follows, IsTidy, Kept, Kin}
+use Rattle.vx_kept.specs.Keeping.{AllOn, MayBeNext, IsTidy, Kept, Kin}
 use Rattle.vx_kept.specs.States.{whole_of, whole_or}
 use Rattle.vx_kept.proofs.Chosen.{active_volumes, alike_extends, chosen_live, extends_volumes, live_volumes, same_extends, settle_all, settle_found}
 use Rattle.vx_kept.proofs.CleanLemmas.{AllClean, all_clean, cleaned_more, cleaned_none, plexes_more, plexes_none}
@@ -44,7 +44,7 @@ module _ (unsure : List Bool) (c a : Config) (is : a ≡ cleaned unsure c (lengt
       let parts = and_parts (is_sound c) (fits_units units size c) wanted in
       and_from (is_sound a) (fits_units units size a) (sound parts.0) (ap (λ (ds : List DiskEntry). length ds == units && have_blocks size 0 ds) all.alike.disks ∙ parts.1)
 
-  pub clean_follows : is_sound c ≡ true → AllOn c → Follows c a
+  pub clean_follows : is_sound c ≡ true → AllOn c → MayBeNext c a
   clean_follows sound on = record {
     shape = same_extends a c all.alike.shape;
     serial = all.alike.serial;
@@ -62,7 +62,7 @@ kin_serial s c x kin = record {
   some = kin.some;
 }
 
-module _ (good : ℕ) (c a d : Config) (G : ℕ → Type 0) (old new : Meaning) (lawful : Lawful old) (lawful' : Lawful new) (kept : Kept c G old) (tidy : IsTidy a old) (follows : Follows c a)
+module _ (good : ℕ) (c a d : Config) (G : ℕ → Type 0) (old new : Meaning) (lawful : Lawful old) (lawful' : Lawful new) (kept : Kept c G old) (tidy : IsTidy a old) (follows : MayBeNext c a)
     (begins : Begins (IsTry a d.serial old new) a old new) (fit : StayFit a d.serial old new) (done : Done good a d old new) (wanted : is_wanted new.units new.size d ≡ true) where
   count : length d.disks ≡ new.units
   count = wanted_count new.units new.size d wanted
@@ -74,7 +74,7 @@ module _ (good : ℕ) (c a d : Config) (G : ℕ → Type 0) (old new : Meaning) 
     some = λ v lt. let some = follows.some v (let le = follows.shape.volumes in omega (arith, lt, le)) in live_volumes d a done.grown.volumes v (chosen d v) ∙ chosen_live d a v some.0 done.grown.volumes some.1;
   })
 
-  found_d : (i : Image) → Each new.leaves i → (R : ℕ → Bool) (g : ℕ) → Held d new g → R g ≡ true → found_by new R i ≡ settle failed_in new.units R d
+  found_d : (i : Image) → Each new.leaves i → (R : ℕ → Bool) (g : ℕ) → HeldGood d new g → R g ≡ true → found_by new R i ≡ settle failed_in new.units R d
   found_d i each R g held in_it = done.found (below_a c a d old new lawful lawful' (base_of c G old kept) tidy follows begins fit) kept.labels i R g each held in_it
 
   found_all : (i : Image) → Each new.leaves i → found_by new (λ u. true) i ≡ Found d
@@ -124,8 +124,8 @@ cleaned_serial : (s : ℕ) (unsure : List Bool) (n : ℕ) (c : Config) → clean
 cleaned_serial s unsure zero c = cleaned_none unsure (at_serial s c) ∙ ap (at_serial s) (sym (cleaned_none unsure c))
 cleaned_serial s unsure (suc n) c =
     cleaned_more unsure n (at_serial s c)
-    ∙ ap (λ (x : Config). if marked unsure n then x else clean_plexes n x 8) (cleaned_serial s unsure n c)
-    ∙ by (marked unsure n) (plexes_serial s n 8 (cleaned unsure c n)) ∙ ap (at_serial s) (sym (cleaned_more unsure n c))
+    ∙ ap (λ (x : Config). if is_unsure unsure n then x else clean_plexes n x 8) (cleaned_serial s unsure n c)
+    ∙ by (is_unsure unsure n) (plexes_serial s n 8 (cleaned unsure c n)) ∙ ap (at_serial s) (sym (cleaned_more unsure n c))
   where
     by : (b : Bool) → clean_plexes n (at_serial s (cleaned unsure c n)) 8 ≡ at_serial s (clean_plexes n (cleaned unsure c n) 8)
         → (if b then at_serial s (cleaned unsure c n) else clean_plexes n (at_serial s (cleaned unsure c n)) 8) ≡ at_serial s (if b then cleaned unsure c n else clean_plexes n (cleaned unsure c n) 8)
@@ -162,7 +162,7 @@ pub cleaned_volumes : (unsure : List Bool) (n : ℕ) (d c : Config) → d.volume
 cleaned_volumes unsure zero d c same = ap (λ (x : Config). x.volumes) (cleaned_none unsure d) ∙ same ∙ ap (λ (x : Config). x.volumes) (sym (cleaned_none unsure c))
 cleaned_volumes unsure (suc n) d c same =
     ap (λ (x : Config). x.volumes) (cleaned_more unsure n d)
-    ∙ by (marked unsure n) (cleaned_volumes unsure n d c same) (plexes_volumes n 8 (cleaned unsure d n) (cleaned unsure c n) (cleaned_volumes unsure n d c same))
+    ∙ by (is_unsure unsure n) (cleaned_volumes unsure n d c same) (plexes_volumes n 8 (cleaned unsure d n) (cleaned unsure c n) (cleaned_volumes unsure n d c same))
     ∙ ap (λ (x : Config). x.volumes) (sym (cleaned_more unsure n c))
   where
     by : (b : Bool) → (cleaned unsure d n).volumes ≡ (cleaned unsure c n).volumes → (clean_plexes n (cleaned unsure d n) 8).volumes ≡ (clean_plexes n (cleaned unsure c n) 8).volumes

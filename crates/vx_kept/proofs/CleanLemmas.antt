@@ -12,15 +12,15 @@ use Rattle.vx_config.proofs.Fewer.{stated_back}
 use Rattle.vx_layout.specs.Places.{plex_at, plex_in}
 use Rattle.vx_volume.specs.Plexes.{active, active_or, is_active}
 use Rattle.vx_kept.specs.Choice.{live, live_or}
-use Rattle.vx_kept.specs.Cleans.{NoneClean, clean, clean_at, clean_or, clean_plexes, cleaned, is_clean, marked}
+use Rattle.vx_kept.specs.Cleans.{NoneClean, clean, clean_at, clean_or, clean_plexes, cleaned, is_clean, is_unsure}
 use Rattle.vx_kept.specs.Keeping.{AllOn}
 use Rattle.vx_kept.specs.Opens.{SameLives as Alike}
 use Rattle.vx_kept.specs.States.{whole_of, whole_or}
 use Rattle.vx_kept.proofs.Narrower.{live_has, on_live}
-use Rattle.vx_kept.proofs.StateLemmas.{map_one, plex_apart, plex_same, same_shape, stated_shape, then_shape, there_of}
+use Rattle.vx_kept.proofs.StateLemmas.{map_one, plex_apart, plex_same, same_shape, stated_logs, stated_shape, then_shape, there_of}
 
 pub alike_refl : (c : Config) → Alike c c
-alike_refl c = record { shape = same_shape c; serial = refl; site = refl; disks = refl; rvg = refl; lives = λ x q. refl }
+alike_refl c = record { shape = same_shape c; serial = refl; site = refl; disks = refl; rvg = refl; lives = λ x q. refl; logs = λ x log. refl }
 
 pub alike_then : (c d e : Config) → Alike c d → Alike d e → Alike c e
 alike_then c d e one two = record {
@@ -30,6 +30,7 @@ alike_then c d e one two = record {
   disks = two.disks ∙ one.disks;
   rvg = two.rvg ∙ one.rvg;
   lives = λ x q. two.lives x q ∙ one.lives x q;
+  logs = λ x log. two.logs x log ∙ one.logs x log;
 }
 
 -- ---- one plex
@@ -69,6 +70,7 @@ stated_clean v p w c is_on = record {
       ]
       | inr apart ↦ ap live_or (plex_apart v p Clean w c x q (λ same at. apart same))
     ];
+    logs = stated_logs v p Clean w c;
   };
   same = plex_apart v p Clean w c;
   off = ap active_or (plex_same v p Clean w c) ∙ clean_off w (plex_at c v p);
@@ -120,42 +122,42 @@ volume_clean v (suc n) c = subst (VolumeClean v (suc n) c) (sym (plexes_more v n
 
 pub record AllClean (unsure : List Bool) (n : ℕ) (c d : Config) : Type 0 where
   pub alike : Alike c d
-  pub same : (x q : ℕ) → (x < n → marked unsure x ≡ false → ⊥) → plex_at d x q ≡ plex_at c x q
-  pub off : (x q : ℕ) → x < n → marked unsure x ≡ false → q < 8 → active d x q ≡ false
+  pub same : (x q : ℕ) → (x < n → is_unsure unsure x ≡ false → ⊥) → plex_at d x q ≡ plex_at c x q
+  pub off : (x q : ℕ) → x < n → is_unsure unsure x ≡ false → q < 8 → active d x q ≡ false
 
 pub cleaned_none : (unsure : List Bool) (c : Config) → cleaned unsure c 0 ≡ c
 unfolding cleaned
 cleaned_none unsure c = refl
 
-pub cleaned_more : (unsure : List Bool) (n : ℕ) (c : Config) → cleaned unsure c (suc n) ≡ (if marked unsure n then cleaned unsure c n else clean_plexes n (cleaned unsure c n) 8)
+pub cleaned_more : (unsure : List Bool) (n : ℕ) (c : Config) → cleaned unsure c (suc n) ≡ (if is_unsure unsure n then cleaned unsure c n else clean_plexes n (cleaned unsure c n) 8)
 unfolding cleaned
 cleaned_more unsure n c = refl
 
-pub marked_more : (unsure : List Bool) (n : ℕ) (c : Config) → marked unsure n ≡ true → cleaned unsure c (suc n) ≡ cleaned unsure c n
+pub marked_more : (unsure : List Bool) (n : ℕ) (c : Config) → is_unsure unsure n ≡ true → cleaned unsure c (suc n) ≡ cleaned unsure c n
 marked_more unsure n c is = cleaned_more unsure n c ∙ ap (λ (b : Bool). if b then cleaned unsure c n else clean_plexes n (cleaned unsure c n) 8) is
 
-pub sure_more : (unsure : List Bool) (n : ℕ) (c : Config) → marked unsure n ≡ false → cleaned unsure c (suc n) ≡ clean_plexes n (cleaned unsure c n) 8
+pub sure_more : (unsure : List Bool) (n : ℕ) (c : Config) → is_unsure unsure n ≡ false → cleaned unsure c (suc n) ≡ clean_plexes n (cleaned unsure c n) 8
 sure_more unsure n c is = cleaned_more unsure n c ∙ ap (λ (b : Bool). if b then cleaned unsure c n else clean_plexes n (cleaned unsure c n) 8) is
 
 clash_of : (b : Bool) → b ≡ true → b ≡ false → ⊥
 clash_of b yes_it no_it = let clash : true ≡ false = sym yes_it ∙ no_it in cc
 
-skip_volume : (unsure : List Bool) (n : ℕ) (c d : Config) → marked unsure n ≡ true → AllClean unsure n c d → AllClean unsure (suc n) c d
+skip_volume : (unsure : List Bool) (n : ℕ) (c d : Config) → is_unsure unsure n ≡ true → AllClean unsure n c d → AllClean unsure (suc n) c d
 skip_volume unsure n c d is was = record {
   alike = was.alike;
   same = λ x q apart. was.same x q (λ lt sure. apart (omega (arith, lt)) sure);
   off = λ x q lt sure few. elim (cases_lt x n) [
     | inl less ↦ was.off x q less sure few
-    | inr le ↦ let at : x ≡ n = omega (arith, lt, le) in absurd (clash_of (marked unsure n) is (subst (λ (y : ℕ). marked unsure y ≡ false) at sure))
+    | inr le ↦ let at : x ≡ n = omega (arith, lt, le) in absurd (clash_of (is_unsure unsure n) is (subst (λ (y : ℕ). is_unsure unsure y ≡ false) at sure))
   ];
 }
 
-one_more_volume : (unsure : List Bool) (n : ℕ) (c d e : Config) → marked unsure n ≡ false → AllClean unsure n c d → VolumeClean n 8 d e → AllClean unsure (suc n) c e
+one_more_volume : (unsure : List Bool) (n : ℕ) (c d e : Config) → is_unsure unsure n ≡ false → AllClean unsure n c d → VolumeClean n 8 d e → AllClean unsure (suc n) c e
 unfolding active
 one_more_volume unsure n c d e is was one = record {
   alike = alike_then c d e was.alike one.alike;
   same = λ x q apart.
-      one.same x q (λ in_v lt. apart (omega (arith, in_v)) (subst (λ (y : ℕ). marked unsure y ≡ false) (sym in_v) is)) ∙ was.same x q (λ lt sure. apart (omega (arith, lt)) sure);
+      one.same x q (λ in_v lt. apart (omega (arith, in_v)) (subst (λ (y : ℕ). is_unsure unsure y ≡ false) (sym in_v) is)) ∙ was.same x q (λ lt sure. apart (omega (arith, lt)) sure);
   off = λ x q lt sure few. elim (cases_lt x n) [
     | inl less ↦ ap active_or (one.same x q (λ in_v small. omega (arith, in_v, less))) ∙ was.off x q less sure few
     | inr le ↦ let at : x ≡ n = omega (arith, lt, le) in subst (λ (y : ℕ). active e y q ≡ false) (sym at) (one.off q few)
@@ -164,9 +166,9 @@ one_more_volume unsure n c d e is was one = record {
 
 pub all_clean : (unsure : List Bool) (n : ℕ) (c : Config) → AllClean unsure n c (cleaned unsure c n)
 all_clean unsure zero c = subst (AllClean unsure zero c) (sym (cleaned_none unsure c)) (record { alike = alike_refl c; same = λ x q apart. refl; off = λ x q lt sure few. absurd (omega (arith, lt)) })
-all_clean unsure (suc n) c = by (all_clean unsure n c) (marked unsure n) refl
+all_clean unsure (suc n) c = by (all_clean unsure n c) (is_unsure unsure n) refl
   where
-    by : AllClean unsure n c (cleaned unsure c n) → (b : Bool) → marked unsure n ≡ b → AllClean unsure (suc n) c (cleaned unsure c (suc n))
+    by : AllClean unsure n c (cleaned unsure c n) → (b : Bool) → is_unsure unsure n ≡ b → AllClean unsure (suc n) c (cleaned unsure c (suc n))
     by was true is = subst (AllClean unsure (suc n) c) (sym (marked_more unsure n c is)) (skip_volume unsure n c (cleaned unsure c n) is was)
     by was false is = subst (AllClean unsure (suc n) c) (sym (sure_more unsure n c is))
         (one_more_volume unsure n c (cleaned unsure c n) (clean_plexes n (cleaned unsure c n) 8) is was (volume_clean n 8 (cleaned unsure c n)))
@@ -272,12 +274,12 @@ module _ (v n : ℕ) (d : Config) where
       )
 
 -- all volumes
-pub volume_more : (unsure : List Bool) (n : ℕ) (c d e : Config) → d ≡ cleaned unsure c n → marked unsure n ≡ false → e ≡ clean_plexes n d 8 → e ≡ cleaned unsure c (n + 1)
+pub volume_more : (unsure : List Bool) (n : ℕ) (c d e : Config) → d ≡ cleaned unsure c n → is_unsure unsure n ≡ false → e ≡ clean_plexes n d 8 → e ≡ cleaned unsure c (n + 1)
 volume_more unsure n c d e is sure made =
     let next : suc n ≡ n + 1 = omega arith in
     made ∙ ap (λ (x : Config). clean_plexes n x 8) is ∙ sym (sure_more unsure n c sure) ∙ ap (cleaned unsure c) next
 
-pub volume_skip : (unsure : List Bool) (n : ℕ) (c d : Config) → d ≡ cleaned unsure c n → marked unsure n ≡ true → d ≡ cleaned unsure c (n + 1)
+pub volume_skip : (unsure : List Bool) (n : ℕ) (c d : Config) → d ≡ cleaned unsure c n → is_unsure unsure n ≡ true → d ≡ cleaned unsure c (n + 1)
 volume_skip unsure n c d is mark =
     let next : suc n ≡ n + 1 = omega arith in
     is ∙ sym (marked_more unsure n c mark) ∙ ap (cleaned unsure c) next
@@ -287,9 +289,9 @@ pub volume_back : (unsure : List Bool) (n m t : ℕ) (c d e : Config) → AllOn 
 volume_back unsure n m t c d e on lt at is back same =
     let here : m - t ≡ suc n = omega (arith, lt, at) in
     let next : n ≡ m - (t + 1) = omega (arith, lt, at) in
-    by (marked unsure n) refl (is ∙ ap (cleaned unsure c) here) ∙ ap (cleaned unsure c) next
+    by (is_unsure unsure n) refl (is ∙ ap (cleaned unsure c) here) ∙ ap (cleaned unsure c) next
   where
-    by : (b : Bool) → marked unsure n ≡ b → d ≡ cleaned unsure c (suc n) → e ≡ cleaned unsure c n
+    by : (b : Bool) → is_unsure unsure n ≡ b → d ≡ cleaned unsure c (suc n) → e ≡ cleaned unsure c n
     by true mark made =
         let was : d ≡ cleaned unsure c n = made ∙ marked_more unsure n c mark in
         same (subst (λ (x : Config). NoneClean x n) (sym was) (still_none unsure n c on)) ∙ was

@@ -11,7 +11,7 @@ use Rattle.vx_copyfmt.proofs.Subs.{counts_sub}
 use Rattle.vx_copyio.specs.Putting.{AreasOf}
 use Rattle.vx_config.specs.declared.config.Config.{Config}
 use Rattle.vx_copies.specs.Bodies.{failed_in}
-use Rattle.vx_copies.specs.Commits.{Becomes, Begins, Below, Done, HaveLabels, Held, IsTry, MayFind, OldOrBegun, Ready, Refused, StayFit}
+use Rattle.vx_copies.specs.Commits.{Becomes, Begins, Below, Done, HaveLabels, HeldGood, IsTry, MayFind, OldOrBegun, ReadyDisks, Refused, StayFit}
 use Rattle.vx_copies.specs.Looking.{on_shelf}
 use Rattle.vx_copies.specs.Marks.{HasGood, failed_at}
 use Rattle.vx_copies.proofs.OneTry.{as_before, held_or, not_both, shelf_same}
@@ -24,16 +24,17 @@ use Rattle.vx_copies.proofs.OneTry.{wanted_count}
 use Rattle.vx_copies.proofs.Settling.{not_true}
 use Rattle.vx_kept.specs.Commits.{Left, Member, Taken}
 use Rattle.vx_kept.specs.Groups.{found, found_by}
-use Rattle.vx_kept.specs.Keeping.{Acts, AllOn, Base, Follows, IsTidy, Kept, Extends, Kin, Sees}
-use Rattle.vx_kept.proofs.Chosen.{active_volumes, alike_extends, extends_volumes, live_volumes, chosen_live, settle_all, settle_found}
+use Rattle.vx_kept.specs.Keeping.{Acts, AllOn, Base, MayBeNext, IsTidy, Kept, Extends, Kin, Sees}
+use Rattle.vx_kept.proofs.Chosen.{active_volumes, alike_extends, extends_volumes, live_volumes, chosen_live, same_extends, settle_all, settle_found}
 use Rattle.vx_kept.proofs.Lasting.{cases_bool, sees_same}
+use Rattle.vx_kept.proofs.StateLemmas.{same_shape}
 
 -- what the disks are ready by
 pub base_of : (c : Config) (G : ℕ → Type 0) (m : Meaning) → Kept c G m → Base c m
 base_of c G m kept = record { below = kept.below; counts = kept.counts; labels = kept.labels }
 
 -- c is the configuration in memory, which the disks keep; a that of the commit; d what the commit made of it
-module _ (c a d : Config) (old new : Meaning) (lawful : Lawful old) (lawful' : Lawful new) (base : Base c old) (tidy : IsTidy a old) (follows : Follows c a)
+module _ (c a d : Config) (old new : Meaning) (lawful : Lawful old) (lawful' : Lawful new) (base : Base c old) (tidy : IsTidy a old) (follows : MayBeNext c a)
     (begins : Begins (IsTry a d.serial old new) a old new) (fit : StayFit a d.serial old new) where
   abbrev Begun : ℕ → Config → Type 0
   Begun = IsTry a d.serial old new
@@ -41,7 +42,7 @@ module _ (c a d : Config) (old new : Meaning) (lawful : Lawful old) (lawful' : L
   pub below_a : Below a old
   below_a = record { each = λ u lt b v h is left head. let was = base.below.each u lt b v h is left head in omega (arith, was, follows.serial) }
 
-  ready : Ready a old
+  ready : ReadyDisks a old
   ready = record { below = below_a; counts = λ u held. base.counts u held.below }
 
   -- a configuration that was begun is of the kind
@@ -59,34 +60,34 @@ module _ (c a d : Config) (old new : Meaning) (lawful : Lawful old) (lawful' : L
 
   -- ---- each image of the commit, whenever it was left
 
-  failed_left : (i : Image) → Beside (AreasOf (Held a old)) old.leaves i → (u b : ℕ) → failed_at a.disks u ≡ true → old.leaves u b (i u b)
-  failed_left i beside u b failed = ⊎_elim (λ was. was) (λ (mine : AreasOf (Held a old) u b). absurd (not_both (failed_at a.disks u) mine.on.good failed)) (beside u b)
+  failed_left : (i : Image) → Beside (AreasOf (HeldGood a old)) old.leaves i → (u b : ℕ) → failed_at a.disks u ≡ true → old.leaves u b (i u b)
+  failed_left i beside u b failed = ⊎_elim (λ was. was) (λ (mine : AreasOf (HeldGood a old) u b). absurd (not_both (failed_at a.disks u) mine.on.good failed)) (beside u b)
 
-  amid : (i : Image) → Beside (AreasOf (Held a old)) old.leaves i → OldOrBegun Begun a old i → Amid (on_shelf old) Begun (Held a old) old.units old.leaves i
+  amid : (i : Image) → Beside (AreasOf (HeldGood a old)) old.leaves i → OldOrBegun Begun a old i → Amid (on_shelf old) Begun (HeldGood a old) old.units old.leaves i
   amid i beside seen u lt = elim (held_or a.disks u) [
-    | inl good ↦ let mine : Held a old u = record { below = lt; good = good } in with_held u mine (seen.each ready u mine)
+    | inl good ↦ let mine : HeldGood a old u = record { below = lt; good = good } in with_held u mine (seen.each ready u mine)
     | inr failed ↦ inl (as_before (on_shelf old) (old.leaves u) (i u) (λ b. failed_left i beside u b failed))
   ]
     where
-      with_held : (v : ℕ) → Held a old v → Becomes Begun old v (i v) → FromOld (on_shelf old) (old.leaves v) (i v) ⊎ FromNew (on_shelf old) Begun (old.leaves v) (i v) ⊎ (Held a old v × Torn (on_shelf old) (old.leaves v) (i v))
+      with_held : (v : ℕ) → HeldGood a old v → Becomes Begun old v (i v) → FromOld (on_shelf old) (old.leaves v) (i v) ⊎ FromNew (on_shelf old) Begun (old.leaves v) (i v) ⊎ (HeldGood a old v × Torn (on_shelf old) (old.leaves v) (i v))
       with_held v mine (inl from) = inl from
       with_held v mine (inr (inl from)) = inr (inl from)
       with_held v mine (inr (inr torn)) = inr (inr (mine, torn))
 
-  may_find : IsTrue old.tells → (i : Image) → Beside (AreasOf (Held a old)) old.leaves i → OldOrBegun Begun a old i → MayFind Begun a old i
+  may_find : IsTrue old.tells → (i : Image) → Beside (AreasOf (HeldGood a old)) old.leaves i → OldOrBegun Begun a old i → MayFind Begun a old i
   may_find tells i beside seen =
       let some = lawful.image tells in
       record {
-        each = λ R. torn_gives (on_shelf old) failed_in Begun (a.serial + 1) (λ s x made. let lt : a.serial < s = made.above in omega (arith, lt)) (Held a old) old.units old.leaves i some.0
+        each = λ R. torn_gives (on_shelf old) failed_in Begun (a.serial + 1) (λ s x made. let lt : a.serial < s = made.above in omega (arith, lt)) (HeldGood a old) old.units old.leaves i some.0
             (amid i beside seen) (lawful.within some.0 some.1)
-            (λ u b le. ⊎_elim (λ was. was) (λ (mine : AreasOf (Held a old) u b). absurd (let lt : u < old.units = mine.on.below in omega (arith, le, lt))) (beside u b))
+            (λ u b le. ⊎_elim (λ was. was) (λ (mine : AreasOf (HeldGood a old) u b). absurd (let lt : u < old.units = mine.on.below in omega (arith, le, lt))) (beside u b))
             (λ u lt. lower_older (on_shelf old) (a.serial + 1) (old.leaves u) (below_a.each u lt)) R;
       }
 
   told : IsTrue new.tells → IsTrue old.tells
   told tells = sym begins.moves.tells ∙ tells
 
-  far_off : (u b : ℕ) → 512 ≤ b → AreasOf (Held a old) u b → ⊥
+  far_off : (u b : ℕ) → 512 ≤ b → AreasOf (HeldGood a old) u b → ⊥
   far_off u b le mine = let last : b ≤ 256 = mine.last in omega (arith, le, last)
 
   -- ---- behind it
@@ -94,11 +95,11 @@ module _ (c a d : Config) (old new : Meaning) (lawful : Lawful old) (lawful' : L
   pub counts_new : (u : ℕ) → u < new.units → Counts (on_shelf new) (new.leaves u)
   counts_new u lt = subst (λ (r : ℕ → List ℕ → Option Config). Counts r (new.leaves u)) (shelf_same old new begins.moves.units begins.moves.size) (elim (held_or a.disks u) [
     | inl good ↦ good_counts u (record { below = omega (arith, begins.moves.units, lt); good = good })
-    | inr failed ↦ counts_sub (on_shelf old) (old.leaves u) (new.leaves u) (λ b v left. ⊎_elim (λ was. was) (λ (mine : AreasOf (Held a old) u b). absurd (not_both (failed_at a.disks u) mine.on.good failed)) (begins.moves.leaves u b v left))
+    | inr failed ↦ counts_sub (on_shelf old) (old.leaves u) (new.leaves u) (λ b v left. ⊎_elim (λ was. was) (λ (mine : AreasOf (HeldGood a old) u b). absurd (not_both (failed_at a.disks u) mine.on.good failed)) (begins.moves.leaves u b v left))
         (base.counts u (omega (arith, begins.moves.units, lt)))
   ])
     where
-      good_counts : (u : ℕ) → Held a old u → Counts (on_shelf old) (new.leaves u)
+      good_counts : (u : ℕ) → HeldGood a old u → Counts (on_shelf old) (new.leaves u)
       good_counts u mine e b h is among top = elim (fit.now below_a u e mine (base.counts u mine.below) among) [
         | inl one ↦ one.fit.counts e b h is (λ k. refl) top
         | inr forged ↦ absurd (no_forged (on_shelf old) (a.serial + 1) (old.leaves u) e (tidy.each u mine) forged)
@@ -116,7 +117,7 @@ module _ (c a d : Config) (old new : Meaning) (lawful : Lawful old) (lawful' : L
   module _ (good : ℕ) (on : AllOn a) (done : Done good a d old new) (count : length d.disks ≡ new.units) where
     kin_done : Kin d d
     kin_done = record {
-      shape = record { volumes = omega arith; blocks = λ v lt. refl; place = λ v p b lt. refl };
+      shape = same_extends d d (same_shape d);
       on = λ v p lt is. active_volumes d a done.grown.volumes v p ∙ on.each v p (sym (live_volumes d a done.grown.volumes v p) ∙ is);
       some = λ v lt.
           let same : length d.volumes ≡ length a.volumes = ap length done.grown.volumes in
@@ -124,10 +125,10 @@ module _ (c a d : Config) (old new : Meaning) (lawful : Lawful old) (lawful' : L
           live_volumes d a done.grown.volumes v (chosen d v) ∙ chosen_live d a v some.0 done.grown.volumes some.1;
     }
 
-    found_d : (i : Image) → Each new.leaves i → (R : ℕ → Bool) (g : ℕ) → Held d new g → R g ≡ true → found_by new R i ≡ settle failed_in new.units R d
+    found_d : (i : Image) → Each new.leaves i → (R : ℕ → Bool) (g : ℕ) → HeldGood d new g → R g ≡ true → found_by new R i ≡ settle failed_in new.units R d
     found_d i each R g held in_it = done.found below_a base.labels i R g each held in_it
 
-    pub done_Kept : Kept d (Held d new) new
+    pub done_Kept : Kept d (HeldGood d new) new
     done_Kept = record {
       below = done.below below_a;
       counts = counts_new;
@@ -148,18 +149,18 @@ module _ (c a d : Config) (old new : Meaning) (lawful : Lawful old) (lawful' : L
     pub done_shape : Extends d c
     done_shape = alike_extends d a c done.grown.volumes follows.shape
 
-module _ (c a d : Config) (G : ℕ → Type 0) (old new : Meaning) (lawful : Lawful old) (lawful' : Lawful new) (kept : Kept c G old) (tidy : IsTidy a old) (follows : Follows c a)
+module _ (c a d : Config) (G : ℕ → Type 0) (old new : Meaning) (lawful : Lawful old) (lawful' : Lawful new) (kept : Kept c G old) (tidy : IsTidy a old) (follows : MayBeNext c a)
     (begins : Begins (IsTry a d.serial old new) a old new) (fit : StayFit a d.serial old new) where
   -- what all imports may find in an image
   module _ (i : Image) (may : MayFind (IsTry a d.serial old new) a old i) where
-    by_all : FindsOld (on_shelf old) failed_in old.units old.leaves (λ u. true) i ⊎ FindsNew (on_shelf old) failed_in (IsTry a d.serial old new) old.units (λ u. true) i ⊎ Spoilt (on_shelf old) failed_in (Held a old) old.units old.leaves (λ u. true) i
+    by_all : FindsOld (on_shelf old) failed_in old.units old.leaves (λ u. true) i ⊎ FindsNew (on_shelf old) failed_in (IsTry a d.serial old new) old.units (λ u. true) i ⊎ Spoilt (on_shelf old) failed_in (HeldGood a old) old.units old.leaves (λ u. true) i
         → (x : Config) × (found old i ≡ Found x) × Kin c x
     by_all (inl was) = let sees = kept.sees was.image was.left in (sees.config, was.same ∙ sees.found, sees.kin)
     by_all (inr (inl now)) = (now.config, now.found ∙ settle_all old.units now.config, begun_kin c a d old new lawful lawful' (base_of c G old kept) tidy follows begins fit now.serial now.config now.made)
     by_all (inr (inr bad)) = absurd (no_torn (on_shelf old) (a.serial + 1) (old.leaves bad.disk) (i bad.disk) (tidy.each bad.disk bad.is) bad.torn)
 
     by_some : (R : ℕ → Bool) (g : ℕ) (x : Config) → G g → R g ≡ true → found_by old R i ≡ Found x
-        → FindsOld (on_shelf old) failed_in old.units old.leaves R i ⊎ FindsNew (on_shelf old) failed_in (IsTry a d.serial old new) old.units R i ⊎ Spoilt (on_shelf old) failed_in (Held a old) old.units old.leaves R i → Kin c x
+        → FindsOld (on_shelf old) failed_in old.units old.leaves R i ⊎ FindsNew (on_shelf old) failed_in (IsTry a d.serial old new) old.units R i ⊎ Spoilt (on_shelf old) failed_in (HeldGood a old) old.units old.leaves R i → Kin c x
     by_some R g x held in_it is (inl was) = (kept.sees was.image was.left).others R g x held in_it (sym was.same ∙ is)
     by_some R g x held in_it is (inr (inl now)) = (kin_at c a d old new lawful lawful' (base_of c G old kept) tidy follows begins fit) R x i now is
     by_some R g x held in_it is (inr (inr bad)) = absurd (no_torn (on_shelf old) (a.serial + 1) (old.leaves bad.disk) (i bad.disk) (tidy.each bad.disk bad.is) bad.torn)
@@ -241,7 +242,7 @@ module _ (c a d : Config) (G : ℕ → Type 0) (old new : Meaning) (lawful : Law
 member_same : (good : ℕ) (m m' : Meaning) → m'.units ≡ m.units → (u : ℕ) → Member good m' u → Member good m u
 member_same good m m' units u it = record { below = omega (arith, units, it.below); is = it.is }
 
-pub held_of : (d : Config) (m : Meaning) → length d.disks ≡ m.units → (u : ℕ) → Member (good_set d.disks) m u → Held d m u
+pub held_of : (d : Config) (m : Meaning) → length d.disks ≡ m.units → (u : ℕ) → Member (good_set d.disks) m u → HeldGood d m u
 held_of d m count u it =
     let lt : u < length d.disks = omega (arith, count, it.below) in
     let is : not (failed_at d.disks u) ≡ true = sym (good_bit d.disks u lt) ∙ it.is in
@@ -260,7 +261,7 @@ fewer c G H m sub kept = record {
   sees = λ i each. let sees = kept.sees i each in record { config = sees.config; found = sees.found; kin = sees.kin; others = λ R g x held in_it is. sees.others R g x (sub g held) in_it is };
 }
 
-module _ (good : ℕ) (c a d : Config) (old new : Meaning) (lawful : Lawful old) (lawful' : Lawful new) (base : Base c old) (tidy : IsTidy a old) (follows : Follows c a)
+module _ (good : ℕ) (c a d : Config) (old new : Meaning) (lawful : Lawful old) (lawful' : Lawful new) (base : Base c old) (tidy : IsTidy a old) (follows : MayBeNext c a)
     (begins : Begins (IsTry a d.serial old new) a old new) (fit : StayFit a d.serial old new) where
   pub base_done : AllOn a → Done good a d old new → is_wanted new.units new.size d ≡ true → Taken c a d old new
   base_done on done wanted =
@@ -272,14 +273,14 @@ module _ (good : ℕ) (c a d : Config) (old new : Meaning) (lawful : Lawful old)
             let g = done.left in
             done.found (below_a c a d old new lawful lawful' base tidy follows begins fit) base.labels i (λ u. true) g.disk each (record { below = (let less = g.below in omega (arith, less, count)); good = g.held }) refl
             ∙ settle_all new.units d;
-        kept = fewer d (Held d new) (Member (good_set d.disks) new) new (held_of d new count) (done_Kept c a d old new lawful lawful' base tidy follows begins fit good on done count);
+        kept = fewer d (HeldGood d new) (Member (good_set d.disks) new) new (held_of d new count) (done_Kept c a d old new lawful lawful' base tidy follows begins fit good on done count);
         tidy = done_tidy c a d old new lawful lawful' base tidy follows begins fit good on done count;
         shape = done_shape c a d old new lawful lawful' base tidy follows begins fit good on done count;
         grown = done.grown;
         some = some_good d new count done.left;
       }
 
-module _ (good : ℕ) (c a d : Config) (old new : Meaning) (lawful : Lawful old) (lawful' : Lawful new) (kept : Kept c (Member good old) old) (tidy : IsTidy a old) (follows : Follows c a)
+module _ (good : ℕ) (c a d : Config) (old new : Meaning) (lawful : Lawful old) (lawful' : Lawful new) (kept : Kept c (Member good old) old) (tidy : IsTidy a old) (follows : MayBeNext c a)
     (begins : Begins (IsTry a d.serial old new) a old new) (fit : StayFit a d.serial old new) where
   pub take_acts : Acts Nothing (Sees c (Member good old) old) old new
   take_acts = commit_Acts c a d (Member good old) old new lawful lawful' kept tidy follows begins fit

@@ -2,7 +2,7 @@
 use Rattle.std.proofs.Common.{◌≡◌, ℕ, true, false, Option, Some, None, refl, ap, sym, subst, ◌∙◌}
 use Rattle.vx_disk.specs.Shelf.{Each, Image, Meaning}
 use Rattle.vx_copyfmt.specs.Copies.{copy_at}
-use Rattle.vx_copyfmt.specs.Imports.{Damaged, Format, Found, Missing, NoConfig, Outcome}
+use Rattle.vx_copyfmt.specs.Imports.{Damaged, Format, Found, Missing, NoConfig, ImportOutcome}
 use Rattle.vx_config.specs.declared.config.Config.{Config}
 use Rattle.vx_copies.specs.Looking.{on_shelf}
 use Rattle.vx_kept.specs.Facts.{KeptFact, TidyFact, has_one, is_found}
@@ -13,7 +13,7 @@ the_one : {A : Type 0} (o : Option A) → has_one o ≡ true → (x : A) × (o �
 the_one None is = absurd (let clash : false ≡ true = is in cc)
 the_one (Some x) is = (x, refl)
 
-the_config : (o : Outcome Config) → is_found o ≡ true → (x : Config) × (o ≡ Found x)
+the_config : (o : ImportOutcome Config) → is_found o ≡ true → (x : Config) × (o ≡ Found x)
 the_config (Found x) is = (x, refl)
 the_config (Missing disk) is = absurd (let clash : false ≡ true = is in cc)
 the_config NoConfig is = absurd (let clash : false ≡ true = is in cc)

@@ -12,7 +12,7 @@ use Rattle.vx_copies.specs.Commits.{Begins, CommitEnds, Done, HaveLabels, IsTry,
 use Rattle.vx_copyio.specs.Settling.{AllCleared}
 use Rattle.vx_kept.specs.Choice.{chosen}
 use Rattle.vx_kept.specs.Commits.{FirstEnds, Taken}
-use Rattle.vx_kept.specs.Keeping.{AllOn, Base, Follows, IsTidy}
+use Rattle.vx_kept.specs.Keeping.{AllOn, Base, MayBeNext, IsTidy}
 use Rattle.vx_kept.specs.Trusts.{TrustFirst}
 use Rattle.vx_kept.proofs.Trusting.{trust_first}
 use Rattle.vx_kept.proofs.Chosen.{same_extends}
@@ -45,7 +45,7 @@ cleared_tidy c m cleared labels = record {
 }
 
 -- a configuration follows itself
-pub same_follows : (c : Config) → is_sound c ≡ true → AllOn c → Follows c c
+pub same_follows : (c : Config) → is_sound c ≡ true → AllOn c → MayBeNext c c
 same_follows c sound on = record { shape = same_extends c c (same_shape c); serial = refl; narrows = λ v p lt is. on.each v p is; some = λ v lt. (chosen c v, sound_chosen c sound v lt) }
 
 pub first_done : (good : ℕ) (c d : Config) (old new : Meaning) → Lawful old → Lawful new → AllCleared old.units old → HaveLabels old → is_sound c ≡ true → AllOn c

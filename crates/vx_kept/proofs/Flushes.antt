@@ -3,7 +3,7 @@ use Rattle.std.proofs.Common.{inl, inr, ⊎_elim, ℕ, ◌≤◌, List, sym, ◌
 use Rattle.vx_disk.specs.Shelf.{Flushed, Goes, Lawful, Meaning, Nothing, Or}
 use Rattle.vx_config.specs.declared.config.Config.{Config}
 use Rattle.vx_kept.specs.Commits.{Member}
-use Rattle.vx_kept.specs.Groups.{Apart, group_meaning, seen}
+use Rattle.vx_kept.specs.Groups.{PlacesApart, group_meaning, seen}
 use Rattle.vx_kept.specs.Keeping.{Acts, Kept, SameShape, Sees}
 use Rattle.vx_volume.specs.Plexes.{Inside}
 use Rattle.vx_layout.specs.Places.{place}
@@ -13,7 +13,7 @@ use Rattle.vx_kept.proofs.Steps.{both_Acts, group-Goes, inside_back, inside_same
 use Rattle.vx_kept.proofs.Whole.{sees_back}
 
 module _ (good : ℕ) (c d : Config) (v : ℕ) (faults faults' : ℕ → ℕ) (m0 m1 m2 : Meaning) (lawful0 : Lawful m0) (lawful1 : Lawful m1) (lawful2 : Lawful m2) (kept : Kept c (Member good m0) m0)
-    (apart : Apart c) (flush : Goes Nothing m0 m1) (commit : Acts Nothing (Sees c (Member good m1) m1) m1 m2)
+    (apart : PlacesApart c) (flush : Goes Nothing m0 m1) (commit : Acts Nothing (Sees c (Member good m1) m1) m1 m2)
     (same : SameShape d c) (narrows : (w p : ℕ) → IsTrue (active d w p) → IsTrue (active c w p)) (no_less : (u : ℕ) → faults u ≤ faults' u) where
   flush_Acts : Acts Nothing (Sees c (Member good m0) m0) m0 m2
   flush_Acts = wide_Acts (Or Nothing Nothing) Nothing (Sees c (Member good m0) m0) m0 m2

@@ -16,3 +16,6 @@ pub mod CleanCommits
 pub mod OpenLemmas
 pub mod Nexts
 pub mod Trusting
+pub mod RunLemmas
+pub mod LosingLemmas
+pub mod PlexActing

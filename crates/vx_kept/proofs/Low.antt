@@ -4,7 +4,7 @@ use Rattle.std.specs.Prelude.{◌&&◌, if◌then◌else◌}
 use Rattle.std.proofs.lemmas.Bool.{cases_lt}
 use Rattle.vx_disk.specs.Shelf.{Image, Meaning}
 use Rattle.vx_copyfmt.specs.Copies.{Copy, area_a, area_b, copy_at, copy_of, greater}
-use Rattle.vx_copyfmt.specs.Imports.{import_of, is_label, later, newest, on_disk}
+use Rattle.vx_copyfmt.specs.Imports.{import_of, is_label, later, newest_found, on_disk}
 use Rattle.vx_copyfmt.specs.Labels.{seen_in}
 use Rattle.vx_copyfmt.proofs.Areas.{copy_at-same}
 use Rattle.vx_copyfmt.proofs.Newest.{same_import, strange_same}
@@ -21,12 +21,12 @@ module _ {C : Type 0} (reads : ℕ → List ℕ → Option C) (i j : Image) (sam
       let second : copy_at reads (i u) area_b ≡ copy_at reads (j u) area_b = copy_at-same reads (i u) (j u) area_b (λ b low high. same u b (omega (arith, high))) in
       ap (λ (o : Option (Copy C)). greater o (copy_at reads (i u) area_b)) first ∙ ap (λ (o : Option (Copy C)). greater (copy_at reads (j u) area_a) o) second
 
-  newest_low : (readable : ℕ → Bool) (n : ℕ) → newest reads readable i n ≡ newest reads readable j n
+  newest_low : (readable : ℕ → Bool) (n : ℕ) → newest_found reads readable i n ≡ newest_found reads readable j n
   newest_low readable zero = refl
   newest_low readable (suc n) =
       ap (λ (o : Option (ℕ × Copy C)). later o (if readable n && is_label (seen_in (i n 0)) then on_disk n (copy_of reads (i n)) else None)) (newest_low readable n)
-      ∙ ap (λ (v : List ℕ). later (newest reads readable j n) (if readable n && is_label (seen_in v) then on_disk n (copy_of reads (i n)) else None)) (same n 0 (omega arith))
-      ∙ ap (λ (o : Option (Copy C)). later (newest reads readable j n) (if readable n && is_label (seen_in (j n 0)) then on_disk n o else None)) (copy_low n)
+      ∙ ap (λ (v : List ℕ). later (newest_found reads readable j n) (if readable n && is_label (seen_in v) then on_disk n (copy_of reads (i n)) else None)) (same n 0 (omega arith))
+      ∙ ap (λ (o : Option (Copy C)). later (newest_found reads readable j n) (if readable n && is_label (seen_in (j n 0)) then on_disk n o else None)) (copy_low n)
 
   pub import_low : (failed : C → ℕ → Bool) (units : ℕ) (readable : ℕ → Bool) → import_of reads failed units readable i ≡ import_of reads failed units readable j
   import_low failed units readable = same_import reads failed units readable i j (strange_same readable i j units (λ u lt. ap seen_in (same u 0 (omega arith)))) (newest_low readable units)

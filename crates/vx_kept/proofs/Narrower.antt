@@ -20,8 +20,8 @@ use Rattle.vx_layout.specs.Places.{plex_at, plex_in}
 use Rattle.vx_volume.proofs.PlaceLemmas.{apart_of, has_of}
 use Rattle.vx_volume.specs.Plexes.{active, active_or, is_active}
 use Rattle.vx_kept.specs.Choice.{chosen, chosen_or, live, live_or}
-use Rattle.vx_kept.specs.Groups.{Apart, HasActive}
-use Rattle.vx_kept.specs.Keeping.{AllOn, Follows}
+use Rattle.vx_kept.specs.Groups.{PlacesApart, HasActive}
+use Rattle.vx_kept.specs.Keeping.{AllOn, MayBeNext}
 use Rattle.vx_kept.specs.States.{SomeLeft, staled}
 use Rattle.vx_kept.proofs.Chosen.{any_at, first_live, same_extends}
 use Rattle.vx_kept.proofs.StateLemmas.{active_left, is_staled, live_left}
@@ -86,7 +86,7 @@ sound_chosen c sound v lt = by (slice_get c.volumes v) refl
 pub has_active : (c : Config) → is_sound c ≡ true → AllOn c → HasActive c
 has_active c sound on = record { first = chosen c; is_on = λ v lt. on.each v (chosen c v) (sound_chosen c sound v lt) }
 
-pub stand_apart : (c : Config) → is_sound c ≡ true → Apart c
+pub stand_apart : (c : Config) → is_sound c ≡ true → PlacesApart c
 stand_apart c sound = record {
   above = λ v p b in_it is_on. ((sound_apart c sound).region v p b (has_of c v p b is_on in_it)).public;
   one = (apart_of c sound).one;
@@ -132,7 +132,7 @@ module _ (v set : ℕ) (c : Config) (left : v < length c.volumes → SomeLeft c 
             by_bit true is same lt = inl (same, lt, is)
             by_bit false is same lt = inr (λ s l t. (let clash : false ≡ true = sym is ∙ t in cc))
 
-    pub staled_follows : Follows c d
+    pub staled_follows : MayBeNext c d
     staled_follows = record {
       shape = same_extends d c (is_staled v set 8 c).shape;
       serial = (is_staled v set 8 c).serial;

@@ -5,13 +5,13 @@ use Rattle.vx_model.specs.declared.no.No.{No}
 use Rattle.vx_config.specs.declared.config.Config.{Config}
 use Rattle.vx_copies.specs.Bodies.{is_wanted}
 use Rattle.vx_copies.specs.Commits.{Begins, CommitEnds, IsTry, Refused, StayFit}
-use Rattle.vx_kept.specs.Commits.{Member, Missed, NextEnds}
-use Rattle.vx_kept.specs.Keeping.{AllOn, Follows, IsTidy, Kept}
+use Rattle.vx_kept.specs.Commits.{Member, MissedCommit, NextEnds}
+use Rattle.vx_kept.specs.Keeping.{AllOn, MayBeNext, IsTidy, Kept}
 use Rattle.vx_kept.proofs.Committed.{take_done, take_on, take_refused}
 
-module _ (good : ℕ) (c a d : Config) (old new : Meaning) (before : Lawful old) (after : Lawful new) (kept : Kept c (Member good old) old) (tidy : IsTidy a old) (follows : Follows c a) (on : AllOn a)
+module _ (good : ℕ) (c a d : Config) (old new : Meaning) (before : Lawful old) (after : Lawful new) (kept : Kept c (Member good old) old) (tidy : IsTidy a old) (follows : MayBeNext c a) (on : AllOn a)
     (begins : Begins (IsTry a d.serial old new) a old new) (fit : StayFit a d.serial old new) (wanted : is_wanted new.units new.size d ≡ true) where
-  missed : (why : No) → Refused good a d old new why → Missed good c a d old new why
+  missed : (why : No) → Refused good a d old new why → MissedCommit good c a d old new why
   missed why refused =
       let left = take_refused good c a d old new before after kept tidy follows begins fit (record { serial = d.serial; site = c.site; disks = c.disks; volumes = c.volumes; rvg = c.rvg }) why refused refl in
       record {

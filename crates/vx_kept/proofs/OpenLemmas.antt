@@ -16,7 +16,7 @@ use Rattle.vx_kept.specs.Opens.{OpenFrom, OpenVolumes, SameLives}
 use Rattle.vx_kept.specs.States.{whole_of}
 use Rattle.vx_kept.proofs.CleanLemmas.{alike_refl, alike_then, clean_takes, open_at}
 use Rattle.vx_kept.proofs.Narrower.{live_has}
-use Rattle.vx_kept.proofs.StateLemmas.{map_one, plex_apart, plex_same, stated_shape}
+use Rattle.vx_kept.proofs.StateLemmas.{map_one, plex_apart, plex_same, stated_logs, stated_shape}
 
 -- ---- one plex
 
@@ -60,6 +60,7 @@ stated_open v p w c is = record {
       ]
       | inr apart ↦ ap live_or (plex_apart v p Active w c x q (λ same at. apart same))
     ];
+    logs = stated_logs v p Active w c;
   };
   same = plex_apart v p Active w c;
   on = λ takes. ap active_or (plex_same v p Active w c) ∙ opened_on w (plex_at c v p) is;

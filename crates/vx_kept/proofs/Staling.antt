@@ -19,7 +19,7 @@ use Rattle.vx_copies.proofs.OneTry.{wanted_same, wanted_serial}
 use Rattle.vx_model.specs.declared.no.No.{No}
 use Rattle.vx_volume.specs.Plexes.{active}
 use Rattle.vx_kept.specs.Choice.{live}
-use Rattle.vx_kept.specs.Keeping.{AllOn, Follows, IsTidy}
+use Rattle.vx_kept.specs.Keeping.{AllOn, MayBeNext, IsTidy}
 use Rattle.vx_kept.specs.States.{AreOn, SomeLeft, staled, stale_at, whole_of}
 use Rattle.vx_kept.proofs.Chosen.{active_volumes}
 use Rattle.vx_kept.proofs.Narrower.{staled_follows, staled_on}
@@ -47,8 +47,8 @@ module _ (v set : ℕ) (c a : Config) (is : a ≡ staled v set c 8) where
       let parts = and_parts (is_sound c) (fits_units units size c) wanted in
       and_from (is_sound a) (fits_units units size a) (sound parts.0) (ap (λ (ds : List DiskEntry). length ds == units && have_blocks size 0 ds) disks_are ∙ parts.1)
 
-  pub stale_follows : (v < length c.volumes → SomeLeft c v set) → is_sound c ≡ true → AllOn c → Follows c a
-  stale_follows left sound on = subst (Follows c) (sym is) (staled_follows v set c left sound on)
+  pub stale_follows : (v < length c.volumes → SomeLeft c v set) → is_sound c ≡ true → AllOn c → MayBeNext c a
+  stale_follows left sound on = subst (MayBeNext c) (sym is) (staled_follows v set c left sound on)
 
   pub stale_on : (v < length c.volumes → SomeLeft c v set) → is_sound c ≡ true → AllOn c → AllOn a
   stale_on left sound on = subst AllOn (sym is) (staled_on v set c left sound on)

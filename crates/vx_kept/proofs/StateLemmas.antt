@@ -10,6 +10,8 @@ use Rattle.vx_config.specs.Checks.{blocks_of, blocks_or_none, column_blocks}
 use Rattle.vx_config.specs.declared.config.Config.{Config}
 use Rattle.vx_config.specs.declared.entry.PlexEntry.{PlexEntry}
 use Rattle.vx_config.specs.declared.entry.VolumeEntry.{VolumeEntry}
+use Rattle.vx_config.specs.declared.entry.VolumeLog.{VolumeLog}
+use Rattle.vx_config.specs.declared.entry.VolumeLog.TheVariants.{Drl, Fmr}
 use Rattle.vx_config.proofs.Changed.{changed-length}
 use Rattle.vx_config.proofs.Fewer.{stated_back}
 use Rattle.vx_layout.specs.Places.{linear, located, place, place_in, place_or, plex_at, plex_in}
@@ -17,6 +19,8 @@ use Rattle.vx_volume.specs.Plexes.{active, active_or, is_active}
 use Rattle.vx_kept.specs.Choice.{live, live_or}
 use Rattle.vx_kept.specs.Keeping.{SameShape}
 use Rattle.vx_kept.specs.States.{staled, stale_at, whole_of, whole_or}
+use Rattle.vx_kept.proofs.RunLemmas.{run_same, trust_from}
+use Rattle.vx_maplog.specs.Logs.{log_of, log_or}
 
 -- ---- lists
 
@@ -25,14 +29,14 @@ map_one f None = None
 map_one f (Some x) = Some (f x)
 
 module _ {A : Type 0} (f : A → A) where
-  get_other : (k n : ℕ) → (n ≡ k → ⊥) → (xs : List A) → slice_get (changed_at f k xs) n ≡ slice_get xs n
+  pub get_other : (k n : ℕ) → (n ≡ k → ⊥) → (xs : List A) → slice_get (changed_at f k xs) n ≡ slice_get xs n
   get_other k n apart [] = refl
   get_other zero zero apart (x ∷ xs) = absurd (apart refl)
   get_other zero (suc n) apart (x ∷ xs) = refl
   get_other (suc k) zero apart (x ∷ xs) = refl
   get_other (suc k) (suc n) apart (x ∷ xs) = get_other k n (λ same. apart (ap suc same)) xs
 
-  get_same : (k : ℕ) (xs : List A) → slice_get (changed_at f k xs) k ≡ map_one f (slice_get xs k)
+  pub get_same : (k : ℕ) (xs : List A) → slice_get (changed_at f k xs) k ≡ map_one f (slice_get xs k)
   get_same k [] = refl
   get_same zero (x ∷ xs) = refl
   get_same (suc k) (x ∷ xs) = get_same k xs
@@ -71,6 +75,19 @@ module _ (v p : ℕ) (s : PlexState) (w : Bool) (c : Config) where
   plex_apart x q apart = elim (cases_eq x v) [
     | inl same ↦ subst (λ (y : ℕ). plex_at d y q ≡ plex_at c y q) (sym same) (plex_other q (apart same))
     | inr other ↦ plex_volume x q other
+  ]
+
+  -- ---- logs
+
+  logs_map : (k : VolumeLog) (o : Option VolumeEntry) → log_or k (map_one (with_plex p s w) o) ≡ log_or k o
+  logs_map k None = refl
+  logs_map Drl (Some x) = refl
+  logs_map Fmr (Some x) = refl
+
+  pub stated_logs : (x : ℕ) (k : VolumeLog) → log_of d x k ≡ log_of c x k
+  stated_logs x k = elim (cases_eq x v) [
+    | inl same ↦ subst (λ (y : ℕ). log_of d y k ≡ log_of c y k) (sym same) (ap (log_or k) volume_same ∙ logs_map k (slice_get c.volumes v))
+    | inr other ↦ ap (log_or k) (volume_other x other)
   ]
 
   -- ---- places
@@ -112,6 +129,8 @@ module _ (v p : ℕ) (s : PlexState) (w : Bool) (c : Config) where
           (ap (λ (o : Option VolumeEntry). place_or o q b) volume_same ∙ place_map (slice_get c.volumes v) q b)
       | inr other ↦ ap (λ (o : Option VolumeEntry). place_or o q b) (volume_other x other)
     ];
+    logs = λ x k. run_same d c x x k (stated_logs x k);
+    trusted = λ x k. trust_from d c x x k (stated_logs x k);
   }
 
   -- ---- what takes part
@@ -146,10 +165,16 @@ module _ (v p : ℕ) (c : Config) where
 -- ---- several plexes STALE
 
 pub same_shape : (c : Config) → SameShape c c
-same_shape c = record { volumes = refl; blocks = λ v. refl; place = λ v p b. refl }
+same_shape c = record { volumes = refl; blocks = λ v. refl; place = λ v p b. refl; logs = λ v log. refl; trusted = λ v log is. is }
 
 pub then_shape : (x y z : Config) → SameShape x y → SameShape y z → SameShape x z
-then_shape x y z one two = record { volumes = one.volumes ∙ two.volumes; blocks = λ v. one.blocks v ∙ two.blocks v; place = λ v p b. one.place v p b ∙ two.place v p b }
+then_shape x y z one two = record {
+  volumes = one.volumes ∙ two.volumes;
+  blocks = λ v. one.blocks v ∙ two.blocks v;
+  place = λ v p b. one.place v p b ∙ two.place v p b;
+  logs = λ v log. one.logs v log ∙ two.logs v log;
+  trusted = λ v log is. two.trusted v log (one.trusted v log is);
+}
 
 -- what stale plexes leave as it was
 pub record IsStaled (v set n : ℕ) (c d : Config) : Type 0 where

@@ -9,7 +9,7 @@ use Rattle.vx_config.specs.declared.config.Config.{Config}
 use Rattle.vx_kept.specs.Choice.{chosen}
 use Rattle.vx_layout.specs.Places.{place}
 use Rattle.vx_volume.specs.Plexes.{active}
-use Rattle.vx_kept.specs.Groups.{Apart, HasActive, Imported, Outside, Shows, group_meaning, seen}
+use Rattle.vx_kept.specs.Groups.{PlacesApart, HasActive, ImportedImage, OutsideVolumes, Shows, group_meaning, seen}
 use Rattle.vx_kept.specs.Keeping.{Acts, Kept, Kin, SameShape, Sees}
 use Rattle.vx_volume.specs.Plexes.{Inside}
 use Rattle.vx_kept.proofs.Lasting.{cases_bool}
@@ -87,7 +87,7 @@ module _ (p q : Values) (P : Says) (old new : Meaning) (acts : Acts p P old new)
 
 -- the central lemma: from a configuration c in memory to d
 module _ (c d : Config) (G : ℕ → Type 0) (faults faults' : ℕ → ℕ) (m m' : Meaning) (W V : Values)
-    (acts : Acts W (Sees c G m) m m') (apart : Apart c) (same : SameShape d c) (narrows : (v p : ℕ) → IsTrue (active d v p) → IsTrue (active c v p))
+    (acts : Acts W (Sees c G m) m m') (apart : PlacesApart c) (same : SameShape d c) (narrows : (v p : ℕ) → IsTrue (active d v p) → IsTrue (active c v p))
     (in_v : (v p b : ℕ) (x : List ℕ) → Inside c v b → IsTrue (active c v p) → W (place c v p b).0 (place c v p b).1 x → V v b x) (no_less : (v : ℕ) → faults v ≤ faults' v)
     (blind : IsFalse m'.tells → (t : ℕ) (i : Image) → m'.left_since t i → ⊥) where
   abbrev old : Meaning
@@ -99,7 +99,7 @@ module _ (c d : Config) (G : ℕ → Type 0) (faults faults' : ℕ → ℕ) (m m
   put : (s : Values) (v p b : ℕ) (x : List ℕ) → Inside c v b → IsTrue (active c v p) → Or s W (place c v p b).0 (place c v p b).1 x → Or (seen m.tells c s) V v b x
   put s v p b x in_it is_on = ⊎_elim (λ was. inl (inl (record { inside = in_it; plex = p; is_on = is_on; value = was }))) (λ w. inr (in_v v p b x in_it is_on w))
 
-  out_old : (v b : ℕ) (x : List ℕ) → Outside m'.tells d v b x → Outside m.tells c v b x
+  out_old : (v b : ℕ) (x : List ℕ) → OutsideVolumes m'.tells d v b x → OutsideVolumes m.tells c v b x
   out_old v b x out = record { tells = sym acts.tells ∙ out.tells; outside = λ in_it. out.outside (inside_back d c same v b in_it); empty = out.empty }
 
   at_old : (s : Values) (v p b : ℕ) (x : List ℕ) → s (place d v p b).0 (place d v p b).1 x → s (place c v p b).0 (place c v p b).1 x
@@ -138,7 +138,7 @@ module _ (c d : Config) (G : ℕ → Type 0) (faults faults' : ℕ → ℕ) (m m
   shows_new : (x : Config) (j i : Image) → Shows c x j i → Shows d x j i
   shows_new x j i shows = record { here = λ v b in_it. shows.here v b (inside_same d c same v b in_it); beyond = λ v b out. shows.beyond v b (λ in_it. out (inside_back d c same v b in_it)) }
 
-  before : (P : Image → Type 0) (i : Image) (left : Imported d m' P i) (Q : Image → Type 0) → Q left.image → Imported c m Q i
+  before : (P : Image → Type 0) (i : Image) (left : ImportedImage d m' P i) (Q : Image → Type 0) → Q left.image → ImportedImage c m Q i
   before P i left Q was = record { image = left.image; left = was; config = left.config; found = sym (found_same m m' acts.units acts.size (λ u. true) left.image) ∙ left.found; shows = shows_old left.config left.image i left.shows }
 
   since : (t : ℕ) (i : Image) → t ≤ m.moment → new.left_since t i → old.left_since t i ⊎ Each (Or old.leaves V) i
@@ -206,7 +206,7 @@ module _ (c : Config) (G : ℕ → Type 0) (faults : ℕ → ℕ) (m : Meaning) 
   by_beyond x j v b out (inl held) = absurd (out held)
   by_beyond x j v b out (inr not) = refl
 
-  imported : IsTrue m.tells → (i : Image) × Imported c m m.now i
+  imported : IsTrue m.tells → (i : Image) × ImportedImage c m m.now i
   imported tells =
       let it = lawful.image tells in
       let j : Image = it.0 in
@@ -225,7 +225,7 @@ module _ (c : Config) (G : ℕ → Type 0) (faults : ℕ → ℕ) (m : Meaning) 
         },
       )
 
-  within : (i : Image) → Imported c m m.now i → Each (seen m.tells c m.leaves) i
+  within : (i : Image) → ImportedImage c m m.now i → Each (seen m.tells c m.leaves) i
   within i left v b =
       let j : Image = left.image in
       let each = lawful.within j left.left in

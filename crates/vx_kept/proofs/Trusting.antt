@@ -2,14 +2,14 @@
 use Rattle.std.proofs.Common.{◌≡◌, ◌⊎◌, inl, inr, ℕ, suc, ◌+◌, ◌<◌, Bool, true, false, Option, Some, List, [], ◌∷◌, length, Result, Ok, Err, refl, ap, sym, ◌∙◌, subst, arith}
 use Rattle.vx_disk.specs.Shelf.{Each, Image, Lawful, Meaning}
 use Rattle.vx_model.specs.declared.no.No.{No}
-use Rattle.vx_copyfmt.specs.Commits.{Answers, Gives}
-use Rattle.vx_copyfmt.specs.Imports.{Damaged, Format, Found, Missing, NoConfig, Outcome as Finding}
+use Rattle.vx_copyfmt.specs.Commits.{Answers, GivesConfig}
+use Rattle.vx_copyfmt.specs.Imports.{Damaged, Format, Found, Missing, NoConfig, ImportOutcome as Finding}
 use Rattle.vx_copyfmt.proofs.Areas.{no_torn}
 use Rattle.vx_config.specs.declared.config.Config.{Config}
 use Rattle.vx_config.specs.declared.entry.DiskEntry.{DiskEntry}
 use Rattle.vx_copies.specs.Answers.{good_set}
 use Rattle.vx_copies.specs.Bodies.{failed_in}
-use Rattle.vx_copies.specs.Commits.{Below, CommitEnds, Done, Finds, IsTry, MoreFailed, Outcome, Ready, Silent, WasCommitted}
+use Rattle.vx_copies.specs.Commits.{Below, CommitEnds, Done, Finds, IsTry, MoreFailed, FoundOutcome, ReadyDisks, Silent, WasCommitted}
 use Rattle.vx_copies.specs.Looking.{on_shelf}
 use Rattle.vx_copies.specs.Marks.{blocks_at, failed_at}
 use Rattle.vx_kept.specs.Groups.{found, found_by}
@@ -23,17 +23,17 @@ use Rattle.vx_kept.proofs.Low.{found_same, import_low, mix, mix_each, mix_low}
 found_one : (x y : Config) → Found x ≡ Found y → x ≡ y
 found_one x y is = cc
 
-gives_plain : (w : Config) (o : Finding Config) → Gives w o → is_plain o ≡ true
+gives_plain : (w : Config) (o : Finding Config) → GivesConfig w o → is_plain o ≡ true
 gives_plain w (Found x) gives = refl
 gives_plain w (Missing disk) gives = refl
 gives_plain w NoConfig gives = refl
 gives_plain w (Damaged disk block stored computed) gives = absurd gives
 gives_plain w (Format version) gives = absurd gives
 
-gives_one : (w y : Config) (o : Finding Config) → o ≡ Found y → Gives w o → y ≡ w
-gives_one w y o is gives = subst (Gives w) is gives
+gives_one : (w y : Config) (o : Finding Config) → o ≡ Found y → GivesConfig w o → y ≡ w
+gives_one w y o is gives = subst (GivesConfig w) is gives
 
-plain_gives : (w : Config) (o : Finding Config) → ((y : Config) → o ≡ Found y → y ≡ w) → is_plain o ≡ true → Gives w o
+plain_gives : (w : Config) (o : Finding Config) → ((y : Config) → o ≡ Found y → y ≡ w) → is_plain o ≡ true → GivesConfig w o
 plain_gives w (Found x) one plain = one x refl
 plain_gives w (Missing disk) one plain = tt
 plain_gives w NoConfig one plain = tt
@@ -147,23 +147,23 @@ module _ (good : ℕ) (c a d : Config) (old new : Meaning) (lawful : Lawful old)
     trust_done committed agreed trusts true why = of_was (good_set d.disks) d new (λ i each. now_was committed agreed trusts (why refl) i each)
 
   module _ (last : ℕ) (finds : Finds good (IsTry a last old new) a old new) where
-    trust_ready : Ready a old
+    trust_ready : ReadyDisks a old
     trust_ready = record { below = trust_below; counts = λ u held. base.counts u held.below }
 
     -- what each import gives then
-    gives_of : (agreed : Bool) → Trusts true agreed good old → (i : Image) → Each new.leaves i → (w : Config) × ((R : ℕ → Bool) → Gives w (found_by new R i))
+    gives_of : (agreed : Bool) → Trusts true agreed good old → (i : Image) → Each new.leaves i → (w : Config) × ((R : ℕ → Bool) → GivesConfig w (found_by new R i))
     gives_of agreed trusts i each =
         let was = was_before agreed trusts i each in
         let outcome = finds.outcome_now (Some was.0) was.1 trust_ready base.labels i each in
         let config = chosen was.0 outcome in (
           config.0,
-          λ R. subst (Gives config.0) (sym (found_same old new units size R i)) (elim (outcome.each R) [
+          λ R. subst (GivesConfig config.0) (sym (found_same old new units size R i)) (elim (outcome.each R) [
             | inl answers ↦ subst (λ (o : Option Config). Answers o (found_by old R i)) config.1 answers
             | inr bad ↦ absurd (no_torn (on_shelf old) (a.serial + 1) (old.leaves bad.disk) (i bad.disk) (tidy.each bad.disk bad.is) bad.torn)
           ]),
         )
       where
-        chosen : {i : Image} (x : Config) (o : Outcome (IsTry a last old new) (Some x) a old i) → (w : Config) × (o.found ≡ Some w)
+        chosen : {i : Image} (x : Config) (o : FoundOutcome (IsTry a last old new) (Some x) a old i) → (w : Config) × (o.found ≡ Some w)
         chosen x o = elim o.which [
           | inl same ↦ (x, same)
           | inr begun ↦ (begun.1, begun.2)

@@ -4,7 +4,7 @@ use Rattle.std.proofs.lemmas.Bool.{cases_eq}
 use Rattle.vx_disk.specs.Shelf.{Covers, Goes, Image, Lawful, Meaning, Nothing, Or, Values, Written, Wrote, piece}
 use Rattle.vx_config.specs.declared.config.Config.{Config}
 use Rattle.vx_kept.specs.Commits.{Member}
-use Rattle.vx_kept.specs.Groups.{Apart, group_meaning}
+use Rattle.vx_kept.specs.Groups.{PlacesApart, group_meaning}
 use Rattle.vx_kept.specs.Keeping.{Acts, Kept, SameShape, Sees}
 use Rattle.vx_volume.specs.Plexes.{Inside}
 use Rattle.vx_layout.specs.Places.{place}
@@ -21,7 +21,7 @@ sees_back good c m m' units size i sees =
     record { config = it.config; found = it.found; kin = it.kin; others = λ R g x held in_it is. it.others R g x (record { below = omega (arith, units, held.below); is = held.is }) in_it is }
 
 module _ (good : ℕ) (c d : Config) (v block : ℕ) (bytes : List ℕ) (faults faults' : ℕ → ℕ) (m0 m1 m2 : Meaning) (lawful0 : Lawful m0) (lawful1 : Lawful m1) (lawful2 : Lawful m2) (kept : Kept c (Member good m0) m0)
-    (apart : Apart c) (inside : (k : ℕ) → InRun block (length bytes / 512) k → Inside c v k) (whole : length bytes % 512 ≡ 0)
+    (apart : PlacesApart c) (inside : (k : ℕ) → InRun block (length bytes / 512) k → Inside c v k) (whole : length bytes % 512 ≡ 0)
     (write : Goes (OnPlexes c v block (length bytes / 512) bytes) m0 m1) (commit : Acts Nothing (Sees c (Member good m1) m1) m1 m2)
     (same : SameShape d c) (narrows : (w p : ℕ) → IsTrue (active d w p) → IsTrue (active c w p)) (no_less : (u : ℕ) → faults u ≤ faults' u) where
   abbrev n : ℕ

@@ -9,7 +9,7 @@ use Rattle.vx_config.specs.declared.config.Config.{Config}
 use Rattle.vx_config.specs.declared.entry.PlexEntry.{PlexEntry}
 use Rattle.vx_copyfmt.specs.Imports.{Found, settle}
 use Rattle.vx_copies.specs.Bodies.{failed_in}
-use Rattle.vx_copies.specs.Commits.{Grown, Held}
+use Rattle.vx_copies.specs.Commits.{Grown, HeldGood}
 use Rattle.vx_layout.specs.Places.{plex_at}
 use Rattle.vx_volume.specs.Plexes.{active}
 use Rattle.vx_kept.specs.Commits.{Left}
@@ -44,13 +44,13 @@ clean_plexes v c zero = c
 clean_plexes v c (suc n) = clean_at v n (clean_plexes v c n)
 
 -- whether a volume is marked
-abbrev pub marked : List Bool → ℕ → Bool
-marked unsure v = slice_index_or unsure v false
+abbrev pub is_unsure : List Bool → ℕ → Bool
+is_unsure unsure v = slice_index_or unsure v false
 
 -- with all plexes of the first n volumes so, but for the volumes that are marked
 unfoldable pub cleaned : List Bool → Config → ℕ → Config
 cleaned unsure c zero = c
-cleaned unsure c (suc n) = if marked unsure n then cleaned unsure c n else clean_plexes n (cleaned unsure c n) 8
+cleaned unsure c (suc n) = if is_unsure unsure n then cleaned unsure c n else clean_plexes n (cleaned unsure c n) 8
 
 -- a configuration with another serial
 abbrev pub at_serial : ℕ → Config → Config
@@ -60,9 +60,9 @@ at_serial s c = record { serial = s; site = c.site; disks = c.disks; volumes = c
 -- finds it, or misses another one. A group in which the plexes are ACTIVE as before may stand on the disks.
 pub record Shown (c a d : Config) (old new : Meaning) : Type 0 where
   pub finds : (i : Image) → Each new.leaves i → found new i ≡ Found d
-  pub reads : (i : Image) (readable : ℕ → Bool) (g : ℕ) → Each new.leaves i → Held d new g → readable g ≡ true → found_by new readable i ≡ settle failed_in new.units readable d
+  pub reads : (i : Image) (readable : ℕ → Bool) (g : ℕ) → Each new.leaves i → HeldGood d new g → readable g ≡ true → found_by new readable i ≡ settle failed_in new.units readable d
   pub grown : Grown old new a d
-  pub kept : Kept (at_serial d.serial c) (Held d new) new
+  pub kept : Kept (at_serial d.serial c) (HeldGood d new) new
 
 -- how such a commit ends
 abbrev pub CleanEnds : {T : Type 0} → ℕ → Config → Config → Config → Meaning → Meaning → Result T No → Type 0

@@ -50,7 +50,7 @@ FirstEnds good c d old new (Ok x) = Taken c c d old new × AllOn d
 FirstEnds good c d old new (Err why) = CommitStops good c d.serial old new why
 
 -- the configuration c in memory stands under the serial of d, which was to be committed; d has what it had beside
-pub record Missed (good : ℕ) (c a d : Config) (old new : Meaning) (why : No) : Type 0 where
+pub record MissedCommit (good : ℕ) (c a d : Config) (old new : Meaning) (why : No) : Type 0 where
   pub kept : Kept (record { serial = d.serial; site = c.site; disks = c.disks; volumes = c.volumes; rvg = c.rvg }) (Member good new) new
   pub volumes : d.volumes ≡ a.volumes
   pub disks : d.disks ≡ a.disks
@@ -59,4 +59,4 @@ pub record Missed (good : ℕ) (c a d : Config) (old new : Meaning) (why : No) :
 -- how the commit of another configuration ends
 abbrev pub NextEnds : {T : Type 0} → ℕ → Config → Config → Config → Meaning → Meaning → Result T No → Type 0
 NextEnds good c a d old new (Ok x) = Taken c a d old new
-NextEnds good c a d old new (Err why) = Missed good c a d old new why
+NextEnds good c a d old new (Err why) = MissedCommit good c a d old new why

@@ -6,24 +6,30 @@ use Rattle.vx_copyfmt.specs.Commits.{Counts, Tidy}
 use Rattle.vx_copyfmt.specs.Imports.{Found}
 use Rattle.vx_config.specs.Checks.{blocks_of}
 use Rattle.vx_config.specs.declared.config.Config.{Config}
-use Rattle.vx_copies.specs.Commits.{Below, HaveLabels, Held}
+use Rattle.vx_config.specs.declared.entry.VolumeLog.{VolumeLog}
+use Rattle.vx_copies.specs.Commits.{Below, HaveLabels, HeldGood}
 use Rattle.vx_copies.specs.Looking.{on_shelf}
 use Rattle.vx_kept.specs.Choice.{chosen, live}
 use Rattle.vx_kept.specs.Groups.{found, found_by}
+use Rattle.vx_kept.specs.LogRuns.{log_place, log_trusted}
 use Rattle.vx_layout.specs.Places.{place}
 use Rattle.vx_volume.specs.Plexes.{active}
 
--- the same volumes, with the same places
+-- the same volumes, with the same places of plexes and logs; each log that x trusts c trusts
 pub record SameShape (x c : Config) : Type 0 where
   pub volumes : length x.volumes ≡ length c.volumes
   pub blocks : (v : ℕ) → blocks_of x.volumes v ≡ blocks_of c.volumes v
   pub place : (v p b : ℕ) → place x v p b ≡ place c v p b
+  pub logs : (v : ℕ) (log : VolumeLog) → log_place x v log ≡ log_place c v log
+  pub trusted : (v : ℕ) (log : VolumeLog) → log_trusted x v log ≡ true → log_trusted c v log ≡ true
 
--- the volumes of c are the first ones of x, with the same places
+-- the volumes of c are the first ones of x, with the same places of plexes and logs; each log of them that x trusts c trusts
 pub record Extends (x c : Config) : Type 0 where
   pub volumes : length c.volumes ≤ length x.volumes
   pub blocks : (v : ℕ) → v < length c.volumes → blocks_of x.volumes v ≡ blocks_of c.volumes v
   pub place : (v p b : ℕ) → v < length c.volumes → place x v p b ≡ place c v p b
+  pub logs : (v : ℕ) (log : VolumeLog) → v < length c.volumes → log_place x v log ≡ log_place c v log
+  pub trusted : (v : ℕ) (log : VolumeLog) → v < length c.volumes → log_trusted x v log ≡ true → log_trusted c v log ≡ true
 
 -- A configuration that an image may have beside one in memory: of the volumes of memory each plex that takes part in it is ACTIVE in memory,
 -- and the one that it chooses takes part. It may have volumes more, which a refused commit was to make.
@@ -55,7 +61,7 @@ pub record Kept (c : Config) (good : ℕ → Type 0) (m : Meaning) : Type 0 wher
 
 -- whatever a crash leaves of a disk that is held as good, the next copy goes to one area
 pub record IsTidy (c : Config) (m : Meaning) : Type 0 where
-  pub each : (u : ℕ) → Held c m u → Tidy (on_shelf m) (c.serial + 1) (m.leaves u)
+  pub each : (u : ℕ) → HeldGood c m u → Tidy (on_shelf m) (c.serial + 1) (m.leaves u)
 
 -- each plex that takes part is ACTIVE
 pub record AllOn (c : Config) : Type 0 where
@@ -78,7 +84,7 @@ pub record Acts (written : Values) (during : Says) (old new : Meaning) : Type 0 
   pub safe : IsFalse old.armed → IsTrue new.down → IsTrue old.down
 
 -- a configuration to be committed: the same volumes, or more behind them, and of the same ones each plex that takes part is ACTIVE in memory
-pub record Follows (c d : Config) : Type 0 where
+pub record MayBeNext (c d : Config) : Type 0 where
   pub shape : Extends d c
   pub serial : d.serial ≡ c.serial
   pub narrows : (v p : ℕ) → v < length c.volumes → IsTrue (live d v p) → IsTrue (active c v p)

@@ -7,3 +7,6 @@ pub mod States
 pub mod Cleans
 pub mod Opens
 pub mod Trusts
+pub mod LogRuns
+pub mod Losses
+pub mod PlexActs

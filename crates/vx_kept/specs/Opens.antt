@@ -2,12 +2,14 @@
 use Rattle.std.specs.Prelude.{◌≡◌, ℕ, ◌<◌, ◌≤◌, IsTrue, length}
 use Rattle.vx_model.specs.declared.limits.TheConstants.{MOST_PLEXES}
 use Rattle.vx_config.specs.declared.config.Config.{Config}
+use Rattle.vx_config.specs.declared.entry.VolumeLog.{VolumeLog}
 use Rattle.vx_layout.specs.Places.{plex_at}
+use Rattle.vx_maplog.specs.Logs.{log_of}
 use Rattle.vx_volume.specs.Plexes.{active}
 use Rattle.vx_kept.specs.Choice.{live}
 use Rattle.vx_kept.specs.Keeping.{SameShape}
 
--- the same volumes, of which the same plexes take part
+-- the same volumes with the same logs, of which the same plexes take part
 pub record SameLives (c d : Config) : Type 0 where
   pub shape : SameShape d c
   pub serial : d.serial ≡ c.serial
@@ -15,6 +17,7 @@ pub record SameLives (c d : Config) : Type 0 where
   pub disks : d.disks ≡ c.disks
   pub rvg : d.rvg ≡ c.rvg
   pub lives : (x q : ℕ) → live d x q ≡ live c x q
+  pub logs : (x : ℕ) (log : VolumeLog) → log_of d x log ≡ log_of c x log
 
 -- so it is, and of the plexes of a volume from number k on each that takes part is ACTIVE; the others are as they were
 pub record OpenFrom (v k : ℕ) (c d : Config) : Type 0 where

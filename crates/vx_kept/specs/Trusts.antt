@@ -3,7 +3,7 @@ use Rattle.std.specs.Prelude.{◌≡◌, ◌⊎◌, ℕ, ◌<◌, Bool, true, fa
 use Rattle.vx_disk.specs.Blocks.{bit_at}
 use Rattle.vx_disk.specs.Shelf.{Each, Image, Meaning}
 use Rattle.vx_model.specs.declared.no.No.{No}
-use Rattle.vx_copyfmt.specs.Imports.{Damaged, Format, Found, Missing, NoConfig, Outcome}
+use Rattle.vx_copyfmt.specs.Imports.{Damaged, Format, Found, Missing, NoConfig, ImportOutcome}
 use Rattle.vx_config.specs.declared.config.Config.{Config}
 use Rattle.vx_config.specs.declared.entry.DiskEntry.{DiskEntry}
 use Rattle.vx_copies.specs.Answers.{good_set}
@@ -11,7 +11,7 @@ use Rattle.vx_copies.specs.Marks.{failed_at}
 use Rattle.vx_kept.specs.Groups.{found, found_by}
 
 -- a configuration is found, or an import is refused with 8 or 9
-abbrev pub is_plain : Outcome Config → Bool
+abbrev pub is_plain : ImportOutcome Config → Bool
 is_plain (Found x) = true
 is_plain (Missing disk) = true
 is_plain NoConfig = true

@@ -3,7 +3,7 @@ ghost use Rattle.std.specs.Prelude.{◌≡◌, ◌<◌, ◌≤◌, Bool, List, l
 ghost use Rattle.vx_config.specs.Checks.{is_sound};
 ghost use Rattle.vx_config.specs.Configs.{CanSpell};
 ghost use Rattle.vx_config.specs.declared.config.Config.{Config as ConfigValue};
-ghost use Rattle.vx_kept.specs.Cleans.{NoneClean, clean as clean_is, clean_plexes, cleaned, marked};
+ghost use Rattle.vx_kept.specs.Cleans.{NoneClean, clean as clean_is, clean_plexes, cleaned, is_unsure};
 ghost use Rattle.vx_kept.specs.Keeping.{AllOn};
 ghost use Rattle.vx_kept.specs.Opens.{OpenFrom, OpenVolumes};
 
@@ -33,7 +33,7 @@ fn is_clean(config: &Config, vol: u32, plex: u32) -> bool
 // Whether a volume is marked.
 fn is_marked(unsure: &[bool; MOST_VOLUMES], vol: u32) -> bool
     requires inside { vol < MOST_VOLUMES }
-    ensures { result ≡ marked unsure.now vol }
+    ensures { result ≡ is_unsure unsure.now vol }
 {
     unsure[vol as usize]
 }

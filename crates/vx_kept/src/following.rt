@@ -5,7 +5,7 @@ ghost use Rattle.vx_copies.specs.Bodies.{is_wanted};
 ghost use Rattle.vx_copyio.specs.Labelling.{AreLarge};
 ghost use Rattle.vx_disk.specs.Shelf.{Nothing};
 ghost use Rattle.vx_kept.specs.Commits.{Member, NextEnds};
-ghost use Rattle.vx_kept.specs.Keeping.{Acts, AllOn, Follows, IsTidy, Kept, Sees};
+ghost use Rattle.vx_kept.specs.Keeping.{Acts, AllOn, MayBeNext, IsTidy, Kept, Sees};
 ghost use Rattle.vx_kept.specs.Trusts.{TrustEnds, Trusts};
 
 use vx_config::Config;
@@ -28,7 +28,7 @@ pub fn commit_next<S: Shelf>(
     requires can { CanSpell next.old }
     requires wanted { is_wanted (S.meaning shelf.old).units (S.meaning shelf.old).size next.old ≡ true }
     requires on { AllOn next.old }
-    requires follows { Follows before.now next.old }
+    requires follows { MayBeNext before.now next.old }
     requires kept { Kept before.now (Member good (S.meaning shelf.old)) (S.meaning shelf.old) }
     requires tidy { IsTidy next.old (S.meaning shelf.old) }
     ensures can { CanSpell next.new }

@@ -8,10 +8,12 @@ mod cleaning;
 mod committing;
 mod first;
 mod following;
+mod losing;
 mod states;
 
 pub use cleaning::{make_clean, make_open};
 pub use committing::{commit_clean, commit_stale};
 pub use first::commit_first;
 pub use following::commit_next;
+pub use losing::commit_lost;
 pub use states::{make_active, make_stale, whole_of};

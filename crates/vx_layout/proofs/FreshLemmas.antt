@@ -6,10 +6,10 @@ use Rattle.std.proofs.lemmas.Bool.{cases_lt, eq-eqb, eqb-true, le-leb}
 use Rattle.std.proofs.lemmas.List.Sums.{sum_by-append, sum_by-cons}
 use Rattle.vx_config.specs.declared.entry.DiskEntry.{DiskEntry}
 use Rattle.vx_config.specs.declared.entry.Subdisk.{Subdisk}
-use Rattle.vx_config.specs.Checks.{are_apart, ends_within, in_region, pairwise}
-use Rattle.vx_layout.specs.Places.{blocks_in, blocks_or, disk_blocks}
+use Rattle.vx_config.specs.Checks.{are_apart, ends_within, in_region, pairwise, blocks_or}
+use Rattle.vx_layout.specs.Places.{subdisk_blocks, disk_blocks}
 use Rattle.vx_layout.specs.Free.{AreLowest, IsNext, free_blocks, holds, is_free}
-use Rattle.vx_layout.specs.Space.{AreSpread, OnOne, OnSeveral, is_on, room}
+use Rattle.vx_layout.specs.Space.{AreSpread, OnOne, OnSeveral, is_on, disk_room}
 use Rattle.vx_layout.proofs.Pairs.{and_left, and_right, pairs_across}
 use Rattle.vx_layout.proofs.Gaps.{busy_at, false_from, holds_from, not_both}
 
@@ -125,7 +125,7 @@ pub record AreOn (used : List Subdisk) (disks : List DiskEntry) (disk from wante
   pub behind : (k : ℕ) (s : Subdisk) → slice_get ss k ≡ Some s → from ≤ s.start
   pub few : (k : ℕ) (s : Subdisk) → slice_get ss k ≡ Some s → 0 < wanted
   pub pairs : pairwise are_apart ss ≡ true
-  pub sum : sum_by blocks_in ss ≡ wanted
+  pub sum : sum_by subdisk_blocks ss ≡ wanted
 
 pub lowest_on : (used : List Subdisk) (disks : List DiskEntry) (disk from wanted : ℕ) (ss : List Subdisk) → 512 ≤ from → AreLowest used disk from (disk_blocks disks disk) wanted ss → AreOn used disks disk from wanted ss
 lowest_on used disks disk from wanted [] public is = record { fresh = λ k s at. absurd (none k s at); on = λ k s at. absurd (none k s at); behind = λ k s at. absurd (none k s at); few = λ k s at. absurd (none k s at); pairs = refl; sum = sym is }
@@ -152,7 +152,7 @@ lowest_on used disks disk from wanted (s ∷ ss) public is =
       behind = λ k t at. by_behind k t at;
       few = λ k t at. omega (arith, first.some, first.few);
       pairs = ap (λ (b : Bool). b && pairwise are_apart ss) (all_from (are_apart s) ss (λ k t at. apart_behind s t (rest.behind k t at))) ∙ rest.pairs;
-      sum = let cons = sum_by-cons blocks_in s ss in omega (arith, cons, rest.sum, first.few);
+      sum = let cons = sum_by-cons subdisk_blocks s ss in omega (arith, cons, rest.sum, first.few);
     }
       where
         by_fresh : (k : ℕ) (t : Subdisk) → slice_get (s ∷ ss) k ≡ Some t → IsFresh used disks t
@@ -168,8 +168,8 @@ lowest_on used disks disk from wanted (s ∷ ss) public is =
         by_behind (suc k) t at = let more = rest.behind k t at in omega (arith, more, first.behind)
 
 -- a disk with room is used by none of those before
-room_away : (used : List Subdisk) (disks : List DiskEntry) (found : List Subdisk) (disk j : ℕ) (t : Subdisk) → 0 < room used disks found disk → slice_get found j ≡ Some t → t.disk ≡ disk → ⊥
-unfolding room
+room_away : (used : List Subdisk) (disks : List DiskEntry) (found : List Subdisk) (disk j : ℕ) (t : Subdisk) → 0 < disk_room used disks found disk → slice_get found j ≡ Some t → t.disk ≡ disk → ⊥
+unfolding disk_room
 room_away used disks found disk j t some at same = by (list_any (is_on disk) found) (any_at found j at) some
   where
     any_at : (xs : List Subdisk) (j : ℕ) → slice_get xs j ≡ Some t → list_any (is_on disk) xs ≡ true
@@ -185,7 +185,7 @@ room_away used disks found disk j t some at same = by (list_any (is_on disk) fou
     by true is some = omega (arith, some)
     by false is some = let clash : false ≡ true = is in cc
 
-pub one_fresh : (used : List Subdisk) (disks : List DiskEntry) (found : List Subdisk) (blocks : ℕ) (ss : List Subdisk) → OnOne used disks found blocks ss → AreFresh used disks found ss × (sum_by blocks_in ss ≡ blocks)
+pub one_fresh : (used : List Subdisk) (disks : List DiskEntry) (found : List Subdisk) (blocks : ℕ) (ss : List Subdisk) → OnOne used disks found blocks ss → AreFresh used disks found ss × (sum_by subdisk_blocks ss ≡ blocks)
 one_fresh used disks found blocks ss is =
     let on = lowest_on used disks is.disk 512 blocks ss (omega arith) is.are in
     (record { fresh = on.fresh; away = λ k j s t at_s at_t same. room_away used disks found is.disk j t (let some = on.few k s at_s in omega (arith, some, is.first.fits)) at_t (same ∙ on.on k s at_s); pairs = on.pairs }, on.sum)
@@ -195,9 +195,9 @@ one_fresh used disks found blocks ss is =
 pub record AreAbove (used : List Subdisk) (disks : List DiskEntry) (found : List Subdisk) (disk blocks : ℕ) (ss : List Subdisk) : Type 0 where
   pub fresh : AreFresh used disks found ss
   pub above : (k : ℕ) (s : Subdisk) → slice_get ss k ≡ Some s → disk ≤ s.disk
-  pub sum : sum_by blocks_in ss ≡ blocks
+  pub sum : sum_by subdisk_blocks ss ≡ blocks
 
-spread_above : (used : List Subdisk) (disks : List DiskEntry) (found : List Subdisk) (disk n blocks : ℕ) (ss : List Subdisk) → AreSpread used disks (room used disks found) disk n blocks ss → AreAbove used disks found disk blocks ss
+spread_above : (used : List Subdisk) (disks : List DiskEntry) (found : List Subdisk) (disk n blocks : ℕ) (ss : List Subdisk) → AreSpread used disks (disk_room used disks found) disk n blocks ss → AreAbove used disks found disk blocks ss
 spread_above used disks found disk zero blocks ss is =
     subst (λ (xs : List Subdisk). AreAbove used disks found disk blocks xs) (sym is.1) (record {
       fresh = record { fresh = λ k s at. absurd (none k s at); away = λ k j s t at. absurd (none k s at); pairs = refl };
@@ -208,9 +208,9 @@ spread_above used disks found disk zero blocks ss is =
     none : (k : ℕ) (s : Subdisk) → slice_get [] k ≡ Some s → ⊥
     none k s at = cc
 spread_above used disks found disk (suc n) blocks ss is =
-    by is.0 is.1 is.2 (lowest_on used disks disk 512 (min blocks (room used disks found disk)) is.0 (omega arith) is.3) (spread_above used disks found (disk + 1) n (blocks - min blocks (room used disks found disk)) is.1 is.4)
+    by is.0 is.1 is.2 (lowest_on used disks disk 512 (min blocks (disk_room used disks found disk)) is.0 (omega arith) is.3) (spread_above used disks found (disk + 1) n (blocks - min blocks (disk_room used disks found disk)) is.1 is.4)
   where
-    by : (front back : List Subdisk) → ss ≡ front ++ back → AreOn used disks disk 512 (min blocks (room used disks found disk)) front → AreAbove used disks found (disk + 1) (blocks - min blocks (room used disks found disk)) back → AreAbove used disks found disk blocks ss
+    by : (front back : List Subdisk) → ss ≡ front ++ back → AreOn used disks disk 512 (min blocks (disk_room used disks found disk)) front → AreAbove used disks found (disk + 1) (blocks - min blocks (disk_room used disks found disk)) back → AreAbove used disks found disk blocks ss
     by front back same on rest = subst (λ (xs : List Subdisk). AreAbove used disks found disk blocks xs) (sym same) (record {
       fresh = record {
         fresh = λ k s at. by_fresh k s (get_split front back k s at);
@@ -218,7 +218,7 @@ spread_above used disks found disk (suc n) blocks ss is =
         pairs = pairs_join are_apart front back on.pairs rest.fresh.pairs (λ i j s t at_s at_t. apart_disks s t (λ alike. let low = on.on i s at_s in let high = rest.above j t at_t in omega (arith, alike, low, high)));
       };
       above = λ k s at. by_above k s (get_split front back k s at);
-      sum = let e = sum_by-append blocks_in front back in omega (arith, e, on.sum, rest.sum);
+      sum = let e = sum_by-append subdisk_blocks front back in omega (arith, e, on.sum, rest.sum);
     })
       where
         by_fresh : (k : ℕ) (s : Subdisk) → ((i : ℕ) × (slice_get front i ≡ Some s)) ⊎ ((i : ℕ) × (slice_get back i ≡ Some s)) → IsFresh used disks s
@@ -233,5 +233,5 @@ spread_above used disks found disk (suc n) blocks ss is =
         by_away j s t at_t alike (inl w) = room_away used disks found disk j t (let some = on.few w.0 s w.1 in omega (arith, some)) at_t (alike ∙ on.on w.0 s w.1)
         by_away j s t at_t alike (inr w) = rest.fresh.away w.0 j s t w.1 at_t alike
 
-pub several_fresh : (used : List Subdisk) (disks : List DiskEntry) (found : List Subdisk) (blocks : ℕ) (ss : List Subdisk) → OnSeveral used disks found blocks ss → AreFresh used disks found ss × (sum_by blocks_in ss ≡ blocks)
+pub several_fresh : (used : List Subdisk) (disks : List DiskEntry) (found : List Subdisk) (blocks : ℕ) (ss : List Subdisk) → OnSeveral used disks found blocks ss → AreFresh used disks found ss × (sum_by subdisk_blocks ss ≡ blocks)
 several_fresh used disks found blocks ss is = let it = spread_above used disks found 0 8 blocks ss is.are in (it.fresh, it.sum)

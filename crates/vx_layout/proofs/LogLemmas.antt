@@ -3,13 +3,14 @@ use Rattle.std.proofs.Common.{◌≡◌, ◌⊎◌, inl, inr, ℕ, ◌+◌, ◌<
 use Rattle.std.specs.Prelude.{max, Result, Ok, Err}
 use Rattle.std.proofs.lemmas.Bool.{cases_lt}
 use Rattle.std.proofs.lemmas.Option.{slice_get_past}
+use Rattle.vx_config.specs.Checks.{blocks_or}
 use Rattle.vx_config.specs.declared.entry.DiskEntry.{DiskEntry}
 use Rattle.vx_config.specs.declared.entry.Subdisk.{Subdisk}
-use Rattle.vx_layout.specs.Places.{blocks_or, disk_blocks}
+use Rattle.vx_layout.specs.Places.{disk_blocks}
 use Rattle.vx_layout.specs.Free.{HasNoRun, HasRun, IsGap, IsLowestRun}
 use Rattle.vx_layout.specs.Runs.{FreeRun, LongestBefore, LongestOn, LowestOn}
 use Rattle.vx_layout.specs.Space.{AreLogs, NoLog, drl_blocks, fmr_blocks}
-use Rattle.vx_layout.specs.Steps.{AddsDrl, AddsFmr, AddsLog, DrlShort, Ends, FmrShort, LogShort, NoneBelow}
+use Rattle.vx_layout.specs.Steps.{AddsDrl, AddsFmr, AddsLog, DrlShort, StepEnds, FmrShort, LogShort, NoneBelow}
 use Rattle.vx_layout.specs.declared.gap.Gap.{Gap}
 use Rattle.vx_layout.specs.declared.shape.Shape.{Shape}
 use Rattle.vx_layout.specs.declared.short.Short.{Short}
@@ -139,7 +140,7 @@ pub log_short : (used slice : List Subdisk) (disks : List DiskEntry) (blocks nee
 log_short used slice disks blocks need have same is = subst (λ (u : List Subdisk). LogShort u disks blocks need have) same is
 
 pub drl_from : (want : Shape) (used : List Subdisk) (disks : List DiskEntry) (blocks : ℕ) (new_used logs new_logs : List Subdisk) (r : Result (Unit {0}) Short) → want.drl ≡ true → blocks ≡ drl_blocks want
-    → Ends (λ _. AddsLog used disks blocks new_used logs new_logs) (LogShort used disks blocks) r → Ends (λ _. AddsDrl want used disks new_used logs new_logs) (DrlShort want used disks) r
+    → StepEnds (λ _. AddsLog used disks blocks new_used logs new_logs) (LogShort used disks blocks) r → StepEnds (λ _. AddsDrl want used disks new_used logs new_logs) (DrlShort want used disks) r
 drl_from want used disks blocks new_used logs new_logs (Ok x) is same adds = record {
   none = λ not. absurd (not_both is not);
   one = λ _. (adds.run, subst (λ (n : ℕ). IsLowestRun used disks n adds.run) same adds.is_run, adds.is_used, adds.is_logs);
@@ -151,7 +152,7 @@ pub drl_none : (want : Shape) (used : List Subdisk) (disks : List DiskEntry) (lo
 drl_none want used disks logs not = record { none = λ _. (refl, refl); one = λ is. absurd (not_both is not) }
 
 pub fmr_from : (want : Shape) (used : List Subdisk) (disks : List DiskEntry) (blocks : ℕ) (new_used logs new_logs : List Subdisk) (r : Result (Unit {0}) Short) → want.fmr ≡ true → blocks ≡ fmr_blocks want
-    → Ends (λ _. AddsLog used disks blocks new_used logs new_logs) (LogShort used disks blocks) r → Ends (λ _. AddsFmr want used disks logs new_logs) (FmrShort want used disks) r
+    → StepEnds (λ _. AddsLog used disks blocks new_used logs new_logs) (LogShort used disks blocks) r → StepEnds (λ _. AddsFmr want used disks logs new_logs) (FmrShort want used disks) r
 fmr_from want used disks blocks new_used logs new_logs (Ok x) is same adds = record {
   none = λ not. absurd (not_both is not);
   one = λ _. (adds.run, subst (λ (n : ℕ). IsLowestRun used disks n adds.run) same adds.is_run, adds.is_logs);

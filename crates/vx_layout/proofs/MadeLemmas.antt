@@ -12,7 +12,7 @@ use Rattle.vx_config.specs.declared.entry.LogEntry.{LogEntry}
 use Rattle.vx_config.specs.declared.entry.Subdisk.{Subdisk}
 use Rattle.vx_config.specs.Checks.{fill, log_has, log_run, log_runs, map_blocks, next_room}
 use Rattle.vx_config.proofs.FillLemmas.{not-zero}
-use Rattle.vx_layout.specs.Places.{blocks_in}
+use Rattle.vx_layout.specs.Places.{subdisk_blocks}
 use Rattle.vx_layout.specs.Free.{IsLowestRun, holds, is_free}
 use Rattle.vx_layout.specs.Space.{AreColumns, AreLogs, ArePlexes, IsPlex, IsShape, OnOne, OnSeveral, column_of, drl_blocks, flat, fmr_blocks}
 use Rattle.vx_layout.specs.declared.shape.Shape.{Shape}
@@ -30,22 +30,22 @@ none_fresh used disks found ss is = subst (λ (xs : List Subdisk). AreFresh used
 -- ---- what was found fills the plexes
 
 -- runs that have so many blocks fill a column
-fill_part : (column m room : ℕ) (ss rest : List Subdisk) → ((k : ℕ) (s : Subdisk) → slice_get ss k ≡ Some s → 0 < s.blocks) → sum_by blocks_in ss ≡ room → 0 < room → fill column (suc m) room (ss ++ rest) ≡ fill column m (next_room column (suc m)) rest
+fill_part : (column m room : ℕ) (ss rest : List Subdisk) → ((k : ℕ) (s : Subdisk) → slice_get ss k ≡ Some s → 0 < s.blocks) → sum_by subdisk_blocks ss ≡ room → 0 < room → fill column (suc m) room (ss ++ rest) ≡ fill column m (next_room column (suc m)) rest
 fill_part column m room [] rest each sum some = absurd (omega (arith, sum, some))
 fill_part column m room (s ∷ ss) rest each sum some =
     ap (λ (b : Bool). b && (if s.blocks == room then fill column (suc m - 1) (next_room column (suc m)) (ss ++ rest) else fill column (suc m) (room - s.blocks) (ss ++ rest))) (le-leb s.blocks room (omega (arith, cons, sum)))
     ∙ by (s.blocks == room) refl ss each cons (λ left pos. fill_part column m (room - s.blocks) ss rest (λ k t at. each (suc k) t at) left pos)
   where
-    cons : sum_by blocks_in (s ∷ ss) ≡ s.blocks + sum_by blocks_in ss
-    cons = sum_by-cons blocks_in s ss
+    cons : sum_by subdisk_blocks (s ∷ ss) ≡ s.blocks + sum_by subdisk_blocks ss
+    cons = sum_by-cons subdisk_blocks s ss
 
-    by : (b : Bool) → (s.blocks == room) ≡ b → (xs : List Subdisk) → ((k : ℕ) (t : Subdisk) → slice_get (s ∷ xs) k ≡ Some t → 0 < t.blocks) → sum_by blocks_in (s ∷ ss) ≡ s.blocks + sum_by blocks_in xs
-        → (sum_by blocks_in xs ≡ room - s.blocks → 0 < room - s.blocks → fill column (suc m) (room - s.blocks) (xs ++ rest) ≡ fill column m (next_room column (suc m)) rest)
+    by : (b : Bool) → (s.blocks == room) ≡ b → (xs : List Subdisk) → ((k : ℕ) (t : Subdisk) → slice_get (s ∷ xs) k ≡ Some t → 0 < t.blocks) → sum_by subdisk_blocks (s ∷ ss) ≡ s.blocks + sum_by subdisk_blocks xs
+        → (sum_by subdisk_blocks xs ≡ room - s.blocks → 0 < room - s.blocks → fill column (suc m) (room - s.blocks) (xs ++ rest) ≡ fill column m (next_room column (suc m)) rest)
         → (if b then fill column (suc m - 1) (next_room column (suc m)) (xs ++ rest) else fill column (suc m) (room - s.blocks) (xs ++ rest)) ≡ fill column m (next_room column (suc m)) rest
     by true is [] each cons more = ap (λ (n : ℕ). fill column n (next_room column (suc m)) rest) (let e : suc m - 1 ≡ m = omega arith in e)
     by true is (t ∷ xs) each cons more =
         let same : s.blocks ≡ room = eqb-true s.blocks room is in
-        let next : sum_by blocks_in (t ∷ xs) ≡ t.blocks + sum_by blocks_in xs = sum_by-cons blocks_in t xs in
+        let next : sum_by subdisk_blocks (t ∷ xs) ≡ t.blocks + sum_by subdisk_blocks xs = sum_by-cons subdisk_blocks t xs in
         let pos : 0 < t.blocks = each 1 t refl in
         absurd (omega (arith, same, sum, cons, next, pos))
     by false is xs each cons more =
@@ -60,7 +60,7 @@ columns_fresh used disks found (suc k) blocks ss some is = by is.0 is.1 is.2 (on
     last zero none back are = are
     last (suc k) none back are = absurd (omega (arith, none))
 
-    by : (front back : List Subdisk) → ss ≡ front ++ back → AreFresh used disks found front × (sum_by blocks_in front ≡ blocks) → AreFresh used disks (found ++ front) back × ((m : ℕ) → k ≡ suc m → fill blocks (suc m) blocks back ≡ true) → (k ≡ 0 → back ≡ [])
+    by : (front back : List Subdisk) → ss ≡ front ++ back → AreFresh used disks found front × (sum_by subdisk_blocks front ≡ blocks) → AreFresh used disks (found ++ front) back × ((m : ℕ) → k ≡ suc m → fill blocks (suc m) blocks back ≡ true) → (k ≡ 0 → back ≡ [])
         → AreFresh used disks found ss × ((m : ℕ) → suc k ≡ suc m → fill blocks (suc m) blocks ss ≡ true)
     by front back same one rest none = (
       subst (λ (xs : List Subdisk). AreFresh used disks found xs) (sym same) (fresh_join used disks found front back one.0 rest.0),
@@ -76,7 +76,7 @@ columns_fresh used disks found (suc k) blocks ss some is = by is.0 is.1 is.2 (on
             ap (λ (t : Bool). fill blocks (suc j) (if t then 0 else blocks) back) many ∙ more j refl
 
 -- one column of all blocks
-whole_fill : (blocks : ℕ) (ss : List Subdisk) → 0 < blocks → ((k : ℕ) (s : Subdisk) → slice_get ss k ≡ Some s → 0 < s.blocks) → sum_by blocks_in ss ≡ blocks → fill blocks 1 blocks ss ≡ true
+whole_fill : (blocks : ℕ) (ss : List Subdisk) → 0 < blocks → ((k : ℕ) (s : Subdisk) → slice_get ss k ≡ Some s → 0 < s.blocks) → sum_by subdisk_blocks ss ≡ blocks → fill blocks 1 blocks ss ≡ true
 whole_fill blocks ss some each sum = ap (fill blocks 1 blocks) (sym (append-nil ss)) ∙ fill_part blocks 0 blocks ss [] each sum some
 
 abbrev pub columns_of : Shape → ℕ
@@ -100,7 +100,7 @@ column_some want is some = grind (arith, least, some)
 plex_fresh : (want : Shape) (used : List Subdisk) (disks : List DiskEntry) (found ss : List Subdisk) → IsShape want → IsPlex want used disks found ss → AreFresh used disks found ss × (fill (columns_of want) want.ncol (columns_of want) ss ≡ true)
 plex_fresh want used disks found ss shape is = by (cases_lt 0 want.width)
   where
-    whole : want.width ≡ 0 → AreFresh used disks found ss × (sum_by blocks_in ss ≡ want.blocks) → AreFresh used disks found ss × (fill (columns_of want) want.ncol (columns_of want) ss ≡ true)
+    whole : want.width ≡ 0 → AreFresh used disks found ss × (sum_by subdisk_blocks ss ≡ want.blocks) → AreFresh used disks found ss × (fill (columns_of want) want.ncol (columns_of want) ss ≡ true)
     whole none it =
         let test : (want.width == 0) ≡ true = eq-eqb want.width 0 none in (
           it.0,

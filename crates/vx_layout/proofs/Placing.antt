@@ -6,7 +6,7 @@ use Rattle.std.proofs.lemmas.List.Sums.{sum_by-cons}
 use Rattle.std.proofs.lemmas.Option.{slice_get_past, slice_get_read}
 use Rattle.std.proofs.lemmas.Bool.{cases_lt, eq-eqb, eqb-true, leb-true, lt-ltb, ltb-true}
 use Rattle.std.specs.Int.{div_ceil}
-use Rattle.vx_config.specs.Checks.{are_apart, are_placed, blocks_of, blocks_or_none, column_blocks, differ, ends_within, fill, group_or_none, has_logs, has_plexes, has_shape, in_region, is_live, is_sound, is_volume, log_runs, pairwise, plex_fills, plex_runs, preferred_is, runs, volume_runs}
+use Rattle.vx_config.specs.Checks.{are_apart, are_placed, blocks_of, blocks_or_none, column_blocks, differ, ends_within, fill, group_or_none, has_logs, has_plexes, has_shape, in_region, is_live, is_sound, is_volume, log_runs, pairwise, plex_fills, plex_runs, preferred_is, runs, volume_runs, blocks_or}
 use Rattle.vx_config.specs.Configs.{subdisk_count}
 use Rattle.vx_config.specs.declared.config.Config.{Config}
 use Rattle.vx_config.specs.declared.entry.DiskEntry.{DiskEntry}
@@ -14,7 +14,7 @@ use Rattle.vx_config.specs.declared.entry.PlexEntry.{PlexEntry}
 use Rattle.vx_config.specs.declared.entry.Subdisk.{Subdisk}
 use Rattle.vx_config.specs.declared.entry.VolumeEntry.{VolumeEntry}
 use Rattle.vx_config.proofs.FillLemmas.{not-zero}
-use Rattle.vx_layout.specs.Places.{AreApart, HasBlock, InRegion, IsFilled, IsSeat, blocks_in, disk_blocks, blocks_or, has_plex, linear, located, place, place_in, place_or, plex_in}
+use Rattle.vx_layout.specs.Places.{AreApart, HasBlock, InRegion, IsFilled, IsSeat, subdisk_blocks, disk_blocks, has_plex, linear, located, place, place_in, place_or, plex_in}
 use Rattle.vx_layout.proofs.Pairs.{all_at, and_left, and_right, flat_across, flat_part, get_left, in_flat, pairs_at, pairs_left}
 use Rattle.vx_layout.specs.declared.spot.Seat.{Seat}
 use Rattle.vx_layout.specs.declared.spot.Spot.{Spot}
@@ -50,12 +50,12 @@ record At (ss : List Subdisk) (k : ℕ) : Type 0 where
   place : located ss k ≡ (subdisk.disk, subdisk.start + offset)
   number : k ≡ before ss index + offset
 
-at_of : (ss : List Subdisk) (k : ℕ) → k < sum_by blocks_in ss → At ss k
+at_of : (ss : List Subdisk) (k : ℕ) → k < sum_by subdisk_blocks ss → At ss k
 at_of [] k lt = absurd (omega (arith, lt))
 at_of (s ∷ ss) k lt = elim (cases_lt k s.blocks) [
   | inl here ↦ record { number = omega arith; index = 0; subdisk = s; offset = k; there = refl; inside = here; place = ap (λ (b : Bool). if b then (s.disk, s.start + k) else located ss (k - s.blocks)) (lt-ltb k s.blocks here) }
   | inr past ↦
-      let sum : sum_by blocks_in (s ∷ ss) ≡ s.blocks + sum_by blocks_in ss = sum_by-cons blocks_in s ss in
+      let sum : sum_by subdisk_blocks (s ∷ ss) ≡ s.blocks + sum_by subdisk_blocks ss = sum_by-cons subdisk_blocks s ss in
       let it = at_of ss (k - s.blocks) (omega (arith, lt, past, sum)) in
       record {
         number = omega (arith, past, it.number);
@@ -72,7 +72,7 @@ at_of (s ∷ ss) k lt = elim (cases_lt k s.blocks) [
     not_lt m n le = false_from (nat_lt m n) (λ is. let lt : m < n = ltb-true m n is in omega (arith, le, lt))
 
 -- two blocks of one list that have one place are one
-one_in : (ss : List Subdisk) (k l : ℕ) → pairwise are_apart ss ≡ true → k < sum_by blocks_in ss → l < sum_by blocks_in ss → located ss k ≡ located ss l → k ≡ l
+one_in : (ss : List Subdisk) (k l : ℕ) → pairwise are_apart ss ≡ true → k < sum_by subdisk_blocks ss → l < sum_by subdisk_blocks ss → located ss k ≡ located ss l → k ≡ l
 one_in ss k l pairs in_k in_l same =
     let x = at_of ss k in_k in
     let y = at_of ss l in_l in
@@ -94,7 +94,7 @@ one_in ss k l pairs in_k in_l same =
     ]
 
 -- two lists, of which each two subdisks are apart
-none_shared : (ss ts : List Subdisk) (k l : ℕ) → ((i j : ℕ) (s t : Subdisk) → slice_get ss i ≡ Some s → slice_get ts j ≡ Some t → are_apart s t ≡ true) → k < sum_by blocks_in ss → l < sum_by blocks_in ts → located ss k ≡ located ts l → ⊥
+none_shared : (ss ts : List Subdisk) (k l : ℕ) → ((i j : ℕ) (s t : Subdisk) → slice_get ss i ≡ Some s → slice_get ts j ≡ Some t → are_apart s t ≡ true) → k < sum_by subdisk_blocks ss → l < sum_by subdisk_blocks ts → located ss k ≡ located ts l → ⊥
 none_shared ss ts k l apart in_k in_l same =
     let x = at_of ss k in_k in
     let y = at_of ts l in_l in
@@ -110,13 +110,13 @@ module _ (c : Config) (sound : pairwise are_apart (runs c) ≡ true) where
 
   -- one plex
   pub one_plex : (v p k l : ℕ) (x : VolumeEntry) (a : PlexEntry) → slice_get c.volumes v ≡ Some x → slice_get x.plexes p ≡ Some a
-      → k < sum_by blocks_in a.subdisks → l < sum_by blocks_in a.subdisks → located a.subdisks k ≡ located a.subdisks l → k ≡ l
+      → k < sum_by subdisk_blocks a.subdisks → l < sum_by subdisk_blocks a.subdisks → located a.subdisks k ≡ located a.subdisks l → k ≡ l
   one_plex v p k l x a at_x at_a in_k in_l same =
       one_in a.subdisks k l (flat_part plex_runs are_apart x.plexes p a (pairs_left are_apart (flat_map plex_runs x.plexes) (log_runs x.drl ++ log_runs x.fmr) (volume_pairs v x at_x)) at_a) in_k in_l same
 
   -- two plexes of one volume
   pub two_plexes : (v p q k l : ℕ) (x : VolumeEntry) (a b : PlexEntry) → p < q → slice_get c.volumes v ≡ Some x → slice_get x.plexes p ≡ Some a → slice_get x.plexes q ≡ Some b
-      → k < sum_by blocks_in a.subdisks → l < sum_by blocks_in b.subdisks → located a.subdisks k ≡ located b.subdisks l → ⊥
+      → k < sum_by subdisk_blocks a.subdisks → l < sum_by subdisk_blocks b.subdisks → located a.subdisks k ≡ located b.subdisks l → ⊥
   two_plexes v p q k l x a b lt at_x at_a at_b in_k in_l same =
       none_shared a.subdisks b.subdisks k l
       (λ i j s t at_s at_t. flat_across plex_runs are_apart x.plexes p q i j a b s t (pairs_left are_apart (flat_map plex_runs x.plexes) (log_runs x.drl ++ log_runs x.fmr) (volume_pairs v x at_x)) lt at_a at_b at_s at_t)
@@ -128,7 +128,7 @@ module _ (c : Config) (sound : pairwise are_apart (runs c) ≡ true) where
 
   -- plexes of two volumes
   pub two_volumes : (v w p q k l : ℕ) (x y : VolumeEntry) (a b : PlexEntry) → v < w → slice_get c.volumes v ≡ Some x → slice_get c.volumes w ≡ Some y → slice_get x.plexes p ≡ Some a → slice_get y.plexes q ≡ Some b
-      → k < sum_by blocks_in a.subdisks → l < sum_by blocks_in b.subdisks → located a.subdisks k ≡ located b.subdisks l → ⊥
+      → k < sum_by subdisk_blocks a.subdisks → l < sum_by subdisk_blocks b.subdisks → located a.subdisks k ≡ located b.subdisks l → ⊥
   unfolding runs
   two_volumes v w p q k l x y a b lt at_x at_y at_a at_b in_k in_l same =
       none_shared a.subdisks b.subdisks k l
@@ -177,11 +177,11 @@ filled x p a is at =
     times m n = omega arith
 
 -- a block of the volume is one of the plex's subdisks
-pub linear_within : (x : VolumeEntry) (a : PlexEntry) (b : ℕ) → IsFilled x a → b < x.blocks → linear (column_blocks x) x.ncol x.width b < sum_by blocks_in a.subdisks
+pub linear_within : (x : VolumeEntry) (a : PlexEntry) (b : ℕ) → IsFilled x a → b < x.blocks → linear (column_blocks x) x.ncol x.width b < sum_by subdisk_blocks a.subdisks
 unfolding column_blocks
 linear_within x a b is lt = by (cases_lt 0 x.width)
   where
-    by : (0 < x.width) ⊎ (x.width ≤ 0) → linear (column_blocks x) x.ncol x.width b < sum_by blocks_in a.subdisks
+    by : (0 < x.width) ⊎ (x.width ≤ 0) → linear (column_blocks x) x.ncol x.width b < sum_by subdisk_blocks a.subdisks
     by (inl some) =
         let column : column_blocks x ≡ div_ceil x.blocks (x.ncol * x.width) * x.width = ap (λ (t : Bool). if t then x.blocks else div_ceil x.blocks (x.ncol * x.width) * x.width) (not-zero x.width (λ none. omega (arith, some, none))) in
         omega (arith, linear_below x.blocks x.ncol x.width (column_blocks x) b some is.columns column lt, is.sum)
@@ -218,7 +218,7 @@ record Part (c : Config) (v p b : ℕ) : Type 0 where
   is_filled : IsFilled volume plex
   block : b < volume.blocks
 
-within : (c : Config) (v p b : ℕ) (x : Part c v p b) → linear (column_blocks x.volume) x.volume.ncol x.volume.width b < sum_by blocks_in x.plex.subdisks
+within : (c : Config) (v p b : ℕ) (x : Part c v p b) → linear (column_blocks x.volume) x.volume.ncol x.volume.width b < sum_by subdisk_blocks x.plex.subdisks
 within c v p b x = linear_within x.volume x.plex b x.is_filled x.block
 
 -- the subdisk of a plex lies in its disk's public region

@@ -6,8 +6,8 @@ use Rattle.vx_config.specs.declared.config.Config.{Config}
 use Rattle.vx_config.specs.declared.entry.DiskEntry.{DiskEntry}
 use Rattle.vx_config.specs.declared.entry.Subdisk.{Subdisk}
 use Rattle.vx_config.specs.Checks.{runs}
-use Rattle.vx_layout.specs.Space.{AreLogs, ArePlexes, IsFound, IsPlex, IsShort, NoLog, NoPlex, flat}
-use Rattle.vx_layout.specs.Steps.{AddsPlex, Ends, Placed, Placing, PlexesShort}
+use Rattle.vx_layout.specs.Space.{AreLogs, ArePlexes, IsFound, IsPlex, IsSpaceShort, NoLog, NoPlex, flat}
+use Rattle.vx_layout.specs.Steps.{AddsPlex, StepEnds, Placed, Placing, PlexesShort}
 use Rattle.vx_layout.specs.declared.shape.Found.{Found}
 use Rattle.vx_layout.specs.declared.shape.Shape.{Shape}
 use Rattle.vx_layout.specs.declared.short.Short.{Short}
@@ -64,7 +64,7 @@ module _ (c : Config) (want : Shape) (used slice : List Subdisk) (disks : List D
   plexes_of : (plexes : List (List Subdisk)) → ArePlexes want slice disks [] plexes → ArePlexes want (runs c) c.disks [] plexes
   plexes_of plexes are = subst (λ (d : List DiskEntry). ArePlexes want (runs c) d [] plexes) disks_is (subst (λ (u : List Subdisk). ArePlexes want u disks [] plexes) same_used are)
 
-  pub short_of_plexes : (need have : ℕ) → PlexesShort want slice disks need have → IsShort c want need have
+  pub short_of_plexes : (need have : ℕ) → PlexesShort want slice disks need have → IsSpaceShort c want need have
   short_of_plexes need have short = record {
     plexes = short.plexes;
     are = plexes_of short.plexes short.are;
@@ -75,7 +75,7 @@ module _ (c : Config) (want : Shape) (used slice : List Subdisk) (disks : List D
     all_so : all ≡ runs c ++ flat plexes
     all_so = all_is ∙ ap (λ (f : List Subdisk). used ++ f) (found_is ∙ placed.is) ∙ ap (λ (u : List Subdisk). u ++ flat plexes) used_is
 
-    pub short_of_logs : (need have : ℕ) → NoLog want all disks need have → IsShort c want need have
+    pub short_of_logs : (need have : ℕ) → NoLog want all disks need have → IsSpaceShort c want need have
     short_of_logs need have short = record {
       plexes = plexes;
       are = plexes_of plexes placed.are;
@@ -92,11 +92,11 @@ module _ (c : Config) (want : Shape) (used slice : List Subdisk) (disks : List D
 
 -- a plex that has no place ends the search for plexes
 pub placing_err : {T : Type 0} (done : T → Type 0) (want : Shape) (used : List Subdisk) (disks : List DiskEntry) (placed : ℕ) (found next : List Subdisk) (plexes : List (List Subdisk)) (s : Short) (r : Result T Short) → placed < want.mirrors → Placing want used disks placed found plexes → r ≡ Err s
-    → Ends {T = Unit {0}} (λ _. AddsPlex want used disks found next) (NoPlex want used disks found) (Err s) → Ends done (PlexesShort want used disks) r
+    → StepEnds {T = Unit {0}} (λ _. AddsPlex want used disks found next) (NoPlex want used disks found) (Err s) → StepEnds done (PlexesShort want used disks) r
 placing_err {T} done want used disks placed found next plexes s r lt is same short =
-    subst (λ (x : Result T Short). Ends done (PlexesShort want used disks) x) (sym same) (by s short)
+    subst (λ (x : Result T Short). StepEnds done (PlexesShort want used disks) x) (sym same) (by s short)
   where
-    by : (s : Short) → Ends {T = Unit {0}} (λ _. AddsPlex want used disks found next) (NoPlex want used disks found) (Err s) → Ends {T = T} done (PlexesShort want used disks) (Err s)
+    by : (s : Short) → StepEnds {T = Unit {0}} (λ _. AddsPlex want used disks found next) (NoPlex want used disks found) (Err s) → StepEnds {T = T} done (PlexesShort want used disks) (Err s)
     by (Space need have) short = placing_short want used disks placed need have found plexes lt is short
     by OutOfMemory short = short
 

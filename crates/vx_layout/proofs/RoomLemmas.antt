@@ -11,15 +11,15 @@ use Rattle.vx_config.specs.declared.entry.DiskEntry.{DiskEntry}
 use Rattle.vx_config.specs.declared.entry.Subdisk.{Subdisk}
 use Rattle.vx_layout.specs.Places.{disk_blocks}
 use Rattle.vx_layout.specs.Free.{AddsLowest, AreLowest, free_blocks, free_in}
-use Rattle.vx_layout.specs.Space.{AreColumns, AreSpread, HasNone, IsFirst, IsGreatest, IsShape, NoPlex, OnOne, OnSeveral, column_of, is_on, room, room_sum}
-use Rattle.vx_layout.specs.Steps.{AddsColumn, AddsColumns, AddsPlex, AddsSpread, AddsWhole, AreRooms, ColumnShort, Columning, ColumnsShort, Ends, Spreading, WholeShort}
+use Rattle.vx_layout.specs.Space.{AreColumns, AreSpread, HasNone, IsFirst, IsGreatest, IsShape, NoPlex, OnOne, OnSeveral, column_of, is_on, disk_room, room_sum}
+use Rattle.vx_layout.specs.Steps.{AddsColumn, AddsColumns, AddsPlex, AddsSpread, AddsWhole, AreRooms, ColumnShort, Columning, ColumnsShort, StepEnds, Spreading, WholeShort}
 use Rattle.vx_layout.specs.declared.shape.Shape.{Shape}
 use Rattle.vx_layout.specs.declared.short.Short.{Short}
 use Rattle.vx_layout.specs.declared.short.Short.TheVariants.{OutOfMemory, Space}
 
 -- what is allowed is free
-pub room_free : (used : List Subdisk) (disks : List DiskEntry) (found : List Subdisk) (disk end n : ℕ) → end ≡ disk_blocks disks disk → n ≤ room used disks found disk → n ≤ free_in used disk 512 (end - 512)
-unfolding room free_blocks
+pub room_free : (used : List Subdisk) (disks : List DiskEntry) (found : List Subdisk) (disk end n : ℕ) → end ≡ disk_blocks disks disk → n ≤ disk_room used disks found disk → n ≤ free_in used disk 512 (end - 512)
+unfolding disk_room free_blocks
 room_free used disks found disk end n is le = by (list_any (is_on disk) found) le
   where
     by : (t : Bool) → n ≤ (if t then 0 else free_in used disk 512 (disk_blocks disks disk - 512)) → n ≤ free_in used disk 512 (end - 512)
@@ -42,33 +42,33 @@ most_more xs d most new lt so_far is = (each, some (cases_lt most (get_or xs d 0
 
 -- ---- the rooms of a list are those of the disks
 
-module _ (room : ℕ → ℕ) (xs : List ℕ) (are : AreRooms room 8 xs) where
-  pub first_room : (n d : ℕ) → IsFirst (slice_index xs) n d → IsFirst room n d
+module _ (disk_room : ℕ → ℕ) (xs : List ℕ) (are : AreRooms disk_room 8 xs) where
+  pub first_room : (n d : ℕ) → IsFirst (slice_index xs) n d → IsFirst disk_room n d
   first_room n d is = record { inside = is.inside; fits = omega (arith, is.fits, are.each d is.inside); first = λ e lt. omega (arith, is.first e lt, are.each e (omega (arith, lt, is.inside))) }
 
-  pub none_room : (n : ℕ) → HasNone (slice_index xs) n → HasNone room n
+  pub none_room : (n : ℕ) → HasNone (slice_index xs) n → HasNone disk_room n
   none_room n is = record { none = λ e lt. omega (arith, is.none e lt, are.each e lt) }
 
-  pub most_room : (n : ℕ) → IsGreatest (slice_index xs) n → IsGreatest room n
+  pub most_room : (n : ℕ) → IsGreatest (slice_index xs) n → IsGreatest disk_room n
   most_room n is = record { each = λ e lt. omega (arith, is.each e lt, are.each e lt); disk = is.disk; inside = is.inside; is = omega (arith, is.is, are.each is.disk is.inside) }
 
-  sum_from : (d n : ℕ) → d + n ≤ 8 → room_sum (slice_index xs) d n ≡ room_sum room d n
+  sum_from : (d n : ℕ) → d + n ≤ 8 → room_sum (slice_index xs) d n ≡ room_sum disk_room d n
   sum_from d zero le = refl
   sum_from d (suc n) le = let here = are.each d (omega (arith, le)) in let rest = sum_from (d + 1) n (omega (arith, le)) in omega (arith, here, rest)
 
-  pub sum_room : room_sum (slice_index xs) 0 8 ≡ room_sum room 0 8
+  pub sum_room : room_sum (slice_index xs) 0 8 ≡ room_sum disk_room 0 8
   sum_room = sum_from 0 8 (omega arith)
 
 -- ---- a plex over several disks
 
-pub spread_start : (used : List Subdisk) (disks : List DiskEntry) (room : ℕ → ℕ) (blocks : ℕ) (old : List Subdisk) → blocks ≤ room_sum room 0 8 → Spreading used disks room 0 blocks blocks old old
-spread_start used disks room blocks old enough = record { done = []; is = sym (append-nil old); behind = 8; count = omega arith; enough = enough; rest = λ ss are. are }
+pub spread_start : (used : List Subdisk) (disks : List DiskEntry) (disk_room : ℕ → ℕ) (blocks : ℕ) (old : List Subdisk) → blocks ≤ room_sum disk_room 0 8 → Spreading used disks disk_room 0 blocks blocks old old
+spread_start used disks disk_room blocks old enough = record { done = []; is = sym (append-nil old); behind = 8; count = omega arith; enough = enough; rest = λ ss are. are }
 
-pub spread_more : (used : List Subdisk) (disks : List DiskEntry) (room : ℕ → ℕ) (disk end blocks left part : ℕ) (old new next : List Subdisk) → disk < 8 → Spreading used disks room disk blocks left old new → end ≡ disk_blocks disks disk → part ≡ min left (room disk)
-    → AddsLowest used disk end part new next → Spreading used disks room (disk + 1) blocks (left - part) old next
-spread_more used disks room disk end blocks left part old new next lt is end_is part_is adds = by is.behind is.count is.enough is.rest
+pub spread_more : (used : List Subdisk) (disks : List DiskEntry) (disk_room : ℕ → ℕ) (disk end blocks left part : ℕ) (old new next : List Subdisk) → disk < 8 → Spreading used disks disk_room disk blocks left old new → end ≡ disk_blocks disks disk → part ≡ min left (disk_room disk)
+    → AddsLowest used disk end part new next → Spreading used disks disk_room (disk + 1) blocks (left - part) old next
+spread_more used disks disk_room disk end blocks left part old new next lt is end_is part_is adds = by is.behind is.count is.enough is.rest
   where
-    by : (behind : ℕ) → disk + behind ≡ 8 → left ≤ room_sum room disk behind → ((ss : List Subdisk) → AreSpread used disks room disk behind left ss → AreSpread used disks room 0 8 blocks (is.done ++ ss)) → Spreading used disks room (disk + 1) blocks (left - part) old next
+    by : (behind : ℕ) → disk + behind ≡ 8 → left ≤ room_sum disk_room disk behind → ((ss : List Subdisk) → AreSpread used disks disk_room disk behind left ss → AreSpread used disks disk_room 0 8 blocks (is.done ++ ss)) → Spreading used disks disk_room (disk + 1) blocks (left - part) old next
     by zero count enough rest = absurd (omega (arith, lt, count))
     by (suc n) count enough rest = record {
       done = is.done ++ adds.runs;
@@ -76,45 +76,45 @@ spread_more used disks room disk end blocks left part old new next lt is end_is 
       behind = n;
       count = omega (arith, count);
       enough = omega (arith, enough, part_is);
-      rest = λ ss more. subst (λ (xs : List Subdisk). AreSpread used disks room 0 8 blocks xs) (sym (append_assoc is.done adds.runs ss))
-          (rest (adds.runs ++ ss) (adds.runs, ss, refl, subst (λ (e : ℕ). AreLowest used disk 512 e (min left (room disk)) adds.runs) end_is (subst (λ (k : ℕ). AreLowest used disk 512 end k adds.runs) part_is adds.are), subst (λ (k : ℕ). AreSpread used disks room (disk + 1) n (left - k) ss) part_is more));
+      rest = λ ss more. subst (λ (xs : List Subdisk). AreSpread used disks disk_room 0 8 blocks xs) (sym (append_assoc is.done adds.runs ss))
+          (rest (adds.runs ++ ss) (adds.runs, ss, refl, subst (λ (e : ℕ). AreLowest used disk 512 e (min left (disk_room disk)) adds.runs) end_is (subst (λ (k : ℕ). AreLowest used disk 512 end k adds.runs) part_is adds.are), subst (λ (k : ℕ). AreSpread used disks disk_room (disk + 1) n (left - k) ss) part_is more));
     }
 
-pub spread_end : (used : List Subdisk) (disks : List DiskEntry) (room : ℕ → ℕ) (disk blocks left : ℕ) (old new : List Subdisk) → 8 ≤ disk → Spreading used disks room disk blocks left old new → AddsSpread used disks room blocks old new
-spread_end used disks room disk blocks left old new le is = by is.behind is.count is.enough is.rest
+pub spread_end : (used : List Subdisk) (disks : List DiskEntry) (disk_room : ℕ → ℕ) (disk blocks left : ℕ) (old new : List Subdisk) → 8 ≤ disk → Spreading used disks disk_room disk blocks left old new → AddsSpread used disks disk_room blocks old new
+spread_end used disks disk_room disk blocks left old new le is = by is.behind is.count is.enough is.rest
   where
-    by : (behind : ℕ) → disk + behind ≡ 8 → left ≤ room_sum room disk behind → ((ss : List Subdisk) → AreSpread used disks room disk behind left ss → AreSpread used disks room 0 8 blocks (is.done ++ ss)) → AddsSpread used disks room blocks old new
-    by zero count enough rest = record { runs = is.done; are = subst (λ (xs : List Subdisk). AreSpread used disks room 0 8 blocks xs) (append-nil is.done) (rest [] (let none : left ≡ 0 = omega (arith, enough) in none, refl)); is = is.is }
+    by : (behind : ℕ) → disk + behind ≡ 8 → left ≤ room_sum disk_room disk behind → ((ss : List Subdisk) → AreSpread used disks disk_room disk behind left ss → AreSpread used disks disk_room 0 8 blocks (is.done ++ ss)) → AddsSpread used disks disk_room blocks old new
+    by zero count enough rest = record { runs = is.done; are = subst (λ (xs : List Subdisk). AreSpread used disks disk_room 0 8 blocks xs) (append-nil is.done) (rest [] (let none : left ≡ 0 = omega (arith, enough) in none, refl)); is = is.is }
     by (suc n) count enough rest = absurd (omega (arith, le, count))
 
-pub from_one : (used : List Subdisk) (disks : List DiskEntry) (xs : List ℕ) (disk end blocks : ℕ) (found old new : List Subdisk) → found ≡ old → AreRooms (room used disks found) 8 xs → IsFirst (slice_index xs) blocks disk → end ≡ disk_blocks disks disk → AddsLowest used disk end blocks old new
+pub from_one : (used : List Subdisk) (disks : List DiskEntry) (xs : List ℕ) (disk end blocks : ℕ) (found old new : List Subdisk) → found ≡ old → AreRooms (disk_room used disks found) 8 xs → IsFirst (slice_index xs) blocks disk → end ≡ disk_blocks disks disk → AddsLowest used disk end blocks old new
     → AddsColumn used disks blocks old new
 from_one used disks xs disk end blocks found old new same are first end_is adds = record {
   runs = adds.runs;
   are = record {
     disk = disk;
-    first = first_room (room used disks old) xs (subst (λ (f : List Subdisk). AreRooms (room used disks f) 8 xs) same are) blocks disk first;
+    first = first_room (disk_room used disks old) xs (subst (λ (f : List Subdisk). AreRooms (disk_room used disks f) 8 xs) same are) blocks disk first;
     are = subst (λ (e : ℕ). AreLowest used disk 512 e blocks adds.runs) end_is adds.are;
   };
   is = adds.is;
 }
 
-pub one_fits : (used : List Subdisk) (disks : List DiskEntry) (xs : List ℕ) (disk end blocks : ℕ) (found : List Subdisk) → AreRooms (room used disks found) 8 xs → IsFirst (slice_index xs) blocks disk → end ≡ disk_blocks disks disk → blocks ≤ free_in used disk 512 (end - 512)
-one_fits used disks xs disk end blocks found are first end_is = room_free used disks found disk end blocks end_is (first_room (room used disks found) xs are blocks disk first).fits
+pub one_fits : (used : List Subdisk) (disks : List DiskEntry) (xs : List ℕ) (disk end blocks : ℕ) (found : List Subdisk) → AreRooms (disk_room used disks found) 8 xs → IsFirst (slice_index xs) blocks disk → end ≡ disk_blocks disks disk → blocks ≤ free_in used disk 512 (end - 512)
+one_fits used disks xs disk end blocks found are first end_is = room_free used disks found disk end blocks end_is (first_room (disk_room used disks found) xs are blocks disk first).fits
 
 pub whole_one : (used : List Subdisk) (disks : List DiskEntry) (blocks : ℕ) (old new : List Subdisk) → AddsColumn used disks blocks old new → AddsWhole used disks blocks old new
 whole_one used disks blocks old new adds = record { runs = adds.runs; are = inl adds.are; is = adds.is }
 
-pub whole_several : (used : List Subdisk) (disks : List DiskEntry) (blocks : ℕ) (old new : List Subdisk) → HasNone (room used disks old) blocks → blocks ≤ room_sum (room used disks old) 0 8 → AddsSpread used disks (room used disks old) blocks old new → AddsWhole used disks blocks old new
+pub whole_several : (used : List Subdisk) (disks : List DiskEntry) (blocks : ℕ) (old new : List Subdisk) → HasNone (disk_room used disks old) blocks → blocks ≤ room_sum (disk_room used disks old) 0 8 → AddsSpread used disks (disk_room used disks old) blocks old new → AddsWhole used disks blocks old new
 whole_several used disks blocks old new none enough adds = record { runs = adds.runs; are = inr (record { none = none; all = enough; are = adds.are }); is = adds.is }
 
-pub rooms_same : (used : List Subdisk) (disks : List DiskEntry) (xs : List ℕ) (found old : List Subdisk) → found ≡ old → AreRooms (room used disks found) 8 xs → AreRooms (room used disks old) 8 xs
-rooms_same used disks xs found old same are = subst (λ (f : List Subdisk). AreRooms (room used disks f) 8 xs) same are
+pub rooms_same : (used : List Subdisk) (disks : List DiskEntry) (xs : List ℕ) (found old : List Subdisk) → found ≡ old → AreRooms (disk_room used disks found) 8 xs → AreRooms (disk_room used disks old) 8 xs
+rooms_same used disks xs found old same are = subst (λ (f : List Subdisk). AreRooms (disk_room used disks f) 8 xs) same are
 
-pub column_short : (used : List Subdisk) (disks : List DiskEntry) (xs : List ℕ) (blocks have : ℕ) (found old : List Subdisk) → found ≡ old → AreRooms (room used disks found) 8 xs → HasNone (slice_index xs) blocks → IsGreatest (slice_index xs) have → ColumnShort used disks blocks old blocks have
+pub column_short : (used : List Subdisk) (disks : List DiskEntry) (xs : List ℕ) (blocks have : ℕ) (found old : List Subdisk) → found ≡ old → AreRooms (disk_room used disks found) 8 xs → HasNone (slice_index xs) blocks → IsGreatest (slice_index xs) have → ColumnShort used disks blocks old blocks have
 column_short used disks xs blocks have found old same are none most =
     let rooms = rooms_same used disks xs found old same are in
-    record { is_need = refl; none = none_room (room used disks old) xs rooms blocks none; is_have = most_room (room used disks old) xs rooms have most }
+    record { is_need = refl; none = none_room (disk_room used disks old) xs rooms blocks none; is_have = most_room (disk_room used disks old) xs rooms have most }
 
 -- ---- columns
 
@@ -157,7 +157,7 @@ columns_short used disks ncol blocks placed need have old new lt is short = reco
 -- ---- a plex of either kind
 
 pub whole_plex : (want : Shape) (used : List Subdisk) (disks : List DiskEntry) (blocks : ℕ) (old new : List Subdisk) (r : Result (Unit {0}) Short) → want.width ≡ 0 → blocks ≡ want.blocks
-    → Ends (λ _. AddsWhole used disks blocks old new) (WholeShort used disks blocks old) r → Ends (λ _. AddsPlex want used disks old new) (NoPlex want used disks old) r
+    → StepEnds (λ _. AddsWhole used disks blocks old new) (WholeShort used disks blocks old) r → StepEnds (λ _. AddsPlex want used disks old new) (NoPlex want used disks old) r
 whole_plex want used disks blocks old new (Ok x) none same adds = record {
   runs = adds.runs;
   are = record { concatenated = λ _. subst (λ (n : ℕ). OnOne used disks old n adds.runs ⊎ OnSeveral used disks old n adds.runs) same adds.are; striped = λ some. absurd (omega (arith, none, some)) };
@@ -170,7 +170,7 @@ whole_plex want used disks blocks old new (Err (Space need have)) none same shor
 whole_plex want used disks blocks old new (Err OutOfMemory) none same short = short
 
 pub columns_plex : (want : Shape) (used : List Subdisk) (disks : List DiskEntry) (blocks : ℕ) (old new : List Subdisk) (r : Result (Unit {0}) Short) → (want.width ≡ 0 → ⊥) → blocks ≡ column_of want
-    → Ends (λ _. AddsColumns used disks want.ncol blocks old new) (ColumnsShort used disks want.ncol blocks old) r → Ends (λ _. AddsPlex want used disks old new) (NoPlex want used disks old) r
+    → StepEnds (λ _. AddsColumns used disks want.ncol blocks old new) (ColumnsShort used disks want.ncol blocks old) r → StepEnds (λ _. AddsPlex want used disks old new) (NoPlex want used disks old) r
 columns_plex want used disks blocks old new (Ok x) some same adds = record {
   runs = adds.runs;
   are = record { concatenated = λ none. absurd (some none); striped = λ _. subst (λ (n : ℕ). AreColumns used disks old want.ncol n adds.runs) same adds.are };
@@ -184,7 +184,7 @@ columns_plex want used disks blocks old new (Err (Space need have)) some same sh
     columns = short.columns;
     are = subst (λ (n : ℕ). AreColumns used disks old short.placed n short.columns) same short.are;
     is_need = short.short.is_need ∙ same;
-    none = subst (λ (n : ℕ). HasNone (room used disks (old ++ short.columns)) n) same short.short.none;
+    none = subst (λ (n : ℕ). HasNone (disk_room used disks (old ++ short.columns)) n) same short.short.none;
     is_have = short.short.is_have;
   };
 }
@@ -213,10 +213,10 @@ column_fits want units ncol width' width is some ncol_is width'_is units_is widt
 
 -- a column that has no place ends the search for columns
 pub columns_err : (used : List Subdisk) (disks : List DiskEntry) (ncol blocks placed : ℕ) (old new next : List Subdisk) (s : Short) (r : Result (Unit {0}) Short) → placed < ncol → Columning used disks blocks placed old new → r ≡ Err s
-    → Ends {T = Unit {0}} (λ _. AddsColumn used disks blocks new next) (ColumnShort used disks blocks new) (Err s) → Ends {T = Unit {0}} (λ _. AddsColumns used disks ncol blocks old next) (ColumnsShort used disks ncol blocks old) r
+    → StepEnds {T = Unit {0}} (λ _. AddsColumn used disks blocks new next) (ColumnShort used disks blocks new) (Err s) → StepEnds {T = Unit {0}} (λ _. AddsColumns used disks ncol blocks old next) (ColumnsShort used disks ncol blocks old) r
 columns_err used disks ncol blocks placed old new next s r lt is same short =
-    subst (λ (x : Result (Unit {0}) Short). Ends {T = Unit {0}} (λ _. AddsColumns used disks ncol blocks old next) (ColumnsShort used disks ncol blocks old) x) (sym same) (by s short)
+    subst (λ (x : Result (Unit {0}) Short). StepEnds {T = Unit {0}} (λ _. AddsColumns used disks ncol blocks old next) (ColumnsShort used disks ncol blocks old) x) (sym same) (by s short)
   where
-    by : (s : Short) → Ends {T = Unit {0}} (λ _. AddsColumn used disks blocks new next) (ColumnShort used disks blocks new) (Err s) → Ends {T = Unit {0}} (λ _. AddsColumns used disks ncol blocks old next) (ColumnsShort used disks ncol blocks old) (Err s)
+    by : (s : Short) → StepEnds {T = Unit {0}} (λ _. AddsColumn used disks blocks new next) (ColumnShort used disks blocks new) (Err s) → StepEnds {T = Unit {0}} (λ _. AddsColumns used disks ncol blocks old next) (ColumnsShort used disks ncol blocks old) (Err s)
     by (Space need have) short = columns_short used disks ncol blocks placed need have old new lt is short
     by OutOfMemory short = short

@@ -16,7 +16,7 @@ use Rattle.vx_config.specs.declared.entry.Subdisk.{Subdisk}
 use Rattle.vx_config.specs.declared.entry.VolumeEntry.{VolumeEntry}
 use Rattle.vx_config.specs.Checks.{are_apart, are_placed, blocks_of, blocks_or_none, column_blocks, differ, fill, group_or_none, has_logs, has_plexes, has_shape, in_region, is_live, is_sound, is_volume, log_has, log_runs, map_blocks, map_blocks_of, other_than, pairwise, plex_fills, plex_runs, preferred_is, runs, volume_runs}
 use Rattle.vx_config.specs.Configs.{subdisk_count}
-use Rattle.vx_layout.specs.Made.{IsMade, StaysSound, made_plex, with_volume}
+use Rattle.vx_layout.specs.Made.{IsVolumeMade, StaysSound, made_plex, with_volume}
 use Rattle.vx_layout.specs.Space.{IsShape, flat}
 use Rattle.vx_layout.specs.declared.shape.Found.{Found}
 use Rattle.vx_layout.specs.declared.shape.Shape.{Shape}
@@ -82,7 +82,7 @@ runs_more : (c : Config) (v : VolumeEntry) → runs (with_volume c v) ≡ runs c
 unfolding runs
 runs_more c v = flat_map-append volume_runs c.volumes (v ∷ []) ∙ ap (λ (xs : List Subdisk). flat_map volume_runs c.volumes ++ xs) (flat_map-cons volume_runs v [] ∙ append-nil (volume_runs v))
 
-module _ (want : Shape) (found : Found) (v : VolumeEntry) (made : IsMade want found v) where
+module _ (want : Shape) (found : Found) (v : VolumeEntry) (made : IsVolumeMade want found v) where
   made_runs : volume_runs v ≡ flat found.plexes.items ++ found.logs
   made_runs = ap (λ (ps : List PlexEntry). flat_map plex_runs ps ++ (log_runs v.drl ++ log_runs v.fmr)) made.plexes ∙ ap (λ (xs : List Subdisk). xs ++ (log_runs v.drl ++ log_runs v.fmr)) (flat_made found.plexes.items) ∙ ap (λ (xs : List Subdisk). flat found.plexes.items ++ xs) made.logs
 

@@ -10,7 +10,7 @@ use Rattle.std.proofs.Math.Nat.{div-div-eq-div-mul, div-lt_iff_lt-mul, mod-lt, m
 use Rattle.vx_config.specs.Checks.{fill, next_room}
 use Rattle.vx_config.specs.declared.entry.Subdisk.{Subdisk}
 use Rattle.vx_config.proofs.FillLemmas.{not-zero}
-use Rattle.vx_layout.specs.Places.{blocks_in, linear}
+use Rattle.vx_layout.specs.Places.{subdisk_blocks, linear}
 use Rattle.vx_layout.proofs.Pairs.{and_left, and_right}
 
 pub striped : (column ncol w b : ℕ) → 0 < w → linear column ncol w b ≡ ((b / w) % ncol) * column + ((b / w) / ncol) * w + b % w
@@ -70,20 +70,20 @@ linear_one blocks ncol w column b d some columns is lt lt' same =
 
 -- ---- subdisks that fill so many columns have as many blocks
 
-pub fill_none : (column : ℕ) (ss : List Subdisk) → fill column 0 0 ss ≡ true → sum_by blocks_in ss ≡ 0
+pub fill_none : (column : ℕ) (ss : List Subdisk) → fill column 0 0 ss ≡ true → sum_by subdisk_blocks ss ≡ 0
 fill_none column [] is = refl
 fill_none column (s ∷ ss) is =
     let le : s.blocks ≤ 0 = leb-true s.blocks 0 (and_left (nat_le s.blocks 0) _ is) in
     let zero_is : s.blocks ≡ 0 = omega (arith, le) in
     let test : (s.blocks == 0) ≡ true = eq-eqb s.blocks 0 zero_is in
     let rest : fill column 0 0 ss ≡ true = by (s.blocks == 0) _ _ test (and_right (nat_le s.blocks 0) _ is) in
-    omega (arith, sum_by-cons blocks_in s ss, zero_is, fill_none column ss rest)
+    omega (arith, sum_by-cons subdisk_blocks s ss, zero_is, fill_none column ss rest)
   where
     by : (t a b : Bool) → t ≡ true → (if t then a else b) ≡ true → a ≡ true
     by true a b is e = e
     by false a b is e = absurd (let clash : false ≡ true = is in cc)
 
-pub fill_sum : (column m room : ℕ) (ss : List Subdisk) → room ≤ column → fill column (suc m) room ss ≡ true → sum_by blocks_in ss ≡ m * column + room
+pub fill_sum : (column m room : ℕ) (ss : List Subdisk) → room ≤ column → fill column (suc m) room ss ≡ true → sum_by subdisk_blocks ss ≡ m * column + room
 fill_sum column m room [] le is = by (column == 0) refl (ap (λ (t : Bool). t || column == 0) (sym (not-zero (suc m) (λ none. omega (arith, none)))) ∙ is)
   where
     by : (t : Bool) → (column == 0) ≡ t → t ≡ true → 0 ≡ m * column + room
@@ -94,7 +94,7 @@ fill_sum column m room (s ∷ ss) le is = by (s.blocks == room) refl (and_right 
     fits : s.blocks ≤ room
     fits = leb-true s.blocks room (and_left (nat_le s.blocks room) _ is)
 
-    next : (n : ℕ) → ((k : ℕ) → fill column (suc k) column ss ≡ true → sum_by blocks_in ss ≡ k * column + column) → fill column (suc n - 1) (next_room column (suc n)) ss ≡ true → sum_by blocks_in ss ≡ n * column
+    next : (n : ℕ) → ((k : ℕ) → fill column (suc k) column ss ≡ true → sum_by subdisk_blocks ss ≡ k * column + column) → fill column (suc n - 1) (next_room column (suc n)) ss ≡ true → sum_by subdisk_blocks ss ≡ n * column
     next zero again rest = let none = fill_none column ss rest in omega (arith, none)
     next (suc k) again rest =
         let down : suc (suc k) - 1 ≡ suc k = omega arith in
@@ -103,7 +103,7 @@ fill_sum column m room (s ∷ ss) le is = by (s.blocks == room) refl (and_right 
         let more : fill column (suc k) column ss ≡ true = subst (λ (n : ℕ). fill column n column ss ≡ true) down (subst (λ (n : ℕ). fill column (suc (suc k) - 1) n ss ≡ true) room_is rest) in
         omega (arith, again k more)
 
-    by : (b : Bool) → (s.blocks == room) ≡ b → (if b then fill column (suc m - 1) (next_room column (suc m)) ss else fill column (suc m) (room - s.blocks) ss) ≡ true → (fill column (suc m) (room - s.blocks) ss ≡ true → sum_by blocks_in ss ≡ m * column + (room - s.blocks))
-        → (fill column (suc m - 1) (next_room column (suc m)) ss ≡ true → sum_by blocks_in ss ≡ m * column) → sum_by blocks_in (s ∷ ss) ≡ m * column + room
-    by true same rest more end = let here : s.blocks ≡ room = eqb-true s.blocks room same in omega (arith, sum_by-cons blocks_in s ss, here, end rest)
-    by false not rest more end = omega (arith, sum_by-cons blocks_in s ss, fits, more rest)
+    by : (b : Bool) → (s.blocks == room) ≡ b → (if b then fill column (suc m - 1) (next_room column (suc m)) ss else fill column (suc m) (room - s.blocks) ss) ≡ true → (fill column (suc m) (room - s.blocks) ss ≡ true → sum_by subdisk_blocks ss ≡ m * column + (room - s.blocks))
+        → (fill column (suc m - 1) (next_room column (suc m)) ss ≡ true → sum_by subdisk_blocks ss ≡ m * column) → sum_by subdisk_blocks (s ∷ ss) ≡ m * column + room
+    by true same rest more end = let here : s.blocks ≡ room = eqb-true s.blocks room same in omega (arith, sum_by-cons subdisk_blocks s ss, here, end rest)
+    by false not rest more end = omega (arith, sum_by-cons subdisk_blocks s ss, fits, more rest)

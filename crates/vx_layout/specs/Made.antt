@@ -17,7 +17,7 @@ abbrev pub made_plex : List Subdisk → PlexEntry
 made_plex ss = record { state = Active; whole = false; subdisks = ss }
 
 -- a volume of this shape in the space that was found
-pub record IsMade (want : Shape) (found : Found) (v : VolumeEntry) : Type 0 where
+pub record IsVolumeMade (want : Shape) (found : Found) (v : VolumeEntry) : Type 0 where
   pub blocks : v.blocks ≡ want.blocks
   pub ncol : v.ncol ≡ want.ncol
   pub width : v.width ≡ want.width
@@ -37,5 +37,5 @@ IsNew c v = IsTrue (list_all (λ u. differ u v) c.volumes)
 
 -- a volume in the space that was found, with a name of its own, keeps a sound configuration sound
 abbrev pub StaysSound : Type 0
-StaysSound = (c : Config) (want : Shape) (found : Found) (v : VolumeEntry) → IsTrue (is_sound c) → IsShape want → IfSome want.prefer (λ p. p < want.mirrors) → IsFound c want found → IsMade want found v → IsNew c v → subdisk_count (with_volume c v) ≤ 1024
+StaysSound = (c : Config) (want : Shape) (found : Found) (v : VolumeEntry) → IsTrue (is_sound c) → IsShape want → IfSome want.prefer (λ p. p < want.mirrors) → IsFound c want found → IsVolumeMade want found v → IsNew c v → subdisk_count (with_volume c v) ≤ 1024
     → IsTrue (is_sound (with_volume c v))

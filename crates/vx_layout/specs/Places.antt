@@ -5,7 +5,7 @@ use Rattle.vx_config.specs.declared.entry.DiskEntry.{DiskEntry}
 use Rattle.vx_config.specs.declared.entry.PlexEntry.{PlexEntry}
 use Rattle.vx_config.specs.declared.entry.Subdisk.{Subdisk}
 use Rattle.vx_config.specs.declared.entry.VolumeEntry.{VolumeEntry}
-use Rattle.vx_config.specs.Checks.{blocks_of, column_blocks}
+use Rattle.vx_config.specs.Checks.{blocks_of, column_blocks, blocks_or}
 use Rattle.vx_layout.specs.declared.gap.TheConstants.{PUBLIC_START}
 use Rattle.vx_layout.specs.declared.spot.Seat.{Seat}
 
@@ -47,10 +47,6 @@ pub record HasBlock (c : Config) (v p b : ℕ) : Type 0 where
   pub plex : IsTrue (has_plex c v p)
   pub block : b < blocks_of c.volumes v
 
-abbrev pub blocks_or : Option DiskEntry → ℕ
-blocks_or None = 0
-blocks_or (Some d) = d.blocks
-
 -- the blocks of a disk; a disk that there is not has none
 abbrev pub disk_blocks : List DiskEntry → ℕ → ℕ
 disk_blocks disks d = blocks_or (slice_get disks d)
@@ -65,14 +61,14 @@ pub record AreApart (c : Config) : Type 0 where
   pub region : (v p b : ℕ) → HasBlock c v p b → InRegion c.disks (place c v p b).0 (place c v p b).1 1
   pub one : (v p b w q d : ℕ) → HasBlock c v p b → HasBlock c w q d → place c v p b ≡ place c w q d → (v ≡ w) × (p ≡ q) × (b ≡ d)
 
-abbrev pub blocks_in : Subdisk → ℕ
-blocks_in s = s.blocks
+abbrev pub subdisk_blocks : Subdisk → ℕ
+subdisk_blocks s = s.blocks
 
 -- the subdisks of a plex have the blocks of the volume's columns
 pub record IsFilled (v : VolumeEntry) (p : PlexEntry) : Type 0 where
   pub columns : 0 < v.ncol
   pub one : v.width ≡ 0 → v.ncol ≡ 1
-  pub sum : sum_by blocks_in p.subdisks ≡ v.ncol * column_blocks v
+  pub sum : sum_by subdisk_blocks p.subdisks ≡ v.ncol * column_blocks v
 
 -- a subdisk of these, an offset in it, and how many blocks from there on are its own
 pub record IsSeat (subdisks : List Subdisk) (seat : Seat) : Type 0 where

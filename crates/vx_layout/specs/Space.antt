@@ -35,49 +35,49 @@ abbrev pub is_on : ℕ → Subdisk → Bool
 is_on disk s = s.disk == disk
 
 -- the free blocks of a disk, where it is allowed: no plex or column that was placed before uses it
-unfoldable pub room : List Subdisk → List DiskEntry → List Subdisk → ℕ → ℕ
-room used disks found disk = if list_any (is_on disk) found then 0 else free_blocks used disks disk
+unfoldable pub disk_room : List Subdisk → List DiskEntry → List Subdisk → ℕ → ℕ
+disk_room used disks found disk = if list_any (is_on disk) found then 0 else free_blocks used disks disk
 
 -- the room of so many disks from this one on
 abbrev pub room_sum : (ℕ → ℕ) → ℕ → ℕ → ℕ
-room_sum room disk zero = 0
-room_sum room disk (suc n) = room disk + room_sum room (disk + 1) n
+room_sum disk_room disk zero = 0
+room_sum disk_room disk (suc n) = disk_room disk + room_sum disk_room (disk + 1) n
 
 -- the lowest disk that has so much room
-pub record IsFirst (room : ℕ → ℕ) (blocks disk : ℕ) : Type 0 where
+pub record IsFirst (disk_room : ℕ → ℕ) (blocks disk : ℕ) : Type 0 where
   pub inside : disk < DISK_PLACES
-  pub fits : blocks ≤ room disk
-  pub first : (e : ℕ) → e < disk → room e < blocks
+  pub fits : blocks ≤ disk_room disk
+  pub first : (e : ℕ) → e < disk → disk_room e < blocks
 
 -- no disk has so much
-pub record HasNone (room : ℕ → ℕ) (blocks : ℕ) : Type 0 where
-  pub none : (e : ℕ) → e < DISK_PLACES → room e < blocks
+pub record HasNone (disk_room : ℕ → ℕ) (blocks : ℕ) : Type 0 where
+  pub none : (e : ℕ) → e < DISK_PLACES → disk_room e < blocks
 
 -- the greatest room of a disk
-pub record IsGreatest (room : ℕ → ℕ) (most : ℕ) : Type 0 where
-  pub each : (e : ℕ) → e < DISK_PLACES → room e ≤ most
+pub record IsGreatest (disk_room : ℕ → ℕ) (most : ℕ) : Type 0 where
+  pub each : (e : ℕ) → e < DISK_PLACES → disk_room e ≤ most
   pub disk : ℕ
   pub inside : disk < DISK_PLACES
-  pub is : room disk ≡ most
+  pub is : disk_room disk ≡ most
 
 -- so many blocks lie on the lowest allowed disk whose free blocks suffice
 pub record OnOne (used : List Subdisk) (disks : List DiskEntry) (found : List Subdisk) (blocks : ℕ) (ss : List Subdisk) : Type 0 where
   pub disk : ℕ
-  pub first : IsFirst (room used disks found) blocks disk
+  pub first : IsFirst (disk_room used disks found) blocks disk
   pub are : AreLowest used disk PUBLIC_START (disk_blocks disks disk) blocks ss
 
 -- so many blocks lie on the disks from this one on, each of which is filled before the next is taken
 abbrev pub AreSpread : List Subdisk → List DiskEntry → (ℕ → ℕ) → ℕ → ℕ → ℕ → List Subdisk → Type 0
-AreSpread used disks room disk zero blocks ss = (blocks ≡ 0) × (ss ≡ [])
-AreSpread used disks room disk (suc n) blocks ss =
-    (front : List Subdisk) × (back : List Subdisk) × (ss ≡ front ++ back) × AreLowest used disk PUBLIC_START (disk_blocks disks disk) (min blocks (room disk)) front
-    × AreSpread used disks room (disk + 1) n (blocks - min blocks (room disk)) back
+AreSpread used disks disk_room disk zero blocks ss = (blocks ≡ 0) × (ss ≡ [])
+AreSpread used disks disk_room disk (suc n) blocks ss =
+    (front : List Subdisk) × (back : List Subdisk) × (ss ≡ front ++ back) × AreLowest used disk PUBLIC_START (disk_blocks disks disk) (min blocks (disk_room disk)) front
+    × AreSpread used disks disk_room (disk + 1) n (blocks - min blocks (disk_room disk)) back
 
 -- no allowed disk suffices, and together they do
 pub record OnSeveral (used : List Subdisk) (disks : List DiskEntry) (found : List Subdisk) (blocks : ℕ) (ss : List Subdisk) : Type 0 where
-  pub none : HasNone (room used disks found) blocks
-  pub all : blocks ≤ room_sum (room used disks found) 0 DISK_PLACES
-  pub are : AreSpread used disks (room used disks found) 0 DISK_PLACES blocks ss
+  pub none : HasNone (disk_room used disks found) blocks
+  pub all : blocks ≤ room_sum (disk_room used disks found) 0 DISK_PLACES
+  pub are : AreSpread used disks (disk_room used disks found) 0 DISK_PLACES blocks ss
 
 -- so many columns, each on one disk that no earlier one uses
 abbrev pub AreColumns : List Subdisk → List DiskEntry → List Subdisk → ℕ → ℕ → List Subdisk → Type 0
@@ -102,14 +102,14 @@ pub record NoColumn (want : Shape) (used : List Subdisk) (disks : List DiskEntry
   pub columns : List Subdisk
   pub are : AreColumns used disks found placed (column_of want) columns
   pub is_need : need ≡ column_of want
-  pub none : HasNone (room used disks (found ++ columns)) (column_of want)
-  pub is_have : IsGreatest (room used disks (found ++ columns)) have
+  pub none : HasNone (disk_room used disks (found ++ columns)) (column_of want)
+  pub is_have : IsGreatest (disk_room used disks (found ++ columns)) have
 
 -- the disks together have too little room
 pub record NoRoom (want : Shape) (used : List Subdisk) (disks : List DiskEntry) (found : List Subdisk) (need have : ℕ) : Type 0 where
   pub is_need : need ≡ want.blocks
-  pub is_have : have ≡ room_sum (room used disks found) 0 DISK_PLACES
-  pub short : room_sum (room used disks found) 0 DISK_PLACES < want.blocks
+  pub is_have : have ≡ room_sum (disk_room used disks found) 0 DISK_PLACES
+  pub short : room_sum (disk_room used disks found) 0 DISK_PLACES < want.blocks
 
 -- the next plex has no place: so many blocks are needed, and so many are there
 pub record NoPlex (want : Shape) (used : List Subdisk) (disks : List DiskEntry) (found : List Subdisk) (need have : ℕ) : Type 0 where
@@ -148,14 +148,14 @@ pub record IsFound (c : Config) (want : Shape) (found : Found) : Type 0 where
   pub logs : AreLogs want (runs c ++ flat found.plexes.items) c.disks want.drl want.fmr found.logs
 
 -- some plexes have their places, and the next one has none; or all have, and a log has none
-pub record IsShort (c : Config) (want : Shape) (need have : ℕ) : Type 0 where
+pub record IsSpaceShort (c : Config) (want : Shape) (need have : ℕ) : Type 0 where
   pub plexes : List (List Subdisk)
   pub are : ArePlexes want (runs c) c.disks [] plexes
   pub next : ((length plexes < want.mirrors) × NoPlex want (runs c) c.disks (flat plexes) need have) ⊎ ((length plexes ≡ want.mirrors) × NoLog want (runs c ++ flat plexes) c.disks need have)
 
 -- what is answered
-abbrev pub Finds : Config → Shape → Result Found Stop → Type 0
-Finds c want (Ok found) = IsFound c want found
-Finds c want (Err (No (refusal.Space need have))) = IsShort c want need have
-Finds c want (Err (No other)) = ⊥
-Finds c want (Err OutOfMemory) = Unit {0}
+abbrev pub FindsSpace : Config → Shape → Result Found Stop → Type 0
+FindsSpace c want (Ok found) = IsFound c want found
+FindsSpace c want (Err (No (refusal.Space need have))) = IsSpaceShort c want need have
+FindsSpace c want (Err (No other)) = ⊥
+FindsSpace c want (Err OutOfMemory) = Unit {0}

@@ -4,26 +4,26 @@ use Rattle.vx_model.specs.declared.limits.TheConstants.{DISK_PLACES}
 use Rattle.vx_config.specs.declared.entry.DiskEntry.{DiskEntry}
 use Rattle.vx_config.specs.declared.entry.Subdisk.{Subdisk}
 use Rattle.vx_layout.specs.Free.{HasNoRun, HasRun, IsLowestRun}
-use Rattle.vx_layout.specs.Space.{AreColumns, ArePlexes, AreSpread, HasNone, IsGreatest, IsPlex, NoPlex, OnOne, OnSeveral, drl_blocks, flat, fmr_blocks, room, room_sum}
+use Rattle.vx_layout.specs.Space.{AreColumns, ArePlexes, AreSpread, HasNone, IsGreatest, IsPlex, NoPlex, OnOne, OnSeveral, drl_blocks, flat, fmr_blocks, disk_room, room_sum}
 use Rattle.vx_layout.specs.declared.shape.Shape.{Shape}
 use Rattle.vx_layout.specs.declared.short.Short.{Short}
 use Rattle.vx_layout.specs.declared.short.Short.TheVariants.{OutOfMemory, Space}
 
 -- the room of each of the first disks
-pub record AreRooms (room : ℕ → ℕ) (count : ℕ) (xs : List ℕ) : Type 0 where
-  pub each : (e : ℕ) → e < count → slice_index xs e ≡ room e
+pub record AreRooms (disk_room : ℕ → ℕ) (count : ℕ) (xs : List ℕ) : Type 0 where
+  pub each : (e : ℕ) → e < count → slice_index xs e ≡ disk_room e
   pub long : length xs ≡ DISK_PLACES
 
 -- what a step answers: what holds at Ok, and of the two numbers where space is short
-abbrev pub Ends : {T : Type 0} → (T → Type 0) → (ℕ → ℕ → Type 0) → Result T Short → Type 0
-Ends done short (Ok x) = done x
-Ends done short (Err (Space need have)) = short need have
-Ends done short (Err OutOfMemory) = Unit {0}
+abbrev pub StepEnds : {T : Type 0} → (T → Type 0) → (ℕ → ℕ → Type 0) → Result T Short → Type 0
+StepEnds done short (Ok x) = done x
+StepEnds done short (Err (Space need have)) = short need have
+StepEnds done short (Err OutOfMemory) = Unit {0}
 
 -- runs of this kind were put behind others
-pub record AddsSpread (used : List Subdisk) (disks : List DiskEntry) (room : ℕ → ℕ) (blocks : ℕ) (old new : List Subdisk) : Type 0 where
+pub record AddsSpread (used : List Subdisk) (disks : List DiskEntry) (disk_room : ℕ → ℕ) (blocks : ℕ) (old new : List Subdisk) : Type 0 where
   pub runs : List Subdisk
-  pub are : AreSpread used disks room 0 DISK_PLACES blocks runs
+  pub are : AreSpread used disks disk_room 0 DISK_PLACES blocks runs
   pub is : new ≡ old ++ runs
 
 pub record AddsColumn (used : List Subdisk) (disks : List DiskEntry) (blocks : ℕ) (old new : List Subdisk) : Type 0 where
@@ -49,14 +49,14 @@ pub record AddsPlex (want : Shape) (used : List Subdisk) (disks : List DiskEntry
 -- no disk has room for so many blocks
 pub record ColumnShort (used : List Subdisk) (disks : List DiskEntry) (blocks : ℕ) (found : List Subdisk) (need have : ℕ) : Type 0 where
   pub is_need : need ≡ blocks
-  pub none : HasNone (room used disks found) blocks
-  pub is_have : IsGreatest (room used disks found) have
+  pub none : HasNone (disk_room used disks found) blocks
+  pub is_have : IsGreatest (disk_room used disks found) have
 
 -- all disks together have not
 pub record WholeShort (used : List Subdisk) (disks : List DiskEntry) (blocks : ℕ) (found : List Subdisk) (need have : ℕ) : Type 0 where
   pub is_need : need ≡ blocks
-  pub is_have : have ≡ room_sum (room used disks found) 0 DISK_PLACES
-  pub short : room_sum (room used disks found) 0 DISK_PLACES < blocks
+  pub is_have : have ≡ room_sum (disk_room used disks found) 0 DISK_PLACES
+  pub short : room_sum (disk_room used disks found) 0 DISK_PLACES < blocks
 
 -- some columns were placed, and the next one has no place
 pub record ColumnsShort (used : List Subdisk) (disks : List DiskEntry) (ncol blocks : ℕ) (found : List Subdisk) (need have : ℕ) : Type 0 where
@@ -67,13 +67,13 @@ pub record ColumnsShort (used : List Subdisk) (disks : List DiskEntry) (ncol blo
   pub short : ColumnShort used disks blocks (found ++ columns) need have
 
 -- the disks below this one were filled
-pub record Spreading (used : List Subdisk) (disks : List DiskEntry) (room : ℕ → ℕ) (disk blocks left : ℕ) (old new : List Subdisk) : Type 0 where
+pub record Spreading (used : List Subdisk) (disks : List DiskEntry) (disk_room : ℕ → ℕ) (disk blocks left : ℕ) (old new : List Subdisk) : Type 0 where
   pub done : List Subdisk
   pub is : new ≡ old ++ done
   pub behind : ℕ
   pub count : disk + behind ≡ DISK_PLACES
-  pub enough : left ≤ room_sum room disk behind
-  pub rest : (ss : List Subdisk) → AreSpread used disks room disk behind left ss → AreSpread used disks room 0 DISK_PLACES blocks (done ++ ss)
+  pub enough : left ≤ room_sum disk_room disk behind
+  pub rest : (ss : List Subdisk) → AreSpread used disks disk_room disk behind left ss → AreSpread used disks disk_room 0 DISK_PLACES blocks (done ++ ss)
 
 -- so many columns were placed
 pub record Columning (used : List Subdisk) (disks : List DiskEntry) (blocks placed : ℕ) (old new : List Subdisk) : Type 0 where

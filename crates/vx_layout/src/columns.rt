@@ -1,7 +1,7 @@
 // Where one plex finds space.
 ghost use Rattle.std.specs.Prelude.{◌≡◌, ◌<◌, ◌≤◌, OnOk, slice_index};
-ghost use Rattle.vx_layout.specs.Space.{HasNone, IsShape, NoPlex, column_of, room, room_sum};
-ghost use Rattle.vx_layout.specs.Steps.{AddsColumn, AddsColumns, AddsPlex, AddsSpread, AddsWhole, AreRooms, ColumnShort, ColumnsShort, Ends, WholeShort};
+ghost use Rattle.vx_layout.specs.Space.{HasNone, IsShape, NoPlex, column_of, disk_room, room_sum};
+ghost use Rattle.vx_layout.specs.Steps.{AddsColumn, AddsColumns, AddsPlex, AddsSpread, AddsWhole, AreRooms, ColumnShort, ColumnsShort, StepEnds, WholeShort};
 
 use crate::rooms::{DISKS, end_of, greatest, lowest_with, rooms_of, total};
 use crate::shape::Shape;
@@ -19,9 +19,9 @@ fn spread(
     wanted: u64,
     found: &mut Vec<Subdisk>,
 ) -> Result<(), OutOfMemory>
-    requires rooms { AreRooms (room used.now disks.now found.old.items) DISK_PLACES rooms.now }
-    requires enough { wanted ≤ room_sum (room used.now disks.now found.old.items) 0 DISK_PLACES }
-    ensures { OnOk result (AddsSpread used.now disks.now (room used.now disks.now found.old.items) wanted found.old.items found.new.items) }
+    requires rooms { AreRooms (disk_room used.now disks.now found.old.items) DISK_PLACES rooms.now }
+    requires enough { wanted ≤ room_sum (disk_room used.now disks.now found.old.items) 0 DISK_PLACES }
+    ensures { OnOk result (AddsSpread used.now disks.now (disk_room used.now disks.now found.old.items) wanted found.old.items found.new.items) }
 {
     let mut left = wanted;
     for disk in 0..DISKS {
@@ -40,9 +40,9 @@ fn place_several(
     wanted: u64,
     found: &mut Vec<Subdisk>,
 ) -> Result<(), Short>
-    requires rooms { AreRooms (room used.now disks.now found.old.items) DISK_PLACES rooms.now }
-    requires none { HasNone (room used.now disks.now found.old.items) wanted }
-    ensures { Ends (λ _. AddsWhole used.now disks.now wanted found.old.items found.new.items) (WholeShort used.now disks.now wanted found.old.items) result }
+    requires rooms { AreRooms (disk_room used.now disks.now found.old.items) DISK_PLACES rooms.now }
+    requires none { HasNone (disk_room used.now disks.now found.old.items) wanted }
+    ensures { StepEnds (λ _. AddsWhole used.now disks.now wanted found.old.items found.new.items) (WholeShort used.now disks.now wanted found.old.items) result }
 {
     let have = total(rooms);
     if have < u128::from(wanted) {
@@ -62,7 +62,7 @@ fn place_whole(
     wanted: u64,
     found: &mut Vec<Subdisk>,
 ) -> Result<(), Short>
-    ensures { Ends (λ _. AddsWhole used.now disks.now wanted found.old.items found.new.items) (WholeShort used.now disks.now wanted found.old.items) result }
+    ensures { StepEnds (λ _. AddsWhole used.now disks.now wanted found.old.items found.new.items) (WholeShort used.now disks.now wanted found.old.items) result }
 {
     let rooms = rooms_of(used, disks, found.as_slice());
     match lowest_with(&rooms, wanted) {
@@ -81,7 +81,7 @@ fn place_column(
     wanted: u64,
     found: &mut Vec<Subdisk>,
 ) -> Result<(), Short>
-    ensures { Ends (λ _. AddsColumn used.now disks.now wanted found.old.items found.new.items) (ColumnShort used.now disks.now wanted found.old.items) result }
+    ensures { StepEnds (λ _. AddsColumn used.now disks.now wanted found.old.items found.new.items) (ColumnShort used.now disks.now wanted found.old.items) result }
 {
     let rooms = rooms_of(used, disks, found.as_slice());
     match lowest_with(&rooms, wanted) {
@@ -103,7 +103,7 @@ fn place_columns(
     wanted: u64,
     found: &mut Vec<Subdisk>,
 ) -> Result<(), Short>
-    ensures { Ends (λ _. AddsColumns used.now disks.now ncol wanted found.old.items found.new.items) (ColumnsShort used.now disks.now ncol wanted found.old.items) result }
+    ensures { StepEnds (λ _. AddsColumns used.now disks.now ncol wanted found.old.items found.new.items) (ColumnsShort used.now disks.now ncol wanted found.old.items) result }
 {
     for _column in 0..ncol {
         place_column(used, disks, wanted, found)?;
@@ -131,7 +131,7 @@ pub fn place_plex(
     found: &mut Vec<Subdisk>,
 ) -> Result<(), Short>
     requires { IsShape want.now }
-    ensures { Ends (λ _. AddsPlex want.now used.now disks.now found.old.items found.new.items) (NoPlex want.now used.now disks.now found.old.items) result }
+    ensures { StepEnds (λ _. AddsPlex want.now used.now disks.now found.old.items found.new.items) (NoPlex want.now used.now disks.now found.old.items) result }
 {
     if want.width == 0 {
         place_whole(used, disks, want.blocks, found)

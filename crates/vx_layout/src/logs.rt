@@ -2,7 +2,7 @@
 ghost use Rattle.std.specs.Prelude.{◌≡◌, ◌<◌, ◌≤◌, length};
 ghost use Rattle.vx_layout.specs.Space.{AreLogs, IsShape, NoLog};
 ghost use Rattle.vx_layout.specs.Runs.{RunOn};
-ghost use Rattle.vx_layout.specs.Steps.{AddsDrl, AddsFmr, AddsLog, DrlShort, Ends, FmrShort, FoundRun, LogShort};
+ghost use Rattle.vx_layout.specs.Steps.{AddsDrl, AddsFmr, AddsLog, DrlShort, StepEnds, FmrShort, FoundRun, LogShort};
 
 use crate::gap::{PUBLIC_START, next_gap};
 use crate::rooms::{DISKS, end_of};
@@ -35,7 +35,7 @@ fn run_on(used: &[Subdisk], disk: u8, end: u64, wanted: u64) -> Result<u64, u64>
 fn find_run(used: &[Subdisk], disks: &[DiskEntry], wanted: u64) -> Result<Subdisk, Short>
     requires some { 0 < wanted }
     requires few { length disks.now ≤ DISK_PLACES }
-    ensures { Ends (FoundRun used.now disks.now wanted) (LogShort used.now disks.now wanted) result }
+    ensures { StepEnds (FoundRun used.now disks.now wanted) (LogShort used.now disks.now wanted) result }
 {
     let mut longest: u64 = 0;
     for disk in 0..DISKS {
@@ -65,7 +65,7 @@ fn push_log(
 ) -> Result<(), Short>
     requires some { 0 < wanted }
     requires few { length disks.now ≤ DISK_PLACES }
-    ensures { Ends (λ _. AddsLog used.old.items disks.now wanted used.new.items logs.old.items logs.new.items) (LogShort used.old.items disks.now wanted) result }
+    ensures { StepEnds (λ _. AddsLog used.old.items disks.now wanted used.new.items logs.old.items logs.new.items) (LogShort used.old.items disks.now wanted) result }
 {
     let run = find_run(used.as_slice(), disks, wanted)?;
     used.push(run)?;
@@ -82,7 +82,7 @@ fn push_drl(
 ) -> Result<(), Short>
     requires shape { IsShape want.now }
     requires few { length disks.now ≤ DISK_PLACES }
-    ensures { Ends (λ _. AddsDrl want.now used.old.items disks.now used.new.items logs.old.items logs.new.items) (DrlShort want.now used.old.items disks.now) result }
+    ensures { StepEnds (λ _. AddsDrl want.now used.old.items disks.now used.new.items logs.old.items logs.new.items) (DrlShort want.now used.old.items disks.now) result }
 {
     if want.drl {
         push_log(used, disks, map_blocks(want.blocks), logs)
@@ -100,7 +100,7 @@ fn push_fmr(
 ) -> Result<(), Short>
     requires shape { IsShape want.now }
     requires few { length disks.now ≤ DISK_PLACES }
-    ensures { Ends (λ _. AddsFmr want.now used.old.items disks.now logs.old.items logs.new.items) (FmrShort want.now used.old.items disks.now) result }
+    ensures { StepEnds (λ _. AddsFmr want.now used.old.items disks.now logs.old.items logs.new.items) (FmrShort want.now used.old.items disks.now) result }
 {
     if want.fmr {
         push_log(
@@ -123,7 +123,7 @@ pub fn find_logs(
 ) -> Result<Vec<Subdisk>, Short>
     requires shape { IsShape want.now }
     requires few { length disks.now ≤ DISK_PLACES }
-    ensures { Ends (λ logs. AreLogs want.now used.old.items disks.now want.now.drl want.now.fmr logs.items) (NoLog want.now used.old.items disks.now) result }
+    ensures { StepEnds (λ logs. AreLogs want.now used.old.items disks.now want.now.drl want.now.fmr logs.items) (NoLog want.now used.old.items disks.now) result }
 {
     let mut logs = Vec::new(alloc);
     push_drl(used, disks, want, &mut logs)?;

@@ -1,7 +1,7 @@
 // Where the plexes of a new volume find space.
 ghost use Rattle.std.specs.Prelude.{◌≡◌, []};
 ghost use Rattle.vx_layout.specs.Space.{IsShape};
-ghost use Rattle.vx_layout.specs.Steps.{Ends, Placed, PlexesShort};
+ghost use Rattle.vx_layout.specs.Steps.{StepEnds, Placed, PlexesShort};
 
 use crate::columns::place_plex;
 use crate::shape::{Runs, Shape};
@@ -19,7 +19,7 @@ pub fn place_plexes(
 ) -> Result<Vec<Runs>, Short>
     requires shape { IsShape want.now }
     requires empty { found.old.items ≡ [] }
-    ensures { Ends (λ plexes. Placed want.now used.now disks.now found.new.items plexes.items) (PlexesShort want.now used.now disks.now) result }
+    ensures { StepEnds (λ plexes. Placed want.now used.now disks.now found.new.items plexes.items) (PlexesShort want.now used.now disks.now) result }
 {
     let mut plexes = Vec::new(alloc);
     for _plex in 0..want.mirrors {

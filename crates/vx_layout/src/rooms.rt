@@ -2,7 +2,7 @@
 ghost use Rattle.std.specs.Prelude.{◌≡◌, ◌<◌, ◌≤◌, ℕ, slice_index, MatchOption};
 ghost use Rattle.std.specs.List.{list_any};
 ghost use Rattle.vx_layout.specs.Places.{disk_blocks};
-ghost use Rattle.vx_layout.specs.Space.{HasNone, IsFirst, IsGreatest, is_on, room, room_sum};
+ghost use Rattle.vx_layout.specs.Space.{HasNone, IsFirst, IsGreatest, is_on, disk_room, room_sum};
 ghost use Rattle.vx_layout.specs.Steps.{AreRooms};
 
 use crate::gap::free_on;
@@ -29,9 +29,9 @@ fn is_used(found: &[Subdisk], disk: u8) -> bool
 }
 
 // The free blocks of a disk that no run found before lies on.
-#[tactic(auto, unfolding(crate::specs::Space::room, crate::specs::Free::free_blocks))]
+#[tactic(auto, unfolding(crate::specs::Space::disk_room, crate::specs::Free::free_blocks))]
 fn room_of(used: &[Subdisk], disks: &[DiskEntry], found: &[Subdisk], disk: u8) -> u64
-    ensures { result ≡ room used.now disks.now found.now disk }
+    ensures { result ≡ disk_room used.now disks.now found.now disk }
 {
     if is_used(found, disk) {
         0
@@ -42,7 +42,7 @@ fn room_of(used: &[Subdisk], disks: &[DiskEntry], found: &[Subdisk], disk: u8) -
 
 /// The free blocks of each disk that no run found before lies on.
 pub fn rooms_of(used: &[Subdisk], disks: &[DiskEntry], found: &[Subdisk]) -> [u64; DISK_PLACES]
-    ensures { AreRooms (room used.now disks.now found.now) DISK_PLACES result }
+    ensures { AreRooms (disk_room used.now disks.now found.now) DISK_PLACES result }
 {
     let mut rooms = [0; DISK_PLACES];
     for disk in 0..DISKS {

@@ -1,7 +1,7 @@
 // Where a new volume finds space.
 ghost use Rattle.std.specs.Prelude.{◌≡◌};
-ghost use Rattle.vx_layout.specs.Space.{Finds, IsFound, IsShape, IsShort};
-ghost use Rattle.vx_layout.specs.Steps.{Ends};
+ghost use Rattle.vx_layout.specs.Space.{FindsSpace, IsFound, IsShape, IsSpaceShort};
+ghost use Rattle.vx_layout.specs.Steps.{StepEnds};
 
 use crate::logs::find_logs;
 use crate::plexes::place_plexes;
@@ -14,7 +14,7 @@ use vx_model::{No, Stop};
 
 fn search(alloc: Global, config: &Config, want: &Shape) -> Result<Found, Short>
     requires { IsShape want.now }
-    ensures { Ends (IsFound config.now want.now) (IsShort config.now want.now) result }
+    ensures { StepEnds (IsFound config.now want.now) (IsSpaceShort config.now want.now) result }
 {
     let mut used = runs_of(alloc, config)?;
     let disks = config.disks.as_slice();
@@ -39,7 +39,7 @@ fn search(alloc: Global, config: &Config, want: &Shape) -> Result<Found, Short>
 /// want of memory.
 pub fn find_space(alloc: Global, config: &Config, want: &Shape) -> Result<Found, Stop>
     requires { IsShape want.now }
-    ensures { Finds config.now want.now result }
+    ensures { FindsSpace config.now want.now result }
 {
     match search(alloc, config, want) {
         Ok(found) => Ok(found),

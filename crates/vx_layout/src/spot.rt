@@ -1,7 +1,7 @@
 // Where the blocks of plexes lie.
 ghost use Rattle.std.specs.Prelude.{◌≡◌, ◌+◌, ◌-◌, ◌*◌, ◌%◌, ◌<◌, ◌≤◌, ◌^◌, ℕ, IsTrue, Some, sum_by};
 ghost use Rattle.vx_config.specs.Checks.{column_blocks as column_blocks_is, in_region, is_sound};
-ghost use Rattle.vx_layout.specs.Places.{HasBlock, InRegion, IsFilled, IsSeat, blocks_in, linear as linear_is, located, place as place_is, place_in};
+ghost use Rattle.vx_layout.specs.Places.{HasBlock, InRegion, IsFilled, IsSeat, subdisk_blocks, linear as linear_is, located, place as place_is, place_in};
 
 use vx_config::{Config, DiskEntry, PlexEntry, Subdisk, VolumeEntry};
 
@@ -23,7 +23,7 @@ struct Seat {
 
 // Which block of which subdisk a block of subdisks is that stand one behind the other.
 fn locate(subdisks: &[Subdisk], block: u128) -> Seat
-    requires inside { block < sum_by blocks_in subdisks.now }
+    requires inside { block < sum_by subdisk_blocks subdisks.now }
     ensures seat { IsSeat subdisks.now result }
     ensures run { (j : ℕ) → j < result.reach → located subdisks.now (block + j) ≡ (result.subdisk.disk, result.subdisk.start + (result.offset + j)) }
 {

@@ -5,6 +5,7 @@ ghost use Rattle.vx_layout.specs.Space.{IsShape};
 
 use crate::{Shape, find_space, place};
 use std::alloc::Global;
+use std::process::Abort;
 use std::test::Fail;
 use vx_config::{
     Config, DiskEntry, Disks, PlexEntry, Plexes, Subdisk, Subdisks, VolumeEntry, Volumes, check,
@@ -138,6 +139,17 @@ fn found(
     }
 }
 
+// Of three places each is of these runs, or of none where there are fewer.
+fn are_runs(rt: &impl Abort, runs: &[Subdisk], wanted: &[Subdisk; 3]) {
+    for (k, run) in wanted.iter().enumerate() {
+        if run.blocks > 0 {
+            assert_eq!(rt; runs.get(k).copied(), Some(*run));
+        } else {
+            assert!(rt; runs.get(k).is_none());
+        }
+    }
+}
+
 #[test]
 fn the_lowest_blocks_are_taken(rt: HostRuntime) -> Result<(), Fail> {
     let config = striped(rt.alloc())?;
@@ -170,13 +182,7 @@ fn the_lowest_blocks_are_taken(rt: HostRuntime) -> Result<(), Fail> {
     ] {
         let (runs, refused) = found(rt.alloc(), &config, &want)?;
         assert!(rt; refused.is_none());
-        for (k, run) in wanted.iter().enumerate() {
-            if run.blocks > 0 {
-                assert_eq!(rt; runs.get(k).copied(), Some(*run));
-            } else {
-                assert!(rt; runs.get(k).is_none());
-            }
-        }
+        are_runs(&rt, runs.as_slice(), &wanted);
     }
     Ok(())
 }

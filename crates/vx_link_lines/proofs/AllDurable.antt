@@ -7,8 +7,8 @@ use Rattle.vx_history.specs.Doubts.{Doubted}
 use Rattle.vx_history.specs.World.{Node}
 use Rattle.vx_events.specs.Durables.{AreDurable}
 use Rattle.vx_disk.specs.declared.shelf.Shelf.{Ghosts}
-use Rattle.vx_diskset.specs.Holds.{Beside, beside_of}
-use Rattle.vx_diskset.specs.Stands.{StandsAt}
+use Rattle.vx_diskset.specs.Holds.{KeptBeside, beside_of}
+use Rattle.vx_diskset.specs.Stands.{SiteStands}
 use Rattle.vx_diskset.specs.declared.disk_set.DiskSet.{DiskSet}
 use Rattle.vx_diskset.specs.declared.disk_set.DiskSet.TheVariants.{Bare, Spoiled, Up, Receives, Down, Gone}
 use Rattle.vx_yard.specs.Standing.{StandsFor}
@@ -21,7 +21,7 @@ there (x ∷ xs) zero below = (x, refl)
 there (x ∷ xs) (suc i) below = there xs i (omega (arith, below))
 
 module _ {R : Type 0} {g : Ghosts R} where
-  durable_at : (beside : Beside) (n : Node) (e : DiskSet R g) → StandsAt beside n e → n.state ≡ IsUp → n.halted ≡ None → is_origin n.role ≡ true → length n.log ≤ n.safe
+  durable_at : (beside : KeptBeside) (n : Node) (e : DiskSet R g) → SiteStands beside n e → n.state ≡ IsUp → n.halted ≡ None → is_origin n.role ≡ true → length n.log ≤ n.safe
   durable_at beside n (Bare rack) h up none origin = let e : IsBare ≡ IsUp = sym (ap (λ (x : Node). x.state) h.bare.is) ∙ up in absurd (cc)
   durable_at beside n (Spoiled rack) h up none origin = let e : IsBare ≡ IsUp = sym (ap (λ (x : Node). x.state) h.is) ∙ up in absurd (cc)
   durable_at beside n (Up rvg) h up none origin = h.durable none

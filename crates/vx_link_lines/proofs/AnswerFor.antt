@@ -1,12 +1,12 @@
 -- What a line is answered and prints, where sites may keep links and be in doubt.
-use Rattle.std.proofs.Common.{◌≡◌, ◌∙◌, ◌+◌, List, [], length, ap, sym, subst, refl, arith}
+use Rattle.std.proofs.Common.{◌≡◌, ◌∙◌, ◌+◌, List, [], length, true, false, ap, sym, subst, refl, arith}
 use Rattle.std.specs.Prelude.{IfOk, Option, Some, None, Result, Ok, Err, nat_lt, suc, ℕ, if◌then◌else◌}
 use Rattle.vx_history.specs.Doubts.{Doubted}
 use Rattle.vx_history.specs.World.{World}
 use Rattle.vx_model.specs.declared.errors.OutOfMemory.{OutOfMemory}
 use Rattle.vx_model.specs.declared.no.No.{No}
 use Rattle.vx_disk.specs.declared.shelf.Shelf.{Ghosts}
-use Rattle.vx_order.specs.Order.{refusal_of}
+use Rattle.vx_order.specs.Order.{line_refusal}
 use Rattle.vx_order.specs.Packets.{packet_unknown}
 use Rattle.vx_order.specs.declared.facts.SiteFacts.{SiteFacts}
 use Rattle.vx_script.specs.declared.line.ScriptLine.{ScriptLine}
@@ -22,7 +22,7 @@ use Rattle.vx_yard.specs.Carries.{Carries}
 use Rattle.vx_yard.specs.OfSites.{AsSettled, HasCalled}
 use Rattle.vx_yard.specs.Replies.{text_of}
 use Rattle.vx_yard.specs.Standing.{AnswersFor, AnswersIs, LeadsIs, LeadsOrStops, StandsFor, StaysFor, StepsFor, StopsFor}
-use Rattle.vx_yard.specs.Working.{IsFree, refused_in}
+use Rattle.vx_yard.specs.Working.{IsFree, refused_in, takes_memory}
 use Rattle.vx_yard.specs.Yards.{IsTold, count_of, in_files}
 use Rattle.vx_yard.specs.declared.yard.Yard.{Yard}
 use Rattle.vx_yard.proofs.Carrying.{sent_count}
@@ -41,14 +41,18 @@ pub if_ok : {T E : Type 0} (P : T → Type 0) (r : Result T E) → ((x : T) → 
 if_ok P (Ok x) all = all x
 if_ok P (Err e) all = tt
 
+-- a line for which memory may be short
+pub memory_taken : {P : Type 0} → (words line : ScriptLine) → words ≡ line → takes_memory line ≡ true → takes_memory words ≡ false → P
+memory_taken words line is taken none = absurd (let e : true ≡ false = sym taken ∙ ap takes_memory (sym is) ∙ none in cc)
+
 module _ {R : Type 0} {g : Ghosts R} where
   -- a line is refused by what the tests see of the yard
   tested : (d : Doubted) (y : Yard R g) (line : ScriptLine) → StandsFor d y → Carries d y → refused_by d.world (in_files y) line ≡ refused_in y line
   tested d y (Deliver number) stands carries = ap (λ (k : ℕ). packet_unknown k number) (sym (sent_count d y carries))
-  tested d y other stands carries = ap (λ (fs : List SiteFacts). refusal_of fs (in_files y) other) (sym stands.facts)
+  tested d y other stands carries = ap (λ (fs : List SiteFacts). line_refusal fs (in_files y) other) (sym stands.facts)
 
   -- of one that delivers it is the network
-  pub refused_other : (y : Yard R g) (line : ScriptLine) → ((number : ℕ) → line ≡ Deliver number → ⊥) → refusal_of y.facts.items (in_files y) line ≡ refused_in y line
+  pub refused_other : (y : Yard R g) (line : ScriptLine) → ((number : ℕ) → line ≡ Deliver number → ⊥) → line_refusal y.facts.items (in_files y) line ≡ refused_in y line
   refused_other y (Deliver number) not = absurd (not number refl)
   refused_other y other not = refl
 

@@ -20,8 +20,8 @@ use Rattle.vx_disk.specs.Disks.{Untouched}
 use Rattle.vx_events.specs.declared.said.Said.{Said}
 use Rattle.vx_script.specs.declared.line.ScriptLine.{ScriptLine}
 use Rattle.vx_diskset.specs.Fuses.{LeftAs}
-use Rattle.vx_diskset.specs.Holds.{Beside, beside_of}
-use Rattle.vx_diskset.specs.Stands.{RoleIs, StandsAt}
+use Rattle.vx_diskset.specs.Holds.{KeptBeside, beside_of}
+use Rattle.vx_diskset.specs.Stands.{RoleIs, SiteStands}
 use Rattle.vx_diskset.specs.declared.disk_set.DiskSet.{DiskSet}
 use Rattle.vx_joins.proofs.TakesUpdate.{node_behind}
 use Rattle.vx_joins.specs.Deliveries.{DeliveredTo, TookTo}
@@ -62,11 +62,11 @@ module _ {R : Type 0} {g : Ghosts R} where
         (λ untold. found_ignored d number p k x old new before after stands here.below here.changed alone here.role feeder a at message here.handed untold was here.took facts)
         (all_told new.disk_sets.items)
 
-    pub behind_taken : (last : ℕ) → IsBehind d number p k old new before after feeder was a IsTaken t → ((m : Node) → StandsAt (beside_of d t) m after → IsOpen m → last ≡ length m.log)
+    pub behind_taken : (last : ℕ) → IsBehind d number p k old new before after feeder was a IsTaken t → ((m : Node) → SiteStands (beside_of d t) m after → IsOpen m → last ≡ length m.log)
         → new.facts.items ≡ slice_set old.facts.items t (received_fact last (fact_of (d.world.nodes t) (d.world.links t) d.world.sites)) → Leads d (Deliver number) Taken old new
     behind_taken last there received facts =
         let here = subst (λ (i : ℕ). IsBehind d number p k old new before after feeder was a IsTaken i) (sym to) there in
-        let many = subst (λ (i : ℕ). (m : Node) → StandsAt (beside_of d i) m after → IsOpen m → last ≡ length m.log) (sym to) received in
+        let many = subst (λ (i : ℕ). (m : Node) → SiteStands (beside_of d i) m after → IsOpen m → last ≡ length m.log) (sym to) received in
         let shown = subst (λ (i : ℕ). new.facts.items ≡ slice_set old.facts.items i (received_fact last (fact_of (d.world.nodes i) (d.world.links i) d.world.sites))) (sym to) facts in
         let opens = took_open d.world number p k (beside_of d p.target) after feeder was a old.flight new.flight here.took in
         let m : Node = (delivered d.world number (packet_at d.world.packets number)).world.nodes p.target in
@@ -80,7 +80,7 @@ module _ {R : Type 0} {g : Ghosts R} where
 
   -- want of memory: nothing was done
   pub behind_short : (d : Doubted) (line : ScriptLine) (old new : Yard R g) (before after : DiskSet R g) (t : ℕ) (r : Result Said OutOfMemory) (e : OutOfMemory) → r ≡ Err e → StandsFor d old → t < d.world.sites → Changed old new t before after → LeavesAlone before after → RoleIs (d.world.nodes t) after
-      → ((beside : Beside) (n : Node) → StandsAt beside n before → StandsAt beside n after) → new.facts.items ≡ old.facts.items → SameLoad old new → (IsTold new → IsTold old) → LeadsIs d line old new r
+      → ((beside : KeptBeside) (n : Node) → SiteStands beside n before → SiteStands beside n after) → new.facts.items ≡ old.facts.items → SameLoad old new → (IsTold new → IsTold old) → LeadsIs d line old new r
   behind_short d line old new before after t r e is stands below changed alone role on facts load told =
       let n : Node = d.world.nodes t in
       subst (λ (x : Result Said OutOfMemory). LeadsIs d line old new x) (sym is) (record {

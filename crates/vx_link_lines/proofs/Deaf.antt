@@ -31,8 +31,8 @@ use Rattle.vx_order.specs.declared.facts.SiteFacts.{SiteFacts}
 use Rattle.vx_packet.specs.Assemblies.{Assembled}
 use Rattle.vx_script.specs.declared.line.ScriptLine.TheVariants.{Deliver}
 use Rattle.vx_diskset.specs.Asked.{LeavesAlone}
-use Rattle.vx_diskset.specs.Holds.{Beside, beside_of}
-use Rattle.vx_diskset.specs.Stands.{IsToldAt, RoleIs, StandsAt}
+use Rattle.vx_diskset.specs.Holds.{KeptBeside, beside_of}
+use Rattle.vx_diskset.specs.Stands.{IsToldAt, RoleIs, SiteStands}
 use Rattle.vx_diskset.specs.declared.disk_set.DiskSet.{DiskSet}
 use Rattle.vx_diskset.specs.declared.disk_set.DiskSet.TheVariants.{Bare, Spoiled, Up, Receives as HasRoom, Down, Gone}
 use Rattle.vx_joins.proofs.TakesUpdate.{ignored_is}
@@ -101,13 +101,13 @@ module _ {R : Type 0} {g : Ghosts R} where
   all_told (e ∷ es) = place_told e es (all_told es)
 
   -- one that takes something is open
-  pub took_open : (w : World) (number : ℕ) (p : Packet) (k : ℕ) (beside : Beside) (e : DiskSet R g) (fed : ℕ) (a b : Assembled) (f h : Flying) → TookTo w number p k beside e fed a b f h IsTaken → IsOpen (w.nodes p.target)
+  pub took_open : (w : World) (number : ℕ) (p : Packet) (k : ℕ) (beside : KeptBeside) (e : DiskSet R g) (fed : ℕ) (a b : Assembled) (f h : Flying) → TookTo w number p k beside e fed a b f h IsTaken → IsOpen (w.nodes p.target)
   took_open w number p k beside e fed a b f h (TakesOne opens receives next x said here from sends) = opens
   took_open w number p k beside e fed a b f h (TakesNone opens receives next how here from still) = opens
   took_open w number p k beside e fed a b f h (IsUnheard more is said here from same sends) = absurd (let x : IsTaken ≡ IsIgnored = said in cc)
 
   -- what is not taken is ignored
-  pub took_ignored : (w : World) (number : ℕ) (p : Packet) (k : ℕ) (beside : Beside) (e : DiskSet R g) (fed : ℕ) (a b : Assembled) (f h : Flying) (said : EventSaid) → TookTo w number p k beside e fed a b f h said → (said ≡ IsTaken → ⊥) → said ≡ IsIgnored
+  pub took_ignored : (w : World) (number : ℕ) (p : Packet) (k : ℕ) (beside : KeptBeside) (e : DiskSet R g) (fed : ℕ) (a b : Assembled) (f h : Flying) (said : EventSaid) → TookTo w number p k beside e fed a b f h said → (said ≡ IsTaken → ⊥) → said ≡ IsIgnored
   took_ignored w number p k beside e fed a b f h said (TakesOne opens receives next x is here from sends) not = absurd (not is)
   took_ignored w number p k beside e fed a b f h said (TakesNone opens receives next how here from still) not = ⊎_elim (λ taken. absurd (not taken)) (λ is. is) how
   took_ignored w number p k beside e fed a b f h said (IsUnheard more is said_is here from same sends) not = said_is
@@ -120,7 +120,7 @@ module _ {R : Type 0} {g : Ghosts R} where
 
   module _ (d : Doubted) (number : ℕ) (p : Packet) (k : ℕ) (x : Write) (at : packet_at d.world.packets number ≡ Some p) (message : p.message ≡ Update k x) where
     -- disks that receive nothing
-    ignored_by : (beside : Beside) (e : DiskSet R g) (b : Bool) → Receives e b → b ≡ false → RoleIs (d.world.nodes p.target) e → StandsAt beside (d.world.nodes p.target) e → outcome_at d number ≡ says d.world IsIgnored
+    ignored_by : (beside : KeptBeside) (e : DiskSet R g) (b : Bool) → Receives e b → b ≡ false → RoleIs (d.world.nodes p.target) e → SiteStands beside (d.world.nodes p.target) e → outcome_at d number ≡ says d.world IsIgnored
     ignored_by beside (Bare rack) b is none role stands = ignored_is d.world number p k x at message (inl (inl (ap (λ (m : Node). is_up m.state) stands.bare.is)))
     ignored_by beside (Spoiled rack) b is none role stands = ignored_is d.world number p k x at message (inl (inl (ap (λ (m : Node). is_up m.state) stands.is)))
     ignored_by beside (Up rvg) b is none role stands = ignored_is d.world number p k x at message (inr role)
@@ -128,7 +128,7 @@ module _ {R : Type 0} {g : Ghosts R} where
     ignored_by beside (Down rack) b is none role stands = ignored_is d.world number p k x at message (inl (inl (ap is_up stands.state)))
     ignored_by beside Gone b is none role stands = absurd stands
 
-    pub deaf_leads : (old new : Yard R g) (before after : DiskSet R g) (b : Bool) → StandsFor d old → p.target < d.world.sites → Changed old new p.target before after → LeavesAlone before after → Receives after b → b ≡ false → RoleIs (d.world.nodes p.target) after → StandsAt (beside_of d p.target) (d.world.nodes p.target) after
+    pub deaf_leads : (old new : Yard R g) (before after : DiskSet R g) (b : Bool) → StandsFor d old → p.target < d.world.sites → Changed old new p.target before after → LeavesAlone before after → Receives after b → b ≡ false → RoleIs (d.world.nodes p.target) after → SiteStands (beside_of d p.target) (d.world.nodes p.target) after
         → new.facts.items ≡ old.facts.items → SameLoad old new → (IsTold new → IsTold old) → Leads d (Deliver number) Ignored old new
     deaf_leads old new before after b stands below changed alone is none role here facts load told =
         let h : Doubted = happened d (DeliverAt number) false in
@@ -137,6 +137,6 @@ module _ {R : Type 0} {g : Ghosts R} where
         let effect = update_effect d number p k x false at message in
         let noted = worked_effect p.target d h ((outcome_at d number).world.nodes p.target) (d.world.links p.target) (d.world.headers p.target) (d.after p.target) (outcome_at d number).world.packets ((outcome_at d number).world.gathering p.target) effect in
         leads_same d number p old new before after stands below changed alone role h ((outcome_at d number).world.nodes p.target) (outcome_at d number).world.packets ((outcome_at d number).world.gathering p.target) Ignored effect (fit_worked h p.target (fit_happened d (DeliverAt number) false stands.links))
-        (done_as (IsTold new) d number p Ignored IsIgnored at below (ap (λ (r : Outcome). r.said) ignored) refl) node (subst (λ (m : Node). StandsAt (beside_of d p.target) m after) (sym node) here) facts
+        (done_as (IsTold new) d number p Ignored IsIgnored at below (ap (λ (r : Outcome). r.said) ignored) refl) node (subst (λ (m : Node). SiteStands (beside_of d p.target) m after) (sym node) here) facts
         (λ carries. carries_node p.target d (worked_for h p.target) ((worked_for h p.target).world.nodes p.target) old new load noted.site (ap (λ (r : Outcome). r.world.packets) ignored) (ap (λ (r : Outcome). r.world.gathering p.target) ignored) refl
         (ap (λ (m : Node). m.state) noted.is.node ∙ ap (λ (m : Node). m.state) node) (ap (λ (m : Node). m.role) noted.is.node ∙ ap (λ (m : Node). m.role) node) (ap (λ (m : Node). m.fed_by) noted.is.node ∙ ap (λ (m : Node). m.fed_by) node) told carries)

@@ -9,7 +9,7 @@ use Rattle.vx_order.specs.Packets.{packet_unknown}
 use Rattle.vx_order.specs.declared.facts.SiteFacts.{SiteFacts}
 use Rattle.vx_courier.specs.UnderWay.{part_carried}
 use Rattle.vx_disk.specs.declared.shelf.Shelf.{Ghosts}
-use Rattle.vx_packet.specs.Packets.{part_of}
+use Rattle.vx_packet.specs.Packets.{part_numbered}
 use Rattle.vx_packet.specs.declared.part.Part.{Part}
 use Rattle.vx_peers.specs.Answers.{is_answer}
 use Rattle.vx_events.proofs.LinkAgreeing.{packet_agrees}
@@ -23,15 +23,15 @@ use Rattle.vx_yard.proofs.Carrying.{sent_count}
 
 -- what the part of a packet tells
 pub target_is : (q : Packet) → (part_carried q).target ≡ q.target
-unfolding part_of
+unfolding part_numbered
 target_is q = refl
 
 pub source_is : (q : Packet) → (part_carried q).source ≡ q.source
-unfolding part_of
+unfolding part_numbered
 source_is q = refl
 
 pub kind_update : (q : Packet) → (part_carried q).kind ≡ 2 → (k : ℕ) × (x : Write) × (q.message ≡ Update k x)
-unfolding part_of
+unfolding part_numbered
 kind_update q is = by q.message is
   where
     by : (m : Message) → (part_carried (record q { message = m })).kind ≡ 2 → (k : ℕ) × (x : Write) × (m ≡ Update k x)
@@ -41,7 +41,7 @@ kind_update q is = by q.message is
     by (DataAck number) e = absurd (cc)
 
 pub kind_answer : (q : Packet) → ((part_carried q).kind ≡ 2 → ⊥) → is_answer q.message ≡ true
-unfolding part_of
+unfolding part_numbered
 kind_answer q not = by q.message not
   where
     by : (m : Message) → ((part_carried (record q { message = m })).kind ≡ 2 → ⊥) → is_answer m ≡ true

@@ -35,7 +35,7 @@ use Rattle.vx_peers.specs.Senders.{Sends}
 use Rattle.vx_script.specs.declared.line.ScriptLine.TheVariants.{Deliver}
 use Rattle.vx_diskset.specs.Asked.{LeavesAlone}
 use Rattle.vx_diskset.specs.Holds.{beside_of}
-use Rattle.vx_diskset.specs.Stands.{RoleIs, StandsAt}
+use Rattle.vx_diskset.specs.Stands.{RoleIs, SiteStands}
 use Rattle.vx_diskset.specs.declared.disk_set.DiskSet.{DiskSet}
 use Rattle.vx_joins.proofs.TakesUpdate.{node_behind}
 use Rattle.vx_joins.specs.Deliveries.{DeliveredTo, IsUnheard, TakesNone, TakesOne, TookTo}
@@ -132,7 +132,7 @@ module _ {R : Type 0} {g : Ghosts R} where
       may opens receives next = record { packet = at; count = k; write = x; message = message; opens = opens; receives = receives; next = next }
 
       given_new : (m : Node) (o : Option Gathering) (more : List Packet) (last : ℕ) (y : Write) → Sends more old.flight new.flight → FindsOther d (Deliver number) [] Taken (given m o more) → feeder ≡ m.fed_by
-          → StandsAt (beside_of d s) m after → is_origin n.role ≡ false → (fact_of n (d.world.links s) d.world.sites).links ≡ [] → (m ≡ n) ⊎ (m ≡ with_write n p.source y) → last ≡ length m.log
+          → SiteStands (beside_of d s) m after → is_origin n.role ≡ false → (fact_of n (d.world.links s) d.world.sites).links ≡ [] → (m ≡ n) ⊎ (m ≡ with_write n p.source y) → last ≡ length m.log
           → new.facts.items ≡ slice_set old.facts.items s (received_fact last (fact_of n (d.world.links s) d.world.sites)) → Leads d (Deliver number) Taken old new
       given_new m o more last y sends finds fed here receives none one many facts =
           let h' : Doubted = given m o more in
@@ -144,20 +144,20 @@ module _ {R : Type 0} {g : Ghosts R} where
           handed.assemblies handed.feeders handed.below handed.told carries)
 
       -- it is ignored as the world has it, and may be acknowledged again
-      unheard_leads : (more : List Packet) → o ≡ says (sending d.world more) IsIgnored → StandsAt (beside_of d s) n after → feeder ≡ n.fed_by → Sends more old.flight new.flight → new.facts.items ≡ old.facts.items
+      unheard_leads : (more : List Packet) → o ≡ says (sending d.world more) IsIgnored → SiteStands (beside_of d s) n after → feeder ≡ n.fed_by → Sends more old.flight new.flight → new.facts.items ≡ old.facts.items
           → Leads d (Deliver number) Ignored old new
       unheard_leads more is here fed sends facts =
           let node : o.world.nodes s ≡ n = ap (λ (r : Outcome). r.world.nodes s) is in
           let noted = worked_effect s d h (o.world.nodes s) (d.world.links s) (d.world.headers s) (d.after s) o.world.packets (o.world.gathering s) effect in
           let packets : o.world.packets ≡ d.world.packets ++ more = ap (λ (r : Outcome). r.world.packets) is in
           leads_same d number p old new before after stands below changed alone role h (o.world.nodes s) o.world.packets (o.world.gathering s) Ignored effect (fit_worked h s (fit_happened d (DeliverAt number) false stands.links))
-          (done_as (IsTold new) d number p Ignored IsIgnored at below (ap (λ (r : Outcome). r.said) is) refl) node (subst (λ (m : Node). StandsAt (beside_of d s) m after) (sym node) here) facts
+          (done_as (IsTold new) d number p Ignored IsIgnored at below (ap (λ (r : Outcome). r.said) is) refl) node (subst (λ (m : Node). SiteStands (beside_of d s) m after) (sym node) here) facts
           (λ carries. carries_handed d (worked_for h s) s feeder a more old new noted.site packets
           (subst (λ (ps : List Packet). FlightStands ps new.flight) (sym packets) (sends d.world.packets carries.flight))
           (λ tells. absurd (untold tells)) (fed ∙ ap (λ (m : Node). m.fed_by) (sym node) ∙ ap (λ (m : Node). m.fed_by) (sym noted.is.node)) handed.assemblies handed.feeders handed.below handed.told carries)
 
       -- nothing came of a part
-      lost_leads : FindsOther d (Deliver number) [] Ignored d → StandsAt (beside_of d s) n after → feeder ≡ n.fed_by → new.flight ≡ old.flight → new.facts.items ≡ old.facts.items → Leads d (Deliver number) Ignored old new
+      lost_leads : FindsOther d (Deliver number) [] Ignored d → SiteStands (beside_of d s) n after → feeder ≡ n.fed_by → new.flight ≡ old.flight → new.facts.items ≡ old.facts.items → Leads d (Deliver number) Ignored old new
       lost_leads finds here fed still facts =
           let noted = worked_effect s d d n (d.world.links s) (d.world.headers s) (d.after s) d.world.packets (d.world.gathering s) (same_effect d s) in
           leads_same d number p old new before after stands below changed alone role d n d.world.packets (d.world.gathering s) Ignored (same_effect d s) (fit_worked d s stands.links)
@@ -173,7 +173,7 @@ module _ {R : Type 0} {g : Ghosts R} where
 
       -- it was taken
       pub found_taken : (last : ℕ) (a' : Assembled) → TookTo d.world number p k (beside_of d s) after feeder a' a old.flight new.flight IsTaken → (fact_of n (d.world.links s) d.world.sites).links ≡ []
-          → ((m : Node) → StandsAt (beside_of d s) m after → IsOpen m → last ≡ length m.log) → new.facts.items ≡ slice_set old.facts.items s (received_fact last (fact_of n (d.world.links s) d.world.sites)) → Leads d (Deliver number) Taken old new
+          → ((m : Node) → SiteStands (beside_of d s) m after → IsOpen m → last ≡ length m.log) → new.facts.items ≡ slice_set old.facts.items s (received_fact last (fact_of n (d.world.links s) d.world.sites)) → Leads d (Deliver number) Taken old new
       found_taken last a' (TakesOne opens receives next y said here fed sends) none many facts =
           given_new (with_write n p.source y) None (packets_of p.target p.source n.line (NetAck n.session k)) last y sends (TakesOther number p y refl (may opens receives next) refl refl refl) fed here receives none (inr refl)
           (many (with_write n p.source y) here opens) facts

@@ -21,8 +21,8 @@ use Rattle.vx_diskset.specs.Asked.{FailsAs, FusedAs, LeavesFuse, size_in}
 use Rattle.vx_diskset.specs.Burning.{Burnt, NoMore}
 use Rattle.vx_diskset.specs.DiskSets.{CrashedAt, halted_at, worked}
 use Rattle.vx_diskset.specs.Fuses.{LeftAs}
-use Rattle.vx_diskset.specs.Holds.{Beside, Kept, beside_of, itself, links_of, row_links, sure_of}
-use Rattle.vx_diskset.specs.Stands.{RoleIs, StandsAt}
+use Rattle.vx_diskset.specs.Holds.{KeptBeside, KeptSite, beside_of, itself, header_links, row_links, sure_of}
+use Rattle.vx_diskset.specs.Stands.{RoleIs, SiteStands}
 use Rattle.vx_diskset.specs.declared.disk_set.DiskSet.{DiskSet}
 use Rattle.vx_events.proofs.Places.{never_some, some_same}
 use Rattle.vx_events.specs.Effects.{ChangesNode}
@@ -34,11 +34,11 @@ use Rattle.vx_effects.proofs.Effects.{changes_same}
 use Rattle.vx_effects.proofs.Facts.{fact_same, facts_at, halted_is}
 use Rattle.vx_effects.proofs.Leaving.{fit_crashed_as, fit_halved}
 use Rattle.vx_effects.proofs.Notes.{burned_twice}
-use Rattle.vx_effects.specs.Facts.{fact_of, halted_fact, halted_group as halted_there}
+use Rattle.vx_effects.specs.Facts.{fact_of, halted_fact, halted_group as halted_there, halted_group}
 use Rattle.vx_diskset.proofs.Roles.{role_like}
 use Rattle.vx_model.specs.Sites.{is_origin}
 use Rattle.vx_yard.specs.Carries.{Carries}
-use Rattle.vx_yard.specs.Changes.{down_facts, halted_facts, halted_group}
+use Rattle.vx_yard.specs.Changes.{down_facts, halted_facts}
 use Rattle.vx_link_lines.specs.Headed.{CutFor, FullFor, HeadedIs, NextFor, NotesAt, behind, noted_by}
 use Rattle.vx_yard.specs.Standing.{IsSameSite, StandsFor}
 use Rattle.vx_yard.specs.Writes.{noted_facts}
@@ -92,8 +92,8 @@ module _ {R : Type 0} {g : Ghosts R} (note : (ℕ → Node) → ℕ → Node) (s
   here : start.world.nodes s ≡ worked n
   here = notes.here d.world.nodes
 
-  stood : StandsAt (beside_of d s) (worked n) before
-  stood = subst (λ (k : Node). StandsAt (beside_of d s) k before) here (stands.disk_sets.sites s before below changed.there)
+  stood : SiteStands (beside_of d s) (worked n) before
+  stood = subst (λ (k : Node). SiteStands (beside_of d s) k before) here (stands.disk_sets.sites s before below changed.there)
 
   failed : FailsAs (worked n) before
   failed = subst (λ (k : Node). FailsAs k before) here (stands.failing s before below changed.there)
@@ -125,9 +125,9 @@ module _ {R : Type 0} {g : Ghosts R} (note : (ℕ → Node) → ℕ → Node) (s
             (record {
               changes = w.site;
               links = notes.fits (behind d e) h.fits;
-              stands = subst (λ (k : Node). StandsAt (beside_of to s) k after) there
-                  (subst (λ (b : Beside). StandsAt b (worked m) after) (sym (worlds.done_beside note s notes d e m h.row ls gathered h.effect h.kept h.sure))
-                  (subst (λ (k : Node). StandsAt (record { links = ls; headers = d.world.headers s + 1; doubt = None }) k after) (worked_twice m) is));
+              stands = subst (λ (k : Node). SiteStands (beside_of to s) k after) there
+                  (subst (λ (b : KeptBeside). SiteStands b (worked m) after) (sym (worlds.done_beside note s notes d e m h.row ls gathered h.effect h.kept h.sure))
+                  (subst (λ (k : Node). SiteStands (record { links = ls; headers = d.world.headers s + 1; doubt = None }) k after) (worked_twice m) is));
               failing = subst (λ (k : Node). FailsAs k after) there (fails_still (worked m) Done h.like.failing calls);
               fuse = subst (λ (k : Node). FusedAs k after) there (fuse_still (worked m) Done (ap burned h.like.fuse) (λ x y burns. burns) calls);
               role = subst (λ (k : Node). RoleIs k after) there (role_like m (worked m) after refl kind);
@@ -162,9 +162,9 @@ module _ {R : Type 0} {g : Ghosts R} (note : (ℕ → Node) → ℕ → Node) (s
             (record {
               changes = w.site;
               links = notes.fits (halved d e s disk) (fit_halved d e s disk h.opens h.writes h.fits_before);
-              stands = subst (λ (k : Node). StandsAt (beside_of to s) k after) there
-                  (subst (λ (b : Beside). StandsAt b (stopped n disk) after) (sym (worlds.halted_beside note s notes d e m h.row ls gathered h.effect h.kept h.sure disk))
-                  (subst (λ (k : Node). StandsAt (in_doubt (beside_of d s) (worked m) ls disk) k after) (stopped_noted n disk) is.0));
+              stands = subst (λ (k : Node). SiteStands (beside_of to s) k after) there
+                  (subst (λ (b : KeptBeside). SiteStands b (stopped n disk) after) (sym (worlds.halted_beside note s notes d e m h.row ls gathered h.effect h.kept h.sure disk))
+                  (subst (λ (k : Node). SiteStands (in_doubt (beside_of d s) (worked m) ls disk) k after) (stopped_noted n disk) is.0));
               failing = subst (λ (k : Node). FailsAs k after) there (fails_still (stopped n disk) (Refused (Device disk)) refl calls);
               fuse = subst (λ (k : Node). FusedAs k after) there (fuse_still (stopped n disk) (Refused (Device disk)) refl (λ x y burns. burns) calls);
               role = subst (λ (k : Node). RoleIs k after) there (role_like n (stopped n disk) after refl kind);
@@ -197,7 +197,7 @@ module _ {R : Type 0} {g : Ghosts R} (note : (ℕ → Node) → ℕ → Node) (s
               (record {
                 changes = changes_same s start;
                 links = stands.links;
-                stands = subst (λ (k : Node). StandsAt (beside_of d s) k after) (sym here) is.2;
+                stands = subst (λ (k : Node). SiteStands (beside_of d s) k after) (sym here) is.2;
                 failing = subst (λ (k : Node). FailsAs k after) (sym here) (fails_still (worked n) (Refused (Limit what most)) refl calls);
                 fuse = subst (λ (k : Node). FusedAs k after) (sym here) (fuse_still (worked n) (Refused (Limit what most)) refl (λ x y burns. burns) calls);
                 role = role_like n (start.world.nodes s) after (ap (λ (k : Node). is_origin k.role) here) kind;
@@ -218,7 +218,7 @@ module _ {R : Type 0} {g : Ghosts R} (note : (ℕ → Node) → ℕ → Node) (s
       by : (count : ℕ) (taken : Bool) (k : Node) (links : ℕ → Link) (ks : List KeptLink) (node_is : (resolved_at (halved d e s 0) s taken).world.nodes s ≡ k)
           (row_is : (j : ℕ) → (resolved_at (halved d e s 0) s taken).world.links s j ≡ links j) (links_are : row_links links d.world.sites ≡ ks) (least : k.safe ≤ count) (most : count ≤ length k.log)
           → k.state ≡ IsUp → k.failing ≡ n.failing → down_facts (fact_of k links d.world.sites) ≡ down_facts (fact_of n links d.world.sites)
-          → StandsAt (record { links = ks; headers = d.world.headers s + 1; doubt = None }) (crashed k count) after → CutFor note d e s old new
+          → SiteStands (record { links = ks; headers = d.world.headers s + 1; doubt = None }) (crashed k count) after → CutFor note d e s old new
       by count taken k links ks node_is row_is links_are least most up failing shown stood_there =
           let to : Doubted = noted_by note (crashed_as (halved d e s 0) s count taken) in
           let changes = worlds.fell_changes note s notes d e m h.row ls gathered h.effect h.kept h.sure count taken k links ks node_is row_is links_are least most in
@@ -234,8 +234,8 @@ module _ {R : Type 0} {g : Ghosts R} (note : (ℕ → Node) → ℕ → Node) (s
                   (record {
                     changes = changes;
                     links = notes.fits (crashed_as (halved d e s 0) s count taken) (fit_crashed_as (halved d e s 0) s count taken half_up (fit_halved d e s 0 h.opens h.writes h.fits_before));
-                    stands = subst (λ (q : Node). StandsAt (beside_of to s) q after) there
-                        (subst (λ (b : Beside). StandsAt b (crashed k count) after) (sym (worlds.fell_beside note s notes d e m h.row ls gathered h.effect h.kept h.sure count taken k links ks node_is row_is links_are least most)) stood_there);
+                    stands = subst (λ (q : Node). SiteStands (beside_of to s) q after) there
+                        (subst (λ (b : KeptBeside). SiteStands b (crashed k count) after) (sym (worlds.fell_beside note s notes d e m h.row ls gathered h.effect h.kept h.sure count taken k links ks node_is row_is links_are least most)) stood_there);
                     failing = subst (λ (q : Node). FailsAs q after) there (fails_still (crashed k count) (Refused Off) failing calls);
                     fuse = subst (λ (q : Node). FusedAs q after) there (fused_none (crashed k count) after refl);
                     role = role_off (record { links = ks; headers = d.world.headers s + 1; doubt = None }) (crashed k count) (to.world.nodes s) after stood_there (λ is_up. down_up is_up);
@@ -251,16 +251,16 @@ module _ {R : Type 0} {g : Ghosts R} (note : (ℕ → Node) → ℕ → Node) (s
             };
           }
 
-      itself_by : (q : Kept) → q ≡ itself (in_doubt (beside_of d s) (worked m) ls 0) (halted_at (worked n) 0) → (count : ℕ) → q.node.safe ≤ count → count ≤ length q.node.log → StandsAt (sure_of q) (crashed q.node count) after
+      itself_by : (q : KeptSite) → q ≡ itself (in_doubt (beside_of d s) (worked m) ls 0) (halted_at (worked n) 0) → (count : ℕ) → q.node.safe ≤ count → count ≤ length q.node.log → SiteStands (sure_of q) (crashed q.node count) after
           → CutFor note d e s old new
       itself_by q own =
-          subst (λ (y : Kept). (count : ℕ) → y.node.safe ≤ count → count ≤ length y.node.log → StandsAt (sure_of y) (crashed y.node count) after → CutFor note d e s old new) (sym own)
+          subst (λ (y : KeptSite). (count : ℕ) → y.node.safe ≤ count → count ≤ length y.node.log → SiteStands (sure_of y) (crashed y.node count) after → CutFor note d e s old new) (sym own)
           (λ count least most stood_there.
-          by count false (stopped n 0) (d.world.links s) (links_of d.world s) (worlds.own_node note s notes d e m h.row ls gathered h.effect h.kept h.sure) (λ j. refl) refl least most h.opens.0 refl refl stood_there)
+          by count false (stopped n 0) (d.world.links s) (header_links d.world s) (worlds.own_node note s notes d e m h.row ls gathered h.effect h.kept h.sure) (λ j. refl) refl least most h.opens.0 refl refl stood_there)
 
-      doubt_by : (q : Kept) → (in_doubt (beside_of d s) (worked m) ls 0).doubt ≡ Some q → (count : ℕ) → q.node.safe ≤ count → count ≤ length q.node.log → StandsAt (sure_of q) (crashed q.node count) after → CutFor note d e s old new
+      doubt_by : (q : KeptSite) → (in_doubt (beside_of d s) (worked m) ls 0).doubt ≡ Some q → (count : ℕ) → q.node.safe ≤ count → count ≤ length q.node.log → SiteStands (sure_of q) (crashed q.node count) after → CutFor note d e s old new
       doubt_by q other =
-          subst (λ (y : Kept). (count : ℕ) → y.node.safe ≤ count → count ≤ length y.node.log → StandsAt (sure_of y) (crashed y.node count) after → CutFor note d e s old new) (some_same other)
+          subst (λ (y : KeptSite). (count : ℕ) → y.node.safe ≤ count → count ≤ length y.node.log → SiteStands (sure_of y) (crashed y.node count) after → CutFor note d e s old new) (some_same other)
           (λ count least most stood_there.
           by count true (stopped m 0) h.row ls (worlds.other_node note s notes d e m h.row ls gathered h.effect h.kept h.sure) (worlds.other_row note s notes d e m h.row ls gathered h.effect h.kept h.sure) h.kept least most (h.like.state ∙ h.opens.0) h.like.failing
           (down_alike n (stopped m 0) (d.world.links s) h.row d.world.sites h.like.name h.like.disks h.like.blocks h.like.volumes) stood_there)

@@ -11,7 +11,7 @@ use Rattle.vx_history.specs.World.{Fuse, FuseLit, FuseSet, Gathering, Link, NoFu
 use Rattle.vx_history.specs.declared.event.Event.{Event}
 use Rattle.vx_model.specs.declared.state.KeptLink.{KeptLink}
 use Rattle.vx_diskset.specs.DiskSets.{worked}
-use Rattle.vx_diskset.specs.Holds.{Beside, Kept, beside_of, doubt_of, links_of, row_links}
+use Rattle.vx_diskset.specs.Holds.{KeptBeside, KeptSite, beside_of, doubt_of, header_links, row_links}
 use Rattle.vx_effects.proofs.Effects.{changes_then}
 use Rattle.vx_effects.proofs.Notes.{burned_twice}
 use Rattle.vx_effects.proofs.Rows.{touch_kept}
@@ -106,23 +106,23 @@ module _ (note : (ℕ → Node) → ℕ → Node) (s : ℕ) (notes : NotesAt s n
     may_links : row_links (may_be d e s disk).row halted.world.sites ≡ ls
     may_links = row_links_same row (may_be d e s disk).row may_row halted.world.sites ∙ ap (λ (k : ℕ). row_links row k) halted_effect.site.sites ∙ kept
 
-    abbrev other : Kept
+    abbrev other : KeptSite
     other = record { node = stopped m disk; links = ls; headers = d.world.headers s + 1 }
 
     pub halted_doubt : doubt_of halted.world s (halted.after s) ≡ Some other
     halted_doubt =
         ap (λ (o : Option After). doubt_of halted.world s o) halted_effect.is.after
-        ∙ ap (λ (k : Node). Some (let x : Kept = record { node = k; links = row_links (may_be d e s disk).row halted.world.sites; headers = halted.world.headers s } in x)) may_node
-        ∙ ap (λ (ls : List KeptLink). Some (let x : Kept = record { node = stopped m disk; links = ls; headers = halted.world.headers s } in x)) may_links
-        ∙ ap (λ (k : ℕ). Some (let x : Kept = record { node = stopped m disk; links = ls; headers = k } in x)) halted_effect.is.headers
+        ∙ ap (λ (k : Node). Some (let x : KeptSite = record { node = k; links = row_links (may_be d e s disk).row halted.world.sites; headers = halted.world.headers s } in x)) may_node
+        ∙ ap (λ (ls : List KeptLink). Some (let x : KeptSite = record { node = stopped m disk; links = ls; headers = halted.world.headers s } in x)) may_links
+        ∙ ap (λ (k : ℕ). Some (let x : KeptSite = record { node = stopped m disk; links = ls; headers = k } in x)) halted_effect.is.headers
 
-    pub halted_beside : beside_of halted s ≡ record { links = links_of d.world s; headers = d.world.headers s + 1; doubt = Some (record { node = stopped (worked m) disk; links = ls; headers = d.world.headers s + 1 }) }
+    pub halted_beside : beside_of halted s ≡ record { links = header_links d.world s; headers = d.world.headers s + 1; doubt = Some (record { node = stopped (worked m) disk; links = ls; headers = d.world.headers s + 1 }) }
     halted_beside =
-        ap (λ (ls : List KeptLink). let b : Beside = record { links = ls; headers = halted.world.headers s; doubt = doubt_of halted.world s (halted.after s) } in b)
+        ap (λ (ls : List KeptLink). let b : KeptBeside = record { links = ls; headers = halted.world.headers s; doubt = doubt_of halted.world s (halted.after s) } in b)
         (row_links_same (d.world.links s) (halted.world.links s) halted_effect.is.links halted.world.sites ∙ ap (λ (k : ℕ). row_links (d.world.links s) k) halted_effect.site.sites)
-        ∙ ap (λ (k : ℕ). let b : Beside = record { links = links_of d.world s; headers = k; doubt = doubt_of halted.world s (halted.after s) } in b) halted_effect.is.headers
-        ∙ ap (λ (o : Option Kept). let b : Beside = record { links = links_of d.world s; headers = d.world.headers s + 1; doubt = o } in b)
-        (halted_doubt ∙ ap (λ (k : Node). Some (let x : Kept = record { node = k; links = ls; headers = d.world.headers s + 1 } in x)) (sym (stopped_noted m disk)))
+        ∙ ap (λ (k : ℕ). let b : KeptBeside = record { links = header_links d.world s; headers = k; doubt = doubt_of halted.world s (halted.after s) } in b) halted_effect.is.headers
+        ∙ ap (λ (o : Option KeptSite). let b : KeptBeside = record { links = header_links d.world s; headers = d.world.headers s + 1; doubt = o } in b)
+        (halted_doubt ∙ ap (λ (k : Node). Some (let x : KeptSite = record { node = k; links = ls; headers = d.world.headers s + 1 } in x)) (sym (stopped_noted m disk)))
 
   -- ---- its fuse ran out in it
 

@@ -11,9 +11,9 @@ use Rattle.vx_model.specs.declared.state.KeptLink.{KeptLink}
 use Rattle.vx_model.specs.declared.state.State.{State}
 use Rattle.vx_disk.specs.declared.shelf.Shelf.{Ghosts}
 use Rattle.vx_diskset.specs.DiskSets.{RoseAt, halted_at, no_number, worked}
-use Rattle.vx_diskset.specs.Holds.{Beside, most_header, row_links, sure_of}
+use Rattle.vx_diskset.specs.Holds.{KeptBeside, most_header, row_links, sure_of}
 use Rattle.vx_diskset.specs.Keeps.{KeptWith, restated}
-use Rattle.vx_diskset.specs.Stands.{IsToldAt, StandsAt}
+use Rattle.vx_diskset.specs.Stands.{IsToldAt, SiteStands}
 use Rattle.vx_diskset.specs.declared.disk_set.DiskSet.{DiskSet}
 use Rattle.vx_events.specs.Effects.{EffectAt}
 use Rattle.vx_events.specs.LinksFit.{LinksFit}
@@ -43,7 +43,7 @@ pub record IsHeader (d : Doubted) (e : Event) (s : ℕ) (m : Node) (ls : List Ke
   pub writes : WritesAt d.world e s
 
 -- a halted site that may be this node with these links on its disks
-abbrev pub in_doubt : Beside → (m : Node) → List KeptLink → (disk : ℕ) → Beside
+abbrev pub in_doubt : KeptBeside → (m : Node) → List KeptLink → (disk : ℕ) → KeptBeside
 in_doubt beside m ls disk = record {
   links = beside.links;
   headers = beside.headers + 1;
@@ -52,15 +52,15 @@ in_doubt beside m ls disk = record {
 
 module _ {R : Type 0} {g : Ghosts R} where
   -- a site n is this node m with these links; or a disk failed, and it may be that or not; or no number is left; or its fuse ran out
-  abbrev pub Answered : (Beside → Node → DiskSet R g → Type 0) → Beside → (n m : Node) → List KeptLink → (old new : DiskSet R g) → Result (Unit {0}) No → Type 0
-  Answered Off beside n m ls old new (Ok done) = StandsAt (sure_of (record { node = m; links = ls; headers = beside.headers + 1 })) (worked m) new
-  Answered Off beside n m ls old new (Err (Device disk)) = StandsAt (in_doubt beside m ls disk) (halted_at n disk) new × RoseAt old new disk
-  Answered Off beside n m ls old new (Err (Limit what most)) = (Limit what most ≡ no_number) × (IsToldAt new → most_number ≤ most_header beside n) × StandsAt beside n new
+  abbrev pub Answered : (KeptBeside → Node → DiskSet R g → Type 0) → KeptBeside → (n m : Node) → List KeptLink → (old new : DiskSet R g) → Result (Unit {0}) No → Type 0
+  Answered Off beside n m ls old new (Ok done) = SiteStands (sure_of (record { node = m; links = ls; headers = beside.headers + 1 })) (worked m) new
+  Answered Off beside n m ls old new (Err (Device disk)) = SiteStands (in_doubt beside m ls disk) (halted_at n disk) new × RoseAt old new disk
+  Answered Off beside n m ls old new (Err (Limit what most)) = (Limit what most ≡ no_number) × (IsToldAt new → most_number ≤ most_header beside n) × SiteStands beside n new
   Answered Off beside n m ls old new (Err IsOff) = IsFused n.fuse × Off (in_doubt beside m ls 0) (halted_at n 0) new
   Answered Off beside n m ls old new (Err other) = ⊥
 
   -- a state that is made durable
-  pub answered_keep : (Off : Beside → Node → DiskSet R g → Type 0) (beside : Beside) (n : Node) (st : State) (old new : DiskSet R g) (result : Result (Unit {0}) No)
+  pub answered_keep : (Off : KeptBeside → Node → DiskSet R g → Type 0) (beside : KeptBeside) (n : Node) (st : State) (old new : DiskSet R g) (result : Result (Unit {0}) No)
       → KeptWith Off beside n st old new result → Answered Off beside n (restated n st) st.links old new result
   answered_keep Off beside n st old new (Ok done) is = is
   answered_keep Off beside n st old new (Err (Device disk)) is = is

@@ -16,7 +16,7 @@ use Rattle.vx_history.specs.Doubts.{After, Doubted}
 use Rattle.vx_history.specs.Events.{delivered, handed, packet_at}
 use Rattle.vx_history.specs.Headers.{heard_headers}
 use Rattle.vx_history.specs.Refusals.{Outcome, says}
-use Rattle.vx_history.specs.Step.{counted, step}
+use Rattle.vx_history.specs.Step.{headers_counted, step}
 use Rattle.vx_history.specs.Steps.{burned, worked_on}
 use Rattle.vx_history.specs.Stops.{IsFused, IsOpen}
 use Rattle.vx_history.specs.World.{Fuse, FuseLit, FuseSet, NoFuse, Node, Packet, World}
@@ -37,9 +37,9 @@ use Rattle.vx_diskset.proofs.Worked.{stands_worked}
 use Rattle.vx_diskset.specs.Asked.{FailsAs, FusedAs, LeavesFuse, size_in}
 use Rattle.vx_diskset.specs.Burning.{Burnt, NoMore}
 use Rattle.vx_diskset.specs.DiskSets.{CrashedAt, halted_at, worked}
-use Rattle.vx_diskset.specs.Holds.{Beside, beside_of, doubt_of, links_of, row_links, state_with}
+use Rattle.vx_diskset.specs.Holds.{KeptBeside, beside_of, doubt_of, header_links, row_links, state_with}
 use Rattle.vx_diskset.specs.Keeps.{KeptAt}
-use Rattle.vx_diskset.specs.Stands.{KeepsRole, RoleIs, StandsAt}
+use Rattle.vx_diskset.specs.Stands.{KeepsRole, RoleIs, SiteStands}
 use Rattle.vx_diskset.specs.declared.disk_set.DiskSet.{DiskSet}
 use Rattle.vx_effects.proofs.Answers.{deaf_stays, source_stays, target_stays}
 use Rattle.vx_effects.proofs.Fitting.{fit_happened}
@@ -51,7 +51,7 @@ use Rattle.vx_events.specs.Effects.{ChangesNode, EffectAt}
 use Rattle.vx_events.specs.LinkEnds.{LinkEnds, LinksDone, link_noted, target_noted}
 use Rattle.vx_events.specs.LinkedFacts.{linked_facts}
 use Rattle.vx_events.specs.LinksFit.{LinksFit}
-use Rattle.vx_events.specs.Sayings.{Repeats}
+use Rattle.vx_events.specs.Sayings.{RepeatsSaid}
 use Rattle.vx_events.specs.declared.said.Said.{Said}
 use Rattle.vx_events.specs.declared.said.Said.TheVariants.{Done, Ignored, Refused}
 use Rattle.vx_joins.specs.Hearings.{StoresAt}
@@ -59,7 +59,7 @@ use Rattle.vx_linked.specs.Disks.{LeavesDisks}
 use Rattle.vx_yard.specs.Carries.{Carries}
 use Rattle.vx_yard.specs.Happenings.{reply_of}
 use Rattle.vx_link_lines.specs.Headed.{NextFor, behind, noted_by}
-use Rattle.vx_yard.specs.Replies.{no_of}
+use Rattle.vx_yard.specs.Replies.{refusal_in}
 use Rattle.vx_yard.specs.Standing.{Leads, StandsFor, StaysFor}
 use Rattle.vx_yard.specs.Writes.{noted_facts}
 use Rattle.vx_yard.specs.Yards.{IsTold, count_of}
@@ -100,19 +100,19 @@ burns_too (FuseSet calls) h = tt
 burns_too (FuseLit most) h = tt
 
 -- a stop is a refusal, or want of memory
-pub stop_is : (stop : Stop) (why : No) → no_of stop ≡ Some why → stop ≡ StoppedBy why
+pub stop_is : (stop : Stop) (why : No) → refusal_in stop ≡ Some why → stop ≡ StoppedBy why
 stop_is (StoppedBy x) why e = ap (λ (y : No). StoppedBy y) (some_same e)
 stop_is NoMemory why e = absurd (never_some e)
 
-pub stop_none : (stop : Stop) → no_of stop ≡ None → stop ≡ NoMemory
+pub stop_none : (stop : Stop) → refusal_in stop ≡ None → stop ≡ NoMemory
 stop_none (StoppedBy x) e = absurd (never_some (sym e))
 stop_none NoMemory e = refl
 
 -- what is said of an answer is its reply
-says_so : (v : World) (x : EventSaid) → (x ≡ IsTaken) ⊎ (x ≡ IsIgnored) → Repeats v 0 x (reply_of x)
+says_so : (v : World) (x : EventSaid) → (x ≡ IsTaken) ⊎ (x ≡ IsIgnored) → RepeatsSaid v 0 x (reply_of x)
 says_so v x one = ⊎_elim
-    (λ (is : x ≡ IsTaken). subst (λ (y : EventSaid). Repeats v 0 y (reply_of y)) (sym is) refl)
-    (λ (is : x ≡ IsIgnored). subst (λ (y : EventSaid). Repeats v 0 y (reply_of y)) (sym is) refl) one
+    (λ (is : x ≡ IsTaken). subst (λ (y : EventSaid). RepeatsSaid v 0 y (reply_of y)) (sym is) refl)
+    (λ (is : x ≡ IsIgnored). subst (λ (y : EventSaid). RepeatsSaid v 0 y (reply_of y)) (sym is) refl) one
 
 halted_noted : (n : Node) (disk : ℕ) → halted_at (worked n) disk ≡ halted_at n disk
 halted_noted n disk = ap (λ (f : Fuse). let m : Node = record n { halted = Some disk; fuse = f } in m) (burned_twice n.fuse)
@@ -142,13 +142,13 @@ deaf_to d number p at answers fits deaf = ⊎_elim
 
 module _ {R : Type 0} {g : Ghosts R} where
   -- a refusal of a header at a site whose fuse is noted
-  doubted : (P : Beside → Node → DiskSet R g → Type 0) (beside : Beside) (n : Node) (ls : List KeptLink) (disk : ℕ) (e : DiskSet R g) → P (in_doubt beside n ls disk) (halted_at n disk) e
+  doubted : (P : KeptBeside → Node → DiskSet R g → Type 0) (beside : KeptBeside) (n : Node) (ls : List KeptLink) (disk : ℕ) (e : DiskSet R g) → P (in_doubt beside n ls disk) (halted_at n disk) e
       → P (in_doubt beside (worked n) ls disk) (halted_at (worked n) disk) e
   doubted P beside n ls disk e is =
       subst (λ (k : Node). P (record { links = beside.links; headers = beside.headers + 1; doubt = Some (record { node = k; links = ls; headers = beside.headers + 1 }) }) k e) (sym (halted_noted n disk)) is
 
-  pub refused_noted : (beside : Beside) (n : Node) (ls : List KeptLink) (old new : DiskSet R g) (why : No) → Answered CrashedAt beside n n ls old new (Err why) → Answered CrashedAt beside (worked n) (worked n) ls old new (Err why)
-  refused_noted beside n ls old new (Device disk) is = (doubted (λ b k e. StandsAt b k e) beside n ls disk new is.0, is.1)
+  pub refused_noted : (beside : KeptBeside) (n : Node) (ls : List KeptLink) (old new : DiskSet R g) (why : No) → Answered CrashedAt beside n n ls old new (Err why) → Answered CrashedAt beside (worked n) (worked n) ls old new (Err why)
+  refused_noted beside n ls old new (Device disk) is = (doubted (λ b k e. SiteStands b k e) beside n ls disk new is.0, is.1)
   refused_noted beside n ls old new (Limit what most) is = (is.0, is.1, stands_worked beside n new is.2)
   refused_noted beside n ls old new IsOff is = (burns_too n.fuse is.0, doubted (λ b k e. CrashedAt b k e) beside n ls 0 new is.1)
   refused_noted beside n ls old new other is = absurd is
@@ -207,7 +207,7 @@ module _ {R : Type 0} {g : Ghosts R} where
     o = delivered d.world number (packet_at d.world.packets number)
 
     abbrev ls : List KeptLink
-    ls = links_of o.world s
+    ls = header_links o.world s
 
     abbrev start : Doubted
     start = noted_by (note_one s) d
@@ -256,14 +256,14 @@ module _ {R : Type 0} {g : Ghosts R} where
       ends : LinkEnds (IsTold new) d (Deliver number) [] (reply_of said) to
       ends =
           done_as (IsTold new) d number p (reply_of said) said at below (sym h.says)
-          (subst (λ (x : EventSaid). Repeats (behind d event).world 0 x (reply_of x)) (sym h.says) (says_so (behind d event).world o.said (answer_says d number p at answers)))
+          (subst (λ (x : EventSaid). RepeatsSaid (behind d event).world 0 x (reply_of x)) (sym h.says) (says_so (behind d event).world o.said (answer_says d number p at answers)))
 
       -- a header was written
       wrote : ltb (d.world.links s p.source).stored (o.world.links s p.source).stored ≡ true → StoresAt (beside_of d s) n true ls after → NextFor [] start to old new
       wrote rises stored =
           let header : IsHeader d event s n ls (o.world.gathering s) = heard_header d number p at answers rises stands.links opens in
           header_done (note_one s) s (notes_one s) d event n ls (o.world.gathering s) header old before noted below changed.there new after changed role
-          (subst (λ (k : Node). StandsAt (record { links = ls; headers = d.world.headers s + 1; doubt = None }) k after) (sym (worked_twice n)) stored) h.calls h.facts (carried (heard_rose d number p at answers rises))
+          (subst (λ (k : Node). SiteStands (record { links = ls; headers = d.world.headers s + 1; doubt = None }) k after) (sym (worked_twice n)) stored) h.calls h.facts (carried (heard_rose d number p at answers rises))
 
       -- none was
       kept : ltb (d.world.links s p.source).stored (o.world.links s p.source).stored ≡ false → StoresAt (beside_of d s) n false ls after → NextFor [] start to old new
@@ -274,14 +274,14 @@ module _ {R : Type 0} {g : Ghosts R} where
           let beside : beside_of to s ≡ record { links = ls; headers = d.world.headers s; doubt = None } =
           beside_sure to s ls (d.world.headers s)
           (row_links_same (row d number p at answers) (to.world.links s) w.is.links to.world.sites ∙ ap (λ (k : ℕ). row_links (row d number p at answers) k) w.site.sites ∙ heard_kept d number p at answers) w.is.headers (w.is.after ∙ sure) in
-          let stood : StandsAt (record { links = ls; headers = d.world.headers s; doubt = None }) n after =
-          subst (λ (x : Option After). StandsAt (record { links = ls; headers = d.world.headers s; doubt = doubt_of d.world s x }) n after) sure stored in
+          let stood : SiteStands (record { links = ls; headers = d.world.headers s; doubt = None }) n after =
+          subst (λ (x : Option After). SiteStands (record { links = ls; headers = d.world.headers s; doubt = doubt_of d.world s x }) n after) sure stored in
           record {
             stands = stands_turned start to old new s before after noted below changed
                 (record {
                   changes = w.site;
                   links = (notes_one s).fits (behind d event) (fit_happened d event false stands.links);
-                  stands = subst (λ (k : Node). StandsAt (beside_of to s) k after) there (subst (λ (b : Beside). StandsAt b (worked n) after) (sym beside) (stands_worked (record { links = ls; headers = d.world.headers s; doubt = None }) n after stood));
+                  stands = subst (λ (k : Node). SiteStands (beside_of to s) k after) there (subst (λ (b : KeptBeside). SiteStands b (worked n) after) (sym beside) (stands_worked (record { links = ls; headers = d.world.headers s; doubt = None }) n after stood));
                   failing = subst (λ (k : Node). FailsAs k after) there (fails_then n (worked n) before after refl (calls_keep NoMore Done before after h.calls) (stands.failing s before below changed.there));
                   fuse = subst (λ (k : Node). FusedAs k after) there
                       (fused_on (Burnt NoMore Done (size_in before)) n (worked n) (burned n.fuse) before after refl (λ x y burns left. left_passed n.fuse x.fuse y.fuse burns.fuse left) h.calls.told
@@ -340,7 +340,7 @@ module _ {R : Type 0} {g : Ghosts R} where
     pub feeders : new.feeders.items ≡ old.feeders.items
     pub exact : IsTold new → AssemblyStands (delivered d.world number (packet_at d.world.packets number)).world.packets t ((delivered d.world number (packet_at d.world.packets number)).world.gathering t) a
     pub stored : StoresAt (beside_of d t) (d.world.nodes t) (ltb (d.world.links t p.source).stored ((delivered d.world number (packet_at d.world.packets number)).world.links t p.source).stored)
-        (links_of (delivered d.world number (packet_at d.world.packets number)).world t) after
+        (header_links (delivered d.world number (packet_at d.world.packets number)).world t) after
 
   pub heard_by : (d : Doubted) (number : ℕ) (p : Packet) (old new : Yard R g) (before after : DiskSet R g) (a : Assembled) (said : EventSaid) (reply : Said) (t : ℕ) → packet_at d.world.packets number ≡ Some p → is_answer p.message ≡ true → StandsFor d old
       → p.target ≡ t → reply ≡ reply_of said → HeardBy d number p old new before after a said t → Leads d (Deliver number) reply old new
@@ -357,7 +357,7 @@ module _ {R : Type 0} {g : Ghosts R} where
     pub keeps : KeepsRole before after
     pub opens : IsOpen (d.world.nodes t)
     pub rises : (d.world.links t p.source).stored < ((delivered d.world number (packet_at d.world.packets number)).world.links t p.source).stored
-    pub stops : KeptAt (beside_of d t) (d.world.nodes t) (state_with (d.world.nodes t) (links_of (delivered d.world number (packet_at d.world.packets number)).world t)) before after (Err why)
+    pub stops : KeptAt (beside_of d t) (d.world.nodes t) (state_with (d.world.nodes t) (header_links (delivered d.world number (packet_at d.world.packets number)).world t)) before after (Err why)
     pub calls : LeavesFuse NoMore (Refused why) before after
     pub shown : slice_get old.facts.items t ≡ Some x
     pub notes : x' ≡ noted_facts why x
@@ -381,7 +381,7 @@ module _ {R : Type 0} {g : Ghosts R} where
       let start : Doubted = noted_by (note_one s) d in
       let v : World = worked_on (step d.world (DeliverAt number)).world s in
       let left : LeavesDisks start.world v =
-      subst (λ (o : Outcome). LeavesDisks start.world (worked_on (counted d.world (DeliverAt number) o).world s)) (sym is)
+      subst (λ (o : Outcome). LeavesDisks start.world (worked_on (headers_counted d.world (DeliverAt number) o).world s)) (sym is)
       (record { sites = refl; nodes = λ i. refl; kept = λ i. refl; headers = λ i. none_more d.world i (packet_at d.world.packets number); gathering = λ i. refl }) in
       let noted = stands_noted d y s e stands below there in
       let sent : v.packets ≡ start.world.packets ++ [] = ap (λ (o : Outcome). o.world.packets) is ∙ sym (append-nil d.world.packets) in
@@ -396,7 +396,7 @@ module _ {R : Type 0} {g : Ghosts R} where
           calls = tt;
         };
         stands = stands_kept start v y y noted left (fit_worked (behind d (DeliverAt number)) s (fit_happened d (DeliverAt number) false stands.links)) same
-            (noted.facts ∙ subst (λ (o : Outcome). linked_facts start.world ≡ linked_facts (worked_on (counted d.world (DeliverAt number) o).world s)) (sym is) refl);
+            (noted.facts ∙ subst (λ (o : Outcome). linked_facts start.world ≡ linked_facts (worked_on (headers_counted d.world (DeliverAt number) o).world s)) (sym is) refl);
         carries = λ carries. carries_kept start v y y [] (carries_noted d s y carries) left sent same
             (subst (λ (ps : List Packet). FlightStands ps y.flight) (sym (ap (λ (o : Outcome). o.world.packets) is)) carries.flight);
         rose = rose_none (count_of y) (count_of y) (λ k u. omega arith);
@@ -408,7 +408,7 @@ module _ {R : Type 0} {g : Ghosts R} where
       let is = target_stays d number p stands.links at past in
       let v : World = (step d.world (DeliverAt number)).world in
       let left : LeavesDisks d.world v =
-      subst (λ (o : Outcome). LeavesDisks d.world (counted d.world (DeliverAt number) o).world) (sym is)
+      subst (λ (o : Outcome). LeavesDisks d.world (headers_counted d.world (DeliverAt number) o).world) (sym is)
       (record { sites = refl; nodes = λ i. refl; kept = λ i. refl; headers = λ i. none_more d.world i (packet_at d.world.packets number); gathering = λ i. refl }) in
       let sent : v.packets ≡ d.world.packets ++ [] = ap (λ (o : Outcome). o.world.packets) is ∙ sym (append-nil d.world.packets) in
       let same : Relinks y y = record { disk_sets = refl; racks = refl; assemblies = refl; feeders = refl } in
@@ -417,14 +417,14 @@ module _ {R : Type 0} {g : Ghosts R} where
         fails = [];
         done = record {
           ends = LinksDone (behind d (DeliverAt number)) (false, refl) refl refl
-              (subst (λ (o : Outcome). Repeats (behind d (DeliverAt number)).world 0 o.said Ignored) (sym is) refl)
+              (subst (λ (o : Outcome). RepeatsSaid (behind d (DeliverAt number)).world 0 o.said Ignored) (sym is) refl)
               (record { world = sym (unnoted d number p v at past); after = λ i. refl });
           counts = tt;
           works = tt;
           calls = tt;
         };
         stands = stands_kept d v y y stands left (fit_happened d (DeliverAt number) false stands.links) same
-            (stands.facts ∙ subst (λ (o : Outcome). linked_facts d.world ≡ linked_facts (counted d.world (DeliverAt number) o).world) (sym is) refl);
+            (stands.facts ∙ subst (λ (o : Outcome). linked_facts d.world ≡ linked_facts (headers_counted d.world (DeliverAt number) o).world) (sym is) refl);
         carries = λ carries. carries_kept d v y y [] carries left sent same (subst (λ (ps : List Packet). FlightStands ps y.flight) (sym (ap (λ (o : Outcome). o.world.packets) is)) carries.flight);
         rose = rose_none (count_of y) (count_of y) (λ k u. omega arith);
       }

@@ -8,7 +8,7 @@ use Rattle.vx_model.specs.declared.link.Mode.{Mode}
 use Rattle.vx_model.specs.declared.link.Mode.TheVariants.{Log, Dcm, Replay, Fork, Stale}
 use Rattle.vx_history.specs.Admission.{is_log, mode_hold, mode_holds}
 use Rattle.vx_history.specs.Doubts.{Doubted}
-use Rattle.vx_history.specs.Events.{delivered, facts_of, gathered_if, heard, is_taken, link_heard, log_blocks, packet_at, said_of_link, used_above}
+use Rattle.vx_history.specs.Events.{delivered, receiver_facts, gathered_if, heard, is_taken, link_heard, logged_blocks, packet_at, said_of_link, used_above}
 use Rattle.vx_history.specs.LinkForms.{plain_link, with_plain}
 use Rattle.vx_history.specs.Refusals.{Outcome, is_running, keeps_links, says}
 use Rattle.vx_history.specs.Sending.{Sent, sent_step}
@@ -26,14 +26,14 @@ use Rattle.vx_net.specs.Flights.{Flying}
 use Rattle.vx_order.specs.declared.facts.LinkFacts.{LinkFacts}
 use Rattle.vx_peers.proofs.Hears.{event_for, link_there, outcome_is}
 use Rattle.vx_peers.specs.Answers.{Listens, is_answer}
-use Rattle.vx_diskset.specs.Holds.{links_of, row_links}
+use Rattle.vx_diskset.specs.Holds.{header_links, row_links}
 use Rattle.vx_effects.proofs.Answers.{answer_effect}
 use Rattle.vx_effects.proofs.Fitting.{fit_happened}
 use Rattle.vx_events.specs.Effects.{EffectAt}
-use Rattle.vx_events.specs.Fuses.{taken}
+use Rattle.vx_events.specs.Fuses.{ring_taken}
 use Rattle.vx_events.specs.LinkedFacts.{link_fact, needed_by}
-use Rattle.vx_events.specs.LinksFit.{LinksFit, is_plain_mode}
-use Rattle.vx_joins.specs.Hearings.{IsListening, is_plain_mode as goes_plainly}
+use Rattle.vx_events.specs.LinksFit.{LinksFit, is_plain_mode, is_plain_mode as goes_plainly}
+use Rattle.vx_joins.specs.Hearings.{IsListening}
 use Rattle.vx_linked.specs.Hearings.{Hears}
 use Rattle.vx_link_lines.specs.Headed.{behind}
 use Rattle.vx_link_lines.proofs.HeaderCalls.{IsHeader}
@@ -67,15 +67,15 @@ hold_log Stale stored e = refl
 -- what such a link needs
 module _ (n : Node) (s : ℕ) (l : Link) (link : PlainLink) (is : link ≡ plain_link s l) (plain : is_plain_mode l.mode ≡ true) where
   abbrev by : Bool → ℕ
-  by b = if b then log_blocks (drop link.stored n.log) else 0
+  by b = if b then logged_blocks (drop link.stored n.log) else 0
 
   needs_is : needed_by n s l ≡ by (link.attached && is_log link.mode)
   needs_is =
       ap (λ (b : Bool). if l.attached && b then used_above n s l else 0) (holding_log l.mode plain)
-      ∙ ap (λ (k : ℕ). if l.attached && is_log l.mode then log_blocks (drop k n.log) else 0) (hold_log l.mode l.stored plain)
-      ∙ ap (λ (k : PlainLink). if k.attached && is_log k.mode then log_blocks (drop k.stored n.log) else 0) (sym is)
+      ∙ ap (λ (k : ℕ). if l.attached && is_log l.mode then logged_blocks (drop k n.log) else 0) (hold_log l.mode l.stored plain)
+      ∙ ap (λ (k : PlainLink). if k.attached && is_log k.mode then logged_blocks (drop k.stored n.log) else 0) (sym is)
 
-  pub needs_some : (o : Option ℕ) (b : Bool) → b ≡ (link.attached && is_log link.mode) → b ≡ true → IfSome o (λ blocks. blocks ≡ taken (drop link.stored n.log)) → IfSome o (λ blocks. blocks ≡ needed_by n s l)
+  pub needs_some : (o : Option ℕ) (b : Bool) → b ≡ (link.attached && is_log link.mode) → b ≡ true → IfSome o (λ blocks. blocks ≡ ring_taken (drop link.stored n.log)) → IfSome o (λ blocks. blocks ≡ needed_by n s l)
   needs_some None b test yes_ used = tt
   needs_some (Some blocks) b test yes_ used = used ∙ taken_same (drop link.stored n.log) ∙ sym (needs_is ∙ ap by (sym test ∙ yes_))
 
@@ -125,14 +125,14 @@ module _ (d : Doubted) (number : ℕ) (p : Packet) (at : packet_at d.world.packe
   effect : EffectAt s d (behind d event) n row (w.headers s + (if ltb (w.links s p.source).stored (o.world.links s p.source).stored then 1 else 0)) (d.after s) w.packets (o.world.gathering s)
   effect = answer_effect d number p false at no_update
 
-  pub heard_kept : row_links row w.sites ≡ links_of o.world s
+  pub heard_kept : row_links row w.sites ≡ header_links o.world s
   heard_kept = sym (row_links_same row ((behind d event).world.links s) effect.is.links (behind d event).world.sites ∙ ap (λ (k : ℕ). row_links row k) effect.site.sites)
 
   -- a header was written
   pub heard_rose : ltb (w.links s p.source).stored (o.world.links s p.source).stored ≡ true → EffectAt s d (behind d event) n row (w.headers s + 1) (d.after s) w.packets (o.world.gathering s)
   heard_rose rises = subst (λ (b : Bool). EffectAt s d (behind d event) n row (w.headers s + (if b then 1 else 0)) (d.after s) w.packets (o.world.gathering s)) rises effect
 
-  pub heard_header : ltb (w.links s p.source).stored (o.world.links s p.source).stored ≡ true → LinksFit d → IsOpen n → IsHeader d event s n (links_of o.world s) (o.world.gathering s)
+  pub heard_header : ltb (w.links s p.source).stored (o.world.links s p.source).stored ≡ true → LinksFit d → IsOpen n → IsHeader d event s n (header_links o.world s) (o.world.gathering s)
   heard_header rises fits opens = record {
     row = row;
     effect = heard_rose rises;
@@ -197,7 +197,7 @@ module _ (d : Doubted) (number : ℕ) (p : Packet) (at : packet_at d.world.packe
     gathered_links false v = refl
 
     abbrev rule : Sent
-    rule = sent_step (plain_link p.source (w.links s p.source)) (event_for p.message) (facts_of n p.line)
+    rule = sent_step (plain_link p.source (w.links s p.source)) (event_for p.message) (receiver_facts n p.line)
 
     made : (o.world.links s p.source).made ≡ (w.links s p.source).made
     made =

@@ -1,6 +1,6 @@
 -- The part of a line that makes a link in which a site comes to the line of another one, by the call on the disks of the site.
 use Rattle.std.proofs.Common.{◌≡◌, ◌<◌, ℕ, suc, List, [], ◌∷◌, length, true, false, ap, sym, subst, refl, arith}
-use Rattle.std.specs.Prelude.{Some, None, not, ◌&&◌, eqb, slice_get, slice_set, Result, Ok, Err}
+use Rattle.std.specs.Prelude.{Bool, Some, None, not, ◌&&◌, eqb, slice_get, slice_set, Result, Ok, Err}
 use Rattle.std.proofs.lemmas.Bool.Decides.{nat_tests}
 use Rattle.vx_model.specs.Content.{Write}
 use Rattle.vx_model.specs.Sites.{is_origin}
@@ -25,12 +25,12 @@ use Rattle.vx_history.specs.declared.event.Said.TheVariants.{Done as IsDone}
 use Rattle.vx_order.specs.declared.facts.SiteFacts.{SiteFacts}
 use Rattle.vx_disk.specs.declared.shelf.Shelf.{Ghosts}
 use Rattle.vx_diskset.proofs.Roles.{role_like, role_origin}
-use Rattle.vx_diskset.specs.Asked.{LeavesFuse}
+use Rattle.vx_diskset.specs.Asked.{HeadUnder, LeavesFuse}
 use Rattle.vx_diskset.specs.Burning.{NoMore}
 use Rattle.vx_diskset.specs.DiskSets.{CrashedAt, worked}
-use Rattle.vx_diskset.specs.Holds.{Beside, beside_of, links_of, state_with}
+use Rattle.vx_diskset.specs.Holds.{KeptBeside, beside_of, header_links, state_with}
 use Rattle.vx_diskset.specs.Keeps.{done_by}
-use Rattle.vx_diskset.specs.Stands.{StandsAt}
+use Rattle.vx_diskset.specs.Stands.{SiteStands}
 use Rattle.vx_diskset.specs.declared.disk_set.DiskSet.{DiskSet}
 use Rattle.vx_effects.proofs.Fitting.{fit_happened}
 use Rattle.vx_effects.proofs.LinkParts.{AreTwo, joins_effect, two_done}
@@ -67,13 +67,42 @@ none_logged (x ∷ xs) is = absurd (not_zero (length xs) is)
 
 module _ {R : Type 0} {g : Ghosts R} where
   -- what a join promises, as a header of any node
-  pub answered_join : (Off : Beside → Node → DiskSet R g → Type 0) (beside : Beside) (a : Node) (p : ℕ) (n : Node) (old new : DiskSet R g) (result : Result (Unit {0}) No)
+  pub answered_join : (Off : KeptBeside → Node → DiskSet R g → Type 0) (beside : KeptBeside) (a : Node) (p : ℕ) (n : Node) (old new : DiskSet R g) (result : Result (Unit {0}) No)
       → JoinedWith Off beside a p n old new result → Answered Off beside n (joined a p n) beside.links old new result
   answered_join Off beside a p n old new (Ok done) is = is.0
   answered_join Off beside a p n old new (Err (Device disk)) is = is
   answered_join Off beside a p n old new (Err (Limit what most)) is = is
   answered_join Off beside a p n old new (Err IsOff) is = is
   answered_join Off beside a p n old new (Err other) is = absurd is
+
+-- ---- the site may come to that line
+
+module _ (d : Doubted) (p s : ℕ) (sync : SyncMode) (fit : LinksFit d) (said : (step d.world (LinkAt p s sync Joins)).said ≡ IsDone) where
+  abbrev site : Node
+  site = d.world.nodes s
+
+  abbrev no_links : Bool
+  no_links = not (some_below d.world.sites (λ j. is_linked (d.world.links s j)))
+
+  two_sites : AreTwo d.world p s
+  two_sites = (two_done d.world p s sync Joins said).0
+
+  pub can_join : CanJoin (beside_of d s) (worked site)
+  can_join = record {
+    up = two_sites.up_too;
+    running = two_sites.running_too;
+    origin = origin_of site.role (and_left (is_primary site.role) (is_empty site.log && no_links) (fresh d p s sync fit said));
+    empty = none_logged site.log (and_left (is_empty site.log) no_links (and_right (is_primary site.role) (is_empty site.log && no_links) (fresh d p s sync fit said)));
+    unlinked = second_links d p s sync fit said;
+  }
+
+module _ {R : Type 0} {g : Ghosts R} where
+  -- what the call on the disks promises of their fuse
+  pub join_headed : (note : (ℕ → Node) → ℕ → Node) (d : Doubted) (p s : ℕ) (sync : SyncMode) → NotesAt s note → LinksFit d → (step d.world (LinkAt p s sync Joins)).said ≡ IsDone
+      → (old : Yard R g) (before after : DiskSet R g) → StandsFor (noted_by note d) old → s < d.world.sites → slice_get old.disk_sets.items s ≡ Some before → (result : Result (Unit {0}) No)
+      → ((beside : KeptBeside) (k : Node) → SiteStands beside k before → CanJoin beside k → HeadUnder 2 (done_by result) before after) → HeadUnder 2 (done_by result) before after
+  join_headed note d p s sync notes fit said old before after stands below at result call =
+      call (beside_of d s) (worked (d.world.nodes s)) (subst (λ (k : Node). SiteStands (beside_of d s) k before) (notes.here d.world.nodes) (stands.disk_sets.sites s before below at)) (can_join d p s sync fit said)
 
 module _ {R : Type 0} {g : Ghosts R} (note : (ℕ → Node) → ℕ → Node) (d : Doubted) (p s : ℕ) (sync : SyncMode) (notes : NotesAt s note) (fit : LinksFit d) (said : (step d.world (LinkAt p s sync Joins)).said ≡ IsDone)
     (old new : Yard R g) (before after : DiskSet R g) (stands : StandsFor (noted_by note d) old) (below : s < d.world.sites) (changed : Changed old new s before after) where
@@ -92,7 +121,7 @@ module _ {R : Type 0} {g : Ghosts R} (note : (ℕ → Node) → ℕ → Node) (d
   two : AreTwo w p s
   two = (two_done w p s sync Joins said).0
 
-  header : IsHeader d e s m (links_of w s) None
+  header : IsHeader d e s m (header_links w s) None
   header = record {
     row = w.links s;
     effect = joins_effect d p s sync false said;
@@ -105,30 +134,18 @@ module _ {R : Type 0} {g : Ghosts R} (note : (ℕ → Node) → ℕ → Node) (d
     writes = refl;
   }
 
-  origin : is_origin n.role ≡ true
-  origin =
-      origin_of n.role (and_left (is_primary n.role) (is_empty n.log && not (some_below w.sites (λ k. is_linked (w.links s k)))) (fresh d p s sync fit said))
-
   can : CanJoin (beside_of d s) (worked n)
-  can = record {
-    up = two.up_too;
-    running = two.running_too;
-    origin = origin;
-    empty = none_logged n.log
-        (and_left (is_empty n.log) (not (some_below w.sites (λ k. is_linked (w.links s k))))
-        (and_right (is_primary n.role) (is_empty n.log && not (some_below w.sites (λ k. is_linked (w.links s k)))) (fresh d p s sync fit said)));
-    unlinked = second_links d p s sync fit said;
-  }
+  can = can_join d p s sync fit said
 
-  stood : StandsAt (beside_of d s) (worked n) before
-  stood = subst (λ (k : Node). StandsAt (beside_of d s) k before) (notes.here w.nodes) (stands.disk_sets.sites s before below changed.there)
+  stood : SiteStands (beside_of d s) (worked n) before
+  stood = subst (λ (k : Node). SiteStands (beside_of d s) k before) (notes.here w.nodes) (stands.disk_sets.sites s before below changed.there)
 
   -- what the call on the disks promises of a state
   abbrev pub Joined : State → Result (Unit {0}) No → Type 0
-  Joined st result = (beside : Beside) (a : Node) (q : ℕ) (k : Node) → StandsAt beside k before → CanJoin beside k → st ≡ state_with (joined a q k) [] → JoinedAt beside a q k before after result
+  Joined st result = (beside : KeptBeside) (a : Node) (q : ℕ) (k : Node) → SiteStands beside k before → CanJoin beside k → st ≡ state_with (joined a q k) [] → JoinedAt beside a q k before after result
 
   abbrev pub Calls : Result (Unit {0}) No → Type 0
-  Calls result = (beside : Beside) (k : Node) → StandsAt beside k before → LeavesFuse NoMore (done_by result) before after
+  Calls result = (beside : KeptBeside) (k : Node) → SiteStands beside k before → LeavesFuse NoMore (done_by result) before after
 
   module _ (st : State) (is : st ≡ state_with m []) where
     joins : (result : Result (Unit {0}) No) → Joined st result → JoinedAt (beside_of d s) (w.nodes p) p (worked n) before after result
@@ -137,9 +154,9 @@ module _ {R : Type 0} {g : Ghosts R} (note : (ℕ → Node) → ℕ → Node) (d
     pub join_done : Joined st (Ok tt) → Calls (Ok tt) → new.facts.items ≡ linked_facts (behind d e).world → new.flight ≡ old.flight → LetGo s old.assemblies.items new.assemblies.items
         → new.feeders.items ≡ slice_set old.feeders.items s p → NextFor [] (noted_by note d) (noted_by note (behind d e)) old new
     join_done call calls facts flight lets feeders =
-        let f = done_effect note s notes d e m header.row (links_of w s) None header.effect header.kept header.sure in
+        let f = done_effect note s notes d e m header.row (header_links w s) None header.effect header.kept header.sure in
         let j = joins (Ok tt) call in
-        header_done note s notes d e m (links_of w s) None header old before stands below changed.there new after changed (role_like (joined (w.nodes p) p (worked n)) m after refl j.1)
+        header_done note s notes d e m (header_links w s) None header old before stands below changed.there new after changed (role_like (joined (w.nodes p) p (worked n)) m after refl j.1)
         (answered_join CrashedAt (beside_of d s) (w.nodes p) p (worked n) before after (Ok tt) j) (calls (beside_of d s) (worked n) stood) facts
         (λ carries. carries_cleared s p (noted_by note d) (noted_by note (behind d e)) old new carries
         (record { flight = flight; assembly = lets.assembly; none = lets.none; assemblies = lets.is }) small feeders f.site f.sent f.gathering
@@ -151,5 +168,5 @@ module _ {R : Type 0} {g : Ghosts R} (note : (ℕ → Node) → ℕ → Node) (d
     pub join_refused : (why : No) (said_so : Said) (x x' : SiteFacts) → said_so ≡ Refused why → Joined st (Err why) → Calls (Err why) → slice_get old.facts.items s ≡ Some x → x' ≡ noted_facts why x
         → new.facts.items ≡ slice_set old.facts.items s x' → LetsGoBy why old new s → HeadedSo note d e s old new (Err said_so)
     join_refused why said_so x x' says call calls there shown facts lets =
-        header_refused note s notes d e m (links_of w s) None header old before stands below changed.there new after changed (role_origin n after origin) why said_so x x' says
+        header_refused note s notes d e m (header_links w s) None header old before stands below changed.there new after changed (role_origin n after can.origin) why said_so x x' says
         (answered_join CrashedAt (beside_of d s) (w.nodes p) p (worked n) before after (Err why) (joins (Err why) call)) (calls (beside_of d s) (worked n) stood) there shown facts lets

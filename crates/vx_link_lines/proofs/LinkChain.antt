@@ -11,7 +11,7 @@ use Rattle.vx_history.proofs.Updates.{and_left, and_right, at_place, eqb_apart}
 use Rattle.vx_history.specs.Doubts.{Doubted}
 use Rattle.vx_history.specs.Events.{joined as joined_to, new_link, opened}
 use Rattle.vx_history.specs.KeptLinks.{kept_link, kept_links}
-use Rattle.vx_history.specs.Refusals.{is_empty, is_fresh, is_primary, links_of as count_of_links, some_below}
+use Rattle.vx_history.specs.Refusals.{is_empty, is_fresh, is_primary, count_links_of as count_of_links, some_below}
 use Rattle.vx_history.specs.Sends.{is_linked}
 use Rattle.vx_history.specs.Step.{step}
 use Rattle.vx_history.specs.Stops.{IsOpen}
@@ -20,7 +20,7 @@ use Rattle.vx_history.specs.declared.event.Event.{Event}
 use Rattle.vx_history.specs.declared.event.Event.TheVariants.{Link as LinkAt}
 use Rattle.vx_history.specs.declared.event.LinkPart.TheVariants.{Joins, Made, Marked, Opened}
 use Rattle.vx_history.specs.declared.event.Said.TheVariants.{Done as IsDone}
-use Rattle.vx_diskset.specs.Holds.{links_of, row_links, state_with}
+use Rattle.vx_diskset.specs.Holds.{header_links, row_links, state_with}
 use Rattle.vx_effects.proofs.Fitting.{fit_happened}
 use Rattle.vx_effects.proofs.LinkParts.{AreTwo, joins_done, joins_effect, made_effect, made_follows, marked_effect, marked_follows, opened_follows, two_done}
 use Rattle.vx_effects.proofs.LinkRows.{changed_kept}
@@ -37,12 +37,12 @@ use Rattle.vx_yard.proofs.Rows.{row_links_same}
 -- ---- rows
 
 -- the links of a site that an event left alone
-row_stays : (d e : Doubted) (s i : ℕ) → ChangesNode s d e → (i ≡ s → ⊥) → links_of e.world i ≡ links_of d.world i
+row_stays : (d e : Doubted) (s i : ℕ) → ChangesNode s d e → (i ≡ s → ⊥) → header_links e.world i ≡ header_links d.world i
 row_stays d e s i changes apart =
     row_links_same (d.world.links i) (e.world.links i) (λ k. changes.links i k apart) e.world.sites ∙ ap (λ (k : ℕ). row_links (d.world.links i) k) changes.sites
 
 -- the links of the site that it changed
-row_is : (d e : Doubted) (s : ℕ) (row : ℕ → Link) → ChangesNode s d e → ((k : ℕ) → e.world.links s k ≡ row k) → links_of e.world s ≡ row_links row d.world.sites
+row_is : (d e : Doubted) (s : ℕ) (row : ℕ → Link) → ChangesNode s d e → ((k : ℕ) → e.world.links s k ≡ row k) → header_links e.world s ≡ row_links row d.world.sites
 row_is d e s row changes is = row_links_same row (e.world.links s) is e.world.sites ∙ ap (λ (k : ℕ). row_links row k) changes.sites
 
 none_below : (n : ℕ) (test : ℕ → Bool) → some_below n test ≡ false → (k : ℕ) → k < n → test k ≡ false
@@ -97,7 +97,7 @@ module _ (d : Doubted) (p s : ℕ) (sync : SyncMode) (fit : LinksFit d) (said : 
           (and_right (is_primary (w.nodes s).role) (is_empty (w.nodes s).log && not (some_below w.sites (λ j. is_linked (w.links s j)))) fresh))
 
   -- the one that joins has no links
-  pub second_links : links_of w s ≡ []
+  pub second_links : header_links w s ≡ []
   second_links = ap (λ (ss : List ℕ). kept_links (w.links s) ss) (no_sites (w.links s) w.sites 0 w.sites unlinked)
 
   -- ---- the worlds
@@ -199,41 +199,41 @@ module _ (d : Doubted) (p s : ℕ) (sync : SyncMode) (fit : LinksFit d) (said : 
   -- ---- what the headers keep
 
   module _ (session : ℕ) where
-    links_two : links_of two.world p ≡ further_links w p s sync session
+    links_two : header_links two.world p ≡ further_links w p s sync session
     links_two =
         made_links one p s sync said_two (fit_one.rows p).places
         ∙ ap (λ (ls : List KeptLink). ls ++ kept_link s made_link ∷ []) (row_stays d one s p f_one.site apart_too)
 
-    links_three : links_of three.world p ≡ further_links w p s sync session
+    links_three : header_links three.world p ≡ further_links w p s sync session
     links_three = row_stays two three s p f_three.site apart_too ∙ links_two
 
     link_there : three.world.links p s ≡ made_link
     link_there = f_three.site.links p s apart_too ∙ f_two.is.links s ∙ at_place (one.world.links p) s made_link
 
-    links_four : links_of four.world p ≡ opened_links w p s sync session (w.nodes p).safe
+    links_four : header_links four.world p ≡ opened_links w p s sync session (w.nodes p).safe
     links_four =
         sym (opened_kept three p s sync said_four)
         ∙ changed_kept (three.world.links p) three.world.sites s (opened (three.world.links p s) (three.world.nodes p).safe) refl
-        ∙ ap (λ (l : Link). kept_over (kept_link s (opened l (three.world.nodes p).safe)) (links_of three.world p)) link_there
-        ∙ ap (λ (n : Node). kept_over (kept_link s (opened made_link n.safe)) (links_of three.world p)) first_three
+        ∙ ap (λ (l : Link). kept_over (kept_link s (opened l (three.world.nodes p).safe)) (header_links three.world p)) link_there
+        ∙ ap (λ (n : Node). kept_over (kept_link s (opened made_link n.safe)) (header_links three.world p)) first_three
         ∙ ap (λ (ls : List KeptLink). kept_over (kept_link s (opened made_link (w.nodes p).safe)) ls) links_three
 
-  second_two_links : links_of two.world s ≡ []
+  second_two_links : header_links two.world s ≡ []
   second_two_links = row_stays one two p s f_two.site apart ∙ row_is d one s (w.links s) f_one.site f_one.is.links ∙ second_links
 
-  pub made_is : (made : State) (session : ℕ) → made ≡ state_with (w.nodes p) (further_links w p s sync session) → made ≡ state_with (one.world.nodes p) (links_of (step one.world makes).world p)
+  pub made_is : (made : State) (session : ℕ) → made ≡ state_with (w.nodes p) (further_links w p s sync session) → made ≡ state_with (one.world.nodes p) (header_links (step one.world makes).world p)
   made_is made session is =
       is ∙ ap (λ (n : Node). state_with n (further_links w p s sync session)) (sym first_one) ∙ ap (λ (ls : List KeptLink). state_with (one.world.nodes p) ls) (sym (links_two session))
 
   pub marked_is : (marked : State) → marked ≡ (let m : State = record (state_with (joined_to (w.nodes p) p (w.nodes s)) []) { mark = Consistent } in m)
-      → marked ≡ (let m : State = record (state_with (two.world.nodes s) (links_of two.world s)) { mark = Consistent } in m)
+      → marked ≡ (let m : State = record (state_with (two.world.nodes s) (header_links two.world s)) { mark = Consistent } in m)
   marked_is marked is =
       is
       ∙ ap (λ (n : Node). let m : State = record (state_with n []) { mark = Consistent } in m) (sym second_two)
       ∙ ap (λ (ls : List KeptLink). let m : State = record (state_with (two.world.nodes s) ls) { mark = Consistent } in m) (sym second_two_links)
 
   pub opened_is : (opened : State) (session last : ℕ) → last ≡ (w.nodes p).safe → opened ≡ state_with (w.nodes p) (opened_links w p s sync session last)
-      → opened ≡ state_with (three.world.nodes p) (links_of (step three.world opens).world p)
+      → opened ≡ state_with (three.world.nodes p) (header_links (step three.world opens).world p)
   opened_is opened session last safe is =
       is
       ∙ ap (λ (k : ℕ). state_with (w.nodes p) (opened_links w p s sync session k)) safe

@@ -19,17 +19,20 @@ use Rattle.vx_script.specs.declared.line.ScriptLine.TheVariants.{Link}
 use Rattle.vx_disk.specs.declared.shelf.Shelf.{Ghosts}
 use Rattle.vx_model.specs.declared.site.Mark.TheVariants.{Consistent}
 use Rattle.vx_model.specs.declared.state.State.{State}
-use Rattle.vx_diskset.specs.Holds.{links_of, state_with}
+use Rattle.vx_diskset.specs.Asked.{HeadUnder}
+use Rattle.vx_diskset.specs.Holds.{header_links, state_with}
 use Rattle.vx_events.specs.Fails.{Fails}
 use Rattle.vx_events.specs.Facts.{site_number}
 use Rattle.vx_events.specs.LinkEnds.{LinkEnds, LinkReplies, LinksDone, link_noted}
 use Rattle.vx_events.specs.LinkLists.{link_events, link_parts}
 use Rattle.vx_events.specs.LinksFit.{LinksFit}
-use Rattle.vx_events.specs.Sayings.{Repeats}
+use Rattle.vx_events.specs.Sayings.{RepeatsSaid}
 use Rattle.vx_events.specs.declared.said.Said.{Said}
 use Rattle.vx_events.specs.declared.said.Said.TheVariants.{Done}
-use Rattle.vx_link_lines.specs.Headed.{HeadedSo, NextFor, NotesAt, behind, noted_by}
+use Rattle.vx_link_lines.specs.Headed.{HeadedSo, NextFor, NotesAt, behind, noted_by, part_said}
 use Rattle.vx_link_lines.specs.Linking.{IsLinking}
+use Rattle.vx_yard.specs.BothSites.{BothSites, LinkBurns}
+use Rattle.vx_yard.specs.OfSites.{HasCalled, OfSite}
 use Rattle.vx_yard.specs.Standing.{Leads, StandsFor}
 use Rattle.vx_yard.specs.Stands.{RoseAll, RoseBy, times}
 use Rattle.vx_yard.specs.Yards.{IsTold, count_of}
@@ -38,6 +41,7 @@ use Rattle.vx_yard.specs.declared.yard.Yard.{Yard}
 use Rattle.vx_link_lines.proofs.HeadedEnds.{IsBehind, headed_ends}
 use Rattle.vx_link_lines.proofs.LinkChain as chain
 use Rattle.vx_link_lines.proofs.NotedBoth.{carries_both, note_both, notes_both, stands_both}
+use Rattle.vx_yard.proofs.BothSites.{UnderJoined, UnderMade, UnderMarked, UnderOpened, link_burns, stops_joined, stops_made, stops_marked, stops_opened, under_joined, under_made, under_marked, under_opened}
 use Rattle.vx_yard.proofs.WriteLine.{get_there}
 
 -- counts that rose by nothing, and then by so much
@@ -71,18 +75,18 @@ module _ {R : Type 0} {g : Ghosts R} where
     abbrev pub HeadsMade : Type 0
     HeadsMade =
         (d : Doubted) (note : (ℕ → Node) → ℕ → Node) → NotesAt p note → StandsFor (noted_by note d) old → LinksFit d → p < d.world.sites → (d.world.nodes s).session ≡ states.session
-        → (step d.world (LinkAt p s sync Made)).said ≡ IsDone → states.made ≡ state_with (d.world.nodes p) (links_of (step d.world (LinkAt p s sync Made)).world p)
+        → (step d.world (LinkAt p s sync Made)).said ≡ IsDone → states.made ≡ state_with (d.world.nodes p) (header_links (step d.world (LinkAt p s sync Made)).world p)
         → HeadedSo note d (LinkAt p s sync Made) p old new result
 
     abbrev pub HeadsMarked : Type 0
     HeadsMarked =
         (d : Doubted) (note : (ℕ → Node) → ℕ → Node) → NotesAt s note → StandsFor (noted_by note d) old → LinksFit d → s < d.world.sites → (step d.world (LinkAt p s sync Marked)).said ≡ IsDone
-        → states.marked ≡ (let m : State = record (state_with (d.world.nodes s) (links_of d.world s)) { mark = Consistent } in m) → HeadedSo note d (LinkAt p s sync Marked) s old new result
+        → states.marked ≡ (let m : State = record (state_with (d.world.nodes s) (header_links d.world s)) { mark = Consistent } in m) → HeadedSo note d (LinkAt p s sync Marked) s old new result
 
     abbrev pub HeadsOpened : Type 0
     HeadsOpened =
         (d : Doubted) (note : (ℕ → Node) → ℕ → Node) → NotesAt p note → StandsFor (noted_by note d) old → LinksFit d → p < d.world.sites → (d.world.nodes p).safe ≡ states.last
-        → (step d.world (LinkAt p s sync Opened)).said ≡ IsDone → states.opened ≡ state_with (d.world.nodes p) (links_of (step d.world (LinkAt p s sync Opened)).world p)
+        → (step d.world (LinkAt p s sync Opened)).said ≡ IsDone → states.opened ≡ state_with (d.world.nodes p) (header_links (step d.world (LinkAt p s sync Opened)).world p)
         → HeadedSo note d (LinkAt p s sync Opened) p old new result
 
   -- ---- the line
@@ -273,6 +277,64 @@ module _ {R : Type 0} {g : Ghosts R} where
     ends_done mid new before call =
         leads_by new
         (LinksDone four (subst (λ (es : List Event). Runs d es four) (sym numbers) (false, (false, (false, (false, refl))))) (ap (λ (es : List Event). all_fails es) numbers) refl
-        (subst (λ (es : List Event). LinkReplies line d four es Done) (sym numbers) (subst (λ (o : EventSaid). Repeats four.world 0 o Done) (sym (chain.said_four d p s sync fit l.said)) refl))
+        (subst (λ (es : List Event). LinkReplies line d four es Done) (sym numbers) (subst (λ (o : EventSaid). RepeatsSaid four.world 0 o Done) (sym (chain.said_four d p s sync fit l.said)) refl))
         (record { world = sym (notes four.world); after = λ i. refl }))
         (next_then [] (noted_by note d) (noted_by note three) (noted_by note four) old mid new before (called_four mid new (Ok tt) before call))
+
+    -- ---- the calls on the disks
+
+    apart : p ≡ s → ⊥
+    apart = chain.apart_too d p s sync fit l.said
+
+    -- what the call of the first part promises of the fuse of its site
+    abbrev pub CallsJoin : Yard R g → Result (Unit {0}) Said → Type 0
+    CallsJoin new result =
+        (e : Doubted) (noting : (ℕ → Node) → ℕ → Node) → NotesAt s noting → StandsFor (noted_by noting e) old → LinksFit e → s < e.world.sites → (step e.world (LinkAt p s sync Joins)).said ≡ IsDone
+        → OfSite (HeadUnder 2 (part_said result)) s old new
+
+    pub under_one : (new : Yard R g) (result : Result (Unit {0}) Said) → CallsJoin new result → BothSites (UnderJoined (part_said result)) p s old new
+    under_one new result call =
+        under_joined p s apart (part_said result) old new (omega (arith, l.below, stands.disk_sets.few, stands.disk_sets.eight)) (omega (arith, l.below_too, stands.disk_sets.few, stands.disk_sets.eight))
+        (call d note (notes_both p s s (inr refl)) start fit l.below_too l.said)
+
+    pub under_two : (mid new : Yard R g) (said : Said) → BothSites (UnderJoined Done) p s old mid → OfSite (HeadUnder 2 said) p mid new → BothSites (UnderMade said) p s old new
+    under_two mid new said before of = under_made p s apart said old mid new before of
+
+    pub under_three : (mid new : Yard R g) (said : Said) → BothSites (UnderMade Done) p s old mid → OfSite (HeadUnder 2 said) s mid new → BothSites (UnderMarked said) p s old new
+    under_three mid new said before of = under_marked p s apart said old mid new before of
+
+    under_four : (mid new : Yard R g) (said : Said) → BothSites (UnderMarked Done) p s old mid → OfSite (HeadUnder 2 said) p mid new → BothSites (UnderOpened said) p s old new
+    under_four mid new said before of = under_opened p s apart said old mid new before of
+
+    -- a part ended the line
+    pub burns_one : (new : Yard R g) (said : Said) → HeadsJoin p s sync states old new (Err said) → CallsJoin new (Err said) → BothSites (LinkBurns said) p s old new
+    burns_one new said call calls =
+        let h = called_one new (Err said) call in
+        stops_joined p s said h.0 h.1 old new (under_one new (Err said) calls)
+
+    pub burns_two : (mid new : Yard R g) (said : Said) → Comes one mid → HeadsMade p s sync states mid new (Err said) → BothSites (UnderJoined Done) p s old mid → OfSite (HeadUnder 2 said) p mid new
+        → BothSites (LinkBurns said) p s old new
+    burns_two mid new said before call both of =
+        let h = called_two mid new (Err said) before call in
+        stops_made p s said h.0 h.1 old new (under_two mid new said both of)
+
+    pub burns_three : (mid new : Yard R g) (said : Said) → Comes two mid → HeadsMarked p s sync states mid new (Err said) → BothSites (UnderMade Done) p s old mid → OfSite (HeadUnder 2 said) s mid new
+        → BothSites (LinkBurns said) p s old new
+    burns_three mid new said before call both of =
+        let h = called_three mid new (Err said) before call in
+        stops_marked p s said h.0 h.1 old new (under_three mid new said both of)
+
+    pub burns_four : (mid new : Yard R g) (said : Said) → Comes three mid → HeadsOpened p s sync states mid new (Err said) → BothSites (UnderMarked Done) p s old mid → OfSite (HeadUnder 2 said) p mid new
+        → BothSites (LinkBurns said) p s old new
+    burns_four mid new said before call both of =
+        let h = called_four mid new (Err said) before call in
+        stops_opened p s said h.0 h.1 old new (under_four mid new said both of)
+
+    -- all parts are done
+    pub burns_done : (mid new : Yard R g) → BothSites (UnderMarked Done) p s old mid → OfSite (HeadUnder 2 Done) p mid new → BothSites (LinkBurns Done) p s old new
+    burns_done mid new both of = link_burns p s old new (under_four mid new Done both of)
+
+    -- by the names of its sites
+    pub called_named : (said : Said) (new : Yard R g) → BothSites (LinkBurns said) p s old new → HasCalled d.world line said old new
+    called_named said new both =
+        subst (λ (k : ℕ). BothSites (LinkBurns said) k (site_number d.world second) old new) (sym l.number) (subst (λ (k : ℕ). BothSites (LinkBurns said) p k old new) (sym l.number_too) both)

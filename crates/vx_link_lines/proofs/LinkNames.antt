@@ -11,7 +11,7 @@ use Rattle.vx_history.specs.declared.event.Event.TheVariants.{Link as LinkAt}
 use Rattle.vx_history.specs.declared.event.LinkPart.TheVariants.{Joins}
 use Rattle.vx_history.specs.declared.event.Said.TheVariants.{Done as IsDone}
 use Rattle.vx_order.specs.Asks.{ask_of}
-use Rattle.vx_order.specs.Order.{refusal_of}
+use Rattle.vx_order.specs.Order.{line_refusal}
 use Rattle.vx_order.specs.Subject.{first_name, halt_of, need_of, second_name}
 use Rattle.vx_order.specs.declared.facts.SiteFacts.{SiteFacts}
 use Rattle.vx_script.specs.declared.line.ScriptLine.TheVariants.{Link}
@@ -20,7 +20,7 @@ use Rattle.vx_effects.proofs.LinkParts.{AreTwo, two_done}
 use Rattle.vx_events.proofs.LinkJoining.{join_agrees}
 use Rattle.vx_events.proofs.Refused.{passes}
 use Rattle.vx_events.specs.Facts.{seat_of, site_number}
-use Rattle.vx_events.specs.LinkedFacts.{linked_fact, links_by, links_in, refused_by}
+use Rattle.vx_events.specs.LinkedFacts.{linked_fact, links_by, links_of_site, refused_by}
 use Rattle.vx_linked.proofs.Finding.{seat_found}
 use Rattle.vx_link_lines.specs.Linking.{AreLinkStates, IsLinking}
 use Rattle.vx_yard.specs.Standing.{StandsFor}
@@ -32,11 +32,11 @@ use Rattle.vx_link_lines.proofs.AllDurable.{durable_for}
 use Rattle.vx_yard.proofs.LinkLines.{listed}
 use Rattle.vx_yard.proofs.NamedSite.{SiteAt, site_at}
 
-pub link_first : (sites : List SiteFacts) (files : Bool) (first second : List ℕ) (sync : SyncMode) (prot : Prot) → refusal_of sites files (Link first second sync prot) ≡ None → IsSome (seat_of sites first)
+pub link_first : (sites : List SiteFacts) (files : Bool) (first second : List ℕ) (sync : SyncMode) (prot : Prot) → line_refusal sites files (Link first second sync prot) ≡ None → IsSome (seat_of sites first)
 unfolding first_name second_name need_of halt_of ask_of
 link_first sites files first second sync prot free = seat_found sites first (passes sites files (Link first second sync prot) free).known
 
-pub link_second : (sites : List SiteFacts) (files : Bool) (first second : List ℕ) (sync : SyncMode) (prot : Prot) → refusal_of sites files (Link first second sync prot) ≡ None → IsSome (seat_of sites second)
+pub link_second : (sites : List SiteFacts) (files : Bool) (first second : List ℕ) (sync : SyncMode) (prot : Prot) → line_refusal sites files (Link first second sync prot) ≡ None → IsSome (seat_of sites second)
 unfolding first_name second_name need_of halt_of ask_of
 link_second sites files first second sync prot free = seat_found sites second (passes sites files (Link first second sync prot) free).other_known
 
@@ -53,7 +53,7 @@ module _ {R : Type 0} {g : Ghosts R} (d : Doubted) (old : Yard R g) (first secon
 
   pub link_said : (step w (LinkAt p s sync Joins)).said ≡ IsDone
   link_said =
-      let tested : refused_by w (in_files old) (Link first second sync prot) ≡ None = ap (λ (fs : List SiteFacts). refusal_of fs (in_files old) (Link first second sync prot)) (sym stands.facts) ∙ free in
+      let tested : refused_by w (in_files old) (Link first second sync prot) ≡ None = ap (λ (fs : List SiteFacts). line_refusal fs (in_files old) (Link first second sync prot)) (sym stands.facts) ∙ free in
       subst (λ (k : ℕ). (step w (LinkAt k s sync Joins)).said ≡ IsDone) here.number
       (subst (λ (k : ℕ). (step w (LinkAt (site_number w first) k sync Joins)).said ≡ IsDone) there.number
       (join_agrees w (in_files old) first second sync prot (durable_for d old stands) (listed d stands.links) tested))
@@ -62,8 +62,8 @@ module _ {R : Type 0} {g : Ghosts R} (d : Doubted) (old : Yard R g) (first secon
   link_two = (two_done w p s sync Joins link_said).0
 
   -- what the tests see of the links of the first site
-  pub link_links : (f : SiteFacts) → f ≡ linked_fact w p → f.links ≡ links_in w p
-  link_links f is = ap (λ (x : SiteFacts). x.links) is ∙ ap (λ (t : SiteState). links_by t (links_in w p)) link_two.up
+  pub link_links : (f : SiteFacts) → f ≡ linked_fact w p → f.links ≡ links_of_site w p
+  link_links f is = ap (λ (x : SiteFacts). x.links) is ∙ ap (λ (t : SiteState). links_by t (links_of_site w p)) link_two.up
 
   pub links_it : (states : LinkStates) → AreLinkStates w p s sync states → IsLinking d first second p s sync states
   links_it states are = record { below = here.below; below_too = there.below; number = here.number; number_too = there.number; said = link_said; are = are }

@@ -6,7 +6,7 @@ use Rattle.vx_history.specs.Doubts.{Doubted}
 use Rattle.vx_history.specs.Events.{linked_sites, new_link, opened}
 use Rattle.vx_history.specs.KeptLinks.{kept_link}
 use Rattle.vx_history.specs.Listed.{HasPlaces}
-use Rattle.vx_history.specs.Refusals.{links_of as count_of_links}
+use Rattle.vx_history.specs.Refusals.{count_links_of as count_of_links}
 use Rattle.vx_history.specs.Step.{step}
 use Rattle.vx_history.specs.Stops.{IsOpen}
 use Rattle.vx_history.specs.World.{Link, Node, World, updated}
@@ -19,7 +19,7 @@ use Rattle.vx_model.specs.declared.site.Mark.TheVariants.{Consistent}
 use Rattle.vx_model.specs.declared.state.KeptLink.{KeptLink}
 use Rattle.vx_model.specs.declared.state.State.{State}
 use Rattle.vx_diskset.specs.DiskSets.{worked}
-use Rattle.vx_diskset.specs.Holds.{beside_of, links_of, row_links, state_with}
+use Rattle.vx_diskset.specs.Holds.{beside_of, header_links, row_links, state_with}
 use Rattle.vx_diskset.specs.Keeps.{CanKeep, Suffices}
 use Rattle.vx_diskset.specs.Needs.{is_needing}
 use Rattle.vx_effects.proofs.LinkParts.{AreTwo, made_done, made_effect, marked_effect, opened_effect, two_done}
@@ -64,25 +64,25 @@ module _ (d : Doubted) (p s : ℕ) (sync : SyncMode) where
     pub made_opens : IsOpen (w.nodes p)
     made_opens = let t : AreTwo w p s = (two_done w p s sync Made said).0 in (t.up, t.running)
 
-    pub made_kept : row_links (updated (w.links p) s made_link) w.sites ≡ links_of (behind d made).world p
+    pub made_kept : row_links (updated (w.links p) s made_link) w.sites ≡ header_links (behind d made).world p
     made_kept =
         sym (row_links_same (updated (w.links p) s made_link) ((behind d made).world.links p) made_f.is.links (behind d made).world.sites
         ∙ ap (λ (k : ℕ). row_links (updated (w.links p) s made_link) k) made_f.site.sites)
 
     -- the header keeps the links of before, and the new one behind them
-    pub made_links : HasPlaces w.sites (w.links p) → links_of (behind d made).world p ≡ links_of w p ++ kept_link s made_link ∷ []
+    pub made_links : HasPlaces w.sites (w.links p) → header_links (behind d made).world p ≡ header_links w p ++ kept_link s made_link ∷ []
     made_links has =
         sym made_kept ∙ further_kept (w.links p) w.sites s made_link has (two_done w p s sync Made said).0.second (made_done w p s sync said).0 refl
 
-    pub made_can : HasPlaces w.sites (w.links p) → CanKeep (beside_of d p) (worked (w.nodes p)) (state_with (w.nodes p) (links_of (behind d made).world p))
+    pub made_can : HasPlaces w.sites (w.links p) → CanKeep (beside_of d p) (worked (w.nodes p)) (state_with (w.nodes p) (header_links (behind d made).world p))
     made_can has = record {
       up = made_opens.0;
       running = made_opens.1;
       line = refl;
       role = refl;
-      needs = λ k l is needs. ⊎_elim (λ (old : slice_get (links_of w p) k ≡ Some l). needs_same (worked (w.nodes p)) (links_of w p) k l old needs)
+      needs = λ k l is needs. ⊎_elim (λ (old : slice_get (header_links w p) k ≡ Some l). needs_same (worked (w.nodes p)) (header_links w p) k l old needs)
           (λ (new : l ≡ kept_link s made_link). absurd (let f : false ≡ true = ap (λ (x : KeptLink). is_needing x) (sym new) ∙ needs in cc))
-          (behind_get (links_of w p) (kept_link s made_link) k l (ap (λ (ls : List KeptLink). slice_get ls k) (sym (made_links has)) ∙ is));
+          (behind_get (header_links w p) (kept_link s made_link) k l (ap (λ (ls : List KeptLink). slice_get ls k) (sym (made_links has)) ∙ is));
     }
 
   -- ---- the second site is consistent
@@ -98,7 +98,7 @@ module _ (d : Doubted) (p s : ℕ) (sync : SyncMode) where
     marked_opens = let t : AreTwo w p s = (two_done w p s sync Marked said).0 in (t.up_too, t.running_too)
 
     abbrev pub marked_state : State
-    marked_state = record (state_with (w.nodes s) (links_of w s)) { mark = Consistent }
+    marked_state = record (state_with (w.nodes s) (header_links w s)) { mark = Consistent }
 
     pub marked_can : CanKeep (beside_of d s) (worked (w.nodes s)) marked_state
     marked_can = record {
@@ -106,7 +106,7 @@ module _ (d : Doubted) (p s : ℕ) (sync : SyncMode) where
       running = marked_opens.1;
       line = refl;
       role = refl;
-      needs = λ k l is needs. needs_same (worked (w.nodes s)) (links_of w s) k l is needs;
+      needs = λ k l is needs. needs_same (worked (w.nodes s)) (header_links w s) k l is needs;
     }
 
   -- ---- the link goes by the log
@@ -124,12 +124,12 @@ module _ (d : Doubted) (p s : ℕ) (sync : SyncMode) where
     pub opened_opens : IsOpen (w.nodes p)
     opened_opens = let t : AreTwo w p s = (two_done w p s sync Opened said).0 in (t.up, t.running)
 
-    pub opened_kept : row_links (updated (w.links p) s opened_link) w.sites ≡ links_of (behind d opens).world p
+    pub opened_kept : row_links (updated (w.links p) s opened_link) w.sites ≡ header_links (behind d opens).world p
     opened_kept =
         sym (row_links_same (updated (w.links p) s opened_link) ((behind d opens).world.links p) opened_f.is.links (behind d opens).world.sites
         ∙ ap (λ (k : ℕ). row_links (updated (w.links p) s opened_link) k) opened_f.site.sites)
 
-    pub opened_can : CanKeep (beside_of d p) (worked (w.nodes p)) (state_with (w.nodes p) (links_of (behind d opens).world p))
+    pub opened_can : CanKeep (beside_of d p) (worked (w.nodes p)) (state_with (w.nodes p) (header_links (behind d opens).world p))
     opened_can = record {
       up = opened_opens.0;
       running = opened_opens.1;
@@ -143,7 +143,7 @@ module _ (d : Doubted) (p s : ℕ) (sync : SyncMode) where
   -- ---- as events that write a header
 
   module _ (fit : LinksFit d) where
-    pub made_header : (step w made).said ≡ IsDone → IsKeptHeader d made p (state_with (w.nodes p) (links_of (step w made).world p))
+    pub made_header : (step w made).said ≡ IsDone → IsKeptHeader d made p (state_with (w.nodes p) (header_links (step w made).world p))
     made_header said = record {
       header = record {
         row = updated (w.links p) s made_link;
@@ -160,7 +160,7 @@ module _ (d : Doubted) (p s : ℕ) (sync : SyncMode) where
       can = made_can said (fit.rows p).places;
     }
 
-    pub marked_header : (step w marked).said ≡ IsDone → IsKeptHeader d marked s (record (state_with (w.nodes s) (links_of w s)) { mark = Consistent })
+    pub marked_header : (step w marked).said ≡ IsDone → IsKeptHeader d marked s (record (state_with (w.nodes s) (header_links w s)) { mark = Consistent })
     marked_header said = record {
       header = record {
         row = w.links s;
@@ -177,7 +177,7 @@ module _ (d : Doubted) (p s : ℕ) (sync : SyncMode) where
       can = marked_can said;
     }
 
-    pub opened_header : (step w opens).said ≡ IsDone → IsKeptHeader d opens p (state_with (w.nodes p) (links_of (step w opens).world p))
+    pub opened_header : (step w opens).said ≡ IsDone → IsKeptHeader d opens p (state_with (w.nodes p) (header_links (step w opens).world p))
     opened_header said = record {
       header = record {
         row = updated (w.links p) s opened_link;

@@ -14,7 +14,7 @@ use Rattle.vx_diskset.specs.Asked.{FailsAs, FusedAs}
 use Rattle.vx_diskset.specs.DiskSets.{worked}
 use Rattle.vx_diskset.specs.Fuses.{LeftAs}
 use Rattle.vx_diskset.specs.Holds.{beside_of}
-use Rattle.vx_diskset.specs.Stands.{StandsAt}
+use Rattle.vx_diskset.specs.Stands.{SiteStands}
 use Rattle.vx_diskset.specs.declared.disk_set.DiskSet.{DiskSet}
 use Rattle.vx_effects.proofs.Fitting.{updated_other}
 use Rattle.vx_effects.proofs.Leaving.{fit_worked}
@@ -80,7 +80,7 @@ module _ {R : Type 0} {g : Ghosts R} where
           gathering = λ i apart. refl;
         };
         links = fit_worked d s stands.links;
-        stands = subst (λ (n : Node). StandsAt (beside_of d s) n e) (sym here) (stands_worked (beside_of d s) (d.world.nodes s) e (stands.disk_sets.sites s e below there));
+        stands = subst (λ (n : Node). SiteStands (beside_of d s) n e) (sym here) (stands_worked (beside_of d s) (d.world.nodes s) e (stands.disk_sets.sites s e below there));
         failing = subst (λ (n : Node). FailsAs n e) (sym here) (record { told = fails.told });
         fuse = subst (λ (n : Node). FusedAs n e) (sym here) (record { told = λ x at. left_burned (d.world.nodes s).fuse x.fuse (lit.told x at) });
         role = role_like (d.world.nodes s) (to.world.nodes s) e (ap (λ (n : Node). is_origin n.role) here) (stands.roles.each s e below there);

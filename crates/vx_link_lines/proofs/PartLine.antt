@@ -13,10 +13,10 @@ use Rattle.vx_disk.specs.declared.shelf.Shelf.{Ghosts}
 use Rattle.vx_diskset.specs.Asked.{LeavesFuse}
 use Rattle.vx_diskset.specs.Burning.{NoMore}
 use Rattle.vx_diskset.specs.DiskSets.{CrashedAt, worked}
-use Rattle.vx_diskset.specs.Holds.{Beside, beside_of}
+use Rattle.vx_diskset.specs.Holds.{KeptBeside, beside_of}
 use Rattle.vx_diskset.specs.Keeps.{CanKeep, KeptAt, done_by, restated}
 use Rattle.vx_diskset.proofs.Roles.{role_like}
-use Rattle.vx_diskset.specs.Stands.{KeepsRole, RoleIs, StandsAt}
+use Rattle.vx_diskset.specs.Stands.{KeepsRole, RoleIs, SiteStands}
 use Rattle.vx_diskset.specs.declared.disk_set.DiskSet.{DiskSet}
 use Rattle.vx_events.specs.LinkedFacts.{linked_facts}
 use Rattle.vx_events.specs.declared.said.Said.{Said}
@@ -37,8 +37,8 @@ use Rattle.vx_yard.proofs.OneSite.{Changed, role_kept, told_by}
 module _ {R : Type 0} {g : Ghosts R} (note : (ℕ → Node) → ℕ → Node) (s : ℕ) (notes : NotesAt s note) (d : Doubted) (e : Event) (m : Node) (ls : List KeptLink) (gathered : Option Gathering)
     (h : IsHeader d e s m ls gathered) (old : Yard R g) (before : DiskSet R g) (stands : StandsFor (noted_by note d) old) (below : s < d.world.sites) (at : slice_get old.disk_sets.items s ≡ Some before) where
   -- the site as it stands before the call
-  pub header_stood : StandsAt (beside_of d s) (worked (d.world.nodes s)) before
-  header_stood = subst (λ (k : Node). StandsAt (beside_of d s) k before) (notes.here d.world.nodes) (stands.disk_sets.sites s before below at)
+  pub header_stood : SiteStands (beside_of d s) (worked (d.world.nodes s)) before
+  header_stood = subst (λ (k : Node). SiteStands (beside_of d s) k before) (notes.here d.world.nodes) (stands.disk_sets.sites s before below at)
 
   module _ (new : Yard R g) (after : DiskSet R g) (changed : Changed old new s before after) where
     pub header_done : RoleIs m after → Answered CrashedAt (beside_of d s) (worked (d.world.nodes s)) (worked m) ls before after (Ok tt) → LeavesFuse NoMore Done before after → new.facts.items ≡ linked_facts (behind d e).world
@@ -66,13 +66,13 @@ module _ {R : Type 0} {g : Ghosts R} (note : (ℕ → Node) → ℕ → Node) (s
 
   -- what the call on the disks promises of a state
   abbrev pub Keeps : DiskSet R g → State → Result (Unit {0}) No → Type 0
-  Keeps after x result = (beside : Beside) (m : Node) → StandsAt beside m before → CanKeep beside m x → KeptAt beside m x before after result
+  Keeps after x result = (beside : KeptBeside) (m : Node) → SiteStands beside m before → CanKeep beside m x → KeptAt beside m x before after result
 
   abbrev pub Calls : DiskSet R g → Result (Unit {0}) No → Type 0
-  Calls after result = (beside : Beside) (m : Node) → StandsAt beside m before → LeavesFuse NoMore (done_by result) before after
+  Calls after result = (beside : KeptBeside) (m : Node) → SiteStands beside m before → LeavesFuse NoMore (done_by result) before after
 
-  stood : StandsAt (beside_of d s) (worked n) before
-  stood = subst (λ (k : Node). StandsAt (beside_of d s) k before) (notes.here d.world.nodes) (stands.disk_sets.sites s before below at)
+  stood : SiteStands (beside_of d s) (worked n) before
+  stood = subst (λ (k : Node). SiteStands (beside_of d s) k before) (notes.here d.world.nodes) (stands.disk_sets.sites s before below at)
 
   kept : (after : DiskSet R g) (x : State) (result : Result (Unit {0}) No) → x ≡ st → Keeps after x result → KeptAt (beside_of d s) (worked n) st before after result
   kept after x result is call =

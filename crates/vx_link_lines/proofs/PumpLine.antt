@@ -5,9 +5,9 @@ use Rattle.vx_disk.specs.Disks.{Untouched}
 use Rattle.vx_disk.specs.declared.shelf.Shelf.{Ghosts}
 use Rattle.vx_diskset.specs.Asked.{LeavesAlone}
 use Rattle.vx_diskset.specs.Fuses.{LeftAs}
-use Rattle.vx_diskset.specs.Holds.{Beside, beside_of, links_of}
+use Rattle.vx_diskset.specs.Holds.{KeptBeside, beside_of, header_links}
 use Rattle.vx_diskset.specs.Pumps.{PumpStop, PumpedIs}
-use Rattle.vx_diskset.specs.Stands.{KeepsRole, StandsAt, faults_at}
+use Rattle.vx_diskset.specs.Stands.{KeepsRole, SiteStands, faults_at}
 use Rattle.vx_diskset.specs.declared.disk_set.DiskSet.{DiskSet}
 use Rattle.vx_effects.proofs.Finding.{fit_finds}
 use Rattle.vx_effects.proofs.Fitting.{fit_happened}
@@ -16,7 +16,7 @@ use Rattle.vx_events.specs.LinkEnds.{LinksDone, LinksFind, LogUnread}
 use Rattle.vx_events.specs.LinkFinds.{FindsOther, IsUnreadable, PumpSends, ReadsNone, SendsOther, SentBy, pumped_with}
 use Rattle.vx_events.specs.LinkedFacts.{link_fact, linked_facts}
 use Rattle.vx_events.specs.Lines.{IsDone}
-use Rattle.vx_events.specs.Sayings.{Repeats}
+use Rattle.vx_events.specs.Sayings.{RepeatsSaid}
 use Rattle.vx_events.specs.declared.said.Said.{Said}
 use Rattle.vx_events.specs.declared.said.Said.TheVariants.{Done, Refused}
 use Rattle.vx_events.proofs.LinkTesting.{OnLink}
@@ -39,9 +39,9 @@ use Rattle.vx_model.specs.declared.history.Line.{Line}
 use Rattle.vx_linked.proofs.Finding.{Tested, on_link, pump_tested}
 use Rattle.vx_linked.proofs.Leaving.{pump_leaves, pump_sends}
 use Rattle.vx_linked.proofs.Shown.{link_there}
-use Rattle.vx_linked.specs.Tables.{Found}
+use Rattle.vx_linked.specs.Tables.{FoundLink}
 use Rattle.vx_linked.specs.Disks.{LeavesDisks}
-use Rattle.vx_linked.specs.Turns.{ComesTo}
+use Rattle.vx_linked.specs.Turns.{ComesBehind}
 use Rattle.vx_model.specs.declared.errors.OutOfMemory.{OutOfMemory}
 use Rattle.vx_model.specs.declared.errors.Stop.{Stop}
 use Rattle.vx_model.specs.declared.errors.Stop.TheVariants.{No as RefusedSo, OutOfMemory as MemoryStop}
@@ -83,7 +83,7 @@ pub pump_done : (told : Type 0) (d : Doubted) (p s : List ℕ) → (step d.world
 pump_done told d p s is =
     let v : World = (step d.world (PumpAt (site_number d.world p) (site_number d.world s))).world in
     record {
-      ends = LinksDone (record d { world = v }) (false, refl) refl refl (subst (λ (x : EventSaid). Repeats v 0 x Done) (sym is) refl) (record { world = refl; after = λ i. refl });
+      ends = LinksDone (record d { world = v }) (false, refl) refl refl (subst (λ (x : EventSaid). RepeatsSaid v 0 x Done) (sym is) refl) (record { world = refl; after = λ i. refl });
       counts = tt;
       works = tt;
       calls = tt;
@@ -144,10 +144,10 @@ module _ {R : Type 0} {g : Ghosts R} where
     pub to : link.site ≡ site_number d.world s
     pub link_is : link ≡ plain_link link.site (d.world.links here link.site)
     pub place : ℕ
-    pub kept : slice_get (links_of d.world here) place ≡ Some (kept_link link.site (d.world.links here link.site))
+    pub kept : slice_get (header_links d.world here) place ≡ Some (kept_link link.site (d.world.links here link.site))
 
   pub pumping : (d : Doubted) (y : Yard R g) (p s : List ℕ) (here : ℕ) (fs : List SiteFacts) (l : LinkFacts) → StandsFor d y → IsFree y (Pump p s) → seat_of y.facts.items p ≡ Some here → fs ≡ y.facts.items
-      → ((f : Found fs p s) → l ≡ f.link) → Found fs p s → Pumping d y p s here l.link
+      → ((f : FoundLink fs p s) → l ≡ f.link) → FoundLink fs p s → Pumping d y p s here l.link
   pumping d y p s here fs l stands free is same named found =
       let w : World = d.world in
       let seat = site_at d y p here stands is in
@@ -155,8 +155,8 @@ module _ {R : Type 0} {g : Ghosts R} where
       let b : ℕ = site_number w s in
       let tested = subst (λ (xs : List SiteFacts). Tested xs p s) stands.facts (pump_tested y.facts.items p s (in_files y, free)) in
       let on : OnLink w p s keeps_links = on_link w p s tested in
-      let there : Found (linked_facts w) p s = subst (λ (xs : List SiteFacts). Found xs p s) (same ∙ stands.facts) found in
-      let names : (f : Found (linked_facts w) p s) → l ≡ f.link = subst (λ (xs : List SiteFacts). (f : Found xs p s) → l ≡ f.link) (same ∙ stands.facts) named in
+      let there : FoundLink (linked_facts w) p s = subst (λ (xs : List SiteFacts). FoundLink xs p s) (same ∙ stands.facts) found in
+      let names : (f : FoundLink (linked_facts w) p s) → l ≡ f.link = subst (λ (xs : List SiteFacts). (f : FoundLink xs p s) → l ≡ f.link) (same ∙ stands.facts) named in
       let fact : l ≡ link_fact (w.nodes a) b (w.links a b) = names there ∙ link_there w p s there on.up in
       let plain : l.link ≡ plain_link b (w.links a b) = ap (λ (x : LinkFacts). x.link) fact in
       let to : l.link.site ≡ b = ap (λ (x : PlainLink). x.site) plain in
@@ -169,7 +169,7 @@ module _ {R : Type 0} {g : Ghosts R} where
         to = to;
         link_is = plain ∙ ap (λ (k : ℕ). plain_link k (w.links a k)) (sym to) ∙ ap (λ (k : ℕ). plain_link l.link.site (w.links k l.link.site)) seat.number;
         place = place.0;
-        kept = subst (λ (k : ℕ). slice_get (links_of w k) place.0 ≡ Some (kept_link l.link.site (w.links k l.link.site))) seat.number
+        kept = subst (λ (k : ℕ). slice_get (header_links w k) place.0 ≡ Some (kept_link l.link.site (w.links k l.link.site))) seat.number
             (place.1 ∙ ap (λ (k : ℕ). Some (kept_link k (w.links a k))) (sym to));
       }
 
@@ -210,7 +210,7 @@ module _ {R : Type 0} {g : Ghosts R} where
     pub feeders : new.feeders ≡ old.feeders
 
   module _ (d : Doubted) (old new : Yard R g) (s : ℕ) (before after : DiskSet R g) (stands : StandsFor d old) (carries : Carries d old) (below : s < d.world.sites) (changed : Changed old new s before after)
-      (alone : LeavesAlone before after) (on : (beside : Beside) (n : Node) → StandsAt beside n before → StandsAt beside n after) (keeps : KeepsRole before after) (rests : Rests old new) (told : IsTold new → IsTold old) where
+      (alone : LeavesAlone before after) (on : (beside : KeptBeside) (n : Node) → SiteStands beside n before → SiteStands beside n after) (keeps : KeepsRole before after) (rests : Rests old new) (told : IsTold new → IsTold old) where
     middle_stands : StandsFor d (between old new)
     middle_stands =
         let n : Node = d.world.nodes s in
@@ -232,7 +232,7 @@ module _ {R : Type 0} {g : Ghosts R} where
     rises = rose_still old new s before after changed.there changed.later changed.disk_sets
 
     -- it was done
-    pub pump_brings : (p q : List ℕ) (fs : List SiteFacts) → ComesTo d.world (PumpAt (site_number d.world p) (site_number d.world q)) fs new.flight → new.facts.items ≡ fs → Leads d (Pump p q) Done old new
+    pub pump_brings : (p q : List ℕ) (fs : List SiteFacts) → ComesBehind d.world (PumpAt (site_number d.world p) (site_number d.world q)) fs new.flight → new.facts.items ≡ fs → Leads d (Pump p q) Done old new
     pump_brings p q fs comes facts =
         let a : ℕ = site_number d.world p in
         let b : ℕ = site_number d.world q in

@@ -47,7 +47,7 @@ use Rattle.vx_events.specs.Ends.{AllDone, Ends, IsLeft, NoNumber}
 use Rattle.vx_events.specs.Facts.{group_by, site_number}
 use Rattle.vx_events.specs.LinksFit.{LinksFit}
 use Rattle.vx_events.specs.Lists.{Choice}
-use Rattle.vx_events.specs.Sayings.{Repeats, Replies}
+use Rattle.vx_events.specs.Sayings.{RepeatsSaid, Replies}
 use Rattle.vx_events.specs.Stamps.{most_stamp_at, waiting_of}
 use Rattle.vx_events.specs.declared.said.Said.{Said}
 use Rattle.vx_events.specs.declared.said.Said.TheVariants.{DoneAt, Refused}
@@ -66,7 +66,7 @@ use Rattle.vx_model.specs.declared.state.KeptLink.{KeptLink}
 use Rattle.vx_history.specs.KeptLinks.{kept_links}
 use Rattle.vx_history.specs.Sends.{is_linked, packets_of}
 use Rattle.vx_events.proofs.Steps.{no_sites}
-use Rattle.vx_diskset.specs.Stands.{KeepsRole, StandsAt}
+use Rattle.vx_diskset.specs.Stands.{KeepsRole, SiteStands}
 use Rattle.vx_diskset.specs.declared.disk_set.DiskSet.{DiskSet}
 use Rattle.vx_diskset.specs.declared.receivers.Reached.{Reached}
 use Rattle.vx_yard.specs.Carries.{Carries}
@@ -190,7 +190,7 @@ module _ {R : Type 0} {g : Ghosts R} where
 
     -- the line was done, and the site is this node then
     leads_as : (number : ℕ) (m : Node) (packets more : List Packet) → EffectAt s d (happened d (ApplyAt s count number) false) m (d.world.links s) (d.world.headers s) (d.after s) packets (d.world.gathering s) → packets ≡ d.world.packets ++ more
-        → (step d.world (ApplyAt s count number)).said ≡ IsDoneAt number → m ≡ record n { base = m.base; safe = m.safe; mark = m.mark } → StandsAt (beside_of d s) (worked m) after → fact_of (worked m) (d.world.links s) d.world.sites ≡ fact_of n (d.world.links s) d.world.sites
+        → (step d.world (ApplyAt s count number)).said ≡ IsDoneAt number → m ≡ record n { base = m.base; safe = m.safe; mark = m.mark } → SiteStands (beside_of d s) (worked m) after → fact_of (worked m) (d.world.links s) d.world.sites ≡ fact_of n (d.world.links s) d.world.sites
         → LeavesFuse NoMore (DoneAt number) before after → new.facts.items ≡ old.facts.items → (Carries d old → FlightStands packets new.flight) → new.assemblies.items ≡ old.assemblies.items → new.feeders.items ≡ old.feeders.items
         → Leads d (Apply name count) (DoneAt number) old new
     leads_as number m packets more effect sent said same stood shown calls facts flight assemblies feeders =
@@ -207,7 +207,7 @@ module _ {R : Type 0} {g : Ghosts R} where
             ends = subst (λ (i : ℕ). Ends (IsTold new) d (Apply name count) i [] (DoneAt number) e) (sym here.seat.number)
                 (AllDone c false refl
                 (subst (λ (es : List Event). Replies (IsTold new) (Apply name count) s false d es (DoneAt number)) (sym ev)
-                (subst (λ (o : EventSaid). Repeats (step d.world (ApplyAt s count number)).world s o (DoneAt number)) (sym said) refl))
+                (subst (λ (o : EventSaid). RepeatsSaid (step d.world (ApplyAt s count number)).world s o (DoneAt number)) (sym said) refl))
                 (subst (λ (es : List Event). IsLeft s (Apply name count) false d (run_as false d es) e) (sym ev) (record { world = refl; after = λ i. refl })));
             counts = tt;
             works = tt;
@@ -226,7 +226,7 @@ module _ {R : Type 0} {g : Ghosts R} where
         }
 
     done_by_test : (b : Bool) (r : Reached) (last : ℕ) → eqb (min count (waiting_of n)) 0 ≡ b → ReachedAt (beside_of d s) n count before after (Ok r) → LeavesFuse NoMore (DoneAt r.number) before after → Sends d old new s last r.acks
-        → ((m : Node) → StandsAt (beside_of d s) m after → m.state ≡ IsUp → m.halted ≡ None → last ≡ m.safe) → Leads d (Apply name count) (DoneAt r.number) old new
+        → ((m : Node) → SiteStands (beside_of d s) m after → m.state ≡ IsUp → m.halted ≡ None → last ≡ m.safe) → Leads d (Apply name count) (DoneAt r.number) old new
     done_by_test true r last is h calls sends at_last =
         let t = reached_says d s count r before after true is h in
         leads_as r.number n d.world.packets [] (idle_effect d s count r.number false here.seat.below here.can.up here.can.running receives is) (sym (append-nil d.world.packets))
@@ -235,7 +235,7 @@ module _ {R : Type 0} {g : Ghosts R} where
     done_by_test false r last is h calls sends at_last =
         let t = reached_says d s count r before after false is h in
         let quiet : n.phase ≡ Quiet = stands.links.quiet s in
-        let stood : StandsAt (beside_of d s) (worked (behind_apply n count)) after = subst (λ (m : Node). StandsAt (beside_of d s) m after) (sym (behind_is n count quiet)) t.2 in
+        let stood : SiteStands (beside_of d s) (worked (behind_apply n count)) after = subst (λ (m : Node). SiteStands (beside_of d s) m after) (sym (behind_is n count quiet)) t.2 in
         let number : last ≡ applied_up_to n count = at_last (worked (behind_apply n count)) stood here.can.up here.can.running in
         leads_as r.number (behind_apply n count) (d.world.packets ++ packets_of s n.fed_by n.line (DataAck (applied_up_to n count))) (packets_of s n.fed_by n.line (DataAck (applied_up_to n count)))
         (applied_effect d s count r.number false here.seat.below here.can.up here.can.running receives is) refl
@@ -243,7 +243,7 @@ module _ {R : Type 0} {g : Ghosts R} where
         calls sends.facts (λ carries. subst (λ (k : ℕ). FlightStands (d.world.packets ++ packets_of s n.fed_by n.line (DataAck k)) new.flight) number (sends.sends t.1 d.world.packets carries.flight)) sends.assemblies sends.feeders
 
     pub received_done : (r : Reached) (last : ℕ) → ReachedAt (beside_of d s) n count before after (Ok r) → LeavesFuse NoMore (DoneAt r.number) before after → Sends d old new s last r.acks
-        → ((m : Node) → StandsAt (beside_of d s) m after → m.state ≡ IsUp → m.halted ≡ None → last ≡ m.safe) → Leads d (Apply name count) (DoneAt r.number) old new
+        → ((m : Node) → SiteStands (beside_of d s) m after → m.state ≡ IsUp → m.halted ≡ None → last ≡ m.safe) → Leads d (Apply name count) (DoneAt r.number) old new
     received_done r last h calls sends at_last = done_by_test (eqb (min count (waiting_of n)) 0) r last refl h calls sends at_last
 
     -- no number is left for all that waits, and nothing changed

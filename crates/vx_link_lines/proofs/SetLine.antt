@@ -21,7 +21,7 @@ use Rattle.vx_model.specs.declared.no.No.{No}
 use Rattle.vx_model.specs.declared.no.No.TheVariants.{Role as WrongRole, Unknown}
 use Rattle.vx_model.specs.declared.site.SiteState.TheVariants.{Up as IsUp}
 use Rattle.vx_model.specs.declared.state.State.{State}
-use Rattle.vx_order.specs.Order.{refusal_of}
+use Rattle.vx_order.specs.Order.{line_refusal}
 use Rattle.vx_order.specs.declared.facts.SiteFacts.{SiteFacts}
 use Rattle.vx_script.specs.declared.line.ScriptLine.{ScriptLine}
 use Rattle.vx_script.specs.declared.line.ScriptLine.TheVariants.{Set}
@@ -30,9 +30,9 @@ use Rattle.vx_diskset.specs.Asked.{LeavesFuse}
 use Rattle.vx_diskset.specs.Burning.{NoMore}
 use Rattle.vx_diskset.specs.DiskSets.{worked}
 use Rattle.vx_diskset.proofs.Worked.{stands_worked}
-use Rattle.vx_diskset.specs.Holds.{Beside, beside_of, links_of, row_links, state_with}
+use Rattle.vx_diskset.specs.Holds.{KeptBeside, beside_of, header_links, row_links, state_with}
 use Rattle.vx_diskset.specs.Keeps.{CanKeep, KeptAt}
-use Rattle.vx_diskset.specs.Stands.{KeepsRole, StandsAt}
+use Rattle.vx_diskset.specs.Stands.{KeepsRole, SiteStands}
 use Rattle.vx_diskset.specs.declared.disk_set.DiskSet.{DiskSet}
 use Rattle.vx_effects.proofs.Fitting.{fit_happened}
 use Rattle.vx_effects.proofs.Rises.{set_effect}
@@ -43,7 +43,7 @@ use Rattle.vx_events.specs.Facts.{seat_of, site_number}
 use Rattle.vx_events.specs.LinkEnds.{LinkEnds, LinkReplies, LinksDone, link_noted}
 use Rattle.vx_events.specs.LinkedFacts.{linked_facts, refused_by}
 use Rattle.vx_events.specs.LinkLists.{link_events}
-use Rattle.vx_events.specs.Sayings.{Repeats}
+use Rattle.vx_events.specs.Sayings.{RepeatsSaid}
 use Rattle.vx_events.specs.declared.said.Said.{Said}
 use Rattle.vx_events.specs.declared.said.Said.TheVariants.{Done, Refused}
 use Rattle.vx_linked.proofs.PartFacts.{sets}
@@ -91,7 +91,7 @@ module _ {R : Type 0} {g : Ghosts R} (d : Doubted) (old : Yard R g) (first secon
 
   pub set_said : (step w event).said ≡ IsDone
   set_said =
-      let tested : refused_by w (in_files old) (Set first second sync free_prot) ≡ None = ap (λ (fs : List SiteFacts). refusal_of fs (in_files old) (Set first second sync free_prot)) (sym stands.facts) ∙ free in
+      let tested : refused_by w (in_files old) (Set first second sync free_prot) ≡ None = ap (λ (fs : List SiteFacts). line_refusal fs (in_files old) (Set first second sync free_prot)) (sym stands.facts) ∙ free in
       subst (λ (k : ℕ). (step w (SetAt k q sync)).said ≡ IsDone) here.number
       (subst (λ (k : ℕ). (step w (SetAt (site_number w first) k sync)).said ≡ IsDone) there.number (set_agrees w (in_files old) first second sync free_prot tested))
 
@@ -106,9 +106,9 @@ module _ {R : Type 0} {g : Ghosts R} (d : Doubted) (old : Yard R g) (first secon
 
   -- the state that its header keeps then
   abbrev pub state : State
-  state = state_with n (links_of (step w event).world s)
+  state = state_with n (header_links (step w event).world s)
 
-  kept : row_links row w.sites ≡ links_of (behind d event).world s
+  kept : row_links row w.sites ≡ header_links (behind d event).world s
   kept = sym (row_links_same row ((behind d event).world.links s) effect.is.links (behind d event).world.sites ∙ ap (λ (k : ℕ). row_links row k) effect.site.sites)
 
   pub set_can : CanKeep (beside_of d s) (worked n) state
@@ -141,19 +141,19 @@ module _ {R : Type 0} {g : Ghosts R} (d : Doubted) (old : Yard R g) (first secon
 
   -- ---- the call on the disks
 
-  pub set_stood : StandsAt (beside_of d s) (worked n) before
+  pub set_stood : SiteStands (beside_of d s) (worked n) before
   set_stood = stands_worked (beside_of d s) n before (stands.disk_sets.sites s before here.below at)
 
   pub set_kept : (after : DiskSet R g) (st : State) (result : Result (Unit {0}) No) → st ≡ state
-      → ((beside : Beside) (m : Node) → StandsAt beside m before → CanKeep beside m st → KeptAt beside m st before after result) → KeptAt (beside_of d s) (worked n) state before after result
+      → ((beside : KeptBeside) (m : Node) → SiteStands beside m before → CanKeep beside m st → KeptAt beside m st before after result) → KeptAt (beside_of d s) (worked n) state before after result
   set_kept after st result is call =
       subst (λ (x : State). KeptAt (beside_of d s) (worked n) x before after result) is
       (call (beside_of d s) (worked n) set_stood (subst (λ (x : State). CanKeep (beside_of d s) (worked n) x) (sym is) set_can))
 
   -- the state that was asked of the disks
   pub set_state_is : (disks : DiskSet R g) (st : State) → slice_get old.disk_sets.items s ≡ Some disks
-      → ((beside : Beside) (m : Node) (v : World) → StandsAt beside m disks → m.state ≡ IsUp → old.facts.items ≡ linked_facts v → HasPlaces v.sites (v.links s) → (step v event).said ≡ IsDone
-      → st ≡ state_with m (links_of (step v event).world s)) → st ≡ state
+      → ((beside : KeptBeside) (m : Node) (v : World) → SiteStands beside m disks → m.state ≡ IsUp → old.facts.items ≡ linked_facts v → HasPlaces v.sites (v.links s) → (step v event).said ≡ IsDone
+      → st ≡ state_with m (header_links (step v event).world s)) → st ≡ state
   set_state_is disks st there_too is =
       is (beside_of d s) n w (stands.disk_sets.sites s disks here.below there_too) set_opens.0 stands.facts (stands.links.rows s).places set_said
 
@@ -181,7 +181,7 @@ module _ {R : Type 0} {g : Ghosts R} (d : Doubted) (old : Yard R g) (first secon
     set_leads is calls facts load =
         leads_by
         (LinksDone (behind d event) (subst (λ (es : List Event). Runs d es (behind d event)) (sym (numbers prot)) (false, refl)) (ap (λ (es : List Event). all_fails es) (numbers prot)) refl
-        (subst (λ (es : List Event). LinkReplies line d (behind d event) es Done) (sym (numbers prot)) (subst (λ (o : EventSaid). Repeats (step w event).world 0 o Done) (sym set_said) refl))
+        (subst (λ (es : List Event). LinkReplies line d (behind d event) es Done) (sym (numbers prot)) (subst (λ (o : EventSaid). RepeatsSaid (step w event).world 0 o Done) (sym set_said) refl))
         (record { world = sym (notes (behind d event).world); after = λ i. refl }))
         (kept_done (note_one s) s (notes_one s) d event state header old before noted here.below at new after changed keeps is calls facts load)
 

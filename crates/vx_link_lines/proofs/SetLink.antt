@@ -13,7 +13,7 @@ use Rattle.vx_model.specs.declared.link.SyncMode.{SyncMode}
 use Rattle.vx_model.specs.declared.state.KeptLink.{KeptLink}
 use Rattle.vx_model.specs.declared.state.State.{State}
 use Rattle.vx_order.specs.declared.facts.LinkFacts.{LinkFacts}
-use Rattle.vx_diskset.specs.Holds.{links_of, row_links}
+use Rattle.vx_diskset.specs.Holds.{header_links, row_links}
 use Rattle.vx_diskset.specs.Keeps.{Suffices}
 use Rattle.vx_diskset.specs.Needs.{hold_of, is_needing}
 use Rattle.vx_effects.proofs.LinkRows.{changed_kept}
@@ -26,12 +26,12 @@ use Rattle.vx_linked.specs.Making.{kept_plain, set_link}
 -- ---- the links that the header keeps
 
 pub set_links : (w : World) (p s : ℕ) (sync : SyncMode) (l : LinkFacts) → (step w (SetAt p s sync)).said ≡ IsDone → l ≡ link_fact (w.nodes p) s (w.links p s)
-    → kept_over (kept_plain (set_link l.link sync)) (kept_links (w.links p) (linked_sites (w.links p) w.sites 0 w.sites)) ≡ links_of (step w (SetAt p s sync)).world p
+    → kept_over (kept_plain (set_link l.link sync)) (kept_links (w.links p) (linked_sites (w.links p) w.sites 0 w.sites)) ≡ header_links (step w (SetAt p s sync)).world p
 set_links w p s sync l said is =
     ap (λ (x : LinkFacts). kept_over (kept_plain (set_link x.link sync)) (kept_links (w.links p) (linked_sites (w.links p) w.sites 0 w.sites))) is
     ∙ sym (changed_kept (w.links p) w.sites s (sets w p s sync) refl)
     ∙ sym (ap (λ (row : ℕ → Link). row_links row w.sites) (at_place w.links p (updated (w.links p) s (sets w p s sync))))
-    ∙ sym (ap (λ (o : Outcome). links_of o.world p) (set_done w p s sync said).2)
+    ∙ sym (ap (λ (o : Outcome). header_links o.world p) (set_done w p s sync said).2)
 
 -- ---- a link that stands in a header needs what it needed
 
@@ -82,7 +82,7 @@ needs_over n row ss s x site no_more k l is needs =
 
 -- a setting changes nothing of what a link needs
 pub set_needs : (w : World) (p s : ℕ) (sync : SyncMode) (n : Node) → (step w (SetAt p s sync)).said ≡ IsDone
-    → (k : ℕ) (l : KeptLink) → slice_get (links_of (step w (SetAt p s sync)).world p) k ≡ Some l → is_needing l ≡ true → Suffices (links_of w p) n l
+    → (k : ℕ) (l : KeptLink) → slice_get (header_links (step w (SetAt p s sync)).world p) k ≡ Some l → is_needing l ≡ true → Suffices (header_links w p) n l
 set_needs w p s sync n said k l is needs =
     needs_over n (w.links p) (linked_sites (w.links p) w.sites 0 w.sites) s (kept_plain (set_link (link_fact (w.nodes p) s (w.links p s)).link sync)) refl
     (λ needing. inr (needing, omega arith)) k l

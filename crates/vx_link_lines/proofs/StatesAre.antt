@@ -5,15 +5,15 @@ use Rattle.vx_model.specs.declared.site.Mark.TheVariants.{Consistent}
 use Rattle.vx_model.specs.declared.state.KeptLink.{KeptLink}
 use Rattle.vx_model.specs.declared.state.State.{State}
 use Rattle.vx_history.specs.World.{World}
-use Rattle.vx_diskset.specs.Holds.{links_of, state_with}
+use Rattle.vx_diskset.specs.Holds.{header_links, state_with}
 use Rattle.vx_effects.specs.LinkParts.{kept_over}
 use Rattle.vx_linked.specs.Making.{fresh_link, joined_state, kept_plain, opened_link}
 use Rattle.vx_link_lines.specs.Linking.{AreLinkStates}
 
 module _ (w : World) (p s : ℕ) (sync : SyncMode) (first second joined made marked opened : State) (session last : ℕ) (kept further over : List KeptLink)
-    (first_is : first ≡ state_with (w.nodes p) first.links) (second_is : second ≡ state_with (w.nodes s) second.links) (kept_is : kept ≡ links_of w p)
+    (first_is : first ≡ state_with (w.nodes p) first.links) (second_is : second ≡ state_with (w.nodes s) second.links) (kept_is : kept ≡ header_links w p)
     (further_is : further ≡ kept ++ kept_plain (fresh_link s sync session) ∷ []) (over_is : over ≡ kept_over (kept_plain (opened_link (fresh_link s sync session) last)) further) where
-  further_links_are : further ≡ links_of w p ++ kept_plain (fresh_link s sync session) ∷ []
+  further_links_are : further ≡ header_links w p ++ kept_plain (fresh_link s sync session) ∷ []
   further_links_are = further_is ∙ ap (λ (ls : List KeptLink). ls ++ kept_plain (fresh_link s sync session) ∷ []) kept_is
 
   pub states_are : joined ≡ joined_state first p second → marked ≡ (let m : State = record joined { mark = Consistent } in m) → made ≡ (let m : State = record first { links = further } in m)

@@ -8,8 +8,8 @@ use Rattle.vx_history.specs.Doubts.{After, Doubted}
 use Rattle.vx_history.specs.World.{Node}
 use Rattle.vx_disk.specs.declared.shelf.Shelf.{Ghosts}
 use Rattle.vx_diskset.specs.Asked.{FailsAs, FusedAs}
-use Rattle.vx_diskset.specs.Holds.{Beside, beside_of}
-use Rattle.vx_diskset.specs.Stands.{RoleIs, StandsAt}
+use Rattle.vx_diskset.specs.Holds.{KeptBeside, beside_of}
+use Rattle.vx_diskset.specs.Stands.{RoleIs, SiteStands}
 use Rattle.vx_diskset.specs.declared.disk_set.DiskSet.{DiskSet}
 use Rattle.vx_events.specs.Effects.{ChangesNode}
 use Rattle.vx_events.specs.LinkedFacts.{linked_facts}
@@ -24,7 +24,7 @@ module _ {R : Type 0} {g : Ghosts R} where
   pub record Turned (d e : Doubted) (s : ℕ) (after : DiskSet R g) : Type 0 where
     pub changes : ChangesNode s d e
     pub links : LinksFit e
-    pub stands : StandsAt (beside_of e s) (e.world.nodes s) after
+    pub stands : SiteStands (beside_of e s) (e.world.nodes s) after
     pub failing : FailsAs (e.world.nodes s) after
     pub fuse : FusedAs (e.world.nodes s) after
     pub role : RoleIs (e.world.nodes s) after
@@ -38,11 +38,11 @@ module _ {R : Type 0} {g : Ghosts R} where
       eight = length-set old.disk_sets.items s after ∙ stands.disk_sets.eight;
       few = omega (arith, stands.disk_sets.few, turned.changes.sites);
       sites = λ i x inside is.
-          at_set (λ j y. StandsAt (beside_of e j) (e.world.nodes j) y) old.disk_sets.items s after within turned.stands i x is
+          at_set (λ j y. SiteStands (beside_of e j) (e.world.nodes j) y) old.disk_sets.items s after within turned.stands i x is
           (λ apart was.
-          subst (λ (b : Beside). StandsAt b (e.world.nodes i) x)
+          subst (λ (b : KeptBeside). SiteStands b (e.world.nodes i) x)
           (sym (beside_same d e i turned.changes.sites (λ k. turned.changes.links i k apart) (turned.changes.headers i apart) (turned.changes.after i apart)))
-          (subst (λ (n : Node). StandsAt (beside_of d i) n x) (sym (turned.changes.nodes i apart)) (stands.disk_sets.sites i x (omega (arith, inside, turned.changes.sites)) was)));
+          (subst (λ (n : Node). SiteStands (beside_of d i) n x) (sym (turned.changes.nodes i apart)) (stands.disk_sets.sites i x (omega (arith, inside, turned.changes.sites)) was)));
       others = λ i x past is. stands.disk_sets.others i x (omega (arith, past, turned.changes.sites))
           (sym (get-set_other old.disk_sets.items s i after (λ same. omega (arith, past, below, same, turned.changes.sites))) ∙ is);
     });

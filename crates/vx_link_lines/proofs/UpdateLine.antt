@@ -35,7 +35,7 @@ use Rattle.vx_events.specs.Facts.{group_by, group_fact}
 use Rattle.vx_events.specs.LinkEnds.{AreLeft, LinkEnds, LinksDone, link_noted, target_noted}
 use Rattle.vx_events.specs.LinkedFacts.{linked_fact}
 use Rattle.vx_events.specs.LinksFit.{LinksFit}
-use Rattle.vx_events.specs.Sayings.{Repeats}
+use Rattle.vx_events.specs.Sayings.{RepeatsSaid}
 use Rattle.vx_events.specs.declared.said.Said.{Said}
 use Rattle.vx_order.specs.declared.facts.RvgFacts.{RvgFacts}
 use Rattle.vx_order.specs.declared.facts.SiteFacts.{SiteFacts}
@@ -46,7 +46,7 @@ use Rattle.vx_diskset.specs.Asked.{LeavesAlone}
 use Rattle.vx_diskset.specs.DiskSets.{worked}
 use Rattle.vx_diskset.specs.Fuses.{LeftAs}
 use Rattle.vx_diskset.specs.Holds.{beside_of}
-use Rattle.vx_diskset.specs.Stands.{RoleIs, StandsAt}
+use Rattle.vx_diskset.specs.Stands.{RoleIs, SiteStands}
 use Rattle.vx_diskset.specs.declared.disk_set.DiskSet.{DiskSet}
 use Rattle.vx_yard.specs.Carries.{Carries}
 use Rattle.vx_yard.specs.Standing.{Leads, StandsFor}
@@ -75,10 +75,10 @@ left_at d h number p at below = record { world = sym (noted_at d number p h.worl
 
 -- the line was done
 pub done_as : (told : Type 0) (d : Doubted) (number : ℕ) (p : Packet) (said : Said) (event : EventSaid) → packet_at d.world.packets number ≡ Some p → p.target < d.world.sites
-    → (delivered d.world number (packet_at d.world.packets number)).said ≡ event → Repeats (happened d (DeliverAt number) false).world 0 event said
+    → (delivered d.world number (packet_at d.world.packets number)).said ≡ event → RepeatsSaid (happened d (DeliverAt number) false).world 0 event said
     → LinkEnds told d (Deliver number) [] said (worked_for (happened d (DeliverAt number) false) p.target)
 done_as told d number p said event at below is repeats =
-    LinksDone (happened d (DeliverAt number) false) (false, refl) refl refl (subst (λ (x : EventSaid). Repeats (happened d (DeliverAt number) false).world 0 x said) (sym is) repeats)
+    LinksDone (happened d (DeliverAt number) false) (false, refl) refl refl (subst (λ (x : EventSaid). RepeatsSaid (happened d (DeliverAt number) false).world 0 x said) (sym is) repeats)
     (left_at d (happened d (DeliverAt number) false) number p at below)
 
 -- ---- what is not taken leaves the target as it is
@@ -233,7 +233,7 @@ module _ {R : Type 0} {g : Ghosts R} where
     n = d.world.nodes s
 
     comes_by : (h : Doubted) (m : Node) (packets : List Packet) (gathered : Option Gathering) → EffectAt s d h m (d.world.links s) (d.world.headers s) (d.after s) packets gathered → LinksFit (worked_for h s) → SameSite n m
-        → StandsAt (beside_of d s) m after → Comes d (worked_for h s) s after
+        → SiteStands (beside_of d s) m after → Comes d (worked_for h s) s after
     comes_by h m packets gathered eff fits same here =
         comes_effect d (worked_for h s) s (worked m) packets gathered after (worked_effect s d h m (d.world.links s) (d.world.headers s) (d.after s) packets gathered eff) fits same.name same.disks same.blocks same.volumes same.role
         (stands_worked (beside_of d s) m after here)
@@ -253,7 +253,7 @@ module _ {R : Type 0} {g : Ghosts R} where
 
     -- with other facts
     pub leads_new : (h : Doubted) (m : Node) (packets : List Packet) (gathered : Option Gathering) (said : Said) (f : SiteFacts) → EffectAt s d h m (d.world.links s) (d.world.headers s) (d.after s) packets gathered → LinksFit (worked_for h s)
-        → Ends h said → SameSite n m → StandsAt (beside_of d s) m after → f ≡ fact_of m (d.world.links s) d.world.sites → new.facts.items ≡ slice_set old.facts.items s f → (Carries d old → Carries (worked_for h s) new)
+        → Ends h said → SameSite n m → SiteStands (beside_of d s) m after → f ≡ fact_of m (d.world.links s) d.world.sites → new.facts.items ≡ slice_set old.facts.items s f → (Carries d old → Carries (worked_for h s) new)
         → Leads d (Deliver number) said old new
     leads_new h m packets gathered said f eff fits ends same here fact facts carries = record {
       next = worked_for h s;
@@ -266,7 +266,7 @@ module _ {R : Type 0} {g : Ghosts R} where
 
     -- with the same facts
     pub leads_same : (h : Doubted) (m : Node) (packets : List Packet) (gathered : Option Gathering) (said : Said) → EffectAt s d h m (d.world.links s) (d.world.headers s) (d.after s) packets gathered → LinksFit (worked_for h s)
-        → Ends h said → m ≡ n → StandsAt (beside_of d s) m after → new.facts.items ≡ old.facts.items → (Carries d old → Carries (worked_for h s) new) → Leads d (Deliver number) said old new
+        → Ends h said → m ≡ n → SiteStands (beside_of d s) m after → new.facts.items ≡ old.facts.items → (Carries d old → Carries (worked_for h s) new) → Leads d (Deliver number) said old new
     leads_same h m packets gathered said eff fits ends same here facts carries = record {
       next = worked_for h s;
       fails = [];

@@ -17,7 +17,7 @@ use Rattle.vx_events.specs.LinkedFacts.{linked_facts}
 use Rattle.vx_events.specs.LinksFit.{LinksFit}
 use Rattle.vx_events.specs.Stamps.{most_stamp_at}
 use Rattle.vx_events.specs.declared.said.Said.{Said}
-use Rattle.vx_events.specs.declared.said.Said.TheVariants.{Refused}
+use Rattle.vx_events.specs.declared.said.Said.TheVariants.{Done, Refused}
 use Rattle.vx_yard.specs.Carries.{Carries}
 use Rattle.vx_yard.specs.Standing.{StandsFor}
 use Rattle.vx_yard.specs.Stands.{RoseAll}
@@ -34,6 +34,11 @@ pub record NotesAt (s : ℕ) (note : (ℕ → Node) → ℕ → Node) : Type 0 w
   pub alike : (nodes new : ℕ → Node) (i : ℕ) → new i ≡ nodes i → note new i ≡ note nodes i
   pub shows : (w : World) → linked_facts (record w { nodes = note w.nodes }) ≡ linked_facts w
   pub fits : (d : Doubted) → LinksFit d → LinksFit (noted_by note d)
+
+-- the reply of a part of a line
+abbrev pub part_said : Result (Unit {0}) Said → Said
+part_said (Ok done) = Done
+part_said (Err said) = said
 
 -- the world behind an event that crashes no site
 abbrev pub behind : Doubted → Event → Doubted

@@ -12,7 +12,7 @@ use Rattle.vx_history.specs.declared.event.Event.TheVariants.{Link as LinkAt}
 use Rattle.vx_history.specs.declared.event.LinkPart.TheVariants.{Joins}
 use Rattle.vx_history.specs.declared.event.Said.TheVariants.{Done as IsDone}
 use Rattle.vx_srlfmt.specs.Headers.{CanSpellState}
-use Rattle.vx_diskset.specs.Holds.{links_of, state_with}
+use Rattle.vx_diskset.specs.Holds.{header_links, state_with}
 use Rattle.vx_effects.specs.LinkParts.{kept_over}
 use Rattle.vx_events.specs.Facts.{site_number}
 use Rattle.vx_linked.specs.Making.{fresh_link, kept_plain, opened_link}
@@ -27,7 +27,7 @@ pub record AreSpelled (states : LinkStates) : Type 0 where
 
 -- the links of site p with the one to site s behind them
 abbrev pub further_links : World → (p s : ℕ) → SyncMode → (session : ℕ) → List KeptLink
-further_links w p s sync session = links_of w p ++ kept_plain (fresh_link s sync session) ∷ []
+further_links w p s sync session = header_links w p ++ kept_plain (fresh_link s sync session) ∷ []
 
 -- the same as that link goes by the log from this number on
 abbrev pub opened_links : World → (p s : ℕ) → SyncMode → (session last : ℕ) → List KeptLink

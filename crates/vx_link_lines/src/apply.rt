@@ -6,7 +6,7 @@ ghost use Rattle.vx_yard.specs.Carries.{Carries};
 ghost use Rattle.vx_yard.specs.OfSites.{AsAsked, HasCalled};
 ghost use Rattle.vx_yard.specs.Standing.{LeadsIs, StandsFor};
 ghost use Rattle.vx_yard.specs.Working.{IsFree};
-ghost use Rattle.vx_yard.specs.Yards.{IsKept, IsTold, in_files};
+ghost use Rattle.vx_yard.specs.Yards.{IsYardKept, IsTold, in_files};
 
 use crate::received::apply_received;
 use std::alloc::Global;
@@ -25,7 +25,7 @@ pub fn apply_line<R: Rack>(
     name: &Name,
     to: u64,
 ) -> Result<Said, OutOfMemory>
-    requires kept { IsKept yard.old }
+    requires kept { IsYardKept yard.old }
     requires free { IsFree yard.old (Apply name.now to) }
     ensures leads { (d : Doubted) → StandsFor d yard.old → Carries d yard.old → LeadsIs d (Apply name.now to) yard.old yard.new result }
     ensures asked { (d : Doubted) → StandsFor d yard.old → AsAsked d.world (Apply name.now to) yard.old yard.new }

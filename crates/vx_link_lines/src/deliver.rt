@@ -1,5 +1,5 @@
 // The line that hands a packet to its target.
-ghost use Rattle.std.specs.Prelude.{◌≡◌, ◌<◌, ℕ, Some, length};
+ghost use Rattle.std.specs.Prelude.{◌≡◌, ◌<◌, ℕ, IfOk, Some, length};
 ghost use Rattle.vx_model.specs.Content.{Write as LogWrite};
 ghost use Rattle.vx_model.specs.declared.limits.TheConstants.{MOST_SITES};
 ghost use Rattle.vx_history.specs.Doubts.{Doubted};
@@ -7,10 +7,10 @@ ghost use Rattle.vx_history.specs.Events.{packet_at};
 ghost use Rattle.vx_history.specs.World.{Packet, Update};
 ghost use Rattle.vx_script.specs.declared.line.ScriptLine.TheVariants.{Deliver};
 ghost use Rattle.vx_yard.specs.Carries.{Carries};
-ghost use Rattle.vx_yard.specs.OfSites.{AllSameFailing, AsAsked};
+ghost use Rattle.vx_yard.specs.OfSites.{AllSameFailing, AsAsked, HasCalled, OfSite, TouchesNone};
 ghost use Rattle.vx_yard.specs.Standing.{GoodFor, LeadsIs, StandsFor};
 ghost use Rattle.vx_yard.specs.Working.{IsFree};
-ghost use Rattle.vx_yard.specs.Yards.{IsKept, IsTold, in_files};
+ghost use Rattle.vx_yard.specs.Yards.{IsYardKept, IsTold, in_files};
 
 use crate::hearing::hear_answer;
 use std::alloc::Global;
@@ -38,6 +38,8 @@ fn hand_update<R: Rack>(yard: &mut Yard<R>, target: usize, number: u64) -> Resul
     ensures leads { (d : Doubted) (p : Packet) (k : ℕ) (x : LogWrite) → StandsFor d yard.old → Carries d yard.old → GoodFor d yard.old → packet_at d.world.packets number ≡ Some p → p.target ≡ target
         → target < d.world.sites → p.message ≡ Update k x → LeadsIs d (Deliver number) yard.old yard.new result }
     ensures asked { AllSameFailing yard.old yard.new }
+    // It waits in memory, and no disk is touched.
+    ensures called { IfOk result (λ said. OfSite (TouchesNone said) target yard.old yard.new) }
     ensures told { IsTold yard.new → IsTold yard.old }
     ensures files { in_files yard.new ≡ in_files yard.old }
 {
@@ -68,10 +70,11 @@ pub fn deliver_line<R: Rack>(
     alloc: Global,
     number: u64,
 ) -> Result<Said, OutOfMemory>
-    requires kept { IsKept yard.old }
+    requires kept { IsYardKept yard.old }
     requires free { IsFree yard.old (Deliver number) }
     ensures leads { (d : Doubted) → StandsFor d yard.old → Carries d yard.old → GoodFor d yard.old → LeadsIs d (Deliver number) yard.old yard.new result }
     ensures asked { (d : Doubted) → StandsFor d yard.old → AsAsked d.world (Deliver number) yard.old yard.new }
+    ensures called { (d : Doubted) → StandsFor d yard.old → Carries d yard.old → IfOk result (λ said. HasCalled d.world (Deliver number) said yard.old yard.new) }
     ensures told { IsTold yard.new → IsTold yard.old }
     ensures files { in_files yard.new ≡ in_files yard.old }
 {

@@ -1,5 +1,5 @@
 // A greeting or an acknowledgement, handed to the site whose link goes to its sender.
-ghost use Rattle.std.specs.Prelude.{◌≡◌, ◌&&◌, ◌<◌, ℕ, IfSome, Some, length, true};
+ghost use Rattle.std.specs.Prelude.{◌≡◌, ◌&&◌, ◌<◌, ℕ, IfOk, IfSome, Some, length, true};
 ghost use Rattle.vx_model.specs.declared.limits.TheConstants.{MOST_SITES};
 ghost use Rattle.vx_model.specs.declared.site.SiteState.TheVariants.{Up as UpState};
 ghost use Rattle.vx_courier.specs.UnderWay.{FlightStands};
@@ -13,12 +13,13 @@ ghost use Rattle.vx_events.specs.LinkedFacts.{linked_facts, needed_by};
 ghost use Rattle.vx_events.specs.LinksFit.{LinksFit, is_plain_mode};
 ghost use Rattle.vx_srlfmt.specs.Headers.{CanSpellState};
 ghost use Rattle.vx_peers.specs.Answers.{is_answer};
-ghost use Rattle.vx_diskset.specs.Holds.{Beside, beside_of, links_of, state_with};
-ghost use Rattle.vx_diskset.specs.Stands.{StandsAt};
-ghost use Rattle.vx_joins.specs.Hearings.{IsListening, behind};
+ghost use Rattle.vx_diskset.specs.Asked.{HeadUnder};
+ghost use Rattle.vx_diskset.specs.Holds.{KeptBeside, beside_of, header_links, state_with};
+ghost use Rattle.vx_diskset.specs.Stands.{SiteStands};
+ghost use Rattle.vx_joins.specs.Hearings.{IsListening, world_behind};
 ghost use Rattle.vx_yard.specs.Carries.{Carries};
-ghost use Rattle.vx_yard.specs.OfSites.{AllSameFailing};
-ghost use Rattle.vx_yard.specs.Replies.{no_of};
+ghost use Rattle.vx_yard.specs.OfSites.{AllSameFailing, OfSite, heard_calls};
+ghost use Rattle.vx_yard.specs.Replies.{refusal_in};
 ghost use Rattle.vx_yard.specs.Standing.{GoodFor, LeadsIs, StandsFor};
 ghost use Rattle.vx_yard.specs.Yards.{IsTold, in_files};
 
@@ -49,7 +50,7 @@ fn needs_log(link: &Link) -> bool
 
 // The blocks of the log of a site that its link needs. None where the log does not hold them any more.
 fn needed<R: Rack>(disk_set: &DiskSet<R>, link: &Link) -> Option<u64>
-    ensures is { (beside : Beside) (n : Node) (s : ℕ) (l : LinkOf) → StandsAt beside n disk_set.now → n.state ≡ UpState → n.halted ≡ None → is_plain_mode l.mode ≡ true
+    ensures is { (beside : KeptBeside) (n : Node) (s : ℕ) (l : LinkOf) → SiteStands beside n disk_set.now → n.state ≡ UpState → n.halted ≡ None → is_plain_mode l.mode ≡ true
         → link.now ≡ plain_link s l → IfSome result (λ blocks. blocks ≡ needed_by n s l) }
 {
     if needs_log(link) {
@@ -63,8 +64,8 @@ fn needed<R: Rack>(disk_set: &DiskSet<R>, link: &Link) -> Option<u64>
 fn state_here<R: Rack>(disks: &DiskSet<R>, sites: &[SiteFacts], here: usize) -> Option<State>
     requires within { here < length sites.now }
     ensures spell { IfSome result (λ state. CanSpellState state) }
-    ensures is { (beside : Beside) (n : Node) (w : World) → StandsAt beside n disks.now → n.state ≡ UpState → sites.now ≡ linked_facts w → here < w.sites → (w.nodes here).state ≡ UpState
-        → IfSome result (λ state. state ≡ state_with n (links_of w here)) }
+    ensures is { (beside : KeptBeside) (n : Node) (w : World) → SiteStands beside n disks.now → n.state ≡ UpState → sites.now ≡ linked_facts w → here < w.sites → (w.nodes here).state ≡ UpState
+        → IfSome result (λ state. state ≡ state_with n (header_links w here)) }
 {
     let Some(kept) = kept_facts(sites[here].links.as_slice()) else {
         return None;
@@ -85,8 +86,8 @@ fn heard_needs<R: Rack>(
 ) -> Option<u64>
     ensures is { (d : Doubted) (p : Packet) → LinksFit d → packet_at d.world.packets number ≡ Some p → is_answer p.message ≡ true → FlightStands d.world.packets flight.now
         → IsListening (d.world.nodes p.target) (d.world.links p.target p.source) → link.now ≡ plain_link p.source (d.world.links p.target p.source)
-        → StandsAt (beside_of d p.target) (d.world.nodes p.target) disk_set.now → state.now.line ≡ (d.world.nodes p.target).line
-        → IfSome result (λ blocks. blocks ≡ needed_by (d.world.nodes p.target) p.source ((behind d.world number).links p.target p.source)) }
+        → SiteStands (beside_of d p.target) (d.world.nodes p.target) disk_set.now → state.now.line ≡ (d.world.nodes p.target).line
+        → IfSome result (λ blocks. blocks ≡ needed_by (d.world.nodes p.target) p.source ((world_behind d.world number).links p.target p.source)) }
 {
     let safe = disk_set.last();
     let heard = heard_link(link, safe, &state.line, flight, number);
@@ -95,7 +96,7 @@ fn heard_needs<R: Rack>(
 
 // The refusal of a call that did not end for want of memory.
 fn refusal(stop: Stop) -> Option<No>
-    ensures { result ≡ no_of stop }
+    ensures { result ≡ refusal_in stop }
 {
     match stop {
         Stop::No(no) => Some(no),
@@ -122,6 +123,9 @@ pub(crate) fn hear_answer<R: Rack>(
     ensures leads { (d : Doubted) (p : Packet) → StandsFor d yard.old → Carries d yard.old → GoodFor d yard.old → packet_at d.world.packets number ≡ Some p → p.target ≡ target
         → p.source ≡ source → target < d.world.sites → is_answer p.message ≡ true → LeadsIs d (Deliver number) yard.old yard.new result }
     ensures asked { (d : Doubted) → StandsFor d yard.old → target < d.world.sites → AllSameFailing yard.old yard.new }
+    // One header where the link comes to count more as stored, and else no call.
+    ensures called { (d : Doubted) (p : Packet) → StandsFor d yard.old → Carries d yard.old → packet_at d.world.packets number ≡ Some p → p.target ≡ target → p.source ≡ source → target < d.world.sites
+        → is_answer p.message ≡ true → IfOk result (λ said. OfSite (HeadUnder (heard_calls d.world number target source) said) target yard.old yard.new) }
     ensures told { IsTold yard.new → IsTold yard.old }
     ensures files { in_files yard.new ≡ in_files yard.old }
 {

@@ -11,10 +11,10 @@ ghost use Rattle.vx_history.specs.declared.event.LinkPart.TheVariants.{Joins};
 ghost use Rattle.vx_history.specs.declared.event.Said.TheVariants.{Done as IsDone};
 ghost use Rattle.vx_order.specs.declared.facts.SiteFacts.{SiteFacts as SiteValue};
 ghost use Rattle.vx_srlfmt.specs.Headers.{CanSpellState};
-ghost use Rattle.vx_diskset.specs.Asked.{SameFailing};
+ghost use Rattle.vx_diskset.specs.Asked.{HeadUnder, SameFailing};
 ghost use Rattle.vx_diskset.specs.Holds.{state_with};
 ghost use Rattle.vx_events.specs.LinksFit.{LinksFit};
-ghost use Rattle.vx_link_lines.specs.Headed.{HeadedSo, NotesAt, noted_by};
+ghost use Rattle.vx_link_lines.specs.Headed.{HeadedSo, NotesAt, noted_by, part_said};
 ghost use Rattle.vx_yard.specs.OfSites.{OfSite};
 ghost use Rattle.vx_yard.specs.Standing.{StandsFor};
 ghost use Rattle.vx_yard.specs.Yards.{IsTold, in_files};
@@ -50,6 +50,9 @@ pub(crate) fn join_site<R: Rack>(
         → (step d.world (LinkAt here there sync Joins)).said ≡ IsDone → state.now ≡ state_with (joined (d.world.nodes here) here (d.world.nodes there)) []
         → HeadedSo note d (LinkAt here there sync Joins) there yard.old yard.new result }
     ensures asked { (d : Doubted) → StandsFor d yard.old → there < d.world.sites → OfSite SameFailing there yard.old yard.new }
+    // It is one header, and no other call.
+    ensures called { (d : Doubted) (note : (ℕ → Node) → ℕ → Node) (sync : SyncValue) → NotesAt there note → StandsFor (noted_by note d) yard.old → LinksFit d → there < d.world.sites
+        → (step d.world (LinkAt here there sync Joins)).said ≡ IsDone → OfSite (HeadUnder 2 (part_said result)) there yard.old yard.new }
     ensures links { IfOk result (λ done. (k : ℕ) (a b : SiteValue) → slice_get yard.old.facts.items k ≡ Some a → slice_get yard.new.facts.items k ≡ Some b → b.links ≡ a.links) }
     ensures many { length yard.new.facts.items ≡ length yard.old.facts.items }
     ensures disk_sets { length yard.new.disk_sets.items ≡ length yard.old.disk_sets.items }

@@ -11,10 +11,10 @@ ghost use Rattle.vx_history.specs.declared.event.LinkPart.TheVariants.{Made, Mar
 ghost use Rattle.vx_history.specs.declared.event.Said.TheVariants.{Done as IsDone};
 ghost use Rattle.vx_order.specs.declared.facts.SiteFacts.{SiteFacts as SiteValue};
 ghost use Rattle.vx_srlfmt.specs.Headers.{CanSpellState};
-ghost use Rattle.vx_diskset.specs.Asked.{SameFailing};
-ghost use Rattle.vx_diskset.specs.Holds.{links_of, state_with};
+ghost use Rattle.vx_diskset.specs.Asked.{HeadUnder, SameFailing};
+ghost use Rattle.vx_diskset.specs.Holds.{header_links, state_with};
 ghost use Rattle.vx_events.specs.LinksFit.{LinksFit};
-ghost use Rattle.vx_link_lines.specs.Headed.{HeadedSo, NotesAt, noted_by};
+ghost use Rattle.vx_link_lines.specs.Headed.{HeadedSo, NotesAt, noted_by, part_said};
 ghost use Rattle.vx_yard.specs.OfSites.{OfSite};
 ghost use Rattle.vx_yard.specs.Standing.{StandsFor};
 ghost use Rattle.vx_yard.specs.Yards.{IsTold, in_files};
@@ -47,9 +47,10 @@ pub(crate) fn make_link<R: Rack>(
     requires state { CanSpellState state.now }
     ensures heads { (d : Doubted) (note : (ℕ → Node) → ℕ → Node) → NotesAt here note → StandsFor (noted_by note d) yard.old → LinksFit d → here < d.world.sites
         → (d.world.nodes there).session ≡ session → (step d.world (LinkAt here there sync Made)).said ≡ IsDone
-        → state.now ≡ state_with (d.world.nodes here) (links_of (step d.world (LinkAt here there sync Made)).world here)
+        → state.now ≡ state_with (d.world.nodes here) (header_links (step d.world (LinkAt here there sync Made)).world here)
         → HeadedSo note d (LinkAt here there sync Made) here yard.old yard.new result }
     ensures asked { (d : Doubted) → StandsFor d yard.old → here < d.world.sites → OfSite SameFailing here yard.old yard.new }
+    ensures called { (d : Doubted) → StandsFor d yard.old → here < d.world.sites → OfSite (HeadUnder 2 (part_said result)) here yard.old yard.new }
     ensures many { length yard.new.facts.items ≡ length yard.old.facts.items }
     ensures disk_sets { length yard.new.disk_sets.items ≡ length yard.old.disk_sets.items }
     ensures flight { yard.new.flight ≡ yard.old.flight }
@@ -79,9 +80,10 @@ pub(crate) fn mark_site<R: Rack>(
     requires disk_set { there < length yard.old.disk_sets.items }
     requires state { CanSpellState state.now }
     ensures heads { (d : Doubted) (note : (ℕ → Node) → ℕ → Node) (here : ℕ) (sync : SyncValue) → NotesAt there note → StandsFor (noted_by note d) yard.old → LinksFit d → there < d.world.sites
-        → (step d.world (LinkAt here there sync Marked)).said ≡ IsDone → state.now ≡ record (state_with (d.world.nodes there) (links_of d.world there)) { mark = Consistent }
+        → (step d.world (LinkAt here there sync Marked)).said ≡ IsDone → state.now ≡ record (state_with (d.world.nodes there) (header_links d.world there)) { mark = Consistent }
         → HeadedSo note d (LinkAt here there sync Marked) there yard.old yard.new result }
     ensures asked { (d : Doubted) → StandsFor d yard.old → there < d.world.sites → OfSite SameFailing there yard.old yard.new }
+    ensures called { (d : Doubted) → StandsFor d yard.old → there < d.world.sites → OfSite (HeadUnder 2 (part_said result)) there yard.old yard.new }
     ensures many { length yard.new.facts.items ≡ length yard.old.facts.items }
     ensures disk_sets { length yard.new.disk_sets.items ≡ length yard.old.disk_sets.items }
     ensures flight { yard.new.flight ≡ yard.old.flight }
@@ -114,9 +116,10 @@ pub(crate) fn open_link<R: Rack>(
     requires state { CanSpellState state.now }
     ensures heads { (d : Doubted) (note : (ℕ → Node) → ℕ → Node) (sync : SyncValue) → NotesAt here note → StandsFor (noted_by note d) yard.old → LinksFit d → here < d.world.sites
         → (d.world.nodes here).safe ≡ last → (step d.world (LinkAt here there sync Opened)).said ≡ IsDone
-        → state.now ≡ state_with (d.world.nodes here) (links_of (step d.world (LinkAt here there sync Opened)).world here)
+        → state.now ≡ state_with (d.world.nodes here) (header_links (step d.world (LinkAt here there sync Opened)).world here)
         → HeadedSo note d (LinkAt here there sync Opened) here yard.old yard.new result }
     ensures asked { (d : Doubted) → StandsFor d yard.old → here < d.world.sites → OfSite SameFailing here yard.old yard.new }
+    ensures called { (d : Doubted) → StandsFor d yard.old → here < d.world.sites → OfSite (HeadUnder 2 (part_said result)) here yard.old yard.new }
     ensures many { length yard.new.facts.items ≡ length yard.old.facts.items }
     ensures disk_sets { length yard.new.disk_sets.items ≡ length yard.old.disk_sets.items }
     ensures flight { yard.new.flight ≡ yard.old.flight }

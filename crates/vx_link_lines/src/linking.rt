@@ -1,5 +1,5 @@
 // The line that links a site to another, whose content it becomes a copy of.
-ghost use Rattle.std.specs.Prelude.{◌≡◌, ◌≤◌, ◌<◌, [], ℕ, List, IfSome, Some, length, slice_get};
+ghost use Rattle.std.specs.Prelude.{◌≡◌, ◌≤◌, ◌<◌, [], ℕ, List, IfOk, IfSome, Some, length, slice_get};
 ghost use Rattle.vx_model.specs.declared.limits.TheConstants.{LINK_PLACES, MOST_LINKS};
 ghost use Rattle.vx_model.specs.declared.link.Prot.{Prot};
 ghost use Rattle.vx_model.specs.declared.site.SiteState.TheVariants.{Up as UpState};
@@ -7,13 +7,14 @@ ghost use Rattle.vx_history.specs.Doubts.{Doubted};
 ghost use Rattle.vx_order.specs.declared.facts.SiteFacts.{SiteFacts as SiteValue};
 ghost use Rattle.vx_script.specs.declared.line.ScriptLine.TheVariants.{Link};
 ghost use Rattle.vx_diskset.specs.Holds.{beside_of};
-ghost use Rattle.vx_diskset.specs.Stands.{StandsAt};
-ghost use Rattle.vx_events.specs.LinkedFacts.{links_in};
+ghost use Rattle.vx_diskset.specs.Stands.{SiteStands};
+ghost use Rattle.vx_events.specs.LinkedFacts.{links_of_site};
 ghost use Rattle.vx_link_lines.specs.Linking.{AreLinkStates, AreSpelled, IsLinking};
-ghost use Rattle.vx_yard.specs.OfSites.{AllSameFailing, AsAsked};
+ghost use Rattle.vx_yard.specs.BothSites.{BothSites, LinkBurns};
+ghost use Rattle.vx_yard.specs.OfSites.{AllSameFailing, AsAsked, HasCalled};
 ghost use Rattle.vx_yard.specs.Standing.{Leads, LeadsIs, StandsFor};
 ghost use Rattle.vx_yard.specs.Working.{IsFree};
-ghost use Rattle.vx_yard.specs.Yards.{IsKept, IsTold, in_files};
+ghost use Rattle.vx_yard.specs.Yards.{IsYardKept, IsTold, in_files};
 
 use crate::joins::join_site;
 use crate::link::{make_link, mark_site, open_link};
@@ -52,8 +53,8 @@ fn link_states<R: Rack>(
 ) -> Option<LinkStates>
     ensures spelled { IfSome result (λ states. AreSpelled states) }
     ensures few { IfSome result (λ states. length links.now ≤ MOST_LINKS) }
-    ensures is { (d : Doubted) → StandsAt (beside_of d here) (d.world.nodes here) first.now → StandsAt (beside_of d there) (d.world.nodes there) second.now
-        → (d.world.nodes here).state ≡ UpState → (d.world.nodes here).halted ≡ None → (d.world.nodes there).state ≡ UpState → links.now ≡ links_in d.world here
+    ensures is { (d : Doubted) → SiteStands (beside_of d here) (d.world.nodes here) first.now → SiteStands (beside_of d there) (d.world.nodes there) second.now
+        → (d.world.nodes here).state ≡ UpState → (d.world.nodes here).halted ≡ None → (d.world.nodes there).state ≡ UpState → links.now ≡ links_of_site d.world here
         → IfSome result (λ states. AreLinkStates d.world here there sync states) }
 {
     let Some(state) = first.state() else {
@@ -103,13 +104,15 @@ fn link_parts<R: Rack>(
     requires room { room ≡ [] }
     requires waiting { waiting ≡ [] }
     requires states { AreSpelled states.now }
-    requires kept { IsKept yard.old }
+    requires kept { IsYardKept yard.old }
     requires first { here < length yard.old.facts.items }
     requires second { there < length yard.old.facts.items }
     requires few { (site : SiteValue) → slice_get yard.old.facts.items here ≡ Some site → length site.links < LINK_PLACES }
     ensures leads { (d : Doubted) (first second : List ℕ) (prot : Prot) → StandsFor d yard.old → IsLinking d first second here there sync states.now → Leads d (Link first second sync prot) result yard.old yard.new }
     // It makes no disk fail.
     ensures asked { (d : Doubted) (first second : List ℕ) (prot : Prot) → StandsFor d yard.old → IsLinking d first second here there sync states.now → AllSameFailing yard.old yard.new }
+    // It writes the headers of its parts, and makes no other call.
+    ensures called { (d : Doubted) (first second : List ℕ) (prot : Prot) → StandsFor d yard.old → IsLinking d first second here there sync states.now → BothSites (LinkBurns result) here there yard.old yard.new }
     ensures flight { yard.new.flight ≡ yard.old.flight }
     ensures told { IsTold yard.new → IsTold yard.old }
     ensures files { in_files yard.new ≡ in_files yard.old }
@@ -152,10 +155,12 @@ pub(crate) fn link_line<R: Rack>(
     second: &Name,
     sync: SyncMode,
 ) -> Result<Said, OutOfMemory>
-    requires kept { IsKept yard.old }
+    requires kept { IsYardKept yard.old }
     requires free { (prot : Prot) × IsFree yard.old (Link first.now second.now sync prot) }
     ensures leads { (d : Doubted) (prot : Prot) → StandsFor d yard.old → LeadsIs d (Link first.now second.now sync prot) yard.old yard.new result }
     ensures asked { (d : Doubted) (prot : Prot) → StandsFor d yard.old → AsAsked d.world (Link first.now second.now sync prot) yard.old yard.new }
+    // It writes two headers at each of its sites, and touches no third.
+    ensures called { (d : Doubted) (prot : Prot) → StandsFor d yard.old → IfOk result (λ said. HasCalled d.world (Link first.now second.now sync prot) said yard.old yard.new) }
     ensures flight { yard.new.flight ≡ yard.old.flight }
     ensures told { IsTold yard.new → IsTold yard.old }
     ensures files { in_files yard.new ≡ in_files yard.old }

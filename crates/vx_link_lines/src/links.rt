@@ -1,12 +1,12 @@
 // The lines that work on links.
-ghost use Rattle.std.specs.Prelude.{◌≡◌, IfOk, true};
+ghost use Rattle.std.specs.Prelude.{◌≡◌, IfOk, IsOk, false, true};
 ghost use Rattle.vx_history.specs.Doubts.{Doubted};
 ghost use Rattle.vx_yard.specs.Carries.{Carries};
 ghost use Rattle.vx_yard.specs.LinkLines.{is_on_links};
 ghost use Rattle.vx_yard.specs.OfSites.{AsAsked, HasCalled};
 ghost use Rattle.vx_yard.specs.Standing.{LeadsIs, StandsFor};
-ghost use Rattle.vx_yard.specs.Working.{IsFree};
-ghost use Rattle.vx_yard.specs.Yards.{IsKept, IsTold, in_files};
+ghost use Rattle.vx_yard.specs.Working.{IsFree, takes_memory};
+ghost use Rattle.vx_yard.specs.Yards.{IsYardKept, IsTold, in_files};
 
 use crate::connect::connect_line;
 use crate::cut::cut_line;
@@ -31,11 +31,13 @@ pub fn work_link<R: Rack>(
     words: &ScriptLine,
 ) -> Result<Said, OutOfMemory>
     requires kind { is_on_links words.now ≡ true }
-    requires kept { IsKept yard.old }
+    requires kept { IsYardKept yard.old }
     requires free { IsFree yard.old words.now }
     ensures leads { (d : Doubted) → StandsFor d yard.old → Carries d yard.old → LeadsIs d words.now yard.old yard.new result }
     ensures asked { (d : Doubted) → StandsFor d yard.old → AsAsked d.world words.now yard.old yard.new }
-    ensures called { (d : Doubted) → IfOk result (λ said. HasCalled d.world words.now said yard.old yard.new) }
+    ensures called { (d : Doubted) → StandsFor d yard.old → IfOk result (λ said. HasCalled d.world words.now said yard.old yard.new) }
+    // Memory is short for no line that takes none.
+    ensures whole { takes_memory words.now ≡ false → IsOk result }
     ensures told { IsTold yard.new → IsTold yard.old }
     ensures files { in_files yard.new ≡ in_files yard.old }
 {

@@ -1,8 +1,8 @@
 // What waits at a site that receives is applied, and acknowledged to the site that feeds it.
 ghost use Rattle.std.specs.Prelude.{◌≡◌, ◌++◌, ◌<◌, ◌≤◌, ℕ, List, IfOk, IfSome, Some, false, true};
 ghost use Rattle.vx_courier.specs.UnderWay.{FlightStands};
-ghost use Rattle.vx_diskset.specs.Holds.{Beside};
-ghost use Rattle.vx_diskset.specs.Stands.{StandsAt};
+ghost use Rattle.vx_diskset.specs.Holds.{KeptBeside};
+ghost use Rattle.vx_diskset.specs.Stands.{SiteStands};
 ghost use Rattle.vx_events.specs.Facts.{seat_of};
 ghost use Rattle.vx_history.specs.Doubts.{Doubted};
 ghost use Rattle.vx_history.specs.Sends.{packets_of};
@@ -10,14 +10,14 @@ ghost use Rattle.vx_history.specs.World.{DataAck as AcksFromDisk, Node, Packet};
 ghost use Rattle.vx_model.specs.Sites.{is_origin};
 ghost use Rattle.vx_model.specs.declared.limits.TheConstants.{MOST_NUMBER as MOST};
 ghost use Rattle.vx_model.specs.declared.site.SiteState.TheVariants.{Up};
-ghost use Rattle.vx_net.specs.Flights.{greatest};
+ghost use Rattle.vx_net.specs.Flights.{greatest_packet};
 ghost use Rattle.vx_packet.specs.Messages.{IsCounted};
 ghost use Rattle.vx_script.specs.declared.line.ScriptLine.TheVariants.{Apply};
 ghost use Rattle.vx_yard.specs.Carries.{Carries};
 ghost use Rattle.vx_yard.specs.OfSites.{AsAsked, HasCalled};
 ghost use Rattle.vx_yard.specs.Standing.{LeadsIs, StandsFor};
 ghost use Rattle.vx_yard.specs.Working.{IsFree};
-ghost use Rattle.vx_yard.specs.Yards.{IsKept, IsTold, in_files};
+ghost use Rattle.vx_yard.specs.Yards.{IsYardKept, IsTold, in_files};
 
 use std::alloc::Global;
 use vx_courier::send_message;
@@ -35,7 +35,7 @@ use vx_yard::refusing::refused;
 // The line of a site that is up.
 fn line_of<R: Rack>(disk_set: &DiskSet<R>) -> Option<Line>
     ensures counted { IfSome result (λ line. IsCounted line.generation) }
-    ensures is { (beside : Beside) (n : Node) → StandsAt beside n disk_set.now → n.state ≡ Up → IfSome result (λ line. line ≡ n.line) }
+    ensures is { (beside : KeptBeside) (n : Node) → SiteStands beside n disk_set.now → n.state ≡ Up → IfSome result (λ line. line ≡ n.line) }
 {
     match disk_set.state() {
         Some(state) => Some(state.line),
@@ -47,7 +47,7 @@ fn line_of<R: Rack>(disk_set: &DiskSet<R>) -> Option<Line>
 fn acknowledge<N: Net>(flight: &mut N, acks: bool, from: u32, to: u32, line: &Line, number: u64)
     requires generation { IsCounted line.now.generation }
     requires number { number ≤ MOST }
-    requires room { (N.flying flight.old).count < greatest }
+    requires room { (N.flying flight.old).count < greatest_packet }
     ensures sends { acks ≡ true → (ps : List Packet) → FlightStands ps (N.flying flight.old) → FlightStands (ps ++ packets_of from to line.now (AcksFromDisk number)) (N.flying flight.new) }
     ensures unsent { acks ≡ false → N.flying flight.new ≡ N.flying flight.old }
 {
@@ -69,7 +69,7 @@ pub(crate) fn apply_received<R: Rack>(
     name: &Name,
     count: u64,
 ) -> Result<Said, OutOfMemory>
-    requires kept { IsKept yard.old }
+    requires kept { IsYardKept yard.old }
     requires free { IsFree yard.old (Apply name.now count) }
     ensures leads { (d : Doubted) (s : ℕ) → StandsFor d yard.old → Carries d yard.old → seat_of yard.old.facts.items name.now ≡ Some s → is_origin (d.world.nodes s).role ≡ false
         → LeadsIs d (Apply name.now count) yard.old yard.new result }

@@ -1,5 +1,5 @@
 // The line that gives a link another setting.
-ghost use Rattle.std.specs.Prelude.{◌≡◌, ◌<◌, IfSome, length};
+ghost use Rattle.std.specs.Prelude.{◌≡◌, ◌<◌, IfOk, IfSome, length};
 ghost use Rattle.vx_model.specs.declared.link.Prot.{Prot};
 ghost use Rattle.vx_model.specs.declared.site.SiteState.TheVariants.{Up as UpState};
 ghost use Rattle.vx_history.specs.Doubts.{Doubted};
@@ -10,13 +10,13 @@ ghost use Rattle.vx_history.specs.declared.event.Event.TheVariants.{Set as SetAt
 ghost use Rattle.vx_history.specs.declared.event.Said.TheVariants.{Done as IsDone};
 ghost use Rattle.vx_script.specs.declared.line.ScriptLine.TheVariants.{Set};
 ghost use Rattle.vx_srlfmt.specs.Headers.{CanSpellState};
-ghost use Rattle.vx_diskset.specs.Holds.{Beside, links_of, state_with};
-ghost use Rattle.vx_diskset.specs.Stands.{StandsAt};
+ghost use Rattle.vx_diskset.specs.Holds.{KeptBeside, header_links, state_with};
+ghost use Rattle.vx_diskset.specs.Stands.{SiteStands};
 ghost use Rattle.vx_events.specs.LinkedFacts.{linked_facts};
-ghost use Rattle.vx_yard.specs.OfSites.{AsAsked};
+ghost use Rattle.vx_yard.specs.OfSites.{AsAsked, HasCalled};
 ghost use Rattle.vx_yard.specs.Standing.{LeadsIs, StandsFor};
 ghost use Rattle.vx_yard.specs.Working.{IsFree};
-ghost use Rattle.vx_yard.specs.Yards.{IsKept, IsTold, in_files};
+ghost use Rattle.vx_yard.specs.Yards.{IsYardKept, IsTold, in_files};
 
 use std::alloc::Global;
 use vx_disk::Rack;
@@ -39,8 +39,8 @@ fn set_state<R: Rack>(
 ) -> Option<State>
     requires within { here < length sites.now }
     ensures spell { IfSome result (λ state. CanSpellState state) }
-    ensures is { (beside : Beside) (n : Node) (w : World) → StandsAt beside n disks.now → n.state ≡ UpState → sites.now ≡ linked_facts w → HasPlaces w.sites (w.links here)
-        → (step w (SetAt here there sync)).said ≡ IsDone → IfSome result (λ state. state ≡ state_with n (links_of (step w (SetAt here there sync)).world here)) }
+    ensures is { (beside : KeptBeside) (n : Node) (w : World) → SiteStands beside n disks.now → n.state ≡ UpState → sites.now ≡ linked_facts w → HasPlaces w.sites (w.links here)
+        → (step w (SetAt here there sync)).said ≡ IsDone → IfSome result (λ state. state ≡ state_with n (header_links (step w (SetAt here there sync)).world here)) }
 {
     let Some(l) = link_between(sites, here, there) else {
         return None;
@@ -63,11 +63,13 @@ pub(crate) fn set_line<R: Rack>(
     second: &Name,
     sync: SyncMode,
 ) -> Result<Said, OutOfMemory>
-    requires kept { IsKept yard.old }
+    requires kept { IsYardKept yard.old }
     requires free { (prot : Prot) × IsFree yard.old (Set first.now second.now sync prot) }
     ensures leads { (d : Doubted) (prot : Prot) → StandsFor d yard.old → LeadsIs d (Set first.now second.now sync prot) yard.old yard.new result }
     // It makes no disk fail, and touches no other site.
     ensures asked { (d : Doubted) (prot : Prot) → StandsFor d yard.old → AsAsked d.world (Set first.now second.now sync prot) yard.old yard.new }
+    // It is one header, and no other call.
+    ensures called { (d : Doubted) (prot : Prot) → StandsFor d yard.old → IfOk result (λ said. HasCalled d.world (Set first.now second.now sync prot) said yard.old yard.new) }
     ensures flight { yard.new.flight ≡ yard.old.flight }
     ensures told { IsTold yard.new → IsTold yard.old }
     ensures files { in_files yard.new ≡ in_files yard.old }

@@ -18,6 +18,7 @@ pub fn tick_line<R: Rack>(yard: &mut Yard<R>, first: &Name, second: &Name) -> Sa
     requires free { IsFree yard.old (Tick first.now second.now) }
     ensures leads { (d : Doubted) → StandsFor d yard.old → Carries d yard.old → Leads d (Tick first.now second.now) result yard.old yard.new }
     ensures still { yard.new.disk_sets ≡ yard.old.disk_sets }
+    ensures done { result ≡ Said.Done }
     ensures files { in_files yard.new ≡ in_files yard.old }
 {
     tick(&mut yard.facts, first, second);

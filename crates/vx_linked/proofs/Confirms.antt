@@ -24,13 +24,13 @@ use Rattle.vx_order.specs.Tests.{when}
 use Rattle.vx_order.specs.declared.facts.SiteFacts.{SiteFacts}
 use Rattle.vx_script.specs.declared.line.ScriptLine.TheVariants.{Wait}
 use Rattle.vx_events.specs.Facts.{seat_of, site_number}
-use Rattle.vx_events.specs.LinkedFacts.{link_fact, link_facts, linked_fact, linked_facts, links_by, links_in}
+use Rattle.vx_events.specs.LinkedFacts.{link_fact, link_facts, linked_fact, linked_facts, links_by, links_of_site}
 use Rattle.vx_history.specs.Listed.{AreListed, IsAmong}
 use Rattle.vx_events.proofs.LinkTesting.{AllLinked, all_linked, seat_at, up_state}
 use Rattle.vx_events.proofs.LinkWaiting.{wait_agrees}
 use Rattle.vx_events.proofs.Places.{never_some, some_same}
 use Rattle.vx_events.proofs.Refused.{not_false, passes, when_none}
-use Rattle.vx_linked.specs.Tables.{IsFree}
+use Rattle.vx_linked.specs.Tables.{IsUnrefused}
 use Rattle.vx_linked.specs.Waits.{holds_up, wait_said}
 use Rattle.vx_linked.proofs.Finding.{seat_found}
 use Rattle.vx_linked.proofs.Leaving.{wait_by}
@@ -153,7 +153,7 @@ module _ (n : Node) (row : ℕ → Link) (number sites : ℕ) where
   among_any k (t ∷ ts) (inl same) e = ap (λ (b : Bool). b || list_any (holds_up number) (link_facts n row ts)) (subst (λ (j : ℕ). held j ≡ true) same e)
   among_any k (t ∷ ts) (inr more) e = or_right (held t) _ (among_any k ts more e)
 
-pub holds_same : (w : World) → AreListed w → (p number : ℕ) → some_below w.sites (λ k. holds_back number k (w.links p k)) ≡ list_any (holds_up number) (links_in w p)
+pub holds_same : (w : World) → AreListed w → (p number : ℕ) → some_below w.sites (λ k. holds_back number k (w.links p k)) ≡ list_any (holds_up number) (links_of_site w p)
 holds_same w listed p number =
     let n : Node = w.nodes p in
     let row : ℕ → Link = w.links p in
@@ -167,7 +167,7 @@ holds_same w listed p number =
 
 -- ---- the line
 
-pub wait_named : (sites : List SiteFacts) (from : List ℕ) (number : ℕ) → IsFree sites (Wait from number) → IsSome (seat_of sites from)
+pub wait_named : (sites : List SiteFacts) (from : List ℕ) (number : ℕ) → IsUnrefused sites (Wait from number) → IsSome (seat_of sites from)
 unfolding first_name second_name need_of halt_of ask_of
 wait_named sites from number free = seat_found sites from (passes sites free.0 (Wait from number) free.1).known
 
@@ -176,18 +176,18 @@ said_refused s number (inl is) = ap is_refused is
 said_refused s number (inr is) = ap is_refused is
 
 -- what is said of the facts of the site is what is said of the event
-pub wait_is : (w : World) (sites : List SiteFacts) (from : List ℕ) (number : ℕ) (site : SiteFacts) → sites ≡ linked_facts w → AreListed w → IsFree sites (Wait from number) → site_named sites from ≡ Some site
+pub wait_is : (w : World) (sites : List SiteFacts) (from : List ℕ) (number : ℕ) (site : SiteFacts) → sites ≡ linked_facts w → AreListed w → IsUnrefused sites (Wait from number) → site_named sites from ≡ Some site
     → wait_said number site.links ≡ (step w (WaitAt (site_number w from) number)).said
 unfolding first_name second_name need_of halt_of ask_of
 wait_is w sites from number site is listed free found =
     let a : ℕ = site_number w from in
-    let free_here : IsFree (linked_facts w) (Wait from number) = subst (λ (fs : List SiteFacts). IsFree fs (Wait from number)) is free in
+    let free_here : IsUnrefused (linked_facts w) (Wait from number) = subst (λ (fs : List SiteFacts). IsUnrefused fs (Wait from number)) is free in
     let t = passes (linked_facts w) free_here.0 (Wait from number) free_here.1 in
     let one = seat_at w from t.known in
     let same : site ≡ linked_fact w a = some_same (sym found ∙ ap (λ (fs : List SiteFacts). site_named fs from) is ∙ one.found) in
     let up : (w.nodes a).state ≡ Up
     = up_state (w.nodes a).state (not_false (is_up (w.nodes a).state) (when_none (not (is_up (w.nodes a).state)) NotUp (subst (λ (o : Option SiteFacts). when (site_off o) NotUp ≡ None) one.found t.up))) in
-    let links : site.links ≡ links_in w a = ap (λ (f : SiteFacts). f.links) same ∙ ap (λ (st : SiteState). links_by st (links_in w a)) up in
+    let links : site.links ≡ links_of_site w a = ap (λ (f : SiteFacts). f.links) same ∙ ap (λ (st : SiteState). links_by st (links_of_site w a)) up in
     let kept = said_refused _ number (wait_agrees w free_here.0 from number listed free_here.1) in
     ap (wait_said number) links
     ∙ ap (λ (b : Bool). if b then Pending number else DoneAt number) (sym (holds_same w listed a number))

@@ -22,7 +22,7 @@ use Rattle.vx_events.specs.LinkedFacts.{linked_facts}
 use Rattle.vx_events.proofs.LinkTesting.{OnLink, on_link_by}
 use Rattle.vx_events.proofs.Places.{some_same}
 use Rattle.vx_events.proofs.Refused.{FoundAt, found_at, named, not_false, passes, when_none}
-use Rattle.vx_linked.specs.Tables.{Found, IsFree, leads_to, place_to, relinked, site_relinked}
+use Rattle.vx_linked.specs.Tables.{FoundLink, IsUnrefused, leads_to, place_to, relinked, site_relinked}
 use Rattle.vx_linked.proofs.Shown.{first_place}
 
 -- what no test refuses of a line that turns a link
@@ -34,37 +34,37 @@ pub record Tested (sites : List SiteFacts) (from to : List ℕ) : Type 0 where
   pub role : when (not (sends (rvg_of (site_named sites from)))) WrongRole ≡ None
   pub linked : not_linked (link_towards (site_named sites from) (place_named sites (Some to))) (site_named sites to) ≡ None
 
-pub connect_tested : (sites : List SiteFacts) (from to : List ℕ) → IsFree sites (Connect from to) → Tested sites from to
+pub connect_tested : (sites : List SiteFacts) (from to : List ℕ) → IsUnrefused sites (Connect from to) → Tested sites from to
 unfolding first_name second_name need_of halt_of ask_of
 connect_tested sites from to free =
     let t = passes sites free.0 (Connect from to) free.1 in
     record { known = t.known; other = t.other_known; up = t.up; running = t.running; role = t.link_role; linked = t.link }
 
-pub cut_tested : (sites : List SiteFacts) (from to : List ℕ) → IsFree sites (Cut from to) → Tested sites from to
+pub cut_tested : (sites : List SiteFacts) (from to : List ℕ) → IsUnrefused sites (Cut from to) → Tested sites from to
 unfolding first_name second_name need_of halt_of ask_of
 cut_tested sites from to free =
     let t = passes sites free.0 (Cut from to) free.1 in
     record { known = t.known; other = t.other_known; up = t.up; running = t.running; role = t.link_role; linked = t.link }
 
-pub pause_tested : (sites : List SiteFacts) (from to : List ℕ) → IsFree sites (Pause from to) → Tested sites from to
+pub pause_tested : (sites : List SiteFacts) (from to : List ℕ) → IsUnrefused sites (Pause from to) → Tested sites from to
 unfolding first_name second_name need_of halt_of ask_of
 pause_tested sites from to free =
     let t = passes sites free.0 (Pause from to) free.1 in
     record { known = t.known; other = t.other_known; up = t.up; running = t.running; role = t.link_role; linked = t.link }
 
-pub resume_tested : (sites : List SiteFacts) (from to : List ℕ) → IsFree sites (Resume from to) → Tested sites from to
+pub resume_tested : (sites : List SiteFacts) (from to : List ℕ) → IsUnrefused sites (Resume from to) → Tested sites from to
 unfolding first_name second_name need_of halt_of ask_of
 resume_tested sites from to free =
     let t = passes sites free.0 (Resume from to) free.1 in
     record { known = t.known; other = t.other_known; up = t.up; running = t.running; role = t.link_role; linked = t.link }
 
-pub tick_tested : (sites : List SiteFacts) (from to : List ℕ) → IsFree sites (Tick from to) → Tested sites from to
+pub tick_tested : (sites : List SiteFacts) (from to : List ℕ) → IsUnrefused sites (Tick from to) → Tested sites from to
 unfolding first_name second_name need_of halt_of ask_of
 tick_tested sites from to free =
     let t = passes sites free.0 (Tick from to) free.1 in
     record { known = t.known; other = t.other_known; up = t.up; running = t.running; role = t.link_role; linked = t.link }
 
-pub pump_tested : (sites : List SiteFacts) (from to : List ℕ) → IsFree sites (Pump from to) → Tested sites from to
+pub pump_tested : (sites : List SiteFacts) (from to : List ℕ) → IsUnrefused sites (Pump from to) → Tested sites from to
 unfolding first_name second_name need_of halt_of ask_of
 pump_tested sites from to free =
     let t = passes sites free.0 (Pump from to) free.1 in
@@ -83,7 +83,7 @@ seat_named sites name k is =
     find_at (λ (site : SiteFacts). bytes_eq site.name name) sites
     ∙ ap (slice_get sites) (sym (first_place (λ (site : SiteFacts). bytes_eq site.name name) sites k is))
 
-pub found : (sites : List SiteFacts) (from to : List ℕ) → Tested sites from to → Found sites from to
+pub found : (sites : List SiteFacts) (from to : List ℕ) → Tested sites from to → FoundLink sites from to
 found sites from to t =
     let a = named sites from t.known in
     let b = named sites to t.other in
@@ -115,10 +115,10 @@ pub on_link : (w : World) (from to : List ℕ) → Tested (linked_facts w) from 
 on_link w from to t = on_link_by w from to sends keeps_links (λ n. refl) t.known t.other t.up t.running t.role t.linked
 
 -- the link of that place changed, in the site of that place
-pub changed_so : (g : LinkFacts → LinkFacts) (old : List SiteFacts) (from to : List ℕ) (f : Found old from to) (here there place : ℕ) (site new : SiteFacts)
+pub changed_so : (g : LinkFacts → LinkFacts) (old : List SiteFacts) (from to : List ℕ) (f : FoundLink old from to) (here there place : ℕ) (site new : SiteFacts)
     → seat_of old from ≡ Some here → seat_of old to ≡ Some there → slice_get old here ≡ Some site → place_to there site.links ≡ Some place
     → ((l : LinkFacts) → slice_get site.links place ≡ Some l → new ≡ site_relinked site place (g l))
-    → (at : Found old from to) × (slice_set old here new ≡ relinked old at.here at.site at.place (g at.link))
+    → (at : FoundLink old from to) × (slice_set old here new ≡ relinked old at.here at.site at.place (g at.link))
 changed_so g old from to f here there place site new first second at placed turns =
     let same_here : f.here ≡ here = some_same (sym f.first ∙ first) in
     let same_there : f.there ≡ there = some_same (sym f.second ∙ second) in
@@ -130,7 +130,7 @@ changed_so g old from to f here there place site new first second at placed turn
     )
 
 -- a line names one link
-pub one_link : (old : List SiteFacts) (from to : List ℕ) (f : Found old from to) (here there place : ℕ) (site : SiteFacts) (l : LinkFacts) → seat_of old from ≡ Some here → seat_of old to ≡ Some there
+pub one_link : (old : List SiteFacts) (from to : List ℕ) (f : FoundLink old from to) (here there place : ℕ) (site : SiteFacts) (l : LinkFacts) → seat_of old from ≡ Some here → seat_of old to ≡ Some there
     → slice_get old here ≡ Some site → place_to there site.links ≡ Some place → slice_get site.links place ≡ Some l → l ≡ f.link
 one_link old from to f here there place site l first second at placed is =
     let same_here : f.here ≡ here = some_same (sym f.first ∙ first) in

@@ -3,7 +3,7 @@ use Rattle.std.proofs.Common.{◌≡◌, ◌∙◌, ◌⊎◌, ⊎_elim, inl, in
 use Rattle.std.specs.Prelude.{Option, Some, None, ◌&&◌, ◌==◌, cond, slice_get, if◌then◌else◌}
 use Rattle.std.specs.List.{find}
 use Rattle.std.proofs.lemmas.Bool.Decides.{nat_tests}
-use Rattle.vx_history.specs.Events.{delivered, facts_of, gathered_if, gathers, handed, heard, link_heard, linked_sites, packet_at, said_of_link, is_taken}
+use Rattle.vx_history.specs.Events.{delivered, receiver_facts, gathered_if, gathers, handed, heard, link_heard, linked_sites, packet_at, said_of_link, is_taken}
 use Rattle.vx_history.specs.LinkForms.{plain_link, with_plain}
 use Rattle.vx_history.specs.Refusals.{Outcome, is_running, keeps_links, says}
 use Rattle.vx_history.specs.Sending.{Sent, sent_step}
@@ -20,13 +20,13 @@ use Rattle.vx_model.specs.declared.site.SiteState.TheVariants.{Bare, Up, Deporte
 use Rattle.vx_order.specs.declared.facts.LinkFacts.{LinkFacts}
 use Rattle.vx_order.specs.declared.facts.SiteFacts.{SiteFacts}
 use Rattle.vx_events.specs.Facts.{group_by}
-use Rattle.vx_events.specs.LinkedFacts.{link_fact, link_facts, linked_fact, linked_facts, links_by, links_in}
+use Rattle.vx_events.specs.LinkedFacts.{link_fact, link_facts, linked_fact, linked_facts, links_by, links_of_site}
 use Rattle.vx_history.specs.Listed.{AreListed, IsAmong}
 use Rattle.vx_events.proofs.LinkTesting.{up_state}
 use Rattle.vx_events.proofs.Places.{never_some}
 use Rattle.vx_events.proofs.Values.{slice_get-values_from}
 use Rattle.vx_linked.specs.Hearings.{Hears, IsHearing, group_listens, hearing, listens}
-use Rattle.vx_linked.specs.Tables.{Put, fact_between, leads_to, link_of}
+use Rattle.vx_linked.specs.Tables.{Put, fact_between, leads_to, link_leading}
 use Rattle.vx_linked.specs.Turns.{IsLinkOf}
 use Rattle.vx_linked.proofs.Shown.{between, put_is}
 
@@ -39,7 +39,7 @@ module _ (w : World) (number : ℕ) (p : Packet) (e : SEvent) (at : packet_at w.
   l = w.links p.target p.source
 
   abbrev r : Sent
-  r = sent_step (plain_link p.source l) e (facts_of n p.line)
+  r = sent_step (plain_link p.source l) e (receiver_facts n p.line)
 
   abbrev left : Link
   left = with_plain l r.link
@@ -173,7 +173,7 @@ module _ (w : World) (p : Packet) (e : SEvent) (heard_is : heard w p p.message �
     where
       outcome : Outcome
       outcome =
-          let r = sent_step (plain_link p.source there) e (facts_of site p.line) in
+          let r = sent_step (plain_link p.source there) e (receiver_facts site p.line) in
           says (with_link w p.target p.source (with_plain there r.link)) (said_of_link r.action)
 
       by : (b : Bool) → (if b then heard w p p.message else says w IsIgnored) ≡ says w IsIgnored
@@ -188,7 +188,7 @@ module _ (w : World) (p : Packet) (e : SEvent) (heard_is : heard w p p.message �
   unlinked listed small up none at =
       not_so (is_linked there)
       (λ is. among_found site (w.links p.target) p.source (linked_sites (w.links p.target) w.sites 0 w.sites) (listed.each p.target p.source small is)
-      (ap (λ (st : SiteState). find (leads_to p.source) (links_by st (links_in w p.target))) (sym up) ∙ ap (λ (o : Option SiteFacts). link_of o p.source) (sym at) ∙ none))
+      (ap (λ (st : SiteState). find (leads_to p.source) (links_by st (links_of_site w p.target))) (sym up) ∙ ap (λ (o : Option SiteFacts). link_leading o p.source) (sym at) ∙ none))
 
   pub deaf_so : (sites : List SiteFacts) → sites ≡ linked_facts w → hearing sites p.target p.source ≡ None → p.target < w.sites → p.source < w.sites → AreListed w → handed w p ≡ says w IsIgnored
   deaf_so sites facts none below small listed =

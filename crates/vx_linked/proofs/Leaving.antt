@@ -2,7 +2,7 @@
 use Rattle.std.proofs.Common.{◌≡◌, ◌∙◌, ◌+◌, ◌++◌, ℕ, Bool, List, [], ap, sym, refl, arith}
 use Rattle.std.proofs.lemmas.List.{append-nil}
 use Rattle.std.specs.Prelude.{Option, Some, None, not, ◌&&◌, ◌||◌, eqb, leb, ltb, max, min, if◌then◌else◌}
-use Rattle.vx_history.specs.Admission.{is_live}
+use Rattle.vx_history.specs.Admission.{is_live_link}
 use Rattle.vx_history.specs.Events.{greeting_back, link_event, link_step, linked_sites, promises_of, ticked_at, ticked_link, waited}
 use Rattle.vx_history.specs.KeptLinks.{kept_link, kept_links}
 use Rattle.vx_history.specs.LinkForms.{plain_link, with_plain}
@@ -164,7 +164,7 @@ live_by P w s l o here there =
 -- of a link it changes what was sent
 pump_kept : (w : World) (p s : ℕ) → kept_link s (moved w p s PumpLink) ≡ kept_link s (w.links p s)
 pump_kept w p s =
-    by_test (λ (t : Sent). kept_link s (with_plain (w.links p s) t.link) ≡ kept_link s (w.links p s)) (is_live (plain_link s (w.links p s)) && by_log (w.links p s).mode)
+    by_test (λ (t : Sent). kept_link s (with_plain (w.links p s) t.link) ≡ kept_link s (w.links p s)) (is_live_link (plain_link s (w.links p s)) && by_log (w.links p s).mode)
     (pumped_up_to (plain_link s (w.links p s)) (max (w.links p s).sent (w.links p s).stored) (min (w.nodes p).safe ((w.links p s).net + MOST_AHEAD))) (with_nothing (plain_link s (w.links p s)))
     (λ live. up_to (max (w.links p s).sent (w.links p s).stored) (min (w.nodes p).safe ((w.links p s).net + MOST_AHEAD))) (λ dead. refl)
   where

@@ -20,12 +20,12 @@ use Rattle.vx_events.specs.Facts.{site_number}
 use Rattle.vx_events.specs.LinkedFacts.{link_fact, linked_facts}
 use Rattle.vx_events.proofs.LinkAgreeing.{passes_link}
 use Rattle.vx_linked.specs.Tables.{relinked}
-use Rattle.vx_linked.specs.Turns.{ComesTo, Turned, fact_turned}
+use Rattle.vx_linked.specs.Turns.{ComesBehind, Turned, fact_turned}
 use Rattle.vx_linked.proofs.Finding.{Tested, on_link}
 use Rattle.vx_linked.proofs.Shown.{link_there, relinked_is}
 
 -- an event with this outcome
-pub comes : (w : World) (e : Event) (sites : List SiteFacts) (f : Flying) (o : Outcome) → outcome_of w e ≡ o → o.said ≡ Done → sites ≡ linked_facts o.world → FlightStands o.world.packets f → ComesTo w e sites f
+pub comes : (w : World) (e : Event) (sites : List SiteFacts) (f : Flying) (o : Outcome) → outcome_of w e ≡ o → o.said ≡ Done → sites ≡ linked_facts o.world → FlightStands o.world.packets f → ComesBehind w e sites f
 comes w e sites f o is said facts flight = record {
   said = ap (λ (r : Outcome). r.said) is ∙ said;
   stands = record {
@@ -59,21 +59,21 @@ module _ (w : World) (from to : List ℕ) (tested : Tested (linked_facts w) from
     none_sent : FlightStands (w.packets ++ []) f
     none_sent = subst (λ (ps : List Packet). FlightStands ps f) (sym (append-nil w.packets)) flight
 
-    pub cut_comes : (new : List SiteFacts) → Turned Cut from to (linked_facts w) new → ComesTo w (CutAt a b) new f
+    pub cut_comes : (new : List SiteFacts) → Turned Cut from to (linked_facts w) new → ComesBehind w (CutAt a b) new f
     cut_comes new t = comes w (CutAt a b) new f (done (link_event w a b Cut)) (passed (done (link_event w a b Cut))) refl (turned_facts Cut new (with_plain (w.links a b) (link_step w a b Cut).link) t refl refl) none_sent
 
-    pub pause_comes : (new : List SiteFacts) → Turned Pause from to (linked_facts w) new → ComesTo w (PauseAt a b) new f
+    pub pause_comes : (new : List SiteFacts) → Turned Pause from to (linked_facts w) new → ComesBehind w (PauseAt a b) new f
     pause_comes new t = comes w (PauseAt a b) new f (done (link_event w a b Pause)) (passed (done (link_event w a b Pause))) refl (turned_facts Pause new (with_plain (w.links a b) (link_step w a b Pause).link) t refl refl) none_sent
 
-    pub resume_comes : (new : List SiteFacts) → Turned Resume from to (linked_facts w) new → ComesTo w (ResumeAt a b) new f
+    pub resume_comes : (new : List SiteFacts) → Turned Resume from to (linked_facts w) new → ComesBehind w (ResumeAt a b) new f
     resume_comes new t =
         comes w (ResumeAt a b) new f (done (link_event w a b Resume)) (passed (done (link_event w a b Resume))) refl (turned_facts Resume new (with_plain (w.links a b) (link_step w a b Resume).link) t refl refl) none_sent
 
-    pub tick_comes : (new : List SiteFacts) → Turned Tick from to (linked_facts w) new → ComesTo w (TickAt a b) new f
+    pub tick_comes : (new : List SiteFacts) → Turned Tick from to (linked_facts w) new → ComesBehind w (TickAt a b) new f
     tick_comes new t = comes w (TickAt a b) new f (done (ticked_at w a b)) (passed (done (ticked_at w a b))) refl (turned_facts Tick new (ticked_link w a b) t refl refl) flight
 
   -- a connect, with what the other end sends under way
-  pub connect_comes : (new : List SiteFacts) (f : Flying) → Turned Connect from to (linked_facts w) new → FlightStands (w.packets ++ greeting_back w a b) f → ComesTo w (ConnectAt a b) new f
+  pub connect_comes : (new : List SiteFacts) (f : Flying) → Turned Connect from to (linked_facts w) new → FlightStands (w.packets ++ greeting_back w a b) f → ComesBehind w (ConnectAt a b) new f
   connect_comes new f t flight =
       let o : Outcome = done (sending (link_event w a b Connect) (greeting_back w a b)) in
       comes w (ConnectAt a b) new f o (passed o) refl (turned_facts Connect new (with_plain (w.links a b) (link_step w a b Connect).link) t refl refl)

@@ -20,11 +20,11 @@ use Rattle.vx_history.proofs.Places.{links_listed}
 use Rattle.vx_history.proofs.Updates.{and_left, and_right}
 use Rattle.vx_history.specs.Admission.{is_holding}
 use Rattle.vx_history.specs.Doubts.{Doubted, happened}
-use Rattle.vx_history.specs.Events.{linked_sites, log_blocks, new_link, opened}
+use Rattle.vx_history.specs.Events.{linked_sites, logged_blocks, new_link, opened}
 use Rattle.vx_history.specs.KeptLinks.{kept_link, kept_links}
 use Rattle.vx_history.specs.LinkForms.{plain_link}
 use Rattle.vx_history.specs.Listed.{HasPlaces}
-use Rattle.vx_history.specs.Refusals.{Outcome, at_site, at_work, unless, is_empty, is_fresh, is_primary, is_stale, is_consistent, follows, links_of, may_link, some_below}
+use Rattle.vx_history.specs.Refusals.{Outcome, at_site, at_work, unless, is_empty, is_fresh, is_primary, is_stale_mode, is_consistent, follows, count_links_of, may_link, some_below}
 use Rattle.vx_history.specs.Receiving.{phase_takes}
 use Rattle.vx_history.specs.Sends.{is_linked, with_link}
 use Rattle.vx_history.specs.Step.{done, outcome_of, step}
@@ -38,7 +38,7 @@ use Rattle.vx_events.proofs.Places.{some_same}
 use Rattle.vx_events.specs.Doubts.{sure}
 use Rattle.vx_events.specs.Effects.{EffectAt}
 use Rattle.vx_events.specs.Facts.{group_by, group_fact}
-use Rattle.vx_events.specs.LinkedFacts.{link_fact, link_facts, linked_fact, linked_facts, links_by, links_in, needed_by}
+use Rattle.vx_events.specs.LinkedFacts.{link_fact, link_facts, linked_fact, linked_facts, links_by, links_of_site, needed_by}
 use Rattle.vx_effects.proofs.Facts.{fact_same, facts_at}
 use Rattle.vx_effects.proofs.LinkParts.{joins_done, joins_effect, made_done, made_effect, marked_effect, may_open, opened_done, two_done}
 use Rattle.vx_effects.proofs.LinkRows.{further_is, joined_is, marked_shows}
@@ -46,7 +46,7 @@ use Rattle.vx_effects.proofs.Tests
 use Rattle.vx_effects.specs.Facts.{fact_of, marked_fact}
 use Rattle.vx_effects.specs.LinkParts.{further_fact, joined_fact}
 use Rattle.vx_linked.specs.Making.{fresh_link, kept_each, opened_link}
-use Rattle.vx_linked.specs.Tables.{HasLinksOf, fact_between, leads_to, link_of}
+use Rattle.vx_linked.specs.Tables.{HasLinksOf, fact_between, leads_to, link_leading}
 use Rattle.vx_linked.proofs.Heard.{among_found, site_shown}
 use Rattle.vx_linked.proofs.Loops.{got}
 
@@ -139,7 +139,7 @@ module _ (w : World) (p s : ℕ) (sync : SyncMode) where
       → linked_facts (step w (LinkAt p s sync Made)).world
       ≡ slice_set (linked_facts w) p (further_fact (let x : LinkFacts = record { link = fresh_link s sync session; used = 0 } in x) (linked_fact w p))
   made_facts has session is said =
-      let l : Link = new_link (links_of w p) sync (w.nodes s) in
+      let l : Link = new_link (count_links_of w p) sync (w.nodes s) in
       let two = (two_done w p s sync Made said).0 in
       behind w (happened (sure w) (LinkAt p s sync Made) true) p two.first (made_effect (sure w) p s sync true said)
       ∙ ap (slice_set (linked_facts w) p) (further_is (w.nodes p) (w.links p) w.sites s l two.up has two.second (made_done w p s sync said).0 refl)
@@ -157,7 +157,7 @@ module _ (w : World) (p s : ℕ) (sync : SyncMode) where
   picks_none true k e = e
   picks_none false k e = refl
 
-  none_drop : (k : ℕ) (xs : List Write) → is_empty xs ≡ true → log_blocks (drop k xs) ≡ 0
+  none_drop : (k : ℕ) (xs : List Write) → is_empty xs ≡ true → logged_blocks (drop k xs) ≡ 0
   none_drop zero [] e = refl
   none_drop (suc k) [] e = refl
   none_drop k (x ∷ xs) e = absurd (not_zero (length xs) e)
@@ -174,11 +174,11 @@ module _ (w : World) (p s : ℕ) (sync : SyncMode) where
   opened_fact said last is l at =
       let may : may_open w p s sync ≡ true = (opened_done w p s sync said).0 in
       let n : Node = w.nodes p in
-      let rest : Bool = is_stale (w.links p s).mode && (phase_takes (w.nodes s).phase && is_consistent (w.nodes s).mark) in
+      let rest : Bool = is_stale_mode (w.links p s).mode && (phase_takes (w.nodes s).phase && is_consistent (w.nodes s).mark) in
       let r1 = and_right (is_primary n.role) (follows w p s && (is_linked (w.links p s) && (is_empty n.log && rest))) may in
       let r2 = and_right (follows w p s) (is_linked (w.links p s) && (is_empty n.log && rest)) r1 in
       let empty : is_empty n.log ≡ true = and_left (is_empty n.log) rest (and_right (is_linked (w.links p s)) (is_empty n.log && rest) r2) in
-      let none : needed_by n s opens ≡ 0 = picks_none (is_holding (plain_link s opens)) (log_blocks (drop n.safe n.log)) (none_drop n.safe n.log empty) in
+      let none : needed_by n s opens ≡ 0 = picks_none (is_holding (plain_link s opens)) (logged_blocks (drop n.safe n.log)) (none_drop n.safe n.log empty) in
       ap (λ (x : PlainLink). let f : LinkFacts = record { link = x; used = 0 } in f) at
       ∙ ap (λ (k : ℕ). let f : LinkFacts = record { link = opened_link (plain_link s (w.links p s)) k; used = 0 } in f) (sym is)
       ∙ ap (λ (k : ℕ). let f : LinkFacts = record { link = plain_link s opens; used = k } in f) (sym none)
@@ -204,7 +204,7 @@ module _ (w : World) (p s : ℕ) (sync : SyncMode) where
   pub opened_linked : (step w (LinkAt p s sync Opened)).said ≡ Done → is_linked (w.links p s) ≡ true
   opened_linked said =
       let n : Node = w.nodes p in
-      let rest : Bool = is_empty n.log && (is_stale (w.links p s).mode && (phase_takes (w.nodes s).phase && is_consistent (w.nodes s).mark)) in
+      let rest : Bool = is_empty n.log && (is_stale_mode (w.links p s).mode && (phase_takes (w.nodes s).phase && is_consistent (w.nodes s).mark)) in
       let r1 = and_right (is_primary n.role) (follows w p s && (is_linked (w.links p s) && rest)) (opened_done w p s sync said).0 in
       and_left (is_linked (w.links p s)) rest (and_right (follows w p s) (is_linked (w.links p s) && rest) r1)
 
@@ -213,8 +213,8 @@ pub some_between : (w : World) (sites : List SiteFacts) (p s : ℕ) → sites �
     → fact_between sites p s ≡ None → ⊥
 some_between w sites p s facts below up has linked none =
     among_found (w.nodes p) (w.links p) s (linked_sites (w.links p) w.sites 0 w.sites) (links_listed w.sites (w.links p) has s linked)
-    (ap (λ (t : SiteState). find (leads_to s) (links_by t (links_in w p))) (sym up)
-    ∙ ap (λ (o : Option SiteFacts). link_of o s) (sym (site_shown w p below)) ∙ ap (λ (fs : List SiteFacts). fact_between fs p s) (sym facts) ∙ none)
+    (ap (λ (t : SiteState). find (leads_to s) (links_by t (links_of_site w p))) (sym up)
+    ∙ ap (λ (o : Option SiteFacts). link_leading o s) (sym (site_shown w p below)) ∙ ap (λ (fs : List SiteFacts). fact_between fs p s) (sym facts) ∙ none)
 
 pub set_found : (w : World) (p s : ℕ) (sync : SyncMode) (sites : List SiteFacts) → sites ≡ linked_facts w → HasPlaces w.sites (w.links p) → (step w (SetAt p s sync)).said ≡ Done
     → fact_between sites p s ≡ None → ⊥

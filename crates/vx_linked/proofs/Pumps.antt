@@ -2,7 +2,7 @@
 use Rattle.std.proofs.Common.{◌≡◌, ◌∙◌, ◌+◌, ℕ, List, false, ap, sym, refl}
 use Rattle.std.specs.Prelude.{max, min, not, ◌&&◌, ltb}
 use Rattle.vx_courier.specs.UnderWay.{FlightStands}
-use Rattle.vx_history.specs.Admission.{is_live}
+use Rattle.vx_history.specs.Admission.{is_live_link}
 use Rattle.vx_history.specs.Events.{link_event, link_step}
 use Rattle.vx_history.specs.Headers.{is_refused}
 use Rattle.vx_history.specs.LinkForms.{plain_link, with_plain}
@@ -26,14 +26,14 @@ use Rattle.vx_script.specs.declared.line.ScriptLine.TheVariants.{Pump as PumpLin
 use Rattle.vx_events.specs.Facts.{site_number}
 use Rattle.vx_events.specs.LinkedFacts.{linked_facts, needed_by}
 use Rattle.vx_events.proofs.LinkAgreeing.{pump_agrees}
-use Rattle.vx_linked.specs.Tables.{IsFree, relinked}
-use Rattle.vx_linked.specs.Turns.{ComesTo, Relinked}
+use Rattle.vx_linked.specs.Tables.{IsUnrefused, relinked}
+use Rattle.vx_linked.specs.Turns.{ComesBehind, Relinked}
 use Rattle.vx_linked.proofs.Confirms.{next, peel}
 use Rattle.vx_linked.proofs.Finding.{on_link, pump_tested}
 use Rattle.vx_linked.proofs.Moves.{comes, passed}
 use Rattle.vx_linked.proofs.Shown.{link_there, relinked_is}
 
-module _ (w : World) (from to : List ℕ) (free : IsFree (linked_facts w) (PumpLine from to)) where
+module _ (w : World) (from to : List ℕ) (free : IsUnrefused (linked_facts w) (PumpLine from to)) where
   abbrev a : ℕ
   a = site_number w from
 
@@ -58,7 +58,7 @@ module _ (w : World) (from to : List ℕ) (free : IsFree (linked_facts w) (PumpL
   -- its hold is that of before
   used_same : needed_by n b next_link ≡ needed_by n b l
   used_same =
-      by_test (λ (t : Sent). needed_by n b (with_plain l t.link) ≡ needed_by n b l) (is_live (plain_link b l) && by_log l.mode)
+      by_test (λ (t : Sent). needed_by n b (with_plain l t.link) ≡ needed_by n b l) (is_live_link (plain_link b l) && by_log l.mode)
       (pumped_up_to (plain_link b l) (max l.sent l.stored) (min n.safe (l.net + MOST_AHEAD))) (with_nothing (plain_link b l))
       (λ live. up_to_same (max l.sent l.stored) (min n.safe (l.net + MOST_AHEAD))) (λ dead. refl)
 
@@ -90,7 +90,7 @@ module _ (w : World) (from to : List ℕ) (free : IsFree (linked_facts w) (PumpL
   -- the link as its rule leaves it
   again : plain_link b next_link ≡ (link_step w a b Pump).link
   again =
-      by_test (λ (t : Sent). plain_link b (with_plain l t.link) ≡ t.link) (is_live (plain_link b l) && by_log l.mode)
+      by_test (λ (t : Sent). plain_link b (with_plain l t.link) ≡ t.link) (is_live_link (plain_link b l) && by_log l.mode)
       (pumped_up_to (plain_link b l) (max l.sent l.stored) (min n.safe (l.net + MOST_AHEAD))) (with_nothing (plain_link b l))
       (λ live. up_to (max l.sent l.stored) (min n.safe (l.net + MOST_AHEAD))) (λ dead. refl)
     where
@@ -104,5 +104,5 @@ module _ (w : World) (from to : List ℕ) (free : IsFree (linked_facts w) (PumpL
       pump_facts new k t (is ∙ sym again ∙ ap (plain_link b) (sym link_is)) ∙ ap (λ (o : Outcome). linked_facts o.world) (sym outcome_is)
 
   pub pump_comes : (new : List SiteFacts) (k : PlainLink) (f : Flying) → Relinked from to k (linked_facts w) new → k ≡ plain_link b ((link_event w a b Pump).links a b) → FlightStands (link_event w a b Pump).packets f
-      → ComesTo w (PumpAt a b) new f
+      → ComesBehind w (PumpAt a b) new f
   pump_comes new k f t is flight = comes w (PumpAt a b) new f (done (link_event w a b Pump)) outcome_is refl (pump_facts new k t is) flight

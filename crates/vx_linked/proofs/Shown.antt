@@ -14,12 +14,12 @@ use Rattle.vx_model.specs.declared.site.SiteState.TheVariants.{Bare, Up, Deporte
 use Rattle.vx_order.specs.declared.facts.LinkFacts.{LinkFacts}
 use Rattle.vx_order.specs.declared.facts.SiteFacts.{SiteFacts}
 use Rattle.vx_events.specs.Facts.{seat_of, site_fact, site_number, values_from}
-use Rattle.vx_events.specs.LinkedFacts.{link_fact, link_facts, links_by, links_in, linked_fact, linked_facts}
+use Rattle.vx_events.specs.LinkedFacts.{link_fact, link_facts, links_by, links_of_site, linked_fact, linked_facts}
 use Rattle.vx_events.proofs.LinkTesting.{all_linked, found_link, seats_same}
 use Rattle.vx_events.proofs.Places.{never_some, position_within, some_same}
 use Rattle.vx_events.proofs.Refused.{found_at}
 use Rattle.vx_events.proofs.Values.{length-values_from, slice_get-values_from}
-use Rattle.vx_linked.specs.Tables.{Found, HasPlace, Put, fact_between, leads_to, link_of, place_to, relinked, site_relinked}
+use Rattle.vx_linked.specs.Tables.{FoundLink, HasPlace, Put, fact_between, leads_to, link_leading, place_to, relinked, site_relinked}
 use Rattle.vx_linked.specs.Turns.{IsLinkOf}
 use Rattle.vx_effects.proofs.Fitting.{updated_other}
 use Rattle.vx_effects.proofs.Rows.{apart, made_same, sites_same}
@@ -57,21 +57,21 @@ module _ (w : World) where
   -- The facts of a world in which one link changed, but for its place: those of before, with the facts of this link in its place. That is the
   -- base of every line that changes a link.
   pub facts_with_link : (p s : ℕ) (l : Link) → (w.nodes p).state ≡ Up → l.made ≡ (w.links p s).made
-      → linked_facts (with_link w p s l) ≡ slice_set (linked_facts w) p (site_relinked (linked_fact w p) (position_or_len (leads_to s) (links_in w p)) (link_fact (w.nodes p) s l))
+      → linked_facts (with_link w p s l) ≡ slice_set (linked_facts w) p (site_relinked (linked_fact w p) (position_or_len (leads_to s) (links_of_site w p)) (link_fact (w.nodes p) s l))
   facts_with_link p s l up same =
       let n : Node = w.nodes p in
       let row : ℕ → Link = w.links p in
       let next : ℕ → Link = updated row s l in
       let ss : List ℕ = linked_sites row w.sites 0 w.sites in
       let start : 0 + p ≡ p = omega arith in
-      let place : ℕ = position_or_len (leads_to s) (links_in w p) in
-      let links : link_facts n next (linked_sites next w.sites 0 w.sites) ≡ slice_set (links_in w p) place (link_fact n s l)
+      let place : ℕ = position_or_len (leads_to s) (links_of_site w p) in
+      let links : link_facts n next (linked_sites next w.sites 0 w.sites) ≡ slice_set (links_of_site w p) place (link_fact n s l)
       = ap (link_facts n next) (sites_same row next (made_same row s l same) w.sites 0 w.sites) ∙ link_facts_set n row s l ss (apart row w.sites 0 w.sites) in
       let here : shown_with p next ≡ site_relinked (linked_fact w p) place (link_fact n s l)
       = ap (λ (ls : List LinkFacts). let f : SiteFacts = record (site_fact n) { links = links_by n.state ls } in f) links
       ∙ ap (λ (ls : List LinkFacts). let f : SiteFacts = record (site_fact n) { links = ls } in f)
-      (ap (λ (t : SiteState). links_by t (slice_set (links_in w p) place (link_fact n s l))) up
-      ∙ ap (λ (t : SiteState). slice_set (links_by t (links_in w p)) place (link_fact n s l)) (sym up)) in
+      (ap (λ (t : SiteState). links_by t (slice_set (links_of_site w p) place (link_fact n s l))) up
+      ∙ ap (λ (t : SiteState). slice_set (links_by t (links_of_site w p)) place (link_fact n s l)) (sym up)) in
       values_from-set (λ i. linked_fact w i) (λ i. linked_fact (with_link w p s l) i) 0 w.sites p (site_relinked (linked_fact w p) place (link_fact n s l))
       (ap (λ (i : ℕ). linked_fact (with_link w p s l) i) start ∙ ap (shown_with p) (at_place w.links p next) ∙ here)
       (λ j apart. ap (shown_with j) (updated_other w.links p j next (λ e. apart (e ∙ sym start))))
@@ -81,7 +81,7 @@ module _ (w : World) where
 pub number_is : (w : World) (name : List ℕ) (k : ℕ) → seat_of (linked_facts w) name ≡ Some k → k ≡ site_number w name
 number_is w name k is = sym (ap (λ (o : Option ℕ). unwrap_or o 0) (sym (seats_same w name) ∙ is))
 
-module _ (w : World) (from to : List ℕ) (f : Found (linked_facts w) from to) where
+module _ (w : World) (from to : List ℕ) (f : FoundLink (linked_facts w) from to) where
   abbrev a : ℕ
   a = site_number w from
 
@@ -107,19 +107,19 @@ module _ (w : World) (from to : List ℕ) (f : Found (linked_facts w) from to) w
       (sym f.site_is ∙ ap (slice_get (linked_facts w)) here_is ∙ slice_get-values_from (λ i. linked_fact w i) 0 w.sites a here_below ∙ ap (λ (i : ℕ). Some (linked_fact w i)) start)
 
   module _ (up : (w.nodes a).state ≡ Up) where
-    links_there : f.site.links ≡ links_in w a
-    links_there = ap (λ (site : SiteFacts). site.links) site_there ∙ ap (λ (t : SiteState). links_by t (links_in w a)) up
+    links_there : f.site.links ≡ links_of_site w a
+    links_there = ap (λ (site : SiteFacts). site.links) site_there ∙ ap (λ (t : SiteState). links_by t (links_of_site w a)) up
 
-    place_there : place_to b (links_in w a) ≡ Some f.place
+    place_there : place_to b (links_of_site w a) ≡ Some f.place
     place_there = ap (place_to b) (sym links_there) ∙ ap (λ (k : ℕ). place_to k f.site.links) (sym there_is) ∙ f.place_is
 
-    pub place_is : f.place ≡ position_or_len (leads_to b) (links_in w a)
-    place_is = first_place (leads_to b) (links_in w a) f.place place_there
+    pub place_is : f.place ≡ position_or_len (leads_to b) (links_of_site w a)
+    place_is = first_place (leads_to b) (links_of_site w a) f.place place_there
 
     pub link_there : f.link ≡ link_fact (w.nodes a) b (w.links a b)
     link_there =
         (found_link (w.nodes a) (w.links a) (linked_sites (w.links a) w.sites 0 w.sites) b f.link (all_linked (w.links a) w.sites 0 w.sites)
-        (find_at (leads_to b) (links_in w a) ∙ ap (slice_get (links_in w a)) (sym place_is) ∙ ap (λ (ls : List LinkFacts). slice_get ls f.place) (sym links_there) ∙ f.link_is)).0
+        (find_at (leads_to b) (links_of_site w a) ∙ ap (slice_get (links_of_site w a)) (sym place_is) ∙ ap (λ (ls : List LinkFacts). slice_get ls f.place) (sym links_there) ∙ f.link_is)).0
 
     -- the facts with another link in its place
     pub relinked_is : (l : Link) → l.made ≡ (w.links a b).made → relinked (linked_facts w) f.here f.site f.place (link_fact (w.nodes a) b l) ≡ linked_facts (with_link w a b l)
@@ -156,11 +156,11 @@ up_by Down to ls l is = absurd (never_some is)
 pub between : (w : World) (from to : ℕ) (l : LinkFacts) → fact_between (linked_facts w) from to ≡ Some l → IsLinkOf w from to l
 between w from to l is = by (slice_get (linked_facts w) from) (λ site at. get_site w from site at) is
   where
-    by : (o : Option SiteFacts) → ((site : SiteFacts) → o ≡ Some site → (from < w.sites) × (site ≡ linked_fact w from)) → link_of o to ≡ Some l → IsLinkOf w from to l
+    by : (o : Option SiteFacts) → ((site : SiteFacts) → o ≡ Some site → (from < w.sites) × (site ≡ linked_fact w from)) → link_leading o to ≡ Some l → IsLinkOf w from to l
     by None at e = absurd (never_some e)
     by (Some site) at e =
         let there = at site refl in
-        let up = up_by (w.nodes from).state to (links_in w from) l (sym (ap (λ (s : SiteFacts). find (leads_to to) s.links) there.1) ∙ e) in
+        let up = up_by (w.nodes from).state to (links_of_site w from) l (sym (ap (λ (s : SiteFacts). find (leads_to to) s.links) there.1) ∙ e) in
         let link = found_link (w.nodes from) (w.links from) (linked_sites (w.links from) w.sites 0 w.sites) to l (all_linked (w.links from) w.sites 0 w.sites) up.1 in
         record { below = there.0; up = up.0; linked = link.1; link_is = link.0 }
 
@@ -169,20 +169,20 @@ pub put_is : (w : World) (from to : ℕ) (old new : List SiteFacts) (x : LinkFac
     → x ≡ link_fact (w.nodes from) to l → new ≡ linked_facts (with_link w from to l)
 put_is w from to old new x l facts put up same is =
     let site : put.site ≡ linked_fact w from = (get_site w from put.site (sym (ap (λ (fs : List SiteFacts). slice_get fs from) facts) ∙ put.site_is)).1 in
-    let links : put.site.links ≡ links_in w from = ap (λ (s : SiteFacts). s.links) site ∙ ap (λ (t : SiteState). links_by t (links_in w from)) up in
-    let place : put.place ≡ position_or_len (leads_to to) (links_in w from) = first_place (leads_to to) (links_in w from) put.place (ap (place_to to) (sym links) ∙ put.place_is) in
+    let links : put.site.links ≡ links_of_site w from = ap (λ (s : SiteFacts). s.links) site ∙ ap (λ (t : SiteState). links_by t (links_of_site w from)) up in
+    let place : put.place ≡ position_or_len (leads_to to) (links_of_site w from) = first_place (leads_to to) (links_of_site w from) put.place (ap (place_to to) (sym links) ∙ put.place_is) in
     put.new_is
     ∙ ap (λ (fs : List SiteFacts). relinked fs from put.site put.place x) facts
     ∙ ap (λ (s : SiteFacts). relinked (linked_facts w) from s put.place x) site
     ∙ ap (λ (k : ℕ). relinked (linked_facts w) from (linked_fact w from) k x) place
-    ∙ ap (λ (y : LinkFacts). relinked (linked_facts w) from (linked_fact w from) (position_or_len (leads_to to) (links_in w from)) y) is
+    ∙ ap (λ (y : LinkFacts). relinked (linked_facts w) from (linked_fact w from) (position_or_len (leads_to to) (links_of_site w from)) y) is
     ∙ sym (facts_with_link w from to l up same)
 
 -- a link that is found has a place
 pub has_place : (sites : List SiteFacts) (from to : ℕ) → IsSome (fact_between sites from to) → HasPlace sites from to
 has_place sites from to some = by (slice_get sites from) refl some
   where
-    no_link : IsSome (link_of None to) → ⊥
+    no_link : IsSome (link_leading None to) → ⊥
     no_link e = let f : false ≡ true = e in absurd (cc)
 
     by_link : (site : SiteFacts) → slice_get sites from ≡ Some site → (o : Option LinkFacts) → find (leads_to to) site.links ≡ o → IsSome o → HasPlace sites from to
@@ -192,10 +192,10 @@ has_place sites from to some = by (slice_get sites from) refl some
       site_is = at;
       placed = ap (λ (o : Option ℕ). is_some o) (found_at (leads_to to) site.links l is).is;
       found = l;
-      found_is = ap (λ (o : Option SiteFacts). link_of o to) at ∙ is;
+      found_is = ap (λ (o : Option SiteFacts). link_leading o to) at ∙ is;
     }
 
-    by : (o : Option SiteFacts) → slice_get sites from ≡ o → IsSome (link_of o to) → HasPlace sites from to
+    by : (o : Option SiteFacts) → slice_get sites from ≡ o → IsSome (link_leading o to) → HasPlace sites from to
     by None at e = absurd (no_link e)
     by (Some site) at e = by_link site at (find (leads_to to) site.links) refl e
 

@@ -9,22 +9,22 @@ use Rattle.vx_model.specs.declared.limits.TheConstants.{MOST_LINKS, MOST_NUMBER}
 use Rattle.vx_model.specs.declared.state.KeptLink.{KeptLink}
 use Rattle.vx_model.specs.declared.state.State.{State}
 use Rattle.vx_srlfmt.specs.Headers.{CanSpellLink, CanSpellState}
-use Rattle.vx_linked.specs.Making.{is_spelled}
+use Rattle.vx_linked.specs.Making.{is_state_spelled}
 
 few_enough : (k : ℕ) → nat_le k MOST_NUMBER ≡ true → k < 2 ^ 63
 few_enough k e = grind (arith, nat_tests)
 
-one_spelled : (l : KeptLink) → is_spelled l ≡ true → CanSpellLink l
+one_spelled : (l : KeptLink) → is_state_spelled l ≡ true → CanSpellLink l
 one_spelled l e = record {
   stored = few_enough l.stored (and_left (nat_le l.stored MOST_NUMBER) (nat_le l.start MOST_NUMBER) e);
   start = few_enough l.start (and_right (nat_le l.stored MOST_NUMBER) (nat_le l.start MOST_NUMBER) e);
 }
 
-each_spelled : (ls : List KeptLink) → list_all is_spelled ls ≡ true → AllByRecursion CanSpellLink ls
+each_spelled : (ls : List KeptLink) → list_all is_state_spelled ls ≡ true → AllByRecursion CanSpellLink ls
 each_spelled [] e = tt
-each_spelled (l ∷ ls) e = (one_spelled l (and_left (is_spelled l) (list_all is_spelled ls) e), each_spelled ls (and_right (is_spelled l) (list_all is_spelled ls) e))
+each_spelled (l ∷ ls) e = (one_spelled l (and_left (is_state_spelled l) (list_all is_state_spelled ls) e), each_spelled ls (and_right (is_state_spelled l) (list_all is_state_spelled ls) e))
 
-pub spell_with : (s : State) (ls : List KeptLink) → CanSpellState s → length ls ≤ MOST_LINKS → list_all is_spelled ls ≡ true → CanSpellState (record s { links = ls })
+pub spell_with : (s : State) (ls : List KeptLink) → CanSpellState s → length ls ≤ MOST_LINKS → list_all is_state_spelled ls ≡ true → CanSpellState (record s { links = ls })
 spell_with s ls can few all = record {
   generation = can.generation;
   top = can.top;

@@ -6,7 +6,7 @@ use Rattle.vx_history.specs.World.{Hello, Node, Packet}
 use Rattle.vx_model.specs.Sites.{is_origin, same_line}
 use Rattle.vx_model.specs.declared.history.Line.{Line}
 use Rattle.vx_model.specs.declared.site.SiteState.TheVariants.{Up}
-use Rattle.vx_net.specs.Flights.{Flying, greatest}
+use Rattle.vx_net.specs.Flights.{Flying, greatest_packet}
 use Rattle.vx_order.specs.declared.facts.RvgFacts.{RvgFacts}
 use Rattle.vx_order.specs.declared.facts.SiteFacts.{SiteFacts}
 use Rattle.vx_order.specs.Sites.{rvg_of, site_named}
@@ -37,8 +37,8 @@ pub record Tells (n : Node) (session stored : ℕ) : Type 0 where
 
 -- a packet can carry the greeting, and a number is left for it
 pub record CanGreet (f : Flying) (session stored : ℕ) (r : RvgFacts) : Type 0 where
-  pub room : f.count < greatest
-  pub session_fits : session ≤ greatest
-  pub stored_fits : stored ≤ greatest
-  pub last_fits : r.last ≤ greatest
-  pub generation_fits : r.line.generation ≤ greatest
+  pub room : f.count < greatest_packet
+  pub session_fits : session ≤ greatest_packet
+  pub stored_fits : stored ≤ greatest_packet
+  pub last_fits : r.last ≤ greatest_packet
+  pub generation_fits : r.line.generation ≤ greatest_packet

@@ -1,7 +1,8 @@
 -- What a write of a site has to do with its links in memory.
 use Rattle.std.specs.Prelude.{◌≡◌, ℕ, zero, suc, ◌-◌, ◌^◌, min, nat_lt, slice_get, Bool, true, ◌&&◌, List, [], ◌∷◌, Option, Some, None, if◌then◌else◌}
 use Rattle.std.specs.List.{list_any}
-use Rattle.vx_history.specs.Admission.{hold, is_holding, is_live, is_log}
+use Rattle.vx_order.specs.Sending.{last_number}
+use Rattle.vx_history.specs.Admission.{hold, is_holding, is_live_link, is_log}
 use Rattle.vx_history.specs.Refusals.{waits}
 use Rattle.vx_order.specs.declared.facts.LinkFacts.{LinkFacts}
 use Rattle.vx_order.specs.declared.facts.RvgFacts.{RvgFacts}
@@ -15,10 +16,6 @@ lesser_hold number l = if is_holding l.link then min number (hold l.link) else n
 abbrev pub held_from : ℕ → List LinkFacts → ℕ
 held_from number [] = number
 held_from number (l ∷ ls) = held_from (lesser_hold number l) ls
-
-abbrev pub last_number : Option RvgFacts → ℕ
-last_number None = 0
-last_number (Some rvg) = rvg.last
 
 -- the number up to which no link of the site needs anything of the log: the least hold of those that need it, or the last number
 abbrev pub least_hold : SiteFacts → ℕ
@@ -34,7 +31,7 @@ pub record HeldBy (number : ℕ) (ls : List LinkFacts) : Type 0 where
 
 -- a live link by the log which writes wait for
 abbrev pub awaits : LinkFacts → Bool
-awaits l = waits l.link.sync && (is_live l.link && is_log l.link.mode)
+awaits l = waits l.link.sync && (is_live_link l.link && is_log l.link.mode)
 
 -- some link has to confirm a write
 abbrev pub awaits_one : SiteFacts → Bool

@@ -57,8 +57,8 @@ abbrev pub kept_each : List LinkFacts → List KeptLink
 kept_each ls = map (λ l. kept_plain l.link) ls
 
 -- a header has a spelling for the link
-abbrev pub is_spelled : KeptLink → Bool
-is_spelled l = nat_le l.stored MOST_NUMBER && nat_le l.start MOST_NUMBER
+abbrev pub is_state_spelled : KeptLink → Bool
+is_state_spelled l = nat_le l.stored MOST_NUMBER && nat_le l.start MOST_NUMBER
 
 -- the state of the second site behind an empty log of the first one's line: a secondary of the first, whose number this is, without links
 abbrev pub joined_state : State → (number : ℕ) → State → State

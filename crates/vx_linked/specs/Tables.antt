@@ -3,13 +3,13 @@ use Rattle.std.specs.Prelude.{◌≡◌, ℕ, Bool, ◌==◌, List, Option, Some
 use Rattle.std.specs.List.{find, position}
 use Rattle.vx_order.specs.declared.facts.SiteFacts.{SiteFacts}
 use Rattle.vx_order.specs.declared.facts.LinkFacts.{LinkFacts}
-use Rattle.vx_order.specs.Order.{refusal_of}
+use Rattle.vx_order.specs.Order.{line_refusal}
 use Rattle.vx_script.specs.declared.line.ScriptLine.{ScriptLine}
 use Rattle.vx_events.specs.Facts.{seat_of}
 
 -- no test refuses the line, where disks are kept in files or in memory
-abbrev pub IsFree : List SiteFacts → ScriptLine → Type 0
-IsFree sites line = (files : Bool) × (refusal_of sites files line ≡ None)
+abbrev pub IsUnrefused : List SiteFacts → ScriptLine → Type 0
+IsUnrefused sites line = (files : Bool) × (line_refusal sites files line ≡ None)
 
 abbrev pub leads_to : (site : ℕ) → LinkFacts → Bool
 leads_to site l = l.link.site == site
@@ -18,16 +18,16 @@ leads_to site l = l.link.site == site
 abbrev pub place_to : (site : ℕ) → List LinkFacts → Option ℕ
 place_to site links = position (leads_to site) links
 
-abbrev pub link_of : Option SiteFacts → (site : ℕ) → Option LinkFacts
-link_of None to = None
-link_of (Some site) to = find (leads_to to) site.links
+abbrev pub link_leading : Option SiteFacts → (site : ℕ) → Option LinkFacts
+link_leading None to = None
+link_leading (Some site) to = find (leads_to to) site.links
 
 -- the link of the site of this number to that of another
 abbrev pub fact_between : List SiteFacts → (from to : ℕ) → Option LinkFacts
-fact_between sites from to = link_of (slice_get sites from) to
+fact_between sites from to = link_leading (slice_get sites from) to
 
 -- The link of a site to another, by their names: the numbers of the sites, the first one, and the link with its place among those of this site.
-pub record Found (sites : List SiteFacts) (from to : List ℕ) : Type 0 where
+pub record FoundLink (sites : List SiteFacts) (from to : List ℕ) : Type 0 where
   pub here : ℕ
   pub there : ℕ
   pub site : SiteFacts

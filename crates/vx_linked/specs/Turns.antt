@@ -14,17 +14,17 @@ use Rattle.vx_model.specs.declared.site.SiteState.TheVariants.{Up}
 use Rattle.vx_net.specs.Flights.{Flying}
 use Rattle.vx_order.specs.declared.facts.SiteFacts.{SiteFacts}
 use Rattle.vx_order.specs.declared.facts.LinkFacts.{LinkFacts}
-use Rattle.vx_linked.specs.Tables.{Found, relinked}
+use Rattle.vx_linked.specs.Tables.{FoundLink, relinked}
 
 -- what is kept in memory of a world: the facts of its sites with their links, and what is under way
-pub record StandsFor (w : World) (sites : List SiteFacts) (f : Flying) : Type 0 where
+pub record FactsStandFor (w : World) (sites : List SiteFacts) (f : Flying) : Type 0 where
   pub facts : sites ≡ linked_facts w
   pub flight : FlightStands w.packets f
 
 -- the event is done, and this stands for the world behind it
-pub record ComesTo (w : World) (e : Event) (sites : List SiteFacts) (f : Flying) : Type 0 where
+pub record ComesBehind (w : World) (e : Event) (sites : List SiteFacts) (f : Flying) : Type 0 where
   pub said : (step w e).said ≡ Done
-  pub stands : StandsFor (step w e).world sites f
+  pub stands : FactsStandFor (step w e).world sites f
 
 -- what the rule of links makes of a link by such an event
 abbrev pub turned : SEvent → PlainLink → PlainLink
@@ -35,7 +35,7 @@ fact_turned e l = record l { link = turned e l.link }
 
 -- the link of this site to that one has this event behind it; each other link, and whatever else there is of the sites, is as it was
 pub record Turned (e : SEvent) (from to : List ℕ) (old new : List SiteFacts) : Type 0 where
-  pub at : Found old from to
+  pub at : FoundLink old from to
   pub new_is : new ≡ relinked old at.here at.site at.place (fact_turned e at.link)
 
 -- a site that shows this link to another is up, and the link is that of the world
@@ -47,5 +47,5 @@ pub record IsLinkOf (w : World) (from to : ℕ) (l : LinkFacts) : Type 0 where
 
 -- the link that a line names is this one, with the same blocks above its hold
 pub record Relinked (from to : List ℕ) (l : PlainLink) (old new : List SiteFacts) : Type 0 where
-  pub at : Found old from to
+  pub at : FoundLink old from to
   pub new_is : new ≡ relinked old at.here at.site at.place (record at.link { link = l })

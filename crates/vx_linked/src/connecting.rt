@@ -8,8 +8,8 @@ ghost use Rattle.vx_model.specs.declared.limits.TheConstants.{MOST_SITES};
 ghost use Rattle.vx_order.specs.declared.facts.RvgFacts.{RvgFacts};
 ghost use Rattle.vx_script.specs.declared.line.ScriptLine.TheVariants.{Connect};
 ghost use Rattle.vx_linked.specs.Greetings.{CanGreet, Tells, greeter};
-ghost use Rattle.vx_linked.specs.Tables.{IsFree};
-ghost use Rattle.vx_linked.specs.Turns.{ComesTo, StandsFor, Turned};
+ghost use Rattle.vx_linked.specs.Tables.{IsUnrefused};
+ghost use Rattle.vx_linked.specs.Turns.{ComesBehind, FactsStandFor, Turned};
 
 use crate::greeting::{find_greeter, greet};
 use crate::seats::seat;
@@ -32,10 +32,10 @@ pub fn connect<N: Net>(
     flight: &mut N,
 ) -> Result<(), OutOfMemory>
     requires few { length sites.old ≤ MOST_SITES }
-    requires free { IsFree sites.old (Connect from.now to.now) }
+    requires free { IsUnrefused sites.old (Connect from.now to.now) }
     ensures turned { OnOk result (Turned ConnectLink from.now to.now sites.old sites.new) }
-    ensures world { (w : World) → StandsFor w sites.old (N.flying flight.old) → Tells (w.nodes (site_number w to.now)) session stored
-        → OnOk result (ComesTo w (ConnectAt (site_number w from.now) (site_number w to.now)) sites.new (N.flying flight.new)) }
+    ensures world { (w : World) → FactsStandFor w sites.old (N.flying flight.old) → Tells (w.nodes (site_number w to.now)) session stored
+        → OnOk result (ComesBehind w (ConnectAt (site_number w from.now) (site_number w to.now)) sites.new (N.flying flight.new)) }
     ensures silent { greeter sites.old from.now to.now ≡ None → N.flying flight.new ≡ N.flying flight.old }
     ensures sites { OnErr result (sites.new ≡ sites.old) }
     ensures unsent { OnErr result (N.flying flight.new ≡ N.flying flight.old) }

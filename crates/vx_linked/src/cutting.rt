@@ -6,8 +6,8 @@ ghost use Rattle.vx_history.specs.declared.event.Event.TheVariants.{Cut as CutAt
 ghost use Rattle.vx_history.specs.declared.sender.SEvent.TheVariants.{Cut as CutLink};
 ghost use Rattle.vx_net.specs.Flights.{Flying};
 ghost use Rattle.vx_script.specs.declared.line.ScriptLine.TheVariants.{Cut};
-ghost use Rattle.vx_linked.specs.Tables.{IsFree};
-ghost use Rattle.vx_linked.specs.Turns.{ComesTo, StandsFor, Turned};
+ghost use Rattle.vx_linked.specs.Tables.{IsUnrefused};
+ghost use Rattle.vx_linked.specs.Turns.{ComesBehind, FactsStandFor, Turned};
 
 use crate::turning::turn;
 use vx_model::Name;
@@ -16,9 +16,9 @@ use vx_sender::SEvent;
 
 /// The link of a site to another is not connected any more. No packet is sent.
 pub fn cut(sites: &mut [SiteFacts], from: &Name, to: &Name)
-    requires free { IsFree sites.old (Cut from.now to.now) }
+    requires free { IsUnrefused sites.old (Cut from.now to.now) }
     ensures turned { Turned CutLink from.now to.now sites.old sites.new }
-    ensures world { (w : World) (f : Flying) → StandsFor w sites.old f → ComesTo w (CutAt (site_number w from.now) (site_number w to.now)) sites.new f }
+    ensures world { (w : World) (f : Flying) → FactsStandFor w sites.old f → ComesBehind w (CutAt (site_number w from.now) (site_number w to.now)) sites.new f }
 {
     turn(sites, from, to, &SEvent::Cut);
 }

@@ -1,8 +1,9 @@
 // What a write of a site asks of its links in memory, and makes of them.
 ghost use Rattle.std.specs.Prelude.{◌≡◌};
-ghost use Rattle.vx_history.specs.Admission.{is_holding as holds, is_live as live, mode_holds};
+ghost use Rattle.vx_order.specs.Sending.{last_number};
+ghost use Rattle.vx_history.specs.Admission.{is_holding as holds, is_live_link as live, mode_holds};
 ghost use Rattle.vx_history.specs.Refusals.{waits};
-ghost use Rattle.vx_linked.specs.Holds.{awaits, awaits_one, last_number, least_hold, lesser_hold};
+ghost use Rattle.vx_linked.specs.Holds.{awaits, awaits_one, least_hold, lesser_hold};
 
 use vx_model::{Link, Mode, SyncMode};
 use vx_order::{LinkFacts, SiteFacts};

@@ -6,7 +6,7 @@ ghost use Rattle.vx_events.specs.LinkedFacts.{link_fact, linked_facts};
 ghost use Rattle.vx_history.specs.Sends.{with_link};
 ghost use Rattle.vx_history.specs.World.{Link, World};
 ghost use Rattle.vx_order.specs.declared.facts.LinkFacts.{LinkFacts};
-ghost use Rattle.vx_linked.specs.Tables.{HasPlace, Put, fact_between, leads_to, link_of, place_to, site_relinked};
+ghost use Rattle.vx_linked.specs.Tables.{HasPlace, Put, fact_between, leads_to, link_leading, place_to, site_relinked};
 ghost use Rattle.vx_linked.specs.Turns.{IsLinkOf};
 
 use crate::seats::link_place;
@@ -26,7 +26,7 @@ pub(crate) fn site_at(sites: &[SiteFacts], from: usize) -> Option<&SiteFacts>
 }
 
 fn find_in(site: Option<&SiteFacts>, to: u32) -> Option<LinkFacts>
-    ensures { result ≡ link_of (option_copied site.entry) to }
+    ensures { result ≡ link_leading (option_copied site.entry) to }
 {
     match site {
         Some(site) => find_to(site.links.as_slice(), to).copied(),

@@ -4,7 +4,7 @@ ghost use Rattle.vx_model.specs.declared.limits.TheConstants.{LINK_PLACES, MOST_
 ghost use Rattle.vx_history.specs.Events.{linked_sites};
 ghost use Rattle.vx_history.specs.KeptLinks.{kept_links, kept_mode, kept_start};
 ghost use Rattle.vx_history.specs.World.{World};
-ghost use Rattle.vx_events.specs.LinkedFacts.{links_in};
+ghost use Rattle.vx_events.specs.LinkedFacts.{links_of_site};
 ghost use Rattle.vx_effects.specs.LinkParts.{kept_over};
 ghost use Rattle.vx_linked.specs.Making.{kept_each, kept_plain};
 
@@ -65,7 +65,7 @@ fn keep_each(links: &[LinkFacts]) -> KeptLinks
 pub fn kept_facts(links: &[LinkFacts]) -> Option<KeptLinks>
     ensures links { IfSome result (λ kept. kept ≡ kept_each links.now) }
     ensures few { IfSome result (λ kept. length kept ≤ MOST_LINKS) }
-    ensures world { (w : World) (p : ℕ) → links.now ≡ links_in w p → IfSome result (λ kept. kept ≡ kept_links (w.links p) (linked_sites (w.links p) w.sites 0 w.sites)) }
+    ensures world { (w : World) (p : ℕ) → links.now ≡ links_of_site w p → IfSome result (λ kept. kept ≡ kept_links (w.links p) (linked_sites (w.links p) w.sites 0 w.sites)) }
     // It is none for no other cause.
     ensures some { length links.now ≤ MOST_LINKS → IsSome result }
 {

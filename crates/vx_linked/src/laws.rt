@@ -1,6 +1,7 @@
 // What the lines that need no disk leave of what disks hold, and of what is under way.
 ghost use Rattle.std.specs.Prelude.{◌≡◌, ◌⊎◌, ◌++◌, ℕ, ◌≤◌, List, Some, slice_get, true};
 ghost use Rattle.std.specs.List.{list_any};
+ghost use Rattle.vx_order.specs.Sending.{last_number};
 ghost use Rattle.vx_history.specs.Admission.{hold, is_holding};
 ghost use Rattle.vx_history.specs.Listed.{AreListed};
 ghost use Rattle.vx_history.specs.Refusals.{is_waited_for, some_below};
@@ -9,9 +10,9 @@ ghost use Rattle.vx_history.specs.World.{Packet, World};
 ghost use Rattle.vx_history.specs.declared.event.Event.TheVariants.{Connect, Cut, Pause, Pump, Resume, Tick, Wait};
 ghost use Rattle.vx_order.specs.declared.facts.LinkFacts.{LinkFacts};
 ghost use Rattle.vx_order.specs.declared.facts.SiteFacts.{SiteFacts};
-ghost use Rattle.vx_events.specs.LinkedFacts.{links_in};
+ghost use Rattle.vx_events.specs.LinkedFacts.{links_of_site};
 ghost use Rattle.vx_linked.specs.Disks.{LeavesDisks};
-ghost use Rattle.vx_linked.specs.Holds.{HeldBy, awaits, last_number, least_hold};
+ghost use Rattle.vx_linked.specs.Holds.{HeldBy, awaits, least_hold};
 
 /// Each site is as it was but for its links, and of those the header of its log keeps the same, whether the event is refused or not.
 pub fn leaves_disks()
@@ -44,5 +45,5 @@ pub fn holds_what_links_need()
 
 /// Some link of the world waits for a write of its site exactly where one in memory does.
 pub fn awaits_as_the_world()
-    ensures { (w : World) → AreListed w → (p : ℕ) → some_below w.sites (λ k. is_waited_for k (w.links p k)) ≡ list_any awaits (links_in w p) }
+    ensures { (w : World) → AreListed w → (p : ℕ) → some_below w.sites (λ k. is_waited_for k (w.links p k)) ≡ list_any awaits (links_of_site w p) }
 {}

@@ -42,6 +42,3 @@ pub use resuming::resume;
 pub use states::{join_state, mark_state, with_links};
 pub use ticking::tick;
 pub use waiting::wait;
-
-#[cfg(test)]
-mod tests;

@@ -12,8 +12,8 @@ ghost use Rattle.vx_history.specs.declared.sender.SEvent.TheVariants.{Pump as Pu
 ghost use Rattle.vx_net.specs.Flights.{Flying};
 ghost use Rattle.vx_script.specs.declared.line.ScriptLine.TheVariants.{Pump};
 ghost use Rattle.vx_order.specs.declared.facts.LinkFacts.{LinkFacts as LinkValue};
-ghost use Rattle.vx_linked.specs.Tables.{Found, IsFree, site_relinked};
-ghost use Rattle.vx_linked.specs.Turns.{ComesTo, Relinked};
+ghost use Rattle.vx_linked.specs.Tables.{FoundLink, IsUnrefused, site_relinked};
+ghost use Rattle.vx_linked.specs.Turns.{ComesBehind, Relinked};
 
 use crate::keeping::put_at;
 use crate::seats::{link_place, seat};
@@ -22,8 +22,8 @@ use vx_order::{LinkFacts, SiteFacts};
 
 /// The link that a line names.
 pub fn link_named(sites: &[SiteFacts], from: &Name, to: &Name) -> LinkFacts
-    requires found { Found sites.now from.now to.now }
-    ensures link { (f : Found sites.now from.now to.now) → result ≡ f.link }
+    requires found { FoundLink sites.now from.now to.now }
+    ensures link { (f : FoundLink sites.now from.now to.now) → result ≡ f.link }
 {
     let here = seat(sites, from);
     let there = seat(sites, to);
@@ -34,13 +34,13 @@ pub fn link_named(sites: &[SiteFacts], from: &Name, to: &Name) -> LinkFacts
 
 /// Keeps the link that a `pump` line names as the pump left it. The blocks above its hold stay, as a pump does not change what is stored.
 pub fn keep_pumped(sites: &mut [SiteFacts], from: &Name, to: &Name, link: &Link)
-    requires free { IsFree sites.old (Pump from.now to.now) }
+    requires free { IsUnrefused sites.old (Pump from.now to.now) }
     ensures kept { Relinked from.now to.now link.now sites.old sites.new }
     ensures world { (w : World) (f : Flying) → sites.old ≡ linked_facts w
         → link.now ≡ plain_link (site_number w to.now)
         ((link_event w (site_number w from.now) (site_number w to.now) PumpLink).links (site_number w from.now) (site_number w to.now))
         → FlightStands (link_event w (site_number w from.now) (site_number w to.now) PumpLink).packets f
-        → ComesTo w (PumpAt (site_number w from.now) (site_number w to.now)) sites.new f }
+        → ComesBehind w (PumpAt (site_number w from.now) (site_number w to.now)) sites.new f }
     // Whatever was sent: the link is as its rule leaves it.
     ensures facts { (w : World) → sites.old ≡ linked_facts w → link.now ≡ (link_step w (site_number w from.now) (site_number w to.now) PumpLink).link
         → sites.new ≡ linked_facts (step w (PumpAt (site_number w from.now) (site_number w to.now))).world }
@@ -57,7 +57,7 @@ fn relink_at(site: &mut SiteFacts, place: usize, link: &Link)
 }
 
 fn relink(sites: &mut [SiteFacts], from: &Name, to: &Name, link: &Link)
-    requires found { Found sites.old from.now to.now }
+    requires found { FoundLink sites.old from.now to.now }
     ensures { Relinked from.now to.now link.now sites.old sites.new }
 {
     let here = seat(sites, from);

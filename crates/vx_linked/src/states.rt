@@ -4,7 +4,7 @@ ghost use Rattle.std.specs.List.{list_all};
 ghost use Rattle.vx_model.specs.declared.limits.TheConstants.{MOST_LINKS};
 ghost use Rattle.vx_model.specs.declared.site.Mark.TheVariants.{Consistent};
 ghost use Rattle.vx_srlfmt.specs.Headers.{CanSpellState};
-ghost use Rattle.vx_linked.specs.Making.{is_spelled as spelled, joined_state};
+ghost use Rattle.vx_linked.specs.Making.{is_state_spelled as spelled, joined_state};
 
 use vx_model::limits::{MOST_LINKS, MOST_NUMBER};
 use vx_model::{KeptLink, KeptLinks, Mark, Role, SPhase, State};

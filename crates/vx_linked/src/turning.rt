@@ -1,7 +1,7 @@
 // A link in memory, and an event of it that looks at nothing of its site.
 ghost use Rattle.std.specs.Prelude.{◌≡◌, ◌<◌, Some, length, slice_get, slice_set};
 ghost use Rattle.vx_order.specs.declared.facts.LinkFacts.{LinkFacts};
-ghost use Rattle.vx_linked.specs.Tables.{Found, site_relinked};
+ghost use Rattle.vx_linked.specs.Tables.{FoundLink, site_relinked};
 ghost use Rattle.vx_linked.specs.Turns.{Turned, fact_turned};
 
 use crate::keeping::put_at;
@@ -32,7 +32,7 @@ fn turn_at(site: &mut SiteFacts, place: usize, event: &SEvent)
 
 /// The link of a site to another has this event behind it.
 pub fn turn(sites: &mut [SiteFacts], from: &Name, to: &Name, event: &SEvent)
-    requires found { Found sites.old from.now to.now }
+    requires found { FoundLink sites.old from.now to.now }
     ensures { Turned event.now from.now to.now sites.old sites.new }
 {
     let here = seat(sites, from);

@@ -4,7 +4,7 @@ ghost use Rattle.std.specs.List.{list_any};
 ghost use Rattle.vx_events.specs.Facts.{site_number};
 ghost use Rattle.vx_events.specs.LinkedFacts.{linked_facts};
 ghost use Rattle.vx_history.specs.Listed.{AreListed};
-ghost use Rattle.vx_history.specs.Admission.{is_live as live};
+ghost use Rattle.vx_history.specs.Admission.{is_live_link as live};
 ghost use Rattle.vx_history.specs.Refusals.{waits as waited_for};
 ghost use Rattle.vx_history.specs.Step.{step};
 ghost use Rattle.vx_history.specs.World.{World};
@@ -12,7 +12,7 @@ ghost use Rattle.vx_history.specs.declared.event.Event.TheVariants.{Wait as Wait
 ghost use Rattle.vx_order.specs.Sites.{site_named};
 ghost use Rattle.vx_order.specs.declared.facts.SiteFacts.{SiteFacts};
 ghost use Rattle.vx_script.specs.declared.line.ScriptLine.TheVariants.{Wait};
-ghost use Rattle.vx_linked.specs.Tables.{IsFree};
+ghost use Rattle.vx_linked.specs.Tables.{IsUnrefused};
 ghost use Rattle.vx_linked.specs.Waits.{holds_up, wait_said};
 
 use crate::seats::seat;
@@ -61,7 +61,7 @@ fn answer(links: &[LinkFacts], number: u64) -> Said
 /// Whether the write of this number is confirmed as the links of its site ask: done with its number, or pending while a live link by the
 /// log that writes wait for has not confirmed it. Nothing changes.
 pub fn wait(sites: &[SiteFacts], from: &Name, number: u64) -> Said
-    requires free { IsFree sites.now (Wait from.now number) }
+    requires free { IsUnrefused sites.now (Wait from.now number) }
     ensures said { (site : SiteFacts) → site_named sites.now from.now ≡ Some site → result ≡ wait_said number site.links }
     ensures world { (w : World) → sites.now ≡ linked_facts w → AreListed w → result ≡ (step w (WaitAt (site_number w from.now) number)).said }
     ensures facts { (w : World) → sites.now ≡ linked_facts w → sites.now ≡ linked_facts (step w (WaitAt (site_number w from.now) number)).world }

@@ -6,8 +6,8 @@ use Rattle.std.proofs.lemmas.Bool.{cases_lt, eq-eqb, leb-true, ltb-true, lt-ltb}
 use Rattle.std.proofs.lemmas.List.Sums.{sum_by-cons}
 use Rattle.std.proofs.lemmas.Option.{slice_get_within}
 use Rattle.vx_model.specs.Sizes.{regions_of as regions_in}
-use Rattle.vx_bitmap.specs.Maps.{Lies, Map, blocks_of}
-use Rattle.vx_config.specs.Checks.{are_apart, blocks_of as blocks_in, blocks_or_none, column_blocks, is_sound, is_stale, is_volume, log_run, log_runs, pairwise, plex_runs, runs, volume_runs}
+use Rattle.vx_bitmap.specs.Maps.{Lies, Map, map_block_count}
+use Rattle.vx_config.specs.Checks.{are_apart, blocks_of as blocks_in, blocks_or_none, column_blocks, is_sound, is_stale, is_volume, log_run, log_runs, pairwise, plex_runs, runs, volume_runs, plexes_of, plexes_or, blocks_or}
 use Rattle.vx_config.specs.declared.config.Config.{Config}
 use Rattle.vx_config.specs.declared.entry.DiskEntry.{DiskEntry}
 use Rattle.vx_config.specs.declared.entry.LogEntry.{LogEntry}
@@ -19,10 +19,10 @@ use Rattle.vx_config.specs.declared.entry.VolumeLog.TheVariants.{Drl, Fmr}
 use Rattle.vx_disk.specs.Blocks.{bit_at}
 use Rattle.vx_disk.specs.Moves.{Run}
 use Rattle.vx_disk.specs.Shelf.{Meaning}
-use Rattle.vx_layout.specs.Places.{HasBlock, blocks_in as blocks_at, has_plex, linear, located, place, place_in, place_or, plex_in}
+use Rattle.vx_layout.specs.Places.{HasBlock, subdisk_blocks as blocks_at, has_plex, linear, located, place, place_in, place_or, plex_in}
 use Rattle.vx_layout.proofs.Pairs.{all_at, flat_across, flat_part, get_left, get_right, in_flat, pairs_across, pairs_right}
 use Rattle.vx_layout.proofs.Placing.{filled, from_sound, linear_within}
-use Rattle.vx_maplog.specs.Logs.{DisksFit as HoldDisks, LogLoaded, blocks_or, log_blocks, log_in, log_of, log_or, plexes_of, plexes_or}
+use Rattle.vx_maplog.specs.Logs.{DisksReach as HoldDisks, LogLoaded, log_blocks, log_in, log_of, log_or}
 use Rattle.vx_maplog.proofs.Entries.{Placed, placed}
 use Rattle.vx_volume.specs.Plexes.{DisksFit, Inside, active}
 use Rattle.vx_volume.proofs.PlaceLemmas.{count_few, has_of}
@@ -259,14 +259,14 @@ logs_off c sound v d f is_d is_f disk b low_d high_d low_f high_f = no_block (lo
 
 -- the same by the maps in memory
 pub map_off_plex : (c : Config) → is_sound c ≡ true → (v : ℕ) (log : VolumeLog) (map : Map) (m : Meaning) → 0 < blocks_in c.volumes v → DisksFit c.disks m → LogLoaded c v log map
-    → (w p k u b : ℕ) → HasBlock c w p k → place c w p k ≡ (u, b) → Run map.unit map.first (blocks_of map) u b → ⊥
+    → (w p k u b : ℕ) → HasBlock c w p k → place c w p k ≡ (u, b) → Run map.unit map.first (map_block_count map) u b → ⊥
 map_off_plex c sound v log map m some fit l w p k u b has at run =
     let put = log_placed c v log map m sound some fit l in
     let disk : u ≡ l.entry.disk = run.there ∙ l.run.there in
     log_off_plex c sound v log l.entry l.is w p k b has (at ∙ ap (λ (x : ℕ). (x, b)) disk) (omega (arith, run.first, l.run.begins)) (omega (arith, run.last, l.run.begins, l.run.long, put.blocks))
 
 pub maps_off : (c : Config) → is_sound c ≡ true → (v : ℕ) (d f : Map) (m : Meaning) → 0 < blocks_in c.volumes v → DisksFit c.disks m → LogLoaded c v Drl d → LogLoaded c v Fmr f
-    → (u b : ℕ) → Run d.unit d.first (blocks_of d) u b → Run f.unit f.first (blocks_of f) u b → ⊥
+    → (u b : ℕ) → Run d.unit d.first (map_block_count d) u b → Run f.unit f.first (map_block_count f) u b → ⊥
 maps_off c sound v d f m some fit ld lf u b run_d run_f =
     let put_d = log_placed c v Drl d m sound some fit ld in
     let put_f = log_placed c v Fmr f m sound some fit lf in

@@ -3,8 +3,8 @@ use Rattle.std.proofs.Common.{◌≡◌, ◌∙◌, inl, inr, ⊎_elim, ◌⊎�
 use Rattle.std.specs.Prelude.{if◌then◌else◌, Err}
 use Rattle.vx_model.specs.Sizes.{regions_of as regions_in}
 use Rattle.vx_bitmap.specs.Bits.{AllAre}
-use Rattle.vx_bitmap.specs.Maps.{ChangedAt, Lies, Map, MapOn, SamePlace, blocks_of}
-use Rattle.vx_config.specs.Checks.{blocks_of as blocks_in, is_sound}
+use Rattle.vx_bitmap.specs.Maps.{ChangedAt, Lies, Map, MapOn, SamePlace, map_block_count}
+use Rattle.vx_config.specs.Checks.{blocks_of as blocks_in, is_sound, plexes_of}
 use Rattle.vx_config.specs.declared.config.Config.{Config}
 use Rattle.vx_config.specs.declared.entry.VolumeLog.TheVariants.{Drl as DrlLog, Fmr as FmrLog}
 use Rattle.vx_disk.specs.Counts.{Rose}
@@ -13,16 +13,16 @@ use Rattle.vx_disk.specs.Shelf.{Goes, Keeps, Meaning, Or, Values}
 use Rattle.vx_disk.proofs.Causing.{Rose_after, Rose_before}
 use Rattle.vx_disk.proofs.Runs.{both_Goes, weaker}
 use Rattle.vx_drl.specs.Dirty.{Dirty, is_dirty}
-use Rattle.vx_fmr.specs.Missed.{FmrLoaded, IsKept, Missed, has_missed}
+use Rattle.vx_fmr.specs.Missed.{FmrLoaded, IsMissedKept, Missed, has_missed}
 use Rattle.vx_fmr.proofs.Keeping.{kept_of}
-use Rattle.vx_maplog.specs.Logs.{InRun, LogLoaded, log_blocks, plexes_of}
+use Rattle.vx_maplog.specs.Logs.{MapInRun, LogLoaded, log_blocks}
 use Rattle.vx_volume.specs.Plexes.{DisksFit}
 use Rattle.vx_model.specs.declared.no.No.{No}
 use Rattle.vx_model.specs.declared.no.No.TheVariants as refusal
 use Rattle.vx_logs.specs.Dirtying.{DrlAnswers, DrlAt, DrlEnds, DrlHas, DrlKeeps, DrlMarked, SameDrl}
 use Rattle.vx_logs.specs.Held.{DrlFits, DrlRun, FmrRun, LogsFit, stale}
-use Rattle.vx_logs.specs.Noting.{FmrAnswers, FmrAt, FmrEnds, FmrHas, FmrKeeps, FmrNoted, FmrReady, FmrStill, MayBe, Noted, NotedAt, SameFmr, is_one, noted}
-use Rattle.vx_logs.specs.Writes.{Marked, MarkedAt, Marks, StaleStill}
+use Rattle.vx_logs.specs.Noting.{FmrAnswers, FmrAt, FmrEnds, FmrHas, FmrKeeps, FmrNoted, FmrReady, FmrStill, MayBeNoted, Noted, NotedAt, SameFmr, is_one, noted_region}
+use Rattle.vx_logs.specs.Writes.{MarkedLogs, MarkedAt, MarksLogs, StaleStill}
 use Rattle.vx_logs.specs.declared.logs.Logs.{Logs}
 use Rattle.vx_logs.specs.declared.logs.Lost.{Lost}
 use Rattle.vx_logs.proofs.LogLemmas.{log_lies, maps_off, stale_below}
@@ -33,7 +33,7 @@ some_blocks blocks last lt = omega (arith, lt)
 
 -- ---- a map beside what is written elsewhere
 
-pub stands_beside : (map : Map) (W : Values) (m m' : Meaning) → Goes W m m' → ((u b : ℕ) (x : List ℕ) → Run map.unit map.first (blocks_of map) u b → W u b x → ⊥) → MapOn map m → MapOn map m'
+pub stands_beside : (map : Map) (W : Values) (m m' : Meaning) → Goes W m m' → ((u b : ℕ) (x : List ℕ) → Run map.unit map.first (map_block_count map) u b → W u b x → ⊥) → MapOn map m → MapOn map m'
 stands_beside map W m m' goes off on = record {
   each = λ k low. record {
     only = λ x left. elim (goes.leaves map.unit (map.first + k) x left) [
@@ -133,7 +133,7 @@ module _ (c : Config) (sound : is_sound c ≡ true) (v : ℕ) (some : 0 < blocks
 
 -- ---- plexes by a set and by their states
 
-maybe_those : (a b : ℕ → Bool) (anew : Bool) (first last p r : ℕ) (was now : Bool) → ((q : ℕ) → a q ≡ b q) → MayBe a anew first last p r was now → MayBe b anew first last p r was now
+maybe_those : (a b : ℕ → Bool) (anew : Bool) (first last p r : ℕ) (was now : Bool) → ((q : ℕ) → a q ≡ b q) → MayBeNoted a anew first last p r was now → MayBeNoted b anew first last p r was now
 maybe_those a b anew first last p r was now same (inl is) = inl is
 maybe_those a b anew first last p r was now same (inr is) = inr (sym (same p) ∙ is.0, is.1)
 
@@ -143,12 +143,12 @@ pub at_before : (a b : ℕ → Bool) (anew : Bool) (first last : ℕ) (o : Optio
 at_before a b anew first last None m m1 wide stays u d x at = at
 at_before a b anew first last (Some f) m m1 wide stays u d x at = record { run = at.run; so = λ on p r lt low. by p r (at.so (stays f refl on) p r lt low) }
   where
-    by : (p r : ℕ) → {was now : Bool} → MayBe a anew first last p r was now → MayBe b anew first last p r was now
+    by : (p r : ℕ) → {was now : Bool} → MayBeNoted a anew first last p r was now → MayBeNoted b anew first last p r was now
     by p r (inl is) = inl is
     by p r (inr is) = inr (wide p is.0, is.1)
 
 noted_those : (a b : ℕ → Bool) (anew : Bool) (first last : ℕ) (f g : Missed) → ((q : ℕ) → a q ≡ b q) → Noted a anew first last f g → Noted b anew first last f g
-noted_those a b anew first last f g same notes = record { each = λ p r lt low. notes.each p r lt low ∙ ap (λ (t : Bool). if t then noted anew first last r (has_missed f p r) else has_missed f p r) (same p) }
+noted_those a b anew first last f g same notes = record { each = λ p r lt low. notes.each p r lt low ∙ ap (λ (t : Bool). if t then noted_region anew first last r (has_missed f p r) else has_missed f p r) (same p) }
 
 pub fmr_ends : (a b : ℕ → Bool) (anew : Bool) (first last : ℕ) (lost : Bool) (o n : Option Missed) (m m1 m2 : Meaning) → ((q : ℕ) → a q ≡ b q) → ((f : Missed) → o ≡ Some f → MapOn f.map m → MapOn f.map m1) → ((u : ℕ) → m.faults u ≤ m1.faults u)
     → FmrEnds a anew first last lost o n m1 m2 → FmrEnds b anew first last lost o n m m2
@@ -172,7 +172,7 @@ drl_ends first last lost (Some d) (Some e) W m m1 m2 keeps goes off ends = (
   },
 )
   where
-    back : (u b : ℕ) → Run e.map.unit e.map.first (blocks_of e.map) u b → Run d.map.unit d.map.first (blocks_of d.map) u b
+    back : (u b : ℕ) → Run e.map.unit e.map.first (map_block_count e.map) u b → Run d.map.unit d.map.first (map_block_count d.map) u b
     back u b run = record {
       there = run.there ∙ keeps.place.unit;
       first = omega (arith, run.first, keeps.place.first);
@@ -198,7 +198,7 @@ module _ (c : Config) (sound : is_sound c ≡ true) (v : ℕ) (some : 0 < blocks
         (λ u b x. ⊎_elim (λ at. inl at) (λ at. inr (at_before (is_one set) (stale c v) false first last l.fmr m m1 (λ q is. sym (those q) ∙ is) (maps_stay c sound v some l fits first last m m1 fit one) u b x at)))
 
     pub both_marked : (lost : Lost) (l' : Logs) → DrlKeeps l.drl l'.drl → DrlEnds first last lost.drl l.drl l'.drl m m1 → (IsTrue m1.down → IsTrue m.down)
-        → FmrEnds (is_one set) false first last lost.fmr l.fmr l'.fmr m1 m2 → (IsTrue m2.down → IsTrue m1.down) → Marked c v first last lost l l' m m2
+        → FmrEnds (is_one set) false first last lost.fmr l.fmr l'.fmr m1 m2 → (IsTrue m2.down → IsTrue m1.down) → MarkedLogs c v first last lost l l' m m2
     both_marked lost l' keeps drl up fmr up' = record {
       drl = drl_ends first last lost.drl l.drl l'.drl (FmrAt (is_one set) false first last l.fmr m1) m m1 m2 keeps two (λ u b x run at. logs_apart c sound v some l fits m fit u b run (fmr_run (is_one set) false first last l.fmr m1 u b x at)) drl;
       fmr = fmr_ends (is_one set) (stale c v) false first last lost.fmr l.fmr l'.fmr m m1 m2 those (maps_stay c sound v some l fits first last m m1 fit one) one.faults fmr;
@@ -206,10 +206,10 @@ module _ (c : Config) (sound : is_sound c ≡ true) (v : ℕ) (some : 0 < blocks
     }
 
 -- a refusal
-pub drl_refused : (c : Config) (v first last : ℕ) (o n : Option Dirty) (l l' : Logs) (m m' : Meaning) (no : No) → DrlAnswers first last o n m m' (Err no) → Marks c v first last l l' m m' (Err no)
+pub drl_refused : (c : Config) (v first last : ℕ) (o n : Option Dirty) (l l' : Logs) (m m' : Meaning) (no : No) → DrlAnswers first last o n m m' (Err no) → MarksLogs c v first last l l' m m' (Err no)
 drl_refused c v first last o n l l' m m' refusal.Down down = down
 drl_refused c v first last o n l l' m m' other none = absurd none
 
-pub fmr_refused : (c : Config) (v : ℕ) (those : ℕ → Bool) (anew : Bool) (first last : ℕ) (o n : Option Missed) (l l' : Logs) (m m1 m' : Meaning) (no : No) → FmrAnswers those anew first last o n m1 m' (Err no) → Marks c v first last l l' m m' (Err no)
+pub fmr_refused : (c : Config) (v : ℕ) (those : ℕ → Bool) (anew : Bool) (first last : ℕ) (o n : Option Missed) (l l' : Logs) (m m1 m' : Meaning) (no : No) → FmrAnswers those anew first last o n m1 m' (Err no) → MarksLogs c v first last l l' m m' (Err no)
 fmr_refused c v those anew first last o n l l' m m1 m' refusal.Down down = down
 fmr_refused c v those anew first last o n l l' m m1 m' other none = absurd none

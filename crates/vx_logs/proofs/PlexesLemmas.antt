@@ -7,8 +7,8 @@ use Rattle.vx_bitmap.specs.Maps.{marks_with}
 use Rattle.vx_disk.specs.Blocks.{bit_at}
 use Rattle.vx_disk.specs.Shelf.{Goes, Meaning}
 use Rattle.vx_disk.proofs.Runs.{same_Goes, weaker}
-use Rattle.vx_fmr.specs.Missed.{Missed, has_missed, place_of}
-use Rattle.vx_logs.specs.Noting.{FmrHas, FmrNoted, IsMap, IsStill, MayBe, Noted, NotedAt, SameFmr, alone, below, is_one, noted}
+use Rattle.vx_fmr.specs.Missed.{Missed, has_missed, missed_place}
+use Rattle.vx_logs.specs.Noting.{FmrHas, FmrNoted, IsMissedMap, IsStill, MayBeNoted, Noted, NotedAt, SameFmr, this_plex, below, is_one, noted_region}
 use Rattle.vx_logs.proofs.NoteLemmas.{kept_later, noted_maybe, then_writes}
 
 -- the plexes of the set below one have noted the run
@@ -43,7 +43,7 @@ pub notes_none : (set : ℕ) (anew : Bool) (first last : ℕ) (f : Missed) (m : 
 notes_none set anew first last f m = record {
   noted = record {
     same = record { place = record { unit = refl; first = refl; long = refl }; shape = record { plexes = refl; stride = refl; regions = refl } };
-    notes = record { each = λ p r lt low. sym (ap (λ (t : Bool). if t then noted anew first last r (has_missed f p r) else has_missed f p r) (below_none 0 set p (omega arith))) };
+    notes = record { each = λ p r lt low. sym (ap (λ (t : Bool). if t then noted_region anew first last r (has_missed f p r) else has_missed f p r) (below_none 0 set p (omega arith))) };
     stands = λ on. on;
   };
   writes = same_Goes (NotedAt (is_one set) anew first last f m) m;
@@ -58,7 +58,7 @@ module _ (n set : ℕ) (anew : Bool) (first last : ℕ) (f g : Missed) (m m1 : M
       same = at.noted.same;
       stands = at.noted.stands;
       notes = record {
-        each = λ p r lt low. at.noted.notes.each p r lt low ∙ ap (λ (t : Bool). if t then noted anew first last r (has_missed f p r) else has_missed f p r) (same p);
+        each = λ p r lt low. at.noted.notes.each p r lt low ∙ ap (λ (t : Bool). if t then noted_region anew first last r (has_missed f p r) else has_missed f p r) (same p);
       };
     };
     writes = at.writes;
@@ -72,10 +72,10 @@ module _ (n set : ℕ) (anew : Bool) (first last : ℕ) (f g : Missed) (m m1 : M
       ]
 
   module _ (in_set : bit_at set n ≡ true) where
-    alone_one : (p : ℕ) → alone n p ≡ true → is_one set p ≡ true
+    alone_one : (p : ℕ) → this_plex n p ≡ true → is_one set p ≡ true
     alone_one p is = let e : p ≡ n = eqb-true p n is in ap (is_one set) e ∙ ap (λ (t : Bool). t && bit_at set n) (lt-ltb n 8 few) ∙ in_set
 
-    wide : (p r : ℕ) (was now : Bool) → MayBe (alone n) anew first last p r was now → MayBe (is_one set) anew first last p r was now
+    wide : (p r : ℕ) (was now : Bool) → MayBeNoted (this_plex n) anew first last p r was now → MayBeNoted (is_one set) anew first last p r was now
     wide p r was now (inl same) = inl same
     wide p r was now (inr changed) = inr (alone_one p changed.0, changed.1)
 
@@ -83,20 +83,20 @@ module _ (n set : ℕ) (anew : Bool) (first last : ℕ) (f g : Missed) (m m1 : M
     below_one p is = let parts = and_parts (ltb p n) (bit_at set p) is in
         let lt : p < n = ltb-true p n parts.0 in ap (λ (t : Bool). t && bit_at set p) (lt-ltb p 8 (omega (arith, lt, few))) ∙ parts.1
 
-    so_far : (p r : ℕ) → p < f.plexes → r < f.stride → MayBe (is_one set) anew first last p r (has_missed f p r) (has_missed g p r)
+    so_far : (p r : ℕ) → p < f.plexes → r < f.stride → MayBeNoted (is_one set) anew first last p r (has_missed f p r) (has_missed g p r)
     so_far p r lt low = wider_set (noted_maybe (below n set) anew first last p r (has_missed f p r) (has_missed g p r) (at.noted.notes.each p r lt low))
       where
-        wider_set : MayBe (below n set) anew first last p r (has_missed f p r) (has_missed g p r) → MayBe (is_one set) anew first last p r (has_missed f p r) (has_missed g p r)
+        wider_set : MayBeNoted (below n set) anew first last p r (has_missed f p r) (has_missed g p r) → MayBeNoted (is_one set) anew first last p r (has_missed f p r) (has_missed g p r)
         wider_set (inl same) = inl same
         wider_set (inr changed) = inr (below_one p changed.0, changed.1)
 
-    module _ (h : Missed) (m2 : Meaning) (moves : Goes (NotedAt (alone n) anew first last g m1) m1 m2) where
+    module _ (h : Missed) (m2 : Meaning) (moves : Goes (NotedAt (this_plex n) anew first last g m1) m1 m2) where
       pub notes_writes : Goes (NotedAt (is_one set) anew first last f m) m m2
       notes_writes = then_writes (is_one set) anew first last f g m m1 m2 at.noted.same at.noted.stands so_far at.writes
-          (weaker (NotedAt (alone n) anew first last g m1) (NotedAt (is_one set) anew first last g m1) m1 m2 moves
-          (λ u b x near. record { run = near.run; so = λ on p r lt low. wide p r (has_missed g p r) (marks_with g.map b x (place_of g p r)) (near.so on p r lt low) }))
+          (weaker (NotedAt (this_plex n) anew first last g m1) (NotedAt (is_one set) anew first last g m1) m1 m2 moves
+          (λ u b x near. record { run = near.run; so = λ on p r lt low. wide p r (has_missed g p r) (marks_with g.map b x (missed_place g p r)) (near.so on p r lt low) }))
 
-      pub notes_next : FmrNoted (alone n) anew first last g h m1 m2 → (IsTrue m2.down → IsTrue m1.down) → NotesTo (n + 1) set anew first last f h m m2
+      pub notes_next : FmrNoted (this_plex n) anew first last g h m1 m2 → (IsTrue m2.down → IsTrue m1.down) → NotesTo (n + 1) set anew first last f h m m2
       notes_next one up = record {
         noted = record {
           same = both_same at.noted.same one.same;
@@ -113,28 +113,28 @@ module _ (n set : ℕ) (anew : Bool) (first last : ℕ) (f g : Missed) (m m1 : M
             shape = record { plexes = b.shape.plexes ∙ a.shape.plexes; stride = b.shape.stride ∙ a.shape.stride; regions = b.shape.regions ∙ a.shape.regions };
           }
 
-          step : (p r : ℕ) → p < f.plexes → r < f.stride → has_missed h p r ≡ (if below (n + 1) set p then noted anew first last r (has_missed f p r) else has_missed f p r)
+          step : (p r : ℕ) → p < f.plexes → r < f.stride → has_missed h p r ≡ (if below (n + 1) set p then noted_region anew first last r (has_missed f p r) else has_missed f p r)
           step p r lt low =
-              let second : has_missed h p r ≡ (if alone n p then noted anew first last r (has_missed g p r) else has_missed g p r) = one.notes.each p r (omega (arith, lt, at.noted.same.shape.plexes)) (omega (arith, low, at.noted.same.shape.stride)) in
-              let one_before : has_missed g p r ≡ (if below n set p then noted anew first last r (has_missed f p r) else has_missed f p r) = at.noted.notes.each p r lt low in
+              let second : has_missed h p r ≡ (if this_plex n p then noted_region anew first last r (has_missed g p r) else has_missed g p r) = one.notes.each p r (omega (arith, lt, at.noted.same.shape.plexes)) (omega (arith, low, at.noted.same.shape.stride)) in
+              let one_before : has_missed g p r ≡ (if below n set p then noted_region anew first last r (has_missed f p r) else has_missed f p r) = at.noted.notes.each p r lt low in
               elim (cases_eq p n) [
                 | inl is ↦
-                    let was : has_missed g p r ≡ has_missed f p r = one_before ∙ ap (λ (t : Bool). if t then noted anew first last r (has_missed f p r) else has_missed f p r) (below_none n set p (omega (arith, is))) in
-                    second ∙ ap (λ (t : Bool). if t then noted anew first last r (has_missed g p r) else has_missed g p r) (eq-eqb p n is) ∙ ap (λ (w : Bool). noted anew first last r w) was
-                    ∙ sym (ap (λ (t : Bool). if t then noted anew first last r (has_missed f p r) else has_missed f p r) (ap (below (n + 1) set) is ∙ below_last n set true in_set))
+                    let was : has_missed g p r ≡ has_missed f p r = one_before ∙ ap (λ (t : Bool). if t then noted_region anew first last r (has_missed f p r) else has_missed f p r) (below_none n set p (omega (arith, is))) in
+                    second ∙ ap (λ (t : Bool). if t then noted_region anew first last r (has_missed g p r) else has_missed g p r) (eq-eqb p n is) ∙ ap (λ (w : Bool). noted_region anew first last r w) was
+                    ∙ sym (ap (λ (t : Bool). if t then noted_region anew first last r (has_missed f p r) else has_missed f p r) (ap (below (n + 1) set) is ∙ below_last n set true in_set))
                 | inr other ↦
-                    second ∙ ap (λ (t : Bool). if t then noted anew first last r (has_missed g p r) else has_missed g p r) (not_alone p other) ∙ one_before
-                    ∙ sym (ap (λ (t : Bool). if t then noted anew first last r (has_missed f p r) else has_missed f p r) (below_same n set p other))
+                    second ∙ ap (λ (t : Bool). if t then noted_region anew first last r (has_missed g p r) else has_missed g p r) (not_alone p other) ∙ one_before
+                    ∙ sym (ap (λ (t : Bool). if t then noted_region anew first last r (has_missed f p r) else has_missed f p r) (below_same n set p other))
               ]
             where
-              not_alone : (p : ℕ) → (p ≡ n → ⊥) → alone n p ≡ false
-              not_alone p other = by (alone n p) refl where
-                by : (t : Bool) → alone n p ≡ t → t ≡ false
+              not_alone : (p : ℕ) → (p ≡ n → ⊥) → this_plex n p ≡ false
+              not_alone p other = by (this_plex n p) refl where
+                by : (t : Bool) → this_plex n p ≡ t → t ≡ false
                 by true is = absurd (other (eqb-true p n is))
                 by false is = refl
 
 -- the next plex has its map
-pub has_later : (set last n : ℕ) (anew : Bool) (first : ℕ) (f g : Missed) (m m1 : Meaning) → FmrHas set last f m → NotesTo n set anew first last f g m m1 → IsMap last g m1
+pub has_later : (set last n : ℕ) (anew : Bool) (first : ℕ) (f g : Missed) (m m1 : Meaning) → FmrHas set last f m → NotesTo n set anew first last f g m m1 → IsMissedMap last g m1
 has_later set last n anew first f g m m1 has at = record {
   lies = record {
     exists = omega (arith, has.map.lies.exists, at.noted.same.place.unit, at.writes.units);
@@ -157,4 +157,4 @@ still_there n set anew first last f g m m1 has at few in_set all = ((all.each n 
     one = ap (λ (t : Bool). t && bit_at set n) (lt-ltb n 8 few) ∙ in_set
 
     was : (r : ℕ) → r < f.stride → has_missed g n r ≡ has_missed f n r
-    was r low = at.noted.notes.each n r (has.exist n one) low ∙ ap (λ (t : Bool). if t then noted anew first last r (has_missed f n r) else has_missed f n r) (below_none n set n (omega arith))
+    was r low = at.noted.notes.each n r (has.exist n one) low ∙ ap (λ (t : Bool). if t then noted_region anew first last r (has_missed f n r) else has_missed f n r) (below_none n set n (omega arith))

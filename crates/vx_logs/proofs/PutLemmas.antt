@@ -5,8 +5,8 @@ use Rattle.std.proofs.lemmas.Bool.{and_parts}
 use Rattle.vx_model.specs.Sizes.{regions_of as regions_in}
 use Rattle.vx_model.specs.declared.no.No.{No}
 use Rattle.vx_model.specs.declared.no.No.TheVariants as refusal
-use Rattle.vx_bitmap.specs.Maps.{Map, MapOn, blocks_of}
-use Rattle.vx_config.specs.Checks.{blocks_of as blocks_in, is_sound}
+use Rattle.vx_bitmap.specs.Maps.{Map, MapOn, map_block_count}
+use Rattle.vx_config.specs.Checks.{blocks_of as blocks_in, is_sound, plexes_of}
 use Rattle.vx_config.specs.declared.config.Config.{Config}
 use Rattle.vx_config.specs.declared.entry.VolumeLog.{VolumeLog}
 use Rattle.vx_config.specs.declared.entry.VolumeLog.TheVariants.{Drl as DrlLog, Fmr as FmrLog}
@@ -19,15 +19,15 @@ use Rattle.vx_disk.proofs.Runs.{both_Goes, weaker}
 use Rattle.vx_drl.specs.Dirty.{Dirty}
 use Rattle.vx_fmr.specs.Missed.{Missed}
 use Rattle.vx_layout.specs.Places.{place}
-use Rattle.vx_maplog.specs.Logs.{LogLoaded, plexes_of}
+use Rattle.vx_maplog.specs.Logs.{LogLoaded}
 use Rattle.vx_volume.specs.Plexes.{DisksFit, InRun, Inside, active}
-use Rattle.vx_volume.specs.Volumes.{AllBut, AllFailed, EndsAt, LastFailed, OnPlexes, PlexBlamed, PlexWrote}
+use Rattle.vx_volume.specs.Volumes.{AllBut, AllPlexesFailed, EndsAt, LastPlexFailed, OnPlexes, PlexBlamed, PlexWrote}
 use Rattle.vx_volume.specs.declared.sets.Failed.{Failed}
 use Rattle.vx_volume.proofs.PlaceLemmas.{active_below, has_of}
 use Rattle.vx_logs.specs.Dirtying.{DrlKeeps}
 use Rattle.vx_logs.specs.Held.{DrlRun, FmrRun, LogsFit, LogsStand}
 use Rattle.vx_logs.specs.Noting.{FmrAnswers, FmrAt, FmrEnds, is_one}
-use Rattle.vx_logs.specs.Writes.{IsPut, NonePut, PutAt, Puts, Took, first_region, last_region}
+use Rattle.vx_logs.specs.Writes.{IsPlexPut, NonePut, PutAt, PutsPlexes, Took, first_region, last_region}
 use Rattle.vx_logs.specs.declared.logs.Logs.{Logs}
 use Rattle.vx_logs.specs.declared.writing.Stored.{Stored}
 use Rattle.vx_logs.proofs.LogLemmas.{map_off_plex}
@@ -49,7 +49,7 @@ blamed_around c v p m0 m m' m2 before after blamed = record {
   rose = Rose_before (m0.faults blamed.disk) (m.faults blamed.disk) (m2.faults blamed.disk) (before blamed.disk) (Rose_after (m.faults blamed.disk) (m'.faults blamed.disk) (m2.faults blamed.disk) blamed.rose (after blamed.disk));
 }
 
-pub last_around : (f : Failed) (m0 m m' m2 : Meaning) → ((u : ℕ) → m0.disk_faults u ≤ m.disk_faults u) → ((u : ℕ) → m'.disk_faults u ≤ m2.disk_faults u) → LastFailed f m m' → LastFailed f m0 m2
+pub last_around : (f : Failed) (m0 m m' m2 : Meaning) → ((u : ℕ) → m0.disk_faults u ≤ m.disk_faults u) → ((u : ℕ) → m'.disk_faults u ≤ m2.disk_faults u) → LastPlexFailed f m m' → LastPlexFailed f m0 m2
 last_around f m0 m m' m2 before after last = record {
   rose = λ some. Rose_before (m0.disk_faults f.disk) (m.disk_faults f.disk) (m2.disk_faults f.disk) (before f.disk) (Rose_after (m.disk_faults f.disk) (m'.disk_faults f.disk) (m2.disk_faults f.disk) (last.rose some) (after f.disk));
 }
@@ -116,8 +116,8 @@ module _ (c : Config) (sound : is_sound c ≡ true) (v : ℕ) (some : 0 < blocks
             up = up;
           }
 
-          pub is_put : (lost : Bool) (l' : Logs) → LastFailed failed m m1 → l'.drl ≡ l.drl → FmrEnds (is_one failed.set) true (first_region block) (last_region block n) lost l.fmr l'.fmr m1 m2
-              → IsPut c v block n bytes (record { failed = failed; lost = lost }) l l' m m2
+          pub is_put : (lost : Bool) (l' : Logs) → LastPlexFailed failed m m1 → l'.drl ≡ l.drl → FmrEnds (is_one failed.set) true (first_region block) (last_region block n) lost l.fmr l'.fmr m1 m2
+              → IsPlexPut c v block n bytes (record { failed = failed; lost = lost }) l l' m m2
           is_put lost l' last drl fmr = record {
             plexes = all_still;
             disk = last_around failed m m m1 m2 (λ u. omega arith) two.disk_faults last;
@@ -142,12 +142,12 @@ module _ (c : Config) (sound : is_sound c ≡ true) (v : ℕ) (some : 0 < blocks
               stands_fmr on (Some f) (Some h) is is' ends g at = let same : h ≡ g = cc in subst (λ (y : Missed). MapOn y.map m2) same (ends.1.stands (on.fmr f is))
 
 -- each plex failed
-pub none_put : (c : Config) (v block n : ℕ) (bytes : List ℕ) (l : Logs) (m m1 : Meaning) (no : No) → Goes (OnPlexes c v block n bytes) m m1 → EndsAt c v (Took c v block n bytes m m1) m m1 (Err no) → Puts c v block n bytes l l m m1 (Err no)
+pub none_put : (c : Config) (v block n : ℕ) (bytes : List ℕ) (l : Logs) (m m1 : Meaning) (no : No) → Goes (OnPlexes c v block n bytes) m m1 → EndsAt c v (Took c v block n bytes m m1) m m1 (Err no) → PutsPlexes c v block n bytes l l m m1 (Err no)
 none_put c v block n bytes l m m1 (refusal.Device disk) goes failed = record { plexes = failed; drl = refl; fmr = refl; writes = goes }
 none_put c v block n bytes l m m1 refusal.Down goes down = down
 none_put c v block n bytes l m m1 other goes none = absurd none
 
-pub put_refused : (c : Config) (v block n : ℕ) (bytes : List ℕ) (those : ℕ → Bool) (anew : Bool) (first last : ℕ) (o q : Option Missed) (l l' : Logs) (m m1 m' : Meaning) (no : No) → FmrAnswers those anew first last o q m1 m' (Err no) → Puts c v block n bytes l l' m m' (Err no)
+pub put_refused : (c : Config) (v block n : ℕ) (bytes : List ℕ) (those : ℕ → Bool) (anew : Bool) (first last : ℕ) (o q : Option Missed) (l l' : Logs) (m m1 m' : Meaning) (no : No) → FmrAnswers those anew first last o q m1 m' (Err no) → PutsPlexes c v block n bytes l l' m m' (Err no)
 put_refused c v block n bytes those anew first last o q l l' m m1 m' refusal.Down down = down
 put_refused c v block n bytes those anew first last o q l l' m m1 m' other none = absurd none
 

@@ -8,8 +8,8 @@ use Rattle.vx_model.specs.declared.no.No.{No}
 use Rattle.vx_model.specs.declared.no.No.TheVariants as refusal
 use Rattle.vx_bitmap.proofs.Blocks.{by_block}
 use Rattle.vx_bitmap.specs.Bits.{AllAre, is_among, is_marked}
-use Rattle.vx_bitmap.specs.Maps.{Map, MapOn, blocks_of, marks_with, regions_of}
-use Rattle.vx_config.specs.Checks.{blocks_of as blocks_in, is_sound, is_stale}
+use Rattle.vx_bitmap.specs.Maps.{Map, MapOn, map_block_count, marks_with, regions_mapped}
+use Rattle.vx_config.specs.Checks.{blocks_of as blocks_in, is_sound, is_stale, plexes_of}
 use Rattle.vx_config.specs.declared.entry.PlexEntry.{PlexEntry}
 use Rattle.vx_model.specs.declared.site.PlexState.{PlexState}
 use Rattle.vx_model.specs.declared.site.PlexState.TheVariants.{Active, Clean, Stale}
@@ -24,19 +24,19 @@ use Rattle.vx_disk.proofs.Causing.{Rose_after, Rose_before}
 use Rattle.vx_disk.proofs.Moving.{both_Along, goes_Along}
 use Rattle.vx_disk.proofs.Runs.{both_Goes, weaker}
 use Rattle.vx_drl.specs.Dirty.{Dirty, is_dirty}
-use Rattle.vx_fmr.specs.Missed.{FmrLoaded, Missed, has_missed, place_of}
+use Rattle.vx_fmr.specs.Missed.{FmrLoaded, Missed, has_missed, missed_place}
 use Rattle.vx_drl.proofs.Keeping.{kept_of as drl_kept}
 use Rattle.vx_fmr.proofs.Keeping.{kept_of as fmr_kept}
 use Rattle.vx_fmr.proofs.Places.{before}
 use Rattle.vx_layout.specs.Places.{place, plex_at}
-use Rattle.vx_maplog.specs.Logs.{log_of, plexes_of}
+use Rattle.vx_maplog.specs.Logs.{log_of}
 use Rattle.vx_volume.specs.Plexes.{DisksFit, Inside, active, active_or, is_active}
-use Rattle.vx_volume.specs.Volumes.{AllBut, AllFailed, LastFailed, OnPlexes, PlexWrote}
+use Rattle.vx_volume.specs.Volumes.{AllBut, AllPlexesFailed, LastPlexFailed, OnPlexes, PlexWrote}
 use Rattle.vx_logs.specs.Dirtying.{DrlAt, DrlEnds, DrlKeeps, DrlMarked}
 use Rattle.vx_logs.specs.Held.{DrlRun, FmrRun, InUse, LogsFit, LogsRun, LogsStand, LogsWhole, logged_in, stale, stale_or}
 use Rattle.vx_logs.specs.Marks.{AreMarked, MarksFirst, stride_of}
-use Rattle.vx_logs.specs.Noting.{FmrAt, FmrEnds, FmrKeeps, FmrNoted, MayBe, Noted, NotedAt, SameFmr, is_one, noted}
-use Rattle.vx_logs.specs.Writes.{FmrAfter, FmrWrote, IsPut, MapsAt, Marked, MarkedAt, Marks, NonePut, NoneTook, PutAt, Puts, Took, WasLost, WasPut, Writes, WritesAt, WroteAt, first_region, last_region, missed_after, none_lost}
+use Rattle.vx_logs.specs.Noting.{FmrAt, FmrEnds, FmrKeeps, FmrNoted, MayBeNoted, Noted, NotedAt, SameFmr, is_one, noted_region}
+use Rattle.vx_logs.specs.Writes.{FmrAfter, FmrWrote, IsPlexPut, MapsAt, MarkedLogs, MarkedAt, MarksLogs, NonePut, NoneTook, PutAt, PutsPlexes, Took, WasLost, WasPut, WritesMarked, WritesPlexes, WroteMaps, first_region, last_region, missed_after, none_lost}
 use Rattle.vx_logs.specs.declared.logs.Logs.{Logs}
 use Rattle.vx_logs.specs.declared.logs.Lost.{Lost}
 use Rattle.vx_logs.specs.declared.writing.Stored.{Stored}
@@ -52,7 +52,7 @@ abbrev in_block : Map → Image → ℕ → Bool
 in_block map i r = is_marked (i map.unit (map.first + r / 4096)) (r % 4096)
 
 -- where the block is one that a crash might leave while the map stands, or one with the region marked
-map_marked : (map : Map) (m : Meaning) (i : Image) (r : ℕ) → MapOn map m → r / 4096 < blocks_of map → is_marked map.bytes r ≡ true
+map_marked : (map : Map) (m : Meaning) (i : Image) (r : ℕ) → MapOn map m → r / 4096 < map_block_count map → is_marked map.bytes r ≡ true
     → m.leaves map.unit (map.first + r / 4096) (i map.unit (map.first + r / 4096)) ⊎ (in_block map i r ≡ true) → in_block map i r ≡ true
 map_marked map m i r on low is (inl left) = ap (λ (x : List ℕ). is_marked x (r % 4096)) ((on.each (r / 4096) low).only (i map.unit (map.first + r / 4096)) left) ∙ sym (by_block map.bytes r) ∙ is
 map_marked map m i r on low is (inr now) = now
@@ -113,8 +113,8 @@ maps_first : (c : Config) (v first last : ℕ) (o : Option Missed) (m : Meaning)
 maps_first c v first last None m u b x at = at
 maps_first c v first last (Some f) m u b x at = record { run = at.run; so = λ on p r lt low. inl (at.so on p r lt low) }
 
-pub mark_writes : (c : Config) (v block n : ℕ) (bytes : List ℕ) (l : Logs) (m m1 : Meaning) → Goes (MarkedAt c v (first_region block) (last_region block n) l m) m m1 → Goes (WritesAt c v block n bytes l m) m m1
-mark_writes c v block n bytes l m m1 goes = weaker (MarkedAt c v (first_region block) (last_region block n) l m) (WritesAt c v block n bytes l m) m m1 goes
+pub mark_writes : (c : Config) (v block n : ℕ) (bytes : List ℕ) (l : Logs) (m m1 : Meaning) → Goes (MarkedAt c v (first_region block) (last_region block n) l m) m m1 → Goes (WritesPlexes c v block n bytes l m) m m1
+mark_writes c v block n bytes l m m1 goes = weaker (MarkedAt c v (first_region block) (last_region block n) l m) (WritesPlexes c v block n bytes l m) m m1 goes
     (λ u b x. ⊎_elim (λ at. record { here = inr (inl at) }) (λ at. record { here = inr (inr (maps_first c v (first_region block) (last_region block n) l.fmr m u b x at)) }))
 
 -- what a note of the plexes that failed leaves, behind the marks
@@ -124,16 +124,16 @@ maps_then c v first last lost None (Some g) m m1 u b x ends at = absurd ends
 maps_then c v first last lost (Some f) None m m1 u b x ends at = absurd at
 maps_then c v first last lost (Some f) (Some g) m m1 u b x ends at = record {
   run = same_run f g ends.1.same.place u b at.run;
-  so = λ on p r lt low. by p r lt low (at.so (ends.1.stands on) p r (omega (arith, lt, ends.1.same.shape.plexes)) (omega (arith, low, ends.1.same.shape.stride))) (f.map.first + place_of f p r / 4096 == b) refl;
+  so = λ on p r lt low. by p r lt low (at.so (ends.1.stands on) p r (omega (arith, lt, ends.1.same.shape.plexes)) (omega (arith, low, ends.1.same.shape.stride))) (f.map.first + missed_place f p r / 4096 == b) refl;
 }
   where
-    by : (p r : ℕ) → p < f.plexes → r < f.stride → MayBe (active c v) true first last p r (has_missed g p r) (marks_with g.map b x (place_of g p r)) → (t : Bool) → (f.map.first + place_of f p r / 4096 == b) ≡ t
-        → MayBe (stale c v) false first last p r (has_missed f p r) (marks_with f.map b x (place_of f p r)) ⊎ MayBe (active c v) true first last p r (has_missed f p r) (marks_with f.map b x (place_of f p r))
+    by : (p r : ℕ) → p < f.plexes → r < f.stride → MayBeNoted (active c v) true first last p r (has_missed g p r) (marks_with g.map b x (missed_place g p r)) → (t : Bool) → (f.map.first + missed_place f p r / 4096 == b) ≡ t
+        → MayBeNoted (stale c v) false first last p r (has_missed f p r) (marks_with f.map b x (missed_place f p r)) ⊎ MayBeNoted (active c v) true first last p r (has_missed f p r) (marks_with f.map b x (missed_place f p r))
     by p r lt low now false test = inl (inl (with_there f b x p r false test))
     by p r lt low now true test =
-        let here : marks_with g.map b x (place_of g p r) ≡ marks_with f.map b x (place_of f p r) = with_moved f g b x ends.1.same p r true test ∙ sym (with_there f b x p r true test) in
+        let here : marks_with g.map b x (missed_place g p r) ≡ marks_with f.map b x (missed_place f p r) = with_moved f g b x ends.1.same p r true test ∙ sym (with_there f b x p r true test) in
         elim now [
-          | inl same ↦ inl (subst (λ (w : Bool). MayBe (stale c v) false first last p r (has_missed f p r) w) (sym same ∙ here) (noted_maybe (stale c v) false first last p r (has_missed f p r) (has_missed g p r) (ends.1.notes.each p r lt low)))
+          | inl same ↦ inl (subst (λ (w : Bool). MayBeNoted (stale c v) false first last p r (has_missed f p r) w) (sym same ∙ here) (noted_maybe (stale c v) false first last p r (has_missed f p r) (has_missed g p r) (ends.1.notes.each p r lt low)))
           | inr changed ↦ inr (inr (changed.0, ⊎_elim (λ set. inl (set.0, sym here ∙ set.1)) (λ off. inr (off.0, sym here ∙ off.1)) changed.1))
         ]
 
@@ -187,14 +187,14 @@ fmr_after c v failed first last none lost (Some f) (Some h) (Some g) m m1 m2 kep
     step p r lt low =
         two.1.notes.each p r (omega (arith, lt, one.1.same.shape.plexes)) (omega (arith, low, one.1.same.shape.stride)) ∙ by (is_one failed p) (one.1.notes.each p r lt low)
       where
-        by : (t : Bool) → has_missed h p r ≡ (if stale c v p then noted false first last r (has_missed f p r) else has_missed f p r)
-            → (if t then noted true first last r (has_missed h p r) else has_missed h p r) ≡ missed_after (stale c v p) t first last r (has_missed f p r)
+        by : (t : Bool) → has_missed h p r ≡ (if stale c v p then noted_region false first last r (has_missed f p r) else has_missed f p r)
+            → (if t then noted_region true first last r (has_missed h p r) else has_missed h p r) ≡ missed_after (stale c v p) t first last r (has_missed f p r)
         by true is = refl
         by false is = is
 
 module _ (c : Config) (sound : is_sound c ≡ true) (v block n : ℕ) (bytes : List ℕ) (positive : 0 < n) (volume : v < length c.volumes) (within : block + n ≤ blocks_in c.volumes v)
     (l l1 : Logs) (fits1 : LogsFit c v l1) (lost : Lost) (kept_drl : lost.drl ≡ false) (kept_fmr : lost.fmr ≡ false) (m m1 : Meaning) (fit1 : DisksFit c.disks m1)
-    (marked : Marked c v (first_region block) (last_region block n) lost l l1 m m1) where
+    (marked : MarkedLogs c v (first_region block) (last_region block n) lost l l1 m m1) where
   abbrev first : ℕ
   first = first_region block
 
@@ -217,13 +217,13 @@ module _ (c : Config) (sound : is_sound c ≡ true) (v block n : ℕ) (bytes : L
         let disk : e.disk ≡ now.new.map.unit = ap (λ (x : LogEntry). x.disk) entry ∙ sym fits.log.run.there in
         let start : e.start ≡ now.new.map.first = ap (λ (x : LogEntry). x.start) entry ∙ sym fits.log.run.begins in
         let kept = drl_kept c v now.new.map (blocks_in c.volumes v) now.new.regions fits.log refl some fits.regions in
-        let few : r < regions_of now.new.map = omega (arith, high, inside, kept.fit, fits.regions) in
-        let few_old : r < regions_of d.0.map = omega (arith, few, now.marked.same.place.long) in
+        let few : r < regions_mapped now.new.map = omega (arith, high, inside, kept.fit, fits.regions) in
+        let few_old : r < regions_mapped d.0.map = omega (arith, few, now.marked.same.place.long) in
         let is : is_marked now.new.map.bytes r ≡ true = now.marked.marks.each r few_old ∙ ap (λ (t : Bool). if t then true else is_dirty d.0 r) (among_is (first_region block) (last_region block n) r low high) in
         sym (same_log e now.new.map i r disk start)
         ∙ map_marked now.new.map m1 i r (now.marked.stands (stand.drl d.0 d.1)) (omega (arith, few, fits.log.run.long)) is (value now.new now.is r (omega (arith, few, fits.log.run.long)))
       where
-        value : (g : Dirty) → l1.drl ≡ Some g → (r : ℕ) → r / 4096 < blocks_of g.map → m1.leaves g.map.unit (g.map.first + r / 4096) (i g.map.unit (g.map.first + r / 4096)) ⊎ (in_block g.map i r ≡ true)
+        value : (g : Dirty) → l1.drl ≡ Some g → (r : ℕ) → r / 4096 < map_block_count g.map → m1.leaves g.map.unit (g.map.first + r / 4096) (i g.map.unit (g.map.first + r / 4096)) ⊎ (in_block g.map i r ≡ true)
         value g is r low =
             let run : DrlRun l1.drl g.map.unit (g.map.first + r / 4096) = subst (λ (o : Option Dirty). DrlRun o g.map.unit (g.map.first + r / 4096)) (sym is) (record { there = refl; first = omega arith; last = omega (arith, low) }) in
             elim (each g.map.unit (g.map.first + r / 4096)) [
@@ -243,40 +243,40 @@ module _ (c : Config) (sound : is_sound c ≡ true) (v block n : ℕ) (bytes : L
         let kept = fmr_kept c v now.new.map (blocks_in c.volumes v) now.new.plexes now.new.stride now.new.regions fits.log refl some fits.plexes fits.stride fits.regions in
         let lt : p < now.new.plexes = omega (arith, stale_below c v p stale_is, fits.plexes) in
         let narrow : r < now.new.stride = omega (arith, high, inside, kept.fit, fits.regions) in
-        let few : place_of now.new p r < regions_of now.new.map = omega (arith, narrow, before p now.new.plexes now.new.stride lt, kept.all) in
-        let block_low : place_of now.new p r / 4096 < blocks_of now.new.map = omega (arith, few, fits.log.run.long) in
+        let few : missed_place now.new p r < regions_mapped now.new.map = omega (arith, narrow, before p now.new.plexes now.new.stride lt, kept.all) in
+        let block_low : missed_place now.new p r / 4096 < map_block_count now.new.map = omega (arith, few, fits.log.run.long) in
         let is : has_missed now.new p r ≡ true =
         now.noted.notes.each p r (omega (arith, lt, now.noted.same.shape.plexes)) (omega (arith, narrow, now.noted.same.shape.stride))
-        ∙ ap (λ (t : Bool). if t then noted false (first_region block) (last_region block n) r (has_missed f.0 p r) else has_missed f.0 p r) stale_is
+        ∙ ap (λ (t : Bool). if t then noted_region false (first_region block) (last_region block n) r (has_missed f.0 p r) else has_missed f.0 p r) stale_is
         ∙ ap (λ (t : Bool). t || (true && has_missed f.0 p r)) (among_is (first_region block) (last_region block n) r low high) in
         let stands = now.noted.stands (stand.fmr f.0 f.1) in
-        ap (λ (s : ℕ). logged_in e i (p * s + r)) (sym fits.stride) ∙ sym (same_log e now.new.map i (place_of now.new p r) disk start)
-        ∙ map_marked now.new.map m1 i (place_of now.new p r) stands block_low is (value now.new now.is p r stale_is stands lt narrow block_low is)
+        ap (λ (s : ℕ). logged_in e i (p * s + r)) (sym fits.stride) ∙ sym (same_log e now.new.map i (missed_place now.new p r) disk start)
+        ∙ map_marked now.new.map m1 i (missed_place now.new p r) stands block_low is (value now.new now.is p r stale_is stands lt narrow block_low is)
       where
-        value : (g : Missed) → l1.fmr ≡ Some g → (p r : ℕ) → IsTrue (stale c v p) → MapOn g.map m1 → p < g.plexes → r < g.stride → place_of g p r / 4096 < blocks_of g.map → has_missed g p r ≡ true
-            → m1.leaves g.map.unit (g.map.first + place_of g p r / 4096) (i g.map.unit (g.map.first + place_of g p r / 4096)) ⊎ (in_block g.map i (place_of g p r) ≡ true)
-        value g is p r stale_is on lt narrow low was = by l1.fmr is (each g.map.unit (g.map.first + place_of g p r / 4096))
+        value : (g : Missed) → l1.fmr ≡ Some g → (p r : ℕ) → IsTrue (stale c v p) → MapOn g.map m1 → p < g.plexes → r < g.stride → missed_place g p r / 4096 < map_block_count g.map → has_missed g p r ≡ true
+            → m1.leaves g.map.unit (g.map.first + missed_place g p r / 4096) (i g.map.unit (g.map.first + missed_place g p r / 4096)) ⊎ (in_block g.map i (missed_place g p r) ≡ true)
+        value g is p r stale_is on lt narrow low was = by l1.fmr is (each g.map.unit (g.map.first + missed_place g p r / 4096))
           where
             x : List ℕ
-            x = i g.map.unit (g.map.first + place_of g p r / 4096)
+            x = i g.map.unit (g.map.first + missed_place g p r / 4096)
 
-            run : FmrRun l1.fmr g.map.unit (g.map.first + place_of g p r / 4096)
-            run = subst (λ (o : Option Missed). FmrRun o g.map.unit (g.map.first + place_of g p r / 4096)) (sym is) (record { there = refl; first = omega arith; last = omega (arith, low) })
+            run : FmrRun l1.fmr g.map.unit (g.map.first + missed_place g p r / 4096)
+            run = subst (λ (o : Option Missed). FmrRun o g.map.unit (g.map.first + missed_place g p r / 4096)) (sym is) (record { there = refl; first = omega arith; last = omega (arith, low) })
 
-            own : marks_with g.map (g.map.first + place_of g p r / 4096) (i g.map.unit (g.map.first + place_of g p r / 4096)) (place_of g p r) ≡ in_block g.map i (place_of g p r)
-            own = ap (λ (t : Bool). if t then in_block g.map i (place_of g p r) else has_missed g p r) (eq-eqb (g.map.first + place_of g p r / 4096) (g.map.first + place_of g p r / 4096) refl)
+            own : marks_with g.map (g.map.first + missed_place g p r / 4096) (i g.map.unit (g.map.first + missed_place g p r / 4096)) (missed_place g p r) ≡ in_block g.map i (missed_place g p r)
+            own = ap (λ (t : Bool). if t then in_block g.map i (missed_place g p r) else has_missed g p r) (eq-eqb (g.map.first + missed_place g p r / 4096) (g.map.first + missed_place g p r / 4096) refl)
 
-            noted_here : NotedAt (active c v) true (first_region block) (last_region block n) g m1 g.map.unit (g.map.first + place_of g p r / 4096) (i g.map.unit (g.map.first + place_of g p r / 4096)) → in_block g.map i (place_of g p r) ≡ true
+            noted_here : NotedAt (active c v) true (first_region block) (last_region block n) g m1 g.map.unit (g.map.first + missed_place g p r / 4096) (i g.map.unit (g.map.first + missed_place g p r / 4096)) → in_block g.map i (missed_place g p r) ≡ true
             noted_here at = elim (at.so on p r lt narrow) [
               | inl same ↦ sym own ∙ same ∙ was
               | inr changed ↦ absurd (stale_off c v p stale_is changed.0)
             ]
 
-            by : (o : Option Missed) → o ≡ Some g → Or m1.leaves (Or (OnPlexes c v block n bytes) (FmrAt (active c v) true (first_region block) (last_region block n) o m1)) g.map.unit (g.map.first + place_of g p r / 4096) (i g.map.unit (g.map.first + place_of g p r / 4096))
-                → m1.leaves g.map.unit (g.map.first + place_of g p r / 4096) (i g.map.unit (g.map.first + place_of g p r / 4096)) ⊎ (in_block g.map i (place_of g p r) ≡ true)
+            by : (o : Option Missed) → o ≡ Some g → Or m1.leaves (Or (OnPlexes c v block n bytes) (FmrAt (active c v) true (first_region block) (last_region block n) o m1)) g.map.unit (g.map.first + missed_place g p r / 4096) (i g.map.unit (g.map.first + missed_place g p r / 4096))
+                → m1.leaves g.map.unit (g.map.first + missed_place g p r / 4096) (i g.map.unit (g.map.first + missed_place g p r / 4096)) ⊎ (in_block g.map i (missed_place g p r) ≡ true)
             by o o_is (inl left) = inl left
-            by o o_is (inr (inl on_plex)) = absurd (write_off c sound v some l1 fits1 m1 fit1 block n bytes volume within g.map.unit (g.map.first + place_of g p r / 4096) (i g.map.unit (g.map.first + place_of g p r / 4096)) (inr run) on_plex)
-            by o o_is (inr (inr at)) = inr (noted_here (subst (λ (q : Option Missed). FmrAt (active c v) true (first_region block) (last_region block n) q m1 g.map.unit (g.map.first + place_of g p r / 4096) (i g.map.unit (g.map.first + place_of g p r / 4096))) o_is at))
+            by o o_is (inr (inl on_plex)) = absurd (write_off c sound v some l1 fits1 m1 fit1 block n bytes volume within g.map.unit (g.map.first + missed_place g p r / 4096) (i g.map.unit (g.map.first + missed_place g p r / 4096)) (inr run) on_plex)
+            by o o_is (inr (inr at)) = inr (noted_here (subst (λ (q : Option Missed). FmrAt (active c v) true (first_region block) (last_region block n) q m1 g.map.unit (g.map.first + missed_place g p r / 4096) (i g.map.unit (g.map.first + missed_place g p r / 4096))) o_is at))
 
     pub are_marked : AreMarked c v (first_region block) (last_region block n) i
     are_marked = record { dirty = dirty; missed = missed }
@@ -289,10 +289,10 @@ module _ (c : Config) (sound : is_sound c ≡ true) (v block n : ℕ) (bytes : L
         both_Along m m1 m2 (MarksFirst c v (first_region block) (last_region block n) l m) marks.later (mark_Along c v (first_region block) (last_region block n) l m m1 marks)
         (goes_Along (PutAt c v block n bytes l1 m1) m1 m2 (MarksFirst c v (first_region block) (last_region block n) l m) puts (λ i each. record { so = λ whole stand. inr (are_marked whole stand i each) }))
 
-    pub whole_writes : Goes (MarkedAt c v (first_region block) (last_region block n) l m) m m1 → Goes (WritesAt c v block n bytes l m) m m2
+    pub whole_writes : Goes (MarkedAt c v (first_region block) (last_region block n) l m) m m1 → Goes (WritesPlexes c v block n bytes l m) m m2
     whole_writes marks =
-        weaker (Or (WritesAt c v block n bytes l m) (PutAt c v block n bytes l1 m1)) (WritesAt c v block n bytes l m) m m2
-        (both_Goes (WritesAt c v block n bytes l m) (PutAt c v block n bytes l1 m1) m m1 m2 (mark_writes c v block n bytes l m m1 marks) puts)
+        weaker (Or (WritesPlexes c v block n bytes l m) (PutAt c v block n bytes l1 m1)) (WritesPlexes c v block n bytes l m) m m2
+        (both_Goes (WritesPlexes c v block n bytes l m) (PutAt c v block n bytes l1 m1) m m1 m2 (mark_writes c v block n bytes l m m1 marks) puts)
         (λ u b x. ⊎_elim (λ at. at) (⊎_elim (λ on. record { here = inl on }) (λ at. record { here = inr (inr (maps_then c v (first_region block) (last_region block n) lost.fmr l.fmr l1.fmr m m1 u b x marked.fmr at)) })))
 
     -- the dirty region log is in none of the blocks
@@ -316,7 +316,7 @@ module _ (c : Config) (sound : is_sound c ≡ true) (v block n : ℕ) (bytes : L
       ];
     }
 
-    pub was_put : Goes (MarkedAt c v (first_region block) (last_region block n) l m) m m1 → LogsFit c v l → DisksFit c.disks m → (IsTrue m1.down → ⊥) → DrlKeeps l.drl l1.drl → (stored : Stored) (l2 : Logs) → IsPut c v block n bytes stored l1 l2 m1 m2
+    pub was_put : Goes (MarkedAt c v (first_region block) (last_region block n) l m) m m1 → LogsFit c v l → DisksFit c.disks m → (IsTrue m1.down → ⊥) → DrlKeeps l.drl l1.drl → (stored : Stored) (l2 : Logs) → IsPlexPut c v block n bytes stored l1 l2 m1 m2
         → WasPut c v block n bytes stored l l2 m m2
     was_put marks fits fit up keeps stored l2 put = record {
       plexes = record {
@@ -357,12 +357,12 @@ module _ (c : Config) (sound : is_sound c ≡ true) (v block n : ℕ) (bytes : L
       };
     }
 
-    pub puts_refused : Goes (MarkedAt c v (first_region block) (last_region block n) l m) m m1 → DrlKeeps l.drl l1.drl → (l2 : Logs) (no : No) → Puts c v block n bytes l1 l2 m1 m2 (Err no) → Writes c v block n bytes l l2 m m2 (Err no)
+    pub puts_refused : Goes (MarkedAt c v (first_region block) (last_region block n) l m) m m1 → DrlKeeps l.drl l1.drl → (l2 : Logs) (no : No) → PutsPlexes c v block n bytes l1 l2 m1 m2 (Err no) → WritesMarked c v block n bytes l l2 m m2 (Err no)
     puts_refused marks keeps l2 (refusal.Device disk) put = none_took marks keeps disk l2 put
     puts_refused marks keeps l2 refusal.Down down = down
     puts_refused marks keeps l2 other none = absurd none
 
-pub marks_refused : (c : Config) (v block n : ℕ) (bytes : List ℕ) (first last : ℕ) (l l' : Logs) (m m' : Meaning) (no : No) → Marks c v first last l l' m m' (Err no) → Writes c v block n bytes l l' m m' (Err no)
+pub marks_refused : (c : Config) (v block n : ℕ) (bytes : List ℕ) (first last : ℕ) (l l' : Logs) (m m' : Meaning) (no : No) → MarksLogs c v first last l l' m m' (Err no) → WritesMarked c v block n bytes l l' m m' (Err no)
 marks_refused c v block n bytes first last l l' m m' (refusal.Device disk) none = absurd none
 marks_refused c v block n bytes first last l l' m m' refusal.Down down = down
 marks_refused c v block n bytes first last l l' m m' other none = absurd none

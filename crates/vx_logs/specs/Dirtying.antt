@@ -1,10 +1,10 @@
 -- What a mark of regions in the dirty region log of a volume does, where it has one.
 use Rattle.std.specs.Prelude.{◌≡◌, ℕ, ◌<◌, Bool, true, false, IsTrue, Option, Some, None, Result, Ok, Err}
 use Rattle.vx_bitmap.specs.Bits.{AllAre, Between, Changed}
-use Rattle.vx_bitmap.specs.Maps.{ChangedAt, Lies, MapOn, SamePlace, regions_of}
+use Rattle.vx_bitmap.specs.Maps.{ChangedAt, Lies, MapOn, SamePlace, regions_mapped}
 use Rattle.vx_disk.specs.Counts.{Rose}
 use Rattle.vx_disk.specs.Shelf.{Meaning, Nothing, Values}
-use Rattle.vx_drl.specs.Dirty.{Dirty, Holds, is_dirty}
+use Rattle.vx_drl.specs.Dirty.{Dirty, HoldsMarks, is_dirty}
 use Rattle.vx_model.specs.declared.no.No.{No}
 use Rattle.vx_model.specs.declared.no.No.TheVariants as refusal
 
@@ -33,9 +33,9 @@ DrlKeeps (Some d) (Some e) = SameDrl d e
 -- the regions are durably marked, and no other changed
 pub record DrlMarked (first last : ℕ) (old new : Dirty) (m m' : Meaning) : Type 0 where
   pub same : SameDrl old new
-  pub marks : Changed first last true (regions_of old.map) (is_dirty old) (is_dirty new)
+  pub marks : Changed first last true (regions_mapped old.map) (is_dirty old) (is_dirty new)
   pub stands : MapOn old.map m → MapOn new.map m'
-  pub held : Holds first last old new
+  pub held : HoldsMarks first last old new
 
 -- the regions are marked, or the log is lost, whose disk's count rose
 abbrev pub DrlEnds : ℕ → ℕ → Bool → Option Dirty → Option Dirty → Meaning → Meaning → Type 0
@@ -59,4 +59,4 @@ DrlHolds first last (Some d) = AllAre first last true (is_dirty d)
 abbrev pub DrlWithin : ℕ → ℕ → Option Dirty → Option Dirty → Type 0
 DrlWithin first last None new = Unit {0}
 DrlWithin first last (Some d) None = Unit {0}
-DrlWithin first last (Some d) (Some e) = Between first last true (regions_of d.map) (is_dirty d) (is_dirty e)
+DrlWithin first last (Some d) (Some e) = Between first last true (regions_mapped d.map) (is_dirty d) (is_dirty e)

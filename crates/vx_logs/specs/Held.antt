@@ -2,7 +2,7 @@
 use Rattle.std.specs.Prelude.{◌≡◌, ◌⊎◌, ℕ, ◌+◌, ◌/◌, ◌%◌, Bool, true, false, not, Option, Some, None}
 use Rattle.vx_model.specs.Sizes.{regions_of as regions_in}
 use Rattle.vx_bitmap.specs.Bits.{is_marked}
-use Rattle.vx_bitmap.specs.Maps.{IsRead, MapOn, blocks_of}
+use Rattle.vx_bitmap.specs.Maps.{IsRead, MapOn, map_block_count}
 use Rattle.vx_config.specs.Checks.{blocks_of as blocks_in, is_stale}
 use Rattle.vx_config.specs.declared.config.Config.{Config}
 use Rattle.vx_config.specs.declared.entry.LogEntry.{LogEntry}
@@ -57,12 +57,12 @@ pub record LogsStand (l : Logs) (m : Meaning) : Type 0 where
 -- the blocks of a dirty region log, where there is one
 abbrev pub DrlRun : Option Dirty → Blocks
 DrlRun None = Nowhere
-DrlRun (Some d) = Run d.map.unit d.map.first (blocks_of d.map)
+DrlRun (Some d) = Run d.map.unit d.map.first (map_block_count d.map)
 
 -- the blocks of a log of missed regions, where there is one
 abbrev pub FmrRun : Option Missed → Blocks
 FmrRun None = Nowhere
-FmrRun (Some f) = Run f.map.unit f.map.first (blocks_of f.map)
+FmrRun (Some f) = Run f.map.unit f.map.first (map_block_count f.map)
 
 -- the blocks of the logs
 pub record LogsRun (l : Logs) (u b : ℕ) : Type 0 where
@@ -80,10 +80,10 @@ is_used c v log = used_or (log_of c v log)
 abbrev pub DrlFound : Config → ℕ → Option Dirty → Meaning → Meaning → Type 0
 DrlFound c v None m m' = is_used c v DrlLog ≡ false
 DrlFound c v (Some d) m m' =
-    (is_used c v DrlLog ≡ true) × DrlFits c v d × IsRead d.map m × (Settled m (Run d.map.unit d.map.first (blocks_of d.map)) → MapOn d.map m')
+    (is_used c v DrlLog ≡ true) × DrlFits c v d × IsRead d.map m × (Settled m (Run d.map.unit d.map.first (map_block_count d.map)) → MapOn d.map m')
 
 -- the same of a log of missed regions
 abbrev pub FmrFound : Config → ℕ → Option Missed → Meaning → Meaning → Type 0
 FmrFound c v None m m' = is_used c v FmrLog ≡ false
 FmrFound c v (Some f) m m' =
-    (is_used c v FmrLog ≡ true) × FmrLoaded c v f × IsRead f.map m × (Settled m (Run f.map.unit f.map.first (blocks_of f.map)) → MapOn f.map m')
+    (is_used c v FmrLog ≡ true) × FmrLoaded c v f × IsRead f.map m × (Settled m (Run f.map.unit f.map.first (map_block_count f.map)) → MapOn f.map m')

@@ -1,19 +1,19 @@
 -- What a note of regions in the maps of several plexes of a volume does, where it has a log of missed regions.
 use Rattle.std.specs.Prelude.{◌≡◌, ◌⊎◌, ℕ, ◌<◌, Bool, true, false, not, ◌&&◌, ◌||◌, ltb, ◌==◌, IsTrue, if◌then◌else◌, Option, Some, None, List, Result, Ok, Err}
 use Rattle.vx_bitmap.specs.Bits.{AllAre, is_among}
-use Rattle.vx_bitmap.specs.Maps.{Lies, MapOn, SamePlace, blocks_of, marks_with}
+use Rattle.vx_bitmap.specs.Maps.{Lies, MapOn, SamePlace, map_block_count, marks_with}
 use Rattle.vx_disk.specs.Blocks.{bit_at}
 use Rattle.vx_disk.specs.Counts.{Rose}
 use Rattle.vx_disk.specs.Moves.{Run}
 use Rattle.vx_disk.specs.Shelf.{Meaning, Nothing, Values}
-use Rattle.vx_fmr.specs.Missed.{IsKept, Missed, SameShape, has_missed, place_of}
+use Rattle.vx_fmr.specs.Missed.{IsMissedKept, Missed, SameMissedShape, has_missed, missed_place}
 use Rattle.vx_model.specs.declared.limits.TheConstants.{MOST_PLEXES}
 use Rattle.vx_model.specs.declared.no.No.{No}
 use Rattle.vx_model.specs.declared.no.No.TheVariants as refusal
 
 -- one plex alone, and those of a set below a place
-abbrev pub alone : ℕ → ℕ → Bool
-alone plex p = p == plex
+abbrev pub this_plex : ℕ → ℕ → Bool
+this_plex plex p = p == plex
 
 abbrev pub below : ℕ → ℕ → ℕ → Bool
 below n set p = ltb p n && bit_at set p
@@ -23,37 +23,37 @@ abbrev pub is_one : ℕ → ℕ → Bool
 is_one set p = below MOST_PLEXES set p
 
 -- it has the maps of its plexes, and its blocks are there
-pub record IsMap (last : ℕ) (f : Missed) (m : Meaning) : Type 0 where
+pub record IsMissedMap (last : ℕ) (f : Missed) (m : Meaning) : Type 0 where
   pub lies : Lies f.map m
-  pub kept : IsKept f.map f.plexes f.stride f.regions
+  pub kept : IsMissedKept f.map f.plexes f.stride f.regions
   pub inside : last < f.regions
 
 -- each plex of a set has a map
 pub record FmrHas (set last : ℕ) (f : Missed) (m : Meaning) : Type 0 where
-  pub map : IsMap last f m
+  pub map : IsMissedMap last f m
   pub exist : (p : ℕ) → is_one set p ≡ true → p < f.plexes
 
 -- whether a region is noted behind a note of a run: one of the run is, and another where it was, unless the map begins anew
-abbrev pub noted : Bool → ℕ → ℕ → ℕ → Bool → Bool
-noted anew first last r was = is_among first last r || (not anew && was)
+abbrev pub noted_region : Bool → ℕ → ℕ → ℕ → Bool → Bool
+noted_region anew first last r was = is_among first last r || (not anew && was)
 
 -- these plexes have noted the run, and the maps of the others are as they were
 pub record Noted (those : ℕ → Bool) (anew : Bool) (first last : ℕ) (old new : Missed) : Type 0 where
-  pub each : (p r : ℕ) → p < old.plexes → r < old.stride → has_missed new p r ≡ (if those p then noted anew first last r (has_missed old p r) else has_missed old p r)
+  pub each : (p r : ℕ) → p < old.plexes → r < old.stride → has_missed new p r ≡ (if those p then noted_region anew first last r (has_missed old p r) else has_missed old p r)
 
 -- in a note: a region of the run may be noted, and where the map begins anew any region may be not; else it is as it was
-abbrev pub MayBe : (those : ℕ → Bool) (anew : Bool) (first last p r : ℕ) (was now : Bool) → Type 0
-MayBe those anew first last p r was now = (now ≡ was) ⊎ ((those p ≡ true) × (((is_among first last r ≡ true) × (now ≡ true)) ⊎ ((anew ≡ true) × (now ≡ false))))
+abbrev pub MayBeNoted : (those : ℕ → Bool) (anew : Bool) (first last p r : ℕ) (was now : Bool) → Type 0
+MayBeNoted those anew first last p r was now = (now ≡ was) ⊎ ((those p ≡ true) × (((is_among first last r ≡ true) × (now ≡ true)) ⊎ ((anew ≡ true) × (now ≡ false))))
 
 -- a value of a block of the maps in a note
 pub record NotedAt (those : ℕ → Bool) (anew : Bool) (first last : ℕ) (f : Missed) (m : Meaning) (u b : ℕ) (x : List ℕ) : Type 0 where
-  pub run : Run f.map.unit f.map.first (blocks_of f.map) u b
-  pub so : MapOn f.map m → (p r : ℕ) → p < f.plexes → r < f.stride → MayBe those anew first last p r (has_missed f p r) (marks_with f.map b x (place_of f p r))
+  pub run : Run f.map.unit f.map.first (map_block_count f.map) u b
+  pub so : MapOn f.map m → (p r : ℕ) → p < f.plexes → r < f.stride → MayBeNoted those anew first last p r (has_missed f p r) (marks_with f.map b x (missed_place f p r))
 
 -- it stands where it stood, with as many plexes and regions
 pub record SameFmr (old new : Missed) : Type 0 where
   pub place : SamePlace old.map new.map
-  pub shape : SameShape old new
+  pub shape : SameMissedShape old new
 
 -- the run is durably noted, and nothing else changed
 pub record FmrNoted (those : ℕ → Bool) (anew : Bool) (first last : ℕ) (old new : Missed) (m m' : Meaning) : Type 0 where

@@ -4,18 +4,18 @@ use Rattle.vx_model.specs.declared.limits.TheConstants.{REGION}
 use Rattle.vx_model.specs.declared.no.No.{No}
 use Rattle.vx_model.specs.declared.no.No.TheVariants as refusal
 use Rattle.vx_bitmap.specs.Bits.{AllAre}
-use Rattle.vx_bitmap.specs.Maps.{MapOn, blocks_of, marks_with}
+use Rattle.vx_bitmap.specs.Maps.{MapOn, map_block_count, marks_with}
 use Rattle.vx_config.specs.declared.config.Config.{Config}
 use Rattle.vx_disk.specs.Blocks.{bit_at}
 use Rattle.vx_disk.specs.Counts.{Rose}
 use Rattle.vx_disk.specs.Moves.{Run}
 use Rattle.vx_disk.specs.Shelf.{Goes, Meaning, Nothing, Or, Values}
-use Rattle.vx_fmr.specs.Missed.{Missed, has_missed, place_of}
+use Rattle.vx_fmr.specs.Missed.{Missed, has_missed, missed_place}
 use Rattle.vx_volume.specs.Plexes.{active}
-use Rattle.vx_volume.specs.Volumes.{AllBut, AllFailed, LastFailed, OnPlexes, PlexWrote}
+use Rattle.vx_volume.specs.Volumes.{AllBut, AllPlexesFailed, LastPlexFailed, OnPlexes, PlexWrote}
 use Rattle.vx_logs.specs.Dirtying.{DrlAt, DrlEnds}
 use Rattle.vx_logs.specs.Held.{LogsStand, stale}
-use Rattle.vx_logs.specs.Noting.{FmrAt, FmrEnds, MayBe, SameFmr, is_one, noted}
+use Rattle.vx_logs.specs.Noting.{FmrAt, FmrEnds, MayBeNoted, SameFmr, is_one, noted_region}
 use Rattle.vx_logs.specs.declared.logs.Logs.{Logs}
 use Rattle.vx_logs.specs.declared.logs.Lost.{Lost}
 use Rattle.vx_logs.specs.declared.writing.Stored.{Stored}
@@ -34,7 +34,7 @@ abbrev pub MarkedAt : Config → ℕ → ℕ → ℕ → Logs → Meaning → Va
 MarkedAt c v first last l m = Or (DrlAt first last true l.drl m) (FmrAt (stale c v) false first last l.fmr m)
 
 -- each log has the marks, or is lost, where its disk's count rose; a log that stood stands; and the shelf is down only where it was
-pub record Marked (c : Config) (v first last : ℕ) (lost : Lost) (l l' : Logs) (m m' : Meaning) : Type 0 where
+pub record MarkedLogs (c : Config) (v first last : ℕ) (lost : Lost) (l l' : Logs) (m m' : Meaning) : Type 0 where
   pub drl : DrlEnds first last lost.drl l.drl l'.drl m m'
   pub fmr : FmrEnds (stale c v) false first last lost.fmr l.fmr l'.fmr m m'
   pub up : IsTrue m'.down → IsTrue m.down
@@ -45,55 +45,55 @@ StaleStill c v first last None = Unit {0}
 StaleStill c v first last (Some f) = (p : ℕ) → IsTrue (stale c v p) → AllAre first last true (has_missed f p)
 
 -- what a mark in the logs answers
-abbrev pub Marks : Config → ℕ → ℕ → ℕ → Logs → Logs → Meaning → Meaning → Result Lost No → Type 0
-Marks c v first last l l' m m' (Ok lost) = Marked c v first last lost l l' m m'
-Marks c v first last l l' m m' (Err refusal.Down) = IsTrue m'.down
-Marks c v first last l l' m m' (Err other) = ⊥
+abbrev pub MarksLogs : Config → ℕ → ℕ → ℕ → Logs → Logs → Meaning → Meaning → Result Lost No → Type 0
+MarksLogs c v first last l l' m m' (Ok lost) = MarkedLogs c v first last lost l l' m m'
+MarksLogs c v first last l l' m m' (Err refusal.Down) = IsTrue m'.down
+MarksLogs c v first last l l' m m' (Err other) = ⊥
 
 -- a value of a block while plexes are written: one of theirs, or one of the maps of plexes that were ACTIVE
 abbrev pub PutAt : Config → ℕ → ℕ → ℕ → List ℕ → Logs → Meaning → Values
 PutAt c v block n bytes l m = Or (OnPlexes c v block n bytes) (FmrAt (active c v) true (first_region block) (last_region block n) l.fmr m)
 
 -- a value of a block of the maps in a write: a plex that is STALE may note its regions, and the map of one that is ACTIVE may begin anew
-pub record WroteAt (c : Config) (v first last : ℕ) (f : Missed) (m : Meaning) (u b : ℕ) (x : List ℕ) : Type 0 where
-  pub run : Run f.map.unit f.map.first (blocks_of f.map) u b
-  pub so : MapOn f.map m → (p r : ℕ) → p < f.plexes → r < f.stride → MayBe (stale c v) false first last p r (has_missed f p r) (marks_with f.map b x (place_of f p r)) ⊎ MayBe (active c v) true first last p r (has_missed f p r) (marks_with f.map b x (place_of f p r))
+pub record WroteMaps (c : Config) (v first last : ℕ) (f : Missed) (m : Meaning) (u b : ℕ) (x : List ℕ) : Type 0 where
+  pub run : Run f.map.unit f.map.first (map_block_count f.map) u b
+  pub so : MapOn f.map m → (p r : ℕ) → p < f.plexes → r < f.stride → MayBeNoted (stale c v) false first last p r (has_missed f p r) (marks_with f.map b x (missed_place f p r)) ⊎ MayBeNoted (active c v) true first last p r (has_missed f p r) (marks_with f.map b x (missed_place f p r))
 
 -- the same, where there is a log
 abbrev pub MapsAt : Config → ℕ → ℕ → ℕ → Option Missed → Meaning → Values
 MapsAt c v first last None m = Nothing
-MapsAt c v first last (Some f) m = WroteAt c v first last f m
+MapsAt c v first last (Some f) m = WroteMaps c v first last f m
 
 -- a plex took the write
 abbrev pub Took : Config → ℕ → ℕ → ℕ → List ℕ → Meaning → Meaning → ℕ → Type 0
 Took c v block n bytes m m' p = PlexWrote c v p block n block n bytes m m'
 
 -- the plexes have the bytes but those that failed, whose maps have the regions of the write alone, or their log is lost
-pub record IsPut (c : Config) (v block n : ℕ) (bytes : List ℕ) (put : Stored) (l l' : Logs) (m m' : Meaning) : Type 0 where
+pub record IsPlexPut (c : Config) (v block n : ℕ) (bytes : List ℕ) (put : Stored) (l l' : Logs) (m m' : Meaning) : Type 0 where
   pub plexes : AllBut c v (bit_at put.failed.set) (Took c v block n bytes m m') m m'
-  pub disk : LastFailed put.failed m m'
+  pub disk : LastPlexFailed put.failed m m'
   pub drl : l'.drl ≡ l.drl
   pub fmr : FmrEnds (is_one put.failed.set) true (first_region block) (last_region block n) put.lost l.fmr l'.fmr m m'
   pub stands : LogsStand l m → LogsStand l' m'
 
 -- each plex failed, and the logs are as they were
 pub record NonePut (c : Config) (v block n : ℕ) (bytes : List ℕ) (disk : ℕ) (l l' : Logs) (m m' : Meaning) : Type 0 where
-  pub plexes : AllFailed c v disk m m'
+  pub plexes : AllPlexesFailed c v disk m m'
   pub drl : l'.drl ≡ l.drl
   pub fmr : l'.fmr ≡ l.fmr
   pub writes : Goes (OnPlexes c v block n bytes) m m'
 
 -- what a write of the plexes answers
-abbrev pub Puts : Config → ℕ → ℕ → ℕ → List ℕ → Logs → Logs → Meaning → Meaning → Result Stored No → Type 0
-Puts c v block n bytes l l' m m' (Ok put) = IsPut c v block n bytes put l l' m m'
-Puts c v block n bytes l l' m m' (Err (refusal.Device disk)) = NonePut c v block n bytes disk l l' m m'
-Puts c v block n bytes l l' m m' (Err refusal.Down) = IsTrue m'.down
-Puts c v block n bytes l l' m m' (Err other) = ⊥
+abbrev pub PutsPlexes : Config → ℕ → ℕ → ℕ → List ℕ → Logs → Logs → Meaning → Meaning → Result Stored No → Type 0
+PutsPlexes c v block n bytes l l' m m' (Ok put) = IsPlexPut c v block n bytes put l l' m m'
+PutsPlexes c v block n bytes l l' m m' (Err (refusal.Device disk)) = NonePut c v block n bytes disk l l' m m'
+PutsPlexes c v block n bytes l l' m m' (Err refusal.Down) = IsTrue m'.down
+PutsPlexes c v block n bytes l l' m m' (Err other) = ⊥
 
 -- Whether a region is noted behind a write: in the map of a plex that failed where it is one of the write; in that of one that was STALE
 -- besides where it was; and in any other where it was.
 abbrev pub missed_after : (stales failed : Bool) → ℕ → ℕ → ℕ → Bool → Bool
-missed_after stales failed first last r was = if failed then noted true first last r was else (if stales then noted false first last r was else was)
+missed_after stales failed first last r was = if failed then noted_region true first last r was else (if stales then noted_region false first last r was else was)
 
 -- the maps behind a write
 pub record FmrWrote (c : Config) (v failed first last : ℕ) (f g : Missed) : Type 0 where
@@ -114,30 +114,30 @@ none_lost = record { drl = false; fmr = false }
 -- No plex was written, since a mark could not be made: a log is lost.
 pub record WasLost (c : Config) (v first last : ℕ) (lost : Lost) (l l' : Logs) (m m' : Meaning) : Type 0 where
   pub some : (lost.drl ≡ true) ⊎ (lost.fmr ≡ true)
-  pub marked : Marked c v first last lost l l' m m'
+  pub marked : MarkedLogs c v first last lost l l' m m'
   pub goes : Goes (MarkedAt c v first last l m) m m'
 
 -- The regions were marked, and then the plexes got the bytes.
 pub record WasPut (c : Config) (v block n : ℕ) (bytes : List ℕ) (put : Stored) (l l' : Logs) (m m' : Meaning) : Type 0 where
   pub plexes : AllBut c v (bit_at put.failed.set) (Took c v block n bytes m m') m m'
-  pub disk : LastFailed put.failed m m'
+  pub disk : LastPlexFailed put.failed m m'
   pub drl : DrlEnds (first_region block) (last_region block n) false l.drl l'.drl m m'
   pub fmr : FmrAfter c v put.failed.set (first_region block) (last_region block n) put.lost l.fmr l'.fmr m m'
   pub stands : LogsStand l m → LogsStand l' m'
 
 -- The regions were marked, and then each plex failed.
 pub record NoneTook (c : Config) (v block n disk : ℕ) (l l' : Logs) (m m' : Meaning) : Type 0 where
-  pub plexes : AllFailed c v disk m m'
-  pub marked : Marked c v (first_region block) (last_region block n) none_lost l l' m m'
+  pub plexes : AllPlexesFailed c v disk m m'
+  pub marked : MarkedLogs c v (first_region block) (last_region block n) none_lost l l' m m'
 
 -- what a write answers
-abbrev pub Writes : Config → ℕ → ℕ → ℕ → List ℕ → Logs → Logs → Meaning → Meaning → Result Written No → Type 0
-Writes c v block n bytes l l' m m' (Ok (outcome.Stored put)) = WasPut c v block n bytes put l l' m m'
-Writes c v block n bytes l l' m m' (Ok (outcome.Lost lost)) = WasLost c v (first_region block) (last_region block n) lost l l' m m'
-Writes c v block n bytes l l' m m' (Err (refusal.Device disk)) = NoneTook c v block n disk l l' m m'
-Writes c v block n bytes l l' m m' (Err refusal.Down) = IsTrue m'.down
-Writes c v block n bytes l l' m m' (Err other) = ⊥
+abbrev pub WritesMarked : Config → ℕ → ℕ → ℕ → List ℕ → Logs → Logs → Meaning → Meaning → Result Written No → Type 0
+WritesMarked c v block n bytes l l' m m' (Ok (outcome.Stored put)) = WasPut c v block n bytes put l l' m m'
+WritesMarked c v block n bytes l l' m m' (Ok (outcome.Lost lost)) = WasLost c v (first_region block) (last_region block n) lost l l' m m'
+WritesMarked c v block n bytes l l' m m' (Err (refusal.Device disk)) = NoneTook c v block n disk l l' m m'
+WritesMarked c v block n bytes l l' m m' (Err refusal.Down) = IsTrue m'.down
+WritesMarked c v block n bytes l l' m m' (Err other) = ⊥
 
 -- a value of a block in a write: one of the plexes, of the dirty region log, or of the maps
-pub record WritesAt (c : Config) (v block n : ℕ) (bytes : List ℕ) (l : Logs) (m : Meaning) (u b : ℕ) (x : List ℕ) : Type 0 where
+pub record WritesPlexes (c : Config) (v block n : ℕ) (bytes : List ℕ) (l : Logs) (m : Meaning) (u b : ℕ) (x : List ℕ) : Type 0 where
   pub here : OnPlexes c v block n bytes u b x ⊎ DrlAt (first_region block) (last_region block n) true l.drl m u b x ⊎ MapsAt c v (first_region block) (last_region block n) l.fmr m u b x

@@ -5,7 +5,7 @@ ghost use Rattle.vx_bitmap.specs.Maps.{UnitCause};
 ghost use Rattle.vx_disk.specs.Causes.{DeviceCause};
 ghost use Rattle.vx_disk.specs.Shelf.{Goes};
 ghost use Rattle.vx_fmr.specs.Missed.{has_missed};
-ghost use Rattle.vx_logs.specs.Noting.{FmrAnswers, FmrAt, FmrHas, FmrKeeps, FmrNoted, FmrReady, FmrStill, IsMap, IsStill, NotedAt, SameFmr, alone, is_one};
+ghost use Rattle.vx_logs.specs.Noting.{FmrAnswers, FmrAt, FmrHas, FmrKeeps, FmrNoted, FmrReady, FmrStill, IsMissedMap, IsStill, NotedAt, SameFmr, this_plex, is_one};
 
 use crate::sets::is_in;
 use vx_disk::Shelf;
@@ -22,11 +22,11 @@ fn note_one<S: Shelf>(
     first: u64,
     last: u64,
 ) -> Result<(), No>
-    requires has { IsMap last map.old (S.meaning shelf.old) }
+    requires has { IsMissedMap last map.old (S.meaning shelf.old) }
     requires exists { plex < map.old.plexes }
     requires some { first ≤ last }
-    ensures writes { Goes (NotedAt (alone plex) anew first last map.old (S.meaning shelf.old)) (S.meaning shelf.old) (S.meaning shelf.new) }
-    ensures ok { OnOk result (FmrNoted (alone plex) anew first last map.old map.new (S.meaning shelf.old) (S.meaning shelf.new)) }
+    ensures writes { Goes (NotedAt (this_plex plex) anew first last map.old (S.meaning shelf.old)) (S.meaning shelf.old) (S.meaning shelf.new) }
+    ensures ok { OnOk result (FmrNoted (this_plex plex) anew first last map.old map.new (S.meaning shelf.old) (S.meaning shelf.new)) }
     ensures same { SameFmr map.old map.new }
     ensures unit { UnitCause map.old.map.unit (S.meaning shelf.old) (S.meaning shelf.new) result }
     ensures cause { IfErr result (DeviceCause (S.meaning shelf.old) (S.meaning shelf.new)) }

@@ -6,7 +6,7 @@ ghost use Rattle.vx_disk.specs.Shelf.{Goes};
 ghost use Rattle.vx_logs.specs.Dirtying.{DrlHolds};
 ghost use Rattle.vx_logs.specs.Held.{LogsFit};
 ghost use Rattle.vx_logs.specs.Marks.{MarksFirst};
-ghost use Rattle.vx_logs.specs.Writes.{MarkedAt, Marks, PutAt, Puts, StaleStill, Writes, WritesAt, first_region as first_region_is, last_region as last_region_is};
+ghost use Rattle.vx_logs.specs.Writes.{MarkedAt, MarksLogs, PutAt, PutsPlexes, StaleStill, WritesMarked, WritesPlexes, first_region as first_region_is, last_region as last_region_is};
 ghost use Rattle.vx_model.specs.Sizes.{regions_of};
 ghost use Rattle.vx_volume.specs.Plexes.{DisksFit, SomeActive};
 
@@ -73,7 +73,7 @@ pub fn mark<S: Shelf>(
     requires inside { last < regions_of (blocks_of_is config.now.volumes vol) }
     requires disks { DisksFit config.now.disks (S.meaning shelf.old) }
     ensures writes { Goes (MarkedAt config.now vol first last logs.old (S.meaning shelf.old)) (S.meaning shelf.old) (S.meaning shelf.new) }
-    ensures marks { Marks config.now vol first last logs.old logs.new (S.meaning shelf.old) (S.meaning shelf.new) result }
+    ensures marks { MarksLogs config.now vol first last logs.old logs.new (S.meaning shelf.old) (S.meaning shelf.new) result }
     ensures fits { LogsFit config.now vol logs.new }
     ensures nothing { DrlHolds first last logs.old.drl → StaleStill config.now vol first last logs.old.fmr → shelf.new ≡ shelf.old }
 {
@@ -109,7 +109,7 @@ pub fn put<S: Shelf>(
     requires disks { DisksFit config.now.disks (S.meaning shelf.old) }
     requires up { IsTrue (S.meaning shelf.old).down → ⊥ }
     ensures writes { Goes (PutAt config.now vol block (length bytes.now / 512) bytes.now logs.old (S.meaning shelf.old)) (S.meaning shelf.old) (S.meaning shelf.new) }
-    ensures puts { Puts config.now vol block (length bytes.now / 512) bytes.now logs.old logs.new (S.meaning shelf.old) (S.meaning shelf.new) result }
+    ensures puts { PutsPlexes config.now vol block (length bytes.now / 512) bytes.now logs.old logs.new (S.meaning shelf.old) (S.meaning shelf.new) result }
     ensures fits { LogsFit config.now vol logs.new }
 {
     // Read for its bound: no block of a volume is past 2^64.
@@ -147,9 +147,9 @@ pub fn write<S: Shelf>(
     requires some { SomeActive config.now vol }
     requires disks { DisksFit config.now.disks (S.meaning shelf.old) }
     requires up { IsTrue (S.meaning shelf.old).down → ⊥ }
-    ensures goes { Goes (WritesAt config.now vol block (length bytes.now / 512) bytes.now logs.old (S.meaning shelf.old)) (S.meaning shelf.old) (S.meaning shelf.new) }
+    ensures goes { Goes (WritesPlexes config.now vol block (length bytes.now / 512) bytes.now logs.old (S.meaning shelf.old)) (S.meaning shelf.old) (S.meaning shelf.new) }
     ensures first { Along (S.meaning shelf.old) (S.meaning shelf.new) (MarksFirst config.now vol (first_region_is block) (last_region_is block (length bytes.now / 512)) logs.old (S.meaning shelf.old)) }
-    ensures writes { Writes config.now vol block (length bytes.now / 512) bytes.now logs.old logs.new (S.meaning shelf.old) (S.meaning shelf.new) result }
+    ensures writes { WritesMarked config.now vol block (length bytes.now / 512) bytes.now logs.old logs.new (S.meaning shelf.old) (S.meaning shelf.new) result }
     ensures fits { LogsFit config.now vol logs.new }
 {
     // Read for its bound: no block of a volume is past 2^64.

@@ -8,7 +8,7 @@ use Rattle.std.proofs.lemmas.List.Folds.{list_all-append}
 use Rattle.std.proofs.lemmas.Nat.{mul-le}
 use Rattle.vx_model.specs.Sizes.{map_blocks}
 use Rattle.vx_disk.specs.Shelf.{Meaning}
-use Rattle.vx_config.specs.Checks.{are_apart, are_placed, blocks_of, blocks_or_none, differ, ends_within, group_or_none, has_logs, has_plexes, has_shape, in_region, is_live, is_sound, is_volume, log_has, log_run, log_runs, pairwise, plex_fills, plex_runs, preferred_is, runs, volume_runs}
+use Rattle.vx_config.specs.Checks.{are_apart, are_placed, blocks_of, blocks_or_none, differ, ends_within, group_or_none, has_logs, has_plexes, has_shape, in_region, is_live, is_sound, is_volume, log_has, log_run, log_runs, pairwise, plex_fills, plex_runs, preferred_is, runs, volume_runs, plexes_of, plexes_or}
 use Rattle.vx_config.specs.Configs.{subdisk_count}
 use Rattle.vx_config.specs.declared.config.Config.{Config}
 use Rattle.vx_config.specs.declared.entry.DiskEntry.{DiskEntry}
@@ -18,7 +18,7 @@ use Rattle.vx_config.specs.declared.entry.Subdisk.{Subdisk}
 use Rattle.vx_config.specs.declared.entry.VolumeEntry.{VolumeEntry}
 use Rattle.vx_config.specs.declared.entry.VolumeLog.{VolumeLog}
 use Rattle.vx_config.specs.declared.entry.VolumeLog.TheVariants.{Drl, Fmr}
-use Rattle.vx_maplog.specs.Logs.{DisksFit, log_blocks, log_in, log_of, log_or, maps_of, plexes_of, plexes_or}
+use Rattle.vx_maplog.specs.Logs.{DisksReach, log_blocks, log_in, log_of, log_or, maps_in_log}
 
 and_left : (a b : Bool) → a && b ≡ true → a ≡ true
 and_left true b is = refl
@@ -75,7 +75,7 @@ log_size : (n : ℕ) (o : Option LogEntry) (l : LogEntry) → o ≡ Some l → l
 log_size n None l none has = absurd cc
 log_size n (Some k) l some has = let same : k ≡ l = cc in ap (λ (x : LogEntry). x.blocks) (sym same) ∙ eqb-true k.blocks n has
 
-sized : (v : VolumeEntry) (log : VolumeLog) (l : LogEntry) → log_in log v ≡ Some l → is_volume v ≡ true → l.blocks ≡ maps_of log (length v.plexes) * map_blocks v.blocks
+sized : (v : VolumeEntry) (log : VolumeLog) (l : LogEntry) → log_in log v ≡ Some l → is_volume v ≡ true → l.blocks ≡ maps_in_log log (length v.plexes) * map_blocks v.blocks
 sized v Drl l is all =
     let logs : has_logs v ≡ true = and_right (has_shape v) _ (and_left _ (has_plexes v) all) in
     let e : l.blocks ≡ map_blocks v.blocks = log_size (map_blocks v.blocks) v.drl l is (and_left _ (log_has (length v.plexes * map_blocks v.blocks) v.fmr) logs) in
@@ -106,7 +106,7 @@ pub record Placed (c : Config) (v : ℕ) (log : VolumeLog) (l : LogEntry) (m : M
   pub blocks : l.blocks ≡ log_blocks c v log
   pub some : 0 < l.blocks
 
-region_there : (c : Config) (m : Meaning) (s : Subdisk) → DisksFit c.disks m → in_region c.disks s ≡ true → (s.disk < m.units) × (s.start + s.blocks ≤ m.size s.disk)
+region_there : (c : Config) (m : Meaning) (s : Subdisk) → DisksReach c.disks m → in_region c.disks s ≡ true → (s.disk < m.units) × (s.start + s.blocks ≤ m.size s.disk)
 region_there c m s fit is = by (slice_get c.disks s.disk) refl is
   where
     by : (o : Option DiskEntry) → slice_get c.disks s.disk ≡ o → ends_within s o ≡ true → (s.disk < m.units) × (s.start + s.blocks ≤ m.size s.disk)
@@ -115,11 +115,11 @@ region_there c m s fit is = by (slice_get c.disks s.disk) refl is
         let end : s.start + s.blocks ≤ d.blocks = leb-true (s.start + s.blocks) d.blocks (and_right (nat_le 512 s.start) _ is) in
         (fit.there s.disk d at, omega (arith, end, fit.size s.disk d at))
 
-pub placed : (c : Config) (v : ℕ) (log : VolumeLog) (l : LogEntry) (m : Meaning) → is_sound c ≡ true → log_of c v log ≡ Some l → 0 < blocks_of c.volumes v → DisksFit c.disks m → Placed c v log l m
+pub placed : (c : Config) (v : ℕ) (log : VolumeLog) (l : LogEntry) (m : Meaning) → is_sound c ≡ true → log_of c v log ≡ Some l → 0 < blocks_of c.volumes v → DisksReach c.disks m → Placed c v log l m
 unfolding runs
 placed c v log l m sound is some fit = by (slice_get c.volumes v) refl
   where
-    more : (log : VolumeLog) (p n : ℕ) → 0 < p → 0 < n → 0 < maps_of log p * n
+    more : (log : VolumeLog) (p n : ℕ) → 0 < p → 0 < n → 0 < maps_in_log log p * n
     more Drl p n some_p some_n = omega (arith, some_n)
     more Fmr p n some_p some_n = let k = mul-le 1 1 p n (omega (arith, some_p)) (omega (arith, some_n)) in omega (arith, k)
 
@@ -132,11 +132,11 @@ placed c v log l m sound is some fit = by (slice_get c.volumes v) refl
         let region = region_there c m (log_run l) fit (run_in (in_region c.disks) x log l mine (flat_at (in_region c.disks) c.volumes v x all.0 at)) in
         let count : plexes_of c v ≡ length x.plexes = ap plexes_or at in
         let size : blocks_of c.volumes v ≡ x.blocks = ap blocks_or_none at in
-        let long : l.blocks ≡ maps_of log (length x.plexes) * map_blocks x.blocks = sized x log l mine volume in
+        let long : l.blocks ≡ maps_in_log log (length x.plexes) * map_blocks x.blocks = sized x log l mine volume in
         let least = more log (length x.plexes) (map_blocks x.blocks) (some_plex x volume) (some_maps x.blocks (omega (arith, some, size))) in
         record {
           exists = region.0;
           within = region.1;
-          blocks = long ∙ ap (λ (n : ℕ). maps_of log n * map_blocks x.blocks) (sym count) ∙ ap (λ (n : ℕ). maps_of log (plexes_of c v) * map_blocks n) (sym size);
+          blocks = long ∙ ap (λ (n : ℕ). maps_in_log log n * map_blocks x.blocks) (sym count) ∙ ap (λ (n : ℕ). maps_in_log log (plexes_of c v) * map_blocks n) (sym size);
           some = omega (arith, least, long);
         }

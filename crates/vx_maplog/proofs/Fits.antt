@@ -3,9 +3,10 @@ use Rattle.std.proofs.Common.{◌≡◌, ◌∙◌, ⊎_elim, ℕ, ◌+◌, ◌<
 use Rattle.std.specs.Prelude.{slice_get}
 use Rattle.std.proofs.lemmas.Bool.{cases_eq}
 use Rattle.std.proofs.lemmas.Option.{slice_get-get_or, slice_get_within}
+use Rattle.vx_config.specs.Checks.{blocks_or}
 use Rattle.vx_disk.specs.Shelf.{Meaning}
 use Rattle.vx_config.specs.declared.entry.DiskEntry.{DiskEntry}
-use Rattle.vx_maplog.specs.Logs.{DisksFit, blocks_or}
+use Rattle.vx_maplog.specs.Logs.{DisksReach}
 
 -- the first n disks fit
 pub record FitBelow (n : ℕ) (disks : List DiskEntry) (m : Meaning) : Type 0 where
@@ -19,13 +20,13 @@ fit_next n disks m below lt le = record {
       ⊎_elim (λ (same : u ≡ n). subst (λ (k : ℕ). blocks_or (slice_get disks k) ≤ m.size k) (sym same) le) (λ (other : u ≡ n → ⊥). below.size u (omega (arith, low, other))) (cases_eq u n);
 }
 
-pub fit_all : (n : ℕ) (disks : List DiskEntry) (m : Meaning) → FitBelow n disks m → length disks ≤ n → DisksFit disks m
+pub fit_all : (n : ℕ) (disks : List DiskEntry) (m : Meaning) → FitBelow n disks m → length disks ≤ n → DisksReach disks m
 fit_all n disks m below all = record {
   there = λ u d is. below.there u (omega (arith, all, slice_get_within disks u d is));
   size = λ u d is. let e : blocks_or (slice_get disks u) ≡ d.blocks = ap blocks_or is in omega (arith, e, below.size u (omega (arith, all, slice_get_within disks u d is)));
 }
 
-module _ (n : ℕ) (disks : List DiskEntry) (m : Meaning) (fit : DisksFit disks m) (lt : n < length disks) where
+module _ (n : ℕ) (disks : List DiskEntry) (m : Meaning) (fit : DisksReach disks m) (lt : n < length disks) where
   abbrev here : DiskEntry
   here = get_or disks n (record { blocks = 0; failed = false })
 

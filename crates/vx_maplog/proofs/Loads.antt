@@ -5,24 +5,24 @@ use Rattle.vx_disk.specs.Shelf.{Goes, Meaning, Nothing}
 use Rattle.vx_config.specs.declared.config.Config.{Config}
 use Rattle.vx_config.specs.declared.entry.LogEntry.{LogEntry}
 use Rattle.vx_config.specs.declared.entry.VolumeLog.{VolumeLog}
-use Rattle.vx_bitmap.specs.Maps.{Lies, Map, blocks_of}
-use Rattle.vx_maplog.specs.Logs.{InRun, LogLoaded, log_of}
+use Rattle.vx_bitmap.specs.Maps.{Lies, Map, map_block_count}
+use Rattle.vx_maplog.specs.Logs.{MapInRun, LogLoaded, log_of}
 use Rattle.vx_maplog.proofs.Entries.{Placed}
 
 module _ (c : Config) (v : ℕ) (log : VolumeLog) (l : LogEntry) (m m' : Meaning) (map : Map) (unit : ℕ) (is_unit : unit ≡ l.disk) (is : log_of c v log ≡ Some l)
-    (at : Placed c v log l m) (told : InRun unit l.start l.blocks map) where
-  run : InRun l.disk l.start l.blocks map
-  run = subst (λ (u : ℕ). InRun u l.start l.blocks map) is_unit told
+    (at : Placed c v log l m) (told : MapInRun unit l.start l.blocks map) where
+  run : MapInRun l.disk l.start l.blocks map
+  run = subst (λ (u : ℕ). MapInRun u l.start l.blocks map) is_unit told
 
   pub log_loaded : LogLoaded c v log map
-  log_loaded = record { entry = l; is = is; run = subst (λ (n : ℕ). InRun l.disk l.start n map) at.blocks run }
+  log_loaded = record { entry = l; is = is; run = subst (λ (n : ℕ). MapInRun l.disk l.start n map) at.blocks run }
 
   pub log_lies : Goes Nothing m m' → Lies map m'
   log_lies goes = record {
     exists = omega (arith, run.there, at.exists, goes.units);
     within =
         let size : m'.size map.unit ≡ m.size l.disk = goes.size map.unit ∙ ap m.size run.there in
-        let blocks : blocks_of map ≡ l.blocks = omega (arith, run.long) in
+        let blocks : map_block_count map ≡ l.blocks = omega (arith, run.long) in
         omega (arith, run.begins, at.within, size, blocks);
   }
 

@@ -2,7 +2,7 @@
 use Rattle.std.specs.Prelude.{◌≡◌, ℕ, ◌*◌, ◌<◌, ◌≤◌, true, List, length, Option, Some, None, slice_get}
 use Rattle.vx_model.specs.Sizes.{map_blocks}
 use Rattle.vx_disk.specs.Shelf.{Meaning}
-use Rattle.vx_config.specs.Checks.{blocks_of, is_sound}
+use Rattle.vx_config.specs.Checks.{blocks_of, is_sound, plexes_of}
 use Rattle.vx_config.specs.declared.config.Config.{Config}
 use Rattle.vx_config.specs.declared.entry.DiskEntry.{DiskEntry}
 use Rattle.vx_config.specs.declared.entry.LogEntry.{LogEntry}
@@ -25,22 +25,14 @@ log_or log (Some v) = log_in log v
 abbrev pub log_of : Config → ℕ → VolumeLog → Option LogEntry
 log_of c v log = log_or log (slice_get c.volumes v)
 
-abbrev pub plexes_or : Option VolumeEntry → ℕ
-plexes_or None = 0
-plexes_or (Some v) = length v.plexes
-
--- how many plexes a volume has
-abbrev pub plexes_of : Config → ℕ → ℕ
-plexes_of c v = plexes_or (slice_get c.volumes v)
-
 -- how many maps a log has: one of dirty regions, and one of missed regions for each plex
-abbrev pub maps_of : VolumeLog → ℕ → ℕ
-maps_of Drl plexes = 1
-maps_of Fmr plexes = plexes
+abbrev pub maps_in_log : VolumeLog → ℕ → ℕ
+maps_in_log Drl plexes = 1
+maps_in_log Fmr plexes = plexes
 
 -- the blocks of a log
 abbrev pub log_blocks : Config → ℕ → VolumeLog → ℕ
-log_blocks c v log = maps_of log (plexes_of c v) * map_blocks (blocks_of c.volumes v)
+log_blocks c v log = maps_in_log log (plexes_of c v) * map_blocks (blocks_of c.volumes v)
 
 -- a volume of a checked configuration has blocks and this log
 pub record HasLog (c : Config) (v : ℕ) (log : VolumeLog) : Type 0 where
@@ -49,17 +41,13 @@ pub record HasLog (c : Config) (v : ℕ) (log : VolumeLog) : Type 0 where
   pub is : log_of c v log ≡ Some entry
   pub some : 0 < blocks_of c.volumes v
 
-abbrev pub blocks_or : Option DiskEntry → ℕ
-blocks_or None = 0
-blocks_or (Some d) = d.blocks
-
 -- the disks of a configuration are units of a shelf, each with at least its blocks
-pub record DisksFit (disks : List DiskEntry) (m : Meaning) : Type 0 where
+pub record DisksReach (disks : List DiskEntry) (m : Meaning) : Type 0 where
   pub there : (u : ℕ) (d : DiskEntry) → slice_get disks u ≡ Some d → u < m.units
   pub size : (u : ℕ) (d : DiskEntry) → slice_get disks u ≡ Some d → d.blocks ≤ m.size u
 
 -- a map in so many blocks of a unit from this one on, which are not too many
-pub record InRun (unit first blocks : ℕ) (map : Map) : Type 0 where
+pub record MapInRun (unit first blocks : ℕ) (map : Map) : Type 0 where
   pub there : map.unit ≡ unit
   pub begins : map.first ≡ first
   pub long : length map.bytes ≡ 512 * blocks
@@ -69,4 +57,4 @@ pub record InRun (unit first blocks : ℕ) (map : Map) : Type 0 where
 pub record LogLoaded (c : Config) (v : ℕ) (log : VolumeLog) (map : Map) : Type 0 where
   pub entry : LogEntry
   pub is : log_of c v log ≡ Some entry
-  pub run : InRun entry.disk entry.start (log_blocks c v log) map
+  pub run : MapInRun entry.disk entry.start (log_blocks c v log) map

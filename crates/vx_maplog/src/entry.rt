@@ -1,7 +1,7 @@
 // What a configuration says of the logs of a volume.
 ghost use Rattle.std.specs.Prelude.{◌≡◌};
-ghost use Rattle.vx_config.specs.Checks.{blocks_of as blocks_of_is};
-ghost use Rattle.vx_maplog.specs.Logs.{log_of as log_of_is, plexes_of as plexes_of_is};
+ghost use Rattle.vx_config.specs.Checks.{blocks_of as blocks_of_is, plexes_of as plexes_of_is};
+ghost use Rattle.vx_maplog.specs.Logs.{log_of as log_of_is};
 
 use vx_config::{Config, LogEntry, VolumeLog};
 

@@ -1,9 +1,9 @@
 // The map of a log as it is read.
 ghost use Rattle.std.specs.Prelude.{◌≡◌, ◌+◌, ◌*◌, ◌<◌, ◌≤◌, IfErr, IfOk, IsFalse};
-ghost use Rattle.vx_bitmap.specs.Maps.{IsRead, Lies, LoadCause, MapOn, blocks_of};
+ghost use Rattle.vx_bitmap.specs.Maps.{IsRead, Lies, LoadCause, MapOn, map_block_count};
 ghost use Rattle.vx_disk.specs.Moves.{Run, Settled};
 ghost use Rattle.vx_disk.specs.Shelf.{Goes, Nothing};
-ghost use Rattle.vx_maplog.specs.Logs.{DisksFit, HasLog, InRun, LogLoaded};
+ghost use Rattle.vx_maplog.specs.Logs.{DisksReach, HasLog, MapInRun, LogLoaded};
 
 use crate::entry::log_of;
 use std::alloc::Global;
@@ -28,9 +28,9 @@ fn read_run<S: Shelf>(
     requires exists { unit < (S.meaning shelf.old).units }
     requires within { first + blocks ≤ (S.meaning shelf.old).size unit }
     requires up { IsFalse (S.meaning shelf.old).down }
-    ensures there { IfOk result (λ map. InRun unit first blocks map) }
+    ensures there { IfOk result (λ map. MapInRun unit first blocks map) }
     ensures read { IfOk result (λ map. IsRead map (S.meaning shelf.old)) }
-    ensures stands { IfOk result (λ map. Settled (S.meaning shelf.old) (Run unit first (blocks_of map)) → MapOn map (S.meaning shelf.new)) }
+    ensures stands { IfOk result (λ map. Settled (S.meaning shelf.old) (Run unit first (map_block_count map)) → MapOn map (S.meaning shelf.new)) }
     ensures goes { Goes Nothing (S.meaning shelf.old) (S.meaning shelf.new) }
     ensures cause { IfErr result (LoadCause (S.meaning shelf.old) (S.meaning shelf.new)) }
 {
@@ -51,12 +51,12 @@ pub fn load<S: Shelf>(
     log: VolumeLog,
 ) -> Result<Bitmap, Stop>
     requires has { HasLog config.now volume log }
-    requires disks { DisksFit config.now.disks (S.meaning shelf.old) }
+    requires disks { DisksReach config.now.disks (S.meaning shelf.old) }
     requires up { IsFalse (S.meaning shelf.old).down }
     ensures loaded { IfOk result (λ map. LogLoaded config.now volume log map) }
     ensures lies { IfOk result (λ map. Lies map (S.meaning shelf.new)) }
     ensures read { IfOk result (λ map. IsRead map (S.meaning shelf.old)) }
-    ensures stands { IfOk result (λ map. Settled (S.meaning shelf.old) (Run map.unit map.first (blocks_of map)) → MapOn map (S.meaning shelf.new)) }
+    ensures stands { IfOk result (λ map. Settled (S.meaning shelf.old) (Run map.unit map.first (map_block_count map)) → MapOn map (S.meaning shelf.new)) }
     ensures goes { Goes Nothing (S.meaning shelf.old) (S.meaning shelf.new) }
     ensures cause { IfErr result (LoadCause (S.meaning shelf.old) (S.meaning shelf.new)) }
 {

@@ -1,6 +1,7 @@
 // Whether the log of a volume can be read.
 ghost use Rattle.std.specs.Prelude.{◌≡◌, true, slice_get};
-ghost use Rattle.vx_maplog.specs.Logs.{DisksFit, HasLog, blocks_or};
+ghost use Rattle.vx_config.specs.Checks.{blocks_or};
+ghost use Rattle.vx_maplog.specs.Logs.{DisksReach, HasLog};
 
 use crate::entry::{blocks_of, log_of};
 use vx_config::{Config, DiskEntry, VolumeLog, check};
@@ -29,8 +30,8 @@ fn disk_blocks(disks: &[DiskEntry], disk: usize) -> u64
 
 /// Whether the disks of a configuration are units of a shelf, each with at least its blocks.
 pub fn disks_fit<S: Shelf>(disks: &[DiskEntry], shelf: &S) -> bool
-    ensures fit { result ≡ true → DisksFit disks.now (S.meaning shelf.now) }
-    ensures only { DisksFit disks.now (S.meaning shelf.now) → result ≡ true }
+    ensures fit { result ≡ true → DisksReach disks.now (S.meaning shelf.now) }
+    ensures only { DisksReach disks.now (S.meaning shelf.now) → result ≡ true }
 {
     for k in 0..disks.len() {
         if k >= shelf.units() as usize {

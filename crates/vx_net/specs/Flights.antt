@@ -12,32 +12,32 @@ abbrev pub most_kept : ℕ
 most_kept = 65536
 
 -- the greatest number of a packet
-abbrev pub greatest : ℕ
-greatest = MOST_NUMBER
+abbrev pub greatest_packet : ℕ
+greatest_packet = MOST_NUMBER
 
 abbrev pub nothing_sent : Flying
 nothing_sent = record { count = 0; kept = [] }
 
 -- the number of the oldest packet that is kept
-abbrev pub first_of : Flying → ℕ
-first_of f = f.count + 1 - length f.kept
+abbrev pub oldest_of : Flying → ℕ
+oldest_of f = f.count + 1 - length f.kept
 
 -- the last ones of a list, as many as are kept
-abbrev pub newest : List (List ℕ) → List (List ℕ)
-newest packets = drop (length packets - most_kept) packets
+abbrev pub newest_packets : List (List ℕ) → List (List ℕ)
+newest_packets packets = drop (length packets - most_kept) packets
 
 -- one more packet is sent, and the oldest is dropped where so many are kept already; past the greatest number it is lost
 abbrev pub sent : Flying → List ℕ → Flying
-sent f bytes = if ltb f.count greatest then record { count = f.count + 1; kept = newest (f.kept ++ bytes ∷ []) } else f
+sent f bytes = if ltb f.count greatest_packet then record { count = f.count + 1; kept = newest_packets (f.kept ++ bytes ∷ []) } else f
 
 -- the packet of this number; none below the first, and none above the count
-abbrev pub packet_at : Flying → ℕ → Option (List ℕ)
-packet_at f number = if ltb number (first_of f) then None else slice_get f.kept (number - first_of f)
+abbrev pub kept_packet : Flying → ℕ → Option (List ℕ)
+kept_packet f number = if ltb number (oldest_of f) then None else slice_get f.kept (number - oldest_of f)
 
 -- all packets that were sent are kept, or as many as can be
-pub record IsFull (f : Flying) : Type 0 where
+pub record IsFullNet (f : Flying) : Type 0 where
   pub kept : length f.kept ≡ min f.count most_kept
-  pub numbered : f.count ≤ greatest
+  pub numbered : f.count ≤ greatest_packet
 
 -- what stands after these packets were sent one after another
 abbrev pub sent_all : Flying → List (List ℕ) → Flying

@@ -19,13 +19,13 @@ pub struct Flight {
 
 impl Model for Flight {
     ghost use Rattle.std.specs.Prelude.{◌≡◌};
-    ghost use Rattle.vx_net.specs.Flights.{Flying, IsFull, most_kept};
+    ghost use Rattle.vx_net.specs.Flights.{Flying, IsFullNet, most_kept};
 
     ghost Value = { Flying };
 
     ghost view = { λ f. record { count = f.count; kept = f.packets.items } };
 
-    ghost invariant = { λ f. (f.packets.capacity ≡ most_kept) × IsFull (record { count = f.count; kept = f.packets.items }) };
+    ghost invariant = { λ f. (f.packets.capacity ≡ most_kept) × IsFullNet (record { count = f.count; kept = f.packets.items }) };
 }
 
 impl Flight {

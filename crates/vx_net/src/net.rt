@@ -1,7 +1,7 @@
 // A network, as the sites see it.
 ghost use Rattle.std.specs.Prelude.{◌≡◌, ◌≤◌, ◌<◌, ◌⊎◌, ◌↔◌, length, IsNone};
 ghost use Rattle.std.specs.Option.{option_map};
-ghost use Rattle.vx_net.specs.Flights.{Flying, IsFull, first_of, sent, packet_at};
+ghost use Rattle.vx_net.specs.Flights.{Flying, IsFullNet, oldest_of, sent, kept_packet};
 
 /// A network that gives only what was sent, under the number that it was sent as.
 pub trait Net {
@@ -17,14 +17,14 @@ pub trait Net {
     /// How many packets were sent: the number of the newest one.
     fn count(&self) -> u64
         ensures count { result ≡ (flying self.now).count }
-        ensures full { IsFull (flying self.now) };
+        ensures full { IsFullNet (flying self.now) };
 
     /// The number of the oldest packet that is kept, and 1 where none was sent.
     fn first(&self) -> u64
-        ensures { result ≡ first_of (flying self.now) };
+        ensures { result ≡ oldest_of (flying self.now) };
 
     /// The bytes that were sent under this number. None exactly where it is below the first or above the count.
     fn get(&self, k: u64) -> Option<&[u8]>
-        ensures packet { option_map (λ bytes. bytes.now) result ≡ packet_at (flying self.now) k }
-        ensures none { IsNone result ↔ ((k < first_of (flying self.now)) ⊎ ((flying self.now).count < k)) };
+        ensures packet { option_map (λ bytes. bytes.now) result ≡ kept_packet (flying self.now) k }
+        ensures none { IsNone result ↔ ((k < oldest_of (flying self.now)) ⊎ ((flying self.now).count < k)) };
 }

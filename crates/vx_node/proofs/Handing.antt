@@ -10,13 +10,13 @@ use Rattle.vx_history.specs.declared.event.Event.{Event}
 use Rattle.vx_history.specs.declared.event.Event.TheVariants.{Deliver}
 use Rattle.vx_courier.specs.UnderWay.{part_carried}
 use Rattle.vx_events.proofs.Places.{some_same}
-use Rattle.vx_packet.specs.Packets.{part_of}
+use Rattle.vx_packet.specs.Packets.{part_numbered}
 use Rattle.vx_packet.specs.declared.part.Part.{Part}
 use Rattle.vx_settling.proofs.Running.{are_both}
 use Rattle.vx_settling.proofs.Unfolding.{packet_found}
 use Rattle.vx_settling.specs.Between.{IsSent, is_update}
 use Rattle.vx_settling.specs.Kinds.{AreSettling}
-use Rattle.vx_node.specs.Handing.{handed, handed_by, way_by}
+use Rattle.vx_node.specs.Handing.{handing_over, handed_by, way_by}
 
 -- ---- the events
 
@@ -33,7 +33,7 @@ deliver_one a b j (suc k) (q ∷ qs) low = deliver_one a b j k qs (omega (arith,
 -- those of so many packets
 abbrev pub handed_to : (a b before n : ℕ) → List Packet → List Event
 handed_to a b before zero ps = []
-handed_to a b before (suc n) ps = handed_to a b before n ps ++ handed a b (before + n) ps
+handed_to a b before (suc n) ps = handed_to a b before n ps ++ handing_over a b (before + n) ps
 
 pub handed_rest : (a b before n : ℕ) (ps : List Packet) → before + n ≤ length ps → deliver_between a b before (drop before ps) ≡ handed_to a b before n ps ++ deliver_between a b (before + n) (drop (before + n) ps)
 handed_rest a b before zero ps low = let same : before ≡ before + 0 = omega arith in ap (λ (k : ℕ). deliver_between a b k (drop k ps)) same
@@ -43,8 +43,8 @@ handed_rest a b before (suc n) ps low =
     let less : before + n ≤ length ps = omega (arith, low) in
     handed_rest a b before n ps less
     ∙ ap (λ (es : List Event). handed_to a b before n ps ++ es)
-    (deliver_one a b (before + n) (before + n) ps here ∙ ap (λ (k : ℕ). handed a b (before + n) ps ++ deliver_between a b k (drop k ps)) next)
-    ∙ sym (append_assoc (handed_to a b before n ps) (handed a b (before + n) ps) (deliver_between a b (before + suc n) (drop (before + suc n) ps)))
+    (deliver_one a b (before + n) (before + n) ps here ∙ ap (λ (k : ℕ). handing_over a b (before + n) ps ++ deliver_between a b k (drop k ps)) next)
+    ∙ sym (append_assoc (handed_to a b before n ps) (handing_over a b (before + n) ps) (deliver_between a b (before + suc n) (drop (before + suc n) ps)))
 
 -- all of them
 pub handed_all : (a b before n : ℕ) (ps : List Packet) → before + n ≡ length ps → handed_to a b before n ps ≡ deliver_between a b before (drop before ps)
@@ -62,8 +62,8 @@ get_more [] more k low = absurd (omega (arith, low))
 get_more (p ∷ ps) more zero low = refl
 get_more (p ∷ ps) more (suc k) low = get_more ps more k (omega (arith, low))
 
-pub handed_more : (a b k : ℕ) (ps qs more : List Packet) → qs ≡ ps ++ more → k < length ps → handed a b k qs ≡ handed a b k ps
-handed_more a b k ps qs more is low = ap (λ (xs : List Packet). handed a b k xs) is ∙ ap (λ (o : Option Packet). handed_by a b k o) (get_more ps more k low)
+pub handed_more : (a b k : ℕ) (ps qs more : List Packet) → qs ≡ ps ++ more → k < length ps → handing_over a b k qs ≡ handing_over a b k ps
+handed_more a b k ps qs more is low = ap (λ (xs : List Packet). handing_over a b k xs) is ∙ ap (λ (o : Option Packet). handed_by a b k o) (get_more ps more k low)
 
 -- ---- they are such as settle a link
 
@@ -77,7 +77,7 @@ handed_settles a b k (Some q) = one_settles (is_between a b q) (suc k)
 
 pub handed_settle : (a b before n : ℕ) (ps : List Packet) → AreSettling (handed_to a b before n ps)
 handed_settle a b before zero ps = tt
-handed_settle a b before (suc n) ps = are_both (handed_to a b before n ps) (handed a b (before + n) ps) (handed_settle a b before n ps) (handed_settles a b (before + n) (slice_get ps (before + n)))
+handed_settle a b before (suc n) ps = are_both (handed_to a b before n ps) (handing_over a b (before + n) ps) (handed_settle a b before n ps) (handed_settles a b (before + n) (slice_get ps (before + n)))
 
 -- ---- what the network has of a packet
 
@@ -96,18 +96,18 @@ carried_at ps k part is = by (packet_at ps (suc k)) refl is
     by (Some q) here same = record { packet = q; at = here; there = packet_found ps k q here; is = some_same same }
 
 -- what is done of it
-pub handed_none : (a b k : ℕ) (ps : List Packet) (part : Part) → (at : CarriedAt ps k part) → is_between a b at.packet ≡ false → [] ≡ handed a b k ps
+pub handed_none : (a b k : ℕ) (ps : List Packet) (part : Part) → (at : CarriedAt ps k part) → is_between a b at.packet ≡ false → [] ≡ handing_over a b k ps
 handed_none a b k ps part at not =
     sym (ap (λ (o : Option Packet). handed_by a b k o) at.there ∙ ap (λ (t : Bool). let es : List Event = if t then Deliver (suc k) ∷ [] else [] in es) not)
 
-pub handed_some : (a b k number : ℕ) (ps : List Packet) (part : Part) → (at : CarriedAt ps k part) → is_between a b at.packet ≡ true → number ≡ suc k → (let es : List Event = Deliver number ∷ [] in es) ≡ handed a b k ps
+pub handed_some : (a b k number : ℕ) (ps : List Packet) (part : Part) → (at : CarriedAt ps k part) → is_between a b at.packet ≡ true → number ≡ suc k → (let es : List Event = Deliver number ∷ [] in es) ≡ handing_over a b k ps
 handed_some a b k number ps part at goes is =
     ap (λ (n : ℕ). let es : List Event = Deliver n ∷ [] in es) is
     ∙ sym (ap (λ (o : Option Packet). handed_by a b k o) at.there ∙ ap (λ (t : Bool). let es : List Event = if t then Deliver (suc k) ∷ [] else [] in es) goes)
 
 -- the kind of an update is the second
 update_kind : (q : Packet) → (let p : Part = part_carried q in p.kind == 2) ≡ is_update q.message
-unfolding part_of
+unfolding part_numbered
 update_kind q = by q.message
   where
     by : (m : Message) → (let p : Part = part_carried (record q { message = m }) in p.kind == 2) ≡ is_update m
@@ -126,7 +126,7 @@ none_some x e = cc
 
 pub goes_so : (a b : ℕ) (q : Packet) (part : Part) (goes : Bool) → part ≡ part_carried q
     → way_by ((part.source == a) && (part.target == b)) ((part.source == b) && (part.target == a)) (part.kind == 2) ≡ Some goes → GoesSo a b q goes
-unfolding part_of
+unfolding part_numbered
 goes_so a b q part goes is way =
     by ((q.source == a) && (q.target == b)) ((q.source == b) && (q.target == a)) (is_update q.message) refl refl refl
     (ap (λ (u : Bool). way_by ((q.source == a) && (q.target == b)) ((q.source == b) && (q.target == a)) u) (sym (update_kind q))

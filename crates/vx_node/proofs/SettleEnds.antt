@@ -25,7 +25,7 @@ use Rattle.vx_settling.proofs.Stopping.{runs_then, settle_part}
 use Rattle.vx_settling.proofs.Working.{line_done, line_stopped}
 use Rattle.vx_settling.specs.Burnt.{noted_as}
 use Rattle.vx_settling.specs.Kinds.{AreSettling}
-use Rattle.vx_settling.specs.Works.{Shortens, Works}
+use Rattle.vx_settling.specs.Works.{Shortens, SettleWorks}
 use Rattle.vx_yard.specs.Carries.{Carries}
 use Rattle.vx_node.specs.Settling.{EndedFor, NotedFor, OnFor, SettlesFor, ShortFor}
 use Rattle.vx_yard.specs.Standing.{Leads, StandsFor, StopsFor}
@@ -126,7 +126,7 @@ module _ {R : Type 0} {g : Ghosts R} where
 
     -- memory ran out behind the first event
     module _ (x : Event) (rest : List Event) (m : Doubted) (mid : Yard R g) where
-      short_so : (IsTold new → link_events d.world (Settle p s) ≡ x ∷ rest) → Works (IsTold new) (site_number d.world p) (site_number d.world s) d (x ∷ []) m → (last : Doubted) → Shortens (IsTold new) (site_number d.world p) (site_number d.world s) m rest last
+      short_so : (IsTold new → link_events d.world (Settle p s) ≡ x ∷ rest) → SettleWorks (IsTold new) (site_number d.world p) (site_number d.world s) d (x ∷ []) m → (last : Doubted) → Shortens (IsTold new) (site_number d.world p) (site_number d.world s) m rest last
           → StopsShort (IsTold new) d (Settle p s) (noted_two (site_number d.world p) (site_number d.world s) last)
       short_so split one last short = ⊎_elim
           (λ (tells : IsTold new).
@@ -140,7 +140,7 @@ module _ {R : Type 0} {g : Ghosts R} where
           line_short (IsTold new) d last p s (passes_then a b d m last one.moves short.moves) (noted_two a b last) untold (record { world = refl; after = λ i. refl }))
           (all_told new.disk_sets.items)
 
-      pub settle_short : (IsTold new → link_events d.world (Settle p s) ≡ x ∷ rest) → Works (IsTold new) (site_number d.world p) (site_number d.world s) d (x ∷ []) m → RoseAll [] (count_of old) (count_of mid)
+      pub settle_short : (IsTold new → link_events d.world (Settle p s) ≡ x ∷ rest) → SettleWorks (IsTold new) (site_number d.world p) (site_number d.world s) d (x ∷ []) m → RoseAll [] (count_of old) (count_of mid)
           → site_number d.world p < d.world.sites → site_number d.world s < d.world.sites → ShortFor (site_number d.world p) (site_number d.world s) m rest mid new → StopsFor d (Settle p s) old new
       settle_short split one rose first second short =
           let e : Doubted = short.last in

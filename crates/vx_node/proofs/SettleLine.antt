@@ -1,6 +1,6 @@
 -- The line that settles a link: its connect, and what follows on it.
 use Rattle.std.proofs.Common.{◌≡◌, ◌∙◌, ◌+◌, ◌<◌, ◌≤◌, ◌++◌, ℕ, List, [], ◌∷◌, Bool, false, length, ap, sym, subst, refl, arith, length-append, append-nil}
-use Rattle.std.specs.Prelude.{None, Ok, Err, Result, Some, drop, true}
+use Rattle.std.specs.Prelude.{IfOk, None, Ok, Err, Result, Some, drop, true}
 use Rattle.vx_model.specs.declared.errors.OutOfMemory.{OutOfMemory}
 use Rattle.vx_model.specs.Sites.{is_origin}
 use Rattle.vx_model.specs.declared.no.No.{No}
@@ -11,7 +11,7 @@ use Rattle.vx_history.specs.World.{Packet, World}
 use Rattle.vx_history.specs.declared.event.Event.{Event}
 use Rattle.vx_history.specs.declared.event.Event.TheVariants.{Connect as ConnectAt}
 use Rattle.vx_disk.specs.declared.shelf.Shelf.{Ghosts}
-use Rattle.vx_order.specs.Order.{refusal_of}
+use Rattle.vx_order.specs.Order.{line_refusal}
 use Rattle.vx_order.specs.declared.facts.SiteFacts.{SiteFacts}
 use Rattle.vx_events.proofs.LinkSettling.{settle_agrees}
 use Rattle.vx_events.proofs.Parts.{none_done}
@@ -29,8 +29,9 @@ use Rattle.vx_settling.proofs.Burning.{burns_none}
 use Rattle.vx_settling.proofs.Moving.{may_move}
 use Rattle.vx_settling.proofs.WithinLines.{connect_goes, connect_says}
 use Rattle.vx_settling.specs.Burnt.{noted_as}
-use Rattle.vx_settling.specs.Works.{Works}
+use Rattle.vx_settling.specs.Works.{SettleWorks}
 use Rattle.vx_yard.specs.Carries.{Carries}
+use Rattle.vx_yard.specs.BothSites.{BothSites, SettleBurns}
 use Rattle.vx_yard.specs.OfSites.{AllSameFailing}
 use Rattle.vx_node.specs.Settling.{EndedFor, OnFor, SettlesFor, ShortFor, WentFor, end_by, ended_as, settled_on}
 use Rattle.vx_yard.specs.Standing.{GoodFor, Leads, LeadsOrStops, StandsFor, StaysFor, StopsFor}
@@ -44,6 +45,8 @@ use Rattle.vx_yard.proofs.Carrying.{sent_count}
 use Rattle.vx_yard.proofs.ChangeSite.{rose_none}
 use Rattle.vx_yard.proofs.NamedSite.{site_at}
 use Rattle.vx_yard.proofs.OfSites.{all_then}
+use Rattle.vx_yard.proofs.SettleCalls.{settle_then}
+use Rattle.vx_node.proofs.SettleParts.{apart_at}
 use Rattle.vx_node.proofs.SettleEnds.{settle_ended, settle_leads, settle_short}
 use Rattle.vx_node.proofs.StepWent.{step_went}
 use Rattle.vx_node.proofs.WentOn.{world_is}
@@ -56,7 +59,7 @@ module _ {R : Type 0} {g : Ghosts R} where
       let here = site_at d y first a stands one in
       let there = site_at d y second b stands two in
       let can : CanSettle d.world (site_number d.world first) (site_number d.world second)
-      = settle_agrees d (in_files y) first second stands.links (subst (λ (fs : List SiteFacts). refusal_of fs (in_files y) (Settle first second) ≡ None) stands.facts free) in
+      = settle_agrees d (in_files y) first second stands.links (subst (λ (fs : List SiteFacts). line_refusal fs (in_files y) (Settle first second) ≡ None) stands.facts free) in
       record {
         noted = record { fuses = λ i. (d.world.nodes i).fuse; burns = burns_none a b d.world; stands = stands; carries = carries };
         may = may_move d a b stands.links (subst (λ (j : ℕ). CanSettle d.world a j) there.number (subst (λ (i : ℕ). CanSettle d.world i (site_number d.world second)) here.number can));
@@ -66,14 +69,14 @@ module _ {R : Type 0} {g : Ghosts R} where
       }
 
   -- the connect
-  pub connected : (d : Doubted) (old mid : Yard R g) (first second : List ℕ) (a b : ℕ) (said : Said) → (serves : SettlesFor first second a b d old) → (IsTold mid → IsTold old) → AllSameFailing old mid
+  pub connected : (d : Doubted) (old mid : Yard R g) (first second : List ℕ) (a b : ℕ) (said : Said) → (serves : SettlesFor first second a b d old) → (IsTold mid → IsTold old) → AllSameFailing old mid → BothSites (SettleBurns Done) a b old mid
       → Leads (noted_as serves.noted.fuses d) (Connect first second) said old mid → OnFor first second a b d (ConnectAt a b ∷ []) old mid
-  connected d old mid first second a b said serves told asked leads =
+  connected d old mid first second a b said serves told asked calls leads =
       let n = serves.noted in
       let is : said ≡ Done = connect_says (IsTold mid) a b d serves.may n.fuses n.burns n.stands.links first second leads.fails said leads.next serves.from serves.to leads.done.ends in
       step_went first second a b d (ConnectAt a b ∷ []) old mid serves told asked (Connect first second)
       (λ fails x e done. connect_goes (IsTold mid) a b d serves.may n.fuses n.burns n.stands.links first second fails x e serves.from serves.to done.ends) (Ok Done)
-      (subst (λ (x : Said). Leads (noted_as n.fuses d) (Connect first second) x old mid) is leads)
+      (subst (λ (x : Said). Leads (noted_as n.fuses d) (Connect first second) x old mid) is leads) calls
 
   -- nothing of the line was done
   pub still : (d : Doubted) (line : ScriptLine) (y : Yard R g) → StandsFor d y → StopsFor d line y y
@@ -102,13 +105,13 @@ module _ {R : Type 0} {g : Ghosts R} where
       (λ end here there. settle_ended d first second old new why end here there))
 
   short_at : (d : Doubted) (old mid new : Yard R g) (first second : List ℕ) (i j : ℕ) → site_number d.world first ≡ i → site_number d.world second ≡ j → (x : Event) (rest : List Event) (m : Doubted)
-      → (IsTold new → settling d.world i j ≡ x ∷ rest) → Works (IsTold new) i j d (x ∷ []) m → RoseAll [] (count_of old) (count_of mid) → i < d.world.sites → j < d.world.sites → ShortFor i j m rest mid new → StopsFor d (Settle first second) old new
+      → (IsTold new → settling d.world i j ≡ x ∷ rest) → SettleWorks (IsTold new) i j d (x ∷ []) m → RoseAll [] (count_of old) (count_of mid) → i < d.world.sites → j < d.world.sites → ShortFor i j m rest mid new → StopsFor d (Settle first second) old new
   short_at d old mid new first second i j one two x rest m =
       subst
-      (λ (k : ℕ). (IsTold new → settling d.world k j ≡ x ∷ rest) → Works (IsTold new) k j d (x ∷ []) m → RoseAll [] (count_of old) (count_of mid) → k < d.world.sites → j < d.world.sites → ShortFor k j m rest mid new → StopsFor d (Settle first second) old new)
+      (λ (k : ℕ). (IsTold new → settling d.world k j ≡ x ∷ rest) → SettleWorks (IsTold new) k j d (x ∷ []) m → RoseAll [] (count_of old) (count_of mid) → k < d.world.sites → j < d.world.sites → ShortFor k j m rest mid new → StopsFor d (Settle first second) old new)
       one
       (subst
-      (λ (l : ℕ). (IsTold new → settling d.world (site_number d.world first) l ≡ x ∷ rest) → Works (IsTold new) (site_number d.world first) l d (x ∷ []) m → RoseAll [] (count_of old) (count_of mid) → site_number d.world first < d.world.sites
+      (λ (l : ℕ). (IsTold new → settling d.world (site_number d.world first) l ≡ x ∷ rest) → SettleWorks (IsTold new) (site_number d.world first) l d (x ∷ []) m → RoseAll [] (count_of old) (count_of mid) → site_number d.world first < d.world.sites
       → l < d.world.sites → ShortFor (site_number d.world first) l m rest mid new → StopsFor d (Settle first second) old new)
       two (λ split works rose here there short. settle_short d first second old new x rest m mid split works rose here there short))
 
@@ -145,7 +148,7 @@ module _ {R : Type 0} {g : Ghosts R} where
     pub line_short : ShortFor a b one.next (settled_on a b before head one.next.world) mid new → StopsFor d (Settle first second) old new
     line_short short =
         let w = one.works in
-        let works : Works (IsTold new) a b d (ConnectAt a b ∷ []) one.next
+        let works : SettleWorks (IsTold new) a b d (ConnectAt a b ∷ []) one.next
         = record { exact = λ tells. w.exact (short.told tells); moves = w.moves } in
         short_at d old mid new first second a b serves.from serves.to (ConnectAt a b) (settled_on a b before head one.next.world) one.next (λ tells. sym (all_is tells short.told)) works one.rose serves.may.can.first serves.may.can.second short
 
@@ -180,3 +183,18 @@ module _ {R : Type 0} {g : Ghosts R} where
     line_asked On went = all_then old mid new one.asked went.asked
     line_asked (Ended why) went = all_then old mid new one.asked went.asked
     line_asked Short went = all_then old mid new one.asked went.asked
+
+    -- its calls are those of its parts
+    apart : a ≡ b → ⊥
+    apart = apart_at first second a b d old serves
+
+    pub line_called : (w : Went) (settled : Bool) (r : Result Said OutOfMemory) → ended_as r ≡ end_by w settled head → WentFor first second a b one.next (settled_on a b before head one.next.world) mid new w
+        → IfOk r (λ said. BothSites (SettleBurns said) a b old new)
+    line_called (Ended why) settled (Ok said) is went = subst (λ (x : Said). BothSites (SettleBurns x) a b old new) (sym (some_same is)) (settle_then a b apart (Refused why) old mid new one.called went.called)
+    line_called On true (Ok said) is went = subst (λ (x : Said). BothSites (SettleBurns x) a b old new) (sym (some_same is)) (settle_then a b apart Done old mid new one.called went.called)
+    line_called On false (Ok said) is went = absurd (cc)
+    line_called Short settled (Ok said) is went = absurd (cc)
+    line_called (Ended why) settled (Err e) is went = tt
+    line_called On true (Err e) is went = tt
+    line_called On false (Err e) is went = tt
+    line_called Short settled (Err e) is went = tt

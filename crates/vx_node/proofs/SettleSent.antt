@@ -6,7 +6,7 @@ use Rattle.vx_history.specs.Doubts.{Doubted}
 use Rattle.vx_history.specs.Settling.{deliver_between}
 use Rattle.vx_history.specs.World.{Packet}
 use Rattle.vx_history.specs.declared.event.Event.{Event}
-use Rattle.vx_node.specs.Handing.{handed}
+use Rattle.vx_node.specs.Handing.{handing_over}
 use Rattle.vx_node.specs.Settling.{OnFor, SettlesFor, WentFor}
 use Rattle.vx_node.specs.declared.going.Went.{Went}
 use Rattle.vx_node.specs.declared.going.Went.TheVariants.{On}
@@ -26,26 +26,26 @@ module _ {R : Type 0} {g : Ghosts R} (first second : List ℕ) (a b : ℕ) where
     more_low : before + n < length one.next.world.packets
     more_low = let many = ap (λ (ps : List Packet). length ps) one.works.moves.sent ∙ length-append d.world.packets one.works.moves.more in omega (arith, low, many)
 
-    next_of : (r : Went) → ((m : Doubted) → SettlesFor first second a b m mid → before + n < length m.world.packets → WentFor first second a b m (handed a b (before + n) m.world.packets) mid new r)
-        → WentFor first second a b one.next (handed a b (before + n) d.world.packets) mid new r
+    next_of : (r : Went) → ((m : Doubted) → SettlesFor first second a b m mid → before + n < length m.world.packets → WentFor first second a b m (handing_over a b (before + n) m.world.packets) mid new r)
+        → WentFor first second a b one.next (handing_over a b (before + n) d.world.packets) mid new r
     next_of r call =
-        went_as first second a b one.next (handed a b (before + n) one.next.world.packets) (handed a b (before + n) d.world.packets) mid new r
+        went_as first second a b one.next (handing_over a b (before + n) one.next.world.packets) (handing_over a b (before + n) d.world.packets) mid new r
         (λ _. handed_more a b (before + n) d.world.packets one.next.world.packets one.works.moves.more one.works.moves.sent low) (call one.next one.serves more_low)
 
     -- the next of them is done
-    pub sent_more : (next : ℕ) → next ≡ suc n → ((m : Doubted) → SettlesFor first second a b m mid → before + n < length m.world.packets → WentFor first second a b m (handed a b (before + n) m.world.packets) mid new On)
+    pub sent_more : (next : ℕ) → next ≡ suc n → ((m : Doubted) → SettlesFor first second a b m mid → before + n < length m.world.packets → WentFor first second a b m (handing_over a b (before + n) m.world.packets) mid new On)
         → OnFor first second a b d (handed_to a b before next d.world.packets) old new
     sent_more next is call =
         subst (λ (k : ℕ). OnFor first second a b d (handed_to a b before k d.world.packets) old new) (sym is)
-        (went_then first second a b d (handed_to a b before n d.world.packets) (handed a b (before + n) d.world.packets) old mid new On (handed_settle a b before n d.world.packets) one (next_of On call))
+        (went_then first second a b d (handed_to a b before n d.world.packets) (handing_over a b (before + n) d.world.packets) old mid new On (handed_settle a b before n d.world.packets) one (next_of On call))
 
     -- it ends them
-    pub sent_ends : (r : Went) → (r ≡ On → ⊥) → ((m : Doubted) → SettlesFor first second a b m mid → before + n < length m.world.packets → WentFor first second a b m (handed a b (before + n) m.world.packets) mid new r)
+    pub sent_ends : (r : Went) → (r ≡ On → ⊥) → ((m : Doubted) → SettlesFor first second a b m mid → before + n < length m.world.packets → WentFor first second a b m (handing_over a b (before + n) m.world.packets) mid new r)
         → WentFor first second a b d (deliver_between a b before (drop before d.world.packets)) old new r
     sent_ends r not call =
         let ps : List Packet = d.world.packets in
         let xs : List Event = handed_to a b before n ps in
-        let x : List Event = handed a b (before + n) ps in
+        let x : List Event = handing_over a b (before + n) ps in
         let ys : List Event = deliver_between a b (before + suc n) (drop (before + suc n) ps) in
         went_as first second a b d (xs ++ (x ++ ys)) (deliver_between a b before (drop before ps)) old new r
         (λ _. sym (append_assoc xs x ys) ∙ sym (handed_rest a b before (suc n) ps (omega (arith, low))))

@@ -1,6 +1,6 @@
 -- A line within one that settles a link, as one of its events.
 use Rattle.std.proofs.Common.{◌≡◌, ◌∙◌, ◌+◌, ◌≤◌, ℕ, List, [], ◌∷◌, ap, sym, subst, refl, arith}
-use Rattle.std.specs.Prelude.{Result, Ok, Err}
+use Rattle.std.specs.Prelude.{IfOk, Result, Ok, Err}
 use Rattle.vx_model.specs.declared.errors.OutOfMemory.{OutOfMemory}
 use Rattle.vx_model.specs.declared.no.No.{No}
 use Rattle.vx_history.specs.Doubts.{Doubted}
@@ -12,7 +12,7 @@ use Rattle.vx_events.specs.Facts.{site_number}
 use Rattle.vx_events.specs.Fails.{Fails}
 use Rattle.vx_events.specs.Lines.{IsDone}
 use Rattle.vx_events.specs.declared.said.Said.{Said}
-use Rattle.vx_events.specs.declared.said.Said.TheVariants.{Refused}
+use Rattle.vx_events.specs.declared.said.Said.TheVariants.{Done, Refused}
 use Rattle.vx_script.specs.declared.line.ScriptLine.{ScriptLine}
 use Rattle.vx_world.proofs.Doubting.{like_good, runs_good}
 use Rattle.vx_settling.proofs.Burning.{like_burnt}
@@ -21,6 +21,7 @@ use Rattle.vx_settling.proofs.Named.{moved_names}
 use Rattle.vx_settling.proofs.Working.{short_none}
 use Rattle.vx_settling.specs.Burnt.{EndTo, GoesTo, NotedAs, OnTo, noted_as}
 use Rattle.vx_yard.specs.Carries.{Carries}
+use Rattle.vx_yard.specs.BothSites.{BothSites, SettleBurns}
 use Rattle.vx_yard.specs.OfSites.{AllSameFailing, OfSite}
 use Rattle.vx_node.specs.Settling.{EndedFor, NotedFor, OnFor, SettlesFor, ShortFor, WentFor, went_by, went_of}
 use Rattle.vx_yard.specs.Standing.{GoodFor, Leads, LeadsIs, StandsFor, StaysFor}
@@ -73,8 +74,8 @@ module _ {R : Type 0} {g : Ghosts R} where
         (subst (λ (y : Yard R g). RoseAll [] (count_of old) (count_of y)) (sym same) (rose_none (count_of old) (count_of old) (λ s u. omega arith)))
 
     module _ (line : ScriptLine) (law : (fails : Fails) (said : Said) (e : Doubted) → IsDone (IsTold new) (noted_as serves.noted.fuses d) line fails said e → GoesTo (IsTold new) a b d events fails e said) where
-      on_by : (said : Said) (leads : Leads (noted_as serves.noted.fuses d) line said old new) → OnTo (IsTold new) a b d events leads.fails leads.next → OnFor first second a b d events old new
-      on_by said leads on =
+      on_by : (said : Said) (leads : Leads (noted_as serves.noted.fuses d) line said old new) → OnTo (IsTold new) a b d events leads.fails leads.next → BothSites (SettleBurns Done) a b old new → OnFor first second a b d events old new
+      on_by said leads on calls =
           let moves = on.works.moves in
           record {
             next = on.next;
@@ -88,11 +89,12 @@ module _ {R : Type 0} {g : Ghosts R} where
             };
             told = told;
             asked = asked;
+            called = calls;
             rose = subst (λ (f : Fails). RoseAll f (count_of old) (count_of new)) on.none leads.rose;
           }
 
-      off_by : (why : No) (said : Said) (leads : Leads (noted_as serves.noted.fuses d) line said old new) → EndTo (IsTold new) a b d events leads.fails why leads.next → EndedFor a b d events why old new
-      off_by why said leads off = record {
+      off_by : (why : No) (said : Said) (leads : Leads (noted_as serves.noted.fuses d) line said old new) → EndTo (IsTold new) a b d events leads.fails why leads.next → BothSites (SettleBurns (Refused why)) a b old new → EndedFor a b d events why old new
+      off_by why said leads off calls = record {
         last = off.last;
         fails = leads.fails;
         stops = off.stops;
@@ -100,13 +102,14 @@ module _ {R : Type 0} {g : Ghosts R} where
         noted = noted_for a b off.last leads.next new off.noted leads.stands (leads.carries serves.noted.carries);
         told = told;
         asked = asked;
+        called = calls;
         rose = leads.rose;
       }
 
-      by_said : (said : Said) → Leads (noted_as serves.noted.fuses d) line said old new → WentFor first second a b d events old new (went_by said)
-      by_said (Refused why) leads = off_by why (Refused why) leads (law leads.fails (Refused why) leads.next leads.done)
-      by_said other leads = on_by other leads (law leads.fails other leads.next leads.done)
+      by_said : (said : Said) → Leads (noted_as serves.noted.fuses d) line said old new → BothSites (SettleBurns said) a b old new → WentFor first second a b d events old new (went_by said)
+      by_said (Refused why) leads calls = off_by why (Refused why) leads (law leads.fails (Refused why) leads.next leads.done) calls
+      by_said other leads calls = on_by other leads (law leads.fails other leads.next leads.done) calls
 
-      pub step_went : (r : Result Said OutOfMemory) → LeadsIs (noted_as serves.noted.fuses d) line old new r → WentFor first second a b d events old new (went_of r)
-      step_went (Ok said) leads = by_said said leads
-      step_went (Err e) stays = step_short stays.stands (stays.carries serves.noted.carries) stays.rose
+      pub step_went : (r : Result Said OutOfMemory) → LeadsIs (noted_as serves.noted.fuses d) line old new r → IfOk r (λ said. BothSites (SettleBurns said) a b old new) → WentFor first second a b d events old new (went_of r)
+      step_went (Ok said) leads calls = by_said said leads calls
+      step_went (Err e) stays calls = step_short stays.stands (stays.carries serves.noted.carries) stays.rose

@@ -4,10 +4,10 @@ use Rattle.vx_disk.specs.declared.shelf.Shelf.{Ghosts}
 use Rattle.vx_history.specs.Doubts.{Doubted, Runs}
 use Rattle.vx_history.specs.declared.event.Event.{Event}
 use Rattle.vx_model.specs.declared.no.No.{No}
-use Rattle.vx_events.specs.declared.said.Said.TheVariants.{Refused}
+use Rattle.vx_events.specs.declared.said.Said.TheVariants.{Done, Refused}
 use Rattle.vx_settling.specs.Ending.{StopsAmong}
 use Rattle.vx_settling.specs.Kinds.{AreSettling}
-use Rattle.vx_settling.specs.Works.{FirstOf, Works}
+use Rattle.vx_settling.specs.Works.{FirstOf, SettleWorks}
 use Rattle.vx_settling.proofs.Working.{short_more, short_none, short_then, stop_more, stop_then, works_none, works_then}
 use Rattle.vx_node.specs.Settling.{OnFor, SettlesFor, ShortFor, WentFor}
 use Rattle.vx_yard.specs.Yards.{IsTold, count_of}
@@ -17,9 +17,11 @@ use Rattle.vx_yard.specs.declared.yard.Yard.{Yard}
 use Rattle.vx_yard.proofs.ChangeSite.{rose_none}
 use Rattle.vx_yard.proofs.OfSites.{all_still, all_then}
 use Rattle.vx_yard.proofs.RecoverLine.{rose_then}
+use Rattle.vx_yard.proofs.SettleCalls.{settle_then}
+use Rattle.vx_node.proofs.SettleParts.{apart_at, still_at}
 
 -- what is so where contents were told before is so where they still are
-pub works_later : (T L : Type 0) (a b : ℕ) (d : Doubted) (xs : List Event) (e : Doubted) → (L → T) → Works T a b d xs e → Works L a b d xs e
+pub works_later : (T L : Type 0) (a b : ℕ) (d : Doubted) (xs : List Event) (e : Doubted) → (L → T) → SettleWorks T a b d xs e → SettleWorks L a b d xs e
 works_later T L a b d xs e told works = record { exact = λ tells. works.exact (told tells); moves = works.moves }
 
 module _ {R : Type 0} {g : Ghosts R} (first second : List ℕ) (a b : ℕ) where
@@ -31,6 +33,7 @@ module _ {R : Type 0} {g : Ghosts R} (first second : List ℕ) (a b : ℕ) where
     serves = serves;
     told = λ tells. tells;
     asked = all_still y y refl;
+    called = still_at first second a b d y y serves refl;
     rose = rose_none (count_of y) (count_of y) (λ s u. omega arith);
   }
 
@@ -53,6 +56,7 @@ module _ {R : Type 0} {g : Ghosts R} (first second : List ℕ) (a b : ℕ) where
     serves = w.serves;
     told = w.told;
     asked = w.asked;
+    called = w.called;
     rose = w.rose;
   }
 
@@ -67,6 +71,7 @@ module _ {R : Type 0} {g : Ghosts R} (first second : List ℕ) (a b : ℕ) where
     noted = w.noted;
     told = w.told;
     asked = w.asked;
+    called = w.called;
     rose = w.rose;
   }
   went_as d xs ys old new Short same w = record {
@@ -89,6 +94,7 @@ module _ {R : Type 0} {g : Ghosts R} (first second : List ℕ) (a b : ℕ) where
     noted = w.noted;
     told = w.told;
     asked = w.asked;
+    called = w.called;
     rose = w.rose;
   }
   went_more d xs ys old new Short not w = record { last = w.last; short = short_more (IsTold new) a b d w.last xs ys w.short; noted = w.noted; told = w.told; asked = w.asked; rose = w.rose }
@@ -101,6 +107,7 @@ module _ {R : Type 0} {g : Ghosts R} (first second : List ℕ) (a b : ℕ) where
     serves = two.serves;
     told = λ tells. one.told (two.told tells);
     asked = all_then old mid new one.asked two.asked;
+    called = settle_then a b (apart_at first second a b one.next mid one.serves) Done old mid new one.called two.called;
     rose = rose_then [] (count_of old) (count_of mid) (count_of new) one.rose two.rose;
   }
 
@@ -116,6 +123,7 @@ module _ {R : Type 0} {g : Ghosts R} (first second : List ℕ) (a b : ℕ) where
     noted = two.noted;
     told = λ tells. one.told (two.told tells);
     asked = all_then old mid new one.asked two.asked;
+    called = settle_then a b (apart_at first second a b one.next mid one.serves) (Refused why) old mid new one.called two.called;
     rose = rose_then two.fails (count_of old) (count_of mid) (count_of new) one.rose two.rose;
   }
   went_then d xs ys old mid new Short are one two = record {

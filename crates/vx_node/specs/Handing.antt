@@ -10,8 +10,8 @@ abbrev pub handed_by : (a b past : ℕ) → Option Packet → List Event
 handed_by a b past None = []
 handed_by a b past (Some q) = if is_between a b q then Deliver (suc past) ∷ [] else []
 
-abbrev pub handed : (a b past : ℕ) → List Packet → List Event
-handed a b past ps = handed_by a b past (slice_get ps past)
+abbrev pub handing_over : (a b past : ℕ) → List Packet → List Event
+handing_over a b past ps = handed_by a b past (slice_get ps past)
 
 -- Whether a packet goes between two sites as settling has it: an update to the second of them, or what is none to the first. None where it goes otherwise
 -- between them.

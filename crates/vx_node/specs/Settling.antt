@@ -11,11 +11,12 @@ use Rattle.vx_disk.specs.declared.shelf.Shelf.{Ghosts}
 use Rattle.vx_events.specs.Facts.{site_number}
 use Rattle.vx_events.specs.Fails.{Fails}
 use Rattle.vx_events.specs.declared.said.Said.{Said}
-use Rattle.vx_events.specs.declared.said.Said.TheVariants.{Refused, Settled}
+use Rattle.vx_events.specs.declared.said.Said.TheVariants.{Done, Refused, Settled}
 use Rattle.vx_settling.specs.Between.{MayMove}
-use Rattle.vx_settling.specs.Works.{Shortens, Stops, Works}
+use Rattle.vx_settling.specs.Works.{Shortens, SettleStops, SettleWorks}
 use Rattle.vx_yard.specs.Carries.{Carries}
 use Rattle.vx_settling.specs.Burnt.{MayBurn, noted_as}
+use Rattle.vx_yard.specs.BothSites.{BothSites, SettleBurns}
 use Rattle.vx_yard.specs.OfSites.{AllSameFailing}
 use Rattle.vx_yard.specs.Standing.{GoodFor, StandsFor}
 use Rattle.vx_yard.specs.Stands.{RoseAll}
@@ -67,21 +68,23 @@ module _ {R : Type 0} {g : Ghosts R} where
   -- these events are done
   pub record OnFor (first second : List ℕ) (a b : ℕ) (d : Doubted) (events : List Event) (old new : Yard R g) : Type 0 where
     pub next : Doubted
-    pub works : Works (IsTold new) a b d events next
+    pub works : SettleWorks (IsTold new) a b d events next
     pub serves : SettlesFor first second a b next new
     pub told : IsTold new → IsTold old
     pub asked : AllSameFailing old new
+    pub called : BothSites (SettleBurns Done) a b old new
     pub rose : RoseAll [] (count_of old) (count_of new)
 
   -- they are ended by this refusal
   pub record EndedFor (a b : ℕ) (d : Doubted) (events : List Event) (why : No) (old new : Yard R g) : Type 0 where
     pub last : Doubted
     pub fails : Fails
-    pub stops : Stops (IsTold new) a b d events fails (Refused why) last
+    pub stops : SettleStops (IsTold new) a b d events fails (Refused why) last
     pub sites : last.world.sites ≡ d.world.sites
     pub noted : NotedFor a b last new
     pub told : IsTold new → IsTold old
     pub asked : AllSameFailing old new
+    pub called : BothSites (SettleBurns (Refused why)) a b old new
     pub rose : RoseAll fails (count_of old) (count_of new)
 
   -- memory ran out in them

@@ -1,13 +1,13 @@
 // What a line is answered.
-ghost use Rattle.std.specs.Prelude.{◌≡◌, ◌*◌, IfOk, IsSome, min, replicate, false, true};
+ghost use Rattle.std.specs.Prelude.{◌≡◌, ◌*◌, IfOk, IsOk, IsSome, min, replicate, false, true};
 ghost use Rattle.vx_history.specs.Doubts.{Doubted};
 ghost use Rattle.vx_events.specs.Parts.{goes_in_parts};
 ghost use Rattle.vx_yard.specs.Carries.{Carries};
 ghost use Rattle.vx_yard.specs.OfSites.{AsAsked, AsSettled, HasCalled};
 ghost use Rattle.vx_yard.specs.Lines.{is_built};
 ghost use Rattle.vx_yard.specs.Standing.{AnswersIs, GoodFor, LeadsIs, LeadsOrStops, StandsFor};
-ghost use Rattle.vx_yard.specs.Working.{IsFree, refused_in};
-ghost use Rattle.vx_yard.specs.Yards.{IsKept, IsTold, in_files};
+ghost use Rattle.vx_yard.specs.Working.{IsFree, TakesNoMemory, refused_in, takes_memory};
+ghost use Rattle.vx_yard.specs.Yards.{IsYardKept, IsTold, in_files};
 
 use crate::settled::settle_line;
 use std::alloc::Global;
@@ -37,11 +37,13 @@ fn filled(alloc: Global, count: u64, fill: u8) -> Result<Vec<u8>, OutOfMemory>
 fn work<R: Rack>(yard: &mut Yard<R>, alloc: Global, words: &ScriptLine) -> Result<Said, OutOfMemory>
     requires built { is_built words.now ≡ true }
     requires whole { goes_in_parts words.now ≡ false }
-    requires kept { IsKept yard.old }
+    requires kept { IsYardKept yard.old }
     requires free { IsFree yard.old words.now }
     ensures leads { (d : Doubted) → StandsFor d yard.old → Carries d yard.old → GoodFor d yard.old → LeadsIs d words.now yard.old yard.new result }
     ensures asked { (d : Doubted) → StandsFor d yard.old → AsAsked d.world words.now yard.old yard.new }
-    ensures called { (d : Doubted) → StandsFor d yard.old → IfOk result (λ said. HasCalled d.world words.now said yard.old yard.new) }
+    ensures called { (d : Doubted) → StandsFor d yard.old → Carries d yard.old → GoodFor d yard.old → IfOk result (λ said. HasCalled d.world words.now said yard.old yard.new) }
+    // Memory is short for no line that takes none.
+    ensures whole { takes_memory words.now ≡ false → IsOk result }
     ensures told { IsTold yard.new → IsTold yard.old }
     ensures files { in_files yard.new ≡ in_files yard.old }
 {
@@ -114,12 +116,14 @@ fn perform<R: Rack>(
     words: &ScriptLine,
 ) -> Result<Said, OutOfMemory>
     requires built { is_built words.now ≡ true }
-    requires kept { IsKept yard.old }
+    requires kept { IsYardKept yard.old }
     requires free { IsFree yard.old words.now }
     ensures leads { (d : Doubted) → StandsFor d yard.old → Carries d yard.old → GoodFor d yard.old → LeadsOrStops d words.now yard.old yard.new result }
     ensures asked { (d : Doubted) → StandsFor d yard.old → AsAsked d.world words.now yard.old yard.new }
     ensures settled { (d : Doubted) → StandsFor d yard.old → Carries d yard.old → GoodFor d yard.old → AsSettled words.now yard.old yard.new }
-    ensures called { (d : Doubted) → StandsFor d yard.old → IfOk result (λ said. HasCalled d.world words.now said yard.old yard.new) }
+    ensures called { (d : Doubted) → StandsFor d yard.old → Carries d yard.old → GoodFor d yard.old → IfOk result (λ said. HasCalled d.world words.now said yard.old yard.new) }
+    // Memory is short for no line that takes none.
+    ensures whole { takes_memory words.now ≡ false → IsOk result }
     ensures told { IsTold yard.new → IsTold yard.old }
     ensures files { in_files yard.new ≡ in_files yard.old }
 {
@@ -149,13 +153,15 @@ pub(crate) fn answer<R: Rack>(
     words: &ScriptLine,
 ) -> Result<Said, OutOfMemory>
     requires built { is_built words.now ≡ true }
-    requires kept { IsKept yard.old }
+    requires kept { IsYardKept yard.old }
     ensures leads { (d : Doubted) → StandsFor d yard.old → Carries d yard.old → GoodFor d yard.old → AnswersIs d words.now yard.old yard.new result }
     ensures asked { (d : Doubted) → StandsFor d yard.old → IsFree yard.old words.now → AsAsked d.world words.now yard.old yard.new }
     ensures settled { (d : Doubted) → StandsFor d yard.old → Carries d yard.old → GoodFor d yard.old → IsFree yard.old words.now → AsSettled words.now yard.old yard.new }
-    ensures called { (d : Doubted) → StandsFor d yard.old → IsFree yard.old words.now → IfOk result (λ said. HasCalled d.world words.now said yard.old yard.new) }
+    ensures called { (d : Doubted) → StandsFor d yard.old → Carries d yard.old → GoodFor d yard.old → IsFree yard.old words.now → IfOk result (λ said. HasCalled d.world words.now said yard.old yard.new) }
     // A line that is refused leaves all disks as they are.
     ensures still { IsSome (refused_in yard.old words.now) → yard.new.disk_sets ≡ yard.old.disk_sets }
+    // Nor for a refusal.
+    ensures whole { TakesNoMemory yard.old words.now → IsOk result }
     ensures told { IsTold yard.new → IsTold yard.old }
     ensures files { in_files yard.new ≡ in_files yard.old }
 {

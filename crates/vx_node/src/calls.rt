@@ -1,12 +1,12 @@
 // The call that answers a line.
-ghost use Rattle.std.specs.Prelude.{◌≡◌, ◌≤◌, IsSome, true};
-ghost use Rattle.vx_stream.specs.Causes.{Rose};
+ghost use Rattle.std.specs.Prelude.{◌≡◌, ◌≤◌, ℕ, List, IsSome, true};
+ghost use Rattle.vx_stream.specs.Causes.{StreamRose};
 ghost use Rattle.vx_history.specs.Doubts.{Doubted};
 ghost use Rattle.vx_yard.specs.OfSites.{AsAsked, AsSettled};
 ghost use Rattle.vx_yard.specs.Lines.{is_built};
-ghost use Rattle.vx_yard.specs.Standing.{LineFor, Serves, StandsFor};
-ghost use Rattle.vx_yard.specs.Working.{IsFree, refused_in};
-ghost use Rattle.vx_yard.specs.Yards.{IsKept, IsTold, in_files};
+ghost use Rattle.vx_yard.specs.Standing.{LineFor, Serves, StandsFor, StepsFor};
+ghost use Rattle.vx_yard.specs.Working.{IsFree, TakesNoMemory, refused_in};
+ghost use Rattle.vx_yard.specs.Yards.{IsYardKept, IsTold, in_files};
 
 use crate::answering::answer;
 use crate::sent::{replied, sent_since};
@@ -25,8 +25,10 @@ pub fn answer_line<O: Sink, R: Rack>(
     out: &mut O,
 ) -> Result<(), LineStop>
     requires built { is_built words.now ≡ true }
-    requires kept { IsKept yard.old }
+    requires kept { IsYardKept yard.old }
     ensures line { (d : Doubted) → Serves d yard.old → LineFor d words.now yard.old yard.new (O.written out.old) (O.written out.new) result }
+    // One that takes no memory, or is refused, is done whatever is answered: memory may be short for its text alone.
+    ensures done { (d : Doubted) → Serves d yard.old → TakesNoMemory yard.old words.now → (text : List ℕ) × StepsFor d words.now yard.old yard.new text }
     // What the line asks of the rack of its site: a disk, a number of calls or a pick.
     ensures asked { (d : Doubted) → StandsFor d yard.old → IsFree yard.old words.now → AsAsked d.world words.now yard.old yard.new }
     // One that settles a link asks no disk of any site to fail or to work.
@@ -36,7 +38,7 @@ pub fn answer_line<O: Sink, R: Rack>(
     ensures told { IsTold yard.new → IsTold yard.old }
     ensures files { in_files yard.new ≡ in_files yard.old }
     ensures later { O.faults out.old ≤ O.faults out.new }
-    ensures cause { result ≡ Err LineStop.WriteFault → Rose (O.faults out.old) (O.faults out.new) }
+    ensures cause { result ≡ Err LineStop.WriteFault → StreamRose (O.faults out.old) (O.faults out.new) }
 {
     let before = yard.flight.count();
     let Ok(said) = answer(yard, alloc, words) else {

@@ -11,7 +11,7 @@ ghost use Rattle.vx_settling.specs.Between.{IsSent};
 ghost use Rattle.vx_node.specs.Settling.{SettlesFor, WentFor};
 ghost use Rattle.vx_yard.specs.Standing.{StandsFor};
 ghost use Rattle.vx_yard.specs.Working.{IsFree};
-ghost use Rattle.vx_yard.specs.Yards.{IsKept, IsTold, in_files};
+ghost use Rattle.vx_yard.specs.Yards.{IsYardKept, IsTold, in_files};
 
 use crate::answering::refusal;
 use crate::going::{Went, answered};
@@ -25,7 +25,7 @@ use vx_yard::place::seat;
 
 // Whether the yard is whole, and no test refuses a line.
 pub(crate) fn may<R: Rack>(yard: &Yard<R>, words: &ScriptLine) -> bool
-    ensures kept { result ≡ true → IsKept yard.now }
+    ensures kept { result ≡ true → IsYardKept yard.now }
     ensures free { result ≡ true → IsFree yard.now words.now }
 {
     match refusal(yard, words) {

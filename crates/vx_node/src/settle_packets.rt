@@ -4,7 +4,7 @@ ghost use Rattle.vx_courier.specs.UnderWay.{part_carried};
 ghost use Rattle.vx_history.specs.Doubts.{Doubted};
 ghost use Rattle.vx_history.specs.Settling.{deliver_between, delivery};
 ghost use Rattle.vx_history.specs.World.{World};
-ghost use Rattle.vx_node.specs.Handing.{handed, way_by};
+ghost use Rattle.vx_node.specs.Handing.{handing_over, way_by};
 ghost use Rattle.vx_node.specs.Settling.{SettlesFor, WentFor};
 ghost use Rattle.vx_yard.specs.Yards.{IsTold, in_files};
 
@@ -54,7 +54,7 @@ fn hand_next<R: Rack>(
     past: u64,
 ) -> Went
     requires small { past < 0xffff_ffff_ffff_ffff }
-    ensures went { (d : Doubted) → SettlesFor first.now second.now here there d yard.old → past < length d.world.packets → WentFor first.now second.now here there d (handed here there past d.world.packets) yard.old yard.new result }
+    ensures went { (d : Doubted) → SettlesFor first.now second.now here there d yard.old → past < length d.world.packets → WentFor first.now second.now here there d (handing_over here there past d.world.packets) yard.old yard.new result }
     ensures told { IsTold yard.new → IsTold yard.old }
     ensures files { in_files yard.new ≡ in_files yard.old }
 {

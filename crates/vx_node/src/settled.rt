@@ -1,14 +1,15 @@
 // The line that settles a link.
-ghost use Rattle.std.specs.Prelude.{◌≡◌, ◌≤◌, ℕ, IfSome, List, Some, false, length, true};
+ghost use Rattle.std.specs.Prelude.{◌≡◌, ◌≤◌, ℕ, IfOk, IfSome, List, Some, false, length, true};
 ghost use Rattle.vx_history.specs.Doubts.{Doubted};
 ghost use Rattle.vx_script.specs.declared.line.ScriptLine.TheVariants.{Settle};
 ghost use Rattle.vx_events.specs.Facts.{seat_of};
 ghost use Rattle.vx_yard.specs.Carries.{Carries};
-ghost use Rattle.vx_yard.specs.OfSites.{AllSameFailing};
+ghost use Rattle.vx_yard.specs.BothSites.{BothSites, SettleBurns};
+ghost use Rattle.vx_yard.specs.OfSites.{AllSameFailing, HasCalled};
 ghost use Rattle.vx_node.specs.Settling.{SettlesFor, WentFor, end_by, ended_as, settled_on};
 ghost use Rattle.vx_yard.specs.Standing.{GoodFor, LeadsOrStops, StandsFor};
 ghost use Rattle.vx_yard.specs.Working.{IsFree};
-ghost use Rattle.vx_yard.specs.Yards.{IsKept, IsTold, in_files};
+ghost use Rattle.vx_yard.specs.Yards.{IsYardKept, IsTold, in_files};
 
 use crate::going::Went;
 use crate::settle::may;
@@ -99,6 +100,7 @@ fn settle_begun<R: Rack>(
     ensures leads { (d : Doubted) → StandsFor d yard.old → Carries d yard.old → SettlesFor first.now second.now here there d yard.old
         → LeadsOrStops d (Settle first.now second.now) yard.old yard.new result }
     ensures asked { (d : Doubted) → SettlesFor first.now second.now here there d yard.old → AllSameFailing yard.old yard.new }
+    ensures called { (d : Doubted) → StandsFor d yard.old → Carries d yard.old → SettlesFor first.now second.now here there d yard.old → IfOk result (λ said. BothSites (SettleBurns said) here there yard.old yard.new) }
     ensures told { IsTold yard.new → IsTold yard.old }
     ensures files { in_files yard.new ≡ in_files yard.old }
 {
@@ -132,10 +134,11 @@ pub(crate) fn settle_line<R: Rack>(
     first: &Name,
     second: &Name,
 ) -> Result<Said, OutOfMemory>
-    requires kept { IsKept yard.old }
+    requires kept { IsYardKept yard.old }
     requires free { IsFree yard.old (Settle first.now second.now) }
     ensures leads { (d : Doubted) → StandsFor d yard.old → Carries d yard.old → GoodFor d yard.old → LeadsOrStops d (Settle first.now second.now) yard.old yard.new result }
     ensures asked { (d : Doubted) → StandsFor d yard.old → Carries d yard.old → GoodFor d yard.old → AllSameFailing yard.old yard.new }
+    ensures called { (d : Doubted) → StandsFor d yard.old → Carries d yard.old → GoodFor d yard.old → IfOk result (λ said. HasCalled d.world (Settle first.now second.now) said yard.old yard.new) }
     ensures told { IsTold yard.new → IsTold yard.old }
     ensures files { in_files yard.new ≡ in_files yard.old }
 {

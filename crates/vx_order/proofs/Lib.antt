@@ -1,3 +1,5 @@
+pub mod GroupLemmas
 pub mod KindLemmas
 pub mod LinkLemmas
+pub mod NameLemmas
 pub mod SizeLemmas

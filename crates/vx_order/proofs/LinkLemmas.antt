@@ -17,13 +17,13 @@ use Rattle.vx_order.specs.Asks.{ask_of}
 use Rattle.vx_order.specs.Joining.{can_link, linked_already, volumes_agree, ring_fits, ask_taken, ask_limit, ask_size}
 use Rattle.vx_order.specs.LinkKinds.{link_refusal, set_refusal, turn_refusal, pump_refusal, settle_refusal, wait_refusal}
 use Rattle.vx_order.specs.Links.{place_named, link_towards, link_count}
-use Rattle.vx_order.specs.Order.{refusal_of}
+use Rattle.vx_order.specs.Order.{line_refusal}
 use Rattle.vx_order.specs.Sending.{has_writes, sends, goes_by_nothing, leads_astray, not_linked, last_number, number_unknown, cut_off, held_up, forked, unconfirmed_at, ask_role, ask_unknown, ask_down, ask_paused, ask_replaying, ask_unconfirmed}
 use Rattle.vx_order.specs.Shapes.{line_role, line_unknown, taken, over_limit, wrong_size}
 use Rattle.vx_order.specs.Sites.{site_named, rvg_of, halted_one, unknown_one, down_by, halted_by}
 use Rattle.vx_order.specs.Spans.{span_of}
 use Rattle.vx_order.specs.Subject.{first_name, second_name, need_of, halt_of}
-use Rattle.vx_order.specs.Tests.{when, before, first_of}
+use Rattle.vx_order.specs.Tests.{when, before, first_said_no}
 use Rattle.vx_order.proofs.KindLemmas.{before_none}
 
 -- The state and the halted disk of the first site stand before the other tests.
@@ -68,9 +68,9 @@ role_four false a t u v x = ap (λ (o : Option No). before t (before u (before v
 
 module _ (here there : Option ℕ) where
   link_tests : (first second : Option SiteFacts) (p s : List ℕ)
-      → first_of (unknown_one (Some p) first ∷ unknown_one (Some s) second ∷ down_by BothUp first second ∷ halted_by Both first second ∷ ask_role (Some Makes) here there first second ∷ ask_taken (Some Makes) there first second ∷ ask_limit (Some Makes) first ∷ ask_size (Some Makes) first second ∷ [])
+      → first_said_no (unknown_one (Some p) first ∷ unknown_one (Some s) second ∷ down_by BothUp first second ∷ halted_by Both first second ∷ ask_role (Some Makes) here there first second ∷ ask_taken (Some Makes) there first second ∷ ask_limit (Some Makes) first ∷ ask_size (Some Makes) first second ∷ [])
       ≡ link_refusal here there first second p s
-  unfolding first_of
+  unfolding first_said_no
   link_tests None second p s = refl
   link_tests (Some a) None p s = refl
   link_tests (Some a) (Some b) p s =
@@ -79,27 +79,27 @@ module _ (here there : Option ℕ) where
       (linked_already (link_towards (Some a) there) (Some b)))
 
   set_tests : (first second : Option SiteFacts) (p s : List ℕ)
-      → first_of (unknown_one (Some p) first ∷ unknown_one (Some s) second ∷ down_by FirstUp first second ∷ halted_by First first second ∷ ask_role (Some Sets) here there first second ∷ ask_unknown (Some Sets) there first second ∷ [])
+      → first_said_no (unknown_one (Some p) first ∷ unknown_one (Some s) second ∷ down_by FirstUp first second ∷ halted_by First first second ∷ ask_role (Some Sets) here there first second ∷ ask_unknown (Some Sets) there first second ∷ [])
       ≡ set_refusal there first second p s
-  unfolding first_of
+  unfolding first_said_no
   set_tests None second p s = refl
   set_tests (Some a) None p s = refl
   set_tests (Some a) (Some b) p s =
       first_front (not (is_up a.state)) (halted_one (Some a)) _ _ (role_one (not (has_writes (rvg_of (Some a)))) Role (not_linked (link_towards (Some a) there) (Some b)))
 
   turn_tests : (first second : Option SiteFacts) (p s : List ℕ)
-      → first_of (unknown_one (Some p) first ∷ unknown_one (Some s) second ∷ down_by FirstUp first second ∷ halted_by First first second ∷ ask_role (Some Turns) here there first second ∷ ask_unknown (Some Turns) there first second ∷ [])
+      → first_said_no (unknown_one (Some p) first ∷ unknown_one (Some s) second ∷ down_by FirstUp first second ∷ halted_by First first second ∷ ask_role (Some Turns) here there first second ∷ ask_unknown (Some Turns) there first second ∷ [])
       ≡ turn_refusal there first second p s
-  unfolding first_of
+  unfolding first_said_no
   turn_tests None second p s = refl
   turn_tests (Some a) None p s = refl
   turn_tests (Some a) (Some b) p s =
       first_front (not (is_up a.state)) (halted_one (Some a)) _ _ (role_one (not (sends (rvg_of (Some a)))) Role (not_linked (link_towards (Some a) there) (Some b)))
 
   pump_tests : (first second : Option SiteFacts) (p s : List ℕ)
-      → first_of (unknown_one (Some p) first ∷ unknown_one (Some s) second ∷ down_by FirstUp first second ∷ halted_by First first second ∷ ask_role (Some Pumps) here there first second ∷ ask_unknown (Some Pumps) there first second ∷ ask_down (Some Pumps) there first second ∷ ask_paused (Some Pumps) there first ∷ [])
+      → first_said_no (unknown_one (Some p) first ∷ unknown_one (Some s) second ∷ down_by FirstUp first second ∷ halted_by First first second ∷ ask_role (Some Pumps) here there first second ∷ ask_unknown (Some Pumps) there first second ∷ ask_down (Some Pumps) there first second ∷ ask_paused (Some Pumps) there first ∷ [])
       ≡ pump_refusal there first second p s
-  unfolding first_of
+  unfolding first_said_no
   pump_tests None second p s = refl
   pump_tests (Some a) None p s = refl
   pump_tests (Some a) (Some b) p s =
@@ -107,9 +107,9 @@ module _ (here there : Option ℕ) where
       (role_three (not (sends (rvg_of (Some a)))) Role (not_linked (link_towards (Some a) there) (Some b)) (cut_off (link_towards (Some a) there) (Some b)) (held_up (link_towards (Some a) there)))
 
   settle_tests : (first second : Option SiteFacts) (p s : List ℕ)
-      → first_of (unknown_one (Some p) first ∷ unknown_one (Some s) second ∷ down_by BothUp first second ∷ halted_by Both first second ∷ ask_role (Some Settles) here there first second ∷ ask_unknown (Some Settles) there first second ∷ ask_down (Some Settles) there first second ∷ ask_paused (Some Settles) there first ∷ ask_replaying (Some Settles) there first second ∷ [])
+      → first_said_no (unknown_one (Some p) first ∷ unknown_one (Some s) second ∷ down_by BothUp first second ∷ halted_by Both first second ∷ ask_role (Some Settles) here there first second ∷ ask_unknown (Some Settles) there first second ∷ ask_down (Some Settles) there first second ∷ ask_paused (Some Settles) there first ∷ ask_replaying (Some Settles) there first second ∷ [])
       ≡ settle_refusal there first second p s
-  unfolding first_of
+  unfolding first_said_no
   settle_tests None second p s = refl
   settle_tests (Some a) None p s = refl
   settle_tests (Some a) (Some b) p s =
@@ -118,9 +118,9 @@ module _ (here there : Option ℕ) where
       (forked (link_towards (Some a) there) (Some b)))
 
   wait_tests : (first : Option SiteFacts) (p : List ℕ) (number : ℕ)
-      → first_of (unknown_one (Some p) first ∷ down_by FirstUp first None ∷ halted_by First first None ∷ ask_role (Some (Waits number)) here there first None ∷ ask_unknown (Some (Waits number)) there first None ∷ ask_unconfirmed (Some (Waits number)) first ∷ [])
+      → first_said_no (unknown_one (Some p) first ∷ down_by FirstUp first None ∷ halted_by First first None ∷ ask_role (Some (Waits number)) here there first None ∷ ask_unknown (Some (Waits number)) there first None ∷ ask_unconfirmed (Some (Waits number)) first ∷ [])
       ≡ wait_refusal first p number
-  unfolding first_of
+  unfolding first_said_no
   wait_tests None p number = refl
   wait_tests (Some a) p number =
       first_front (not (is_up a.state)) (halted_one (Some a)) _ _
@@ -133,42 +133,42 @@ module _ (sites : List SiteFacts) (files : Bool) (p s : List ℕ) where
   abbrev there : Option ℕ
   there = place_named sites (Some s)
 
-  pub link_lines_are : (sync : SyncMode) (prot : Prot) → refusal_of sites files (Link p s sync prot) ≡ link_refusal here there (site_named sites p) (site_named sites s) p s
-  unfolding refusal_of first_of first_name second_name need_of halt_of line_role line_unknown taken over_limit wrong_size span_of ask_of
+  pub link_lines_are : (sync : SyncMode) (prot : Prot) → line_refusal sites files (Link p s sync prot) ≡ link_refusal here there (site_named sites p) (site_named sites s) p s
+  unfolding line_refusal first_said_no first_name second_name need_of halt_of line_role line_unknown taken over_limit wrong_size span_of ask_of
   link_lines_are sync prot = link_tests here there (site_named sites p) (site_named sites s) p s
 
-  pub set_lines_are : (sync : SyncMode) (prot : Prot) → refusal_of sites files (Set p s sync prot) ≡ set_refusal there (site_named sites p) (site_named sites s) p s
-  unfolding refusal_of first_of first_name second_name need_of halt_of line_role line_unknown taken over_limit wrong_size span_of ask_of
+  pub set_lines_are : (sync : SyncMode) (prot : Prot) → line_refusal sites files (Set p s sync prot) ≡ set_refusal there (site_named sites p) (site_named sites s) p s
+  unfolding line_refusal first_said_no first_name second_name need_of halt_of line_role line_unknown taken over_limit wrong_size span_of ask_of
   set_lines_are sync prot = set_tests here there (site_named sites p) (site_named sites s) p s
 
-  pub connect_lines_are : refusal_of sites files (Connect p s) ≡ turn_refusal there (site_named sites p) (site_named sites s) p s
-  unfolding refusal_of first_of first_name second_name need_of halt_of line_role line_unknown taken over_limit wrong_size span_of ask_of
+  pub connect_lines_are : line_refusal sites files (Connect p s) ≡ turn_refusal there (site_named sites p) (site_named sites s) p s
+  unfolding line_refusal first_said_no first_name second_name need_of halt_of line_role line_unknown taken over_limit wrong_size span_of ask_of
   connect_lines_are = turn_tests here there (site_named sites p) (site_named sites s) p s
 
-  pub cut_lines_are : refusal_of sites files (Cut p s) ≡ turn_refusal there (site_named sites p) (site_named sites s) p s
-  unfolding refusal_of first_of first_name second_name need_of halt_of line_role line_unknown taken over_limit wrong_size span_of ask_of
+  pub cut_lines_are : line_refusal sites files (Cut p s) ≡ turn_refusal there (site_named sites p) (site_named sites s) p s
+  unfolding line_refusal first_said_no first_name second_name need_of halt_of line_role line_unknown taken over_limit wrong_size span_of ask_of
   cut_lines_are = turn_tests here there (site_named sites p) (site_named sites s) p s
 
-  pub pause_lines_are : refusal_of sites files (Pause p s) ≡ turn_refusal there (site_named sites p) (site_named sites s) p s
-  unfolding refusal_of first_of first_name second_name need_of halt_of line_role line_unknown taken over_limit wrong_size span_of ask_of
+  pub pause_lines_are : line_refusal sites files (Pause p s) ≡ turn_refusal there (site_named sites p) (site_named sites s) p s
+  unfolding line_refusal first_said_no first_name second_name need_of halt_of line_role line_unknown taken over_limit wrong_size span_of ask_of
   pause_lines_are = turn_tests here there (site_named sites p) (site_named sites s) p s
 
-  pub resume_lines_are : refusal_of sites files (Resume p s) ≡ turn_refusal there (site_named sites p) (site_named sites s) p s
-  unfolding refusal_of first_of first_name second_name need_of halt_of line_role line_unknown taken over_limit wrong_size span_of ask_of
+  pub resume_lines_are : line_refusal sites files (Resume p s) ≡ turn_refusal there (site_named sites p) (site_named sites s) p s
+  unfolding line_refusal first_said_no first_name second_name need_of halt_of line_role line_unknown taken over_limit wrong_size span_of ask_of
   resume_lines_are = turn_tests here there (site_named sites p) (site_named sites s) p s
 
-  pub tick_lines_are : refusal_of sites files (Tick p s) ≡ turn_refusal there (site_named sites p) (site_named sites s) p s
-  unfolding refusal_of first_of first_name second_name need_of halt_of line_role line_unknown taken over_limit wrong_size span_of ask_of
+  pub tick_lines_are : line_refusal sites files (Tick p s) ≡ turn_refusal there (site_named sites p) (site_named sites s) p s
+  unfolding line_refusal first_said_no first_name second_name need_of halt_of line_role line_unknown taken over_limit wrong_size span_of ask_of
   tick_lines_are = turn_tests here there (site_named sites p) (site_named sites s) p s
 
-  pub pump_lines_are : refusal_of sites files (Pump p s) ≡ pump_refusal there (site_named sites p) (site_named sites s) p s
-  unfolding refusal_of first_of first_name second_name need_of halt_of line_role line_unknown taken over_limit wrong_size span_of ask_of
+  pub pump_lines_are : line_refusal sites files (Pump p s) ≡ pump_refusal there (site_named sites p) (site_named sites s) p s
+  unfolding line_refusal first_said_no first_name second_name need_of halt_of line_role line_unknown taken over_limit wrong_size span_of ask_of
   pump_lines_are = pump_tests here there (site_named sites p) (site_named sites s) p s
 
-  pub settle_lines_are : refusal_of sites files (Settle p s) ≡ settle_refusal there (site_named sites p) (site_named sites s) p s
-  unfolding refusal_of first_of first_name second_name need_of halt_of line_role line_unknown taken over_limit wrong_size span_of ask_of
+  pub settle_lines_are : line_refusal sites files (Settle p s) ≡ settle_refusal there (site_named sites p) (site_named sites s) p s
+  unfolding line_refusal first_said_no first_name second_name need_of halt_of line_role line_unknown taken over_limit wrong_size span_of ask_of
   settle_lines_are = settle_tests here there (site_named sites p) (site_named sites s) p s
 
-pub wait_lines_are : (sites : List SiteFacts) (files : Bool) (p : List ℕ) (number : ℕ) → refusal_of sites files (Wait p number) ≡ wait_refusal (site_named sites p) p number
-unfolding refusal_of first_of first_name second_name need_of halt_of line_role line_unknown taken over_limit wrong_size span_of ask_of
+pub wait_lines_are : (sites : List SiteFacts) (files : Bool) (p : List ℕ) (number : ℕ) → line_refusal sites files (Wait p number) ≡ wait_refusal (site_named sites p) p number
+unfolding line_refusal first_said_no first_name second_name need_of halt_of line_role line_unknown taken over_limit wrong_size span_of ask_of
 wait_lines_are sites files p number = wait_tests (place_named sites (Some p)) None (site_named sites p) p number

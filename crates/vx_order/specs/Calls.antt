@@ -1,10 +1,9 @@
 -- The tests of a run of blocks.
 use Rattle.std.specs.Prelude.{ℕ, ◌+◌, Bool, true, false, not, ◌&&◌, ◌||◌, ◌==◌, nat_lt, List, Option, Some, None}
+use Rattle.vx_history.specs.Refusals.{is_primary}
 use Rattle.vx_model.specs.declared.no.No.{No}
 use Rattle.vx_model.specs.declared.no.No.TheVariants.{Unknown, Range, Size, Role as WrongRole}
 use Rattle.vx_model.specs.declared.no.Named.TheVariants.{Of}
-use Rattle.vx_model.specs.declared.site.Role.{Role}
-use Rattle.vx_model.specs.declared.site.Role.TheVariants.{Primary, Secondary, Handing, Bunker}
 use Rattle.vx_order.specs.declared.facts.SiteFacts.{SiteFacts}
 use Rattle.vx_order.specs.declared.facts.VolumeFacts.{VolumeFacts}
 use Rattle.vx_order.specs.declared.facts.RvgFacts.{RvgFacts}
@@ -15,12 +14,6 @@ use Rattle.vx_order.specs.declared.span.Way.{Way}
 use Rattle.vx_order.specs.declared.span.Way.TheVariants.{Writes, Reads, Shows}
 use Rattle.vx_order.specs.Tests.{when}
 use Rattle.vx_order.specs.Sites.{volume_of, rvg_of}
-
-abbrev pub is_primary : Role → Bool
-is_primary Primary = true
-is_primary Secondary = false
-is_primary (Handing _) = false
-is_primary Bunker = false
 
 abbrev pub is_data : VolumeKind → Bool
 is_data Data = true

@@ -1,5 +1,6 @@
 -- The tests of a further link.
 use Rattle.std.specs.Prelude.{ℕ, Bool, true, false, not, ◌&&◌, ◌||◌, ◌==◌, nat_le, List, [], ◌∷◌, Option, Some, None, if◌then◌else◌}
+use Rattle.vx_history.specs.Refusals.{is_primary}
 use Rattle.vx_model.specs.declared.history.Line.{Line}
 use Rattle.vx_model.specs.declared.limits.TheConstants.{MOST_LINKS}
 use Rattle.vx_model.specs.declared.no.Counted.TheVariants.{Links}
@@ -12,7 +13,7 @@ use Rattle.vx_order.specs.declared.facts.SiteFacts.{SiteFacts}
 use Rattle.vx_order.specs.declared.facts.VolumeFacts.{VolumeFacts}
 use Rattle.vx_order.specs.declared.facts.RvgFacts.{RvgFacts}
 use Rattle.vx_order.specs.declared.facts.LinkFacts.{LinkFacts}
-use Rattle.vx_order.specs.Calls.{is_primary, is_data}
+use Rattle.vx_order.specs.Calls.{is_data}
 use Rattle.vx_order.specs.Links.{link_towards, link_count}
 use Rattle.vx_order.specs.Sites.{rvg_of}
 use Rattle.vx_order.specs.Tests.{when}

@@ -11,8 +11,9 @@ use Rattle.vx_order.specs.declared.facts.RvgFacts.{RvgFacts}
 use Rattle.vx_order.specs.declared.span.Span.{Span}
 use Rattle.vx_order.specs.Sites.{site_named, site_gone, volume_of, rvg_of, halted_one}
 use Rattle.vx_model.specs.Sites.{is_bare, is_up}
-use Rattle.vx_order.specs.Shapes.{most_blocks}
+use Rattle.vx_order.specs.Shapes.{most_disk_blocks}
 use Rattle.vx_model.specs.Sizes.{is_raw_shape}
+use Rattle.vx_order.specs.Grouping.{is_deported}
 use Rattle.vx_order.specs.Holding.{span_down, span_full}
 use Rattle.vx_order.specs.Tests.{before}
 use Rattle.vx_order.specs.Calls.{takes_calls, asks_role, is_write, outgrows}
@@ -23,7 +24,7 @@ site_refusal sites files name disks blocks =
     if is_some (site_named sites name) then Some (Exists name)
     else if nat_le MOST_SITES (length sites) then Some (Limit Sites MOST_SITES)
     else if nat_lt MOST_DISKS disks then Some (Limit Disks MOST_DISKS)
-    else if nat_lt (most_blocks files) blocks then Some (Limit Blocks (most_blocks files))
+    else if nat_lt (most_disk_blocks files) blocks then Some (Limit Blocks (most_disk_blocks files))
     else if disks == 0 || nat_lt blocks LEAST_BLOCKS then Some Size
     else None
 
@@ -48,7 +49,7 @@ status_refusal (Some site) name = None
 -- a `recover` line of the site of this name
 abbrev pub recover_refusal : Option SiteFacts → List ℕ → Option No
 recover_refusal None name = Some (Unknown (Of name))
-recover_refusal (Some site) name = None
+recover_refusal (Some site) name = if is_deported site.state then Some Role else None
 
 -- a `crash` or `fuse` line of the site of this name
 abbrev pub up_refusal : Option SiteFacts → List ℕ → Option No
@@ -58,7 +59,9 @@ up_refusal (Some site) name = if not (is_up site.state) then Some Down else None
 -- an `apply` line of the site of this name
 abbrev pub apply_refusal : Option SiteFacts → List ℕ → Option No
 apply_refusal None name = Some (Unknown (Of name))
-apply_refusal (Some site) name = if not (is_up site.state) then Some Down else halted_one (Some site)
+apply_refusal (Some site) name =
+    if not (is_up site.state) then Some Down
+    else before (halted_one (Some site)) (if not (is_some (rvg_of (Some site))) then Some Role else None)
 
 -- a run of blocks of a volume, at a site that is not halted
 abbrev pub call_on : Option RvgFacts → Option VolumeFacts → Span → Option No

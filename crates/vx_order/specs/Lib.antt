@@ -1,5 +1,7 @@
 pub mod Asks
 pub mod Calls
+pub mod GroupKinds
+pub mod Grouping
 pub mod Holding
 pub mod Joining
 pub mod Kinds
@@ -7,9 +9,11 @@ pub mod LinkKinds
 pub mod Links
 pub mod Order
 pub mod Packets
+pub mod Replicating
 pub mod Sending
 pub mod Shapes
 pub mod Sites
 pub mod Spans
 pub mod Subject
 pub mod Tests
+pub mod Volumes

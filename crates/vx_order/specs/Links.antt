@@ -1,5 +1,5 @@
 -- The links of a site, by the numbers of the sites to which they go.
-use Rattle.std.specs.Prelude.{ℕ, Bool, ◌==◌, List, [], ◌∷◌, length, Option, Some, None, slice_get, if◌then◌else◌}
+use Rattle.std.specs.Prelude.{ℕ, ◌==◌, List, length, Option, Some, None, slice_get, if◌then◌else◌}
 use Rattle.std.specs.List.{find, position}
 use Rattle.std.specs.Str.{bytes_eq}
 use Rattle.vx_model.specs.declared.no.SiteName.{SiteName}

@@ -3,10 +3,10 @@ use Rattle.std.specs.Prelude.{ℕ, Bool, List, [], ◌∷◌, length, Option}
 use Rattle.vx_model.specs.declared.no.No.{No}
 use Rattle.vx_script.specs.declared.line.ScriptLine.{ScriptLine}
 use Rattle.vx_order.specs.declared.facts.SiteFacts.{SiteFacts}
-use Rattle.vx_order.specs.Tests.{first_of}
+use Rattle.vx_order.specs.Tests.{first_said_no}
 use Rattle.vx_order.specs.Subject.{first_name, second_name, need_of, halt_of}
 use Rattle.vx_order.specs.Spans.{span_of}
-use Rattle.vx_order.specs.Sites.{facts_of, unknown_one, down_by, halted_by}
+use Rattle.vx_order.specs.Sites.{named_facts, unknown_one, down_by, halted_by}
 use Rattle.vx_order.specs.Shapes.{line_role, line_unknown, taken, over_limit, wrong_size}
 use Rattle.vx_order.specs.Calls.{span_role, span_unknown, span_size, span_range}
 use Rattle.vx_order.specs.Asks.{ask_of}
@@ -29,9 +29,9 @@ tests_of sites files line first second here there =
     ∷ line_unknown line first
     ∷ span_unknown first (span_of line)
     ∷ ask_unknown (ask_of line) there first second
-    ∷ taken sites line
+    ∷ taken sites line first
     ∷ ask_taken (ask_of line) there first second
-    ∷ over_limit (length sites) files line
+    ∷ over_limit (length sites) files line first
     ∷ ask_limit (ask_of line) first
     ∷ wrong_size line first
     ∷ ask_size (ask_of line) first second
@@ -46,6 +46,6 @@ tests_of sites files line first second here there =
     ∷ []
 
 -- the first refusal that holds of a line before it works
-unfoldable pub refusal_of : List SiteFacts → Bool → ScriptLine → Option No
-refusal_of sites files line =
-    first_of (tests_of sites files line (facts_of sites (first_name line)) (facts_of sites (second_name line)) (place_named sites (first_name line)) (place_named sites (second_name line)))
+unfoldable pub line_refusal : List SiteFacts → Bool → ScriptLine → Option No
+line_refusal sites files line =
+    first_said_no (tests_of sites files line (named_facts sites (first_name line)) (named_facts sites (second_name line)) (place_named sites (first_name line)) (place_named sites (second_name line)))

@@ -1,8 +1,8 @@
 -- The tests of a line on a link that stands, and of one that waits for links.
-use Rattle.std.specs.Prelude.{ℕ, Bool, true, false, not, ◌&&◌, ◌||◌, ◌==◌, nat_lt, List, Option, Some, None}
+use Rattle.std.specs.Prelude.{ℕ, Bool, true, false, not, ◌&&◌, ◌||◌, ◌==◌, nat_lt, Option, Some, None}
 use Rattle.std.specs.List.{list_any}
 use Rattle.vx_history.specs.Admission.{is_down}
-use Rattle.vx_history.specs.Refusals.{keeps_links, is_stale}
+use Rattle.vx_history.specs.Refusals.{keeps_links, is_stale_mode}
 use Rattle.vx_model.specs.declared.link.Mode.{Mode}
 use Rattle.vx_model.specs.declared.link.Mode.TheVariants.{Log, Dcm, Replay, Fork, Stale}
 use Rattle.vx_model.specs.declared.no.Named.TheVariants.{Of, Number}
@@ -35,7 +35,7 @@ sends (Some rvg) = keeps_links rvg.role
 -- the link goes by nothing
 abbrev pub goes_by_nothing : Option LinkFacts → Bool
 goes_by_nothing None = false
-goes_by_nothing (Some l) = is_stale l.link.mode
+goes_by_nothing (Some l) = is_stale_mode l.link.mode
 
 abbrev pub is_fork : Mode → Bool
 is_fork Log = false

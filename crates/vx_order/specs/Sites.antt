@@ -6,7 +6,7 @@ use Rattle.vx_model.specs.declared.no.No.{No}
 use Rattle.vx_model.specs.declared.no.No.TheVariants.{Unknown, Down as NotUp, Halted}
 use Rattle.vx_model.specs.declared.no.Named.TheVariants.{Of}
 use Rattle.vx_model.specs.Sites.{is_up, is_bare}
-use Rattle.vx_order.specs.Tests.{when, first_of}
+use Rattle.vx_order.specs.Tests.{when, first_said_no}
 use Rattle.vx_order.specs.declared.facts.SiteFacts.{SiteFacts}
 use Rattle.vx_order.specs.declared.facts.VolumeFacts.{VolumeFacts}
 use Rattle.vx_order.specs.declared.facts.RvgFacts.{RvgFacts}
@@ -20,9 +20,9 @@ abbrev pub site_named : List SiteFacts → List ℕ → Option SiteFacts
 site_named sites name = find (λ site. bytes_eq site.name name) sites
 
 -- the site that a line names
-abbrev pub facts_of : List SiteFacts → Option (List ℕ) → Option SiteFacts
-facts_of sites None = None
-facts_of sites (Some name) = site_named sites name
+abbrev pub named_facts : List SiteFacts → Option (List ℕ) → Option SiteFacts
+named_facts sites None = None
+named_facts sites (Some name) = site_named sites name
 
 -- a known site is not up
 abbrev pub site_off : Option SiteFacts → Bool
@@ -74,4 +74,4 @@ halted_one site = halted_rvg (rvg_of site)
 abbrev pub halted_by : Halt → Option SiteFacts → Option SiteFacts → Option No
 halted_by Neither first second = None
 halted_by First first second = halted_one first
-halted_by Both first second = first_of (halted_one first ∷ halted_one second ∷ [])
+halted_by Both first second = first_said_no (halted_one first ∷ halted_one second ∷ [])

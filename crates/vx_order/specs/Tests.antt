@@ -13,6 +13,6 @@ before None other = other
 before (Some refused) other = Some refused
 
 -- the first test that holds
-unfoldable pub first_of : List (Option No) → Option No
-first_of [] = None
-first_of (test ∷ tests) = before test (first_of tests)
+unfoldable pub first_said_no : List (Option No) → Option No
+first_said_no [] = None
+first_said_no (test ∷ tests) = before test (first_said_no tests)

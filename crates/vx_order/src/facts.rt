@@ -26,6 +26,8 @@ pub struct VolumeFacts {
     pub name: Name,
     pub blocks: u64,
     pub kind: VolumeKind,
+    /// How many plexes it has, 0 where the site is no disk group.
+    pub plexes: u32,
 }
 
 /// The replicated volume group of a site, or its log as a bunker.
@@ -62,6 +64,8 @@ pub struct SiteFacts {
     pub disks: u32,
     /// How many blocks each of them has.
     pub blocks: u64,
+    /// Whether they are a disk group.
+    pub grouped: bool,
     pub volumes: VolumeTable,
     pub rvg: Option<RvgFacts>,
     pub links: LinkTable,

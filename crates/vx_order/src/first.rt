@@ -5,9 +5,9 @@ ghost use Rattle.vx_order.specs.Tests as order;
 use vx_model::No;
 
 /// The first of these refusals that is there.
-#[tactic(auto, unfolding(crate::specs::Tests::first_of))]
+#[tactic(auto, unfolding(crate::specs::Tests::first_said_no))]
 pub fn first_of(tests: &[Option<No>]) -> Option<No>
-    ensures { result ≡ order.first_of tests.now }
+    ensures { result ≡ order.first_said_no tests.now }
 {
     for test in tests {
         if test.is_some() {

@@ -1,33 +1,37 @@
 //! The tests of a script line, in the one order of refusals.
 //!
-//! Complete are the lines `site`, `raw`, `disk`, `crash`, `fuse`, `recover`, `write`, `put`, `read`, `show`, `apply`,
-//! `status`, `link`, `set`, `connect`, `cut`, `pause`, `resume`, `pump`, `tick`, `wait` and `settle`, over links that go by the
-//! log. A `deliver` line looks at the network alone (`refuse_packet`). Of every other line the tests for unknown sites, for
-//! sites that are not up and for halted sites stand.
+//! Complete are the lines `site`, `raw`, `disk`, `crash`, `fuse`, `recover`, `dg`, `vol`, `plex`, `rvg`, `write`, `put`, `read`,
+//! `show`, `apply`, `status`, `link`, `set`, `connect`, `cut`, `pause`, `resume`, `pump`, `tick`, `wait` and `settle`, over links
+//! that go by the log, but for a last plex and for want of space, which a disk group finds itself. A `deliver` line looks at the
+//! network alone (`refuse_packet`). Of every other line the tests for unknown sites, for sites that are not up and for halted sites
+//! stand.
 #![tactic(auto)]
 
 mod ask;
 mod calls;
 mod facts;
 mod first;
+mod group_laws;
+mod grouping;
 mod holding;
 mod joining;
 mod laws;
 mod link_laws;
-#[cfg(test)]
-mod link_tests;
 mod links;
 mod order;
 mod packets;
+mod replicating;
 mod sending;
 mod shape;
 mod sites;
 mod span;
 mod subject;
+mod volumes;
 
 pub use facts::{
     LinkFacts, LinkRoom, LinkTable, RvgFacts, SiteFacts, VolumeFacts, VolumeKind, VolumeTable,
 };
+pub use group_laws::{deport_lines, import_lines, init_lines, plex_lines, rvg_lines, volume_lines};
 pub use laws::{
     apply_lines, crash_lines, disk_lines, fuse_lines, put_lines, raw_lines, read_lines,
     recover_lines, show_lines, site_lines, status_lines, write_lines,

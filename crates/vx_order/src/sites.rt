@@ -3,7 +3,7 @@ ghost use Rattle.std.specs.Prelude.{◌≡◌};
 ghost use Rattle.std.specs.List.{find};
 ghost use Rattle.std.specs.Option.{option_copied};
 ghost use Rattle.std.specs.Str.{bytes_eq};
-ghost use Rattle.vx_order.specs.Sites.{site_named, facts_of, site_off, site_gone, volume_of, rvg_of, unknown_one, down_by, halted_one, halted_by};
+ghost use Rattle.vx_order.specs.Sites.{site_named, named_facts, site_off, site_gone, volume_of, rvg_of, unknown_one, down_by, halted_one, halted_by};
 
 use crate::facts::{RvgFacts, SiteFacts, VolumeFacts};
 use crate::first::first_of;
@@ -21,7 +21,7 @@ pub fn find_site<'a>(sites: &'a [SiteFacts], name: &Name) -> Option<&'a SiteFact
 
 /// The facts of the site that a line names.
 pub fn find_facts(sites: &[SiteFacts], name: Option<Name>) -> Option<&SiteFacts>
-    ensures { option_copied result ≡ facts_of sites.now name }
+    ensures { option_copied result ≡ named_facts sites.now name }
 {
     match name {
         Some(name) => find_site(sites, &name),

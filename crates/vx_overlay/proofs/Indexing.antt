@@ -5,7 +5,7 @@ use Rattle.std.proofs.lemmas.List.{take_all}
 use Rattle.std.proofs.lemmas.Option.{get_or_from_slice_get}
 use Rattle.vx_overlay.specs.declared.entry.Entry.{Entry}
 use Rattle.vx_overlay.specs.Indexes.{IsIndex, NewestAt, bucket}
-use Rattle.vx_overlay.specs.Pending.{newest, or_else, bytes_for}
+use Rattle.vx_overlay.specs.Pending.{newest, newer_or, bytes_for}
 use Rattle.vx_overlay.proofs.Newest.{newest-take, bytes-hit, bytes-miss}
 
 pub some_at : (xs : List Entry) (k : ℕ) → k < length xs → (e : Entry) × (slice_get xs k ≡ Some e)
@@ -15,17 +15,17 @@ some_at (x ∷ xs) (suc k) low = some_at xs k (omega (arith, low))
 
 module _ (xs : List Entry) (v b : ℕ) where
   -- one entry more
-  one_more : (k : ℕ) (e : Entry) → k < length xs → slice_get xs k ≡ Some e → newest (take (k + 1) xs) v b ≡ or_else (bytes_for e v b) (newest (take k xs) v b)
-  one_more k e low is = newest-take xs k e v b low ∙ ap (λ (x : Entry). or_else (bytes_for x v b) (newest (take k xs) v b)) (get_or_from_slice_get xs k e e is)
+  one_more : (k : ℕ) (e : Entry) → k < length xs → slice_get xs k ≡ Some e → newest (take (k + 1) xs) v b ≡ newer_or (bytes_for e v b) (newest (take k xs) v b)
+  one_more k e low is = newest-take xs k e v b low ∙ ap (λ (x : Entry). newer_or (bytes_for x v b) (newest (take k xs) v b)) (get_or_from_slice_get xs k e e is)
 
   pub missed : (k : ℕ) (e : Entry) → k < length xs → slice_get xs k ≡ Some e → (e.volume ≡ v → e.block ≡ b → ⊥) → newest (take (k + 1) xs) v b ≡ newest (take k xs) v b
-  missed k e low is other = one_more k e low is ∙ ap (λ (o : Option (List ℕ)). or_else o (newest (take k xs) v b)) (bytes-miss e v b other)
+  missed k e low is other = one_more k e low is ∙ ap (λ (o : Option (List ℕ)). newer_or o (newest (take k xs) v b)) (bytes-miss e v b other)
 
   pub hit : (k : ℕ) (e : Entry) → k < length xs → slice_get xs k ≡ Some e → e.volume ≡ v → e.block ≡ b → newest (take (k + 1) xs) v b ≡ newest xs v b → NewestAt xs k v b
   hit k e low is p q same = record {
     entry = e;
     there = is;
-    is = sym same ∙ one_more k e low is ∙ ap (λ (o : Option (List ℕ)). or_else o (newest (take k xs) v b)) (bytes-hit e v b p q);
+    is = sym same ∙ one_more k e low is ∙ ap (λ (o : Option (List ℕ)). newer_or o (newest (take k xs) v b)) (bytes-hit e v b p q);
   }
 
   pub hit_at : (at base : ℕ) → base < at → at ≤ base + length xs → (e : Entry) → slice_get xs (at - 1 - base) ≡ Some e → e.volume ≡ v → e.block ≡ b → newest (take (at - base) xs) v b ≡ newest xs v b

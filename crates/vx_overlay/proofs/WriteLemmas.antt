@@ -8,7 +8,7 @@ use Rattle.std.proofs.lemmas.List.{take-append-drop, drop-drop, drop_at}
 use Rattle.std.proofs.lemmas.List.Elements.{All-nil, All-cons, All-head, All-tail, All-contains, All-contains_itself, All-weaker}
 use Rattle.vx_model.specs.Content.{Write, Content, blocks_in, block_of, touches, put, fold_writes}
 use Rattle.vx_overlay.specs.declared.entry.Entry.{Entry}
-use Rattle.vx_overlay.specs.Pending.{newest, or_else, bytes_for, entry_of}
+use Rattle.vx_overlay.specs.Pending.{newest, newer_or, bytes_for, entry_of}
 use Rattle.vx_overlay.specs.Writes.{IsWholeWrite, put_there, newest_of, entries_at, entries_of, blocks_within_of}
 use Rattle.vx_overlay.proofs.Newest.{or-assoc, or-none, newest-append, bytes-same, bytes-other}
 
@@ -42,7 +42,7 @@ put_by false t new old = refl
 pub put_block : (c : Content) (x : Write) (v b : ℕ) → (put c x).block v b ≡ unwrap_or (put_there c.size x v b) (c.block v b)
 put_block c x v b = put_by (leb (x.start + blocks_in x.bytes) (c.size x.volume)) (touches x v b) (block_of x.bytes (b - x.start)) (c.block v b)
 
-or_there : (later here : Option (List ℕ)) (old : List ℕ) → unwrap_or later (unwrap_or here old) ≡ unwrap_or (or_else later here) old
+or_there : (later here : Option (List ℕ)) (old : List ℕ) → unwrap_or later (unwrap_or here old) ≡ unwrap_or (newer_or later here) old
 or_there (Some bytes) here old = refl
 or_there None here old = refl
 
@@ -102,20 +102,20 @@ put_there_none size x v b whole h =
 -- the newest of writes
 
 -- the last of two lists of writes is that of the later one, if it has any
-pub newest_append : (size : ℕ → ℕ) (xs ys : List Write) (v b : ℕ) → newest_of size (xs ++ ys) v b ≡ or_else (newest_of size ys v b) (newest_of size xs v b)
+pub newest_append : (size : ℕ → ℕ) (xs ys : List Write) (v b : ℕ) → newest_of size (xs ++ ys) v b ≡ newer_or (newest_of size ys v b) (newest_of size xs v b)
 newest_append size [] ys v b = sym (or-none (newest_of size ys v b))
 newest_append size (x ∷ xs) ys v b =
-    ap (λ (o : Option (List ℕ)). or_else o (put_there size x v b)) (newest_append size xs ys v b)
+    ap (λ (o : Option (List ℕ)). newer_or o (put_there size x v b)) (newest_append size xs ys v b)
     ∙ or-assoc (newest_of size ys v b) (newest_of size xs v b) (put_there size x v b)
 
-dropped : (size : ℕ → ℕ) (k : ℕ) (xs : List Write) (v b : ℕ) → newest_of size xs v b ≡ or_else (newest_of size (drop k xs) v b) (newest_of size (take k xs) v b)
+dropped : (size : ℕ → ℕ) (k : ℕ) (xs : List Write) (v b : ℕ) → newest_of size xs v b ≡ newer_or (newest_of size (drop k xs) v b) (newest_of size (take k xs) v b)
 dropped size k xs v b = ap (λ (l : List Write). newest_of size l v b) (sym (take-append-drop k xs)) ∙ newest_append size (take k xs) (drop k xs) v b
 
 -- without the oldest
 pub newest_drop : (size : ℕ → ℕ) (k : ℕ) (xs : List Write) (v b : ℕ) (bytes : List ℕ) → newest_of size (drop k xs) v b ≡ Some bytes → newest_of size xs v b ≡ Some bytes
-newest_drop size k xs v b bytes h = dropped size k xs v b ∙ ap (λ (o : Option (List ℕ)). or_else o (newest_of size (take k xs) v b)) h
+newest_drop size k xs v b bytes h = dropped size k xs v b ∙ ap (λ (o : Option (List ℕ)). newer_or o (newest_of size (take k xs) v b)) h
 
-neither : (later here : Option (List ℕ)) → or_else later here ≡ None → (later ≡ None) × (here ≡ None)
+neither : (later here : Option (List ℕ)) → newer_or later here ≡ None → (later ≡ None) × (here ≡ None)
 neither (Some bytes) here h = absurd (none-some bytes (sym h))
 neither None here h = (refl, h)
 
@@ -131,7 +131,7 @@ none_each size (x ∷ xs) v b h =
 each_none : (size : ℕ → ℕ) (xs : List Write) (v b : ℕ) → All (λ (x : Write). put_there size x v b ≡ None) xs → newest_of size xs v b ≡ None
 each_none size [] v b h = refl
 each_none size (x ∷ xs) v b h =
-    ap (λ (o : Option (List ℕ)). or_else o (put_there size x v b)) (each_none size xs v b (All-tail (λ (x : Write). put_there size x v b ≡ None) x xs h))
+    ap (λ (o : Option (List ℕ)). newer_or o (put_there size x v b)) (each_none size xs v b (All-tail (λ (x : Write). put_there size x v b ≡ None) x xs h))
     ∙ All-head (λ (x : Write). put_there size x v b ≡ None) x xs h
 
 is_there : (o : Option (List ℕ)) → (o ≡ None → ⊥) → IsSome o
@@ -179,7 +179,7 @@ entries_at_length v b (suc n) bytes = ap suc (entries_at_length v (b + 1) n (dro
 pub entries_at_miss : (v b n : ℕ) (bytes : List ℕ) (w k : ℕ) → (w ≡ v → b ≤ k → k < b + n → ⊥) → newest (entries_at v b n bytes) w k ≡ None
 entries_at_miss v b zero bytes w k h = refl
 entries_at_miss v b (suc n) bytes w k h =
-    ap (λ (o : Option (List ℕ)). or_else o (bytes_for (entry_of v b (take 512 bytes)) w k))
+    ap (λ (o : Option (List ℕ)). newer_or o (bytes_for (entry_of v b (take 512 bytes)) w k))
     (entries_at_miss v (b + 1) n (drop 512 bytes) w k (λ same low high. h same (omega (arith, low)) (omega (arith, high))))
     ∙ bytes-other v b w k (take 512 bytes) (λ same at. h same (omega (arith, at)) (omega (arith, at)))
 
@@ -193,14 +193,14 @@ entries_at_hit v b (suc n) bytes w k same low high =
         → newest (entries_at v b (suc n) bytes) w k ≡ Some (block_of bytes (k - b))
     behind past rest =
         let at : suc (k - (b + 1)) ≡ k - b = omega (arith, past) in
-        ap (λ (o : Option (List ℕ)). or_else o (bytes_for (entry_of v b (take 512 bytes)) w k)) rest
+        ap (λ (o : Option (List ℕ)). newer_or o (bytes_for (entry_of v b (take 512 bytes)) w k)) rest
         ∙ ap (λ (l : List ℕ). Some l) (next_block bytes (k - (b + 1)) ∙ ap (λ (m : ℕ). block_of bytes m) at)
 
     here : k ≤ b → newest (entries_at v b (suc n) bytes) w k ≡ Some (block_of bytes (k - b))
     here up =
         let at : b ≡ k = omega (arith, low, up) in
         let first : 0 ≡ k - b = omega (arith, up) in
-        ap (λ (o : Option (List ℕ)). or_else o (bytes_for (entry_of v b (take 512 bytes)) w k))
+        ap (λ (o : Option (List ℕ)). newer_or o (bytes_for (entry_of v b (take 512 bytes)) w k))
         (entries_at_miss v (b + 1) n (drop 512 bytes) w k (λ _ past _. omega (arith, up, past)))
         ∙ ap (λ (u : ℕ). bytes_for (entry_of v b (take 512 bytes)) u k) same
         ∙ ap (λ (u : ℕ). bytes_for (entry_of v b (take 512 bytes)) v u) (sym at)
@@ -246,7 +246,7 @@ its_newest size x v b whole =
         (λ same low high. misses (touches x v b) untouched
         (shows v x.volume x.start b (512 * (b - x.start)) (length x.bytes) same low (lies_whole (length x.bytes) x.start b whole low high)))
 
-pub newest_of_entries_append : (es fs : List Entry) (v b : ℕ) → newest (es ++ fs) v b ≡ or_else (newest fs v b) (newest es v b)
+pub newest_of_entries_append : (es fs : List Entry) (v b : ℕ) → newest (es ++ fs) v b ≡ newer_or (newest fs v b) (newest es v b)
 newest_of_entries_append es fs v b = newest-append es fs v b
 
 -- the blocks of writes wait with the bytes that the last write puts
@@ -254,8 +254,8 @@ pub newest_entries : (size : ℕ → ℕ) (xs : List Write) (v b : ℕ) → All 
 newest_entries size [] v b whole = refl
 newest_entries size (x ∷ xs) v b whole =
     newest-append (its_entries size x) (entries_of size xs) v b
-    ∙ ap (λ (o : Option (List ℕ)). or_else o (newest (its_entries size x) v b)) (newest_entries size xs v b (All-tail IsWholeWrite x xs whole))
-    ∙ ap (λ (o : Option (List ℕ)). or_else (newest_of size xs v b) o) (its_newest size x v b (All-head IsWholeWrite x xs whole))
+    ∙ ap (λ (o : Option (List ℕ)). newer_or o (newest (its_entries size x) v b)) (newest_entries size xs v b (All-tail IsWholeWrite x xs whole))
+    ∙ ap (λ (o : Option (List ℕ)). newer_or (newest_of size xs v b) o) (its_newest size x v b (All-head IsWholeWrite x xs whole))
 
 pub entries_append : (size : ℕ → ℕ) (xs ys : List Write) → entries_of size (xs ++ ys) ≡ entries_of size xs ++ entries_of size ys
 entries_append size [] ys = refl

@@ -21,7 +21,7 @@ pub record NewestAt (entries : List Entry) (k volume block : ℕ) : Type 0 where
   pub is : newest entries volume block ≡ Some entry.bytes
 
 -- what an overlay keeps beside its entries, where the index may be given up
-pub record IsKept (entries : List Entry) (earlier last : List ℕ) (capacity room base : ℕ) (kept : Bool) : Type 0 where
+pub record IsIndexKept (entries : List Entry) (earlier last : List ℕ) (capacity room base : ℕ) (kept : Bool) : Type 0 where
   pub long : length earlier ≡ length entries
   pub room_is : room ≡ capacity
   pub some : 0 < length last

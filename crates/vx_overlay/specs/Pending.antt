@@ -16,17 +16,17 @@ abbrev pub bytes_for : Entry → ℕ → ℕ → Option (List ℕ)
 bytes_for e volume block = if eqb e.volume volume && eqb e.block block then Some e.bytes else None
 
 -- the first, or where there is none the second
-abbrev pub or_else : Option (List ℕ) → Option (List ℕ) → Option (List ℕ)
-or_else (Some bytes) other = Some bytes
-or_else None other = other
+abbrev pub newer_or : Option (List ℕ) → Option (List ℕ) → Option (List ℕ)
+newer_or (Some bytes) other = Some bytes
+newer_or None other = other
 
 -- the bytes of the last entry that is of this block
 abbrev pub newest : List Entry → ℕ → ℕ → Option (List ℕ)
 newest [] volume block = None
-newest (e ∷ rest) volume block = or_else (newest rest volume block) (bytes_for e volume block)
+newest (e ∷ rest) volume block = newer_or (newest rest volume block) (bytes_for e volume block)
 
 -- an entry of this block with these bytes stands in the list, and none of the block after it
-pub record IsNewest (xs : List Entry) (volume block : ℕ) (bytes : List ℕ) : Type 0 where
+pub record IsNewestEntry (xs : List Entry) (volume block : ℕ) (bytes : List ℕ) : Type 0 where
   pub before : List Entry
   pub after : List Entry
   pub there : xs ≡ before ++ entry_of volume block bytes ∷ after

@@ -1,7 +1,7 @@
 -- The blocks of writes: what the last write that covers a block puts there, and the blocks of writes as those that wait.
 use Rattle.std.specs.Prelude.{◌≡◌, ℕ, zero, suc, ◌+◌, ◌-◌, ◌%◌, ◌&&◌, leb, if◌then◌else◌, Option, Some, None, List, [], ◌∷◌, ◌++◌, length, take, drop}
 use Rattle.vx_model.specs.Content.{Write, blocks_in, block_of, touches}
-use Rattle.vx_overlay.specs.Pending.{entry_of, or_else}
+use Rattle.vx_overlay.specs.Pending.{entry_of, newer_or}
 use Rattle.vx_overlay.specs.declared.entry.Entry.{Entry}
 
 -- the bytes of the write are whole blocks
@@ -15,7 +15,7 @@ put_there size x v b = if leb (x.start + blocks_in x.bytes) (size x.volume) && t
 -- what the last of these writes that covers a block puts there
 abbrev pub newest_of : (ℕ → ℕ) → List Write → ℕ → ℕ → Option (List ℕ)
 newest_of size [] v b = None
-newest_of size (x ∷ xs) v b = or_else (newest_of size xs v b) (put_there size x v b)
+newest_of size (x ∷ xs) v b = newer_or (newest_of size xs v b) (put_there size x v b)
 
 -- so many blocks of a volume, with these bytes
 abbrev pub entries_at : ℕ → ℕ → ℕ → List ℕ → List Entry

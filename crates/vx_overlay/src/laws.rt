@@ -1,7 +1,7 @@
 // What the definitions of the newest bytes and of the blocks of writes promise.
 ghost use Rattle.std.specs.Prelude.{◌≡◌, ℕ, ◌+◌, ◌-◌, ◌<◌, ◌≤◌, ◌&&◌, eqb, leb, ltb, if◌then◌else◌, List, [], ◌∷◌, ◌++◌, length, drop, All, Contains, Some, None, IsSome, unwrap_or};
 ghost use Rattle.vx_model.specs.Content.{Write, Content, blocks_in, block_of, fold_writes};
-ghost use Rattle.vx_overlay.specs.Pending.{entry_of, newest, or_else, IsNewest};
+ghost use Rattle.vx_overlay.specs.Pending.{entry_of, newest, newer_or, IsNewestEntry};
 ghost use Rattle.vx_overlay.specs.Writes.{IsWholeWrite, put_there, newest_of, entries_at, entries_of, blocks_within_of};
 ghost use Rattle.vx_overlay.specs.declared.entry.Entry.{Entry};
 
@@ -12,7 +12,7 @@ pub fn newest_holds()
     ensures added { (xs : List Entry) (volume block : ℕ) (bytes : List ℕ) → newest (xs ++ entry_of volume block bytes ∷ []) volume block ≡ Some bytes }
     ensures others { (xs : List Entry) (volume block v b : ℕ) (bytes : List ℕ) → (v ≡ volume → b ≡ block → ⊥) → newest (xs ++ entry_of volume block bytes ∷ []) v b ≡ newest xs v b }
     ensures stands { (xs ys : List Entry) (volume block : ℕ) (bytes : List ℕ) → IsSome (newest (xs ++ entry_of volume block bytes ∷ ys) volume block) }
-    ensures held { (xs : List Entry) (volume block : ℕ) (bytes : List ℕ) → newest xs volume block ≡ Some bytes → IsNewest xs volume block bytes }
+    ensures held { (xs : List Entry) (volume block : ℕ) (bytes : List ℕ) → newest xs volume block ≡ Some bytes → IsNewestEntry xs volume block bytes }
     ensures dropped { (count : ℕ) (xs : List Entry) (volume block : ℕ) (bytes : List ℕ) → newest (drop count xs) volume block ≡ Some bytes → newest xs volume block ≡ Some bytes }
 {}
 
@@ -25,7 +25,7 @@ pub fn writes_wait()
     ensures sizes { (c : Content) (xs : List Write) → (fold_writes c xs).size ≡ c.size }
     ensures own { (size : ℕ → ℕ) (x : Write) (v b : ℕ) (bytes : List ℕ) → IsWholeWrite x → put_there size x v b ≡ Some bytes → (v ≡ x.volume) × (x.start ≤ b) × (b < x.start + blocks_in x.bytes) × (x.start + blocks_in x.bytes ≤ size x.volume) × (bytes ≡ block_of x.bytes (b - x.start)) }
     ensures puts { (size : ℕ → ℕ) (x : Write) (v b : ℕ) → IsWholeWrite x → v ≡ x.volume → x.start ≤ b → b < x.start + blocks_in x.bytes → x.start + blocks_in x.bytes ≤ size x.volume → put_there size x v b ≡ Some (block_of x.bytes (b - x.start)) }
-    ensures later { (size : ℕ → ℕ) (xs ys : List Write) (volume block : ℕ) → newest_of size (xs ++ ys) volume block ≡ or_else (newest_of size ys volume block) (newest_of size xs volume block) }
+    ensures later { (size : ℕ → ℕ) (xs ys : List Write) (volume block : ℕ) → newest_of size (xs ++ ys) volume block ≡ newer_or (newest_of size ys volume block) (newest_of size xs volume block) }
     ensures dropped { (size : ℕ → ℕ) (count : ℕ) (xs : List Write) (volume block : ℕ) (bytes : List ℕ) → newest_of size (drop count xs) volume block ≡ Some bytes → newest_of size xs volume block ≡ Some bytes }
     ensures covered { (size : ℕ → ℕ) (xs : List Write) (volume block : ℕ) (x : Write) (bytes : List ℕ) → Contains xs x → put_there size x volume block ≡ Some bytes → IsSome (newest_of size xs volume block) }
     ensures uncovered { (size : ℕ → ℕ) (xs : List Write) (volume block : ℕ) → ((x : Write) → Contains xs x → put_there size x volume block ≡ None) → newest_of size xs volume block ≡ None }

@@ -27,14 +27,14 @@ pub struct Overlay {
 
 impl Model for Overlay {
     ghost use Rattle.std.specs.Vec.{vec_capacity};
-    ghost use Rattle.vx_overlay.specs.Indexes.{IsKept};
+    ghost use Rattle.vx_overlay.specs.Indexes.{IsIndexKept};
     ghost use Rattle.vx_overlay.specs.Pending.{Pending};
 
     ghost Value = { Pending };
 
     ghost view = { λ o. record { capacity = vec_capacity o.entries; entries = o.entries.items } };
 
-    ghost invariant = { λ o. IsKept o.entries.items o.earlier.items o.last.items (vec_capacity o.entries) (vec_capacity o.earlier) o.base o.kept };
+    ghost invariant = { λ o. IsIndexKept o.entries.items o.earlier.items o.last.items (vec_capacity o.entries) (vec_capacity o.earlier) o.base o.kept };
 }
 
 impl Overlay {

@@ -4,8 +4,8 @@ use Rattle.std.proofs.lemmas.List.{length-append, take_at, drop_at}
 use Rattle.vx_wire.specs.Fields.{spelled}
 use Rattle.vx_wire.specs.Places.{put_at}
 use Rattle.vx_wire.proofs.PlaceLemmas.{put_at-put_at}
-use Rattle.vx_packet.specs.Messages.{row, payload_of, parts_of, chunk}
-use Rattle.vx_packet.specs.Packets.{header_table, packet_bytes, part_of, packet_of}
+use Rattle.vx_packet.specs.Messages.{row, payload_of, count_of_parts, chunk}
+use Rattle.vx_packet.specs.Packets.{packet_table, packet_bytes, part_numbered, part_packet}
 use Rattle.vx_packet.specs.Rows.{IsRow}
 use Rattle.vx_packet.specs.declared.message.Envelope.{Envelope}
 use Rattle.vx_packet.specs.declared.message.Message.{Message}
@@ -28,8 +28,8 @@ carried e found k parts len = record {
   length = len;
 }
 
-pub carried-is : (e : Envelope) (m : Message) (found : RowValue) (k parts len : ℕ) → IsRow found (row m) → parts ≡ parts_of m → len ≡ length (chunk k (payload_of m)) → carried e found k parts len ≡ part_of e m k
-unfolding part_of
+pub carried-is : (e : Envelope) (m : Message) (found : RowValue) (k parts len : ℕ) → IsRow found (row m) → parts ≡ count_of_parts m → len ≡ length (chunk k (payload_of m)) → carried e found k parts len ≡ part_numbered e m k
+unfolding part_numbered
 carried-is e m found k parts len is same long = rw (is.kind, is.session, is.number, same, long) refl
 
 -- a packet that is written over the front of bytes
@@ -47,13 +47,13 @@ IsWritten-put_at packet old new n len is = record {
 }
 
 -- the header is written, and then the payload behind it
-pub IsWritten-parts : (e : Envelope) (m : Message) (k n : ℕ) (header payload old middle new : List ℕ) → header ≡ spelled (header_table (part_of e m k)) → payload ≡ chunk k (payload_of m) → n ≡ 48 + length payload
-    → middle ≡ put_at 0 header old → new ≡ put_at 48 payload middle → IsWritten (packet_of e m k) old new n
-unfolding packet_of packet_bytes
+pub IsWritten-parts : (e : Envelope) (m : Message) (k n : ℕ) (header payload old middle new : List ℕ) → header ≡ spelled (packet_table (part_numbered e m k)) → payload ≡ chunk k (payload_of m) → n ≡ 48 + length payload
+    → middle ≡ put_at 0 header old → new ≡ put_at 48 payload middle → IsWritten (part_packet e m k) old new n
+unfolding part_packet packet_bytes
 IsWritten-parts e m k n header payload old middle new same chunked len first second =
-    let wide : length header ≡ 48 = ap length same ∙ length-header_table (part_of e m k) in
-    let both : header ++ payload ≡ spelled (header_table (part_of e m k)) ++ chunk k (payload_of m) =
-    ap (λ (t : List ℕ). t ++ payload) same ∙ ap (λ (t : List ℕ). spelled (header_table (part_of e m k)) ++ t) chunked in
+    let wide : length header ≡ 48 = ap length same ∙ length-header_table (part_numbered e m k) in
+    let both : header ++ payload ≡ spelled (packet_table (part_numbered e m k)) ++ chunk k (payload_of m) =
+    ap (λ (t : List ℕ). t ++ payload) same ∙ ap (λ (t : List ℕ). spelled (packet_table (part_numbered e m k)) ++ t) chunked in
     let whole : new ≡ put_at 0 (header ++ payload) old = second ∙ ap (put_at 48 payload) first ∙ put_at-put_at 0 48 header payload old (omega (arith, wide)) (omega arith) in
     let long : n ≡ length (header ++ payload) = omega (arith, length-append header payload) in
     IsWritten-put_at _ old new n (long ∙ ap length both) (whole ∙ ap (λ (t : List ℕ). put_at 0 t old) both)

@@ -3,7 +3,7 @@ use Rattle.std.proofs.Common.{◌≡◌, ℕ, Bool, true, false, length, refl, a
 use Rattle.std.specs.Prelude.{◌&&◌, ◌==◌}
 use Rattle.std.proofs.lemmas.Bool.Decides.{nat_tests}
 use Rattle.vx_packet.specs.Gathering.{Parts}
-use Rattle.vx_packet.specs.Assemblies.{Held, same_key, held_of, HasParts}
+use Rattle.vx_packet.specs.Assemblies.{HeldParts, same_part_key, held_parts, HasParts}
 use Rattle.vx_packet.specs.declared.key.Key.{Key}
 use Rattle.vx_packet.proofs.Numbers.{not_both}
 
@@ -15,7 +15,7 @@ same_number : (a b : ℕ) → (a == b) ≡ true → a ≡ b
 same_number a b h = grind (arith, nat_tests)
 
 -- keys that are one
-pub same_key-is : (a b : Key) → same_key a b ≡ true → a ≡ b
+pub same_key-is : (a b : Key) → same_part_key a b ≡ true → a ≡ b
 same_key-is a b h =
     let h1 = both (a.source == b.source) _ h in
     let h2 = both (a.kind == b.kind) _ h1.1 in
@@ -33,14 +33,14 @@ same_key-is a b h =
     rw (source, kind, generation, origin, session, number, parts) refl
 
 -- what is held, by the key and the parts
-pub held_of-key : (k : Option Key) (parts : Parts) (h : Held) → held_of k parts ≡ Some h → k ≡ Some h.key
+pub held_of-key : (k : Option Key) (parts : Parts) (h : HeldParts) → held_parts k parts ≡ Some h → k ≡ Some h.key
 held_of-key None parts h is = absurd cc
 held_of-key (Some key) parts h is = cc
 
-pub held_of-parts : (k : Option Key) (parts : Parts) (h : Held) → held_of k parts ≡ Some h → parts ≡ h.parts
+pub held_of-parts : (k : Option Key) (parts : Parts) (h : HeldParts) → held_parts k parts ≡ Some h → parts ≡ h.parts
 held_of-parts None parts h is = absurd cc
 held_of-parts (Some key) parts h is = cc
 
-pub HasParts-held : (k : Option Key) (parts : Parts) (h : Held) → held_of k parts ≡ Some h → HasParts k parts → length h.parts ≡ h.key.parts
+pub HasParts-held : (k : Option Key) (parts : Parts) (h : HeldParts) → held_parts k parts ≡ Some h → HasParts k parts → length h.parts ≡ h.key.parts
 HasParts-held None parts h is has = absurd cc
 HasParts-held (Some key) parts h is has = cc

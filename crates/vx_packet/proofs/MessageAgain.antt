@@ -6,9 +6,9 @@ use Rattle.std.proofs.lemmas.Bool.Decides.{nat_tests}
 use Rattle.vx_wire.specs.Fields.{spelled}
 use Rattle.vx_wire.specs.declared.field.Field.TheVariants.{U8, U32, U64}
 use Rattle.vx_wire.specs.Numbers.{be_bytes, number_at}
-use Rattle.vx_packet.specs.Buffers.{AreBlocks}
-use Rattle.vx_packet.specs.MessageReading.{are_blocks, within, update_in, fork_map_in, message_in}
-use Rattle.vx_packet.specs.Messages.{row, region_number, payload_of, CanSpell, IsTyped, IsMessage}
+use Rattle.vx_packet.specs.Buffers.{AreWholeBlocks}
+use Rattle.vx_packet.specs.MessageReading.{are_blocks, within_payload, update_in, fork_map_in, message_in}
+use Rattle.vx_packet.specs.Messages.{row, region_number, payload_of, CanSpellMessage, IsTyped, IsMessage}
 use Rattle.vx_packet.specs.declared.message.Message.{Message}
 use Rattle.vx_packet.specs.declared.message.Message.TheVariants.{Hello, Update, NetAck, DataAck, ReplayStart, Region, RegionsDone, RegionAck, Fork, ForkMap, Handover, Trim}
 use Rattle.vx_packet.proofs.Numbers.{read}
@@ -24,13 +24,13 @@ region_of vol region lt = omega arith
 le_true : (a b : ℕ) → a ≤ b → nat_le a b ≡ true
 le_true a b h = grind (arith, nat_tests)
 
-blocks_true : (most : ℕ) (bytes : List ℕ) → AreBlocks most bytes → are_blocks most bytes ≡ true
+blocks_true : (most : ℕ) (bytes : List ℕ) → AreWholeBlocks most bytes → are_blocks most bytes ≡ true
 blocks_true most bytes h = rw (lt_true 0 (length bytes) h.some, le_true (length bytes) (512 * most) h.few, h.whole) refl
 
-within_is : (least : ℕ) (p : List ℕ) (m : Message) → least ≤ length p → within least p m ≡ Some m
+within_is : (least : ℕ) (p : List ℕ) (m : Message) → least ≤ length p → within_payload least p m ≡ Some m
 within_is least p m h = rw (le-ltb (length p) least h) refl
 
-update-again : (n vol block : ℕ) (p bytes : List ℕ) → length p ≡ 16 + length bytes → AreBlocks 16 bytes → drop 16 p ≡ bytes → number_at 4 0 p ≡ vol → number_at 8 4 p ≡ block
+update-again : (n vol block : ℕ) (p bytes : List ℕ) → length p ≡ 16 + length bytes → AreWholeBlocks 16 bytes → drop 16 p ≡ bytes → number_at 4 0 p ≡ vol → number_at 8 4 p ≡ block
     → update_in n p ≡ Some (Update n vol block bytes)
 update-again n vol block p bytes len blocks behind v b =
     let long : nat_lt 16 (length p) ≡ true = lt_true 16 (length p) (omega (arith, blocks.some)) in
@@ -43,7 +43,7 @@ fork_map-again n regions p bytes len few behind r =
     rw (long, short, behind, r) refl
 
 ack-again : (n vol region kind : ℕ) (p : List ℕ) → 1 ≤ length p → region < 2 ^ 32 → number_at 1 0 p ≡ kind
-    → within 1 p (RegionAck n (region_number vol region / 2 ^ 32) (region_number vol region % 2 ^ 32) (number_at 1 0 p)) ≡ Some (RegionAck n vol region kind)
+    → within_payload 1 p (RegionAck n (region_number vol region / 2 ^ 32) (region_number vol region % 2 ^ 32) (number_at 1 0 p)) ≡ Some (RegionAck n vol region kind)
 ack-again n vol region kind p long lt k =
     within_is 1 p _ long
     ∙ ap (λ (x : ℕ). Some (RegionAck n x (region_number vol region % 2 ^ 32) (number_at 1 0 p))) (vol_of vol region lt)
@@ -57,7 +57,7 @@ fork-same : (fork a generation b origin : ℕ) → a ≡ generation → b ≡ or
 fork-same fork a generation b origin first second = rw (first, second) refl
 
 -- what is read in the payload of a message under its kind is the message
-pub message_in-row : (m : Message) → CanSpell m → IsTyped m → message_in (row m).kind (row m).session (row m).number (payload_of m) ≡ Some m
+pub message_in-row : (m : Message) → CanSpellMessage m → IsTyped m → message_in (row m).kind (row m).session (row m).number (payload_of m) ≡ Some m
 unfolding message_in payload_of spelled be_bytes number_at
 message_in-row (Hello session number stored) can typed = ap (λ (x : ℕ). Some (Hello session number x)) (read 8 stored (omega (arith, can.2)))
 message_in-row (Update number vol block bytes) can typed =

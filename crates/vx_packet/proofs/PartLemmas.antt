@@ -6,12 +6,12 @@ use Rattle.vx_wire.specs.Numbers.{be_bytes, number_at}
 use Rattle.vx_wire.specs.Places.{put_at}
 use Rattle.std.proofs.lemmas.List.{append-nil, drop_all}
 use Rattle.vx_packet.specs.PacketReading.{part_in}
-use Rattle.vx_packet.specs.Packets.{header_table, packet_bytes, payload_in, CanCarry, IsTypedPart, IsPacket}
+use Rattle.vx_packet.specs.Packets.{packet_table, packet_bytes, payload_in, CanCarry, IsTypedPart, IsPacket}
 use Rattle.vx_packet.specs.declared.part.Part.{Part}
 use Rattle.vx_packet.proofs.Numbers.{read}
 
-pub length-header_table : (p : Part) → length (spelled (header_table p)) ≡ 48
-unfolding spelled be_bytes header_table
+pub length-header_table : (p : Part) → length (spelled (packet_table p)) ≡ 48
+unfolding spelled be_bytes packet_table
 length-header_table p = refl
 
 -- the numbers of a header
@@ -27,8 +27,8 @@ record HasHeader (bytes : List ℕ) (p : Part) : Type 0 where
   parts : number_at 2 44 bytes ≡ p.parts
   length : number_at 2 46 bytes ≡ p.length
 
-HasHeader-table : (p : Part) (payload : List ℕ) → CanCarry p → IsTypedPart p → HasHeader (spelled (header_table p) ++ payload) p
-unfolding number_at be_bytes spelled header_table
+HasHeader-table : (p : Part) (payload : List ℕ) → CanCarry p → IsTypedPart p → HasHeader (spelled (packet_table p) ++ payload) p
+unfolding number_at be_bytes spelled packet_table
 HasHeader-table p payload can typed = record {
   kind = read 1 p.kind (omega (arith, typed.kind));
   source = read 4 p.source typed.source;
@@ -52,17 +52,17 @@ unfolding packet_bytes
 part_in-is bytes p is = ap part_in is.is ∙ part_in-has (packet_bytes p (payload_in p bytes)) p (HasHeader-table p (payload_in p bytes) is.can is.typed) is.start
 
 -- a packet begins with its header
-pub front_packet : (bytes : List ℕ) (p : Part) → IsPacket bytes p → take 48 bytes ≡ spelled (header_table p)
+pub front_packet : (bytes : List ℕ) (p : Part) → IsPacket bytes p → take 48 bytes ≡ spelled (packet_table p)
 unfolding packet_bytes
-front_packet bytes p is = ap (take 48) is.is ∙ take_at (spelled (header_table p)) (payload_in p bytes) 48 (length-header_table p)
+front_packet bytes p is = ap (take 48) is.is ∙ take_at (spelled (packet_table p)) (payload_in p bytes) 48 (length-header_table p)
 
 -- bytes that begin with the header of a part are its packet
-pub packet_from : (bytes : List ℕ) (p : Part) → take 48 bytes ≡ spelled (header_table p) → p.start ≡ 48 → length bytes ≡ 48 + p.length → bytes ≡ packet_bytes p (payload_in p bytes)
+pub packet_from : (bytes : List ℕ) (p : Part) → take 48 bytes ≡ spelled (packet_table p) → p.start ≡ 48 → length bytes ≡ 48 + p.length → bytes ≡ packet_bytes p (payload_in p bytes)
 unfolding packet_bytes
 packet_from bytes p front start whole =
     let all : take p.length (drop 48 bytes) ≡ drop 48 bytes = take_all p.length (drop 48 bytes) (omega (arith, length-drop 48 bytes)) in
     let payload : payload_in p bytes ≡ drop 48 bytes = ap (λ (n : ℕ). take p.length (drop n bytes)) start ∙ all in
-    sym (take-append-drop 48 bytes) ∙ ap (λ (t : List ℕ). t ++ drop 48 bytes) front ∙ ap (λ (t : List ℕ). spelled (header_table p) ++ t) (sym payload)
+    sym (take-append-drop 48 bytes) ∙ ap (λ (t : List ℕ). t ++ drop 48 bytes) front ∙ ap (λ (t : List ℕ). spelled (packet_table p) ++ t) (sym payload)
 
 -- what is written over the whole
 pub put_at-whole : (a bytes : List ℕ) → length a ≡ length bytes → put_at 0 a bytes ≡ a

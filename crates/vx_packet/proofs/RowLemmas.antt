@@ -7,7 +7,7 @@ use Rattle.vx_wire.specs.Fields.{spelled, field_bytes}
 use Rattle.vx_wire.specs.declared.field.Field.{Field}
 use Rattle.vx_wire.specs.declared.field.Field.TheVariants.{U8, U16, U32, U64}
 use Rattle.vx_wire.proofs.NumberLemmas.{length-be_bytes}
-use Rattle.vx_packet.specs.Messages.{row, payload_of, CanSpell, IsTyped, Row}
+use Rattle.vx_packet.specs.Messages.{row, payload_of, CanSpellMessage, IsTyped, Row}
 use Rattle.vx_packet.specs.Packets.{fits_kind}
 use Rattle.vx_packet.specs.Rows.{numbers_list, IsRow}
 use Rattle.vx_packet.specs.declared.message.Message.{Message}
@@ -47,7 +47,7 @@ pub lt_true : (a b : ℕ) → a < b → nat_lt a b ≡ true
 lt_true a b h = lt-ltb a b h
 
 -- the fields of a message's header are those of its kind
-pub fits-row : (m : Message) → CanSpell m → IsTrue (fits_kind (row m).kind (row m).session (row m).number)
+pub fits-row : (m : Message) → CanSpellMessage m → IsTrue (fits_kind (row m).kind (row m).session (row m).number)
 fits-row (Hello session number stored) can = rw (lt_true session (2 ^ 63) can.0, lt_true number (2 ^ 63) can.1) refl
 fits-row (Update number vol block bytes) can = rw (lt_true number (2 ^ 63) can.0) refl
 fits-row (NetAck session number) can = rw (lt_true session (2 ^ 63) can.0, lt_true number (2 ^ 63) can.1) refl
@@ -67,7 +67,7 @@ pub record IsTypedRow (r : Row) : Type 0 where
   pub session : r.session < 2 ^ 64
   pub number : r.number < 2 ^ 64
 
-pub typed-row : (m : Message) → CanSpell m → IsTyped m → IsTypedRow (row m)
+pub typed-row : (m : Message) → CanSpellMessage m → IsTyped m → IsTypedRow (row m)
 typed-row (Hello session number stored) can typed = record { kind = omega arith; session = omega (arith, can.0); number = omega (arith, can.1) }
 typed-row (Update number vol block bytes) can typed = record { kind = omega arith; session = omega arith; number = omega (arith, can.0) }
 typed-row (NetAck session number) can typed = record { kind = omega arith; session = omega (arith, can.0); number = omega (arith, can.1) }

@@ -2,7 +2,7 @@
 use Rattle.std.specs.Prelude.{◌≡◌, ℕ, ◌*◌, ◌%◌, ◌<◌, ◌≤◌, List, length}
 
 -- 1 to so many whole blocks
-pub record AreBlocks (most : ℕ) (bytes : List ℕ) : Type 0 where
+pub record AreWholeBlocks (most : ℕ) (bytes : List ℕ) : Type 0 where
   pub some : 0 < length bytes
   pub few : length bytes ≤ 512 * most
   pub whole : length bytes % 512 ≡ 0

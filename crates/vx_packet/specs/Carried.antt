@@ -1,6 +1,6 @@
 -- What an assembly has, where all of it came in packets.
 use Rattle.std.specs.Prelude.{◌≡◌, ℕ, ◌+◌, ◌<◌, ◌≤◌, List, length, Option, Some, None, slice_index_or}
-use Rattle.vx_packet.specs.Assemblies.{Held, Assembled}
+use Rattle.vx_packet.specs.Assemblies.{HeldParts, Assembled}
 use Rattle.vx_packet.specs.declared.message.Envelope.{Envelope}
 use Rattle.vx_packet.specs.declared.part.Part.{Part}
 
@@ -16,8 +16,8 @@ MayCarry count k (Some payload) = IsCarried count k payload
 
 -- the parts of the message in assembly are as many as its key says, and as long as packets carry them
 pub record CameInPackets (a : Assembled) : Type 0 where
-  pub count : (h : Held) → a.held ≡ Some h → length h.parts ≡ h.key.parts
-  pub lengths : (h : Held) → a.held ≡ Some h → (k : ℕ) → k < 65 → MayCarry h.key.parts k (slice_index_or h.parts k None)
+  pub count : (h : HeldParts) → a.held ≡ Some h → length h.parts ≡ h.key.parts
+  pub lengths : (h : HeldParts) → a.held ≡ Some h → (k : ℕ) → k < 65 → MayCarry h.key.parts k (slice_index_or h.parts k None)
 
 -- the sites and the line of a part
 abbrev pub envelope_of : Part → Envelope

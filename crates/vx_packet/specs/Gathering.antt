@@ -8,20 +8,20 @@ abbrev pub Parts : Type 0
 Parts = List (Option (List ℕ))
 
 -- what is kept of a part: its payload, but nothing from the 65th on, since no message has so many parts
-abbrev pub kept : ℕ → List ℕ → List ℕ
-kept k payload = if nat_lt k 65 then payload else []
+abbrev pub kept_payload : ℕ → List ℕ → List ℕ
+kept_payload k payload = if nat_lt k 65 then payload else []
 
 -- every part has come
-abbrev pub all_came : Parts → Bool
-all_came parts = list_all is_some parts
+abbrev pub all_parts_came : Parts → Bool
+all_parts_came parts = list_all is_some parts
 
 abbrev pub bytes_of : Option (List ℕ) → List ℕ
 bytes_of None = []
 bytes_of (Some bytes) = bytes
 
 -- the payloads, one after the other
-abbrev pub joined : Parts → List ℕ
-joined parts = flat_map bytes_of parts
+abbrev pub joined_parts : Parts → List ℕ
+joined_parts parts = flat_map bytes_of parts
 
 -- a part that has come, in its place of 1,024 bytes
 abbrev pub slot : Option ℕ → List ℕ → Option (List ℕ)
@@ -29,23 +29,23 @@ slot None place = None
 slot (Some n) place = Some (take n place)
 
 -- the parts with these lengths, in their places of a buffer
-abbrev pub came : List (Option ℕ) → List ℕ → Parts
-came [] buffer = []
-came (n ∷ rest) buffer = slot n (take 1024 buffer) ∷ came rest (drop 1024 buffer)
+abbrev pub parts_came : List (Option ℕ) → List ℕ → Parts
+parts_came [] buffer = []
+parts_came (n ∷ rest) buffer = slot n (take 1024 buffer) ∷ parts_came rest (drop 1024 buffer)
 
 abbrev pub IsAtMost : Option ℕ → Type 0
 IsAtMost None = Unit {0}
 IsAtMost (Some n) = n ≤ 1024
 
-abbrev pub IsFull : Option ℕ → Type 0
-IsFull None = Unit {0}
-IsFull (Some n) = n ≡ 1024
+abbrev pub IsFullPart : Option ℕ → Type 0
+IsFullPart None = Unit {0}
+IsFullPart (Some n) = n ≡ 1024
 
 -- all that have come are full, but for the last
 abbrev pub AreFull : List (Option ℕ) → Type 0
 AreFull [] = Unit {0}
 AreFull (n ∷ []) = IsAtMost n
-AreFull (n ∷ m ∷ rest) = IsFull n × AreFull (m ∷ rest)
+AreFull (n ∷ m ∷ rest) = IsFullPart n × AreFull (m ∷ rest)
 
 -- the lengths and the buffer, as the program keeps them: room for the parts of the longest message
 pub record IsGathered (count : ℕ) (lengths : List (Option ℕ)) (buffer : List ℕ) : Type 0 where

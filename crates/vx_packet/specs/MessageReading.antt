@@ -9,8 +9,8 @@ abbrev pub are_blocks : ℕ → List ℕ → Bool
 are_blocks most bytes = nat_lt 0 (length bytes) && (nat_le (length bytes) (512 * most) && length bytes % 512 == 0)
 
 -- the message, if the payload has at least so many bytes
-abbrev pub within : ℕ → List ℕ → Message → Option Message
-within least p m = if nat_lt (length p) least then None else Some m
+abbrev pub within_payload : ℕ → List ℕ → Message → Option Message
+within_payload least p m = if nat_lt (length p) least then None else Some m
 
 abbrev pub update_in : ℕ → List ℕ → Option Message
 update_in n p = if nat_lt 16 (length p) && are_blocks 16 (drop 16 p) then Some (Update n (number_at 4 0 p) (number_at 8 4 p) (drop 16 p)) else None
@@ -24,15 +24,15 @@ fork_map_in n p = if nat_le 8 (length p) && nat_le (length p) 65544 then Some (F
 -- what is read under a kind, with these fields of the header
 unfoldable pub message_in : ℕ → ℕ → ℕ → List ℕ → Option Message
 message_in kind s n p =
-    if kind == 1 then within 8 p (Hello s n (number_at 8 0 p))
+    if kind == 1 then within_payload 8 p (Hello s n (number_at 8 0 p))
     else if kind == 2 then update_in n p
     else if kind == 3 then Some (NetAck s n)
     else if kind == 4 then Some (DataAck n)
-    else if kind == 5 then within 8 p (ReplayStart n (number_at 8 0 p))
+    else if kind == 5 then within_payload 8 p (ReplayStart n (number_at 8 0 p))
     else if kind == 6 then region_in s n p
-    else if kind == 7 then within 16 p (RegionsDone n (number_at 8 0 p) (number_at 8 8 p))
-    else if kind == 8 then within 1 p (RegionAck n (s / 2 ^ 32) (s % 2 ^ 32) (number_at 1 0 p))
-    else if kind == 9 then within 12 p (Fork n (record { generation = number_at 8 0 p; origin = number_at 4 8 p }))
+    else if kind == 7 then within_payload 16 p (RegionsDone n (number_at 8 0 p) (number_at 8 8 p))
+    else if kind == 8 then within_payload 1 p (RegionAck n (s / 2 ^ 32) (s % 2 ^ 32) (number_at 1 0 p))
+    else if kind == 9 then within_payload 12 p (Fork n (record { generation = number_at 8 0 p; origin = number_at 4 8 p }))
     else if kind == 10 then fork_map_in n p
     else if kind == 11 then Some (Handover n)
     else if kind == 12 then Some (Trim n)

@@ -4,7 +4,7 @@ use Rattle.vx_wire.specs.declared.field.Field.{Field}
 use Rattle.vx_wire.specs.declared.field.Field.TheVariants.{U8, U32, U64}
 use Rattle.vx_wire.specs.Fields.{spelled}
 use Rattle.vx_wire.specs.Places.{cut}
-use Rattle.vx_packet.specs.Buffers.{AreBlocks}
+use Rattle.vx_packet.specs.Buffers.{AreWholeBlocks}
 use Rattle.vx_packet.specs.declared.message.Message.{Message}
 use Rattle.vx_packet.specs.declared.message.Message.TheVariants.{Hello, Update, NetAck, DataAck, ReplayStart, Region, RegionsDone, RegionAck, Fork, ForkMap, Handover, Trim}
 
@@ -50,19 +50,19 @@ pub record IsMap (regions : ℕ) (bytes : List ℕ) : Type 0 where
   pub unused : slice_index bytes (regions / 8) / 2 ^ (regions % 8) ≡ 0
 
 -- a message that the table can spell
-abbrev pub CanSpell : Message → Type 0
-CanSpell (Hello session number stored) = IsCounted session × IsCounted number × IsCounted stored
-CanSpell (Update number vol block bytes) = IsCounted number × AreBlocks 16 bytes
-CanSpell (NetAck session number) = IsCounted session × IsCounted number
-CanSpell (DataAck number) = IsCounted number
-CanSpell (ReplayStart id start) = IsCounted id × IsCounted start
-CanSpell (Region id vol region bytes) = IsCounted id × AreBlocks 64 bytes
-CanSpell (RegionsDone id start end) = IsCounted id × IsCounted start × IsCounted end
-CanSpell (RegionAck id vol region kind) = IsCounted id × IsAck kind vol region
-CanSpell (Fork fork parent) = IsCounted fork × IsCounted parent.generation
-CanSpell (ForkMap vol regions bytes) = IsMap regions bytes
-CanSpell (Handover head) = IsCounted head
-CanSpell (Trim number) = IsCounted number
+abbrev pub CanSpellMessage : Message → Type 0
+CanSpellMessage (Hello session number stored) = IsCounted session × IsCounted number × IsCounted stored
+CanSpellMessage (Update number vol block bytes) = IsCounted number × AreWholeBlocks 16 bytes
+CanSpellMessage (NetAck session number) = IsCounted session × IsCounted number
+CanSpellMessage (DataAck number) = IsCounted number
+CanSpellMessage (ReplayStart id start) = IsCounted id × IsCounted start
+CanSpellMessage (Region id vol region bytes) = IsCounted id × AreWholeBlocks 64 bytes
+CanSpellMessage (RegionsDone id start end) = IsCounted id × IsCounted start × IsCounted end
+CanSpellMessage (RegionAck id vol region kind) = IsCounted id × IsAck kind vol region
+CanSpellMessage (Fork fork parent) = IsCounted fork × IsCounted parent.generation
+CanSpellMessage (ForkMap vol regions bytes) = IsMap regions bytes
+CanSpellMessage (Handover head) = IsCounted head
+CanSpellMessage (Trim number) = IsCounted number
 
 -- the numbers of a message are of their types
 abbrev pub IsTyped : Message → Type 0
@@ -88,8 +88,8 @@ abbrev pub part_count : ℕ → ℕ
 part_count n = max 1 ((n + 1023) / 1024)
 
 -- in how many parts a message goes
-unfoldable pub parts_of : Message → ℕ
-parts_of m = part_count (length (payload_of m))
+unfoldable pub count_of_parts : Message → ℕ
+count_of_parts m = part_count (length (payload_of m))
 
 -- a part of a payload
 abbrev pub chunk : ℕ → List ℕ → List ℕ
@@ -104,6 +104,6 @@ pub record IsSpelled (kind session number : ℕ) (payload : List ℕ) (m : Messa
 
 -- a message that the table can spell is spelled so
 pub record IsMessage (kind session number : ℕ) (payload : List ℕ) (m : Message) : Type 0 where
-  pub can : CanSpell m
+  pub can : CanSpellMessage m
   pub typed : IsTyped m
   pub spelled : IsSpelled kind session number payload m

@@ -5,7 +5,7 @@ use Rattle.vx_wire.specs.declared.field.Field.{Field}
 use Rattle.vx_wire.specs.declared.field.Field.TheVariants.{U8, U16, U32, U64}
 use Rattle.vx_wire.specs.Fields.{spelled}
 use Rattle.vx_wire.specs.Places.{cut}
-use Rattle.vx_packet.specs.Messages.{row, payload_of, parts_of, chunk, IsCounted}
+use Rattle.vx_packet.specs.Messages.{row, payload_of, count_of_parts, chunk, IsCounted}
 use Rattle.vx_packet.specs.declared.message.Envelope.{Envelope}
 use Rattle.vx_packet.specs.declared.message.Message.{Message}
 use Rattle.vx_packet.specs.declared.part.Part.{Part}
@@ -22,16 +22,16 @@ pub data NumberField : Type 0 where
   Volume : NumberField
 
 -- a kind of packet, and what its fields hold
-pub record Kind : Type 0 where
+pub record PacketKind : Type 0 where
   pub code : ℕ
   pub session : SessionField
   pub number : NumberField
 
-abbrev kind : ℕ → SessionField → NumberField → Kind
+abbrev kind : ℕ → SessionField → NumberField → PacketKind
 kind code session number = record { code = code; session = session; number = number }
 
 -- the kinds: Hello, Update, NetAck, DataAck, ReplayStart, Region, RegionsDone, RegionAck, Fork, ForkMap, Handover, Trim
-abbrev pub kinds : List Kind
+abbrev pub kinds : List PacketKind
 kinds =
     kind 1 Session Counted
     ∷ kind 2 Zero Counted
@@ -65,8 +65,8 @@ abbrev pub packet_magic : ℕ
 packet_magic = 0x5658504b
 
 -- the fields of a header
-unfoldable pub header_table : Part → List Field
-header_table p =
+unfoldable pub packet_table : Part → List Field
+packet_table p =
     U32 packet_magic
     ∷ U8 1
     ∷ U8 p.kind
@@ -83,7 +83,7 @@ header_table p =
 
 -- the bytes of a packet: its header, and this payload behind it
 unfoldable pub packet_bytes : Part → List ℕ → List ℕ
-packet_bytes p payload = spelled (header_table p) ++ payload
+packet_bytes p payload = spelled (packet_table p) ++ payload
 
 -- all parts but the last have 1,024 bytes, and the last has none only where it is the one part of a message without payload
 pub record HasLength (p : Part) : Type 0 where
@@ -127,8 +127,8 @@ pub record IsPacket (bytes : List ℕ) (p : Part) : Type 0 where
   pub is : bytes ≡ packet_bytes p (payload_in p bytes)
 
 -- the k-th part of a message
-unfoldable pub part_of : Envelope → Message → ℕ → Part
-part_of e m k = record {
+unfoldable pub part_numbered : Envelope → Message → ℕ → Part
+part_numbered e m k = record {
   kind = (row m).kind;
   source = e.source;
   target = e.target;
@@ -136,11 +136,11 @@ part_of e m k = record {
   session = (row m).session;
   number = (row m).number;
   part = k;
-  parts = parts_of m;
+  parts = count_of_parts m;
   start = 48;
   length = length (chunk k (payload_of m));
 }
 
 -- the packet of the k-th part of a message
-unfoldable pub packet_of : Envelope → Message → ℕ → List ℕ
-packet_of e m k = packet_bytes (part_of e m k) (chunk k (payload_of m))
+unfoldable pub part_packet : Envelope → Message → ℕ → List ℕ
+part_packet e m k = packet_bytes (part_numbered e m k) (chunk k (payload_of m))

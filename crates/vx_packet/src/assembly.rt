@@ -1,6 +1,6 @@
 // One message in assembly.
 ghost use Rattle.std.specs.Prelude.{◌≡◌, Some, None, IfOk};
-ghost use Rattle.vx_packet.specs.Assemblies.{parts_before, Reads, Takes};
+ghost use Rattle.vx_packet.specs.Assemblies.{parts_before, ReadsMessage, TakesPart};
 ghost use Rattle.vx_packet.specs.Packets.{payload_in, IsPacket};
 
 use crate::gathered::Gathered;
@@ -33,19 +33,19 @@ pub struct Assembly {
 }
 
 impl Model for Assembly {
-    ghost use Rattle.vx_packet.specs.Assemblies.{Assembled, held_of, whole_of};
-    ghost use Rattle.vx_packet.specs.Assemblies.{HasParts, IsDone};
+    ghost use Rattle.vx_packet.specs.Assemblies.{Assembled, held_parts, completed_message};
+    ghost use Rattle.vx_packet.specs.Assemblies.{HasParts, HasAllParts};
 
     ghost Value = { Assembled };
 
-    ghost view = { λ a. record { held = held_of a.key a.parts; whole = whole_of a.done a.parts } };
+    ghost view = { λ a. record { held = held_parts a.key a.parts; whole = completed_message a.done a.parts } };
 
-    ghost invariant = { λ a. HasParts a.key a.parts × IsDone a.done a.parts };
+    ghost invariant = { λ a. HasParts a.key a.parts × HasAllParts a.done a.parts };
 }
 
 // Whether a payload is a message under the kind and the fields of a part.
 fn is_message(part: &Part, payload: &[u8]) -> bool
-    ensures { Reads part.now.kind part.now.session part.now.number payload.now result }
+    ensures { ReadsMessage part.now.kind part.now.session part.now.number payload.now result }
 {
     match read_message(part.kind, part.session, part.number, payload) {
         Some(_message) => true,
@@ -93,7 +93,7 @@ impl Assembly {
     /// Takes a part that `decode` gave of these bytes.
     pub fn take(&mut self, bytes: &[u8], part: &Part) -> Taken
         requires { IsPacket bytes.now part.now }
-        ensures { Takes self.old part.now (payload_in part.now bytes.now) result self.new }
+        ensures { TakesPart self.old part.now (payload_in part.now bytes.now) result self.new }
     {
         let key = Key::of(part);
         self.begin(&key);

@@ -1,7 +1,7 @@
 // From messages to packets.
 ghost use Rattle.std.specs.Prelude.{◌≡◌, ◌<◌, ◌≤◌, take, drop, length};
-ghost use Rattle.vx_packet.specs.Messages.{CanSpell, IsCounted, parts_of};
-ghost use Rattle.vx_packet.specs.Packets.{part_of, packet_of, IsTypedEnvelope, IsPacket};
+ghost use Rattle.vx_packet.specs.Messages.{CanSpellMessage, IsCounted, count_of_parts};
+ghost use Rattle.vx_packet.specs.Packets.{part_numbered, part_packet, IsTypedEnvelope, IsPacket};
 
 use crate::part::{HEADER, table};
 use crate::payload::{PART_BYTES, part_count, put_chunk};
@@ -11,7 +11,7 @@ use vx_wire::put_fields;
 
 /// In how many parts a message goes: one for each 1,024 bytes of its payload that have begun, and one where it has none.
 pub fn parts(m: &Message<'_>) -> u32
-    ensures { result ≡ parts_of m.now }
+    ensures { result ≡ count_of_parts m.now }
 {
     let row = row_of(m);
     let mut front = [0; 24];
@@ -31,13 +31,13 @@ fn is_typed(e: &Envelope)
 /// Writes the packet of a message's part, counted from 0, and answers how many bytes it has. What is behind them stays.
 pub fn encode(e: &Envelope, m: &Message<'_>, part: u32, into: &mut [u8; 1072]) -> usize
     requires generation { IsCounted e.now.line.generation }
-    requires message { CanSpell m.now }
-    requires part { part < parts_of m.now }
-    ensures length { result ≡ length (packet_of e.now m.now part) }
+    requires message { CanSpellMessage m.now }
+    requires part { part < count_of_parts m.now }
+    ensures length { result ≡ length (part_packet e.now m.now part) }
     ensures few { result ≤ 1072 }
-    ensures bytes { take result into.new ≡ packet_of e.now m.now part }
+    ensures bytes { take result into.new ≡ part_packet e.now m.now part }
     ensures behind { drop result into.new ≡ drop result into.old }
-    ensures packet { IsPacket (packet_of e.now m.now part) (part_of e.now m.now part) }
+    ensures packet { IsPacket (part_packet e.now m.now part) (part_numbered e.now m.now part) }
 {
     is_typed(e);
     let row = row_of(m);

@@ -2,7 +2,7 @@
 ghost use Rattle.std.specs.Prelude.{◌≡◌, ℕ, List, ◌+◌, ◌*◌, ◌<◌, ◌≤◌, false, true, [], set, replicate, length, take, Some, None, IfOk, MatchOption};
 ghost use Rattle.std.specs.List.{list_all};
 ghost use Rattle.std.specs.Option.{is_some};
-ghost use Rattle.vx_packet.specs.Gathering.{all_came, came, joined, kept, AreFull, whole_length};
+ghost use Rattle.vx_packet.specs.Gathering.{all_parts_came, parts_came, joined_parts, kept_payload, AreFull, whole_length};
 
 use crate::payload::PART_BYTES;
 use std::alloc::Global;
@@ -29,11 +29,11 @@ pub struct Gathered {
 
 impl Model for Gathered {
     ghost use Rattle.std.specs.Prelude.{take};
-    ghost use Rattle.vx_packet.specs.Gathering.{Parts, came, IsGathered};
+    ghost use Rattle.vx_packet.specs.Gathering.{Parts, parts_came, IsGathered};
 
     ghost Value = { Parts };
 
-    ghost view = { λ g. came (take g.count g.lengths.items) g.buffer.items };
+    ghost view = { λ g. parts_came (take g.count g.lengths.items) g.buffer.items };
 
     ghost invariant = { λ g. IsGathered g.count g.lengths.items g.buffer.items };
 }
@@ -48,7 +48,7 @@ fn reset(lengths: &mut [Option<u16>])
 // Marks the first so many parts as ones that have not come.
 fn clear(lengths: &mut [Option<u16>], count: usize)
     requires { count ≤ length lengths.old }
-    ensures none { (buffer : List ℕ) → came (take count lengths.new) buffer ≡ replicate count None }
+    ensures none { (buffer : List ℕ) → parts_came (take count lengths.new) buffer ≡ replicate count None }
     ensures full { AreFull (take count lengths.new) }
     ensures told { length lengths.new ≡ length lengths.old }
 {
@@ -62,7 +62,7 @@ fn keep(lengths: &mut [Option<u16>], count: usize, buffer: &mut [u8], part: usiz
     requires few { length payload.now ≤ 1024 }
     requires whole { part + 1 < count → length payload.now ≡ 1024 }
     requires room { length buffer.old ≡ 66560 }
-    ensures came { came (take count lengths.new) buffer.new ≡ set (came (take count lengths.old) buffer.old) part (Some (kept part payload.now)) }
+    ensures came { parts_came (take count lengths.new) buffer.new ≡ set (parts_came (take count lengths.old) buffer.old) part (Some (kept_payload part payload.now)) }
     ensures full { AreFull (take count lengths.old) → AreFull (take count lengths.new) }
     ensures told { length lengths.new ≡ length lengths.old }
     ensures room { length buffer.new ≡ length buffer.old }
@@ -116,7 +116,7 @@ impl Gathered {
         requires part { part < length self.old }
         requires few { length payload.now ≤ 1024 }
         requires whole { part + 1 < length self.old → length payload.now ≡ 1024 }
-        ensures { self.new ≡ set self.old part (Some (kept part payload.now)) }
+        ensures { self.new ≡ set self.old part (Some (kept_payload part payload.now)) }
     {
         keep(
             &mut self.lengths,
@@ -130,7 +130,7 @@ impl Gathered {
     /// The payloads one after the other, where every part has come.
     pub fn payload(&self) -> Option<&[u8]>
         requires { 0 < length self.now }
-        ensures { MatchOption result (all_came self.now ≡ false) (λ bytes. (all_came self.now ≡ true) × (bytes.now ≡ joined self.now)) }
+        ensures { MatchOption result (all_parts_came self.now ≡ false) (λ bytes. (all_parts_came self.now ≡ true) × (bytes.now ≡ joined_parts self.now)) }
     {
         let lengths = &self.lengths[..self.count];
         if !is_whole(lengths) {

@@ -1,6 +1,6 @@
 // Which message a part is of.
 ghost use Rattle.std.specs.Prelude.{◌≡◌};
-ghost use Rattle.vx_packet.specs.Assemblies.{key_of, same_key};
+ghost use Rattle.vx_packet.specs.Assemblies.{key_in_part, same_part_key};
 
 use crate::Part;
 use vx_model::Line;
@@ -20,7 +20,7 @@ pub struct Key {
 impl Key {
     /// That of a part.
     pub fn of(part: &Part) -> Key
-        ensures { result ≡ key_of part.now }
+        ensures { result ≡ key_in_part part.now }
     {
         Key {
             source: part.source,
@@ -34,7 +34,7 @@ impl Key {
 
     /// Whether it is this key.
     pub fn is(&self, other: &Key) -> bool
-        ensures { result ≡ same_key self.now other.now }
+        ensures { result ≡ same_part_key self.now other.now }
     {
         self.source == other.source
             && self.kind == other.kind

@@ -28,6 +28,4 @@ pub use message::{Envelope, Message};
 pub use part::{Part, decode};
 pub use reading::read_message;
 pub use region_bytes::RegionBytes;
-
-#[cfg(test)]
-mod tests;
+pub use spelling::can_spell;

@@ -1,7 +1,7 @@
 // Packets, and the parts of messages that they carry.
 ghost use Rattle.std.specs.Prelude.{◌≡◌, ◌↔◌, ◌+◌, ◌≤◌, length, take, IsTrue, IfSome, Some};
 ghost use Rattle.vx_packet.specs.PacketReading.{part_in};
-ghost use Rattle.vx_packet.specs.Packets.{fits_kind as fits_kind_is, header_table, HasLength, CanCarry, IsTypedPart, IsPacket};
+ghost use Rattle.vx_packet.specs.Packets.{fits_kind as fits_kind_is, packet_table, HasLength, CanCarry, IsTypedPart, IsPacket};
 ghost use Rattle.vx_packet.specs.declared.part.Part.{Part as PartValue};
 ghost use Rattle.vx_wire.specs.Fields.{spelled};
 
@@ -55,9 +55,9 @@ pub struct Part {
 }
 
 /// The fields of a header.
-#[tactic(auto, unfolding(crate::specs::Packets::header_table))]
+#[tactic(auto, unfolding(crate::specs::Packets::packet_table))]
 pub fn table(p: &Part) -> [Field; 12]
-    ensures { result ≡ header_table p.now }
+    ensures { result ≡ packet_table p.now }
 {
     [
         Field::U32(MAGIC),
@@ -122,7 +122,7 @@ fn can_carry(p: &Part) -> bool
 // Whether the first 48 bytes are the header of the part.
 fn is_spelled(p: &Part, bytes: &[u8]) -> bool
     requires { 48 ≤ length bytes.now }
-    ensures { IsTrue result ↔ (take 48 bytes.now ≡ spelled (header_table p.now)) }
+    ensures { IsTrue result ↔ (take 48 bytes.now ≡ spelled (packet_table p.now)) }
 {
     let mut again = [0; HEADER];
     put_fields(&mut again, 0, &table(p));

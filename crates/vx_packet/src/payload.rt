@@ -1,6 +1,6 @@
 // The payload of a message, and its parts.
 ghost use Rattle.std.specs.Prelude.{◌≡◌, ◌+◌, ◌*◌, ◌<◌, ◌≤◌, ◌++◌, length};
-ghost use Rattle.vx_packet.specs.Messages.{chunk, part_count as part_count_is, parts_of, payload_of};
+ghost use Rattle.vx_packet.specs.Messages.{chunk, part_count as part_count_is, count_of_parts, payload_of};
 ghost use Rattle.vx_wire.specs.Places.{put_at};
 
 use crate::Message;

@@ -1,6 +1,6 @@
 // From payloads to messages.
 ghost use Rattle.std.specs.Prelude.{◌≡◌, ◌↔◌, ◌*◌, ◌/◌, ◌%◌, ◌^◌, ◌≤◌, ◌++◌, IsTrue, IfSome, Some};
-ghost use Rattle.vx_packet.specs.MessageReading.{are_blocks as are_blocks_is, within, message_in, update_in, region_in, fork_map_in};
+ghost use Rattle.vx_packet.specs.MessageReading.{are_blocks as are_blocks_is, within_payload, message_in, update_in, region_in, fork_map_in};
 ghost use Rattle.vx_packet.specs.Messages.{IsMessage, IsSpelled, IsTyped};
 ghost use Rattle.vx_packet.specs.declared.message.Message.TheVariants.{Hello, ReplayStart, RegionsDone, RegionAck, Fork};
 ghost use Rattle.vx_wire.specs.Numbers.{number_at};
@@ -76,7 +76,7 @@ fn read_fork_map(number: u64, payload: &[u8]) -> Option<Message<'_>>
 }
 
 fn read_hello(session: u64, number: u64, payload: &[u8]) -> Option<Message<'_>>
-    ensures { result ≡ within 8 payload.now (Hello session number (number_at 8 0 payload.now)) }
+    ensures { result ≡ within_payload 8 payload.now (Hello session number (number_at 8 0 payload.now)) }
 {
     if payload.len() < 8 {
         None
@@ -90,7 +90,7 @@ fn read_hello(session: u64, number: u64, payload: &[u8]) -> Option<Message<'_>>
 }
 
 fn read_start(number: u64, payload: &[u8]) -> Option<Message<'_>>
-    ensures { result ≡ within 8 payload.now (ReplayStart number (number_at 8 0 payload.now)) }
+    ensures { result ≡ within_payload 8 payload.now (ReplayStart number (number_at 8 0 payload.now)) }
 {
     if payload.len() < 8 {
         None
@@ -103,7 +103,7 @@ fn read_start(number: u64, payload: &[u8]) -> Option<Message<'_>>
 }
 
 fn read_done(number: u64, payload: &[u8]) -> Option<Message<'_>>
-    ensures { result ≡ within 16 payload.now (RegionsDone number (number_at 8 0 payload.now) (number_at 8 8 payload.now)) }
+    ensures { result ≡ within_payload 16 payload.now (RegionsDone number (number_at 8 0 payload.now) (number_at 8 8 payload.now)) }
 {
     if payload.len() < 16 {
         None
@@ -117,7 +117,7 @@ fn read_done(number: u64, payload: &[u8]) -> Option<Message<'_>>
 }
 
 fn read_ack(session: u64, number: u64, payload: &[u8]) -> Option<Message<'_>>
-    ensures { result ≡ within 1 payload.now (RegionAck number (session / 2 ^ 32) (session % 2 ^ 32) (number_at 1 0 payload.now)) }
+    ensures { result ≡ within_payload 1 payload.now (RegionAck number (session / 2 ^ 32) (session % 2 ^ 32) (number_at 1 0 payload.now)) }
 {
     if payload.is_empty() {
         return None;
@@ -132,7 +132,7 @@ fn read_ack(session: u64, number: u64, payload: &[u8]) -> Option<Message<'_>>
 }
 
 fn read_fork(number: u64, payload: &[u8]) -> Option<Message<'_>>
-    ensures { result ≡ within 12 payload.now (Fork number (record { generation = number_at 8 0 payload.now; origin = number_at 4 8 payload.now })) }
+    ensures { result ≡ within_payload 12 payload.now (Fork number (record { generation = number_at 8 0 payload.now; origin = number_at 4 8 payload.now })) }
 {
     if payload.len() < 12 {
         None

@@ -1,6 +1,6 @@
 // Which messages the table can spell.
 ghost use Rattle.std.specs.Prelude.{◌≡◌, ◌↔◌, ◌+◌, ◌/◌, ◌%◌, ◌^◌, length, slice_index, IsTrue};
-ghost use Rattle.vx_packet.specs.Messages.{CanSpell, IsAck, IsMap};
+ghost use Rattle.vx_packet.specs.Messages.{CanSpellMessage, IsAck, IsMap};
 
 use crate::{MapBytes, Message};
 use vx_model::limits::MOST_NUMBER;
@@ -31,7 +31,7 @@ fn is_map(regions: u64, bytes: &MapBytes<'_>) -> bool
 
 /// Whether a message is one that the table can spell.
 pub fn can_spell(m: &Message<'_>) -> bool
-    ensures { IsTrue result ↔ CanSpell m.now }
+    ensures { IsTrue result ↔ CanSpellMessage m.now }
 {
     match m {
         Message::Hello {

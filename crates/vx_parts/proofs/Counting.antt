@@ -5,12 +5,12 @@ use Rattle.vx_model.specs.declared.history.Line.{Line}
 use Rattle.vx_history.specs.World.{Message, Key, Hello, Update, NetAck, DataAck}
 use Rattle.vx_history.specs.Sends.{payload_size, parts_of}
 use Rattle.vx_history.specs.Gatherings.{message_key}
-use Rattle.vx_packet.specs.Messages.{payload_of, part_count, parts_of as parts_in_bytes}
-use Rattle.vx_packet.specs.Takings.{message_key as key_of_bytes}
+use Rattle.vx_packet.specs.Messages.{payload_of, part_count, count_of_parts as parts_in_bytes}
+use Rattle.vx_packet.specs.Takings.{key_of_message as key_of_bytes}
 use Rattle.vx_wire.specs.Fields.{spelled as spelled_fields}
 use Rattle.vx_wire.specs.Numbers.{be_bytes}
 use Rattle.vx_wire.specs.declared.field.Field.TheVariants.{U32, U64}
-use Rattle.vx_parts.specs.Spelling.{spelled, key_in_bytes}
+use Rattle.vx_parts.specs.Spelling.{spelled_message, key_in_bytes}
 
 -- the numbers of an update's payload are 16 bytes
 fields_long : (volume start blocks : ℕ) → length (spelled_fields (U32 volume ∷ U64 start ∷ U32 blocks ∷ [])) ≡ 16
@@ -26,7 +26,7 @@ unfolding spelled_fields
 none_long = refl
 
 -- a payload is as long as the world says
-size_is : (m : Message) → length (payload_of (spelled m)) ≡ payload_size m
+size_is : (m : Message) → length (payload_of (spelled_message m)) ≡ payload_size m
 unfolding payload_of
 size_is (Hello session number stored) = omega (arith, length-append {A = ℕ} (spelled_fields (U64 stored ∷ [])) [], one_long stored)
 size_is (Update number x) =
@@ -43,7 +43,7 @@ at_least_one : (n : ℕ) → max 1 n ≡ suc (pred n)
 at_least_one zero = refl
 at_least_one (suc n) = let e : max 1 (suc n) ≡ suc n = omega arith in e
 
-pub parts_are : (m : Message) → parts_in_bytes (spelled m) ≡ parts_of m
+pub parts_are : (m : Message) → parts_in_bytes (spelled_message m) ≡ parts_of m
 unfolding parts_in_bytes
 parts_are m = ap part_count (size_is m) ∙ at_least_one ((payload_size m + 1023) / 1024)
 

@@ -8,13 +8,13 @@ use Rattle.vx_model.specs.declared.history.Line.{Line}
 use Rattle.vx_history.specs.World.{Key, Gathering, Message}
 use Rattle.vx_history.specs.Sends.{packet}
 use Rattle.vx_history.specs.Gatherings.{same_key, came_before, came_after, completes}
-use Rattle.vx_packet.specs.Assemblies.{Held, same_key as same_in_bytes, parts_before, parts_after}
-use Rattle.vx_packet.specs.Gathering.{Parts, all_came, kept}
-use Rattle.vx_packet.specs.Packets.{part_of}
-use Rattle.vx_packet.specs.Takings.{message_key as key_of_bytes}
+use Rattle.vx_packet.specs.Assemblies.{HeldParts, same_part_key as same_in_bytes, parts_before, parts_after}
+use Rattle.vx_packet.specs.Gathering.{Parts, all_parts_came, kept_payload}
+use Rattle.vx_packet.specs.Packets.{part_numbered}
+use Rattle.vx_packet.specs.Takings.{key_of_message as key_of_bytes}
 use Rattle.vx_packet.specs.declared.key.Key.{Key as KeyInBytes}
 use Rattle.vx_packet.specs.declared.message.Envelope.{Envelope}
-use Rattle.vx_parts.specs.Spelling.{spelled, plain, IsTied}
+use Rattle.vx_parts.specs.Spelling.{spelled_message, plain, IsTied}
 use Rattle.vx_parts.proofs.Counting.{key_is}
 
 all_map : (ps : Parts) → list_all is_some ps ≡ list_all (λ c. c) (map is_some ps)
@@ -35,7 +35,7 @@ keys_same a b = by_tests (a.source == b.source) (a.kind == b.kind) (a.line.gener
     by_tests false q r s t = refl
 
 -- which parts have come is the same
-before_same : (h : Option Held) (g : Option Gathering) → IsTied h g → (key : KeyInBytes) → map is_some (parts_before h key) ≡ came_before g (plain key)
+before_same : (h : Option HeldParts) (g : Option Gathering) → IsTied h g → (key : KeyInBytes) → map is_some (parts_before h key) ≡ came_before g (plain key)
 before_same None None tied key = none_map key.parts
 before_same None (Some g) tied key = absurd tied
 before_same (Some h) None tied key = absurd tied
@@ -49,19 +49,19 @@ before_same (Some h) (Some g) tied key =
     either false = none_map key.parts
 
 -- with a packet too
-pub after_same : (h : Option Held) (g : Option Gathering) → IsTied h g → (source target : ℕ) (line : Line) (m : Message) (k : ℕ) (payload : List ℕ)
-    → map is_some (parts_after h (part_of (record { source = source; target = target; line = line }) (spelled m) k) payload) ≡ came_after g (packet source target line m k)
-unfolding part_of key_of_bytes
+pub after_same : (h : Option HeldParts) (g : Option Gathering) → IsTied h g → (source target : ℕ) (line : Line) (m : Message) (k : ℕ) (payload : List ℕ)
+    → map is_some (parts_after h (part_numbered (record { source = source; target = target; line = line }) (spelled_message m) k) payload) ≡ came_after g (packet source target line m k)
+unfolding part_numbered key_of_bytes
 after_same h g tied source target line m k payload =
     let e : Envelope = record { source = source; target = target; line = line } in
-    let key : KeyInBytes = key_of_bytes e (spelled m) in
-    map-set is_some (parts_before h key) k (Some (kept k payload))
+    let key : KeyInBytes = key_of_bytes e (spelled_message m) in
+    map-set is_some (parts_before h key) k (Some (kept_payload k payload))
     ∙ ap (λ (bs : List Bool). set bs k true) (before_same h g tied key)
     ∙ ap (λ (x : Key). set (came_before g x) k true) (key_is source target line m)
 
-pub whole_same : (h : Option Held) (g : Option Gathering) → IsTied h g → (source target : ℕ) (line : Line) (m : Message) (k : ℕ) (payload : List ℕ)
-    → all_came (parts_after h (part_of (record { source = source; target = target; line = line }) (spelled m) k) payload) ≡ completes g
+pub whole_same : (h : Option HeldParts) (g : Option Gathering) → IsTied h g → (source target : ℕ) (line : Line) (m : Message) (k : ℕ) (payload : List ℕ)
+    → all_parts_came (parts_after h (part_numbered (record { source = source; target = target; line = line }) (spelled_message m) k) payload) ≡ completes g
     (packet source target line m k)
 whole_same h g tied source target line m k payload =
-    all_map (parts_after h (part_of (record { source = source; target = target; line = line }) (spelled m) k) payload)
+    all_map (parts_after h (part_numbered (record { source = source; target = target; line = line }) (spelled_message m) k) payload)
     ∙ ap (λ (bs : List Bool). list_all (λ c. c) bs) (after_same h g tied source target line m k payload)

@@ -25,22 +25,22 @@ use Rattle.vx_courier.specs.Together.{AreOne, AssemblyStands, IsPutTo}
 use Rattle.vx_courier.specs.UnderWay.{CanFly, FlightStands, carrier, part_carried, way_of}
 use Rattle.vx_courier.proofs.Flying.{place_of_number}
 use Rattle.vx_courier.proofs.Joining.{put_together, stands_later}
-use Rattle.vx_net.specs.Flights.{Flying, greatest, packet_at as bytes_at}
-use Rattle.vx_packet.specs.Assemblies.{Assembled, Takes}
+use Rattle.vx_net.specs.Flights.{Flying, greatest_packet, kept_packet as bytes_at}
+use Rattle.vx_packet.specs.Assemblies.{Assembled, TakesPart}
 use Rattle.vx_packet.specs.Messages.{row}
-use Rattle.vx_packet.specs.Packets.{IsPacket, part_of, payload_in}
+use Rattle.vx_packet.specs.Packets.{IsPacket, part_numbered, payload_in}
 use Rattle.vx_packet.specs.declared.assembly.Taken.{Taken}
 use Rattle.vx_packet.specs.declared.assembly.Taken.TheVariants as taken
 use Rattle.vx_packet.specs.declared.message.Envelope.{Envelope}
 use Rattle.vx_packet.specs.declared.message.Message.{Message as Spelled}
 use Rattle.vx_packet.specs.declared.part.Part.{Part}
-use Rattle.vx_parts.specs.Spelling.{spelled}
+use Rattle.vx_parts.specs.Spelling.{spelled_message}
 use Rattle.vx_rvg.specs.Holdings.{update_of as update_on}
 use Rattle.vx_rvg.specs.Views.{Core}
 use Rattle.vx_secondary.specs.Answers.{KeptIf, TakeIs, TakenBy, action_of}
-use Rattle.vx_secondary.specs.Receivers.{can_log, receiver_of, write_of}
+use Rattle.vx_secondary.specs.Receivers.{can_log, receiver_of, write_of_update}
 use Rattle.vx_peers.proofs.Found.{read_so}
-use Rattle.vx_peers.specs.Receivers.{GatheredIs, IsIdle, Receives, SendsOn, StandsFor, rule_at, update_of, waits_now}
+use Rattle.vx_peers.specs.Receivers.{GatheredIs, IsIdle, ReceivesWrites, SendsOn, StandsForOutcome, rule_at, update_from, waits_now}
 
 -- ---- what is read of a packet
 
@@ -70,8 +70,8 @@ is_idle a r is (inl nothing) = subst IsIdle (sym nothing ∙ is) tt
 is_idle a r is (inr (inl ignored)) = subst IsIdle (sym ignored ∙ is) tt
 is_idle a r is (inr (inr ack)) = subst IsIdle (sym ack.1 ∙ is) tt
 
-number_of_part : (e : Envelope) (m : Spelled) (k : ℕ) → (part_of e m k).number ≡ (row m).number
-unfolding part_of
+number_of_part : (e : Envelope) (m : Spelled) (k : ℕ) → (part_numbered e m k).number ≡ (row m).number
+unfolding part_numbered
 number_of_part e m k = refl
 
 module _ (w : World) (number : ℕ) (p : Packet) (k : ℕ) (x : Write) (at : packet_at w.packets number ≡ Some p) (message : p.message ≡ Update k x) (f : Flying) (flight : FlightStands w.packets f) where
@@ -90,12 +90,12 @@ module _ (w : World) (number : ℕ) (p : Packet) (k : ℕ) (x : Write) (at : pac
         fly = read.fly;
         line = read.line;
         source = read.source;
-        number = ap (λ (q : Part). q.number) read.part_is ∙ number_of_part (way_of p) (spelled p.message) p.part ∙ ap (λ (m : Message). (row (spelled m)).number) message;
+        number = ap (λ (q : Part). q.number) read.part_is ∙ number_of_part (way_of p) (spelled_message p.message) p.part ∙ ap (λ (m : Message). (row (spelled_message m)).number) message;
       }
 
   -- ---- what the world makes of it
 
-  module _ (c : Core) (us : List Logged) (fed : ℕ) (receives : Receives (w.nodes p.target) c us fed) (running : (w.nodes p.target).halted ≡ None) where
+  module _ (c : Core) (us : List Logged) (fed : ℕ) (receives : ReceivesWrites (w.nodes p.target) c us fed) (running : (w.nodes p.target).halted ≡ None) where
     abbrev n : Node
     n = w.nodes p.target
 
@@ -121,19 +121,19 @@ module _ (w : World) (number : ℕ) (p : Packet) (k : ℕ) (x : Write) (at : pac
 
     module _ (a : Assembled) (stands : AssemblyStands w.packets p.target (w.gathering p.target) a) where
       -- nothing came of it
-      ignored_so : update_taken w p x act ≡ says w IsIgnored → StandsFor (delivered w number (packet_at w.packets number)) p.target c us fed a f IsIgnored
+      ignored_so : update_taken w p x act ≡ says w IsIgnored → StandsForOutcome (delivered w number (packet_at w.packets number)) p.target c us fed a f IsIgnored
       ignored_so is =
-          subst (λ (o : Outcome). StandsFor o p.target c us fed a f IsIgnored) (sym (outcome_is ∙ ap (gathers p) is))
+          subst (λ (o : Outcome). StandsForOutcome o p.target c us fed a f IsIgnored) (sym (outcome_is ∙ ap (gathers p) is))
           (record { says = refl; receiver = receives; assembly = stands; flight = flight })
 
-      pub ignored_at : (r : RAction) → r ≡ act → (r ≡ Nothing) ⊎ ((r ≡ Ignored) ⊎ ((m : ℕ) × (r ≡ DataAck m))) → StandsFor (delivered w number (packet_at w.packets number)) p.target c us fed a f IsIgnored
+      pub ignored_at : (r : RAction) → r ≡ act → (r ≡ Nothing) ⊎ ((r ≡ Ignored) ⊎ ((m : ℕ) × (r ≡ DataAck m))) → StandsForOutcome (delivered w number (packet_at w.packets number)) p.target c us fed a f IsIgnored
       ignored_at r is (inl nothing) = ignored_so (ap (update_taken w p x) (sym is ∙ nothing))
       ignored_at r is (inr (inl ignored)) = ignored_so (ap (update_taken w p x) (sym is ∙ ignored))
       ignored_at r is (inr (inr ack)) = ignored_so (ap (update_taken w p x) (sym is ∙ ack.1))
 
       -- it is acknowledged again
       pub again_at : (m : ℕ) → act ≡ IgnoredAck m → (bytes : List ℕ) (part : Part) → ReadOf p k bytes part → (line : Line) (session : ℕ) → line ≡ c.log.header.state.line → session ≡ c.log.header.incarnation → (f' : Flying)
-          → f.count < greatest → SendsOn p.target part.source line session m f f' → StandsFor (delivered w number (packet_at w.packets number)) p.target c us fed a f' IsIgnored
+          → f.count < greatest_packet → SendsOn p.target part.source line session m f f' → StandsForOutcome (delivered w number (packet_at w.packets number)) p.target c us fed a f' IsIgnored
       again_at m is bytes part read line session line_is session_is f' room sends =
           let lines : line ≡ n.line = line_is ∙ ap (λ (s : RState). s.line) receives.rule in
           let sessions : session ≡ n.session = session_is ∙ ap (λ (s : RState). s.session) receives.rule in
@@ -141,7 +141,7 @@ module _ (w : World) (number : ℕ) (p : Packet) (k : ℕ) (x : Write) (at : pac
           = subst (λ (q : ℕ). FlightStands (w.packets ++ packets_of p.target q n.line (NetAck n.session m)) f') read.source
           (subst (λ (l : Line). FlightStands (w.packets ++ packets_of p.target part.source l (NetAck n.session m)) f') lines
           (subst (λ (s : ℕ). FlightStands (w.packets ++ packets_of p.target part.source line (NetAck s m)) f') sessions (sends w.packets flight room))) in
-          subst (λ (o : Outcome). StandsFor o p.target c us fed a f' IsIgnored) (sym (outcome_is ∙ ap (λ (r : RAction). gathers p (update_taken w p x r)) is))
+          subst (λ (o : Outcome). StandsForOutcome o p.target c us fed a f' IsIgnored) (sym (outcome_is ∙ ap (λ (r : RAction). gathers p (update_taken w p x r)) is))
           (record { says = refl; receiver = receives; assembly = stands_later w.packets (packets_of p.target p.source n.line (NetAck n.session m)) p.target (w.gathering p.target) a stands; flight = on })
 
       -- ---- a part that can be taken
@@ -153,8 +153,8 @@ module _ (w : World) (number : ℕ) (p : Packet) (k : ℕ) (x : Write) (at : pac
         abbrev u : Logged
         u = record { line = part.line; number = k; vol = x.volume; block = x.start; bytes = x.bytes }
 
-        update_is : update_of (spelled p.message) part.line ≡ Some u
-        update_is = ap (λ (t : Message). update_of (spelled t) part.line) message
+        update_is : update_from (spelled_message p.message) part.line ≡ Some u
+        update_is = ap (λ (t : Message). update_from (spelled_message t) part.line) message
 
         rule_here : action_of c us u ≡ Take m
         rule_here =
@@ -171,10 +171,10 @@ module _ (w : World) (number : ℕ) (p : Packet) (k : ℕ) (x : Write) (at : pac
             let kept : KeptIf true us u m r us' = subst (λ (b : Bool). KeptIf b us u m r us') can by_rule in
             (ap waits_now kept.0, kept.1)
 
-        put_so : (t : Taken) (new : Assembled) → Takes a part (payload_in part bytes) t new → IsPutTo w.packets p.target g p t new
+        put_so : (t : Taken) (new : Assembled) → TakesPart a part (payload_in part bytes) t new → IsPutTo w.packets p.target g p t new
         put_so t new is =
             put_together w.packets p.target place p one there refl read.fly g a stands t new
-            (subst (λ (bs : List ℕ). Takes a (part_carried p) (payload_in (part_carried p) bs) t new) read.bytes_are (subst (λ (q : Part). Takes a q (payload_in q bytes) t new) read.part_is is))
+            (subst (λ (bs : List ℕ). TakesPart a (part_carried p) (payload_in (part_carried p) bs) t new) read.bytes_are (subst (λ (q : Part). TakesPart a q (payload_in q bytes) t new) read.part_is is))
 
         -- another part is missing
         kept_world : completes g p ≡ false → delivered w number (packet_at w.packets number) ≡ says (gathered w p) IsTaken
@@ -185,9 +185,9 @@ module _ (w : World) (number : ℕ) (p : Packet) (k : ℕ) (x : Write) (at : pac
         gathered_there : (v : World) → (gathered v p).gathering p.target ≡ left_by (v.gathering p.target) p
         gathered_there v = at_place v.gathering p.target (left_by (v.gathering p.target) p)
 
-        kept_so : (new : Assembled) → IsPutTo w.packets p.target g p taken.Kept new → StandsFor (delivered w number (packet_at w.packets number)) p.target c us fed new f IsTaken
+        kept_so : (new : Assembled) → IsPutTo w.packets p.target g p taken.Kept new → StandsForOutcome (delivered w number (packet_at w.packets number)) p.target c us fed new f IsTaken
         kept_so new put =
-            subst (λ (o : Outcome). StandsFor o p.target c us fed new f IsTaken) (sym (kept_world put.0))
+            subst (λ (o : Outcome). StandsForOutcome o p.target c us fed new f IsTaken) (sym (kept_world put.0))
             (record {
               says = refl;
               receiver = receives;
@@ -220,13 +220,13 @@ module _ (w : World) (number : ℕ) (p : Packet) (k : ℕ) (x : Write) (at : pac
             ∙ ap (λ (i : ℕ). record (plain_receiver n) { last = i; waiting = length (us ++ u ∷ []) }) number_is
             ∙ ap (λ (i : ℕ). record (plain_receiver n) { last = length (n.log ++ x ∷ []); waiting = i }) waiting
 
-        more_waits : map write_of (us ++ u ∷ []) ≡ drop n.safe (n.log ++ x ∷ [])
+        more_waits : map write_of_update (us ++ u ∷ []) ≡ drop n.safe (n.log ++ x ∷ [])
         more_waits =
-            map-append write_of us (u ∷ [])
+            map-append write_of_update us (u ∷ [])
             ∙ ap (λ (ws : List Write). ws ++ x ∷ []) receives.waits
             ∙ sym (drop-append-le n.safe n.log (x ∷ []) receives.logged)
 
-        receives_more : Receives logged_node c (us ++ u ∷ []) part.source
+        receives_more : ReceivesWrites logged_node c (us ++ u ∷ []) part.source
         receives_more = record {
           up = receives.up;
           role = receives.role;
@@ -238,7 +238,7 @@ module _ (w : World) (number : ℕ) (p : Packet) (k : ℕ) (x : Write) (at : pac
         }
 
         waits_so : (new : Assembled) (us' : List Logged) → IsPutTo w.packets p.target g p taken.Whole new → us' ≡ us ++ u ∷ [] → (line : Line) (session : ℕ) → line ≡ c.log.header.state.line → session ≡ c.log.header.incarnation → (f' : Flying)
-            → f.count < greatest → SendsOn p.target part.source line session m f f' → StandsFor (delivered w number (packet_at w.packets number)) p.target c us' part.source new f' IsTaken
+            → f.count < greatest_packet → SendsOn p.target part.source line session m f f' → StandsForOutcome (delivered w number (packet_at w.packets number)) p.target c us' part.source new f' IsTaken
         waits_so new us' put us_are line session line_is session_is f' room sends =
             let lines : line ≡ n.line = line_is ∙ ap (λ (s : RState). s.line) receives.rule in
             let sessions : session ≡ n.session = session_is ∙ ap (λ (s : RState). s.session) receives.rule in
@@ -247,10 +247,10 @@ module _ (w : World) (number : ℕ) (p : Packet) (k : ℕ) (x : Write) (at : pac
             (subst (λ (l : Line). FlightStands (w.packets ++ packets_of p.target part.source l (NetAck n.session m)) f') lines
             (subst (λ (s : ℕ). FlightStands (w.packets ++ packets_of p.target part.source line (NetAck s m)) f') sessions (sends w.packets flight room))) in
             let here : (gathered acked p).nodes p.target ≡ logged_node = at_place w.nodes p.target logged_node in
-            subst (λ (o : Outcome). StandsFor o p.target c us' part.source new f' IsTaken) (sym (waits_world put.0))
+            subst (λ (o : Outcome). StandsForOutcome o p.target c us' part.source new f' IsTaken) (sym (waits_world put.0))
             (record {
               says = refl;
-              receiver = subst (λ (vs : List Logged). Receives ((gathered acked p).nodes p.target) c vs part.source) (sym us_are) (subst (λ (y : Node). Receives y c (us ++ u ∷ []) part.source) (sym here) receives_more);
+              receiver = subst (λ (vs : List Logged). ReceivesWrites ((gathered acked p).nodes p.target) c vs part.source) (sym us_are) (subst (λ (y : Node). ReceivesWrites y c (us ++ u ∷ []) part.source) (sym here) receives_more);
               assembly = subst (λ (h : Option Gathering). AssemblyStands (gathered acked p).packets p.target h new) (sym (gathered_there acked))
                   (stands_later w.packets (packets_of p.target p.source n.line (NetAck n.session m)) p.target (left_by g p) new put.1);
               flight = on;
@@ -258,21 +258,21 @@ module _ (w : World) (number : ℕ) (p : Packet) (k : ℕ) (x : Write) (at : pac
 
         -- by what the receiver says of it
 
-        pub some_kept : (us' : List Logged) (new : Assembled) → GatheredIs c size part (payload_in part bytes) us a us' new (Some false) → StandsFor (delivered w number (packet_at w.packets number)) p.target c us' fed new f IsTaken
-        some_kept us' new (taken.Kept, (is, by)) = subst (λ (vs : List Logged). StandsFor (delivered w number (packet_at w.packets number)) p.target c vs fed new f IsTaken) (sym by.1) (kept_so new (put_so taken.Kept new is))
+        pub some_kept : (us' : List Logged) (new : Assembled) → GatheredIs c size part (payload_in part bytes) us a us' new (Some false) → StandsForOutcome (delivered w number (packet_at w.packets number)) p.target c us' fed new f IsTaken
+        some_kept us' new (taken.Kept, (is, by)) = subst (λ (vs : List Logged). StandsForOutcome (delivered w number (packet_at w.packets number)) p.target c vs fed new f IsTaken) (sym by.1) (kept_so new (put_so taken.Kept new is))
         some_kept us' new (taken.Bad, (is, by)) = absurd (put_so taken.Bad new is)
         some_kept us' new (taken.Whole, (is, by)) =
             let put = put_so taken.Whole new is in
-            let took = by (spelled p.message) u put.2 update_is in
+            let took = by (spelled_message p.message) u put.2 update_is in
             let e : Some false ≡ Some true = took.1.1 ∙ (taken_here us' took.0 took.1.0).0 in absurd (cc)
 
         pub some_waits : (us' : List Logged) (new : Assembled) → GatheredIs c size part (payload_in part bytes) us a us' new (Some true) → (line : Line) (session : ℕ) → line ≡ c.log.header.state.line → session ≡ c.log.header.incarnation → (f' : Flying)
-            → f.count < greatest → SendsOn p.target part.source line session m f f' → StandsFor (delivered w number (packet_at w.packets number)) p.target c us' part.source new f' IsTaken
+            → f.count < greatest_packet → SendsOn p.target part.source line session m f f' → StandsForOutcome (delivered w number (packet_at w.packets number)) p.target c us' part.source new f' IsTaken
         some_waits us' new (taken.Kept, (is, by)) line session line_is session_is f' room sends = let e : Some true ≡ Some false = by.0 in absurd (cc)
         some_waits us' new (taken.Bad, (is, by)) line session line_is session_is f' room sends = absurd (put_so taken.Bad new is)
         some_waits us' new (taken.Whole, (is, by)) line session line_is session_is f' room sends =
             let put = put_so taken.Whole new is in
-            let took = by (spelled p.message) u put.2 update_is in
+            let took = by (spelled_message p.message) u put.2 update_is in
             waits_so new us' put (taken_here us' took.0 took.1.0).1 line session line_is session_is f' room sends
 
         pub never_lost : (us' : List Logged) (new : Assembled) → GatheredIs c size part (payload_in part bytes) us a us' new None → ⊥
@@ -280,5 +280,5 @@ module _ (w : World) (number : ℕ) (p : Packet) (k : ℕ) (x : Write) (at : pac
         never_lost us' new (taken.Bad, (is, by)) = put_so taken.Bad new is
         never_lost us' new (taken.Whole, (is, by)) =
             let put = put_so taken.Whole new is in
-            let took = by (spelled p.message) u put.2 update_is in
+            let took = by (spelled_message p.message) u put.2 update_is in
             let e : None ≡ Some true = took.1.1 ∙ (taken_here us' took.0 took.1.0).0 in absurd (cc)

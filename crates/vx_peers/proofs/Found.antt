@@ -5,22 +5,22 @@ use Rattle.vx_history.specs.Events.{packet_at}
 use Rattle.vx_history.specs.World.{Packet}
 use Rattle.vx_courier.specs.UnderWay.{CanFly, FlightStands, carrier, part_carried, way_of}
 use Rattle.vx_courier.proofs.Flying.{at_number, can_fly, place_of_number}
-use Rattle.vx_net.specs.Flights.{Flying, packet_at as bytes_at}
-use Rattle.vx_packet.specs.Packets.{IsPacket, part_of}
+use Rattle.vx_net.specs.Flights.{Flying, kept_packet as bytes_at}
+use Rattle.vx_packet.specs.Packets.{IsPacket, part_numbered}
 use Rattle.vx_packet.specs.declared.message.Envelope.{Envelope}
 use Rattle.vx_packet.specs.declared.message.Message.{Message as Spelled}
 use Rattle.vx_packet.specs.declared.part.Part.{Part}
-use Rattle.vx_parts.specs.Spelling.{spelled}
+use Rattle.vx_parts.specs.Spelling.{spelled_message}
 
 some_same : {A : Type 0} (x y : A) → Some x ≡ Some y → x ≡ y
 some_same x y e = cc
 
-line_of_part : (e : Envelope) (m : Spelled) (k : ℕ) → (part_of e m k).line ≡ e.line
-unfolding part_of
+line_of_part : (e : Envelope) (m : Spelled) (k : ℕ) → (part_numbered e m k).line ≡ e.line
+unfolding part_numbered
 line_of_part e m k = refl
 
-source_of_part : (e : Envelope) (m : Spelled) (k : ℕ) → (part_of e m k).source ≡ e.source
-unfolding part_of
+source_of_part : (e : Envelope) (m : Spelled) (k : ℕ) → (part_numbered e m k).source ≡ e.source
+unfolding part_numbered
 source_of_part e m k = refl
 
 -- what is read of the bytes of a packet
@@ -61,6 +61,6 @@ module _ (ps : List Packet) (number : ℕ) (p : Packet) (at : packet_at ps numbe
         part_is = same;
         bytes_are = same_bytes bytes some;
         fly = flies;
-        line = ap (λ (q : Part). q.line) same ∙ line_of_part (way_of p) (spelled p.message) p.part;
-        source = ap (λ (q : Part). q.source) same ∙ source_of_part (way_of p) (spelled p.message) p.part;
+        line = ap (λ (q : Part). q.line) same ∙ line_of_part (way_of p) (spelled_message p.message) p.part;
+        source = ap (λ (q : Part). q.source) same ∙ source_of_part (way_of p) (spelled_message p.message) p.part;
       }

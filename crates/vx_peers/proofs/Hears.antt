@@ -5,7 +5,7 @@ use Rattle.vx_model.specs.Sites.{is_up, same_line}
 use Rattle.vx_model.specs.declared.history.Line.{Line}
 use Rattle.vx_model.specs.declared.link.Link.{Link as PlainLink}
 use Rattle.vx_model.specs.declared.site.SiteState.{SiteState}
-use Rattle.vx_history.specs.Events.{delivered, facts_of, gathered_if, gathers, heard, is_taken, link_heard, packet_at, said_of_link}
+use Rattle.vx_history.specs.Events.{delivered, receiver_facts, gathered_if, gathers, heard, is_taken, link_heard, packet_at, said_of_link}
 use Rattle.vx_history.specs.Gatherings.{gathered, left_by}
 use Rattle.vx_history.specs.LinkForms.{plain_link, with_plain}
 use Rattle.vx_history.specs.Refusals.{Outcome, is_running, says}
@@ -26,14 +26,14 @@ use Rattle.vx_courier.proofs.Flying.{place_of_number}
 use Rattle.vx_courier.proofs.Joining.{put_together}
 use Rattle.vx_courier.proofs.Singles.{single_message}
 use Rattle.vx_net.specs.Flights.{Flying}
-use Rattle.vx_packet.specs.Assemblies.{Assembled, Takes}
+use Rattle.vx_packet.specs.Assemblies.{Assembled, TakesPart}
 use Rattle.vx_packet.specs.Messages.{IsMessage}
 use Rattle.vx_packet.specs.Packets.{payload_in}
 use Rattle.vx_packet.specs.declared.assembly.Taken.{Taken as Put}
 use Rattle.vx_packet.specs.declared.assembly.Taken.TheVariants as put
 use Rattle.vx_packet.specs.declared.message.Message.{Message as Spelled}
 use Rattle.vx_packet.specs.declared.part.Part.{Part}
-use Rattle.vx_parts.specs.Spelling.{spelled}
+use Rattle.vx_parts.specs.Spelling.{spelled_message}
 use Rattle.vx_peers.specs.Answers.{LinkStandsFor, Listens, PartStandsFor, event_in, is_answer}
 use Rattle.vx_peers.proofs.Found.{ReadSo}
 use Rattle.vx_peers.proofs.Links.{data_again, hello_again, net_again}
@@ -48,7 +48,7 @@ event_for (Update number x) = event.Tick
 event_for (NetAck session number) = event.NetAck session number
 event_for (DataAck number) = event.DataAck number
 
-event_there : (m : Message) → is_answer m ≡ true → event_in (spelled m) ≡ Some (event_for m)
+event_there : (m : Message) → is_answer m ≡ true → event_in (spelled_message m) ≡ Some (event_for m)
 event_there (Hello session number stored) is = refl
 event_there (Update number x) is = absurd (cc)
 event_there (NetAck session number) is = refl
@@ -81,7 +81,7 @@ module _ (w : World) (number : ℕ) (p : Packet) (at : packet_at w.packets numbe
   l = w.links p.target p.source
 
   abbrev r : Sent
-  r = sent_step (plain_link p.source l) (event_for p.message) (facts_of n p.line)
+  r = sent_step (plain_link p.source l) (event_for p.message) (receiver_facts n p.line)
 
   abbrev after : World
   after = with_link w p.target p.source (with_plain l r.link)
@@ -106,21 +106,21 @@ module _ (w : World) (number : ℕ) (p : Packet) (at : packet_at w.packets numbe
       ∙ ap (λ (i : ℕ). sent_step (plain_link p.source l) (event_for p.message) (record { safe = i; line_ok = ok })) listens.safe_is
       ∙ ap (λ (b : Bool). sent_step (plain_link p.source l) (event_for p.message) (record { safe = n.safe; line_ok = b })) line_ok
 
-  pub message_is : (bytes : List ℕ) (part : Part) → ReadSo p bytes part → (o : Option Spelled) → ((m : Spelled) → IsMessage part.kind part.session part.number (payload_in part bytes) m → o ≡ Some m) → o ≡ Some (spelled p.message)
+  pub message_is : (bytes : List ℕ) (part : Part) → ReadSo p bytes part → (o : Option Spelled) → ((m : Spelled) → IsMessage part.kind part.session part.number (payload_in part bytes) m → o ≡ Some m) → o ≡ Some (spelled_message p.message)
   message_is bytes part read o only =
-      only (spelled p.message)
-      (subst (λ (q : Part). IsMessage q.kind q.session q.number (payload_in q bytes) (spelled p.message)) (sym read.part_is)
-      (subst (λ (bs : List ℕ). IsMessage (part_carried p).kind (part_carried p).session (part_carried p).number (payload_in (part_carried p) bs) (spelled p.message)) (sym read.bytes_are)
+      only (spelled_message p.message)
+      (subst (λ (q : Part). IsMessage q.kind q.session q.number (payload_in q bytes) (spelled_message p.message)) (sym read.part_is)
+      (subst (λ (bs : List ℕ). IsMessage (part_carried p).kind (part_carried p).session (part_carried p).number (payload_in (part_carried p) bs) (spelled_message p.message)) (sym read.bytes_are)
       (single_message p read.fly (one_part p.message answers))))
 
-  pub event_is : (m : Spelled) → m ≡ spelled p.message → (o : Option SEvent) → o ≡ event_in m → o ≡ Some (event_for p.message)
+  pub event_is : (m : Spelled) → m ≡ spelled_message p.message → (o : Option SEvent) → o ≡ event_in m → o ≡ Some (event_for p.message)
   event_is m is o found = found ∙ ap event_in is ∙ event_there p.message answers
 
   pub link_there : after.links p.target p.source ≡ with_plain l r.link
   link_there = ap (λ (row : ℕ → Link). row p.source) (at_place w.links p.target (updated (w.links p.target) p.source (with_plain l r.link))) ∙ at_place (w.links p.target) p.source (with_plain l r.link)
 
   link_is : (k : PlainLink) → k ≡ r.link → k ≡ plain_link p.source (after.links p.target p.source)
-  link_is k is = is ∙ sym (again p.source l (facts_of n p.line) p.message answers) ∙ ap (plain_link p.source) (sym link_there)
+  link_is k is = is ∙ sym (again p.source l (receiver_facts n p.line) p.message answers) ∙ ap (plain_link p.source) (sym link_there)
 
   gathered_links : (took : Bool) (v : World) → (gathered_if took v p).links ≡ v.links
   gathered_links true v = refl
@@ -156,13 +156,13 @@ module _ (w : World) (number : ℕ) (p : Packet) (at : packet_at w.packets numbe
         subst (λ (o : Outcome). LinkStandsFor o p.target p.source k a f IsIgnored) (sym (outcome_is ∙ ap (λ (s : Said). gathers p (says after s)) (said_ignored r.action other)))
         (record { says = refl; link = link_is k is; assembly = stands; flight = flight })
 
-    pub taken_so : (k : PlainLink) → k ≡ r.link → r.action ≡ Taken → AreOne w.packets → (bytes : List ℕ) (part : Part) → ReadSo p bytes part → (t : Put) (new : Assembled) → Takes a part (payload_in part bytes) t new
+    pub taken_so : (k : PlainLink) → k ≡ r.link → r.action ≡ Taken → AreOne w.packets → (bytes : List ℕ) (part : Part) → ReadSo p bytes part → (t : Put) (new : Assembled) → TakesPart a part (payload_in part bytes) t new
         → LinkStandsFor (delivered w number (packet_at w.packets number)) p.target p.source k new f IsTaken
     taken_so k is took one bytes part read t new takes =
         let place = place_of_number w.packets number p at in
         let whole : IsPutTo w.packets p.target (w.gathering p.target) p t new
         = put_together w.packets p.target place.0 p one place.2 refl read.fly (w.gathering p.target) a stands t new
-        (subst (λ (bs : List ℕ). Takes a (part_carried p) (payload_in (part_carried p) bs) t new) read.bytes_are (subst (λ (q : Part). Takes a q (payload_in q bytes) t new) read.part_is takes)) in
+        (subst (λ (bs : List ℕ). TakesPart a (part_carried p) (payload_in (part_carried p) bs) t new) read.bytes_are (subst (λ (q : Part). TakesPart a q (payload_in q bytes) t new) read.part_is takes)) in
         let there : (gathered after p).gathering p.target ≡ left_by (w.gathering p.target) p = at_place w.gathering p.target (left_by (w.gathering p.target) p) in
         subst (λ (o : Outcome). LinkStandsFor o p.target p.source k new f IsTaken) (sym (outcome_is ∙ ap (λ (x : Action). gathers p (says after (said_of_link x))) took))
         (record {

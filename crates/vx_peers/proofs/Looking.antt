@@ -11,7 +11,7 @@ use Rattle.vx_disk.proofs.Runs.{same_Goes, then_nothing}
 use Rattle.vx_ringio.specs.Spends.{Spends}
 use Rattle.vx_ringio.proofs.Spending.{spends_none, then_spends}
 use Rattle.vx_rvg.specs.Holdings.{Holding, update_of}
-use Rattle.vx_rvg.specs.Stands.{Gives, Stands}
+use Rattle.vx_rvg.specs.Stands.{GivesWrite, Stands}
 use Rattle.vx_rvg.specs.Views.{Core}
 use Rattle.vx_rvg.proofs.WriteLog.{cause_from}
 use Rattle.vx_srl.specs.Calls.{FetchCause}
@@ -93,7 +93,7 @@ pub record Fetched (a : Core) (m : Meaning) (h : Holding) (n : ℕ) (u : Update)
   pub stands : Stands a h m
 
 -- what was read, and the group stands on
-pub stands_on : (a b c : Core) (m0 m1 m2 : Meaning) (n : ℕ) (u : Update) → Looked a b m0 m1 → IsTrue m0.tells → (h : Holding) → Stands a h m1 → Gives b n m1 u → (IsTrue m2.down → ⊥)
+pub stands_on : (a b c : Core) (m0 m1 m2 : Meaning) (n : ℕ) (u : Update) → Looked a b m0 m1 → IsTrue m0.tells → (h : Holding) → Stands a h m1 → GivesWrite b n m1 u → (IsTrue m2.down → ⊥)
     → ((k : Holding) → Stands b k m1 → IsFalse m2.down → Stands c k m2) → c ≡ b → Fetched a m2 h n u
 stands_on a b c m0 m1 m2 n u looked tells h stands gives up on same =
     let back : Stands b h m1 = subst (λ (x : Core). Stands x h m1) (sym looked.core) stands in

@@ -8,10 +8,10 @@ use Rattle.vx_history.specs.World.{NetAck, Packet}
 use Rattle.vx_history.specs.declared.sender.Action.{Action}
 use Rattle.vx_history.specs.declared.sender.Action.TheVariants.{Ignored, Nothing, Taken}
 use Rattle.vx_courier.specs.UnderWay.{FlightStands}
-use Rattle.vx_net.specs.Flights.{Flying, greatest}
+use Rattle.vx_net.specs.Flights.{Flying, greatest_packet}
 use Rattle.vx_packet.specs.declared.message.Envelope.{Envelope}
 use Rattle.vx_rvg.specs.Views.{Core}
-use Rattle.vx_secondary.specs.Receivers.{write_of}
+use Rattle.vx_secondary.specs.Receivers.{write_of_update}
 use Rattle.vx_peers.specs.Receivers.{SendsOn, acks_of}
 use Rattle.vx_peers.specs.Senders.{Sends, SendsBy, SendsRange}
 
@@ -20,7 +20,7 @@ pub more_none : (f f' : Flying) → f' ≡ f → Sends [] f f'
 more_none f f' same = λ ps stands. subst (λ (qs : List Packet). FlightStands qs f') (sym (append-nil ps)) (subst (λ (g : Flying). FlightStands ps g) (sym same) stands)
 
 -- an acknowledgement was
-pub more_acknowledged : (source target : ℕ) (c : Core) (line : Line) (session number : ℕ) (f f' : Flying) → line ≡ c.log.header.state.line → session ≡ c.log.header.incarnation → f.count < greatest
+pub more_acknowledged : (source target : ℕ) (c : Core) (line : Line) (session number : ℕ) (f f' : Flying) → line ≡ c.log.header.state.line → session ≡ c.log.header.incarnation → f.count < greatest_packet
     → SendsOn source target line session number f f' → Sends (acks_of source target c number) f f'
 more_acknowledged source target c line session number f f' line_is session_is room sends = λ ps stands.
     subst (λ (l : Line). FlightStands (ps ++ packets_of source target l (NetAck c.log.header.incarnation number)) f') line_is
@@ -28,8 +28,8 @@ more_acknowledged source target c line session number f f' line_is session_is ro
 
 -- updates were
 pub more_updates : (e : Envelope) (from to : ℕ) (us : List Update) (f f' : Flying) → from + length us ≡ to + 1
-    → ((ps : List Packet) → FlightStands ps f → FlightStands (ps ++ updates e.source e.target e.line from (map write_of us)) f') → SendsRange e from to f f'
-more_updates e from to us f f' all flies = record { writes = map write_of us; all = omega (arith, all, length-map us write_of); flies = flies }
+    → ((ps : List Packet) → FlightStands ps f → FlightStands (ps ++ updates e.source e.target e.line from (map write_of_update us)) f') → SendsRange e from to f f'
+more_updates e from to us f f' all flies = record { writes = map write_of_update us; all = omega (arith, all, length-map us write_of_update); flies = flies }
 
 -- as a rule asks that has nothing sent
 pub none_asked : (a : Action) (e : Envelope) (f : Flying) → (a ≡ Nothing) ⊎ ((a ≡ Ignored) ⊎ (a ≡ Taken)) → SendsBy a e f f

@@ -14,7 +14,7 @@ use Rattle.vx_net.specs.Flights.{Flying}
 use Rattle.vx_packet.specs.declared.message.Envelope.{Envelope}
 use Rattle.vx_rvg.specs.Holdings.{Holding, update_of}
 use Rattle.vx_peers.specs.Senders.{AreRead}
-use Rattle.vx_secondary.specs.Receivers.{write_of}
+use Rattle.vx_secondary.specs.Receivers.{write_of_update}
 
 -- the packets that were sent by now, and those that are still to be sent, are these behind the former ones
 pub record OnTheWay (old all rest : List Packet) (f : Flying) : Type 0 where
@@ -32,19 +32,19 @@ drop_at xs k j x there next = drop_there xs k x there ∙ ap (λ (i : ℕ). x �
 
 -- one more update is on its way
 pub one_sent : (ps all : List Packet) (e : Envelope) (first past next : ℕ) (us : List Update) (u : Update) (f f' : Flying)
-    → OnTheWay ps all (updates e.source e.target e.line (first + past) (map write_of (drop past us))) f → slice_get us past ≡ Some u → next ≡ suc past
-    → ((qs : List Packet) → FlightStands qs f → FlightStands (qs ++ packets_of e.source e.target e.line (PlainUpdate (first + past) (write_of u))) f')
-    → OnTheWay ps all (updates e.source e.target e.line (first + next) (map write_of (drop next us))) f'
+    → OnTheWay ps all (updates e.source e.target e.line (first + past) (map write_of_update (drop past us))) f → slice_get us past ≡ Some u → next ≡ suc past
+    → ((qs : List Packet) → FlightStands qs f → FlightStands (qs ++ packets_of e.source e.target e.line (PlainUpdate (first + past) (write_of_update u))) f')
+    → OnTheWay ps all (updates e.source e.target e.line (first + next) (map write_of_update (drop next us))) f'
 one_sent ps all e first past next us u f f' on there follows sends_it =
     let rest : drop past us ≡ u ∷ drop next us = drop_at us past next u there follows in
     let number : first + past + 1 ≡ first + next = omega (arith, follows) in
-    let split : updates e.source e.target e.line (first + past) (map write_of (drop past us))
-    ≡ packets_of e.source e.target e.line (PlainUpdate (first + past) (write_of u)) ++ updates e.source e.target e.line (first + next) (map write_of (drop next us))
-    = ap (λ (vs : List Update). updates e.source e.target e.line (first + past) (map write_of vs)) rest
-    ∙ ap (λ (i : ℕ). packets_of e.source e.target e.line (PlainUpdate (first + past) (write_of u)) ++ updates e.source e.target e.line i (map write_of (drop next us))) number in record {
-      now = on.now ++ packets_of e.source e.target e.line (PlainUpdate (first + past) (write_of u));
+    let split : updates e.source e.target e.line (first + past) (map write_of_update (drop past us))
+    ≡ packets_of e.source e.target e.line (PlainUpdate (first + past) (write_of_update u)) ++ updates e.source e.target e.line (first + next) (map write_of_update (drop next us))
+    = ap (λ (vs : List Update). updates e.source e.target e.line (first + past) (map write_of_update vs)) rest
+    ∙ ap (λ (i : ℕ). packets_of e.source e.target e.line (PlainUpdate (first + past) (write_of_update u)) ++ updates e.source e.target e.line i (map write_of_update (drop next us))) number in record {
+      now = on.now ++ packets_of e.source e.target e.line (PlainUpdate (first + past) (write_of_update u));
       flight = sends_it on.now on.flight;
-      is = append_assoc on.now (packets_of e.source e.target e.line (PlainUpdate (first + past) (write_of u))) (updates e.source e.target e.line (first + next) (map write_of (drop next us)))
+      is = append_assoc on.now (packets_of e.source e.target e.line (PlainUpdate (first + past) (write_of_update u))) (updates e.source e.target e.line (first + next) (map write_of_update (drop next us)))
           ∙ ap (λ (xs : List Packet). on.now ++ xs) (sym split) ∙ on.is;
     }
 
@@ -85,10 +85,10 @@ none_read h line first = record { each = λ k u is. absurd (cc) }
 
 -- nothing is sent yet, and all is
 pub start_of : (ps : List Packet) (e : Envelope) (first : ℕ) (us : List Update) (f : Flying) → FlightStands ps f
-    → OnTheWay ps (updates e.source e.target e.line first (map write_of us)) (updates e.source e.target e.line (first + 0) (map write_of (drop 0 us))) f
+    → OnTheWay ps (updates e.source e.target e.line first (map write_of_update us)) (updates e.source e.target e.line (first + 0) (map write_of_update (drop 0 us))) f
 start_of ps e first us f stands =
     let number : first + 0 ≡ first = omega arith in
-    record { now = ps; flight = stands; is = ap (λ (n : ℕ). ps ++ updates e.source e.target e.line n (map write_of us)) number }
+    record { now = ps; flight = stands; is = ap (λ (n : ℕ). ps ++ updates e.source e.target e.line n (map write_of_update us)) number }
 
 past_all : {A : Type 0} (xs : List A) (n : ℕ) → length xs ≤ n → drop n xs ≡ []
 past_all [] zero le = refl
@@ -97,9 +97,9 @@ past_all (x ∷ xs) zero le = absurd (omega (arith, le))
 past_all (x ∷ xs) (suc n) le = past_all xs n (omega (arith, le))
 
 pub all_sent : (ps : List Packet) (e : Envelope) (first past : ℕ) (us : List Update) (f : Flying) → length us ≤ past
-    → OnTheWay ps (updates e.source e.target e.line first (map write_of us)) (updates e.source e.target e.line (first + past) (map write_of (drop past us))) f
-    → FlightStands (ps ++ updates e.source e.target e.line first (map write_of us)) f
+    → OnTheWay ps (updates e.source e.target e.line first (map write_of_update us)) (updates e.source e.target e.line (first + past) (map write_of_update (drop past us))) f
+    → FlightStands (ps ++ updates e.source e.target e.line first (map write_of_update us)) f
 all_sent ps e first past us f all on =
-    let none : updates e.source e.target e.line (first + past) (map write_of (drop past us)) ≡ [] = ap (λ (vs : List Update). updates e.source e.target e.line (first + past) (map write_of vs)) (past_all us past all) in
-    let list : on.now ≡ ps ++ updates e.source e.target e.line first (map write_of us) = sym (append-nil on.now) ∙ ap (λ (qs : List Packet). on.now ++ qs) (sym none) ∙ on.is in
+    let none : updates e.source e.target e.line (first + past) (map write_of_update (drop past us)) ≡ [] = ap (λ (vs : List Update). updates e.source e.target e.line (first + past) (map write_of_update vs)) (past_all us past all) in
+    let list : on.now ≡ ps ++ updates e.source e.target e.line first (map write_of_update us) = sym (append-nil on.now) ∙ ap (λ (qs : List Packet). on.now ++ qs) (sym none) ∙ on.is in
     subst (λ (qs : List Packet). FlightStands qs f) list on.flight

@@ -18,8 +18,8 @@ use Rattle.vx_history.specs.declared.receiver.RAction.TheVariants.{DataAck as Ac
 use Rattle.vx_history.specs.declared.receiver.REvent.TheVariants.{Update as HearUpdate}
 use Rattle.vx_courier.specs.Together.{AssemblyStands}
 use Rattle.vx_courier.specs.UnderWay.{FlightStands}
-use Rattle.vx_net.specs.Flights.{Flying, greatest}
-use Rattle.vx_packet.specs.Assemblies.{Assembled, Takes}
+use Rattle.vx_net.specs.Flights.{Flying, greatest_packet}
+use Rattle.vx_packet.specs.Assemblies.{Assembled, TakesPart}
 use Rattle.vx_packet.specs.declared.assembly.Taken.{Taken}
 use Rattle.vx_packet.specs.declared.assembly.Taken.TheVariants as taken
 use Rattle.vx_packet.specs.declared.message.Message.{Message}
@@ -28,12 +28,12 @@ use Rattle.vx_packet.specs.declared.part.Part.{Part}
 use Rattle.vx_peers.specs.Senders.{Sends}
 use Rattle.vx_rvg.specs.Views.{Core}
 use Rattle.vx_secondary.specs.Answers.{TakeIs}
-use Rattle.vx_secondary.specs.Receivers.{receiver_of, write_of}
+use Rattle.vx_secondary.specs.Receivers.{receiver_of, write_of_update}
 
 -- the update that a message is, on this line
-abbrev pub update_of : Message → Line → Option Update
-update_of (message.Update number vol block bytes) line = Some (record { line = line; number = number; vol = vol; block = block; bytes = bytes })
-update_of other line = None
+abbrev pub update_from : Message → Line → Option Update
+update_from (message.Update number vol block bytes) line = Some (record { line = line; number = number; vol = vol; block = block; bytes = bytes })
+update_from other line = None
 
 -- the update waits
 abbrev pub waits_now : Result RAction No → Option Bool
@@ -44,11 +44,11 @@ waits_now other = None
 abbrev pub GatheredBy : Taken → Core → (size : ℕ → ℕ) → Line → List Update → Assembled → List Update → Option Bool → Type 0
 GatheredBy taken.Kept c size line us new us' result = (result ≡ Some false) × (us' ≡ us)
 GatheredBy taken.Bad c size line us new us' result = (result ≡ None) × (us' ≡ us)
-GatheredBy taken.Whole c size line us new us' result = (m : Message) (u : Update) → new.whole ≡ Some m → update_of m line ≡ Some u
+GatheredBy taken.Whole c size line us new us' result = (m : Message) (u : Update) → new.whole ≡ Some m → update_from m line ≡ Some u
     → (r : Result RAction No) × (TakeIs c size us u r us' × (result ≡ waits_now r))
 
 abbrev pub GatheredIs : Core → (size : ℕ → ℕ) → Part → List ℕ → List Update → Assembled → List Update → Assembled → Option Bool → Type 0
-GatheredIs c size part payload us a us' a' result = (t : Taken) × (Takes a part payload t a' × GatheredBy t c size part.line us a' us' result)
+GatheredIs c size part payload us a us' a' result = (t : Taken) × (TakesPart a part payload t a' × GatheredBy t c size part.line us a' us' result)
 
 -- the update waits behind the others where it was whole and taken, and else nothing waits that did not
 abbrev pub WaitsBy : Option Bool → List Update → List Update → Type 0
@@ -57,24 +57,24 @@ WaitsBy other us us' = us' ≡ us
 
 -- the group of a site that receives, what waits behind it, and who feeds it: its rule sees the site, and the writes that wait are those behind
 -- the durable ones
-pub record Receives (n : Node) (c : Core) (us : List Update) (fed : ℕ) : Type 0 where
+pub record ReceivesWrites (n : Node) (c : Core) (us : List Update) (fed : ℕ) : Type 0 where
   pub up : n.state ≡ Up
   pub role : is_origin n.role ≡ false
   pub halted : c.halted ≡ n.halted
   pub rule : receiver_of c us ≡ plain_receiver n
   pub logged : n.safe ≤ length n.log
   pub fed_by : fed ≡ n.fed_by
-  pub waits : map write_of us ≡ drop n.safe n.log
+  pub waits : map write_of_update us ≡ drop n.safe n.log
 
 -- A packet was delivered to this site: what is said is what the world says, and what the site and the network have is what the world has.
-pub record StandsFor (o : Outcome) (site : ℕ) (c : Core) (us : List Update) (fed : ℕ) (a : Assembled) (f : Flying) (said : Said) : Type 0 where
+pub record StandsForOutcome (o : Outcome) (site : ℕ) (c : Core) (us : List Update) (fed : ℕ) (a : Assembled) (f : Flying) (said : Said) : Type 0 where
   pub says : said ≡ o.said
-  pub receiver : Receives (o.world.nodes site) c us fed
+  pub receiver : ReceivesWrites (o.world.nodes site) c us fed
   pub assembly : AssemblyStands o.world.packets site (o.world.gathering site) a
   pub flight : FlightStands o.world.packets f
 
 abbrev pub DeliveredAt : World → (site number : ℕ) → Core → List Update → (fed : ℕ) → Assembled → Flying → Said → Type 0
-DeliveredAt w site number c us fed a f said = StandsFor (delivered w number (packet_at w.packets number)) site c us fed a f said
+DeliveredAt w site number c us fed a f said = StandsForOutcome (delivered w number (packet_at w.packets number)) site c us fed a f said
 
 -- what the rule says of an update of this line and number, at a group behind which these updates wait
 abbrev pub rule_at : Core → List Update → Line → (number : ℕ) → RAction
@@ -106,4 +106,4 @@ pub data TookOne (rule : RAction) (source site : ℕ) (c : Core) (us us' : List 
 -- an acknowledgement from memory was sent
 abbrev pub SendsOn : (source target : ℕ) → Line → (session number : ℕ) → Flying → Flying → Type 0
 SendsOn source target line session number f f' =
-    (ps : List Packet) → FlightStands ps f → f.count < greatest → FlightStands (ps ++ packets_of source target line (NetAck session number)) f'
+    (ps : List Packet) → FlightStands ps f → f.count < greatest_packet → FlightStands (ps ++ packets_of source target line (NetAck session number)) f'

@@ -25,7 +25,7 @@ use Rattle.vx_packet.specs.declared.message.Envelope.{Envelope}
 use Rattle.vx_rvg.specs.Holdings.{Holding, update_of}
 use Rattle.vx_rvg.specs.Stands.{Stands}
 use Rattle.vx_rvg.specs.Views.{Core, last_of}
-use Rattle.vx_secondary.specs.Receivers.{write_of}
+use Rattle.vx_secondary.specs.Receivers.{write_of_update}
 use Rattle.vx_srl.specs.declared.errors.SrlNo.{SrlNo}
 use Rattle.vx_srl.specs.declared.errors.SrlNo.TheVariants.{NoRoom, Other, Overrun}
 
@@ -48,7 +48,7 @@ pub record SentRange (h : Holding) (line : Line) (e : Envelope) (from to : ℕ) 
   pub updates : List Update
   pub read : AreRead h line from updates
   pub all : from + length updates ≡ to + 1
-  pub flies : (ps : List Packet) → FlightStands ps f → FlightStands (ps ++ updates_of e.source e.target e.line from (map write_of updates)) f'
+  pub flies : (ps : List Packet) → FlightStands ps f → FlightStands (ps ++ updates_of e.source e.target e.line from (map write_of_update updates)) f'
 
 -- the link in memory and the packets under way are what the world has of them behind an event of this link
 pub record LinkMoved (w : World) (p s : ℕ) (e : SEvent) (l : PlainLink) (f : Flying) : Type 0 where

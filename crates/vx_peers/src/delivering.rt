@@ -5,9 +5,9 @@ ghost use Rattle.vx_courier.specs.UnderWay.{FlightStands};
 ghost use Rattle.vx_history.specs.Events.{packet_at};
 ghost use Rattle.vx_history.specs.World.{Packet, Update as PlainUpdate, World};
 ghost use Rattle.vx_model.specs.Content.{Write};
-ghost use Rattle.vx_net.specs.Flights.{greatest};
+ghost use Rattle.vx_net.specs.Flights.{greatest_packet};
 ghost use Rattle.vx_packet.specs.Messages.{IsCounted};
-ghost use Rattle.vx_peers.specs.Receivers.{DeliveredAt, Receives, SendsOn, TookOne, rule_at};
+ghost use Rattle.vx_peers.specs.Receivers.{DeliveredAt, ReceivesWrites, SendsOn, TookOne, rule_at};
 ghost use Rattle.vx_rvg.specs.Holdings.{update_of};
 ghost use Rattle.vx_secondary.specs.Receivers.{can_log};
 
@@ -51,7 +51,7 @@ pub fn deliver_update<S: Shelf, N: Net>(
     number: u64,
 ) -> Result<Said, OutOfMemory>
     ensures delivered { (w : World) (p : Packet) (k : ℕ) (x : Write) → packet_at w.packets number ≡ Some p → p.target ≡ site → p.message ≡ PlainUpdate k x
-        → AreOne w.packets → FlightStands w.packets (N.flying flight.old) → Receives (w.nodes site) secondary.old.rvg.core secondary.old.waiting fed_by.old
+        → AreOne w.packets → FlightStands w.packets (N.flying flight.old) → ReceivesWrites (w.nodes site) secondary.old.rvg.core secondary.old.waiting fed_by.old
         → AssemblyStands w.packets site (w.gathering site) assembly.old
         → (p.line ≡ secondary.old.rvg.core.log.header.state.line → can_log secondary.old.rvg.core (S.meaning secondary.old.rvg.shelf).size (update_of p.line k x) ≡ true)
         → IfOk result (λ said. DeliveredAt w site number secondary.new.rvg.core secondary.new.waiting fed_by.new assembly.new (N.flying flight.new) said) }

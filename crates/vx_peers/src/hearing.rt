@@ -1,7 +1,7 @@
 // A packet of an update, at its receiver.
 ghost use Rattle.std.specs.Prelude.{◌≡◌, None};
 ghost use Rattle.vx_packet.specs.Packets.{IsPacket, payload_in};
-ghost use Rattle.vx_peers.specs.Receivers.{GatheredIs, WaitsBy, update_of, waits_now};
+ghost use Rattle.vx_peers.specs.Receivers.{GatheredIs, WaitsBy, update_from, waits_now};
 
 use vx_disk::Shelf;
 use vx_model::{No, Update};
@@ -11,7 +11,7 @@ use vx_secondary::Secondary;
 
 // The update that a message is, of the line of its part.
 fn update_in(message: &Message<'_>, part: &Part) -> Option<Update>
-    ensures { result ≡ update_of message.now part.now.line }
+    ensures { result ≡ update_from message.now part.now.line }
 {
     match message {
         Message::Update {

@@ -11,6 +11,3 @@ mod sending;
 pub use answering::{deliver_answer, heard_link};
 pub use delivering::deliver_update;
 pub use pumping::pump;
-
-#[cfg(test)]
-mod tests;

@@ -4,7 +4,7 @@ ghost use Rattle.vx_courier.specs.UnderWay.{FlightStands};
 ghost use Rattle.vx_disk.specs.Causes.{OnDisks};
 ghost use Rattle.vx_disk.specs.Disks.{Untouched};
 ghost use Rattle.vx_disk.specs.Shelf.{Goes, Nothing};
-ghost use Rattle.vx_history.specs.Admission.{is_live};
+ghost use Rattle.vx_history.specs.Admission.{is_live_link};
 ghost use Rattle.vx_history.specs.LinkForms.{plain_link};
 ghost use Rattle.vx_history.specs.Sending.{by_log};
 ghost use Rattle.vx_history.specs.World.{World};
@@ -78,7 +78,7 @@ pub fn pump<S: Shelf, N: Net>(
     requires generation { IsCounted rvg.old.core.log.header.state.line.generation }
     requires number { IsCounted (last_of rvg.old.core) }
     requires running { rvg.old.core.halted ≡ None }
-    requires held { (is_live link.old && by_log link.old.mode) ≡ true → rvg.old.core.log.header.low ≤ link.old.stored + 1 }
+    requires held { (is_live_link link.old && by_log link.old.mode) ≡ true → rvg.old.core.log.header.low ≤ link.old.stored + 1 }
     ensures moved { OnOk result ((w : World) → SendsFrom (w.nodes site) rvg.old.core (S.meaning rvg.old.shelf) → IsTrue (S.meaning rvg.old.shelf).tells
         → link.old ≡ plain_link link.old.site (w.links site link.old.site) → FlightStands w.packets (N.flying flight.old)
         → LinkMoved w site link.old.site Pump link.new (N.flying flight.new)) }

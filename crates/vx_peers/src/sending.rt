@@ -3,9 +3,9 @@ ghost use Rattle.std.specs.Prelude.{◌≡◌, ◌+◌, ◌*◌, ◌≤◌, ◌+
 ghost use Rattle.vx_courier.specs.UnderWay.{FlightStands};
 ghost use Rattle.vx_history.specs.Sends.{packets_of, updates as updates_of};
 ghost use Rattle.vx_history.specs.World.{Packet, Update as PlainUpdate};
-ghost use Rattle.vx_net.specs.Flights.{greatest};
+ghost use Rattle.vx_net.specs.Flights.{greatest_packet};
 ghost use Rattle.vx_packet.specs.Messages.{IsCounted};
-ghost use Rattle.vx_secondary.specs.Receivers.{write_of};
+ghost use Rattle.vx_secondary.specs.Receivers.{write_of_update};
 
 use vx_courier::send_message;
 use vx_model::Update;
@@ -16,9 +16,9 @@ use vx_packet::{BlockBytes, Envelope, Message};
 fn send_update<N: Net>(flight: &mut N, envelope: &Envelope, number: u64, update: &Update)
     requires generation { IsCounted envelope.now.line.generation }
     requires number { IsCounted number }
-    requires room { (N.flying flight.old).count + 16 ≤ greatest }
+    requires room { (N.flying flight.old).count + 16 ≤ greatest_packet }
     ensures flies { (ps : List Packet) → FlightStands ps (N.flying flight.old)
-        → FlightStands (ps ++ packets_of envelope.now.source envelope.now.target envelope.now.line (PlainUpdate number (write_of update.now))) (N.flying flight.new) }
+        → FlightStands (ps ++ packets_of envelope.now.source envelope.now.target envelope.now.line (PlainUpdate number (write_of_update update.now))) (N.flying flight.new) }
     ensures count { (N.flying flight.new).count ≤ (N.flying flight.old).count + 16 }
 {
     let message = Message::Update {
@@ -39,9 +39,9 @@ pub(crate) fn send_updates<N: Net>(
 )
     requires generation { IsCounted envelope.now.line.generation }
     requires numbers { first + length updates.now ≤ 0x8000_0000_0000_0000 }
-    requires room { (N.flying flight.old).count + 16 * length updates.now ≤ greatest }
+    requires room { (N.flying flight.old).count + 16 * length updates.now ≤ greatest_packet }
     ensures flies { (ps : List Packet) → FlightStands ps (N.flying flight.old)
-        → FlightStands (ps ++ updates_of envelope.now.source envelope.now.target envelope.now.line first (map write_of updates.now)) (N.flying flight.new) }
+        → FlightStands (ps ++ updates_of envelope.now.source envelope.now.target envelope.now.line first (map write_of_update updates.now)) (N.flying flight.new) }
 {
     for (past, update) in updates.iter().enumerate() {
         send_update(flight, envelope, first + past as u64, update);

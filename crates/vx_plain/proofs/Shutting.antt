@@ -16,16 +16,16 @@ use Rattle.vx_turn.specs.declared.ask.Job.{Job}
 use Rattle.vx_turn.specs.declared.ask.Job.TheVariants.{Apply, Fetch, Acked, Wait}
 use Rattle.vx_turn.specs.declared.ask.JobReply.{JobReply}
 use Rattle.vx_turn.specs.declared.ask.JobReply.TheVariants as job
-use Rattle.vx_turn.specs.Acting.{Acts, RepliesBy, Logs, NamesLink, Nets, volumes_after}
+use Rattle.vx_turn.specs.Acting.{EngineActs, RepliesBy, LogsUpdate, NamesLink, Nets, volumes_after}
 use Rattle.vx_turn.specs.Volumes.{as_content}
 use Rattle.vx_settle.specs.declared.peer.Ack.{Ack}
 use Rattle.vx_settle.specs.declared.peer.Stand.{Stand}
 use Rattle.vx_settle.specs.Peers.{Hands}
 use Rattle.vx_settle.specs.Bringing.{Events}
-use Rattle.vx_plain.specs.Trails.{shut, no_counts, IsRefused, IsSaid}
+use Rattle.vx_plain.specs.Trails.{shut, no_counts, IsRefusedCall, IsSaid}
 
 -- a write has no room in the log
-pub write-size : (v s : ℕ) (bytes : List ℕ) → IsRefused (WriteBlocks v s bytes) no.Size
+pub write-size : (v s : ℕ) (bytes : List ℕ) → IsRefusedCall (WriteBlocks v s bytes) no.Size
 write-size v s bytes = subst (λ (b : Bool). RepliesBy (if b then WrongSize else if is_past (as_content []) v s (blocks_in bytes) then OutOfRange else Accepts) 0 (WriteBlocks v s bytes) (Refused no.Size) no_counts no_counts)
     (sym (right (is_wrong_count (blocks_in bytes)) (is_too_large 0 (blocks_in bytes)) (lt-ltb 0 (blocks_in bytes + 1) (omega arith)))) tt
   where
@@ -33,15 +33,15 @@ write-size v s bytes = subst (λ (b : Bool). RepliesBy (if b then WrongSize else
     right true c e = refl
     right false c e = e
 
-pub read-size : (v s count : ℕ) → is_wrong_count count ≡ true → IsRefused (Read v s count) no.Size
+pub read-size : (v s count : ℕ) → is_wrong_count count ≡ true → IsRefusedCall (Read v s count) no.Size
 read-size v s count e = subst (λ (b : Bool). RepliesBy (if b then WrongSize else if is_past (as_content []) v s count then OutOfRange else Shows (blocks_from (as_content []) v s count)) 0 (Read v s count) (Refused no.Size) no_counts no_counts)
     (sym e) tt
 
-pub read-range : (v s count : ℕ) → is_wrong_count count ≡ false → 0 < count → IsRefused (Read v s count) no.Range
+pub read-range : (v s count : ℕ) → is_wrong_count count ≡ false → 0 < count → IsRefusedCall (Read v s count) no.Range
 read-range v s count e some = subst (λ (b : Bool × Bool). RepliesBy (if b.0 then WrongSize else if b.1 then OutOfRange else Shows (blocks_from (as_content []) v s count)) 0 (Read v s count) (Refused no.Range) no_counts no_counts)
     (λ i. (sym e i, sym (lt-ltb 0 (s + count) (omega (arith, some))) i)) tt
 
-pub refused : (xs ys : Events) (call : Call) (cause : No) → IsRefused call cause → ys ≡ xs ++ (Ordered call, Replied (Refused cause)) ∷ [] → Acts (shut xs) (Ordered call) (Replied (Refused cause)) (shut ys)
+pub refused : (xs ys : Events) (call : Call) (cause : No) → IsRefusedCall call cause → ys ≡ xs ++ (Ordered call, Replied (Refused cause)) ∷ [] → EngineActs (shut xs) (Ordered call) (Replied (Refused cause)) (shut ys)
 refused xs ys call cause ok is = record {
   rises = (omega arith, omega arith);
   replied = inr ok;
@@ -61,11 +61,11 @@ refused xs ys call cause ok is = record {
     same (Read v s n) = refl
     same (WriteBlocks v s bytes) = refl
 
-    none : (c : Call) (u : Update) → Logs (record { generation = 0; origin = 0 }) (Ordered c) (Replied (Refused cause)) u → ⊥
+    none : (c : Call) (u : Update) → LogsUpdate (record { generation = 0; origin = 0 }) (Ordered c) (Replied (Refused cause)) u → ⊥
     none (Read v s n) u l = l
     none (WriteBlocks v s bytes) u l = l
 
-pub worked : (xs ys : Events) (j : Job) (reply : JobReply) (into : Update) → IsSaid j reply → NamesLink 2 j → ys ≡ xs ++ (Charged j, Worked reply into) ∷ [] → Acts (shut xs) (Charged j) (Worked reply into) (shut ys)
+pub worked : (xs ys : Events) (j : Job) (reply : JobReply) (into : Update) → IsSaid j reply → NamesLink 2 j → ys ≡ xs ++ (Charged j, Worked reply into) ∷ [] → EngineActs (shut xs) (Charged j) (Worked reply into) (shut ys)
 worked xs ys j reply into ok link is = record {
   rises = (omega arith, omega arith);
   replied = tt;

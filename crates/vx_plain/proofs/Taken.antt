@@ -7,21 +7,21 @@ use Rattle.vx_settle.specs.declared.peer.Ack.{Ack}
 use Rattle.vx_settle.specs.Peers.{Hands, Finishes, LiesIn}
 use Rattle.vx_settle.proofs.ManyPeers.{some-one}
 use Rattle.vx_plain.specs.declared.small.TheConstants.{VOLUME_BLOCKS}
-use Rattle.vx_plain.specs.Logging.{Raises}
+use Rattle.vx_plain.specs.Logging.{RaisesCount}
 use Rattle.vx_plain.specs.declared.taker.Taker.{Taker}
-use Rattle.vx_plain.specs.Taking.{stand_of, root_of, IsNext, Takes}
+use Rattle.vx_plain.specs.Taking.{stand_of, root_of, IsNextUpdate, TakesNextUpdate}
 
-pub hands-taken : (s t : Taker) (u : Update) (ack : Ack) → Takes s u t → ack.net ≡ length t.handed.items → ack.stored ≡ length t.handed.items → Hands (stand_of s) u ack (stand_of t)
+pub hands-taken : (s t : Taker) (u : Update) (ack : Ack) → TakesNextUpdate s u t → ack.net ≡ length t.handed.items → ack.stored ≡ length t.handed.items → Hands (stand_of s) u ack (stand_of t)
 hands-taken s t u ack a net stored = ⊎_elim
-    (λ (o : (t.handed.items ≡ s.handed.items) × (t.faults ≡ s.faults) × (IsNext (length s.handed.items) u → ⊥)). let n : length t.handed.items ≡ length s.handed.items = ap (λ l. length l) o.0 in let f = o.1 in record {
+    (λ (o : (t.handed.items ≡ s.handed.items) × (t.faults ≡ s.faults) × (IsNextUpdate (length s.handed.items) u → ⊥)). let n : length t.handed.items ≡ length s.handed.items = ap (λ l. length l) o.0 in let f = o.1 in record {
       goes = record { link = a.link; line = refl; sizes = refl; faults = omega (arith, f); net = omega (arith, n); stored = omega (arith, n) };
       net = net;
       stored = stored;
       handed = inl o.0;
       next = λ calm line number lies. absurd (o.2 (line, number, lies));
     })
-    (λ (o : ((t.handed.items ≡ s.handed.items) × Raises s.faults t.faults) ⊎ ((t.handed.items ≡ s.handed.items ++ u ∷ []) × (t.faults ≡ s.faults))). ⊎_elim
-    (λ (k : (t.handed.items ≡ s.handed.items) × Raises s.faults t.faults). let n : length t.handed.items ≡ length s.handed.items = ap (λ l. length l) k.0 in let f = k.1.0 in record {
+    (λ (o : ((t.handed.items ≡ s.handed.items) × RaisesCount s.faults t.faults) ⊎ ((t.handed.items ≡ s.handed.items ++ u ∷ []) × (t.faults ≡ s.faults))). ⊎_elim
+    (λ (k : (t.handed.items ≡ s.handed.items) × RaisesCount s.faults t.faults). let n : length t.handed.items ≡ length s.handed.items = ap (λ l. length l) k.0 in let f = k.1.0 in record {
       goes = record { link = a.link; line = refl; sizes = refl; faults = f; net = omega (arith, n); stored = omega (arith, n) };
       net = net;
       stored = stored;
@@ -36,7 +36,7 @@ hands-taken s t u ack a net stored = ⊎_elim
       next = λ calm line number lies. omega (arith, n, m);
     }) o) a.how
 
-pub root-taken : (s t : Taker) (u : Update) → Takes s u t → root_of t ≡ root_of s
+pub root-taken : (s t : Taker) (u : Update) → TakesNextUpdate s u t → root_of t ≡ root_of s
 root-taken s t u a = λ i. record { link = a.link i; most = a.most i; faults = 0; handed = (a.first i).value; first = a.first i }
 
 pub finishes-taken : (s : Taker) (ack : Ack) → ack.net ≡ length s.handed.items → ack.stored ≡ length s.handed.items → Finishes (stand_of s) ack (stand_of s)
@@ -59,12 +59,12 @@ lies-not u how (size, at, le) = go u.vol at how
     go zero here h = let e : VOLUME_BLOCKS ≡ size = some-one here in ⊎_elim (λ (o : 0 < 0). absurd (omega (arith, o))) (λ (o : VOLUME_BLOCKS < u.block + blocks_in u.bytes). absurd (omega (arith, o, e, le))) h
     go (suc v) here h = absurd (cc here)
 
-pub next-not-generation : (net : ℕ) (u : Update) → 0 < u.line.generation → IsNext net u → ⊥
+pub next-not-generation : (net : ℕ) (u : Update) → 0 < u.line.generation → IsNextUpdate net u → ⊥
 next-not-generation net u some n = let e : u.line.generation ≡ 0 = ap (λ l. l.generation) n.0 in omega (arith, e, some)
 
-pub next-not-origin : (net : ℕ) (u : Update) → 0 < u.line.origin → IsNext net u → ⊥
+pub next-not-origin : (net : ℕ) (u : Update) → 0 < u.line.origin → IsNextUpdate net u → ⊥
 next-not-origin net u some n = let e : u.line.origin ≡ 0 = ap (λ l. l.origin) n.0 in omega (arith, e, some)
 
-pub next-when : (r : Bool) (net : ℕ) (u : Update) → u.line.generation ≡ 0 → u.line.origin ≡ 0 → u.number ≡ net + 1 → MatchBool r (LiesIn (VOLUME_BLOCKS ∷ []) u) (LiesIn (VOLUME_BLOCKS ∷ []) u → ⊥) → MatchBool r (IsNext net u) (IsNext net u → ⊥)
+pub next-when : (r : Bool) (net : ℕ) (u : Update) → u.line.generation ≡ 0 → u.line.origin ≡ 0 → u.number ≡ net + 1 → MatchBool r (LiesIn (VOLUME_BLOCKS ∷ []) u) (LiesIn (VOLUME_BLOCKS ∷ []) u → ⊥) → MatchBool r (IsNextUpdate net u) (IsNextUpdate net u → ⊥)
 next-when true net u g o n l = ((λ i. record { generation = g i; origin = o i }), n, l)
 next-when false net u g o n l = λ x. l x.2

@@ -12,7 +12,7 @@ use Rattle.vx_model.specs.declared.call.Update.{Update}
 use Rattle.vx_turn.specs.declared.meaning.Counts.{Counts}
 use Rattle.vx_turn.specs.declared.meaning.State.{State}
 use Rattle.vx_turn.specs.declared.slot.Last.{Last}
-use Rattle.vx_turn.specs.Acting.{RepliesBy, NamesLink, Says}
+use Rattle.vx_turn.specs.Acting.{RepliesBy, NamesLink, SaysJob}
 use Rattle.vx_turn.specs.Turning.{ask_in, said_in}
 use Rattle.vx_turn.specs.Volumes.{as_content}
 use Rattle.vx_settle.specs.Bringing.{Events}
@@ -28,9 +28,9 @@ events_in None' = []
 events_in (Some' (Note' l marker held)) = events_in held ++ event l ∷ []
 
 -- all that was asked and said, the first of it first
-abbrev pub events_of : Option Note → Events
-events_of None = []
-events_of (Some (Note' l marker held)) = events_in held ++ event l ∷ []
+abbrev pub trail_of : Option Note → Events
+trail_of None = []
+trail_of (Some (Note' l marker held)) = events_in held ++ event l ∷ []
 
 abbrev pub no_counts : Counts
 no_counts = record { faults = 0; held = 0 }
@@ -40,12 +40,12 @@ abbrev pub shut : Events → State
 shut events = record { volumes = []; ring = 0; head = 0; line = record { generation = 0; origin = 0 }; kept = []; nets = 0 ∷ 0 ∷ []; counts = no_counts; halted = false; trail = events }
 
 -- a call on no volumes is refused so
-abbrev pub IsRefused : Call → No → Type 0
-IsRefused call cause = RepliesBy (answer_of (as_content []) 0 call) 0 call (Refused cause) no_counts no_counts
+abbrev pub IsRefusedCall : Call → No → Type 0
+IsRefusedCall call cause = RepliesBy (answer_of (as_content []) 0 call) 0 call (Refused cause) no_counts no_counts
 
 -- a job whose link is one of the two is answered so
 abbrev pub IsSaid : Job → JobReply → Type 0
-IsSaid j reply = (xs ys : Events) (into : Update) → NamesLink 2 j → Says (shut xs) j reply into (shut ys)
+IsSaid j reply = (xs ys : Events) (into : Update) → NamesLink 2 j → SaysJob (shut xs) j reply into (shut ys)
 
 -- each is of one of two links
 abbrev pub AreOfTwo : List Idle → Type 0

@@ -1,6 +1,6 @@
 // An engine without volumes.
 ghost use Rattle.std.specs.Prelude.{◌≡◌, [], false};
-ghost use Rattle.vx_plain.specs.Trails.{IsRefused, IsSaid, events_of, shut};
+ghost use Rattle.vx_plain.specs.Trails.{IsRefusedCall, IsSaid, trail_of, shut};
 
 use crate::trail::{Note, noted, unused};
 use std::mem;
@@ -19,7 +19,7 @@ pub struct Shut {
 impl Shut {
     /// One that was asked nothing.
     pub fn new() -> Shut
-        ensures { events_of result.trail.value ≡ [] }
+        ensures { trail_of result.trail.value ≡ [] }
     {
         Shut {
             first: unused(),
@@ -30,7 +30,7 @@ impl Shut {
 
 // Why a call is refused.
 fn cause_of(call: &Call) -> No
-    ensures { IsRefused call.now result }
+    ensures { IsRefusedCall call.now result }
 {
     match call {
         Call::Read {
@@ -75,7 +75,7 @@ fn reply_of(job: &Job) -> JobReply
 }
 
 impl Engine for Shut {
-    ghost state = { λ e. shut (events_of e.trail.value) };
+    ghost state = { λ e. shut (trail_of e.trail.value) };
 
     ghost root = { λ e. record e { trail = e.first } };
 

@@ -2,12 +2,12 @@
 ghost use Rattle.std.specs.Prelude.{◌≡◌, ◌+◌, ◌-◌, ◌<◌, ◌≤◌, [], ◌∷◌, ◌++◌, length, slice_get, Some, MatchOption, if◌then◌else◌};
 ghost use Rattle.vx_model.specs.Content.{blocks_in};
 ghost use Rattle.vx_model.specs.declared.call.Call.TheVariants.{Read, Write as WriteBlocks};
-ghost use Rattle.vx_turn.specs.Acting.{Rose, NamesLink};
+ghost use Rattle.vx_turn.specs.Acting.{CountRose, NamesLink};
 ghost use Rattle.vx_turn.specs.declared.ask.Ask.TheVariants.{Ordered, Charged};
 ghost use Rattle.vx_turn.specs.declared.ask.Said.TheVariants.{Replied, Worked};
 ghost use Rattle.vx_turn.specs.declared.ask.Job.TheVariants.{Acked, Wait};
-ghost use Rattle.vx_plain.specs.Trails.{events_of};
-ghost use Rattle.vx_plain.specs.Logging.{logging, kept_from, Does, Raises, Held, Grew, Fetches};
+ghost use Rattle.vx_plain.specs.Trails.{trail_of};
+ghost use Rattle.vx_plain.specs.Logging.{logging, kept_from, Does, RaisesCount, HeldFor, Grew, AnswersFetch};
 
 use crate::trail::{Note, noted, unused};
 use std::alloc::Global;
@@ -53,7 +53,7 @@ pub struct Small {
 impl Small {
     /// One that has logged nothing. A link may be so many writes behind.
     pub fn new(alloc: Global, lag: u64) -> Small
-        ensures { events_of result.trail.value ≡ [] }
+        ensures { trail_of result.trail.value ≡ [] }
     {
         let core = Core {
             slips: Vec::new(alloc),
@@ -74,7 +74,7 @@ impl Small {
 
 /// One more, up to the greatest number.
 pub(crate) fn raised(count: u64) -> u64
-    ensures { Raises count result }
+    ensures { RaisesCount count result }
 {
     count.saturating_add(1)
 }
@@ -121,7 +121,7 @@ impl Core {
 
     // Why a write is held: a link is too far behind, or there is no memory.
     fn held_by(&mut self, link: Option<u32>) -> No
-        ensures { Held self.old result self.new }
+        ensures { HeldFor self.old result self.new }
     {
         self.held = raised(self.held);
         match link {
@@ -184,7 +184,7 @@ impl Core {
     }
 
     fn fetch(&self, number: u64, into: &mut Update) -> JobReply
-        ensures { Fetches self.now number result into.new }
+        ensures { AnswersFetch self.now number result into.new }
     {
         if number == 0 {
             return JobReply::Gone { low: 1 };
@@ -233,7 +233,7 @@ impl Core {
 impl Engine for Small {
     ghost use Rattle.std.specs.Prelude.{[], ◌∷◌};
 
-    ghost state = { λ e. logging e.core (events_of e.trail.value) };
+    ghost state = { λ e. logging e.core (trail_of e.trail.value) };
 
     ghost root = { λ e. record e { core = e.first.value; trail = e.none } };
 

@@ -1,7 +1,7 @@
 // A peer that takes what it is handed, up to a number.
 ghost use Rattle.std.specs.Prelude.{◌≡◌, ◌+◌, [], ◌∷◌, length, MatchBool, IfSome};
 ghost use Rattle.vx_settle.specs.Peers.{LiesIn};
-ghost use Rattle.vx_plain.specs.Taking.{stand_of, root_of, Takes, IsNext, TakersOfTwo};
+ghost use Rattle.vx_plain.specs.Taking.{stand_of, root_of, TakesNextUpdate, IsNextUpdate, TakersOfTwo};
 ghost use Rattle.vx_plain.specs.declared.small.TheConstants.{VOLUME_BLOCKS};
 
 use crate::small::{VOLUME_BLOCKS, count_of, put, raised};
@@ -47,7 +47,7 @@ impl Taker {
 
     // Takes an update that is the next one.
     fn take(&mut self, update: &Update)
-        ensures { Takes self.old update.now self.new }
+        ensures { TakesNextUpdate self.old update.now self.new }
     {
         if !is_next(update, self.handed.len() as u64) {
             return;
@@ -71,7 +71,7 @@ fn lies(update: &Update) -> bool
 
 // Whether the update is the one behind so many.
 fn is_next(update: &Update, net: u64) -> bool
-    ensures { MatchBool result (IsNext net update.now) (IsNext net update.now → ⊥) }
+    ensures { MatchBool result (IsNextUpdate net update.now) (IsNextUpdate net update.now → ⊥) }
 {
     if update.line.generation != 0 || update.line.origin != 0 {
         return false;

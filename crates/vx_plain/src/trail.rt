@@ -1,6 +1,6 @@
 // All that an engine was asked and said, without bytes.
 ghost use Rattle.std.specs.Prelude.{◌≡◌, [], ◌∷◌, ◌++◌};
-ghost use Rattle.vx_plain.specs.Trails.{event, events_of};
+ghost use Rattle.vx_plain.specs.Trails.{event, trail_of};
 
 use std::snapshot::Snapshot;
 use vx_turn::Last;
@@ -14,7 +14,7 @@ pub struct Note {
 
 /// No event.
 pub(crate) fn unused() -> Snapshot<Option<Note>>
-    ensures { events_of result.value ≡ [] }
+    ensures { trail_of result.value ≡ [] }
 {
     let none: Option<Note> = None;
     let noted = Snapshot::of(&none);
@@ -23,7 +23,7 @@ pub(crate) fn unused() -> Snapshot<Option<Note>>
 
 /// One event more.
 pub fn noted(before: Snapshot<Option<Note>>, last: Last) -> Snapshot<Option<Note>>
-    ensures { events_of result.value ≡ events_of before.value ++ event last ∷ [] }
+    ensures { trail_of result.value ≡ trail_of before.value ++ event last ∷ [] }
 {
     let note = Some(Note { last, before });
     let after = Snapshot::of(&note);

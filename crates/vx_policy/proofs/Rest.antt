@@ -7,7 +7,7 @@ use Rattle.vx_model.specs.declared.link.Link.{Link}
 use Rattle.vx_history.specs.declared.admission.Change.{Change}
 use Rattle.vx_model.specs.declared.no.No.{No}
 use Rattle.vx_history.specs.Admission.{Held, first_full, held_by_room, or_else, change, changes}
-use Rattle.vx_policy.specs.Verdicts.{bit, bits, refusal_if}
+use Rattle.vx_policy.specs.Verdicts.{bit_for, bits_for, refusal_if}
 
 drop-next : {A : Type 0} (xs : List A) (at : ℕ) (d : A) → at < length xs → drop at xs ≡ get_or xs at d ∷ drop (at + 1) xs
 drop-next xs at d h = drop-cons xs at d h ∙ ap (λ (k : ℕ). get_or xs at d ∷ drop k xs) (sym (add-one at))
@@ -30,32 +30,32 @@ full-here None rest whole said is some all = grind (arith, is, some)
 
 bits-step : (test : Change → Bool) (need room : ℕ) (links : List Link) (used : List ℕ) (at next : ℕ) (d : Link) (e : ℕ)
     → next ≡ at + 1 → at < length links → at < length used
-    → bits test (changes need room (zip (drop at links) (drop at used)))
-    ≡ bit (test (change need room (get_or links at d) (get_or used at e))) + 2 * bits test (changes need room (zip (drop next links) (drop next used)))
-unfolding bits
+    → bits_for test (changes need room (zip (drop at links) (drop at used)))
+    ≡ bit_for (test (change need room (get_or links at d) (get_or used at e))) + 2 * bits_for test (changes need room (zip (drop next links) (drop next used)))
+unfolding bits_for
 bits-step test need room links used at next d e is h k =
-    rw is (ap (λ (ps : List (Link × ℕ)). bits test (changes need room ps)) (pairs-step links used at d e h k))
+    rw is (ap (λ (ps : List (Link × ℕ)). bits_for test (changes need room ps)) (pairs-step links used at d e h k))
 
 -- a set that has the links from the next one on, with the bit of this one, has those from this one on
 pub bits-on : (test : Change → Bool) (need room : ℕ) (links : List Link) (used : List ℕ) (at next here : ℕ) (d : Link) (e : ℕ) (set more : ℕ) (c : Change)
     → here ≡ at → next ≡ at + 1 → at < length links → at < length used
-    → set ≡ bits test (changes need room (zip (drop next links) (drop next used)))
-    → c ≡ change need room (get_or links at d) (get_or used at e) → more ≡ bit (test c)
-    → 2 * set + more ≡ bits test (changes need room (zip (drop here links) (drop here used)))
+    → set ≡ bits_for test (changes need room (zip (drop next links) (drop next used)))
+    → c ≡ change need room (get_or links at d) (get_or used at e) → more ≡ bit_for (test c)
+    → 2 * set + more ≡ bits_for test (changes need room (zip (drop here links) (drop here used)))
 bits-on test need room links used at next here d e set more c place is h k sets changed bits_is =
     rw place (rw bits_is (rw changed (rw sets (omega (arith, bits-step test need room links used at next d e is h k)))))
 
 -- behind the last link there is none
 pub bits-none : (test : Change → Bool) (need room : ℕ) (links : List Link) (used : List ℕ) (at : ℕ) → at ≡ length links
-    → 0 ≡ bits test (changes need room (zip (drop at links) used))
-unfolding bits
+    → 0 ≡ bits_for test (changes need room (zip (drop at links) used))
+unfolding bits_for
 bits-none test need room links used at is =
-    rw is (sym (ap (λ (ls : List Link). bits test (changes need room (zip ls used))) (drop-length links)))
+    rw is (sym (ap (λ (ls : List Link). bits_for test (changes need room (zip ls used))) (drop-length links)))
 
-bit-small : (b : Bool) → bit b ≤ 1
+bit-small : (b : Bool) → bit_for b ≤ 1
 bit-small true = grind arith
 bit-small false = grind arith
 
 -- so many bits with one more in front
-pub bits-next : (set back : ℕ) (b : Bool) → set < 2 ^ back → 2 * set + bit b < 2 ^ (back + 1)
+pub bits-next : (set back : ℕ) (b : Bool) → set < 2 ^ back → 2 * set + bit_for b < 2 ^ (back + 1)
 bits-next set back b h = rw (add-one back) (omega (arith, h, bit-small b, pow-succ' 2 back))

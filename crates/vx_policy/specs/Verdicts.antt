@@ -29,14 +29,14 @@ goes_dcm Stays = false
 goes_dcm ToStale = false
 goes_dcm ToDcm = true
 
-abbrev pub bit : Bool → ℕ
-bit b = if b then 1 else 0
+abbrev pub bit_for : Bool → ℕ
+bit_for b = if b then 1 else 0
 
 -- a set of places as a number: the first place is the lowest bit
-unfoldable pub bits : (Change → Bool) → List Change → ℕ
-bits test [] = 0
-bits test (c ∷ cs) = bit (test c) + 2 * bits test cs
+unfoldable pub bits_for : (Change → Bool) → List Change → ℕ
+bits_for test [] = 0
+bits_for test (c ∷ cs) = bit_for (test c) + 2 * bits_for test cs
 
 abbrev pub verdict : Admitted → Verdict
 verdict (Held_by why) = Refuse (refusal why)
-verdict (Goes changes) = Go (bits goes_stale changes) (bits goes_dcm changes)
+verdict (Goes changes) = Go (bits_for goes_stale changes) (bits_for goes_dcm changes)

@@ -1,7 +1,7 @@
 // The rule of admission, over the links of a site in the order of their making.
 ghost use Rattle.std.specs.Prelude.{◌≡◌, ◌≤◌, length, zip};
 ghost use Rattle.vx_history.specs.Admission.{admit, first_down, first_full, changes};
-ghost use Rattle.vx_policy.specs.Verdicts.{verdict, refusal_if, bit, bits, goes_stale, goes_dcm};
+ghost use Rattle.vx_policy.specs.Verdicts.{verdict, refusal_if, bit_for, bits_for, goes_stale, goes_dcm};
 ghost use Rattle.vx_policy.specs.declared.verdict.Verdict.TheVariants.{Go};
 
 use crate::full::{find_change, is_down, refuse_full};
@@ -56,7 +56,7 @@ fn refuse_first_full(links: &[Link], facts: &Facts) -> Option<No>
 // From the last link to the first, which is the lowest bit.
 fn convert(links: &[Link], facts: &Facts) -> Verdict
     requires few { length links.now ≤ 8 }
-    ensures { result ≡ Go (bits goes_stale (changes facts.now.need facts.now.room (zip links.now facts.now.used))) (bits goes_dcm (changes facts.now.need facts.now.room (zip links.now facts.now.used))) }
+    ensures { result ≡ Go (bits_for goes_stale (changes facts.now.need facts.now.room (zip links.now facts.now.used))) (bits_for goes_dcm (changes facts.now.need facts.now.room (zip links.now facts.now.used))) }
 {
     let count = links.len();
     let mut stale = 0;
@@ -71,7 +71,7 @@ fn convert(links: &[Link], facts: &Facts) -> Verdict
 }
 
 fn stale_bit(change: Change) -> u8
-    ensures { result ≡ bit (goes_stale change) }
+    ensures { result ≡ bit_for (goes_stale change) }
 {
     match change {
         Change::ToStale => 1,
@@ -80,7 +80,7 @@ fn stale_bit(change: Change) -> u8
 }
 
 fn dcm_bit(change: Change) -> u8
-    ensures { result ≡ bit (goes_dcm change) }
+    ensures { result ≡ bit_for (goes_dcm change) }
 {
     match change {
         Change::ToDcm => 1,

@@ -1,6 +1,6 @@
 // What a link needs of the log, and what becomes of a write or of the link where too little room is left.
 ghost use Rattle.std.specs.Prelude.{◌≡◌};
-ghost use Rattle.vx_history.specs.Admission.{is_live as live, is_down as down, hold, mode_hold, is_holding, mode_holds, blocks, full_log, full_log_of, change, change_by, held_by_room, held_when_full};
+ghost use Rattle.vx_history.specs.Admission.{is_live_link as live, is_down as down, hold, mode_hold, is_holding, mode_holds, blocks, full_log, full_log_of, change, change_by, held_by_room, held_when_full};
 ghost use Rattle.vx_policy.specs.Verdicts.{refusal_if};
 
 use vx_history::{Change, FullLog};

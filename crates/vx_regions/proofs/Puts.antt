@@ -8,21 +8,21 @@ use Rattle.vx_model.specs.declared.no.No.TheVariants.{Range}
 use Rattle.vx_disk.specs.Moves.{Blocks, Moves, Run, Union}
 use Rattle.vx_disk.specs.Shelf.{Image, Meaning}
 use Rattle.vx_disk.proofs.Moving.{goes_on, still, wider}
-use Rattle.vx_rvg.specs.Groups.{ApplyIs, unless_halted, with_applied}
+use Rattle.vx_rvg.specs.Groups.{ApplyIs, halted_or, core_applied}
 use Rattle.vx_rvg.specs.Holdings.{kept_in, with_content}
 use Rattle.vx_rvg.specs.Saves.{SaveIs, reclaim_refusal, reclaimed}
 use Rattle.vx_rvg.specs.Stands.{FoundAs, Resting, Rests, Saving, Stands}
-use Rattle.vx_rvg.specs.Stores.{IsPartly, StoreIs, StoresInto, Storing, or_else, store_blocks, store_refusal, without_records}
+use Rattle.vx_rvg.specs.Stores.{IsPartly, StoreIs, StoresInto, Storing, refusal_or, store_blocks, store_refusal, without_records}
 use Rattle.vx_rvg.specs.Views.{Core, Waits, last_of, unit_of}
 use Rattle.vx_rvg.proofs.RestartMoves.{applied_by}
-use Rattle.vx_secondary.specs.Logging.{Ends, SameGroup}
+use Rattle.vx_secondary.specs.Logging.{EndsLogging, SameGroup}
 use Rattle.vx_secondary.proofs.Rooms.{applied_ends, applied_step, failed_ends, failed_same, reclaim_ends, reclaim_last, reclaim_step}
 use Rattle.vx_secondary.proofs.Steps.{same_self, same_then}
 use Rattle.vx_secondary.proofs.Writings.{ends_later}
-use Rattle.vx_regions.specs.Regions.{Putting}
+use Rattle.vx_regions.specs.Regions.{PuttingRegion}
 
 -- nothing was put
-pub put_self : (c : Core) (x : Write) (m : Meaning) → Putting c c x m m
+pub put_self : (c : Core) (x : Write) (m : Meaning) → PuttingRegion c c x m m
 put_self c x m = record { same = same_self c; last = refl; moves = still (Union (Waits c m) (store_blocks c x.volume x.start (blocks_in x.bytes))) (Storing c x m) m }
 
 -- ---- the store
@@ -43,7 +43,7 @@ module _ (d e : Core) (m m' : Meaning) (some : 0 < d.log.header.low) (running : 
       let w = emptied_same eq in
       (same_then d (without_records d) e w.0 (failed_same (without_records d) e m m' why fails), omega (arith, w.1, (failed_ends (without_records d) e m m' why fails).0))
 
-  stored_ends : (r : Option No) → r ≡ reclaim_refusal d (last_of d) → (why : No) → StoreIs r d m m' e (Err why) → Ends 0 d e m m' why
+  stored_ends : (r : Option No) → r ≡ reclaim_refusal d (last_of d) → (why : No) → StoreIs r d m m' e (Err why) → EndsLogging 0 d e m m' why
   stored_ends (Some limit) eq why is =
       reclaim_ends d e m m' (last_of d) refl some running why (subst (λ (r : Option No). SaveIs r d (reclaimed d (last_of d)) m m' e (Err why)) eq is)
   stored_ends None eq why (inl fails) = failed_ends d e m m' why fails
@@ -54,8 +54,8 @@ module _ (d e : Core) (m m' : Meaning) (some : 0 < d.log.header.low) (running : 
 refusal_is : (d : Core) (size start count : ℕ) → d.halted ≡ None → start + count ≤ size → store_refusal d size start count ≡ reclaim_refusal d (last_of d)
 refusal_is d size start count running within =
     let no : ltb size (start + count) ≡ false = grind (arith, nat_tests) in
-    ap (λ (o : Option ℕ). or_else (unless_halted o (if ltb size (start + count) then Some Range else None)) (reclaim_refusal d (last_of d))) running
-    ∙ ap (λ (b : Bool). or_else (unless_halted None (if b then Some Range else None)) (reclaim_refusal d (last_of d))) no
+    ap (λ (o : Option ℕ). refusal_or (halted_or o (if ltb size (start + count) then Some Range else None)) (reclaim_refusal d (last_of d))) running
+    ∙ ap (λ (b : Bool). refusal_or (halted_or None (if b then Some Range else None)) (reclaim_refusal d (last_of d))) no
 
 -- ---- the whole call
 
@@ -69,18 +69,18 @@ module _ (c d : Core) (x : Write) (m mid : Meaning) (last : ℕ) (running : c.ha
       (λ i beside resting. record { each = λ h stands. inl (resting.each h stands) })
 
   -- the apply was refused
-  pub put_stopped : (why : No) → ApplyIs (unless_halted c.halted None) c last m mid d (Err why) → Putting c d x m mid
+  pub put_stopped : (why : No) → ApplyIs (halted_or c.halted None) c last m mid d (Err why) → PuttingRegion c d x m mid
   put_stopped why is = record {
     same = (applied_step c d m mid last running [] (Err why) is one).same;
     last = omega (arith, (applied_ends c d m mid last running why is).0);
     moves = applying;
   }
 
-  module _ (e : Core) (m' : Meaning) (number : ℕ) (is : ApplyIs (unless_halted c.halted None) c last m mid d (Ok number)) (rests : Rests c d m mid) where
+  module _ (e : Core) (m' : Meaning) (number : ℕ) (is : ApplyIs (halted_or c.halted None) c last m mid d (Ok number)) (rests : Rests c d m mid) where
     abbrev n : ℕ
     n = (applied_by c.halted c last m mid d number is).0
 
-    made : d ≡ with_applied c number n
+    made : d ≡ core_applied c number n
     made = (applied_by c.halted c last m mid d number is).1
 
     running_there : d.halted ≡ None
@@ -94,7 +94,7 @@ module _ (c d : Core) (x : Write) (m mid : Meaning) (last : ℕ) (running : c.ha
 
     within_all : (u b : ℕ) → store_blocks d x.volume x.start (blocks_in x.bytes) u b → all_blocks u b
     within_all u b here = at (subst (λ (k : Core). store_blocks k x.volume x.start (blocks_in x.bytes) u b) made here) where
-      at : store_blocks (with_applied c number n) x.volume x.start (blocks_in x.bytes) u b → all_blocks u b
+      at : store_blocks (core_applied c number n) x.volume x.start (blocks_in x.bytes) u b → all_blocks u b
       at here = ⊎_elim (λ gives. record { here = inr (record { here = inl (record { holds = gives.holds; run = gives.run }) }) }) (λ run. record { here = inr (record { here = inr run }) }) here.here
 
     since : (i : Image) → Storing d x mid i → Storing c x m i
@@ -120,7 +120,7 @@ module _ (c d : Core) (x : Write) (m mid : Meaning) (last : ℕ) (running : c.ha
       some_there = omega (arith, some, ap (λ (k : Core). k.log.header.low) made)
 
       pub put_step : (result : Result (Unit {0}) No) → StoreIs (store_refusal d size x.start (blocks_in x.bytes)) d mid m' e result
-          → Moves (store_blocks d x.volume x.start (blocks_in x.bytes)) (Storing d x mid) mid m' → Putting c e x m m'
+          → Moves (store_blocks d x.volume x.start (blocks_in x.bytes)) (Storing d x mid) mid m' → PuttingRegion c e x m m'
       put_step result answers two =
           let stored = stored_same d e mid m' some_there running_there (store_refusal d size x.start (blocks_in x.bytes)) (refusal_is d size x.start (blocks_in x.bytes) running_there within) result answers in
           record {
@@ -129,7 +129,7 @@ module _ (c d : Core) (x : Write) (m mid : Meaning) (last : ℕ) (running : c.ha
             moves = goes_on all_blocks (store_blocks d x.volume x.start (blocks_in x.bytes)) (Storing c x m) (Storing d x mid) m mid m' applying two within_all (λ i beside storing. since i storing);
           }
 
-      pub put_ends : (why : No) → StoreIs (store_refusal d size x.start (blocks_in x.bytes)) d mid m' e (Err why) → Ends 0 c e m m' why
+      pub put_ends : (why : No) → StoreIs (store_refusal d size x.start (blocks_in x.bytes)) d mid m' e (Err why) → EndsLogging 0 c e m m' why
       put_ends why answers =
           ends_later 0 0 c d e m mid m' why (omega (arith, last_there)) one.disk_faults
           (stored_ends d e mid m' some_there running_there (store_refusal d size x.start (blocks_in x.bytes)) (refusal_is d size x.start (blocks_in x.bytes) running_there within) why answers)

@@ -18,8 +18,8 @@ abbrev pub region_action : Core → List Update → (id : ℕ) → QAction
 region_action c us id = (secondary_step (receiver_of c us) (Region c.log.header.state.line id)).action
 
 -- whether the volume is there and has the region
-abbrev pub has_region : Core → (size : ℕ → ℕ) → (vol region : ℕ) → Bool
-has_region c size vol region = ltb vol (length c.units.vols) && ltb (REGION * region) (size (unit_of c.units.vols vol))
+abbrev pub volume_has_region : Core → (size : ℕ → ℕ) → (vol region : ℕ) → Bool
+volume_has_region c size vol region = ltb vol (length c.units.vols) && ltb (REGION * region) (size (unit_of c.units.vols vol))
 
 -- how many blocks a region of a volume of so many blocks has
 abbrev pub region_blocks : (blocks region : ℕ) → ℕ
@@ -32,7 +32,7 @@ region_write vol region bytes = record { volume = vol; start = REGION * region; 
 -- Whatever a call that puts these blocks answers: the units, state, session and last number stay, it changes blocks that wait for their
 -- volumes, those that are put and the log's where it holds records, and each image in it has what the group held, or that without the
 -- records and with some of the blocks.
-pub record Putting (c c' : Core) (x : Write) (m m' : Meaning) : Type 0 where
+pub record PuttingRegion (c c' : Core) (x : Write) (m m' : Meaning) : Type 0 where
   pub same : SameGroup c c'
   pub last : last_of c' ≡ last_of c
   pub moves : Moves (Union (Waits c m) (store_blocks c x.volume x.start (blocks_in x.bytes))) (Storing c x m) m m'

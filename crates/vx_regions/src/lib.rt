@@ -4,8 +4,6 @@
 #![tactic(auto)]
 
 mod region;
-#[cfg(test)]
-mod tests;
 
 pub use region::store_region;
 pub use vx_replay::QAction;

@@ -3,10 +3,10 @@ ghost use Rattle.std.specs.Prelude.{◌≡◌, ◌+◌, ◌*◌, ◌<◌, ◌≤
 ghost use Rattle.vx_model.specs.Content.{blocks_in};
 ghost use Rattle.vx_model.specs.declared.no.No.TheVariants.{Halted, Range};
 ghost use Rattle.vx_replay.specs.declared.event.QAction.TheVariants.{Store};
-ghost use Rattle.vx_regions.specs.Regions.{Putting, has_region, region_action, region_blocks, region_write};
+ghost use Rattle.vx_regions.specs.Regions.{PuttingRegion, volume_has_region, region_action, region_blocks, region_write};
 ghost use Rattle.vx_rvg.specs.Stores.{AreBlocks, StoresInto};
 ghost use Rattle.vx_rvg.specs.Views.{unit_of};
-ghost use Rattle.vx_secondary.specs.Logging.{Ends};
+ghost use Rattle.vx_secondary.specs.Logging.{EndsLogging};
 ghost use Rattle.vx_secondary.specs.Receivers.{receiver_of};
 
 use vx_disk::Shelf;
@@ -50,7 +50,7 @@ fn action_of<S: Shelf>(rvg: &Rvg<S>, waiting: &Waiting, id: u64) -> QAction
 
 // The first block of a region, if the volume is there and has it.
 fn place_of<S: Shelf>(rvg: &Rvg<S>, vol: u32, region: u64) -> Option<u64>
-    ensures { result ≡ (if has_region rvg.now.core (S.meaning rvg.now.shelf).size vol region then Some (REGION * region) else None) }
+    ensures { result ≡ (if volume_has_region rvg.now.core (S.meaning rvg.now.shelf).size vol region then Some (REGION * region) else None) }
 {
     if vol >= rvg.volumes() {
         return None;
@@ -69,9 +69,9 @@ fn put<S: Shelf>(rvg: &mut Rvg<S>, vol: u32, start: u64, bytes: &[u8]) -> Result
     requires volume { vol < length rvg.old.core.units.vols }
     requires blocks { AreBlocks bytes.now }
     requires within { start + blocks_in bytes.now ≤ (S.meaning rvg.old.shelf).size (unit_of rvg.old.core.units.vols vol) }
-    ensures putting { Putting rvg.old.core rvg.new.core (record { volume = vol; start = start; bytes = bytes.now }) (S.meaning rvg.old.shelf) (S.meaning rvg.new.shelf) }
+    ensures putting { PuttingRegion rvg.old.core rvg.new.core (record { volume = vol; start = start; bytes = bytes.now }) (S.meaning rvg.old.shelf) (S.meaning rvg.new.shelf) }
     ensures stores { OnOk result (StoresInto rvg.old.core rvg.new.core (record { volume = vol; start = start; bytes = bytes.now }) (S.meaning rvg.old.shelf) (S.meaning rvg.new.shelf)) }
-    ensures ends { IfErr result (Ends 0 rvg.old.core rvg.new.core (S.meaning rvg.old.shelf) (S.meaning rvg.new.shelf)) }
+    ensures ends { IfErr result (EndsLogging 0 rvg.old.core rvg.new.core (S.meaning rvg.old.shelf) (S.meaning rvg.new.shelf)) }
 {
     // For its bound.
     let _ring = rvg.ring();
@@ -91,15 +91,15 @@ fn store<S: Shelf>(
 ) -> Result<QAction, No>
     requires running { secondary.old.rvg.core.halted ≡ None }
     requires blocks { AreBlocks bytes.now }
-    requires whole { has_region secondary.old.rvg.core (S.meaning secondary.old.rvg.shelf).size vol region ≡ true
+    requires whole { volume_has_region secondary.old.rvg.core (S.meaning secondary.old.rvg.shelf).size vol region ≡ true
         → blocks_in bytes.now ≡ region_blocks ((S.meaning secondary.old.rvg.shelf).size (unit_of secondary.old.rvg.core.units.vols vol)) region }
     ensures action { IfOk result (λ a. a ≡ Store) }
-    ensures range { has_region secondary.old.rvg.core (S.meaning secondary.old.rvg.shelf).size vol region ≡ false
+    ensures range { volume_has_region secondary.old.rvg.core (S.meaning secondary.old.rvg.shelf).size vol region ≡ false
         → (result ≡ Err Range) × (secondary.new.rvg ≡ secondary.old.rvg) }
-    ensures putting { Putting secondary.old.rvg.core secondary.new.rvg.core (region_write vol region bytes.now) (S.meaning secondary.old.rvg.shelf) (S.meaning secondary.new.rvg.shelf) }
+    ensures putting { PuttingRegion secondary.old.rvg.core secondary.new.rvg.core (region_write vol region bytes.now) (S.meaning secondary.old.rvg.shelf) (S.meaning secondary.new.rvg.shelf) }
     ensures stores { OnOk result (StoresInto secondary.old.rvg.core secondary.new.rvg.core (region_write vol region bytes.now) (S.meaning secondary.old.rvg.shelf) (S.meaning secondary.new.rvg.shelf)) }
-    ensures ends { has_region secondary.old.rvg.core (S.meaning secondary.old.rvg.shelf).size vol region ≡ true
-        → IfErr result (Ends 0 secondary.old.rvg.core secondary.new.rvg.core (S.meaning secondary.old.rvg.shelf) (S.meaning secondary.new.rvg.shelf)) }
+    ensures ends { volume_has_region secondary.old.rvg.core (S.meaning secondary.old.rvg.shelf).size vol region ≡ true
+        → IfErr result (EndsLogging 0 secondary.old.rvg.core secondary.new.rvg.core (S.meaning secondary.old.rvg.shelf) (S.meaning secondary.new.rvg.shelf)) }
     ensures waiting { secondary.new.waiting ≡ secondary.old.waiting }
 {
     let Some(start) = place_of(&secondary.rvg, vol, region) else {
@@ -126,19 +126,19 @@ pub fn store_region<S: Shelf>(
     bytes: &[u8],
 ) -> Result<QAction, No>
     requires blocks { AreBlocks bytes.now }
-    requires whole { has_region secondary.old.rvg.core (S.meaning secondary.old.rvg.shelf).size vol region ≡ true
+    requires whole { volume_has_region secondary.old.rvg.core (S.meaning secondary.old.rvg.shelf).size vol region ≡ true
         → blocks_in bytes.now ≡ region_blocks ((S.meaning secondary.old.rvg.shelf).size (unit_of secondary.old.rvg.core.units.vols vol)) region }
     ensures halted { (disk : ℕ) → secondary.old.rvg.core.halted ≡ Some disk → (result ≡ Err (Halted disk)) × (secondary.new.rvg ≡ secondary.old.rvg) }
     ensures action { IfOk result (λ a. a ≡ region_action secondary.old.rvg.core secondary.old.waiting id) }
     ensures unchanged { secondary.old.rvg.core.halted ≡ None → (region_action secondary.old.rvg.core secondary.old.waiting id ≡ Store → ⊥)
         → (result ≡ Ok (region_action secondary.old.rvg.core secondary.old.waiting id)) × (secondary.new.rvg ≡ secondary.old.rvg) }
     ensures range { secondary.old.rvg.core.halted ≡ None → region_action secondary.old.rvg.core secondary.old.waiting id ≡ Store
-        → has_region secondary.old.rvg.core (S.meaning secondary.old.rvg.shelf).size vol region ≡ false → (result ≡ Err Range) × (secondary.new.rvg ≡ secondary.old.rvg) }
+        → volume_has_region secondary.old.rvg.core (S.meaning secondary.old.rvg.shelf).size vol region ≡ false → (result ≡ Err Range) × (secondary.new.rvg ≡ secondary.old.rvg) }
     ensures stores { region_action secondary.old.rvg.core secondary.old.waiting id ≡ Store
         → OnOk result (StoresInto secondary.old.rvg.core secondary.new.rvg.core (region_write vol region bytes.now) (S.meaning secondary.old.rvg.shelf) (S.meaning secondary.new.rvg.shelf)) }
-    ensures ends { secondary.old.rvg.core.halted ≡ None → has_region secondary.old.rvg.core (S.meaning secondary.old.rvg.shelf).size vol region ≡ true
-        → IfErr result (Ends 0 secondary.old.rvg.core secondary.new.rvg.core (S.meaning secondary.old.rvg.shelf) (S.meaning secondary.new.rvg.shelf)) }
-    ensures putting { Putting secondary.old.rvg.core secondary.new.rvg.core (region_write vol region bytes.now) (S.meaning secondary.old.rvg.shelf) (S.meaning secondary.new.rvg.shelf) }
+    ensures ends { secondary.old.rvg.core.halted ≡ None → volume_has_region secondary.old.rvg.core (S.meaning secondary.old.rvg.shelf).size vol region ≡ true
+        → IfErr result (EndsLogging 0 secondary.old.rvg.core secondary.new.rvg.core (S.meaning secondary.old.rvg.shelf) (S.meaning secondary.new.rvg.shelf)) }
+    ensures putting { PuttingRegion secondary.old.rvg.core secondary.new.rvg.core (region_write vol region bytes.now) (S.meaning secondary.old.rvg.shelf) (S.meaning secondary.new.rvg.shelf) }
     ensures waiting { secondary.new.waiting ≡ secondary.old.waiting }
 {
     if let Some(disk) = secondary.rvg.halted() {

@@ -1,5 +1,6 @@
 // Worked replays of a link from site 0 to site 1, on the first line of site 0.
 use crate::{PAction, PEvent, QAction, QEvent, primary, secondary};
+use std::process::Abort;
 use vx_history::RState;
 use vx_model::{Line, Link, Mark, Mode, Phase, Prot, SPhase, SyncMode};
 
@@ -59,78 +60,71 @@ fn fresh() -> RState {
     }
 }
 
-// Six writes overflowed the log, and one region is marked. It is read behind a seventh write, which the receiver then stores by the log.
+fn follows(rt: &impl Abort, link: &mut Link, event: &PEvent, wanted: PAction, mode: Mode) {
+    let action = primary(link, event);
+    assert_eq!(rt; action, wanted);
+    assert_eq!(rt; link.mode, mode);
+}
+
+// Six writes overflowed the log, and one region is marked. It is read behind a seventh write.
 #[test]
-fn a_replay_at_its_sending_end(rt: HostRuntime) {
+fn regions_are_sent_and_acknowledged(rt: HostRuntime) {
     let mut link = link(Mode::Dcm);
     let begin = PEvent::Begin {
         id: 1,
         head: 6,
         regions: 1,
     };
+    let start = replay(Phase::Start, 1, 6, 6);
+    let regions = replay(Phase::Regions, 1, 6, 6);
+    let read = replay(Phase::Regions, 1, 6, 7);
     for (event, wanted, mode) in [
         (PEvent::Pump, PAction::Nothing, Mode::Dcm),
-        (begin, PAction::SendStart, replay(Phase::Start, 1, 6, 6)),
-        (
-            PEvent::Pump,
-            PAction::SendStart,
-            replay(Phase::Start, 1, 6, 6),
-        ),
-        (ack(1), PAction::Ignored, replay(Phase::Start, 1, 6, 6)),
-        (ack(0), PAction::Nothing, replay(Phase::Regions, 1, 6, 6)),
-        (
-            PEvent::Pump,
-            PAction::Nothing,
-            replay(Phase::Regions, 1, 6, 6),
-        ),
-        (
-            PEvent::Read { head: 7 },
-            PAction::Nothing,
-            replay(Phase::Regions, 1, 6, 7),
-        ),
-        (ack(0), PAction::Ignored, replay(Phase::Regions, 1, 6, 7)),
+        (begin, PAction::SendStart, start),
+        (PEvent::Pump, PAction::SendStart, start),
+        (ack(1), PAction::Ignored, start),
+        (ack(0), PAction::Nothing, regions),
+        (PEvent::Pump, PAction::Nothing, regions),
+        (PEvent::Read { head: 7 }, PAction::Nothing, read),
+        (ack(0), PAction::Ignored, read),
         (ack(1), PAction::Nothing, replay(Phase::Done, 0, 6, 7)),
-        (
-            PEvent::Pump,
-            PAction::SendDone,
-            replay(Phase::Done, 0, 6, 7),
-        ),
-        (ack(2), PAction::Nothing, replay(Phase::Log, 0, 6, 7)),
-        (PEvent::Pump, PAction::Nothing, replay(Phase::Log, 0, 6, 7)),
-        (
-            PEvent::Stored { number: 6 },
-            PAction::Nothing,
-            replay(Phase::Log, 0, 6, 7),
-        ),
+    ] {
+        follows(&rt, &mut link, &event, wanted, mode);
+    }
+}
+
+// Behind the last region the receiver stores the seventh write by the log, and the replay is over with it.
+#[test]
+fn the_log_follows_the_regions(rt: HostRuntime) {
+    let done = replay(Phase::Done, 0, 6, 7);
+    let log = replay(Phase::Log, 0, 6, 7);
+    let mut link = link(done);
+    for (event, wanted, mode) in [
+        (PEvent::Pump, PAction::SendDone, done),
+        (ack(2), PAction::Nothing, log),
+        (PEvent::Pump, PAction::Nothing, log),
+        (PEvent::Stored { number: 6 }, PAction::Nothing, log),
         (PEvent::Stored { number: 7 }, PAction::Finished, Mode::Log),
         (ack(2), PAction::Ignored, Mode::Log),
     ] {
-        let action = primary(&mut link, &event);
-        assert_eq!(rt; action, wanted);
-        assert_eq!(rt; link.mode, mode);
+        follows(&rt, &mut link, &event, wanted, mode);
     }
     assert_eq!(rt; (link.net, link.stored, link.sent), (6, 6, 6));
 }
 
-// The same at the site that receives: it is consistent neither with the last region nor behind it, as the seventh write is still to come.
+// A replay at the site that receives: it is consistent neither with the last region nor behind it, as the seventh write is still to come.
 #[test]
 fn a_replay_at_its_receiver(rt: HostRuntime) {
     let mut state = fresh();
-    let start = QEvent::Start {
-        line: line(),
-        id: 1,
-        start: 6,
-    };
-    let region = QEvent::Region {
-        line: line(),
-        id: 1,
-    };
+    let (line, id, start, end) = (line(), 1, 6, 7);
     let done = QEvent::Done {
-        line: line(),
-        id: 1,
-        start: 6,
-        end: 7,
+        line,
+        id,
+        start,
+        end,
     };
+    let start = QEvent::Start { line, id, start };
+    let region = QEvent::Region { line, id };
     for (event, wanted, phase) in [
         (region, QAction::Ignored, SPhase::Quiet),
         (done, QAction::Ignored, SPhase::Quiet),
@@ -216,10 +210,9 @@ fn how_a_replay_begins_and_falls_back(rt: HostRuntime) {
     assert_eq!(rt; action, PAction::Ignored);
 }
 
-// Answers and messages of an earlier replay, of another line, and of a region that is no longer marked.
+// Answers of an earlier replay, out of turn, and of a region that is no longer marked.
 #[test]
-fn late_messages(rt: HostRuntime) {
-    let copying = replay(Phase::Regions, 2, 6, 6);
+fn late_answers(rt: HostRuntime) {
     for (id, kind, marked, wanted, left) in [
         (1, 1, false, PAction::Ignored, 2),
         (0, 1, true, PAction::Ignored, 2),
@@ -228,11 +221,16 @@ fn late_messages(rt: HostRuntime) {
         (1, 3, true, PAction::Ignored, 2),
         (1, 1, true, PAction::Nothing, 1),
     ] {
-        let mut link = link(copying);
+        let mut link = link(replay(Phase::Regions, 2, 6, 6));
         let action = primary(&mut link, &PEvent::Ack { id, kind, marked });
         assert_eq!(rt; action, wanted);
         assert_eq!(rt; link.mode, replay(Phase::Regions, left, 6, 6));
     }
+}
+
+// Messages of an earlier replay, of another line, and of a start that was passed.
+#[test]
+fn late_messages(rt: HostRuntime) {
     let elsewhere = Line {
         generation: 2,
         origin: 1,

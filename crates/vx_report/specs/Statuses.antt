@@ -13,16 +13,16 @@ use Rattle.vx_report.specs.declared.view.RvgView.{RvgView}
 use Rattle.vx_report.specs.declared.view.LinkView.{LinkView}
 
 -- the line of the site itself
-abbrev pub site_line : List ℕ → SiteState → List ℕ
-site_line name state = codes "site " ++ name ++ 32 ∷ state_text state ++ 10 ∷ []
+abbrev pub text_of_site : List ℕ → SiteState → List ℕ
+text_of_site name state = codes "site " ++ name ++ 32 ∷ state_text state ++ 10 ∷ []
 
 -- a disk of a group
 abbrev pub disk_line : ℕ → Bool → List ℕ
 disk_line number ok = codes "disk " ++ decimal number ++ (if ok then codes " ok\n" else codes " failed\n")
 
 -- a plex of a volume
-abbrev pub plex_line : ℕ → PlexState → List ℕ
-plex_line number state = codes "plex " ++ decimal number ++ 32 ∷ plex_state_text state ++ 10 ∷ []
+abbrev pub text_of_plex : ℕ → PlexState → List ℕ
+text_of_plex number state = codes "plex " ++ decimal number ++ 32 ∷ plex_state_text state ++ 10 ∷ []
 
 -- a volume of a group
 unfoldable pub volume_line : VolumeView → List ℕ
@@ -33,7 +33,7 @@ volume_line volume =
 
 -- a volume and its plexes
 abbrev pub volume_lines : VolumeView → List ℕ
-volume_lines volume = volume_line volume ++ numbered plex_line 0 volume.plexes
+volume_lines volume = volume_line volume ++ numbered text_of_plex 0 volume.plexes
 
 -- what a halted site adds
 abbrev pub halted_text : Option ℕ → List ℕ
@@ -66,8 +66,8 @@ link_way link =
     ++ (if link.paused then codes " paused" else codes " running")
 
 -- the line of a link
-abbrev pub link_line : LinkView → List ℕ
-link_line link =
+abbrev pub text_of_link : LinkView → List ℕ
+text_of_link link =
     link_way link ++ 32 ∷ mode_text link.mode link.marked
     ++ codes " net " ++ decimal link.net
     ++ codes " stored " ++ decimal link.stored ++ 10 ∷ []
@@ -75,7 +75,7 @@ link_line link =
 -- what an up site has beside its own line
 abbrev pub up_lines : SiteView → List ℕ
 up_lines site =
-    numbered disk_line 0 site.disks ++ flat_map volume_lines site.volumes ++ rvg_lines site.rvg ++ flat_map link_line site.links
+    numbered disk_line 0 site.disks ++ flat_map volume_lines site.volumes ++ rvg_lines site.rvg ++ flat_map text_of_link site.links
 
 -- the lines of that kind, where the site is up
 abbrev pub lines_in : SiteState → SiteView → List ℕ
@@ -86,4 +86,4 @@ lines_in Down site = []
 
 -- the status of a site
 unfoldable pub status_text : SiteView → List ℕ
-status_text site = site_line site.name site.state ++ lines_in site.state site
+status_text site = text_of_site site.name site.state ++ lines_in site.state site

@@ -4,12 +4,14 @@
 #![tactic(auto)]
 
 mod blocks;
+mod links;
 mod refusals;
 mod statuses;
 mod view;
 mod words;
 
 pub use blocks::{block, push_block};
+pub use links::push_links;
 pub use refusals::{push_refusal, refusal};
 pub use statuses::{push_status, status};
 pub use view::{

@@ -10,8 +10,8 @@ use Rattle.vx_layout.specs.Places.{place}
 use Rattle.vx_volume.specs.Plexes.{Apart, Asked, DisksFit, InRun, Inside, RunFits, SomeActive, active}
 use Rattle.vx_volume.specs.Volumes.{OnPlex, OnPlexes, PlexFlushed, PlexRead, PlexWrote}
 use Rattle.vx_volume.proofs.PlaceLemmas.{apart_of, fits_of}
-use Rattle.vx_resync.specs.Copies.{CanCopy, CopiedBelow, FromPlex, OnTargets, ReadAlike, Resynced, Resyncs, TargetsActive, TargetsFlushed, TargetsWrote}
-use Rattle.vx_resync.specs.Picks.{HasRegion, InPicked, InPickedBelow}
+use Rattle.vx_resync.specs.Copies.{CanCopy, CopiedBelow, FromPlex, LeftAlike, OnTargets, ReadAlike, Resynced, Resyncs, TargetsActive, TargetsFlushed, TargetsWrote}
+use Rattle.vx_resync.specs.Picks.{LiesInRegion, InPicked, InPickedBelow}
 use Rattle.vx_resync.specs.Sources.{IsSource, Target}
 use Rattle.vx_resync.proofs.PickLemmas.{gives_active, more_passed, more_picked, of_run, run_of}
 
@@ -114,11 +114,11 @@ module _ (c : Config) (v source : ℕ) (to : Option ℕ) (block len : ℕ) (byte
 
 -- the run of a region
 module _ (c : Config) (v source : ℕ) (to : Option ℕ) (region total count n : ℕ) (m m' : Meaning) (is : total ≡ blocks_of c.volumes v) (some : region * 64 < total) (size : count ≡ min (total - region * 64) 64) (long : n ≡ count) where
-  pub region_run_goes : Goes (FromPlex c v source to (InRun (region * 64) n) m) m m' → Goes (FromPlex c v source to (HasRegion region) m) m m'
-  region_run_goes goes = goes_wider c v source to (InRun (region * 64) n) (HasRegion region) m (λ k run. of_run c v region total n is some (long ∙ size) k run) m' goes
+  pub region_run_goes : Goes (FromPlex c v source to (InRun (region * 64) n) m) m m' → Goes (FromPlex c v source to (LiesInRegion region) m) m m'
+  region_run_goes goes = goes_wider c v source to (InRun (region * 64) n) (LiesInRegion region) m (λ k run. of_run c v region total n is some (long ∙ size) k run) m' goes
 
-  pub region_run_alike : ReadAlike c v source to (InRun (region * 64) n) m m' → ReadAlike c v source to (HasRegion region) m m'
-  region_run_alike alike = alike_less c v source to (InRun (region * 64) n) (HasRegion region) m m' (λ k inside has. run_of c v region total n is some (long ∙ size) k inside has) alike
+  pub region_run_alike : ReadAlike c v source to (InRun (region * 64) n) m m' → ReadAlike c v source to (LiesInRegion region) m m'
+  region_run_alike alike = alike_less c v source to (InRun (region * 64) n) (LiesInRegion region) m m' (λ k inside has. run_of c v region total n is some (long ∙ size) k inside has) alike
 
 -- ---- two copies in a row
 
@@ -210,15 +210,15 @@ passed_region c v source to f n count old m so_far off = record {
 
 -- and one that is copied, or not to its end
 module _ (c : Config) (v source : ℕ) (to : Option ℕ) (f : ℕ → Bool) (n count : ℕ) (old m m' : Meaning) (ready : CanCopy c v source to old) (so_far : CopiedBelow c v source to f n count old m) (picked : f n ≡ true)
-    (goes : Goes (FromPlex c v source to (HasRegion n) m) m m') where
+    (goes : Goes (FromPlex c v source to (LiesInRegion n) m) m m') where
   pub region_goes : Goes (FromPlex c v source to (InPickedBelow f (n + 1)) old) old m'
-  region_goes = both_goes c v source to (apart_of c ready.sound) ready.source_on ready.targets (InPickedBelow f n) (HasRegion n) (InPickedBelow f (n + 1)) old m m' so_far.goes so_far.alike.up goes
+  region_goes = both_goes c v source to (apart_of c ready.sound) ready.source_on ready.targets (InPickedBelow f n) (LiesInRegion n) (InPickedBelow f (n + 1)) old m m' so_far.goes so_far.alike.up goes
       (λ k is. record { below = let lt = is.below in omega (arith, lt); picked = is.picked }) (λ k is. record { below = omega (arith, is); picked = ap f is ∙ picked })
 
-  pub region_copied : ReadAlike c v source to (HasRegion n) m m' → CopiedBelow c v source to f (n + 1) (count + 1) old m'
+  pub region_copied : ReadAlike c v source to (LiesInRegion n) m m' → CopiedBelow c v source to f (n + 1) (count + 1) old m'
   region_copied alike = record {
     goes = region_goes;
-    alike = both_alike c v source to (apart_of c ready.sound) ready.source_on ready.targets (InPickedBelow f n) (HasRegion n) (InPickedBelow f (n + 1)) old m m' so_far.goes so_far.alike.up goes
+    alike = both_alike c v source to (apart_of c ready.sound) ready.source_on ready.targets (InPickedBelow f n) (LiesInRegion n) (InPickedBelow f (n + 1)) old m m' so_far.goes so_far.alike.up goes
         so_far.alike alike (λ k. k / 64 == n) (λ k is test. eqb-true (k / 64) n test) (λ k is. eq-eqb (k / 64) n is) below;
     counted = more_picked f n count picked so_far.counted;
     few = let le = so_far.few in omega (arith, le);
@@ -239,29 +239,28 @@ below_goes c v source to f n old m goes = goes_wider c v source to (InPickedBelo
 
 -- ---- the flush
 
-module _ (c : Config) (v source : ℕ) (to : Option ℕ) (f : ℕ → Bool) (old m m' : Meaning) (is : IsSource c v to source) (goes : Goes (FromPlex c v source to (InPicked f) old) old m) (flush : Goes Nothing m m') where
-  pub flushed_Resyncs : Resyncs c v to f old m'
-  flushed_Resyncs = record {
-    source = source;
-    is = is;
-    goes = weaker (Or (FromPlex c v source to (InPicked f) old) Nothing) (FromPlex c v source to (InPicked f) old) old m' (both_Goes (FromPlex c v source to (InPicked f) old) Nothing old m m' goes flush) only;
-  }
+module _ (c : Config) (v source : ℕ) (to : Option ℕ) (f : ℕ → Bool) (old m m' : Meaning) (goes : Goes (FromPlex c v source to (InPicked f) old) old m) (flush : Goes Nothing m m') where
+  pub flushed_goes : Goes (FromPlex c v source to (InPicked f) old) old m'
+  flushed_goes = weaker (Or (FromPlex c v source to (InPicked f) old) Nothing) (FromPlex c v source to (InPicked f) old) old m' (both_Goes (FromPlex c v source to (InPicked f) old) Nothing old m m' goes flush) only
     where
       only : (u b : ℕ) (x : List ℕ) → Or (FromPlex c v source to (InPicked f) old) Nothing u b x → FromPlex c v source to (InPicked f) old u b x
       only u b x (inl it) = it
       only u b x (inr none) = absurd none
 
-  pub flushed_Resynced : ReadAlike c v source to (InPicked f) old m → TargetsFlushed c v to m m' → Resynced c v to f old m'
-  flushed_Resynced alike flushed = record {
-    source = source;
-    is = is;
-    left = record {
-      up = flushed.up;
-      value = alike.value;
-      origin = alike.origin;
-      copied = λ p k x target inside picked left. alike.copied p k x target inside picked ((flushed.each p target).each k x inside left);
-    };
+  pub flushed_left : ReadAlike c v source to (InPicked f) old m → TargetsFlushed c v to m m' → LeftAlike c v source to (InPicked f) old m'
+  flushed_left alike flushed = record {
+    up = flushed.up;
+    value = alike.value;
+    origin = alike.origin;
+    copied = λ p k x target inside picked left. alike.copied p k x target inside picked ((flushed.each p target).each k x inside left);
   }
+
+  module _ (is : IsSource c v to source) where
+    pub flushed_Resyncs : Resyncs c v to f old m'
+    flushed_Resyncs = record { source = source; is = is; goes = flushed_goes }
+
+    pub flushed_Resynced : ReadAlike c v source to (InPicked f) old m → TargetsFlushed c v to m m' → Resynced c v to f old m'
+    flushed_Resynced alike flushed = record { source = source; is = is; left = flushed_left alike flushed }
 
 pub plain_Resyncs : (c : Config) (v source : ℕ) (to : Option ℕ) (f : ℕ → Bool) (old m : Meaning) → IsSource c v to source → Goes (FromPlex c v source to (InPicked f) old) old m → Resyncs c v to f old m
 plain_Resyncs c v source to f old m is goes = record { source = source; is = is; goes = goes }

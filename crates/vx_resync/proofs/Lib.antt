@@ -1,3 +1,4 @@
 pub mod PickLemmas
 pub mod CopyLemmas
 pub mod CauseLemmas
+pub mod GatherLemmas

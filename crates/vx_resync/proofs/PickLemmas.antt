@@ -11,7 +11,7 @@ use Rattle.vx_volume.proofs.PlaceLemmas.{active_few}
 use Rattle.vx_drl.specs.Dirty.{Dirty}
 use Rattle.vx_fmr.specs.Missed.{Missed}
 use Rattle.vx_resync.specs.Copies.{TargetsActive}
-use Rattle.vx_resync.specs.Picks.{DrlReaches, FmrReaches, HasRegion, MapsReach, as_one, picked_below}
+use Rattle.vx_resync.specs.Picks.{DrlReaches, FmrReaches, LiesInRegion, MapsReach, as_one, picked_below}
 use Rattle.vx_resync.specs.Sources.{HasSource, can_give, is_it}
 
 -- ---- counts
@@ -43,10 +43,10 @@ maps_less n m (Some p) d f le reach = fmr_less n m p f le reach
 
 -- the blocks of a region are a run, and the other way round
 module _ (c : Config) (v region total count : ℕ) (is : total ≡ blocks_of c.volumes v) (some : region * 64 < total) (size : count ≡ min (total - region * 64) 64) where
-  pub run_of : (k : ℕ) → Inside c v k → HasRegion region k → InRun (region * 64) count k
+  pub run_of : (k : ℕ) → Inside c v k → LiesInRegion region k → InRun (region * 64) count k
   run_of k inside has = let lt = inside.within in record { first = omega (arith, has); last = omega (arith, has, is, lt, size) }
 
-  pub of_run : (k : ℕ) → InRun (region * 64) count k → HasRegion region k
+  pub of_run : (k : ℕ) → InRun (region * 64) count k → LiesInRegion region k
   of_run k run = let first = run.first in let last = run.last in omega (arith, first, last, size)
 
 -- each block lies in one of the regions

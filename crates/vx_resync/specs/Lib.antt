@@ -1,3 +1,4 @@
 pub mod Sources
 pub mod Picks
 pub mod Copies
+pub mod Gathers

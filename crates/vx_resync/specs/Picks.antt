@@ -47,8 +47,8 @@ abbrev pub InPicked : (ℕ → Bool) → ℕ → Type 0
 InPicked f k = IsTrue (f (k / REGION))
 
 -- one of this region
-abbrev pub HasRegion : ℕ → ℕ → Type 0
-HasRegion r k = k / REGION ≡ r
+abbrev pub LiesInRegion : ℕ → ℕ → Type 0
+LiesInRegion r k = k / REGION ≡ r
 
 -- one of a picked region below this one
 pub record InPickedBelow (f : ℕ → Bool) (n k : ℕ) : Type 0 where

@@ -4,6 +4,7 @@ ghost use Rattle.vx_config.specs.Checks.{blocks_of as blocks_of_is};
 ghost use Rattle.vx_disk.specs.Causes.{DeviceCause};
 ghost use Rattle.vx_disk.specs.Shelf.{Goes};
 ghost use Rattle.vx_resync.specs.Copies.{FromPlex, CanCopy, ReadAlike};
+ghost use Rattle.vx_resync.specs.Gathers.{CopyRefused};
 ghost use Rattle.vx_volume.specs.Plexes.{InRun};
 
 use crate::putting::put_run;
@@ -29,6 +30,7 @@ pub fn copy_run<S: Shelf>(
     ensures goes { Goes (FromPlex config.now vol source to (InRun block (length bytes.old / 512)) (S.meaning shelf.old)) (S.meaning shelf.old) (S.meaning shelf.new) }
     ensures ok { OnOk result (ReadAlike config.now vol source to (InRun block (length bytes.old / 512)) (S.meaning shelf.old) (S.meaning shelf.new)) }
     ensures cause { IfErr result (DeviceCause (S.meaning shelf.old) (S.meaning shelf.new)) }
+    ensures blamed { CopyRefused config.now vol source to (S.meaning shelf.old) (S.meaning shelf.new) result }
 {
     match read_plex(config, vol, source, shelf, block, bytes) {
         Ok(()) => put_run(config, vol, to, shelf, block, bytes),

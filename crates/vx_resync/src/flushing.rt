@@ -4,6 +4,7 @@ ghost use Rattle.vx_config.specs.Checks.{is_sound};
 ghost use Rattle.vx_disk.specs.Causes.{DeviceCause};
 ghost use Rattle.vx_disk.specs.Shelf.{Goes, Nothing};
 ghost use Rattle.vx_resync.specs.Copies.{TargetsActive, TargetsFlushed};
+ghost use Rattle.vx_resync.specs.Gathers.{TargetRefused};
 ghost use Rattle.vx_volume.specs.Plexes.{DisksFit, SomeActive, active as active_is};
 
 use vx_config::Config;
@@ -19,6 +20,7 @@ fn flush_one<S: Shelf>(config: &Config, vol: u32, plex: u32, shelf: &mut S) -> R
     ensures goes { Goes Nothing (S.meaning shelf.old) (S.meaning shelf.new) }
     ensures ok { OnOk result (TargetsFlushed config.now vol (Some plex) (S.meaning shelf.old) (S.meaning shelf.new)) }
     ensures cause { IfErr result (DeviceCause (S.meaning shelf.old) (S.meaning shelf.new)) }
+    ensures blamed { TargetRefused config.now vol (Some plex) (S.meaning shelf.old) (S.meaning shelf.new) result }
 {
     match flush_plex(config, vol, plex, shelf) {
         Ok(()) => Ok(()),
@@ -62,6 +64,7 @@ pub fn flush_targets<S: Shelf>(
     ensures goes { Goes Nothing (S.meaning shelf.old) (S.meaning shelf.new) }
     ensures ok { OnOk result (TargetsFlushed config.now vol to (S.meaning shelf.old) (S.meaning shelf.new)) }
     ensures cause { IfErr result (DeviceCause (S.meaning shelf.old) (S.meaning shelf.new)) }
+    ensures blamed { TargetRefused config.now vol to (S.meaning shelf.old) (S.meaning shelf.new) result }
 {
     match to {
         Some(plex) => flush_one(config, vol, plex, shelf),

@@ -5,6 +5,7 @@
 
 mod copying;
 mod flushing;
+mod gathering;
 mod picks;
 mod putting;
 mod regions;
@@ -13,4 +14,6 @@ mod sources;
 #[cfg(test)]
 mod tests;
 
+pub use gathering::attach_from;
+pub use picks::is_picked;
 pub use resync::{attach, recover};

@@ -4,6 +4,7 @@ ghost use Rattle.vx_config.specs.Checks.{blocks_of as blocks_of_is, is_sound};
 ghost use Rattle.vx_disk.specs.Causes.{DeviceCause};
 ghost use Rattle.vx_disk.specs.Shelf.{Goes};
 ghost use Rattle.vx_resync.specs.Copies.{OnTargets, TargetsActive, TargetsWrote};
+ghost use Rattle.vx_resync.specs.Gathers.{TargetRefused};
 ghost use Rattle.vx_volume.specs.Plexes.{Asked, DisksFit, RunFits, SomeActive};
 
 use vx_config::Config;
@@ -26,6 +27,7 @@ fn put_one<S: Shelf>(
     ensures goes { Goes (OnTargets config.now vol (Some plex) block (length bytes.now / 512) bytes.now) (S.meaning shelf.old) (S.meaning shelf.new) }
     ensures ok { OnOk result (TargetsWrote config.now vol (Some plex) block (length bytes.now / 512) bytes.now (S.meaning shelf.old) (S.meaning shelf.new)) }
     ensures cause { IfErr result (DeviceCause (S.meaning shelf.old) (S.meaning shelf.new)) }
+    ensures blamed { TargetRefused config.now vol (Some plex) (S.meaning shelf.old) (S.meaning shelf.new) result }
 {
     match write_plex(config, vol, plex, shelf, block, bytes) {
         Ok(()) => Ok(()),
@@ -84,6 +86,7 @@ pub fn put_run<S: Shelf>(
     ensures goes { Goes (OnTargets config.now vol to block (length bytes.now / 512) bytes.now) (S.meaning shelf.old) (S.meaning shelf.new) }
     ensures ok { OnOk result (TargetsWrote config.now vol to block (length bytes.now / 512) bytes.now (S.meaning shelf.old) (S.meaning shelf.new)) }
     ensures cause { IfErr result (DeviceCause (S.meaning shelf.old) (S.meaning shelf.new)) }
+    ensures blamed { TargetRefused config.now vol to (S.meaning shelf.old) (S.meaning shelf.new) result }
 {
     match to {
         Some(plex) => put_one(config, vol, plex, shelf, block, bytes),

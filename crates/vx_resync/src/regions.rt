@@ -7,7 +7,8 @@ ghost use Rattle.vx_disk.specs.Shelf.{Goes};
 ghost use Rattle.vx_model.specs.Sizes.{regions_of};
 ghost use Rattle.vx_model.specs.declared.limits.TheConstants.{REGION};
 ghost use Rattle.vx_resync.specs.Copies.{FromPlex, CanCopy, ReadAlike};
-ghost use Rattle.vx_resync.specs.Picks.{HasRegion, InPicked, MapsReach, is_picked as is_picked_is, picked_below};
+ghost use Rattle.vx_resync.specs.Gathers.{CopyRefused};
+ghost use Rattle.vx_resync.specs.Picks.{LiesInRegion, InPicked, MapsReach, is_picked as is_picked_is, picked_below};
 
 use crate::copying::copy_run;
 use crate::picks::is_picked;
@@ -33,9 +34,10 @@ fn copy_region<S: Shelf>(
 ) -> Result<(), No>
     requires ready { CanCopy config.now vol source to (S.meaning shelf.old) }
     requires inside { region * REGION < blocks_of_is config.now.volumes vol }
-    ensures goes { Goes (FromPlex config.now vol source to (HasRegion region) (S.meaning shelf.old)) (S.meaning shelf.old) (S.meaning shelf.new) }
-    ensures ok { OnOk result (ReadAlike config.now vol source to (HasRegion region) (S.meaning shelf.old) (S.meaning shelf.new)) }
+    ensures goes { Goes (FromPlex config.now vol source to (LiesInRegion region) (S.meaning shelf.old)) (S.meaning shelf.old) (S.meaning shelf.new) }
+    ensures ok { OnOk result (ReadAlike config.now vol source to (LiesInRegion region) (S.meaning shelf.old) (S.meaning shelf.new)) }
     ensures cause { IfErr result (DeviceCause (S.meaning shelf.old) (S.meaning shelf.new)) }
+    ensures blamed { CopyRefused config.now vol source to (S.meaning shelf.old) (S.meaning shelf.new) result }
 {
     let total = blocks_of(config, vol);
     let block = region * REGION;
@@ -60,6 +62,7 @@ pub fn copy_regions<S: Shelf>(
     ensures ok { OnOk result (ReadAlike config.now vol source to (InPicked (is_picked_is to (option_copied drl.entry) (option_copied fmr.entry))) (S.meaning shelf.old) (S.meaning shelf.new)) }
     ensures count { IfOk result (λ n. n ≡ picked_below (is_picked_is to (option_copied drl.entry) (option_copied fmr.entry)) (regions_of (blocks_of_is config.now.volumes vol))) }
     ensures cause { IfErr result (DeviceCause (S.meaning shelf.old) (S.meaning shelf.new)) }
+    ensures blamed { CopyRefused config.now vol source to (S.meaning shelf.old) (S.meaning shelf.new) result }
 {
     let regions = blocks_of(config, vol).div_ceil(REGION);
     let mut buffer = [0; REGION_BYTES];

@@ -10,6 +10,7 @@ ghost use Rattle.vx_resync.specs.Sources.{HasSource};
 ghost use Rattle.vx_volume.specs.Plexes.{DisksFit, SomeActive, active as active_is};
 
 use crate::flushing::flush_targets;
+use crate::gathering::attach_from;
 use crate::regions::copy_regions;
 use crate::sources::find_source;
 use vx_config::Config;
@@ -93,5 +94,6 @@ pub fn attach<S: Shelf>(
     ensures count { IfOk result (λ n. n ≡ picked_below (missed_or plex (option_copied fmr.entry)) (regions_of (blocks_of_is c.now.volumes vol))) }
     ensures cause { IfErr result (DeviceCause (S.meaning shelf.old) (S.meaning shelf.new)) }
 {
-    resync(c, vol, Some(plex), None, fmr, shelf)
+    let source = find_source(c, vol, Some(plex));
+    attach_from(c, vol, source, plex, fmr, shelf)
 }

@@ -5,6 +5,7 @@ use Rattle.std.specs.List.{AllByRecursion}
 use Rattle.std.proofs.Math.Nat.{mod-add-mod, mod-eq_of_lt}
 use Rattle.std.proofs.lemmas.List.{take_all}
 use Rattle.std.proofs.lemmas.List.Elements.{recursion_from_All}
+use Rattle.vx_ringlog.specs.Records.{first_blocks}
 use Rattle.vx_srlfmt.specs.Headers.{IsHeader}
 use Rattle.vx_srlfmt.specs.Kinds.{Kind, Top, Front, Body, Damaged, Other, IsKind, IsBody, kind_of}
 use Rattle.vx_srlfmt.specs.Records.{IsRecord, IsDamaged}
@@ -15,7 +16,6 @@ use Rattle.vx_disk.specs.Shelf.{Meaning, Written, Goes, Wrote}
 use Rattle.vx_ringlog.specs.Acts.{body_acts}
 use Rattle.vx_ringlog.specs.Cells.{Act, Write, Flush}
 use Rattle.vx_ringlog.specs.Chain.{block}
-use Rattle.vx_ringio.specs.Bodies.{blocks_of}
 use Rattle.vx_ringio.specs.Classes.{class_of, narrowed, is_of_ring}
 use Rattle.vx_ringio.specs.Tracks.{Follows, Arrives}
 use Rattle.vx_ringio.proofs.Following.{then_follows, then_arrives}
@@ -112,25 +112,25 @@ block_run ring p k fits =
     let b : (p % ring + k) % ring ≡ (p + k) % ring = mod-add-mod p ring k in
     omega arith
 
-acts_at : (ring p b n : ℕ) (bytes : List ℕ) → ((k : ℕ) → k < n → block ring (p + k) ≡ b + k) → AllByRecursion IsBody (blocks_of n bytes) → body_acts ring p (blocks_of n bytes) ≡ put_acts ring b n bytes
+acts_at : (ring p b n : ℕ) (bytes : List ℕ) → ((k : ℕ) → k < n → block ring (p + k) ≡ b + k) → AllByRecursion IsBody (first_blocks n bytes) → body_acts ring p (first_blocks n bytes) ≡ put_acts ring b n bytes
 acts_at ring p b zero bytes at body = refl
 acts_at ring p b (suc n) bytes at body =
     let here : block ring p ≡ b = ap (λ (q : ℕ). block ring q) (omega arith) ∙ at 0 (omega arith) ∙ omega arith in
-    ap (λ (c : ℕ). Write c (Body (take 512 bytes)) ∷ body_acts ring (suc p) (blocks_of n (drop 512 bytes))) here
-    ∙ ap (λ (x : Kind). Write b x ∷ body_acts ring (suc p) (blocks_of n (drop 512 bytes))) (sym (class_body ring (take 512 bytes) body.0))
+    ap (λ (c : ℕ). Write c (Body (take 512 bytes)) ∷ body_acts ring (suc p) (first_blocks n (drop 512 bytes))) here
+    ∙ ap (λ (x : Kind). Write b x ∷ body_acts ring (suc p) (first_blocks n (drop 512 bytes))) (sym (class_body ring (take 512 bytes) body.0))
     ∙ ap (λ (acts : List Act). Write b (class_of ring (take 512 bytes)) ∷ acts)
     (acts_at ring (suc p) (suc b) n (drop 512 bytes) (λ k low. ap (λ (q : ℕ). block ring q) (omega arith) ∙ at (suc k) (omega arith) ∙ omega arith) body.1)
 
-body_puts : (ring first n : ℕ) (bytes : List ℕ) → first + n ≤ ring → All IsBody (blocks_of n bytes) → body_acts ring first (blocks_of n bytes) ≡ put_acts ring (2 + first) n bytes
+body_puts : (ring first n : ℕ) (bytes : List ℕ) → first + n ≤ ring → All IsBody (first_blocks n bytes) → body_acts ring first (first_blocks n bytes) ≡ put_acts ring (2 + first) n bytes
 body_puts ring first n bytes fits body =
-    acts_at ring first (2 + first) n bytes (λ k low. at k low) (recursion_from_All IsBody (blocks_of n bytes) body)
+    acts_at ring first (2 + first) n bytes (λ k low. at k low) (recursion_from_All IsBody (first_blocks n bytes) body)
   where
     at : (k : ℕ) → k < n → block ring (first + k) ≡ 2 + first + k
     at k low = let same : (first + k) % ring ≡ first + k = mod-eq_of_lt (omega arith) in omega arith
 
-module _ (unit ring first n : ℕ) (bytes : List ℕ) (size : length bytes ≡ 512 * n) (fits : first + n ≤ ring) (body : All IsBody (blocks_of n bytes)) (m m' : Meaning) (goes : Goes (Written unit (2 + first) bytes) m m') where
-  pub part_follows : Follows unit ring (body_acts ring first (blocks_of n bytes)) m m'
+module _ (unit ring first n : ℕ) (bytes : List ℕ) (size : length bytes ≡ 512 * n) (fits : first + n ≤ ring) (body : All IsBody (first_blocks n bytes)) (m m' : Meaning) (goes : Goes (Written unit (2 + first) bytes) m m') where
+  pub part_follows : Follows unit ring (body_acts ring first (first_blocks n bytes)) m m'
   part_follows = subst (λ (acts : List Act). Follows unit ring acts m m') (sym (body_puts ring first n bytes fits body)) (put_follows unit ring (2 + first) n bytes size (omega (arith, fits)) m m' goes)
 
-  pub part_arrives : Wrote unit (2 + first) bytes m m' → Arrives unit ring (body_acts ring first (blocks_of n bytes)) m m'
+  pub part_arrives : Wrote unit (2 + first) bytes m m' → Arrives unit ring (body_acts ring first (first_blocks n bytes)) m m'
   part_arrives wrote = subst (λ (acts : List Act). Arrives unit ring acts m m') (sym (body_puts ring first n bytes fits body)) (put_arrives unit ring (2 + first) n bytes size (omega (arith, fits)) m m' goes wrote)

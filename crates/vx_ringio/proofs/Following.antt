@@ -13,7 +13,7 @@ use Rattle.vx_ringlog.specs.Cells.{Cells, May, IsImage, read, Act, act, run_all,
 use Rattle.vx_ringlog.specs.Cells as cells
 use Rattle.vx_ringio.specs.Classes.{class_of, classes, narrowed, is_of_ring}
 use Rattle.vx_ringio.specs.Reading.{ReadsAs, LeavesAs}
-use Rattle.vx_ringio.specs.Tracks.{Tracks, Amid, Follows, Arrives}
+use Rattle.vx_ringio.specs.Tracks.{Tracks, AmidCalls, Follows, Arrives}
 
 -- ---- images
 
@@ -35,7 +35,7 @@ image_is unit ring u i here beyond b =
 pub now_left : (unit ring : ℕ) (u : Cells) (m : Meaning) (i : Image) → Tracks unit ring u m → Each m.leaves i → IsImage u (classes unit ring i)
 now_left unit ring u m i tracks each = image_is unit ring u i (λ b low. tracks.leaves b (i unit b) low (each unit b)) tracks.beyond
 
-pub left_image : (unit ring : ℕ) (c : cells.Image) (m : Meaning) (i : Image) → LeavesAs unit ring c m → Each m.leaves i → (b : ℕ) → classes unit ring i b ≡ c b
+pub left_image : (unit ring : ℕ) (c : cells.RingImage) (m : Meaning) (i : Image) → LeavesAs unit ring c m → Each m.leaves i → (b : ℕ) → classes unit ring i b ≡ c b
 left_image unit ring c m i leaves each b =
     ⊎_elim
     (λ (low : b < ring + 2). class_here unit ring i b low ∙ leaves.each b (i unit b) low (each unit b))
@@ -44,20 +44,20 @@ left_image unit ring c m i leaves each b =
 
 -- ---- lists of acts
 
-pub left_now : (u : Cells) (acts : List Act) (i : cells.Image) → IsImage u i → LeftBy u acts i
+pub left_now : (u : Cells) (acts : List Act) (i : cells.RingImage) → IsImage u i → LeftBy u acts i
 left_now u [] i is = is
 left_now u (a ∷ rest) i is = inl is
 
-pub left_last : (u : Cells) (acts : List Act) (i : cells.Image) → IsImage (run_all u acts) i → LeftBy u acts i
+pub left_last : (u : Cells) (acts : List Act) (i : cells.RingImage) → IsImage (run_all u acts) i → LeftBy u acts i
 left_last u [] i is = is
 left_last u (a ∷ rest) i is = inr (left_last (act u a) rest i is)
 
-pub left_sooner : (u : Cells) (a b : List Act) (i : cells.Image) → LeftBy u a i → LeftBy u (a ++ b) i
+pub left_sooner : (u : Cells) (a b : List Act) (i : cells.RingImage) → LeftBy u a i → LeftBy u (a ++ b) i
 left_sooner u [] b i left = left_now u b i left
 left_sooner u (x ∷ a) b i (inl is) = inl is
 left_sooner u (x ∷ a) b i (inr left) = inr (left_sooner (act u x) a b i left)
 
-pub left_later : (u : Cells) (a b : List Act) (i : cells.Image) → LeftBy (run_all u a) b i → LeftBy u (a ++ b) i
+pub left_later : (u : Cells) (a b : List Act) (i : cells.RingImage) → LeftBy (run_all u a) b i → LeftBy u (a ++ b) i
 left_later u [] b i left = left
 left_later u (x ∷ a) b i left = inr (left_later (act u x) a b i left)
 
@@ -66,7 +66,7 @@ run_both u [] b = refl
 run_both u (x ∷ a) b = run_both (act u x) a b
 
 -- what is always so is so of an image that a crash left
-pub always_left : (P : cells.Image → Type 0) (u : Cells) (acts : List Act) (i : cells.Image) → Always (Leaves P) u acts → LeftBy u acts i → P i
+pub always_left : (P : cells.RingImage → Type 0) (u : Cells) (acts : List Act) (i : cells.RingImage) → Always (Leaves P) u acts → LeftBy u acts i → P i
 always_left P u [] i always left = always i left
 always_left P u (a ∷ rest) i always (inl is) = always.0 i is
 always_left P u (a ∷ rest) i always (inr left) = always_left P (act u a) rest i always.1 left
@@ -74,26 +74,26 @@ always_left P u (a ∷ rest) i always (inr left) = always_left P (act u a) rest 
 -- ---- calls
 
 pub nothing_follows : (unit ring : ℕ) (m : Meaning) → Follows unit ring [] m m
-nothing_follows unit ring m = still_moves (Run unit 0 (ring + 2)) (Amid unit ring [] m) m
+nothing_follows unit ring m = still_moves (Run unit 0 (ring + 2)) (AmidCalls unit ring [] m) m
 
 pub nothing_arrives : (unit ring : ℕ) (m : Meaning) → Arrives unit ring [] m m
 nothing_arrives unit ring m = record { each = λ u tracks. tracks }
 
-pub following_gives : (unit ring : ℕ) (acts : List Act) (P : Says) (old new : Meaning) → Follows unit ring acts old new → ((i : Image) → Amid unit ring acts old i → P i)
+pub following_gives : (unit ring : ℕ) (acts : List Act) (P : Says) (old new : Meaning) → Follows unit ring acts old new → ((i : Image) → AmidCalls unit ring acts old i → P i)
     → Moves (Run unit 0 (ring + 2)) P old new
 following_gives unit ring acts P old new follows gives =
-    wider (Run unit 0 (ring + 2)) (Run unit 0 (ring + 2)) (Amid unit ring acts old) P old new follows (λ u b is. is) (λ i beside amid. gives i amid)
+    wider (Run unit 0 (ring + 2)) (Run unit 0 (ring + 2)) (AmidCalls unit ring acts old) P old new follows (λ u b is. is) (λ i beside amid. gives i amid)
 
 pub sooner : (unit ring : ℕ) (a b : List Act) (old new : Meaning) → Follows unit ring a old new → Follows unit ring (a ++ b) old new
 sooner unit ring a b old new follows =
-    following_gives unit ring a (Amid unit ring (a ++ b) old) old new follows
+    following_gives unit ring a (AmidCalls unit ring (a ++ b) old) old new follows
     (λ i amid. record { each = λ u tracks. left_sooner u a b (classes unit ring i) (amid.each u tracks) })
 
 -- the calls a, and then the calls b
 pub then_follows : (unit ring : ℕ) (a b : List Act) (old mid new : Meaning) → Follows unit ring a old mid → Arrives unit ring a old mid → Follows unit ring b mid new
     → Follows unit ring (a ++ b) old new
 then_follows unit ring a b old mid new one arrives two =
-    goes_on (Run unit 0 (ring + 2)) (Run unit 0 (ring + 2)) (Amid unit ring (a ++ b) old) (Amid unit ring b mid) old mid new
+    goes_on (Run unit 0 (ring + 2)) (Run unit 0 (ring + 2)) (AmidCalls unit ring (a ++ b) old) (AmidCalls unit ring b mid) old mid new
     (sooner unit ring a b old mid one) two (λ u b is. is)
     (λ i beside amid. record { each = λ u tracks. left_later u a b (classes unit ring i) (amid.each (run_all u a) (arrives.each u tracks)) })
 
@@ -107,7 +107,7 @@ then_arrives unit ring a b old mid new one two = record {
 module _ (unit ring : ℕ) (old new : Meaning) (goes : Goes Nothing old new) where
   pub rest_follows : Follows unit ring [] old new
   rest_follows =
-      of_goes (Run unit 0 (ring + 2)) (Amid unit ring [] old) Nothing old new goes (λ u b v no. absurd no)
+      of_goes (Run unit 0 (ring + 2)) (AmidCalls unit ring [] old) Nothing old new goes (λ u b v no. absurd no)
       (λ i each. record { each = λ u tracks. now_left unit ring u old i tracks (λ w b. at_rest old w b (i w b) (each w b)) })
 
 -- a read gives what it gave
@@ -126,13 +126,13 @@ rest_tracks unit ring u old new goes up tracks = record {
   beyond_read = tracks.beyond_read;
 }
 
-pub reads_stay : (unit ring : ℕ) (c : cells.Image) (old new : Meaning) → Goes Nothing old new → (IsTrue new.down → ⊥) → ReadsAs unit ring c old → ReadsAs unit ring c new
+pub reads_stay : (unit ring : ℕ) (c : cells.RingImage) (old new : Meaning) → Goes Nothing old new → (IsTrue new.down → ⊥) → ReadsAs unit ring c old → ReadsAs unit ring c new
 reads_stay unit ring c old new goes up reads = record {
   tells = subst (λ (t : Bool). IsTrue t) (sym goes.tells) reads.tells;
   each = λ b v low is. reads.each b v low (still_read old new goes up unit b v is);
 }
 
-pub leaves_stay : (unit ring : ℕ) (c : cells.Image) (old new : Meaning) → Goes Nothing old new → LeavesAs unit ring c old → LeavesAs unit ring c new
+pub leaves_stay : (unit ring : ℕ) (c : cells.RingImage) (old new : Meaning) → Goes Nothing old new → LeavesAs unit ring c old → LeavesAs unit ring c new
 leaves_stay unit ring c old new goes leaves = record {
   tells = subst (λ (t : Bool). IsTrue t) (sym goes.tells) leaves.tells;
   each = λ b v low left. leaves.each b v low (still_left old new goes unit b v left);
@@ -141,10 +141,10 @@ leaves_stay unit ring c old new goes leaves = record {
 
 -- ---- what stands, and what is read
 
-pub leaves_read : (unit ring : ℕ) (c : cells.Image) (m : Meaning) → Lawful m → LeavesAs unit ring c m → ReadsAs unit ring c m
+pub leaves_read : (unit ring : ℕ) (c : cells.RingImage) (m : Meaning) → Lawful m → LeavesAs unit ring c m → ReadsAs unit ring c m
 leaves_read unit ring c m lawful leaves = record { tells = leaves.tells; each = λ b v low reads. leaves.each b v low (lawful.shown unit b v reads) }
 
-pub left_tracks : (unit ring : ℕ) (c : cells.Image) (m : Meaning) → Lawful m → LeavesAs unit ring c m → Tracks unit ring (still c) m
+pub left_tracks : (unit ring : ℕ) (c : cells.RingImage) (m : Meaning) → Lawful m → LeavesAs unit ring c m → Tracks unit ring (still c) m
 left_tracks unit ring c m lawful leaves = record {
   leaves = λ b v low left. inl (leaves.each b v low left);
   reads = λ b v low reads. leaves.each b v low (lawful.shown unit b v reads);

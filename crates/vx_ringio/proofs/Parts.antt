@@ -6,12 +6,13 @@ use Rattle.std.proofs.Math.Nat.{mod-add-mod, mod-eq_of_lt, mod_self}
 use Rattle.std.proofs.lemmas.Bool.{cases_lt}
 use Rattle.std.proofs.lemmas.List.{take-append-le, drop-append-le}
 use Rattle.std.proofs.lemmas.List.Elements.{All-from_recursion, recursion_from_All}
+use Rattle.vx_ringlog.specs.Records.{first_blocks}
 use Rattle.vx_srlfmt.specs.Kinds.{IsBody, Body}
 use Rattle.vx_disk.specs.Shelf.{Goes, Meaning, Nothing}
 use Rattle.vx_ringlog.specs.Acts.{body_acts}
 use Rattle.vx_ringlog.specs.Cells.{Act, Write}
 use Rattle.vx_ringlog.specs.Chain.{block}
-use Rattle.vx_ringio.specs.Bodies.{blocks_of, all_blocks}
+use Rattle.vx_ringio.specs.Bodies.{all_blocks}
 use Rattle.vx_ringio.specs.Reading.{EachPlace, GaveBlocks}
 use Rattle.vx_ringio.specs.Tracks.{Follows, Arrives}
 use Rattle.vx_ringio.proofs.Bodies.{count_blocks}
@@ -24,23 +25,23 @@ none_of : (one : List ℕ) → length one ≡ 0 → one ≡ []
 none_of [] none = refl
 none_of (x ∷ one) none = absurd (omega arith)
 
-pub append_blocks : (n k : ℕ) (one two : List ℕ) → length one ≡ 512 * n → blocks_of (n + k) (one ++ two) ≡ blocks_of n one ++ blocks_of k two
+pub append_blocks : (n k : ℕ) (one two : List ℕ) → length one ≡ 512 * n → first_blocks (n + k) (one ++ two) ≡ first_blocks n one ++ first_blocks k two
 append_blocks zero k one two size =
     let none : 0 + k ≡ k = omega arith in
-    ap (λ (n : ℕ). blocks_of n (one ++ two)) none ∙ ap (λ (xs : List ℕ). blocks_of k (xs ++ two)) (none_of one (omega (arith, size)))
+    ap (λ (n : ℕ). first_blocks n (one ++ two)) none ∙ ap (λ (xs : List ℕ). first_blocks k (xs ++ two)) (none_of one (omega (arith, size)))
 append_blocks (suc n) k one two size =
     let first : take 512 (one ++ two) ≡ take 512 one = take-append-le 512 one two (omega (arith, size)) in
     let rest : drop 512 (one ++ two) ≡ drop 512 one ++ two = drop-append-le 512 one two (omega (arith, size)) in
     let more : suc n + k ≡ suc (n + k) = omega arith in
-    ap (λ (m : ℕ). blocks_of m (one ++ two)) more
-    ∙ ap (λ (b : List ℕ). b ∷ blocks_of (n + k) (drop 512 (one ++ two))) first
+    ap (λ (m : ℕ). first_blocks m (one ++ two)) more
+    ∙ ap (λ (b : List ℕ). b ∷ first_blocks (n + k) (drop 512 (one ++ two))) first
     ∙ ap (λ (bs : List (List ℕ)). take 512 one ∷ bs)
-    (ap (λ (xs : List ℕ). blocks_of (n + k) xs) rest ∙ append_blocks n k (drop 512 one) two (omega (arith, size, length-drop 512 one)))
+    (ap (λ (xs : List ℕ). first_blocks (n + k) xs) rest ∙ append_blocks n k (drop 512 one) two (omega (arith, size, length-drop 512 one)))
 
 pub all_append : (one two : List ℕ) → length one % 512 ≡ 0 → all_blocks (one ++ two) ≡ all_blocks one ++ all_blocks two
 all_append one two whole =
     let count : length (one ++ two) / 512 ≡ length one / 512 + length two / 512 = omega (arith, whole, length-append one two) in
-    ap (λ (n : ℕ). blocks_of n (one ++ two)) count ∙ append_blocks (length one / 512) (length two / 512) one two (omega (arith, whole))
+    ap (λ (n : ℕ). first_blocks n (one ++ two)) count ∙ append_blocks (length one / 512) (length two / 512) one two (omega (arith, whole))
 
 front_each : (xs ys : List (List ℕ)) → AllByRecursion IsBody (xs ++ ys) → AllByRecursion IsBody xs × AllByRecursion IsBody ys
 front_each [] ys all = (tt, all)

@@ -3,6 +3,7 @@ use Rattle.std.proofs.Common.{◌≡◌, ◌⊎◌, inl, inr, ⊎_elim, ℕ, zer
 use Rattle.std.specs.Prelude.{nat_lt}
 use Rattle.std.proofs.Math.Nat.{mod-eq_of_lt}
 use Rattle.std.proofs.lemmas.Bool.{lt-ltb, le-ltb, and_from}
+use Rattle.vx_ringlog.specs.Records.{first_blocks}
 use Rattle.vx_wire.specs.Numbers.{be_bytes, number_at}
 use Rattle.vx_wire.specs.Places.{cut}
 use Rattle.vx_wire.specs.Seals.{IsSealed, IsBroken, digest_of}
@@ -18,9 +19,8 @@ use Rattle.vx_srlfmt.specs.declared.record.Seen.TheVariants as seen
 use Rattle.vx_srlfmt.proofs.Lengths.{length-header_fields}
 use Rattle.vx_disk.specs.Shelf.{Covers, Goes, Meaning, Nothing, Read}
 use Rattle.vx_disk.proofs.Runs.{piece_one, covers_one}
-use Rattle.vx_ringlog.specs.Cells.{Image}
+use Rattle.vx_ringlog.specs.Cells.{RingImage}
 use Rattle.vx_ringlog.specs.Chain.{block}
-use Rattle.vx_ringio.specs.Bodies.{blocks_of}
 use Rattle.vx_ringio.specs.Classes.{class_of, is_of_ring}
 use Rattle.vx_ringio.specs.Reading.{EachPlace, GaveBlocks, ReadsAs, SeesFront, ShowsFront, ShowsBlocks}
 use Rattle.vx_ringio.proofs.Classing.{class_is, class_front, class_no_top, front_class, damaged_class, top_class}
@@ -95,13 +95,13 @@ seen_shows ring b (seen.Damaged stored computed) is = class_is ring b Damaged is
 seen_shows ring b seen.Other is = ((λ r front. is.0 r (front_class ring b r front)), (λ damaged. is.1 (damaged_class ring b damaged)))
 
 pub front_shows : (unit ring place : ℕ) (bytes : List ℕ) (m : Meaning) (s : Seen) → length bytes ≡ 512 → 0 < ring → Read m unit (block ring place) bytes → IsSeen bytes s
-    → (c : Image) → ReadsAs unit ring c m → ShowsFront s (c (block ring place))
+    → (c : RingImage) → ReadsAs unit ring c m → ShowsFront s (c (block ring place))
 front_shows unit ring place bytes m s size some read is c reads =
     subst (λ (v : Kind). ShowsFront s v) (reads.each (block ring place) bytes (omega (arith, some)) (one_read unit (block ring place) bytes m size read reads.tells)) (seen_shows ring bytes s is)
 
 -- ---- blocks of a body
 
-places_each : (P : ℕ → List ℕ → Type 0) (ring p n : ℕ) (bytes : List ℕ) → ((k : ℕ) → k < n → P (block ring (p + k)) (nth bytes k)) → EachPlace P ring p (blocks_of n bytes)
+places_each : (P : ℕ → List ℕ → Type 0) (ring p n : ℕ) (bytes : List ℕ) → ((k : ℕ) → k < n → P (block ring (p + k)) (nth bytes k)) → EachPlace P ring p (first_blocks n bytes)
 places_each P ring p zero bytes each = tt
 places_each P ring p (suc n) bytes each = (
   (let at : p + 0 ≡ p = omega arith in subst (λ (q : ℕ). P (block ring q) (take 512 bytes)) at (each 0 (omega arith))),
@@ -111,7 +111,7 @@ places_each P ring p (suc n) bytes each = (
 )
 
 -- what a read of blocks that do not pass the ring's end gave
-pub part_gave : (unit ring first n : ℕ) (bytes : List ℕ) (m : Meaning) → length bytes ≡ 512 * n → first + n ≤ ring → Read m unit (2 + first) bytes → IsTrue m.tells → GaveBlocks unit ring m first (blocks_of n bytes)
+pub part_gave : (unit ring first n : ℕ) (bytes : List ℕ) (m : Meaning) → length bytes ≡ 512 * n → first + n ≤ ring → Read m unit (2 + first) bytes → IsTrue m.tells → GaveBlocks unit ring m first (first_blocks n bytes)
 part_gave unit ring first n bytes m size fits read tells = places_each (m.reads unit) ring first n bytes each
   where
     each : (k : ℕ) → k < n → m.reads unit (block ring (first + k)) (nth bytes k)
@@ -123,13 +123,13 @@ part_gave unit ring first n bytes m size fits read tells = places_each (m.reads 
         subst (λ (b : ℕ). m.reads unit b (nth bytes k)) there (subst (λ (j : ℕ). m.reads unit (2 + first + k) (take 512 (drop (512 * j) bytes))) at (read.each tells (2 + first + k) covers))
 
 -- the classes of the blocks that reads gave
-pub gave_shows : (unit ring : ℕ) (m : Meaning) (p : ℕ) (bs : List (List ℕ)) → 0 < ring → (c : Image) → ReadsAs unit ring c m → GaveBlocks unit ring m p bs → ShowsBlocks ring c p bs
+pub gave_shows : (unit ring : ℕ) (m : Meaning) (p : ℕ) (bs : List (List ℕ)) → 0 < ring → (c : RingImage) → ReadsAs unit ring c m → GaveBlocks unit ring m p bs → ShowsBlocks ring c p bs
 gave_shows unit ring m p [] some c reads gave = tt
 gave_shows unit ring m p (b ∷ bs) some c reads gave = (reads.each (block ring p) b (omega (arith, some)) gave.0, gave_shows unit ring m (suc p) bs some c reads gave.1)
 
 pub part_shows : (unit ring first n : ℕ) (bytes : List ℕ) (m : Meaning) → length bytes ≡ 512 * n → first + n ≤ ring → 0 < ring → Read m unit (2 + first) bytes
-    → (c : Image) → ReadsAs unit ring c m → ShowsBlocks ring c first (blocks_of n bytes)
-part_shows unit ring first n bytes m size fits some read c reads = gave_shows unit ring m first (blocks_of n bytes) some c reads (part_gave unit ring first n bytes m size fits read reads.tells)
+    → (c : RingImage) → ReadsAs unit ring c m → ShowsBlocks ring c first (first_blocks n bytes)
+part_shows unit ring first n bytes m size fits some read c reads = gave_shows unit ring m first (first_blocks n bytes) some c reads (part_gave unit ring first n bytes m size fits read reads.tells)
 
 -- and those that they gave behind other reads
 pub gave_before : (unit ring : ℕ) (old mid : Meaning) (p : ℕ) (bs : List (List ℕ)) → Goes Nothing old mid → (IsTrue mid.down → ⊥) → GaveBlocks unit ring mid p bs → GaveBlocks unit ring old p bs

@@ -8,7 +8,7 @@ use Rattle.vx_disk.specs.Moves.{Run}
 use Rattle.vx_disk.proofs.Moving.{of_goes}
 use Rattle.vx_ringlog.specs.Cells.{Cells, May, IsImage, read, Act, Write, run_all, write}
 use Rattle.vx_ringio.specs.Classes.{class_of, classes}
-use Rattle.vx_ringio.specs.Tracks.{Tracks, Amid, Follows, Arrives}
+use Rattle.vx_ringio.specs.Tracks.{Tracks, AmidCalls, Follows, Arrives}
 use Rattle.vx_ringio.proofs.Following.{image_is, left_last}
 
 -- the writes of n blocks of these bytes, from block b on
@@ -119,7 +119,7 @@ module _ (unit ring b n : ℕ) (bytes : List ℕ) (size : length bytes ≡ 512 *
 
   pub put_follows : (m m' : Meaning) → Goes (Written unit b bytes) m m' → Follows unit ring (put_acts ring b n bytes) m m'
   put_follows m m' goes =
-      of_goes (Run unit 0 (ring + 2)) (Amid unit ring (put_acts ring b n bytes) m) (Written unit b bytes) m m' goes in_ring
+      of_goes (Run unit 0 (ring + 2)) (AmidCalls unit ring (put_acts ring b n bytes) m) (Written unit b bytes) m m' goes in_ring
       (λ i each. record { each = λ u tracks. left_last u (put_acts ring b n bytes) (classes unit ring i) (put_image u m tracks i each) })
 
   pub put_arrives : (m m' : Meaning) → Goes (Written unit b bytes) m m' → Wrote unit b bytes m m' → Arrives unit ring (put_acts ring b n bytes) m m'

@@ -2,18 +2,13 @@
 use Rattle.std.specs.Prelude.{◌≡◌, ℕ, zero, suc, ◌/◌, ◌≤◌, ◌<◌, ◌%◌, List, [], ◌∷◌, length, take, drop}
 use Rattle.vx_wire.specs.Seals.{digest_of}
 use Rattle.vx_srlfmt.specs.declared.record.RecordHead.{RecordHead}
-use Rattle.vx_ringlog.specs.Records.{with_firsts}
+use Rattle.vx_ringlog.specs.Records.{with_firsts, first_blocks}
 use Rattle.vx_ringio.specs.declared.body.Body.{Body}
 use Rattle.vx_ringio.specs.declared.body.Body.TheVariants.{Whole, Differs}
 
--- the first n blocks of these bytes
-abbrev pub blocks_of : ℕ → List ℕ → List (List ℕ)
-blocks_of zero bytes = []
-blocks_of (suc n) bytes = take 512 bytes ∷ blocks_of n (drop 512 bytes)
-
 -- all of them
 abbrev pub all_blocks : List ℕ → List (List ℕ)
-all_blocks bytes = blocks_of (length bytes / 512) bytes
+all_blocks bytes = first_blocks (length bytes / 512) bytes
 
 -- the bytes are 1 to 16 whole blocks
 pub record IsBlocks (bytes : List ℕ) : Type 0 where

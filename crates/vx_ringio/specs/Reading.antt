@@ -1,7 +1,7 @@
 -- What reads of a log's blocks show.
 use Rattle.std.specs.Prelude.{◌≡◌, ℕ, suc, ◌+◌, ◌<◌, ◌≤◌, true, IsTrue, List, [], ◌∷◌, drop, take}
 use Rattle.vx_wire.specs.Seals.{digest_of}
-use Rattle.vx_srlfmt.specs.Headers.{IsDamagedHeader, CanSpell}
+use Rattle.vx_srlfmt.specs.Headers.{IsDamagedHeader, CanSpellHeader}
 use Rattle.vx_srlfmt.specs.Kinds.{Kind, Top, Front, Damaged, Other}
 use Rattle.vx_srlfmt.specs.Records.{CanSpellHead, IsSeen}
 use Rattle.vx_srlfmt.specs.declared.header.Header.{Header}
@@ -10,19 +10,19 @@ use Rattle.vx_srlfmt.specs.declared.record.Seen.{Seen}
 use Rattle.vx_srlfmt.specs.declared.record.Seen.TheVariants as seen
 use Rattle.vx_disk.specs.Shelf.{Meaning, Holds}
 use Rattle.vx_model.specs.Content.{zero_block}
-use Rattle.vx_ringlog.specs.Cells.{Image}
+use Rattle.vx_ringlog.specs.Cells.{RingImage}
 use Rattle.vx_ringlog.specs.Chain.{block}
 use Rattle.vx_ringio.specs.Classes.{class_of, is_of_ring}
 use Rattle.vx_ringio.specs.declared.top.TopSeen.{TopSeen}
 use Rattle.vx_ringio.specs.declared.top.TopSeen.TheVariants as top
 
 -- the shelf tells its contents, and reads give blocks of these classes
-pub record ReadsAs (unit ring : ℕ) (c : Image) (m : Meaning) : Type 0 where
+pub record ReadsAs (unit ring : ℕ) (c : RingImage) (m : Meaning) : Type 0 where
   pub tells : IsTrue m.tells
   pub each : (b : ℕ) (v : List ℕ) → b < ring + 2 → m.reads unit b v → class_of ring v ≡ c b
 
 -- the same of whatever a crash leaves
-pub record LeavesAs (unit ring : ℕ) (c : Image) (m : Meaning) : Type 0 where
+pub record LeavesAs (unit ring : ℕ) (c : RingImage) (m : Meaning) : Type 0 where
   pub tells : IsTrue m.tells
   pub each : (b : ℕ) (v : List ℕ) → b < ring + 2 → m.leaves unit b v → class_of ring v ≡ c b
   pub beyond : (b : ℕ) → ring + 2 ≤ b → c b ≡ Other
@@ -32,15 +32,15 @@ pub record ReadsZero (unit upto : ℕ) (m : Meaning) : Type 0 where
   pub each : (b : ℕ) → b < upto → Holds m unit b zero_block
 
 -- what a block is as a header of the log: a broken one begins as a header and its digest fails
-abbrev pub IsTop : ℕ → List ℕ → TopSeen → Type 0
-IsTop ring bytes (top.Valid h) = class_of ring bytes ≡ Top h
-IsTop ring bytes (top.Broken stored computed) =
+abbrev pub IsTopSeen : ℕ → List ℕ → TopSeen → Type 0
+IsTopSeen ring bytes (top.Valid h) = class_of ring bytes ≡ Top h
+IsTopSeen ring bytes (top.Broken stored computed) =
     ((h : Header) → class_of ring bytes ≡ Top h → ⊥) × IsDamagedHeader bytes × (stored ≡ drop 480 bytes) × (computed ≡ digest_of (take 480 bytes))
-IsTop ring bytes top.Other = ((h : Header) → class_of ring bytes ≡ Top h → ⊥) × (IsDamagedHeader bytes → ⊥)
+IsTopSeen ring bytes top.Other = ((h : Header) → class_of ring bytes ≡ Top h → ⊥) × (IsDamagedHeader bytes → ⊥)
 
 -- a header that was read is one of the ring, and can be spelled
 abbrev pub TopIsOfRing : ℕ → TopSeen → Type 0
-TopIsOfRing ring (top.Valid h) = CanSpell h × (is_of_ring ring h ≡ true)
+TopIsOfRing ring (top.Valid h) = CanSpellHeader h × (is_of_ring ring h ≡ true)
 TopIsOfRing ring (top.Broken stored computed) = Unit {0}
 TopIsOfRing ring top.Other = Unit {0}
 
@@ -48,7 +48,7 @@ TopIsOfRing ring top.Other = Unit {0}
 pub record SeesTop (unit ring block : ℕ) (m : Meaning) (seen : TopSeen) : Type 0 where
   pub bytes : List ℕ
   pub read : m.reads unit block bytes
-  pub is : IsTop ring bytes seen
+  pub is : IsTopSeen ring bytes seen
 
 -- the digests of a broken header differ
 abbrev pub DigestsDiffer : TopSeen → Type 0
@@ -86,7 +86,7 @@ EachPlace P ring p [] = Unit {0}
 EachPlace P ring p (b ∷ bs) = P (block ring p) b × EachPlace P ring (suc p) bs
 
 -- blocks of these classes were read from place p on
-abbrev pub ShowsBlocks : ℕ → Image → ℕ → List (List ℕ) → Type 0
+abbrev pub ShowsBlocks : ℕ → RingImage → ℕ → List (List ℕ) → Type 0
 ShowsBlocks ring c p bs = EachPlace (λ at b. class_of ring b ≡ c at) ring p bs
 
 -- reads gave these blocks from place p on

@@ -7,7 +7,7 @@ use Rattle.vx_ringlog.specs.Cells.{Cells, May, read, Act, run_all, LeftBy}
 use Rattle.vx_ringio.specs.Classes.{class_of, classes}
 
 -- the unit exists, and the headers and the ring lie in it
-pub record Lies (unit ring : ℕ) (m : Meaning) : Type 0 where
+pub record RingLies (unit ring : ℕ) (m : Meaning) : Type 0 where
   pub exists : unit < m.units
   pub within : ring + 2 ≤ m.size unit
 
@@ -19,12 +19,12 @@ pub record Tracks (unit ring : ℕ) (u : Cells) (m : Meaning) : Type 0 where
   pub beyond_read : (b : ℕ) → ring + 2 ≤ b → read u b ≡ Other
 
 -- an image that a crash at some moment of these calls may leave
-pub record Amid (unit ring : ℕ) (acts : List Act) (m : Meaning) (i : Image) : Type 0 where
+pub record AmidCalls (unit ring : ℕ) (acts : List Act) (m : Meaning) (i : Image) : Type 0 where
   pub each : (u : Cells) → Tracks unit ring u m → LeftBy u acts (classes unit ring i)
 
 -- whatever it answers, a call goes no further than these
 abbrev pub Follows : ℕ → ℕ → List Act → Meaning → Meaning → Type 0
-Follows unit ring acts old new = Moves (Run unit 0 (ring + 2)) (Amid unit ring acts old) old new
+Follows unit ring acts old new = Moves (Run unit 0 (ring + 2)) (AmidCalls unit ring acts old) old new
 
 -- a call makes all of these
 pub record Arrives (unit ring : ℕ) (acts : List Act) (old new : Meaning) : Type 0 where

@@ -4,7 +4,7 @@ ghost use Rattle.vx_disk.specs.Causes.{Cause};
 ghost use Rattle.vx_disk.specs.Moves.{Moves, Run, Anything};
 ghost use Rattle.vx_ringio.specs.Reading.{LeavesAs, ReadsZero};
 ghost use Rattle.vx_ringio.specs.Spends.{Spends};
-ghost use Rattle.vx_ringio.specs.Tracks.{Lies};
+ghost use Rattle.vx_ringio.specs.Tracks.{RingLies};
 ghost use Rattle.vx_srlfmt.specs.Kinds.{Other};
 
 use vx_disk::{Shelf, ShelfError};
@@ -28,7 +28,7 @@ fn blank_chunk<S: Shelf>(shelf: &mut S, unit: u32, used: u64, chunk: u64) -> Res
 
 /// Writes zeros over the headers and the ring, and makes them durable.
 pub fn blank_ring<S: Shelf>(shelf: &mut S, unit: u32, ring: u64) -> Result<(), ShelfError>
-    requires lies { Lies unit ring (S.meaning shelf.old) }
+    requires lies { RingLies unit ring (S.meaning shelf.old) }
     requires few { ring ≤ 65534 }
     ensures moves { Moves (Run unit 0 (ring + 2)) Anything (S.meaning shelf.old) (S.meaning shelf.new) }
     ensures leaves { OnOk result (IsTrue (S.meaning shelf.old).tells → LeavesAs unit ring (λ b. Other) (S.meaning shelf.new)) }

@@ -1,6 +1,6 @@
 // The body of a record, as it was given and as it stands on disk.
 ghost use Rattle.std.specs.Prelude.{◌≡◌, ◌≤◌, ◌<◌, ◌%◌, ◌/◌, length, All};
-ghost use Rattle.vx_ringlog.specs.Records.{on_disk, firsts_of};
+ghost use Rattle.vx_ringlog.specs.Records.{as_on_disk, firsts_of};
 ghost use Rattle.vx_ringio.specs.Bodies.{IsBlocks, BodyIs, all_blocks};
 ghost use Rattle.vx_srlfmt.specs.Kinds.{IsBody};
 
@@ -21,7 +21,7 @@ pub enum Body {
 /// Puts the byte 0x42 first in each of 1 to 16 blocks, and answers the bytes that stood there, with zeros behind them.
 pub fn mask_body(bytes: &mut [u8]) -> [u8; 16]
     requires { IsBlocks bytes.old }
-    ensures blocks { all_blocks bytes.new ≡ on_disk (all_blocks bytes.old) }
+    ensures blocks { all_blocks bytes.new ≡ as_on_disk (all_blocks bytes.old) }
     ensures firsts { result ≡ firsts_of (all_blocks bytes.old) }
     ensures size { length bytes.new ≡ length bytes.old }
 {

@@ -14,6 +14,3 @@ pub use body::{Body, mask_body, unmask_body};
 pub use reads::{read_body, read_front, read_top};
 pub use top::TopSeen;
 pub use writes::{flush_ring, write_body, write_front, write_header};
-
-#[cfg(test)]
-mod tests;

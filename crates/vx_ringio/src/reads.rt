@@ -4,10 +4,10 @@ ghost use Rattle.vx_disk.specs.Causes.{Cause, OnDisks, Works};
 ghost use Rattle.vx_disk.specs.Disks.{Untouched};
 ghost use Rattle.vx_disk.specs.Shelf.{Goes, Nothing};
 ghost use Rattle.vx_ringio.specs.Bodies.{IsBlocks, all_blocks};
-ghost use Rattle.vx_ringio.specs.Reading.{ReadsAs, IsTop, SeesFront, SeesTop, DigestsDiffer, TopIsOfRing, ShowsFront, FrontDigestsDiffer, FrontCanSpell, GaveBlocks, ShowsBlocks};
+ghost use Rattle.vx_ringio.specs.Reading.{ReadsAs, IsTopSeen, SeesFront, SeesTop, DigestsDiffer, TopIsOfRing, ShowsFront, FrontDigestsDiffer, FrontCanSpell, GaveBlocks, ShowsBlocks};
 ghost use Rattle.vx_ringio.specs.Spends.{Spends};
-ghost use Rattle.vx_ringio.specs.Tracks.{Lies};
-ghost use Rattle.vx_ringlog.specs.Cells.{Image};
+ghost use Rattle.vx_ringio.specs.Tracks.{RingLies};
+ghost use Rattle.vx_ringlog.specs.Cells.{RingImage};
 ghost use Rattle.vx_ringlog.specs.Chain.{block as block_of_place};
 
 use crate::TopSeen;
@@ -17,7 +17,7 @@ use vx_wire::{broken_seal, get_u64};
 
 // What a block is as a header of a ring of so many blocks.
 fn top_of(ring: u64, block: &[u8; 512]) -> TopSeen
-    ensures is { IsTop ring block.now result }
+    ensures is { IsTopSeen ring block.now result }
     ensures differ { DigestsDiffer result }
     ensures of_ring { TopIsOfRing ring result }
 {
@@ -46,7 +46,7 @@ pub fn read_top<S: Shelf>(
     ring: u64,
     block: u64,
 ) -> Result<TopSeen, ShelfError>
-    requires lies { Lies unit ring (S.meaning shelf.old) }
+    requires lies { RingLies unit ring (S.meaning shelf.old) }
     requires header { block < 2 }
     ensures sees { IfOk result (λ seen. IsTrue (S.meaning shelf.old).tells → SeesTop unit ring block (S.meaning shelf.old) seen) }
     ensures differ { IfOk result DigestsDiffer }
@@ -68,10 +68,10 @@ pub fn read_front<S: Shelf>(
     ring: u64,
     place: u64,
 ) -> Result<Seen, ShelfError>
-    requires lies { Lies unit ring (S.meaning shelf.old) }
+    requires lies { RingLies unit ring (S.meaning shelf.old) }
     requires some { 0 < ring }
     requires few { ring ≤ 65534 }
-    ensures shows { IfOk result (λ seen. (c : Image) → ReadsAs unit ring c (S.meaning shelf.old) → ShowsFront seen (c (block_of_place ring place))) }
+    ensures shows { IfOk result (λ seen. (c : RingImage) → ReadsAs unit ring c (S.meaning shelf.old) → ShowsFront seen (c (block_of_place ring place))) }
     ensures sees { IfOk result (λ seen. IsTrue (S.meaning shelf.old).tells → SeesFront unit (block_of_place ring place) (S.meaning shelf.old) seen) }
     ensures differ { IfOk result FrontDigestsDiffer }
     ensures spell { IfOk result FrontCanSpell }
@@ -92,11 +92,11 @@ fn read_part<S: Shelf>(
     first: u64,
     into: &mut [u8],
 ) -> Result<(), ShelfError>
-    requires lies { Lies unit ring (S.meaning shelf.old) }
+    requires lies { RingLies unit ring (S.meaning shelf.old) }
     requires few { ring ≤ 65534 }
     requires blocks { IsBlocks into.old }
     requires room { first + length into.old / 512 ≤ ring }
-    ensures shows { OnOk result ((c : Image) → ReadsAs unit ring c (S.meaning shelf.old) → ShowsBlocks ring c first (all_blocks into.new)) }
+    ensures shows { OnOk result ((c : RingImage) → ReadsAs unit ring c (S.meaning shelf.old) → ShowsBlocks ring c first (all_blocks into.new)) }
     ensures gave { OnOk result (IsTrue (S.meaning shelf.old).tells → GaveBlocks unit ring (S.meaning shelf.old) first (all_blocks into.new)) }
     ensures size { length into.new ≡ length into.old }
     ensures goes { Goes Nothing (S.meaning shelf.old) (S.meaning shelf.new) }
@@ -117,11 +117,11 @@ pub fn read_body<S: Shelf>(
     place: u64,
     into: &mut [u8],
 ) -> Result<(), ShelfError>
-    requires lies { Lies unit ring (S.meaning shelf.old) }
+    requires lies { RingLies unit ring (S.meaning shelf.old) }
     requires few { ring ≤ 65534 }
     requires blocks { IsBlocks into.old }
     requires room { length into.old / 512 ≤ ring }
-    ensures shows { OnOk result ((c : Image) → ReadsAs unit ring c (S.meaning shelf.old) → ShowsBlocks ring c place (all_blocks into.new)) }
+    ensures shows { OnOk result ((c : RingImage) → ReadsAs unit ring c (S.meaning shelf.old) → ShowsBlocks ring c place (all_blocks into.new)) }
     ensures gave { OnOk result (IsTrue (S.meaning shelf.old).tells → GaveBlocks unit ring (S.meaning shelf.old) place (all_blocks into.new)) }
     ensures size { length into.new ≡ length into.old }
     ensures goes { Goes Nothing (S.meaning shelf.old) (S.meaning shelf.new) }

@@ -7,11 +7,11 @@ ghost use Rattle.vx_ringio.specs.Bodies.{IsBlocks, all_blocks};
 ghost use Rattle.vx_disk.specs.Burns.{FallsShort, MakesCalls};
 ghost use Rattle.vx_ringio.specs.Classes.{is_of_ring};
 ghost use Rattle.vx_ringio.specs.Spends.{MakesAtLeast, Spends};
-ghost use Rattle.vx_ringio.specs.Tracks.{Lies, Follows, Arrives};
+ghost use Rattle.vx_ringio.specs.Tracks.{RingLies, Follows, Arrives};
 ghost use Rattle.vx_ringlog.specs.Acts.{body_acts, head_acts};
 ghost use Rattle.vx_ringlog.specs.Cells.{Write as WriteAct, Flush};
 ghost use Rattle.vx_ringlog.specs.Chain.{block};
-ghost use Rattle.vx_srlfmt.specs.Headers.{CanSpell};
+ghost use Rattle.vx_srlfmt.specs.Headers.{CanSpellHeader};
 ghost use Rattle.vx_srlfmt.specs.Kinds.{Front, IsBody};
 ghost use Rattle.vx_srlfmt.specs.Records.{CanSpellHead};
 
@@ -40,7 +40,7 @@ pub fn write_front<S: Shelf>(
     place: u64,
     head: &RecordHead,
 ) -> Result<(), ShelfError>
-    requires lies { Lies unit ring (S.meaning shelf.old) }
+    requires lies { RingLies unit ring (S.meaning shelf.old) }
     requires some { 0 < ring }
     requires few { ring ≤ 65534 }
     requires spell { CanSpellHead head.now }
@@ -63,8 +63,8 @@ pub fn write_header<S: Shelf>(
     ring: u64,
     header: &Header,
 ) -> Result<(), ShelfError>
-    requires lies { Lies unit ring (S.meaning shelf.old) }
-    requires spell { CanSpell header.now }
+    requires lies { RingLies unit ring (S.meaning shelf.old) }
+    requires spell { CanSpellHeader header.now }
     requires of_ring { is_of_ring ring header.now ≡ true }
     ensures follows { Follows unit ring (head_acts (header.now.stamp % 2) header.now) (S.meaning shelf.old) (S.meaning shelf.new) }
     ensures arrives { OnOk result (Arrives unit ring (head_acts (header.now.stamp % 2) header.now) (S.meaning shelf.old) (S.meaning shelf.new)) }
@@ -89,7 +89,7 @@ fn write_part<S: Shelf>(
     first: u64,
     bytes: &[u8],
 ) -> Result<(), ShelfError>
-    requires lies { Lies unit ring (S.meaning shelf.old) }
+    requires lies { RingLies unit ring (S.meaning shelf.old) }
     requires few { ring ≤ 65534 }
     requires blocks { IsBlocks bytes.now }
     requires room { first + length bytes.now / 512 ≤ ring }
@@ -113,7 +113,7 @@ pub fn write_body<S: Shelf>(
     place: u64,
     bytes: &[u8],
 ) -> Result<(), ShelfError>
-    requires lies { Lies unit ring (S.meaning shelf.old) }
+    requires lies { RingLies unit ring (S.meaning shelf.old) }
     requires few { ring ≤ 65534 }
     requires blocks { IsBlocks bytes.now }
     requires room { length bytes.now / 512 ≤ ring }

@@ -3,13 +3,13 @@ use Rattle.std.proofs.Common.{◌≡◌, ◌⊎◌, inl, inr, ⊎_elim, ℕ, zer
 use Rattle.std.proofs.Math.Nat.{mod-add-mod}
 use Rattle.vx_srlfmt.specs.Kinds.{Top}
 use Rattle.vx_srlfmt.specs.declared.header.Header.{Header}
-use Rattle.vx_ringlog.specs.Cells.{Act, Always, Cells, Flush, Image, IsImage, Leaves, Write, flush, run_all, write}
+use Rattle.vx_ringlog.specs.Cells.{Act, Always, Cells, Flush, RingImage, IsImage, Leaves, Write, flush, run_all, write}
 use Rattle.vx_ringlog.specs.Records.{Era, Record, era_of}
-use Rattle.vx_ringlog.specs.Chain.{Bounded, Counts, HasBody, Recovers, Scan, Stops, Takes, block, total, width}
-use Rattle.vx_ringlog.specs.Ready.{Fits, Now, Ready, SureAll, Tame, TameValue, after, last, next}
+use Rattle.vx_ringlog.specs.Chain.{Bounded, IsGreaterTop, HasBody, Recovers, Scan, ScanStops, Takes, block, total, width}
+use Rattle.vx_ringlog.specs.Ready.{RecordsFit, Now, ReadyRing, SureAll, Tame, TameValue, after, last, next}
 use Rattle.vx_ringlog.specs.Acts.{body_acts, fronts_of, head_acts}
 use Rattle.vx_ringlog.specs.Heads.{Heads}
-use Rattle.vx_ringlog.specs.Logs.{CallIsSafe, Found, In, IsLog, MayRestart, MaySave, MayStage, New, Restart, Save, Seal, Stage, State, acts_of, done}
+use Rattle.vx_ringlog.specs.Logs.{CallIsSafe, Found, In, IsLog, MayRestart, MaySave, MayStage, New, Restart, Save, Seal, Stage, State, acts_of, behind_call}
 use Rattle.vx_ringlog.proofs.Scans.{from_later}
 use Rattle.vx_ringlog.proofs.Keeps.{after_append, after_le, last_append, next_append}
 use Rattle.vx_ringlog.proofs.Sealing.{fits_behind, ready_prefix, sealed}
@@ -29,7 +29,7 @@ total_take zero ss = omega arith
 total_take (suc k) [] = omega arith
 total_take (suc k) (s ∷ ss) = omega (arith, total_take k ss)
 
-last_le : (e : Era) (n prev : ℕ) (rs : List Record) → Fits e n prev rs → prev ≤ e.incarnation → last prev rs ≤ e.incarnation
+last_le : (e : Era) (n prev : ℕ) (rs : List Record) → RecordsFit e n prev rs → prev ≤ e.incarnation → last prev rs ≤ e.incarnation
 last_le e n prev [] fits le = le
 last_le e n prev (r ∷ rs) fits le = last_le e (suc n) r.incarnation rs fits.5 fits.4
 
@@ -46,12 +46,12 @@ block_suc size p x same =
     let b : suc x ≡ x + 1 = omega arith in
     ap (λ (y : ℕ). block size y) a ∙ block_shift size p x 1 same ∙ sym (ap (λ (y : ℕ). block size y) b)
 
-body_shift : (size : ℕ) (i : Image) (p x : ℕ) (bs : List (List ℕ)) → block size p ≡ block size x → HasBody size i p bs → HasBody size i x bs
+body_shift : (size : ℕ) (i : RingImage) (p x : ℕ) (bs : List (List ℕ)) → block size p ≡ block size x → HasBody size i p bs → HasBody size i x bs
 body_shift size i p x [] same has = tt
 body_shift size i p x (b ∷ bs) same has = (ap i (sym same) ∙ has.0, body_shift size i (suc p) (suc x) bs (block_suc size p x same) has.1)
 
-scan_shift : (size : ℕ) (i : Image) (e : Era) (p x n prev : ℕ) (rs : List Record) → block size p ≡ block size x → Scan size i e p n prev rs → Scan size i e x n prev rs
-scan_shift size i e p x n prev [] same stops = subst (λ (b : ℕ). Stops e n prev (i b)) same stops
+scan_shift : (size : ℕ) (i : RingImage) (e : Era) (p x n prev : ℕ) (rs : List Record) → block size p ≡ block size x → Scan size i e p n prev rs → Scan size i e x n prev rs
+scan_shift size i e p x n prev [] same stops = subst (λ (b : ℕ). ScanStops e n prev (i b)) same stops
 scan_shift size i e p x n prev (r ∷ rs) same scan = (
   subst (λ (b : ℕ). Takes e n prev (i b) r) same scan.0,
   body_shift size i (suc p) (suc x) r.body (block_suc size p x same) scan.1,
@@ -77,7 +77,7 @@ heads_run u a o h [] ring heads = heads
 heads_run u a o h (Write b v ∷ rest) ring heads = heads_run (write u b v) a o h rest ring.1 (heads_ring u a o h b v ring.0 heads)
 heads_run u a o h (Flush ∷ rest) ring heads = heads_run (flush u) a o h rest ring (heads_flush u a o h heads)
 
-counted : (P Q : Image → Type 0) (a o : ℕ) (h : Header) → ((i : Image) → Counts i h → P i → Q i) → (u : Cells) (rest : List Act) → RingActs rest → Heads u a o h → Always (Leaves P) u rest → Always (Leaves Q) u rest
+counted : (P Q : RingImage → Type 0) (a o : ℕ) (h : Header) → ((i : RingImage) → IsGreaterTop i h → P i → Q i) → (u : Cells) (rest : List Act) → RingActs rest → Heads u a o h → Always (Leaves P) u rest → Always (Leaves Q) u rest
 counted P Q a o h to u [] ring heads all = λ i img. to i (counts u a o h heads i img) (all i img)
 counted P Q a o h to u (Write b v ∷ rest) ring heads all = ((λ i img. to i (counts u a o h heads i img) (all.0 i img)), counted P Q a o h to (write u b v) rest ring.1 (heads_ring u a o h b v ring.0 heads) all.1)
 counted P Q a o h to u (Flush ∷ rest) ring heads all = ((λ i img. to i (counts u a o h heads i img) (all.0 i img)), counted P Q a o h to (flush u) rest ring (heads_flush u a o h heads) all.1)
@@ -100,12 +100,12 @@ sure_behind : (size : ℕ) (u : Cells) (p : ℕ) (rs ss : List Record) → SureA
 sure_behind size u p [] ss sure = sure
 sure_behind size u p (r ∷ rs) ss sure = sure_behind size u (p + width r) rs ss sure.2
 
-fits_front : (e : Era) (n prev : ℕ) (rs ss : List Record) → Fits e n prev (rs ++ ss) → Fits e n prev rs
+fits_front : (e : Era) (n prev : ℕ) (rs ss : List Record) → RecordsFit e n prev (rs ++ ss) → RecordsFit e n prev rs
 fits_front e n prev [] ss fits = tt
 fits_front e n prev (r ∷ rs) ss fits = (fits.0, fits.1, fits.2, fits.3, fits.4, fits_front e (suc n) r.incarnation rs ss fits.5)
 
 -- the log from a later record on
-ready_drop : (size : ℕ) (u : Cells) (e : Era) (p n floor : ℕ) (gone kept staged : List Record) → Ready size u e p n floor (gone ++ kept) staged → Ready size u e (after p gone) (next n gone) (last floor gone) kept staged
+ready_drop : (size : ℕ) (u : Cells) (e : Era) (p n floor : ℕ) (gone kept staged : List Record) → ReadyRing size u e p n floor (gone ++ kept) staged → ReadyRing size u e (after p gone) (next n gone) (last floor gone) kept staged
 ready_drop size u e p n floor gone kept staged r =
     let places = after_append p gone kept in
     let numbers = next_append n gone kept in
@@ -123,22 +123,22 @@ ready_drop size u e p n floor gone kept staged r =
       bodies = rw (← places) r.bodies;
     }
 
-pub ready_like : (size : ℕ) (u : Cells) (e new_era : Era) (p n new_number floor new_floor : ℕ) (held staged : List Record) → new_era ≡ e → new_number ≡ n → new_floor ≡ floor → Ready size u e p n floor held staged → Ready size u new_era p new_number new_floor held staged
+pub ready_like : (size : ℕ) (u : Cells) (e new_era : Era) (p n new_number floor new_floor : ℕ) (held staged : List Record) → new_era ≡ e → new_number ≡ n → new_floor ≡ floor → ReadyRing size u e p n floor held staged → ReadyRing size u new_era p new_number new_floor held staged
 ready_like size u e new_era p n new_number floor new_floor held staged same_era same_number same_floor r =
-    subst (λ (x : Era). Ready size u x p new_number new_floor held staged) (sym same_era) (subst (λ (x : ℕ). Ready size u e p x new_floor held staged) (sym same_number) (subst (λ (x : ℕ). Ready size u e p n x held staged) (sym same_floor) r))
+    subst (λ (x : Era). ReadyRing size u x p new_number new_floor held staged) (sym same_era) (subst (λ (x : ℕ). ReadyRing size u e p x new_floor held staged) (sym same_number) (subst (λ (x : ℕ). ReadyRing size u e p n x held staged) (sym same_floor) r))
 
 pub tame_top : (e : Era) (n : ℕ) (g : Header) → TameValue e n (Top g)
 tame_top e n g = record { whole = λ is. cc; incarnation = λ r is. absurd cc; run = λ r is. absurd cc; fresh = λ r is i k. absurd cc }
 
 module _ (size : ℕ) (s : State) (log : IsLog size s) where
-  abbrev Finds : Image → Type 0
+  abbrev Finds : RingImage → Type 0
   Finds i = (k : ℕ) × Scan size i (era_of s.header) s.base s.header.low s.header.floor (s.held ++ take k s.staged) × Bounded i (era_of s.header)
 
   room_is : total s.held + total s.staged ≤ size
   room_is = omega (arith, log.ready.room, after_is (after s.base s.held) s.staged, after_is s.base s.held)
 
   -- the old header counts
-  old : (i : Image) → Counts i s.header → Finds i → (k : ℕ) × Recovers size i s.header (s.held ++ take k s.staged)
+  old : (i : RingImage) → IsGreaterTop i s.header → Finds i → (k : ℕ) × Recovers size i s.header (s.held ++ take k s.staged)
   old i count finds = (
     finds.0,
     record {
@@ -149,7 +149,7 @@ module _ (size : ℕ) (s : State) (log : IsLog size s) where
     },
   )
 
-  stage_safe : (r : Record) → MayStage size s r → Always (Leaves (Found size s (Stage r))) s.unit (acts_of size s (Stage r)) × IsLog size (done size s (Stage r))
+  stage_safe : (r : Record) → MayStage size s r → Always (Leaves (Found size s (Stage r))) s.unit (acts_of size s (Stage r)) × IsLog size (behind_call size s (Stage r))
   stage_safe r may =
       let all = staged_one size (era_of s.header) s.base s.header.low s.header.floor s.held s.staged s.unit r
       (omega (arith, may.room, after_is (after s.base s.held) s.staged, after_is s.base s.held)) may.number may.run (record { line = may.line; genuine = may.genuine }) may.incarnation
@@ -159,7 +159,7 @@ module _ (size : ℕ) (s : State) (log : IsLog size s) where
         record { ready = all.1; heads = heads_run s.unit s.here s.other s.header (acts_of size s (Stage r)) ring log.heads; place = log.place; origin = log.origin },
       )
 
-  seal_safe : Always (Leaves (Found size s Seal)) s.unit (acts_of size s Seal) × IsLog size (done size s Seal)
+  seal_safe : Always (Leaves (Found size s Seal)) s.unit (acts_of size s Seal) × IsLog size (behind_call size s Seal)
   seal_safe =
       let all = sealed size s.unit (era_of s.header) s.base s.header.low s.header.floor s.held s.staged log.ready in
       let ring = ring_fronts size (after s.base s.held) s.staged in (
@@ -173,18 +173,18 @@ module _ (size : ℕ) (s : State) (log : IsLog size s) where
       )
 
   -- the three units of a header write, and what counts in their images
-  ready1 : (g : Header) → Ready size (write s.unit s.other (Top g)) (era_of s.header) s.base s.header.low s.header.floor s.held s.staged
+  ready1 : (g : Header) → ReadyRing size (write s.unit s.other (Top g)) (era_of s.header) s.base s.header.low s.header.floor s.held s.staged
   ready1 g = ready_top size s.unit (era_of s.header) s.base s.header.low s.header.floor s.held s.staged s.other (Top g) (tame_top (era_of s.header) (next s.header.low s.held) g) (slots_low s.here s.other log.heads.slots).1 log.ready
 
-  ready2 : (g : Header) → Ready size (run_all s.unit (head_acts s.other g)) (era_of s.header) s.base s.header.low s.header.floor s.held s.staged
+  ready2 : (g : Header) → ReadyRing size (run_all s.unit (head_acts s.other g)) (era_of s.header) s.base s.header.low s.header.floor s.held s.staged
   ready2 g = ready_flush size (write s.unit s.other (Top g)) (era_of s.header) s.base s.header.low s.header.floor s.held s.staged (ready1 g)
 
-  header_safe : (g : Header) (P : Image → Type 0) → s.header.stamp < g.stamp → ((i : Image) → Counts i g → Finds i → P i)
+  header_safe : (g : Header) (P : RingImage → Type 0) → s.header.stamp < g.stamp → ((i : RingImage) → IsGreaterTop i g → Finds i → P i)
       → Always (Leaves (λ i. ((k : ℕ) × Recovers size i s.header (s.held ++ take k s.staged)) ⊎ P i)) s.unit (head_acts s.other g)
   header_safe g P less new =
-      let finds0 : (i : Image) → IsImage s.unit i → Finds i = ready_prefix size s.unit (era_of s.header) s.base s.header.low s.header.floor s.held s.staged log.ready in
-      let finds1 : (i : Image) → IsImage (write s.unit s.other (Top g)) i → Finds i = ready_prefix size (write s.unit s.other (Top g)) (era_of s.header) s.base s.header.low s.header.floor s.held s.staged (ready1 g) in
-      let finds2 : (i : Image) → IsImage (run_all s.unit (head_acts s.other g)) i → Finds i = ready_prefix size (run_all s.unit (head_acts s.other g)) (era_of s.header) s.base s.header.low s.header.floor s.held s.staged (ready2 g) in (
+      let finds0 : (i : RingImage) → IsImage s.unit i → Finds i = ready_prefix size s.unit (era_of s.header) s.base s.header.low s.header.floor s.held s.staged log.ready in
+      let finds1 : (i : RingImage) → IsImage (write s.unit s.other (Top g)) i → Finds i = ready_prefix size (write s.unit s.other (Top g)) (era_of s.header) s.base s.header.low s.header.floor s.held s.staged (ready1 g) in
+      let finds2 : (i : RingImage) → IsImage (run_all s.unit (head_acts s.other g)) i → Finds i = ready_prefix size (run_all s.unit (head_acts s.other g)) (era_of s.header) s.base s.header.low s.header.floor s.held s.staged (ready2 g) in (
         (λ i img. inl (old i (counts s.unit s.here s.other s.header log.heads i img) (finds0 i img))),
         (
           (λ i img. ⊎_elim (λ count. inl (old i count (finds1 i img))) (λ count. inr (new i count (finds1 i img))) (counts_either s.unit s.here s.other s.header g log.heads less i img)),
@@ -192,10 +192,10 @@ module _ (size : ℕ) (s : State) (log : IsLog size s) where
         ),
       )
 
-  save_safe : (g : Header) (gone kept : List Record) → MaySave size s g gone kept → Always (Leaves (Found size s (Save g gone kept))) s.unit (acts_of size s (Save g gone kept)) × IsLog size (done size s (Save g gone kept))
+  save_safe : (g : Header) (gone kept : List Record) → MaySave size s g gone kept → Always (Leaves (Found size s (Save g gone kept))) s.unit (acts_of size s (Save g gone kept)) × IsLog size (behind_call size s (Save g gone kept))
   save_safe g gone kept may =
       let h = s.header in
-      let scanned : (i : Image) (k : ℕ) → Scan size i (era_of h) s.base h.low h.floor (s.held ++ take k s.staged) → Scan size i (era_of g) g.place g.low g.floor (kept ++ take k s.staged) =
+      let scanned : (i : RingImage) (k : ℕ) → Scan size i (era_of h) s.base h.low h.floor (s.held ++ take k s.staged) → Scan size i (era_of g) g.place g.low g.floor (kept ++ take k s.staged) =
       λ i k scan.
       let whole : s.held ++ take k s.staged ≡ gone ++ (kept ++ take k s.staged) = ap (λ (l : List Record). l ++ take k s.staged) may.split ∙ append_assoc gone kept (take k s.staged) in
       let rest = from_later size i (era_of h) s.base h.low h.floor gone (kept ++ take k s.staged) (subst (λ (l : List Record). Scan size i (era_of h) s.base h.low h.floor l) whole scan) in
@@ -203,8 +203,8 @@ module _ (size : ℕ) (s : State) (log : IsLog size s) where
       let numbered = subst (λ (x : ℕ). Scan size i (era_of h) g.place x g.floor (kept ++ take k s.staged)) (sym may.low) (subst (λ (x : ℕ). Scan size i (era_of h) g.place (next h.low gone) x (kept ++ take k s.staged)) (sym may.floor) moved) in
       subst (λ (x : Era). Scan size i x g.place g.low g.floor (kept ++ take k s.staged)) (sym may.era) numbered in
       let rooms : total gone + total kept + total s.staged ≤ size = omega (arith, room_is, ap total may.split, total_append gone kept) in
-      let dropped : Ready size (run_all s.unit (head_acts s.other g)) (era_of h) (after s.base gone) (next h.low gone) (last h.floor gone) kept s.staged = ready_drop size (run_all s.unit (head_acts s.other g)) (era_of h) s.base h.low h.floor gone kept s.staged (subst (λ (l : List Record). Ready size (run_all s.unit (head_acts s.other g)) (era_of h) s.base h.low h.floor l s.staged) may.split (ready2 g)) in
-      let final : Ready size (run_all s.unit (head_acts s.other g)) (era_of g) (after s.base gone) g.low g.floor kept s.staged =
+      let dropped : ReadyRing size (run_all s.unit (head_acts s.other g)) (era_of h) (after s.base gone) (next h.low gone) (last h.floor gone) kept s.staged = ready_drop size (run_all s.unit (head_acts s.other g)) (era_of h) s.base h.low h.floor gone kept s.staged (subst (λ (l : List Record). ReadyRing size (run_all s.unit (head_acts s.other g)) (era_of h) s.base h.low h.floor l s.staged) may.split (ready2 g)) in
+      let final : ReadyRing size (run_all s.unit (head_acts s.other g)) (era_of g) (after s.base gone) g.low g.floor kept s.staged =
       ready_like size (run_all s.unit (head_acts s.other g)) (era_of h) (era_of g) (after s.base gone) (next h.low gone) g.low (last h.floor gone) g.floor kept s.staged may.era may.low may.floor dropped in (
         header_safe g (New size s (Save g gone kept)) may.stamp (λ i count finds. (
           finds.0,
@@ -223,16 +223,16 @@ module _ (size : ℕ) (s : State) (log : IsLog size s) where
         },
       )
 
-  restart_safe : (g : Header) → MayRestart s g → Always (Leaves (Found size s (Restart g))) s.unit (acts_of size s (Restart g)) × IsLog size (done size s (Restart g))
+  restart_safe : (g : Header) → MayRestart s g → Always (Leaves (Found size s (Restart g))) s.unit (acts_of size s (Restart g)) × IsLog size (behind_call size s (Restart g))
   restart_safe g may =
       let h = s.header in
       let u2 = run_all s.unit (head_acts s.other g) in
-      let raised : (i : Image) → Bounded i (era_of h) → Bounded i (era_of g) = λ i b. record {
+      let raised : (i : RingImage) → Bounded i (era_of h) → Bounded i (era_of g) = λ i b. record {
         whole = b.whole;
         incarnation = λ c r is. omega (arith, b.incarnation c r is, may.incarnation);
         run = λ c r is. omega (arith, b.run c r is, may.run);
       } in
-      let stops : (i : Image) → Bounded i (era_of h) → Stops (era_of g) g.low g.floor (i (block size g.place)) = λ i b. (
+      let stops : (i : RingImage) → Bounded i (era_of h) → ScanStops (era_of g) g.low g.floor (i (block size g.place)) = λ i b. (
         (λ r t. omega (arith, b.run (block size g.place) r t.is, t.run, may.run)),
         b.whole (block size g.place),
       ) in (

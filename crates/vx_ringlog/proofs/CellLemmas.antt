@@ -3,19 +3,19 @@ use Rattle.std.proofs.Common.{◌≡◌, ◌⊎◌, inl, inr, ⊎_elim, ℕ, Lis
 use Rattle.std.proofs.lemmas.Bool.{cases_eq}
 use Rattle.std.proofs.lemmas.Bool.Decides.{nat_tests}
 use Rattle.vx_srlfmt.specs.Kinds.{Kind}
-use Rattle.vx_ringlog.specs.Cells.{act, Act, Always, Among, Cells, flush, Image, Leaves, May, newest, read, run_all, write}
+use Rattle.vx_ringlog.specs.Cells.{act, Act, Always, AmongPairs, Cells, flush, RingImage, Leaves, May, newest_value, read, run_all, write}
 
 pub may_write : (u : Cells) (b : ℕ) (v : Kind) (c : ℕ) (w : Kind) → May (write u b v) c w → May u c w ⊎ ((b ≡ c) × (v ≡ w))
 may_write u b v c w (inl old) = inl (inl old)
 may_write u b v c w (inr (inl new)) = inr new
 may_write u b v c w (inr (inr old)) = inl (inr old)
 
-read_among : (s : Image) (ps : List (ℕ × Kind)) (b : ℕ) → (newest s ps b ≡ s b) ⊎ Among b (newest s ps b) ps
+read_among : (s : RingImage) (ps : List (ℕ × Kind)) (b : ℕ) → (newest_value s ps b ≡ s b) ⊎ AmongPairs b (newest_value s ps b) ps
 read_among s [] b = inl refl
 read_among s (p ∷ ps) b = elim (cases_eq p.0 b) [
   | inl same ↦ inr (inl (same, grind (arith, nat_tests)))
-  | inr other ↦ let e : newest s (p ∷ ps) b ≡ newest s ps b = grind (arith, nat_tests) in
-      ⊎_elim (λ is. inl (e ∙ is)) (λ a. inr (inr (subst (λ (v : Kind). Among b v ps) (sym e) a))) (read_among s ps b)
+  | inr other ↦ let e : newest_value s (p ∷ ps) b ≡ newest_value s ps b = grind (arith, nat_tests) in
+      ⊎_elim (λ is. inl (e ∙ is)) (λ a. inr (inr (subst (λ (v : Kind). AmongPairs b v ps) (sym e) a))) (read_among s ps b)
 ]
 
 pub may_read : (u : Cells) (b : ℕ) → May u b (read u b)
@@ -40,6 +40,6 @@ always_append P u [] then before behind = behind
 always_append P u (a ∷ rest) then before behind = (before.0, always_append P (act u a) rest then before.1 behind)
 
 -- what follows from P holds as long
-pub always_more : (P Q : Image → Type 0) → ((i : Image) → P i → Q i) → (u : Cells) (acts : List Act) → Always (Leaves P) u acts → Always (Leaves Q) u acts
+pub always_more : (P Q : RingImage → Type 0) → ((i : RingImage) → P i → Q i) → (u : Cells) (acts : List Act) → Always (Leaves P) u acts → Always (Leaves Q) u acts
 always_more P Q to u [] all = λ i img. to i (all i img)
 always_more P Q to u (a ∷ rest) all = ((λ i img. to i (all.0 i img)), always_more P Q to (act u a) rest all.1)

@@ -2,33 +2,33 @@
 use Rattle.std.proofs.Common.{◌≡◌, ◌⊎◌, inl, inr, ⊎_elim, ℕ, ◌<◌, ◌≤◌, sym, ◌∙◌, ap, subst, arith}
 use Rattle.vx_srlfmt.specs.Kinds.{Kind, Top}
 use Rattle.vx_srlfmt.specs.declared.header.Header.{Header}
-use Rattle.vx_ringlog.specs.Cells.{Cells, Image, IsImage, May, flush, write}
-use Rattle.vx_ringlog.specs.Chain.{Counts}
-use Rattle.vx_ringlog.specs.Heads.{Heads, Slots}
+use Rattle.vx_ringlog.specs.Cells.{Cells, RingImage, IsImage, May, flush, write}
+use Rattle.vx_ringlog.specs.Chain.{IsGreaterTop}
+use Rattle.vx_ringlog.specs.Heads.{Heads, HeadSlots}
 use Rattle.vx_ringlog.proofs.CellLemmas.{flush_may, may_write, read_same}
 use Rattle.vx_ringlog.proofs.Keeps.{sure_flush, sure_read, sure_write}
 
-counts_at : (i : Image) (a o : ℕ) (h : Header) → Slots a o → i a ≡ Top h → ((g : Header) → i o ≡ Top g → g.stamp < h.stamp) → Counts i h
+counts_at : (i : RingImage) (a o : ℕ) (h : Header) → HeadSlots a o → i a ≡ Top h → ((g : Header) → i o ≡ Top g → g.stamp < h.stamp) → IsGreaterTop i h
 counts_at i a o h (inl s) is other = inl (ap i (sym s.0) ∙ is, λ g at. other g (ap i s.1 ∙ at))
 counts_at i a o h (inr s) is other = inr (ap i (sym s.0) ∙ is, λ g at. other g (ap i s.1 ∙ at))
 
-pub counts : (u : Cells) (a o : ℕ) (h : Header) → Heads u a o h → (i : Image) → IsImage u i → Counts i h
+pub counts : (u : Cells) (a o : ℕ) (h : Header) → Heads u a o h → (i : RingImage) → IsImage u i → IsGreaterTop i h
 counts u a o h heads i img = counts_at i a o h heads.slots (heads.sure (i a) (img a)) (λ g at. heads.other g (subst (λ (v : Kind). May u o v) at (img o)))
 
-swap : (a o : ℕ) → Slots a o → Slots o a
+swap : (a o : ℕ) → HeadSlots a o → HeadSlots o a
 swap a o (inl s) = inr (s.1, s.0)
 swap a o (inr s) = inl (s.1, s.0)
 
-slots_differ : (a o : ℕ) → Slots a o → a ≡ o → ⊥
+slots_differ : (a o : ℕ) → HeadSlots a o → a ≡ o → ⊥
 slots_differ a o (inl s) same = omega arith
 slots_differ a o (inr s) same = omega arith
 
-pub slots_low : (a o : ℕ) → Slots a o → (a < 2) × (o < 2)
+pub slots_low : (a o : ℕ) → HeadSlots a o → (a < 2) × (o < 2)
 slots_low a o (inl s) = (omega arith, omega arith)
 slots_low a o (inr s) = (omega arith, omega arith)
 
 -- while the new header is loose one of the two counts
-pub counts_either : (u : Cells) (a o : ℕ) (h g : Header) → Heads u a o h → h.stamp < g.stamp → (i : Image) → IsImage (write u o (Top g)) i → Counts i h ⊎ Counts i g
+pub counts_either : (u : Cells) (a o : ℕ) (h g : Header) → Heads u a o h → h.stamp < g.stamp → (i : RingImage) → IsImage (write u o (Top g)) i → IsGreaterTop i h ⊎ IsGreaterTop i g
 counts_either u a o h g heads less i img =
     let at_a : i a ≡ Top h = sure_write u o (Top g) a (Top h) (slots_differ a o heads.slots) heads.sure (i a) (img a) in
     ⊎_elim

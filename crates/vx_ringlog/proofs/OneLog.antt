@@ -2,17 +2,17 @@
 use Rattle.std.proofs.Common.{◌≡◌, inl, inr, ℕ, suc, ◌+◌, List, [], ◌∷◌, length, refl, sym, ◌∙◌, ap, subst, arith}
 use Rattle.vx_srlfmt.specs.declared.header.Header.{Header}
 use Rattle.vx_srlfmt.specs.declared.record.RecordHead.{RecordHead}
-use Rattle.vx_ringlog.specs.Cells.{Image}
+use Rattle.vx_ringlog.specs.Cells.{RingImage}
 use Rattle.vx_ringlog.specs.Records.{Era, era_of, Record}
-use Rattle.vx_ringlog.specs.Chain.{width, Counts, HasBody, LogIsUnique, Scan}
+use Rattle.vx_ringlog.specs.Chain.{width, IsGreaterTop, HasBody, LogIsUnique, Scan}
 
-counts_unique : (i : Image) (h g : Header) → Counts i h → Counts i g → h ≡ g
+counts_unique : (i : RingImage) (h g : Header) → IsGreaterTop i h → IsGreaterTop i g → h ≡ g
 counts_unique i h g (inl a) (inl b) = cc (a.0, b.0)
 counts_unique i h g (inl a) (inr b) = absurd (omega (arith, a.1 g b.0, b.1 h a.0))
 counts_unique i h g (inr a) (inl b) = absurd (omega (arith, a.1 g b.0, b.1 h a.0))
 counts_unique i h g (inr a) (inr b) = cc (a.0, b.0)
 
-body_unique : (size : ℕ) (i : Image) (p : ℕ) (xs bs : List (List ℕ)) → length xs ≡ length bs → HasBody size i p xs → HasBody size i p bs → xs ≡ bs
+body_unique : (size : ℕ) (i : RingImage) (p : ℕ) (xs bs : List (List ℕ)) → length xs ≡ length bs → HasBody size i p xs → HasBody size i p bs → xs ≡ bs
 body_unique size i p [] [] same a b = refl
 body_unique size i p [] (y ∷ bs) same a b = absurd (omega arith)
 body_unique size i p (x ∷ xs) [] same a b = absurd (omega arith)
@@ -21,7 +21,7 @@ body_unique size i p (x ∷ xs) (y ∷ bs) same a b = let one : x ≡ y = cc (a.
 record_same : (r s : Record) → r.head ≡ s.head → r.body ≡ s.body → r ≡ s
 record_same r s h b = λ j. record { head = h j; body = b j }
 
-scan_unique : (size : ℕ) (i : Image) (e : Era) (p n prev : ℕ) (rs ss : List Record) → Scan size i e p n prev rs → Scan size i e p n prev ss → rs ≡ ss
+scan_unique : (size : ℕ) (i : RingImage) (e : Era) (p n prev : ℕ) (rs ss : List Record) → Scan size i e p n prev rs → Scan size i e p n prev ss → rs ≡ ss
 scan_unique size i e p n prev [] [] a b = refl
 scan_unique size i e p n prev [] (s ∷ ss) a b = absurd (a.0 s.head b.0.0)
 scan_unique size i e p n prev (r ∷ rs) [] a b = absurd (b.0 r.head a.0.0)

@@ -1,7 +1,7 @@
 -- No record that a start passed over is taken.
 use Rattle.std.proofs.Common.{◌≡◌, ◌⊎◌, inl, inr, ⊎_elim, ℕ, zero, suc, List, [], ◌∷◌, ◌++◌, take, sym, subst}
 use Rattle.vx_srlfmt.specs.declared.header.Header.{Header}
-use Rattle.vx_ringlog.specs.Cells.{Image}
+use Rattle.vx_ringlog.specs.Cells.{RingImage}
 use Rattle.vx_ringlog.specs.Records.{Record, era_of}
 use Rattle.vx_ringlog.specs.Chain.{Recovers, Starts}
 use Rattle.vx_ringlog.specs.Logs.{Allowed, Call, Found, In, IsLog, Restart, Save, Seal, Stage, State, acts_of}
@@ -23,13 +23,13 @@ module _ (size : ℕ) (s : State) (log : IsLog size s) (r : Record) where
   of_list : (held : List Record) (k : ℕ) → (In r held → In r s.held) → In r (held ++ take k s.staged) → Good
   of_list held k sub is = ⊎_elim (λ a. log.origin r (sub a)) (λ b. inr (now_in (era_of s.header) r s.staged log.ready.now (in_take r k s.staged b))) (in_append r held (take k s.staged) is)
 
-  from : (i : Image) (h g : Header) (rs ss : List Record) → Recovers size i g ss → Starts size i h rs → In r rs → In r ss
+  from : (i : RingImage) (h g : Header) (rs ss : List Record) → Recovers size i g ss → Starts size i h rs → In r rs → In r ss
   from i h g rs ss rec starts is = subst (λ (l : List Record). In r l) (log_unique size i h g rs ss starts rec.starts).1 is
 
-  old : (i : Image) (h : Header) (rs : List Record) → Starts size i h rs → In r rs → ((k : ℕ) × Recovers size i s.header (s.held ++ take k s.staged)) → Good
+  old : (i : RingImage) (h : Header) (rs : List Record) → Starts size i h rs → In r rs → ((k : ℕ) × Recovers size i s.header (s.held ++ take k s.staged)) → Good
   old i h rs starts is o = of_list s.held o.0 (λ a. a) (from i h s.header rs (s.held ++ take o.0 s.staged) o.1 starts is)
 
-  good : (c : Call) → Allowed size s c → (i : Image) → Found size s c i → (h : Header) (rs : List Record) → Starts size i h rs → In r rs → Good
+  good : (c : Call) → Allowed size s c → (i : RingImage) → Found size s c i → (h : Header) (rs : List Record) → Starts size i h rs → In r rs → Good
   good (Stage x) may i found h rs starts is = ⊎_elim (old i h rs starts is) (λ none. absurd none) found
   good Seal may i found h rs starts is = ⊎_elim (old i h rs starts is) (λ none. absurd none) found
   good (Save g gone kept) may i found h rs starts is =

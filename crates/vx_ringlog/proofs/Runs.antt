@@ -3,19 +3,19 @@ use Rattle.std.proofs.Common.{◌≡◌, inl, inr, ⊎_elim, ℕ, zero, suc, ◌
 use Rattle.vx_srlfmt.specs.Kinds.{Damaged, Front, Kind, Other, Top}
 use Rattle.vx_srlfmt.specs.declared.header.Header.{Header}
 use Rattle.vx_srlfmt.specs.declared.record.RecordHead.{RecordHead}
-use Rattle.vx_ringlog.specs.Cells.{Act, Always, Cells, Image, Leaves, LeftBy, act, still}
+use Rattle.vx_ringlog.specs.Cells.{Act, Always, Cells, RingImage, Leaves, LeftBy, act, still}
 use Rattle.vx_ringlog.specs.Records.{Era, Record, era_of}
-use Rattle.vx_ringlog.specs.Chain.{Recovers, Starts, Stops, block}
+use Rattle.vx_ringlog.specs.Chain.{Recovers, Starts, ScanStops, block}
 use Rattle.vx_ringlog.specs.Ready.{TameValue}
 use Rattle.vx_ringlog.specs.Acts.{start_acts}
-use Rattle.vx_ringlog.specs.Logs.{Allowed, Call, Found, Restart, Save, Seal, Stage, State, acts_of, done}
+use Rattle.vx_ringlog.specs.Logs.{Allowed, Call, Found, Restart, Save, Seal, Stage, State, acts_of, behind_call}
 use Rattle.vx_ringlog.specs.Starting.{Made, SameLog}
-use Rattle.vx_ringlog.specs.Runs.{Account, Begins, Books, BooksCall, BooksCrash, Calls, Crashes, Down, Fails, Goes, Happening, MadeIsSafe, Condition, RunIsSafe, StandsFor, Up, cut, emptied}
+use Rattle.vx_ringlog.specs.Runs.{Account, Begins, Books, BooksCall, BooksCrash, Calls, Crashes, Down, Fails, GoesInto, Happening, MadeIsSafe, Condition, RunIsSafe, StandsForAccount, Up, cut_account, emptied_account}
 use Rattle.vx_ringlog.proofs.Calls.{call_safe}
 use Rattle.vx_ringlog.proofs.OneLog.{log_unique}
 use Rattle.vx_ringlog.proofs.Starting.{may_still, start_safe}
 
-pub left : (P : Image → Type 0) (u : Cells) (rest : List Act) (i : Image) → Always (Leaves P) u rest → LeftBy u rest i → P i
+pub left : (P : RingImage → Type 0) (u : Cells) (rest : List Act) (i : RingImage) → Always (Leaves P) u rest → LeftBy u rest i → P i
 left P u [] i all img = all i img
 left P u (a ∷ rest) i all (inl img) = all.0 i img
 left P u (a ∷ rest) i all (inr later) = left P (act u a) rest i all.1 later
@@ -24,7 +24,7 @@ left P u (a ∷ rest) i all (inr later) = left P (act u a) rest i all.1 later
 abbrev Owns : List Record → List Record → Type 0
 Owns kept held = (gone : List Record) × (kept ≡ gone ++ held)
 
-called : (size : ℕ) (s : State) (c : Call) (a : Account) → StandsFor size (Up s) a → Allowed size s c → (b : Account) × BooksCall c a b × StandsFor size (Up (done size s c)) b
+called : (size : ℕ) (s : State) (c : Call) (a : Account) → StandsForAccount size (Up s) a → Allowed size s c → (b : Account) × BooksCall c a b × StandsForAccount size (Up (behind_call size s c)) b
 called size s (Stage r) a st may = (record { kept = a.kept; pending = a.pending ++ r ∷ [] }, refl, ((call_safe size s (Stage r) st.0 may).1, st.1, ap (λ (l : List Record). l ++ r ∷ []) st.2))
 called size s Seal a st may = (
   record { kept = a.kept ++ a.pending; pending = [] },
@@ -44,10 +44,10 @@ called size s (Save g gone kept) a st may = (
     st.2,
   ),
 )
-called size s (Restart g) a st may = (emptied, refl, ((call_safe size s (Restart g) st.0 may).1, ([], refl), refl))
+called size s (Restart g) a st may = (emptied_account, refl, ((call_safe size s (Restart g) st.0 may).1, ([], refl), refl))
 
 -- the image is that of the old log, with k of what is staged
-kept_cut : (size : ℕ) (s : State) (i : Image) (a : Account) → StandsFor size (Up s) a → (found : (k : ℕ) × Recovers size i s.header (s.held ++ take k s.staged)) → StandsFor size (Down i) (cut found.0 a)
+kept_cut : (size : ℕ) (s : State) (i : RingImage) (a : Account) → StandsForAccount size (Up s) a → (found : (k : ℕ) × Recovers size i s.header (s.held ++ take k s.staged)) → StandsForAccount size (Down i) (cut_account found.0 a)
 kept_cut size s i a st found = (
   (
     s.header,
@@ -58,17 +58,17 @@ kept_cut size s i a st found = (
   refl,
 )
 
-crashed : (size : ℕ) (s : State) (c : Call) (i : Image) (a : Account) → StandsFor size (Up s) a → Allowed size s c → LeftBy s.unit (acts_of size s c) i → (b : Account) × BooksCrash c a b × StandsFor size (Down i) b
+crashed : (size : ℕ) (s : State) (c : Call) (i : RingImage) (a : Account) → StandsForAccount size (Up s) a → Allowed size s c → LeftBy s.unit (acts_of size s c) i → (b : Account) × BooksCrash c a b × StandsForAccount size (Down i) b
 crashed size s (Stage r) i a st may moment =
-    ⊎_elim (λ (o : (k : ℕ) × Recovers size i s.header (s.held ++ take k s.staged)). (cut o.0 a, (o.0, refl), kept_cut size s i a st o)) (λ none. absurd none)
+    ⊎_elim (λ (o : (k : ℕ) × Recovers size i s.header (s.held ++ take k s.staged)). (cut_account o.0 a, (o.0, refl), kept_cut size s i a st o)) (λ none. absurd none)
     (left (Found size s (Stage r)) s.unit (acts_of size s (Stage r)) i (call_safe size s (Stage r) st.0 may).0 moment)
 crashed size s Seal i a st may moment =
-    ⊎_elim (λ (o : (k : ℕ) × Recovers size i s.header (s.held ++ take k s.staged)). (cut o.0 a, (o.0, refl), kept_cut size s i a st o)) (λ none. absurd none)
+    ⊎_elim (λ (o : (k : ℕ) × Recovers size i s.header (s.held ++ take k s.staged)). (cut_account o.0 a, (o.0, refl), kept_cut size s i a st o)) (λ none. absurd none)
     (left (Found size s Seal) s.unit (acts_of size s Seal) i (call_safe size s Seal st.0 may).0 moment)
 crashed size s (Save g gone kept) i a st may moment =
-    ⊎_elim (λ (o : (k : ℕ) × Recovers size i s.header (s.held ++ take k s.staged)). (cut o.0 a, (o.0, refl), kept_cut size s i a st o))
+    ⊎_elim (λ (o : (k : ℕ) × Recovers size i s.header (s.held ++ take k s.staged)). (cut_account o.0 a, (o.0, refl), kept_cut size s i a st o))
     (λ (o : (k : ℕ) × Recovers size i g (kept ++ take k s.staged)). (
-      cut o.0 a,
+      cut_account o.0 a,
       (o.0, refl),
       (
         (
@@ -85,12 +85,12 @@ crashed size s (Save g gone kept) i a st may moment =
     ))
     (left (Found size s (Save g gone kept)) s.unit (acts_of size s (Save g gone kept)) i (call_safe size s (Save g gone kept) st.0 may).0 moment)
 crashed size s (Restart g) i a st may moment =
-    ⊎_elim (λ (o : (k : ℕ) × Recovers size i s.header (s.held ++ take k s.staged)). (cut o.0 a, inl (o.0, refl), kept_cut size s i a st o))
-    (λ (o : Recovers size i g []). (emptied, inr refl, ((g, [], o, ([], refl)), refl)))
+    ⊎_elim (λ (o : (k : ℕ) × Recovers size i s.header (s.held ++ take k s.staged)). (cut_account o.0 a, inl (o.0, refl), kept_cut size s i a st o))
+    (λ (o : Recovers size i g []). (emptied_account, inr refl, ((g, [], o, ([], refl)), refl)))
     (left (Found size s (Restart g)) s.unit (acts_of size s (Restart g)) i (call_safe size s (Restart g) st.0 may).0 moment)
 
 -- what a start finds is what the image was known to have
-recovered : (size : ℕ) (i : Image) (a : Account) (h : Header) (rs : List Record) → StandsFor size (Down i) a → Starts size i h rs → Recovers size i h rs × Owns a.kept rs
+recovered : (size : ℕ) (i : RingImage) (a : Account) (h : Header) (rs : List Record) → StandsForAccount size (Down i) a → Starts size i h rs → Recovers size i h rs × Owns a.kept rs
 recovered size i a h rs st starts =
     let was = st.0 in
     let same = log_unique size i was.0 h was.1 rs was.2.starts starts in (
@@ -99,32 +99,32 @@ recovered size i a h rs st starts =
     )
 
 -- an image of the same records stands for the same account
-same_account : (size : ℕ) (a : Account) (h g again : Header) (rs : List Record) (j : Image) → Owns a.kept rs → a.pending ≡ [] → SameLog size h g again rs j → StandsFor size (Down j) a
+same_account : (size : ℕ) (a : Account) (h g again : Header) (rs : List Record) (j : RingImage) → Owns a.kept rs → a.pending ≡ [] → SameLog size h g again rs j → StandsForAccount size (Down j) a
 same_account size a h g again rs j owns none (inl r) = ((h, rs, r, owns), none)
 same_account size a h g again rs j owns none (inr (inl r)) = ((g, rs, r, owns), none)
 same_account size a h g again rs j owns none (inr (inr r)) = ((again, rs, r, owns), none)
 
-step : (size : ℕ) (x : Happening) (m n : Condition) (a : Account) → StandsFor size m a → Goes size x m n → (b : Account) × Books x a b × StandsFor size n b
+step : (size : ℕ) (x : Happening) (m n : Condition) (a : Account) → StandsForAccount size m a → GoesInto size x m n → (b : Account) × Books x a b × StandsForAccount size n b
 step size (Calls c) (Up s) n a st goes =
-    let r = called size s c a st goes.0 in (r.0, r.1, subst (λ (y : Condition). StandsFor size y r.0) (sym goes.1) r.2)
+    let r = called size s c a st goes.0 in (r.0, r.1, subst (λ (y : Condition). StandsForAccount size y r.0) (sym goes.1) r.2)
 step size (Crashes c i) (Up s) n a st goes =
-    let r = crashed size s c i a st goes.0 goes.1 in (r.0, r.1, subst (λ (y : Condition). StandsFor size y r.0) (sym goes.2) r.2)
+    let r = crashed size s c i a st goes.0 goes.1 in (r.0, r.1, subst (λ (y : Condition). StandsForAccount size y r.0) (sym goes.2) r.2)
 step size (Begins here other h g again rs) (Down i) n a st goes =
     let kept = recovered size i a h rs st goes.1 in
     let safe = start_safe size i here other h g again rs goes.0 kept.0 in
-    (a, refl, subst (λ (y : Condition). StandsFor size y a) (sym goes.2) (safe.1, kept.1, st.1))
+    (a, refl, subst (λ (y : Condition). StandsForAccount size y a) (sym goes.2) (safe.1, kept.1, st.1))
 step size (Fails here other h g again rs j) (Down i) n a st goes =
     let kept = recovered size i a h rs st goes.1 in
     let safe = start_safe size i here other h g again rs goes.0 kept.0 in
     let there = same_account size a h g again rs j kept.1 st.1 (left (SameLog size h g again rs) (still i) (start_acts here other g again) j safe.0 goes.2) in
-    (a, refl, subst (λ (y : Condition). StandsFor size y a) (sym goes.3) there)
+    (a, refl, subst (λ (y : Condition). StandsForAccount size y a) (sym goes.3) there)
 step size (Calls c) (Down i) n a st goes = absurd goes
 step size (Crashes c j) (Down i) n a st goes = absurd goes
 step size (Begins here other h g again rs) (Up s) n a st goes = absurd goes
 step size (Fails here other h g again rs j) (Up s) n a st goes = absurd goes
 
 pub run_safe : RunIsSafe
-run_safe size [] m n a st goes = (a, refl, subst (λ (y : Condition). StandsFor size y a) (sym goes) st)
+run_safe size [] m n a st goes = (a, refl, subst (λ (y : Condition). StandsForAccount size y a) (sym goes) st)
 run_safe size (x ∷ xs) m n a st goes =
     let one = step size x m goes.0 a st goes.1 in
     let rest = run_safe size xs goes.0 n one.0 one.2 goes.2 in
@@ -134,7 +134,7 @@ run_safe size (x ∷ xs) m n a st goes =
 tame_plain : (e : Era) (n : ℕ) (v : Kind) → (v ≡ Damaged → ⊥) → ((r : RecordHead) → v ≡ Front r → ⊥) → TameValue e n v
 tame_plain e n v whole none = record { whole = whole; incarnation = λ r is. absurd (none r is); run = λ r is. absurd (none r is); fresh = λ r is p q. absurd (none r is) }
 
-tame_made : (head : ℕ) (i : Image) (h g : Header) → Made head i h g → (b : ℕ) → TameValue (era_of h) h.low (i b)
+tame_made : (head : ℕ) (i : RingImage) (h g : Header) → Made head i h g → (b : ℕ) → TameValue (era_of h) h.low (i b)
 tame_made head i h g m zero = tame_plain (era_of h) h.low (i 0) (λ at. cc (m.first, at)) (λ r at. cc (m.first, at))
 tame_made head i h g m (suc zero) = tame_plain (era_of h) h.low (i 1) (λ at. cc (m.second, at)) (λ r at. cc (m.second, at))
 tame_made head i h g m (suc (suc b)) =
@@ -150,7 +150,7 @@ made_safe size head i h g m = (
         sure = tt;
         fits = tt;
         floor_below = omega (arith, m.floor);
-        end = inr (λ v may. subst (λ (w : Kind). Stops (era_of h) h.low h.floor w) (sym (may_still i _ v may ∙ m.ring (0 % size))) ((λ r t. cc (t.is)), (λ is. cc)));
+        end = inr (λ v may. subst (λ (w : Kind). ScanStops (era_of h) h.low h.floor w) (sym (may_still i _ v may ∙ m.ring (0 % size))) ((λ r t. cc (t.is)), (λ is. cc)));
         staged_fits = tt;
         now = tt;
         bodies = tt;

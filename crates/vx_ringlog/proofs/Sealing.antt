@@ -5,8 +5,8 @@ use Rattle.vx_srlfmt.specs.Kinds.{Front, Kind}
 use Rattle.vx_srlfmt.specs.declared.record.RecordHead.{RecordHead}
 use Rattle.vx_ringlog.specs.Cells.{Always, Cells, May, flush, run_all, write}
 use Rattle.vx_ringlog.specs.Records.{Era, Record}
-use Rattle.vx_ringlog.specs.Chain.{Stops, block, width}
-use Rattle.vx_ringlog.specs.Ready.{End, Fits, Now, Prepared, ReadFronts, Ready, SureAll, Tame, after, last, next}
+use Rattle.vx_ringlog.specs.Chain.{ScanStops, block, width}
+use Rattle.vx_ringlog.specs.Ready.{End, RecordsFit, Now, Prepared, ReadFronts, ReadyRing, SureAll, Tame, after, last, next}
 use Rattle.vx_ringlog.specs.Acts.{fronts_of, seal_acts}
 use Rattle.vx_ringlog.proofs.Places.{block_apart}
 use Rattle.vx_ringlog.proofs.CellLemmas.{flush_may, read_same}
@@ -14,11 +14,11 @@ use Rattle.vx_ringlog.proofs.Scans.{Prefix, bounded, has_all, is_partly, none_ye
 use Rattle.vx_ringlog.proofs.Keeps.{after_append, after_le, all_read, bodies_read, last_append, next_append, next_le, prepared_flush, read_fronts_snoc, read_fronts_write, sure_all_flush, sure_all_write, tame_flush, tame_front, tame_more, tame_write}
 use Rattle.vx_ringlog.proofs.Preparing.{Harmless, end_stops, harmless_rest, harmless_skip, prepare, prepared_write}
 
-pub fits_behind : (e : Era) (n prev : ℕ) (done rest : List Record) → Fits e n prev (done ++ rest) → Fits e (next n done) (last prev done) rest
+pub fits_behind : (e : Era) (n prev : ℕ) (done rest : List Record) → RecordsFit e n prev (done ++ rest) → RecordsFit e (next n done) (last prev done) rest
 fits_behind e n prev [] rest fits = fits
 fits_behind e n prev (r ∷ rs) rest fits = fits_behind e (suc n) r.incarnation rs rest fits.5
 
-pub fits_append : (e : Era) (n prev : ℕ) (rs ss : List Record) → Fits e n prev rs → Fits e (next n rs) (last prev rs) ss → Fits e n prev (rs ++ ss)
+pub fits_append : (e : Era) (n prev : ℕ) (rs ss : List Record) → RecordsFit e n prev rs → RecordsFit e (next n rs) (last prev rs) ss → RecordsFit e n prev (rs ++ ss)
 fits_append e n prev [] ss fits more = more
 fits_append e n prev (r ∷ rs) ss fits more = (fits.0, fits.1, fits.2, fits.3, fits.4, fits_append e (suc n) r.incarnation rs ss fits.5 more)
 
@@ -31,13 +31,13 @@ last_now e prev [] now is = is
 last_now e prev (s ∷ ss) now is = last_now e s.incarnation ss now.1 now.0
 
 -- the other front than the one that belongs there
-stops_front : (e : Era) (n prev : ℕ) (s : RecordHead) → s.number < n → Stops e n prev (Front s)
+stops_front : (e : Era) (n prev : ℕ) (s : RecordHead) → s.number < n → ScanStops e n prev (Front s)
 stops_front e n prev s less = (
   (λ r t. let same : s ≡ r = cc (t.is) in let below : r.number < n = subst (λ (x : RecordHead). x.number < n) same less in omega (arith, t.number)),
   (λ is. cc),
 )
 
-module _ (size : ℕ) (e : Era) (p n floor : ℕ) (held staged : List Record) (fits : Fits e n floor held) (staged_fits : Fits e (next n held) (last floor held) staged) (room : after (after p held) staged ≤ p + size) where
+module _ (size : ℕ) (e : Era) (p n floor : ℕ) (held staged : List Record) (fits : RecordsFit e n floor held) (staged_fits : RecordsFit e (next n held) (last floor held) staged) (room : after (after p held) staged ≤ p + size) where
   abbrev q : ℕ
   q = after p held
 
@@ -82,8 +82,8 @@ module _ (size : ℕ) (e : Era) (p n floor : ℕ) (held staged : List Record) (f
       x_end : (after q done) < after q staged
       x_end = omega (arith, end_is, after_le ((after q done) + width s) rest)
 
-      here : Fits e (next m done) (last prev done) (s ∷ rest)
-      here = fits_behind e m prev done (s ∷ rest) (subst (λ (l : List Record). Fits e m prev l) (sym sealing.all) staged_fits)
+      here : RecordsFit e (next m done) (last prev done) (s ∷ rest)
+      here = fits_behind e m prev done (s ∷ rest) (subst (λ (l : List Record). RecordsFit e m prev l) (sym sealing.all) staged_fits)
 
       next_is : next m staged ≡ next (suc (next m done)) rest
       next_is = ap (λ (l : List Record). next m l) (sym sealing.all) ∙ next_append m done (s ∷ rest)
@@ -120,7 +120,7 @@ module _ (size : ℕ) (e : Era) (p n floor : ℕ) (held staged : List Record) (f
       ((prefix u sealing.sure sealing.prepared sealing.tame, moved.0), moved.1)
 
 -- between calls the scan finds what is held, and a first part, none, of what is staged
-pub ready_prefix : (size : ℕ) (u : Cells) (e : Era) (p n floor : ℕ) (held staged : List Record) → Ready size u e p n floor held staged → Prefix size e p n floor held staged u
+pub ready_prefix : (size : ℕ) (u : Cells) (e : Era) (p n floor : ℕ) (held staged : List Record) → ReadyRing size u e p n floor held staged → Prefix size e p n floor held staged u
 ready_prefix size u e p n floor held staged r i img =
     let stops = end_stops size u e (next n held) (after p held) (next n held) (last floor held) r.tame (omega arith) r.end _ (img (block size (after p held))) in
     let found = scanned size i e p n floor held staged (has_all size u i img e p n floor held r.sure r.fits) (none_yet size i e (after p held) (next n held) (last floor held) staged stops) in
@@ -132,15 +132,15 @@ ends size u e q m behind [] now (inr stops) = inr (λ v may. stops v (flush_may 
 ends size u e q m behind (s ∷ ss) now end = inl (last_now e s.incarnation ss now.1 now.0)
 
 -- at each moment of a seal a crash leaves what was held and a first part of what was staged; at its end all is held
-pub sealed : (size : ℕ) (u : Cells) (e : Era) (p n floor : ℕ) (held staged : List Record) → Ready size u e p n floor held staged
-    → Always (Prefix size e p n floor held staged) u (seal_acts size (after p held) staged) × Ready size (run_all u (seal_acts size (after p held) staged)) e p n floor (held ++ staged) []
+pub sealed : (size : ℕ) (u : Cells) (e : Era) (p n floor : ℕ) (held staged : List Record) → ReadyRing size u e p n floor held staged
+    → Always (Prefix size e p n floor held staged) u (seal_acts size (after p held) staged) × ReadyRing size (run_all u (seal_acts size (after p held) staged)) e p n floor (held ++ staged) []
 sealed size u e p n floor held staged r =
     let q = after p held in
     let m = next n held in
     let prev = last floor held in
     let u1 = flush u in
     let u2 = run_all u (seal_acts size q staged) in
-    let end1 : End size u1 e q m prev = ⊎_elim (λ now. inl now) (λ (stops : (v : Kind) → May u (block size q) v → Stops e m prev v). inr (λ v may. stops v (flush_may u (block size q) v may))) r.end in
+    let end1 : End size u1 e q m prev = ⊎_elim (λ now. inl now) (λ (stops : (v : Kind) → May u (block size q) v → ScanStops e m prev v). inr (λ v may. stops v (flush_may u (block size q) v may))) r.end in
     let tame1 : Tame u1 e m = tame_flush u e m r.tame in
     let sealing : Sealing size e p n floor held staged r.fits r.staged_fits r.room u1 [] staged = record {
       all = refl;

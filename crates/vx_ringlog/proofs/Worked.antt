@@ -7,9 +7,9 @@ use Rattle.vx_model.specs.Sites.{first_line}
 use Rattle.vx_srlfmt.specs.Kinds.{Top, Front, Body, Other, body_byte}
 use Rattle.vx_srlfmt.specs.declared.header.Header.{Header}
 use Rattle.vx_srlfmt.specs.declared.record.RecordHead.{RecordHead}
-use Rattle.vx_ringlog.specs.Cells.{Image}
-use Rattle.vx_ringlog.specs.Records.{Era, era_of, Record, given, Genuine, write_of, on_disk, firsts_of, record_of}
-use Rattle.vx_ringlog.specs.Chain.{block, Stops, Starts}
+use Rattle.vx_ringlog.specs.Cells.{RingImage}
+use Rattle.vx_ringlog.specs.Records.{Era, era_of, Record, given, Genuine, write_logged, as_on_disk, firsts_of, record_of}
+use Rattle.vx_ringlog.specs.Chain.{block, ScanStops, Starts}
 use Rattle.vx_ringlog.proofs.Blocks.{write_comes_back}
 use Rattle.vx_ringlog.specs.Starting.{Raises, Repeats}
 
@@ -30,7 +30,7 @@ filled byte = replicate 512 byte ∷ []
 abbrev stands : ℕ → List ℕ
 stands byte = body_byte ∷ replicate 511 byte
 
-filled_on_disk : on_disk (filled 0x11) ≡ stands 0x11 ∷ []
+filled_on_disk : as_on_disk (filled 0x11) ≡ stands 0x11 ∷ []
 filled_on_disk = refl
 
 filled_firsts : firsts_of (filled 0x11) ≡ 0x11 ∷ replicate 15 0
@@ -52,7 +52,7 @@ body_of = refl
 is_given : given (logged 1 2 0x22) ≡ replicate 512 0x22
 is_given = refl
 
-is_write : write_of (logged 1 2 0x22) ≡ put_of 0x22
+is_write : write_logged (logged 1 2 0x22) ≡ put_of 0x22
 is_write = refl
 
 is_genuine : (incarnation number byte : ℕ) → Genuine (logged incarnation number byte)
@@ -69,7 +69,7 @@ repeated : Repeats (header_of 3 2) (header_of 4 2)
 repeated = record { stamp = omega arith; era = refl; low = refl; place = refl; floor = refl }
 
 -- the bodies of both records stand, and the header of the second one
-abbrev cut : Image
+abbrev cut : RingImage
 cut zero = Top (header_of 2 1)
 cut (suc zero) = Top (header_of 1 1)
 cut (suc (suc zero)) = Other
@@ -79,7 +79,7 @@ cut (suc (suc (suc (suc (suc zero))))) = Body (stands 0x22)
 cut (suc (suc (suc (suc (suc (suc b)))))) = Other
 
 -- the log was started, and a record of number 1 was sealed
-abbrev sealed_again : Image
+abbrev sealed_again : RingImage
 sealed_again zero = Top (header_of 4 2)
 sealed_again (suc zero) = Top (header_of 3 2)
 sealed_again (suc (suc zero)) = Front (logged 2 1 0x11).head
@@ -91,7 +91,7 @@ sealed_again (suc (suc (suc (suc (suc (suc b)))))) = Other
 less_top : (a f : Header) (n : ℕ) → Top a ≡ Top f → a.stamp < n → f.stamp < n
 less_top a f n is less = let same : a ≡ f = cc (is) in subst (λ (x : Header). x.stamp < n) same less
 
-other_stops : (e : Era) (n prev : ℕ) → Stops e n prev Other
+other_stops : (e : Era) (n prev : ℕ) → ScanStops e n prev Other
 other_stops e n prev = ((λ r t. cc (t.is)), (λ is. cc))
 
 -- the second record is not found
@@ -99,7 +99,7 @@ none_found : Starts 8 cut (header_of 2 1) []
 none_found = record { counts = inl (refl, λ f is. less_top (header_of 1 1) f 2 is (omega arith)); scan = other_stops (era_of (header_of 2 1)) 1 0 }
 
 -- a header of record 2 of incarnation 1 is not taken behind a record of incarnation 2
-earlier_stops : Stops (era_of (header_of 4 2)) 2 2 (Front (logged 1 2 0x22).head)
+earlier_stops : ScanStops (era_of (header_of 4 2)) 2 2 (Front (logged 1 2 0x22).head)
 earlier_stops = (
   (λ r t.
       let same : (logged 1 2 0x22).head ≡ r = cc (t.is) in

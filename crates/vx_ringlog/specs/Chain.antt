@@ -3,7 +3,7 @@ use Rattle.std.specs.Prelude.{◌≡◌, ◌⊎◌, ℕ, suc, ◌+◌, ◌%◌, 
 use Rattle.vx_srlfmt.specs.Kinds.{Kind, Top, Front, Body, Damaged}
 use Rattle.vx_srlfmt.specs.declared.header.Header.{Header}
 use Rattle.vx_srlfmt.specs.declared.record.RecordHead.{RecordHead}
-use Rattle.vx_ringlog.specs.Cells.{Image}
+use Rattle.vx_ringlog.specs.Cells.{RingImage}
 use Rattle.vx_ringlog.specs.Records.{Era, era_of, Record, Genuine}
 
 -- the block of a place of a ring of `size` blocks: places are counted on without wrapping
@@ -33,36 +33,36 @@ abbrev pub Takes : Era → ℕ → ℕ → Kind → Record → Type 0
 Takes e n prev v r = Accepts e n prev v r.head × Genuine r
 
 -- the scan ends at the block, which is not damaged
-abbrev pub Stops : Era → ℕ → ℕ → Kind → Type 0
-Stops e n prev v = ((r : RecordHead) → Accepts e n prev v r → ⊥) × (v ≡ Damaged → ⊥)
+abbrev pub ScanStops : Era → ℕ → ℕ → Kind → Type 0
+ScanStops e n prev v = ((r : RecordHead) → Accepts e n prev v r → ⊥) × (v ≡ Damaged → ⊥)
 
 -- these body blocks stand from place p on
-abbrev pub HasBody : ℕ → Image → ℕ → List (List ℕ) → Type 0
+abbrev pub HasBody : ℕ → RingImage → ℕ → List (List ℕ) → Type 0
 HasBody size i p [] = Unit {0}
 HasBody size i p (b ∷ bs) = (i (block size p) ≡ Body b) × HasBody size i (suc p) bs
 
 -- from place p and number n on the scan takes exactly these records, each with its body, and ends without a refusal
-abbrev pub Scan : ℕ → Image → Era → ℕ → ℕ → ℕ → List Record → Type 0
-Scan size i e p n prev [] = Stops e n prev (i (block size p))
+abbrev pub Scan : ℕ → RingImage → Era → ℕ → ℕ → ℕ → List Record → Type 0
+Scan size i e p n prev [] = ScanStops e n prev (i (block size p))
 Scan size i e p n prev (r ∷ rs) = Takes e n prev (i (block size p)) r × HasBody size i (suc p) r.body × Scan size i e (p + width r) (suc n) r.incarnation rs
 
 -- h is the header of the greater stamp
-abbrev pub Counts : Image → Header → Type 0
-Counts i h = ((i 0 ≡ Top h) × ((g : Header) → i 1 ≡ Top g → g.stamp < h.stamp)) ⊎ ((i 1 ≡ Top h) × ((g : Header) → i 0 ≡ Top g → g.stamp < h.stamp))
+abbrev pub IsGreaterTop : RingImage → Header → Type 0
+IsGreaterTop i h = ((i 0 ≡ Top h) × ((g : Header) → i 1 ≡ Top g → g.stamp < h.stamp)) ⊎ ((i 1 ≡ Top h) × ((g : Header) → i 0 ≡ Top g → g.stamp < h.stamp))
 
 -- the log of an image: its header and the records of its scan
-pub record Starts (size : ℕ) (i : Image) (h : Header) (rs : List Record) : Type 0 where
-  pub counts : Counts i h
+pub record Starts (size : ℕ) (i : RingImage) (h : Header) (rs : List Record) : Type 0 where
+  pub counts : IsGreaterTop i h
   pub scan : Scan size i (era_of h) h.place h.low h.floor rs
 
 -- no record of the image is of a later start or run than e, and none is damaged
-pub record Bounded (i : Image) (e : Era) : Type 0 where
+pub record Bounded (i : RingImage) (e : Era) : Type 0 where
   pub whole : (b : ℕ) → i b ≡ Damaged → ⊥
   pub incarnation : (b : ℕ) (r : RecordHead) → i b ≡ Front r → r.incarnation ≤ e.incarnation
   pub run : (b : ℕ) (r : RecordHead) → i b ≡ Front r → r.run ≤ e.run
 
 -- a start of this image finds this header and these records; `bounded`, `room` and `floor_below` hold of what this program writes
-pub record Recovers (size : ℕ) (i : Image) (h : Header) (rs : List Record) : Type 0 where
+pub record Recovers (size : ℕ) (i : RingImage) (h : Header) (rs : List Record) : Type 0 where
   pub starts : Starts size i h rs
   pub bounded : Bounded i (era_of h)
   pub room : total rs ≤ size
@@ -70,4 +70,4 @@ pub record Recovers (size : ℕ) (i : Image) (h : Header) (rs : List Record) : T
 
 -- an image has one log
 abbrev pub LogIsUnique : Type 0
-LogIsUnique = (size : ℕ) (i : Image) (h g : Header) (rs ss : List Record) → Starts size i h rs → Starts size i g ss → (h ≡ g) × (rs ≡ ss)
+LogIsUnique = (size : ℕ) (i : RingImage) (h g : Header) (rs ss : List Record) → Starts size i h rs → Starts size i g ss → (h ≡ g) × (rs ≡ ss)

@@ -1,10 +1,10 @@
 -- The log between calls, its calls, and what each leaves.
 use Rattle.std.specs.Prelude.{◌≡◌, ◌⊎◌, ℕ, suc, ◌+◌, ◌<◌, ◌≤◌, List, [], ◌∷◌, ◌++◌, take}
 use Rattle.vx_srlfmt.specs.declared.header.Header.{Header}
-use Rattle.vx_ringlog.specs.Cells.{Cells, Image, Act, Always, Leaves, run_all}
+use Rattle.vx_ringlog.specs.Cells.{Cells, RingImage, Act, Always, Leaves, run_all}
 use Rattle.vx_ringlog.specs.Records.{era_of, Record, Genuine}
 use Rattle.vx_ringlog.specs.Chain.{block, width, total, Recovers}
-use Rattle.vx_ringlog.specs.Ready.{after, next, last, Ready}
+use Rattle.vx_ringlog.specs.Ready.{after, next, last, ReadyRing}
 use Rattle.vx_ringlog.specs.Acts.{stage_acts, seal_acts, head_acts}
 use Rattle.vx_ringlog.specs.Heads.{Heads}
 
@@ -27,7 +27,7 @@ pub record State : Type 0 where
 
 -- the log stands: each held record was found by the last start or made since it
 pub record IsLog (size : ℕ) (s : State) : Type 0 where
-  pub ready : Ready size s.unit (era_of s.header) s.base s.header.low s.header.floor s.held s.staged
+  pub ready : ReadyRing size s.unit (era_of s.header) s.base s.header.low s.header.floor s.held s.staged
   pub heads : Heads s.unit s.here s.other s.header
   pub place : block size s.base ≡ block size s.header.place
   pub origin : (r : Record) → In r s.held → In r s.found ⊎ (r.incarnation ≡ s.header.incarnation)
@@ -47,11 +47,11 @@ acts_of size s (Save g gone kept) = head_acts s.other g
 acts_of size s (Restart g) = head_acts s.other g
 
 -- the log behind it
-abbrev pub done : ℕ → State → Call → State
-done size s (Stage r) = record s { unit = run_all s.unit (acts_of size s (Stage r)); staged = s.staged ++ r ∷ [] }
-done size s Seal = record s { unit = run_all s.unit (acts_of size s Seal); held = s.held ++ s.staged; staged = [] }
-done size s (Save g gone kept) = record { unit = run_all s.unit (head_acts s.other g); here = s.other; other = s.here; header = g; base = after s.base gone; held = kept; staged = s.staged; found = s.found }
-done size s (Restart g) = record { unit = run_all s.unit (head_acts s.other g); here = s.other; other = s.here; header = g; base = g.place; held = []; staged = []; found = [] }
+abbrev pub behind_call : ℕ → State → Call → State
+behind_call size s (Stage r) = record s { unit = run_all s.unit (acts_of size s (Stage r)); staged = s.staged ++ r ∷ [] }
+behind_call size s Seal = record s { unit = run_all s.unit (acts_of size s Seal); held = s.held ++ s.staged; staged = [] }
+behind_call size s (Save g gone kept) = record { unit = run_all s.unit (head_acts s.other g); here = s.other; other = s.here; header = g; base = after s.base gone; held = kept; staged = s.staged; found = s.found }
+behind_call size s (Restart g) = record { unit = run_all s.unit (head_acts s.other g); here = s.other; other = s.here; header = g; base = g.place; held = []; staged = []; found = [] }
 
 -- the record is the next one, of the present start, and there is room for it behind what the header still keeps
 pub record MayStage (size : ℕ) (s : State) (r : Record) : Type 0 where
@@ -86,16 +86,16 @@ Allowed size s (Save g gone kept) = MaySave size s g gone kept
 Allowed size s (Restart g) = MayRestart s g
 
 -- the new log, where the call writes a header
-abbrev pub New : ℕ → State → Call → Image → Type 0
+abbrev pub New : ℕ → State → Call → RingImage → Type 0
 New size s (Stage r) i = ⊥
 New size s Seal i = ⊥
 New size s (Save g gone kept) i = (k : ℕ) × Recovers size i g (kept ++ take k s.staged)
 New size s (Restart g) i = Recovers size i g []
 
 -- the old log with a first part of what is staged, or the new one
-abbrev pub Found : ℕ → State → Call → Image → Type 0
+abbrev pub Found : ℕ → State → Call → RingImage → Type 0
 Found size s c i = ((k : ℕ) × Recovers size i s.header (s.held ++ take k s.staged)) ⊎ New size s c i
 
 -- at each moment of a call a crash leaves the old log or the new one, and behind the call the log stands
 abbrev pub CallIsSafe : Type 0
-CallIsSafe = (size : ℕ) (s : State) (c : Call) → IsLog size s → Allowed size s c → Always (Leaves (Found size s c)) s.unit (acts_of size s c) × IsLog size (done size s c)
+CallIsSafe = (size : ℕ) (s : State) (c : Call) → IsLog size s → Allowed size s c → Always (Leaves (Found size s c)) s.unit (acts_of size s c) × IsLog size (behind_call size s c)

@@ -4,7 +4,7 @@ use Rattle.vx_srlfmt.specs.Kinds.{Kind, Front, Body, Damaged}
 use Rattle.vx_srlfmt.specs.declared.record.RecordHead.{RecordHead}
 use Rattle.vx_ringlog.specs.Cells.{Cells, May, read}
 use Rattle.vx_ringlog.specs.Records.{Era, Record, Genuine}
-use Rattle.vx_ringlog.specs.Chain.{block, width, Stops}
+use Rattle.vx_ringlog.specs.Chain.{block, width, ScanStops}
 
 -- the place behind these records
 abbrev pub after : ℕ → List Record → ℕ
@@ -46,9 +46,9 @@ pub record OfLine (e : Era) (r : Record) : Type 0 where
   pub genuine : Genuine r
 
 -- the records are of this era, their numbers follow, and their incarnations do not fall
-abbrev pub Fits : Era → ℕ → ℕ → List Record → Type 0
-Fits e n prev [] = Unit {0}
-Fits e n prev (r ∷ rs) = (r.number ≡ n) × (r.run ≡ e.run) × OfLine e r × (prev ≤ r.incarnation) × (r.incarnation ≤ e.incarnation) × Fits e (suc n) r.incarnation rs
+abbrev pub RecordsFit : Era → ℕ → ℕ → List Record → Type 0
+RecordsFit e n prev [] = Unit {0}
+RecordsFit e n prev (r ∷ rs) = (r.number ≡ n) × (r.run ≡ e.run) × OfLine e r × (prev ≤ r.incarnation) × (r.incarnation ≤ e.incarnation) × RecordsFit e (suc n) r.incarnation rs
 
 -- the records were made since the last start
 abbrev pub Now : Era → List Record → Type 0
@@ -68,7 +68,7 @@ Tame u e n = (b : ℕ) (v : Kind) → May u b v → TameValue e n v
 
 -- the scan ends behind the last record held: that one is of this start, or the block behind it is none that is taken
 abbrev pub End : ℕ → Cells → Era → ℕ → ℕ → ℕ → Type 0
-End size u e p n prev = (prev ≡ e.incarnation) ⊎ ((v : Kind) → May u (block size p) v → Stops e n prev v)
+End size u e p n prev = (prev ≡ e.incarnation) ⊎ ((v : Kind) → May u (block size p) v → ScanStops e n prev v)
 
 -- a read gives these body blocks from place p on
 abbrev pub ReadBody : ℕ → Cells → ℕ → List (List ℕ) → Type 0
@@ -87,17 +87,17 @@ ReadFronts size u p (r ∷ rs) = (read u (block size p) ≡ Front r.head) × Rea
 
 -- the bodies stand, and each header stands or is still a block at which the scan ends
 abbrev pub Prepared : ℕ → Cells → Era → ℕ → ℕ → ℕ → List Record → Type 0
-Prepared size u e p n prev [] = (v : Kind) → May u (block size p) v → Stops e n prev v
-Prepared size u e p n prev (s ∷ ss) = ((v : Kind) → May u (block size p) v → (v ≡ Front s.head) ⊎ Stops e n prev v) × SureBody size u (suc p) s.body × Prepared size u e (p + width s) (suc n) s.incarnation ss
+Prepared size u e p n prev [] = (v : Kind) → May u (block size p) v → ScanStops e n prev v
+Prepared size u e p n prev (s ∷ ss) = ((v : Kind) → May u (block size p) v → (v ≡ Front s.head) ⊎ ScanStops e n prev v) × SureBody size u (suc p) s.body × Prepared size u e (p + width s) (suc n) s.incarnation ss
 
 -- between calls: `held` from place p and number n on behind incarnation floor, and then the bodies of `staged`
-pub record Ready (size : ℕ) (u : Cells) (e : Era) (p n floor : ℕ) (held staged : List Record) : Type 0 where
+pub record ReadyRing (size : ℕ) (u : Cells) (e : Era) (p n floor : ℕ) (held staged : List Record) : Type 0 where
   pub room : after (after p held) staged ≤ p + size
   pub tame : Tame u e (next n held)
   pub sure : SureAll size u p held
-  pub fits : Fits e n floor held
+  pub fits : RecordsFit e n floor held
   pub floor_below : floor ≤ e.incarnation
   pub end : End size u e (after p held) (next n held) (last floor held)
-  pub staged_fits : Fits e (next n held) (last floor held) staged
+  pub staged_fits : RecordsFit e (next n held) (last floor held) staged
   pub now : Now e staged
   pub bodies : ReadBodies size u (after p held) staged

@@ -3,7 +3,7 @@ use Rattle.std.specs.Prelude.{◌≡◌, ℕ, zero, suc, ◌-◌, ◌%◌, ◌�
 use Rattle.std.specs.List.{concat}
 use Rattle.vx_model.specs.Content.{Write, blocks_in}
 use Rattle.vx_model.specs.declared.history.Line.{Line}
-use Rattle.vx_wire.specs.Fields.{zeros}
+use Rattle.vx_wire.specs.Fields.{zero_bytes}
 use Rattle.vx_wire.specs.Seals.{digest_of}
 use Rattle.vx_srlfmt.specs.Kinds.{body_byte, IsBody}
 use Rattle.vx_srlfmt.specs.declared.header.Header.{Header}
@@ -40,13 +40,13 @@ pub record Genuine (r : Record) : Type 0 where
   pub digest : r.head.digest ≡ digest_of (given r)
 
 -- the write that a record logs
-abbrev pub write_of : Record → Write
-write_of r = record { volume = r.head.vol; start = r.head.block; bytes = given r }
+abbrev pub write_logged : Record → Write
+write_logged r = record { volume = r.head.vol; start = r.head.block; bytes = given r }
 
 -- blocks as they stand on disk: each begins with the byte of a body block
-abbrev pub on_disk : List (List ℕ) → List (List ℕ)
-on_disk [] = []
-on_disk (block ∷ blocks) = (body_byte ∷ drop 1 block) ∷ on_disk blocks
+abbrev pub as_on_disk : List (List ℕ) → List (List ℕ)
+as_on_disk [] = []
+as_on_disk (block ∷ blocks) = (body_byte ∷ drop 1 block) ∷ as_on_disk blocks
 
 -- the first byte of each block
 abbrev pub first_bytes : List (List ℕ) → List ℕ
@@ -55,12 +55,12 @@ first_bytes (block ∷ blocks) = slice_index block 0 ∷ first_bytes blocks
 
 -- with zeros behind them, up to 16
 abbrev pub firsts_of : List (List ℕ) → List ℕ
-firsts_of blocks = first_bytes blocks ++ zeros (16 - length blocks)
+firsts_of blocks = first_bytes blocks ++ zero_bytes (16 - length blocks)
 
 -- a record that keeps these blocks
 pub record KeepsBlocks (r : Record) (blocks : List (List ℕ)) : Type 0 where
   pub firsts : r.head.firsts ≡ firsts_of blocks
-  pub body : r.body ≡ on_disk blocks
+  pub body : r.body ≡ as_on_disk blocks
 
 -- a block has 512 bytes
 abbrev pub IsWhole : List ℕ → Type 0
@@ -72,24 +72,24 @@ GivenComesBack = (r : Record) (blocks : List (List ℕ)) → All IsWhole blocks 
 
 -- on disk there are as many whole blocks, each of them a body block, and up to 16 blocks have 16 first bytes
 pub record StandOnDisk (blocks : List (List ℕ)) : Type 0 where
-  pub count : length (on_disk blocks) ≡ length blocks
-  pub whole : All IsWhole (on_disk blocks)
-  pub body : All IsBody (on_disk blocks)
+  pub count : length (as_on_disk blocks) ≡ length blocks
+  pub whole : All IsWhole (as_on_disk blocks)
+  pub body : All IsBody (as_on_disk blocks)
   pub firsts : length blocks ≤ 16 → length (firsts_of blocks) ≡ 16
-  pub zeros : drop (length blocks) (firsts_of blocks) ≡ zeros (16 - length blocks)
+  pub zeros : drop (length blocks) (firsts_of blocks) ≡ zero_bytes (16 - length blocks)
 
 -- so it is of all whole blocks
 abbrev pub BlocksStand : Type 0
 BlocksStand = (blocks : List (List ℕ)) → All IsWhole blocks → StandOnDisk blocks
 
 -- the first n blocks of these bytes
-abbrev pub blocks_of : ℕ → List ℕ → List (List ℕ)
-blocks_of zero bytes = []
-blocks_of (suc n) bytes = take 512 bytes ∷ blocks_of n (drop 512 bytes)
+abbrev pub first_blocks : ℕ → List ℕ → List (List ℕ)
+first_blocks zero bytes = []
+first_blocks (suc n) bytes = take 512 bytes ∷ first_blocks n (drop 512 bytes)
 
 -- all blocks of a write
 abbrev pub write_blocks : Write → List (List ℕ)
-write_blocks x = blocks_of (blocks_in x.bytes) x.bytes
+write_blocks x = first_blocks (blocks_in x.bytes) x.bytes
 
 -- the record that logs a write under a number
 abbrev pub record_of : Era → ℕ → Write → Record
@@ -105,17 +105,17 @@ record_of e number x = record {
     digest = digest_of x.bytes;
     firsts = firsts_of (write_blocks x);
   };
-  body = on_disk (write_blocks x);
+  body = as_on_disk (write_blocks x);
 }
 
 -- the record logs the write, and its header fits its body, which is whole body blocks
 pub record LogsWrite (r : Record) (x : Write) : Type 0 where
-  pub write : write_of r ≡ x
+  pub write : write_logged r ≡ x
   pub genuine : Genuine r
   pub whole : All IsWhole r.body
   pub body : All IsBody r.body
   pub firsts : length x.bytes ≤ 8192 → length r.head.firsts ≡ 16
-  pub zeros : drop r.head.count r.head.firsts ≡ zeros (16 - r.head.count)
+  pub zeros : drop r.head.count r.head.firsts ≡ zero_bytes (16 - r.head.count)
 
 -- a write of whole blocks comes back from its record
 abbrev pub WriteComesBack : Type 0

@@ -2,11 +2,11 @@
 use Rattle.std.specs.Prelude.{◌≡◌, ◌⊎◌, ℕ, suc, ◌+◌, ◌<◌, List, []}
 use Rattle.vx_srlfmt.specs.Kinds.{Top, Other}
 use Rattle.vx_srlfmt.specs.declared.header.Header.{Header}
-use Rattle.vx_ringlog.specs.Cells.{Image, Always, Leaves, run_all, still}
+use Rattle.vx_ringlog.specs.Cells.{RingImage, Always, Leaves, run_all, still}
 use Rattle.vx_ringlog.specs.Records.{era_of, Record}
 use Rattle.vx_ringlog.specs.Chain.{Recovers}
 use Rattle.vx_ringlog.specs.Acts.{start_acts}
-use Rattle.vx_ringlog.specs.Heads.{StandsAt}
+use Rattle.vx_ringlog.specs.Heads.{HeaderStands}
 use Rattle.vx_ringlog.specs.Logs.{State, IsLog}
 
 -- the first header that a start writes, where it found h: of the next incarnation
@@ -28,30 +28,30 @@ pub record Repeats (g again : Header) : Type 0 where
   pub floor : again.floor ≡ g.floor
 
 -- the log behind a start that found these records
-abbrev pub started : Image → ℕ → ℕ → Header → Header → List Record → State
+abbrev pub started : RingImage → ℕ → ℕ → Header → Header → List Record → State
 started i here other g again rs = record { unit = run_all (still i) (start_acts here other g again); here = here; other = other; header = again; base = again.place; held = rs; staged = []; found = rs }
 
 -- a start of this image, in which h was found in block `here`
-pub record MayStart (i : Image) (here other : ℕ) (h g again : Header) : Type 0 where
-  pub stands : StandsAt i here other h
+pub record MayStart (i : RingImage) (here other : ℕ) (h g again : Header) : Type 0 where
+  pub stands : HeaderStands i here other h
   pub raises : Raises h g
   pub repeats : Repeats g again
 
 -- the same records, with the header that was found or one of those that the start writes
-abbrev pub SameLog : ℕ → Header → Header → Header → List Record → Image → Type 0
+abbrev pub SameLog : ℕ → Header → Header → Header → List Record → RingImage → Type 0
 SameLog size h g again rs i = Recovers size i h rs ⊎ (Recovers size i g rs ⊎ Recovers size i again rs)
 
 -- at each moment of a start a crash leaves the same records, and behind it they are held
 abbrev pub StartIsSafe : Type 0
-StartIsSafe = (size : ℕ) (i : Image) (here other : ℕ) (h g again : Header) (rs : List Record) → MayStart i here other h g again → Recovers size i h rs
+StartIsSafe = (size : ℕ) (i : RingImage) (here other : ℕ) (h g again : Header) (rs : List Record) → MayStart i here other h g again → Recovers size i h rs
     → Always (Leaves (SameLog size h g again rs)) (still i) (start_acts here other g again) × IsLog size (started i here other g again rs)
 
 -- a start leaves nothing loose
 abbrev pub StartIsStill : Type 0
-StartIsStill = (i : Image) (here other : ℕ) (g again : Header) (rs : List Record) → (started i here other g again rs).unit.loose ≡ []
+StartIsStill = (i : RingImage) (here other : ℕ) (g again : Header) (rs : List Record) → (started i here other g again rs).unit.loose ≡ []
 
 -- a new log, of which `head` is the number before its first record
-pub record Made (head : ℕ) (i : Image) (h g : Header) : Type 0 where
+pub record Made (head : ℕ) (i : RingImage) (h g : Header) : Type 0 where
   pub first : i 0 ≡ Top h
   pub second : i 1 ≡ Top g
   pub ring : (b : ℕ) → i (2 + b) ≡ Other
@@ -64,5 +64,5 @@ pub record Made (head : ℕ) (i : Image) (h g : Header) : Type 0 where
   pub place : h.place ≡ 0
 
 -- its state
-abbrev pub made : Image → Header → State
-made i h = record { unit = still i; here = 0; other = 1; header = h; base = 0; held = []; staged = []; found = [] }
+abbrev pub state_made : RingImage → Header → State
+state_made i h = record { unit = still i; here = 0; other = 1; header = h; base = 0; held = []; staged = []; found = [] }

@@ -54,6 +54,35 @@ fn four_calls_pass(rt: HostRuntime) -> Result<(), Fail> {
     Ok(())
 }
 
+// A link is four calls at each of its sites, and the setting of one is two.
+#[test]
+fn the_calls_of_a_link_pass(rt: HostRuntime) -> Result<(), Fail> {
+    let script =
+        b"site a 3 64\nraw a\nsite b 3 64\nraw b\nfuse a 6 0\nfuse b 4 0\nlink a b synchronous=off srlprot=fail\nset a b synchronous=fail srlprot=fail\nset a b synchronous=off srlprot=fail\nstatus a\nstatus b\n";
+    let answer = answers(&rt, rt.alloc(), script)?;
+    let wanted =
+        "done\ndone\ndone\ndone\ndone\ndone\ndone\ndone\nno 6 down\nsite a down\nsite b up\nrvg secondary 1 a head 0 mark consistent session 1\n";
+    assert!(rt; answer.is(Status::Done, wanted));
+    Ok(())
+}
+
+// The last call of one of its sites does not pass.
+#[test]
+fn a_link_is_cut_at_its_last_call(rt: HostRuntime) -> Result<(), Fail> {
+    let second =
+        b"site a 3 64\nraw a\nsite b 3 64\nraw b\nfuse b 3 0\nlink a b synchronous=off srlprot=fail\nstatus b\n";
+    let answer = answers(&rt, rt.alloc(), second)?;
+    let wanted = "done\ndone\ndone\ndone\ndone\nno 6 down\nsite b down\n";
+    assert!(rt; answer.is(Status::Done, wanted));
+    let first =
+        b"site a 3 64\nraw a\nsite b 3 64\nraw b\nfuse a 3 0\nlink a b synchronous=off srlprot=fail\nstatus a\nstatus b\n";
+    let answer = answers(&rt, rt.alloc(), first)?;
+    let wanted =
+        "done\ndone\ndone\ndone\ndone\nno 6 down\nsite a down\nsite b up\nrvg secondary 1 a head 0 mark consistent session 1\n";
+    assert!(rt; answer.is(Status::Done, wanted));
+    Ok(())
+}
+
 // A crash ends it.
 #[test]
 fn a_crash_ends_the_fuse(rt: HostRuntime) -> Result<(), Fail> {

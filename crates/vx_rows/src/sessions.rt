@@ -1,7 +1,10 @@
 // A site crashes between two packets, and the link is settled behind it.
 use crate::answers::answers;
 use std::alloc::Global;
+use std::process::Abort;
+use std::sync::Wait;
 use std::test::Fail;
+use std::thread::Threads;
 use vx_cli::Status;
 use vx_model::OutOfMemory;
 
@@ -39,11 +42,31 @@ fn joined(alloc: Global, parts: &[&[u8]]) -> Result<Vec<u8>, OutOfMemory> {
     Ok(all)
 }
 
+// A link is made and sends a write. So many packets are delivered, the site of `crash` crashes and is recovered, the other packets are
+// delivered, and the link is settled.
+fn crashes_between<H: Threads + Wait + Sync + Abort>(
+    rt: &H,
+    alloc: Global,
+    packets: [&[u8]; 2],
+    crash: [&[u8]; 3],
+    wanted: &[&[u8]],
+) -> Result<(), Fail> {
+    let script = joined(
+        alloc,
+        &[
+            MADE, packets[0], crash[0], crash[1], crash[2], packets[1], SETTLED,
+        ],
+    )?;
+    let wanted = joined(alloc, wanted)?;
+    let answer = answers(rt, alloc, &script)?;
+    assert!(rt; answer.text == wanted && answer.status == Status::Done);
+    Ok(())
+}
+
 // The receiver crashes before the update comes, behind it, and behind its acknowledgement, which it forgets. Whatever the crash is to keep, the
 // write that waits in memory is lost, and is sent again where it had been acknowledged.
 #[test]
 fn the_receiver_crashes_between_packets(rt: HostRuntime) -> Result<(), Fail> {
-    let alloc = rt.alloc();
     for pick in [b"0\n", b"9\n"] {
         for (before, between, behind, crash, came, ends) in [
             (
@@ -71,21 +94,9 @@ fn the_receiver_crashes_between_packets(rt: HostRuntime) -> Result<(), Fail> {
                 b"done 1\ndone sent 5 5\nsettled 1 sent 6 9\n",
             ),
         ] {
-            let script = joined(
-                alloc,
-                &[
-                    MADE,
-                    before,
-                    b"crash b ",
-                    pick,
-                    b"recover b\n",
-                    between,
-                    SETTLED,
-                ],
-            )?;
-            let wanted = joined(alloc, &[WAS_MADE, behind, crash, came, ends, END_BY_B])?;
-            let answer = answers(&rt, alloc, &script)?;
-            assert!(rt; answer.text == wanted && answer.status == Status::Done);
+            let wanted = [WAS_MADE, behind, crash, came, ends, END_BY_B];
+            let crash = [b"crash b " as &[u8], pick, b"recover b\n"];
+            crashes_between(&rt, rt.alloc(), [before, between], crash, &wanted)?;
         }
     }
     Ok(())
@@ -94,7 +105,6 @@ fn the_receiver_crashes_between_packets(rt: HostRuntime) -> Result<(), Fail> {
 // The primary crashes there. What was acknowledged from memory alone it forgets, and hears no acknowledgement until the receiver greets.
 #[test]
 fn the_primary_crashes_between_packets(rt: HostRuntime) -> Result<(), Fail> {
-    let alloc = rt.alloc();
     for pick in [b"0\n", b"9\n"] {
         for (before, between, behind, came) in [
             (
@@ -116,21 +126,9 @@ fn the_primary_crashes_between_packets(rt: HostRuntime) -> Result<(), Fail> {
                 b"",
             ),
         ] {
-            let script = joined(
-                alloc,
-                &[
-                    MADE,
-                    before,
-                    b"crash a ",
-                    pick,
-                    b"recover a\n",
-                    between,
-                    SETTLED,
-                ],
-            )?;
-            let wanted = joined(alloc, &[WAS_MADE, behind, CRASH_OF_A, came, END_BY_A])?;
-            let answer = answers(&rt, alloc, &script)?;
-            assert!(rt; answer.text == wanted && answer.status == Status::Done);
+            let wanted = [WAS_MADE, behind, CRASH_OF_A, came, END_BY_A];
+            let crash = [b"crash a " as &[u8], pick, b"recover a\n"];
+            crashes_between(&rt, rt.alloc(), [before, between], crash, &wanted)?;
         }
     }
     Ok(())

@@ -12,7 +12,7 @@ use Rattle.vx_overlay.specs.Pending.{Pending}
 use Rattle.vx_srl.specs.Views.{IsOrdered, all_of, count_to, widths}
 use Rattle.vx_srl.specs.declared.kept.Kept.{Kept}
 use Rattle.vx_rvg.specs.Brings.{Brings, BringsOne, IsPut, KeepsNewest, ReadsNewest, VolumesFlushed, due}
-use Rattle.vx_rvg.specs.Groups.{with_applied}
+use Rattle.vx_rvg.specs.Groups.{core_applied}
 use Rattle.vx_rvg.specs.Views.{Core, IsSound, Waits, applied_count, blocks_within, last_of, volume_size}
 use Rattle.vx_rvg.proofs.ApplyOne.{put_there_is}
 use Rattle.vx_rvg.proofs.WriteSound.{SameSizes, lies_same, moved_sizes, placed_same, volume_same, within_append, within_same}
@@ -175,7 +175,7 @@ module _ (core : Core) (m m' : Meaning) (sound : IsSound core m) (to count : ℕ
   pub bring_few : count ≤ length core.pending.entries
   bring_few = omega (arith, all_waiting)
 
-  pub apply_sound : (mine : Blocks) (P : Says) → Moves mine P m m' → to ≤ last_of core → IsSound (with_applied core to count) m'
+  pub apply_sound : (mine : Blocks) (P : Says) → Moves mine P m m' → to ≤ last_of core → IsSound (core_applied core to count) m'
   apply_sound mine P moves known =
       let same : SameSizes m m' = moved_sizes mine P m m' moves in
       let at : applied_count core + (to - core.applied) ≡ count_to core.log to = omega (arith, sound.low, from) in
@@ -201,7 +201,7 @@ module _ (core : Core) (m m' : Meaning) (sound : IsSound core m) (to count : ℕ
 
 -- the group as the code leaves it
 pub applied_core : (v : Core) (to count : ℕ) (p : Pending) → p.entries ≡ drop count v.pending.entries → p.capacity ≡ v.pending.capacity
-    → record v { pending = p; applied = to } ≡ with_applied v to count
+    → record v { pending = p; applied = to } ≡ core_applied v to count
 applied_core v to count p entries capacity =
     ap (λ (es : List Entry). record v { pending = record { capacity = p.capacity; entries = es }; applied = to }) entries
     ∙ ap (λ (n : ℕ). record v { pending = record { capacity = n; entries = drop count v.pending.entries }; applied = to }) capacity

@@ -17,7 +17,7 @@ use Rattle.vx_srl.specs.Views.{IsFront, IsOrdered, Log, all_of}
 use Rattle.vx_srl.specs.declared.kept.Kept.{Kept}
 use Rattle.vx_rvg.specs.Brings.{BringsOne, IsPut, ReadsNewest}
 use Rattle.vx_rvg.specs.Groups.{IsPatched}
-use Rattle.vx_rvg.specs.Views.{Core, Placed, Waits, applied_count, unit_of, volume_size}
+use Rattle.vx_rvg.specs.Views.{Core, UnitsPlaced, Waits, applied_count, unit_of, volume_size}
 use Rattle.vx_rvg.proofs.WriteStands.{volume_size_is}
 
 pub none_there : (vols : List ℕ) (m : Meaning) (v : ℕ) → length vols ≤ v → volume_size vols m v ≡ 0
@@ -59,7 +59,7 @@ kept_there v core n head front same =
 pub patched_in : (v core : Core) (vol start : ℕ) (before bytes : List ℕ) → v ≡ core → IsPatched v.pending.entries vol start before bytes → IsPatched core.pending.entries vol start before bytes
 patched_in v core vol start before bytes same patched = subst (λ (x : Core). IsPatched x.pending.entries vol start before bytes) same patched
 
-module _ (core : Core) (n : ℕ) (old new : Meaning) (k : Kept) (placed : Placed core.units old) (there : slice_get core.log.held (n - core.log.header.low) ≡ Some k)
+module _ (core : Core) (n : ℕ) (old new : Meaning) (k : Kept) (placed : UnitsPlaced core.units old) (there : slice_get core.log.held (n - core.log.header.low) ≡ Some k)
     (exists : k.head.vol < length core.units.vols) (within : k.head.block + k.head.count ≤ old.size (unit_of core.units.vols k.head.vol))
     (u : ℕ) (unit_is : u ≡ unit_of core.units.vols k.head.vol) (before bytes : List ℕ) (patched : IsPatched core.pending.entries k.head.vol k.head.block before bytes) (long : length before ≡ 512 * k.head.count) where
   inside : k.head.block + k.head.count ≤ volume_size core.units.vols old k.head.vol

@@ -7,10 +7,10 @@ use Rattle.std.proofs.lemmas.Option.{none-some}
 use Rattle.vx_model.specs.Content.{Content, block_of, blocks_in}
 use Rattle.vx_srlfmt.specs.declared.record.RecordHead.{RecordHead}
 use Rattle.vx_disk.specs.Shelf.{Keeps, Meaning}
-use Rattle.vx_overlay.specs.Pending.{newest, or_else}
+use Rattle.vx_overlay.specs.Pending.{newest, newer_or}
 use Rattle.vx_overlay.specs.Writes.{blocks_within_of, newest_of, put_there}
 use Rattle.vx_overlay.proofs.WriteLemmas.{put_there_at, put_there_in}
-use Rattle.vx_ringlog.specs.Records.{Record, given, write_of}
+use Rattle.vx_ringlog.specs.Records.{Record, given, write_logged}
 use Rattle.vx_srl.specs.declared.kept.Kept.{Kept}
 use Rattle.vx_srl.proofs.Shared_S1.{Same}
 use Rattle.vx_rvg.specs.Brings.{IsPut, KeepsNewest}
@@ -20,7 +20,7 @@ use Rattle.vx_rvg.specs.Views.{Core, blocks_within, unit_of, volume_size}
 use Rattle.vx_rvg.proofs.ApplyOne.{none_there}
 use Rattle.vx_rvg.proofs.WriteStands.{volume_size_is}
 
-both_none : (later here : Option (List ℕ)) → or_else later here ≡ None → (later ≡ None) × (here ≡ None)
+both_none : (later here : Option (List ℕ)) → newer_or later here ≡ None → (later ≡ None) × (here ≡ None)
 both_none (Some bytes) here is = absurd (none-some bytes (sym is))
 both_none None here is = (refl, is)
 
@@ -46,14 +46,14 @@ module _ (vols : List ℕ) (c : Content) (m : Meaning) (sizes : HasSizes vols c 
     its_size : c.size r.head.vol ≡ volume_size vols m k.head.vol
     its_size = ap (λ (w : ℕ). c.size w) its_vol ∙ size_is k.head.vol
 
-    of_put : IsPut (volume_size vols m) k v b → put_there c.size (write_of r) v b ≡ Some (block_of (given r) (b - r.head.block))
+    of_put : IsPut (volume_size vols m) k v b → put_there c.size (write_logged r) v b ≡ Some (block_of (given r) (b - r.head.block))
     of_put put =
-        put_there_at c.size (write_of r) v b (omega (arith, whole)) (put.volume ∙ sym its_vol) (omega (arith, put.first, its_block)) (omega (arith, put.last, its_block, its_count))
+        put_there_at c.size (write_logged r) v b (omega (arith, whole)) (put.volume ∙ sym its_vol) (omega (arith, put.first, its_block)) (omega (arith, put.last, its_block, its_count))
         (omega (arith, put.within, its_block, its_count, its_size, ap (λ (w : ℕ). volume_size vols m w) put.volume))
 
-    to_put : (bytes : List ℕ) → put_there c.size (write_of r) v b ≡ Some bytes → IsPut (volume_size vols m) k v b
+    to_put : (bytes : List ℕ) → put_there c.size (write_logged r) v b ≡ Some bytes → IsPut (volume_size vols m) k v b
     to_put bytes is =
-        let it : _ = put_there_in c.size (write_of r) v b bytes (omega (arith, whole)) is in
+        let it : _ = put_there_in c.size (write_logged r) v b bytes (omega (arith, whole)) is in
         let at : volume_size vols m v ≡ volume_size vols m k.head.vol = ap (λ (w : ℕ). volume_size vols m w) (it.0 ∙ its_vol) in
         record { volume = it.0 ∙ its_vol; within = omega (arith, it.3, its_block, its_count, its_size, at); first = omega (arith, it.1, its_block); last = omega (arith, it.2, its_block, its_count) }
 
@@ -64,7 +64,7 @@ module _ (vols : List ℕ) (c : Content) (m : Meaning) (sizes : HasSizes vols c 
   none_put [] (k ∷ ks) v b same whole none = absurd same
   none_put (r ∷ rs) [] v b same whole none = absurd same
   none_put (r ∷ rs) (k ∷ ks) v b same whole none =
-      let both : _ = both_none (newest_of c.size (writes_of rs) v b) (put_there c.size (write_of r) v b) none in
+      let both : _ = both_none (newest_of c.size (writes_of rs) v b) (put_there c.size (write_logged r) v b) none in
       All-cons (λ k. IsPut (volume_size vols m) k v b → ⊥) k ks
       (λ put. none-some (block_of (given r) (b - r.head.block)) (sym both.1 ∙ of_put r k same.0 (All-head IsWholeRecord r rs whole) v b put))
       (none_put rs ks v b same.2 (All-tail IsWholeRecord r rs whole) both.0)
@@ -73,7 +73,7 @@ module _ (vols : List ℕ) (c : Content) (m : Meaning) (sizes : HasSizes vols c 
   module _ (core : Core) (m' : Meaning) (v b : ℕ) (bytes : List ℕ) (is : newest core.pending.entries v b ≡ Some bytes) where
     one_kept : (r : Record) (k : Kept) (rs : List Record) → r.head ≡ k.head → IsWholeRecord r → KeepsNewest core (volume_size vols m) m' k
         → ((newest_of c.size (writes_of rs) v b ≡ None → ⊥) → Keeps m' (unit_of core.units.vols v) b bytes)
-        → (later here : Option (List ℕ)) → newest_of c.size (writes_of rs) v b ≡ later → put_there c.size (write_of r) v b ≡ here → (or_else later here ≡ None → ⊥)
+        → (later here : Option (List ℕ)) → newest_of c.size (writes_of rs) v b ≡ later → put_there c.size (write_logged r) v b ≡ here → (newer_or later here ≡ None → ⊥)
         → Keeps m' (unit_of core.units.vols v) b bytes
     one_kept r k rs same whole keeps rest later (Some put) later_is here_is some = keeps.each v b bytes (to_put r k same whole v b put here_is) is
     one_kept r k rs same whole keeps rest (Some put) None later_is here_is some = rest (λ none. none-some put (sym none ∙ later_is))
@@ -87,7 +87,7 @@ module _ (vols : List ℕ) (c : Content) (m : Meaning) (sizes : HasSizes vols c 
     put_kept (r ∷ rs) (k ∷ ks) same whole keeps some =
         one_kept r k rs same.0 (All-head IsWholeRecord r rs whole) (All-head (KeepsNewest core (volume_size vols m) m') k ks keeps)
         (put_kept rs ks same.2 (All-tail IsWholeRecord r rs whole) (All-tail (KeepsNewest core (volume_size vols m) m') k ks keeps))
-        (newest_of c.size (writes_of rs) v b) (put_there c.size (write_of r) v b) refl refl some
+        (newest_of c.size (writes_of rs) v b) (put_there c.size (write_logged r) v b) refl refl some
 
   -- as many blocks of writes as of records
   pub within_count : (rs : List Record) (ks : List Kept) → Same rs ks → All IsWholeRecord rs → blocks_within_of c.size (writes_of rs) ≡ blocks_within (volume_size vols m) ks

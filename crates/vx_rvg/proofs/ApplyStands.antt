@@ -9,12 +9,12 @@ use Rattle.vx_disk.specs.Moves.{Anything, Beside, Moves}
 use Rattle.vx_disk.specs.Shelf.{Image, Keeps, Meaning}
 use Rattle.vx_disk.proofs.Moving.{kept_beside, seen_beside, still, wider}
 use Rattle.vx_overlay.specs.declared.entry.Entry.{Entry}
-use Rattle.vx_overlay.specs.Pending.{Pending, newest, or_else}
+use Rattle.vx_overlay.specs.Pending.{Pending, newest, newer_or}
 use Rattle.vx_overlay.specs.Writes.{entries_of, newest_of}
 use Rattle.vx_overlay.proofs.WriteLemmas.{entries_count, entries_drop, newest_append, newest_drop_none, newest_entries}
 use Rattle.vx_ringlog.specs.Chain.{Recovers}
 use Rattle.vx_ringlog.specs.Logs.{Seal, State}
-use Rattle.vx_ringlog.specs.Records.{Record, write_of}
+use Rattle.vx_ringlog.specs.Records.{Record, write_logged}
 use Rattle.vx_ringlog.proofs.Calls.{call_safe}
 use Rattle.vx_ringio.specs.Classes.{classes}
 use Rattle.vx_ringio.proofs.Following.{image_beside, tracks_beside}
@@ -23,7 +23,7 @@ use Rattle.vx_srl.specs.Views.{count_to}
 use Rattle.vx_srl.proofs.Shared_S1.{Same, held_same, same_drop, same_take}
 use Rattle.vx_rvg.specs.Brings.{Brings, IsPut, due}
 use Rattle.vx_rvg.specs.Contents.{HasContent, KeepsContent, writes_of}
-use Rattle.vx_rvg.specs.Groups.{halted_by, with_applied}
+use Rattle.vx_rvg.specs.Groups.{core_halted, core_applied}
 use Rattle.vx_rvg.specs.Stands.{IsWholeRecord, Ready, Resting, Rests}
 use Rattle.vx_rvg.specs.Views.{Core, IsSound, Waits, applied_count, last_of, unit_of, volume_size}
 use Rattle.vx_rvg.proofs.ApplyAll.{applied_core, apply_sound, bring_few}
@@ -119,7 +119,7 @@ module _ (core : Core) (c : Content) (m : Meaning) (s : State) (ready : Ready co
         rest_is = let at : a + j ≡ count_to core.log to = omega (arith, low, from) in drop-drop j a s.held ∙ ap (λ (n : ℕ). drop n s.held) at
 
         both : writes_of (drop a s.held) ≡ writes_of came ++ writes_of rest
-        both = ap (λ (rs : List Record). writes_of rs) (sym (take-append-drop j (drop a s.held))) ∙ map-append write_of came rest
+        both = ap (λ (rs : List Record). writes_of rs) (sym (take-append-drop j (drop a s.held))) ∙ map-append write_logged came rest
 
         came_same : Same came (due core to)
         came_same = same_take j (drop a s.held) (drop a core.log.held) (same_drop a s.held core.log.held (held_same core.log s m ready.ring))
@@ -148,7 +148,7 @@ module _ (core : Core) (c : Content) (m : Meaning) (s : State) (ready : Ready co
         came_some v b bytes is none not =
             none-some bytes (sym (
             newest_is v b ∙ ap (λ (ws : List Write). newest_of c.size ws v b) both ∙ newest_append c.size (writes_of came) (writes_of rest) v b
-            ∙ ap (λ (o : Option (List ℕ)). or_else o (newest_of c.size (writes_of came) v b)) (rest_none v b none) ∙ not) ∙ is)
+            ∙ ap (λ (o : Option (List ℕ)). newer_or o (newest_of c.size (writes_of came) v b)) (rest_none v b none) ∙ not) ∙ is)
 
         settles : (v b : ℕ) → b < c.size v → newest (drop count core.pending.entries) v b ≡ None → (o : Option (List ℕ)) → newest core.pending.entries v b ≡ o
             → Keeps m' (unit_of core.units.vols v) b (c.block v b)
@@ -157,7 +157,7 @@ module _ (core : Core) (c : Content) (m : Meaning) (s : State) (ready : Ready co
             (put_kept core.units.vols c m ready.sizes core m' v b bytes is came (due core to) came_same came_whole brings.each (came_some v b bytes is none))
         settles v b inside none None is = kept v b inside is (c.block v b) (ready.settled v b inside is)
 
-        pub applied_ready : Ready (with_applied core to count) c s m'
+        pub applied_ready : Ready (core_applied core to count) c s m'
         applied_ready = record {
           ring = record {
             is_log = ready.ring.is_log;
@@ -188,7 +188,7 @@ apply_moves core m m' sound moves =
     })
 
 pub apply_rests : (core : Core) (m m' : Meaning) → IsSound core m → Moves (Waits core m) Anything m m' → (to count : ℕ) → core.log.header.low ≤ core.applied + 1 → core.applied ≤ to
-    → Brings core to m m' count → (IsTrue m'.down → ⊥) → Rests core (with_applied core to count) m m'
+    → Brings core to m m' count → (IsTrue m'.down → ⊥) → Rests core (core_applied core to count) m m'
 apply_rests core m m' sound moves to count low from brings up = record {
   each = λ h stands. record {
     log = stands.log;
@@ -222,8 +222,8 @@ module _ (v core : Core) (same : v ≡ core) (m m' : Meaning) (sound : IsSound c
       abbrev new_core : Core
       new_core = record v { pending = p; applied = to }
 
-      is : new_core ≡ with_applied core to count
-      is = applied_core v to count p entries capacity ∙ ap (λ (k : Core). with_applied k to count) same
+      is : new_core ≡ core_applied core to count
+      is = applied_core v to count p entries capacity ∙ ap (λ (k : Core). core_applied k to count) same
 
       pub new_sound : IsSound (record v { pending = p; applied = to }) m'
       new_sound = subst (λ (k : Core). IsSound k m') (sym is) (apply_sound core m m' sound to count from brings (Waits core m) Anything moves known)
@@ -232,6 +232,6 @@ module _ (v core : Core) (same : v ≡ core) (m m' : Meaning) (sound : IsSound c
       new_rests up = subst (λ (k : Core). Rests core k m m') (sym is) (apply_rests core m m' sound moves to count sound.low from brings up)
 
 -- a call on the shelf failed
-pub apply_failed : (core : Core) (m m' : Meaning) → IsSound core m → Moves (Waits core m) Anything m m' → (why : No) → DeviceCause m m' why → IsSound (halted_by why core) m'
+pub apply_failed : (core : Core) (m m' : Meaning) → IsSound core m → Moves (Waits core m) Anything m m' → (why : No) → DeviceCause m m' why → IsSound (core_halted why core) m'
 apply_failed core m m' sound moves why cause =
     failed_sound core core.log m m' why (moved_sizes (Waits core m) Anything m m' moves) sound (record { unit = refl; ring = refl; header = refl; held = refl }) cause

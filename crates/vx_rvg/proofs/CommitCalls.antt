@@ -10,7 +10,7 @@ use Rattle.vx_overlay.specs.Pending.{Pending}
 use Rattle.vx_overlay.specs.declared.entry.Entry.{Entry}
 use Rattle.vx_srl.specs.declared.kept.Kept.{Kept}
 use Rattle.vx_rvg.specs.Commits.{Committing, Halts, SealIs, Seals, StageIs, Stages, with_oldest, with_sealed, without_staged}
-use Rattle.vx_rvg.specs.Groups.{halted_by}
+use Rattle.vx_rvg.specs.Groups.{core_halted}
 use Rattle.vx_rvg.specs.Views.{Core, IsSound, IsSoundWith, applied_count, blocks_within, volume_size}
 use Rattle.vx_rvg.proofs.StagedCalls.{pending_is}
 use Rattle.vx_rvg.proofs.StagedSound.{waiting_is}
@@ -71,7 +71,7 @@ pub counted_same : (w : ℕ) (core : Core) (m m' : Meaning) → SameSizes m m' �
 counted_same w core m m' same counted =
     counted ∙ sym (within_same (volume_size core.units.vols m) (volume_size core.units.vols m') (volume_same core.units.vols m m' same) (drop (applied_count core) core.log.held))
 
-counted_halted : (w : ℕ) (core : Core) (m m' : Meaning) (why : No) → DeviceCause m m' why → IsCounted w core m' → IsCounted w (halted_by why core) m'
+counted_halted : (w : ℕ) (core : Core) (m m' : Meaning) (why : No) → DeviceCause m m' why → IsCounted w core m' → IsCounted w (core_halted why core) m'
 counted_halted w core m m' (no.Device disk) cause counted = counted
 counted_halted w core m m' no.Down cause counted = counted
 counted_halted w core m m' other cause counted = absurd cause

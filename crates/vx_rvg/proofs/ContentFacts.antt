@@ -14,19 +14,19 @@ use Rattle.vx_disk.proofs.Moving.{kept_beside, left_beside}
 use Rattle.vx_overlay.specs.Writes.{newest_of}
 use Rattle.vx_ringlog.specs.Cells.{IsImage}
 use Rattle.vx_ringlog.specs.Cells as cells
-use Rattle.vx_ringlog.specs.Chain.{Counts, Recovers}
+use Rattle.vx_ringlog.specs.Chain.{IsGreaterTop, Recovers}
 use Rattle.vx_ringlog.specs.Logs.{State, Seal, Found as LogFound}
 use Rattle.vx_ringlog.specs.Records.{Record}
 use Rattle.vx_ringlog.proofs.Calls.{call_safe}
 use Rattle.vx_ringio.specs.Classes.{class_of, classes, is_of_ring, narrowed}
 use Rattle.vx_ringio.proofs.Following.{now_left, class_here}
 use Rattle.vx_srl.specs.Rings.{RingOn, heads_of, kept_heads}
-use Rattle.vx_srl.specs.Views.{Log, head_of}
+use Rattle.vx_srl.specs.Views.{Log, head_number}
 use Rattle.vx_srl.specs.declared.kept.Kept.{Kept}
 use Rattle.vx_rvg.specs.Contents.{writes_of, KeepsContent, HasContent, HasSizes}
 use Rattle.vx_rvg.specs.Holdings.{Holding, kept_in, with_content}
 use Rattle.vx_rvg.specs.Stands.{FoundAs, HasMaps, KeepsMaps, Stands}
-use Rattle.vx_rvg.specs.Views.{Core, Placed, unit_of, last_of}
+use Rattle.vx_rvg.specs.Views.{Core, UnitsPlaced, unit_of, last_of}
 
 -- ---- what an image has
 
@@ -78,7 +78,7 @@ of_ring_low ring h is = grind (arith, nat_tests)
 top_low : (unit ring : ℕ) (i : Image) (b : ℕ) (h : Header) → b < 2 → classes unit ring i b ≡ Top h → 0 < h.low
 top_low unit ring i b h small is = of_ring_low ring h (class_of_ring ring (i unit b) h (sym (class_here unit ring i b (omega (arith, small))) ∙ is))
 
-pub counts_low : (unit ring : ℕ) (i : Image) (h : Header) → Counts (classes unit ring i) h → 0 < h.low
+pub counts_low : (unit ring : ℕ) (i : Image) (h : Header) → IsGreaterTop (classes unit ring i) h → 0 < h.low
 counts_low unit ring i h (inl first) = top_low unit ring i 0 h (omega arith) first.0
 counts_low unit ring i h (inr second) = top_low unit ring i 1 h (omega arith) second.0
 
@@ -100,7 +100,7 @@ pub held_length : (l : Log) (s : State) (m : Meaning) → RingOn l s m → lengt
 held_length l s m on = heads_length s.held l.held on.describes.held
 
 -- the number behind the last one
-pub head_is_last : (l : Log) → 0 < l.header.low → l.header.low + length l.held ≡ head_of l + 1
+pub head_is_last : (l : Log) → 0 < l.header.low → l.header.low + length l.held ≡ head_number l + 1
 head_is_last l some = omega (arith, some)
 
 -- ---- what a crash leaves between calls
@@ -112,7 +112,7 @@ no_more rs ss k none = ap (λ (l : List Record). rs ++ take k l) none ∙ ap (λ
     take_none zero = refl
     take_none (suc k) = refl
 
-pub found_held : (ring : ℕ) (s : State) (i : cells.Image) → s.staged ≡ [] → LogFound ring s Seal i → Recovers ring i s.header s.held
+pub found_held : (ring : ℕ) (s : State) (i : cells.RingImage) → s.staged ≡ [] → LogFound ring s Seal i → Recovers ring i s.header s.held
 found_held ring s i idle (inl found) = subst (λ (l : List Record). Recovers ring i s.header l) (no_more s.held s.staged found.0 idle) found.1
 found_held ring s i idle (inr none) = absurd none
 
@@ -140,7 +140,7 @@ maps_moved mine P units maps m m' moves apart keeps = record {
 }
 
 -- they lie beside the log
-pub maps_beside : (core : Core) (m : Meaning) → Placed core.units m → core.log.unit ≡ core.units.srl → (b : ℕ) → Run core.log.unit 0 (core.log.ring + 2) core.units.maps b → ⊥
+pub maps_beside : (core : Core) (m : Meaning) → UnitsPlaced core.units m → core.log.unit ≡ core.units.srl → (b : ℕ) → Run core.log.unit 0 (core.log.ring + 2) core.units.maps b → ⊥
 maps_beside core m placed unit_is b run = placed.maps_apart (run.there ∙ unit_is)
 
 -- ---- what a group holds
@@ -206,6 +206,6 @@ stands_found core h m i unit_is lawful stands now = left_found core h m i unit_i
 pub volume_there : (vols : List ℕ) (c : Content) (m : Meaning) (v b : ℕ) → HasSizes vols c m → b < c.size v → v < length vols
 volume_there vols c m v b sizes low = ⊎_elim (λ is. is) (λ high. absurd (omega (arith, low, sizes.none v high))) (cases_lt v (length vols))
 
-pub volumes_beside : (core : Core) (c : Content) (m : Meaning) → Placed core.units m → core.log.unit ≡ core.units.srl → HasSizes core.units.vols c m
+pub volumes_beside : (core : Core) (c : Content) (m : Meaning) → UnitsPlaced core.units m → core.log.unit ≡ core.units.srl → HasSizes core.units.vols c m
     → (v b : ℕ) → b < c.size v → Run core.log.unit 0 (core.log.ring + 2) (unit_of core.units.vols v) b → ⊥
 volumes_beside core c m placed unit_is sizes v b low run = placed.apart v (volume_there core.units.vols c m v b sizes low) (run.there ∙ unit_is)

@@ -14,17 +14,17 @@ use Rattle.vx_overlay.specs.declared.entry.Entry.{Entry}
 use Rattle.vx_overlay.specs.Pending.{newest}
 use Rattle.vx_overlay.specs.Writes.{entries_of}
 use Rattle.vx_ringlog.specs.Chain.{Recovers}
-use Rattle.vx_ringlog.specs.Logs.{State, Found as LogFound, done}
+use Rattle.vx_ringlog.specs.Logs.{State, Found as LogFound, behind_call}
 use Rattle.vx_ringlog.specs.Records.{Record}
 use Rattle.vx_ringio.specs.Classes.{classes}
-use Rattle.vx_srl.specs.Calls.{can_restart, restarted, restarting}
+use Rattle.vx_srl.specs.Calls.{can_restart, restarted_log, restarting}
 use Rattle.vx_disk.specs.Causes.{DeviceCause}
-use Rattle.vx_srl.specs.Headers.{emptied}
-use Rattle.vx_srl.specs.Rings.{Finding, Goes, LeadsTo}
+use Rattle.vx_srl.specs.Headers.{emptied_header}
+use Rattle.vx_srl.specs.Rings.{Finding, RingGoes, LeadsTo}
 use Rattle.vx_srl.specs.Views.{Log, most_number}
 use Rattle.vx_srl.specs.declared.kept.Kept.{Kept}
 use Rattle.vx_rvg.specs.Contents.{HasContent, writes_of}
-use Rattle.vx_rvg.specs.Groups.{halted_by}
+use Rattle.vx_rvg.specs.Groups.{core_halted}
 use Rattle.vx_rvg.specs.Saves.{with_restart}
 use Rattle.vx_rvg.specs.Holdings.{Holding, kept_in}
 use Rattle.vx_rvg.specs.Stands.{FoundAs, HasMaps, IsWholeRecord, Ready, Retains, Saving, Stands}
@@ -48,7 +48,7 @@ can_at v core same head can = can_parts v.log head (subst (λ (k : Core). can_re
 
 module _ (core : Core) (state : SiteState) (head : ℕ) (all : last_of core ≤ core.applied) (some : 0 < core.log.header.low) (m : Meaning) (sound : IsSound core m) where
   abbrev g : Header
-  g = emptied core.log state head
+  g = emptied_header core.log state head
 
   abbrev after : Core
   after = with_restart core state head
@@ -84,7 +84,7 @@ module _ (core : Core) (state : SiteState) (head : ℕ) (all : last_of core ≤ 
       kept : (v b : ℕ) → b < c.size v → Keeps m' (unit_of core.units.vols v) b (c.block v b)
       kept v b low = kept_beside (Run core.log.unit 0 (core.log.ring + 2)) P m m' moves (unit_of core.units.vols v) b (beside v b low) (c.block v b) (settled v b low)
 
-      empty_ready : LeadsTo core.log (restarting g) (restarted core.log g) m m' → Ready after c (done core.log.ring s (restarting g s)) m'
+      empty_ready : LeadsTo core.log (restarting g) (restarted_log core.log g) m m' → Ready after c (behind_call core.log.ring s (restarting g s)) m'
       empty_ready leads = record {
         ring = leads.each s ready.ring;
         idle = refl;
@@ -104,9 +104,9 @@ module _ (core : Core) (state : SiteState) (head : ℕ) (all : last_of core ≤ 
     none_kept : [] ≡ drop (length h.writes - 0) h.writes
     none_kept = sym (drop_all (length h.writes - 0) h.writes (omega arith))
 
-    empty_stands : (m' : Meaning) (P : Says) → Moves (Run core.log.unit 0 (core.log.ring + 2)) P m m' → LeadsTo core.log (restarting g) (restarted core.log g) m m' → Stands after (kept_in after h) m'
+    empty_stands : (m' : Meaning) (P : Says) → Moves (Run core.log.unit 0 (core.log.ring + 2)) P m m' → LeadsTo core.log (restarting g) (restarted_log core.log g) m m' → Stands after (kept_in after h) m'
     empty_stands m' P moves leads = record {
-      log = done core.log.ring s (restarting g s);
+      log = behind_call core.log.ring s (restarting g s);
       ready = empty_ready h.content s stands.ready m' P moves leads;
       low = refl;
       writes = none_kept;
@@ -148,10 +148,10 @@ module _ (core : Core) (state : SiteState) (head : ℕ) (all : last_of core ≤ 
           inl (found_as core h m i sound.log_unit stands (subst (λ (rs : List Record). Recovers core.log.ring (classes core.log.unit core.log.ring i) s.header rs) (no_more s.held s.staged old.0 stands.ready.idle) old.1) old_has has_them)
       empty_found (inr new) = inr (found_new new)
 
-  pub empty_rests : (m' : Meaning) (P : Says) → Moves (Run core.log.unit 0 (core.log.ring + 2)) P m m' → LeadsTo core.log (restarting g) (restarted core.log g) m m' → Retains core after m m'
+  pub empty_rests : (m' : Meaning) (P : Says) → Moves (Run core.log.unit 0 (core.log.ring + 2)) P m m' → LeadsTo core.log (restarting g) (restarted_log core.log g) m m' → Retains core after m m'
   empty_rests m' P moves leads = record { each = λ h stands. empty_stands h stands m' P moves leads }
 
-  pub empty_moves : (m' : Meaning) → Goes core.log (restarting g) m m' → Moves (Run core.units.srl 0 (core.log.ring + 2)) (Saving core after m) m m'
+  pub empty_moves : (m' : Meaning) → RingGoes core.log (restarting g) m m' → Moves (Run core.units.srl 0 (core.log.ring + 2)) (Saving core after m) m m'
   empty_moves m' goes =
       wider (Run core.log.unit 0 (core.log.ring + 2)) (Run core.units.srl 0 (core.log.ring + 2)) (Finding core.log (restarting g) m) (Saving core after m) m m' goes
       (λ u b is. record { there = is.there ∙ sound.log_unit; first = is.first; last = is.last })
@@ -166,12 +166,12 @@ module _ (v core : Core) (same : v ≡ core) (state : SiteState) (head : ℕ) (a
   sound_here : IsSound v m
   sound_here = subst (λ (k : Core). IsSound k m) (sym same) sound
 
-  module _ (m' : Meaning) (goes : Goes v.log (restarting (emptied v.log state head)) m m') where
+  module _ (m' : Meaning) (goes : RingGoes v.log (restarting (emptied_header v.log state head)) m m') where
     pub emptied_moves : Moves (Run core.units.srl 0 (core.log.ring + 2)) (Saving core (with_restart core state head) m) m m'
     emptied_moves =
         subst (λ (k : Core). Moves (Run k.units.srl 0 (k.log.ring + 2)) (Saving k (with_restart k state head) m) m m') same (empty_moves v state head all_here some m sound_here m' goes)
 
-    module _ (l' : Log) (is : l' ≡ restarted v.log (emptied v.log state head)) where
+    module _ (l' : Log) (is : l' ≡ restarted_log v.log (emptied_header v.log state head)) where
       made : record v { log = l'; applied = head } ≡ with_restart v state head
       made = λ i. record v { log = is i; pending = record v.pending { entries = none_wait v state head all_here some m sound_here i }; applied = head }
 
@@ -181,17 +181,17 @@ module _ (v core : Core) (same : v ≡ core) (state : SiteState) (head : ℕ) (a
       pub emptied_sound : IsSound (record v { log = l'; applied = head }) m'
       emptied_sound =
           subst (λ (k : Core). IsSound k m') (sym made)
-          (empty_sound v state head all_here some m sound_here m' (moved_sizes (Run v.log.unit 0 (v.log.ring + 2)) (Finding v.log (restarting (emptied v.log state head)) m) m m' goes))
+          (empty_sound v state head all_here some m sound_here m' (moved_sizes (Run v.log.unit 0 (v.log.ring + 2)) (Finding v.log (restarting (emptied_header v.log state head)) m) m m' goes))
 
-      pub emptied_rests : LeadsTo v.log (restarting (emptied v.log state head)) l' m m' → Retains core (record v { log = l'; applied = head }) m m'
+      pub emptied_rests : LeadsTo v.log (restarting (emptied_header v.log state head)) l' m m' → Retains core (record v { log = l'; applied = head }) m m'
       emptied_rests leads =
           subst (λ (k : Core). Retains k (record v { log = l'; applied = head }) m m') same
           (subst (λ (k : Core). Retains v k m m') (sym made)
-          (empty_rests v state head all_here some m sound_here m' (Finding v.log (restarting (emptied v.log state head)) m) goes
-          (subst (λ (l : Log). LeadsTo v.log (restarting (emptied v.log state head)) l m m') is leads)))
+          (empty_rests v state head all_here some m sound_here m' (Finding v.log (restarting (emptied_header v.log state head)) m) goes
+          (subst (λ (l : Log). LeadsTo v.log (restarting (emptied_header v.log state head)) l m m') is leads)))
 
     -- a device call failed
-    pub emptied_fails : (l' : Log) → l' ≡ v.log → (why : No) → DeviceCause m m' why → IsSound (halted_by why (record v { log = l' })) m'
+    pub emptied_fails : (l' : Log) → l' ≡ v.log → (why : No) → DeviceCause m m' why → IsSound (core_halted why (record v { log = l' })) m'
     emptied_fails l' is why cause =
-        failed_sound v l' m m' why (moved_sizes (Run v.log.unit 0 (v.log.ring + 2)) (Finding v.log (restarting (emptied v.log state head)) m) m m' goes) sound_here
+        failed_sound v l' m m' why (moved_sizes (Run v.log.unit 0 (v.log.ring + 2)) (Finding v.log (restarting (emptied_header v.log state head)) m) m m' goes) sound_here
         (record { unit = ap (λ (l : Log). l.unit) is; ring = ap (λ (l : Log). l.ring) is; header = ap (λ (l : Log). l.header) is; held = ap (λ (l : Log). l.held) is }) cause

@@ -3,6 +3,7 @@ pub mod ApplyFlush
 pub mod ApplyOne
 pub mod ApplyPuts
 pub mod ApplyStands
+pub mod ChangeCalls
 pub mod CommitCalls
 pub mod ContentFacts
 pub mod EmptyStands
@@ -12,6 +13,7 @@ pub mod PatchFacts
 pub mod ReadAnswers
 pub mod ReadStands
 pub mod RestartMoves
+pub mod SaveCalls
 pub mod SaveStands
 pub mod StagedCalls
 pub mod StagedSound
@@ -25,4 +27,3 @@ pub mod WriteContent
 pub mod WriteLog
 pub mod WriteSound
 pub mod WriteStands
-pub mod SaveCalls

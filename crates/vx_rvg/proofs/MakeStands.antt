@@ -14,15 +14,15 @@ use Rattle.vx_overlay.specs.declared.entry.Entry.{Entry}
 use Rattle.vx_overlay.specs.Writes.{entries_of}
 use Rattle.vx_ringlog.specs.Logs.{State}
 use Rattle.vx_ringlog.specs.Records.{Record}
-use Rattle.vx_ringio.specs.Tracks.{Lies}
+use Rattle.vx_ringio.specs.Tracks.{RingLies}
 use Rattle.vx_srl.specs.Headers.{new_header}
 use Rattle.vx_srl.specs.Rings.{RingOn}
-use Rattle.vx_srl.specs.Starts.{IsNew}
+use Rattle.vx_srl.specs.Starts.{IsNewLog}
 use Rattle.vx_srl.specs.Views.{Log}
 use Rattle.vx_rvg.specs.Contents.{writes_of, HasSizes, KeepsContent}
 use Rattle.vx_rvg.specs.Holdings.{nothing_logged}
-use Rattle.vx_rvg.specs.Stands.{Holds, IsWholeRecord, Ready, Stands}
-use Rattle.vx_rvg.specs.Views.{IsSound, Placed, unit_of}
+use Rattle.vx_rvg.specs.Stands.{HoldsContent, IsWholeRecord, Ready, Stands}
+use Rattle.vx_rvg.specs.Views.{IsSound, UnitsPlaced, unit_of}
 use Rattle.vx_rvg.proofs.ContentFacts.{maps_moved}
 use Rattle.vx_rvg.proofs.WriteSound.{lies_same, moved_sizes, placed_same}
 
@@ -34,7 +34,7 @@ pub sizes_moved : (vols : List ℕ) (c : Content) (old new : Meaning) → ((u : 
 sizes_moved vols c old new same sizes = record { each = λ v there. sizes.each v there ∙ sym (same (unit_of vols v)); none = sizes.none }
 
 -- a call on the log's unit leaves a block of a volume as it is
-pub volume_kept : (units : Units) (count : ℕ) (P : Says) (c : Content) (old new : Meaning) → Placed units old → Moves (Run units.srl 0 count) P old new → HasSizes units.vols c old
+pub volume_kept : (units : Units) (count : ℕ) (P : Says) (c : Content) (old new : Meaning) → UnitsPlaced units old → Moves (Run units.srl 0 count) P old new → HasSizes units.vols c old
     → (v b : ℕ) → b < c.size v → Keeps old (unit_of units.vols v) b (c.block v b) → Keeps new (unit_of units.vols v) b (c.block v b)
 volume_kept units count P c old new placed moves sizes v b below keeps =
     kept_beside (Run units.srl 0 count) P old new moves (unit_of units.vols v) b (λ mine. placed.apart v (in_volumes units.vols c old v b sizes below) mine.there) (c.block v b) keeps
@@ -43,8 +43,8 @@ writes_none : (k : ℕ) (rs : List Record) → rs ≡ [] → writes_of (drop k r
 writes_none k rs is = ap (λ (xs : List Record). writes_of (drop k xs)) is ∙ ap writes_of (drop-nil k)
 
 -- a new group is sound
-pub new_sound : (units kept : Units) (state : SiteState) (ring count : ℕ) (P : Says) (l : Log) (pending : Pending) (old new : Meaning) → Placed units old → kept ≡ units
-    → l ≡ record { unit = units.srl; ring = ring; header = new_header state 0; held = []; staged = [] } → Lies units.srl ring old → pending.capacity ≡ ring → pending.entries ≡ []
+pub new_sound : (units kept : Units) (state : SiteState) (ring count : ℕ) (P : Says) (l : Log) (pending : Pending) (old new : Meaning) → UnitsPlaced units old → kept ≡ units
+    → l ≡ record { unit = units.srl; ring = ring; header = new_header state 0; held = []; staged = [] } → RingLies units.srl ring old → pending.capacity ≡ ring → pending.entries ≡ []
     → Moves (Run units.srl 0 count) P old new → IsSound (record { units = kept; log = l; pending = pending; applied = 0; halted = None }) new
 new_sound units kept state ring count P l pending old new placed same is lies room none moves =
     let sizes = moved_sizes (Run units.srl 0 count) P old new moves in
@@ -60,8 +60,8 @@ new_sound units kept state ring count P l pending old new placed same is lies ro
       waiting = ap (λ (es : List Entry). length es) none;
     }))
 
-pub new_stands : (units kept : Units) (state : SiteState) (ring count : ℕ) (P : Says) (c : Content) (maps : List (List ℕ)) (l : Log) (pending : Pending) (old new : Meaning) → Placed units old → kept ≡ units
-    → IsNew units.srl ring 0 state l new → pending.entries ≡ [] → Moves (Run units.srl 0 count) P old new → IsTrue old.tells → Holds units c maps old
+pub new_stands : (units kept : Units) (state : SiteState) (ring count : ℕ) (P : Says) (c : Content) (maps : List (List ℕ)) (l : Log) (pending : Pending) (old new : Meaning) → UnitsPlaced units old → kept ≡ units
+    → IsNewLog units.srl ring 0 state l new → pending.entries ≡ [] → Moves (Run units.srl 0 count) P old new → IsTrue old.tells → HoldsContent units c maps old
     → Stands (record { units = kept; log = l; pending = pending; applied = 0; halted = None }) (nothing_logged c maps) new
 new_stands units kept state ring count P c maps l pending old new placed same made none moves tells holds =
     subst (λ (u : Units). Stands (record { units = u; log = l; pending = pending; applied = 0; halted = None }) (nothing_logged c maps) new) (sym same) (record {

@@ -9,15 +9,15 @@ use Rattle.vx_model.specs.declared.no.No.{No}
 use Rattle.vx_model.specs.declared.no.No.TheVariants.{Halted, Range}
 use Rattle.vx_disk.specs.Shelf.{Lawful, Meaning, Read}
 use Rattle.vx_ringio.specs.Bodies.{IsBlocks}
-use Rattle.vx_rvg.specs.Contents.{Shows}
-use Rattle.vx_rvg.specs.Groups.{IsPatched, read_refusal, unless_halted}
+use Rattle.vx_rvg.specs.Contents.{ShowsContent}
+use Rattle.vx_rvg.specs.Groups.{IsPatched, read_refusal, halted_or}
 use Rattle.vx_rvg.specs.Stands.{IsCovered}
 use Rattle.vx_rvg.specs.Views.{Core, unit_of}
 use Rattle.vx_rvg.proofs.ReadStands.{shows}
 
 -- ---- a read that is not refused
 
-pub not_halted : (halted : Option ℕ) (rest : Option No) → unless_halted halted rest ≡ None → rest ≡ None
+pub not_halted : (halted : Option ℕ) (rest : Option No) → halted_or halted rest ≡ None → rest ≡ None
 not_halted (Some disk) rest is = absurd (none-some (Halted disk) (sym is))
 not_halted None rest is = is
 
@@ -36,7 +36,7 @@ read_fits core size start count is =
 
 pub shows_at : (core : Core) (c : Content) (rs : List Record) (m : Meaning) → IsCovered core c rs m → Lawful m → IsTrue m.tells → (vol start unit size : ℕ) → vol < length core.units.vols → (old mid new : List ℕ) → IsBlocks old
     → length mid ≡ length old → unit ≡ unit_of core.units.vols vol → size ≡ m.size unit → (refused : Option No) → refused ≡ read_refusal core size start (blocks_in old) → refused ≡ None → Read m unit start mid
-    → IsPatched core.pending.entries vol start mid new → Shows c vol start (blocks_in old) new
+    → IsPatched core.pending.entries vol start mid new → ShowsContent c vol start (blocks_in old) new
 shows_at core c rs m covers lawful tells vol start unit size exists old mid new blocks same unit_is size_is refused refused_is none read patched =
     let free : read_refusal core size start (blocks_in old) ≡ None = sym refused_is ∙ none in
     shows core c m rs covers lawful tells vol start exists old mid new blocks same

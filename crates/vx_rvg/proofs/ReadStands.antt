@@ -10,12 +10,12 @@ use Rattle.vx_overlay.specs.Pending.{newest}
 use Rattle.vx_overlay.specs.Writes.{IsWholeWrite, newest_of}
 use Rattle.vx_overlay.proofs.WriteLemmas.{newest_drop, newest_entries}
 use Rattle.vx_ringlog.specs.Logs.{State}
-use Rattle.vx_ringlog.specs.Records.{Record, write_of}
+use Rattle.vx_ringlog.specs.Records.{Record, write_logged}
 use Rattle.vx_ringio.specs.Bodies.{IsBlocks}
 use Rattle.vx_ringio.proofs.Following.{rest_tracks}
 use Rattle.vx_srl.specs.Rings.{RingOn}
 use Rattle.vx_rvg.specs.Commits.{HasStaged}
-use Rattle.vx_rvg.specs.Contents.{Shows, writes_of}
+use Rattle.vx_rvg.specs.Contents.{ShowsContent, writes_of}
 use Rattle.vx_rvg.specs.Groups.{IsPatched}
 use Rattle.vx_rvg.specs.Holdings.{Holding}
 use Rattle.vx_rvg.specs.Stands.{IsCovered, IsWholeRecord, Ready, Stands, StandsWith}
@@ -85,7 +85,7 @@ rest_staged core m m' goes up xs h has = record { records = has.records; are = h
 pub whole_writes : (rs : List Record) → All IsWholeRecord rs → All IsWholeWrite (writes_of rs)
 whole_writes [] whole = All-nil IsWholeWrite
 whole_writes (r ∷ rs) whole =
-    All-cons IsWholeWrite (write_of r) (writes_of rs) (omega (arith, All-head IsWholeRecord r rs whole)) (whole_writes rs (All-tail IsWholeRecord r rs whole))
+    All-cons IsWholeWrite (write_logged r) (writes_of rs) (omega (arith, All-head IsWholeRecord r rs whole)) (whole_writes rs (All-tail IsWholeRecord r rs whole))
 
 pub whole_drop : (n : ℕ) (rs : List Record) → All IsWholeRecord rs → All IsWholeRecord (drop n rs)
 whole_drop zero rs whole = whole
@@ -136,5 +136,5 @@ module _ (core : Core) (c : Content) (m : Meaning) (rs : List Record) (ready : I
   one_block k low (Some bytes) is here = here ∙ waits_content core c m rs ready vol (start + k) bytes (inside k low) is
   one_block k low None is here = here ∙ from_volume k low is
 
-  pub shows : Shows c vol start (blocks_in old) new
+  pub shows : ShowsContent c vol start (blocks_in old) new
   shows = record { each = λ k low. one_block k low (newest core.pending.entries vol (start + k)) refl (patched.each k (omega (arith, low, same))) }

@@ -4,15 +4,15 @@ use Rattle.vx_model.specs.declared.state.State.{State as SiteState}
 use Rattle.vx_disk.specs.Moves.{Blocks, Moves, Run, Union}
 use Rattle.vx_disk.specs.Shelf.{Image, Meaning}
 use Rattle.vx_disk.proofs.Moving.{goes_on, wider}
-use Rattle.vx_rvg.specs.Groups.{ApplyIs, unless_halted, with_applied}
+use Rattle.vx_rvg.specs.Groups.{ApplyIs, halted_or, core_applied}
 use Rattle.vx_rvg.specs.Holdings.{kept_in}
 use Rattle.vx_rvg.specs.Saves.{with_restart}
 use Rattle.vx_rvg.specs.Stands.{FoundAs, Resting, Rests, Saving}
 use Rattle.vx_rvg.specs.Views.{Core, Waits}
 
 -- what an apply that was answered leaves
-pub applied_by : (halted : Option ℕ) (core : Core) (count : ℕ) (m m' : Meaning) (core' : Core) (number : ℕ) → ApplyIs (unless_halted halted None) core count m m' core' (Ok number)
-    → (n : ℕ) × (core' ≡ with_applied core number n)
+pub applied_by : (halted : Option ℕ) (core : Core) (count : ℕ) (m m' : Meaning) (core' : Core) (number : ℕ) → ApplyIs (halted_or halted None) core count m m' core' (Ok number)
+    → (n : ℕ) × (core' ≡ core_applied core number n)
 applied_by (Some disk) core count m m' core' number is = let wrong : _ = is.0 in cc
 applied_by None core count m m' core' number is = is.1
 
@@ -27,7 +27,7 @@ module _ (core : Core) (state : SiteState) (head : ℕ) (m mid : Meaning) (moves
       (λ i beside resting. record { each = λ h stands. inl (resting.each h stands) })
 
   -- and behind that
-  module _ (core' : Core) (number n : ℕ) (is : core' ≡ with_applied core number n) (rests : Rests core core' m mid) (new : Meaning) where
+  module _ (core' : Core) (number n : ℕ) (is : core' ≡ core_applied core number n) (rests : Rests core core' m mid) (new : Meaning) where
     found_since : (i : Image) → Saving core' (with_restart core' state head) mid i → Saving core (with_restart core state head) m i
     found_since i saving = record {
       each = λ h stands.

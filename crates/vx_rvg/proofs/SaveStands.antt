@@ -11,16 +11,16 @@ use Rattle.vx_overlay.specs.Pending.{newest}
 use Rattle.vx_overlay.specs.Writes.{newest_of, entries_of}
 use Rattle.vx_overlay.proofs.WriteLemmas.{newest_drop, newest_drop_none, newest_entries}
 use Rattle.vx_ringlog.specs.Chain.{Recovers}
-use Rattle.vx_ringlog.specs.Logs.{State, Found as LogFound, done}
+use Rattle.vx_ringlog.specs.Logs.{State, Found as LogFound, behind_call}
 use Rattle.vx_ringlog.specs.Records.{Record}
 use Rattle.vx_ringio.specs.Classes.{classes}
 use Rattle.vx_srl.specs.Calls.{saving, saved}
-use Rattle.vx_srl.specs.Rings.{Finding, Goes, LeadsTo}
+use Rattle.vx_srl.specs.Rings.{Finding, RingGoes, LeadsTo}
 use Rattle.vx_srl.specs.declared.kept.Kept.{Kept}
 use Rattle.vx_rvg.specs.Contents.{writes_of, HasContent, KeepsContent}
 use Rattle.vx_rvg.specs.Holdings.{Holding, kept_in}
 use Rattle.vx_rvg.specs.Stands.{FoundAs, HasMaps, Ready, Retains, Saving, Stands}
-use Rattle.vx_rvg.specs.Views.{Core, IsSound, Placed, applied_count, blocks_within, unit_of, volume_size}
+use Rattle.vx_rvg.specs.Views.{Core, IsSound, UnitsPlaced, applied_count, blocks_within, unit_of, volume_size}
 use Rattle.vx_rvg.proofs.ContentFacts.{found_as, has_content_beside, has_maps_beside, maps_beside, maps_moved, no_more, recovers_low, stands_count, volumes_beside}
 use Rattle.vx_rvg.proofs.ReadStands.{whole_writes, whole_drop, writes_drop}
 use Rattle.vx_rvg.proofs.WriteSound.{SameSizes, applied_few, lies_same, placed_same, volume_same, within_same}
@@ -52,7 +52,7 @@ module _ (core : Core) (g : Header) (n : ℕ) (low_is : g.low ≡ core.log.heade
             ∙ sym (ap (λ (ks : List Kept). blocks_within (volume_size core.units.vols m') ks) (drop_rest core.log.held n (applied_count core) (applied_count (after_save core g n)) counts));
       }
 
-  module _ (c : Content) (m : Meaning) (s : State) (ready : Ready core c s m) (placed : Placed core.units m) (unit_is : core.log.unit ≡ core.units.srl) (few : n ≤ length core.log.held) where
+  module _ (c : Content) (m : Meaning) (s : State) (ready : Ready core c s m) (placed : UnitsPlaced core.units m) (unit_is : core.log.unit ≡ core.units.srl) (few : n ≤ length core.log.held) where
     rest_writes : writes_of (drop n s.held) ≡ drop n (writes_of s.held)
     rest_writes = writes_drop n s.held
 
@@ -94,7 +94,7 @@ module _ (core : Core) (g : Header) (n : ℕ) (low_is : g.low ≡ core.log.heade
       keeps_each (Some bytes) v b low is = is
       keeps_each None v b low keeps = keeps_on v b (c.block v b) low keeps
 
-      pub save_ready : LeadsTo core.log (saving g n) (saved core.log g n) m m' → Ready (after_save core g n) c (done core.log.ring s (saving g n s)) m'
+      pub save_ready : LeadsTo core.log (saving g n) (saved core.log g n) m m' → Ready (after_save core g n) c (behind_call core.log.ring s (saving g n s)) m'
       save_ready leads = record {
         ring = leads.each s ready.ring;
         idle = ready.idle;
@@ -124,7 +124,7 @@ module _ (core : Core) (g : Header) (n : ℕ) (low_is : g.low ≡ core.log.heade
     pub save_stands : (m' : Meaning) (P : Says) → Moves (Run core.log.unit 0 (core.log.ring + 2)) P m m' → LeadsTo core.log (saving g n) (saved core.log g n) m m'
         → Stands (after_save core g n) (kept_in (after_save core g n) h) m'
     save_stands m' P moves leads = record {
-      log = done core.log.ring s (saving g n s);
+      log = behind_call core.log.ring s (saving g n s);
       ready = save_ready h.content m s stands.ready sound.placed sound.log_unit few m' P moves leads;
       low = refl;
       writes = rest_are;
@@ -173,7 +173,7 @@ module _ (core : Core) (g : Header) (n : ℕ) (low_is : g.low ≡ core.log.heade
     pub save_rests : (P : Says) → Moves (Run core.log.unit 0 (core.log.ring + 2)) P m m' → LeadsTo core.log (saving g n) (saved core.log g n) m m' → Retains core (after_save core g n) m m'
     save_rests P moves leads = record { each = λ h stands. save_stands m sound h stands m' P moves leads }
 
-    pub save_moves : Goes core.log (saving g n) m m' → Moves (Run core.units.srl 0 (core.log.ring + 2)) (Saving core (after_save core g n) m) m m'
+    pub save_moves : RingGoes core.log (saving g n) m m' → Moves (Run core.units.srl 0 (core.log.ring + 2)) (Saving core (after_save core g n) m) m m'
     save_moves goes =
         wider (Run core.log.unit 0 (core.log.ring + 2)) (Run core.units.srl 0 (core.log.ring + 2)) (Finding core.log (saving g n) m) (Saving core (after_save core g n) m) m m' goes
         (λ u b is. record { there = is.there ∙ sound.log_unit; first = is.first; last = is.last })

@@ -14,14 +14,14 @@ use Rattle.vx_overlay.specs.Writes.{entries_at}
 use Rattle.vx_overlay.specs.declared.entry.Entry.{Entry}
 use Rattle.vx_ringio.specs.Bodies.{IsBlocks}
 use Rattle.vx_ringlog.specs.Records.{Record}
-use Rattle.vx_srl.specs.Calls.{LogCause, Seals as LogSeals, no_number, sealed, sealing, staged_with, staging}
-use Rattle.vx_srl.specs.Rings.{Finding, Goes, LeadsTo}
-use Rattle.vx_srl.specs.Views.{Log, free_of, head_of, kept_of, most_number, need_of, next_of, record_of, widths}
+use Rattle.vx_srl.specs.Calls.{LogCause, SealsStaged as LogSeals, log_no_number, sealed_log, sealing, staged_with, staging}
+use Rattle.vx_srl.specs.Rings.{Finding, RingGoes, LeadsTo}
+use Rattle.vx_srl.specs.Views.{Log, free_of, head_number, kept_record, most_number, blocks_needed, next_of, record_next, widths}
 use Rattle.vx_srl.specs.declared.errors.SrlNo.{SrlNo}
 use Rattle.vx_srl.specs.declared.kept.Kept.{Kept}
 use Rattle.vx_rvg.specs.Commits.{Committing, Halts, HasStaged, Seals, StageIs, number_refusal, with_sealed, with_staged}
 use Rattle.vx_rvg.specs.Contents.{writes_of}
-use Rattle.vx_rvg.specs.Groups.{halted_by, no_of}
+use Rattle.vx_rvg.specs.Groups.{core_halted, no_of}
 use Rattle.vx_rvg.specs.Holdings.{Holding, with_writes}
 use Rattle.vx_rvg.specs.Stands.{Stands, StandsWith}
 use Rattle.vx_rvg.specs.Views.{Core, IsSoundWith, applied_count, blocks_within, volume_size}
@@ -50,7 +50,7 @@ widths_join : (ks ls : List Kept) → widths (ks ++ ls) ≡ widths ks + widths l
 widths_join [] ls = omega arith
 widths_join (k ∷ ks) ls = omega (arith, widths_join ks ls)
 
-pub staged_room : (core : Core) (m : Meaning) (bytes : List ℕ) → IsSoundWith core.log.staged core m → need_of bytes ≤ free_of core.log → length core.pending.entries + blocks_in bytes ≤ core.pending.capacity
+pub staged_room : (core : Core) (m : Meaning) (bytes : List ℕ) → IsSoundWith core.log.staged core m → blocks_needed bytes ≤ free_of core.log → length core.pending.entries + blocks_in bytes ≤ core.pending.capacity
 staged_room core m bytes sound room =
     let size : ℕ → ℕ = volume_size core.units.vols m in
     let rest : List Kept = drop (applied_count core) core.log.held in
@@ -104,31 +104,31 @@ refused_as : (a b : SrlNo) → a ≡ b → ◌≡◌ {A = Result ℕ No} (Err (n
 refused_as a b is = let f : SrlNo → Result ℕ No = λ w. Err (no_of w) in ap f is
 
 -- where a number was given, one was left
-pub number_fits : (l : Log) (number : ℕ) → (most_number < next_of l → ◌≡◌ {A = Result ℕ SrlNo} (Ok number) (Err no_number)) → next_of l ≤ most_number
+pub number_fits : (l : Log) (number : ℕ) → (most_number < next_of l → ◌≡◌ {A = Result ℕ SrlNo} (Ok number) (Err log_no_number)) → next_of l ≤ most_number
 number_fits l number past = fits_by (ltb most_number (next_of l)) refl
   where
     fits_by : (t : Bool) → ltb most_number (next_of l) ≡ t → next_of l ≤ most_number
-    fits_by true is = absurd (not_ok number no_number (past (over most_number (next_of l) is)))
+    fits_by true is = absurd (not_ok number log_no_number (past (over most_number (next_of l) is)))
     fits_by false is = up_to most_number (next_of l) is
 
 -- ---- the staging of a write
 
 module _ (held core : Core) (is : held ≡ core) (vol start : ℕ) (bytes : List ℕ) (m m' : Meaning) (sound : IsSoundWith core.log.staged core m) (some : 0 < core.log.header.low)
-    (goes : Goes held.log (staging (record_of held.log vol start bytes)) m m') where
-  core_goes : Goes core.log (staging (record_of core.log vol start bytes)) m m'
-  core_goes = subst (λ (k : Core). Goes k.log (staging (record_of k.log vol start bytes)) m m') is goes
+    (goes : RingGoes held.log (staging (record_next held.log vol start bytes)) m m') where
+  core_goes : RingGoes core.log (staging (record_next core.log vol start bytes)) m m'
+  core_goes = subst (λ (k : Core). RingGoes k.log (staging (record_next k.log vol start bytes)) m m') is goes
 
   few : applied_count core ≤ length core.log.held
   few = few_applied core core.log.staged m sound some
 
   pub staged_moves : Moves (Run core.units.srl 0 (core.log.ring + 2)) (Committing core m) m m'
-  staged_moves = stage_moves core m m' sound.placed sound.log_unit few (record_of core.log vol start bytes) core_goes
+  staged_moves = stage_moves core m m' sound.placed sound.log_unit few (record_next core.log vol start bytes) core_goes
 
-  module _ (log : Log) (pending : Pending) (stages : log ≡ staged_with held.log (kept_of held.log vol start bytes)) (capacity : pending.capacity ≡ held.pending.capacity)
+  module _ (log : Log) (pending : Pending) (stages : log ≡ staged_with held.log (kept_record held.log vol start bytes)) (capacity : pending.capacity ≡ held.pending.capacity)
       (entries : pending.entries ≡ held.pending.entries ++ entries_at vol start (blocks_in bytes) bytes) where
     pub staged_made : record held { log = log; pending = pending } ≡ with_staged core vol start bytes
     staged_made =
-        core_is held log (staged_with held.log (kept_of held.log vol start bytes)) pending (record held.pending { entries = held.pending.entries ++ entries_at vol start (blocks_in bytes) bytes })
+        core_is held log (staged_with held.log (kept_record held.log vol start bytes)) pending (record held.pending { entries = held.pending.entries ++ entries_at vol start (blocks_in bytes) bytes })
         stages (pending_is held.pending pending (held.pending.entries ++ entries_at vol start (blocks_in bytes) bytes) capacity entries)
         ∙ ap (λ (k : Core). with_staged k vol start bytes) is
 
@@ -137,14 +137,14 @@ module _ (held core : Core) (is : held ≡ core) (vol start : ℕ) (bytes : List
         subst (λ (k : Core). IsSoundWith k.log.staged k m') (sym staged_made)
         (more_sound core m m' (moved_sizes (Run core.units.srl 0 (core.log.ring + 2)) (Committing core m) m m' staged_moves) sound vol start bytes within)
 
-    pub staged_has : vol < length core.units.vols → IsBlocks bytes → start + blocks_in bytes ≤ volume_size core.units.vols m vol → LeadsTo held.log (staging (record_of held.log vol start bytes)) log m m'
+    pub staged_has : vol < length core.units.vols → IsBlocks bytes → start + blocks_in bytes ≤ volume_size core.units.vols m vol → LeadsTo held.log (staging (record_next held.log vol start bytes)) log m m'
         → (xs : List Write) (h : Holding) → HasStaged xs core h m → HasStaged (xs ++ record { volume = vol; start = start; bytes = bytes } ∷ []) (record held { log = log; pending = pending }) h m'
     staged_has exists blocks within leads xs h has =
         let made : log ≡ (with_staged core vol start bytes).log = ap (λ (k : Core). k.log) staged_made in
-        let core_leads : LeadsTo core.log (staging (record_of core.log vol start bytes)) (with_staged core vol start bytes).log m m'
-        = subst (λ (k : Core). LeadsTo k.log (staging (record_of k.log vol start bytes)) (with_staged core vol start bytes).log m m') is (subst (λ (l : Log). LeadsTo held.log (staging (record_of held.log vol start bytes)) l m m') made leads) in
+        let core_leads : LeadsTo core.log (staging (record_next core.log vol start bytes)) (with_staged core vol start bytes).log m m'
+        = subst (λ (k : Core). LeadsTo k.log (staging (record_next k.log vol start bytes)) (with_staged core vol start bytes).log m m') is (subst (λ (l : Log). LeadsTo held.log (staging (record_next held.log vol start bytes)) l m m') made leads) in
         subst (λ (k : Core). HasStaged (xs ++ record { volume = vol; start = start; bytes = bytes } ∷ []) k h m') (sym staged_made)
-        (stage_has core m m' sound.placed sound.log_unit few (Finding core.log (staging (record_of core.log vol start bytes)) m) core_goes xs h has vol start bytes exists blocks within core_leads)
+        (stage_has core m m' sound.placed sound.log_unit few (Finding core.log (staging (record_next core.log vol start bytes)) m) core_goes xs h has vol start bytes exists blocks within core_leads)
 
     pub stage_done : (number : ℕ) → number ≡ next_of held.log → (IsTrue m'.down → ⊥) → next_of held.log ≤ most_number
         → StageIs (number_refusal core) core vol start bytes m m' (record held { log = log; pending = pending }) (Ok number)
@@ -156,35 +156,35 @@ module _ (held core : Core) (is : held ≡ core) (vol start : ℕ) (bytes : List
 
   -- a stage that was refused: no number is left, or a device call failed
   module _ (log : Log) (why : SrlNo) where
-    stage_failed : log ≡ held.log → DeviceCause m m' (no_of why) → IsSoundWith (halted_by (no_of why) (record held { log = log })).log.staged (halted_by (no_of why) (record held { log = log })) m'
+    stage_failed : log ≡ held.log → DeviceCause m m' (no_of why) → IsSoundWith (core_halted (no_of why) (record held { log = log })).log.staged (core_halted (no_of why) (record held { log = log })) m'
     stage_failed same cause =
-        subst (λ (k : Core). IsSoundWith (halted_by (no_of why) k).log.staged (halted_by (no_of why) k) m') (sym (log_is held log same ∙ is))
+        subst (λ (k : Core). IsSoundWith (core_halted (no_of why) k).log.staged (core_halted (no_of why) k) m') (sym (log_is held log same ∙ is))
         (halted_sound core m m' (moved_sizes (Run core.units.srl 0 (core.log.ring + 2)) (Committing core m) m m' staged_moves) sound (no_of why) cause)
 
-    module _ (refused : most_number < next_of held.log → (◌≡◌ {A = Result ℕ SrlNo} (Err why) (Err no_number)) × (log ≡ held.log)) (stops : next_of held.log ≤ most_number → (log ≡ held.log) × LogCause m m' why) where
+    module _ (refused : most_number < next_of held.log → (◌≡◌ {A = Result ℕ SrlNo} (Err why) (Err log_no_number)) × (log ≡ held.log)) (stops : next_of held.log ≤ most_number → (log ≡ held.log) × LogCause m m' why) where
       next_is : next_of held.log ≡ next_of core.log
       next_is = ap (λ (k : Core). next_of k.log) is
 
-      unchanged : most_number < next_of core.log → halted_by (no_of why) (record held { log = log }) ≡ core
+      unchanged : most_number < next_of core.log → core_halted (no_of why) (record held { log = log }) ≡ core
       unchanged past =
-          let none : (◌≡◌ {A = Result ℕ SrlNo} (Err why) (Err no_number)) × (log ≡ held.log) = refused (omega (arith, past, next_is)) in
-          ap (λ (w : SrlNo). halted_by (no_of w) (record held { log = log })) (same_err why no_number none.0) ∙ (log_is held log none.1 ∙ is)
+          let none : (◌≡◌ {A = Result ℕ SrlNo} (Err why) (Err log_no_number)) × (log ≡ held.log) = refused (omega (arith, past, next_is)) in
+          ap (λ (w : SrlNo). core_halted (no_of w) (record held { log = log })) (same_err why log_no_number none.0) ∙ (log_is held log none.1 ∙ is)
 
       answers_by : (t : Bool) → ltb most_number (next_of core.log) ≡ t
-          → StageIs (if t then Some (no.Limit Number most_number) else None) core vol start bytes m m' (halted_by (no_of why) (record held { log = log })) (Err (no_of why))
+          → StageIs (if t then Some (no.Limit Number most_number) else None) core vol start bytes m m' (core_halted (no_of why) (record held { log = log })) (Err (no_of why))
       answers_by true past =
           let more : most_number < next_of core.log = over most_number (next_of core.log) past in
-          (refused_as why no_number (same_err why no_number (refused (omega (arith, more, next_is))).0), unchanged more)
+          (refused_as why log_no_number (same_err why log_no_number (refused (omega (arith, more, next_is))).0), unchanged more)
       answers_by false fits =
           let stop : (log ≡ held.log) × LogCause m m' why = stops (omega (arith, up_to most_number (next_of core.log) fits, next_is)) in
-          (ap (λ (k : Core). halted_by (no_of why) k) (log_is held log stop.0 ∙ is), no_cause m m' why stop.1)
+          (ap (λ (k : Core). core_halted (no_of why) k) (log_is held log stop.0 ∙ is), no_cause m m' why stop.1)
 
-      pub stage_stopped : (said : No) → said ≡ no_of why → (k : Core) → k ≡ halted_by said (record held { log = log }) → StageIs (number_refusal core) core vol start bytes m m' k (Err said)
+      pub stage_stopped : (said : No) → said ≡ no_of why → (k : Core) → k ≡ core_halted said (record held { log = log }) → StageIs (number_refusal core) core vol start bytes m m' k (Err said)
       stage_stopped said said_is k k_is =
           subst (λ (x : Core). StageIs (number_refusal core) core vol start bytes m m' x (Err said)) (sym k_is)
-          (subst (λ (w : No). StageIs (number_refusal core) core vol start bytes m m' (halted_by w (record held { log = log })) (Err w)) (sym said_is) (answers_by (ltb most_number (next_of core.log)) refl))
+          (subst (λ (w : No). StageIs (number_refusal core) core vol start bytes m m' (core_halted w (record held { log = log })) (Err w)) (sym said_is) (answers_by (ltb most_number (next_of core.log)) refl))
 
-      sound_by : (t : Bool) → ltb most_number (next_of core.log) ≡ t → IsSoundWith (halted_by (no_of why) (record held { log = log })).log.staged (halted_by (no_of why) (record held { log = log })) m'
+      sound_by : (t : Bool) → ltb most_number (next_of core.log) ≡ t → IsSoundWith (core_halted (no_of why) (record held { log = log })).log.staged (core_halted (no_of why) (record held { log = log })) m'
       sound_by true past =
           subst (λ (k : Core). IsSoundWith k.log.staged k m') (sym (unchanged (over most_number (next_of core.log) past)))
           (staged_same core m m' (moved_sizes (Run core.units.srl 0 (core.log.ring + 2)) (Committing core m) m m' staged_moves) sound)
@@ -192,9 +192,9 @@ module _ (held core : Core) (is : held ≡ core) (vol start : ℕ) (bytes : List
           let stop : (log ≡ held.log) × LogCause m m' why = stops (omega (arith, up_to most_number (next_of core.log) fits, next_is)) in
           stage_failed stop.0 (no_cause m m' why stop.1)
 
-      pub stopped_sound : (said : No) → said ≡ no_of why → (k : Core) → k ≡ halted_by said (record held { log = log }) → IsSoundWith k.log.staged k m'
+      pub stopped_sound : (said : No) → said ≡ no_of why → (k : Core) → k ≡ core_halted said (record held { log = log }) → IsSoundWith k.log.staged k m'
       stopped_sound said said_is k k_is =
-          subst (λ (x : Core). IsSoundWith x.log.staged x m') (sym (k_is ∙ ap (λ (w : No). halted_by w (record held { log = log })) said_is)) (sound_by (ltb most_number (next_of core.log)) refl)
+          subst (λ (x : Core). IsSoundWith x.log.staged x m') (sym (k_is ∙ ap (λ (w : No). core_halted w (record held { log = log })) said_is)) (sound_by (ltb most_number (next_of core.log)) refl)
 
 -- what holds where a number is refused
 pub where_refused : (core : Core) (P : Type 0) → (most_number < next_of core.log → P) → IsSome (number_refusal core) → P
@@ -210,7 +210,7 @@ pub some_or_none : (ks : List Kept) → (ks ≡ []) ⊎ (0 < length ks)
 some_or_none [] = inl refl
 some_or_none (k ∷ ks) = inr (omega arith)
 
-sealed_none : (l : Log) → l.staged ≡ [] → sealed l ≡ l
+sealed_none : (l : Log) → l.staged ≡ [] → sealed_log l ≡ l
 sealed_none l none =
     let held : l.held ++ l.staged ≡ l.held = ap (λ (ks : List Kept). l.held ++ ks) none ∙ append-nil l.held in
     λ i. record l { held = held i; staged = sym none i }
@@ -231,9 +231,9 @@ none_stands core m none xs h has =
     subst (λ (ws : List Write). Stands core (with_writes ws h) m) (sym writes)
     (subst (λ (x : Holding). Stands core x m) (sym (with_none h)) (subst (λ (rs : List Record). StandsWith rs core h m) records has.stands))
 
-module _ (held core : Core) (is : held ≡ core) (m m' : Meaning) (sound : IsSoundWith core.log.staged core m) (some : 0 < core.log.header.low) (goes : Goes held.log sealing m m') where
-  sealing_goes : Goes core.log sealing m m'
-  sealing_goes = subst (λ (k : Core). Goes k.log sealing m m') is goes
+module _ (held core : Core) (is : held ≡ core) (m m' : Meaning) (sound : IsSoundWith core.log.staged core m) (some : 0 < core.log.header.low) (goes : RingGoes held.log sealing m m') where
+  sealing_goes : RingGoes core.log sealing m m'
+  sealing_goes = subst (λ (k : Core). RingGoes k.log sealing m m') is goes
 
   few_held : applied_count core ≤ length core.log.held
   few_held = few_applied core core.log.staged m sound some
@@ -242,13 +242,13 @@ module _ (held core : Core) (is : held ≡ core) (m m' : Meaning) (sound : IsSou
   sealed_moves = seal_moves core m m' sound.placed sound.log_unit few_held sealing_goes
 
   module _ (log : Log) where
-    module _ (number : ℕ) (result : Result ℕ SrlNo) (result_is : result ≡ Ok number) (nothing : held.log.staged ≡ [] → (result ≡ Ok (head_of held.log)) × (log ≡ held.log) × (m' ≡ m))
+    module _ (number : ℕ) (result : Result ℕ SrlNo) (result_is : result ≡ Ok number) (nothing : held.log.staged ≡ [] → (result ≡ Ok (head_number held.log)) × (log ≡ held.log) × (m' ≡ m))
         (seals : 0 < length held.log.staged → LogSeals held.log m m' log result) where
-      is_sealed : (log ≡ sealed held.log) × (number ≡ head_of (sealed held.log)) × ((IsTrue m.down → ⊥) → IsTrue m'.down → ⊥)
+      is_sealed : (log ≡ sealed_log held.log) × (number ≡ head_number (sealed_log held.log)) × ((IsTrue m.down → ⊥) → IsTrue m'.down → ⊥)
       is_sealed = ⊎_elim
           (λ none.
           let did = nothing none in
-          (did.1 ∙ sym (sealed_none held.log none), same_ok number (head_of held.log) (sym result_is ∙ did.0) ∙ ap (λ (l : Log). head_of l) (sym (sealed_none held.log none)), λ up. subst (λ (x : Meaning). IsTrue x.down → ⊥) (sym did.2) up))
+          (did.1 ∙ sym (sealed_none held.log none), same_ok number (head_number held.log) (sym result_is ∙ did.0) ∙ ap (λ (l : Log). head_number l) (sym (sealed_none held.log none)), λ up. subst (λ (x : Meaning). IsTrue x.down → ⊥) (sym did.2) up))
           (λ more.
           let did : LogSeals held.log m m' log (Ok number) = subst (λ (r : Result ℕ SrlNo). LogSeals held.log m m' log r) result_is (seals more) in
           (did.1, did.0, λ up. did.2))
@@ -258,7 +258,7 @@ module _ (held core : Core) (is : held ≡ core) (m m' : Meaning) (sound : IsSou
       sealed_made = ap (λ (l : Log). record held { log = l }) is_sealed.0 ∙ ap (λ (k : Core). with_sealed k) is
 
       pub seal_done : (IsTrue m.down → ⊥) → Seals core m m' (record held { log = log }) (Ok number)
-      seal_done up = (is_sealed.1 ∙ ap (λ (k : Core). head_of (sealed k.log)) is, sealed_made, is_sealed.2 up)
+      seal_done up = (is_sealed.1 ∙ ap (λ (k : Core). head_number (sealed_log k.log)) is, sealed_made, is_sealed.2 up)
 
       pub all_sound : IsSoundWith log.staged (record held { log = log }) m'
       all_sound =
@@ -280,25 +280,25 @@ module _ (held core : Core) (is : held ≡ core) (m m' : Meaning) (sound : IsSou
           (some_or_none held.log.staged)
 
     -- a seal that a device call ended
-    module _ (why : SrlNo) (result : Result ℕ SrlNo) (result_is : result ≡ Err why) (nothing : held.log.staged ≡ [] → result ≡ Ok (head_of held.log))
+    module _ (why : SrlNo) (result : Result ℕ SrlNo) (result_is : result ≡ Err why) (nothing : held.log.staged ≡ [] → result ≡ Ok (head_number held.log))
         (seals : 0 < length held.log.staged → LogSeals held.log m m' log result) where
       ended_so : (log ≡ held.log) × LogCause m m' why
       ended_so = ⊎_elim
-          (λ none. absurd (not_ok (head_of held.log) why (sym (nothing none) ∙ result_is)))
+          (λ none. absurd (not_ok (head_number held.log) why (sym (nothing none) ∙ result_is)))
           (λ more. subst (λ (r : Result ℕ SrlNo). LogSeals held.log m m' log r) result_is (seals more))
           (some_or_none held.log.staged)
 
       kept_core : record held { log = log } ≡ core
       kept_core = log_is held log ended_so.0 ∙ is
 
-      pub seal_stopped : (said : No) → said ≡ no_of why → (k : Core) → k ≡ halted_by said (record held { log = log }) → Halts core m m' k said
+      pub seal_stopped : (said : No) → said ≡ no_of why → (k : Core) → k ≡ core_halted said (record held { log = log }) → Halts core m m' k said
       seal_stopped said said_is k k_is =
-          (k_is ∙ ap (λ (x : Core). halted_by said x) kept_core, subst (λ (w : No). DeviceCause m m' w) (sym said_is) (no_cause m m' why ended_so.1))
+          (k_is ∙ ap (λ (x : Core). core_halted said x) kept_core, subst (λ (w : No). DeviceCause m m' w) (sym said_is) (no_cause m m' why ended_so.1))
 
-      pub seal_failed : (said : No) → said ≡ no_of why → (k : Core) → k ≡ halted_by said (record held { log = log }) → IsSoundWith k.log.staged k m'
+      pub seal_failed : (said : No) → said ≡ no_of why → (k : Core) → k ≡ core_halted said (record held { log = log }) → IsSoundWith k.log.staged k m'
       seal_failed said said_is k k_is =
-          subst (λ (x : Core). IsSoundWith x.log.staged x m') (sym (k_is ∙ ap (λ (w : No). halted_by w (record held { log = log })) said_is ∙ ap (λ (x : Core). halted_by (no_of why) x) kept_core))
+          subst (λ (x : Core). IsSoundWith x.log.staged x m') (sym (k_is ∙ ap (λ (w : No). core_halted w (record held { log = log })) said_is ∙ ap (λ (x : Core). core_halted (no_of why) x) kept_core))
           (halted_sound core m m' (moved_sizes (Run core.units.srl 0 (core.log.ring + 2)) (Committing core m) m m' sealed_moves) sound (no_of why) (no_cause m m' why ended_so.1))
 
       pub not_none : core.log.staged ≡ [] → ⊥
-      not_none none = not_ok (head_of held.log) why (sym (nothing (ap (λ (k : Core). k.log.staged) is ∙ none)) ∙ result_is)
+      not_none none = not_ok (head_number held.log) why (sym (nothing (ap (λ (k : Core). k.log.staged) is ∙ none)) ∙ result_is)

@@ -10,10 +10,10 @@ use Rattle.vx_disk.specs.Causes.{DeviceCause}
 use Rattle.vx_disk.specs.Shelf.{Meaning}
 use Rattle.vx_overlay.specs.Writes.{entries_at}
 use Rattle.vx_overlay.proofs.WriteLemmas.{entries_at_length}
-use Rattle.vx_srl.specs.Views.{kept_of}
+use Rattle.vx_srl.specs.Views.{kept_record}
 use Rattle.vx_srl.specs.declared.kept.Kept.{Kept}
 use Rattle.vx_rvg.specs.Commits.{with_sealed, with_staged}
-use Rattle.vx_rvg.specs.Groups.{halted_by}
+use Rattle.vx_rvg.specs.Groups.{core_halted}
 use Rattle.vx_rvg.specs.Views.{Core, IsSoundWith, applied_count, blocks_waiting, blocks_within, volume_size}
 use Rattle.vx_rvg.proofs.WriteSound.{SameSizes, lies_same, placed_same, volume_same, within_append, within_same}
 
@@ -51,7 +51,7 @@ module _ (core : Core) (m m' : Meaning) (same : SameSizes m m') (sound : IsSound
   }
 
   -- a call that a device call ended
-  pub halted_sound : (why : No) → DeviceCause m m' why → IsSoundWith (halted_by why core).log.staged (halted_by why core) m'
+  pub halted_sound : (why : No) → DeviceCause m m' why → IsSoundWith (core_halted why core).log.staged (core_halted why core) m'
   halted_sound (no.Device disk) cause =
       let s : IsSoundWith core.log.staged core m' = staged_same in
       record { placed = s.placed; log_unit = s.log_unit; lies = s.lies; idle = λ none up. refl; low = s.low; known = s.known; room = s.room; waiting = s.waiting }
@@ -64,7 +64,7 @@ module _ (core : Core) (m m' : Meaning) (same : SameSizes m m') (sound : IsSound
   more_sound vol start bytes within =
       let size : ℕ → ℕ = volume_size core.units.vols m in
       let size' : ℕ → ℕ = volume_size core.units.vols m' in
-      let own : Kept = kept_of core.log vol start bytes in
+      let own : Kept = kept_record core.log vol start bytes in
       let rest : List Kept = drop (applied_count core) core.log.held in
       let here : (if leb (start + blocks_in bytes) (size vol) then blocks_in bytes else 0) ≡ blocks_in bytes = ap (λ (w : Bool). if w then blocks_in bytes else 0) (fits (start + blocks_in bytes) (size vol) within) in
       let one : blocks_within size (own ∷ []) ≡ blocks_in bytes = omega (arith, here) in

@@ -16,18 +16,18 @@ use Rattle.vx_overlay.proofs.Newest.{newest-append}
 use Rattle.vx_overlay.proofs.WriteLemmas.{entries_append, fold_newest, fold_size, newest_entries}
 use Rattle.vx_ringlog.specs.Cells as cells
 use Rattle.vx_ringlog.specs.Chain.{Recovers}
-use Rattle.vx_ringlog.specs.Logs.{Found, Seal, Stage, State, done}
+use Rattle.vx_ringlog.specs.Logs.{Found, Seal, Stage, State, behind_call}
 use Rattle.vx_ringlog.specs.Records.{Record}
 use Rattle.vx_ringio.specs.Bodies.{IsBlocks}
 use Rattle.vx_ringio.specs.Classes.{classes}
 use Rattle.vx_srl.specs.Calls.{sealing, staging}
-use Rattle.vx_srl.specs.Rings.{Finding, Goes, LeadsTo}
-use Rattle.vx_srl.specs.Views.{record_of}
+use Rattle.vx_srl.specs.Rings.{Finding, RingGoes, LeadsTo}
+use Rattle.vx_srl.specs.Views.{record_next}
 use Rattle.vx_rvg.specs.Commits.{Committing, HasStaged, with_sealed, with_staged}
 use Rattle.vx_rvg.specs.Contents.{HasContent, HasSizes, KeepsContent, writes_of}
 use Rattle.vx_rvg.specs.Holdings.{Holding, with_writes}
 use Rattle.vx_rvg.specs.Stands.{FoundAs, IsCovered, IsWholeRecord, Stands, entries_waiting}
-use Rattle.vx_rvg.specs.Views.{Core, Placed, applied_count, unit_of, volume_size}
+use Rattle.vx_rvg.specs.Views.{Core, UnitsPlaced, applied_count, unit_of, volume_size}
 use Rattle.vx_rvg.proofs.ContentFacts.{has_content_beside, has_maps_beside, held_length, maps_beside, maps_moved, recovers_low, volumes_beside}
 use Rattle.vx_rvg.proofs.ReadStands.{whole_writes}
 use Rattle.vx_rvg.proofs.WriteContent.{put_has, put_keeps, record_writes, writes_more}
@@ -135,7 +135,7 @@ module _ (xs : List Write) (core : Core) (h : Holding) (m : Meaning) (has : HasS
 
   -- ---- what an image in a call has
 
-  module _ (placed : Placed core.units m) (unit_is : core.log.unit ≡ core.units.srl) (i : Image) (aside : Beside (Run core.log.unit 0 (core.log.ring + 2)) m.leaves i) (k : ℕ)
+  module _ (placed : UnitsPlaced core.units m) (unit_is : core.log.unit ≡ core.units.srl) (i : Image) (aside : Beside (Run core.log.unit 0 (core.log.ring + 2)) m.leaves i) (k : ℕ)
       (recovers : Recovers core.log.ring (classes core.log.unit core.log.ring i) s.header (s.held ++ take k s.staged)) where
     first : writes_of (take k s.staged) ≡ take k xs
     first = writes_take k s.staged ∙ ap (λ (ws : List Write). take k ws) staged_is
@@ -165,19 +165,19 @@ module _ (xs : List Write) (core : Core) (h : Holding) (m : Meaning) (has : HasS
 
 -- ---- a call
 
-stage_part : (ring : ℕ) (s : State) (r : Record) (i : cells.Image) → Found ring s (Stage r) i → (k : ℕ) × Recovers ring i s.header (s.held ++ take k s.staged)
+stage_part : (ring : ℕ) (s : State) (r : Record) (i : cells.RingImage) → Found ring s (Stage r) i → (k : ℕ) × Recovers ring i s.header (s.held ++ take k s.staged)
 stage_part ring s r i (inl found) = found
 stage_part ring s r i (inr none) = absurd none
 
-seal_part : (ring : ℕ) (s : State) (i : cells.Image) → Found ring s Seal i → (k : ℕ) × Recovers ring i s.header (s.held ++ take k s.staged)
+seal_part : (ring : ℕ) (s : State) (i : cells.RingImage) → Found ring s Seal i → (k : ℕ) × Recovers ring i s.header (s.held ++ take k s.staged)
 seal_part ring s i (inl found) = found
 seal_part ring s i (inr none) = absurd none
 
-module _ (core : Core) (m m' : Meaning) (placed : Placed core.units m) (unit_is : core.log.unit ≡ core.units.srl) (few : applied_count core ≤ length core.log.held) where
+module _ (core : Core) (m m' : Meaning) (placed : UnitsPlaced core.units m) (unit_is : core.log.unit ≡ core.units.srl) (few : applied_count core ≤ length core.log.held) where
   in_log : (u b : ℕ) → Run core.log.unit 0 (core.log.ring + 2) u b → Run core.units.srl 0 (core.log.ring + 2) u b
   in_log u b is = record { there = is.there ∙ unit_is; first = is.first; last = is.last }
 
-  pub stage_moves : (r : Record) → Goes core.log (staging r) m m' → Moves (Run core.units.srl 0 (core.log.ring + 2)) (Committing core m) m m'
+  pub stage_moves : (r : Record) → RingGoes core.log (staging r) m m' → Moves (Run core.units.srl 0 (core.log.ring + 2)) (Committing core m) m m'
   stage_moves r goes =
       wider (Run core.log.unit 0 (core.log.ring + 2)) (Run core.units.srl 0 (core.log.ring + 2)) (Finding core.log (staging r) m) (Committing core m) m m' goes in_log
       (λ i aside finding. record {
@@ -186,7 +186,7 @@ module _ (core : Core) (m m' : Meaning) (placed : Placed core.units m) (unit_is 
             (part.0, part_found xs core h m has few placed unit_is i aside part.0 part.1);
       })
 
-  pub seal_moves : Goes core.log sealing m m' → Moves (Run core.units.srl 0 (core.log.ring + 2)) (Committing core m) m m'
+  pub seal_moves : RingGoes core.log sealing m m' → Moves (Run core.units.srl 0 (core.log.ring + 2)) (Committing core m) m m'
   seal_moves goes =
       wider (Run core.log.unit 0 (core.log.ring + 2)) (Run core.units.srl 0 (core.log.ring + 2)) (Finding core.log sealing m) (Committing core m) m m' goes in_log
       (λ i aside finding. record {
@@ -213,11 +213,11 @@ module _ (core : Core) (m m' : Meaning) (placed : Placed core.units m) (unit_is 
 
     -- with a write more staged
     pub stage_has : (vol start : ℕ) (bytes : List ℕ) → vol < length core.units.vols → IsBlocks bytes → start + blocks_in bytes ≤ volume_size core.units.vols m vol
-        → LeadsTo core.log (staging (record_of core.log vol start bytes)) (with_staged core vol start bytes).log m m'
+        → LeadsTo core.log (staging (record_next core.log vol start bytes)) (with_staged core vol start bytes).log m m'
         → HasStaged (xs ++ record { volume = vol; start = start; bytes = bytes } ∷ []) (with_staged core vol start bytes) h m'
     stage_has vol start bytes exists blocks within leads =
         let x : Write = write_at vol start bytes in
-        let r : Record = record_of core.log vol start bytes in
+        let r : Record = record_next core.log vol start bytes in
         let s : State = has.stands.log in
         let c : Content = h.content in
         let ready = has.stands.ready in
@@ -233,7 +233,7 @@ module _ (core : Core) (m m' : Meaning) (placed : Placed core.units m) (unit_is 
           are = more;
           whole = All-push IsWholeRecord has.records r has.whole own_whole;
           stands = record {
-            log = done core.log.ring s (Stage r);
+            log = behind_call core.log.ring s (Stage r);
             low = has.stands.low;
             writes = has.stands.writes;
             place = has.stands.place;
@@ -265,7 +265,7 @@ module _ (core : Core) (m m' : Meaning) (placed : Placed core.units m) (unit_is 
         let d : Content = fold_writes h.content xs in
         let covers = staged_covers xs core h m has few in
         record {
-          log = done core.log.ring s Seal;
+          log = behind_call core.log.ring s Seal;
           low = has.stands.low;
           writes = all_writes xs core h m has few ∙ ap (λ (ws : List Write). ws ++ xs) has.stands.writes;
           place = has.stands.place;

@@ -15,10 +15,10 @@ use Rattle.vx_overlay.specs.Writes.{entries_of, entries_at}
 use Rattle.vx_overlay.specs.declared.entry.Entry.{Entry}
 use Rattle.vx_overlay.proofs.WriteLemmas.{entries_append, entries_count}
 use Rattle.vx_ringlog.specs.Logs.{State}
-use Rattle.vx_ringlog.specs.Records.{Record, given, write_of}
+use Rattle.vx_ringlog.specs.Records.{Record, given, write_logged}
 use Rattle.vx_ringio.proofs.Following.{rest_tracks}
 use Rattle.vx_ringio.proofs.Seeing.{gave_before}
-use Rattle.vx_srl.specs.Calls.{Agrees, FetchCause, Fetches, NamesBody, update_of}
+use Rattle.vx_srl.specs.Calls.{AgreesWithFront, FetchCause, Fetches, NamesBody, update_with}
 use Rattle.vx_srl.specs.Rings.{RingOn}
 use Rattle.vx_srl.specs.Views.{IsOrdered, Log, all_of, widths}
 use Rattle.vx_srl.specs.declared.errors.SrlNo.{SrlNo}
@@ -26,7 +26,7 @@ use Rattle.vx_srl.specs.declared.errors.SrlNo.TheVariants.{NoRoom, Other, Overru
 use Rattle.vx_srl.specs.declared.kept.Kept.{Kept}
 use Rattle.vx_srl.proofs.Shared_S1.{Same, held_same, widths_append}
 use Rattle.vx_rvg.specs.Contents.{writes_of}
-use Rattle.vx_rvg.specs.Fills.{FillCause, IsFilled, NamesOne, logged_by}
+use Rattle.vx_rvg.specs.Fills.{FillCause, IsFilledTo, NamesOne, logged_by}
 use Rattle.vx_rvg.specs.Groups.{no_of}
 use Rattle.vx_rvg.specs.Stands.{IsWholeRecord}
 use Rattle.vx_rvg.specs.Views.{blocks_within, volume_size}
@@ -86,10 +86,10 @@ pub record Filling (l : Log) (vols : List ℕ) (old now : Meaning) (k room : ℕ
   pub goes : Goes Nothing old now
   pub up : IsTrue now.down → ⊥
   pub capacity : pending.capacity ≡ room
-  pub filled : IsFilled l (volume_size vols old) old k pending.entries
+  pub filled : IsFilledTo l (volume_size vols old) old k pending.entries
 
-filled_none : (l : Log) (size : ℕ → ℕ) (m : Meaning) (k : ℕ) (entries : List Entry) → k ≡ 0 → entries ≡ [] → IsFilled l size m k entries
-filled_none l size m k entries zero_is none = subst (λ (n : ℕ). IsFilled l size m n entries) (sym zero_is) (record {
+filled_none : (l : Log) (size : ℕ → ℕ) (m : Meaning) (k : ℕ) (entries : List Entry) → k ≡ 0 → entries ≡ [] → IsFilledTo l size m k entries
+filled_none l size m k entries zero_is none = subst (λ (n : ℕ). IsFilledTo l size m n entries) (sym zero_is) (record {
   count = ap (λ (es : List Entry). length es) none;
   entries_are = λ s on tells. none;
   whole = λ s on tells. All-nil IsWholeRecord;
@@ -104,7 +104,7 @@ size_of_one : (one two : ℕ → ℕ) (x : Write) → two x.volume ≡ one x.vol
 size_of_one one two x same = ap (λ (n : ℕ). (if leb (x.start + blocks_in x.bytes) n then entries_at x.volume x.start (blocks_in x.bytes) x.bytes else []) ++ []) same
 
 module _ (l : Log) (vols : List ℕ) (old mid new : Meaning) (k room : ℕ) (pending : Pending) (so : Filling l vols old mid k room pending) (n : ℕ) (at : n - l.header.low ≡ k) (update : Update)
-    (agrees : Agrees l n update) where
+    (agrees : AgreesWithFront l n update) where
   there : slice_get l.held k ≡ Some agrees.front.kept
   there = subst (λ (i : ℕ). slice_get l.held i ≡ Some agrees.front.kept) at agrees.front.there
 
@@ -166,7 +166,7 @@ module _ (l : Log) (vols : List ℕ) (old mid new : Meaning) (k room : ℕ) (pen
         ∙ sym (within_append size (take k l.held) (agrees.front.kept ∷ [])) ∙ ap (λ (ks : List Kept). blocks_within size ks) (sym held_more)
 
     module _ (s : State) (on : RingOn l s old) (tells : IsTrue old.tells) where
-      got : (r : Record) × (slice_get s.held (n - l.header.low) ≡ Some r) × (update ≡ update_of r)
+      got : (r : Record) × (slice_get s.held (n - l.header.low) ≡ Some r) × (update ≡ update_with r)
       got = gives.each s (ring_rests l s old mid so.goes so.up on) (still_tells old mid so.goes tells)
 
       at_k : slice_get s.held k ≡ Some got.0
@@ -175,13 +175,13 @@ module _ (l : Log) (vols : List ℕ) (old mid new : Meaning) (k room : ℕ) (pen
       stands_more : take (suc k) s.held ≡ take k s.held ++ got.0 ∷ []
       stands_more = take_more s.held k got.0 at_k
 
-      own_is : own ≡ entries_of size (write_of got.0 ∷ [])
+      own_is : own ≡ entries_of size (write_logged got.0 ∷ [])
       own_is = ap (λ (u : Update). entries_of size (logged_by u ∷ [])) got.2
 
       entries_more : after.entries ≡ entries_of size (writes_of (take (suc k) s.held))
       entries_more =
           added_here ∙ ap (λ (es : List Entry). es ++ own) (so.filled.entries_are s on tells) ∙ ap (λ (es : List Entry). entries_of size (writes_of (take k s.held)) ++ es) own_is
-          ∙ sym (entries_append size (writes_of (take k s.held)) (write_of got.0 ∷ [])) ∙ ap (λ (ws : List Write). entries_of size ws) (sym (map-append write_of (take k s.held) (got.0 ∷ [])))
+          ∙ sym (entries_append size (writes_of (take k s.held)) (write_logged got.0 ∷ [])) ∙ ap (λ (ws : List Write). entries_of size ws) (sym (map-append write_logged (take k s.held) (got.0 ∷ [])))
           ∙ ap (λ (rs : List Record). entries_of size (writes_of rs)) (sym stands_more)
 
       own_whole : IsWholeRecord got.0

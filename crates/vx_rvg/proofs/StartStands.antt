@@ -26,20 +26,20 @@ use Rattle.vx_ringlog.specs.Logs.{State}
 use Rattle.vx_ringlog.specs.Records.{Record}
 use Rattle.vx_ringio.specs.Classes.{classes}
 use Rattle.vx_ringio.specs.Reading.{SeesFront}
-use Rattle.vx_ringio.specs.Tracks.{Lies}
+use Rattle.vx_ringio.specs.Tracks.{RingLies}
 use Rattle.vx_ringio.proofs.Aside.{gave_aside}
 use Rattle.vx_srl.specs.Rings.{RingOn}
-use Rattle.vx_srl.specs.Damages.{SeesBody, SeesFronts, SeesOwner}
+use Rattle.vx_srl.specs.Damages.{SeesRecordBody, SeesFronts, SeesOwner}
 use Rattle.vx_srl.specs.Starts.{IsRaised, LeavesLog, Restarting}
 use Rattle.vx_srl.specs.Starts as srl
 use Rattle.vx_srl.specs.Views.{Log}
 use Rattle.vx_srl.specs.declared.kept.Kept.{Kept}
 use Rattle.vx_rvg.specs.Contents.{HasContent, HasSizes, KeepsContent, writes_of}
-use Rattle.vx_rvg.specs.Fills.{FillCause, IsFilled, NamesOne}
+use Rattle.vx_rvg.specs.Fills.{FillCause, IsFilledTo, NamesOne}
 use Rattle.vx_rvg.specs.Holdings.{Holding}
-use Rattle.vx_rvg.specs.Stands.{Found, HasMaps, IsWholeRecord, KeepsMaps, Left, Ready, Stands}
+use Rattle.vx_rvg.specs.Stands.{FoundGroup, HasMaps, IsWholeRecord, KeepsMaps, LeftGroup, Ready, Stands}
 use Rattle.vx_rvg.specs.Starts.{IsStarted, StartCause, Starting, ring_in}
-use Rattle.vx_rvg.specs.Views.{Core, IsSound, Placed, applied_count, blocks_within, unit_of, volume_size}
+use Rattle.vx_rvg.specs.Views.{Core, IsSound, UnitsPlaced, applied_count, blocks_within, unit_of, volume_size}
 use Rattle.vx_rvg.proofs.ContentFacts.{has_content, has_content_beside, has_maps, has_maps_beside, held_length, maps_moved, ring_left}
 use Rattle.vx_rvg.proofs.MakeStands.{in_volumes, sizes_moved, volume_kept}
 use Rattle.vx_rvg.proofs.ReadStands.{whole_writes}
@@ -50,7 +50,7 @@ use Rattle.vx_rvg.proofs.WriteSound.{SameSizes, lies_same, placed_same, volume_s
 -- ---- sizes
 
 -- the ring lies in its unit
-pub ring_lies : (units : Units) (m : Meaning) → Placed units m → 8 ≤ m.size units.srl → Lies units.srl (ring_in units m) m
+pub ring_lies : (units : Units) (m : Meaning) → UnitsPlaced units m → 8 ≤ m.size units.srl → RingLies units.srl (ring_in units m) m
 ring_lies units m placed large = record { exists = placed.log_exists; within = fits (m.size units.srl) large }
   where
     fits : (n : ℕ) → 8 ≤ n → ring_of n + 2 ≤ n
@@ -91,14 +91,14 @@ one_of P (y ∷ xs) (suc k) x all is = one_of P xs k x (All-tail P y xs all) is
 
 -- ---- the log that was left
 
-left_log : (units : Units) (ring : ℕ) (state : SiteState) (session stamp : ℕ) (h : Holding) (m : Meaning) (left : Left units ring state session stamp h m)
+left_log : (units : Units) (ring : ℕ) (state : SiteState) (session stamp : ℕ) (h : Holding) (m : Meaning) (left : LeftGroup units ring state session stamp h m)
     → LeavesLog units.srl ring left.header left.records m
 left_log units ring state session stamp h m left = record { kinds = left.kinds; leaves = left.leaves; recovers = left.recovers }
 
-module _ (units : Units) (ring : ℕ) (state : SiteState) (session stamp : ℕ) (h : Holding) (m : Meaning) (left : Left units ring state session stamp h m) (i : Image) (g : Header)
+module _ (units : Units) (ring : ℕ) (state : SiteState) (session stamp : ℕ) (h : Holding) (m : Meaning) (left : LeftGroup units ring state session stamp h m) (i : Image) (g : Header)
     (recovers : Recovers ring (classes units.srl ring i) g left.records) (has : HasContent units.vols h.content h.writes i) (has_them : HasMaps units h.maps i) where
   -- behind the header that was left, or one that a start writes
-  pub found_old : g ≡ left.header → Found units ring state session stamp i h
+  pub found_old : g ≡ left.header → FoundGroup units ring state session stamp i h
   found_old same = record {
     header = g;
     records = left.records;
@@ -114,7 +114,7 @@ module _ (units : Units) (ring : ℕ) (state : SiteState) (session stamp : ℕ) 
     maps = has_them;
   }
 
-  pub found_raised : IsRaised left.header g → Found units ring state (session + 1) (stamp + 3) i h
+  pub found_raised : IsRaised left.header g → FoundGroup units ring state (session + 1) (stamp + 3) i h
   found_raised is = record {
     header = g;
     records = left.records;
@@ -132,7 +132,7 @@ module _ (units : Units) (ring : ℕ) (state : SiteState) (session stamp : ℕ) 
 
 -- ---- what a crash in a start leaves
 
-module _ (units : Units) (old mid : Meaning) (placed : Placed units old) (moves : Moves (Run units.srl 0 (ring_in units old + 2)) (Restarting units.srl (ring_in units old) old) old mid) where
+module _ (units : Units) (old mid : Meaning) (placed : UnitsPlaced units old) (moves : Moves (Run units.srl 0 (ring_in units old + 2)) (Restarting units.srl (ring_in units old) old) old mid) where
   pub restarting_starts : (i : Image) → Beside (Run units.srl 0 (ring_in units old + 2)) old.leaves i → Restarting units.srl (ring_in units old) old i → Starting units old i
   restarting_starts i beside restarts = record {
     each = λ state session stamp h left.
@@ -152,8 +152,8 @@ module _ (units : Units) (old mid : Meaning) (placed : Placed units old) (moves 
       wider (Run units.srl 0 (ring_in units old + 2)) (Run units.srl 0 (ring_in units old + 2)) (Restarting units.srl (ring_in units old) old) (Starting units old) old mid moves (λ u b is. is)
       (λ i beside restarts. restarting_starts i beside restarts)
 
-  module _ (l : Log) (started : srl.IsStarted units.srl (ring_in units old) l old mid) where
-    module _ (state : SiteState) (session stamp : ℕ) (h : Holding) (left : Left units (ring_in units old) state session stamp h old) where
+  module _ (l : Log) (started : srl.IsStartedLog units.srl (ring_in units old) l old mid) where
+    module _ (state : SiteState) (session stamp : ℕ) (h : Holding) (left : LeftGroup units (ring_in units old) state session stamp h old) where
       abbrev stood : IsRaised left.header l.header × ((s : State) × RingOn l s mid × (s.held ≡ left.records) × (s.staged ≡ []) × (s.found ≡ left.records))
       stood = started.each left.header left.records (left_log units (ring_in units old) state session stamp h old left)
 
@@ -179,7 +179,7 @@ module _ (units : Units) (old mid : Meaning) (placed : Placed units old) (moves 
           let three : Recovers l.ring (classes units.srl l.ring i) l.header left.records = subst (λ (u : ℕ). Recovers l.ring (classes u l.ring i) l.header left.records) started.unit_is two in
           subst (λ (r : ℕ). Recovers r (classes units.srl r i) l.header left.records) started.ring_is three
 
-      rests_found : (i : Image) → Each mid.leaves i → Found units (ring_in units old) state (session + 1) (stamp + 3) i h
+      rests_found : (i : Image) → Each mid.leaves i → FoundGroup units (ring_in units old) state (session + 1) (stamp + 3) i h
       rests_found i each =
           found_raised units (ring_in units old) state session stamp h old left i l.header (recovers_at i each) (has_content units.vols h.content h.writes mid i kept each)
           (has_maps units h.maps mid i kept_maps (λ b. each units.maps b)) stood.0
@@ -205,11 +205,11 @@ module _ (units : Units) (old mid : Meaning) (placed : Placed units old) (moves 
     }
 
     -- and its body
-    body_there : (block : ℕ) (stored computed : List ℕ) (names : NamesOne l block stored computed mid) → IsTrue mid.tells → SeesBody units.srl (ring_in units old) names.kept.place names.kept.head computed old
+    body_there : (block : ℕ) (stored computed : List ℕ) (names : NamesOne l block stored computed mid) → IsTrue mid.tells → SeesRecordBody units.srl (ring_in units old) names.kept.place names.kept.head computed old
     body_there block stored computed names tells =
-        let sees : SeesBody units.srl (ring_in units old) names.kept.place names.kept.head computed mid
-        = subst (λ (r : ℕ). SeesBody units.srl r names.kept.place names.kept.head computed mid) started.ring_is
-        (subst (λ (u : ℕ). SeesBody u l.ring names.kept.place names.kept.head computed mid) started.unit_is (names.body tells)) in
+        let sees : SeesRecordBody units.srl (ring_in units old) names.kept.place names.kept.head computed mid
+        = subst (λ (r : ℕ). SeesRecordBody units.srl r names.kept.place names.kept.head computed mid) started.ring_is
+        (subst (λ (u : ℕ). SeesRecordBody u l.ring names.kept.place names.kept.head computed mid) started.unit_is (names.body tells)) in
         record {
           body = sees.body;
           count = sees.count;
@@ -231,7 +231,7 @@ module _ (units : Units) (old mid : Meaning) (placed : Placed units old) (moves 
     -- ---- the group that is started
 
     module _ (large : 8 ≤ old.size units.srl) (some : 0 < l.header.low) (new : Meaning) (goes : Goes Nothing mid new) (up : IsTrue new.down → ⊥) (pending : Pending)
-        (capacity : pending.capacity ≡ ring_in units old) (filled : IsFilled l (volume_size units.vols mid) mid (length l.held) pending.entries) (applied : ℕ) (below : applied + 1 ≡ l.header.low) where
+        (capacity : pending.capacity ≡ ring_in units old) (filled : IsFilledTo l (volume_size units.vols mid) mid (length l.held) pending.entries) (applied : ℕ) (below : applied + 1 ≡ l.header.low) where
       abbrev core : Core
       core = record { units = units; log = l; pending = pending; applied = applied; halted = None }
 
@@ -244,8 +244,8 @@ module _ (units : Units) (old mid : Meaning) (placed : Placed units old) (moves 
       later : SameSizes mid new
       later = record { units = goes.units; size = goes.size }
 
-      lies : Lies l.unit l.ring new
-      lies = subst (λ (u : ℕ). Lies u l.ring new) (sym started.unit_is) (subst (λ (r : ℕ). Lies units.srl r new) (sym started.ring_is)
+      lies : RingLies l.unit l.ring new
+      lies = subst (λ (u : ℕ). RingLies u l.ring new) (sym started.unit_is) (subst (λ (r : ℕ). RingLies units.srl r new) (sym started.ring_is)
           (lies_same units.srl (ring_in units old) old new sizes (ring_lies units old placed large)))
 
       counted : length pending.entries ≡ blocks_within (volume_size units.vols new) (drop (applied_count core) l.held)
@@ -267,7 +267,7 @@ module _ (units : Units) (old mid : Meaning) (placed : Placed units old) (moves 
         waiting = counted;
       }
 
-      module _ (state : SiteState) (session stamp : ℕ) (h : Holding) (left : Left units (ring_in units old) state session stamp h old) where
+      module _ (state : SiteState) (session stamp : ℕ) (h : Holding) (left : LeftGroup units (ring_in units old) state session stamp h old) where
         abbrev s : State
         s = (stood state session stamp h left).1.0
 
@@ -353,7 +353,7 @@ module _ (units : Units) (old mid : Meaning) (placed : Placed units old) (moves 
       group_sound copy same = subst (λ (u : Units). IsSound (record { units = u; log = l; pending = pending; applied = applied; halted = None }) new) (sym same) sound
 
 -- the log could not be started
-pub log_stops : (units : Units) (old new : Meaning) (why : No) → srl.StartCause units.srl (ring_in units old) old new why → StartCause units old new why
+pub log_stops : (units : Units) (old new : Meaning) (why : No) → srl.LogStartCause units.srl (ring_in units old) old new why → StartCause units old new why
 log_stops units old new no.NoConfig cause = (cause.0, (λ state session stamp h left. cause.1 left.header left.records (left_log units (ring_in units old) state session stamp h old left)))
 log_stops units old new (no.Damaged unit block stored computed) cause = (
   cause.0,

@@ -10,7 +10,7 @@ use Rattle.vx_disk.specs.Moves.{Moves, Run}
 use Rattle.vx_disk.specs.Shelf.{Image, Meaning}
 use Rattle.vx_disk.proofs.Moving.{goes_on, wider}
 use Rattle.vx_srl.specs.Views.{Log, most_number}
-use Rattle.vx_rvg.specs.Groups.{unless_halted}
+use Rattle.vx_rvg.specs.Groups.{halted_or}
 use Rattle.vx_rvg.specs.Holdings.{Holding, kept_in, with_content}
 use Rattle.vx_rvg.specs.Saves.{SaveIs, reclaim_refusal, reclaimed}
 use Rattle.vx_rvg.specs.Stands.{FoundAs, Retains, Saving, Stands}
@@ -32,7 +32,7 @@ none_left : (t rest : Bool) → t ≡ false → (if t && rest then Some (Limit N
 none_left true rest is = cc
 none_left false rest is = refl
 
-none_up : (halted : Option ℕ) (rest : Option No) → halted ≡ None → rest ≡ None → unless_halted halted rest ≡ None
+none_up : (halted : Option ℕ) (rest : Option No) → halted ≡ None → rest ≡ None → halted_or halted rest ≡ None
 none_up (Some disk) rest up none = cc
 none_up None rest up none = none
 

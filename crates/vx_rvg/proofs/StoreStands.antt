@@ -18,7 +18,7 @@ use Rattle.vx_ringio.specs.Classes.{classes}
 use Rattle.vx_ringio.proofs.Following.{image_beside, tracks_beside}
 use Rattle.vx_disk.specs.Causes.{DeviceCause, refusal_of}
 use Rattle.vx_rvg.specs.Contents.{HasContent, KeepsContent, writes_of}
-use Rattle.vx_rvg.specs.Groups.{halted_by}
+use Rattle.vx_rvg.specs.Groups.{core_halted}
 use Rattle.vx_rvg.specs.Holdings.{Holding, with_content}
 use Rattle.vx_rvg.specs.Stands.{FoundAs, Ready, Stands}
 use Rattle.vx_rvg.specs.Stores.{AreBlocks, IsPartly, Putting, PutsInto}
@@ -213,7 +213,7 @@ module _ (core : Core) (vol start : ℕ) (bytes : List ℕ) (m m' : Meaning) (so
   pub store_puts : KeepsAll m' u start bytes → (IsTrue m'.down → ⊥) → PutsInto core core (write_at vol start bytes) m m'
   store_puts kept up = record { each = λ h stands. store_stands kept up h stands }
 
-  pub store_fails : (why : No) → DeviceCause m m' why → IsSound (halted_by why core) m'
+  pub store_fails : (why : No) → DeviceCause m m' why → IsSound (core_halted why core) m'
   store_fails why cause =
       failed_sound core core.log m m' why (moved_sizes (Run (unit_of core.units.vols vol) start (blocks_in bytes)) (Putting core (write_at vol start bytes) m) m m' store_moves) sound
       (record { unit = refl; ring = refl; header = refl; held = refl }) cause

@@ -16,10 +16,10 @@ use Rattle.vx_overlay.specs.Writes.{entries_at}
 use Rattle.vx_overlay.specs.declared.entry.Entry.{Entry}
 use Rattle.vx_ringio.specs.Spends.{MakesAtLeast}
 use Rattle.vx_ringio.proofs.Spending.{at_least, then_at_least}
-use Rattle.vx_srl.specs.Views.{Log, kept_of, most_number, next_of}
+use Rattle.vx_srl.specs.Views.{Log, kept_record, most_number, next_of}
 use Rattle.vx_srl.specs.declared.kept.Kept.{Kept}
 use Rattle.vx_rvg.specs.Commits.{Committing, Halts, HasStaged, Seals, StageIs, number_refusal, with_sealed, with_staged}
-use Rattle.vx_rvg.specs.Groups.{Fails, Writes, halted_by, with_write}
+use Rattle.vx_rvg.specs.Groups.{GroupFails, Writes, core_halted, core_with_write}
 use Rattle.vx_rvg.specs.Holdings.{Holding, with_writes}
 use Rattle.vx_rvg.specs.Logging.{LogEnded}
 use Rattle.vx_rvg.specs.Stands.{FoundAs, Stands, Writing}
@@ -43,12 +43,12 @@ no_part zero = refl
 no_part (suc k) = refl
 
 -- a call that fails keeps what waits
-cut_is : (m m' : Meaning) (why : No) → DeviceCause m m' why → (x : Core) (p : Pending) → record (halted_by why x) { pending = p } ≡ halted_by why (record x { pending = p })
+cut_is : (m m' : Meaning) (why : No) → DeviceCause m m' why → (x : Core) (p : Pending) → record (core_halted why x) { pending = p } ≡ core_halted why (record x { pending = p })
 cut_is m m' (no.Device disk) cause x p = refl
 cut_is m m' no.Down cause x p = refl
 cut_is m m' other cause x p = absurd cause
 
-waits_as : (m m' : Meaning) (why : No) → DeviceCause m m' why → (x : Core) → (halted_by why x).pending ≡ x.pending
+waits_as : (m m' : Meaning) (why : No) → DeviceCause m m' why → (x : Core) → (core_halted why x).pending ≡ x.pending
 waits_as m m' (no.Device disk) cause x = refl
 waits_as m m' no.Down cause x = refl
 waits_as m m' other cause x = absurd cause
@@ -88,8 +88,8 @@ module _ (core : Core) (vol start : ℕ) (bytes : List ℕ) (m m1 : Meaning) (so
     same_log : LogEnded core.log core.log
     same_log = record { unit = refl; ring = refl; header = refl; held = refl }
 
-    pub stage_fails : Fails core m m1 after why
-    stage_fails = subst (λ (k : Core). Fails core m m1 k why) (sym halts.0) (log_failed core core.log m m1 why same_log halts.1)
+    pub stage_fails : GroupFails core m m1 after why
+    stage_fails = subst (λ (k : Core). GroupFails core m m1 k why) (sym halts.0) (log_failed core core.log m m1 why same_log halts.1)
 
     pub stage_leaves : IsSound after m1
     stage_leaves =
@@ -111,7 +111,7 @@ module _ (core : Core) (vol start : ℕ) (bytes : List ℕ) (m m1 : Meaning) (so
     one_staged : length mid.log.staged ≡ 1
     one_staged =
         ap (λ (k : Core). length k.log.staged) mid_is
-        ∙ ap (λ (ks : List Kept). length (ks ++ kept_of core.log vol start bytes ∷ [])) idle
+        ∙ ap (λ (ks : List Kept). length (ks ++ kept_record core.log vol start bytes ∷ [])) idle
 
     three : (m2 : Meaning) → (0 < length mid.log.staged → MakesCalls (length mid.log.staged + 2) m1 m2) → MakesCalls 3 m1 m2
     three m2 made = subst (λ (k : ℕ). MakesCalls (k + 2) m1 m2) one_staged (made (omega (arith, one_staged)))
@@ -147,13 +147,13 @@ module _ (core : Core) (vol start : ℕ) (bytes : List ℕ) (m m1 : Meaning) (so
 
       -- the seal answers
       module _ (after : Core) (last : ℕ) (sealed : Seals mid m1 m2 after (Ok last)) where
-        after_is : after ≡ with_write core vol start bytes
+        after_is : after ≡ core_with_write core vol start bytes
         after_is = sealed.1 ∙ ap (λ (k : Core). with_sealed k) mid_is
 
         pub write_answers : Writes core vol start bytes m m2 after (Ok last)
         write_answers =
-            let ks : List Kept = core.log.staged ++ kept_of core.log vol start bytes ∷ [] in
-            let one : length ks ≡ 1 = ap (λ (l : List Kept). length (l ++ kept_of core.log vol start bytes ∷ [])) idle in
+            let ks : List Kept = core.log.staged ++ kept_record core.log vol start bytes ∷ [] in
+            let one : length ks ≡ 1 = ap (λ (l : List Kept). length (l ++ kept_record core.log vol start bytes ∷ [])) idle in
             let top : last ≡ last_of (with_sealed (with_staged core vol start bytes)) = sealed.0 ∙ ap (λ (k : Core). last_of (with_sealed k)) mid_is in
             (omega (arith, top, one, some, length-append core.log.held ks), after_is, sealed.2)
 
@@ -169,8 +169,8 @@ module _ (core : Core) (vol start : ℕ) (bytes : List ℕ) (m m1 : Meaning) (so
         cause : DeviceCause m m2 why
         cause = cause_from m m1 m2 why moves.disk_faults sealed.1
 
-        held_is : held ≡ halted_by why (with_staged core vol start bytes)
-        held_is = is ∙ sealed.0 ∙ ap (λ (k : Core). halted_by why k) mid_is
+        held_is : held ≡ core_halted why (with_staged core vol start bytes)
+        held_is = is ∙ sealed.0 ∙ ap (λ (k : Core). core_halted why k) mid_is
 
         waits_more : held.pending ≡ record core.pending { entries = core.pending.entries ++ entries_at vol start (blocks_in bytes) bytes }
         waits_more = ap (λ (k : Core). k.pending) held_is ∙ waits_as m m2 why cause (with_staged core vol start bytes)
@@ -189,16 +189,16 @@ module _ (core : Core) (vol start : ℕ) (bytes : List ℕ) (m m1 : Meaning) (so
           abbrev left : Core
           left = record core { log = (with_staged core vol start bytes).log }
 
-          cut : record held { pending = pending } ≡ halted_by why (record core { log = (with_staged core vol start bytes).log })
+          cut : record held { pending = pending } ≡ core_halted why (record core { log = (with_staged core vol start bytes).log })
           cut =
               ap (λ (k : Core). record k { pending = pending }) held_is ∙ cut_is m m2 why cause (with_staged core vol start bytes) pending
-              ∙ ap (λ (p : Pending). halted_by why (record left { pending = p })) pending_as
+              ∙ ap (λ (p : Pending). core_halted why (record left { pending = p })) pending_as
 
           ended : LogEnded core.log (with_staged core vol start bytes).log
           ended = record { unit = refl; ring = refl; header = refl; held = refl }
 
-          pub seal_fails : Fails core m m2 (record held { pending = pending }) why
-          seal_fails = subst (λ (k : Core). Fails core m m2 k why) (sym cut) (log_failed core (with_staged core vol start bytes).log m m2 why ended cause)
+          pub seal_fails : GroupFails core m m2 (record held { pending = pending }) why
+          seal_fails = subst (λ (k : Core). GroupFails core m m2 k why) (sym cut) (log_failed core (with_staged core vol start bytes).log m m2 why ended cause)
 
           pub seal_leaves : IsSound (record held { pending = pending }) m2
           seal_leaves =

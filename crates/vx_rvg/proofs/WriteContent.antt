@@ -5,19 +5,19 @@ use Rattle.std.proofs.lemmas.List.{map-append}
 use Rattle.std.proofs.lemmas.Nat.{div-add-mod'}
 use Rattle.vx_model.specs.Content.{Content, Write, put}
 use Rattle.vx_disk.specs.Shelf.{Meaning, Image, Keeps}
-use Rattle.vx_ringlog.specs.Records.{Record, write_of}
+use Rattle.vx_ringlog.specs.Records.{Record, write_logged}
 use Rattle.vx_ringlog.proofs.Blocks.{given_comes_back}
 use Rattle.vx_ringio.specs.Bodies.{IsBlocks, all_blocks}
 use Rattle.vx_ringio.proofs.Bodies.{whole_blocks, concat_blocks}
-use Rattle.vx_overlay.specs.Pending.{or_else}
+use Rattle.vx_overlay.specs.Pending.{newer_or}
 use Rattle.vx_overlay.specs.Writes.{newest_of, put_there}
 use Rattle.vx_overlay.proofs.WriteLemmas.{newest_append, put_block}
-use Rattle.vx_srl.specs.Views.{Log, record_of}
+use Rattle.vx_srl.specs.Views.{Log, record_next}
 use Rattle.vx_rvg.specs.Contents.{writes_of, KeepsContent, HasContent}
 use Rattle.vx_rvg.specs.Views.{unit_of}
 
 put_case : (o w : Option (List ℕ)) (old new : List ℕ) (P Q : List ℕ → Type 0) → new ≡ unwrap_or o old → ((y : List ℕ) → P y → Q y)
-    → MatchOption w (P old) (λ bytes. bytes ≡ old) → MatchOption (or_else o w) (Q new) (λ bytes. bytes ≡ new)
+    → MatchOption w (P old) (λ bytes. bytes ≡ old) → MatchOption (newer_or o w) (Q new) (λ bytes. bytes ≡ new)
 put_case (Some bytes) w old new P Q is to before = sym is
 put_case None (Some bytes) old new P Q is to before = before ∙ sym is
 put_case None None old new P Q is to before = subst (λ (y : List ℕ). Q y) (sym is) (to old before)
@@ -27,7 +27,7 @@ module _ (c : Content) (x : Write) (ws : List Write) (v b : ℕ) (P Q : List ℕ
   pub put_more : ((y : List ℕ) → P y → Q y) → MatchOption (newest_of c.size ws v b) (P (c.block v b)) (λ bytes. bytes ≡ c.block v b)
       → MatchOption (newest_of c.size (ws ++ x ∷ []) v b) (Q ((put c x).block v b)) (λ bytes. bytes ≡ (put c x).block v b)
   put_more to before =
-      let more : newest_of c.size (ws ++ x ∷ []) v b ≡ or_else (put_there c.size x v b) (newest_of c.size ws v b) = newest_append c.size ws (x ∷ []) v b in
+      let more : newest_of c.size (ws ++ x ∷ []) v b ≡ newer_or (put_there c.size x v b) (newest_of c.size ws v b) = newest_append c.size ws (x ∷ []) v b in
       subst (λ (o : Option (List ℕ)). MatchOption o (Q ((put c x).block v b)) (λ bytes. bytes ≡ (put c x).block v b)) (sym more)
       (put_case (put_there c.size x v b) (newest_of c.size ws v b) (c.block v b) ((put c x).block v b) P Q (put_block c x v b) to before)
 
@@ -49,13 +49,13 @@ module _ (vols : List ℕ) (c : Content) (x : Write) (ws : List Write) where
 
 -- ---- the record of a write
 
-pub writes_more : (rs : List Record) (r : Record) (x : Write) → write_of r ≡ x → writes_of (rs ++ r ∷ []) ≡ writes_of rs ++ x ∷ []
-writes_more rs r x is = map-append write_of rs (r ∷ []) ∙ ap (λ (y : Write). writes_of rs ++ y ∷ []) is
+pub writes_more : (rs : List Record) (r : Record) (x : Write) → write_logged r ≡ x → writes_of (rs ++ r ∷ []) ≡ writes_of rs ++ x ∷ []
+writes_more rs r x is = map-append write_logged rs (r ∷ []) ∙ ap (λ (y : Write). writes_of rs ++ y ∷ []) is
 
-pub record_writes : (l : Log) (vol start : ℕ) (bytes : List ℕ) → IsBlocks bytes → write_of (record_of l vol start bytes) ≡ record { volume = vol; start = start; bytes = bytes }
+pub record_writes : (l : Log) (vol start : ℕ) (bytes : List ℕ) → IsBlocks bytes → write_logged (record_next l vol start bytes) ≡ record { volume = vol; start = start; bytes = bytes }
 record_writes l vol start bytes blocks =
     ap (λ (b : List ℕ). record { volume = vol; start = start; bytes = b })
-    (given_comes_back (record_of l vol start bytes) (all_blocks bytes) (whole_blocks (length bytes / 512) bytes all) (record { firsts = refl; body = refl }) ∙ concat_blocks (length bytes / 512) bytes all)
+    (given_comes_back (record_next l vol start bytes) (all_blocks bytes) (whole_blocks (length bytes / 512) bytes all) (record { firsts = refl; body = refl }) ∙ concat_blocks (length bytes / 512) bytes all)
   where
     all : length bytes ≡ 512 * (length bytes / 512)
     all = omega (arith, blocks.whole, div-add-mod' (length bytes) 512)

@@ -3,6 +3,7 @@ use Rattle.std.proofs.Common.{◌≡◌, ℕ, ◌+◌, ◌*◌, ◌<◌, ◌≤�
 use Rattle.std.specs.Prelude.{if◌then◌else◌, leb, ltb}
 use Rattle.std.proofs.lemmas.Option.{none-some}
 use Rattle.std.proofs.lemmas.List.Sums.{sum_by-cons}
+use Rattle.vx_disk.specs.Maps.{maps_of}
 use Rattle.vx_model.specs.Sizes.{map_blocks}
 use Rattle.vx_model.specs.declared.limits.TheConstants.{LINK_PLACES}
 use Rattle.vx_model.specs.declared.no.No.{No}
@@ -11,13 +12,13 @@ use Rattle.vx_model.specs.declared.units.Units.{Units}
 use Rattle.vx_srlfmt.specs.declared.header.Header.{Header}
 use Rattle.vx_disk.specs.Moves.{Blocks, Moves, Says}
 use Rattle.vx_disk.specs.Shelf.{Meaning}
-use Rattle.vx_ringio.specs.Tracks.{Lies}
+use Rattle.vx_ringio.specs.Tracks.{RingLies}
 use Rattle.vx_disk.specs.Causes.{DeviceCause}
 use Rattle.vx_srl.specs.Views.{Log}
 use Rattle.vx_srl.specs.declared.kept.Kept.{Kept}
-use Rattle.vx_rvg.specs.Groups.{Ended, Fails, halted_by}
+use Rattle.vx_rvg.specs.Groups.{Ended, GroupFails, core_halted}
 use Rattle.vx_rvg.specs.Logging.{LogEnded}
-use Rattle.vx_rvg.specs.Views.{Core, IsSound, Placed, applied_count, blocks_within, maps_of, unit_of, volume_size}
+use Rattle.vx_rvg.specs.Views.{Core, IsSound, UnitsPlaced, applied_count, blocks_within, unit_of, volume_size}
 
 -- ---- sizes that a call leaves
 
@@ -40,7 +41,7 @@ maps_same m m' same (u ∷ us) =
 pub maps_fit_as : (units : Units) (m m' : Meaning) → ((u : ℕ) → m'.size u ≡ m.size u) → LINK_PLACES * maps_of units.vols m ≤ m.size units.maps → LINK_PLACES * maps_of units.vols m' ≤ m'.size units.maps
 maps_fit_as units m m' same fit = let maps = maps_same m m' same units.vols in omega (arith, maps, same units.maps, fit)
 
-pub placed_same : (units : Units) (m m' : Meaning) → SameSizes m m' → Placed units m → Placed units m'
+pub placed_same : (units : Units) (m m' : Meaning) → SameSizes m m' → UnitsPlaced units m → UnitsPlaced units m'
 placed_same units m m' same placed = record {
   log_exists = omega (arith, same.units, placed.log_exists);
   maps_exist = omega (arith, same.units, placed.maps_exist);
@@ -52,7 +53,7 @@ placed_same units m m' same placed = record {
   maps_fit = maps_fit_as units m m' same.size placed.maps_fit;
 }
 
-pub lies_same : (unit ring : ℕ) (m m' : Meaning) → SameSizes m m' → Lies unit ring m → Lies unit ring m'
+pub lies_same : (unit ring : ℕ) (m m' : Meaning) → SameSizes m m' → RingLies unit ring m → RingLies unit ring m'
 lies_same unit ring m m' same lies = record { exists = omega (arith, same.units, lies.exists); within = omega (arith, same.size unit, lies.within) }
 
 pub volume_same : (vols : List ℕ) (m m' : Meaning) → SameSizes m m' → (v : ℕ) → volume_size vols m' v ≡ volume_size vols m v
@@ -104,7 +105,7 @@ up_or_down true is not = let wrong : true ≡ false = not in cc
 up_or_down false is not = let wrong : false ≡ true = is in cc
 
 -- a call on the log that a device call ended
-pub log_failed : (core : Core) (l' : Log) (m m' : Meaning) (why : No) → LogEnded core.log l' → DeviceCause m m' why → Fails core m m' (halted_by why (record core { log = l' })) why
+pub log_failed : (core : Core) (l' : Log) (m m' : Meaning) (why : No) → LogEnded core.log l' → DeviceCause m m' why → GroupFails core m m' (core_halted why (record core { log = l' })) why
 log_failed core l' m m' (no.Device disk) ended cause = (core_ended core l' (Some disk) ended, cause)
 log_failed core l' m m' no.Down ended cause = (core_ended core l' core.halted ended, cause)
 log_failed core l' m m' other ended cause = absurd cause
@@ -119,7 +120,7 @@ kept_sound core m m' same falls sound =
     ended_sound core core.log core.halted m m' same sound (record { unit = refl; ring = refl; header = refl; held = refl })
     (λ running up. sound.idle running (was_up m.down m'.down falls up))
 
-pub failed_sound : (core : Core) (l' : Log) (m m' : Meaning) (why : No) → SameSizes m m' → IsSound core m → LogEnded core.log l' → DeviceCause m m' why → IsSound (halted_by why (record core { log = l' })) m'
+pub failed_sound : (core : Core) (l' : Log) (m m' : Meaning) (why : No) → SameSizes m m' → IsSound core m → LogEnded core.log l' → DeviceCause m m' why → IsSound (core_halted why (record core { log = l' })) m'
 failed_sound core l' m m' (no.Device disk) same sound ended cause =
     ended_sound core l' (Some disk) m m' same sound ended (λ none up. absurd (none-some disk (sym none)))
 failed_sound core l' m m' no.Down same sound ended cause =

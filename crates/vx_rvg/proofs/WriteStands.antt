@@ -6,13 +6,13 @@ use Rattle.std.proofs.lemmas.Bool.Decides.{nat_tests}
 use Rattle.std.proofs.lemmas.Option.{none-some}
 use Rattle.vx_model.specs.Content.{Write, blocks_in}
 use Rattle.vx_disk.specs.Shelf.{Meaning}
-use Rattle.vx_overlay.specs.Pending.{or_else}
+use Rattle.vx_overlay.specs.Pending.{newer_or}
 use Rattle.vx_overlay.specs.Writes.{entries_at, entries_of}
 use Rattle.vx_overlay.proofs.WriteLemmas.{its_entries}
 use Rattle.vx_rvg.specs.Views.{unit_of, volume_size}
 
 -- neither of two has bytes
-pub both_none : (later here : Option (List ℕ)) → or_else later here ≡ None → (later ≡ None) × (here ≡ None)
+pub both_none : (later here : Option (List ℕ)) → newer_or later here ≡ None → (later ≡ None) × (here ≡ None)
 both_none (Some bytes) here is = absurd (none-some bytes (sym is))
 both_none None here is = (refl, is)
 

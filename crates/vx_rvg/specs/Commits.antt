@@ -8,25 +8,25 @@ use Rattle.vx_disk.specs.Causes.{DeviceCause}
 use Rattle.vx_disk.specs.Shelf.{Meaning, Image}
 use Rattle.vx_overlay.specs.Writes.{entries_at}
 use Rattle.vx_ringlog.specs.Records.{Record}
-use Rattle.vx_srl.specs.Calls.{sealed, staged_with}
-use Rattle.vx_srl.specs.Views.{most_number, next_of, kept_of}
+use Rattle.vx_srl.specs.Calls.{sealed_log, staged_with}
+use Rattle.vx_srl.specs.Views.{most_number, next_of, kept_record}
 use Rattle.vx_rvg.specs.Contents.{writes_of}
-use Rattle.vx_rvg.specs.Groups.{halted_by, unless_halted, write_refusal}
+use Rattle.vx_rvg.specs.Groups.{core_halted, halted_or, write_refusal}
 use Rattle.vx_rvg.specs.Holdings.{Holding, with_writes}
 use Rattle.vx_rvg.specs.Stands.{FoundAs, IsWholeRecord, StandsWith}
-use Rattle.vx_rvg.specs.Stores.{or_else}
+use Rattle.vx_rvg.specs.Stores.{refusal_or}
 use Rattle.vx_rvg.specs.Views.{Core, blocks_within, last_of}
 
 -- the group with one write more staged, whose blocks wait
 abbrev pub with_staged : Core → ℕ → ℕ → List ℕ → Core
 with_staged c vol start bytes = record c {
-  log = staged_with c.log (kept_of c.log vol start bytes);
+  log = staged_with c.log (kept_record c.log vol start bytes);
   pending = record c.pending { entries = c.pending.entries ++ entries_at vol start (blocks_in bytes) bytes };
 }
 
 -- the group with all that is staged as part of its log
 abbrev pub with_sealed : Core → Core
-with_sealed c = record c { log = sealed c.log }
+with_sealed c = record c { log = sealed_log c.log }
 
 -- the group where only so many of the blocks wait, the oldest ones
 abbrev pub with_oldest : ℕ → Core → Core
@@ -42,15 +42,15 @@ number_refusal c = if ltb most_number (next_of c.log) then Some (Limit Number mo
 
 -- why a write of so many blocks is not staged: as a write is refused, or since no number is left behind what is staged
 abbrev pub stage_refusal : Core → ℕ → ℕ → ℕ → Option No
-stage_refusal c size start count = or_else (write_refusal c size start count) (number_refusal c)
+stage_refusal c size start count = refusal_or (write_refusal c size start count) (number_refusal c)
 
 -- why what is staged is not sealed: a call answered 7 before, or the shelf is down
 abbrev pub seal_refusal : Core → Meaning → Option No
-seal_refusal c m = unless_halted c.halted (if m.down then Some Down else None)
+seal_refusal c m = halted_or c.halted (if m.down then Some Down else None)
 
 -- a device call failed: a 7 halts the group, and all else is as it was
 abbrev pub Halts : Core → Meaning → Meaning → Core → No → Type 0
-Halts c old new c' why = (c' ≡ halted_by why c) × DeviceCause old new why
+Halts c old new c' why = (c' ≡ core_halted why c) × DeviceCause old new why
 
 -- a write that is not refused is staged: the number that it will have, or a device call failed
 abbrev pub Stages : Core → ℕ → ℕ → List ℕ → Meaning → Meaning → Core → Result ℕ No → Type 0

@@ -3,12 +3,12 @@ use Rattle.std.specs.Prelude.{◌≡◌, ℕ, ◌+◌, ◌<◌, ◌≤◌, Match
 use Rattle.vx_model.specs.Content.{Content, Write, block_of}
 use Rattle.vx_disk.specs.Shelf.{Meaning, Image, Keeps}
 use Rattle.vx_overlay.specs.Writes.{newest_of}
-use Rattle.vx_ringlog.specs.Records.{Record, write_of}
+use Rattle.vx_ringlog.specs.Records.{Record, write_logged}
 use Rattle.vx_rvg.specs.Views.{unit_of}
 
 -- the writes that records log
 abbrev pub writes_of : List Record → List Write
-writes_of rs = map write_of rs
+writes_of rs = map write_logged rs
 
 -- the content has the volumes of these units, each with the unit's size, and no other
 pub record HasSizes (vols : List ℕ) (c : Content) (m : Meaning) : Type 0 where
@@ -24,5 +24,5 @@ pub record HasContent (vols : List ℕ) (c : Content) (xs : List Write) (i : Ima
   pub each : (v b : ℕ) → b < c.size v → MatchOption (newest_of c.size xs v b) (i (unit_of vols v) b ≡ c.block v b) (λ bytes. bytes ≡ c.block v b)
 
 -- block by block these bytes are those of the content
-pub record Shows (c : Content) (volume start count : ℕ) (bytes : List ℕ) : Type 0 where
+pub record ShowsContent (c : Content) (volume start count : ℕ) (bytes : List ℕ) : Type 0 where
   pub each : (k : ℕ) → k < count → block_of bytes k ≡ c.block volume (start + k)

@@ -11,7 +11,7 @@ use Rattle.vx_ringlog.specs.Chain.{block as block_of}
 use Rattle.vx_ringlog.specs.Logs.{State}
 use Rattle.vx_disk.specs.Causes.{DeviceCause}
 use Rattle.vx_srl.specs.Rings.{RingOn}
-use Rattle.vx_srl.specs.Damages.{SeesBody}
+use Rattle.vx_srl.specs.Damages.{SeesRecordBody}
 use Rattle.vx_srl.specs.Views.{Log}
 use Rattle.vx_srl.specs.declared.kept.Kept.{Kept}
 use Rattle.vx_rvg.specs.Contents.{writes_of}
@@ -24,7 +24,7 @@ logged_by u = record { volume = u.vol; start = u.block; bytes = u.bytes }
 
 -- As many blocks wait as the first k records put within their volumes. Of whatever log stands on the shelf, they are the blocks of its
 -- first k writes, which are whole.
-pub record IsFilled (l : Log) (size : ℕ → ℕ) (m : Meaning) (k : ℕ) (entries : List Entry) : Type 0 where
+pub record IsFilledTo (l : Log) (size : ℕ → ℕ) (m : Meaning) (k : ℕ) (entries : List Entry) : Type 0 where
   pub count : length entries ≡ blocks_within size (take k l.held)
   pub entries_are : (s : State) → RingOn l s m → IsTrue m.tells → entries ≡ entries_of size (writes_of (take k s.held))
   pub whole : (s : State) → RingOn l s m → IsTrue m.tells → All IsWholeRecord (take k s.held)
@@ -36,7 +36,7 @@ pub record NamesOne (l : Log) (block : ℕ) (stored computed : List ℕ) (m : Me
   pub there : slice_get l.held place ≡ Some kept
   pub at : block ≡ block_of l.ring (kept.place + 1)
   pub stored_is : stored ≡ kept.head.digest
-  pub body : IsTrue m.tells → SeesBody l.unit l.ring kept.place kept.head computed m
+  pub body : IsTrue m.tells → SeesRecordBody l.unit l.ring kept.place kept.head computed m
 
 -- why a log is not read to its end: a body is damaged, which a log that stands there does not give, or a device call failed
 abbrev pub FillCause : Log → Meaning → Meaning → No → Type 0

@@ -7,7 +7,7 @@ use Rattle.vx_model.specs.declared.units.Units.{Units}
 use Rattle.vx_srlfmt.specs.declared.header.Header.{Header}
 use Rattle.vx_disk.specs.Shelf.{Meaning, Image, Keeps}
 use Rattle.vx_overlay.specs.Pending.{newest}
-use Rattle.vx_ringlog.specs.Cells.{Image as Kinds}
+use Rattle.vx_ringlog.specs.Cells.{RingImage as Kinds}
 use Rattle.vx_ringlog.specs.Chain.{Recovers}
 use Rattle.vx_ringlog.specs.Logs.{State}
 use Rattle.vx_ringlog.specs.Records.{Record, given}
@@ -63,7 +63,7 @@ pub record HasMaps (units : Units) (maps : List (List ℕ)) (i : Image) : Type 0
   pub each : (b : ℕ) (bytes : List ℕ) → slice_get maps b ≡ Some bytes → i units.maps b ≡ bytes
 
 -- the volumes by themselves have the content, and the map unit has these blocks
-pub record Holds (units : Units) (c : Content) (maps : List (List ℕ)) (m : Meaning) : Type 0 where
+pub record HoldsContent (units : Units) (c : Content) (maps : List (List ℕ)) (m : Meaning) : Type 0 where
   pub sizes : HasSizes units.vols c m
   pub blocks : (v b : ℕ) → b < c.size v → Keeps m (unit_of units.vols v) b (c.block v b)
   pub maps_are : KeepsMaps units maps m
@@ -83,7 +83,7 @@ Stands core h m = StandsWith [] core h m
 
 -- An image has a log of this state and session, with a stamp up to this one, that has these writes from the first number and the first
 -- place on and no other; the content with them; and the maps.
-pub record Found (units : Units) (ring : ℕ) (state : SiteState) (session stamp : ℕ) (i : Image) (h : Holding) : Type 0 where
+pub record FoundGroup (units : Units) (ring : ℕ) (state : SiteState) (session stamp : ℕ) (i : Image) (h : Holding) : Type 0 where
   pub header : Header
   pub records : List Record
   pub recovers : Recovers ring (classes units.srl ring i) header records
@@ -99,7 +99,7 @@ pub record Found (units : Units) (ring : ℕ) (state : SiteState) (session stamp
 
 -- the same with the state and the session that the group has
 abbrev pub FoundAs : Core → Image → Holding → Type 0
-FoundAs core i h = Found core.units core.log.ring core.log.header.state core.log.header.incarnation core.log.header.stamp i h
+FoundAs core i h = FoundGroup core.units core.log.ring core.log.header.state core.log.header.incarnation core.log.header.stamp i h
 
 -- Of whatever the group held: an image in the logging of these writes has it, with a first part of them, which may be none or all.
 pub record Writing (core : Core) (xs : List Write) (m : Meaning) (i : Image) : Type 0 where
@@ -123,7 +123,7 @@ pub record Saving (core after : Core) (m : Meaning) (i : Image) : Type 0 where
 
 -- Whatever a crash left, it is one log, of this state and session, that has these writes from the first number and the first place on
 -- and no other; the content with them; and the maps.
-pub record Left (units : Units) (ring : ℕ) (state : SiteState) (session stamp : ℕ) (h : Holding) (m : Meaning) : Type 0 where
+pub record LeftGroup (units : Units) (ring : ℕ) (state : SiteState) (session stamp : ℕ) (h : Holding) (m : Meaning) : Type 0 where
   pub header : Header
   pub records : List Record
   pub kinds : Kinds
@@ -141,6 +141,6 @@ pub record Left (units : Units) (ring : ℕ) (state : SiteState) (session stamp 
   pub maps : KeepsMaps units h.maps m
 
 -- what a fetch of a number gives: the write that the group holds under it, on the line of its log
-pub record Gives (core : Core) (n : ℕ) (m : Meaning) (update : Update) : Type 0 where
+pub record GivesWrite (core : Core) (n : ℕ) (m : Meaning) (update : Update) : Type 0 where
   pub each : (h : Holding) → Stands core h m → IsTrue m.tells
       → (x : Write) × (slice_get h.writes (n - h.low) ≡ Some x) × (update ≡ update_of core.log.header.state.line n x)

@@ -15,7 +15,7 @@ use Rattle.vx_srl.specs.Damages.{HasDamage}
 use Rattle.vx_srl.specs.Starts.{NoHeader}
 use Rattle.vx_srl.specs.Views.{most_number}
 use Rattle.vx_rvg.specs.Holdings.{Holding}
-use Rattle.vx_rvg.specs.Stands.{Left, Found, Stands}
+use Rattle.vx_rvg.specs.Stands.{LeftGroup, FoundGroup, Stands}
 use Rattle.vx_rvg.specs.Views.{Core}
 
 -- the ring of the log's unit
@@ -28,17 +28,17 @@ pub record IsStarted (units : Units) (old : Meaning) (core : Core) (new : Meanin
   pub ring_is : core.log.ring ≡ ring_in units old
   pub applied : core.applied + 1 ≡ core.log.header.low
   pub running : core.halted ≡ None
-  pub each : (state : SiteState) (session stamp : ℕ) (h : Holding) → Left units (ring_in units old) state session stamp h old
+  pub each : (state : SiteState) (session stamp : ℕ) (h : Holding) → LeftGroup units (ring_in units old) state session stamp h old
       → (core.log.header.state ≡ state) × (core.log.header.incarnation ≡ session + 1) × (core.log.header.stamp ≤ stamp + 3) × Stands core h new
 
 -- an image in a start has them, in the session that was left or in the next one
 pub record Starting (units : Units) (m : Meaning) (i : Image) : Type 0 where
-  pub each : (state : SiteState) (session stamp : ℕ) (h : Holding) → Left units (ring_in units m) state session stamp h m
-      → Found units (ring_in units m) state session stamp i h ⊎ Found units (ring_in units m) state (session + 1) (stamp + 3) i h
+  pub each : (state : SiteState) (session stamp : ℕ) (h : Holding) → LeftGroup units (ring_in units m) state session stamp h m
+      → FoundGroup units (ring_in units m) state session stamp i h ⊎ FoundGroup units (ring_in units m) state (session + 1) (stamp + 3) i h
 
 -- nothing was left that a start should have found
 abbrev pub NothingLeft : Units → Meaning → Type 0
-NothingLeft units m = (state : SiteState) (session stamp : ℕ) (h : Holding) → Left units (ring_in units m) state session stamp h m → ⊥
+NothingLeft units m = (state : SiteState) (session stamp : ℕ) (h : Holding) → LeftGroup units (ring_in units m) state session stamp h m → ⊥
 
 -- why a start is refused: nothing is a header; a block is damaged; a number would go past its limit; or a device call failed
 abbrev pub StartCause : Units → Meaning → Meaning → No → Type 0
@@ -48,7 +48,7 @@ StartCause units old new (Damaged unit block stored computed) =
     × (IsTrue old.tells → HasDamage units.srl (ring_in units old) block stored computed old)
     × NothingLeft units old
 StartCause units old new (Limit what most) = (what ≡ Number) × (most ≡ most_number)
-    × ((state : SiteState) (session stamp : ℕ) (h : Holding) → Left units (ring_in units old) state session stamp h old → (most_number ≤ stamp + 2) ⊎ (most_number ≤ session))
+    × ((state : SiteState) (session stamp : ℕ) (h : Holding) → LeftGroup units (ring_in units old) state session stamp h old → (most_number ≤ stamp + 2) ⊎ (most_number ≤ session))
 StartCause units old new why = DeviceCause old new why
 
 abbrev pub StartStop : Units → Meaning → Meaning → Stop → Type 0

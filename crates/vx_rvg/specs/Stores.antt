@@ -4,7 +4,7 @@ use Rattle.vx_model.specs.Content.{Content, Write, put}
 use Rattle.vx_model.specs.declared.no.No.{No}
 use Rattle.vx_disk.specs.Moves.{Blocks, Run, Union}
 use Rattle.vx_disk.specs.Shelf.{Meaning, Image}
-use Rattle.vx_rvg.specs.Groups.{Fails, read_refusal}
+use Rattle.vx_rvg.specs.Groups.{GroupFails, read_refusal}
 use Rattle.vx_rvg.specs.Holdings.{Holding, kept_in, with_content}
 use Rattle.vx_rvg.specs.Saves.{reclaim_refusal, reclaimed}
 use Rattle.vx_rvg.specs.Stands.{FoundAs, Stands}
@@ -26,22 +26,22 @@ abbrev pub without_records : Core → Core
 without_records c = reclaimed c (last_of c)
 
 -- a first refusal, or else another
-abbrev pub or_else : Option No → Option No → Option No
-or_else (Some why) rest = Some why
-or_else None rest = rest
+abbrev pub refusal_or : Option No → Option No → Option No
+refusal_or (Some why) rest = Some why
+refusal_or None rest = rest
 
 -- why blocks are not put into a volume of `size` blocks: as a read is refused, or since no header is left that gives the records up
 abbrev pub store_refusal : Core → ℕ → ℕ → ℕ → Option No
-store_refusal c size start count = or_else (read_refusal c size start count) (reclaim_refusal c (last_of c))
+store_refusal c size start count = refusal_or (read_refusal c size start count) (reclaim_refusal c (last_of c))
 
 -- the blocks of a log that holds records
-pub record GivesUp (core : Core) (u b : ℕ) : Type 0 where
+pub record GivesUpLog (core : Core) (u b : ℕ) : Type 0 where
   pub holds : core.log.header.low ≤ last_of core
   pub run : Run core.units.srl 0 (core.log.ring + 2) u b
 
 -- what a store may write: the blocks themselves, and where the log holds records its own
 abbrev pub store_blocks : Core → (volume start count : ℕ) → Blocks
-store_blocks c volume start count = Union (GivesUp c) (Run (unit_of c.units.vols volume) start count)
+store_blocks c volume start count = Union (GivesUpLog c) (Run (unit_of c.units.vols volume) start count)
 
 -- Of whatever the group held: an image in the call has it, with some blocks of the write in the content.
 pub record Putting (core : Core) (x : Write) (m : Meaning) (i : Image) : Type 0 where
@@ -64,12 +64,12 @@ pub record StoresInto (core after : Core) (x : Write) (old new : Meaning) : Type
 -- the blocks were put, or a device call failed
 abbrev pub Puts : Core → Meaning → Meaning → Core → Result (Unit {0}) No → Type 0
 Puts c old new c' (Ok done) = (c' ≡ c) × (IsTrue new.down → ⊥)
-Puts c old new c' (Err why) = Fails c old new c' why
+Puts c old new c' (Err why) = GroupFails c old new c' why
 
 -- the records were given up and the blocks were put, or a device call failed in either
 abbrev pub Stores : Core → Meaning → Meaning → Core → Result (Unit {0}) No → Type 0
 Stores c old new c' (Ok done) = (c' ≡ without_records c) × (IsTrue new.down → ⊥)
-Stores c old new c' (Err why) = Fails c old new c' why ⊎ Fails (without_records c) old new c' why
+Stores c old new c' (Err why) = GroupFails c old new c' why ⊎ GroupFails (without_records c) old new c' why
 
 abbrev pub StoreIs : Option No → Core → Meaning → Meaning → Core → Result (Unit {0}) No → Type 0
 StoreIs (Some why) c old new c' result = (result ≡ Err why) × (c' ≡ c)

@@ -1,13 +1,14 @@
 -- A replicated volume group as its callers see it.
 use Rattle.std.specs.Prelude.{◌≡◌, ◌≢◌, ℕ, ◌+◌, ◌*◌, ◌<◌, ◌≤◌, leb, ltb, if◌then◌else◌, Option, None, List, [], ◌∷◌, length, drop, slice_index, IsFalse, Contains}
 use Rattle.std.specs.List.{sum_by}
+use Rattle.vx_disk.specs.Maps.{maps_of}
 use Rattle.vx_model.specs.Sizes.{map_blocks}
 use Rattle.vx_model.specs.declared.limits.TheConstants.{LINK_PLACES}
 use Rattle.vx_model.specs.declared.units.Units.{Units}
 use Rattle.vx_disk.specs.Shelf.{Meaning}
 use Rattle.vx_overlay.specs.Pending.{Pending}
-use Rattle.vx_ringio.specs.Tracks.{Lies}
-use Rattle.vx_srl.specs.Views.{Log, head_of, count_to}
+use Rattle.vx_ringio.specs.Tracks.{RingLies}
+use Rattle.vx_srl.specs.Views.{Log, head_number, count_to}
 use Rattle.vx_srl.specs.declared.kept.Kept.{Kept}
 
 pub record Core : Type 0 where
@@ -27,18 +28,14 @@ unit_of vols v = slice_index vols v
 
 -- the number of the last write of the log
 abbrev pub last_of : Core → ℕ
-last_of c = head_of c.log
+last_of c = head_number c.log
 
 -- how many of the records of the log are in the volumes
 abbrev pub applied_count : Core → ℕ
 applied_count c = count_to c.log c.applied
 
--- how many blocks the maps of one link take: those of each volume
-abbrev pub maps_of : List ℕ → Meaning → ℕ
-maps_of vols m = sum_by (λ u. map_blocks (m.size u)) vols
-
 -- the units exist, and none of them is another; the map unit has room for a map of each volume for each place of a link
-pub record Placed (units : Units) (m : Meaning) : Type 0 where
+pub record UnitsPlaced (units : Units) (m : Meaning) : Type 0 where
   pub log_exists : units.srl < m.units
   pub maps_exist : units.maps < m.units
   pub exist : (v : ℕ) → v < length units.vols → unit_of units.vols v < m.units
@@ -65,12 +62,12 @@ blocks_waiting size ks (s ∷ ss) = blocks_within size ks + blocks_within size (
 -- The log lies on its unit, and each record of it is in the volumes or waits. Where no write failed and the shelf is up, these records
 -- are staged, and wait too.
 pub record IsSoundWith (staged : List Kept) (c : Core) (m : Meaning) : Type 0 where
-  pub placed : Placed c.units m
+  pub placed : UnitsPlaced c.units m
   pub log_unit : c.log.unit ≡ c.units.srl
-  pub lies : Lies c.log.unit c.log.ring m
+  pub lies : RingLies c.log.unit c.log.ring m
   pub idle : c.halted ≡ None → IsFalse m.down → c.log.staged ≡ staged
   pub low : c.log.header.low ≤ c.applied + 1
-  pub known : c.applied ≤ head_of c.log
+  pub known : c.applied ≤ head_number c.log
   pub room : c.pending.capacity ≡ c.log.ring
   pub waiting : length c.pending.entries ≡ blocks_waiting (volume_size c.units.vols m) (drop (applied_count c) c.log.held) staged
 

@@ -1,9 +1,10 @@
 // The change of the state, and the emptying of the log.
 ghost use Rattle.std.specs.Prelude.{◌≡◌, ◌+◌, ◌<◌, ◌≤◌, ℕ, Some, None, Ok, Err, OnOk, IsSome, true};
+ghost use Rattle.vx_disk.specs.Burns.{FallsShort, MakesCalls};
 ghost use Rattle.vx_disk.specs.Moves.{Moves, Run, Union};
 ghost use Rattle.vx_ringio.specs.Spends.{Spends};
-ghost use Rattle.vx_rvg.specs.Groups.{Fails};
-ghost use Rattle.vx_rvg.specs.Saves.{restart_refusal, with_restart, Empties, RestartIs, refusal_of_change, changed, ChangeIs, change_blocks};
+ghost use Rattle.vx_rvg.specs.Groups.{GroupFails};
+ghost use Rattle.vx_rvg.specs.Saves.{restart_refusal, with_restart, Empties, RestartIs, refusal_of_change, core_changed, AppliesNone, ChangeIs, change_blocks};
 ghost use Rattle.vx_rvg.specs.Stands.{Saving, Retains};
 ghost use Rattle.vx_rvg.specs.Views.{IsSound, Waits, last_of};
 ghost use Rattle.vx_srl.specs.Calls.{can_restart};
@@ -28,6 +29,8 @@ fn empty<S: Shelf>(shelf: &mut S, core: &mut RvgCore, state: &State, head: u64) 
     ensures sound { IsSound core.new (S.meaning shelf.new) }
     ensures stands { OnOk result (Retains core.old core.new (S.meaning shelf.old) (S.meaning shelf.new)) }
     ensures moves { Moves (Run core.old.units.srl 0 (core.old.log.ring + 2)) (Saving core.old (with_restart core.old state.now head) (S.meaning shelf.old)) (S.meaning shelf.old) (S.meaning shelf.new) }
+    ensures calls { OnOk result (MakesCalls 2 (S.meaning shelf.old) (S.meaning shelf.new)) }
+    ensures short { FallsShort 2 (S.meaning shelf.old) (S.meaning shelf.new) }
     ensures spends { Spends (S.meaning shelf.old) (S.meaning shelf.new) }
 {
     // Numbers begin at 1.
@@ -56,6 +59,8 @@ fn restart<S: Shelf>(shelf: &mut S, core: &mut RvgCore, state: &State, head: u64
     ensures stands { OnOk result (Retains core.old core.new (S.meaning shelf.old) (S.meaning shelf.new)) }
     ensures moves { Moves (Union (Waits core.old (S.meaning shelf.old)) (Run core.old.units.srl 0 (core.old.log.ring + 2)))
         (Saving core.old (with_restart core.old state.now head) (S.meaning shelf.old)) (S.meaning shelf.old) (S.meaning shelf.new) }
+    ensures calls { OnOk result (last_of core.old ≤ core.old.applied → MakesCalls 2 (S.meaning shelf.old) (S.meaning shelf.new)) }
+    ensures short { last_of core.old ≤ core.old.applied → FallsShort 2 (S.meaning shelf.old) (S.meaning shelf.new) }
     ensures spends { Spends (S.meaning shelf.old) (S.meaning shelf.new) }
 {
     if let Some(disk) = core.halted {
@@ -89,7 +94,9 @@ impl<S: Shelf> Rvg<S> {
         ensures unchanged { IsSome (refusal_of_change self.old.core restart) → self.new.shelf ≡ self.old.shelf }
         ensures stands { OnOk result (Retains self.old.core self.new.core (S.meaning self.old.shelf) (S.meaning self.new.shelf)) }
         ensures moves { Moves (change_blocks restart self.old.core (S.meaning self.old.shelf))
-            (Saving self.old.core (changed self.old.core state.now restart) (S.meaning self.old.shelf)) (S.meaning self.old.shelf) (S.meaning self.new.shelf) }
+            (Saving self.old.core (core_changed self.old.core state.now restart) (S.meaning self.old.shelf)) (S.meaning self.old.shelf) (S.meaning self.new.shelf) }
+        ensures calls { OnOk result (AppliesNone restart self.old.core → MakesCalls 2 (S.meaning self.old.shelf) (S.meaning self.new.shelf)) }
+        ensures short { AppliesNone restart self.old.core → FallsShort 2 (S.meaning self.old.shelf) (S.meaning self.new.shelf) }
         ensures spends { Spends (S.meaning self.old.shelf) (S.meaning self.new.shelf) }
     {
         match restart {

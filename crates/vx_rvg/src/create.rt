@@ -9,8 +9,8 @@ ghost use Rattle.vx_model.specs.declared.no.No.TheVariants.{Size};
 ghost use Rattle.vx_ringio.specs.Spends.{Spends};
 ghost use Rattle.vx_rvg.specs.Groups.{new_core, MakeCause};
 ghost use Rattle.vx_rvg.specs.Holdings.{nothing_logged};
-ghost use Rattle.vx_rvg.specs.Stands.{Holds, Stands};
-ghost use Rattle.vx_rvg.specs.Views.{Placed};
+ghost use Rattle.vx_rvg.specs.Stands.{HoldsContent, Stands};
+ghost use Rattle.vx_rvg.specs.Views.{UnitsPlaced};
 ghost use Rattle.vx_srlfmt.specs.Headers.{CanSpellState};
 
 use crate::{Rvg, RvgCore};
@@ -32,11 +32,11 @@ impl<S: Shelf> Rvg<S> {
         units: &Units,
         state: &State,
     ) -> Result<Rvg<S>, (S, Stop)>
-        requires placed { Placed units.now (S.meaning shelf) }
+        requires placed { UnitsPlaced units.now (S.meaning shelf) }
         requires state { CanSpellState state.now }
         ensures small { (S.meaning shelf).size units.now.srl < LEAST_BLOCKS → result ≡ Err (shelf, Refused Size) }
         ensures core { IfOk result (λ g. g.core ≡ new_core units.now state.now (ring_of ((S.meaning shelf).size units.now.srl))) }
-        ensures stands { IfOk result (λ g. IsTrue (S.meaning shelf).tells → (c : Content) (maps : List (List ℕ)) → Holds units.now c maps (S.meaning shelf) → Stands g.core (nothing_logged c maps) (S.meaning g.shelf)) }
+        ensures stands { IfOk result (λ g. IsTrue (S.meaning shelf).tells → (c : Content) (maps : List (List ℕ)) → HoldsContent units.now c maps (S.meaning shelf) → Stands g.core (nothing_logged c maps) (S.meaning g.shelf)) }
         ensures up { IfOk result (λ g. IsTrue (S.meaning g.shelf).down → ⊥) }
         ensures moves { IfOk result (λ g. Moves (Run units.now.srl 0 (ring_of ((S.meaning shelf).size units.now.srl) + 2)) Anything (S.meaning shelf) (S.meaning g.shelf)) }
         ensures cause { LEAST_BLOCKS ≤ (S.meaning shelf).size units.now.srl → IfErr result (λ e. MakeCause (S.meaning shelf) (S.meaning e.0) e.1) }

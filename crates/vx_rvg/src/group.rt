@@ -8,12 +8,12 @@ ghost use Rattle.vx_model.specs.Content.{Write, blocks_in};
 ghost use Rattle.vx_ringio.specs.Bodies.{IsBlocks};
 ghost use Rattle.vx_disk.specs.Burns.{FallsShort, MakesCalls};
 ghost use Rattle.vx_ringio.specs.Spends.{MakesAtLeast, Spends};
-ghost use Rattle.vx_rvg.specs.Contents.{Shows};
+ghost use Rattle.vx_rvg.specs.Contents.{ShowsContent};
 ghost use Rattle.vx_rvg.specs.Groups.{has_numbers, write_refusal, read_refusal, WriteIs, ReadIs};
 ghost use Rattle.vx_rvg.specs.Holdings.{Holding, blocks_taken, with_writes};
 ghost use Rattle.vx_rvg.specs.Stands.{Stands, Writing};
 ghost use Rattle.vx_rvg.specs.Views.{IsSound, unit_of, last_of};
-ghost use Rattle.vx_srl.specs.Views.{BodyFits, free_of, need_of, next_of, used_above};
+ghost use Rattle.vx_srl.specs.Views.{BodyFits, free_of, blocks_needed, next_of, blocks_above};
 ghost use Rattle.vx_srlfmt.specs.Headers.{CanSpellState};
 
 use crate::RvgCore;
@@ -44,7 +44,7 @@ impl<S: Shelf> Rvg<S> {
         requires blocks { IsBlocks bytes.now }
         requires no_marks { marks ≡ 0 }
         requires room { write_refusal self.old.core ((S.meaning self.old.shelf).size (unit_of self.old.core.units.vols vol)) start (blocks_in bytes.now) ≡ None
-            → need_of bytes.now ≤ free_of self.old.core.log }
+            → blocks_needed bytes.now ≤ free_of self.old.core.log }
         ensures answers { WriteIs (write_refusal self.old.core ((S.meaning self.old.shelf).size (unit_of self.old.core.units.vols vol)) start (blocks_in bytes.now))
             self.old.core vol start bytes.now (S.meaning self.old.shelf) (S.meaning self.new.shelf) self.new.core result }
         ensures unchanged { IsSome (write_refusal self.old.core ((S.meaning self.old.shelf).size (unit_of self.old.core.units.vols vol)) start (blocks_in bytes.now))
@@ -83,7 +83,7 @@ impl<S: Shelf> Rvg<S> {
         ensures answers { ReadIs (read_refusal self.old.core ((S.meaning self.old.shelf).size (unit_of self.old.core.units.vols vol)) start (blocks_in into.old))
             (S.meaning self.old.shelf) (S.meaning self.new.shelf) result }
         ensures gives { OnOk result ((h : Holding) → Stands self.old.core h (S.meaning self.old.shelf) → IsTrue (S.meaning self.old.shelf).tells
-            → Shows h.content vol start (blocks_in into.old) into.new) }
+            → ShowsContent h.content vol start (blocks_in into.old) into.new) }
         ensures unchanged { IsSome (read_refusal self.old.core ((S.meaning self.old.shelf).size (unit_of self.old.core.units.vols vol)) start (blocks_in into.old))
             → self.new.shelf ≡ self.old.shelf }
         ensures stands { (h : Holding) → Stands self.old.core h (S.meaning self.old.shelf) → IsFalse (S.meaning self.new.shelf).down → Stands self.new.core h (S.meaning self.new.shelf) }
@@ -165,7 +165,7 @@ impl<S: Shelf> Rvg<S> {
     pub fn used(&self, above: u64) -> u64
         requires low { self.now.core.log.header.low ≤ above + 1 }
         requires known { above < next_of self.now.core.log }
-        ensures is { result ≡ used_above self.now.core.log above }
+        ensures is { result ≡ blocks_above self.now.core.log above }
         ensures holds { (h : Holding) → Stands self.now.core h (S.meaning self.now.shelf) → result ≡ blocks_taken (drop (above + 1 - h.low) h.writes) }
     {
         self.core.srl.used(above)

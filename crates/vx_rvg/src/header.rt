@@ -1,5 +1,6 @@
 // The calls that write a header of the log, and the reading of a logged write.
 ghost use Rattle.std.specs.Prelude.{◌≡◌, ◌+◌, ◌<◌, ◌≤◌, ℕ, Some, None, Ok, Err, OnOk, OnErr, IfErr, IsSome, IsTrue, IsFalse};
+ghost use Rattle.vx_disk.specs.Burns.{FallsShort, MakesCalls};
 ghost use Rattle.vx_disk.specs.Causes.{OnDisks, Works};
 ghost use Rattle.vx_disk.specs.Disks.{Untouched};
 ghost use Rattle.vx_disk.specs.Moves.{Moves, Run};
@@ -8,9 +9,9 @@ ghost use Rattle.vx_model.specs.declared.no.No.TheVariants.{Halted};
 ghost use Rattle.vx_ringio.specs.Spends.{Spends};
 ghost use Rattle.vx_rvg.specs.Saves.{reclaim_refusal, reclaimed, change_refusal, with_new_state, SaveIs};
 ghost use Rattle.vx_rvg.specs.Holdings.{Holding};
-ghost use Rattle.vx_rvg.specs.Stands.{Gives, Stands, Saving, Retains};
+ghost use Rattle.vx_rvg.specs.Stands.{GivesWrite, Stands, Saving, Retains};
 ghost use Rattle.vx_rvg.specs.Views.{IsSound, last_of};
-ghost use Rattle.vx_srl.specs.Calls.{Agrees, FetchCause, NamesBody};
+ghost use Rattle.vx_srl.specs.Calls.{AgreesWithFront, FetchCause, NamesBody};
 ghost use Rattle.vx_srlfmt.specs.Headers.{CanSpellState};
 
 use crate::write::refused;
@@ -30,6 +31,8 @@ pub(crate) fn give_up<S: Shelf>(shelf: &mut S, core: &mut RvgCore, to: u64) -> R
     ensures stands { OnOk result (Retains core.old core.new (S.meaning shelf.old) (S.meaning shelf.new)) }
     ensures moves { Moves (Run core.old.units.srl 0 (core.old.log.ring + 2))
         (Saving core.old (reclaimed core.old to) (S.meaning shelf.old)) (S.meaning shelf.old) (S.meaning shelf.new) }
+    ensures calls { OnOk result (core.old.log.header.low ≤ to → MakesCalls 2 (S.meaning shelf.old) (S.meaning shelf.new)) }
+    ensures short { FallsShort 2 (S.meaning shelf.old) (S.meaning shelf.new) }
     ensures spends { Spends (S.meaning shelf.old) (S.meaning shelf.new) }
 {
     if let Some(disk) = core.halted {
@@ -59,6 +62,8 @@ impl<S: Shelf> Rvg<S> {
         ensures stands { OnOk result (Retains self.old.core self.new.core (S.meaning self.old.shelf) (S.meaning self.new.shelf)) }
         ensures moves { Moves (Run self.old.core.units.srl 0 (self.old.core.log.ring + 2))
             (Saving self.old.core (reclaimed self.old.core to) (S.meaning self.old.shelf)) (S.meaning self.old.shelf) (S.meaning self.new.shelf) }
+        ensures calls { OnOk result (self.old.core.log.header.low ≤ to → MakesCalls 2 (S.meaning self.old.shelf) (S.meaning self.new.shelf)) }
+        ensures short { FallsShort 2 (S.meaning self.old.shelf) (S.meaning self.new.shelf) }
         ensures spends { Spends (S.meaning self.old.shelf) (S.meaning self.new.shelf) }
     {
         give_up(&mut self.shelf, &mut self.core, to)
@@ -76,6 +81,8 @@ impl<S: Shelf> Rvg<S> {
         ensures stands { OnOk result (Retains self.old.core self.new.core (S.meaning self.old.shelf) (S.meaning self.new.shelf)) }
         ensures moves { Moves (Run self.old.core.units.srl 0 (self.old.core.log.ring + 2))
             (Saving self.old.core (with_new_state self.old.core state.now) (S.meaning self.old.shelf)) (S.meaning self.old.shelf) (S.meaning self.new.shelf) }
+        ensures calls { OnOk result (MakesCalls 2 (S.meaning self.old.shelf) (S.meaning self.new.shelf)) }
+        ensures short { FallsShort 2 (S.meaning self.old.shelf) (S.meaning self.new.shelf) }
         ensures spends { Spends (S.meaning self.old.shelf) (S.meaning self.new.shelf) }
     {
         if let Some(disk) = self.core.halted {
@@ -99,8 +106,8 @@ impl<S: Shelf> Rvg<S> {
         requires held { n ≤ last_of self.old.core }
         ensures halted { (disk : ℕ) → self.old.core.halted ≡ Some disk → (result ≡ Err (SrlNo.Other (Halted disk))) × (self.new.shelf ≡ self.old.shelf) }
         ensures overrun { self.old.core.halted ≡ None → n < self.old.core.log.header.low → (result ≡ Err (SrlNo.Overrun self.old.core.log.header.low)) × (self.new.shelf ≡ self.old.shelf) }
-        ensures gives { OnOk result (Gives self.old.core n (S.meaning self.old.shelf) into.new) }
-        ensures agrees { OnOk result (Agrees self.old.core.log n into.new) }
+        ensures gives { OnOk result (GivesWrite self.old.core n (S.meaning self.old.shelf) into.new) }
+        ensures agrees { OnOk result (AgreesWithFront self.old.core.log n into.new) }
         ensures up { OnOk result (IsTrue (S.meaning self.new.shelf).down → ⊥) }
         ensures cause { self.old.core.halted ≡ None → self.old.core.log.header.low ≤ n → IfErr result (λ why. FetchCause self.old.core.log (S.meaning self.old.shelf) (S.meaning self.new.shelf) why) }
         ensures names { self.old.core.halted ≡ None → self.old.core.log.header.low ≤ n → IfErr result (NamesBody self.old.core.log n (S.meaning self.old.shelf)) }

@@ -25,6 +25,3 @@ pub use group::Rvg;
 pub use rvg_core::RvgCore;
 pub use staging::Staging;
 pub use start::StartRoom;
-
-#[cfg(test)]
-mod tests;

@@ -7,10 +7,10 @@ ghost use Rattle.vx_model.specs.Content.{Content, blocks_in};
 ghost use Rattle.vx_ringio.specs.Bodies.{IsBlocks};
 ghost use Rattle.vx_ringio.specs.Spends.{Spends};
 ghost use Rattle.vx_ringlog.specs.Records.{Record};
-ghost use Rattle.vx_rvg.specs.Contents.{Shows};
+ghost use Rattle.vx_rvg.specs.Contents.{ShowsContent};
 ghost use Rattle.vx_rvg.specs.Groups.{ReadIs, read_refusal};
 ghost use Rattle.vx_rvg.specs.Stands.{IsCovered};
-ghost use Rattle.vx_rvg.specs.Views.{Placed, unit_of};
+ghost use Rattle.vx_rvg.specs.Views.{UnitsPlaced, unit_of};
 
 use crate::RvgCore;
 use crate::patch::patch;
@@ -25,13 +25,13 @@ pub(crate) fn read_blocks<S: Shelf>(
     start: u64,
     into: &mut [u8],
 ) -> Result<(), No>
-    requires placed { Placed core.now.units (S.meaning shelf.old) }
+    requires placed { UnitsPlaced core.now.units (S.meaning shelf.old) }
     requires volume { vol < length core.now.units.vols }
     requires blocks { IsBlocks into.old }
     ensures answers { ReadIs (read_refusal core.now ((S.meaning shelf.old).size (unit_of core.now.units.vols vol)) start (blocks_in into.old))
         (S.meaning shelf.old) (S.meaning shelf.new) result }
     ensures gives { OnOk result ((c : Content) (rs : List Record) → IsCovered core.now c rs (S.meaning shelf.old) → IsTrue (S.meaning shelf.old).tells
-        → Shows c vol start (blocks_in into.old) into.new) }
+        → ShowsContent c vol start (blocks_in into.old) into.new) }
     ensures numbers { 0 < core.now.log.header.low }
     ensures unchanged { IsSome (read_refusal core.now ((S.meaning shelf.old).size (unit_of core.now.units.vols vol)) start (blocks_in into.old))
         → shelf.new ≡ shelf.old }

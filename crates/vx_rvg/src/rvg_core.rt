@@ -1,6 +1,6 @@
 // What a group is beside its shelf.
 ghost use Rattle.std.specs.Prelude.{◌≡◌, ◌+◌, ◌<◌, ◌≤◌, length, None};
-ghost use Rattle.vx_rvg.specs.Groups.{write_refusal, read_refusal, applied_to, halted_by};
+ghost use Rattle.vx_rvg.specs.Groups.{write_refusal, read_refusal, applied_through, core_halted};
 ghost use Rattle.vx_rvg.specs.Views.{unit_of};
 
 use std::marker::Model;
@@ -37,7 +37,7 @@ impl RvgCore {
     }
 
     /// How many data volumes there are.
-    pub(crate) fn volumes(&self) -> u32
+    pub fn volumes(&self) -> u32
         ensures { result ≡ length self.now.units.vols }
     {
         self.units.vols.as_slice().len() as u32
@@ -90,14 +90,14 @@ impl RvgCore {
 
     /// The number up to which an apply brings the writes into the volumes.
     pub(crate) fn applied_to(&self, count: u64) -> u64
-        ensures { result ≡ applied_to self.now count }
+        ensures { result ≡ applied_through self.now count }
     {
         self.applied.max(count.min(self.srl.head()))
     }
 
     /// After a refusal of a device call: the disk of a 7 halts the group.
     pub(crate) fn halt(&mut self, no: &No)
-        ensures { self.new ≡ halted_by no.now self.old }
+        ensures { self.new ≡ core_halted no.now self.old }
     {
         if let No::Device { disk } = no {
             self.halted = Some(*disk);

@@ -10,7 +10,7 @@ ghost use Rattle.vx_rvg.specs.Commits.{Committing, HasStaged, StageIs, number_re
 ghost use Rattle.vx_rvg.specs.Groups.{write_refusal};
 ghost use Rattle.vx_rvg.specs.Holdings.{Holding};
 ghost use Rattle.vx_rvg.specs.Views.{IsSoundWith, unit_of, volume_size};
-ghost use Rattle.vx_srl.specs.Views.{BodyFits, free_of, need_of};
+ghost use Rattle.vx_srl.specs.Views.{BodyFits, free_of, blocks_needed};
 
 use crate::patch::add_all;
 use crate::write::refused;
@@ -30,7 +30,7 @@ pub(crate) fn stage_record<S: Shelf>(
     requires some { 0 < core.old.log.header.low }
     requires volume { vol < length core.old.units.vols }
     requires blocks { IsBlocks bytes.now }
-    requires room { need_of bytes.now ≤ free_of core.old.log }
+    requires room { blocks_needed bytes.now ≤ free_of core.old.log }
     requires within { start + blocks_in bytes.now ≤ volume_size core.old.units.vols (S.meaning shelf.old) vol }
     ensures answers { StageIs (number_refusal core.old) core.old vol start bytes.now (S.meaning shelf.old) (S.meaning shelf.new) core.new result }
     ensures unchanged { IsSome (number_refusal core.old) → shelf.new ≡ shelf.old }
@@ -69,7 +69,7 @@ impl<S: Shelf> Staging<S> {
         requires blocks { IsBlocks bytes.now }
         requires no_marks { marks ≡ 0 }
         requires room { write_refusal self.old.core ((S.meaning self.old.shelf).size (unit_of self.old.core.units.vols vol)) start (blocks_in bytes.now) ≡ None
-            → need_of bytes.now ≤ free_of self.old.core.log }
+            → blocks_needed bytes.now ≤ free_of self.old.core.log }
         ensures answers { StageIs (stage_refusal self.old.core ((S.meaning self.old.shelf).size (unit_of self.old.core.units.vols vol)) start (blocks_in bytes.now))
             self.old.core vol start bytes.now (S.meaning self.old.shelf) (S.meaning self.new.shelf) self.new.core result }
         ensures unchanged { IsSome (stage_refusal self.old.core ((S.meaning self.old.shelf).size (unit_of self.old.core.units.vols vol)) start (blocks_in bytes.now))

@@ -7,7 +7,7 @@ ghost use Rattle.vx_model.specs.Content.{Write, blocks_in, fold_writes};
 ghost use Rattle.vx_ringio.specs.Bodies.{IsBlocks};
 ghost use Rattle.vx_ringio.specs.Spends.{Spends};
 ghost use Rattle.vx_rvg.specs.Commits.{HasStaged, without_staged};
-ghost use Rattle.vx_rvg.specs.Contents.{Shows};
+ghost use Rattle.vx_rvg.specs.Contents.{ShowsContent};
 ghost use Rattle.vx_rvg.specs.Groups.{ReadIs, read_refusal};
 ghost use Rattle.vx_rvg.specs.Holdings.{Holding};
 ghost use Rattle.vx_rvg.specs.Stands.{Stands};
@@ -79,7 +79,7 @@ impl<S: Shelf> Staging<S> {
         ensures answers { ReadIs (read_refusal self.old.core ((S.meaning self.old.shelf).size (unit_of self.old.core.units.vols vol)) start (blocks_in into.old))
             (S.meaning self.old.shelf) (S.meaning self.new.shelf) result }
         ensures gives { OnOk result ((xs : List Write) (h : Holding) → HasStaged xs self.old.core h (S.meaning self.old.shelf) → IsTrue (S.meaning self.old.shelf).tells
-            → Shows (fold_writes h.content xs) vol start (blocks_in into.old) into.new) }
+            → ShowsContent (fold_writes h.content xs) vol start (blocks_in into.old) into.new) }
         ensures unchanged { IsSome (read_refusal self.old.core ((S.meaning self.old.shelf).size (unit_of self.old.core.units.vols vol)) start (blocks_in into.old))
             → self.new.shelf ≡ self.old.shelf }
         ensures staged { (xs : List Write) (h : Holding) → HasStaged xs self.old.core h (S.meaning self.old.shelf) → IsFalse (S.meaning self.new.shelf).down

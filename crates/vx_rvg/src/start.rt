@@ -7,10 +7,10 @@ ghost use Rattle.vx_model.specs.Content.{blocks_in};
 ghost use Rattle.vx_model.specs.Sizes.{ring_of};
 ghost use Rattle.vx_overlay.specs.Writes.{entries_of};
 ghost use Rattle.vx_ringio.specs.Spends.{Spends};
-ghost use Rattle.vx_ringio.specs.Tracks.{Lies};
-ghost use Rattle.vx_rvg.specs.Fills.{FillCause, IsFilled, logged_by};
+ghost use Rattle.vx_ringio.specs.Tracks.{RingLies};
+ghost use Rattle.vx_rvg.specs.Fills.{FillCause, IsFilledTo, logged_by};
 ghost use Rattle.vx_rvg.specs.Starts.{Starting, IsStarted, StartCause, StartStop, ring_in};
-ghost use Rattle.vx_rvg.specs.Views.{Placed, volume_size};
+ghost use Rattle.vx_rvg.specs.Views.{UnitsPlaced, volume_size};
 ghost use Rattle.vx_srl.specs.Starts.{ReadsAtLimit, StopReadsAtLimit};
 
 use crate::patch::add_all;
@@ -26,7 +26,7 @@ use vx_srl::{LogRoom, Srl};
 
 // Adds the blocks of a write, unless it does not end within its volume.
 fn add_within<S: Shelf>(shelf: &S, units: &Units, pending: &mut Overlay, update: &Update)
-    requires placed { Placed units.now (S.meaning shelf.now) }
+    requires placed { UnitsPlaced units.now (S.meaning shelf.now) }
     requires room { length pending.old.entries + blocks_in update.now.bytes ≤ pending.old.capacity }
     ensures entries { pending.new.entries ≡ pending.old.entries ++ entries_of (volume_size units.now.vols (S.meaning shelf.now)) (logged_by update.now ∷ []) }
     ensures capacity { pending.new.capacity ≡ pending.old.capacity }
@@ -45,12 +45,12 @@ fn add_within<S: Shelf>(shelf: &S, units: &Units, pending: &mut Overlay, update:
 
 // Adds the blocks of each write of the log.
 fn fill<S: Shelf>(shelf: &mut S, srl: &Srl, units: &Units, pending: &mut Overlay) -> Result<(), No>
-    requires placed { Placed units.now (S.meaning shelf.old) }
-    requires lies { Lies srl.now.unit srl.now.ring (S.meaning shelf.old) }
+    requires placed { UnitsPlaced units.now (S.meaning shelf.old) }
+    requires lies { RingLies srl.now.unit srl.now.ring (S.meaning shelf.old) }
     requires up { IsTrue (S.meaning shelf.old).down → ⊥ }
     requires none { pending.old.entries ≡ [] }
     requires room { pending.old.capacity ≡ srl.now.ring }
-    ensures filled { OnOk result (IsFilled srl.now (volume_size units.now.vols (S.meaning shelf.old)) (S.meaning shelf.old) (length srl.now.held) pending.new.entries) }
+    ensures filled { OnOk result (IsFilledTo srl.now (volume_size units.now.vols (S.meaning shelf.old)) (S.meaning shelf.old) (length srl.now.held) pending.new.entries) }
     ensures capacity { pending.new.capacity ≡ pending.old.capacity }
     ensures up { OnOk result (IsTrue (S.meaning shelf.new).down → ⊥) }
     ensures cause { IfErr result (λ why. FillCause srl.now (S.meaning shelf.old) (S.meaning shelf.new) why) }
@@ -120,7 +120,7 @@ impl<S: Shelf> Rvg<S> {
     /// whose header or body has another digest; 19 where no stamp or incarnation is left, which changes nothing; 7 and 6. Whatever
     /// it refuses, the shelf comes back, and has what it had but for the headers of the log.
     pub fn start_in(room: StartRoom, shelf: S, units: &Units) -> Result<Rvg<S>, (S, No)>
-        requires placed { Placed units.now (S.meaning shelf) }
+        requires placed { UnitsPlaced units.now (S.meaning shelf) }
         requires large { LEAST_BLOCKS ≤ (S.meaning shelf).size units.now.srl }
         requires room { room.ring ≡ ring_in units.now (S.meaning shelf) }
         ensures starts { IfOk result (λ g. IsStarted units.now (S.meaning shelf) g.core (S.meaning g.shelf)) }
@@ -157,7 +157,7 @@ impl<S: Shelf> Rvg<S> {
 
     /// The same, or want of memory, which changes nothing.
     pub fn start(alloc: Global, shelf: S, units: &Units) -> Result<Rvg<S>, (S, Stop)>
-        requires placed { Placed units.now (S.meaning shelf) }
+        requires placed { UnitsPlaced units.now (S.meaning shelf) }
         requires large { LEAST_BLOCKS ≤ (S.meaning shelf).size units.now.srl }
         ensures starts { IfOk result (λ g. IsStarted units.now (S.meaning shelf) g.core (S.meaning g.shelf)) }
         ensures up { IfOk result (λ g. IsTrue (S.meaning g.shelf).down → ⊥) }

@@ -6,7 +6,7 @@ ghost use Rattle.vx_ringio.specs.Bodies.{IsBlocks};
 ghost use Rattle.vx_disk.specs.Burns.{FallsShort, MakesCalls};
 ghost use Rattle.vx_disk.specs.Causes.{Works};
 ghost use Rattle.vx_ringio.specs.Spends.{MakesAtLeast, Spends};
-ghost use Rattle.vx_srl.specs.Views.{BodyFits, free_of, need_of, most_number};
+ghost use Rattle.vx_srl.specs.Views.{BodyFits, free_of, blocks_needed, most_number};
 ghost use Rattle.vx_rvg.specs.Groups.{Writes, no_of};
 ghost use Rattle.vx_rvg.specs.Holdings.{Holding, with_writes};
 ghost use Rattle.vx_rvg.specs.Stands.{Stands, Writing};
@@ -44,7 +44,7 @@ pub(crate) fn commit<S: Shelf>(
     requires up { IsFalse (S.meaning shelf.old).down }
     requires volume { vol < length core.old.units.vols }
     requires blocks { IsBlocks bytes.now }
-    requires room { need_of bytes.now ≤ free_of core.old.log }
+    requires room { blocks_needed bytes.now ≤ free_of core.old.log }
     requires within { start + blocks_in bytes.now ≤ volume_size core.old.units.vols (S.meaning shelf.old) vol }
     requires number { last_of core.old < most_number }
     ensures writes { Writes core.old vol start bytes.now (S.meaning shelf.old) (S.meaning shelf.new) core.new result }

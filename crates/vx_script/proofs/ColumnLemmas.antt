@@ -4,12 +4,12 @@ use Rattle.std.specs.Prelude.{◌⊎◌}
 use Rattle.std.specs.List.{list_all}
 use Rattle.std.proofs.Math.Dec.{eqb-suc-zero}
 use Rattle.std.proofs.lemmas.Bool.{ltb-true}
-use Rattle.vx_script.specs.Words.{Reading, and_then, placed, is_visible, after_spaces, word_of, after_word}
+use Rattle.vx_script.specs.Words.{WordReading, and_then, placed, is_visible, after_spaces, word_of, after_word}
 use Rattle.vx_script.specs.Tokens.{Token, Key, is_in_word}
-use Rattle.vx_script.specs.Keywords.{text_of, keyword_of}
-use Rattle.vx_script.specs.Formats.{Place, Format, Done, Then, read, ended, format_of, end_format}
-use Rattle.vx_script.specs.Grammar.{line_of, line_at, line_by, line_of_keyword, some_line, is_silent, at_column}
-use Rattle.vx_script.specs.Columns.{Begins, IsApart, IsWrongWord, WrongAt}
+use Rattle.vx_script.specs.Keywords.{keyword_text, keyword_of}
+use Rattle.vx_script.specs.Formats.{Place, Format, Done, Then, read_by, ended, format_of, end_format}
+use Rattle.vx_script.specs.Grammar.{line_of, line_after_spaces, line_by, line_of_keyword, some_line, is_silent, at_column}
+use Rattle.vx_script.specs.Columns.{BeginsLine, IsApart, IsWrongWord, WrongAt}
 use Rattle.vx_script.specs.declared.keyword.Keyword.{Keyword}
 use Rattle.vx_script.specs.declared.keyword.Keyword.TheVariants.{End as EndKey}
 use Rattle.vx_script.specs.declared.line.ScriptLine.{ScriptLine}
@@ -19,31 +19,31 @@ use Rattle.vx_script.proofs.KindLemmas.{faithful, line_only, line_found}
 use Rattle.vx_script.proofs.SpotLemmas.{after_led, after_kept, word_then, tail_then, Blank, At, spot}
 
 -- reading skips spaces
-read_led : (f : Format) (n : ℕ) (bytes : List ℕ) → read f (replicate n 32 ++ bytes) ≡ read f bytes
+read_led : (f : Format) (n : ℕ) (bytes : List ℕ) → read_by f (replicate n 32 ++ bytes) ≡ read_by f bytes
 read_led (Done line) n bytes = ap (λ (t : List ℕ). ended line (cond (eqb (length t) 0) (Ok tt) (Err (length t)))) (after_led n bytes)
-read_led (Then {V} place more) n bytes = ap (λ (t : List ℕ). and_then (placed (place.value (word_of t)) t) (λ (x : V × List ℕ). read (more x.0) x.1)) (after_led n bytes)
+read_led (Then {V} place more) n bytes = ap (λ (t : List ℕ). and_then (placed (place.value (word_of t)) t) (λ (x : V × List ℕ). read_by (more x.0) x.1)) (after_led n bytes)
 
 -- reading takes a word
 read_word : {V : Type 0} (place : Place V) (more : V → Format) (word tail : List ℕ) → list_all is_visible word ≡ true → 0 < length word → is_in_word tail ≡ false
-    → read (Then place more) (word ++ tail) ≡ and_then (placed (place.value word) (word ++ tail)) (λ (x : V × List ℕ). read (more x.0) x.1)
+    → read_by (Then place more) (word ++ tail) ≡ and_then (placed (place.value word) (word ++ tail)) (λ (x : V × List ℕ). read_by (more x.0) x.1)
 read_word {V} place more word tail shown some ends =
-    ap (λ (t : List ℕ). and_then (placed (place.value (word_of t)) t) (λ (x : V × List ℕ). read (more x.0) x.1)) (after_kept word tail shown some)
-    ∙ ap (λ (w : List ℕ). and_then (placed (place.value w) (word ++ tail)) (λ (x : V × List ℕ). read (more x.0) x.1)) (word_then word tail shown ends)
+    ap (λ (t : List ℕ). and_then (placed (place.value (word_of t)) t) (λ (x : V × List ℕ). read_by (more x.0) x.1)) (after_kept word tail shown some)
+    ∙ ap (λ (w : List ℕ). and_then (placed (place.value w) (word ++ tail)) (λ (x : V × List ℕ). read_by (more x.0) x.1)) (word_then word tail shown ends)
 
 read_some : {V : Type 0} (place : Place V) (more : V → Format) (word tail : List ℕ) (x : V) → list_all is_visible word ≡ true → 0 < length word → is_in_word tail ≡ false
-    → place.value word ≡ Some x → read (Then place more) (word ++ tail) ≡ read (more x) tail
+    → place.value word ≡ Some x → read_by (Then place more) (word ++ tail) ≡ read_by (more x) tail
 read_some {V} place more word tail x shown some ends e =
     read_word place more word tail shown some ends
-    ∙ ap (λ (o : Option V). and_then (placed o (word ++ tail)) (λ (y : V × List ℕ). read (more y.0) y.1)) e
-    ∙ ap (λ (t : List ℕ). read (more x) t) (tail_then word tail shown ends)
+    ∙ ap (λ (o : Option V). and_then (placed o (word ++ tail)) (λ (y : V × List ℕ). read_by (more y.0) y.1)) e
+    ∙ ap (λ (t : List ℕ). read_by (more x) t) (tail_then word tail shown ends)
 
 read_none : {V : Type 0} (place : Place V) (more : V → Format) (word tail : List ℕ) → list_all is_visible word ≡ true → 0 < length word → is_in_word tail ≡ false
-    → place.value word ≡ None → read (Then place more) (word ++ tail) ≡ Err (length (word ++ tail))
+    → place.value word ≡ None → read_by (Then place more) (word ++ tail) ≡ Err (length (word ++ tail))
 read_none {V} place more word tail shown some ends e =
     read_word place more word tail shown some ends
-    ∙ ap (λ (o : Option V). and_then (placed o (word ++ tail)) (λ (y : V × List ℕ). read (more y.0) y.1)) e
+    ∙ ap (λ (o : Option V). and_then (placed o (word ++ tail)) (λ (y : V × List ℕ). read_by (more y.0) y.1)) e
 
-read_done : (line : ScriptLine) (word tail : List ℕ) → list_all is_visible word ≡ true → 0 < length word → read (Done line) (word ++ tail) ≡ Err (length (word ++ tail))
+read_done : (line : ScriptLine) (word tail : List ℕ) → list_all is_visible word ≡ true → 0 < length word → read_by (Done line) (word ++ tail) ≡ Err (length (word ++ tail))
 read_done line [] tail shown some = absurd (omega arith)
 read_done line (b ∷ word) tail shown some =
     ap (λ (t : List ℕ). ended line (cond (eqb (length t) 0) (Ok tt) (Err (length t)))) (after_kept (b ∷ word) tail shown some)
@@ -58,7 +58,7 @@ word_some place (b ∷ word) x none e = omega arith
 record Goes (f : Format) (front : List ℕ) : Type 0 where
   rest : List ℕ
   line : ScriptLine
-  is : read f (front ++ 32 ∷ rest) ≡ Ok line
+  is : read_by f (front ++ 32 ∷ rest) ≡ Ok line
 
 -- each format goes on
 completes : (f : Format) (before : List Token → List Token) → Faithful f before → Goes f []
@@ -82,7 +82,7 @@ record StopsAt (f : Format) (front here : List ℕ) : Type 0 where
   last : (bytes : List ℕ) × (front ≡ bytes ++ 32 ∷ [])
   word : is_in_word here ≡ true
   spaced : (more : List ℕ) → is_in_word (front ++ more) ≡ false
-  stops : (rest : List ℕ) (line : ScriptLine) → read f (front ++ (word_of here ++ 32 ∷ rest)) ≡ Ok line → ⊥
+  stops : (rest : List ℕ) (line : ScriptLine) → read_by f (front ++ (word_of here ++ 32 ∷ rest)) ≡ Ok line → ⊥
 
 -- where a format stops
 record Stop (f : Format) (bytes : List ℕ) (left : ℕ) : Type 0 where
@@ -111,15 +111,15 @@ some_spaces : (n : ℕ) (word tail : List ℕ) → list_all is_visible word ≡ 
 some_spaces zero word tail shown some e = let f : true ≡ false = sym (word_in word tail shown some) ∙ e in absurd (cc)
 some_spaces (suc m) word tail shown some e = (m, refl)
 
-err_same : {A : Type 0} (a b : ℕ) (r : Reading A) → r ≡ Err a → r ≡ Err b → a ≡ b
+err_same : {A : Type 0} (a b : ℕ) (r : WordReading A) → r ≡ Err a → r ≡ Err b → a ≡ b
 err_same a b r p q = cc
 
-not_both : {A : Type 0} (left : ℕ) (x : A) (r : Reading A) → r ≡ Err left → r ≡ Ok x → ⊥
+not_both : {A : Type 0} (left : ℕ) (x : A) (r : WordReading A) → r ≡ Err left → r ≡ Ok x → ⊥
 not_both left x r p q = absurd (cc)
 
 -- a format that stops at the word that follows spaces
 stop_word : (f : Format) (before : List Token → List Token) → Faithful f before → (m : ℕ) (word tail : List ℕ) (left : ℕ) → list_all is_visible word ≡ true → 0 < length word → is_in_word tail ≡ false
-    → ((more : List ℕ) → is_in_word more ≡ false → read f (word ++ more) ≡ Err (length (word ++ more))) → left ≡ length (word ++ tail) → Stop f (replicate (suc m) 32 ++ (word ++ tail)) left
+    → ((more : List ℕ) → is_in_word more ≡ false → read_by f (word ++ more) ≡ Err (length (word ++ more))) → left ≡ length (word ++ tail) → Stop f (replicate (suc m) 32 ++ (word ++ tail)) left
 stop_word f before is m word tail left shown some ends wrong place =
     record {
       front = replicate (suc m) 32;
@@ -133,8 +133,8 @@ stop_word f before is m word tail left shown some ends wrong place =
         word = word_in word tail shown some;
         spaced = λ more. refl;
         stops = λ rest line e.
-            let same : read f (replicate (suc m) 32 ++ (word_of (word ++ tail) ++ 32 ∷ rest)) ≡ Err (length (word ++ 32 ∷ rest)) =
-            ap (λ (w : List ℕ). read f (replicate (suc m) 32 ++ (w ++ 32 ∷ rest))) (word_then word tail shown ends) ∙ read_led f (suc m) (word ++ 32 ∷ rest) ∙ wrong (32 ∷ rest) refl in
+            let same : read_by f (replicate (suc m) 32 ++ (word_of (word ++ tail) ++ 32 ∷ rest)) ≡ Err (length (word ++ 32 ∷ rest)) =
+            ap (λ (w : List ℕ). read_by f (replicate (suc m) 32 ++ (w ++ 32 ∷ rest))) (word_then word tail shown ends) ∙ read_led f (suc m) (word ++ 32 ∷ rest) ∙ wrong (32 ∷ rest) refl in
             not_both (length (word ++ 32 ∷ rest)) line _ same e;
       });
     }
@@ -150,8 +150,8 @@ spaced_join (suc n) word c d e = refl
 stop_behind : {V : Type 0} (place : Place V) (more : V → Format) (n : ℕ) (word tail : List ℕ) (x : V) (left : ℕ) → list_all is_visible word ≡ true → 0 < length word
     → (m : ℕ) × (n ≡ suc m) → place.value word ≡ Some x → Stop (more x) tail left → Stop (Then place more) (replicate n 32 ++ (word ++ tail)) left
 stop_behind {V} place more n word tail x left shown some led fits below =
-    let through : (rest : List ℕ) → is_in_word (below.front ++ rest) ≡ false → read (Then place more) ((replicate n 32 ++ (word ++ below.front)) ++ rest) ≡ read (more x) (below.front ++ rest) =
-    λ rest ends. ap (read (Then place more)) (join3 (replicate n 32) word below.front rest) ∙ read_led (Then place more) n (word ++ (below.front ++ rest)) ∙ read_some place more word (below.front ++ rest) x shown some ends fits in
+    let through : (rest : List ℕ) → is_in_word (below.front ++ rest) ≡ false → read_by (Then place more) ((replicate n 32 ++ (word ++ below.front)) ++ rest) ≡ read_by (more x) (below.front ++ rest) =
+    λ rest ends. ap (read_by (Then place more)) (join3 (replicate n 32) word below.front rest) ∙ read_led (Then place more) n (word ++ (below.front ++ rest)) ∙ read_some place more word (below.front ++ rest) x shown some ends fits in
     record {
       front = replicate n 32 ++ (word ++ below.front);
       here = below.here;
@@ -190,37 +190,37 @@ either_value : {V : Type 0} (o : Option V) → (o ≡ None) ⊎ ((x : V) × (o �
 either_value None = inl refl
 either_value (Some x) = inr (x, refl)
 
-done_blank : (line : ScriptLine) (n : ℕ) → read (Done line) (replicate n 32) ≡ Ok line
+done_blank : (line : ScriptLine) (n : ℕ) → read_by (Done line) (replicate n 32) ≡ Ok line
 done_blank line zero = refl
 done_blank line (suc n) = read_led (Done line) 1 (replicate n 32) ∙ done_blank line n
 
-then_blank : {V : Type 0} (place : Place V) (more : V → Format) (n : ℕ) → place.value [] ≡ None → read (Then place more) (replicate n 32) ≡ Err 0
-then_blank {V} place more zero none = ap (λ (o : Option V). and_then (placed o []) (λ (y : V × List ℕ). read (more y.0) y.1)) none
+then_blank : {V : Type 0} (place : Place V) (more : V → Format) (n : ℕ) → place.value [] ≡ None → read_by (Then place more) (replicate n 32) ≡ Err 0
+then_blank {V} place more zero none = ap (λ (o : Option V). and_then (placed o []) (λ (y : V × List ℕ). read_by (more y.0) y.1)) none
 then_blank place more (suc n) none = read_led (Then place more) 1 (replicate n 32) ∙ then_blank place more n none
 
 -- a format that does not give a line stops somewhere
-stop_is : (f : Format) (before : List Token → List Token) (bytes : List ℕ) (left : ℕ) → Faithful f before → is_in_word bytes ≡ false → read f bytes ≡ Err left → Stop f bytes left
+stop_is : (f : Format) (before : List Token → List Token) (bytes : List ℕ) (left : ℕ) → Faithful f before → is_in_word bytes ≡ false → read_by f bytes ≡ Err left → Stop f bytes left
 stop_is (Done line) before bytes left is spaced e = ⊎_elim
-    (λ (blank : Blank bytes). absurd (not_both left line (read (Done line) bytes) e (ap (read (Done line)) blank.is ∙ done_blank line blank.count)))
+    (λ (blank : Blank bytes). absurd (not_both left line (read_by (Done line) bytes) e (ap (read_by (Done line)) blank.is ∙ done_blank line blank.count)))
     (λ (a : At bytes).
     let led = some_spaces a.count a.word a.tail a.shown a.some (sym (ap is_in_word a.is) ∙ spaced) in
     let form : bytes ≡ replicate (suc led.0) 32 ++ (a.word ++ a.tail) = a.is ∙ ap (λ (n : ℕ). replicate n 32 ++ (a.word ++ a.tail)) led.1 in
-    let wrong : read (Done line) bytes ≡ Err (length (a.word ++ a.tail)) = ap (read (Done line)) form ∙ read_led (Done line) (suc led.0) (a.word ++ a.tail) ∙ read_done line a.word a.tail a.shown a.some in
+    let wrong : read_by (Done line) bytes ≡ Err (length (a.word ++ a.tail)) = ap (read_by (Done line)) form ∙ read_led (Done line) (suc led.0) (a.word ++ a.tail) ∙ read_done line a.word a.tail a.shown a.some in
     subst (λ (t : List ℕ). Stop (Done line) t left) (sym form)
-    (stop_word (Done line) before is led.0 a.word a.tail left a.shown a.some a.ends (λ more ends. read_done line a.word more a.shown a.some) (err_same left (length (a.word ++ a.tail)) (read (Done line) bytes) e wrong)))
+    (stop_word (Done line) before is led.0 a.word a.tail left a.shown a.some a.ends (λ more ends. read_done line a.word more a.shown a.some) (err_same left (length (a.word ++ a.tail)) (read_by (Done line) bytes) e wrong)))
     (spot bytes)
 stop_is (Then {V} place more) before bytes left is spaced e = ⊎_elim
     (λ (blank : Blank bytes).
-    let none : read (Then place more) bytes ≡ Err 0 = ap (read (Then place more)) blank.is ∙ then_blank place more blank.count is.0.empty in
-    subst (λ (t : List ℕ). Stop (Then place more) t left) (sym blank.is) (stop_blank (Then place more) before is blank.count left (err_same left 0 (read (Then place more) bytes) e none)))
+    let none : read_by (Then place more) bytes ≡ Err 0 = ap (read_by (Then place more)) blank.is ∙ then_blank place more blank.count is.0.empty in
+    subst (λ (t : List ℕ). Stop (Then place more) t left) (sym blank.is) (stop_blank (Then place more) before is blank.count left (err_same left 0 (read_by (Then place more) bytes) e none)))
     (λ (a : At bytes).
     let led = some_spaces a.count a.word a.tail a.shown a.some (sym (ap is_in_word a.is) ∙ spaced) in
     let form : bytes ≡ replicate (suc led.0) 32 ++ (a.word ++ a.tail) = a.is ∙ ap (λ (n : ℕ). replicate n 32 ++ (a.word ++ a.tail)) led.1 in
-    let taken : read (Then place more) bytes ≡ read (Then place more) (a.word ++ a.tail) = ap (read (Then place more)) form ∙ read_led (Then place more) (suc led.0) (a.word ++ a.tail) in
+    let taken : read_by (Then place more) bytes ≡ read_by (Then place more) (a.word ++ a.tail) = ap (read_by (Then place more)) form ∙ read_led (Then place more) (suc led.0) (a.word ++ a.tail) in
     subst (λ (t : List ℕ). Stop (Then place more) t left) (sym form) (⊎_elim
     (λ (none : place.value a.word ≡ None).
     stop_word (Then place more) before is led.0 a.word a.tail left a.shown a.some a.ends (λ rest ends. read_none place more a.word rest a.shown a.some ends none)
-    (err_same left (length (a.word ++ a.tail)) (read (Then place more) bytes) e (taken ∙ read_none place more a.word a.tail a.shown a.some a.ends none)))
+    (err_same left (length (a.word ++ a.tail)) (read_by (Then place more) bytes) e (taken ∙ read_none place more a.word a.tail a.shown a.some a.ends none)))
     (λ (fits : (x : V) × (place.value a.word ≡ Some x)).
     stop_behind place more (suc led.0) a.word a.tail fits.0 left a.shown a.some (led.0, refl) fits.1
     (stop_is (more fits.0) (λ ts. before (place.token fits.0 ∷ ts)) a.tail left (is.1 fits.0) a.ends (sym (taken ∙ read_some place more a.word a.tail fits.0 a.shown a.some a.ends fits.1) ∙ e)))
@@ -229,15 +229,15 @@ stop_is (Then {V} place more) before bytes left is spaced e = ⊎_elim
 
 -- a line behind its first word
 line_behind : (n : ℕ) (word tail : List ℕ) → list_all is_visible word ≡ true → 0 < length word → is_in_word tail ≡ false
-    → line_at (replicate n 32 ++ (word ++ tail)) ≡ line_by word tail (length (word ++ tail))
-unfolding line_at
+    → line_after_spaces (replicate n 32 ++ (word ++ tail)) ≡ line_by word tail (length (word ++ tail))
+unfolding line_after_spaces
 line_behind n word tail shown some ends =
     ap (λ (t : List ℕ). line_by (word_of t) (after_word t) (length t)) (after_led n (word ++ tail) ∙ after_kept word tail shown some)
     ∙ ap (λ (w : List ℕ). line_by w (after_word (word ++ tail)) (length (word ++ tail))) (word_then word tail shown ends)
     ∙ ap (λ (t : List ℕ). line_by word t (length (word ++ tail))) (tail_then word tail shown ends)
 
-line_blank : (n : ℕ) → line_at (replicate n 32) ≡ Ok None
-unfolding line_at line_by
+line_blank : (n : ℕ) → line_after_spaces (replicate n 32) ≡ Ok None
+unfolding line_after_spaces line_by
 line_blank n = ap (λ (t : List ℕ). line_by (word_of t) (after_word t) (length t)) (ap after_spaces (sym (append_none (replicate n 32))) ∙ after_led n [])
 
 -- the words that begin no line
@@ -247,7 +247,7 @@ record NoKeyword (word : List ℕ) : Type 0 where
 -- the words that begin lines of a kind
 record OfKeyword (word : List ℕ) : Type 0 where
   keyword : Keyword
-  is : (tail : List ℕ) (left : ℕ) → line_by word tail left ≡ some_line (read (format_of keyword) tail)
+  is : (tail : List ℕ) (left : ℕ) → line_by word tail left ≡ some_line (read_by (format_of keyword) tail)
 
 either_keyword : (o : Option Keyword) → (o ≡ None) ⊎ ((k : Keyword) × (o ≡ Some k))
 either_keyword None = inl refl
@@ -269,11 +269,11 @@ silent_word : (word tail : List ℕ) (left : ℕ) → is_silent word ≡ true �
 unfolding line_by
 silent_word word tail left e = ap (λ (b : Bool). cond b (Ok None) (line_of_keyword (keyword_of word) tail left)) e
 
-some_err : (r : Reading ScriptLine) (left : ℕ) → some_line r ≡ Err left → r ≡ Err left
+some_err : (r : WordReading ScriptLine) (left : ℕ) → some_line r ≡ Err left → r ≡ Err left
 some_err (Ok l) left e = absurd (cc)
 some_err (Err n) left e = let same : n ≡ left = cc in ap (λ (k : ℕ). Err k) same
 
-some_ok : (r : Reading ScriptLine) (line : ScriptLine) → some_line r ≡ Ok (Some line) → r ≡ Ok line
+some_ok : (r : WordReading ScriptLine) (line : ScriptLine) → some_line r ≡ Ok (Some line) → r ≡ Ok line
 some_ok (Ok l) line e = let same : l ≡ line = cc in ap (λ (k : ScriptLine). Ok k) same
 some_ok (Err n) line e = absurd (cc)
 
@@ -283,16 +283,16 @@ record LineStop (bytes : List ℕ) (left : ℕ) : Type 0 where
   here : List ℕ
   split : bytes ≡ front ++ here
   place : left ≡ length here
-  begins : Begins front
+  begins : BeginsLine front
   wrong : IsWrongWord front here ⊎ (here ≡ [])
 
-end_alone : line_by (word_of (after_spaces (32 ∷ text_of EndKey))) (after_word (after_spaces (32 ∷ text_of EndKey))) (length (after_spaces (32 ∷ text_of EndKey))) ≡ Ok (Some End)
+end_alone : line_by (word_of (after_spaces (32 ∷ keyword_text EndKey))) (after_word (after_spaces (32 ∷ keyword_text EndKey))) (length (after_spaces (32 ∷ keyword_text EndKey))) ≡ Ok (Some End)
 unfolding line_by keyword_of end_format
 end_alone = refl
 
-end_begins : (n : ℕ) → line_at (replicate n 32 ++ 32 ∷ text_of EndKey) ≡ Ok (Some End)
-unfolding line_at line_by
-end_begins n = ap (λ (t : List ℕ). line_by (word_of t) (after_word t) (length t)) (after_led n (32 ∷ text_of EndKey)) ∙ end_alone
+end_begins : (n : ℕ) → line_after_spaces (replicate n 32 ++ 32 ∷ keyword_text EndKey) ≡ Ok (Some End)
+unfolding line_after_spaces line_by
+end_begins n = ap (λ (t : List ℕ). line_by (word_of t) (after_word t) (length t)) (after_led n (32 ∷ keyword_text EndKey)) ∙ end_alone
 
 spaces_apart : (n : ℕ) → IsApart (replicate n 32)
 spaces_apart zero = inl refl
@@ -300,35 +300,35 @@ spaces_apart (suc n) = inr (replicate n 32, last_space n)
 
 -- a first word that is no keyword
 line_unknown : (n : ℕ) (word tail : List ℕ) (left : ℕ) → list_all is_visible word ≡ true → 0 < length word → is_in_word tail ≡ false → NoKeyword word
-    → line_at (replicate n 32 ++ (word ++ tail)) ≡ Err left → LineStop (replicate n 32 ++ (word ++ tail)) left
+    → line_after_spaces (replicate n 32 ++ (word ++ tail)) ≡ Err left → LineStop (replicate n 32 ++ (word ++ tail)) left
 line_unknown n word tail left shown some ends none e =
     record {
       front = replicate n 32;
       here = word ++ tail;
       split = refl;
-      place = err_same left (length (word ++ tail)) (line_at (replicate n 32 ++ (word ++ tail))) e (line_behind n word tail shown some ends ∙ none.is tail (length (word ++ tail)));
-      begins = (text_of EndKey, End, line_found (replicate n 32 ++ 32 ∷ text_of EndKey) End (end_begins n));
+      place = err_same left (length (word ++ tail)) (line_after_spaces (replicate n 32 ++ (word ++ tail))) e (line_behind n word tail shown some ends ∙ none.is tail (length (word ++ tail)));
+      begins = (keyword_text EndKey, End, line_found (replicate n 32 ++ 32 ∷ keyword_text EndKey) End (end_begins n));
       wrong = inl (record {
         apart = spaces_apart n;
         word = word_in word tail shown some;
         stops = λ b.
             let w : word_of (word ++ tail) ≡ word = word_then word tail shown ends in
             let form : (replicate n 32 ++ word_of (word ++ tail)) ++ 32 ∷ b.0 ≡ replicate n 32 ++ (word ++ 32 ∷ b.0) = ap (λ (v : List ℕ). (replicate n 32 ++ v) ++ 32 ∷ b.0) w ∙ append_assoc (replicate n 32) word (32 ∷ b.0) in
-            let read_it : line_at ((replicate n 32 ++ word_of (word ++ tail)) ++ 32 ∷ b.0) ≡ Ok (Some b.1) = line_only ((replicate n 32 ++ word_of (word ++ tail)) ++ 32 ∷ b.0) b.1 b.2 in
-            let wrong : line_at ((replicate n 32 ++ word_of (word ++ tail)) ++ 32 ∷ b.0) ≡ Err (length (word ++ 32 ∷ b.0)) = ap line_at form ∙ line_behind n word (32 ∷ b.0) shown some refl ∙ none.is (32 ∷ b.0) (length (word ++ 32 ∷ b.0)) in
-            not_both (length (word ++ 32 ∷ b.0)) (Some b.1) (line_at ((replicate n 32 ++ word_of (word ++ tail)) ++ 32 ∷ b.0)) wrong read_it;
+            let read_it : line_after_spaces ((replicate n 32 ++ word_of (word ++ tail)) ++ 32 ∷ b.0) ≡ Ok (Some b.1) = line_only ((replicate n 32 ++ word_of (word ++ tail)) ++ 32 ∷ b.0) b.1 b.2 in
+            let wrong : line_after_spaces ((replicate n 32 ++ word_of (word ++ tail)) ++ 32 ∷ b.0) ≡ Err (length (word ++ 32 ∷ b.0)) = ap line_after_spaces form ∙ line_behind n word (32 ∷ b.0) shown some refl ∙ none.is (32 ∷ b.0) (length (word ++ 32 ∷ b.0)) in
+            not_both (length (word ++ 32 ∷ b.0)) (Some b.1) (line_after_spaces ((replicate n 32 ++ word_of (word ++ tail)) ++ 32 ∷ b.0)) wrong read_it;
       });
     }
 
 -- a line of a known kind
 line_known : (n : ℕ) (word tail : List ℕ) (left : ℕ) → list_all is_visible word ≡ true → 0 < length word → is_in_word tail ≡ false → OfKeyword word
-    → line_at (replicate n 32 ++ (word ++ tail)) ≡ Err left → LineStop (replicate n 32 ++ (word ++ tail)) left
+    → line_after_spaces (replicate n 32 ++ (word ++ tail)) ≡ Err left → LineStop (replicate n 32 ++ (word ++ tail)) left
 line_known n word tail left shown some ends of e =
     let f : Format = format_of of.keyword in
-    let wrong : read f tail ≡ Err left = some_err (read f tail) left (sym (line_behind n word tail shown some ends ∙ of.is tail (length (word ++ tail))) ∙ e) in
-    let s : Stop f tail left = stop_is f (λ ts. Key (text_of of.keyword) ∷ ts) tail left (faithful of.keyword) ends wrong in
-    let through : (rest : List ℕ) → is_in_word (s.front ++ rest) ≡ false → line_at ((replicate n 32 ++ (word ++ s.front)) ++ rest) ≡ some_line (read f (s.front ++ rest)) =
-    λ rest spaced. ap line_at (join3 (replicate n 32) word s.front rest) ∙ line_behind n word (s.front ++ rest) shown some spaced ∙ of.is (s.front ++ rest) (length (word ++ (s.front ++ rest))) in
+    let wrong : read_by f tail ≡ Err left = some_err (read_by f tail) left (sym (line_behind n word tail shown some ends ∙ of.is tail (length (word ++ tail))) ∙ e) in
+    let s : Stop f tail left = stop_is f (λ ts. Key (keyword_text of.keyword) ∷ ts) tail left (faithful of.keyword) ends wrong in
+    let through : (rest : List ℕ) → is_in_word (s.front ++ rest) ≡ false → line_after_spaces ((replicate n 32 ++ (word ++ s.front)) ++ rest) ≡ some_line (read_by f (s.front ++ rest)) =
+    λ rest spaced. ap line_after_spaces (join3 (replicate n 32) word s.front rest) ∙ line_behind n word (s.front ++ rest) shown some spaced ∙ of.is (s.front ++ rest) (length (word ++ (s.front ++ rest))) in
     let front : List ℕ = replicate n 32 ++ (word ++ s.front) in
     record {
       front = front;
@@ -342,27 +342,27 @@ line_known n word tail left shown some ends of e =
             word = at_.word;
             stops = λ b.
                 let form : (front ++ word_of s.here) ++ 32 ∷ b.0 ≡ front ++ (word_of s.here ++ 32 ∷ b.0) = append_assoc front (word_of s.here) (32 ∷ b.0) in
-                let read_it : line_at (front ++ (word_of s.here ++ 32 ∷ b.0)) ≡ Ok (Some b.1) = sym (ap line_at form) ∙ line_only ((front ++ word_of s.here) ++ 32 ∷ b.0) b.1 b.2 in
-                at_.stops b.0 b.1 (some_ok (read f (s.front ++ (word_of s.here ++ 32 ∷ b.0))) b.1 (sym (through (word_of s.here ++ 32 ∷ b.0) (at_.spaced (word_of s.here ++ 32 ∷ b.0))) ∙ read_it));
+                let read_it : line_after_spaces (front ++ (word_of s.here ++ 32 ∷ b.0)) ≡ Ok (Some b.1) = sym (ap line_after_spaces form) ∙ line_only ((front ++ word_of s.here) ++ 32 ∷ b.0) b.1 b.2 in
+                at_.stops b.0 b.1 (some_ok (read_by f (s.front ++ (word_of s.here ++ 32 ∷ b.0))) b.1 (sym (through (word_of s.here ++ 32 ∷ b.0) (at_.spaced (word_of s.here ++ 32 ∷ b.0))) ∙ read_it));
           }))
           (λ (none : s.here ≡ []). inr none) s.stop;
     }
 
-line_stops : (bytes : List ℕ) (left : ℕ) → line_at bytes ≡ Err left → LineStop bytes left
+line_stops : (bytes : List ℕ) (left : ℕ) → line_after_spaces bytes ≡ Err left → LineStop bytes left
 line_stops bytes left e = ⊎_elim
-    (λ (blank : Blank bytes). absurd (not_both left None (line_at bytes) e (ap line_at blank.is ∙ line_blank blank.count)))
+    (λ (blank : Blank bytes). absurd (not_both left None (line_after_spaces bytes) e (ap line_after_spaces blank.is ∙ line_blank blank.count)))
     (λ (a : At bytes).
     subst (λ (t : List ℕ). LineStop t left) (sym a.is) (⊎_elim
-    (λ (quiet : is_silent a.word ≡ true). absurd (not_both left None (line_at bytes) e (ap line_at a.is ∙ line_behind a.count a.word a.tail a.shown a.some a.ends ∙ silent_word a.word a.tail (length (a.word ++ a.tail)) quiet)))
+    (λ (quiet : is_silent a.word ≡ true). absurd (not_both left None (line_after_spaces bytes) e (ap line_after_spaces a.is ∙ line_behind a.count a.word a.tail a.shown a.some a.ends ∙ silent_word a.word a.tail (length (a.word ++ a.tail)) quiet)))
     (λ (loud : is_silent a.word ≡ false). ⊎_elim
-    (λ (none : NoKeyword a.word). line_unknown a.count a.word a.tail left a.shown a.some a.ends none (sym (ap line_at a.is) ∙ e))
-    (λ (of : OfKeyword a.word). line_known a.count a.word a.tail left a.shown a.some a.ends of (sym (ap line_at a.is) ∙ e))
+    (λ (none : NoKeyword a.word). line_unknown a.count a.word a.tail left a.shown a.some a.ends none (sym (ap line_after_spaces a.is) ∙ e))
+    (λ (of : OfKeyword a.word). line_known a.count a.word a.tail left a.shown a.some a.ends of (sym (ap line_after_spaces a.is) ∙ e))
     (loud_word a.word loud))
     (either (is_silent a.word))))
     (spot bytes)
 
 -- the column of a line that is not too long
-column_of : (bytes : List ℕ) (left : ℕ) → line_at bytes ≡ Err left → WrongAt bytes (length bytes + 1 - left)
+column_of : (bytes : List ℕ) (left : ℕ) → line_after_spaces bytes ≡ Err left → WrongAt bytes (length bytes + 1 - left)
 column_of bytes left e =
     let s = line_stops bytes left e in
     let len = ap length s.split in
@@ -376,10 +376,10 @@ column_of bytes left e =
       begins = s.begins;
       wrong = ⊎_elim
           (λ (w : IsWrongWord s.front s.here). inl w)
-          (λ (none : s.here ≡ []). inr (record { end = none; stops = λ line is. not_both left (Some line) (line_at bytes) e (line_only bytes line is) })) s.wrong;
+          (λ (none : s.here ≡ []). inr (record { end = none; stops = λ line is. not_both left (Some line) (line_after_spaces bytes) e (line_only bytes line is) })) s.wrong;
     }
 
-at_err : (bytes : List ℕ) (len column : ℕ) (r : Reading (Option ScriptLine)) → at_column len r ≡ Err column → (left : ℕ) × (r ≡ Err left) × (len + 1 - left ≡ column)
+at_err : (bytes : List ℕ) (len column : ℕ) (r : WordReading (Option ScriptLine)) → at_column len r ≡ Err column → (left : ℕ) × (r ≡ Err left) × (len + 1 - left ≡ column)
 at_err bytes len column (Ok l) e = absurd (cc)
 at_err bytes len column (Err left) e = (left, refl, cc)
 
@@ -388,10 +388,10 @@ pub column_exact : (bytes : List ℕ) (column : ℕ) → line_of bytes ≡ Err c
 unfolding line_of
 column_exact bytes column e = ⊎_elim
     (λ (t : ltb 4096 (length bytes) ≡ true).
-    let f : Err 4097 ≡ Err column = sym (ap (λ (b : Bool). cond b (Err 4097) (at_column (length bytes) (line_at bytes))) t) ∙ e in
+    let f : Err 4097 ≡ Err column = sym (ap (λ (b : Bool). cond b (Err 4097) (at_column (length bytes) (line_after_spaces bytes))) t) ∙ e in
     let same : 4097 ≡ column = cc in
     inl (ltb-true 4096 (length bytes) t, sym same))
     (λ (t : ltb 4096 (length bytes) ≡ false).
-    let a = at_err bytes (length bytes) column (line_at bytes) (sym (ap (λ (b : Bool). cond b (Err 4097) (at_column (length bytes) (line_at bytes))) t) ∙ e) in
+    let a = at_err bytes (length bytes) column (line_after_spaces bytes) (sym (ap (λ (b : Bool). cond b (Err 4097) (at_column (length bytes) (line_after_spaces bytes))) t) ∙ e) in
     inr (subst (WrongAt bytes) a.2 (column_of bytes a.0 a.1)))
     (either (ltb 4096 (length bytes)))

@@ -11,8 +11,8 @@ use Rattle.std.proofs.lemmas.List.Splits.{join_with_byte-slice_split}
 use Rattle.std.proofs.lemmas.Slice.Eq.{bytes_eq-Decides}
 use Rattle.hex.specs.Hex.{lower_digits}
 use Rattle.hex.proofs.HexLemmas.{length-encode_with, decode_sized-twice, decode_sized-ok, decode_of-ok}
-use Rattle.vx_script.specs.Words.{is_visible, is_digit, is_name, name_of, digits_after, is_number, number_of, labelled, is_comma, both_names, all_names, names_of}
-use Rattle.vx_script.specs.Tokens.{Token, Key, Named, Number, Hex, NameList, Spells, SpellAll, words_of, before_word, is_in_word, printed, spaced, joined, IsWord, FitsToken, FitAll}
+use Rattle.vx_script.specs.Words.{is_visible, is_digit, is_name, word_name, digits_after, is_number, word_number, labelled, is_comma, both_names, all_names, names_of}
+use Rattle.vx_script.specs.Tokens.{Token, Key, Named, Number, Hex, NameList, Spells, SpellAll, words_of, before_word, is_in_word, printed, spaced, joined_words, IsWord, FitsToken, FitAll}
 use Rattle.vx_script.proofs.FormatLemmas.{either, some_same}
 
 -- all of these are words
@@ -98,8 +98,8 @@ front_visible (b ∷ d ∷ label) rest is = let e = visible_byte b is.0 in ap (�
 label_visible : (label word : List ℕ) → IsWord word → word ≡ label ++ drop (length label) word → list_all is_visible label ≡ true
 label_visible label word is e = front_visible label (drop (length label) word) (subst IsWord e is)
 
-name_is : (word name : List ℕ) → name_of word ≡ Some name → (word ≡ name) × (is_name word ≡ true)
-unfolding name_of
+name_is : (word name : List ℕ) → word_name word ≡ Some name → (word ≡ name) × (is_name word ≡ true)
+unfolding word_name
 name_is word name e = ⊎_elim
     (λ (t : is_name word ≡ true). (some_same word name (sym (ap (λ (b : Bool). cond b (Some word) None) t) ∙ e), t))
     (λ (t : is_name word ≡ false). let f = sym (ap (λ (b : Bool). cond b (Some word) None) t) ∙ e in absurd (cc))
@@ -137,8 +137,8 @@ number_fits word e =
     let below : digits_after 0 word < 10 ^ length word = subst (λ (m : ℕ). digits_after 0 word < 10 ^ m) same (digits_below 0 0 word b.1 (omega arith)) in
     record { small = small; short = length-decimal-le (length word) (digits_after 0 word) some below small }
 
-number_is : (word : List ℕ) (n : ℕ) → number_of word ≡ Some n → IsNumber n word
-unfolding number_of
+number_is : (word : List ℕ) (n : ℕ) → word_number word ≡ Some n → IsNumber n word
+unfolding word_number
 number_is word n e = ⊎_elim
     (λ (t : is_number word ≡ true). subst (λ (m : ℕ). IsNumber m word) (some_same (digits_after 0 word) n (sym (ap (λ (b : Bool). cond b (Some (digits_after 0 word)) None) t) ∙ e)) (number_fits word t))
     (λ (t : is_number word ≡ false). let f = sym (ap (λ (b : Bool). cond b (Some (digits_after 0 word)) None) t) ∙ e in absurd (cc))
@@ -153,7 +153,7 @@ both_is (Some name) (Some others) names e = (name, others, refl, refl, some_same
 all_names_are : (parts names : List (List ℕ)) → all_names parts ≡ Some names → (parts ≡ names) × (list_all is_name names ≡ true)
 all_names_are [] names e = let same = some_same [] names e in (same, ap (list_all is_name) (sym same))
 all_names_are (part ∷ parts) names e =
-    let a = both_is (name_of part) (all_names parts) names e in
+    let a = both_is (word_name part) (all_names parts) names e in
     let n = name_is part a.0 a.2 in
     let rest = all_names_are parts a.1 a.3 in
     let first : is_name a.0 ≡ true = ap is_name (sym n.0) ∙ n.1 in (
@@ -187,7 +187,7 @@ some_word [] is = absurd is
 some_word (b ∷ bytes) is = omega arith
 
 no_names_of : names_of [] ≡ None
-unfolding names_of name_of
+unfolding names_of word_name
 no_names_of = refl
 
 names_some : (word : List ℕ) (names : List (List ℕ)) → names_of word ≡ Some names → 0 < length word
@@ -200,7 +200,7 @@ label_length label word e = ap length e ∙ length-append label (drop (length la
 pub fine : (token : Token) (word : List ℕ) → IsWord word → Spells token word → Fine token word
 fine (Key key) word is e = record { fits = subst IsWord e is; short = let len = ap length e in omega (arith, len) }
 fine (Named label name) word is e =
-    let a = labelled_is label name_of word name e in
+    let a = labelled_is label word_name word name e in
     let n = name_is (drop (length label) word) name a.1 in
     let len = ap length n.0 in
     record {
@@ -208,7 +208,7 @@ fine (Named label name) word is e =
       short = omega (arith, len, label_length label word a.0, length-append label name);
     }
 fine (Number label n) word is e =
-    let a = labelled_is label number_of word n e in
+    let a = labelled_is label word_number word n e in
     let is_n = number_is (drop (length label) word) n a.1 in
     let short = is_n.short in
     record {
@@ -252,12 +252,12 @@ all_fine (place ∷ places) (word ∷ words) are spells =
       short = omega (arith, one, others, length-append (printed place) (spaced places));
     }
 
-joined_short : (places : List Token) (n : ℕ) → length (spaced places) ≤ n + 1 → length (joined places) ≤ n
+joined_short : (places : List Token) (n : ℕ) → length (spaced places) ≤ n + 1 → length (joined_words places) ≤ n
 joined_short [] n short = omega arith
 joined_short (place ∷ places) n short = omega (arith, short)
 
 -- a line that was read is printed in no more bytes
-pub printed_short : (places : List Token) (bytes : List ℕ) → SpellAll places (words_of bytes) → length (joined places) ≤ length bytes
+pub printed_short : (places : List Token) (bytes : List ℕ) → SpellAll places (words_of bytes) → length (joined_words places) ≤ length bytes
 printed_short places bytes spells =
     let a = all_fine places (words_of bytes) (words_are bytes) spells in
     let short = a.short in

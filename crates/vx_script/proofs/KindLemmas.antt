@@ -1,12 +1,12 @@
 -- Each kind of line: its format is faithful, and gives the line when it is given the line's places.
 use Rattle.std.proofs.Common.{◌≡◌, ℕ, Bool, true, false, cond, List, [], ◌∷◌, length, Option, Some, None, Ok, Err, refl, ap, sym, subst, ◌∙◌}
 use Rattle.std.specs.Prelude.{codes}
-use Rattle.vx_script.specs.Words.{Reading, after_spaces, word_of, after_word}
+use Rattle.vx_script.specs.Words.{WordReading, after_spaces, word_of, after_word}
 use Rattle.vx_script.specs.Tokens.{Token, Key, Named, Number, SpellAll, words_of}
-use Rattle.vx_script.specs.Keywords.{site_text, number_text, span_text, link_text, pair_text, text_of, keyword_of}
+use Rattle.vx_script.specs.Keywords.{site_text, number_text, span_text, link_text, pair_text, keyword_text, keyword_of}
 use Rattle.vx_script.specs.Choices.{group_text, plex_text, layout_text, call_text}
-use Rattle.vx_script.specs.Formats.{read, format_of, site_line, number_line, span_line, link_line, pair_line, group_line, plex_line, site_format, disk_format, fuse_format, group_format, volume_tail, layout_format, volume_format, plex_format, rvg_format, write_format, put_format, deliver_format, call_more, call_format, end_format, of_site_format, of_number_format, of_span_format, of_link_format, of_pair_format}
-use Rattle.vx_script.specs.Grammar.{tokens, layout_tokens, one_site, site_word, site_number, two_sites, two_modes, block_run, plex_word, IsLine, line_by, line_at, line_of_keyword, some_line, is_silent}
+use Rattle.vx_script.specs.Formats.{read_by, format_of, site_line, number_line, span_line, link_line, pair_line, group_line, plex_line, site_format, disk_format, fuse_format, group_format, volume_tail, layout_format, volume_format, plex_format, rvg_format, write_format, put_format, deliver_format, call_more, call_format, end_format, of_site_format, of_number_format, of_span_format, of_link_format, of_pair_format}
+use Rattle.vx_script.specs.Grammar.{tokens, layout_tokens, one_site, site_word, site_and_number, two_sites, two_modes, block_run, plex_word, IsLine, line_by, line_after_spaces, line_of_keyword, some_line, is_silent}
 use Rattle.vx_model.specs.declared.link.Prot.{Prot}
 use Rattle.vx_model.specs.declared.link.SyncMode.{SyncMode}
 use Rattle.vx_script.specs.declared.choice.GroupVerb.{GroupVerb}
@@ -64,7 +64,7 @@ site_tokens RecoverVerb a = refl
 site_tokens TakeoverVerb a = refl
 site_tokens StatusVerb a = refl
 
-number_tokens : (verb : NumberVerb) (a : List ℕ) (n : ℕ) → tokens (number_line verb a n) ≡ site_number (number_text verb) a n
+number_tokens : (verb : NumberVerb) (a : List ℕ) (n : ℕ) → tokens (number_line verb a n) ≡ site_and_number (number_text verb) a n
 number_tokens CrashVerb a n = refl
 number_tokens ApplyVerb a n = refl
 number_tokens WaitVerb a n = refl
@@ -103,7 +103,7 @@ plex_tokens : (verb : PlexVerb) (a b : List ℕ) (n : ℕ) → tokens (plex_line
 plex_tokens DetachPlex a b n = refl
 plex_tokens AttachPlex a b n = refl
 
-pub faithful : (k : Keyword) → Faithful (format_of k) (λ ts. Key (text_of k) ∷ ts)
+pub faithful : (k : Keyword) → Faithful (format_of k) (λ ts. Key (keyword_text k) ∷ ts)
 unfolding site_format disk_format fuse_format group_format volume_format plex_format rvg_format write_format put_format deliver_format call_format end_format of_site_format of_number_format of_span_format of_link_format of_pair_format
 faithful SiteKey = (name_place [] refl, λ site. (number_place [] refl, λ disks. (number_place [] refl, λ blocks. refl)))
 faithful DiskKey = (name_place [] refl, λ site. (number_place [] refl, λ disk. (disk_state_place, λ state. refl)))
@@ -127,14 +127,14 @@ faithful (PairKeys verb) = (name_place [] refl, λ first. (name_place [] refl, �
 record Kind (line : ScriptLine) : Type 0 where
   keyword : Keyword
   places : List Token
-  is : tokens line ≡ Key (text_of keyword) ∷ places
+  is : tokens line ≡ Key (keyword_text keyword) ∷ places
   reads : Reads (format_of keyword) places line
 
 abbrev behind : List Token → List Token
 behind [] = []
 behind (t ∷ ts) = ts
 
-kind : (line : ScriptLine) (k : Keyword) → tokens line ≡ Key (text_of k) ∷ behind (tokens line) → Reads (format_of k) (behind (tokens line)) line → Kind line
+kind : (line : ScriptLine) (k : Keyword) → tokens line ≡ Key (keyword_text k) ∷ behind (tokens line) → Reads (format_of k) (behind (tokens line)) line → Kind line
 kind line k is reads = record { keyword = k; places = behind (tokens line); is = is; reads = reads }
 
 kind_of : (line : ScriptLine) → Kind line
@@ -194,45 +194,45 @@ begun key others bytes is =
     let both = first_is bytes a.0 a.1 a.2 in
     record { word = both.0 ∙ a.3; spelt = record { all = subst (SpellAll others) (sym both.1) a.4 } }
 
-at_word : (bytes key : List ℕ) → word_of (after_spaces bytes) ≡ key → line_at bytes ≡ line_by key (after_word (after_spaces bytes)) (length (after_spaces bytes))
-unfolding line_at
+at_word : (bytes key : List ℕ) → word_of (after_spaces bytes) ≡ key → line_after_spaces bytes ≡ line_by key (after_word (after_spaces bytes)) (length (after_spaces bytes))
+unfolding line_after_spaces
 at_word bytes key e = ap (λ (w : List ℕ). line_by w (after_word (after_spaces bytes)) (length (after_spaces bytes))) e
 
-by_keyword : (k : Keyword) (rest : List ℕ) (left : ℕ) → line_by (text_of k) rest left ≡ some_line (read (format_of k) rest)
+by_keyword : (k : Keyword) (rest : List ℕ) (left : ℕ) → line_by (keyword_text k) rest left ≡ some_line (read_by (format_of k) rest)
 unfolding line_by
 by_keyword k rest left =
-    ap (λ (t : Bool). cond t (Ok None) (line_of_keyword (keyword_of (text_of k)) rest left)) (keyword_loud k)
+    ap (λ (t : Bool). cond t (Ok None) (line_of_keyword (keyword_of (keyword_text k)) rest left)) (keyword_loud k)
     ∙ ap (λ (o : Option Keyword). line_of_keyword o rest left) (keyword_again k)
 
 -- what is in the grammar is read
-pub line_only : (bytes : List ℕ) (line : ScriptLine) → IsLine bytes line → line_at bytes ≡ Ok (Some line)
+pub line_only : (bytes : List ℕ) (line : ScriptLine) → IsLine bytes line → line_after_spaces bytes ≡ Ok (Some line)
 line_only bytes line is =
     let k = kind_of line in
-    let b = begun (text_of k.keyword) k.places bytes (subst (λ (ts : List Token). SpellAll ts (words_of bytes)) k.is is) in
-    at_word bytes (text_of k.keyword) b.word
+    let b = begun (keyword_text k.keyword) k.places bytes (subst (λ (ts : List Token). SpellAll ts (words_of bytes)) k.is is) in
+    at_word bytes (keyword_text k.keyword) b.word
     ∙ by_keyword k.keyword (after_word (after_spaces bytes)) (length (after_spaces bytes))
-    ∙ ap some_line (read_only (format_of k.keyword) (λ ts. Key (text_of k.keyword) ∷ ts) k.places line (after_word (after_spaces bytes)) (faithful k.keyword) k.reads b.spelt)
+    ∙ ap some_line (read_only (format_of k.keyword) (λ ts. Key (keyword_text k.keyword) ∷ ts) k.places line (after_word (after_spaces bytes)) (faithful k.keyword) k.reads b.spelt)
 
-some_is : (r : Reading ScriptLine) (line : ScriptLine) → some_line r ≡ Ok (Some line) → r ≡ Ok line
+some_is : (r : WordReading ScriptLine) (line : ScriptLine) → some_line r ≡ Ok (Some line) → r ≡ Ok line
 some_is (Ok l) line e = let same : l ≡ line = cc in ap (λ (k : ScriptLine). Ok k) same
 some_is (Err left) line e = absurd (cc)
 
-by_some : (o : Option Keyword) (rest : List ℕ) (left : ℕ) (line : ScriptLine) → line_of_keyword o rest left ≡ Ok (Some line) → (k : Keyword) × (o ≡ Some k) × (read (format_of k) rest ≡ Ok line)
+by_some : (o : Option Keyword) (rest : List ℕ) (left : ℕ) (line : ScriptLine) → line_of_keyword o rest left ≡ Ok (Some line) → (k : Keyword) × (o ≡ Some k) × (read_by (format_of k) rest ≡ Ok line)
 by_some None rest left line e = absurd (cc)
-by_some (Some k) rest left line e = (k, refl, some_is (read (format_of k) rest) line e)
+by_some (Some k) rest left line e = (k, refl, some_is (read_by (format_of k) rest) line e)
 
-silent : (t : Bool) (others : Reading (Option ScriptLine)) (line : ScriptLine) → cond t (Ok None) others ≡ Ok (Some line) → others ≡ Ok (Some line)
+silent : (t : Bool) (others : WordReading (Option ScriptLine)) (line : ScriptLine) → cond t (Ok None) others ≡ Ok (Some line) → others ≡ Ok (Some line)
 silent true others line e = absurd (cc)
 silent false others line e = e
 
 -- what was read is in the grammar
-pub line_found : (bytes : List ℕ) (line : ScriptLine) → line_at bytes ≡ Ok (Some line) → IsLine bytes line
-unfolding line_at line_by
+pub line_found : (bytes : List ℕ) (line : ScriptLine) → line_after_spaces bytes ≡ Ok (Some line) → IsLine bytes line
+unfolding line_after_spaces line_by
 line_found bytes line e =
     let word : List ℕ = word_of (after_spaces bytes) in
     let rest : List ℕ = after_word (after_spaces bytes) in
     let left : ℕ = length (after_spaces bytes) in
     let a = by_some (keyword_of word) rest left line (silent (is_silent word) (line_of_keyword (keyword_of word) rest left) line e) in
-    let found = read_found (format_of a.0) (λ ts. Key (text_of a.0) ∷ ts) line rest (faithful a.0) a.2 in
+    let found = read_found (format_of a.0) (λ ts. Key (keyword_text a.0) ∷ ts) line rest (faithful a.0) a.2 in
     subst (λ (ts : List Token). SpellAll ts (words_of bytes)) (sym found.is)
-    (subst (SpellAll (Key (text_of a.0) ∷ found.places)) (sym (first_found bytes (text_of a.0) (keyword_is word a.0 a.1) (keyword_some a.0))) (refl, found.spelt.all))
+    (subst (SpellAll (Key (keyword_text a.0) ∷ found.places)) (sym (first_found bytes (keyword_text a.0) (keyword_is word a.0 a.1) (keyword_some a.0))) (refl, found.spelt.all))

@@ -5,7 +5,7 @@ use Rattle.std.proofs.lemmas.Bool.{lt-ltb}
 use Rattle.std.proofs.lemmas.List.{take_more}
 use Rattle.vx_script.specs.Tokens.{comma_name}
 use Rattle.std.proofs.lemmas.List.Splits.{slice_split_first}
-use Rattle.vx_script.specs.Words.{is_comma, name_of, both_names, all_names, names_of, with_front}
+use Rattle.vx_script.specs.Words.{is_comma, word_name, both_names, all_names, names_of, with_front}
 use Rattle.std.specs.Prelude.{◌⊎◌}
 use Rattle.std.proofs.Common.{inl, inr}
 
@@ -47,7 +47,7 @@ front_more : (front : List (List ℕ)) (name : List ℕ) (names : Option (List (
 front_more front name None = refl
 front_more front name (Some names) = ap (λ (l : List (List ℕ)). Some l) (sym (append_assoc front (name ∷ []) names))
 
-pub one_more_name : (front : List (List ℕ)) (name rest : List ℕ) → position_or_len is_comma rest < length rest → name_of (take (position_or_len is_comma rest) rest) ≡ Some name
+pub one_more_name : (front : List (List ℕ)) (name rest : List ℕ) → position_or_len is_comma rest < length rest → word_name (take (position_or_len is_comma rest) rest) ≡ Some name
     → with_front front (names_of rest) ≡ with_front (front ++ name ∷ []) (names_of (drop (position_or_len is_comma rest + 1) rest))
 unfolding names_of
 one_more_name front name rest more is =
@@ -55,7 +55,7 @@ one_more_name front name rest more is =
     ∙ ap (λ (o : Option (List ℕ)). with_front front (both_names o (all_names (slice_split is_comma (drop (position_or_len is_comma rest + 1) rest))))) is
     ∙ front_more front name (all_names (slice_split is_comma (drop (position_or_len is_comma rest + 1) rest)))
 
-pub last_name : (front : List (List ℕ)) (name rest : List ℕ) → position_or_len is_comma rest ≡ length rest → name_of (take (position_or_len is_comma rest) rest) ≡ Some name
+pub last_name : (front : List (List ℕ)) (name rest : List ℕ) → position_or_len is_comma rest ≡ length rest → word_name (take (position_or_len is_comma rest) rest) ≡ Some name
     → with_front front (names_of rest) ≡ Some (front ++ name ∷ [])
 unfolding names_of
 last_name front name rest last is =
@@ -63,9 +63,9 @@ last_name front name rest last is =
     let s : take (position_or_len is_comma rest) rest ∷ a.0 ≡ rest ∷ [] = sym a.1 ∙ no_more is_comma rest last in
     let whole : take (position_or_len is_comma rest) rest ≡ rest = cc in
     ap (λ (ps : List (List ℕ)). with_front front (all_names ps)) (no_more is_comma rest last)
-    ∙ ap (λ (o : Option (List ℕ)). with_front front (both_names o (Some []))) (ap name_of (sym whole) ∙ is)
+    ∙ ap (λ (o : Option (List ℕ)). with_front front (both_names o (Some []))) (ap word_name (sym whole) ∙ is)
 
-pub wrong_name : (front : List (List ℕ)) (rest : List ℕ) → name_of (take (position_or_len is_comma rest) rest) ≡ None → with_front front (names_of rest) ≡ None
+pub wrong_name : (front : List (List ℕ)) (rest : List ℕ) → word_name (take (position_or_len is_comma rest) rest) ≡ None → with_front front (names_of rest) ≡ None
 unfolding names_of
 wrong_name front rest is =
     let a = first_part is_comma rest in

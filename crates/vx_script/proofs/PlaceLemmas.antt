@@ -12,11 +12,11 @@ use Rattle.vx_model.specs.declared.link.SyncMode.{SyncMode}
 use Rattle.vx_model.specs.declared.link.SyncMode.TheVariants.{Off as SyncOff, Override as SyncOverride, Fail as SyncFail}
 use Rattle.vx_model.specs.declared.link.Prot.{Prot}
 use Rattle.vx_model.specs.declared.link.Prot.TheVariants.{Off as ProtOff, Override as ProtOverride, Fail as ProtFail, Dcm as ProtDcm, Autodcm as ProtAutodcm}
-use Rattle.vx_script.specs.Words.{labelled, number_of, only_byte, decoded, byte_of, block_of}
+use Rattle.vx_script.specs.Words.{labelled, word_number, only_byte, decoded, byte_of, block_word}
 use Rattle.vx_script.specs.Tokens.{Spells}
-use Rattle.vx_script.specs.Keywords.{text_of, keyword_of, pick_of}
+use Rattle.vx_script.specs.Keywords.{keyword_text, keyword_of, pick_of}
 use Rattle.vx_script.specs.Choices.{disk_state_text, group_text, plex_text, layout_text, log_text, map_text, sync_text, prot_text, call_text}
-use Rattle.vx_script.specs.Formats.{pick, byte, block, policy_of, policy_token, policy_place, preferred}
+use Rattle.vx_script.specs.Formats.{pick, byte, a_block, policy_of, policy_token, policy_place, preferred_policy}
 use Rattle.vx_script.specs.Grammar.{is_silent}
 use Rattle.vx_script.specs.declared.keyword.TheConstants.{KEYWORDS}
 use Rattle.vx_script.specs.declared.choice.TheConstants.{DISK_STATES, GROUP_VERBS, PLEX_VERBS, LAYOUT_WORDS, VOLUME_LOGS, VOLUME_MAPS, SYNC_MODES, PROTS, CALL_VERBS}
@@ -147,11 +147,11 @@ unfolding zeros
 length_zeros zero = refl
 length_zeros (suc n) = ap (λ (k : ℕ). suc k) (length_zeros n)
 
-pub block_place : IsPlace block
-unfolding block_of
+pub block_place : IsPlace a_block
+unfolding block_word
 block_place = record { only = λ w x h. ap decoded h; found = λ w x e. decoded_is (decode_sized w 512) x e; empty = refl; sample = zeros 512; word = encode_lower (zeros 512); fits = ap decoded (hex_again 512 (zeros 512) (length_zeros 512) (zeros_bytes 512)); shown = hex_visible (zeros 512) (zeros_bytes 512) }
 
-pub keyword_again : (k : Keyword) → keyword_of (text_of k) ≡ Some k
+pub keyword_again : (k : Keyword) → keyword_of (keyword_text k) ≡ Some k
 unfolding keyword_of
 keyword_again Site = refl
 keyword_again Disk = refl
@@ -192,9 +192,9 @@ keyword_again (OfPair Migrate) = refl
 keyword_again (OfPair Failback) = refl
 keyword_again (OfPair Activate) = refl
 
-pub keyword_is : (word : List ℕ) (k : Keyword) → keyword_of word ≡ Some k → word ≡ text_of k
+pub keyword_is : (word : List ℕ) (k : Keyword) → keyword_of word ≡ Some k → word ≡ keyword_text k
 unfolding keyword_of
-keyword_is word k e = picked text_of KEYWORDS word k e
+keyword_is word k e = picked keyword_text KEYWORDS word k e
 
 both : (a b : Bool) → (a && b) ≡ true → (a ≡ true) × (b ≡ true)
 both true b e = (refl, e)
@@ -211,33 +211,33 @@ passes p q (v ∷ vs) x all e =
     (either (p v))
 
 abbrev is_loud : Keyword → Bool
-is_loud k = not (is_silent (text_of k))
+is_loud k = not (is_silent (keyword_text k))
 
 loud : (k : Keyword) → is_loud k ≡ true
 unfolding keyword_of
-loud k = passes (λ v. bytes_eq (text_of k) (text_of v)) is_loud KEYWORDS k refl (keyword_again k)
+loud k = passes (λ v. bytes_eq (keyword_text k) (keyword_text v)) is_loud KEYWORDS k refl (keyword_again k)
 
 not_true : (t : Bool) → not t ≡ true → t ≡ false
 not_true true e = absurd (cc)
 not_true false e = refl
 
 -- no keyword is empty or begins a comment
-pub keyword_loud : (k : Keyword) → is_silent (text_of k) ≡ false
-keyword_loud k = not_true (is_silent (text_of k)) (loud k)
+pub keyword_loud : (k : Keyword) → is_silent (keyword_text k) ≡ false
+keyword_loud k = not_true (is_silent (keyword_text k)) (loud k)
 
 some_byte : (word : List ℕ) → is_silent word ≡ false → 0 < length word
 some_byte [] e = absurd (cc)
 some_byte (b ∷ bytes) e = omega arith
 
-pub keyword_some : (k : Keyword) → 0 < length (text_of k)
-keyword_some k = some_byte (text_of k) (keyword_loud k)
+pub keyword_some : (k : Keyword) → 0 < length (keyword_text k)
+keyword_some k = some_byte (keyword_text k) (keyword_loud k)
 
 -- the reading policy
-preferred_is : (o : Option ℕ) (x : ReadPolicy) → preferred o ≡ Some x → (n : ℕ) × (o ≡ Some n) × (x ≡ Prefer n)
+preferred_is : (o : Option ℕ) (x : ReadPolicy) → preferred_policy o ≡ Some x → (n : ℕ) × (o ≡ Some n) × (x ≡ Prefer n)
 preferred_is None x e = absurd (cc)
 preferred_is (Some n) x e = (n, refl, sym (some_same (Prefer n) x e))
 
-round_no_prefer : labelled (codes "rdpol=prefer:") number_of (codes "rdpol=round") ≡ None
+round_no_prefer : labelled (codes "rdpol=prefer:") word_number (codes "rdpol=round") ≡ None
 unfolding labelled
 round_no_prefer = refl
 
@@ -246,8 +246,8 @@ unfolding policy_of
 policy_only word Round h = ap policy_of h
 policy_only word (Prefer n) h =
     ⊎_elim
-    (λ (t : bytes_eq word (codes "rdpol=round") ≡ true). let e : None ≡ Some n = sym round_no_prefer ∙ sym (ap (labelled (codes "rdpol=prefer:") number_of) ((bytes_eq-Decides word (codes "rdpol=round")).0 t)) ∙ h in absurd (cc))
-    (λ (t : bytes_eq word (codes "rdpol=round") ≡ false). ap (λ (b : Bool). cond b (Some Round) (preferred (labelled (codes "rdpol=prefer:") number_of word))) t ∙ ap preferred h)
+    (λ (t : bytes_eq word (codes "rdpol=round") ≡ true). let e : None ≡ Some n = sym round_no_prefer ∙ sym (ap (labelled (codes "rdpol=prefer:") word_number) ((bytes_eq-Decides word (codes "rdpol=round")).0 t)) ∙ h in absurd (cc))
+    (λ (t : bytes_eq word (codes "rdpol=round") ≡ false). ap (λ (b : Bool). cond b (Some Round) (preferred_policy (labelled (codes "rdpol=prefer:") word_number word))) t ∙ ap preferred_policy h)
     (either (bytes_eq word (codes "rdpol=round")))
 
 policy_found : (word : List ℕ) (x : ReadPolicy) → policy_of word ≡ Some x → Spells (policy_token x) word
@@ -255,16 +255,16 @@ unfolding policy_of
 policy_found word x e =
     ⊎_elim
     (λ (t : bytes_eq word (codes "rdpol=round") ≡ true).
-    let same : Round ≡ x = some_same Round x (sym (ap (λ (b : Bool). cond b (Some Round) (preferred (labelled (codes "rdpol=prefer:") number_of word))) t) ∙ e) in
+    let same : Round ≡ x = some_same Round x (sym (ap (λ (b : Bool). cond b (Some Round) (preferred_policy (labelled (codes "rdpol=prefer:") word_number word))) t) ∙ e) in
     subst (λ (y : ReadPolicy). Spells (policy_token y) word) same ((bytes_eq-Decides word (codes "rdpol=round")).0 t))
     (λ (t : bytes_eq word (codes "rdpol=round") ≡ false).
-    let a = preferred_is (labelled (codes "rdpol=prefer:") number_of word) x (sym (ap (λ (b : Bool). cond b (Some Round) (preferred (labelled (codes "rdpol=prefer:") number_of word))) t) ∙ e) in
+    let a = preferred_is (labelled (codes "rdpol=prefer:") word_number word) x (sym (ap (λ (b : Bool). cond b (Some Round) (preferred_policy (labelled (codes "rdpol=prefer:") word_number word))) t) ∙ e) in
     subst (λ (y : ReadPolicy). Spells (policy_token y) word) (sym a.2) a.1)
     (either (bytes_eq word (codes "rdpol=round")))
 
 policy_empty : policy_of [] ≡ None
 unfolding policy_of
-policy_empty = ap preferred (labelled_empty (codes "rdpol=prefer:") number_of no_number)
+policy_empty = ap preferred_policy (labelled_empty (codes "rdpol=prefer:") word_number no_number)
 
 policy_round : policy_of (codes "rdpol=round") ≡ Some Round
 unfolding policy_of

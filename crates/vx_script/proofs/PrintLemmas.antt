@@ -7,9 +7,9 @@ use Rattle.std.specs.Fmt.{decimal}
 use Rattle.std.proofs.lemmas.Fmt.{decimal_by_steps, length-decimal-le}
 use Rattle.std.proofs.lemmas.List.Folds.{list_all-append}
 use Rattle.std.proofs.lemmas.List.Sums.{AllPass-from_list_all}
-use Rattle.vx_script.specs.Words.{is_digit, is_letter, is_name_byte, is_name, name_of, digits_after, is_number, number_of, is_visible, is_comma, both_names, all_names, names_of}
-use Rattle.vx_script.specs.Grammar.{line_at, tokens, spelling}
-use Rattle.vx_script.specs.Tokens.{Token, Key, Named, Number, Hex, NameList, Spells, SpellAll, words_of, before_word, is_in_word, printed, spaced, joined, IsWord, FitsToken, FitAll}
+use Rattle.vx_script.specs.Words.{is_digit, is_letter, is_name_byte, is_name, word_name, digits_after, is_number, word_number, is_visible, is_comma, both_names, all_names, names_of}
+use Rattle.vx_script.specs.Grammar.{line_after_spaces, tokens, spelling}
+use Rattle.vx_script.specs.Tokens.{Token, Key, Named, Number, Hex, NameList, Spells, SpellAll, words_of, before_word, is_in_word, printed, spaced, joined_words, IsWord, FitsToken, FitAll}
 use Rattle.vx_script.specs.declared.line.ScriptLine.{ScriptLine}
 use Rattle.vx_script.proofs.KindLemmas.{line_only}
 use Rattle.vx_script.proofs.SpellLemmas.{both, word_from, word_cons, visible, labelled_again, hex_word, hex_again}
@@ -68,20 +68,20 @@ digit_apart b e = grind arith
 name_apart : (b : ℕ) → is_name_byte b ≡ true → eqb b 32 ≡ false
 name_apart b e = grind arith
 
-number_is : (word : List ℕ) (n : ℕ) → digits_after 0 word ≡ n → list_all is_digit word ≡ true → 0 < length word → length word ≤ 20 → n < 2 ^ 64 → number_of word ≡ Some n
-unfolding number_of
+number_is : (word : List ℕ) (n : ℕ) → digits_after 0 word ≡ n → list_all is_digit word ≡ true → 0 < length word → length word ≤ 20 → n < 2 ^ 64 → word_number word ≡ Some n
+unfolding word_number
 number_is word n value digits some short fits =
     let test : is_number word ≡ true = grind arith in
     cond_true (is_number word) (Some (digits_after 0 word)) None test ∙ ap (λ (k : ℕ). Some k) value
 
-decimal_number : (n : ℕ) → n < 2 ^ 64 → number_of (decimal n) ≡ Some n
+decimal_number : (n : ℕ) → n < 2 ^ 64 → word_number (decimal n) ≡ Some n
 decimal_number n fits =
     let is = decimal_is n fits in
     let short : length (decimal n) ≤ 20 = length-decimal-le 20 n (omega arith) (omega arith) fits in
     number_is (decimal n) n is.value is.digits is.some short fits
 
-name_again : (name : List ℕ) → is_name name ≡ true → name_of name ≡ Some name
-unfolding name_of
+name_again : (name : List ℕ) → is_name name ≡ true → word_name name ≡ Some name
+unfolding word_name
 name_again name e = cond_true (is_name name) (Some name) None e
 
 name_bytes : (name : List ℕ) → is_name name ≡ true → list_all is_name_byte name ≡ true
@@ -144,8 +144,8 @@ printed_word (NameList label names) fits = label_word label (join_with_byte 44 n
 
 printed_spells : (place : Token) → FitsToken place → Spells place (printed place)
 printed_spells (Key key) fits = refl
-printed_spells (Named label name) fits = labelled_again label name_of name ∙ name_again name fits.1
-printed_spells (Number label n) fits = labelled_again label number_of (decimal n) ∙ decimal_number n fits.1
+printed_spells (Named label name) fits = labelled_again label word_name name ∙ name_again name fits.1
+printed_spells (Number label n) fits = labelled_again label word_number (decimal n) ∙ decimal_number n fits.1
 printed_spells (Hex n bytes) fits = hex_again n bytes fits.0 fits.2
 printed_spells (NameList label names) fits = labelled_again label names_of (join_with_byte 44 names) ∙ names_again names fits.1 fits.2
 
@@ -155,12 +155,12 @@ spaced_spells (place ∷ places) fits =
     subst (SpellAll (place ∷ places)) (sym (words_of_word (printed place) (spaced places) (printed_word place fits.0) (spaced_ends places)))
     (printed_spells place fits.0, spaced_spells places fits.1)
 
-joined_spells : (places : List Token) → FitAll places → SpellAll places (words_of (joined places))
+joined_spells : (places : List Token) → FitAll places → SpellAll places (words_of (joined_words places))
 joined_spells [] fits = tt
 joined_spells (place ∷ places) fits =
     subst (SpellAll (place ∷ places)) (sym (words_of_word (printed place) (spaced places) (printed_word place fits.0) (spaced_ends places)))
     (printed_spells place fits.0, spaced_spells places fits.1)
 
 -- what is printed is read again
-pub spelling_again : (line : ScriptLine) → FitAll (tokens line) → line_at (spelling line) ≡ Ok (Some line)
+pub spelling_again : (line : ScriptLine) → FitAll (tokens line) → line_after_spaces (spelling line) ≡ Ok (Some line)
 spelling_again line fits = line_only (spelling line) line (joined_spells (tokens line) fits)

@@ -3,7 +3,7 @@ use Rattle.std.proofs.Common.{◌≡◌, ◌<◌, ℕ, suc, ◌+◌, Bool, true,
 use Rattle.std.specs.Prelude.{◌⊎◌}
 use Rattle.std.proofs.Math.Dec.{eqb-suc-zero}
 use Rattle.std.specs.List.{position_or_len}
-use Rattle.vx_script.specs.Words.{is_space, is_visible, after_spaces, word_of, after_word, placed, next, end_of}
+use Rattle.vx_script.specs.Words.{is_space, is_visible, after_spaces, word_of, after_word, placed, next_word, words_end}
 use Rattle.vx_script.specs.Tokens.{before_word, is_in_word, words_of}
 
 cond_true : {A : Type 0} (t : Bool) (x y : A) → t ≡ true → cond t x y ≡ x
@@ -91,7 +91,7 @@ first_word [] = inr (record { words = refl; none = refl })
 first_word (b ∷ bytes) = ⊎_elim (first_space b bytes (first_word bytes)) (first_other b bytes) (either (eqb b 32))
 
 only_first : {A : Type 0} (value : List ℕ → Option A) (bytes word : List ℕ) (words : List (List ℕ)) (x : A)
-    → words_of bytes ≡ word ∷ words → value word ≡ Some x → FirstWord bytes → (rest : List ℕ) × (next value bytes ≡ Ok (x, rest)) × (words_of rest ≡ words)
+    → words_of bytes ≡ word ∷ words → value word ≡ Some x → FirstWord bytes → (rest : List ℕ) × (next_word value bytes ≡ Ok (x, rest)) × (words_of rest ≡ words)
 only_first value bytes word words x is fits first =
     let both : word_of (after_spaces bytes) ∷ words_of (after_word (after_spaces bytes)) ≡ word ∷ words = sym first.words ∙ is in
     let same : word_of (after_spaces bytes) ≡ word = cc in
@@ -100,13 +100,13 @@ only_first value bytes word words x is fits first =
 
 -- the next word, where there is one that fits
 pub next_only : {A : Type 0} (value : List ℕ → Option A) (bytes word : List ℕ) (words : List (List ℕ)) (x : A)
-    → words_of bytes ≡ word ∷ words → value word ≡ Some x → (rest : List ℕ) × (next value bytes ≡ Ok (x, rest)) × (words_of rest ≡ words)
+    → words_of bytes ≡ word ∷ words → value word ≡ Some x → (rest : List ℕ) × (next_word value bytes ≡ Ok (x, rest)) × (words_of rest ≡ words)
 next_only value bytes word words x is fits = ⊎_elim (only_first value bytes word words x is fits) (λ (none : NoWord bytes). let e : [] ≡ word ∷ words = sym none.words ∙ is in absurd (cc)) (first_word bytes)
 
-pub end_only : (bytes : List ℕ) → words_of bytes ≡ [] → end_of bytes ≡ Ok tt
+pub end_only : (bytes : List ℕ) → words_of bytes ≡ [] → words_end bytes ≡ Ok tt
 end_only bytes is = ⊎_elim (λ (first : FirstWord bytes). let e = sym first.words ∙ is in absurd (cc)) (λ (none : NoWord bytes). ap (λ (t : List ℕ). cond (eqb (length t) 0) (Ok tt) (Err (length t))) none.none) (first_word bytes)
 
-pub end_found : (bytes : List ℕ) → end_of bytes ≡ Ok tt → words_of bytes ≡ []
+pub end_found : (bytes : List ℕ) → words_end bytes ≡ Ok tt → words_of bytes ≡ []
 end_found bytes e = ⊎_elim
     (λ (first : FirstWord bytes). let f : Err (length (after_spaces bytes)) ≡ Ok tt = sym (cond_false (eqb (length (after_spaces bytes)) 0) (Ok tt) (Err (length (after_spaces bytes))) first.some) ∙ e in absurd (cc))
     (λ (none : NoWord bytes). none.words) (first_word bytes)
@@ -116,7 +116,7 @@ placed_ok None here p e = absurd (cc)
 placed_ok (Some x) here p e = let pair : (x, after_word here) ≡ p = cc in (ap (λ q. Some q.0) pair, ap (λ q. q.1) pair)
 
 -- what was read stands first
-pub next_found : {A : Type 0} (value : List ℕ → Option A) (bytes : List ℕ) (p : A × List ℕ) → value [] ≡ None → next value bytes ≡ Ok p
+pub next_found : {A : Type 0} (value : List ℕ → Option A) (bytes : List ℕ) (p : A × List ℕ) → value [] ≡ None → next_word value bytes ≡ Ok p
     → (word : List ℕ) × (words_of bytes ≡ word ∷ words_of p.1) × (value word ≡ Some p.0)
 next_found value bytes p empty e = ⊎_elim
     (λ (first : FirstWord bytes). let both = placed_ok (value (word_of (after_spaces bytes))) (after_spaces bytes) p e in

@@ -6,8 +6,8 @@ use Rattle.vx_script.specs.Grammar.{IsLine}
 use Rattle.vx_script.specs.declared.line.ScriptLine.{ScriptLine}
 
 -- with a space and something behind them, these bytes are a line of the grammar
-abbrev pub Begins : List ℕ → Type 0
-Begins bytes = (rest : List ℕ) × (line : ScriptLine) × IsLine (bytes ++ 32 ∷ rest) line
+abbrev pub BeginsLine : List ℕ → Type 0
+BeginsLine bytes = (rest : List ℕ) × (line : ScriptLine) × IsLine (bytes ++ 32 ∷ rest) line
 
 -- no byte, or the last one is a space
 abbrev pub IsApart : List ℕ → Type 0
@@ -17,7 +17,7 @@ IsApart front = (front ≡ []) ⊎ ((bytes : List ℕ) × (front ≡ bytes ++ 32
 pub record IsWrongWord (front here : List ℕ) : Type 0 where
   pub apart : IsApart front
   pub word : is_in_word here ≡ true
-  pub stops : Begins (front ++ word_of here) → ⊥
+  pub stops : BeginsLine (front ++ word_of here) → ⊥
 
 -- nothing is left, and the line is none of the grammar
 pub record AreMissing (bytes here : List ℕ) : Type 0 where
@@ -30,5 +30,5 @@ pub record WrongAt (bytes : List ℕ) (column : ℕ) : Type 0 where
   pub here : List ℕ
   pub split : bytes ≡ front ++ here
   pub place : column ≡ length front + 1
-  pub begins : Begins front
+  pub begins : BeginsLine front
   pub wrong : IsWrongWord front here ⊎ AreMissing bytes here

@@ -3,7 +3,7 @@ use Rattle.std.specs.Prelude.{ℕ, List, [], ◌∷◌, Option, Some, None, Ok, 
 use Rattle.std.specs.Str.{bytes_eq}
 use Rattle.vx_model.specs.declared.link.Prot.{Prot}
 use Rattle.vx_model.specs.declared.link.SyncMode.{SyncMode}
-use Rattle.vx_script.specs.Words.{Reading, and_then, next, end_of, name_of, number_of, byte_of, block_of, labelled, names_of}
+use Rattle.vx_script.specs.Words.{WordReading, and_then, next_word, words_end, word_name, word_number, byte_of, block_word, labelled, names_of}
 use Rattle.vx_script.specs.Tokens.{Token, Key, Named, Number, Hex, NameList}
 use Rattle.vx_script.specs.Keywords.{pick_of}
 use Rattle.vx_script.specs.Choices.{disk_state_text, group_text, plex_text, layout_text, log_text, map_text, sync_text, prot_text, call_text}
@@ -51,55 +51,55 @@ abbrev pub ◌>>=◌ : {V : Type 0} → Place V → (V → Format) → Format
 place >>= more = Then place more
 
 -- a line that ends where it should
-abbrev pub ended : ScriptLine → Reading (Unit {0}) → Reading ScriptLine
+abbrev pub ended : ScriptLine → WordReading (Unit {0}) → WordReading ScriptLine
 ended line (Ok u) = Ok line
 ended line (Err left) = Err left
 
 -- how a line is read
-abbrev pub read : Format → List ℕ → Reading ScriptLine
-read (Done line) bytes = ended line (end_of bytes)
-read (Then place more) bytes = and_then (next place.value bytes) (λ x. read (more x.0) x.1)
+abbrev pub read_by : Format → List ℕ → WordReading ScriptLine
+read_by (Done line) bytes = ended line (words_end bytes)
+read_by (Then place more) bytes = and_then (next_word place.value bytes) (λ x. read_by (more x.0) x.1)
 
 -- a name behind a label
 abbrev pub name_after : List ℕ → Place (List ℕ)
-name_after label = record { value = labelled label name_of; token = Named label }
+name_after label = record { value = labelled label word_name; token = Named label }
 
 -- a number behind a label
 abbrev pub number_after : List ℕ → Place ℕ
-number_after label = record { value = labelled label number_of; token = Number label }
+number_after label = record { value = labelled label word_number; token = Number label }
 
 -- names behind a label
 abbrev pub names_after : List ℕ → Place (List (List ℕ))
 names_after label = record { value = labelled label names_of; token = NameList label }
 
 -- a name
-abbrev pub name : Place (List ℕ)
-name = name_after []
+abbrev pub a_name : Place (List ℕ)
+a_name = name_after []
 
 -- a number
-abbrev pub number : Place ℕ
-number = number_after []
+abbrev pub a_number : Place ℕ
+a_number = number_after []
 
 -- the digits of a byte
 abbrev pub byte : Place ℕ
 byte = record { value = byte_of; token = λ b. Hex 1 (b ∷ []) }
 
 -- the digits of a block
-abbrev pub block : Place (List ℕ)
-block = record { value = block_of; token = Hex 512 }
+abbrev pub a_block : Place (List ℕ)
+a_block = record { value = block_word; token = Hex 512 }
 
 -- one of a few words
 abbrev pub pick : {V : Type 0} → (V → List ℕ) → List V → Place V
 pick text all = record { value = pick_of text all; token = λ v. Key (text v) }
 
 -- the plex that a volume is to be read from
-abbrev pub preferred : Option ℕ → Option ReadPolicy
-preferred None = None
-preferred (Some plex) = Some (Prefer plex)
+abbrev pub preferred_policy : Option ℕ → Option ReadPolicy
+preferred_policy None = None
+preferred_policy (Some plex) = Some (Prefer plex)
 
 -- what a word says of the reading of a volume
 unfoldable pub policy_of : List ℕ → Option ReadPolicy
-policy_of word = if bytes_eq word (codes "rdpol=round") then Some Round else preferred (labelled (codes "rdpol=prefer:") number_of word)
+policy_of word = if bytes_eq word (codes "rdpol=round") then Some Round else preferred_policy (labelled (codes "rdpol=prefer:") word_number word)
 
 -- the place of a reading policy
 abbrev pub policy_token : ReadPolicy → Token
@@ -167,31 +167,31 @@ plex_line AttachPlex site volume plex = PlexAttach site volume plex
 -- site S D B
 unfoldable pub site_format : Format
 site_format = do
-  site ← name
-  disks ← number
-  blocks ← number
+  site ← a_name
+  disks ← a_number
+  blocks ← a_number
   Done (Site site disks blocks)
 
 -- disk S D fail, or ok
 unfoldable pub disk_format : Format
 disk_format = do
-  site ← name
-  disk ← number
+  site ← a_name
+  disk ← a_number
   state ← pick disk_state_text DISK_STATES
   Done (Disk site disk state)
 
 -- fuse S K PICK
 unfoldable pub fuse_format : Format
 fuse_format = do
-  site ← name
-  writes ← number
-  bits ← number
+  site ← a_name
+  writes ← a_number
+  bits ← a_number
   Done (Fuse site writes bits)
 
 -- dg S init, deport or import
 unfoldable pub group_format : Format
 group_format = do
-  site ← name
+  site ← a_name
   verb ← pick group_text GROUP_VERBS
   Done (group_line verb site)
 
@@ -214,9 +214,9 @@ layout_format site volume blocks mirrors IsStripe = do
 -- vol S V BLOCKS mirrors=K layout=.. ..
 unfoldable pub volume_format : Format
 volume_format = do
-  site ← name
-  volume ← name
-  blocks ← number
+  site ← a_name
+  volume ← a_name
+  blocks ← a_number
   mirrors ← number_after (codes "mirrors=")
   word ← pick layout_text LAYOUT_WORDS
   layout_format site volume blocks mirrors word
@@ -224,16 +224,16 @@ volume_format = do
 -- plex S V P det, or att
 unfoldable pub plex_format : Format
 plex_format = do
-  site ← name
-  volume ← name
-  plex ← number
+  site ← a_name
+  volume ← a_name
+  plex ← a_number
   verb ← pick plex_text PLEX_VERBS
   Done (plex_line verb site volume plex)
 
 -- rvg S srl=V dcm=V vols=V,V
 unfoldable pub rvg_format : Format
 rvg_format = do
-  site ← name
+  site ← a_name
   srl ← name_after (codes "srl=")
   dcm ← name_after (codes "dcm=")
   volumes ← names_after (codes "vols=")
@@ -242,45 +242,45 @@ rvg_format = do
 -- write S V BLOCK COUNT XX
 unfoldable pub write_format : Format
 write_format = do
-  site ← name
-  volume ← name
-  start ← number
-  count ← number
+  site ← a_name
+  volume ← a_name
+  start ← a_number
+  count ← a_number
   fill ← byte
   Done (Write site volume start count fill)
 
 -- put S V BLOCK HEX
 unfoldable pub put_format : Format
 put_format = do
-  site ← name
-  volume ← name
-  start ← number
-  bytes ← block
+  site ← a_name
+  volume ← a_name
+  start ← a_number
+  bytes ← a_block
   Done (Put site volume start bytes)
 
 -- deliver K
 unfoldable pub deliver_format : Format
 deliver_format = do
-  packet ← number
+  packet ← a_number
   Done (Deliver packet)
 
 -- a burst's call behind its verb
 unfoldable pub call_more : ℕ → CallVerb → Format
 call_more thread CallsWrite = do
-  volume ← name
-  start ← number
-  count ← number
+  volume ← a_name
+  start ← a_number
+  count ← a_number
   fill ← byte
   Done (CallWrite thread volume start count fill)
 call_more thread CallsRead = do
-  volume ← name
-  start ← number
+  volume ← a_name
+  start ← a_number
   Done (CallRead thread volume start)
 
 -- t K write .., or read ..
 unfoldable pub call_format : Format
 call_format = do
-  thread ← number
+  thread ← a_number
   verb ← pick call_text CALL_VERBS
   call_more thread verb
 
@@ -291,30 +291,30 @@ end_format = Done End
 -- raw S, and the like
 unfoldable pub of_site_format : SiteVerb → Format
 of_site_format verb = do
-  site ← name
+  site ← a_name
   Done (site_line verb site)
 
 -- crash S PICK, and the like
 unfoldable pub of_number_format : NumberVerb → Format
 of_number_format verb = do
-  site ← name
-  n ← number
+  site ← a_name
+  n ← a_number
   Done (number_line verb site n)
 
 -- read S V BLOCK COUNT, and the like
 unfoldable pub of_span_format : SpanVerb → Format
 of_span_format verb = do
-  site ← name
-  volume ← name
-  start ← number
-  count ← number
+  site ← a_name
+  volume ← a_name
+  start ← a_number
+  count ← a_number
   Done (span_line verb site volume start count)
 
 -- link P S synchronous=X srlprot=Y, and the like
 unfoldable pub of_link_format : LinkVerb → Format
 of_link_format verb = do
-  first ← name
-  second ← name
+  first ← a_name
+  second ← a_name
   sync ← pick sync_text SYNC_MODES
   prot ← pick prot_text PROTS
   Done (link_line verb first second sync prot)
@@ -322,8 +322,8 @@ of_link_format verb = do
 -- attach P S, and the like
 unfoldable pub of_pair_format : PairVerb → Format
 of_pair_format verb = do
-  first ← name
-  second ← name
+  first ← a_name
+  second ← a_name
   Done (pair_line verb first second)
 
 -- what follows a keyword

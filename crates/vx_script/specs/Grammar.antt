@@ -3,11 +3,11 @@ use Rattle.std.specs.Prelude.{◌≡◌, ℕ, ◌+◌, ◌-◌, Bool, true, List
 use Rattle.vx_model.specs.declared.link.Prot.{Prot}
 use Rattle.vx_model.specs.declared.link.SyncMode.{SyncMode}
 use Rattle.vx_script.specs.Lines.{begins_with}
-use Rattle.vx_script.specs.Words.{Reading, after_spaces, word_of, after_word}
-use Rattle.vx_script.specs.Tokens.{Token, Key, Named, Number, Hex, NameList, SpellAll, words_of, joined}
+use Rattle.vx_script.specs.Words.{WordReading, after_spaces, word_of, after_word}
+use Rattle.vx_script.specs.Tokens.{Token, Key, Named, Number, Hex, NameList, SpellAll, words_of, joined_words}
 use Rattle.vx_script.specs.Keywords.{keyword_of}
 use Rattle.vx_script.specs.Choices.{disk_state_text, log_text, map_text, sync_text, prot_text}
-use Rattle.vx_script.specs.Formats.{format_of, read, policy_token}
+use Rattle.vx_script.specs.Formats.{format_of, read_by, policy_token}
 use Rattle.vx_script.specs.declared.keyword.Keyword.{Keyword}
 use Rattle.vx_script.specs.declared.line.Layout.{Layout}
 use Rattle.vx_script.specs.declared.line.Layout.TheVariants.{Concat, Stripe}
@@ -23,8 +23,8 @@ abbrev pub site_word : List ℕ → List ℕ → List ℕ → List Token
 site_word key site word = Key key ∷ Named [] site ∷ Key word ∷ []
 
 -- a keyword, a site and a number
-abbrev pub site_number : List ℕ → List ℕ → ℕ → List Token
-site_number key site n = Key key ∷ Named [] site ∷ Number [] n ∷ []
+abbrev pub site_and_number : List ℕ → List ℕ → ℕ → List Token
+site_and_number key site n = Key key ∷ Named [] site ∷ Number [] n ∷ []
 
 -- a keyword, a site and two numbers
 abbrev pub site_numbers : List ℕ → List ℕ → ℕ → ℕ → List Token
@@ -56,7 +56,7 @@ abbrev pub tokens : ScriptLine → List Token
 tokens (Site site disks blocks) = site_numbers (codes "site") site disks blocks
 tokens (Raw site) = one_site (codes "raw") site
 tokens (Disk site disk state) = Key (codes "disk") ∷ Named [] site ∷ Number [] disk ∷ Key (disk_state_text state) ∷ []
-tokens (Crash site pick) = site_number (codes "crash") site pick
+tokens (Crash site pick) = site_and_number (codes "crash") site pick
 tokens (Fuse site writes pick) = site_numbers (codes "fuse") site writes pick
 tokens (Recover site) = one_site (codes "recover") site
 tokens (GroupInit site) = site_word (codes "dg") site (codes "init")
@@ -71,8 +71,8 @@ tokens (Write site volume start count fill) = Key (codes "write") ∷ Named [] s
 tokens (Put site volume start bytes) = Key (codes "put") ∷ Named [] site ∷ Named [] volume ∷ Number [] start ∷ Hex 512 bytes ∷ []
 tokens (Read site volume start count) = block_run (codes "read") site volume start count
 tokens (Show site volume start count) = block_run (codes "show") site volume start count
-tokens (Apply site count) = site_number (codes "apply") site count
-tokens (Wait site number) = site_number (codes "wait") site number
+tokens (Apply site count) = site_and_number (codes "apply") site count
+tokens (Wait site number) = site_and_number (codes "wait") site number
 tokens (Link primary secondary sync prot) = two_modes (codes "link") primary secondary sync prot
 tokens (Set primary secondary sync prot) = two_modes (codes "set") primary secondary sync prot
 tokens (Attach primary secondary) = two_sites (codes "attach") primary secondary
@@ -91,7 +91,7 @@ tokens (Takeover site) = one_site (codes "takeover") site
 tokens (Failback new old) = two_sites (codes "failback") new old
 tokens (Bunker primary bunker sync prot) = two_modes (codes "bunker") primary bunker sync prot
 tokens (Activate bunker secondary) = two_sites (codes "activate") bunker secondary
-tokens (Burst site threads) = site_number (codes "burst") site threads
+tokens (Burst site threads) = site_and_number (codes "burst") site threads
 tokens (Status site) = one_site (codes "status") site
 tokens (CallWrite thread volume start count fill) = Key (codes "t") ∷ Number [] thread ∷ Key (codes "write") ∷ Named [] volume ∷ Number [] start ∷ Number [] count ∷ Hex 1 (fill ∷ []) ∷ []
 tokens (CallRead thread volume start) = Key (codes "t") ∷ Number [] thread ∷ Key (codes "read") ∷ Named [] volume ∷ Number [] start ∷ []
@@ -108,10 +108,10 @@ IsQuiet (word ∷ words) = begins_with 35 word ≡ true
 
 -- the printed line
 abbrev pub spelling : ScriptLine → List ℕ
-spelling line = joined (tokens line)
+spelling line = joined_words (tokens line)
 
 -- a line that was read
-abbrev pub some_line : Reading ScriptLine → Reading (Option ScriptLine)
+abbrev pub some_line : WordReading ScriptLine → WordReading (Option ScriptLine)
 some_line (Ok l) = Ok (Some l)
 some_line (Err left) = Err left
 
@@ -121,23 +121,23 @@ is_silent [] = true
 is_silent (b ∷ bytes) = b == 35
 
 -- what follows a keyword
-abbrev pub line_of_keyword : Option Keyword → List ℕ → ℕ → Reading (Option ScriptLine)
+abbrev pub line_of_keyword : Option Keyword → List ℕ → ℕ → WordReading (Option ScriptLine)
 line_of_keyword None rest left = Err left
-line_of_keyword (Some keyword) rest left = some_line (read (format_of keyword) rest)
+line_of_keyword (Some keyword) rest left = some_line (read_by (format_of keyword) rest)
 
 -- what a first word and the rest say
-unfoldable pub line_by : List ℕ → List ℕ → ℕ → Reading (Option ScriptLine)
+unfoldable pub line_by : List ℕ → List ℕ → ℕ → WordReading (Option ScriptLine)
 line_by word rest left = if is_silent word then Ok None else line_of_keyword (keyword_of word) rest left
 
 -- what a line says that is not too long
-unfoldable pub line_at : List ℕ → Reading (Option ScriptLine)
-line_at bytes = line_by (word_of (after_spaces bytes)) (after_word (after_spaces bytes)) (length (after_spaces bytes))
+unfoldable pub line_after_spaces : List ℕ → WordReading (Option ScriptLine)
+line_after_spaces bytes = line_by (word_of (after_spaces bytes)) (after_word (after_spaces bytes)) (length (after_spaces bytes))
 
 -- the place from 1, where left bytes of len are left
-abbrev pub at_column : ℕ → Reading (Option ScriptLine) → Result (Option ScriptLine) ℕ
+abbrev pub at_column : ℕ → WordReading (Option ScriptLine) → Result (Option ScriptLine) ℕ
 at_column len (Ok l) = Ok l
 at_column len (Err left) = Err (len + 1 - left)
 
 -- what a line says, nothing for an empty line or a comment; Err: the column at which it is wrong
 unfoldable pub line_of : List ℕ → Result (Option ScriptLine) ℕ
-line_of bytes = if nat_lt 4096 (length bytes) then Err 4097 else at_column (length bytes) (line_at bytes)
+line_of bytes = if nat_lt 4096 (length bytes) then Err 4097 else at_column (length bytes) (line_after_spaces bytes)

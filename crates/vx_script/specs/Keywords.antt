@@ -58,24 +58,24 @@ pair_text Failback = codes "failback"
 pair_text Activate = codes "activate"
 
 -- the word that a keyword is
-abbrev pub text_of : Keyword → List ℕ
-text_of Site = codes "site"
-text_of Disk = codes "disk"
-text_of Fuse = codes "fuse"
-text_of Group = codes "dg"
-text_of Volume = codes "vol"
-text_of Plex = codes "plex"
-text_of Rvg = codes "rvg"
-text_of Write = codes "write"
-text_of Put = codes "put"
-text_of Deliver = codes "deliver"
-text_of Call = codes "t"
-text_of End = codes "end"
-text_of (OfSite verb) = site_text verb
-text_of (OfNumber verb) = number_text verb
-text_of (OfSpan verb) = span_text verb
-text_of (OfLink verb) = link_text verb
-text_of (OfPair verb) = pair_text verb
+abbrev pub keyword_text : Keyword → List ℕ
+keyword_text Site = codes "site"
+keyword_text Disk = codes "disk"
+keyword_text Fuse = codes "fuse"
+keyword_text Group = codes "dg"
+keyword_text Volume = codes "vol"
+keyword_text Plex = codes "plex"
+keyword_text Rvg = codes "rvg"
+keyword_text Write = codes "write"
+keyword_text Put = codes "put"
+keyword_text Deliver = codes "deliver"
+keyword_text Call = codes "t"
+keyword_text End = codes "end"
+keyword_text (OfSite verb) = site_text verb
+keyword_text (OfNumber verb) = number_text verb
+keyword_text (OfSpan verb) = span_text verb
+keyword_text (OfLink verb) = link_text verb
+keyword_text (OfPair verb) = pair_text verb
 
 -- the value of the list that a word is the text of
 abbrev pub pick_of : {V : Type 0} → (V → List ℕ) → List V → List ℕ → Option V
@@ -83,4 +83,4 @@ pick_of text all word = find (λ v. bytes_eq word (text v)) all
 
 -- the keyword that a word is
 unfoldable pub keyword_of : List ℕ → Option Keyword
-keyword_of word = pick_of text_of KEYWORDS word
+keyword_of word = pick_of keyword_text KEYWORDS word

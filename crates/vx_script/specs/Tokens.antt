@@ -3,7 +3,7 @@ use Rattle.std.specs.Prelude.{◌≡◌, ◌≢◌, ℕ, ◌<◌, ◌^◌, List,
 use Rattle.std.specs.List.{list_all, join_with_byte}
 use Rattle.std.specs.Fmt.{decimal}
 use Rattle.hex.specs.Hex.{decode_sized, encode_lower, IsBytes}
-use Rattle.vx_script.specs.Words.{is_visible, is_name, name_of, number_of, labelled, names_of}
+use Rattle.vx_script.specs.Words.{is_visible, is_name, word_name, word_number, labelled, names_of}
 
 -- what stands at a place of a line: a fixed word, or behind a label a name, a number or names; or the digits of so many bytes
 pub data Token : Type 0 where
@@ -16,8 +16,8 @@ pub data Token : Type 0 where
 -- the words that spell a place
 abbrev pub Spells : Token → List ℕ → Type 0
 Spells (Key key) word = word ≡ key
-Spells (Named label name) word = labelled label name_of word ≡ Some name
-Spells (Number label n) word = labelled label number_of word ≡ Some n
+Spells (Named label name) word = labelled label word_name word ≡ Some name
+Spells (Number label n) word = labelled label word_number word ≡ Some n
 Spells (Hex n bytes) word = decode_sized word n ≡ Ok bytes
 Spells (NameList label names) word = labelled label names_of word ≡ Some names
 
@@ -62,9 +62,9 @@ spaced [] = []
 spaced (token ∷ tokens) = 32 ∷ printed token ++ spaced tokens
 
 -- words with one space between
-abbrev pub joined : List Token → List ℕ
-joined [] = []
-joined (token ∷ tokens) = printed token ++ spaced tokens
+abbrev pub joined_words : List Token → List ℕ
+joined_words [] = []
+joined_words (token ∷ tokens) = printed token ++ spaced tokens
 
 -- one byte or more, none of them a space
 abbrev pub IsWord : List ℕ → Type 0

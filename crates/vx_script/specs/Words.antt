@@ -8,19 +8,19 @@ use Rattle.vx_script.specs.declared.wrong.Wrong.{Wrong}
 use Rattle.vx_script.specs.declared.wrong.Wrong.TheVariants.{Left, Memory}
 
 -- Err: how many bytes of the line are left from the first wrong word on
-abbrev pub Reading : Type 0 → Type 0
-Reading A = Result A ℕ
+abbrev pub WordReading : Type 0 → Type 0
+WordReading A = Result A ℕ
 
 -- first the one reading, then the other
-abbrev pub and_then : {A B : Type 0} → Reading A → (A → Reading B) → Reading B
+abbrev pub and_then : {A B : Type 0} → WordReading A → (A → WordReading B) → WordReading B
 and_then (Ok x) f = f x
 and_then (Err left) f = Err left
 
 -- What a function returned, seen by view, is what reading gives, unless memory ran out.
-abbrev pub Gives : {X Y : Type 0} → (X → Y) → Result X Wrong → Reading Y → Type 0
-Gives view (Ok x) reading = reading ≡ Ok (view x)
-Gives view (Err (Left left)) reading = reading ≡ Err left
-Gives view (Err Memory) reading = Unit {0}
+abbrev pub GivesReading : {X Y : Type 0} → (X → Y) → Result X Wrong → WordReading Y → Type 0
+GivesReading view (Ok x) reading = reading ≡ Ok (view x)
+GivesReading view (Err (Left left)) reading = reading ≡ Err left
+GivesReading view (Err Memory) reading = Unit {0}
 
 -- a space
 abbrev pub is_space : ℕ → Bool
@@ -59,8 +59,8 @@ abbrev pub is_name : List ℕ → Bool
 is_name word = nat_lt 0 (length word) && nat_le (length word) 8 && is_letter (slice_index word 0) && list_all is_name_byte word
 
 -- the name that a word is
-unfoldable pub name_of : List ℕ → Option (List ℕ)
-name_of word = if is_name word then Some word else None
+unfoldable pub word_name : List ℕ → Option (List ℕ)
+word_name word = if is_name word then Some word else None
 
 -- the number that digits stand for, after a number
 abbrev pub digits_after : ℕ → List ℕ → ℕ
@@ -72,8 +72,8 @@ abbrev pub is_number : List ℕ → Bool
 is_number word = nat_lt 0 (length word) && nat_le (length word) 20 && list_all is_digit word && nat_lt (digits_after 0 word) (2 ^ 64)
 
 -- the number that a word is
-unfoldable pub number_of : List ℕ → Option ℕ
-number_of word = if is_number word then Some (digits_after 0 word) else None
+unfoldable pub word_number : List ℕ → Option ℕ
+word_number word = if is_number word then Some (digits_after 0 word) else None
 
 -- a comma
 abbrev pub is_comma : ℕ → Bool
@@ -88,7 +88,7 @@ both_names (Some name) (Some names) = Some (name ∷ names)
 -- names, if each of these is one
 abbrev pub all_names : List (List ℕ) → Option (List (List ℕ))
 all_names [] = Some []
-all_names (part ∷ parts) = both_names (name_of part) (all_names parts)
+all_names (part ∷ parts) = both_names (word_name part) (all_names parts)
 
 -- one or more names, with commas between
 unfoldable pub names_of : List ℕ → Option (List (List ℕ))
@@ -100,10 +100,10 @@ with_front front None = None
 with_front front (Some names) = Some (front ++ names)
 
 -- What a function returned is what a word says, unless memory ran out.
-abbrev pub Says : {X Y E : Type 0} → (X → Y) → Result (Option X) E → Option Y → Type 0
-Says view (Ok None) value = value ≡ None
-Says view (Ok (Some x)) value = value ≡ Some (view x)
-Says view (Err e) value = Unit {0}
+abbrev pub SaysWord : {X Y E : Type 0} → (X → Y) → Result (Option X) E → Option Y → Type 0
+SaysWord view (Ok None) value = value ≡ None
+SaysWord view (Ok (Some x)) value = value ≡ Some (view x)
+SaysWord view (Err e) value = Unit {0}
 
 -- a value behind a label
 unfoldable pub labelled : {V : Type 0} → List ℕ → (List ℕ → Option V) → List ℕ → Option V
@@ -126,18 +126,18 @@ decoded (Ok bytes) = Some bytes
 decoded (Err e) = None
 
 -- the 1,024 hexadecimal digits of a block, in either case
-unfoldable pub block_of : List ℕ → Option (List ℕ)
-block_of word = decoded (decode_sized word 512)
+unfoldable pub block_word : List ℕ → Option (List ℕ)
+block_word word = decoded (decode_sized word 512)
 
 -- a value and the bytes after its word, or the place of the wrong word
-abbrev pub placed : {A : Type 0} → Option A → List ℕ → Reading (A × List ℕ)
+abbrev pub placed : {A : Type 0} → Option A → List ℕ → WordReading (A × List ℕ)
 placed None here = Err (length here)
 placed (Some x) here = Ok (x, after_word here)
 
 -- the next word, as value takes it
-abbrev pub next : {A : Type 0} → (List ℕ → Option A) → List ℕ → Reading (A × List ℕ)
-next value bytes = placed (value (word_of (after_spaces bytes))) (after_spaces bytes)
+abbrev pub next_word : {A : Type 0} → (List ℕ → Option A) → List ℕ → WordReading (A × List ℕ)
+next_word value bytes = placed (value (word_of (after_spaces bytes))) (after_spaces bytes)
 
 -- no word is left
-abbrev pub end_of : List ℕ → Reading (Unit {0})
-end_of bytes = if length (after_spaces bytes) == 0 then Ok tt else Err (length (after_spaces bytes))
+abbrev pub words_end : List ℕ → WordReading (Unit {0})
+words_end bytes = if length (after_spaces bytes) == 0 then Ok tt else Err (length (after_spaces bytes))

@@ -1,6 +1,6 @@
 // The first words of lines.
 ghost use Rattle.std.specs.Prelude.{◌≡◌};
-ghost use Rattle.vx_script.specs.Keywords.{pair_text, text_of, keyword_of};
+ghost use Rattle.vx_script.specs.Keywords.{pair_text, keyword_text, keyword_of};
 
 use crate::word::{Word, find_word};
 
@@ -141,7 +141,7 @@ impl PairVerb {
 }
 
 impl Word for Keyword {
-    ghost word_text = { text_of };
+    ghost word_text = { keyword_text };
 
     fn text(self) -> &'static [u8] {
         match self {

@@ -2,7 +2,7 @@
 ghost use Rattle.std.specs.Prelude.{◌≡◌, ◌≤◌, ◌<◌, ◌↔◌, ◌⊎◌, ℕ, List, [], ◌∷◌, ◌++◌, Ok, Err, Some, None, length};
 ghost use Rattle.vx_script.specs.Columns.{WrongAt};
 ghost use Rattle.vx_script.specs.Grammar.{line_of, spelling, IsLine, IsQuiet};
-ghost use Rattle.vx_script.specs.Lines.{lines_of, whole_lines_of, without_return, IsPlain};
+ghost use Rattle.vx_script.specs.Lines.{split_lines, whole_lines_of, without_return, HasNoNewline};
 ghost use Rattle.vx_script.specs.Tokens.{words_of};
 ghost use Rattle.vx_script.specs.declared.line.ScriptLine.{ScriptLine};
 
@@ -27,8 +27,8 @@ pub fn wrong_place()
 /// The lines of an input end at each newline, without a carriage return right before it; what is left of the
 /// input behind the last newline is a line if it is not empty.
 pub fn line_ends()
-    ensures ended { (line tail : List ℕ) → IsPlain line → lines_of (line ++ 10 ∷ tail) ≡ without_return line ∷ lines_of tail }
-    ensures last { (line : List ℕ) → IsPlain line → 0 < length line → lines_of line ≡ line ∷ [] }
-    ensures whole { (line tail : List ℕ) → IsPlain line → whole_lines_of (line ++ 10 ∷ tail) ≡ without_return line ∷ whole_lines_of tail }
-    ensures cut { (line : List ℕ) → IsPlain line → whole_lines_of line ≡ [] }
+    ensures ended { (line tail : List ℕ) → HasNoNewline line → split_lines (line ++ 10 ∷ tail) ≡ without_return line ∷ split_lines tail }
+    ensures last { (line : List ℕ) → HasNoNewline line → 0 < length line → split_lines line ≡ line ∷ [] }
+    ensures whole { (line tail : List ℕ) → HasNoNewline line → whole_lines_of (line ++ 10 ∷ tail) ≡ without_return line ∷ whole_lines_of tail }
+    ensures cut { (line : List ℕ) → HasNoNewline line → whole_lines_of line ≡ [] }
 {}

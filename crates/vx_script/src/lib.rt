@@ -26,6 +26,3 @@ pub use names::Names;
 pub use parser::parse;
 pub use printer::print;
 use wrong::Wrong;
-
-#[cfg(test)]
-mod tests;

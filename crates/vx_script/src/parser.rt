@@ -1,6 +1,6 @@
 // What a line says.
-ghost use Rattle.vx_script.specs.Words.{Gives};
-ghost use Rattle.vx_script.specs.Grammar.{line_at, line_of};
+ghost use Rattle.vx_script.specs.Words.{GivesReading};
+ghost use Rattle.vx_script.specs.Grammar.{line_after_spaces, line_of};
 ghost use Rattle.vx_script.specs.Parsed.{IsParsed};
 
 use crate::keyword::as_keyword;
@@ -9,9 +9,9 @@ use crate::scan::Words;
 use crate::{LineErr, ScriptLine, Wrong};
 use std::alloc::Global;
 
-#[tactic(auto, unfolding(crate::specs::Grammar::line_by, crate::specs::Grammar::line_at))]
+#[tactic(auto, unfolding(crate::specs::Grammar::line_by, crate::specs::Grammar::line_after_spaces))]
 fn line(alloc: Global, bytes: &[u8]) -> Result<Option<ScriptLine>, Wrong>
-    ensures { Gives (λ x. x) result (line_at bytes.now) }
+    ensures { GivesReading (λ x. x) result (line_after_spaces bytes.now) }
 {
     let mut words = Words { left: bytes };
     let (word, left) = words.next();

@@ -1,6 +1,6 @@
 // The next word of a line, as a place takes it. The reading stops at a word that does not fit.
 ghost use Rattle.std.specs.Prelude.{◌≡◌};
-ghost use Rattle.vx_script.specs.Words.{Gives, next, labelled, name_of, number_of, names_of, byte_of, block_of};
+ghost use Rattle.vx_script.specs.Words.{GivesReading, next_word, labelled, word_name, word_number, names_of, byte_of, block_word};
 ghost use Rattle.vx_script.specs.Keywords.{pick_of};
 ghost use Rattle.vx_script.specs.Formats.{policy_of};
 
@@ -16,7 +16,7 @@ impl<'a> Words<'a> {
     /// A name behind a label.
     #[tactic(auto, unfolding(crate::specs::Words::labelled))]
     pub fn name(&mut self, label: &[u8]) -> Result<Name, Wrong>
-        ensures { Gives (λ x. (x, self.new.left.now)) result (next (labelled label.now name_of) self.old.left.now) }
+        ensures { GivesReading (λ x. (x, self.new.left.now)) result (next_word (labelled label.now word_name) self.old.left.now) }
     {
         let (word, left) = self.next();
         match word.strip_prefix(label) {
@@ -27,7 +27,7 @@ impl<'a> Words<'a> {
 
     /// A number behind a label.
     pub fn number(&mut self, label: &[u8]) -> Result<u64, Wrong>
-        ensures { Gives (λ x. (x, self.new.left.now)) result (next (labelled label.now number_of) self.old.left.now) }
+        ensures { GivesReading (λ x. (x, self.new.left.now)) result (next_word (labelled label.now word_number) self.old.left.now) }
     {
         let (word, left) = self.next();
         number_after(label, word).ok_or(Wrong::Left(left))
@@ -36,7 +36,7 @@ impl<'a> Words<'a> {
     /// Names behind a label.
     #[tactic(auto, unfolding(crate::specs::Words::labelled))]
     pub fn names(&mut self, alloc: Global, label: &[u8]) -> Result<Names, Wrong>
-        ensures { Gives (λ x. (x, self.new.left.now)) result (next (labelled label.now names_of) self.old.left.now) }
+        ensures { GivesReading (λ x. (x, self.new.left.now)) result (next_word (labelled label.now names_of) self.old.left.now) }
     {
         let (word, left) = self.next();
         let Some(text) = word.strip_prefix(label) else {
@@ -51,7 +51,7 @@ impl<'a> Words<'a> {
 
     /// The digits of a byte.
     pub fn byte(&mut self) -> Result<u8, Wrong>
-        ensures { Gives (λ x. (x, self.new.left.now)) result (next byte_of self.old.left.now) }
+        ensures { GivesReading (λ x. (x, self.new.left.now)) result (next_word byte_of self.old.left.now) }
     {
         let (word, left) = self.next();
         as_byte(word).ok_or(Wrong::Left(left))
@@ -59,7 +59,7 @@ impl<'a> Words<'a> {
 
     /// The digits of a block.
     pub fn block(&mut self) -> Result<Block, Wrong>
-        ensures { Gives (λ x. (x, self.new.left.now)) result (next block_of self.old.left.now) }
+        ensures { GivesReading (λ x. (x, self.new.left.now)) result (next_word block_word self.old.left.now) }
     {
         let (word, left) = self.next();
         as_block(word).ok_or(Wrong::Left(left))
@@ -68,7 +68,7 @@ impl<'a> Words<'a> {
     /// A reading policy.
     #[tactic(auto, unfolding(crate::specs::Formats::policy_of))]
     pub fn policy(&mut self) -> Result<ReadPolicy, Wrong>
-        ensures { Gives (λ x. (x, self.new.left.now)) result (next policy_of self.old.left.now) }
+        ensures { GivesReading (λ x. (x, self.new.left.now)) result (next_word policy_of self.old.left.now) }
     {
         let (word, left) = self.next();
         if word == b"rdpol=round".as_slice() {
@@ -82,7 +82,7 @@ impl<'a> Words<'a> {
 
     /// A value in the table.
     pub fn one_of<W: Word>(&mut self, table: &[W]) -> Result<W, Wrong>
-        ensures { Gives (λ x. (x, self.new.left.now)) result (next (pick_of W.word_text table.now) self.old.left.now) }
+        ensures { GivesReading (λ x. (x, self.new.left.now)) result (next_word (pick_of W.word_text table.now) self.old.left.now) }
     {
         let (word, left) = self.next();
         find_word(table, word).ok_or(Wrong::Left(left))

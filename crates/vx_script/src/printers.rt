@@ -1,7 +1,7 @@
 // Each shape of a line, as it is printed.
 ghost use Rattle.std.specs.Prelude.{◌≡◌, ◌∷◌, [], codes, IfOk};
-ghost use Rattle.vx_script.specs.Tokens.{joined, Key, Named, Number, Hex};
-ghost use Rattle.vx_script.specs.Grammar.{spelling, one_site, site_word, site_number, site_numbers, two_sites, two_modes, block_run, plex_word};
+ghost use Rattle.vx_script.specs.Tokens.{joined_words, Key, Named, Number, Hex};
+ghost use Rattle.vx_script.specs.Grammar.{spelling, one_site, site_word, site_and_number, site_numbers, two_sites, two_modes, block_run, plex_word};
 ghost use Rattle.vx_script.specs.declared.line.ScriptLine.{ScriptLine};
 
 use crate::Names;
@@ -12,7 +12,7 @@ use std::alloc::Global;
 use vx_model::{Block, Name, OutOfMemory, Prot, SyncMode};
 
 pub fn print_one_site(alloc: Global, key: &[u8], site: &Name) -> Result<Vec<u8>, OutOfMemory>
-    ensures { IfOk result (λ text. text.items ≡ joined (one_site key.now site.now)) }
+    ensures { IfOk result (λ text. text.items ≡ joined_words (one_site key.now site.now)) }
 {
     let mut out = Vec::from_slice(alloc, key)?;
     push_name(&mut out, b"", site)?;
@@ -25,7 +25,7 @@ pub fn print_site_word(
     site: &Name,
     word: &[u8],
 ) -> Result<Vec<u8>, OutOfMemory>
-    ensures { IfOk result (λ text. text.items ≡ joined (site_word key.now site.now word.now)) }
+    ensures { IfOk result (λ text. text.items ≡ joined_words (site_word key.now site.now word.now)) }
 {
     let mut out = Vec::from_slice(alloc, key)?;
     push_name(&mut out, b"", site)?;
@@ -39,7 +39,7 @@ pub fn print_site_number(
     site: &Name,
     n: u64,
 ) -> Result<Vec<u8>, OutOfMemory>
-    ensures { IfOk result (λ text. text.items ≡ joined (site_number key.now site.now n)) }
+    ensures { IfOk result (λ text. text.items ≡ joined_words (site_and_number key.now site.now n)) }
 {
     let mut out = Vec::from_slice(alloc, key)?;
     push_name(&mut out, b"", site)?;
@@ -54,7 +54,7 @@ pub fn print_site_numbers(
     m: u64,
     n: u64,
 ) -> Result<Vec<u8>, OutOfMemory>
-    ensures { IfOk result (λ text. text.items ≡ joined (site_numbers key.now site.now m n)) }
+    ensures { IfOk result (λ text. text.items ≡ joined_words (site_numbers key.now site.now m n)) }
 {
     let mut out = Vec::from_slice(alloc, key)?;
     push_name(&mut out, b"", site)?;
@@ -85,7 +85,7 @@ pub fn print_plex(
     plex: u64,
     word: &[u8],
 ) -> Result<Vec<u8>, OutOfMemory>
-    ensures { IfOk result (λ text. text.items ≡ joined (plex_word site.now volume.now plex word.now)) }
+    ensures { IfOk result (λ text. text.items ≡ joined_words (plex_word site.now volume.now plex word.now)) }
 {
     let mut out = Vec::from_slice(alloc, b"plex")?;
     push_name(&mut out, b"", site)?;
@@ -120,7 +120,7 @@ pub fn print_block_run(
     block: u64,
     count: u64,
 ) -> Result<Vec<u8>, OutOfMemory>
-    ensures { IfOk result (λ text. text.items ≡ joined (block_run key.now site.now volume.now block count)) }
+    ensures { IfOk result (λ text. text.items ≡ joined_words (block_run key.now site.now volume.now block count)) }
 {
     let mut out = Vec::from_slice(alloc, key)?;
     push_name(&mut out, b"", site)?;
@@ -172,7 +172,7 @@ pub fn print_two_sites(
     first: &Name,
     second: &Name,
 ) -> Result<Vec<u8>, OutOfMemory>
-    ensures { IfOk result (λ text. text.items ≡ joined (two_sites key.now first.now second.now)) }
+    ensures { IfOk result (λ text. text.items ≡ joined_words (two_sites key.now first.now second.now)) }
 {
     let mut out = Vec::from_slice(alloc, key)?;
     push_name(&mut out, b"", first)?;
@@ -188,7 +188,7 @@ pub fn print_two_modes(
     sync: SyncMode,
     prot: Prot,
 ) -> Result<Vec<u8>, OutOfMemory>
-    ensures { IfOk result (λ text. text.items ≡ joined (two_modes key.now first.now second.now sync prot)) }
+    ensures { IfOk result (λ text. text.items ≡ joined_words (two_modes key.now first.now second.now sync prot)) }
 {
     let mut out = Vec::from_slice(alloc, key)?;
     push_name(&mut out, b"", first)?;

@@ -1,6 +1,6 @@
 // What follows the first word of each kind of line.
-ghost use Rattle.vx_script.specs.Words.{Gives};
-ghost use Rattle.vx_script.specs.Formats.{read, format_of, site_format, disk_format, fuse_format, group_format, plex_format, rvg_format, write_format, put_format, deliver_format, call_format, of_site_format, of_number_format, of_span_format, of_link_format, of_pair_format};
+ghost use Rattle.vx_script.specs.Words.{GivesReading};
+ghost use Rattle.vx_script.specs.Formats.{read_by, format_of, site_format, disk_format, fuse_format, group_format, plex_format, rvg_format, write_format, put_format, deliver_format, call_format, of_site_format, of_number_format, of_span_format, of_link_format, of_pair_format};
 
 use crate::choice::{
     CALL_VERBS, CallVerb, DISK_STATES, GROUP_VERBS, GroupVerb, PLEX_VERBS, PROTS, PlexVerb,
@@ -14,7 +14,7 @@ use std::alloc::Global;
 
 #[tactic(auto, unfolding(crate::specs::Formats::site_format))]
 fn site(words: &mut Words) -> Result<ScriptLine, Wrong>
-    ensures { Gives (λ x. x) result (read site_format words.old.left.now) }
+    ensures { GivesReading (λ x. x) result (read_by site_format words.old.left.now) }
 {
     let site = words.name(b"")?;
     let disks = words.number(b"")?;
@@ -29,7 +29,7 @@ fn site(words: &mut Words) -> Result<ScriptLine, Wrong>
 
 #[tactic(auto, unfolding(crate::specs::Formats::disk_format))]
 fn disk(words: &mut Words) -> Result<ScriptLine, Wrong>
-    ensures { Gives (λ x. x) result (read disk_format words.old.left.now) }
+    ensures { GivesReading (λ x. x) result (read_by disk_format words.old.left.now) }
 {
     let site = words.name(b"")?;
     let disk = words.number(b"")?;
@@ -40,7 +40,7 @@ fn disk(words: &mut Words) -> Result<ScriptLine, Wrong>
 
 #[tactic(auto, unfolding(crate::specs::Formats::fuse_format))]
 fn fuse(words: &mut Words) -> Result<ScriptLine, Wrong>
-    ensures { Gives (λ x. x) result (read fuse_format words.old.left.now) }
+    ensures { GivesReading (λ x. x) result (read_by fuse_format words.old.left.now) }
 {
     let site = words.name(b"")?;
     let writes = words.number(b"")?;
@@ -51,7 +51,7 @@ fn fuse(words: &mut Words) -> Result<ScriptLine, Wrong>
 
 #[tactic(auto, unfolding(crate::specs::Formats::group_format))]
 fn group(words: &mut Words) -> Result<ScriptLine, Wrong>
-    ensures { Gives (λ x. x) result (read group_format words.old.left.now) }
+    ensures { GivesReading (λ x. x) result (read_by group_format words.old.left.now) }
 {
     let site = words.name(b"")?;
     let verb = words.one_of(&GROUP_VERBS)?;
@@ -65,7 +65,7 @@ fn group(words: &mut Words) -> Result<ScriptLine, Wrong>
 
 #[tactic(auto, unfolding(crate::specs::Formats::plex_format))]
 fn plex(words: &mut Words) -> Result<ScriptLine, Wrong>
-    ensures { Gives (λ x. x) result (read plex_format words.old.left.now) }
+    ensures { GivesReading (λ x. x) result (read_by plex_format words.old.left.now) }
 {
     let site = words.name(b"")?;
     let volume = words.name(b"")?;
@@ -80,7 +80,7 @@ fn plex(words: &mut Words) -> Result<ScriptLine, Wrong>
 
 #[tactic(auto, unfolding(crate::specs::Formats::rvg_format))]
 fn rvg(alloc: Global, words: &mut Words) -> Result<ScriptLine, Wrong>
-    ensures { Gives (λ x. x) result (read rvg_format words.old.left.now) }
+    ensures { GivesReading (λ x. x) result (read_by rvg_format words.old.left.now) }
 {
     let site = words.name(b"")?;
     let srl = words.name(b"srl=")?;
@@ -97,7 +97,7 @@ fn rvg(alloc: Global, words: &mut Words) -> Result<ScriptLine, Wrong>
 
 #[tactic(auto, unfolding(crate::specs::Formats::write_format))]
 fn write(words: &mut Words) -> Result<ScriptLine, Wrong>
-    ensures { Gives (λ x. x) result (read write_format words.old.left.now) }
+    ensures { GivesReading (λ x. x) result (read_by write_format words.old.left.now) }
 {
     let site = words.name(b"")?;
     let volume = words.name(b"")?;
@@ -116,7 +116,7 @@ fn write(words: &mut Words) -> Result<ScriptLine, Wrong>
 
 #[tactic(auto, unfolding(crate::specs::Formats::put_format))]
 fn put(words: &mut Words) -> Result<ScriptLine, Wrong>
-    ensures { Gives (λ x. x) result (read put_format words.old.left.now) }
+    ensures { GivesReading (λ x. x) result (read_by put_format words.old.left.now) }
 {
     let site = words.name(b"")?;
     let volume = words.name(b"")?;
@@ -133,7 +133,7 @@ fn put(words: &mut Words) -> Result<ScriptLine, Wrong>
 
 #[tactic(auto, unfolding(crate::specs::Formats::deliver_format))]
 fn deliver(words: &mut Words) -> Result<ScriptLine, Wrong>
-    ensures { Gives (λ x. x) result (read deliver_format words.old.left.now) }
+    ensures { GivesReading (λ x. x) result (read_by deliver_format words.old.left.now) }
 {
     let packet = words.number(b"")?;
     words.end()?;
@@ -142,7 +142,7 @@ fn deliver(words: &mut Words) -> Result<ScriptLine, Wrong>
 
 #[tactic(auto, unfolding(crate::specs::Formats::of_site_format))]
 fn of_site(verb: SiteVerb, words: &mut Words) -> Result<ScriptLine, Wrong>
-    ensures { Gives (λ x. x) result (read (of_site_format verb) words.old.left.now) }
+    ensures { GivesReading (λ x. x) result (read_by (of_site_format verb) words.old.left.now) }
 {
     let site = words.name(b"")?;
     words.end()?;
@@ -156,7 +156,7 @@ fn of_site(verb: SiteVerb, words: &mut Words) -> Result<ScriptLine, Wrong>
 
 #[tactic(auto, unfolding(crate::specs::Formats::of_number_format))]
 fn of_number(verb: NumberVerb, words: &mut Words) -> Result<ScriptLine, Wrong>
-    ensures { Gives (λ x. x) result (read (of_number_format verb) words.old.left.now) }
+    ensures { GivesReading (λ x. x) result (read_by (of_number_format verb) words.old.left.now) }
 {
     let site = words.name(b"")?;
     let number = words.number(b"")?;
@@ -177,7 +177,7 @@ fn of_number(verb: NumberVerb, words: &mut Words) -> Result<ScriptLine, Wrong>
 
 #[tactic(auto, unfolding(crate::specs::Formats::of_span_format))]
 fn of_span(verb: SpanVerb, words: &mut Words) -> Result<ScriptLine, Wrong>
-    ensures { Gives (λ x. x) result (read (of_span_format verb) words.old.left.now) }
+    ensures { GivesReading (λ x. x) result (read_by (of_span_format verb) words.old.left.now) }
 {
     let site = words.name(b"")?;
     let volume = words.name(b"")?;
@@ -202,7 +202,7 @@ fn of_span(verb: SpanVerb, words: &mut Words) -> Result<ScriptLine, Wrong>
 
 #[tactic(auto, unfolding(crate::specs::Formats::of_link_format))]
 fn of_link(verb: LinkVerb, words: &mut Words) -> Result<ScriptLine, Wrong>
-    ensures { Gives (λ x. x) result (read (of_link_format verb) words.old.left.now) }
+    ensures { GivesReading (λ x. x) result (read_by (of_link_format verb) words.old.left.now) }
 {
     let primary = words.name(b"")?;
     let other = words.name(b"")?;
@@ -233,7 +233,7 @@ fn of_link(verb: LinkVerb, words: &mut Words) -> Result<ScriptLine, Wrong>
 
 #[tactic(auto, unfolding(crate::specs::Formats::of_pair_format))]
 fn of_pair(verb: PairVerb, words: &mut Words) -> Result<ScriptLine, Wrong>
-    ensures { Gives (λ x. x) result (read (of_pair_format verb) words.old.left.now) }
+    ensures { GivesReading (λ x. x) result (read_by (of_pair_format verb) words.old.left.now) }
 {
     let primary = words.name(b"")?;
     let secondary = words.name(b"")?;
@@ -263,7 +263,7 @@ fn of_pair(verb: PairVerb, words: &mut Words) -> Result<ScriptLine, Wrong>
 
 #[tactic(auto, unfolding(crate::specs::Formats::call_format, crate::specs::Formats::call_more))]
 fn call(words: &mut Words) -> Result<ScriptLine, Wrong>
-    ensures { Gives (λ x. x) result (read call_format words.old.left.now) }
+    ensures { GivesReading (λ x. x) result (read_by call_format words.old.left.now) }
 {
     let thread = words.number(b"")?;
     let verb = words.one_of(&CALL_VERBS)?;
@@ -300,7 +300,7 @@ pub fn after_keyword(
     keyword: Keyword,
     words: &mut Words,
 ) -> Result<ScriptLine, Wrong>
-    ensures { Gives (λ x. x) result (read (format_of keyword) words.old.left.now) }
+    ensures { GivesReading (λ x. x) result (read_by (format_of keyword) words.old.left.now) }
 {
     match keyword {
         Keyword::Site => site(words),

@@ -1,7 +1,7 @@
 // Where words begin and end.
 ghost use Rattle.std.specs.Prelude.{◌≡◌, ◌==◌, ◌≤◌, length};
 ghost use Rattle.std.specs.List.{position_or_len};
-ghost use Rattle.vx_script.specs.Words.{is_visible, after_spaces, word_of, after_word, end_of, Gives};
+ghost use Rattle.vx_script.specs.Words.{is_visible, after_spaces, word_of, after_word, words_end, GivesReading};
 
 use crate::Wrong;
 
@@ -58,7 +58,7 @@ impl<'a> Words<'a> {
 
     /// No word is left.
     pub fn end(&self) -> Result<(), Wrong>
-        ensures { Gives (λ x. x) result (end_of self.now.left.now) }
+        ensures { GivesReading (λ x. x) result (words_end self.now.left.now) }
     {
         let here = skip_spaces(self.left);
         if here.is_empty() {

@@ -1,7 +1,7 @@
 // What a word says: a name, a number, names, bytes.
 ghost use Rattle.std.specs.Prelude.{◌≡◌, ◌≤◌, length, ◌<◌, ◌+◌, MatchOption, take, drop};
 ghost use Rattle.std.specs.List.{position_or_len, list_all};
-ghost use Rattle.vx_script.specs.Words.{is_digit, digits_after, name_of, number_of, byte_of, block_of, is_name_byte, labelled, names_of, Says, is_comma};
+ghost use Rattle.vx_script.specs.Words.{is_digit, digits_after, word_name, word_number, byte_of, block_word, is_name_byte, labelled, names_of, SaysWord, is_comma};
 
 use crate::Names;
 use crate::scan::first_of;
@@ -22,9 +22,9 @@ fn is_decimal(word: &[u8]) -> bool
 }
 
 /// The name that a word is.
-#[tactic(auto, unfolding(crate::specs::Words::name_of))]
+#[tactic(auto, unfolding(crate::specs::Words::word_name))]
 pub fn as_name(word: &[u8]) -> Option<Name>
-    ensures { result ≡ name_of word.now }
+    ensures { result ≡ word_name word.now }
 {
     if word.is_empty() || word.len() > 8 || !word[0].is_ascii_lowercase() {
         return None;
@@ -47,9 +47,9 @@ fn value_of(word: &[u8]) -> u128
     value
 }
 
-#[tactic(auto, unfolding(crate::specs::Words::number_of))]
+#[tactic(auto, unfolding(crate::specs::Words::word_number))]
 fn as_number(word: &[u8]) -> Option<u64>
-    ensures { result ≡ number_of word.now }
+    ensures { result ≡ word_number word.now }
 {
     if word.is_empty() || word.len() > 20 || !is_decimal(word) {
         return None;
@@ -75,9 +75,9 @@ pub fn as_byte(word: &[u8]) -> Option<u8>
 }
 
 /// The block that 1,024 hexadecimal digits are.
-#[tactic(auto, unfolding(crate::specs::Words::block_of))]
+#[tactic(auto, unfolding(crate::specs::Words::block_word))]
 pub fn as_block(word: &[u8]) -> Option<Block>
-    ensures { result ≡ block_of word.now }
+    ensures { result ≡ block_word word.now }
 {
     let mut bytes = [0; 512];
     match hex::decode_to_slice(word, &mut bytes) {
@@ -89,7 +89,7 @@ pub fn as_block(word: &[u8]) -> Option<Block>
 /// The number behind a label.
 #[tactic(auto, unfolding(crate::specs::Words::labelled))]
 pub fn number_after(label: &[u8], word: &[u8]) -> Option<u64>
-    ensures { result ≡ labelled label.now number_of word.now }
+    ensures { result ≡ labelled label.now word_number word.now }
 {
     match word.strip_prefix(label) {
         Some(text) => as_number(text),
@@ -113,7 +113,7 @@ fn split_comma(bytes: &[u8]) -> (&[u8], Option<&[u8]>)
 
 /// The names that a word is, with commas between.
 pub fn as_names(alloc: Global, word: &[u8]) -> Result<Option<Names>, OutOfMemory>
-    ensures { Says (λ v. v) result (names_of word.now) }
+    ensures { SaysWord (λ v. v) result (names_of word.now) }
 {
     let mut names = Names::new(alloc);
     let mut rest = word;

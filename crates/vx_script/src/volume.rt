@@ -1,6 +1,6 @@
 // What follows the word `vol`.
-ghost use Rattle.vx_script.specs.Words.{Gives};
-ghost use Rattle.vx_script.specs.Formats.{read, volume_tail, volume_format};
+ghost use Rattle.vx_script.specs.Words.{GivesReading};
+ghost use Rattle.vx_script.specs.Formats.{read_by, volume_tail, volume_format};
 
 use crate::choice::{LAYOUT_WORDS, LayoutWord, VOLUME_LOGS, VOLUME_MAPS};
 use crate::line::Layout;
@@ -17,7 +17,7 @@ fn volume_end(
     layout: Layout,
     words: &mut Words,
 ) -> Result<ScriptLine, Wrong>
-    ensures { Gives (λ x. x) result (read (volume_tail site volume blocks mirrors layout) words.old.left.now) }
+    ensures { GivesReading (λ x. x) result (read_by (volume_tail site volume blocks mirrors layout) words.old.left.now) }
 {
     let log = words.one_of(&VOLUME_LOGS)?;
     let map = words.one_of(&VOLUME_MAPS)?;
@@ -38,7 +38,7 @@ fn volume_end(
 /// A volume's line.
 #[tactic(auto, unfolding(crate::specs::Formats::volume_format, crate::specs::Formats::layout_format))]
 pub fn volume(words: &mut Words) -> Result<ScriptLine, Wrong>
-    ensures { Gives (λ x. x) result (read volume_format words.old.left.now) }
+    ensures { GivesReading (λ x. x) result (read_by volume_format words.old.left.now) }
 {
     let site = words.name(b"")?;
     let volume = words.name(b"")?;

@@ -5,7 +5,7 @@ use Rattle.std.proofs.lemmas.Bool.{cases_eq}
 use Rattle.std.proofs.lemmas.List.{take_all}
 use borrow.Rule.Slice.PartMut.{put_mid}
 use Rattle.vx_model.specs.Content.{Content, Write, blocks_in, block_of, block_after, touches, is_within, put, fold_writes}
-use Rattle.vx_rvg.specs.Contents.{Shows}
+use Rattle.vx_rvg.specs.Contents.{ShowsContent}
 use Rattle.vx_rvg.proofs.PatchFacts.{put_size, put_same, put_other}
 use Rattle.vx_secondary.specs.Overs.{AreWithin, IsPutOver}
 
@@ -55,7 +55,7 @@ pub cut : (n : ℕ) (bytes part : List ℕ) → part ≡ take (512 * n + 512 - 5
 cut n bytes part is = let wide : 512 * n + 512 - 512 * n ≡ 512 = omega arith in is ∙ ap (λ (m : ℕ). take m (drop (512 * n) bytes)) wide
 
 -- a content with the write is what is then shown
-pub shows_put : (c : Content) (x : Write) (vol start : ℕ) (old new : List ℕ) → is_within c x ≡ true → IsPutOver x vol start old new → Shows c vol start (blocks_in old) old → Shows (put c x) vol start (blocks_in old) new
+pub shows_put : (c : Content) (x : Write) (vol start : ℕ) (old new : List ℕ) → is_within c x ≡ true → IsPutOver x vol start old new → ShowsContent c vol start (blocks_in old) old → ShowsContent (put c x) vol start (blocks_in old) new
 shows_put c x vol start old new within over shows = record {
   each = λ k low.
       over.each k low ∙ ap (λ (b : List ℕ). block_after x vol (start + k) b) (shows.each k low)
@@ -67,7 +67,7 @@ shows_put c x vol start old new within over shows = record {
 -- the content with the first n of them
 pub record ShowsTo (xs : List Write) (n vol start : ℕ) (old new : List ℕ) : Type 0 where
   pub size : length new ≡ length old
-  pub shows : (c : Content) → AreWithin c xs → Shows c vol start (blocks_in old) old → Shows (fold_writes c (take n xs)) vol start (blocks_in old) new
+  pub shows : (c : Content) → AreWithin c xs → ShowsContent c vol start (blocks_in old) old → ShowsContent (fold_writes c (take n xs)) vol start (blocks_in old) new
 
 pub shows_none : (xs : List Write) (vol start : ℕ) (old : List ℕ) → ShowsTo xs 0 vol start old old
 shows_none xs vol start old = record { size = refl; shows = λ c within shows. shows }
@@ -93,15 +93,15 @@ shows_next xs n vol start x old mid new before here over = record {
       let d : Content = fold_writes c (take n xs) in
       let inside : is_within d x ≡ true = ap (λ (k : ℕ). leb (x.start + blocks_in x.bytes) k) (fold_size c (take n xs) x.volume) ∙ within n x here in
       let many : blocks_in mid ≡ blocks_in old = ap (λ (k : ℕ). k / 512) before.size in
-      let there : Shows d vol start (blocks_in mid) mid = subst (λ (k : ℕ). Shows d vol start k mid) (sym many) (before.shows c within shows) in
+      let there : ShowsContent d vol start (blocks_in mid) mid = subst (λ (k : ℕ). ShowsContent d vol start k mid) (sym many) (before.shows c within shows) in
       let after : fold_writes c (take (n + 1) xs) ≡ put d x =
       ap (λ (k : ℕ). fold_writes c (take k xs)) (let e : n + 1 ≡ suc n = omega arith in e) ∙ ap (λ (ws : List Write). fold_writes c ws) (take_next n xs x here) ∙ fold_append c (take n xs) (x ∷ []) in
-      subst (λ (e : Content). Shows e vol start (blocks_in old) new) (sym after)
-      (subst (λ (k : ℕ). Shows (put d x) vol start k new) many (shows_put d x vol start mid new inside over there));
+      subst (λ (e : Content). ShowsContent e vol start (blocks_in old) new) (sym after)
+      (subst (λ (k : ℕ). ShowsContent (put d x) vol start k new) many (shows_put d x vol start mid new inside over there));
 }
 
-pub shows_all : (xs : List Write) (n vol start : ℕ) (old new : List ℕ) → length xs ≤ n → ShowsTo xs n vol start old new → (c : Content) → AreWithin c xs → Shows c vol start (blocks_in old) old → Shows (fold_writes c xs) vol start (blocks_in old) new
-shows_all xs n vol start old new all to c within shows = subst (λ (ws : List Write). Shows (fold_writes c ws) vol start (blocks_in old) new) (take_all n xs all) (to.shows c within shows)
+pub shows_all : (xs : List Write) (n vol start : ℕ) (old new : List ℕ) → length xs ≤ n → ShowsTo xs n vol start old new → (c : Content) → AreWithin c xs → ShowsContent c vol start (blocks_in old) old → ShowsContent (fold_writes c xs) vol start (blocks_in old) new
+shows_all xs n vol start old new all to c within shows = subst (λ (ws : List Write). ShowsContent (fold_writes c ws) vol start (blocks_in old) new) (take_all n xs all) (to.shows c within shows)
 
 -- what the test of a block tells
 pub touch_told : (b : Bool) (p q : ℕ) → Some p ≡ (if b then Some q else None) → (b ≡ true) × (p ≡ q)

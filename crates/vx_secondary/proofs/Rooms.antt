@@ -13,15 +13,15 @@ use Rattle.vx_disk.specs.Moves.{Moves, Run}
 use Rattle.vx_disk.specs.Shelf.{Meaning, Image}
 use Rattle.vx_srl.specs.Calls.{saved}
 use Rattle.vx_srl.specs.Headers.{without}
-use Rattle.vx_srl.specs.Views.{Log, most_number, count_to, head_of, free_of, widths, all_of}
+use Rattle.vx_srl.specs.Views.{Log, most_number, count_to, head_number, free_of, widths, all_of}
 use Rattle.vx_srl.specs.declared.kept.Kept.{Kept}
-use Rattle.vx_rvg.specs.Groups.{ApplyIs, Ended, Fails, unless_halted}
+use Rattle.vx_rvg.specs.Groups.{ApplyIs, Ended, GroupFails, halted_or}
 use Rattle.vx_rvg.specs.Holdings.{Holding, kept_in}
 use Rattle.vx_rvg.specs.Saves.{SaveIs, reclaim_refusal, reclaimed, log_without}
 use Rattle.vx_rvg.specs.Stands.{Resting, Rests, Retains, Saving, Stands}
 use Rattle.vx_rvg.specs.Views.{Core, IsSound, Waits, last_of}
 use Rattle.vx_rvg.proofs.ContentFacts.{stands_count}
-use Rattle.vx_secondary.specs.Logging.{Grows, SameGroup, Own, Logging, Step, Logs, Ends}
+use Rattle.vx_secondary.specs.Logging.{Grows, SameGroup, Own, Logging, Step, LogsAll, EndsLogging}
 use Rattle.vx_secondary.proofs.Steps.{grows_self, found_same, same_self, step_of}
 
 -- ---- a device call that failed
@@ -38,12 +38,12 @@ ended_same c c' halted ended = record {
 ended_last : (c c' : Core) (halted : Option ℕ) → Ended c halted c' → last_of c' ≡ last_of c + 0
 ended_last c c' halted ended = omega (arith, ap (λ (g : Header). g.low) ended.header, ap (λ (ks : List Kept). length ks) ended.held)
 
-pub failed_same : (c c' : Core) (m m' : Meaning) (why : No) → Fails c m m' c' why → SameGroup c c'
+pub failed_same : (c c' : Core) (m m' : Meaning) (why : No) → GroupFails c m m' c' why → SameGroup c c'
 failed_same c c' m m' (Device disk) fails = ended_same c c' (Some disk) fails.0
 failed_same c c' m m' Down fails = ended_same c c' c.halted fails.0
 failed_same c c' m m' other fails = absurd fails
 
-pub failed_ends : (c c' : Core) (m m' : Meaning) (why : No) → Fails c m m' c' why → Ends 0 c c' m m' why
+pub failed_ends : (c c' : Core) (m m' : Meaning) (why : No) → GroupFails c m m' c' why → EndsLogging 0 c c' m m' why
 failed_ends c c' m m' (Device disk) fails = (ended_last c c' (Some disk) fails.0, (fails.0.halted_is, fails.1))
 failed_ends c c' m m' Down fails = (ended_last c c' c.halted fails.0, fails.1)
 failed_ends c c' m m' other fails = absurd fails
@@ -59,19 +59,19 @@ resting_logging c xs stamp m i le resting = record {
 }
 
 module _ (c c' : Core) (m m' : Meaning) (count : ℕ) (running : c.halted ≡ None) where
-  applied_is : (result : Result ℕ No) → ApplyIs (unless_halted c.halted None) c count m m' c' result → ApplyIs None c count m m' c' result
-  applied_is result is = subst (λ (o : Option ℕ). ApplyIs (unless_halted o None) c count m m' c' result) running is
+  applied_is : (result : Result ℕ No) → ApplyIs (halted_or c.halted None) c count m m' c' result → ApplyIs None c count m m' c' result
+  applied_is result is = subst (λ (o : Option ℕ). ApplyIs (halted_or o None) c count m m' c' result) running is
 
   applied_same : (result : Result ℕ No) → ApplyIs None c count m m' c' result → SameGroup c c'
   applied_same (Ok number) is = subst (λ (k : Core). SameGroup c k) (sym is.1.1) (record { units = refl; ring = refl; state = refl; session = refl; stamp = omega arith })
   applied_same (Err why) is = failed_same c c' m m' why is
 
-  pub applied_step : (xs : List Write) (result : Result ℕ No) → ApplyIs (unless_halted c.halted None) c count m m' c' result → Moves (Waits c m) (Resting c m) m m' → Step xs c c' m m'
+  pub applied_step : (xs : List Write) (result : Result ℕ No) → ApplyIs (halted_or c.halted None) c count m m' c' result → Moves (Waits c m) (Resting c m) m m' → Step xs c c' m m'
   applied_step xs result is moves =
       let same : SameGroup c c' = applied_same result (applied_is result is) in
       step_of xs c c' (Waits c m) (Resting c m) m m' same moves (waits_own c m) (λ i rests. resting_logging c xs (c'.log.header.stamp + 1) m i (omega (arith, same.stamp)) rests)
 
-  pub applied_logs : (number : ℕ) → ApplyIs (unless_halted c.halted None) c count m m' c' (Ok number) → Rests c c' m m' → Logs [] c c' m m'
+  pub applied_logs : (number : ℕ) → ApplyIs (halted_or c.halted None) c count m m' c' (Ok number) → Rests c c' m m' → LogsAll [] c c' m m'
   applied_logs number is rests =
       let made = (applied_is (Ok number) is).1.1 in
       record {
@@ -80,11 +80,11 @@ module _ (c c' : Core) (m m' : Meaning) (count : ℕ) (running : c.halted ≡ No
         holds = λ h stands. (h, (grows_self h, rests.each h stands));
       }
 
-  pub applied_ends : (why : No) → ApplyIs (unless_halted c.halted None) c count m m' c' (Err why) → Ends 0 c c' m m' why
+  pub applied_ends : (why : No) → ApplyIs (halted_or c.halted None) c count m m' c' (Err why) → EndsLogging 0 c c' m m' why
   applied_ends why is = failed_ends c c' m m' why (applied_is (Err why) is)
 
   -- it brings all in
-  pub applied_all : (number : ℕ) → ApplyIs (unless_halted c.halted None) c count m m' c' (Ok number) → count ≡ last_of c → last_of c' ≤ c'.applied
+  pub applied_all : (number : ℕ) → ApplyIs (halted_or c.halted None) c count m m' c' (Ok number) → count ≡ last_of c → last_of c' ≤ c'.applied
   applied_all number is all =
       let made = (applied_is (Ok number) is).1.1 in
       omega (arith, (applied_is (Ok number) is).0, ap (λ (k : Core). last_of k) made, ap (λ (k : Core). k.applied) made, all)
@@ -96,12 +96,12 @@ record Emptied (l l' : Log) : Type 0 where
   state : l'.header.state ≡ l.header.state
   incarnation : l'.header.incarnation ≡ l.header.incarnation
   first : 0 < l'.header.low
-  head : head_of l' ≡ head_of l
+  head : head_number l' ≡ head_number l
   none : length l'.held ≡ 0
   least : l.header.stamp ≤ l'.header.stamp
   most : l'.header.stamp ≤ l.header.stamp + 1
 
-emptied_by : (l : Log) (to : ℕ) (b : Bool) → leb l.header.low to ≡ b → 0 < l.header.low → head_of l ≡ to → Emptied l (if b then saved l (without l to) (count_to l to) else l)
+emptied_by : (l : Log) (to : ℕ) (b : Bool) → leb l.header.low to ≡ b → 0 < l.header.low → head_number l ≡ to → Emptied l (if b then saved l (without l to) (count_to l to) else l)
 emptied_by l to true is first head =
     let low : l.header.low ≤ to = grind (arith, nat_tests) in
     let less = length-drop (count_to l to) l.held in
@@ -192,7 +192,7 @@ module _ (c c' : Core) (m m' : Meaning) (last : ℕ) (is_last : last ≡ last_of
       step_of [] c c' (Run c.units.srl 0 (c.log.ring + 2)) (Saving c (reclaimed c last) m) m m' here moves (λ u b run. record { here = inl run })
       (λ i saving. saving_logging c (reclaimed c last) [] (c'.log.header.stamp + 1) m i same emptied some (omega (arith, here.stamp, emptied.most)) saving)
 
-  pub reclaim_logs : (done : Unit {0}) → SaveIs (reclaim_refusal c last) c (reclaimed c last) m m' c' (Ok done) → Retains c c' m m' → Logs [] c c' m m'
+  pub reclaim_logs : (done : Unit {0}) → SaveIs (reclaim_refusal c last) c (reclaimed c last) m m' c' (Ok done) → Retains c c' m m' → LogsAll [] c c' m m'
   reclaim_logs done is retains =
       let made : c' ≡ reclaimed c last = done_is (reclaim_refusal c last) done is in
       record {
@@ -211,15 +211,15 @@ module _ (c c' : Core) (m m' : Meaning) (last : ℕ) (is_last : last ≡ last_of
       ∙ ap (λ (k : Core). k.log.ring) made ∙ emptied.ring
 
   limit_is : IsLimit c.log.header.stamp last (reclaim_refusal c last)
-  limit_is = subst (λ (o : Option ℕ). IsLimit c.log.header.stamp last (unless_halted o (if leb c.log.header.low last && (leb most_number c.log.header.stamp || leb most_number last) then Some (Limit Number most_number) else None)))
+  limit_is = subst (λ (o : Option ℕ). IsLimit c.log.header.stamp last (halted_or o (if leb c.log.header.low last && (leb most_number c.log.header.stamp || leb most_number last) then Some (Limit Number most_number) else None)))
       (sym running) (limit_by (leb c.log.header.low last) (leb most_number c.log.header.stamp) (leb most_number last) c.log.header.stamp last refl refl)
 
-  ends_by : (r : Option No) (why : No) → IsLimit c.log.header.stamp last r → SaveIs r c (reclaimed c last) m m' c' (Err why) → Ends 0 c c' m m' why
+  ends_by : (r : Option No) (why : No) → IsLimit c.log.header.stamp last r → SaveIs r c (reclaimed c last) m m' c' (Err why) → EndsLogging 0 c c' m m' why
   ends_by (Some limit) why is_limit is =
       let named : why ≡ Limit Number MOST_NUMBER = (let e : Err why ≡ Err limit = is.0 in let same : why ≡ limit = cc in same ∙ is_limit.0) in
-      subst (λ (k : Core). Ends 0 c k m m' why) (sym is.1)
-      (subst (λ (n : No). Ends 0 c c m m' n) (sym named) (omega arith, (refl, (running, ⊎_elim (λ stamp. inl stamp) (λ to. inr (omega (arith, to, is_last))) is_limit.1))))
+      subst (λ (k : Core). EndsLogging 0 c k m m' why) (sym is.1)
+      (subst (λ (n : No). EndsLogging 0 c c m m' n) (sym named) (omega arith, (refl, (running, ⊎_elim (λ stamp. inl stamp) (λ to. inr (omega (arith, to, is_last))) is_limit.1))))
   ends_by None why is_limit is = failed_ends c c' m m' why is
 
-  pub reclaim_ends : (why : No) → SaveIs (reclaim_refusal c last) c (reclaimed c last) m m' c' (Err why) → Ends 0 c c' m m' why
+  pub reclaim_ends : (why : No) → SaveIs (reclaim_refusal c last) c (reclaimed c last) m m' c' (Err why) → EndsLogging 0 c c' m m' why
   reclaim_ends why is = ends_by (reclaim_refusal c last) why limit_is is

@@ -10,9 +10,9 @@ use Rattle.vx_disk.specs.Moves.{Blocks, Moves, Run, Says}
 use Rattle.vx_disk.specs.Shelf.{Meaning, Image}
 use Rattle.vx_disk.proofs.Moving.{goes_on, still, wider}
 use Rattle.vx_rvg.specs.Holdings.{Holding}
-use Rattle.vx_rvg.specs.Stands.{Found, Stands}
+use Rattle.vx_rvg.specs.Stands.{FoundGroup, Stands}
 use Rattle.vx_rvg.specs.Views.{Core, unit_of}
-use Rattle.vx_secondary.specs.Logging.{Grows, SameGroup, Own, Logging, Step, Logs}
+use Rattle.vx_secondary.specs.Logging.{Grows, SameGroup, Own, Logging, Step, LogsAll}
 
 -- ---- lists
 
@@ -69,7 +69,7 @@ own_same c d same u b own =
     (λ here. record { here = here })
     (subst (λ (ring : ℕ). Run d.units.srl 0 (ring + 2) u b ⊎ ((v : ℕ) × (v < length d.units.vols) × (u ≡ unit_of d.units.vols v))) same.ring own.here)
 
-found_later : (u : Units) (r : ℕ) (st : SiteState) (se a b : ℕ) (i : Image) (k : Holding) → a ≤ b → Found u r st se a i k → Found u r st se b i k
+found_later : (u : Units) (r : ℕ) (st : SiteState) (se a b : ℕ) (i : Image) (k : Holding) → a ≤ b → FoundGroup u r st se a i k → FoundGroup u r st se b i k
 found_later u r st se a b i k le f = record {
   header = f.header;
   records = f.records;
@@ -86,14 +86,14 @@ found_later u r st se a b i k le f = record {
 }
 
 -- what is found of a later group is found of the first, with a later stamp
-pub found_same : (c d : Core) (a stamp : ℕ) (i : Image) (k : Holding) → SameGroup c d → a ≤ stamp → Found d.units d.log.ring d.log.header.state d.log.header.incarnation a i k
-    → Found c.units c.log.ring c.log.header.state c.log.header.incarnation stamp i k
+pub found_same : (c d : Core) (a stamp : ℕ) (i : Image) (k : Holding) → SameGroup c d → a ≤ stamp → FoundGroup d.units d.log.ring d.log.header.state d.log.header.incarnation a i k
+    → FoundGroup c.units c.log.ring c.log.header.state c.log.header.incarnation stamp i k
 found_same c d a stamp i k same le f =
     found_later c.units c.log.ring c.log.header.state c.log.header.incarnation a stamp i k le
-    (subst (λ (se : ℕ). Found c.units c.log.ring c.log.header.state se a i k) same.session
-    (subst (λ (st : SiteState). Found c.units c.log.ring st d.log.header.incarnation a i k) same.state
-    (subst (λ (r : ℕ). Found c.units r d.log.header.state d.log.header.incarnation a i k) same.ring
-    (subst (λ (u : Units). Found u d.log.ring d.log.header.state d.log.header.incarnation a i k) same.units f))))
+    (subst (λ (se : ℕ). FoundGroup c.units c.log.ring c.log.header.state se a i k) same.session
+    (subst (λ (st : SiteState). FoundGroup c.units c.log.ring st d.log.header.incarnation a i k) same.state
+    (subst (λ (r : ℕ). FoundGroup c.units r d.log.header.state d.log.header.incarnation a i k) same.ring
+    (subst (λ (u : Units). FoundGroup u d.log.ring d.log.header.state d.log.header.incarnation a i k) same.units f))))
 
 -- ---- images
 
@@ -149,7 +149,7 @@ step_more xs ys c c' m m' step =
     step_of (xs ++ ys) c c' (Own c) (Logging c xs (c'.log.header.stamp + 1) m) m m' step.same step.moves (λ u b own. own)
     (λ i is. logging_more c xs ys (c'.log.header.stamp + 1) (c'.log.header.stamp + 1) m i (omega arith) is)
 
-pub step_then : (xs ys : List Write) (c d e : Core) (m mid m' : Meaning) → Step xs c d m mid → Logs xs c d m mid → Step ys d e mid m' → Step (xs ++ ys) c e m m'
+pub step_then : (xs ys : List Write) (c d e : Core) (m mid m' : Meaning) → Step xs c d m mid → LogsAll xs c d m mid → Step ys d e mid m' → Step (xs ++ ys) c e m m'
 step_then xs ys c d e m mid m' one logs two = record {
   same = same_then c d e one.same two.same;
   moves =
@@ -160,10 +160,10 @@ step_then xs ys c d e m mid m' one logs two = record {
       (λ i beside is. logging_then c d xs ys (e.log.header.stamp + 1) (e.log.header.stamp + 1) m mid i one.same (omega arith) logs.holds is);
 }
 
-pub logs_self : (c : Core) (m : Meaning) → c.halted ≡ None → Logs [] c c m m
+pub logs_self : (c : Core) (m : Meaning) → c.halted ≡ None → LogsAll [] c c m m
 logs_self c m running = record { last = omega arith; running = running; holds = λ h stands. (h, (grows_self h, stands)) }
 
-pub logs_then : (xs ys : List Write) (c d e : Core) (m mid m' : Meaning) → Logs xs c d m mid → Logs ys d e mid m' → Logs (xs ++ ys) c e m m'
+pub logs_then : (xs ys : List Write) (c d e : Core) (m mid m' : Meaning) → LogsAll xs c d m mid → LogsAll ys d e mid m' → LogsAll (xs ++ ys) c e m m'
 logs_then xs ys c d e m mid m' one two = record {
   last = omega (arith, one.last, two.last, length-append xs ys);
   running = two.running;

@@ -12,8 +12,8 @@ use Rattle.vx_disk.specs.Shelf.{Meaning}
 use Rattle.vx_rvg.specs.Holdings.{Holding}
 use Rattle.vx_rvg.specs.Stands.{Stands}
 use Rattle.vx_rvg.specs.Views.{Core, last_of, unit_of}
-use Rattle.vx_secondary.specs.Logging.{SameGroup, Step, Logs, Ends, EndsAfter}
-use Rattle.vx_secondary.specs.Receivers.{Wait, can_log, write_of, writes_of}
+use Rattle.vx_secondary.specs.Logging.{SameGroup, Step, LogsAll, EndsLogging, EndsAfter}
+use Rattle.vx_secondary.specs.Receivers.{Wait, can_log, write_of_update, writes_of_updates}
 use Rattle.vx_secondary.proofs.Steps.{step_self, step_then, step_more, logs_self, logs_then}
 use Rattle.vx_secondary.specs.Overs.{AreWithin}
 use Rattle.vx_secondary.proofs.Writings.{can_parts, can_same, ends_later}
@@ -69,42 +69,42 @@ wait_pushed c size us u wait line number room can = record {
 -- so many of the updates are logged
 pub record LoggedTo (us : List Update) (n : ℕ) (c d : Core) (m mid : Meaning) (waiting : List Update) : Type 0 where
   pub left : waiting ≡ drop n us
-  pub step : Step (writes_of (take n us)) c d m mid
-  pub logs : Logs (writes_of (take n us)) c d m mid
+  pub step : Step (writes_of_updates (take n us)) c d m mid
+  pub logs : LogsAll (writes_of_updates (take n us)) c d m mid
   pub waits : Wait d mid.size waiting
   pub few : n ≤ length us
 
 pub logged_none : (us : List Update) (c : Core) (m : Meaning) → c.halted ≡ None → Wait c m.size us → LoggedTo us 0 c c m m us
 logged_none us c m running waits = record { left = refl; step = step_self [] c m; logs = logs_self c m running; waits = waits; few = omega arith }
 
-writes_next : (n : ℕ) (us : List Update) (u : Update) → slice_get us n ≡ Some u → writes_of (take (n + 1) us) ≡ writes_of (take n us) ++ write_of u ∷ []
+writes_next : (n : ℕ) (us : List Update) (u : Update) → slice_get us n ≡ Some u → writes_of_updates (take (n + 1) us) ≡ writes_of_updates (take n us) ++ write_of_update u ∷ []
 writes_next n us u is =
-    ap (λ (k : ℕ). writes_of (take k us)) (let e : n + 1 ≡ suc n = omega arith in e) ∙ ap (λ (ws : List Update). writes_of ws) (take_next n us u is) ∙ map-append write_of (take n us) (u ∷ [])
+    ap (λ (k : ℕ). writes_of_updates (take k us)) (let e : n + 1 ≡ suc n = omega arith in e) ∙ ap (λ (ws : List Update). writes_of_updates ws) (take_next n us u is) ∙ map-append write_of_update (take n us) (u ∷ [])
 
 taken : (n : ℕ) (us : List Update) → n ≤ length us → length (take n us) ≡ n
 taken zero us le = refl
 taken (suc n) [] le = absurd (omega (arith, le))
 taken (suc n) (v ∷ vs) le = ap suc (taken n vs (omega (arith, le)))
 
-pub count_taken : (n : ℕ) (us : List Update) → n ≤ length us → length (writes_of (take n us)) ≡ n
-count_taken n us le = length-map (take n us) write_of ∙ taken n us le
+pub count_taken : (n : ℕ) (us : List Update) → n ≤ length us → length (writes_of_updates (take n us)) ≡ n
+count_taken n us le = length-map (take n us) write_of_update ∙ taken n us le
 
 module _ (us : List Update) (n count : ℕ) (c d e : Core) (m mid m' : Meaning) (waiting : List Update) (u : Update) (at : LoggedTo us n c d m mid waiting) (front : Some u ≡ slice_get waiting 0)
-    (step : Step (write_of u ∷ []) d e mid m') (low : n < count) (some : count ≤ length us) where
+    (step : Step (write_of_update u ∷ []) d e mid m') (low : n < count) (some : count ≤ length us) where
   here : slice_get us n ≡ Some u
   here = subst (λ (k : ℕ). slice_get us k ≡ Some u) (let e : n + 0 ≡ n = omega arith in e) (sym (get_drop n 0 us) ∙ ap (λ (ws : List Update). slice_get ws 0) (sym at.left) ∙ sym front)
 
-  next_step : Step (writes_of (take (n + 1) us)) c e m m'
-  next_step = subst (λ (xs : List Write). Step xs c e m m') (sym (writes_next n us u here)) (step_then (writes_of (take n us)) (write_of u ∷ []) c d e m mid m' at.step at.logs step)
+  next_step : Step (writes_of_updates (take (n + 1) us)) c e m m'
+  next_step = subst (λ (xs : List Write). Step xs c e m m') (sym (writes_next n us u here)) (step_then (writes_of_updates (take n us)) (write_of_update u ∷ []) c d e m mid m' at.step at.logs step)
 
   pub fits_next : can_log d mid.size u ≡ true
   fits_next = at.waits.fits 0 u (sym front)
 
   -- all of them, of which these are the first
-  all_step : Step (writes_of (take count us)) c e m m'
+  all_step : Step (writes_of_updates (take count us)) c e m m'
   all_step =
-      subst (λ (xs : List Write). Step xs c e m m') (sym (map-append write_of (take (suc n) us) (drop (suc n) (take count us))) ∙ ap (λ (ws : List Update). writes_of ws) (both n count us low))
-      (step_more (writes_of (take (suc n) us)) (writes_of (drop (suc n) (take count us))) c e m m' (subst (λ (k : ℕ). Step (writes_of (take k us)) c e m m') (let e : n + 1 ≡ suc n = omega arith in e) next_step))
+      subst (λ (xs : List Write). Step xs c e m m') (sym (map-append write_of_update (take (suc n) us) (drop (suc n) (take count us))) ∙ ap (λ (ws : List Update). writes_of_updates ws) (both n count us low))
+      (step_more (writes_of_updates (take (suc n) us)) (writes_of_updates (drop (suc n) (take count us))) c e m m' (subst (λ (k : ℕ). Step (writes_of_updates (take k us)) c e m m') (let e : n + 1 ≡ suc n = omega arith in e) next_step))
     where
       both : (n count : ℕ) (us : List Update) → n < count → take (suc n) us ++ drop (suc n) (take count us) ≡ take count us
       both n zero us low = absurd (omega (arith, low))
@@ -112,34 +112,34 @@ module _ (us : List Update) (n count : ℕ) (c d e : Core) (m mid m' : Meaning) 
       both zero (suc k) (v ∷ vs) low = refl
       both (suc n) (suc k) (v ∷ vs) low = ap (λ (ws : List Update). v ∷ ws) (both n k vs (omega (arith, low)))
 
-  pub next_ends : (w : No) → Ends 0 d e mid m' w → EndsAfter count us waiting c e m m' w
+  pub next_ends : (w : No) → EndsLogging 0 d e mid m' w → EndsAfter count us waiting c e m m' w
   next_ends w ends = (
     n,
     (
       omega (arith, low),
       (
         at.left,
-        subst (λ (k : ℕ). Ends k c e m m' w) (let e : length (writes_of (take n us)) + 0 ≡ n = omega (arith, counted) in e)
-            (ends_later (length (writes_of (take n us))) 0 c d e m mid m' w at.logs.last at.step.moves.disk_faults ends),
+        subst (λ (k : ℕ). EndsLogging k c e m m' w) (let e : length (writes_of_updates (take n us)) + 0 ≡ n = omega (arith, counted) in e)
+            (ends_later (length (writes_of_updates (take n us))) 0 c d e m mid m' w at.logs.last at.step.moves.disk_faults ends),
       ),
     ),
   )
     where
-      counted : length (writes_of (take n us)) ≡ n
+      counted : length (writes_of_updates (take n us)) ≡ n
       counted = count_taken n us at.few
 
-  pub all_steps : Step (writes_of (take count us)) c e m m'
+  pub all_steps : Step (writes_of_updates (take count us)) c e m m'
   all_steps = all_step
 
   -- what waits, where it is not logged
   pub stopped_waits : last_of e ≡ last_of d + 0 → Wait e m'.size waiting
   stopped_waits last = wait_moved 0 d e mid.size m'.size waiting at.waits step.same last step.moves.size
 
-  pub logged_next : Logs (write_of u ∷ []) d e mid m' → (left : List Update) → left ≡ drop 1 waiting → LoggedTo us (n + 1) c e m m' left
+  pub logged_next : LogsAll (write_of_update u ∷ []) d e mid m' → (left : List Update) → left ≡ drop 1 waiting → LoggedTo us (n + 1) c e m m' left
   logged_next logs left is = record {
     left = is ∙ ap (λ (ws : List Update). drop 1 ws) at.left ∙ drop-drop 1 n us;
     step = next_step;
-    logs = subst (λ (xs : List Write). Logs xs c e m m') (sym (writes_next n us u here)) (logs_then (writes_of (take n us)) (write_of u ∷ []) c d e m mid m' at.logs logs);
+    logs = subst (λ (xs : List Write). LogsAll xs c e m m') (sym (writes_next n us u here)) (logs_then (writes_of_updates (take n us)) (write_of_update u ∷ []) c d e m mid m' at.logs logs);
     waits = subst (λ (ws : List Update). Wait e m'.size ws) (sym is) (wait_moved 1 d e mid.size m'.size waiting at.waits step.same logs.last step.moves.size);
     few = omega (arith, low, some);
   }
@@ -185,20 +185,20 @@ few_are count few k long one two le =
 
 -- ---- what waits lies within the volumes
 
-pub get_map : (us : List Update) (k : ℕ) (x : Write) → slice_get (writes_of us) k ≡ Some x → (u : Update) × ((slice_get us k ≡ Some u) × (write_of u ≡ x))
+pub get_map : (us : List Update) (k : ℕ) (x : Write) → slice_get (writes_of_updates us) k ≡ Some x → (u : Update) × ((slice_get us k ≡ Some u) × (write_of_update u ≡ x))
 get_map [] k x is = cc
-get_map (u ∷ us) zero x is = (u, (refl, let same : write_of u ≡ x = cc in same))
+get_map (u ∷ us) zero x is = (u, (refl, let same : write_of_update u ≡ x = cc in same))
 get_map (u ∷ us) (suc k) x is = get_map us k x is
 
-pub map_get : (us : List Update) (k : ℕ) (u : Update) → slice_get us k ≡ Some u → slice_get (writes_of us) k ≡ Some (write_of u)
+pub map_get : (us : List Update) (k : ℕ) (u : Update) → slice_get us k ≡ Some u → slice_get (writes_of_updates us) k ≡ Some (write_of_update u)
 map_get [] k u is = cc
-map_get (v ∷ us) zero u is = let same : v ≡ u = cc in ap (λ (w : Update). Some (write_of w)) same
+map_get (v ∷ us) zero u is = let same : v ≡ u = cc in ap (λ (w : Update). Some (write_of_update w)) same
 map_get (v ∷ us) (suc k) u is = map_get us k u is
 
-pub waits_within : (c : Core) (h : Holding) (m : Meaning) (us : List Update) → Stands c h m → Wait c m.size us → AreWithin h.content (writes_of us)
+pub waits_within : (c : Core) (h : Holding) (m : Meaning) (us : List Update) → Stands c h m → Wait c m.size us → AreWithin h.content (writes_of_updates us)
 waits_within c h m us stands wait k x is =
     let got = get_map us k x is in
     let can = can_parts c m.size got.0 (wait.fits k got.0 got.1.0) in
     let size : h.content.size got.0.vol ≡ m.size (unit_of c.units.vols got.0.vol) = stands.ready.sizes.each got.0.vol can.0 in
-    let within : is_within h.content (write_of got.0) ≡ true = (let le : got.0.block + blocks_in got.0.bytes ≤ h.content.size got.0.vol = omega (arith, can.1.1, size) in le-leb (got.0.block + blocks_in got.0.bytes) (h.content.size got.0.vol) le) in
+    let within : is_within h.content (write_of_update got.0) ≡ true = (let le : got.0.block + blocks_in got.0.bytes ≤ h.content.size got.0.vol = omega (arith, can.1.1, size) in le-leb (got.0.block + blocks_in got.0.bytes) (h.content.size got.0.vol) le) in
     subst (λ (y : Write). is_within h.content y ≡ true) got.1.1 within

@@ -11,14 +11,14 @@ use Rattle.vx_model.specs.declared.no.No.TheVariants.{Device, Down, Limit}
 use Rattle.vx_model.specs.declared.no.Counted.TheVariants.{Number}
 use Rattle.vx_disk.specs.Moves.{Moves, Run}
 use Rattle.vx_disk.specs.Shelf.{Meaning, Image}
-use Rattle.vx_srl.specs.Views.{kept_of, most_number}
+use Rattle.vx_srl.specs.Views.{kept_record, most_number}
 use Rattle.vx_srl.specs.declared.kept.Kept.{Kept}
-use Rattle.vx_rvg.specs.Groups.{WriteIs, with_write, write_refusal}
+use Rattle.vx_rvg.specs.Groups.{WriteIs, core_with_write, write_refusal}
 use Rattle.vx_rvg.specs.Holdings.{Holding, with_writes}
 use Rattle.vx_rvg.specs.Stands.{Stands, Writing}
 use Rattle.vx_rvg.specs.Views.{Core, IsSound, last_of, unit_of}
 use Rattle.vx_rvg.proofs.WriteLog.{cause_from}
-use Rattle.vx_secondary.specs.Logging.{Grows, SameGroup, Logging, Step, Logs, Ends}
+use Rattle.vx_secondary.specs.Logging.{Grows, SameGroup, Logging, Step, LogsAll, EndsLogging}
 use Rattle.vx_secondary.specs.Receivers.{can_log}
 use Rattle.vx_secondary.proofs.Rooms.{failed_ends, failed_same}
 use Rattle.vx_secondary.proofs.Steps.{found_same, same_self, step_of}
@@ -79,7 +79,7 @@ module _ (c c' : Core) (vol start : ℕ) (bytes : List ℕ) (m m' : Meaning) (si
       step_of (x ∷ []) c c' (Run c.units.srl 0 (c.log.ring + 2)) (Writing c (x ∷ []) m) m m' same moves (λ u b run. record { here = inl run })
       (λ i writing. writing_logging c (x ∷ []) (c'.log.header.stamp + 1) m i (omega (arith, same.stamp)) writing)
 
-  done_is : (r : Option No) (number : ℕ) → WriteIs r c vol start bytes m m' c' (Ok number) → (c' ≡ with_write c vol start bytes) × (IsTrue m'.down → ⊥)
+  done_is : (r : Option No) (number : ℕ) → WriteIs r c vol start bytes m m' c' (Ok number) → (c' ≡ core_with_write c vol start bytes) × (IsTrue m'.down → ⊥)
   done_is (Some w) number is = absurd (let e : Ok number ≡ Err w = is.0 in cc)
   done_is None number is = (is.1, is.2)
 
@@ -88,25 +88,25 @@ module _ (c c' : Core) (vol start : ℕ) (bytes : List ℕ) (m m' : Meaning) (si
   up_before true after falls up = absurd (up (falls refl))
 
   pub written_logs : (number : ℕ) → WriteIs why c vol start bytes m m' c' (Ok number) → IsSound c m → (IsTrue m.down → IsTrue m'.down)
-      → ((h : Holding) → Stands c h m → Stands c' (with_writes (x ∷ []) h) m') → Logs (x ∷ []) c c' m m'
+      → ((h : Holding) → Stands c h m → Stands c' (with_writes (x ∷ []) h) m') → LogsAll (x ∷ []) c c' m m'
   written_logs number is sound falls stands =
       let done = done_is why number is in
       let idle : c.log.staged ≡ [] = sound.idle running (up_before m.down m'.down falls done.1) in
       record {
         last = ap (λ (k : Core). last_of k) done.0
-            ∙ omega (arith, some, ap (λ (ks : List Kept). length ks) idle, length-append c.log.held (c.log.staged ++ kept_of c.log vol start bytes ∷ []), length-append c.log.staged (kept_of c.log vol start bytes ∷ []));
+            ∙ omega (arith, some, ap (λ (ks : List Kept). length ks) idle, length-append c.log.held (c.log.staged ++ kept_record c.log vol start bytes ∷ []), length-append c.log.staged (kept_record c.log vol start bytes ∷ []));
         running = ap (λ (k : Core). k.halted) done.0 ∙ running;
         holds = λ h s. (with_writes (x ∷ []) h, (grows_with (x ∷ []) h, stands h s));
       }
 
-  ends_by : (b : Bool) (w : No) → leb most_number (last_of c) ≡ b → WriteIs (if b then Some (Limit Number most_number) else None) c vol start bytes m m' c' (Err w) → Ends 0 c c' m m' w
+  ends_by : (b : Bool) (w : No) → leb most_number (last_of c) ≡ b → WriteIs (if b then Some (Limit Number most_number) else None) c vol start bytes m m' c' (Err w) → EndsLogging 0 c c' m m' w
   ends_by true w past is =
       let named : w ≡ Limit Number MOST_NUMBER = (let e : Err w ≡ Err (Limit Number most_number) = is.0 in cc) in
       let le : most_number ≤ last_of c = grind (arith, nat_tests) in
-      subst (λ (k : Core). Ends 0 c k m m' w) (sym is.1) (subst (λ (n : No). Ends 0 c c m m' n) (sym named) (omega arith, (refl, (running, inr le))))
+      subst (λ (k : Core). EndsLogging 0 c k m m' w) (sym is.1) (subst (λ (n : No). EndsLogging 0 c c m m' n) (sym named) (omega arith, (refl, (running, inr le))))
   ends_by false w past is = failed_ends c c' m m' w is
 
-  pub written_ends : (w : No) → WriteIs why c vol start bytes m m' c' (Err w) → Ends 0 c c' m m' w
+  pub written_ends : (w : No) → WriteIs why c vol start bytes m m' c' (Err w) → EndsLogging 0 c c' m m' w
   written_ends w is =
       ends_by (leb most_number (last_of c)) w refl
       (subst (λ (r : Option No). WriteIs r c vol start bytes m m' c' (Err w)) (refusal_is c size start (blocks_in bytes) running fits within) is)
@@ -114,7 +114,7 @@ module _ (c c' : Core) (vol start : ℕ) (bytes : List ℕ) (m m' : Meaning) (si
 -- ---- what stopped a later call
 
 pub ends_later : (n k : ℕ) (c d e : Core) (m mid m' : Meaning) (why : No) → last_of d ≡ last_of c + n → ((disk : ℕ) → m.disk_faults disk ≤ mid.disk_faults disk)
-    → Ends k d e mid m' why → Ends (n + k) c e m m' why
+    → EndsLogging k d e mid m' why → EndsLogging (n + k) c e m m' why
 ends_later n k c d e m mid m' (Device disk) last counts ends = (omega (arith, last, ends.0), (ends.1.0, cause_from m mid m' (Device disk) counts ends.1.1))
 ends_later n k c d e m mid m' Down last counts ends = (omega (arith, last, ends.0), cause_from m mid m' Down counts ends.1)
 ends_later n k c d e m mid m' (Limit what most) last counts ends = (omega (arith, last, ends.0), ends.1)

@@ -16,7 +16,7 @@ abbrev pub action_of : Core → List Update → Update → RAction
 action_of c us u = (received_step (receiver_of c us) (HearUpdate u.line u.number)).action
 
 -- the rule takes it: it is the next one of the group's line, and has room to wait
-pub record Takes (c : Core) (us : List Update) (u : Update) (ack : ℕ) : Type 0 where
+pub record TakesNext (c : Core) (us : List Update) (u : Update) (ack : ℕ) : Type 0 where
   pub line : u.line ≡ c.log.header.state.line
   pub next : u.number ≡ last_of c + length us + 1
   pub room : length us < MOST_WAITING

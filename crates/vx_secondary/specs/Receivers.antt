@@ -7,11 +7,11 @@ use Rattle.vx_history.specs.declared.receiver.RState.{RState}
 use Rattle.vx_rvg.specs.Views.{Core, last_of, unit_of}
 
 -- the write of an update
-abbrev pub write_of : Update → Write
-write_of u = record { volume = u.vol; start = u.block; bytes = u.bytes }
+abbrev pub write_of_update : Update → Write
+write_of_update u = record { volume = u.vol; start = u.block; bytes = u.bytes }
 
-abbrev pub writes_of : List Update → List Write
-writes_of us = map write_of us
+abbrev pub writes_of_updates : List Update → List Write
+writes_of_updates us = map write_of_update us
 
 -- the group as the rule of receivers sees it, behind which these updates wait
 abbrev pub receiver_of : Core → List Update → RState

@@ -4,8 +4,8 @@ ghost use Rattle.vx_history.specs.Receiving.{received_step};
 ghost use Rattle.vx_history.specs.declared.receiver.REvent.TheVariants.{Applied as HearApplied};
 ghost use Rattle.vx_model.specs.declared.no.No.TheVariants.{Halted};
 ghost use Rattle.vx_rvg.specs.Views.{last_of};
-ghost use Rattle.vx_secondary.specs.Logging.{EndsAfter, Logs, Step};
-ghost use Rattle.vx_secondary.specs.Receivers.{Wait, receiver_of, writes_of};
+ghost use Rattle.vx_secondary.specs.Logging.{EndsAfter, LogsAll, Step};
+ghost use Rattle.vx_secondary.specs.Receivers.{Wait, receiver_of, writes_of_updates};
 
 use crate::logging::log_oldest;
 use crate::rule::action_of;
@@ -21,8 +21,8 @@ fn log_and_apply<S: Shelf>(rvg: &mut Rvg<S>, waiting: &mut Waiting, count: u32) 
     requires running { rvg.old.core.halted ≡ None }
     requires waits { Wait rvg.old.core (S.meaning rvg.old.shelf).size waiting.old }
     requires some { count ≤ length waiting.old }
-    ensures step { Step (writes_of (take count waiting.old)) rvg.old.core rvg.new.core (S.meaning rvg.old.shelf) (S.meaning rvg.new.shelf) }
-    ensures logs { OnOk result (Logs (writes_of (take count waiting.old)) rvg.old.core rvg.new.core (S.meaning rvg.old.shelf) (S.meaning rvg.new.shelf)) }
+    ensures step { Step (writes_of_updates (take count waiting.old)) rvg.old.core rvg.new.core (S.meaning rvg.old.shelf) (S.meaning rvg.new.shelf) }
+    ensures logs { OnOk result (LogsAll (writes_of_updates (take count waiting.old)) rvg.old.core rvg.new.core (S.meaning rvg.old.shelf) (S.meaning rvg.new.shelf)) }
     ensures left { OnOk result (waiting.new ≡ drop count waiting.old) }
     ensures applied { OnOk result (last_of rvg.new.core ≤ rvg.new.core.applied) }
     ensures ends { IfErr result (EndsAfter count waiting.old waiting.new rvg.old.core rvg.new.core (S.meaning rvg.old.shelf) (S.meaning rvg.new.shelf)) }
@@ -47,11 +47,11 @@ impl<S: Shelf> Secondary<S> {
         ensures halted { (disk : ℕ) → self.old.rvg.core.halted ≡ Some disk → (result ≡ Err (Halted disk)) × (self.new.rvg ≡ self.old.rvg) × (self.new.waiting ≡ self.old.waiting) }
         ensures action { IfOk result (λ a. a ≡ (received_step (receiver_of self.old.rvg.core self.old.waiting) (HearApplied count)).action) }
         ensures left { OnOk result (self.new.waiting ≡ drop count self.old.waiting) }
-        ensures logs { OnOk result (Logs (writes_of (take count self.old.waiting)) self.old.rvg.core self.new.rvg.core (S.meaning self.old.rvg.shelf) (S.meaning self.new.rvg.shelf)) }
+        ensures logs { OnOk result (LogsAll (writes_of_updates (take count self.old.waiting)) self.old.rvg.core self.new.rvg.core (S.meaning self.old.rvg.shelf) (S.meaning self.new.rvg.shelf)) }
         ensures applied { OnOk result (0 < count → 0 < length self.old.waiting → last_of self.new.rvg.core ≤ self.new.rvg.core.applied) }
         ensures ends { self.old.rvg.core.halted ≡ None
             → IfErr result (EndsAfter count self.old.waiting self.new.waiting self.old.rvg.core self.new.rvg.core (S.meaning self.old.rvg.shelf) (S.meaning self.new.rvg.shelf)) }
-        ensures step { Step (writes_of (take count self.old.waiting)) self.old.rvg.core self.new.rvg.core (S.meaning self.old.rvg.shelf) (S.meaning self.new.rvg.shelf) }
+        ensures step { Step (writes_of_updates (take count self.old.waiting)) self.old.rvg.core self.new.rvg.core (S.meaning self.old.rvg.shelf) (S.meaning self.new.rvg.shelf) }
         ensures nothing { drop count self.old.waiting ≡ self.old.waiting → self.new.rvg ≡ self.old.rvg }
     {
         if let Some(disk) = self.rvg.halted() {

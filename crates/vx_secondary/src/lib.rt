@@ -11,8 +11,6 @@ mod room;
 mod rule;
 mod secondary;
 mod show;
-#[cfg(test)]
-mod tests;
 mod waiting;
 
 pub use secondary::Secondary;

@@ -1,7 +1,7 @@
 // The logging of updates that wait.
 ghost use Rattle.std.specs.Prelude.{◌≡◌, ◌+◌, ◌<◌, ◌≤◌, ℕ, [], ◌∷◌, None, OnOk, IfErr, drop, length, take, true};
-ghost use Rattle.vx_secondary.specs.Logging.{Ends, EndsAfter, Logs, Step};
-ghost use Rattle.vx_secondary.specs.Receivers.{Wait, can_log, write_of, writes_of};
+ghost use Rattle.vx_secondary.specs.Logging.{EndsLogging, EndsAfter, LogsAll, Step};
+ghost use Rattle.vx_secondary.specs.Receivers.{Wait, can_log, write_of_update, writes_of_updates};
 
 use crate::Waiting;
 use crate::room::make_room;
@@ -14,9 +14,9 @@ use vx_rvg::Rvg;
 fn log_one<S: Shelf>(rvg: &mut Rvg<S>, update: &Update) -> Result<(), No>
     requires running { rvg.old.core.halted ≡ None }
     requires fits { can_log rvg.old.core (S.meaning rvg.old.shelf).size update.now ≡ true }
-    ensures step { Step (write_of update.now ∷ []) rvg.old.core rvg.new.core (S.meaning rvg.old.shelf) (S.meaning rvg.new.shelf) }
-    ensures logs { OnOk result (Logs (write_of update.now ∷ []) rvg.old.core rvg.new.core (S.meaning rvg.old.shelf) (S.meaning rvg.new.shelf)) }
-    ensures ends { IfErr result (Ends 0 rvg.old.core rvg.new.core (S.meaning rvg.old.shelf) (S.meaning rvg.new.shelf)) }
+    ensures step { Step (write_of_update update.now ∷ []) rvg.old.core rvg.new.core (S.meaning rvg.old.shelf) (S.meaning rvg.new.shelf) }
+    ensures logs { OnOk result (LogsAll (write_of_update update.now ∷ []) rvg.old.core rvg.new.core (S.meaning rvg.old.shelf) (S.meaning rvg.new.shelf)) }
+    ensures ends { IfErr result (EndsLogging 0 rvg.old.core rvg.new.core (S.meaning rvg.old.shelf) (S.meaning rvg.new.shelf)) }
 {
     let bytes = update.bytes.as_bytes();
     make_room(rvg, (bytes.len() / BLOCK) as u64)?;
@@ -35,8 +35,8 @@ pub(crate) fn log_oldest<S: Shelf>(
     requires running { rvg.old.core.halted ≡ None }
     requires waits { Wait rvg.old.core (S.meaning rvg.old.shelf).size waiting.old }
     requires some { count ≤ length waiting.old }
-    ensures step { Step (writes_of (take count waiting.old)) rvg.old.core rvg.new.core (S.meaning rvg.old.shelf) (S.meaning rvg.new.shelf) }
-    ensures logs { OnOk result (Logs (writes_of (take count waiting.old)) rvg.old.core rvg.new.core (S.meaning rvg.old.shelf) (S.meaning rvg.new.shelf)) }
+    ensures step { Step (writes_of_updates (take count waiting.old)) rvg.old.core rvg.new.core (S.meaning rvg.old.shelf) (S.meaning rvg.new.shelf) }
+    ensures logs { OnOk result (LogsAll (writes_of_updates (take count waiting.old)) rvg.old.core rvg.new.core (S.meaning rvg.old.shelf) (S.meaning rvg.new.shelf)) }
     ensures left { OnOk result (waiting.new ≡ drop count waiting.old) }
     ensures ends { IfErr result (EndsAfter count waiting.old waiting.new rvg.old.core rvg.new.core (S.meaning rvg.old.shelf) (S.meaning rvg.new.shelf)) }
     ensures waits { Wait rvg.new.core (S.meaning rvg.new.shelf).size waiting.new }

@@ -2,16 +2,16 @@
 ghost use Rattle.std.specs.Prelude.{◌≡◌, ◌+◌, ◌-◌, ◌<◌, ◌^◌, Some, None, if◌then◌else◌, length};
 ghost use Rattle.vx_model.specs.Content.{blocks_in, touches, fold_writes, Content};
 ghost use Rattle.vx_ringio.specs.Bodies.{IsBlocks};
-ghost use Rattle.vx_rvg.specs.Contents.{Shows};
+ghost use Rattle.vx_rvg.specs.Contents.{ShowsContent};
 ghost use Rattle.vx_secondary.specs.Overs.{AreWithin, IsPutOver};
-ghost use Rattle.vx_secondary.specs.Receivers.{write_of, writes_of};
+ghost use Rattle.vx_secondary.specs.Receivers.{write_of_update, writes_of_updates};
 
 use crate::Waiting;
 use vx_model::Update;
 
 // Which block of an update's write a block of a volume is, if any.
 fn touched(update: &Update, vol: u32, block: u64) -> Option<usize>
-    ensures { result ≡ (if touches (write_of update.now) vol block then Some (block - update.now.block) else None) }
+    ensures { result ≡ (if touches (write_of_update update.now) vol block then Some (block - update.now.block) else None) }
 {
     if update.vol != vol || block < update.block {
         return None;
@@ -28,7 +28,7 @@ fn touched(update: &Update, vol: u32, block: u64) -> Option<usize>
 fn put_over(update: &Update, vol: u32, start: u64, into: &mut [u8])
     requires blocks { IsBlocks into.old }
     requires end { start + blocks_in into.old < 2 ^ 64 }
-    ensures { IsPutOver (write_of update.now) vol start into.old into.new }
+    ensures { IsPutOver (write_of_update update.now) vol start into.old into.new }
 {
     let bytes = update.bytes.as_bytes();
     for k in 0..into.len() / 512 {
@@ -42,8 +42,8 @@ fn put_over(update: &Update, vol: u32, start: u64, into: &mut [u8])
 pub(crate) fn put_waiting(waiting: &Waiting, vol: u32, start: u64, into: &mut [u8])
     requires blocks { IsBlocks into.old }
     requires end { start + blocks_in into.old < 2 ^ 64 }
-    ensures { (c : Content) → AreWithin c (writes_of waiting.now) → Shows c vol start (blocks_in into.old) into.old
-        → Shows (fold_writes c (writes_of waiting.now)) vol start (blocks_in into.old) into.new }
+    ensures { (c : Content) → AreWithin c (writes_of_updates waiting.now) → ShowsContent c vol start (blocks_in into.old) into.old
+        → ShowsContent (fold_writes c (writes_of_updates waiting.now)) vol start (blocks_in into.old) into.new }
 {
     for place in 0..waiting.len() {
         let Some(update) = waiting.get(place) else {

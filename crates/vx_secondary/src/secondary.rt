@@ -3,7 +3,7 @@ ghost use Rattle.std.specs.Prelude.{◌≡◌, [], Some, None, Ok, Err, ℕ, IfE
 ghost use Rattle.vx_history.specs.Receiving.{received_step};
 ghost use Rattle.vx_history.specs.declared.receiver.REvent.TheVariants.{Update as HearUpdate};
 ghost use Rattle.vx_model.specs.declared.no.No.TheVariants.{Halted};
-ghost use Rattle.vx_secondary.specs.Answers.{KeepIs, TakeIs, Takes};
+ghost use Rattle.vx_secondary.specs.Answers.{KeepIs, TakeIs, TakesNext};
 ghost use Rattle.vx_secondary.specs.Receivers.{Wait, receiver_of};
 
 use crate::Waiting;
@@ -71,7 +71,7 @@ impl<S: Shelf> Secondary<S> {
 
     // An update that the rule takes waits, if the group can log it.
     fn keep(&mut self, update: &Update, ack: u64) -> Result<RAction, No>
-        requires takes { Takes self.old.rvg.core self.old.waiting update.now ack }
+        requires takes { TakesNext self.old.rvg.core self.old.waiting update.now ack }
         ensures keeps { KeepIs self.old.rvg.core (S.meaning self.old.rvg.shelf).size self.old.waiting update.now ack result self.new.waiting }
         ensures group { self.new.rvg ≡ self.old.rvg }
     {

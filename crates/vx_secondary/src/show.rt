@@ -5,12 +5,12 @@ ghost use Rattle.vx_disk.specs.Disks.{Untouched};
 ghost use Rattle.vx_disk.specs.Shelf.{Goes, Nothing};
 ghost use Rattle.vx_model.specs.Content.{blocks_in, fold_writes};
 ghost use Rattle.vx_ringio.specs.Bodies.{IsBlocks};
-ghost use Rattle.vx_rvg.specs.Contents.{Shows};
+ghost use Rattle.vx_rvg.specs.Contents.{ShowsContent};
 ghost use Rattle.vx_rvg.specs.Groups.{ReadIs, read_refusal};
 ghost use Rattle.vx_rvg.specs.Holdings.{Holding};
 ghost use Rattle.vx_rvg.specs.Stands.{Stands};
 ghost use Rattle.vx_rvg.specs.Views.{unit_of};
-ghost use Rattle.vx_secondary.specs.Receivers.{writes_of};
+ghost use Rattle.vx_secondary.specs.Receivers.{writes_of_updates};
 
 use crate::Secondary;
 use crate::over::put_waiting;
@@ -28,7 +28,7 @@ impl<S: Shelf> Secondary<S> {
         ensures answers { ReadIs (read_refusal self.old.rvg.core ((S.meaning self.old.rvg.shelf).size (unit_of self.old.rvg.core.units.vols vol)) start (blocks_in into.old))
             (S.meaning self.old.rvg.shelf) (S.meaning self.new.rvg.shelf) result }
         ensures gives { OnOk result ((h : Holding) → Stands self.old.rvg.core h (S.meaning self.old.rvg.shelf) → IsTrue (S.meaning self.old.rvg.shelf).tells
-            → Shows (fold_writes h.content (writes_of self.old.waiting)) vol start (blocks_in into.old) into.new) }
+            → ShowsContent (fold_writes h.content (writes_of_updates self.old.waiting)) vol start (blocks_in into.old) into.new) }
         ensures unchanged { IsSome (read_refusal self.old.rvg.core ((S.meaning self.old.rvg.shelf).size (unit_of self.old.rvg.core.units.vols vol)) start (blocks_in into.old))
             → self.new.rvg.shelf ≡ self.old.rvg.shelf }
         ensures stands { (h : Holding) → Stands self.old.rvg.core h (S.meaning self.old.rvg.shelf) → IsFalse (S.meaning self.new.rvg.shelf).down

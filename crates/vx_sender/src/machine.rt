@@ -1,6 +1,6 @@
 // What the events of a link make of it.
 ghost use Rattle.std.specs.Prelude.{◌≡◌};
-ghost use Rattle.vx_history.specs.Admission.{is_live as live};
+ghost use Rattle.vx_history.specs.Admission.{is_live_link as live};
 ghost use Rattle.vx_history.specs.Sending.{sent_step, pumped, ticked, restarted, mode_restarted};
 
 use crate::messages::{goes_by_log, hear_data_ack, hear_hello, hear_net_ack};

@@ -56,27 +56,17 @@ fn a_new_session_forgets_memory(rt: HostRuntime) {
         session: 1,
         number: 1,
     };
+    let later_ack = SEvent::NetAck {
+        session: 2,
+        number: 1,
+    };
+    let sent = Action::Updates { from: 1, to: 1 };
     for (event, wanted, after) in [
-        (
-            SEvent::Pump,
-            Action::Updates { from: 1, to: 1 },
-            (1, 0, 0, 1),
-        ),
+        (SEvent::Pump, sent, (1, 0, 0, 1)),
         (hello, Action::Taken, (2, 0, 0, 0)),
         (ack, Action::Ignored, (2, 0, 0, 0)),
-        (
-            SEvent::Pump,
-            Action::Updates { from: 1, to: 1 },
-            (2, 0, 0, 1),
-        ),
-        (
-            SEvent::NetAck {
-                session: 2,
-                number: 1,
-            },
-            Action::Taken,
-            (2, 1, 0, 1),
-        ),
+        (SEvent::Pump, sent, (2, 0, 0, 1)),
+        (later_ack, Action::Taken, (2, 1, 0, 1)),
         (SEvent::DataAck { number: 1 }, Action::Taken, (2, 1, 1, 1)),
         (SEvent::DataAck { number: 1 }, Action::Ignored, (2, 1, 1, 1)),
     ] {
@@ -139,62 +129,54 @@ fn a_restart_keeps_what_is_stored(rt: HostRuntime) {
     }
 }
 
-// A hello in each mode: the mode, the hello's session and number, what is answered, and what the link then is.
+// What a hello in this mode is answered by, and what the link then is.
+fn greeted(mode: Mode, session: u64, number: u64) -> (Action, (u64, u64, u64, u64), Mode) {
+    let mut link = link(mode);
+    link.net = 5;
+    link.stored = 3;
+    link.sent = 7;
+    let hello = SEvent::Hello {
+        session,
+        number,
+        stored: 4,
+    };
+    let action = step(&mut link, &hello, &facts(9));
+    (action, numbers(&link), link.mode)
+}
+
+// A hello where the writes go by the log, of this session, of a later one that has more or less, and of an earlier one.
 #[test]
-fn hellos_by_mode(rt: HostRuntime) {
-    for (mode, session, number, wanted, after, mode_after) in [
-        (Mode::Log, 1, 9, Action::Taken, (1, 9, 4, 7), Mode::Log),
-        (Mode::Log, 2, 9, Action::Taken, (2, 9, 4, 9), Mode::Log),
-        (Mode::Log, 2, 1, Action::Taken, (2, 4, 4, 4), Mode::Log),
-        (Mode::Log, 0, 9, Action::Ignored, (1, 5, 3, 7), Mode::Log),
-        (Mode::Dcm, 1, 9, Action::Taken, (1, 5, 3, 7), Mode::Dcm),
-        (Mode::Dcm, 2, 9, Action::Taken, (2, 3, 3, 7), Mode::Dcm),
-        (
-            replay(Phase::Start),
-            1,
-            6,
-            Action::Taken,
-            (1, 5, 3, 7),
-            replay(Phase::Start),
-        ),
-        (
-            replay(Phase::Start),
-            1,
-            7,
-            Action::Taken,
-            (1, 5, 3, 7),
-            Mode::Dcm,
-        ),
-        (
-            replay(Phase::Regions),
-            2,
-            7,
-            Action::Taken,
-            (2, 3, 3, 7),
-            replay(Phase::Regions),
-        ),
-        (
-            replay(Phase::Log),
-            1,
-            8,
-            Action::Taken,
-            (1, 8, 4, 7),
-            replay(Phase::Log),
-        ),
+fn hellos_by_the_log(rt: HostRuntime) {
+    for (session, number, wanted, after) in [
+        (1, 9, Action::Taken, (1, 9, 4, 7)),
+        (2, 9, Action::Taken, (2, 9, 4, 9)),
+        (2, 1, Action::Taken, (2, 4, 4, 4)),
+        (0, 9, Action::Ignored, (1, 5, 3, 7)),
     ] {
-        let mut link = link(mode);
-        link.net = 5;
-        link.stored = 3;
-        link.sent = 7;
-        let hello = SEvent::Hello {
-            session,
-            number,
-            stored: 4,
-        };
-        let action = step(&mut link, &hello, &facts(9));
-        assert_eq!(rt; action, wanted);
-        assert_eq!(rt; numbers(&link), after);
-        assert_eq!(rt; link.mode, mode_after);
+        assert_eq!(rt;
+            greeted(Mode::Log, session, number),
+            (wanted, after, Mode::Log)
+        );
+    }
+    let log = replay(Phase::Log);
+    assert_eq!(rt; greeted(log, 1, 8), (Action::Taken, (1, 8, 4, 7), log));
+}
+
+// A hello where the writes go by the map: what is stored stays, and a replay that had not begun is given up where the number shows it.
+#[test]
+fn hellos_by_the_map(rt: HostRuntime) {
+    let (start, regions) = (replay(Phase::Start), replay(Phase::Regions));
+    for (mode, session, number, after, mode_after) in [
+        (Mode::Dcm, 1, 9, (1, 5, 3, 7), Mode::Dcm),
+        (Mode::Dcm, 2, 9, (2, 3, 3, 7), Mode::Dcm),
+        (start, 1, 6, (1, 5, 3, 7), start),
+        (start, 1, 7, (1, 5, 3, 7), Mode::Dcm),
+        (regions, 2, 7, (2, 3, 3, 7), regions),
+    ] {
+        assert_eq!(rt;
+            greeted(mode, session, number),
+            (Action::Taken, after, mode_after)
+        );
     }
 }
 

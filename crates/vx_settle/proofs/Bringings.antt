@@ -13,30 +13,30 @@ use Rattle.vx_turn.specs.declared.ask.Job.TheVariants.{Apply, Fetch, Acked, Wait
 use Rattle.vx_turn.specs.declared.ask.JobReply.{JobReply}
 use Rattle.vx_turn.specs.declared.ask.JobReply.TheVariants as job
 use Rattle.vx_turn.specs.declared.meaning.State.{State}
-use Rattle.vx_turn.specs.Acting.{Among, Acts, Rises, Rose, Caused, IsFault, IsHalt, IsBound}
+use Rattle.vx_turn.specs.Acting.{LiesAmong, EngineActs, Rises, CountRose, Caused, IsFault, IsHalt, IsBound}
 use Rattle.vx_turn.proofs.Histories.{rises-trans, rose-wider, among-split, nets-long}
 use Rattle.vx_settle.specs.declared.peer.Ack.{Ack}
 use Rattle.vx_settle.specs.declared.peer.Stand.{Stand}
-use Rattle.vx_settle.specs.Peers.{LiesIn, Goes, Hands, Finishes}
-use Rattle.vx_settle.specs.Bringing.{Events, IsJob, HasLink, Moves, Walks, NoLimit, NoGone, HasAcked, NoAck, AcksFit, Drains, Steps, Climbs, Brings}
+use Rattle.vx_settle.specs.Peers.{LiesIn, PeerGoes, Hands, Finishes}
+use Rattle.vx_settle.specs.Bringing.{Events, IsJob, HasLink, EngineMoves, Walks, NoLimit, NoGone, HasAcked, NoAck, AcksFit, Drains, Steps, Climbs, BringsPeer}
 
-pub among-left : {A : Type 0} (x : A) (xs ys : List A) → Among x xs → Among x (xs ++ ys)
+pub among-left : {A : Type 0} (x : A) (xs ys : List A) → LiesAmong x xs → LiesAmong x (xs ++ ys)
 among-left x [] ys a = absurd (cc a.1)
 among-left x (z ∷ zs) ys (zero, e) = (0, e)
 among-left x (z ∷ zs) ys (suc i, e) = let r = among-left x zs ys (i, e) in (suc r.0, r.1)
 
-pub among-right : {A : Type 0} (x : A) (xs ys : List A) → Among x ys → Among x (xs ++ ys)
+pub among-right : {A : Type 0} (x : A) (xs ys : List A) → LiesAmong x ys → LiesAmong x (xs ++ ys)
 among-right x [] ys a = a
 among-right x (z ∷ zs) ys a = let r = among-right x zs ys a in (suc r.0, r.1)
 
-pub among-one : {A : Type 0} (x y : A) → Among x (y ∷ []) → y ≡ x
+pub among-one : {A : Type 0} (x y : A) → LiesAmong x (y ∷ []) → y ≡ x
 among-one x y (zero, e) = cc e
 among-one x y (suc i, e) = absurd (cc e)
 
-pub job-is : (j : Job) (r : JobReply) (into : Update) (ask : Ask) (other : Said) → Among {A = Ask × Said} (ask, other) ((Charged j, Worked r into) ∷ []) → IsJob ask other
+pub job-is : (j : Job) (r : JobReply) (into : Update) (ask : Ask) (other : Said) → LiesAmong {A = Ask × Said} (ask, other) ((Charged j, Worked r into) ∷ []) → IsJob ask other
 job-is j r into ask other m = let e : (Charged j, Worked r into) ≡ (ask, other) = among-one {A = Ask × Said} (ask, other) (Charged j, Worked r into) m in subst (λ (x : Ask × Said). IsJob x.0 x.1) e tt
 
-abbrev pub job-moves : (s : State) (j : Job) (r : JobReply) (into : Update) (t : State) → Acts s (Charged j) (Worked r into) t → Moves s t
+abbrev pub job-moves : (s : State) (j : Job) (r : JobReply) (into : Update) (t : State) → EngineActs s (Charged j) (Worked r into) t → EngineMoves s t
 job-moves s j r into t a = record {
   more = (Charged j, Worked r into) ∷ [];
   trail = a.trail_is;
@@ -48,23 +48,23 @@ job-moves s j r into t a = record {
   ring = a.ring_is;
   head = a.head_is;
   links = nets-long (Charged j) s.nets t.nets a.nets;
-  keeps = λ u k. ⊎_elim (λ (x : Among u s.kept). x) (λ (x : ⊥). absurd x) (a.keeps u k);
+  keeps = λ u k. ⊎_elim (λ (x : LiesAmong u s.kept). x) (λ (x : ⊥). absurd x) (a.keeps u k);
 }
 
-abbrev pub moves-none : (s : State) → Moves s s
+abbrev pub moves-none : (s : State) → EngineMoves s s
 moves-none s = record { more = []; trail = sym (append-nil s.trail); jobs = λ ask said m. absurd (cc m.1); rises = (omega arith, omega arith); halts = λ h. inl h; line = refl; volumes = refl; ring = refl; head = refl; links = refl; keeps = λ u k. k }
 
-pub halts-then : (s t u : State) → (t.halted ≡ true → (s.halted ≡ true) ⊎ Rose s.counts.faults t.counts.faults) → (u.halted ≡ true → (t.halted ≡ true) ⊎ Rose t.counts.faults u.counts.faults)
-    → s.counts.faults ≤ t.counts.faults → t.counts.faults ≤ u.counts.faults → u.halted ≡ true → (s.halted ≡ true) ⊎ Rose s.counts.faults u.counts.faults
+pub halts-then : (s t u : State) → (t.halted ≡ true → (s.halted ≡ true) ⊎ CountRose s.counts.faults t.counts.faults) → (u.halted ≡ true → (t.halted ≡ true) ⊎ CountRose t.counts.faults u.counts.faults)
+    → s.counts.faults ≤ t.counts.faults → t.counts.faults ≤ u.counts.faults → u.halted ≡ true → (s.halted ≡ true) ⊎ CountRose s.counts.faults u.counts.faults
 halts-then s t u p q low high h = ⊎_elim (λ (x : t.halted ≡ true). ⊎_elim (λ (y : s.halted ≡ true). inl y)
-    (λ (y : Rose s.counts.faults t.counts.faults). inr (rose-wider s.counts.faults s.counts.faults t.counts.faults u.counts.faults (omega arith) high y)) (p x))
-    (λ (x : Rose t.counts.faults u.counts.faults). inr (rose-wider s.counts.faults t.counts.faults u.counts.faults u.counts.faults low (omega arith) x)) (q h)
+    (λ (y : CountRose s.counts.faults t.counts.faults). inr (rose-wider s.counts.faults s.counts.faults t.counts.faults u.counts.faults (omega arith) high y)) (p x))
+    (λ (x : CountRose t.counts.faults u.counts.faults). inr (rose-wider s.counts.faults t.counts.faults u.counts.faults u.counts.faults low (omega arith) x)) (q h)
 
-abbrev pub moves-then : (s t u : State) → Moves s t → Moves t u → Moves s u
+abbrev pub moves-then : (s t u : State) → EngineMoves s t → EngineMoves t u → EngineMoves s u
 moves-then s t u a b = record {
   more = a.more ++ b.more;
   trail = b.trail ∙ (ap (λ l. l ++ b.more) a.trail ∙ append_assoc s.trail a.more b.more);
-  jobs = λ ask said m. ⊎_elim (λ (x : Among (ask, said) a.more). a.jobs ask said x) (λ (x : Among (ask, said) b.more). b.jobs ask said x) (among-split (ask, said) a.more b.more m);
+  jobs = λ ask said m. ⊎_elim (λ (x : LiesAmong (ask, said) a.more). a.jobs ask said x) (λ (x : LiesAmong (ask, said) b.more). b.jobs ask said x) (among-split (ask, said) a.more b.more m);
   rises = rises-trans s.counts t.counts u.counts a.rises b.rises;
   halts = halts-then s t u a.halts b.halts a.rises.0 b.rises.0;
   line = b.line ∙ a.line;
@@ -75,27 +75,27 @@ moves-then s t u a b = record {
   keeps = λ v k. a.keeps v (b.keeps v k);
 }
 
-pub goes-none : (p : Stand) → Goes p p
+pub goes-none : (p : Stand) → PeerGoes p p
 goes-none p = record { link = refl; line = refl; sizes = refl; faults = omega arith; net = omega arith; stored = omega arith }
 
-pub goes-then : (p q r : Stand) → Goes p q → Goes q r → Goes p r
+pub goes-then : (p q r : Stand) → PeerGoes p q → PeerGoes q r → PeerGoes p r
 goes-then p q r a b = record { link = b.link ∙ a.link; line = b.line ∙ a.line; sizes = b.sizes ∙ a.sizes; faults = omega (arith, a.faults, b.faults); net = omega (arith, a.net, b.net); stored = omega (arith, a.stored, b.stored) }
 
 pub walks-none : (kept : List Update) (p : Stand) → Walks kept p p
 walks-none kept p = record { goes = goes-none p; got = []; handed = sym (append-nil p.handed); from = λ u a. absurd (cc a.1) }
 
-pub walks-then : (kept less : List Update) (p q r : Stand) → ((u : Update) → Among u less → Among u kept) → Walks kept p q → Walks less q r → Walks kept p r
+pub walks-then : (kept less : List Update) (p q r : Stand) → ((u : Update) → LiesAmong u less → LiesAmong u kept) → Walks kept p q → Walks less q r → Walks kept p r
 walks-then kept less p q r sub a b = record {
   goes = goes-then p q r a.goes b.goes;
   got = a.got ++ b.got;
   handed = b.handed ∙ (ap (λ l. l ++ b.got) a.handed ∙ append_assoc p.handed a.got b.got);
-  from = λ u m. ⊎_elim (λ (x : Among u a.got). a.from u x) (λ (x : Among u b.got). sub u (b.from u x)) (among-split u a.got b.got m);
+  from = λ u m. ⊎_elim (λ (x : LiesAmong u a.got). a.from u x) (λ (x : LiesAmong u b.got). sub u (b.from u x)) (among-split u a.got b.got m);
 }
 
-pub hand-walks : (kept : List Update) (p q : Stand) (u : Update) (ack : Ack) → Among u kept → Hands p u ack q → Walks kept p q
+pub hand-walks : (kept : List Update) (p q : Stand) (u : Update) (ack : Ack) → LiesAmong u kept → Hands p u ack q → Walks kept p q
 hand-walks kept p q u ack m h = ⊎_elim
     (λ (same : q.handed ≡ p.handed). record { goes = h.goes; got = []; handed = same ∙ sym (append-nil p.handed); from = λ v a. absurd (cc a.1) })
-    (λ (more : (p.net < q.net) × (q.handed ≡ p.handed ++ u ∷ [])). record { goes = h.goes; got = u ∷ []; handed = more.1; from = λ v a. subst (λ x. Among x kept) (among-one v u a) m })
+    (λ (more : (p.net < q.net) × (q.handed ≡ p.handed ++ u ∷ [])). record { goes = h.goes; got = u ∷ []; handed = more.1; from = λ v a. subst (λ x. LiesAmong x kept) (among-one v u a) m })
     h.handed
 
 pub finish-walks : (kept : List Update) (p q : Stand) (ack : Ack) → Finishes p ack q → Walks kept p q
@@ -106,22 +106,22 @@ not-true : (b : Bool) → (b ≡ true → ⊥) → b ≡ false
 not-true true n = absurd (n refl)
 not-true false n = refl
 
-pub unrefused : (s t : State) (cause : No) → Caused s cause t → s.halted ≡ false → (Rose s.counts.faults t.counts.faults → ⊥) → (IsBound cause → ⊥) → ⊥
-unrefused s t cause c runs whole limit = ⊎_elim (λ (a : IsFault cause × Rose s.counts.faults t.counts.faults). whole a.1)
+pub unrefused : (s t : State) (cause : No) → Caused s cause t → s.halted ≡ false → (CountRose s.counts.faults t.counts.faults → ⊥) → (IsBound cause → ⊥) → ⊥
+unrefused s t cause c runs whole limit = ⊎_elim (λ (a : IsFault cause × CountRose s.counts.faults t.counts.faults). whole a.1)
     (λ (b : (IsHalt cause × (s.halted ≡ true)) ⊎ IsBound cause). ⊎_elim (λ (h : IsHalt cause × (s.halted ≡ true)). absurd (cc (h.1, runs))) (λ (d : IsBound cause). limit d) b) c
 
 -- the first part of a run without a rise has none, and neither has the last
-pub calm-first : (a b c : ℕ) → b ≤ c → (Rose a c → ⊥) → Rose a b → ⊥
+pub calm-first : (a b c : ℕ) → b ≤ c → (CountRose a c → ⊥) → CountRose a b → ⊥
 calm-first a b c le calm r = calm (rose-wider a a b c (omega arith) le r)
 
-pub calm-last : (a b c : ℕ) → a ≤ b → (Rose a c → ⊥) → Rose b c → ⊥
+pub calm-last : (a b c : ℕ) → a ≤ b → (CountRose a c → ⊥) → CountRose b c → ⊥
 calm-last a b c le calm r = calm (rose-wider a b c c le (omega arith) r)
 
-pub still-runs : (s t u : State) → Moves s t → s.halted ≡ false → t.counts.faults ≤ u.counts.faults → (Rose s.counts.faults u.counts.faults → ⊥) → t.halted ≡ false
-still-runs s t u a runs le calm = not-true t.halted (λ h. ⊎_elim (λ (z : s.halted ≡ true). absurd (cc (z, runs))) (λ (z : Rose s.counts.faults t.counts.faults). calm-first s.counts.faults t.counts.faults u.counts.faults le calm z) (a.halts h))
+pub still-runs : (s t u : State) → EngineMoves s t → s.halted ≡ false → t.counts.faults ≤ u.counts.faults → (CountRose s.counts.faults u.counts.faults → ⊥) → t.halted ≡ false
+still-runs s t u a runs le calm = not-true t.halted (λ h. ⊎_elim (λ (z : s.halted ≡ true). absurd (cc (z, runs))) (λ (z : CountRose s.counts.faults t.counts.faults). calm-first s.counts.faults t.counts.faults u.counts.faults le calm z) (a.halts h))
 
 -- the last part of a run drains where the run does
-pub drains-last : (s t u : State) (p q r : Stand) (a : Moves s t) (b : Moves t u) → Goes p q → Goes q r → Drains s p u r (a.more ++ b.more) → Drains t q u r b.more
+pub drains-last : (s t u : State) (p q r : Stand) (a : EngineMoves s t) (b : EngineMoves t u) → PeerGoes p q → PeerGoes q r → Drains s p u r (a.more ++ b.more) → Drains t q u r b.more
 drains-last s t u p q r a b x y d = record {
   runs = still-runs s t u a d.runs b.rises.0 d.whole;
   whole = calm-last s.counts.faults t.counts.faults u.counts.faults a.rises.0 d.whole;
@@ -138,15 +138,15 @@ fetch-quiet n said link net stored other m = let e : (Charged (Fetch n), said) �
     let k : Charged (Fetch n) ≡ Charged (Acked link net stored) = ap (λ (x : Ask × Said). x.0) e in absurd (cc k)
 
 quiet-both : (xs ys : Events) → NoAck xs → NoAck ys → NoAck (xs ++ ys)
-quiet-both xs ys a b link net stored said m = ⊎_elim (λ (x : Among (Charged (Acked link net stored), said) xs). a link net stored said x) (λ (x : Among (Charged (Acked link net stored), said) ys). b link net stored said x) (among-split (Charged (Acked link net stored), said) xs ys m)
+quiet-both xs ys a b link net stored said m = ⊎_elim (λ (x : LiesAmong (Charged (Acked link net stored), said) xs). a link net stored said x) (λ (x : LiesAmong (Charged (Acked link net stored), said) ys). b link net stored said x) (among-split (Charged (Acked link net stored), said) xs ys m)
 
-ack-one : (link net stored : ℕ) (said : Said) (l n m : ℕ) (other : Said) → Among {A = Ask × Said} (Charged (Acked l n m), other) ((Charged (Acked link net stored), said) ∷ []) → (l ≡ link) × (n ≡ net) × (m ≡ stored)
+ack-one : (link net stored : ℕ) (said : Said) (l n m : ℕ) (other : Said) → LiesAmong {A = Ask × Said} (Charged (Acked l n m), other) ((Charged (Acked link net stored), said) ∷ []) → (l ≡ link) × (n ≡ net) × (m ≡ stored)
 ack-one link net stored said l n m other at = let e : (Charged (Acked link net stored), said) ≡ (Charged (Acked l n m), other) = among-one (Charged (Acked l n m), other) (Charged (Acked link net stored), said) at in
     let k : Charged (Acked link net stored) ≡ Charged (Acked l n m) = ap (λ (x : Ask × Said). x.0) e in (cc k, cc k, cc k)
 
-pub step-some : (s t : State) (p q : Stand) (net : ℕ) (reply : JobReply) (into : Update) (ack : Ack) (m : ℕ) → net ≡ p.net → reply ≡ job.Done m → Acts s (Charged (Fetch (net + 1))) (Worked reply into) t
+pub step-some : (s t : State) (p q : Stand) (net : ℕ) (reply : JobReply) (into : Update) (ack : Ack) (m : ℕ) → net ≡ p.net → reply ≡ job.Done m → EngineActs s (Charged (Fetch (net + 1))) (Worked reply into) t
     → Hands p into ack q → net < ack.net → Steps s p (Some ack.net) t q
-step-some s t p q net reply into ack m at is a h more = let b : Acts s (Charged (Fetch (net + 1))) (Worked (job.Done m) into) t = subst (λ r. Acts s (Charged (Fetch (net + 1))) (Worked r into) t) is a in record {
+step-some s t p q net reply into ack m at is a h more = let b : EngineActs s (Charged (Fetch (net + 1))) (Worked (job.Done m) into) t = subst (λ r. EngineActs s (Charged (Fetch (net + 1))) (Worked r into) t) is a in record {
   moves = job-moves s (Fetch (net + 1)) reply into t a;
   walks = hand-walks s.kept p q into ack b.tells.3 h;
   some = (h.net, omega (arith, more, at));
@@ -154,9 +154,9 @@ step-some s t p q net reply into ack m at is a h more = let b : Acts s (Charged 
   quiet = fetch-quiet (net + 1) (Worked reply into);
 }
 
-pub step-stuck : (s t : State) (p q : Stand) (net : ℕ) (reply : JobReply) (into : Update) (ack : Ack) (m : ℕ) → net ≡ p.net → reply ≡ job.Done m → Acts s (Charged (Fetch (net + 1))) (Worked reply into) t
+pub step-stuck : (s t : State) (p q : Stand) (net : ℕ) (reply : JobReply) (into : Update) (ack : Ack) (m : ℕ) → net ≡ p.net → reply ≡ job.Done m → EngineActs s (Charged (Fetch (net + 1))) (Worked reply into) t
     → Hands p into ack q → ack.net ≤ net → Steps s p None t q
-step-stuck s t p q net reply into ack m at is a h less = let b : Acts s (Charged (Fetch (net + 1))) (Worked (job.Done m) into) t = subst (λ r. Acts s (Charged (Fetch (net + 1))) (Worked r into) t) is a in record {
+step-stuck s t p q net reply into ack m at is a h less = let b : EngineActs s (Charged (Fetch (net + 1))) (Worked (job.Done m) into) t = subst (λ r. EngineActs s (Charged (Fetch (net + 1))) (Worked r into) t) is a in record {
   moves = job-moves s (Fetch (net + 1)) reply into t a;
   walks = hand-walks s.kept p q into ack b.tells.3 h;
   some = tt;
@@ -164,7 +164,7 @@ step-stuck s t p q net reply into ack m at is a h less = let b : Acts s (Charged
   quiet = fetch-quiet (net + 1) (Worked reply into);
 }
 
-pub step-end : (s t : State) (p : Stand) (net head : ℕ) (reply : JobReply) (into : Update) → net ≡ p.net → head ≡ s.head → net < head → ((m : ℕ) → reply ≡ job.Done m → ⊥) → Acts s (Charged (Fetch (net + 1))) (Worked reply into) t
+pub step-end : (s t : State) (p : Stand) (net head : ℕ) (reply : JobReply) (into : Update) → net ≡ p.net → head ≡ s.head → net < head → ((m : ℕ) → reply ≡ job.Done m → ⊥) → EngineActs s (Charged (Fetch (net + 1))) (Worked reply into) t
     → Steps s p None t p
 step-end s t p net head reply into at top below not a = record {
   moves = job-moves s (Fetch (net + 1)) reply into t a;
@@ -174,7 +174,7 @@ step-end s t p net head reply into at top below not a = record {
   quiet = fetch-quiet (net + 1) (Worked reply into);
 }
   where
-    ends : (reply : JobReply) → ((m : ℕ) → reply ≡ job.Done m → ⊥) → Acts s (Charged (Fetch (net + 1))) (Worked reply into) t → Drains s p t p ((Charged (Fetch (net + 1)), Worked reply into) ∷ []) → ⊥
+    ends : (reply : JobReply) → ((m : ℕ) → reply ≡ job.Done m → ⊥) → EngineActs s (Charged (Fetch (net + 1))) (Worked reply into) t → Drains s p t p ((Charged (Fetch (net + 1)), Worked reply into) ∷ []) → ⊥
     ends (job.Done m) not a d = not m refl
     ends job.Nothing not a d = let n = a.tells in absurd (omega (arith, n, top, below))
     ends (job.Gone low) not a d = d.there low into (0, ap (λ n. Some (Charged (Fetch (n + 1)), Worked (job.Gone low) into)) at)
@@ -182,7 +182,7 @@ step-end s t p net head reply into at top below not a = record {
 
 -- the climb, up to here
 pub record Mid (s : State) (p : Stand) (t : State) (q : Stand) (net : ℕ) : Type 0 where
-  pub moves : Moves s t
+  pub moves : EngineMoves s t
   pub walks : Walks s.kept p q
   pub at : net ≡ q.net
   pub quiet : NoAck moves.more
@@ -216,12 +216,12 @@ mid-end s t p q net head top done a = record {
 
 -- one peer
 pub bring-done : (s t u : State) (p p1 p2 p3 : Stand) (first last : Ack) (link : ℕ) (reply : JobReply) (into : Update) → Finishes p first p1 → Climbs s p1 t p2 → Finishes p2 last p3 → link ≡ p3.link
-    → Acts t (Charged (Acked link last.net last.stored)) (Worked reply into) u → Brings s p u p3
+    → EngineActs t (Charged (Acked link last.net last.stored)) (Worked reply into) u → BringsPeer s p u p3
 bring-done s t u p p1 p2 p3 first last link reply into f c l is a = record {
   moves = moves-then s t u c.moves j;
   walks = walks-then s.kept s.kept p p1 p3 (λ v m. m) (finish-walks s.kept p p1 first f) (walks-then s.kept s.kept p1 p2 p3 (λ v m. m) c.walks (finish-walks s.kept p2 p3 last l));
   acked = λ d.
-      let goes : Goes p p2 = goes-then p p1 p2 f.goes c.walks.goes in
+      let goes : PeerGoes p p2 = goes-then p p1 p2 f.goes c.walks.goes in
       let d1 : Drains s p1 t p2 c.moves.more = record {
         runs = d.runs;
         whole = calm-first s.counts.faults t.counts.faults u.counts.faults j.rises.0 d.whole;
@@ -229,28 +229,28 @@ bring-done s t u p p1 p2 p3 first last link reply into f c l is a = record {
         line = f.goes.line ∙ d.line;
         sound = λ r. d.sound (rose-wider p.faults p1.faults p2.faults p3.faults f.goes.faults l.goes.faults r);
         within = λ v m. subst (λ n. LiesIn n v) (sym f.goes.sizes) (d.within v m);
-        there = λ low o m. d.there low o (among-left (Charged (Fetch (p3.net + 1)), Worked (job.Gone low) o) c.moves.more j.more (subst (λ n. Among (Charged (Fetch (n + 1)), Worked (job.Gone low) o) c.moves.more) (sym l.received) m));
+        there = λ low o m. d.there low o (among-left (Charged (Fetch (p3.net + 1)), Worked (job.Gone low) o) c.moves.more j.more (subst (λ n. LiesAmong (Charged (Fetch (n + 1)), Worked (job.Gone low) o) c.moves.more) (sym l.received) m));
       } in
       let top : s.head ≤ p2.net = c.reached d1 in
       let net : s.head ≤ last.net = (let x = l.net in let y = l.received in omega (arith, x, y, top)) in
       let all : p3.stored ≡ p3.net = l.all (λ r. d.sound (rose-wider p.faults p2.faults p3.faults p3.faults goes.faults (omega arith) r)) in
       let stored : s.head ≤ last.stored = (let x = l.stored in let y = l.received in omega (arith, x, all, y, top)) in
       let links : link ≡ p.link = is ∙ (l.goes.link ∙ goes.link) in
-      let calm : Rose t.counts.faults u.counts.faults → ⊥ = calm-last s.counts.faults t.counts.faults u.counts.faults c.moves.rises.0 d.whole in
+      let calm : CountRose t.counts.faults u.counts.faults → ⊥ = calm-last s.counts.faults t.counts.faults u.counts.faults c.moves.rises.0 d.whole in
       let runs : t.halted ≡ false = still-runs s t u c.moves d.runs j.rises.0 d.whole in
       let got = answered reply a runs calm (λ i cause o m. d.limit i cause o (among-right (Charged i, Worked (job.Refused cause) o) c.moves.more j.more m)) in
       let far = among-right (Charged (Acked link last.net last.stored), Worked (job.Done got.0) got.1) c.moves.more j.more got.2 in
       subst (λ x. HasAcked x s.head (c.moves.more ++ j.more)) links (last.net, last.stored, got.0, got.1, net, stored, far);
-  fits = λ i n m said at. ⊎_elim (λ (x : Among (Charged (Acked i n m), said) c.moves.more). absurd (c.quiet i n m said x))
-      (λ (x : Among (Charged (Acked i n m), said) j.more). let e = ack-one link last.net last.stored (Worked reply into) i n m said x in
+  fits = λ i n m said at. ⊎_elim (λ (x : LiesAmong (Charged (Acked i n m), said) c.moves.more). absurd (c.quiet i n m said x))
+      (λ (x : LiesAmong (Charged (Acked i n m), said) j.more). let e = ack-one link last.net last.stored (Worked reply into) i n m said x in
       (e.0 ∙ is, (let y = e.1 in let z = l.net in omega (arith, y, z)), (let y = e.2 in let z = l.stored in omega (arith, y, z)))) (among-split (Charged (Acked i n m), said) c.moves.more j.more at);
 }
   where
-    j : Moves t u
+    j : EngineMoves t u
     j = job-moves t (Acked link last.net last.stored) reply into u a
 
-    answered : (reply : JobReply) → Acts t (Charged (Acked link last.net last.stored)) (Worked reply into) u → t.halted ≡ false → (Rose t.counts.faults u.counts.faults → ⊥) → NoLimit ((Charged (Acked link last.net last.stored), Worked reply into) ∷ [])
-        → (n : ℕ) × (o : Update) × Among {A = Ask × Said} (Charged (Acked link last.net last.stored), Worked (job.Done n) o) ((Charged (Acked link last.net last.stored), Worked reply into) ∷ [])
+    answered : (reply : JobReply) → EngineActs t (Charged (Acked link last.net last.stored)) (Worked reply into) u → t.halted ≡ false → (CountRose t.counts.faults u.counts.faults → ⊥) → NoLimit ((Charged (Acked link last.net last.stored), Worked reply into) ∷ [])
+        → (n : ℕ) × (o : Update) × LiesAmong {A = Ask × Said} (Charged (Acked link last.net last.stored), Worked (job.Done n) o) ((Charged (Acked link last.net last.stored), Worked reply into) ∷ [])
     answered (job.Done n) a runs calm limit = (n, into, (0, refl))
     answered job.Nothing a runs calm limit = absurd a.tells
     answered (job.Gone low) a runs calm limit = absurd a.tells

@@ -1,6 +1,6 @@
 // One thread, an engine and its peers.
 ghost use Rattle.std.specs.Prelude.{◌≡◌, ◌≤◌, ◌<◌, ◌^◌, length};
-ghost use Rattle.vx_settle.specs.Bringing.{Steps, Climbs, Brings, BringsAll, AsksAgain, EndsBy, Once, Waits, HasLink, HaveLinks};
+ghost use Rattle.vx_settle.specs.Bringing.{Steps, Climbs, BringsPeer, BringsAll, AsksAgain, WaitEndsBy, Once, WaitsFor, HasLink, HaveLinks};
 
 use crate::peer::Peer;
 use vx_model::{Blocks, Call, Line, No, Reply, Update};
@@ -62,7 +62,7 @@ fn climb<E: Engine, P: Peer>(engine: &mut E, peer: &mut P, net: u64, head: u64, 
 /// Hands over what the peer lacks, lets it apply everything, and acknowledges what it has. Its link is one of the engine's.
 pub fn bring<E: Engine, P: Peer>(engine: &mut E, peer: &mut P)
     requires { HasLink (E.state engine.old) (P.stand peer.old) }
-    ensures brings { Brings (E.state engine.old) (P.stand peer.old) (E.state engine.new) (P.stand peer.new) }
+    ensures brings { BringsPeer (E.state engine.old) (P.stand peer.old) (E.state engine.new) (P.stand peer.new) }
     ensures roots { (E.root engine.new ≡ E.root engine.old) × (P.root peer.new ≡ P.root peer.old) }
 {
     let head = engine.head();
@@ -111,7 +111,7 @@ pub enum Ended {
 
 // How a refused wait ends.
 fn ended_by(cause: &No) -> Ended
-    ensures { EndsBy cause.now result }
+    ensures { WaitEndsBy cause.now result }
 {
     match cause {
         No::Unconfirmed { number: _ } => Ended::Unconfirmed,
@@ -136,7 +136,7 @@ fn wait_once<E: Engine>(engine: &mut E, number: u64) -> Ended
 /// Waits for a logged number, behind everything that the peers could be brought to take.
 pub fn wait_for<E: Engine, P: Peer>(engine: &mut E, peers: &mut [P], number: u64) -> Ended
     requires { HaveLinks P.stand (E.state engine.old) peers.old }
-    ensures waits { Waits P.stand P.root (E.state engine.old) peers.old number result (E.state engine.new) peers.new }
+    ensures waits { WaitsFor P.stand P.root (E.state engine.old) peers.old number result (E.state engine.new) peers.new }
     ensures root { E.root engine.new ≡ E.root engine.old }
 {
     bring_all(engine, peers);

@@ -7,6 +7,7 @@ use Rattle.vx_model.specs.declared.history.Line.{Line}
 use Rattle.vx_history.proofs.Updates.{at_place, eqb_apart, eqb_equal}
 use Rattle.vx_history.specs.Doubts.{After, Doubted, crashed_as, halved, resolved, resolved_at, taken_up}
 use Rattle.vx_history.specs.Events.{crash_at, kept_of, lost_touch, packet_at}
+use Rattle.vx_history.specs.Groups.{GroupNode}
 use Rattle.vx_history.specs.Gatherings.{emptied}
 use Rattle.vx_history.specs.Headers.{count_at, heard_headers}
 use Rattle.vx_history.specs.Likes.{IsLike, SameLink}
@@ -16,7 +17,7 @@ use Rattle.vx_history.specs.Stops.{IsFused}
 use Rattle.vx_history.specs.Steps.{burned, crash_left, crashed, stopped_by, worked_on}
 use Rattle.vx_history.specs.World.{Fuse, FuseLit, FuseSet, Gathering, History, Link, NoFuse, Node, Packet, Promise, World, no_link, updated, with_node}
 use Rattle.vx_history.specs.declared.event.Event.{Event}
-use Rattle.vx_history.specs.declared.event.Event.TheVariants.{Site, Raw, Write as WriteAt, Read, Apply, Pump, Tick, Deliver, Connect, Cut, Pause, Resume, Wait, Link as LinkSites, Set, Crash, Recover, Fault}
+use Rattle.vx_history.specs.declared.event.Event.TheVariants.{Site, Raw, Group, Write as WriteAt, Read, Apply, Pump, Tick, Deliver, Connect, Cut, Pause, Resume, Wait, Link as LinkSites, Set, Crash, Deport, Recover, Fault}
 use Rattle.vx_effects.proofs.Fitting.{fit_happened}
 use Rattle.vx_events.specs.LinkFinds.{pumped_with, target_with}
 use Rattle.vx_events.specs.LinksFit.{LinksFit}
@@ -125,9 +126,11 @@ module _ (fuses : ℕ → Fuse) (d : Doubted) (fit : LinksFit (noted_as fuses d)
         let pure = event_stays d.world e is in
         let fuse : (V.nodes i).fuse ≡ fuses i = ap (λ (n : Node). n.fuse) (stays.nodes i) in
         let fails : (V.nodes i).failing ≡ (U.nodes i).failing = ap (λ (n : Node). n.failing) (stays.nodes i) ∙ sym (ap (λ (n : Node). n.failing) (pure.nodes i)) in
+        let group : (V.nodes i).group ≡ (U.nodes i).group = ap (λ (n : Node). n.group) (stays.nodes i) ∙ sym (ap (λ (n : Node). n.group) (pure.nodes i)) in
         like.nodes i
-        ∙ ap (λ (f : Fuse). let n : Node = record (U.nodes i) { fuse = f; failing = (V.nodes i).failing } in n) fuse
-        ∙ ap (λ (f : ℕ → Bool). let n : Node = record (U.nodes i) { fuse = fuses i; failing = f } in n) fails
+        ∙ ap (λ (f : Fuse). let n : Node = record (U.nodes i) { fuse = f; failing = (V.nodes i).failing; group = (V.nodes i).group } in n) fuse
+        ∙ ap (λ (f : ℕ → Bool). let n : Node = record (U.nodes i) { fuse = fuses i; failing = f; group = (V.nodes i).group } in n) fails
+        ∙ ap (λ (g : Option GroupNode). let n : Node = record (U.nodes i) { fuse = fuses i; group = g } in n) group
 
   headers : (e : Event) → is_settling e ≡ true → (i : ℕ) → ((step (burnt_world fuses d.world) e).world).headers i ≡ ((step d.world e).world).headers i
   headers (Connect p s) is i = refl
@@ -139,6 +142,7 @@ module _ (fuses : ℕ → Fuse) (d : Doubted) (fit : LinksFit (noted_as fuses d)
       (heard_same d.world (outcome_of d.world (Deliver number)).world (outcome_of (burnt_world fuses d.world) (Deliver number)).world i (packet_at d.world.packets number) (links (Deliver number) refl))
   headers (Site name disks blocks) is i = absurd (cc)
   headers (Raw p) is i = absurd (cc)
+  headers (Group p) is i = absurd (cc)
   headers (WriteAt p volume start bytes fails) is i = absurd (cc)
   headers (Read p volume start count) is i = absurd (cc)
   headers (Cut p s) is i = absurd (cc)
@@ -148,6 +152,7 @@ module _ (fuses : ℕ → Fuse) (d : Doubted) (fit : LinksFit (noted_as fuses d)
   headers (LinkSites p s sync part) is i = absurd (cc)
   headers (Set p s sync) is i = absurd (cc)
   headers (Crash s kept) is i = absurd (cc)
+  headers (Deport s) is i = absurd (cc)
   headers (Recover s fails) is i = absurd (cc)
   headers (Fault s disk) is i = absurd (cc)
 

@@ -12,7 +12,7 @@ use Rattle.vx_model.specs.declared.no.No.{No}
 use Rattle.vx_model.specs.declared.no.No.TheVariants.{Down as NotUp, LinkDown, Paused, Role as WrongRole, Unknown}
 use Rattle.vx_model.specs.declared.no.SiteName.TheVariants.{Number as SiteNumber}
 use Rattle.vx_history.proofs.Updates.{by_test}
-use Rattle.vx_history.specs.Events.{acknowledged, applied, applied_by, apply_at, delivered, facts_of, gathered_if, greeting_back, handed, heard, is_taken, link_event, link_heard, link_step, packet_at, reached_at, said_of_link, taken_if, ticked_at, ticked_link, update_taken, with_write}
+use Rattle.vx_history.specs.Events.{acknowledged, applied, applied_by, apply_at, delivered, receiver_facts, gathered_if, greeting_back, handed, heard, is_taken, link_event, link_heard, link_step, packet_at, reached_at, said_of_link, taken_if, ticked_at, ticked_link, update_taken, with_write}
 use Rattle.vx_history.specs.Gatherings.{completes}
 use Rattle.vx_history.specs.Headers.{count_at, heard_headers}
 use Rattle.vx_history.specs.LinkForms.{plain_link, plain_receiver, with_plain}
@@ -84,7 +84,7 @@ module _ (Q : Packet → Type 0) (f t g p s : ℕ) (w : World) where
   connect_changes all =
       let v : World = link_event w p s ConnectLink in
       let qs : List Packet = greeting_back w p s in
-      let m : P v = event_touch ConnectLink (connect_goes (plain_link s link) (facts_of (w.nodes p) (w.nodes p).line)) tt in
+      let m : P v = event_touch ConnectLink (connect_goes (plain_link s link) (receiver_facts (w.nodes p) (w.nodes p).line)) tt in
       with_headers Q f t g p s w (outcome_of w (Connect p s)).world (λ i. 0) (λ i apart. refl)
       (link_by P w p s (done (sending v qs)) (touch_same Q f t g p s w)
       (record { site = site_sent Q f t g w v qs m.site all; link = record { rows = m.link.rows; links = m.link.links; link = m.link.link } }))
@@ -96,7 +96,7 @@ module _ (Q : Packet → Type 0) (f t g p s : ℕ) (w : World) where
       (link_by P w p s (done (ticked_at w p s)) (touch_same Q f t g p s w)
       (record {
         site = site_linked Q f t g w w p (updated (w.links p) s l) (site_same Q f t g w);
-        link = link_moved p s w l (goes_plain s link (link_step w p s TickLink).link no_regions (tick_goes (plain_link s link) (facts_of (w.nodes p) (w.nodes p).line)));
+        link = link_moved p s w l (goes_plain s link (link_step w p s TickLink).link no_regions (tick_goes (plain_link s link) (receiver_facts (w.nodes p) (w.nodes p).line)));
       }))
 
   pub pump_by : (P : World → Type 0) → P w → P (link_event w p s PumpLink) → P (outcome_of w (Pump p s)).world
@@ -108,7 +108,7 @@ module _ (Q : Packet → Type 0) (f t g p s : ℕ) (w : World) where
   pub pump_changes : AllByRecursion Q (sent_by (link_step w p s PumpLink).action p s (w.nodes p)) → Changed Q f t g p s w (step w (Pump p s)).world
   pump_changes all =
       with_headers Q f t g p s w (outcome_of w (Pump p s)).world (λ i. 0) (λ i apart. refl)
-      (pump_by P (touch_same Q f t g p s w) (event_touch PumpLink (pump_goes (plain_link s link) (facts_of (w.nodes p) (w.nodes p).line)) all))
+      (pump_by P (touch_same Q f t g p s w) (event_touch PumpLink (pump_goes (plain_link s link) (receiver_facts (w.nodes p) (w.nodes p).line)) all))
 
 -- ---- records that are applied
 
@@ -236,12 +236,12 @@ module _ (Q : Packet → Type 0) (f t : ℕ) (w : World) (q : Packet) where
       → T (link_heard w q e).world
   by_link e goes =
       let l : Link = w.links q.target q.source in
-      let r : Sent = sent_step (plain_link q.source l) e (facts_of (w.nodes q.target) q.line) in
+      let r : Sent = sent_step (plain_link q.source l) e (receiver_facts (w.nodes q.target) q.line) in
       let m : Link = with_plain l r.link in
       by_test (λ (o : Outcome). T o.world) (keeps_links (w.nodes q.target).role && is_linked l) (says (with_link w q.target q.source m) (said_of_link r.action)) (says w IsIgnored)
       (λ _. record {
         site = site_linked Q f t q.target w w q.target (updated (w.links q.target) q.source m) (site_same Q f t q.target w);
-        link = link_moved q.target q.source w m (goes_plain q.source l r.link l.since (goes (facts_of (w.nodes q.target) q.line)));
+        link = link_moved q.target q.source w m (goes_plain q.source l r.link l.since (goes (receiver_facts (w.nodes q.target) q.line)));
       })
       (λ _. touch_none)
 

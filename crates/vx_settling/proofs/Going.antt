@@ -8,7 +8,7 @@ use Rattle.vx_model.specs.Content.{Write}
 use Rattle.vx_model.specs.declared.link.Link.{Link as PlainLink}
 use Rattle.vx_model.specs.declared.limits.TheConstants.{MOST_AHEAD}
 use Rattle.vx_history.proofs.Updates.{by_test}
-use Rattle.vx_history.specs.Admission.{is_live}
+use Rattle.vx_history.specs.Admission.{is_live_link}
 use Rattle.vx_history.specs.Doubts.{Doubted}
 use Rattle.vx_history.specs.Events.{greeting_back, greets, link_step}
 use Rattle.vx_history.specs.LinkForms.{plain_link}
@@ -51,7 +51,7 @@ module _ (p s : ℕ) (w : World) where
   pump_range from to is =
       let k : PlainLink = plain_link s (w.links p s) in
       let high : ℕ = min durable (k.net + MOST_AHEAD) in
-      let r = pump_upto (is_live k && by_log k.mode) k (max k.sent k.stored) high from to is in
+      let r = pump_upto (is_live_link k && by_log k.mode) k (max k.sent k.stored) high from to is in
       (r.0, r.1, let most = r.2 in omega (arith, most))
 
   -- ---- what is sent

@@ -3,7 +3,7 @@ use Rattle.std.proofs.Common.{◌≡◌, ◌∙◌, ◌≤◌, ℕ, Bool, true, 
 use Rattle.std.proofs.lemmas.Bool.Decides.{nat_tests}
 use Rattle.std.specs.Prelude.{◌&&◌, ◌+◌, eqb, ltb, max, min}
 use Rattle.vx_history.proofs.Updates.{and_right, by_test}
-use Rattle.vx_history.specs.Admission.{is_live}
+use Rattle.vx_history.specs.Admission.{is_live_link}
 use Rattle.vx_history.specs.LinkForms.{plain_link, with_plain}
 use Rattle.vx_history.specs.Sending.{Sent, by_log, greeted, greeted_apart, greeted_by_log, pumped_up_to, memory_acknowledged, disk_acknowledged, sent_step, with_ignored, with_nothing, with_taken}
 use Rattle.vx_history.specs.World.{Link, Regions}
@@ -45,7 +45,7 @@ pub pump_goes : (a : PlainLink) (facts : SFacts) → PlainGoes a (sent_step a Pu
 pump_goes a facts =
     let low : ℕ = max a.sent a.stored in
     let high : ℕ = min facts.safe (a.net + MOST_AHEAD) in
-    by_test (SentGoes a) (is_live a && by_log a.mode) (pumped_up_to a low high) (with_nothing a)
+    by_test (SentGoes a) (is_live_link a && by_log a.mode) (pumped_up_to a low high) (with_nothing a)
     (λ _. by_test (SentGoes a) (ltb low high) _ (with_nothing (record a { sent = low }))
     (λ _. record { pauses = refl; connects = λ e. e; trims = λ e. e; logs = λ e. e; sessions = omega arith; stores = omega arith })
     (λ _. record { pauses = refl; connects = λ e. e; trims = λ e. e; logs = λ e. e; sessions = omega arith; stores = omega arith }))

@@ -13,24 +13,24 @@ use Rattle.vx_history.specs.Step.{run, step}
 use Rattle.vx_history.specs.Stops.{IsFused, all_fails}
 use Rattle.vx_history.specs.World.{DataAck, Hello, Link, Message, NetAck, Node, Packet, Update, World}
 use Rattle.vx_history.specs.declared.event.Event.{Event}
-use Rattle.vx_history.specs.declared.event.Event.TheVariants.{Site, Raw, Write, Read, Apply, Pump, Tick, Deliver, Connect, Cut, Pause, Resume, Wait, Link as LinkSites, Set, Crash, Recover, Fault}
+use Rattle.vx_history.specs.declared.event.Event.TheVariants.{Site, Raw, Group, Write, Read, Apply, Pump, Tick, Deliver, Connect, Cut, Pause, Resume, Wait, Link as LinkSites, Set, Crash, Deport, Recover, Fault}
 use Rattle.vx_history.specs.declared.sender.SEvent.TheVariants.{Pump as PumpLink}
 use Rattle.vx_events.specs.Doubts.{run_as}
 use Rattle.vx_world.proofs.Lists.{each_append}
 use Rattle.vx_settling.specs.Between.{is_update}
-use Rattle.vx_settling.specs.Kinds.{AreSettling, IsStill, StaysAs, StillGoes, is_settling}
+use Rattle.vx_settling.specs.Kinds.{AreSettling, IsStillSite, StaysAs, StillGoes, is_settling}
 use Rattle.vx_settling.proofs.Events.{answer_changes, apply_changes, connect_changes, gone_is, pump_changes, tick_changes, update_changes}
 use Rattle.vx_settling.proofs.Rules.{goes_same, goes_then}
 use Rattle.vx_settling.proofs.Touching.{Changed, touch_same, with_headers}
 
 -- ---- one event
 
-still_then : (n k m : Node) → IsStill n k → IsStill k m → IsStill n m
+still_then : (n k m : Node) → IsStillSite n k → IsStillSite k m → IsStillSite n m
 still_then n k m one two =
     two ∙ ap (λ (x : Node). let y : Node = record x { fed_by = m.fed_by; base = m.base; log = m.log; safe = m.safe; mark = m.mark } in y) one
 
-still_equal : (n k : Node) → k ≡ n → IsStill n k
-still_equal n k same = subst (λ (m : Node). IsStill n m) (sym same) refl
+still_equal : (n k : Node) → k ≡ n → IsStillSite n k
+still_equal n k same = subst (λ (m : Node). IsStillSite n m) (sym same) refl
 
 -- place by place
 pub changed_stays : (Q : Packet → Type 0) (f t g p s : ℕ) (w v : World) → Changed Q f t g p s w v → StaysAs w v
@@ -43,8 +43,8 @@ changed_stays Q f t g p s w v m = record {
   sent = m.site.sent;
 }
   where
-    at_node : (i : ℕ) (b : Bool) → eqb i t ≡ b → IsStill (w.nodes i) (v.nodes i)
-    at_node i true here = subst (λ (j : ℕ). IsStill (w.nodes j) (v.nodes j)) (sym (eqb_equal i t here)) m.site.node.rest
+    at_node : (i : ℕ) (b : Bool) → eqb i t ≡ b → IsStillSite (w.nodes i) (v.nodes i)
+    at_node i true here = subst (λ (j : ℕ). IsStillSite (w.nodes j) (v.nodes j)) (sym (eqb_equal i t here)) m.site.node.rest
     at_node i false there = still_equal (w.nodes i) (v.nodes i) (m.site.nodes i (eqb_apart i t there))
 
     at_origin : (i : ℕ) (b : Bool) → eqb i t ≡ b → is_origin (w.nodes i).role ≡ true → v.nodes i ≡ w.nodes i
@@ -87,6 +87,7 @@ delivered_stays w number = by_packet (packet_at w.packets number) refl
 pub event_stays : (w : World) (e : Event) → is_settling e ≡ true → StaysAs w (step w e).world
 event_stays w (Site name disks blocks) is = absurd (cc)
 event_stays w (Raw p) is = absurd (cc)
+event_stays w (Group p) is = absurd (cc)
 event_stays w (Write p volume start bytes fails) is = absurd (cc)
 event_stays w (Read p volume start count) is = absurd (cc)
 event_stays w (Apply s count reached) is = changed_stays Any 0 s 0 0 0 w _ (apply_changes Any 0 0 0 0 s w (λ k. each_any (packets_of s (w.nodes s).fed_by (w.nodes s).line (DataAck k))) count reached)
@@ -101,6 +102,7 @@ event_stays w (Wait p number) is = absurd (cc)
 event_stays w (LinkSites p s sync part) is = absurd (cc)
 event_stays w (Set p s sync) is = absurd (cc)
 event_stays w (Crash s kept) is = absurd (cc)
+event_stays w (Deport s) is = absurd (cc)
 event_stays w (Recover s fails) is = absurd (cc)
 event_stays w (Fault s disk) is = absurd (cc)
 
@@ -218,6 +220,7 @@ no_fails (e ∷ es) (is, are) = one e is ∙ no_fails es are
     one : (e : Event) → is_settling e ≡ true → all_fails (e ∷ es) ≡ all_fails es
     one (Site name disks blocks) is = absurd (cc)
     one (Raw p) is = absurd (cc)
+    one (Group p) is = absurd (cc)
     one (Write p volume start bytes fails) is = absurd (cc)
     one (Read p volume start count) is = absurd (cc)
     one (Apply s count reached) is = refl
@@ -232,6 +235,7 @@ no_fails (e ∷ es) (is, are) = one e is ∙ no_fails es are
     one (LinkSites p s sync part) is = absurd (cc)
     one (Set p s sync) is = absurd (cc)
     one (Crash s kept) is = absurd (cc)
+    one (Deport s) is = absurd (cc)
     one (Recover s fails) is = absurd (cc)
     one (Fault s disk) is = absurd (cc)
 
@@ -239,6 +243,7 @@ no_fails (e ∷ es) (is, are) = one e is ∙ no_fails es are
 pub happens : (d : Doubted) (e : Event) (taken : Bool) → is_settling e ≡ true → happened d e taken ≡ record d { world = (step d.world e).world }
 happens d (Site name disks blocks) taken is = absurd (cc)
 happens d (Raw p) taken is = absurd (cc)
+happens d (Group p) taken is = absurd (cc)
 happens d (Write p volume start bytes fails) taken is = absurd (cc)
 happens d (Read p volume start count) taken is = absurd (cc)
 happens d (Apply s count reached) taken is = refl
@@ -253,6 +258,7 @@ happens d (Wait p number) taken is = absurd (cc)
 happens d (LinkSites p s sync part) taken is = absurd (cc)
 happens d (Set p s sync) taken is = absurd (cc)
 happens d (Crash s kept) taken is = absurd (cc)
+happens d (Deport s) taken is = absurd (cc)
 happens d (Recover s fails) taken is = absurd (cc)
 happens d (Fault s disk) taken is = absurd (cc)
 

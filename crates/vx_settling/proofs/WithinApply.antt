@@ -10,12 +10,13 @@ use Rattle.vx_model.specs.declared.site.SiteState.TheVariants.{Up}
 use Rattle.vx_history.proofs.Updates.{at_place}
 use Rattle.vx_history.specs.Doubts.{After, Doubted, crashed_as, halved, happened}
 use Rattle.vx_history.specs.Events.{apply_at, applied_by, crash_at, kept_of, lost_touch, reached_at}
+use Rattle.vx_history.specs.Groups.{GroupNode}
 use Rattle.vx_history.specs.Gatherings.{emptied}
 use Rattle.vx_history.specs.Headers.{is_refused}
 use Rattle.vx_history.specs.Receiving.{received_step}
 use Rattle.vx_history.specs.Refusals.{Outcome, at_site, at_work}
 use Rattle.vx_history.specs.Sends.{with_links}
-use Rattle.vx_history.specs.Step.{counted, outcome_of, step}
+use Rattle.vx_history.specs.Step.{headers_counted, outcome_of, step}
 use Rattle.vx_history.specs.Steps.{burned, crash_left, crashed, kept_by, stopped_by, worked_on}
 use Rattle.vx_history.specs.World.{Fuse, NoFuse, Node, World, updated, with_history, with_node}
 use Rattle.vx_history.specs.declared.event.Event.{Event}
@@ -38,7 +39,7 @@ use Rattle.vx_events.specs.declared.said.Said.TheVariants.{Refused}
 use Rattle.vx_world.proofs.Crashed.{crash_is, not_past}
 use Rattle.vx_settling.specs.Between.{MayMove}
 use Rattle.vx_settling.specs.Burnt.{EndTo, GoesTo, MayBurn, NotedAs, OnTo, burnt_world, noted_as}
-use Rattle.vx_settling.specs.Works.{Stops}
+use Rattle.vx_settling.specs.Works.{SettleStops}
 use Rattle.vx_settling.proofs.Burning.{burns_crashed, crashed_sites, burns_kept, crash_burnt, crash_nodes, burns_noted, burns_same, fused_pure, nodes_at, noted_at, own_place, step_burnt, worked_burnt}
 use Rattle.vx_settling.proofs.Running.{event_stays}
 use Rattle.vx_settling.proofs.WithinOne.{head_same, number_burnt, reply_on, single}
@@ -52,8 +53,8 @@ fault_is w s disk here up = rw (not_past w.sites s here) (rw up refl)
 -- what a site that receives applies is the same, whatever it is said to have reached
 reached_any : (w : World) (s count reached : ℕ) → is_origin (w.nodes s).role ≡ false → step w (ApplyAt s count reached) ≡ step w (ApplyAt s count 0)
 reached_any w s count reached receives =
-    ap (λ (b : Bool). let o : Outcome = at_site w s (at_work w s (if b then reached_at w s count reached else apply_at w s count)) in counted w (ApplyAt s count reached) o) receives
-    ∙ sym (ap (λ (b : Bool). let o : Outcome = at_site w s (at_work w s (if b then reached_at w s count 0 else apply_at w s count)) in counted w (ApplyAt s count 0) o) receives)
+    ap (λ (b : Bool). let o : Outcome = at_site w s (at_work w s (if b then reached_at w s count reached else apply_at w s count)) in headers_counted w (ApplyAt s count reached) o) receives
+    ∙ sym (ap (λ (b : Bool). let o : Outcome = at_site w s (at_work w s (if b then reached_at w s count 0 else apply_at w s count)) in headers_counted w (ApplyAt s count 0) o) receives)
 
 applied_says : (w : World) (s : ℕ) (r : RState) (x : RAction) → is_refused (applied_by w s r x).said ≡ false
 applied_says w s r receiving.Nothing = refl
@@ -68,11 +69,17 @@ apply_says w s count reached here up runs receives =
 
 -- ---- disks that are made to fail stay
 
-same_disks : (taken : Bool) (w v : World) (s : ℕ) → (v.nodes s).failing ≡ (w.nodes s).failing → with_disks taken s w v ≡ v
+-- the same disks are made to fail, and they are the same group
+abbrev HasDisksOf : (n m : Node) → Type 0
+HasDisksOf n m = (m.failing ≡ n.failing) × (m.group ≡ n.group)
+
+same_disks : (taken : Bool) (w v : World) (s : ℕ) → HasDisksOf (w.nodes s) (v.nodes s) → with_disks taken s w v ≡ v
 same_disks false w v s same = refl
-same_disks true w v s same =
+same_disks true w v s (failing, group) =
     ap (λ (ns : ℕ → Node). let x : World = record v { nodes = ns } in x)
-    (ap (λ (f : ℕ → Bool). updated v.nodes s (record (v.nodes s) { failing = f })) (sym same) ∙ own_place v.nodes s)
+    (ap (λ (f : ℕ → Bool). updated v.nodes s (record (v.nodes s) { failing = f; group = (w.nodes s).group })) (sym failing)
+    ∙ ap (λ (g : Option GroupNode). updated v.nodes s (record (v.nodes s) { group = g })) (sym group)
+    ∙ own_place v.nodes s)
 
 twice_any : {A : Type 0} (f : ℕ → A) (s : ℕ) (x y : A) → updated (updated f s x) s y ≡ updated f s y
 twice_any f s x y = fun_ext (λ i. by i (eqb i s))
@@ -121,12 +128,18 @@ module _ (told : Type 0) (a b : ℕ) (d : Doubted) (may : MayMove a b d.world) (
       at n fuse i true is = inl (burns_same a b fuses d.world burns b ∙ sym fuse)
       at n fuse i false is = burns.each i
 
+  fault_disks : (disk : ℕ) → HasDisksOf (d.world.nodes b) ((happened d (Fault b disk) false).world.nodes b)
+  fault_disks disk =
+      let n : Node = record (d.world.nodes b) { halted = Some disk; fuse = burned (d.world.nodes b).fuse } in
+      let node : (happened d (Fault b disk) false).world.nodes b ≡ n = ap (λ (x : World). x.nodes b) (fault_is d.world b disk below up) ∙ at_place d.world.nodes b n in
+      (ap (λ (m : Node). m.failing) node, ap (λ (m : Node). m.group) node)
+
   -- ---- its notes
 
-  left_noted : (m : Doubted) (f : ℕ → Fuse) (last new : Doubted) (taken : Bool) → MayBurn a b f m.world → last ≡ noted_as f m → (m.world.nodes b).failing ≡ (d.world.nodes b).failing
+  left_noted : (m : Doubted) (f : ℕ → Fuse) (last new : Doubted) (taken : Bool) → MayBurn a b f m.world → last ≡ noted_as f m → HasDisksOf (d.world.nodes b) (m.world.nodes b)
       → IsAs last (worked_on (with_disks taken b (burnt_world fuses d.world) last.world) b) new → NotedAs a b m new
-  left_noted m f last new taken some is failing left =
-      let disks : with_disks taken b (burnt_world fuses d.world) (burnt_world f m.world) ≡ burnt_world f m.world = same_disks taken (burnt_world fuses d.world) (burnt_world f m.world) b failing in
+  left_noted m f last new taken some is kept left =
+      let disks : with_disks taken b (burnt_world fuses d.world) (burnt_world f m.world) ≡ burnt_world f m.world = same_disks taken (burnt_world fuses d.world) (burnt_world f m.world) b kept in
       record {
         fuses = noted_at f b;
         burns = burns_noted a b f m.world b (inr refl) some;
@@ -178,10 +191,12 @@ module _ (told : Type 0) (a b : ℕ) (d : Doubted) (may : MayMove a b d.world) (
       let burnt = burns_crashed a b fuses d b kept false burns in
       subst (λ (q : Doubted). MayBurn a b (updated fuses b NoFuse) q.world) (sym (cut_is kept)) (record { each = burnt.each })
 
-  cut_fails : (kept : ℕ) → ((crashed_as (halved d (Fault b 0) b 0) b kept false).world.nodes b).failing ≡ (d.world.nodes b).failing
-  cut_fails kept =
+  cut_disks : (kept : ℕ) → HasDisksOf (d.world.nodes b) ((crashed_as (halved d (Fault b 0) b 0) b kept false).world.nodes b)
+  cut_disks kept =
       let k : ℕ = kept_of (d.world.nodes b) kept in
-      ap (λ (q : Doubted). (q.world.nodes b).failing) (cut_is kept) ∙ ap (λ (ns : ℕ → Node). (ns b).failing) (crash_nodes d.world b k) ∙ ap (λ (n : Node). n.failing) (at_place d.world.nodes b (crashed (d.world.nodes b) k))
+      let node : (crashed_as (halved d (Fault b 0) b 0) b kept false).world.nodes b ≡ crashed (d.world.nodes b) k =
+      ap (λ (q : Doubted). q.world.nodes b) (cut_is kept) ∙ ap (λ (ns : ℕ → Node). ns b) (crash_nodes d.world b k) ∙ at_place d.world.nodes b (crashed (d.world.nodes b) k) in
+      (ap (λ (n : Node). n.failing) node, ap (λ (n : Node). n.group) node)
 
   -- ---- the line
 
@@ -207,7 +222,7 @@ module _ (told : Type 0) (a b : ℕ) (d : Doubted) (may : MayMove a b d.world) (
             none = borne;
             works = works_apply told a b d may count 0;
             noted = left_noted (happened d (ApplyAt b count 0) false) fuses (happened (noted_as fuses d) (ApplyAt b count c.reached) taken) new taken
-                (burns_kept a b fuses d.world (step d.world (ApplyAt b count 0)).world (λ i. ap (λ (n : Node). n.fuse) (stays.nodes i)) burns) (applied_noted count c.reached taken) (ap (λ (n : Node). n.failing) (stays.nodes b)) left_so;
+                (burns_kept a b fuses d.world (step d.world (ApplyAt b count 0)).world (λ i. ap (λ (n : Node). n.fuse) (stays.nodes i)) burns) (applied_noted count c.reached taken) (ap (λ (n : Node). n.failing) (stays.nodes b), ap (λ (n : Node). n.group) (stays.nodes b)) left_so;
           })
       by (DiskFails c taken before e rest left disk split leaves one says is_left) =
           let o = single (ApplyAt b count c.reached) e before rest (sym (evs c) ∙ split) in
@@ -217,10 +232,9 @@ module _ (told : Type 0) (a b : ℕ) (d : Doubted) (may : MayMove a b d.world) (
           (record {
             last = happened d (Fault b disk) false;
             sites = ap (λ (x : World). x.sites) (fault_is d.world b disk below up);
-            stops = subst (λ (f : Fails). Stops told a b d (ApplyAt b count 0 ∷ []) f (Refused (Device disk)) (happened d (Fault b disk) false)) (sym one) (stops_apply told a b d may count 0 disk (up, runs));
+            stops = subst (λ (f : Fails). SettleStops told a b d (ApplyAt b count 0 ∷ []) f (Refused (Device disk)) (happened d (Fault b disk) false)) (sym one) (stops_apply told a b d may count 0 disk (up, runs));
             noted = left_noted (happened d (Fault b disk) false) (noted_at fuses b) (happened (noted_as fuses d) (Fault b disk) taken) new taken (burns_fault disk) (fault_noted disk taken)
-                (ap (λ (x : World). (x.nodes b).failing) (fault_is d.world b disk below up)
-                ∙ ap (λ (n : Node). n.failing) (at_place d.world.nodes b (record (d.world.nodes b) { halted = Some disk; fuse = burned (d.world.nodes b).fuse }))) left_so;
+                (fault_disks disk) left_so;
           })
       by (HeaderFails c e f disk split leaves writes one says is_left) =
           let o = head_same (ApplyAt b count c.reached) e [] [] (sym (evs c) ∙ split) in
@@ -234,9 +248,9 @@ module _ (told : Type 0) (a b : ℕ) (d : Doubted) (may : MayMove a b d.world) (
           (record {
             last = crashed_as (halved d (Fault b 0) b 0) b c.kept false;
             sites = crashed_sites (halved d (Fault b 0) b 0) b c.kept false;
-            stops = subst (λ (f : Fails). Stops told a b d (ApplyAt b count 0 ∷ []) f (Refused IsOff) (crashed_as (halved d (Fault b 0) b 0) b c.kept false)) (sym none)
+            stops = subst (λ (f : Fails). SettleStops told a b d (ApplyAt b count 0 ∷ []) f (Refused IsOff) (crashed_as (halved d (Fault b 0) b 0) b c.kept false)) (sym none)
                 (cuts_apply told a b d may count 0 c.kept false (up, runs) (fused_pure a b fuses d.world burns b lit));
-            noted = left_noted (crashed_as (halved d (Fault b 0) b 0) b c.kept false) (updated fuses b NoFuse) (happened (noted_as fuses d) (CrashAt b c.kept) false) new false (burns_cut c.kept) (cut_noted c.kept) (cut_fails c.kept) left_so;
+            noted = left_noted (crashed_as (halved d (Fault b 0) b 0) b c.kept false) (updated fuses b NoFuse) (happened (noted_as fuses d) (CrashAt b c.kept) false) new false (burns_cut c.kept) (cut_noted c.kept) (cut_disks c.kept) left_so;
           })
       by (NoNumber c taken before e rest split lack more none says is_left) =
           let o = single (ApplyAt b count c.reached) e before rest (sym (evs c) ∙ split) in
@@ -246,8 +260,8 @@ module _ (told : Type 0) (a b : ℕ) (d : Doubted) (may : MayMove a b d.world) (
           (record {
             last = d;
             sites = refl;
-            stops = subst (λ (f : Fails). Stops told a b d (ApplyAt b count 0 ∷ []) f (Refused (Limit Number MOST_NUMBER)) d) (sym none) (lacks_apply told a b d may count 0 (λ tells. (lacks tells).1));
-            noted = left_noted d fuses (noted_as fuses d) new taken burns refl refl left_so;
+            stops = subst (λ (f : Fails). SettleStops told a b d (ApplyAt b count 0 ∷ []) f (Refused (Limit Number MOST_NUMBER)) d) (sym none) (lacks_apply told a b d may count 0 (λ tells. (lacks tells).1));
+            noted = left_noted d fuses (noted_as fuses d) new taken burns refl (refl, refl) left_so;
           })
       by (ShowsReceived site volume start blocks is role gives none is_left) = absurd (cc)
       by (FindsLinks untold c taken site mid n k row is recovering comes none says is_left) = absurd (cc)

@@ -25,7 +25,7 @@ use Rattle.vx_events.specs.Fails.{Fails}
 use Rattle.vx_events.specs.LinkEnds.{AreLeft, LinkEnds, link_noted, target_noted}
 use Rattle.vx_events.specs.LinkFinds.{FindsOther, KeepsOther, LosesOther, MayTake, PumpSends, ReadsNone, SendsOther, SettlesOther, TakesOther, kept_with, pumped_with, taken_with, target_with}
 use Rattle.vx_events.specs.LinksFit.{LinksFit}
-use Rattle.vx_events.specs.Sayings.{Repeats}
+use Rattle.vx_events.specs.Sayings.{RepeatsSaid}
 use Rattle.vx_events.specs.Stamps.{most_stamp_at, stamps_of}
 use Rattle.vx_events.specs.declared.said.Said.{Said}
 use Rattle.vx_events.specs.declared.said.Said.TheVariants.{Done, Refused}
@@ -33,7 +33,7 @@ use Rattle.vx_world.proofs.LikeSteps.{said_like}
 use Rattle.vx_settling.specs.Between.{IsSent, MayMove}
 use Rattle.vx_settling.specs.Burnt.{EndTo, GoesTo, MayBurn, NotedAs, OnTo, burnt_world, noted_as}
 use Rattle.vx_settling.specs.Kinds.{is_settling}
-use Rattle.vx_settling.specs.Works.{Stops}
+use Rattle.vx_settling.specs.Works.{SettleStops}
 use Rattle.vx_settling.proofs.Burning.{burns_kept, crashed_sites, burns_noted, crashed_burnt, burns_crashed, burns_halved, fused_pure, halved_burnt, like_burnt, noted_at, pumped_burnt, step_burnt, target_burnt, worked_burnt}
 use Rattle.vx_settling.proofs.Ends.{connect_done, pump_done, tick_done}
 use Rattle.vx_settling.proofs.Running.{event_stays, happens}
@@ -151,7 +151,7 @@ module _ (told : Type 0) (a b : ℕ) (d : Doubted) (may : MayMove a b d.world) (
           (record {
             last = d;
             sites = refl;
-            stops = subst (λ (f : Fails). Stops told a b d (PumpAt a b ∷ []) f (Refused why) d) (sym none) (gives_up told a b d may (PumpAt a b ∷ []) why untold (inl other));
+            stops = subst (λ (f : Fails). SettleStops told a b d (PumpAt a b ∷ []) f (Refused why) d) (sym none) (gives_up told a b d may (PumpAt a b ∷ []) why untold (inl other));
             noted = plain_same new (subst (λ (m : Doubted). IsAs m m.world new) leaves left);
           })
       by_finds untold last (TakesOther number q x is takes none says leaves) left = absurd (cc)
@@ -171,7 +171,7 @@ module _ (told : Type 0) (a b : ℕ) (d : Doubted) (may : MayMove a b d.world) (
           (record {
             last = d;
             sites = refl;
-            stops = subst (λ (f : Fails). Stops told a b d (PumpAt a b ∷ []) f (Refused (Device disk)) d) (ap (λ (i : ℕ). (i, disk) ∷ []) reads ∙ sym one) (stops_unread told a b d may disk);
+            stops = subst (λ (f : Fails). SettleStops told a b d (PumpAt a b ∷ []) f (Refused (Device disk)) d) (ap (λ (i : ℕ). (i, disk) ∷ []) reads ∙ sym one) (stops_unread told a b d may disk);
             noted = plain_same new left;
           })
       by (OneFull site takes lacks one says left) = absurd takes
@@ -278,8 +278,8 @@ module _ (told : Type 0) (a b : ℕ) (d : Doubted) (may : MayMove a b d.world) (
           (record {
             last = halved d (DeliverAt number) site disk;
             sites = refl;
-            stops = subst (λ (f : Fails). Stops told a b d (DeliverAt number ∷ []) f (Refused (Device disk)) (halved d (DeliverAt number) site disk)) (sym one)
-                (subst (λ (i : ℕ). Stops told a b d (DeliverAt number ∷ []) ((i, disk) ∷ []) (Refused (Device disk)) (halved d (DeliverAt number) i disk)) (sym here)
+            stops = subst (λ (f : Fails). SettleStops told a b d (DeliverAt number ∷ []) f (Refused (Device disk)) (halved d (DeliverAt number) site disk)) (sym one)
+                (subst (λ (i : ℕ). SettleStops told a b d (DeliverAt number ∷ []) ((i, disk) ∷ []) (Refused (Device disk)) (halved d (DeliverAt number) i disk)) (sym here)
                 (stops_header told a b d may number disk (subst (λ (i : ℕ). IsOpen (d.world.nodes i)) here opens) (subst (λ (i : ℕ). WritesAt d.world (DeliverAt number) i) here writes)));
             noted = left_noted (halved d (DeliverAt number) site disk) (noted_at fuses site) (halved (noted_as fuses d) (DeliverAt number) site disk) (burns_halved a b fuses d (DeliverAt number) site disk burns)
                 (halved_burnt fuses d fit a b burns (DeliverAt number) refl site disk) left;
@@ -291,8 +291,8 @@ module _ (told : Type 0) (a b : ℕ) (d : Doubted) (may : MayMove a b d.world) (
           (record {
             last = crashed_as half site kept taken;
             sites = crashed_sites half site kept taken;
-            stops = subst (λ (f : Fails). Stops told a b d (DeliverAt number ∷ []) f (Refused IsOff) (crashed_as half site kept taken)) (sym one)
-                (subst (λ (i : ℕ). Stops told a b d (DeliverAt number ∷ []) [] (Refused IsOff) (crashed_as (halved d (DeliverAt number) i 0) i kept taken)) (sym here)
+            stops = subst (λ (f : Fails). SettleStops told a b d (DeliverAt number ∷ []) f (Refused IsOff) (crashed_as half site kept taken)) (sym one)
+                (subst (λ (i : ℕ). SettleStops told a b d (DeliverAt number ∷ []) [] (Refused IsOff) (crashed_as (halved d (DeliverAt number) i 0) i kept taken)) (sym here)
                 (cuts_header told a b d may number kept taken (subst (λ (i : ℕ). IsOpen (d.world.nodes i)) here opens) (subst (λ (i : ℕ). WritesAt d.world (DeliverAt number) i) here writes)
                 (subst (λ (i : ℕ). IsFused (d.world.nodes i).fuse) here (fused_pure a b fuses d.world burns site lit))));
             noted = left_noted (crashed_as half site kept taken) (updated (noted_at fuses site) site NoFuse) (crashed_as (halved (noted_as fuses d) (DeliverAt number) site 0) site kept taken)
@@ -306,7 +306,7 @@ module _ (told : Type 0) (a b : ℕ) (d : Doubted) (may : MayMove a b d.world) (
           (record {
             last = d;
             sites = refl;
-            stops = subst (λ (f : Fails). Stops told a b d (DeliverAt number ∷ []) f (Refused (Limit Number MOST_NUMBER)) d) (sym one)
+            stops = subst (λ (f : Fails). SettleStops told a b d (DeliverAt number ∷ []) f (Refused (Limit Number MOST_NUMBER)) d) (sym one)
                 (lacks_header told a b d may number (subst (λ (i : ℕ). WritesAt d.world (DeliverAt number) i) here takes)
                 (subst (λ (i : ℕ). told → MOST_NUMBER ≤ most_stamp_at d.world i + stamps_of (DeliverAt number) d.world i) here lacks));
             noted = left_noted d fuses (noted_as fuses d) burns refl left;
@@ -321,7 +321,7 @@ module _ (told : Type 0) (a b : ℕ) (d : Doubted) (may : MayMove a b d.world) (
     where
       by : OneEnds told (noted_as fuses d) (Connect p s) (ConnectAt a b) fails said new → said ≡ Done
       by (OneDone none reply left) =
-          subst (λ (x : EventSaid). Repeats (step (burnt_world fuses d.world) (ConnectAt a b)).world 0 x said) (said_same (ConnectAt a b) ∙ connect_done d.world a b may.can) reply
+          subst (λ (x : EventSaid). RepeatsSaid (step (burnt_world fuses d.world) (ConnectAt a b)).world 0 x said) (said_same (ConnectAt a b) ∙ connect_done d.world a b may.can) reply
       by (OneHalts site disk opens writes one says left) = absurd writes
       by (OneCut site kept taken opens writes fused one says left) = absurd writes
       by (OneUnread site disk reads one says left) = absurd reads

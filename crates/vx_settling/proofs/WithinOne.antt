@@ -37,7 +37,7 @@ use Rattle.vx_events.specs.Fails.{Fails}
 use Rattle.vx_events.specs.LinkEnds.{AppliesCut, AppliesPart, AreLeft, LinkEnds, LinkReplies, LinksCut, LinksDone, LinksFind, LinksHalt, LogUnread, NoHeader, ReadsLog, TakesNumber}
 use Rattle.vx_events.specs.LinkFinds.{FindsOther}
 use Rattle.vx_events.specs.LinkLists.{link_events}
-use Rattle.vx_events.specs.Sayings.{Repeats}
+use Rattle.vx_events.specs.Sayings.{RepeatsSaid}
 use Rattle.vx_events.specs.Stamps.{most_stamp_at, stamps_of}
 use Rattle.vx_events.specs.declared.said.Said.{Said}
 use Rattle.vx_events.specs.declared.said.Said.TheVariants.{Refused}
@@ -50,7 +50,7 @@ use Rattle.vx_settling.proofs.Running.{happens}
 
 -- how it ended
 pub data OneEnds (told : Type 0) (d : Doubted) (line : ScriptLine) (e : Event) (fails : Fails) (said : Said) (new : Doubted) : Type 0 where
-  OneDone : fails ≡ [] → Repeats (step d.world e).world 0 (step d.world e).said said → AreLeft line d (happened d e false) new → OneEnds told d line e fails said new
+  OneDone : fails ≡ [] → RepeatsSaid (step d.world e).world 0 (step d.world e).said said → AreLeft line d (happened d e false) new → OneEnds told d line e fails said new
   OneHalts : (site disk : ℕ) → IsOpen (d.world.nodes site) → WritesAt d.world e site → fails ≡ (site, disk) ∷ [] → said ≡ Refused (Device disk) → AreLeft line d (halved d e site disk) new
       → OneEnds told d line e fails said new
   OneCut : (site kept : ℕ) (taken : Bool) → IsOpen (d.world.nodes site) → WritesAt d.world e site → IsFused (d.world.nodes site).fuse → fails ≡ [] → said ≡ Refused IsOff
@@ -77,7 +77,7 @@ is_apply (ApplyAt s count reached) = true
 is_apply other = false
 
 module _ (told : Type 0) (d : Doubted) (line : ScriptLine) (x : Event) (fails : Fails) (said : Said) (new : Doubted) (events : link_events d.world line ≡ x ∷ []) (other : is_apply x ≡ false) (plain : is_settling x ≡ true)
-    (replies : (last : Doubted) → LinkReplies line d last (x ∷ []) said → Repeats (step d.world x).world 0 (step d.world x).said said) where
+    (replies : (last : Doubted) → LinkReplies line d last (x ∷ []) said → RepeatsSaid (step d.world x).world 0 (step d.world x).said said) where
   comes_first : (e : Event) (site : ℕ) (middle : Doubted) → ComesTo d (link_events d.world line) e site middle → (e ≡ x) × (middle ≡ d) × IsOpen (middle.world.nodes site) × WritesAt middle.world e site
   comes_first e site middle comes =
       let one = single x e comes.before comes.rest (sym events ∙ comes.split) in
@@ -123,7 +123,7 @@ module _ (told : Type 0) (d : Doubted) (line : ScriptLine) (x : Event) (fails : 
 
 -- ---- by the reply
 
-pub reply_on : (on : Type 0) (off : No → Type 0) (w : World) (s : ℕ) (x : EventSaid) (said : Said) → is_refused x ≡ false → Repeats w s x said → on → Going on off said
+pub reply_on : (on : Type 0) (off : No → Type 0) (w : World) (s : ℕ) (x : EventSaid) (said : Said) → is_refused x ≡ false → RepeatsSaid w s x said → on → Going on off said
 reply_on on off w s happening.Done said not is it = subst (λ (y : Said). Going on off y) (sym is) it
 reply_on on off w s (happening.DoneAt number) said not is it = subst (λ (y : Said). Going on off y) (sym is) it
 reply_on on off w s (happening.Logged number) said not is it = subst (λ (y : Said). Going on off y) (sym is) it

@@ -27,7 +27,7 @@ use Rattle.vx_events.specs.declared.said.Said.TheVariants.{Refused, Settled}
 use Rattle.vx_settling.specs.Between.{IsSent, MayMove}
 use Rattle.vx_settling.specs.Ending.{CutsApplying, CutsIn, HaltsApplying, HaltsIn, IsUnreadIn, LacksNumber}
 use Rattle.vx_settling.specs.Kinds.{AreSettling}
-use Rattle.vx_settling.specs.Works.{FirstOf, Shortens, Stops, Works}
+use Rattle.vx_settling.specs.Works.{FirstOf, Shortens, SettleStops, SettleWorks}
 use Rattle.vx_settling.proofs.Ends.{head_is, settle_done}
 use Rattle.vx_settling.proofs.Moving.{applies, begins, connects, delivers, keeps_other, line_finds, line_short, passes_then, pumps, pumps_other, still_fused, takes_other, ticks}
 use Rattle.vx_settling.proofs.Running.{are_all, are_parts, no_fails, run_is, runs_only}
@@ -37,42 +37,42 @@ module _ (told : Type 0) (p s : ℕ) where
   -- ---- one step
 
   module _ (d : Doubted) (may : MayMove p s d.world) where
-    pub works_none : Works told p s d [] d
+    pub works_none : SettleWorks told p s d [] d
     works_none = record { exact = λ tells. refl; moves = begins p s d may }
 
-    pub works_connect : Works told p s d (Connect p s ∷ []) (happened d (Connect p s) false)
+    pub works_connect : SettleWorks told p s d (Connect p s ∷ []) (happened d (Connect p s) false)
     works_connect = record { exact = λ tells. (false, refl); moves = connects p s d may false }
 
-    pub works_tick : Works told p s d (Tick p s ∷ []) (happened d (Tick p s) false)
+    pub works_tick : SettleWorks told p s d (Tick p s ∷ []) (happened d (Tick p s) false)
     works_tick = record { exact = λ tells. (false, refl); moves = ticks p s d may false }
 
-    pub works_pump : Works told p s d (Pump p s ∷ []) (happened d (Pump p s) false)
+    pub works_pump : SettleWorks told p s d (Pump p s ∷ []) (happened d (Pump p s) false)
     works_pump = record { exact = λ tells. (false, refl); moves = pumps p s d may false }
 
-    pub works_pump_other : (more : List Packet) → PumpSends d.world p s more → (told → ⊥) → Works told p s d (Pump p s ∷ []) (record d { world = pumped_with d.world p s more })
+    pub works_pump_other : (more : List Packet) → PumpSends d.world p s more → (told → ⊥) → SettleWorks told p s d (Pump p s ∷ []) (record d { world = pumped_with d.world p s more })
     works_pump_other more sends untold = record { exact = λ tells. absurd (untold tells); moves = pumps_other p s d may more sends }
 
-    pub works_apply : (count reached : ℕ) → Works told p s d (Apply s count reached ∷ []) (happened d (Apply s count reached) false)
+    pub works_apply : (count reached : ℕ) → SettleWorks told p s d (Apply s count reached ∷ []) (happened d (Apply s count reached) false)
     works_apply count reached = record { exact = λ tells. (false, refl); moves = applies p s d may count reached false }
 
     module _ (number : ℕ) (q : Packet) (sent : IsSent p s q) where
-      pub works_deliver : packet_at d.world.packets number ≡ Some q → is_between p s q ≡ true → Works told p s d (Deliver number ∷ []) (happened d (Deliver number) false)
+      pub works_deliver : packet_at d.world.packets number ≡ Some q → is_between p s q ≡ true → SettleWorks told p s d (Deliver number ∷ []) (happened d (Deliver number) false)
       works_deliver at between = record { exact = λ tells. (false, refl); moves = delivers p s d may number q false at sent between }
 
       pub works_take_other : (x : Write) → (told → ⊥) → (takes : MayTake d.world number q)
-          → Works told p s d (Deliver number ∷ []) (record d { world = taken_with d.world q takes.count x })
+          → SettleWorks told p s d (Deliver number ∷ []) (record d { world = taken_with d.world q takes.count x })
       works_take_other x untold takes = record { exact = λ tells. absurd (untold tells); moves = takes_other p s d may number q x takes sent }
 
-      pub works_keep_other : (told → ⊥) → MayTake d.world number q → Works told p s d (Deliver number ∷ []) (record d { world = kept_with d.world q })
+      pub works_keep_other : (told → ⊥) → MayTake d.world number q → SettleWorks told p s d (Deliver number ∷ []) (record d { world = kept_with d.world q })
       works_keep_other untold takes = record { exact = λ tells. absurd (untold tells); moves = keeps_other p s d may number q takes sent }
 
-      pub works_lose_other : (told → ⊥) → Works told p s d (Deliver number ∷ []) d
+      pub works_lose_other : (told → ⊥) → SettleWorks told p s d (Deliver number ∷ []) d
       works_lose_other untold = record { exact = λ tells. absurd (untold tells); moves = begins p s d may }
 
     -- ---- one step that stops
 
     -- a read of the log of p failed
-    pub stops_unread : (disk : ℕ) → Stops told p s d (Pump p s ∷ []) ((p, disk) ∷ []) (Refused (Device disk)) d
+    pub stops_unread : (disk : ℕ) → SettleStops told p s d (Pump p s ∷ []) ((p, disk) ∷ []) (Refused (Device disk)) d
     stops_unread disk = record {
       exact = λ tells. IsUnreadIn [] [] (Pump p s) p disk refl refl refl refl refl refl;
       other = λ untold. record { middle = d; moves = begins p s d may; ends = IsUnread disk refl refl refl };
@@ -80,14 +80,14 @@ module _ (told : Type 0) (p s : ℕ) where
 
     -- a disk failed in a header of p, or its fuse ran out there
     pub stops_header : (number disk : ℕ) → IsOpen (d.world.nodes p) → IsHeardAt d.world number p
-        → Stops told p s d (Deliver number ∷ []) ((p, disk) ∷ []) (Refused (Device disk)) (halved d (Deliver number) p disk)
+        → SettleStops told p s d (Deliver number ∷ []) ((p, disk) ∷ []) (Refused (Device disk)) (halved d (Deliver number) p disk)
     stops_header number disk opens writes = record {
       exact = λ tells. HaltsIn (Deliver number) p disk d (record { before = []; rest = []; split = refl; runs = refl; fails = refl; opens = opens; writes = writes }) refl refl refl;
       other = λ untold. record { middle = d; moves = begins p s d may; ends = HeaderHalts number disk opens writes refl refl refl };
     }
 
     pub cuts_header : (number kept : ℕ) (taken : Bool) → IsOpen (d.world.nodes p) → IsHeardAt d.world number p → IsFused (d.world.nodes p).fuse
-        → Stops told p s d (Deliver number ∷ []) [] (Refused IsOff) (crashed_as (halved d (Deliver number) p 0) p kept taken)
+        → SettleStops told p s d (Deliver number ∷ []) [] (Refused IsOff) (crashed_as (halved d (Deliver number) p 0) p kept taken)
     cuts_header number kept taken opens writes fused = record {
       exact = λ tells.
           CutsIn (Deliver number) p kept taken d (record { before = []; rest = []; split = refl; runs = refl; fails = refl; opens = opens; writes = writes }) fused refl refl refl;
@@ -96,14 +96,14 @@ module _ (told : Type 0) (p s : ℕ) where
 
     -- a disk failed as s applied what waits there, or its fuse ran out
     pub stops_apply : (count reached disk : ℕ) → IsOpen (d.world.nodes s)
-        → Stops told p s d (Apply s count reached ∷ []) ((s, disk) ∷ []) (Refused (Device disk)) (happened d (Fault s disk) false)
+        → SettleStops told p s d (Apply s count reached ∷ []) ((s, disk) ∷ []) (Refused (Device disk)) (happened d (Fault s disk) false)
     stops_apply count reached disk opens = record {
       exact = λ tells. HaltsApplying [] [] s count reached disk refl (false, refl) refl refl refl;
       other = λ untold. record { middle = d; moves = begins p s d may; ends = ApplyHalts disk opens refl refl refl };
     }
 
     pub cuts_apply : (count reached kept : ℕ) (taken : Bool) → IsOpen (d.world.nodes s) → IsFused (d.world.nodes s).fuse
-        → Stops told p s d (Apply s count reached ∷ []) [] (Refused IsOff) (crashed_as (halved d (Fault s 0) s 0) s kept taken)
+        → SettleStops told p s d (Apply s count reached ∷ []) [] (Refused IsOff) (crashed_as (halved d (Fault s 0) s 0) s kept taken)
     cuts_apply count reached kept taken opens fused = record {
       exact = λ tells. CutsApplying [] [] s count reached kept taken d refl refl refl opens fused refl refl refl;
       other = λ untold. record { middle = d; moves = begins p s d may; ends = ApplyCut kept taken opens fused refl refl refl };
@@ -111,21 +111,21 @@ module _ (told : Type 0) (p s : ℕ) where
 
     -- no number is left for a header of p, or for what waits at s
     pub lacks_header : (number : ℕ) → IsHeardAt d.world number p → (told → MOST_NUMBER ≤ most_stamp_at d.world p + stamps_of (Deliver number) d.world p)
-        → Stops told p s d (Deliver number ∷ []) [] (Refused (Limit Number MOST_NUMBER)) d
+        → SettleStops told p s d (Deliver number ∷ []) [] (Refused (Limit Number MOST_NUMBER)) d
     lacks_header number writes lacks = record {
       exact = λ tells. LacksNumber [] [] (Deliver number) p refl writes refl refl lacks refl refl;
       other = λ untold. record { middle = d; moves = begins p s d may; ends = GivesUp (Limit Number MOST_NUMBER) (inr refl) refl refl refl };
     }
 
     pub lacks_apply : (count reached : ℕ) → (told → MOST_NUMBER ≤ most_stamp_at d.world s + stamps_of (Apply s count reached) d.world s)
-        → Stops told p s d (Apply s count reached ∷ []) [] (Refused (Limit Number MOST_NUMBER)) d
+        → SettleStops told p s d (Apply s count reached ∷ []) [] (Refused (Limit Number MOST_NUMBER)) d
     lacks_apply count reached lacks = record {
       exact = λ tells. LacksNumber [] [] (Apply s count reached) s refl refl refl refl lacks refl refl;
       other = λ untold. record { middle = d; moves = begins p s d may; ends = GivesUp (Limit Number MOST_NUMBER) (inr refl) refl refl refl };
     }
 
     -- any other refusal comes of disks that tell no contents
-    pub gives_up : (events : List Event) (why : No) → (told → ⊥) → IsGivenUp why → Stops told p s d events [] (Refused why) d
+    pub gives_up : (events : List Event) (why : No) → (told → ⊥) → IsGivenUp why → SettleStops told p s d events [] (Refused why) d
     gives_up events why untold other = record {
       exact = λ tells. absurd (untold tells);
       other = λ _. record { middle = d; moves = begins p s d may; ends = GivesUp why other refl refl refl };
@@ -138,10 +138,10 @@ module _ (told : Type 0) (p s : ℕ) where
   -- ---- several
 
   module _ (d m : Doubted) (xs ys : List Event) where
-    pub works_then : (n : Doubted) → Works told p s d xs m → Works told p s m ys n → Works told p s d (xs ++ ys) n
+    pub works_then : (n : Doubted) → SettleWorks told p s d xs m → SettleWorks told p s m ys n → SettleWorks told p s d (xs ++ ys) n
     works_then n one two = record { exact = λ tells. runs_then d m n xs ys (one.exact tells) (two.exact tells); moves = passes_then p s d m n one.moves two.moves }
 
-    pub stop_more : (fails : Fails) (said : Said) (last : Doubted) → Stops told p s d xs fails said last → Stops told p s d (xs ++ ys) fails said last
+    pub stop_more : (fails : Fails) (said : Said) (last : Doubted) → SettleStops told p s d xs fails said last → SettleStops told p s d (xs ++ ys) fails said last
     stop_more fails said last stop = record { exact = λ tells. stops_more told d xs ys fails said last (stop.exact tells); other = stop.other }
 
     -- an end behind more that passed
@@ -155,7 +155,7 @@ module _ (told : Type 0) (p s : ℕ) where
         HeaderCut number kept taken opens writes (still_fused p s d m moved p fused) none is leaves
     ends_then middle fails said last moved (ApplyCut kept taken opens fused none is leaves) = ApplyCut kept taken opens (still_fused p s d m moved s fused) none is leaves
 
-    pub stop_then : (fails : Fails) (said : Said) (last : Doubted) → AreSettling xs → Works told p s d xs m → Stops told p s m ys fails said last → Stops told p s d (xs ++ ys) fails said last
+    pub stop_then : (fails : Fails) (said : Said) (last : Doubted) → AreSettling xs → SettleWorks told p s d xs m → SettleStops told p s m ys fails said last → SettleStops told p s d (xs ++ ys) fails said last
     stop_then fails said last are one stop = record {
       exact = λ tells. stops_behind told d m xs ys fails said last (one.exact tells) (no_fails xs are) (still_fused p s d m one.moves) (stop.exact tells);
       other = λ untold.
@@ -167,7 +167,7 @@ module _ (told : Type 0) (p s : ℕ) where
           };
     }
 
-    pub short_then : (n : Doubted) → Works told p s d xs m → Shortens told p s m ys n → Shortens told p s d (xs ++ ys) n
+    pub short_then : (n : Doubted) → SettleWorks told p s d xs m → Shortens told p s m ys n → Shortens told p s d (xs ++ ys) n
     short_then n one short = record {
       exact = λ tells.
           let first = short.exact tells in
@@ -194,7 +194,7 @@ module _ (told : Type 0) (p s : ℕ) where
   }
 
   -- the events done so far are all of a first part of the list
-  pub short_here : (d e : Doubted) (xs ys : List Event) → Works told p s d xs e → Shortens told p s d (xs ++ ys) e
+  pub short_here : (d e : Doubted) (xs ys : List Event) → SettleWorks told p s d xs e → Shortens told p s d (xs ++ ys) e
   short_here d e xs ys one = record { exact = λ tells. record { before = xs; rest = ys; split = refl; runs = one.exact tells }; moves = one.moves }
 
 -- ---- the line
@@ -210,7 +210,7 @@ module _ (told : Type 0) (known : told ⊎ (told → ⊥)) (d : Doubted) (p s : 
   all = link_events d.world (Settle p s)
 
   -- all is done, and it has to be seen that all is stored
-  pub line_done : (last new : Doubted) → is_origin (d.world.nodes a).role ≡ true → Works told a b d all last
+  pub line_done : (last new : Doubted) → is_origin (d.world.nodes a).role ≡ true → SettleWorks told a b d all last
       → (d.world.nodes a).safe ≤ (last.world.links a b).stored → AreLeft (Settle p s) d last new
       → LinkEnds told d (Settle p s) [] (Settled (d.world.nodes a).safe) new
   line_done last new origin one stored left = elim known [
@@ -224,7 +224,7 @@ module _ (told : Type 0) (known : told ⊎ (told → ⊥)) (d : Doubted) (p s : 
   ]
 
   -- it stopped
-  pub line_stopped : (fails : Fails) (said : Said) (last new : Doubted) → Stops told a b d all fails said last → AreLeft (Settle p s) d last new
+  pub line_stopped : (fails : Fails) (said : Said) (last new : Doubted) → SettleStops told a b d all fails said last → AreLeft (Settle p s) d last new
       → LinkEnds told d (Settle p s) fails said new
   line_stopped fails said last new stop left = elim known [
     | inl tells ↦ line_stops told d (Settle p s) fails said last new (stop.exact tells) left

@@ -8,7 +8,7 @@ use Rattle.vx_history.specs.declared.event.Event.{Event}
 use Rattle.vx_events.specs.Fails.{Fails}
 use Rattle.vx_events.specs.declared.said.Said.{Said}
 use Rattle.vx_events.specs.declared.said.Said.TheVariants.{Refused}
-use Rattle.vx_settling.specs.Works.{Stops, Works}
+use Rattle.vx_settling.specs.Works.{SettleStops, SettleWorks}
 
 -- the world with these fuses of its sites
 abbrev pub burnt_world : (ℕ → Fuse) → World → World
@@ -31,13 +31,13 @@ pub record NotedAs (a b : ℕ) (d e : Doubted) : Type 0 where
 pub record OnTo (told : Type 0) (a b : ℕ) (d : Doubted) (events : List Event) (fails : Fails) (e : Doubted) : Type 0 where
   pub next : Doubted
   pub none : fails ≡ []
-  pub works : Works told a b d events next
+  pub works : SettleWorks told a b d events next
   pub noted : NotedAs a b next e
 
 -- they were ended by this refusal
 pub record EndTo (told : Type 0) (a b : ℕ) (d : Doubted) (events : List Event) (fails : Fails) (why : No) (e : Doubted) : Type 0 where
   pub last : Doubted
-  pub stops : Stops told a b d events fails (Refused why) last
+  pub stops : SettleStops told a b d events fails (Refused why) last
   pub sites : last.world.sites ≡ d.world.sites
   pub noted : NotedAs a b last e
 

@@ -20,8 +20,8 @@ abbrev pub AreSettling : List Event → Type 0
 AreSettling events = AllByRecursion (λ e. is_settling e ≡ true) events
 
 -- a site that took updates and applied them, or did not
-abbrev pub IsStill : Node → Node → Type 0
-IsStill n k = k ≡ record n { fed_by = k.fed_by; base = k.base; log = k.log; safe = k.safe; mark = k.mark }
+abbrev pub IsStillSite : Node → Node → Type 0
+IsStillSite n k = k ≡ record n { fed_by = k.fed_by; base = k.base; log = k.log; safe = k.safe; mark = k.mark }
 
 -- A link that moved by its rule: it is as it was but for what it knows of its receiver, of which neither the session falls nor what is stored. It stays
 -- connected, and goes by the log still.
@@ -37,7 +37,7 @@ pub record StillGoes (l m : Link) : Type 0 where
 -- sent, and none is forgotten.
 pub record StaysAs (w v : World) : Type 0 where
   pub sites : v.sites ≡ w.sites
-  pub nodes : (i : ℕ) → IsStill (w.nodes i) (v.nodes i)
+  pub nodes : (i : ℕ) → IsStillSite (w.nodes i) (v.nodes i)
   pub origins : (i : ℕ) → is_origin (w.nodes i).role ≡ true → v.nodes i ≡ w.nodes i
   pub links : (i k : ℕ) → StillGoes (w.links i k) (v.links i k)
   pub more : List Packet

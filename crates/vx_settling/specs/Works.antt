@@ -8,7 +8,7 @@ use Rattle.vx_events.specs.declared.said.Said.{Said}
 use Rattle.vx_settling.specs.Ending.{StopsAmong}
 
 -- Its events are done: exactly they where contents are told. Either way packets passed between the two sites.
-pub record Works (told : Type 0) (p s : ℕ) (d : Doubted) (events : List Event) (e : Doubted) : Type 0 where
+pub record SettleWorks (told : Type 0) (p s : ℕ) (d : Doubted) (events : List Event) (e : Doubted) : Type 0 where
   pub exact : told → Runs d events e
   pub moves : MovesBetween p s d e
 
@@ -19,7 +19,7 @@ pub record StopsOther (told : Type 0) (p s : ℕ) (d : Doubted) (fails : Fails) 
   pub ends : EndsBetween p s d middle fails said last
 
 -- it was refused, or ended by a failing disk or a fuse
-pub record Stops (told : Type 0) (p s : ℕ) (d : Doubted) (events : List Event) (fails : Fails) (said : Said) (last : Doubted) : Type 0 where
+pub record SettleStops (told : Type 0) (p s : ℕ) (d : Doubted) (events : List Event) (fails : Fails) (said : Said) (last : Doubted) : Type 0 where
   pub exact : told → StopsAmong told d events fails said last
   pub other : (told → ⊥) → StopsOther told p s d fails said last
 

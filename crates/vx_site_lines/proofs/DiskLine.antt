@@ -15,9 +15,9 @@ use Rattle.vx_events.specs.Failing.{is_failing, made_fail}
 use Rattle.vx_yard.proofs.CrashLine.{rose_still}
 use Rattle.vx_yard.proofs.FailsStay.{failing_fact}
 use Rattle.vx_diskset.proofs.FailGroup.{stands_failing}
-use Rattle.vx_diskset.specs.Asked.{SetsDisk, disks_in, units_in}
-use Rattle.vx_diskset.specs.Holds.{Beside, beside_of}
-use Rattle.vx_diskset.specs.Stands.{KeepsRole, StandsAt}
+use Rattle.vx_diskset.specs.Asked.{SetsDisk, disks_told, units_in}
+use Rattle.vx_diskset.specs.Holds.{KeptBeside, beside_of}
+use Rattle.vx_diskset.specs.Stands.{KeepsRole, SiteStands}
 use Rattle.vx_events.proofs.Refused.{disk_may}
 use Rattle.vx_yard.specs.OfSites.{OfSite}
 use Rattle.vx_yard.specs.Standing.{Leads, StandsFor}
@@ -36,7 +36,7 @@ use Rattle.std.proofs.Common.{◌<◌, ◌∙◌, arith}
 use Rattle.vx_yard.proofs.Carrying.{SameLoad, carries_node}
 
 module _ {R : Type 0} {g : Ghosts R} where
-  units_at : (beside : Beside) (n : Node) (e : DiskSet R g) → StandsAt beside n e → units_in e ≡ n.disks
+  units_at : (beside : KeptBeside) (n : Node) (e : DiskSet R g) → SiteStands beside n e → units_in e ≡ n.disks
   units_at beside n (Bare rack) h = h.bare.fitted.units
   units_at beside n (Spoiled rack) h = h.fitted.units
   units_at beside n (Up rvg) h = h.lies.units
@@ -55,7 +55,7 @@ module _ {R : Type 0} {g : Ghosts R} where
       subst (λ (b : Bool). SetsDisk disk b before after) is (did (omega (arith, may.1, units, ap (λ (f : SiteFacts). f.disks) fact)))
 
   pub disk_leads : (d : Doubted) (old new : Yard R g) (name : List ℕ) (disk : ℕ) (state : DiskState) (s : ℕ) (before after : DiskSet R g) → StandsFor d old → seat_of old.facts.items name ≡ Some s
-      → Changed old new s before after → KeepsRole before after → ((beside : Beside) (n : Node) → StandsAt beside n before → StandsAt beside n after) → SetsDisk disk (is_failing state) before after
+      → Changed old new s before after → KeepsRole before after → ((beside : KeptBeside) (n : Node) → SiteStands beside n before → SiteStands beside n after) → SetsDisk disk (is_failing state) before after
       → new.facts ≡ old.facts → SameLoad old new → Leads d (Disk name disk state) Done old new
   disk_leads d old new name disk state s before after stands is changed role keeps sets facts load =
       let seat = site_at d old name s stands is in
@@ -76,7 +76,7 @@ module _ {R : Type 0} {g : Ghosts R} where
         carries = carries_node s d (with_one d s n) n old new load (changes_one d s n) refl refl (at_place d.world.nodes s n) refl refl refl (told_by old new s before after changed);
         stands = stands_still d (with_one d s n) old new s before after stands seat.below changed
             (comes_one d s n after refl stands.links (stands_failing (beside_of d s) m failing after (keeps (beside_of d s) m there))
-            (record { told = λ x at u fails. set_on disk on (disks_in before) (disks_in after) m.failing (stands.failing s before seat.below changed.there).told sets x at u fails })
+            (record { told = λ x at u fails. set_on disk on (disks_told before) (disks_told after) m.failing (stands.failing s before seat.below changed.there).told sets x at u fails })
             (fused_set m n before after disk on refl sets (stands.fuses s before seat.below changed.there)) (role_kept d old s before after stands seat.below changed.there role))
             (fact_same n ((with_one d s n).world.nodes s) (d.world.links s) (d.world.links s) d.world.sites d.world.sites (at_place d.world.nodes s n) (λ k. refl) refl
             ∙ fact_like m n (d.world.links s) d.world.sites (failing_fact m failing) (λ k l. refl))

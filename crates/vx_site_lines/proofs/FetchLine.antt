@@ -23,8 +23,8 @@ use Rattle.vx_diskset.specs.Asked.{LeavesAlone}
 use Rattle.vx_diskset.specs.DiskSets.{CanRead}
 use Rattle.vx_diskset.specs.Fetching.{GaveAt}
 use Rattle.vx_diskset.specs.Fuses.{LeftAs}
-use Rattle.vx_diskset.specs.Holds.{Beside, beside_of}
-use Rattle.vx_diskset.specs.Stands.{IsToldAt, KeepsRole, StandsAt}
+use Rattle.vx_diskset.specs.Holds.{KeptBeside, beside_of}
+use Rattle.vx_diskset.specs.Stands.{IsToldAt, KeepsRole, SiteStands}
 use Rattle.vx_diskset.specs.declared.disk_set.DiskSet.{DiskSet}
 use Rattle.vx_diskset.specs.declared.disk_set.DiskSet.TheVariants.{Bare, Spoiled, Up, Receives, Down, Gone}
 use Rattle.vx_events.proofs.Blocks.{shown_are}
@@ -35,7 +35,7 @@ use Rattle.vx_events.proofs.Steps.{read_step}
 use Rattle.vx_events.specs.Ends.{Ends, noted}
 use Rattle.vx_events.specs.Fails.{Fails}
 use Rattle.vx_events.proofs.Passing.{IsCall}
-use Rattle.vx_rvg.specs.Contents.{Shows}
+use Rattle.vx_rvg.specs.Contents.{ShowsContent}
 use Rattle.vx_events.specs.Facts.{group_by, group_fact, place_of, seat_of, site_number, volume_fact, volume_number}
 use Rattle.vx_events.specs.LinkedFacts.{linked_fact}
 use Rattle.vx_events.specs.Lines.{IsDone}
@@ -99,7 +99,7 @@ done_by told d line name volume start count fails said next (inr is) ends =
     subst (λ (l : ScriptLine). IsDone told d l fails said next) (sym is) (record { ends = ends (Show name volume start count) (λ c. refl) (λ v. refl); counts = tt; works = tt; calls = tt })
 
 got_ends : (told : Type 0) (d : Doubted) (line : ScriptLine) (k v start count : ℕ) (bytes : List ℕ) → ((c : Choice) → events_of d.world line c ≡ ReadAt k v start count ∷ []) → ((u : World) → noted k line u ≡ u)
-    → length bytes ≡ 512 * count → (told → IsCall d.world k v start count) → (told → Shows (d.world.nodes k).base v start count bytes) → Ends told d line k [] (Got bytes) (behind_read d k v start count)
+    → length bytes ≡ 512 * count → (told → IsCall d.world k v start count) → (told → ShowsContent (d.world.nodes k).base v start count bytes) → Ends told d line k [] (Got bytes) (behind_read d k v start count)
 got_ends told d line k v start count bytes list still size call shows =
     let e : Event = ReadAt k v start count in
     one_left told d line k first_choice e (outcome_of d.world e) (Got bytes) (step d.world e).world (list first_choice) refl refl
@@ -119,7 +119,7 @@ record Whole (n : Node) : Type 0 where
   named : (v : ℕ) (x : Volume) → slice_get n.volumes v ≡ Some x → n.base.size v ≡ x.blocks
 
 module _ {R : Type 0} {g : Ghosts R} where
-  whole_at : (beside : Beside) (n : Node) (e : DiskSet R g) → n.state ≡ IsUp → StandsAt beside n e → Whole n
+  whole_at : (beside : KeptBeside) (n : Node) (e : DiskSet R g) → n.state ≡ IsUp → SiteStands beside n e → Whole n
   whole_at beside n (Bare rack) up h = absurd (let e : IsBare ≡ IsUp = sym (ap (λ (k : Node). k.state) h.bare.is) ∙ up in cc)
   whole_at beside n (Spoiled rack) up h = absurd (let e : IsBare ≡ IsUp = sym (ap (λ (k : Node). k.state) h.is) ∙ up in cc)
   whole_at beside n (Up rvg) up h = record { few = h.lies.laid.few; named = h.lies.laid.named }
@@ -163,7 +163,7 @@ module _ {R : Type 0} {g : Ghosts R} where
   -- ---- the disk set gave the blocks, or one of its disks failed
 
   module _ (d : Doubted) (old new : Yard R g) (s : ℕ) (before after : DiskSet R g) (stands : StandsFor d old) (below : s < d.world.sites) (changed : Changed old new s before after) (alone : LeavesAlone before after) (keeps : KeepsRole before after)
-      (here : StandsAt (beside_of d s) (d.world.nodes s) after) (facts : new.facts ≡ old.facts) where
+      (here : SiteStands (beside_of d s) (d.world.nodes s) after) (facts : new.facts ≡ old.facts) where
     -- the disk set of the site, of which nothing changed
     comes : Comes d d s after
     comes =
@@ -176,7 +176,7 @@ module _ {R : Type 0} {g : Ghosts R} where
     comes_recounted = record {
       changes = record { sites = refl; nodes = λ i apart. refl; links = λ i k apart. refl; headers = λ i apart. no_more (d.world.headers i); after = λ i apart. refl; gathering = λ i apart. refl };
       links = recounted_fits d stands.links;
-      stands = subst (λ (b : Beside). StandsAt b (d.world.nodes s) after) (sym (beside_same d (recounted d d.world) s refl (λ k. refl) (no_more (d.world.headers s)) refl)) here;
+      stands = subst (λ (b : KeptBeside). SiteStands b (d.world.nodes s) after) (sym (beside_same d (recounted d d.world) s refl (λ k. refl) (no_more (d.world.headers s)) refl)) here;
       failing = comes.failing;
       fuse = comes.fuse;
       role = comes.role;
@@ -200,9 +200,9 @@ module _ {R : Type 0} {g : Ghosts R} where
       let can : CanRead (d.world.nodes k) v start count =
       subst (λ (i : ℕ). CanRead (d.world.nodes i) (volume_number (d.world.nodes i) volume) start count) (sym read.seat.number)
       (subst (λ (p : ℕ). CanRead (d.world.nodes s) p start count) (sym read.volume_is) read.can) in
-      let shows : IsToldAt after → Shows (d.world.nodes k).base v start count bytes =
-      λ told. subst (λ (i : ℕ). Shows (d.world.nodes i).base (volume_number (d.world.nodes i) volume) start count bytes) (sym read.seat.number)
-      (subst (λ (p : ℕ). Shows (d.world.nodes s).base p start count bytes) (sym read.volume_is) (gave.shows told)) in
+      let shows : IsToldAt after → ShowsContent (d.world.nodes k).base v start count bytes =
+      λ told. subst (λ (i : ℕ). ShowsContent (d.world.nodes i).base (volume_number (d.world.nodes i) volume) start count bytes) (sym read.seat.number)
+      (subst (λ (p : ℕ). ShowsContent (d.world.nodes s).base p start count bytes) (sym read.volume_is) (gave.shows told)) in
       let there : slice_get new.disk_sets.items s ≡ Some after =
       ap (λ es. slice_get es s) changed.disk_sets ∙ get-set_same old.disk_sets.items s after (slice_get_within old.disk_sets.items s before changed.there) in
       let led : (d.world.nodes k).role ≡ Primary = subst (λ (i : ℕ). (d.world.nodes i).role ≡ Primary) (sym read.seat.number) primary in

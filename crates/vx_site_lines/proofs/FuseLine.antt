@@ -22,8 +22,8 @@ use Rattle.vx_history.specs.World.{with_node}
 use Rattle.vx_disk.specs.Disks.{SameBlocks}
 use Rattle.vx_diskset.specs.Asked.{SetsFuse}
 use Rattle.vx_diskset.specs.Fuses.{HasLeft}
-use Rattle.vx_diskset.specs.Holds.{Beside, beside_of}
-use Rattle.vx_diskset.specs.Stands.{KeepsRole, StandsAt}
+use Rattle.vx_diskset.specs.Holds.{KeptBeside, beside_of}
+use Rattle.vx_diskset.specs.Stands.{KeepsRole, SiteStands}
 use Rattle.vx_yard.specs.OfSites.{OfSite}
 use Rattle.vx_yard.specs.Standing.{Leads, StandsFor}
 use Rattle.vx_yard.specs.Yards.{IsTold}
@@ -43,8 +43,8 @@ module _ {R : Type 0} {g : Ghosts R} where
       ap (λ (f : SiteFacts). f.state) (sym (fact_named d old name s (site_at d old name s stands seat) seat may.0)) ∙ may.1
 
   pub fuse_leads : (d : Doubted) (old new : Yard R g) (name : List ℕ) (calls pick s : ℕ) (before after : DiskSet R g) → StandsFor d old → IsFree old (Fuse name calls pick) → seat_of old.facts.items name ≡ Some s
-      → Changed old new s before after → KeepsRole before after → ((beside : Beside) (n : Node) → StandsAt beside n before → n.state ≡ IsUp → StandsAt beside (record n { fuse = FuseSet calls }) after)
-      → ((beside : Beside) (n : Node) → StandsAt beside n before → n.state ≡ IsUp → SetsFuse calls pick before after)
+      → Changed old new s before after → KeepsRole before after → ((beside : KeptBeside) (n : Node) → SiteStands beside n before → n.state ≡ IsUp → SiteStands beside (record n { fuse = FuseSet calls }) after)
+      → ((beside : KeptBeside) (n : Node) → SiteStands beside n before → n.state ≡ IsUp → SetsFuse calls pick before after)
       → new.facts ≡ old.facts → SameLoad old new → Leads d (Fuse name calls pick) Done old new
   fuse_leads d old new name calls pick s before after stands free is changed keeps fuses asked facts load =
       let seat = site_at d old name s stands is in
@@ -76,7 +76,7 @@ module _ {R : Type 0} {g : Ghosts R} where
       }
 
   pub fuse_asks : (d : Doubted) (old new : Yard R g) (name : List ℕ) (calls pick s : ℕ) (before after : DiskSet R g) → StandsFor d old → IsFree old (Fuse name calls pick) → seat_of old.facts.items name ≡ Some s
-      → Changed old new s before after → ((beside : Beside) (n : Node) → StandsAt beside n before → n.state ≡ IsUp → SetsFuse calls pick before after) → OfSite (SetsFuse calls pick) (site_number d.world name) old new
+      → Changed old new s before after → ((beside : KeptBeside) (n : Node) → SiteStands beside n before → n.state ≡ IsUp → SetsFuse calls pick before after) → OfSite (SetsFuse calls pick) (site_number d.world name) old new
   fuse_asks d old new name calls pick s before after stands free is changed asked =
       let seat = site_at d old name s stands is in
       asks_at (SetsFuse calls pick) d old new name s before after stands is changed.there changed.disk_sets

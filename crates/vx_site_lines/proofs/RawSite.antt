@@ -5,7 +5,7 @@ use Rattle.vx_history.proofs.Updates.{at_place}
 use Rattle.vx_history.specs.Doubts.{After, Doubted}
 use Rattle.vx_history.specs.KeptLinks.{kept_links}
 use Rattle.vx_history.specs.Refusals.{Outcome}
-use Rattle.vx_history.specs.Step.{counted, done as is_done, outcome_of}
+use Rattle.vx_history.specs.Step.{headers_counted, done as is_done, outcome_of}
 use Rattle.vx_history.specs.Steps.{raw_made, raw_set, raw_volumes}
 use Rattle.vx_history.specs.World.{Node, NoFuse, World}
 use Rattle.vx_history.specs.declared.event.Event.TheVariants.{Raw as MakeRaw}
@@ -18,7 +18,7 @@ use Rattle.vx_model.specs.declared.site.SiteState.{SiteState}
 use Rattle.vx_model.specs.declared.site.SiteState.TheVariants.{Bare as IsBare, Up as IsUp, Deported, Down as IsDown}
 use Rattle.vx_model.specs.declared.state.KeptLink.{KeptLink}
 use Rattle.vx_disk.specs.declared.shelf.Shelf.{Ghosts}
-use Rattle.vx_order.specs.Order.{refusal_of}
+use Rattle.vx_order.specs.Order.{line_refusal}
 use Rattle.vx_order.specs.Shapes.{raw_size, wrong_size}
 use Rattle.vx_order.specs.Subject.{first_name}
 use Rattle.vx_order.specs.declared.facts.LinkFacts.{LinkFacts}
@@ -27,9 +27,9 @@ use Rattle.vx_order.specs.declared.facts.VolumeFacts.{VolumeFacts}
 use Rattle.vx_script.specs.declared.line.ScriptLine.TheVariants.{Raw}
 use Rattle.vx_diskset.specs.Asked.{FailsAs, FusedAs, SameFailing}
 use Rattle.vx_diskset.specs.DiskSets.{MadeIs}
-use Rattle.vx_diskset.specs.Holds.{Beside, Kept, alone, beside_of, doubt_of, row_links}
+use Rattle.vx_diskset.specs.Holds.{KeptBeside, KeptSite, site_alone, beside_of, doubt_of, row_links}
 use Rattle.vx_diskset.specs.Layouts.{CanBeRaw}
-use Rattle.vx_diskset.specs.Stands.{RoleIs, StandsAlone, StandsAt}
+use Rattle.vx_diskset.specs.Stands.{RoleIs, StandsAlone, SiteStands}
 use Rattle.vx_diskset.specs.declared.disk_set.DiskSet.{DiskSet}
 use Rattle.vx_diskset.specs.declared.disk_set.DiskSet.TheVariants.{Bare, Spoiled, Up, Receives, Down, Gone}
 use Rattle.vx_effects.proofs.Fitting.{fit_happened}
@@ -83,12 +83,12 @@ bare_sure d s bare fits = by (d.after s) refl
     by (Some a) is = absurd (never (sym bare ∙ (fits.doubts s a is).up))
 
 -- the same of one that has these links and headers
-beside_blank : (d : Doubted) (s headers : ℕ) → row_links (d.world.links s) d.world.sites ≡ [] → headers ≡ 0 → (o : Option Kept) → o ≡ None
-    → (let b : Beside = record { links = row_links (d.world.links s) d.world.sites; headers = headers; doubt = o } in b) ≡ alone
+beside_blank : (d : Doubted) (s headers : ℕ) → row_links (d.world.links s) d.world.sites ≡ [] → headers ≡ 0 → (o : Option KeptSite) → o ≡ None
+    → (let b : KeptBeside = record { links = row_links (d.world.links s) d.world.sites; headers = headers; doubt = o } in b) ≡ site_alone
 beside_blank d s headers links none o sure =
-    ap (λ (ls : List KeptLink). let b : Beside = record { links = ls; headers = headers; doubt = o } in b) links
-    ∙ ap (λ (k : ℕ). let b : Beside = record { links = []; headers = k; doubt = o } in b) none
-    ∙ ap (λ (x : Option Kept). let b : Beside = record { links = []; headers = 0; doubt = x } in b) sure
+    ap (λ (ls : List KeptLink). let b : KeptBeside = record { links = ls; headers = headers; doubt = o } in b) links
+    ∙ ap (λ (k : ℕ). let b : KeptBeside = record { links = []; headers = k; doubt = o } in b) none
+    ∙ ap (λ (x : Option KeptSite). let b : KeptBeside = record { links = []; headers = 0; doubt = x } in b) sure
 
 -- ---- the event
 
@@ -97,12 +97,12 @@ origin_receives : is_origin Primary ≡ false → ⊥
 origin_receives e = cc
 
 abbrev raw_event : Doubted → ℕ → Doubted
-raw_event d s = record d { world = (counted d.world (MakeRaw s) (is_done (raw_made d.world s))).world }
+raw_event d s = record d { world = (headers_counted d.world (MakeRaw s) (is_done (raw_made d.world s))).world }
 
 raw_fits : (d : Doubted) (s : ℕ) → outcome_of d.world (MakeRaw s) ≡ is_done (raw_made d.world s) → LinksFit d → LinksFit (raw_event d s)
-raw_fits d s at fits = subst (λ (o : Outcome). LinksFit (record d { world = (counted d.world (MakeRaw s) o).world })) at (fit_happened d (MakeRaw s) false fits)
+raw_fits d s at fits = subst (λ (o : Outcome). LinksFit (record d { world = (headers_counted d.world (MakeRaw s) o).world })) at (fit_happened d (MakeRaw s) false fits)
 
-raw_beside : (d : Doubted) (s : ℕ) → (d.world.nodes s).state ≡ IsBare → LinksFit d → beside_of (raw_event d s) s ≡ alone
+raw_beside : (d : Doubted) (s : ℕ) → (d.world.nodes s).state ≡ IsBare → LinksFit d → beside_of (raw_event d s) s ≡ site_alone
 raw_beside d s bare fits =
     let blank = fits.bare s bare in
     beside_blank d s (d.world.headers s + 0) (blank_sites d s blank d.world.sites) (no_more (d.world.headers s) ∙ blank.headers) (doubt_of (raw_event d s).world s (d.after s))
@@ -120,7 +120,7 @@ blank_fact d s n blank =
     ap (λ (ls : List LinkFacts). let f : SiteFacts = record (site_fact n) { links = ls } in f)
     (ap (λ (ss : List ℕ). links_by n.state (link_facts n (d.world.links s) ss)) (no_sites (d.world.links s) d.world.sites 0 d.world.sites blank.links) ∙ shows_none n.state)
 
-raw_outcome : (w : World) (files : Bool) (facts : List SiteFacts) (name : List ℕ) (s : ℕ) → refusal_of facts files (Raw name) ≡ None → s < w.sites → (w.nodes s).state ≡ IsBare
+raw_outcome : (w : World) (files : Bool) (facts : List SiteFacts) (name : List ℕ) (s : ℕ) → line_refusal facts files (Raw name) ≡ None → s < w.sites → (w.nodes s).state ≡ IsBare
     → ((n : Named facts name) → n.facts ≡ linked_fact w s) → outcome_of w (MakeRaw s) ≡ is_done (raw_made w s)
 unfolding first_name wrong_size
 raw_outcome w files facts name s free below bare named_is =
@@ -132,7 +132,7 @@ raw_outcome w files facts name s free below bare named_is =
     raw_step w s below bare (subst (λ (f : SiteFacts). is_raw_shape f.disks f.blocks ≡ true) (named_is may.0) shape)
 
 module _ {R : Type 0} {g : Ghosts R} where
-  pub bare_at : (beside : Beside) (n : Node) (e : DiskSet R g) → StandsAt beside n e → n.state ≡ IsBare → (n.parent ≡ no_line) × (n.low ≡ 1) × (n.fuse ≡ NoFuse)
+  pub bare_at : (beside : KeptBeside) (n : Node) (e : DiskSet R g) → SiteStands beside n e → n.state ≡ IsBare → (n.parent ≡ no_line) × (n.low ≡ 1) × (n.fuse ≡ NoFuse)
   bare_at beside n (Bare rack) stands is = (ap (λ (k : Node). k.parent) stands.bare.is, ap (λ (k : Node). k.low) stands.bare.is, ap (λ (k : Node). k.fuse) stands.bare.is)
   bare_at beside n (Spoiled rack) stands is = (ap (λ (k : Node). k.parent) stands.is, ap (λ (k : Node). k.low) stands.is, ap (λ (k : Node). k.fuse) stands.is)
   bare_at beside n (Up rvg) stands is = absurd (let e : IsBare ≡ IsUp = sym is ∙ stands.state in cc)
@@ -164,7 +164,7 @@ module _ {R : Type 0} {g : Ghosts R} where
 
   pub raw_leads : (d : Doubted) (old new : Yard R g) (name : List ℕ) (s : ℕ) (site : SiteFacts) (volumes : List VolumeFacts) (before after : DiskSet R g) (r : Result (Unit {0}) Stop) (done : Unit {0}) → StandsFor d old → IsFree old (Raw name)
       → seat_of old.facts.items name ≡ Some s → slice_get old.facts.items s ≡ Some site → volumes ≡ map volume_fact (raw_volumes 1 (site.disks - 2) site.blocks)
-      → Changed old new s before after → SameFailing before after → r ≡ Ok done → ((beside : Beside) (n : Node) → StandsAt beside n before → n.state ≡ IsBare → CanBeRaw n.disks n.blocks → MadeIs s n before after r)
+      → Changed old new s before after → SameFailing before after → r ≡ Ok done → ((beside : KeptBeside) (n : Node) → SiteStands beside n before → n.state ≡ IsBare → CanBeRaw n.disks n.blocks → MadeIs s n before after r)
       → new.facts.items ≡ slice_set old.facts.items s (raw_facts s volumes site) → SameLoad old new → Leads d (Raw name) Done old new
   raw_leads d old new name s site volumes before after r done stands free is there table changed same ok made facts load =
       let found = raw_site d old name s site stands free is there in
@@ -185,7 +185,7 @@ module _ {R : Type 0} {g : Ghosts R} where
           gathering = λ i apart. refl;
         };
         links = raw_fits d s found.outcome stands.links;
-        stands = subst (λ (m : Node). StandsAt (beside_of e s) m after) here (subst (λ (b : Beside). StandsAt b (raw_set s n) after) (sym (raw_beside d s found.bare stands.links)) stands_now);
+        stands = subst (λ (m : Node). SiteStands (beside_of e s) m after) here (subst (λ (b : KeptBeside). SiteStands b (raw_set s n) after) (sym (raw_beside d s found.bare stands.links)) stands_now);
         failing = subst (λ (m : Node). FailsAs m after) here (fails_then n (raw_set s n) before after refl same (stands.failing s before found.seat.below changed.there));
         fuse = subst (λ (m : Node). FusedAs m after) here (fused_none (raw_set s n) after parts.2);
         role = subst (λ (m : Node). RoleIs m after) here (role_origin (raw_set s n) after refl);
@@ -213,7 +213,7 @@ module _ {R : Type 0} {g : Ghosts R} where
 
   pub raw_stops : (stop : Stop) (said : Result Said MemoryError) (d : Doubted) (old new : Yard R g) (name : List ℕ) (s : ℕ) (site : SiteFacts) (before after : DiskSet R g) (r : Result (Unit {0}) Stop) → said ≡ reply_to stop → StandsFor d old
       → IsFree old (Raw name) → seat_of old.facts.items name ≡ Some s → slice_get old.facts.items s ≡ Some site → Changed old new s before after → SameFailing before after → r ≡ Err stop
-      → ((beside : Beside) (n : Node) → StandsAt beside n before → n.state ≡ IsBare → CanBeRaw n.disks n.blocks → MadeIs s n before after r)
+      → ((beside : KeptBeside) (n : Node) → SiteStands beside n before → n.state ≡ IsBare → CanBeRaw n.disks n.blocks → MadeIs s n before after r)
       → new.facts ≡ old.facts → SameLoad old new → LeadsIs d (Raw name) old new said
   raw_stops stop said d old new name s site before after r says stands free is there changed same err made facts load =
       subst (λ r. LeadsIs d (Raw name) old new r) (sym says) (by_stop stop (subst (MadeIs s n before after) err (made (beside_of d s) n stood found.bare found.can)))
@@ -224,10 +224,10 @@ module _ {R : Type 0} {g : Ghosts R} where
       found : IsRawSite d old name s site
       found = raw_site d old name s site stands free is there
 
-      stood : StandsAt (beside_of d s) n before
+      stood : SiteStands (beside_of d s) n before
       stood = stands.disk_sets.sites s before found.seat.below changed.there
 
-      stays : StandsAt (beside_of d s) n after → StandsFor d new
+      stays : SiteStands (beside_of d s) n after → StandsFor d new
       stays here = stands_still d d old new s before after stands found.seat.below changed
           (comes_same d s after stands.links here (fails_then n n before after refl same (stands.failing s before found.seat.below changed.there))
           (fused_none n after (bare_at (beside_of d s) n before stood found.bare).2)

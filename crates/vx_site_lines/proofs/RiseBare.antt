@@ -15,8 +15,8 @@ use Rattle.vx_disk.specs.declared.shelf.Shelf.{Ghosts}
 use Rattle.vx_courier.specs.UnderWay.{FlightStands}
 use Rattle.vx_diskset.specs.Asked.{SameFailing}
 use Rattle.vx_diskset.specs.DiskSets.{BareUp, BareUpIs, Later, RoseAt}
-use Rattle.vx_diskset.specs.Holds.{Beside, beside_of, row_links, state_with}
-use Rattle.vx_diskset.specs.Stands.{IsToldAt, RoleIs, StandsAt, faults_at}
+use Rattle.vx_diskset.specs.Holds.{KeptBeside, beside_of, row_links, state_with}
+use Rattle.vx_diskset.specs.Stands.{IsToldAt, RoleIs, SiteStands, faults_at}
 use Rattle.vx_diskset.specs.declared.disk_set.DiskSet.{DiskSet}
 use Rattle.vx_diskset.proofs.KeepsFailing.{failing_same}
 use Rattle.vx_diskset.proofs.TakenBack.{any_links}
@@ -24,14 +24,14 @@ use Rattle.vx_history.proofs.Updates.{and_left, and_right}
 use Rattle.vx_history.specs.Doubts.{Doubted, happened}
 use Rattle.vx_history.specs.Events.{recovery_greeting}
 use Rattle.vx_history.specs.Refusals.{Outcome, refused}
-use Rattle.vx_history.specs.Step.{counted}
+use Rattle.vx_history.specs.Step.{headers_counted}
 use Rattle.vx_history.specs.Steps.{raw_set, raw_volumes}
 use Rattle.vx_history.specs.World.{Link, Node, NoFuse, Packet, World}
 use Rattle.vx_history.specs.declared.event.Event.{Event}
 use Rattle.vx_history.specs.declared.event.Event.TheVariants.{Recover as RecoverAt}
 use Rattle.vx_effects.proofs.Leaving.{fit_found}
 use Rattle.vx_effects.proofs.Restarts.{found_again, found_fits, found_kept}
-use Rattle.vx_effects.specs.Restarts.{are_fine, row_of}
+use Rattle.vx_effects.specs.Restarts.{are_fine, row_of_kept}
 use Rattle.vx_events.proofs.Places.{some_same}
 use Rattle.vx_events.proofs.Steps.{bare_step}
 use Rattle.vx_events.specs.Effects.{EffectAt}
@@ -85,7 +85,7 @@ module _ {R : Type 0} {g : Ghosts R} where
   comes_counted d s after comes = record {
     changes = record { sites = refl; nodes = λ i apart. refl; links = λ i k apart. refl; headers = λ i apart. no_more (d.world.headers i); after = λ i apart. refl; gathering = λ i apart. refl };
     links = recounted_fits d comes.links;
-    stands = subst (λ (b : Beside). StandsAt b (d.world.nodes s) after) (sym (beside_same d (recounted d d.world) s refl (λ k. refl) (no_more (d.world.headers s)) refl)) comes.stands;
+    stands = subst (λ (b : KeptBeside). SiteStands b (d.world.nodes s) after) (sym (beside_same d (recounted d d.world) s refl (λ k. refl) (no_more (d.world.headers s)) refl)) comes.stands;
     failing = comes.failing;
     fuse = comes.fuse;
     role = comes.role;
@@ -97,7 +97,7 @@ module _ {R : Type 0} {g : Ghosts R} where
     abbrev n : Node
     n = d.world.nodes s
 
-    stood : StandsAt (beside_of d s) n before
+    stood : SiteStands (beside_of d s) n before
     stood = stands.disk_sets.sites s before below there
 
     unfused : n.fuse ≡ NoFuse
@@ -105,7 +105,7 @@ module _ {R : Type 0} {g : Ghosts R} where
 
     -- ---- it stays bare
 
-    module _ (new : Yard R g) (replaced : Replaced old new s after) (at : StandsAt (beside_of d s) n after) where
+    module _ (new : Yard R g) (replaced : Replaced old new s after) (at : SiteStands (beside_of d s) n after) where
       changed : Changed old new s before after
       changed = record { there = there; later = later; disk_sets = replaced.disk_sets; racks = replaced.racks }
 
@@ -177,7 +177,7 @@ module _ {R : Type 0} {g : Ghosts R} where
       k = record found.node { fed_by = found.node.other }
 
       abbrev row : ℕ → Link
-      row = row_of state.links
+      row = row_of_kept state.links
 
       abbrev next : Doubted
       next = found_linked d s k row
@@ -197,7 +197,7 @@ module _ {R : Type 0} {g : Ghosts R} where
 
       comes_as : ComesUpAs s d.world.sites (raw_set s n) k row
       comes_as = record {
-        same = let x = found.same in record { name = x.name; disks = x.disks; blocks = x.blocks; volumes = x.volumes; up = x.up; running = x.running; failing = x.failing; fuse = x.fuse };
+        same = let x = found.same in record { name = x.name; disks = x.disks; blocks = x.blocks; volumes = x.volumes; up = x.up; running = x.running; failing = x.failing; fuse = x.fuse; group = x.group };
         whole = found.whole;
         quiet = ap (λ (x : State). x.phase) (sym risen.kept)
             ∙ quiet_is state.phase (and_left (is_quiet state.phase) (are_fine s d.world.sites state.links && (is_origin state.role || is_none state.links)) may);
@@ -206,10 +206,10 @@ module _ {R : Type 0} {g : Ghosts R} where
         starts = row_starts state.links (is_origin k.role) origin;
       }
 
-      abbrev beside_now : Beside
+      abbrev beside_now : KeptBeside
       beside_now = record { links = row_links row d.world.sites; headers = d.world.headers s; doubt = None }
 
-      stands_now : StandsAt beside_now k after
+      stands_now : SiteStands beside_now k after
       stands_now = any_links lawful beside_now beside_now found.node found.node.other after found.untold refl found.same.up (found.stands beside_now refl)
 
       fact_is : site ≡ linked_fact d.world s
@@ -259,6 +259,7 @@ module _ {R : Type 0} {g : Ghosts R} where
         name = ap (λ (x : SiteFacts). x.name) fact_is ∙ sym found.same.name;
         disks = ap (λ (x : SiteFacts). x.disks) fact_is ∙ sym found.same.disks;
         blocks = blocks_is ∙ sym found.same.blocks;
+        grouped = ap (λ (x : SiteFacts). x.grouped) fact_is;
         volumes = table ∙ ap (λ (x : SiteFacts). map volume_fact (raw_volumes 1 (x.disks - 2) x.blocks)) fact_is ∙ ap (map volume_fact) (sym found.same.volumes);
       }
 

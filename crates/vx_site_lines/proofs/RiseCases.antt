@@ -12,9 +12,9 @@ use Rattle.vx_disk.specs.Shelf.{Lawful}
 use Rattle.vx_disk.specs.declared.shelf.Shelf.{Ghosts}
 use Rattle.vx_diskset.specs.Asked.{SameFailing}
 use Rattle.vx_diskset.specs.DiskSets.{BareUp, BareUpBy, BareUpByIs, CameUp, CameUpBy, CameUpByIs, CrashedAt, Later}
-use Rattle.vx_diskset.specs.Holds.{Beside, alone, beside_of, doubt_of, links_of, state_with}
+use Rattle.vx_diskset.specs.Holds.{KeptBeside, site_alone, beside_of, doubt_of, header_links, state_with}
 use Rattle.vx_diskset.specs.Layouts.{CanBeRaw}
-use Rattle.vx_diskset.specs.Stands.{IsToldAt, StandsAt}
+use Rattle.vx_diskset.specs.Stands.{IsToldAt, SiteStands}
 use Rattle.vx_diskset.specs.Withdrawn.{IsBareOf}
 use Rattle.vx_diskset.specs.declared.disk_set.DiskSet.{DiskSet}
 use Rattle.vx_diskset.specs.declared.disk_set.DiskSet.TheVariants.{Bare, Spoiled, Up, Receives, Down, Gone}
@@ -58,14 +58,14 @@ module _ {R : Type 0} {g : Ghosts R} where
       (from : RisesFrom d s c taken h) (fit_d : LinksFit d) (stands : StandsFor (own_disks taken s d.world h) old) (below : s < h.world.sites)
       (down : ((own_disks taken s d.world h).world.nodes s).state ≡ IsDown) (ring_is : ring ≡ ring_of ((own_disks taken s d.world h).world.nodes s).blocks) (room : ℕ) (room_is : room ≡ ring)
       (before up : DiskSet R g) (there : slice_get old.disk_sets.items s ≡ Some before) (later : Later before up) (same : SameFailing before up) (r : Result (Unit {0}) No)
-      (recovered : (beside : Beside) (n : Node) → StandsAt beside n before → n.state ≡ IsDown → room ≡ n.ring → CameUpByIs beside n before up r) where
+      (recovered : (beside : KeptBeside) (n : Node) → SiteStands beside n before → n.state ≡ IsDown → room ≡ n.ring → CameUpByIs beside n before up r) where
     abbrev mid : Doubted
     mid = own_disks taken s d.world h
 
     abbrev m : Node
     m = mid.world.nodes s
 
-    stood : StandsAt (beside_of mid s) m before
+    stood : SiteStands (beside_of mid s) m before
     stood = stands.disk_sets.sites s before (omega (arith, below, own_sites s d.world h taken)) there
 
     came_by : CameUpByIs (beside_of mid s) m before up r
@@ -92,8 +92,8 @@ module _ {R : Type 0} {g : Ghosts R} where
 
       -- and stands up
       pub rises_up : (y new : Yard R g) (state : State) (used : List ℕ) (said : Said) → RisesTo s ring state used said y new
-          → ((beside : Beside) (n : Node) → StandsAt beside n up → n.state ≡ IsUp → n.halted ≡ None → IsRisen s sites n state used)
-          → ((beside : Beside) (n : Node) → StandsAt beside n up → n.state ≡ IsUp → n.halted ≡ None → IsToldAt up → state.links ≡ beside.links)
+          → ((beside : KeptBeside) (n : Node) → SiteStands beside n up → n.state ≡ IsUp → n.halted ≡ None → IsRisen s sites n state used)
+          → ((beside : KeptBeside) (n : Node) → SiteStands beside n up → n.state ≡ IsUp → n.halted ≡ None → IsToldAt up → state.links ≡ beside.links)
           → Replaced old y s up → LeadsFrom mid d (Recover name) said old new
       rises_up y new state used said rises risen links replaced =
           stood_up lawful d h old s ring c taken name number from fit_d stands below down ring_is before up there later same y new replaced sites state used said rises sites_mid by.came by.role
@@ -101,15 +101,15 @@ module _ {R : Type 0} {g : Ghosts R} where
 
       -- and goes down again, as it may not stand up with what its log keeps
       module _ (after : DiskSet R g) (new : Yard R g)
-          (none : (beside : Beside) (n : Node) → StandsAt beside n up → n.state ≡ IsUp → n.halted ≡ None → IsToldAt up
+          (none : (beside : KeptBeside) (n : Node) → SiteStands beside n up → n.state ≡ IsUp → n.halted ≡ None → IsToldAt up
           → ((k : ℕ) (l : KeptLink) → slice_get beside.links k ≡ Some l → is_origin n.role ≡ true) → can_rise s sites (state_with n beside.links) ≡ true → false ≡ true)
-          (crashes : (beside : Beside) (n : Node) → StandsAt beside n up → n.state ≡ IsUp → CrashedAt beside n after) (fell : Later up after) (fails : SameFailing up after)
+          (crashes : (beside : KeptBeside) (n : Node) → SiteStands beside n up → n.state ≡ IsUp → CrashedAt beside n after) (fell : Later up after) (fails : SameFailing up after)
           (replaced : Replaced old new s after) where
         refuted : IsToldAt up → ⊥
         refuted told =
             let e : false ≡ true = none (beside_of mid s) came.node came.stands came.same.up came.same.running told
             (told_origin lawful d h old s ring c taken from fit_d stands below down ring_is before up there same came told)
-            (ap (λ (n : ℕ). can_rise s n (state_with came.node (links_of mid.world s))) sites_mid
+            (ap (λ (n : ℕ). can_rise s n (state_with came.node (header_links mid.world s))) sites_mid
             ∙ told_may lawful d h old s ring c taken from fit_d stands below down ring_is before up there same came told) in
             cc
 
@@ -122,7 +122,7 @@ module _ {R : Type 0} {g : Ghosts R} where
 
   -- ---- a bare site
 
-  bare_of : (beside : Beside) (n k : Node) (e : DiskSet R g) → StandsAt beside n e → n.state ≡ IsBare → k.disks ≡ n.disks → k.blocks ≡ n.blocks → IsBareOf n k
+  bare_of : (beside : KeptBeside) (n k : Node) (e : DiskSet R g) → SiteStands beside n e → n.state ≡ IsBare → k.disks ≡ n.disks → k.blocks ≡ n.blocks → IsBareOf n k
   bare_of beside n k (Bare rack) h bare disks blocks = record { is = h.bare.is; few = h.bare.few; some = h.bare.some; disks = disks; blocks = blocks }
   bare_of beside n k (Spoiled rack) h bare disks blocks = record { is = h.is; few = h.few; some = h.some; disks = disks; blocks = blocks }
   bare_of beside n k (Up rvg) h bare disks blocks = absurd (let e : IsBare ≡ IsUp = sym bare ∙ h.state in cc)
@@ -146,14 +146,14 @@ module _ {R : Type 0} {g : Ghosts R} where
     module _ (one two : SiteFacts) (at_one : slice_get old.facts.items s ≡ Some one) (at_two : slice_get old.facts.items s ≡ Some two) (can : CanBeRaw one.disks two.blocks) (room : ℕ)
         (room_is : room ≡ ring_of two.blocks) (before up : DiskSet R g) (there : slice_get old.disk_sets.items s ≡ Some before) (later : Later before up) (same : SameFailing before up)
         (r : Result (Unit {0}) No)
-        (found : (beside : Beside) (k : Node) → StandsAt beside k before → k.state ≡ IsBare → CanBeRaw k.disks k.blocks → room ≡ ring_of k.blocks → BareUpByIs k before up r) where
+        (found : (beside : KeptBeside) (k : Node) → SiteStands beside k before → k.state ≡ IsBare → CanBeRaw k.disks k.blocks → room ≡ ring_of k.blocks → BareUpByIs k before up r) where
       one_is : one ≡ linked_fact d.world s
       one_is = some_same (sym at_one ∙ fact_of d old s stands below)
 
       two_is : two ≡ linked_fact d.world s
       two_is = some_same (sym at_two ∙ fact_of d old s stands below)
 
-      stood_bare : StandsAt (beside_of d s) n before
+      stood_bare : SiteStands (beside_of d s) n before
       stood_bare = stands.disk_sets.sites s before below there
 
       up_by : BareUpByIs n before up r
@@ -177,7 +177,7 @@ module _ {R : Type 0} {g : Ghosts R} where
         -- a site came up of them, and stands up
         pub bare_up : (lawful : (r : R) → Lawful (g.meaning r)) (y new : Yard R g) (three : SiteFacts) (volumes : List VolumeFacts) (ring sites : ℕ) (state : State) (used : List ℕ) (said : Said)
             → RisesTo s ring state used said y new → slice_get old.facts.items s ≡ Some three → volumes ≡ map volume_fact (raw_volumes 1 (one.disks - 2) two.blocks) → ring ≡ ring_of two.blocks
-            → sites ≡ length old.facts.items → ((beside : Beside) (k : Node) → StandsAt beside k up → k.state ≡ IsUp → k.halted ≡ None → IsRisen s sites k state used)
+            → sites ≡ length old.facts.items → ((beside : KeptBeside) (k : Node) → SiteStands beside k up → k.state ≡ IsUp → k.halted ≡ None → IsRisen s sites k state used)
             → y.facts.items ≡ slice_set old.facts.items s (raw_facts s volumes three) → y.disk_sets.items ≡ slice_set old.disk_sets.items s up → y.racks ≡ old.racks → y.flight ≡ old.flight
             → y.assemblies ≡ old.assemblies → y.feeders ≡ old.feeders → Leads d (Recover name) said old new
         bare_up lawful y new three volumes ring sites state used said rises at_three table ring_is sites_is risen facts disk_sets racks flight assemblies feeders =
@@ -186,14 +186,14 @@ module _ {R : Type 0} {g : Ghosts R} where
             (table ∙ ap (λ (f : SiteFacts). map volume_fact (raw_volumes 1 (f.disks - 2) two.blocks)) (some_same (sym at_one ∙ at_three))
             ∙ ap (λ (f : SiteFacts). map volume_fact (raw_volumes 1 (three.disks - 2) f.blocks)) two_three)
             (ring_is ∙ ap (λ (f : SiteFacts). ring_of f.blocks) two_three) facts disk_sets racks flight assemblies feeders rises (sites_is ∙ many_sites d old stands) rose_by.came rose_by.role
-            (risen alone rose_by.came.node (rose_by.came.stands alone refl) rose_by.came.same.up rose_by.came.same.running)
+            (risen site_alone rose_by.came.node (rose_by.came.stands site_alone refl) rose_by.came.same.up rose_by.came.same.running)
 
         -- and is bare again, as it may not stand up with what its log keeps
         pub bare_again : (after : DiskSet R g) (new : Yard R g)
-            → ((beside : Beside) (n k : Node) → StandsAt beside k up → k.state ≡ IsUp → IsBareOf n k → (IsToldAt after → ⊥) → (other : Beside) → StandsAt other n after) → Later up after
+            → ((beside : KeptBeside) (n k : Node) → SiteStands beside k up → k.state ≡ IsUp → IsBareOf n k → (IsToldAt after → ⊥) → (other : KeptBeside) → SiteStands other n after) → Later up after
             → SameFailing up after → Replaced old new s after → Leads d (Recover name) (Refused NoConfig) old new
         bare_again after new withdraws fell fails replaced =
             untold_none d old s name number stands below bare before after there (later_then before up after later fell) (failing_then before up after same fails) new replaced
-            (withdraws alone n rose.node (rose.stands alone refl) rose.same.up (bare_of (beside_of d s) n rose.node before stood_bare bare rose.same.disks rose.same.blocks)
+            (withdraws site_alone n rose.node (rose.stands site_alone refl) rose.same.up (bare_of (beside_of d s) n rose.node before stood_bare bare rose.same.disks rose.same.blocks)
             (λ told. rose.untold (fell.told told)) (beside_of d s))
             NoConfig tt (λ told. rose.untold (fell.told told))

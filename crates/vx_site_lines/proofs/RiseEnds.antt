@@ -26,7 +26,7 @@ use Rattle.vx_events.specs.Fails.{Fails}
 use Rattle.vx_events.specs.Found.{ComesUpAs}
 use Rattle.vx_events.specs.LinkViews.{linked_view}
 use Rattle.vx_events.specs.Lists.{Choice, events_of, recovery_of}
-use Rattle.vx_events.specs.Sayings.{Repeats, Replies}
+use Rattle.vx_events.specs.Sayings.{RepeatsSaid, Replies}
 use Rattle.vx_events.specs.Stamps.{most_stamp_at}
 use Rattle.vx_events.specs.declared.said.Said.{Said}
 use Rattle.vx_events.specs.declared.said.Said.TheVariants.{Recovered, Refused}
@@ -90,8 +90,8 @@ module _ (T : Type 0) (d h : Doubted) (s : ℕ) (c : Choice) (taken : Bool) (nam
   rose_ends last said below down free last_is says =
       let v : World = (step h.world (RecoverAt s None)).world in
       let said_is : (step h.world (RecoverAt s None)).said ≡ IsRecovered (length (h.world.nodes s).log) = ap (λ (o : Outcome). o.said) (recover_step h.world s None below down free) in
-      let repeats : Repeats v s (step h.world (RecoverAt s None)).said said =
-      subst (λ (x : EventSaid). Repeats v s x said) (sym said_is) (says ∙ ap (λ (k : ℕ). Recovered k (linked_view v s)) last_is) in
+      let repeats : RepeatsSaid v s (step h.world (RecoverAt s None)).said said =
+      subst (λ (x : EventSaid). RepeatsSaid v s x said) (sym said_is) (says ∙ ap (λ (k : ℕ). Recovered k (linked_view v s)) last_is) in
       AllDone c taken refl
       (subst (λ (es : List Event). Replies T line s taken d es said) (sym opens.list) (opens.says T said repeats))
       (subst (λ (es : List Event). IsLeft s line taken d (run_as taken d es) (own_disks taken s d.world (happened h (RecoverAt s None) taken))) (sym opens.list) (left_by (RecoverAt s None ∷ [])))

@@ -14,8 +14,8 @@ use Rattle.vx_disk.specs.declared.shelf.Shelf.{Ghosts}
 use Rattle.vx_courier.specs.UnderWay.{FlightStands}
 use Rattle.vx_diskset.specs.Asked.{FailsAs, FusedAs, SameFailing}
 use Rattle.vx_diskset.specs.DiskSets.{CameUp, CameUpIs, CrashedAt, Later, RoseAt, StillDown, no_number}
-use Rattle.vx_diskset.specs.Holds.{Beside, Kept, beside_of, doubt_of, itself, links_of, row_links, state_with, sure_of}
-use Rattle.vx_diskset.specs.Stands.{IsToldAt, RoleIs, StandsAt}
+use Rattle.vx_diskset.specs.Holds.{KeptBeside, KeptSite, beside_of, doubt_of, itself, header_links, row_links, state_with, sure_of}
+use Rattle.vx_diskset.specs.Stands.{IsToldAt, RoleIs, SiteStands}
 use Rattle.vx_diskset.specs.declared.disk_set.DiskSet.{DiskSet}
 use Rattle.vx_diskset.specs.declared.disk_set.DiskSet.TheVariants.{Bare, Spoiled, Up, Receives, Down, Gone}
 use Rattle.vx_diskset.proofs.TakenBack.{any_down}
@@ -27,7 +27,7 @@ use Rattle.vx_history.specs.declared.event.Event.TheVariants.{Recover as Recover
 use Rattle.vx_effects.proofs.Fitting.{fit_happened}
 use Rattle.vx_effects.proofs.Leaving.{fit_disks}
 use Rattle.vx_effects.proofs.Rises.{session_effect}
-use Rattle.vx_effects.specs.Restarts.{row_of}
+use Rattle.vx_effects.specs.Restarts.{row_of_kept}
 use Rattle.vx_events.proofs.Places.{never_some, some_same}
 use Rattle.vx_events.specs.Effects.{EffectAt}
 use Rattle.vx_events.specs.Ends.{Ends, IsNoDevice, found_linked}
@@ -134,7 +134,7 @@ module _ {R : Type 0} {g : Ghosts R} where
           ∙ ap (λ (k : ℕ). slice_set old.facts.items s (risen_facts state k ring used f)) last_is
 
       sees : (k : Node) → SameDisks m k → SeesDisks k f
-      sees k disks = record { name = sym disks.name; disks = sym disks.disks; blocks = sym disks.blocks; volumes = ap (map volume_fact) (sym disks.volumes) }
+      sees k disks = record { name = sym disks.name; disks = sym disks.disks; blocks = sym disks.blocks; grouped = refl; volumes = ap (map volume_fact) (sym disks.volumes) }
 
       feeders_are : new.feeders.items ≡ slice_set old.feeders.items s state.other
       feeders_are = rises.feeders ∙ ap (λ fs. slice_set fs.items s state.other) replaced.feeders
@@ -202,10 +202,10 @@ module _ {R : Type 0} {g : Ghosts R} where
         found_node = record came.node { fed_by = came.node.other }
 
         abbrev noted_node : Node
-        noted_node = record found_node { failing = (h.world.nodes s).failing }
+        noted_node = record found_node { failing = (h.world.nodes s).failing; group = (h.world.nodes s).group }
 
         abbrev found_row : ℕ → Link
-        found_row = row_of state.links
+        found_row = row_of_kept state.links
 
         abbrev found_last : Doubted
         found_last = found_linked h s noted_node found_row
@@ -228,7 +228,7 @@ module _ {R : Type 0} {g : Ghosts R} where
             (sym (untold_kept lawful d h old s ring c taken from fit_d stands below down ring_is before after there same came untold state may risen.kept)) (record { each = risen.needs.each })
 
         found_sees : SeesDisks found_node f
-        found_sees = let x = sees came.node came.same in record { name = x.name; disks = x.disks; blocks = x.blocks; volumes = x.volumes }
+        found_sees = let x = sees came.node came.same in record { name = x.name; disks = x.disks; blocks = x.blocks; grouped = x.grouped; volumes = x.volumes }
 
         found_stands : StandsFor found_next new
         found_stands = up_stands mid found_next old new s ring found_node found_row f state used before after stands below_mid changed found_up found_sees found_is found_needs facts_are
@@ -268,7 +268,7 @@ module _ {R : Type 0} {g : Ghosts R} where
       told_was : IsTold new → IsTold old
       told_was = told_by old new s before after changed_down
 
-      stood_down : StandsAt (beside_of mid s) m before
+      stood_down : SiteStands (beside_of mid s) m before
       stood_down = stands.disk_sets.sites s before below_mid there
 
       fuse_none : (n : Node) → n.fuse ≡ m.fuse → FusedAs n after
@@ -277,14 +277,14 @@ module _ {R : Type 0} {g : Ghosts R} where
       off : m.state ≡ IsUp → ⊥
       off up = let e : IsDown ≡ IsUp = sym down ∙ up in cc
 
-      stays : StandsAt (beside_of mid s) m after → StandsFor mid new
+      stays : SiteStands (beside_of mid s) m after → StandsFor mid new
       stays at =
           stands_still mid mid old new s before after stands below_mid changed_down
           (comes_same mid s after stands.links at (fails_then m m before after refl same (stands.failing s before below_mid there)) (fuse_none m refl)
           (role_off (beside_of mid s) m m after at off)) refl facts_still
 
       -- so the line ended, with no change or with failed calls alone
-      down_leads : (fails : Fails) (said : Said) → Ends (IsTold new) d (Recover name) s fails said mid → StandsAt (beside_of mid s) m after → RoseAll fails (count_of old) (count_of new)
+      down_leads : (fails : Fails) (said : Said) → Ends (IsTold new) d (Recover name) s fails said mid → SiteStands (beside_of mid s) m after → RoseAll fails (count_of old) (count_of new)
           → LeadsFrom mid d (Recover name) said old new
       down_leads fails said ends at rose = record {
         next = mid;
@@ -299,7 +299,7 @@ module _ {R : Type 0} {g : Ghosts R} where
       rose_none_here = rose_still old new s before after there later replaced.disk_sets
 
       -- in its next session
-      module _ (disk : ℕ) (at : StandsAt (beside_of mid s) (record m { session = m.session + 1 }) after) (free : m.session < MOST_NUMBER) (rose : RoseAt before after disk) where
+      module _ (disk : ℕ) (at : SiteStands (beside_of mid s) (record m { session = m.session + 1 }) after) (free : m.session < MOST_NUMBER) (rose : RoseAt before after disk) where
         abbrev begun : Node
         begun = record m { session = m.session + 1 }
 
@@ -343,8 +343,8 @@ module _ {R : Type 0} {g : Ghosts R} where
         begun_comes = record {
           changes = eff.site;
           links = begun_fits;
-          stands = subst (λ (n : Node). StandsAt (beside_of begun_next s) n after) (sym eff.is.node)
-              (subst (λ (b : Beside). StandsAt b begun after) (sym (beside_same mid begun_next s eff.site.sites links_same eff.is.headers (eff.is.after ∙ sym sure_h))) at);
+          stands = subst (λ (n : Node). SiteStands (beside_of begun_next s) n after) (sym eff.is.node)
+              (subst (λ (b : KeptBeside). SiteStands b begun after) (sym (beside_same mid begun_next s eff.site.sites links_same eff.is.headers (eff.is.after ∙ sym sure_h))) at);
           failing = subst (λ (n : Node). FailsAs n after) (sym eff.is.node) (fails_then m begun before after refl same (stands.failing s before below_mid there));
           fuse = subst (λ (n : Node). FusedAs n after) (sym eff.is.node) (fuse_none begun refl);
           role = role_off (beside_of mid s) begun (begun_next.world.nodes s) after at off;
@@ -369,7 +369,7 @@ module _ {R : Type 0} {g : Ghosts R} where
       -- a refused start
       pub stays_down : (why : No) → CameUpIs (beside_of mid s) m before after (Err why) → LeadsFrom mid d (Recover name) (Refused why) old new
       stays_down (Device disk) x = ⊎_elim
-          (λ (at : StandsAt (beside_of mid s) m after). down_leads ((s, disk) ∷ []) (Refused (Device disk)) (unread_ends (IsTold new) d h s c taken name number from disk) at (rose_at old new s disk before after changed_down x.1))
+          (λ (at : SiteStands (beside_of mid s) m after). down_leads ((s, disk) ∷ []) (Refused (Device disk)) (unread_ends (IsTold new) d h s c taken name number from disk) at (rose_at old new s disk before after changed_down x.1))
           (λ at. begun_leads disk at.0 at.1 x.1) x.0
       stays_down (Limit what most) x =
           subst (λ (why : No). LeadsFrom mid d (Recover name) (Refused why) old new) (sym x.0)
@@ -389,12 +389,12 @@ module _ {R : Type 0} {g : Ghosts R} where
           rose_none_here
 
       -- what came up went down again, as no site of these can have what its log keeps
-      pub withdrawn : (up : DiskSet R g) (b : Beside) (k : Node) → (IsToldAt after → ⊥) → SameDisks m k → b.doubt ≡ None → CrashedAt b k after → LeadsFrom mid d (Recover name) (Refused NoConfig) old new
+      pub withdrawn : (up : DiskSet R g) (b : KeptBeside) (k : Node) → (IsToldAt after → ⊥) → SameDisks m k → b.doubt ≡ None → CrashedAt b k after → LeadsFrom mid d (Recover name) (Refused NoConfig) old new
       withdrawn up b k untold disks sure fell =
           down_leads [] (Refused NoConfig) (refused_ends (IsTold new) d h s c taken name number from (never_told old.disk_sets.items new.disk_sets.items s before after there replaced.disk_sets untold) NoConfig tt)
           (⊎_elim
           (λ (own : fell.kept ≡ itself b k).
           any_down (sure_of fell.kept) (beside_of mid s) m (crashed fell.kept.node fell.count) before after untold down refl
-          (ap (λ (x : Kept). x.node.disks) own ∙ disks.disks) (ap (λ (x : Kept). x.node.blocks) own ∙ disks.blocks) stood_down fell.stands)
+          (ap (λ (x : KeptSite). x.node.disks) own ∙ disks.disks) (ap (λ (x : KeptSite). x.node.blocks) own ∙ disks.blocks) stood_down fell.stands)
           (λ other. absurd (never_some (sym sure ∙ other))) fell.is)
           rose_none_here

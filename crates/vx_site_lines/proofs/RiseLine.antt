@@ -16,12 +16,13 @@ use Rattle.vx_disk.specs.Shelf.{Lawful}
 use Rattle.vx_disk.specs.declared.shelf.Shelf.{Ghosts}
 use Rattle.vx_diskset.specs.Asked.{FailsAs, FusedAs, SameFailing}
 use Rattle.vx_diskset.specs.DiskSets.{CameUp, CameUpIs, CrashedAt, Later, RoseAt, StillDown}
-use Rattle.vx_diskset.specs.Holds.{Beside, beside_of, doubt_of, links_of, row_links, state_with}
-use Rattle.vx_diskset.specs.Stands.{IsToldAt, RoleIs, StandsAt}
+use Rattle.vx_diskset.specs.Holds.{KeptBeside, beside_of, doubt_of, header_links, row_links, state_with}
+use Rattle.vx_diskset.specs.Stands.{IsToldAt, RoleIs, SiteStands}
 use Rattle.vx_diskset.specs.declared.disk_set.DiskSet.{DiskSet}
 use Rattle.vx_diskset.specs.declared.disk_set.DiskSet.TheVariants.{Bare, Spoiled, Up, Receives, Down, Gone}
 use Rattle.vx_diskset.proofs.TakenBack.{any_down, any_links}
 use Rattle.vx_history.proofs.Updates.{and_left, and_right}
+use Rattle.vx_history.specs.Groups.{GroupNode}
 use Rattle.vx_history.specs.Doubts.{After, Doubted, happened}
 use Rattle.vx_history.specs.Events.{come_back, linked_sites, recovery_greeting, restarted_link}
 use Rattle.vx_history.specs.KeptLinks.{kept_links}
@@ -35,7 +36,7 @@ use Rattle.vx_effects.proofs.Leaving.{fit_disks, fit_found}
 use Rattle.vx_effects.proofs.Restarts.{found_again, found_fits, found_kept, kept_fine, restarted_again}
 use Rattle.vx_effects.proofs.Rises.{recover_effect, session_effect}
 use Rattle.vx_effects.proofs.Rows.{restarted_kept}
-use Rattle.vx_effects.specs.Restarts.{IsAgain, are_fine, row_of}
+use Rattle.vx_effects.specs.Restarts.{IsAgain, are_fine, row_of_kept}
 use Rattle.vx_events.proofs.LinkTesting.{AllLinked, all_linked}
 use Rattle.vx_events.proofs.Places.{never_some, some_same}
 use Rattle.vx_events.specs.Effects.{EffectAt}
@@ -78,7 +79,7 @@ and_both true b e f = f
 and_both false b e f = absurd (cc)
 
 -- a node without the disks that were made to fail since
-own_same : (b : Bool) (was n k : Node) → SameDisks (own_node b was n) k → SameDisks n (record k { failing = n.failing })
+own_same : (b : Bool) (was n k : Node) → SameDisks (own_node b was n) k → SameDisks n (record k { failing = n.failing; group = n.group })
 own_same true was n k same = record {
   name = same.name;
   disks = same.disks;
@@ -88,6 +89,7 @@ own_same true was n k same = record {
   running = same.running;
   failing = refl;
   fuse = same.fuse;
+  group = refl;
 }
 own_same false was n k same = record {
   name = same.name;
@@ -98,11 +100,15 @@ own_same false was n k same = record {
   running = same.running;
   failing = refl;
   fuse = same.fuse;
+  group = refl;
 }
 
-own_back : (b : Bool) (was n k : Node) → k.failing ≡ (own_node b was n).failing → own_node b was (record k { failing = n.failing }) ≡ k
-own_back true was n k e = ap (λ (f : ℕ → Bool). let m : Node = record k { failing = f } in m) (sym e)
-own_back false was n k e = ap (λ (f : ℕ → Bool). let m : Node = record k { failing = f } in m) (sym e)
+own_back : (b : Bool) (was n k : Node) → k.failing ≡ (own_node b was n).failing → k.group ≡ (own_node b was n).group
+    → own_node b was (record k { failing = n.failing; group = n.group }) ≡ k
+own_back true was n k e f =
+    ap (λ (x : ℕ → Bool). let m : Node = record k { failing = x; group = was.group } in m) (sym e) ∙ ap (λ (x : Option GroupNode). let m : Node = record k { group = x } in m) (sym f)
+own_back false was n k e f =
+    ap (λ (x : ℕ → Bool). let m : Node = record k { failing = x; group = n.group } in m) (sym e) ∙ ap (λ (x : Option GroupNode). let m : Node = record k { group = x } in m) (sym f)
 
 own_down : (b : Bool) (was n : Node) → (own_node b was n).state ≡ IsDown → n.state ≡ IsDown
 own_down true was n e = e
@@ -140,7 +146,7 @@ module _ (row : ℕ → Link) (role : Bool) (starts : (k : ℕ) → is_linked (r
   none_or (s ∷ ss) all = or_left role _ (starts s all.0)
 
 -- links come up only where writes arise
-pub row_starts : (ls : List KeptLink) (role : Bool) → (role || is_none ls) ≡ true → (k : ℕ) → is_linked (row_of ls k) ≡ true → role ≡ true
+pub row_starts : (ls : List KeptLink) (role : Bool) → (role || is_none ls) ≡ true → (k : ℕ) → is_linked (row_of_kept ls k) ≡ true → role ≡ true
 row_starts [] role e k linked = let f : false ≡ true = linked in absurd (cc)
 row_starts (l ∷ ls) true e k linked = refl
 row_starts (l ∷ ls) false e k linked = absurd (cc)
@@ -162,7 +168,7 @@ plain_of s e row fits is k linked =
 
 module _ {R : Type 0} {g : Ghosts R} where
   -- a site with a group has a log as large as its disks
-  pub shape_at : (beside : Beside) (n : Node) (e : DiskSet R g) → StandsAt beside n e → (n.state ≡ IsBare → ⊥) → (n.low ≡ 1) × (n.ring ≡ ring_of n.blocks)
+  pub shape_at : (beside : KeptBeside) (n : Node) (e : DiskSet R g) → SiteStands beside n e → (n.state ≡ IsBare → ⊥) → (n.low ≡ 1) × (n.ring ≡ ring_of n.blocks)
   shape_at beside n (Bare rack) h some = absurd (some (ap (λ (x : Node). x.state) h.bare.is))
   shape_at beside n (Spoiled rack) h some = absurd (some (ap (λ (x : Node). x.state) h.is))
   shape_at beside n (Up rvg) h some = (h.low, h.lies.laid.ring_is ∙ ap ring_of (h.lies.size 0 (omega (arith, h.lies.can.some))))
@@ -170,7 +176,7 @@ module _ {R : Type 0} {g : Ghosts R} where
   shape_at beside n (Down rack) h some = (h.low, h.lies.laid.ring_is ∙ ap ring_of (h.lies.size 0 (omega (arith, h.lies.can.some))))
   shape_at beside n Gone h some = absurd h
 
-  pub unfused_down : (beside : Beside) (n : Node) (e : DiskSet R g) → StandsAt beside n e → n.state ≡ IsDown → n.fuse ≡ NoFuse
+  pub unfused_down : (beside : KeptBeside) (n : Node) (e : DiskSet R g) → SiteStands beside n e → n.state ≡ IsDown → n.fuse ≡ NoFuse
   unfused_down beside n (Bare rack) h down = let e : IsBare ≡ IsDown = sym (ap (λ (x : Node). x.state) h.bare.is) ∙ down in absurd (cc)
   unfused_down beside n (Spoiled rack) h down = let e : IsBare ≡ IsDown = sym (ap (λ (x : Node). x.state) h.is) ∙ down in absurd (cc)
   unfused_down beside n (Up rvg) h down = let e : IsUp ≡ IsDown = sym h.state ∙ down in absurd (cc)
@@ -212,17 +218,17 @@ module _ {R : Type 0} {g : Ghosts R} where
         by_doubt None e = e
         by_doubt (Some a) e = let f : IsUp ≡ IsDown = sym (fit_h.doubts s a e).up ∙ down_h in absurd (cc)
 
-    stood : StandsAt (beside_of mid s) m before
+    stood : SiteStands (beside_of mid s) m before
     stood = stands.disk_sets.sites s before below_mid there
 
-    abbrev beside_now : (ℕ → Link) → Beside
+    abbrev beside_now : (ℕ → Link) → KeptBeside
     beside_now row = record { links = row_links row mid.world.sites; headers = mid.world.headers s; doubt = None }
 
-    beside_is : (row : ℕ → Link) → row_links row mid.world.sites ≡ links_of mid.world s → beside_of mid s ≡ beside_now row
+    beside_is : (row : ℕ → Link) → row_links row mid.world.sites ≡ header_links mid.world s → beside_of mid s ≡ beside_now row
     beside_is row links = beside_sure mid s (row_links row mid.world.sites) (mid.world.headers s) (sym links) refl sure
 
     -- what came up has a log as large
-    whole_of : (b : Beside) (k : Node) → SameDisks m k → length k.log ≡ k.safe → StandsAt b k after → IsWhole k ring
+    whole_of : (b : KeptBeside) (k : Node) → SameDisks m k → length k.log ≡ k.safe → SiteStands b k after → IsWhole k ring
     whole_of b k disks whole at =
         let up_shape = shape_at b k after at (λ bare. let e : IsUp ≡ IsBare = sym disks.up ∙ bare in cc) in
         record {
@@ -273,7 +279,7 @@ module _ {R : Type 0} {g : Ghosts R} where
       told_fits : LinksFit (own_disks taken s d.world last)
       told_fits = fit_disks taken s d.world last (fit_happened h (RecoverAt s None) taken fit_h)
 
-      pub told_kept : row_links row mid.world.sites ≡ links_of mid.world s
+      pub told_kept : row_links row mid.world.sites ≡ header_links mid.world s
       told_kept =
           ap (row_links row) (own_sites s d.world h taken) ∙ restarted_kept (come_back (h.world.nodes s)) s h.world.sites (h.world.links s) (fit_h.rows s)
           ∙ sym (row_links_same (h.world.links s) (mid.world.links s) (own_links s d.world h taken) mid.world.sites ∙ ap (row_links (h.world.links s)) (own_sites s d.world h taken))
@@ -286,7 +292,7 @@ module _ {R : Type 0} {g : Ghosts R} where
         again = restarted_again s h.world.sites (h.world.links s) (fit_h.rows s) (come_back (h.world.nodes s));
         whole = whole_of (beside_of mid s) k came.same came.whole came.stands;
         rests = ap (λ (n : Node). n.fed_by) (came.is told) ∙ stands.links.rests s down ∙ ap (λ (n : Node). n.other) (sym (came.is told));
-        stands = subst (λ (b : Beside). StandsAt b k after) (beside_is row told_kept) came.stands;
+        stands = subst (λ (b : KeptBeside). SiteStands b k after) (beside_is row told_kept) came.stands;
         failing = fails_of k came.same;
         fuse = fuse_of k came.same;
         role = role;
@@ -298,16 +304,16 @@ module _ {R : Type 0} {g : Ghosts R} where
           sym came.whole ∙ ap (λ (n : Node). length n.log) (came.is told) ∙ ap (λ (n : Node). length n.log) (own_is s d.world h taken) ∙ own_log taken was (h.world.nodes s)
 
       -- no test refuses what came up
-      pub told_origin : (j : ℕ) (l : KeptLink) → slice_get (links_of mid.world s) j ≡ Some l → is_origin k.role ≡ true
+      pub told_origin : (j : ℕ) (l : KeptLink) → slice_get (header_links mid.world s) j ≡ Some l → is_origin k.role ≡ true
       told_origin j l at =
           ap (λ (n : Node). is_origin n.role) (came.is told)
           ∙ one_origin (mid.world.links s) (is_origin m.role) (stands.links.starts s) (linked_sites (mid.world.links s) mid.world.sites 0 mid.world.sites)
           (all_linked (mid.world.links s) mid.world.sites 0 mid.world.sites) j l at
 
-      pub told_may : can_rise s mid.world.sites (state_with k (links_of mid.world s)) ≡ true
+      pub told_may : can_rise s mid.world.sites (state_with k (header_links mid.world s)) ≡ true
       told_may =
           let ss : List ℕ = linked_sites (mid.world.links s) mid.world.sites 0 mid.world.sites in
-          let ls : List KeptLink = links_of mid.world s in
+          let ls : List KeptLink = header_links mid.world s in
           and_both (is_quiet k.phase) (are_fine s mid.world.sites ls && (is_origin k.role || is_none ls))
           (ap (λ (n : Node). is_quiet n.phase) (came.is told) ∙ ap is_quiet (stands.links.quiet s))
           (and_both (are_fine s mid.world.sites ls) (is_origin k.role || is_none ls) (kept_fine s mid.world.sites (mid.world.links s) (stands.links.rows s))
@@ -322,10 +328,10 @@ module _ {R : Type 0} {g : Ghosts R} where
 
       -- before its disks are noted
       abbrev found : Node
-      found = record k_found { failing = (h.world.nodes s).failing }
+      found = record k_found { failing = (h.world.nodes s).failing; group = (h.world.nodes s).group }
 
       abbrev row_found : ℕ → Link
-      row_found = row_of state.links
+      row_found = row_of_kept state.links
 
       abbrev last_found : Doubted
       last_found = found_linked h s found row_found
@@ -346,7 +352,7 @@ module _ {R : Type 0} {g : Ghosts R} where
       quiet = ap (λ (x : State). x.phase) (sym kept) ∙ quiet_is state.phase (and_left (is_quiet state.phase) (are_fine s mid.world.sites state.links && (is_origin state.role || is_none state.links)) may)
 
       disks_same : SameDisks m k_found
-      disks_same = let x = came.same in record { name = x.name; disks = x.disks; blocks = x.blocks; volumes = x.volumes; up = x.up; running = x.running; failing = x.failing; fuse = x.fuse }
+      disks_same = let x = came.same in record { name = x.name; disks = x.disks; blocks = x.blocks; volumes = x.volumes; up = x.up; running = x.running; failing = x.failing; fuse = x.fuse; group = x.group }
 
       pub found_as : ComesUpAs s h.world.sites (h.world.nodes s) found row_found
       found_as = record {
@@ -359,7 +365,7 @@ module _ {R : Type 0} {g : Ghosts R} where
       }
 
       node_back : own_node taken was found ≡ k_found
-      node_back = own_back taken was (h.world.nodes s) k_found (came.same.failing ∙ ap (λ (n : Node). n.failing) (own_is s d.world h taken))
+      node_back = own_back taken was (h.world.nodes s) k_found (came.same.failing ∙ ap (λ (n : Node). n.failing) (own_is s d.world h taken)) (came.same.group ∙ ap (λ (n : Node). n.group) (own_is s d.world h taken))
 
       pub untold_effect : EffectAt s mid (own_disks taken s d.world last_found) k_found row_found (mid.world.headers s) None (mid.world.packets ++ recovery_greeting s k_found) (mid.world.gathering s)
       untold_effect =
@@ -389,5 +395,5 @@ module _ {R : Type 0} {g : Ghosts R} where
         role = role_like came.node k_found after refl role;
       }
         where
-          stands_now : StandsAt (beside_now row_found) k_found after
+          stands_now : SiteStands (beside_now row_found) k_found after
           stands_now = any_links lawful (beside_of mid s) (beside_now row_found) came.node came.node.other after untold refl came.same.up came.stands

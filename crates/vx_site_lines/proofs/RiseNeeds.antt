@@ -8,11 +8,11 @@ use Rattle.vx_model.specs.declared.state.KeptLink.{KeptLink}
 use Rattle.vx_model.specs.declared.state.KeptMode.{KeptMode}
 use Rattle.vx_model.specs.declared.state.KeptMode.TheVariants.{Log, Dcm, Replay, Fork, Stale}
 use Rattle.vx_diskset.specs.Needs.{hold_of, is_needing}
-use Rattle.vx_events.specs.Fuses.{taken}
+use Rattle.vx_events.specs.Fuses.{ring_taken}
 use Rattle.vx_events.proofs.Places.{some_same}
 use Rattle.vx_model.specs.declared.state.State.{State}
 use Rattle.vx_diskset.specs.Holds.{state_with}
-use Rattle.vx_site_lines.specs.Rises.{AreNeeds, IsNeed, IsRisen, NeedsBelow, can_rise, is_by_log, need_of, risen_facts}
+use Rattle.vx_site_lines.specs.Rises.{AreNeeds, IsNeed, IsRisen, NeedsBelow, can_rise, is_by_log, link_needs, risen_facts}
 use Rattle.vx_effects.specs.Restarts.{facts_again}
 use Rattle.vx_order.specs.declared.facts.LinkFacts.{LinkFacts}
 use Rattle.vx_order.specs.declared.facts.SiteFacts.{SiteFacts}
@@ -22,12 +22,12 @@ use Rattle.vx_model.specs.declared.limits.TheConstants.{LINK_PLACES}
 
 -- one that needs nothing, and one that needs what is above its hold
 pub need_none : (n : Node) (l : KeptLink) (b : Bool) → b ≡ (l.attached && is_by_log l.mode) → b ≡ false → IsNeed n l 0
-need_none n l b is none = record { is = sym (ap (λ (x : Bool). if x then taken (drop l.stored n.log) else 0) (sym is ∙ none)) }
+need_none n l b is none = record { is = sym (ap (λ (x : Bool). if x then ring_taken (drop l.stored n.log) else 0) (sym is ∙ none)) }
 
-pub need_some : (n : Node) (l : KeptLink) (b : Bool) (blocks : ℕ) → b ≡ (l.attached && is_by_log l.mode) → b ≡ true → blocks ≡ taken (drop l.stored n.log) → blocks ≡ need_of n l
-need_some n l b blocks is some used = used ∙ sym (ap (λ (x : Bool). if x then taken (drop l.stored n.log) else 0) (sym is ∙ some))
+pub need_some : (n : Node) (l : KeptLink) (b : Bool) (blocks : ℕ) → b ≡ (l.attached && is_by_log l.mode) → b ≡ true → blocks ≡ ring_taken (drop l.stored n.log) → blocks ≡ link_needs n l
+need_some n l b blocks is some used = used ∙ sym (ap (λ (x : Bool). if x then ring_taken (drop l.stored n.log) else 0) (sym is ∙ some))
 
-pub need_if : (n : Node) (l : KeptLink) (b : Bool) (r : Option ℕ) → b ≡ (l.attached && is_by_log l.mode) → b ≡ true → IfSome r (λ blocks. blocks ≡ taken (drop l.stored n.log))
+pub need_if : (n : Node) (l : KeptLink) (b : Bool) (r : Option ℕ) → b ≡ (l.attached && is_by_log l.mode) → b ≡ true → IfSome r (λ blocks. blocks ≡ ring_taken (drop l.stored n.log))
     → IfSome r (λ blocks. IsNeed n l blocks)
 need_if n l b None is some used = tt
 need_if n l b (Some blocks) is some used = record { is = need_some n l b blocks is some used }
@@ -72,7 +72,7 @@ needs_more n links used k x blocks inside there is below = record {
   each = λ j l less at. ⊎_elim
       (λ (same : j ≡ k).
       let here : x ≡ l = some_same (sym there ∙ ap (slice_get links) (sym same) ∙ at) in
-      ap (slice_get (slice_set used k blocks)) same ∙ get-set_same used k blocks inside ∙ ap (λ (b : ℕ). Some b) (is.is ∙ ap (need_of n) here))
+      ap (slice_get (slice_set used k blocks)) same ∙ get-set_same used k blocks inside ∙ ap (λ (b : ℕ). Some b) (is.is ∙ ap (link_needs n) here))
       (λ apart. get-set_other used k j blocks apart ∙ below.each j l (nearer j k less apart) at)
       (cases_eq j k);
 }

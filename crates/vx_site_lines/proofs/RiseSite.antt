@@ -15,11 +15,11 @@ use Rattle.vx_courier.specs.Together.{AssemblyStands}
 use Rattle.vx_courier.specs.UnderWay.{FlightStands}
 use Rattle.vx_disk.specs.declared.shelf.Shelf.{Ghosts}
 use Rattle.vx_diskset.specs.Asked.{FailsAs, FusedAs}
-use Rattle.vx_diskset.specs.Holds.{Beside, beside_of, row_links, state_with}
-use Rattle.vx_diskset.specs.Stands.{RoleIs, StandsAt}
+use Rattle.vx_diskset.specs.Holds.{KeptBeside, beside_of, row_links, state_with}
+use Rattle.vx_diskset.specs.Stands.{RoleIs, SiteStands}
 use Rattle.vx_diskset.specs.declared.disk_set.DiskSet.{DiskSet}
 use Rattle.vx_history.specs.Doubts.{After, Doubted}
-use Rattle.vx_history.specs.Events.{linked_sites, log_blocks, recovery_greeting}
+use Rattle.vx_history.specs.Events.{linked_sites, logged_blocks, recovery_greeting}
 use Rattle.vx_history.specs.KeptLinks.{kept_link, kept_links, kept_mode}
 use Rattle.vx_history.specs.LinkForms.{plain_link}
 use Rattle.vx_history.specs.Sends.{is_linked, packets_of}
@@ -39,7 +39,7 @@ use Rattle.vx_order.specs.declared.facts.VolumeFacts.{VolumeFacts}
 use Rattle.vx_packet.specs.Assemblies.{Assembled}
 use Rattle.vx_yard.specs.Carries.{Carries}
 use Rattle.vx_yard.specs.Changes.{up_facts, up_group}
-use Rattle.vx_site_lines.specs.Rises.{AreNeeds, RisesTo, hello_by, need_of, risen_facts}
+use Rattle.vx_site_lines.specs.Rises.{AreNeeds, RisesTo, hello_by, link_needs, risen_facts}
 use Rattle.vx_yard.specs.Standing.{StandsFor}
 use Rattle.vx_yard.specs.Yards.{IsTold}
 use Rattle.vx_yard.specs.declared.yard.Yard.{Yard}
@@ -56,19 +56,19 @@ AllPlain row = (s : ℕ) → is_linked (row s) ≡ true → is_plain_mode (row s
 
 -- ---- what its links need of its log
 
-need_in : (n : Node) (s : ℕ) (l : Link) (m : Mode) → l.mode ≡ m → is_plain_mode m ≡ true → needed_by n s l ≡ need_of n (kept_link s l)
+need_in : (n : Node) (s : ℕ) (l : Link) (m : Mode) → l.mode ≡ m → is_plain_mode m ≡ true → needed_by n s l ≡ link_needs n (kept_link s l)
 need_in n s l Log e plain =
     let with_mode : Mode → Link = λ m. record l { mode = m } in
     ap (λ (m : Mode). needed_by n s (with_mode m)) e
     ∙ ap (λ (k : ℕ). if l.attached && true then k else 0) (sym (taken_same (drop l.stored n.log)))
-    ∙ sym (ap (λ (m : Mode). need_of n (kept_link s (with_mode m))) e)
+    ∙ sym (ap (λ (m : Mode). link_needs n (kept_link s (with_mode m))) e)
 need_in n s l Dcm e plain = absurd (cc)
 need_in n s l (Replay id phase left start end) e plain = absurd (cc)
 need_in n s l (Fork maps) e plain = absurd (cc)
 need_in n s l Stale e plain =
     let with_mode : Mode → Link = λ m. record l { mode = m } in
-    ap (λ (m : Mode). needed_by n s (with_mode m)) e ∙ none l.attached (log_blocks (drop l.stored n.log)) ∙ sym (none l.attached _)
-    ∙ sym (ap (λ (m : Mode). need_of n (kept_link s (with_mode m))) e)
+    ap (λ (m : Mode). needed_by n s (with_mode m)) e ∙ none l.attached (logged_blocks (drop l.stored n.log)) ∙ sym (none l.attached _)
+    ∙ sym (ap (λ (m : Mode). link_needs n (kept_link s (with_mode m))) e)
   where
     none : (b : Bool) (k : ℕ) → (if b && false then k else 0) ≡ 0
     none true k = refl
@@ -76,12 +76,12 @@ need_in n s l Stale e plain =
 
 module _ (n : Node) (row : ℕ → Link) (plain : AllPlain row) where
   -- in the places of links that a header keeps stands what they need
-  again_used : (ss : List ℕ) (used : List ℕ) → AllLinked row ss → ((k : ℕ) (l : KeptLink) → slice_get (kept_links row ss) k ≡ Some l → slice_get used k ≡ Some (need_of n l))
+  again_used : (ss : List ℕ) (used : List ℕ) → AllLinked row ss → ((k : ℕ) (l : KeptLink) → slice_get (kept_links row ss) k ≡ Some l → slice_get used k ≡ Some (link_needs n l))
       → facts_again (kept_links row ss) used ≡ facts_again (kept_links row ss) (needs_of n row ss)
   again_used [] used all needs = refl
   again_used (s ∷ ss) [] all needs = absurd (never_some (needs 0 (kept_link s (row s)) refl))
   again_used (s ∷ ss) (u ∷ us) all needs =
-      let here : u ≡ need_of n (kept_link s (row s)) = some_same (needs 0 (kept_link s (row s)) refl) in
+      let here : u ≡ link_needs n (kept_link s (row s)) = some_same (needs 0 (kept_link s (row s)) refl) in
       ap (λ (k : ℕ). fact_again (kept_link s (row s)) k ∷ facts_again (kept_links row ss) us) (here ∙ sym (need_in n s (row s) (row s).mode refl (plain s all.0)))
       ∙ ap (λ (ls : List LinkFacts). fact_again (kept_link s (row s)) (needed_by n s (row s)) ∷ ls) (again_used ss us all.1 (λ k l at. needs (suc k) l at))
 
@@ -97,6 +97,7 @@ pub record SeesDisks (n : Node) (f : SiteFacts) : Type 0 where
   pub name : f.name ≡ n.name
   pub disks : f.disks ≡ n.disks
   pub blocks : f.blocks ≡ n.blocks
+  pub grouped : f.grouped ≡ false
   pub volumes : f.volumes ≡ map volume_fact n.volumes
 
 -- a site that came up, all writes of whose log are durable
@@ -107,8 +108,8 @@ pub record IsWhole (k : Node) (room : ℕ) : Type 0 where
   pub low : k.low ≡ 1
   pub ring : room ≡ k.ring
 
-abbrev facts_with : (name : List ℕ) (disks blocks : ℕ) → List VolumeFacts → SiteState → Option RvgFacts → List LinkFacts → SiteFacts
-facts_with name disks blocks volumes state rvg links = record { name = name; state = state; disks = disks; blocks = blocks; volumes = volumes; rvg = rvg; links = links }
+abbrev facts_with : (name : List ℕ) (disks blocks : ℕ) → (grouped : Bool) → List VolumeFacts → SiteState → Option RvgFacts → List LinkFacts → SiteFacts
+facts_with name disks blocks grouped volumes state rvg links = record { name = name; state = state; disks = disks; blocks = blocks; grouped = grouped; volumes = volumes; rvg = rvg; links = links }
 
 head_whole : (k : Node) → length k.log ≡ k.safe → head_of k ≡ k.safe
 head_whole k whole = by_role (is_origin k.role)
@@ -130,13 +131,14 @@ pub risen_fact_is : (k : Node) (row : ℕ → Link) (sites ring : ℕ) (used : L
 risen_fact_is k row sites ring used f w sees plain again needs =
     let state : State = state_with k (row_links row sites) in
     let links : List LinkFacts = link_facts k row (linked_sites row sites 0 sites) in
-    ap (λ (x : List ℕ). facts_with x f.disks f.blocks f.volumes Up (Some (up_group state k.safe ring)) (facts_again (row_links row sites) used)) sees.name
-    ∙ ap (λ (x : ℕ). facts_with k.name x f.blocks f.volumes Up (Some (up_group state k.safe ring)) (facts_again (row_links row sites) used)) sees.disks
-    ∙ ap (λ (x : ℕ). facts_with k.name k.disks x f.volumes Up (Some (up_group state k.safe ring)) (facts_again (row_links row sites) used)) sees.blocks
-    ∙ ap (λ (x : List VolumeFacts). facts_with k.name k.disks k.blocks x Up (Some (up_group state k.safe ring)) (facts_again (row_links row sites) used)) sees.volumes
-    ∙ ap (λ (x : RvgFacts). facts_with k.name k.disks k.blocks (map volume_fact k.volumes) Up (Some x) (facts_again (row_links row sites) used)) (group_seen k ring (row_links row sites) w)
-    ∙ ap (λ (x : List LinkFacts). facts_with k.name k.disks k.blocks (map volume_fact k.volumes) Up (Some (group_fact k)) x) (risen_links k row plain sites used again needs)
-    ∙ sym (ap (λ (t : SiteState). facts_with k.name k.disks k.blocks (map volume_fact k.volumes) t (group_by t k) (links_by t links)) w.up)
+    ap (λ (x : List ℕ). facts_with x f.disks f.blocks f.grouped f.volumes Up (Some (up_group state k.safe ring)) (facts_again (row_links row sites) used)) sees.name
+    ∙ ap (λ (x : ℕ). facts_with k.name x f.blocks f.grouped f.volumes Up (Some (up_group state k.safe ring)) (facts_again (row_links row sites) used)) sees.disks
+    ∙ ap (λ (x : ℕ). facts_with k.name k.disks x f.grouped f.volumes Up (Some (up_group state k.safe ring)) (facts_again (row_links row sites) used)) sees.blocks
+    ∙ ap (λ (x : Bool). facts_with k.name k.disks k.blocks x f.volumes Up (Some (up_group state k.safe ring)) (facts_again (row_links row sites) used)) sees.grouped
+    ∙ ap (λ (x : List VolumeFacts). facts_with k.name k.disks k.blocks false x Up (Some (up_group state k.safe ring)) (facts_again (row_links row sites) used)) sees.volumes
+    ∙ ap (λ (x : RvgFacts). facts_with k.name k.disks k.blocks false (map volume_fact k.volumes) Up (Some x) (facts_again (row_links row sites) used)) (group_seen k ring (row_links row sites) w)
+    ∙ ap (λ (x : List LinkFacts). facts_with k.name k.disks k.blocks false (map volume_fact k.volumes) Up (Some (group_fact k)) x) (risen_links k row plain sites used again needs)
+    ∙ sym (ap (λ (t : SiteState). facts_with k.name k.disks k.blocks false (map volume_fact k.volumes) t (group_by t k) (links_by t links)) w.up)
 
 -- ---- what it sends
 
@@ -157,7 +159,7 @@ module _ {R : Type 0} {g : Ghosts R} where
     pub again : IsAgain row
     pub whole : IsWhole k ring
     pub rests : k.fed_by ≡ k.other
-    pub stands : StandsAt (record { links = row_links row mid.world.sites; headers = mid.world.headers s; doubt = None }) k after
+    pub stands : SiteStands (record { links = row_links row mid.world.sites; headers = mid.world.headers s; doubt = None }) k after
     pub failing : FailsAs k after
     pub fuse : FusedAs k after
     pub role : RoleIs k after
@@ -167,12 +169,12 @@ module _ {R : Type 0} {g : Ghosts R} where
       (is : state ≡ state_with k (row_links row mid.world.sites)) (needs : AreNeeds k (row_links row mid.world.sites) used) where
     comes : Comes mid e s after
     comes =
-        let beside : Beside = record { links = row_links row mid.world.sites; headers = mid.world.headers s; doubt = None } in
+        let beside : KeptBeside = record { links = row_links row mid.world.sites; headers = mid.world.headers s; doubt = None } in
         record {
           changes = up.effect.site;
           links = up.fits;
-          stands = subst (λ (n : Node). StandsAt (beside_of e s) n after) (sym up.effect.is.node)
-              (subst (λ (b : Beside). StandsAt b k after)
+          stands = subst (λ (n : Node). SiteStands (beside_of e s) n after) (sym up.effect.is.node)
+              (subst (λ (b : KeptBeside). SiteStands b k after)
               (sym (beside_sure e s (row_links row mid.world.sites) (mid.world.headers s)
               (row_links_same row (e.world.links s) up.effect.is.links e.world.sites ∙ ap (row_links row) up.effect.site.sites) up.effect.is.headers up.effect.is.after))
               up.stands);

@@ -1,4 +1,4 @@
--- The world behind the recovery of a site, of which the disks that are made to fail are noted anew.
+-- The world behind the recovery of a site, of which the disks that are made to fail and the group are noted anew.
 use Rattle.std.proofs.Common.{◌≡◌, ◌∙◌, ◌<◌, ◌++◌, ◌+◌, ℕ, Bool, true, false, List, [], ◌∷◌, length, ap, sym, subst, refl}
 use Rattle.std.specs.Prelude.{Option, Some, None, nat_lt, leb, ◌&&◌, if◌then◌else◌}
 use Rattle.vx_model.specs.Sites.{is_origin}
@@ -13,6 +13,7 @@ use Rattle.vx_model.specs.declared.site.SiteState.TheVariants.{Bare, Up, Deporte
 use Rattle.vx_history.proofs.Updates.{all_updated, at_place, by_test}
 use Rattle.vx_history.specs.Doubts.{After, Doubted, happened}
 use Rattle.vx_history.specs.Events.{come_back, linked_sites, recovery_greeting}
+use Rattle.vx_history.specs.Groups.{GroupNode}
 use Rattle.vx_history.specs.LinkForms.{plain_receiver}
 use Rattle.vx_history.specs.Receiving.{is_log_phase}
 use Rattle.vx_history.specs.Sends.{with_links}
@@ -49,7 +50,7 @@ come_quiet n quiet =
 -- ---- with the disks that are made to fail
 
 abbrev pub own_node : Bool → (was n : Node) → Node
-own_node true was n = record n { failing = was.failing }
+own_node true was n = record n { failing = was.failing; group = was.group }
 own_node false was n = n
 
 module _ (s : ℕ) (w : World) (h last : Doubted) (n : Node) (row : ℕ → Link) (many : ℕ) (doubt : Option After) (packets : List Packet) (gathered : Option Gathering) where
@@ -60,16 +61,16 @@ module _ (s : ℕ) (w : World) (h last : Doubted) (n : Node) (row : ℕ → Link
     site = record {
       sites = eff.site.sites;
       nodes = λ i apart.
-          apart_place last.world.nodes s (record (last.world.nodes s) { failing = (w.nodes s).failing }) i apart ∙ eff.site.nodes i apart
-          ∙ sym (apart_place h.world.nodes s (record (h.world.nodes s) { failing = (w.nodes s).failing }) i apart);
+          apart_place last.world.nodes s (record (last.world.nodes s) { failing = (w.nodes s).failing; group = (w.nodes s).group }) i apart ∙ eff.site.nodes i apart
+          ∙ sym (apart_place h.world.nodes s (record (h.world.nodes s) { failing = (w.nodes s).failing; group = (w.nodes s).group }) i apart);
       links = eff.site.links;
       headers = eff.site.headers;
       after = eff.site.after;
       gathering = eff.site.gathering;
     };
     is = record {
-      node = at_place last.world.nodes s (record (last.world.nodes s) { failing = (w.nodes s).failing })
-          ∙ ap (λ (k : Node). let m : Node = record k { failing = (w.nodes s).failing } in m) eff.is.node;
+      node = at_place last.world.nodes s (record (last.world.nodes s) { failing = (w.nodes s).failing; group = (w.nodes s).group })
+          ∙ ap (λ (k : Node). let m : Node = record k { failing = (w.nodes s).failing; group = (w.nodes s).group } in m) eff.is.node;
       links = eff.is.links;
       headers = eff.is.headers;
       after = eff.is.after;
@@ -81,7 +82,7 @@ module _ (s : ℕ) (w : World) (h last : Doubted) (n : Node) (row : ℕ → Link
 -- of the world itself nothing else is noted
 module _ (s : ℕ) (w : World) (h : Doubted) where
   pub own_is : (b : Bool) → (own_disks b s w h).world.nodes s ≡ own_node b (w.nodes s) (h.world.nodes s)
-  own_is true = at_place h.world.nodes s (record (h.world.nodes s) { failing = (w.nodes s).failing })
+  own_is true = at_place h.world.nodes s (record (h.world.nodes s) { failing = (w.nodes s).failing; group = (w.nodes s).group })
   own_is false = refl
 
   pub own_links : (b : Bool) (k : ℕ) → (own_disks b s w h).world.links s k ≡ h.world.links s k
@@ -119,9 +120,9 @@ own_greeting false was n s = refl
 
 -- ---- what a status shows
 
-module _ (w : World) (s : ℕ) (f : ℕ → Bool) where
+module _ (w : World) (s : ℕ) (f : ℕ → Bool) (own : Option GroupNode) where
   abbrev n : Node
-  n = record (w.nodes s) { failing = f }
+  n = record (w.nodes s) { failing = f; group = own }
 
   abbrev v : World
   v = with_node w s n
@@ -168,7 +169,7 @@ module _ (w : World) (s : ℕ) (f : ℕ → Bool) where
       ∙ ap (λ (ls : List LinkView). shown_with (w.nodes s) (group_shown (w.nodes s).state w (w.nodes s)) (views_by (w.nodes s).state ls)) (links_noted ss)
 
 pub own_view : (b : Bool) (s : ℕ) (w : World) (h : Doubted) → linked_view (own_disks b s w h).world s ≡ linked_view h.world s
-own_view true s w h = view_noted h.world s (w.nodes s).failing
+own_view true s w h = view_noted h.world s (w.nodes s).failing (w.nodes s).group
 own_view false s w h = refl
 
 -- ---- what a site on disks that tell nothing comes up with

@@ -14,7 +14,7 @@ use Rattle.vx_history.specs.Refusals.{is_primary}
 use Rattle.vx_history.specs.World.{Node}
 use Rattle.vx_history.specs.declared.event.Said.TheVariants.{Got as HasGot}
 use Rattle.vx_disk.specs.declared.shelf.Shelf.{Ghosts}
-use Rattle.vx_rvg.specs.Contents.{Shows}
+use Rattle.vx_rvg.specs.Contents.{ShowsContent}
 use Rattle.vx_events.proofs.Blocks.{shown_are}
 use Rattle.vx_events.specs.Ends.{ShowsReceived}
 use Rattle.vx_events.proofs.Testing.{read_role}
@@ -27,9 +27,9 @@ use Rattle.vx_script.specs.declared.line.ScriptLine.TheVariants.{Read, Show}
 use Rattle.vx_diskset.specs.Asked.{LeavesAlone}
 use Rattle.vx_diskset.specs.DiskSets.{CanRead, RoseAt, ReadAt}
 use Rattle.vx_diskset.specs.Fetching.{GaveAt}
-use Rattle.vx_diskset.specs.Holds.{Beside, beside_of}
+use Rattle.vx_diskset.specs.Holds.{KeptBeside, beside_of}
 use Rattle.vx_diskset.specs.Received.{ShowedAt}
-use Rattle.vx_diskset.specs.Stands.{IsToldAt, KeepsRole, StandsAt}
+use Rattle.vx_diskset.specs.Stands.{IsToldAt, KeepsRole, SiteStands}
 use Rattle.vx_diskset.specs.declared.disk_set.DiskSet.{DiskSet}
 use Rattle.vx_site_lines.specs.Fetching.{IsReadLine}
 use Rattle.vx_site_lines.specs.Shown.{GaveShown, GaveShownAt}
@@ -64,17 +64,17 @@ all_shown n durable = ap (λ (ws : List Write). fold_writes n.base ws) (drop_all
 module _ {R : Type 0} {g : Ghosts R} where
   -- ---- the call
 
-  pub shown_blocks : (beside : Beside) (n : Node) (volume start count k : ℕ) (bytes items : List ℕ) (old new : DiskSet R g) (done : Unit {0}) → count ≡ k → items ≡ bytes → length bytes ≡ 512 * count
+  pub shown_blocks : (beside : KeptBeside) (n : Node) (volume start count k : ℕ) (bytes items : List ℕ) (old new : DiskSet R g) (done : Unit {0}) → count ≡ k → items ≡ bytes → length bytes ≡ 512 * count
       → (CanRead n volume start k → ShowedAt beside n volume start k bytes old new (Ok done)) → CanRead n volume start count → GaveShown beside n volume start count items new
   shown_blocks beside n volume start count k bytes items old new done same is size reads can =
       let got = reads (subst (λ (j : ℕ). CanRead n volume start j) same can) in
       subst (λ (xs : List ℕ). GaveShown beside n volume start count xs new) (sym is) (record {
         size = size;
-        shows = λ told. subst (λ (j : ℕ). Shows (received_content n) volume start j bytes) (sym same) (got.0 told);
+        shows = λ told. subst (λ (j : ℕ). ShowsContent (received_content n) volume start j bytes) (sym same) (got.0 told);
         stands = got.1;
       })
 
-  pub shown_none : (beside : Beside) (n : Node) (volume start count k : ℕ) (bytes : List ℕ) (old new : DiskSet R g) (no : No) → count ≡ k
+  pub shown_none : (beside : KeptBeside) (n : Node) (volume start count k : ℕ) (bytes : List ℕ) (old new : DiskSet R g) (no : No) → count ≡ k
       → (CanRead n volume start k → ShowedAt beside n volume start k bytes old new (Err no)) → CanRead n volume start count → GaveShownAt beside n volume start count old new (Err no)
   shown_none beside n volume start count k bytes old new why same reads can = by why (reads (subst (λ (j : ℕ). CanRead n volume start j) same can))
     where
@@ -91,9 +91,9 @@ module _ {R : Type 0} {g : Ghosts R} where
         let k : ℕ = site_number d.world name in
         let v : ℕ = volume_number (d.world.nodes k) volume in
         let role : is_primary (d.world.nodes k).role ≡ false = subst (λ (i : ℕ). is_primary (d.world.nodes i).role ≡ false) (sym read.seat.number) other in
-        let shows : IsToldAt after → Shows (received_content (d.world.nodes k)) v start count bytes =
-        λ told. subst (λ (i : ℕ). Shows (received_content (d.world.nodes i)) (volume_number (d.world.nodes i) volume) start count bytes) (sym read.seat.number)
-        (subst (λ (p : ℕ). Shows (received_content (d.world.nodes s)) p start count bytes) (sym read.volume_is) (gave.shows told)) in
+        let shows : IsToldAt after → ShowsContent (received_content (d.world.nodes k)) v start count bytes =
+        λ told. subst (λ (i : ℕ). ShowsContent (received_content (d.world.nodes i)) (volume_number (d.world.nodes i) volume) start count bytes) (sym read.seat.number)
+        (subst (λ (p : ℕ). ShowsContent (received_content (d.world.nodes s)) p start count bytes) (sym read.volume_is) (gave.shows told)) in
         let there : slice_get new.disk_sets.items s ≡ Some after =
         ap (λ es. slice_get es s) changed.disk_sets ∙ get-set_same old.disk_sets.items s after (slice_get_within old.disk_sets.items s before changed.there) in
         record {
@@ -143,6 +143,6 @@ module _ {R : Type 0} {g : Ghosts R} where
             subst (λ (l : ScriptLine). Leads d l (Got bytes) old new) (sym is)
             (shown_leads bytes other (record {
               size = gave.size;
-              shows = λ told. subst (λ (c : Content). Shows c place start count bytes) (sym (all_shown n durable)) (gave.shows told);
+              shows = λ told. subst (λ (c : Content). ShowsContent c place start count bytes) (sym (all_shown n durable)) (gave.shows told);
               stands = gave.stands;
             }))

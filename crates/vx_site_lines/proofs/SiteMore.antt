@@ -12,7 +12,7 @@ use Rattle.vx_history.specs.KeptLinks.{kept_links}
 use Rattle.vx_history.specs.Listed.{HasPlaces}
 use Rattle.vx_history.specs.Refusals.{Outcome}
 use Rattle.vx_history.specs.Sends.{is_linked, is_made}
-use Rattle.vx_history.specs.Step.{counted, done as is_done, outcome_of}
+use Rattle.vx_history.specs.Step.{headers_counted, done as is_done, outcome_of}
 use Rattle.vx_history.specs.Steps.{site_made}
 use Rattle.vx_history.specs.World.{Link, Node, World, bare_site}
 use Rattle.vx_history.specs.declared.event.Event.TheVariants.{Site as MakeSite}
@@ -22,15 +22,15 @@ use Rattle.vx_model.specs.declared.errors.Stop.TheVariants.{No as Refused, OutOf
 use Rattle.vx_model.specs.declared.no.No.TheVariants.{Device, Exists}
 use Rattle.vx_model.specs.declared.state.KeptLink.{KeptLink}
 use Rattle.vx_disk.specs.declared.shelf.Shelf.{Ghosts}
-use Rattle.vx_order.specs.Order.{refusal_of}
+use Rattle.vx_order.specs.Order.{line_refusal}
 use Rattle.vx_order.specs.Shapes.{taken}
 use Rattle.vx_order.specs.Sites.{site_named}
 use Rattle.vx_order.specs.declared.facts.SiteFacts.{SiteFacts}
 use Rattle.vx_script.specs.declared.line.ScriptLine.TheVariants.{Site}
 use Rattle.vx_diskset.specs.Asked.{FailsAs, FusedAs}
 use Rattle.vx_diskset.specs.DiskSets.{FitIs}
-use Rattle.vx_diskset.specs.Holds.{Beside, Kept, beside_of, doubt_of, row_links}
-use Rattle.vx_diskset.specs.Stands.{IsUnused, RoleIs, StandsAt}
+use Rattle.vx_diskset.specs.Holds.{KeptBeside, KeptSite, beside_of, doubt_of, row_links}
+use Rattle.vx_diskset.specs.Stands.{IsUnused, RoleIs, SiteStands}
 use Rattle.vx_diskset.specs.declared.disk_set.DiskSet.{DiskSet}
 use Rattle.vx_effects.proofs.Fitting.{fit_happened}
 use Rattle.vx_events.proofs.Refused.{SiteMay, passes, site_may, when_none}
@@ -119,18 +119,18 @@ module _ (row : ℕ → Link) (sites : ℕ) (has : HasPlaces sites row) where
 beside_more : (d e : Doubted) (n : Node) (i : ℕ) → AddsSite d e n → LinksFit d → beside_of e i ≡ beside_of d i
 beside_more d e n i adds fits =
     let more : e.world.sites ≡ suc d.world.sites = omega (arith, adds.sites) in
-    ap (λ (ls : List KeptLink). let b : Beside = record { links = ls; headers = e.world.headers i; doubt = doubt_of e.world i (e.after i) } in b)
+    ap (λ (ls : List KeptLink). let b : KeptBeside = record { links = ls; headers = e.world.headers i; doubt = doubt_of e.world i (e.after i) } in b)
     (row_links_same (d.world.links i) (e.world.links i) (adds.links i) e.world.sites ∙ ap (λ (k : ℕ). row_links (d.world.links i) k) more ∙ row_links_more (d.world.links i) d.world.sites (fits.rows i).places)
-    ∙ ap (λ (k : ℕ). let b : Beside = record { links = row_links (d.world.links i) d.world.sites; headers = k; doubt = doubt_of e.world i (e.after i) } in b) (adds.headers i)
-    ∙ ap (λ (o : Option Kept). let b : Beside = record { links = row_links (d.world.links i) d.world.sites; headers = d.world.headers i; doubt = o } in b)
+    ∙ ap (λ (k : ℕ). let b : KeptBeside = record { links = row_links (d.world.links i) d.world.sites; headers = k; doubt = doubt_of e.world i (e.after i) } in b) (adds.headers i)
+    ∙ ap (λ (o : Option KeptSite). let b : KeptBeside = record { links = row_links (d.world.links i) d.world.sites; headers = d.world.headers i; doubt = o } in b)
     (ap (λ (o : Option After). doubt_of e.world i o) (adds.after i) ∙ by (d.after i) refl more)
   where
     by : (o : Option After) → d.after i ≡ o → e.world.sites ≡ suc d.world.sites → doubt_of e.world i o ≡ doubt_of d.world i o
     by None is more = refl
     by (Some a) is more =
-        ap (λ (ls : List KeptLink). Some (let x : Kept = record { node = a.node; links = ls; headers = e.world.headers i } in x))
+        ap (λ (ls : List KeptLink). Some (let x : KeptSite = record { node = a.node; links = ls; headers = e.world.headers i } in x))
         (ap (λ (k : ℕ). row_links a.row k) more ∙ row_links_more a.row d.world.sites (fits.doubts i a is).row.places)
-        ∙ ap (λ (k : ℕ). Some (let x : Kept = record { node = a.node; links = row_links a.row d.world.sites; headers = k } in x)) (adds.headers i)
+        ∙ ap (λ (k : ℕ). Some (let x : KeptSite = record { node = a.node; links = row_links a.row d.world.sites; headers = k } in x)) (adds.headers i)
 
 -- what the tests see of it
 fact_more : (d e : Doubted) (n : Node) (i : ℕ) → AddsSite d e n → LinksFit d → (i ≡ d.world.sites → ⊥) → linked_fact e.world i ≡ linked_fact d.world i
@@ -158,7 +158,7 @@ facts_more d e n adds fits =
 
 -- the event
 abbrev site_event : Doubted → List ℕ → ℕ → ℕ → Doubted
-site_event d name disks blocks = record d { world = (counted d.world (MakeSite name disks blocks) (is_done (site_made d.world name disks blocks))).world }
+site_event d name disks blocks = record d { world = (headers_counted d.world (MakeSite name disks blocks) (is_done (site_made d.world name disks blocks))).world }
 
 no_more : (n : ℕ) → n + 0 ≡ n
 no_more n = omega arith
@@ -177,7 +177,7 @@ site_adds d name disks blocks = record {
 
 site_fits : (d : Doubted) (name : List ℕ) (disks blocks : ℕ) → outcome_of d.world (MakeSite name disks blocks) ≡ is_done (site_made d.world name disks blocks) → LinksFit d → LinksFit (site_event d name disks blocks)
 site_fits d name disks blocks at fits =
-    subst (λ (o : Outcome). LinksFit (record d { world = (counted d.world (MakeSite name disks blocks) o).world })) at (fit_happened d (MakeSite name disks blocks) false fits)
+    subst (λ (o : Outcome). LinksFit (record d { world = (headers_counted d.world (MakeSite name disks blocks) o).world })) at (fit_happened d (MakeSite name disks blocks) false fits)
 
 -- no site has the name of a new one
 none_linked : (w : World) (name : List ℕ) (k n : ℕ) → is_some (site_named (values_from (λ i. linked_fact w i) k n) name) ≡ false → (i : ℕ) → i < n → bytes_eq (w.nodes (k + i)).name name ≡ false
@@ -192,7 +192,7 @@ none_linked w name k (suc n) e (suc i) h =
     (none_linked w name (k + 1) n
     (absent (bytes_eq (w.nodes k).name name) (linked_fact w k) (site_named (values_from (λ i. linked_fact w i) (k + 1) n) name) e).1 i (omega (arith, h)))
 
-site_outcome : (w : World) (files : Bool) (name : List ℕ) (disks blocks : ℕ) → refusal_of (linked_facts w) files (Site name disks blocks) ≡ None → outcome_of w (MakeSite name disks blocks) ≡ is_done (site_made w name disks blocks)
+site_outcome : (w : World) (files : Bool) (name : List ℕ) (disks blocks : ℕ) → line_refusal (linked_facts w) files (Site name disks blocks) ≡ None → outcome_of w (MakeSite name disks blocks) ≡ is_done (site_made w name disks blocks)
 unfolding taken
 site_outcome w files name disks blocks free =
     let p = passes (linked_facts w) files (Site name disks blocks) free in
@@ -207,17 +207,17 @@ site_outcome w files name disks blocks free =
 module _ {R : Type 0} {g : Ghosts R} where
   -- the yard with another disk set of a number that no site had
   stands_more : (d e : Doubted) (old new : Yard R g) (n : Node) (f : SiteFacts) (before after : DiskSet R g) → StandsFor d old → d.world.sites < 8 → AddsSite d e n → LinksFit e → Changed old new d.world.sites before after
-      → StandsAt (beside_of e d.world.sites) n after → FailsAs n after → FusedAs n after → is_origin n.role ≡ true → f ≡ linked_fact e.world d.world.sites → new.facts.items ≡ old.facts.items ++ f ∷ [] → StandsFor e new
+      → SiteStands (beside_of e d.world.sites) n after → FailsAs n after → FusedAs n after → is_origin n.role ≡ true → f ≡ linked_fact e.world d.world.sites → new.facts.items ≡ old.facts.items ++ f ∷ [] → StandsFor e new
   stands_more d e old new n f before after stands few adds links changed here failing fuse role fact facts = record {
     facts = facts ∙ ap (λ (fs : List SiteFacts). fs ++ f ∷ []) stands.facts ∙ ap (λ (x : SiteFacts). linked_facts d.world ++ x ∷ []) fact ∙ sym (facts_more d e n adds stands.links);
     disk_sets = subst (λ es. SitesAgree e es) (sym changed.disk_sets) (record {
       eight = length-set old.disk_sets.items s after ∙ stands.disk_sets.eight;
       few = omega (arith, few, adds.sites);
-      sites = λ i x inside is. at_set (λ j y. StandsAt (beside_of e j) (e.world.nodes j) y) old.disk_sets.items s after within
-          (subst (λ (m : Node). StandsAt (beside_of e s) m after) (sym adds.node) here) i x is
+      sites = λ i x inside is. at_set (λ j y. SiteStands (beside_of e j) (e.world.nodes j) y) old.disk_sets.items s after within
+          (subst (λ (m : Node). SiteStands (beside_of e s) m after) (sym adds.node) here) i x is
           (λ apart was.
-          subst (λ (b : Beside). StandsAt b (e.world.nodes i) x) (sym (beside_more d e n i adds stands.links))
-          (subst (λ (m : Node). StandsAt (beside_of d i) m x) (sym (adds.nodes i apart)) (stands.disk_sets.sites i x (less i apart inside) was)));
+          subst (λ (b : KeptBeside). SiteStands b (e.world.nodes i) x) (sym (beside_more d e n i adds stands.links))
+          (subst (λ (m : Node). SiteStands (beside_of d i) m x) (sym (adds.nodes i apart)) (stands.disk_sets.sites i x (less i apart inside) was)));
       others = λ i x past is. stands.disk_sets.others i x (omega (arith, past, adds.sites)) (sym (get-set_other old.disk_sets.items s i after (λ same. omega (arith, past, same, adds.sites))) ∙ is);
     });
     links = links;
@@ -257,14 +257,14 @@ module _ {R : Type 0} {g : Ghosts R} where
           in_doubt e = cc
 
   pub site_leads : (d : Doubted) (old new : Yard R g) (name : List ℕ) (disks blocks : ℕ) (before after : DiskSet R g) → StandsFor d old → IsFree old (Site name disks blocks)
-      → Changed old new (length old.facts.items) before after → ((beside : Beside) (name : List ℕ) → StandsAt beside (bare_site name disks blocks) after)
+      → Changed old new (length old.facts.items) before after → ((beside : KeptBeside) (name : List ℕ) → SiteStands beside (bare_site name disks blocks) after)
       → new.facts.items ≡ old.facts.items ++ bare_facts name disks blocks ∷ [] → SameLoad old new → Leads d (Site name disks blocks) Done old new
   site_leads d old new name disks blocks before after stands free changed fits facts load =
       let many = many_sites d old stands in
       let may = site_may old.facts.items (in_files old) name disks blocks free in
       let e : Doubted = site_event d name disks blocks in
       let n : Node = bare_site name disks blocks in
-      let at = site_outcome d.world (in_files old) name disks blocks (ap (λ (fs : List SiteFacts). refusal_of fs (in_files old) (Site name disks blocks)) (sym stands.facts) ∙ free) in
+      let at = site_outcome d.world (in_files old) name disks blocks (ap (λ (fs : List SiteFacts). line_refusal fs (in_files old) (Site name disks blocks)) (sym stands.facts) ∙ free) in
       let changed_there : Changed old new d.world.sites before after = subst (λ (k : ℕ). Changed old new k before after) many changed in
       let adds = site_adds d name disks blocks in
       record {

@@ -18,8 +18,8 @@ use Rattle.vx_report.specs.declared.view.LinkView.{LinkView}
 use Rattle.vx_report.specs.declared.view.RvgView.{RvgView}
 use Rattle.vx_report.specs.declared.view.SiteView.{SiteView}
 use Rattle.vx_script.specs.declared.line.ScriptLine.TheVariants.{Status}
-use Rattle.vx_diskset.specs.Holds.{Beside, beside_of}
-use Rattle.vx_diskset.specs.Stands.{StandsAt}
+use Rattle.vx_diskset.specs.Holds.{KeptBeside, beside_of}
+use Rattle.vx_diskset.specs.Stands.{SiteStands}
 use Rattle.vx_diskset.specs.declared.disk_set.DiskSet.{DiskSet}
 use Rattle.vx_effects.proofs.Headers.{count_none}
 use Rattle.vx_events.proofs.LinkTesting.{AllLinked, all_linked}
@@ -122,7 +122,7 @@ module _ {R : Type 0} {g : Ghosts R} where
   -- what is shown of the facts of a site and of its links is how it stands
   pub linked_view_is : (d : Doubted) (y : Yard R g) (s session : ℕ) (site f : SiteFacts) (links : List LinkView) (disk_set : DiskSet R g) (view : SiteView) → StandsFor d y → s < d.world.sites
       → slice_get y.facts.items s ≡ Some site → slice_get y.facts.items s ≡ Some f → slice_get y.disk_sets.items s ≡ Some disk_set
-      → ((beside : Beside) (n : Node) → StandsAt beside n disk_set → n.state ≡ Up → session ≡ n.session)
+      → ((beside : KeptBeside) (n : Node) → SiteStands beside n disk_set → n.state ≡ Up → session ≡ n.session)
       → view ≡ site_seen y.facts.items session site links → links ≡ links_seen y.facts.items f.links → view ≡ linked_view d.world s
   linked_view_is d y s session site f links disk_set view stands below site_at f_at disk_set_at session_is is links_is =
       let there = fact_of d y s stands below in

@@ -18,10 +18,10 @@ use Rattle.vx_disk.specs.Disks.{Disks}
 use Rattle.vx_disk.specs.Racks.{IsRack}
 use Rattle.vx_disk.specs.declared.shelf.Shelf.{Ghosts}
 use Rattle.vx_ringio.specs.Spends.{Passed}
-use Rattle.vx_diskset.specs.Asked.{FailsAs, FusedAs, LeavesFuse, disks_in, size_in}
+use Rattle.vx_diskset.specs.Asked.{FailsAs, FusedAs, LeavesFuse, disks_told, size_in}
 use Rattle.vx_diskset.specs.Burning.{Burnt, IsLogged}
-use Rattle.vx_diskset.specs.Holds.{Beside}
-use Rattle.vx_diskset.specs.Stands.{StandsAt}
+use Rattle.vx_diskset.specs.Holds.{KeptBeside}
+use Rattle.vx_diskset.specs.Stands.{SiteStands}
 use Rattle.vx_diskset.specs.declared.disk_set.DiskSet.{DiskSet}
 use Rattle.vx_diskset.specs.declared.disk_set.DiskSet.TheVariants.{Bare, Spoiled, Up, Receives, Down, Gone}
 use Rattle.vx_events.specs.Fuses.{MayPass}
@@ -65,7 +65,7 @@ links_count w s x cs fit up goes few ring =
 
 module _ {R : Type 0} {g : Ghosts R} where
   -- the log of a running site that takes writes holds those that are durable
-  pub whole_log : (beside : Beside) (n : Node) (e : DiskSet R g) → StandsAt beside n e → n.state ≡ IsUp → n.halted ≡ None → is_origin n.role ≡ true → length n.log ≡ n.safe
+  pub whole_log : (beside : KeptBeside) (n : Node) (e : DiskSet R g) → SiteStands beside n e → n.state ≡ IsUp → n.halted ≡ None → is_origin n.role ≡ true → length n.log ≡ n.safe
   whole_log beside n (Bare rack) h up runs origin = absurd (let e : IsBare ≡ IsUp = sym (ap (λ (k : Node). k.state) h.bare.is) ∙ up in cc)
   whole_log beside n (Spoiled rack) h up runs origin = absurd (let e : IsBare ≡ IsUp = sym (ap (λ (k : Node). k.state) h.is) ∙ up in cc)
   whole_log beside n (Up rvg) h up runs origin = omega (arith, h.logged, h.durable runs)
@@ -74,7 +74,7 @@ module _ {R : Type 0} {g : Ghosts R} where
   whole_log beside n Gone h up runs origin = absurd h
 
   -- no ring is greater than a log may be
-  pub small_ring : (beside : Beside) (n : Node) (e : DiskSet R g) → StandsAt beside n e → n.state ≡ IsUp → n.ring ≤ 2 ^ 32
+  pub small_ring : (beside : KeptBeside) (n : Node) (e : DiskSet R g) → SiteStands beside n e → n.state ≡ IsUp → n.ring ≤ 2 ^ 32
   small_ring beside n (Bare rack) h up = absurd (let e : IsBare ≡ IsUp = sym (ap (λ (k : Node). k.state) h.bare.is) ∙ up in cc)
   small_ring beside n (Spoiled rack) h up = absurd (let e : IsBare ≡ IsUp = sym (ap (λ (k : Node). k.state) h.is) ∙ up in cc)
   small_ring beside n (Up rvg) h up = omega (arith, h.lies.laid.ring_is)
@@ -82,7 +82,7 @@ module _ {R : Type 0} {g : Ghosts R} where
   small_ring beside n (Down rack) h up = absurd (let e : IsDown ≡ IsUp = sym h.state ∙ up in cc)
   small_ring beside n Gone h up = absurd h
 
-  module _ (beside : Beside) (n : Node) (before after : DiskSet R g) (stood : StandsAt beside n before) (said : Said) (burns : LeavesFuse IsLogged said before after) where
+  module _ (beside : KeptBeside) (n : Node) (before after : DiskSet R g) (stood : SiteStands beside n before) (said : Said) (burns : LeavesFuse IsLogged said before after) where
     -- which disks are made to fail, in any node behind the write
     pub fails_behind : (m : Node) → m.failing ≡ n.failing → FailsAs n before → FailsAs m after
     fails_behind m same fails = fails_then n m before after same (calls_keep IsLogged said before after burns) fails
@@ -101,7 +101,7 @@ module _ {R : Type 0} {g : Ghosts R} where
     pub log_works : ((r : R) → IsRack (g.meaning r)) → FailsAs n before → is_written said ≡ true → n.failing 0 ≡ false
     log_works racks fails is =
         let d = told_disks racks beside n before stood in
-        let works : d.0.failing 0 ≡ false = works_by (disks_in before) (disks_in after) (size_in before) d.0 said is d.1 burns.told in
+        let works : d.0.failing 0 ≡ false = works_by (disks_told before) (disks_told after) (size_in before) d.0 said is d.1 burns.told in
         off (n.failing 0) (λ on. never (sym (fails.told d.0 d.1 0 on) ∙ works))
       where
         never : true ≡ false → ⊥
@@ -114,4 +114,4 @@ module _ {R : Type 0} {g : Ghosts R} where
     pub calls_pass : ((r : R) → IsRack (g.meaning r)) → FusedAs n before → is_written said ≡ true → MayPass write_calls n.fuse
     calls_pass racks lit is =
         let d = told_disks racks beside n before stood in
-        may_on (Burnt IsLogged said (size_in before)) write_calls (disks_in before) (disks_in after) n.fuse d.0 d.1 (λ a b burnt. (written_burnt IsLogged (size_in before) said a b is burnt).1.calls) burns.told (lit.told d.0 d.1)
+        may_on (Burnt IsLogged said (size_in before)) write_calls (disks_told before) (disks_told after) n.fuse d.0 d.1 (λ a b burnt. (written_burnt IsLogged (size_in before) said a b is burnt).1.calls) burns.told (lit.told d.0 d.1)

@@ -25,7 +25,7 @@ use Rattle.vx_events.specs.Doubts.{run_as}
 use Rattle.vx_events.specs.Ends.{AllDone, DiskFails, Ends, FuseRunsOut, IsLeft, NoNumber, noted}
 use Rattle.vx_events.specs.Lists.{Choice, events_of}
 use Rattle.vx_events.specs.LinksFit.{RowFits}
-use Rattle.vx_events.specs.Sayings.{Repeats, Replies}
+use Rattle.vx_events.specs.Sayings.{RepeatsSaid, Replies}
 use Rattle.vx_events.specs.Stamps.{most_stamp_at}
 use Rattle.vx_events.specs.declared.said.Said.{Said}
 use Rattle.vx_events.specs.declared.said.Said.TheVariants.{DoneAt, Logged, Refused}
@@ -48,7 +48,7 @@ let_in w s x cs below can primary some few free goes = record {
 abbrev pub said_by : (waited : Bool) → ℕ → Said
 said_by waited number = if waited then Logged number else DoneAt number
 
-repeats_by : (w : World) (s : ℕ) (waited : Bool) (number : ℕ) → Repeats w s (if waited then IsLogged number else IsDoneAt number) (said_by waited number)
+repeats_by : (w : World) (s : ℕ) (waited : Bool) (number : ℕ) → RepeatsSaid w s (if waited then IsLogged number else IsDoneAt number) (said_by waited number)
 repeats_by w s true number = refl
 repeats_by w s false number = refl
 
@@ -66,7 +66,7 @@ module _ (told : Type 0) (d : Doubted) (line : ScriptLine) (s : ℕ) (x : Write)
       let e : Doubted = written_for d s x None in
       AllDone c false refl
       (subst (λ (es : List Event). Replies told line s false d es said) (sym events)
-      (subst (λ (o : EventSaid). Repeats (step d.world event).world s o said) (sym (write_said d.world s x fit can)) (repeats_by (step d.world event).world s waited ((d.world.nodes s).safe + 1))))
+      (subst (λ (o : EventSaid). RepeatsSaid (step d.world event).world s o said) (sym (write_said d.world s x fit can)) (repeats_by (step d.world event).world s waited ((d.world.nodes s).safe + 1))))
       (subst (λ (es : List Event). IsLeft s line false d (run_as false d es) e) (sym events) (record { world = sym (notes (step d.world event).world); after = λ i. refl }))
 
   -- a disk failed in it

@@ -25,21 +25,21 @@ use Rattle.vx_script.specs.declared.line.ScriptLine.TheVariants.{Write as WriteL
 use Rattle.vx_disk.specs.Causes.{OnDisks}
 use Rattle.vx_disk.specs.Disks.{Disks}
 use Rattle.vx_ringio.specs.Spends.{Passed}
-use Rattle.vx_diskset.specs.Asked.{FailsAs, FusedAs, LeavesFuse, WritesUnder, disks_in, size_in}
+use Rattle.vx_diskset.specs.Asked.{FailsAs, FusedAs, LeavesFuse, WritesUnder, disks_told, size_in}
 use Rattle.vx_diskset.specs.Burning.{Burnt, IsLogged}
 use Rattle.vx_diskset.specs.DiskSets.{WroteAt, halted_with, worked}
-use Rattle.vx_diskset.specs.Holds.{Kept, beside_of, itself, sure_of}
+use Rattle.vx_diskset.specs.Holds.{KeptSite, beside_of, itself, sure_of}
 use Rattle.vx_diskset.specs.Needs.{HasRoom}
-use Rattle.vx_diskset.specs.Stands.{IsToldAt, KeepsRole, RoleIs, StandsAt}
+use Rattle.vx_diskset.specs.Stands.{IsToldAt, KeepsRole, RoleIs, SiteStands}
 use Rattle.vx_diskset.specs.declared.disk_set.DiskSet.{DiskSet}
 use Rattle.vx_events.specs.Ends.{Ends, noted}
 use Rattle.vx_events.specs.Facts.{site_number, volume_number}
 use Rattle.vx_events.specs.Fails.{Fails}
 use Rattle.vx_events.specs.Fuses.{MayPass}
-use Rattle.vx_events.specs.LinkedFacts.{linked_fact, links_by, links_in}
+use Rattle.vx_events.specs.LinkedFacts.{linked_fact, links_by, links_of_site}
 use Rattle.vx_events.specs.Lines.{IsCutBelow, IsDone, write_in}
 use Rattle.vx_events.specs.LinksFit.{LinksFit}
-use Rattle.vx_events.specs.Lists.{Choice, events_of, write_of}
+use Rattle.vx_events.specs.Lists.{Choice, events_of, writing_events}
 use Rattle.vx_events.specs.Sayings.{is_written}
 use Rattle.vx_events.specs.declared.said.Said.{Said}
 use Rattle.vx_events.specs.declared.said.Said.TheVariants.{DoneAt, Logged, Refused}
@@ -76,7 +76,7 @@ use Rattle.vx_site_lines.proofs.WriteSite.{cut_comes, cut_events, cut_for, half_
 use Rattle.vx_site_lines.proofs.WriteTests.{Writing, the_write}
 
 -- the event of the line, by the number of its volume
-write_events : (w : World) (name volume : List ℕ) (start : ℕ) (bytes : List ℕ) (s v : ℕ) → site_number w name ≡ s → volume_number (w.nodes s) volume ≡ v → write_of w name volume start bytes ≡ WriteAt s v start bytes None ∷ []
+write_events : (w : World) (name volume : List ℕ) (start : ℕ) (bytes : List ℕ) (s v : ℕ) → site_number w name ≡ s → volume_number (w.nodes s) volume ≡ v → writing_events w name volume start bytes ≡ WriteAt s v start bytes None ∷ []
 write_events w name volume start bytes s v number place =
     ap (λ (k : ℕ). let es : List Event = WriteAt k (volume_number (w.nodes k) volume) start bytes None ∷ [] in es) number
     ∙ ap (λ (k : ℕ). let es : List Event = WriteAt s k start bytes None ∷ [] in es) place
@@ -129,7 +129,7 @@ cut_fact d s x count fits can least most =
 
 -- whether some link has to confirm the write
 waited_as : (d : Doubted) (s : ℕ) → LinksFit d → (d.world.nodes s).state ≡ IsUp → some_below d.world.sites (λ k. is_waited_for k (d.world.links s k)) ≡ awaits_one (linked_fact d.world s)
-waited_as d s fits up = awaits_same d.world (listed d fits) s ∙ ap (λ (t : SiteState). list_any awaits (links_by t (links_in d.world s))) (sym up)
+waited_as d s fits up = awaits_same d.world (listed d fits) s ∙ ap (λ (t : SiteState). list_any awaits (links_by t (links_of_site d.world s))) (sym up)
 
 -- the number that a write of a site is to have, as the code counts it
 pub next_after : (last next safe : ℕ) → last ≡ safe → safe < MOST_NUMBER → next ≡ min (last + 1) (2 ^ 64 - 1) → next ≡ safe + 1
@@ -168,7 +168,7 @@ module _ {R : Type 0} {g : Ghosts R} where
   -- the calls of a write that is done, whichever way it is answered
   pub answers_under : (w : Bool) (number : ℕ) (bytes : List ℕ) (a b : DiskSet R g) → WritesUnder bytes (DoneAt number) a b → WritesUnder bytes (answer_by w number) a b
   answers_under true number bytes a b under = record {
-    burns = record { told = on_logged IsLogged (size_in a) number (disks_in a) (disks_in b) under.burns.told };
+    burns = record { told = on_logged IsLogged (size_in a) number (disks_told a) (disks_told b) under.burns.told; sizes = under.burns.sizes };
     cuts = record { short = λ rvg is room fits off. absurd (never_off true number off) };
   }
   answers_under false number bytes a b under = under
@@ -190,7 +190,7 @@ module _ {R : Type 0} {g : Ghosts R} where
     abbrev x : Write
     x = the_write v start bytes
 
-    stood : StandsAt (beside_of d s) n before
+    stood : SiteStands (beside_of d s) n before
     stood = stands.disk_sets.sites s before to.seat.below changed.there
 
     whole : length n.log ≡ n.safe
@@ -319,9 +319,9 @@ module _ {R : Type 0} {g : Ghosts R} where
         sure : (beside_of d s).doubt ≡ None
         sure = sure_at (beside_of d s) n before stood to.can.up to.can.running
 
-        by_own : (k : Kept) → k ≡ itself (beside_of d s) (half_begun n x) → (count : ℕ) → k.node.safe ≤ count → count ≤ length k.node.log → StandsAt (sure_of k) (crashed k.node count) after → Leads d line (Refused Off) old new
+        by_own : (k : KeptSite) → k ≡ itself (beside_of d s) (half_begun n x) → (count : ℕ) → k.node.safe ≤ count → count ≤ length k.node.log → SiteStands (sure_of k) (crashed k.node count) after → Leads d line (Refused Off) old new
         by_own k own =
-            subst (λ (q : Kept). (count : ℕ) → q.node.safe ≤ count → count ≤ length q.node.log → StandsAt (sure_of q) (crashed q.node count) after → Leads d line (Refused Off) old new) (sym own)
+            subst (λ (q : KeptSite). (count : ℕ) → q.node.safe ≤ count → count ≤ length q.node.log → SiteStands (sure_of q) (crashed q.node count) after → Leads d line (Refused Off) old new) (sym own)
             (λ count least most stays.
             let e : Doubted = cut_for d s x count in
             let eff = worked_effect s d (cut_events d s x count) (crashed (half_begun n x) count) (line_cut d s x (stands.links.rows s) can count least most) in

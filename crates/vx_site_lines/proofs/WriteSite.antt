@@ -11,8 +11,8 @@ use Rattle.vx_history.specs.declared.event.Event.TheVariants.{Crash as CrashAt, 
 use Rattle.vx_disk.specs.declared.shelf.Shelf.{Ghosts}
 use Rattle.vx_diskset.specs.Asked.{FailsAs, FusedAs}
 use Rattle.vx_diskset.specs.DiskSets.{halted_with}
-use Rattle.vx_diskset.specs.Holds.{Beside, beside_of, row_links}
-use Rattle.vx_diskset.specs.Stands.{RoleIs, StandsAt}
+use Rattle.vx_diskset.specs.Holds.{KeptBeside, beside_of, row_links}
+use Rattle.vx_diskset.specs.Stands.{RoleIs, SiteStands}
 use Rattle.vx_diskset.specs.declared.disk_set.DiskSet.{DiskSet}
 use Rattle.vx_events.specs.Doubts.{run_as}
 use Rattle.vx_events.specs.Effects.{EffectAt}
@@ -73,14 +73,14 @@ module _ (d : Doubted) (s : ℕ) (x : Write) (fits : LinksFit d) (can : IsLetIn 
 
 module _ {R : Type 0} {g : Ghosts R} where
   -- the write is done
-  pub written_comes : (d : Doubted) (s : ℕ) (x : Write) (after : DiskSet R g) → LinksFit d → IsLetIn d.world s x → StandsAt (beside_of d s) (logged (d.world.nodes s) x) after
+  pub written_comes : (d : Doubted) (s : ℕ) (x : Write) (after : DiskSet R g) → LinksFit d → IsLetIn d.world s x → SiteStands (beside_of d s) (logged (d.world.nodes s) x) after
       → FailsAs (d.world.nodes s) after → FusedAs (logged (d.world.nodes s) x) after → RoleIs (d.world.nodes s) after → Comes d (written_for d s x None) s after
   written_comes d s x after fits can stands failing fuse role =
       comes_effect d (written_for d s x None) s (logged (d.world.nodes s) x) d.world.packets (d.world.gathering s) after (line_written d s x (fits.rows s) can) (written_fits d s x None fits)
       refl refl refl refl refl stands (record { told = failing.told }) fuse role
 
   -- a disk failed in it
-  pub half_comes : (d : Doubted) (s : ℕ) (x : Write) (disk : ℕ) (after : DiskSet R g) → LinksFit d → IsLetIn d.world s x → StandsAt (beside_of d s) (halted_with (d.world.nodes s) x disk) after
+  pub half_comes : (d : Doubted) (s : ℕ) (x : Write) (disk : ℕ) (after : DiskSet R g) → LinksFit d → IsLetIn d.world s x → SiteStands (beside_of d s) (halted_with (d.world.nodes s) x disk) after
       → FailsAs (d.world.nodes s) after → FusedAs (halted_with (d.world.nodes s) x disk) after → RoleIs (d.world.nodes s) after → Comes d (written_for d s x (Some disk)) s after
   half_comes d s x disk after fits can stands failing fuse role =
       comes_effect d (written_for d s x (Some disk)) s (halted_with (d.world.nodes s) x disk) d.world.packets (d.world.gathering s) after (line_halted d s x (fits.rows s) can disk)
@@ -88,7 +88,7 @@ module _ {R : Type 0} {g : Ghosts R} where
 
   -- the fuse of its site ran out in it
   pub cut_comes : (d : Doubted) (s : ℕ) (x : Write) (count : ℕ) (after : DiskSet R g) → LinksFit d → IsLetIn d.world s x → (d.world.nodes s).safe ≤ count
-      → count ≤ length ((d.world.nodes s).log ++ x ∷ []) → StandsAt (record (beside_of d s) { doubt = None }) (crashed (half_begun (d.world.nodes s) x) count) after
+      → count ≤ length ((d.world.nodes s).log ++ x ∷ []) → SiteStands (record (beside_of d s) { doubt = None }) (crashed (half_begun (d.world.nodes s) x) count) after
       → FailsAs (d.world.nodes s) after → Comes d (cut_for d s x count) s after
   cut_comes d s x count after fits can least most stands failing =
       let last : Doubted = cut_events d s x count in
@@ -104,7 +104,7 @@ module _ {R : Type 0} {g : Ghosts R} where
       record {
         changes = eff.site;
         links = fit_worked last s (fit_run false d (WriteAt s x.volume x.start x.bytes (Some 0) ∷ CrashAt s count ∷ []) fits);
-        stands = subst (λ (m : Node). StandsAt (beside_of e s) m after) here (subst (λ (b : Beside). StandsAt b n after) (sym there) stands);
+        stands = subst (λ (m : Node). SiteStands (beside_of e s) m after) here (subst (λ (b : KeptBeside). SiteStands b n after) (sym there) stands);
         failing = subst (λ (m : Node). FailsAs m after) here (record { told = failing.told });
         fuse = subst (λ (m : Node). FusedAs m after) here (fused_none n after refl);
         role = role_off (record (beside_of d s) { doubt = None }) n (e.world.nodes s) after stands (λ up. down_up up);

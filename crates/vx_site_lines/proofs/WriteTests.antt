@@ -14,7 +14,7 @@ use Rattle.vx_history.specs.World.{Node, World}
 use Rattle.vx_history.specs.declared.admission.Change.{Change}
 use Rattle.vx_disk.specs.declared.shelf.Shelf.{Ghosts}
 use Rattle.vx_order.specs.Calls.{span_role, span_unknown}
-use Rattle.vx_order.specs.Order.{refusal_of}
+use Rattle.vx_order.specs.Order.{line_refusal}
 use Rattle.vx_order.specs.Spans.{span_of}
 use Rattle.vx_order.specs.Subject.{first_name}
 use Rattle.vx_order.specs.declared.facts.SiteFacts.{SiteFacts}
@@ -53,7 +53,7 @@ abbrev pub the_write : ℕ → ℕ → List ℕ → Write
 the_write v start bytes = record { volume = v; start = start; bytes = bytes }
 
 write_role : (w : World) (s : ℕ) (sites : List SiteFacts) (files : Bool) (name volume : List ℕ) (start count fill : ℕ) (n : Named sites name) → n.facts ≡ linked_fact w s → (w.nodes s).state ≡ IsUp
-    → refusal_of sites files (WriteLine name volume start count fill) ≡ None → (w.nodes s).role ≡ Primary
+    → line_refusal sites files (WriteLine name volume start count fill) ≡ None → (w.nodes s).role ≡ Primary
 unfolding first_name span_of
 write_role w s sites files name volume start count fill n is up free =
     let p = passes sites files (WriteLine name volume start count fill) free in
@@ -62,7 +62,7 @@ write_role w s sites files name volume start count fill n is up free =
     primary_at (w.nodes s) volume start count up (subst (λ (o : Option SiteFacts). span_unknown o (Some span) ≡ None) there p.volume) (subst (λ (o : Option SiteFacts). span_role o (Some span) ≡ None) there p.call_role)
 
 put_role : (w : World) (s : ℕ) (sites : List SiteFacts) (files : Bool) (name volume : List ℕ) (start : ℕ) (bytes : List ℕ) (n : Named sites name) → n.facts ≡ linked_fact w s → (w.nodes s).state ≡ IsUp
-    → refusal_of sites files (PutLine name volume start bytes) ≡ None → (w.nodes s).role ≡ Primary
+    → line_refusal sites files (PutLine name volume start bytes) ≡ None → (w.nodes s).role ≡ Primary
 unfolding first_name span_of
 put_role w s sites files name volume start bytes n is up free =
     let p = passes sites files (PutLine name volume start bytes) free in
@@ -100,11 +100,11 @@ module _ {R : Type 0} {g : Ghosts R} where
   let_in_by d y line name volume start bytes s v stands (OfWrite count fill is filled) free number place =
       goes_by d.world name volume start bytes (replicate (512 * count) fill) s v number place (sym filled)
       (write_let_in d.world (in_files y) name volume start count fill
-      (subst (λ (fs : List SiteFacts). refusal_of fs (in_files y) (WriteLine name volume start count fill) ≡ None) stands.facts (subst (λ (l : ScriptLine). IsFree y l) is free)))
+      (subst (λ (fs : List SiteFacts). line_refusal fs (in_files y) (WriteLine name volume start count fill) ≡ None) stands.facts (subst (λ (l : ScriptLine). IsFree y l) is free)))
   let_in_by d y line name volume start bytes s v stands (OfPut is one) free number place =
       goes_by d.world name volume start bytes bytes s v number place refl
       (put_let_in d.world (in_files y) name volume start bytes
-      (subst (λ (fs : List SiteFacts). refusal_of fs (in_files y) (PutLine name volume start bytes) ≡ None) stands.facts (subst (λ (l : ScriptLine). IsFree y l) is free)) one)
+      (subst (λ (fs : List SiteFacts). line_refusal fs (in_files y) (PutLine name volume start bytes) ≡ None) stands.facts (subst (λ (l : ScriptLine). IsFree y l) is free)) one)
 
   -- where the write goes, and that its site takes it and lets it in
   pub record Writing (d : Doubted) (y : Yard R g) (name volume : List ℕ) (start : ℕ) (bytes : List ℕ) (s v : ℕ) : Type 0 where

@@ -8,8 +8,8 @@ use Rattle.vx_yard.specs.declared.yard.Yard.{Yard}
 use Rattle.vx_yard.specs.Working.{IsFree}
 
 -- a place for so many blocks, and for no more than a line may ask
-abbrev pub IsRoom : ℕ → List ℕ → Type 0
-IsRoom count room = length room ≡ 512 * min count MOST_CALL_BLOCKS
+abbrev pub IsBlockRoom : ℕ → List ℕ → Type 0
+IsBlockRoom count room = length room ≡ 512 * min count MOST_CALL_BLOCKS
 
 -- a line that reads these blocks, whichever of the two it is
 abbrev pub IsReadLine : ScriptLine → List ℕ → List ℕ → ℕ → ℕ → Type 0

@@ -10,8 +10,8 @@ use Rattle.vx_model.specs.declared.state.KeptMode.TheVariants.{Log, Dcm, Replay,
 use Rattle.vx_model.specs.declared.state.State.{State}
 use Rattle.vx_model.specs.Sizes.{ring_of}
 use Rattle.vx_courier.specs.UnderWay.{FlightStands}
-use Rattle.vx_diskset.specs.Holds.{Beside, state_with}
-use Rattle.vx_diskset.specs.Stands.{StandsAt}
+use Rattle.vx_diskset.specs.Holds.{KeptBeside, state_with}
+use Rattle.vx_diskset.specs.Stands.{SiteStands}
 use Rattle.vx_diskset.specs.declared.disk_set.DiskSet.{DiskSet}
 use Rattle.vx_disk.specs.declared.shelf.Shelf.{Ghosts}
 use Rattle.vx_history.specs.Doubts.{Doubted}
@@ -21,7 +21,7 @@ use Rattle.vx_history.specs.declared.event.Event.TheVariants.{Crash as CrashAt}
 use Rattle.vx_effects.specs.Restarts.{are_fine, facts_again}
 use Rattle.vx_events.specs.Doubts.{run_as, with_disks}
 use Rattle.vx_events.specs.Fails.{Fails}
-use Rattle.vx_events.specs.Fuses.{taken}
+use Rattle.vx_events.specs.Fuses.{ring_taken}
 use Rattle.vx_events.specs.Lines.{IsDone as IsDoneLine}
 use Rattle.vx_events.specs.LinkViews.{linked_view}
 use Rattle.vx_events.specs.Lists.{Choice}
@@ -61,16 +61,16 @@ is_by_log Fork = false
 is_by_log Stale = false
 
 -- the blocks of its site's log that a link needs which the header keeps
-abbrev pub need_of : Node → KeptLink → ℕ
-need_of n l = if l.attached && is_by_log l.mode then taken (drop l.stored n.log) else 0
+abbrev pub link_needs : Node → KeptLink → ℕ
+link_needs n l = if l.attached && is_by_log l.mode then ring_taken (drop l.stored n.log) else 0
 
 -- so many blocks are what this link needs
 pub record IsNeed (n : Node) (l : KeptLink) (blocks : ℕ) : Type 0 where
-  pub is : blocks ≡ need_of n l
+  pub is : blocks ≡ link_needs n l
 
 -- in these places stand the blocks that each link needs
 pub record AreNeeds (n : Node) (links : List KeptLink) (used : List ℕ) : Type 0 where
-  pub each : (k : ℕ) (l : KeptLink) → slice_get links k ≡ Some l → slice_get used k ≡ Some (need_of n l)
+  pub each : (k : ℕ) (l : KeptLink) → slice_get links k ≡ Some l → slice_get used k ≡ Some (link_needs n l)
 
 -- what the tests see of a site that came up with this state, so many writes and such a ring
 abbrev pub risen_facts : State → (last ring : ℕ) → (used : List ℕ) → SiteFacts → SiteFacts
@@ -81,17 +81,17 @@ abbrev pub hello_by : (s : ℕ) → State → (session last : ℕ) → List Pack
 hello_by s state session last = if is_origin state.role then [] else packets_of s state.other state.line (Hello session last last)
 
 -- the same with the disks of a site that are made to fail, where it turned out to be what it was in doubt of
-abbrev pub own_disks : (taken : Bool) → (s : ℕ) → World → Doubted → Doubted
-own_disks taken s w h = record h { world = with_disks taken s w h.world }
+abbrev pub own_disks : (ring_taken : Bool) → (s : ℕ) → World → Doubted → Doubted
+own_disks ring_taken s w h = record h { world = with_disks ring_taken s w h.world }
 
 -- the world from which a site is recovered, but for the disks that are made to fail: one that is up crashes first
-pub data RisesFrom (d : Doubted) (s : ℕ) (c : Choice) (taken : Bool) (h : Doubted) : Type 0 where
-  WasUp : (d.world.nodes s).state ≡ Up → h ≡ run_as taken d (CrashAt s c.kept ∷ []) → RisesFrom d s c taken h
-  WasDown : (d.world.nodes s).state ≡ Down → taken ≡ false → h ≡ d → RisesFrom d s c taken h
+pub data RisesFrom (d : Doubted) (s : ℕ) (c : Choice) (ring_taken : Bool) (h : Doubted) : Type 0 where
+  WasUp : (d.world.nodes s).state ≡ Up → h ≡ run_as ring_taken d (CrashAt s c.kept ∷ []) → RisesFrom d s c ring_taken h
+  WasDown : (d.world.nodes s).state ≡ Down → ring_taken ≡ false → h ≡ d → RisesFrom d s c ring_taken h
 
 -- the links before place k have theirs
 pub record NeedsBelow (n : Node) (links : List KeptLink) (used : List ℕ) (k : ℕ) : Type 0 where
-  pub each : (j : ℕ) (l : KeptLink) → j < k → slice_get links j ≡ Some l → slice_get used j ≡ Some (need_of n l)
+  pub each : (j : ℕ) (l : KeptLink) → j < k → slice_get links j ≡ Some l → slice_get used j ≡ Some (link_needs n l)
 
 -- a site may come up with this state of its log, in which its links need so much
 pub record IsRisen (s sites : ℕ) (n : Node) (state : State) (used : List ℕ) : Type 0 where
@@ -100,7 +100,7 @@ pub record IsRisen (s sites : ℕ) (n : Node) (state : State) (used : List ℕ) 
   pub needs : AreNeeds n state.links used
 
 -- memory that a recovery takes before: room for a log on a disk of so many blocks, in which nothing is yet
-pub record IsEmptyRoom (blocks : ℕ) (room : RiseRoom) : Type 0 where
+pub record IsEmptyRiseRoom (blocks : ℕ) (room : RiseRoom) : Type 0 where
   pub ring : room.start.ring ≡ ring_of blocks
   pub waiting : room.waiting ≡ []
   pub links : room.links ≡ []
@@ -109,10 +109,10 @@ pub record IsEmptyRoom (blocks : ℕ) (room : RiseRoom) : Type 0 where
 module _ {R : Type 0} {g : Ghosts R} where
   -- of each site for which its disk set stands, the number of its last write, and its session
   pub record LastAt (s last : ℕ) (y : Yard R g) : Type 0 where
-    pub each : (beside : Beside) (n : Node) (e : DiskSet R g) → slice_get y.disk_sets.items s ≡ Some e → StandsAt beside n e → n.state ≡ Up → n.halted ≡ None → last ≡ n.safe
+    pub each : (beside : KeptBeside) (n : Node) (e : DiskSet R g) → slice_get y.disk_sets.items s ≡ Some e → SiteStands beside n e → n.state ≡ Up → n.halted ≡ None → last ≡ n.safe
 
   pub record SessionAt (s session : ℕ) (y : Yard R g) : Type 0 where
-    pub each : (beside : Beside) (n : Node) (e : DiskSet R g) → slice_get y.disk_sets.items s ≡ Some e → StandsAt beside n e → n.state ≡ Up → session ≡ n.session
+    pub each : (beside : KeptBeside) (n : Node) (e : DiskSet R g) → slice_get y.disk_sets.items s ≡ Some e → SiteStands beside n e → n.state ≡ Up → session ≡ n.session
 
   -- The site came up with this state of its log: the tests see it, the one that it followed feeds it, and it greets that one.
   pub record RisesTo (s ring : ℕ) (state : State) (used : List ℕ) (said : Said) (old new : Yard R g) : Type 0 where

@@ -7,7 +7,7 @@ ghost use Rattle.vx_yard.specs.OfSites.{AsAsked, OfSite};
 ghost use Rattle.vx_diskset.specs.Asked.{CrashesBy, SameFailing};
 ghost use Rattle.vx_yard.specs.Standing.{Falls, Leads, StandsFor};
 ghost use Rattle.vx_yard.specs.Working.{IsFree};
-ghost use Rattle.vx_yard.specs.Yards.{IsKept, IsTold, in_files};
+ghost use Rattle.vx_yard.specs.Yards.{IsYardKept, IsTold, in_files};
 
 use std::alloc::Global;
 use std::mem;
@@ -39,7 +39,7 @@ pub(crate) fn go_down<R: Rack>(yard: &mut Yard<R>, alloc: Global, site: usize, p
 
 /// Crashes a site that is up.
 pub fn crash_line<R: Rack>(yard: &mut Yard<R>, alloc: Global, name: &Name, pick: u64) -> Said
-    requires kept { IsKept yard.old }
+    requires kept { IsYardKept yard.old }
     requires free { IsFree yard.old (Crash name.now pick) }
     ensures leads { (d : Doubted) → StandsFor d yard.old → Leads d (Crash name.now pick) result yard.old yard.new }
     ensures asked { (d : Doubted) → StandsFor d yard.old → AsAsked d.world (Crash name.now pick) yard.old yard.new }

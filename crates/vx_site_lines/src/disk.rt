@@ -6,7 +6,7 @@ ghost use Rattle.vx_events.specs.Failing.{is_failing};
 ghost use Rattle.vx_yard.specs.OfSites.{AsAsked};
 ghost use Rattle.vx_yard.specs.Standing.{Leads, StandsFor};
 ghost use Rattle.vx_yard.specs.Working.{IsFree};
-ghost use Rattle.vx_yard.specs.Yards.{IsKept, IsTold, in_files};
+ghost use Rattle.vx_yard.specs.Yards.{IsYardKept, IsTold, in_files};
 
 use vx_disk::Rack;
 use vx_events::Said;
@@ -23,7 +23,7 @@ fn is_failing(state: DiskWord) -> bool
 
 /// Makes the calls on a disk fail, or ends that.
 pub fn set_disk<R: Rack>(yard: &mut Yard<R>, name: &Name, disk: u64, state: DiskWord) -> Said
-    requires kept { IsKept yard.old }
+    requires kept { IsYardKept yard.old }
     requires free { IsFree yard.old (Disk name.now disk state) }
     ensures leads { (d : Doubted) → StandsFor d yard.old → Leads d (Disk name.now disk state) result yard.old yard.new }
     ensures asked { (d : Doubted) → StandsFor d yard.old → AsAsked d.world (Disk name.now disk state) yard.old yard.new }

@@ -5,7 +5,7 @@ ghost use Rattle.vx_script.specs.declared.line.ScriptLine.TheVariants.{Fuse};
 ghost use Rattle.vx_yard.specs.OfSites.{AsAsked};
 ghost use Rattle.vx_yard.specs.Standing.{Leads, StandsFor};
 ghost use Rattle.vx_yard.specs.Working.{IsFree};
-ghost use Rattle.vx_yard.specs.Yards.{IsKept, IsTold, in_files};
+ghost use Rattle.vx_yard.specs.Yards.{IsYardKept, IsTold, in_files};
 
 use vx_disk::Rack;
 use vx_events::Said;
@@ -14,7 +14,7 @@ use vx_yard::Yard;
 
 /// Sets the fuse of a site that is up.
 pub fn fuse_line<R: Rack>(yard: &mut Yard<R>, name: &Name, calls: u64, pick: u64) -> Said
-    requires kept { IsKept yard.old }
+    requires kept { IsYardKept yard.old }
     requires free { IsFree yard.old (Fuse name.now calls pick) }
     ensures leads { (d : Doubted) → StandsFor d yard.old → Leads d (Fuse name.now calls pick) result yard.old yard.new }
     ensures asked { (d : Doubted) → StandsFor d yard.old → AsAsked d.world (Fuse name.now calls pick) yard.old yard.new }

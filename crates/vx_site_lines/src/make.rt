@@ -5,7 +5,7 @@ ghost use Rattle.vx_script.specs.declared.line.ScriptLine.TheVariants.{Site, Raw
 ghost use Rattle.vx_yard.specs.OfSites.{AsAsked};
 ghost use Rattle.vx_yard.specs.Standing.{LeadsIs, StandsFor};
 ghost use Rattle.vx_yard.specs.Working.{IsFree};
-ghost use Rattle.vx_yard.specs.Yards.{IsKept, IsTold, in_files};
+ghost use Rattle.vx_yard.specs.Yards.{IsYardKept, IsTold, in_files};
 
 use std::alloc::Global;
 use std::mem;
@@ -29,7 +29,7 @@ pub fn make_site<R: Rack>(
     requires some { 1 ≤ disks }
     requires few { disks ≤ MOST_DISKS }
     requires large { LEAST_BLOCKS ≤ blocks }
-    requires kept { IsKept yard.old }
+    requires kept { IsYardKept yard.old }
     requires free { IsFree yard.old (Site name.now disks blocks) }
     ensures leads { (d : Doubted) → StandsFor d yard.old → LeadsIs d (Site name.now disks blocks) yard.old yard.new result }
     ensures asked { (d : Doubted) → StandsFor d yard.old → AsAsked d.world (Site name.now disks blocks) yard.old yard.new }
@@ -64,7 +64,7 @@ pub fn make_raw<R: Rack>(
     alloc: Global,
     name: &Name,
 ) -> Result<Said, OutOfMemory>
-    requires kept { IsKept yard.old }
+    requires kept { IsYardKept yard.old }
     requires free { IsFree yard.old (Raw name.now) }
     ensures leads { (d : Doubted) → StandsFor d yard.old → LeadsIs d (Raw name.now) yard.old yard.new result }
     ensures asked { (d : Doubted) → StandsFor d yard.old → AsAsked d.world (Raw name.now) yard.old yard.new }

@@ -10,12 +10,12 @@ ghost use Rattle.vx_yard.specs.OfSites.{AsAsked, OfSite};
 ghost use Rattle.vx_diskset.specs.Asked.{LeavesAlone};
 ghost use Rattle.vx_diskset.specs.DiskSets.{CanRead, Later};
 ghost use Rattle.vx_diskset.specs.Fetching.{GaveAt};
-ghost use Rattle.vx_diskset.specs.Holds.{Beside};
-ghost use Rattle.vx_diskset.specs.Stands.{KeepsRole, StandsAt};
-ghost use Rattle.vx_site_lines.specs.Fetching.{IsReadFree, IsReadLine, IsRoom};
+ghost use Rattle.vx_diskset.specs.Holds.{KeptBeside};
+ghost use Rattle.vx_diskset.specs.Stands.{KeepsRole, SiteStands};
+ghost use Rattle.vx_site_lines.specs.Fetching.{IsReadFree, IsReadLine, IsBlockRoom};
 ghost use Rattle.vx_yard.specs.Standing.{Leads, StandsFor};
 ghost use Rattle.vx_yard.specs.Working.{IsFree};
-ghost use Rattle.vx_yard.specs.Yards.{IsKept, IsTold, in_files};
+ghost use Rattle.vx_yard.specs.Yards.{IsYardKept, IsTold, in_files};
 
 use crate::shown::show_received;
 use vx_disk::Rack;
@@ -37,7 +37,7 @@ fn blocks_of<R: Rack>(
     requires some { 0 < count }
     requires few { count ≤ MOST_CALL_BLOCKS }
     requires room { length room.items ≡ 512 * count }
-    ensures read { (beside : Beside) (n : Node) → StandsAt beside n disk_set.old → CanRead n volume start count → GaveAt beside n volume start count disk_set.old disk_set.new result }
+    ensures read { (beside : KeptBeside) (n : Node) → SiteStands beside n disk_set.old → CanRead n volume start count → GaveAt beside n volume start count disk_set.old disk_set.new result }
     ensures role { KeepsRole disk_set.old disk_set.new }
     ensures still { LeavesAlone disk_set.old disk_set.new }
     ensures later { Later disk_set.old disk_set.new }
@@ -55,8 +55,8 @@ pub fn read_line<R: Rack>(
     count: u64,
     room: Vec<u8>,
 ) -> Said
-    requires room { IsRoom count room.items }
-    requires kept { IsKept yard.old }
+    requires room { IsBlockRoom count room.items }
+    requires kept { IsYardKept yard.old }
     requires free { IsFree yard.old (ReadLine name.now volume.now start count) }
     ensures leads { (d : Doubted) → StandsFor d yard.old → Leads d (ReadLine name.now volume.now start count) result yard.old yard.new }
     ensures asked { (d : Doubted) → StandsFor d yard.old → AsAsked d.world (ReadLine name.now volume.now start count) yard.old yard.new }
@@ -75,8 +75,8 @@ pub fn show_line<R: Rack>(
     count: u64,
     room: Vec<u8>,
 ) -> Said
-    requires room { IsRoom count room.items }
-    requires kept { IsKept yard.old }
+    requires room { IsBlockRoom count room.items }
+    requires kept { IsYardKept yard.old }
     requires free { IsFree yard.old (ShowLine name.now volume.now start count) }
     ensures leads { (d : Doubted) → StandsFor d yard.old → Leads d (ShowLine name.now volume.now start count) result yard.old yard.new }
     ensures asked { (d : Doubted) → StandsFor d yard.old → AsAsked d.world (ShowLine name.now volume.now start count) yard.old yard.new }
@@ -99,8 +99,8 @@ fn fetch<R: Rack>(
     count: u64,
     room: Vec<u8>,
 ) -> Said
-    requires room { IsRoom count room.items }
-    requires kept { IsKept yard.old }
+    requires room { IsBlockRoom count room.items }
+    requires kept { IsYardKept yard.old }
     requires free { IsReadFree yard.old name.now volume.now start count }
     ensures leads { (d : Doubted) (line : ScriptLine) → StandsFor d yard.old → IsReadLine line name.now volume.now start count → IsFree yard.old line
         → ((s : ℕ) → seat_of yard.old.facts.items name.now ≡ Some s → is_origin (d.world.nodes s).role ≡ true) → Leads d line result yard.old yard.new }

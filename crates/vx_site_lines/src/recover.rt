@@ -15,10 +15,10 @@ ghost use Rattle.vx_events.specs.LinkViews.{linked_view};
 ghost use Rattle.vx_events.specs.LinksFit.{LinksFit};
 ghost use Rattle.vx_events.specs.Lists.{Choice};
 ghost use Rattle.vx_yard.specs.OfSites.{AsAsked, OfSite};
-ghost use Rattle.vx_site_lines.specs.Rises.{IsEmptyRoom, LastAt, LeadsFrom, RisesFrom, RisesTo, SessionAt, hello_by, own_disks, risen_facts};
+ghost use Rattle.vx_site_lines.specs.Rises.{IsEmptyRiseRoom, LastAt, LeadsFrom, RisesFrom, RisesTo, SessionAt, hello_by, own_disks, risen_facts};
 ghost use Rattle.vx_yard.specs.Standing.{LeadsIs, StandsFor};
 ghost use Rattle.vx_yard.specs.Working.{IsFree};
-ghost use Rattle.vx_yard.specs.Yards.{IsKept, IsTold, in_files};
+ghost use Rattle.vx_yard.specs.Yards.{IsYardKept, IsTold, in_files};
 
 use crate::crash::go_down;
 use crate::rooms::{RiseRoom, Risen, greet, link_views, what_rose};
@@ -176,7 +176,7 @@ fn rise_bare<R: Rack>(
     requires many { length yard.old.facts.items ≤ MOST_SITES }
     requires disk_set { site < length yard.old.disk_sets.items }
     requires flight { yard.old.flight.count < MOST_NUMBER }
-    requires room { (f : Facts) → slice_get yard.old.facts.items site ≡ Some f → IsEmptyRoom f.blocks room }
+    requires room { (f : Facts) → slice_get yard.old.facts.items site ≡ Some f → IsEmptyRiseRoom f.blocks room }
     // For want of memory nothing is done.
     ensures short { IfErr result (λ e. yard.new.disk_sets ≡ yard.old.disk_sets) }
     ensures rises { (d : Doubted) → site_number d.world name.now ≡ site → StandsFor d yard.old → site < d.world.sites → (d.world.nodes site).state ≡ BareState → LeadsIs d (Recover name.now) yard.old yard.new result }
@@ -239,7 +239,7 @@ pub fn recover_line<R: Rack>(
     alloc: Global,
     name: &Name,
 ) -> Result<Said, OutOfMemory>
-    requires kept { IsKept yard.old }
+    requires kept { IsYardKept yard.old }
     requires free { IsFree yard.old (Recover name.now) }
     ensures leads { (d : Doubted) → StandsFor d yard.old → LeadsIs d (Recover name.now) yard.old yard.new result }
     ensures asked { (d : Doubted) → StandsFor d yard.old → AsAsked d.world (Recover name.now) yard.old yard.new }

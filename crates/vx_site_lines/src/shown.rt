@@ -2,19 +2,19 @@
 ghost use Rattle.std.specs.Prelude.{◌≡◌, ◌≤◌, ◌<◌, ◌*◌, ℕ, Some, false, length};
 ghost use Rattle.vx_diskset.specs.Asked.{LeavesAlone};
 ghost use Rattle.vx_diskset.specs.DiskSets.{CanRead, Later};
-ghost use Rattle.vx_diskset.specs.Holds.{Beside};
-ghost use Rattle.vx_diskset.specs.Stands.{KeepsRole, StandsAt};
+ghost use Rattle.vx_diskset.specs.Holds.{KeptBeside};
+ghost use Rattle.vx_diskset.specs.Stands.{KeepsRole, SiteStands};
 ghost use Rattle.vx_events.specs.Facts.{seat_of, site_number};
 ghost use Rattle.vx_history.specs.Doubts.{Doubted};
 ghost use Rattle.vx_history.specs.World.{Node};
 ghost use Rattle.vx_model.specs.Sites.{is_origin};
 ghost use Rattle.vx_script.specs.declared.line.ScriptLine.TheVariants.{Show as ShowLine};
-ghost use Rattle.vx_site_lines.specs.Fetching.{IsRoom};
+ghost use Rattle.vx_site_lines.specs.Fetching.{IsBlockRoom};
 ghost use Rattle.vx_yard.specs.OfSites.{OfSite};
 ghost use Rattle.vx_site_lines.specs.Shown.{GaveShownAt};
 ghost use Rattle.vx_yard.specs.Standing.{Leads, StandsFor};
 ghost use Rattle.vx_yard.specs.Working.{IsFree};
-ghost use Rattle.vx_yard.specs.Yards.{IsKept, IsTold, in_files};
+ghost use Rattle.vx_yard.specs.Yards.{IsYardKept, IsTold, in_files};
 
 use vx_disk::Rack;
 use vx_diskset::DiskSet;
@@ -34,7 +34,7 @@ fn shown_of<R: Rack>(
     requires some { 0 < count }
     requires few { count ≤ MOST_CALL_BLOCKS }
     requires room { length room.items ≡ 512 * count }
-    ensures shows { (beside : Beside) (n : Node) → StandsAt beside n disk_set.old → CanRead n volume start count → GaveShownAt beside n volume start count disk_set.old disk_set.new result }
+    ensures shows { (beside : KeptBeside) (n : Node) → SiteStands beside n disk_set.old → CanRead n volume start count → GaveShownAt beside n volume start count disk_set.old disk_set.new result }
     ensures role { KeepsRole disk_set.old disk_set.new }
     ensures still { LeavesAlone disk_set.old disk_set.new }
     ensures later { Later disk_set.old disk_set.new }
@@ -52,8 +52,8 @@ pub(crate) fn show_received<R: Rack>(
     count: u64,
     room: Vec<u8>,
 ) -> Said
-    requires room { IsRoom count room.items }
-    requires kept { IsKept yard.old }
+    requires room { IsBlockRoom count room.items }
+    requires kept { IsYardKept yard.old }
     requires free { IsFree yard.old (ShowLine name.now volume.now start count) }
     ensures leads { (d : Doubted) (s : ℕ) → StandsFor d yard.old → seat_of yard.old.facts.items name.now ≡ Some s → is_origin (d.world.nodes s).role ≡ false → Leads d (ShowLine name.now volume.now start count) result yard.old yard.new }
     ensures asked { (d : Doubted) → StandsFor d yard.old → OfSite LeavesAlone (site_number d.world name.now) yard.old yard.new }

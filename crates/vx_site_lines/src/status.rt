@@ -7,7 +7,7 @@ ghost use Rattle.vx_site_lines.specs.Seen.{name_at, group_seen, group_at, link_s
 ghost use Rattle.vx_yard.specs.Standing.{LeadsIs, StandsFor};
 ghost use Rattle.vx_events.specs.LinkViews.{linked_view};
 ghost use Rattle.vx_yard.specs.Working.{IsFree};
-ghost use Rattle.vx_yard.specs.Yards.{IsKept};
+ghost use Rattle.vx_yard.specs.Yards.{IsYardKept};
 
 use std::alloc::Global;
 use vx_disk::Rack;
@@ -122,7 +122,7 @@ pub(crate) fn view_at<R: Rack>(
 
 /// The status of a site.
 pub fn status_line<R: Rack>(yard: &Yard<R>, alloc: Global, name: &Name) -> Result<Said, OutOfMemory>
-    requires kept { IsKept yard.now }
+    requires kept { IsYardKept yard.now }
     requires free { IsFree yard.now (StatusLine name.now) }
     ensures leads { (d : Doubted) → StandsFor d yard.now → LeadsIs d (StatusLine name.now) yard.now yard.now result }
 {

@@ -9,7 +9,7 @@ ghost use Rattle.vx_diskset.specs.Asked.{WritesUnder};
 ghost use Rattle.vx_yard.specs.Working.{IsFree};
 ghost use Rattle.vx_yard.specs.Standing.{Leads, StandsFor};
 ghost use Rattle.vx_yard.specs.Writes.{IsWriteFree, IsWriteLine};
-ghost use Rattle.vx_yard.specs.Yards.{IsKept, IsTold, in_files};
+ghost use Rattle.vx_yard.specs.Yards.{IsYardKept, IsTold, in_files};
 
 use crate::noting::{note_unwritten, note_written};
 use std::alloc::Global;
@@ -33,7 +33,7 @@ fn write_blocks<R: Rack>(
     requires some { 0 < length bytes.now }
     requires few { length bytes.now ≤ MOST_CALL_BYTES }
     requires whole { length bytes.now % 512 ≡ 0 }
-    requires kept { IsKept yard.old }
+    requires kept { IsYardKept yard.old }
     requires free { IsWriteFree yard.old name.now volume.now start bytes.now }
     ensures leads { (d : Doubted) (line : ScriptLine) → StandsFor d yard.old → IsWriteLine line name.now volume.now start bytes.now → IsFree yard.old line → Leads d line result yard.old yard.new }
     ensures called { (d : Doubted) → StandsFor d yard.old → OfSite (WritesUnder bytes.now result) (site_number d.world name.now) yard.old yard.new }
@@ -66,7 +66,7 @@ pub fn write_line<R: Rack>(
     bytes: &[u8],
 ) -> Said
     requires bytes { bytes.now ≡ replicate (512 * min count MOST_CALL_BLOCKS) fill }
-    requires kept { IsKept yard.old }
+    requires kept { IsYardKept yard.old }
     requires free { IsFree yard.old (WriteLine name.now volume.now start count fill) }
     ensures leads { (d : Doubted) → StandsFor d yard.old → Leads d (WriteLine name.now volume.now start count fill) result yard.old yard.new }
     ensures asked { (d : Doubted) → StandsFor d yard.old → AsAsked d.world (WriteLine name.now volume.now start count fill) yard.old yard.new }
@@ -89,7 +89,7 @@ pub fn put_line<R: Rack>(
     start: u64,
     bytes: &Block,
 ) -> Said
-    requires kept { IsKept yard.old }
+    requires kept { IsYardKept yard.old }
     requires free { IsFree yard.old (PutLine name.now volume.now start bytes.now) }
     ensures leads { (d : Doubted) → StandsFor d yard.old → Leads d (PutLine name.now volume.now start bytes.now) result yard.old yard.new }
     ensures asked { (d : Doubted) → StandsFor d yard.old → AsAsked d.world (PutLine name.now volume.now start bytes.now) yard.old yard.new }

@@ -4,7 +4,7 @@ use Rattle.std.proofs.Math.ListN.{set}
 use Rattle.std.proofs.lemmas.List.{take_more}
 use Rattle.vx_model.specs.Content.{Write, blocks_in}
 use Rattle.vx_history.specs.World.{Link as PlainLink, no_link}
-use Rattle.vx_history.specs.Events.{log_blocks}
+use Rattle.vx_history.specs.Events.{logged_blocks}
 use Rattle.vx_sites.specs.declared.link.Link.{Link}
 use Rattle.vx_sites.specs.Shapes.{link_of, row_of}
 use Rattle.vx_sites.proofs.Tables.{changed_below, changed-more, changed-all, seen-changed}
@@ -21,13 +21,13 @@ each_done g start links i all same h =
 
 -- ## The blocks of a log
 
-log_blocks_append : (xs ys : List Write) → log_blocks (xs ++ ys) ≡ log_blocks xs + log_blocks ys
+log_blocks_append : (xs ys : List Write) → logged_blocks (xs ++ ys) ≡ logged_blocks xs + logged_blocks ys
 log_blocks_append [] ys = omega arith
 log_blocks_append (x ∷ xs) ys =
-    ap (λ (n : ℕ). blocks_in x.bytes + 1 + n) (log_blocks_append xs ys) ∙ sym (add_assoc (blocks_in x.bytes + 1) (log_blocks xs) (log_blocks ys))
+    ap (λ (n : ℕ). blocks_in x.bytes + 1 + n) (log_blocks_append xs ys) ∙ sym (add_assoc (blocks_in x.bytes + 1) (logged_blocks xs) (logged_blocks ys))
 
-pub log_blocks_more : (xs : List Write) (i : ℕ) (x : Write) → i < length xs → x ≡ get_or xs i x → log_blocks (take (i + 1) xs) ≡ log_blocks (take i xs) + (blocks_in x.bytes + 1)
+pub log_blocks_more : (xs : List Write) (i : ℕ) (x : Write) → i < length xs → x ≡ get_or xs i x → logged_blocks (take (i + 1) xs) ≡ logged_blocks (take i xs) + (blocks_in x.bytes + 1)
 log_blocks_more xs i x lt is =
     let more : take (i + 1) xs ≡ take i xs ++ get_or xs i x ∷ [] = take_more xs i x lt in
-    let last : log_blocks (get_or xs i x ∷ []) ≡ blocks_in x.bytes + 1 = ap (λ (y : Write). log_blocks (y ∷ [])) (sym is) ∙ omega arith in
-    ap log_blocks more ∙ log_blocks_append (take i xs) (get_or xs i x ∷ []) ∙ ap (λ (n : ℕ). log_blocks (take i xs) + n) last
+    let last : logged_blocks (get_or xs i x ∷ []) ≡ blocks_in x.bytes + 1 = ap (λ (y : Write). logged_blocks (y ∷ [])) (sym is) ∙ omega arith in
+    ap logged_blocks more ∙ log_blocks_append (take i xs) (get_or xs i x ∷ []) ∙ ap (λ (n : ℕ). logged_blocks (take i xs) + n) last

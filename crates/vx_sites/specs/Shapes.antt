@@ -70,6 +70,7 @@ node_of n = record {
   fork_map = None;
   fuse = NoFuse;
   failing = λ d. false;
+  group = None;
 }
 
 abbrev pub link_of : Link → PlainLink
@@ -113,8 +114,8 @@ abbrev pub surety_of : Surety → PlainSurety
 surety_of Durable = PlainDurable
 surety_of (InSession session) = PlainInSession session
 
-abbrev pub promise_of : Promise → PlainPromise
-promise_of p = record { line = p.line; number = p.number; site = p.site; surety = surety_of p.surety }
+abbrev pub plain_promise : Promise → PlainPromise
+plain_promise p = record { line = p.line; number = p.number; site = p.site; surety = surety_of p.surety }
 
 -- a site beyond the last is bare, without a name and disks
 abbrev pub nodes_of : List Node → ℕ → PlainNode
@@ -133,17 +134,17 @@ has_region region [] = false
 has_region region (r ∷ rs) = eqb region r || has_region region rs
 
 -- whether a region of a volume is marked in the map of the link from one site to another
-abbrev pub is_marked : List Marks → (from to volume region : ℕ) → Bool
-is_marked [] from to volume region = false
-is_marked (m ∷ ms) from to volume region =
-    (eqb m.from from && (eqb m.to to && (eqb m.volume volume && has_region region m.regions.items))) || is_marked ms from to volume region
+abbrev pub is_region_marked : List Marks → (from to volume region : ℕ) → Bool
+is_region_marked [] from to volume region = false
+is_region_marked (m ∷ ms) from to volume region =
+    (eqb m.from from && (eqb m.to to && (eqb m.volume volume && has_region region m.regions.items))) || is_region_marked ms from to volume region
 
 abbrev pub with_map : Regions → PlainLink → PlainLink
 with_map map l = record l { map = map }
 
 -- the links of these rows, each with its map
 abbrev pub mapped_links : List Marks → List Row → ℕ → ℕ → PlainLink
-mapped_links maps rows p s = with_map (is_marked maps p s) (links_of rows p s)
+mapped_links maps rows p s = with_map (is_region_marked maps p s) (links_of rows p s)
 
 -- the first entry of the line
 abbrev pub lines_of : List Entry → Line → PlainHistory
@@ -167,7 +168,7 @@ world_of w = record {
   links = mapped_links w.maps.lists.items w.rows.items;
   lines = lines_of w.lines.items;
   packets = w.packets;
-  promised = map promise_of w.promised.items;
+  promised = map plain_promise w.promised.items;
   gathering = places_of w.gathering.items;
   headers = λ i. 0;
 }

@@ -5,7 +5,7 @@ ghost use Rattle.vx_model.specs.Sites.{same_line as on_same_line};
 ghost use Rattle.vx_model.specs.Answer.{is_past};
 ghost use Rattle.vx_history.specs.Receiving.{phase_takes};
 ghost use Rattle.vx_history.specs.Sends.{is_linked};
-ghost use Rattle.vx_history.specs.Refusals.{unless, unless_at_most, at_site, at_work, is_primary as primary, some_below, may_be_site, is_fresh as fresh, may_link as can_link, may_join, agree, rings_fit as fit, links_of, follows as following};
+ghost use Rattle.vx_history.specs.Refusals.{unless, unless_at_most, at_site, at_work, is_primary as primary, some_below, may_be_site, is_fresh as fresh, may_link as can_link, may_join, agree, rings_fit as fit, count_links_of, follows as following};
 ghost use Rattle.vx_model.specs.Sites.{is_bare as bare};
 ghost use Rattle.vx_model.specs.Sizes.{is_raw_shape as raw_shape};
 ghost use Rattle.vx_model.specs.declared.no.No.TheVariants.{Unknown, Exists, Role as WrongRole, Size as WrongSize, Range as OutOfRange};
@@ -51,6 +51,18 @@ fn is_taken(world: &World, name: &Name) -> bool
         taken = world.nodes[site].name.as_bytes() == name.as_bytes() || taken;
     }
     taken
+}
+
+/// 5 where the site is not bare.
+pub fn refuse_not_bare(world: &World, site: u32) -> Option<No>
+    requires { site < length world.now.nodes.items }
+    ensures { let w = world_of world.now in Refuses result w (unless (not (bare (w.nodes site).state)) WrongRole w) }
+{
+    if is_bare(world.node(site)) {
+        None
+    } else {
+        Some(No::Role)
+    }
 }
 
 /// 5 where the site is not bare, and 4 where its disks make no raw set.
@@ -211,7 +223,7 @@ fn has_link(world: &World, site: u32) -> bool
 
 /// How many links the site has.
 pub fn count_links(world: &World, site: u32) -> usize
-    ensures { result ≡ links_of (world_of world.now) site }
+    ensures { result ≡ count_links_of (world_of world.now) site }
 {
     let mut count = 0;
     for to in 0..world.nodes.len() {

@@ -5,7 +5,7 @@ ghost use Rattle.vx_history.specs.Admission.{is_log as logs, is_fail as fails};
 ghost use Rattle.vx_history.specs.Refusals.{some_below, waits, goes, holds_back, is_unconfirmed as unconfirmed};
 ghost use Rattle.vx_history.specs.Sends.{promising};
 ghost use Rattle.vx_history.specs.Events.{promise_of as promise_by, promises_of};
-ghost use Rattle.vx_sites.specs.Shapes.{world_of, node_of, link_of, row_of, surety_of, promise_of};
+ghost use Rattle.vx_sites.specs.Shapes.{world_of, node_of, link_of, row_of, surety_of, plain_promise};
 
 use crate::link::link_in;
 use crate::{Link, Node, Promise, Surety, World};
@@ -106,7 +106,7 @@ fn promise_below(
     links: &[Link],
     sites: usize,
 ) -> Result<(), OutOfMemory>
-    ensures { OnOk result (map promise_of promised.new.items ≡ map promise_of promised.old.items ++ promises_of (node_of node.now) number (row_of links.now) sites) }
+    ensures { OnOk result (map plain_promise promised.new.items ≡ map plain_promise promised.old.items ++ promises_of (node_of node.now) number (row_of links.now) sites) }
 {
     for back in 0..sites {
         let to = sites - 1 - back;
@@ -122,7 +122,7 @@ fn promise_one(
     to: usize,
     link: &Link,
 ) -> Result<(), OutOfMemory>
-    ensures { OnOk result (map promise_of promised.new.items ≡ map promise_of promised.old.items ++ promise_by (node_of node.now) number to (link_of link.now)) }
+    ensures { OnOk result (map plain_promise promised.new.items ≡ map plain_promise promised.old.items ++ promise_by (node_of node.now) number to (link_of link.now)) }
 {
     if !link.is_linked() || !link.state.attached || !is_failing(&link.state.sync) {
         return Ok(());

@@ -10,6 +10,7 @@ mod confirming;
 mod content;
 mod dispatches;
 mod gathering;
+mod groups;
 mod history;
 mod link;
 mod maps;

@@ -7,7 +7,7 @@ use crate::{Content, Write};
 use std::alloc::Global;
 use vx_model::{Line, Mark, Name, Role, SPhase, SiteState};
 
-/// A site. Its line came from no other, it keeps no map and has no fuse.
+/// A site. Its line came from no other, it keeps no map, and notes no fuse and no group of disks.
 #[derive(Drop)]
 pub struct Node {
     pub name: Name,

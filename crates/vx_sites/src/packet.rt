@@ -1,7 +1,7 @@
 // What sites send, and what they promise.
 ghost use Rattle.std.specs.Prelude.{◌≡◌, ◌≤◌, IfOk};
 ghost use Rattle.vx_history.specs.Sends.{payload_size as size_of, parts_of as parts};
-ghost use Rattle.vx_history.specs.Gatherings.{kind_of as kind, session_of as session, number_of as number};
+ghost use Rattle.vx_history.specs.Gatherings.{message_kind as kind, session_of as session, number_of as number};
 ghost use Rattle.vx_sites.specs.Messages.{message_of};
 
 use crate::Write;

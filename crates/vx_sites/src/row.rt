@@ -3,7 +3,7 @@ ghost use Rattle.std.specs.Prelude.{◌≡◌, ◌<◌, ℕ, length, drop, min};
 ghost use Rattle.vx_history.specs.World.{Node as PlainNode};
 ghost use Rattle.vx_history.specs.Admission.{hold};
 ghost use Rattle.vx_history.specs.Sends.{with_links};
-ghost use Rattle.vx_history.specs.Events.{lost_touch, restarted_link, log_blocks, link_after, links_changed};
+ghost use Rattle.vx_history.specs.Events.{lost_touch, restarted_link, logged_blocks, link_after, links_changed};
 ghost use Rattle.vx_sites.specs.Shapes.{node_of, link_of, row_of, world_of};
 
 use crate::{Link, Node, World, Write};
@@ -119,14 +119,14 @@ fn change(link: &Link, node: &Node, write: &Write) -> Link
 
 /// The blocks of a log that the numbers above a link's hold take, counted up to 2^32.
 pub fn used_above(log: &[Write], link: &PlainLink) -> u64
-    ensures { result ≡ min (log_blocks (drop (hold link.now) log.now)) 0x1_0000_0000 }
+    ensures { result ≡ min (logged_blocks (drop (hold link.now) log.now)) 0x1_0000_0000 }
 {
     let from = (hold_of(link) as usize).min(log.len());
     count_blocks(&log[from..])
 }
 
 fn count_blocks(writes: &[Write]) -> u64
-    ensures { result ≡ min (log_blocks writes.now) 0x1_0000_0000 }
+    ensures { result ≡ min (logged_blocks writes.now) 0x1_0000_0000 }
 {
     let mut count = 0;
     for write in writes {

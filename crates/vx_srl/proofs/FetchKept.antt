@@ -16,11 +16,11 @@ use Rattle.vx_ringio.specs.Bodies.{BodyIs, all_blocks, given_of}
 use Rattle.vx_ringio.specs.Classes.{is_of_ring}
 use Rattle.vx_ringio.specs.Reading.{ReadsAs, ShowsBlocks}
 use Rattle.vx_ringio.specs.declared.body.Body.TheVariants.{Differs}
-use Rattle.vx_srl.specs.Calls.{Fetches, Agrees}
-use Rattle.vx_srl.specs.Damages.{SeesBody}
-use Rattle.vx_srl.specs.Kepts.{IsKept}
+use Rattle.vx_srl.specs.Calls.{Fetches, AgreesWithFront}
+use Rattle.vx_srl.specs.Damages.{SeesRecordBody}
+use Rattle.vx_srl.specs.Kepts.{IsLogKept}
 use Rattle.vx_srl.specs.Rings.{RingOn}
-use Rattle.vx_srl.specs.Views.{Log, PlacedFrom, head_of, width_of, widths}
+use Rattle.vx_srl.specs.Views.{Log, PlacedFrom, head_number, width_of, widths}
 use Rattle.vx_srl.specs.declared.kept.Kept.{Kept}
 use Rattle.vx_srl.proofs.FetchRecord.{some_is, none_is, none_differ, fetches}
 use Rattle.vx_srl.proofs.StageKept.{seen}
@@ -58,10 +58,10 @@ first false b is = cc
 low_some : (ring : ℕ) (h : Header) → is_of_ring ring h ≡ true → 0 < h.low
 low_some ring h is = ltb-true 0 h.low (first (nat_lt 0 h.low) (nat_lt h.run (h.stamp + 1)) (both (nat_lt h.place ring) (nat_lt 0 h.low && nat_lt h.run (h.stamp + 1)) is))
 
-module _ (unit ring : ℕ) (header : Header) (records : List Kept) (capacity sealed end used : ℕ) (kept : IsKept ring header records capacity sealed end used)
-    (l : Log) (is : seen unit ring header records sealed ≡ l) (n : ℕ) (low : header.low ≤ n) (high : n ≤ head_of l) (one : Kept) (indexed : one ≡ get_or records (n - header.low) one) where
+module _ (unit ring : ℕ) (header : Header) (records : List Kept) (capacity sealed end used : ℕ) (kept : IsLogKept ring header records capacity sealed end used)
+    (l : Log) (is : seen unit ring header records sealed ≡ l) (n : ℕ) (low : header.low ≤ n) (high : n ≤ head_number l) (one : Kept) (indexed : one ≡ get_or records (n - header.low) one) where
   under : n - header.low < sealed
-  under = omega (arith, low, subst (λ (x : Log). n ≤ head_of x) (sym is) high, length-take sealed records, kept.few, low_some ring header kept.ordered.of_ring)
+  under = omega (arith, low, subst (λ (x : Log). n ≤ head_number x) (sym is) high, length-take sealed records, kept.few, low_some ring header kept.ordered.of_ring)
 
   in_records : slice_get records (n - header.low) ≡ Some one
   in_records = slice_get_read records (length records) (n - header.low) one refl (omega (arith, under, kept.few)) indexed
@@ -79,7 +79,7 @@ module _ (unit ring : ℕ) (header : Header) (records : List Kept) (capacity sea
   count_few = (spelled_each records (n - header.low) one (recursion_from_All (λ k. CanSpellHead k.head) records kept.ordered.heads) in_records).few
 
   pub agrees : (bytes : List ℕ) → length bytes ≡ 512 * one.head.count → one.head.digest ≡ digest_of bytes
-      → Agrees l n (record { line = one.head.line; number = n; vol = one.head.vol; block = one.head.block; bytes = bytes })
+      → AgreesWithFront l n (record { line = one.head.line; number = n; vol = one.head.vol; block = one.head.block; bytes = bytes })
   agrees bytes size digest = record {
     head = one.head;
     front = record { kept = one; there = in_held; is = refl };
@@ -92,11 +92,11 @@ module _ (unit ring : ℕ) (header : Header) (records : List Kept) (capacity sea
   }
 
   pub names : (stored : List ℕ) → stored ≡ one.head.digest
-      → (m : Meaning) (computed : List ℕ) → (IsTrue m.tells → SeesBody unit ring one.place one.head computed m)
+      → (m : Meaning) (computed : List ℕ) → (IsTrue m.tells → SeesRecordBody unit ring one.place one.head computed m)
       → (k : Kept) × (slice_get l.held (n - l.header.low) ≡ Some k) × (2 + (one.place + 1) % ring ≡ block l.ring (k.place + 1)) × (stored ≡ k.head.digest)
-      × (IsTrue m.tells → SeesBody l.unit l.ring k.place k.head computed m)
+      × (IsTrue m.tells → SeesRecordBody l.unit l.ring k.place k.head computed m)
   names stored same m computed sees =
-      (one, in_held, ap (λ (x : Log). 2 + (one.place + 1) % x.ring) is, same, subst (λ (x : Log). IsTrue m.tells → SeesBody x.unit x.ring one.place one.head computed m) is sees)
+      (one, in_held, ap (λ (x : Log). 2 + (one.place + 1) % x.ring) is, same, subst (λ (x : Log). IsTrue m.tells → SeesRecordBody x.unit x.ring one.place one.head computed m) is sees)
 
   module _ (m : Meaning) (disk : List ℕ) (size : length disk ≡ 512 * one.head.count)
       (shows : (c : ℕ → Kind) → ReadsAs unit ring c m → ShowsBlocks ring c (one.place + 1) (all_blocks disk)) where

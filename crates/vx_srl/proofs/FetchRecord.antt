@@ -9,7 +9,7 @@ use Rattle.vx_disk.specs.Shelf.{Meaning}
 use Rattle.vx_ringlog.specs.Cells.{Cells, read}
 use Rattle.vx_ringlog.specs.Chain.{block, width}
 use Rattle.vx_ringlog.specs.Logs.{State}
-use Rattle.vx_ringlog.specs.Ready.{Fits, SureBody, SureAll}
+use Rattle.vx_ringlog.specs.Ready.{RecordsFit, SureBody, SureAll}
 use Rattle.vx_ringlog.specs.Records.{Era, era_of, Record, Genuine, given, with_firsts}
 use Rattle.vx_ringlog.proofs.CellLemmas.{may_read}
 use Rattle.vx_ringio.specs.Bodies.{BodyIs, all_blocks, given_of}
@@ -18,7 +18,7 @@ use Rattle.vx_ringio.specs.Reading.{ReadsAs, ShowsBlocks}
 use Rattle.vx_ringio.specs.declared.body.Body.TheVariants.{Differs}
 use Rattle.vx_ringio.proofs.Bodies.{count_blocks}
 use Rattle.vx_ringio.proofs.Following.{body_same, tracks_read}
-use Rattle.vx_srl.specs.Calls.{Fetches, update_of}
+use Rattle.vx_srl.specs.Calls.{Fetches, update_with}
 use Rattle.vx_srl.specs.Rings.{RingOn}
 use Rattle.vx_srl.specs.Views.{Log, PlacedFrom, width_of}
 use Rattle.vx_srl.specs.declared.kept.Kept.{Kept}
@@ -43,7 +43,7 @@ some_is a b is = cc
 pub none_is : (b : Kept) → None ≡ Some b → ⊥
 none_is b is = cc
 
-pub found : (ring : ℕ) (u : Cells) (e : Era) (n prev p q : ℕ) (rs : List Record) (ks : List Kept) (k : ℕ) (kept : Kept) → Same rs ks → Fits e n prev rs → SureAll ring u p rs → PlacedFrom ring q ks
+pub found : (ring : ℕ) (u : Cells) (e : Era) (n prev p q : ℕ) (rs : List Record) (ks : List Kept) (k : ℕ) (kept : Kept) → Same rs ks → RecordsFit e n prev rs → SureAll ring u p rs → PlacedFrom ring q ks
     → p % ring ≡ q → slice_get ks k ≡ Some kept → At ring u n rs k kept
 found ring u e n prev p q [] [] k kept same fits sure placed wraps is = absurd (none_is kept is)
 found ring u e n prev p q [] (x ∷ ks) k kept same fits sure placed wraps is = absurd same
@@ -142,7 +142,7 @@ module _ (l : Log) (k : ℕ) (kept : Kept) (there : slice_get l.held k ≡ Some 
   }
     where
       same_update : (r : Record) (n : ℕ) (bytes : List ℕ) → r.head ≡ kept.head → n ≡ r.head.number → bytes ≡ given r
-          → record { line = kept.head.line; number = n; vol = kept.head.vol; block = kept.head.block; bytes = bytes } ≡ update_of r
+          → record { line = kept.head.line; number = n; vol = kept.head.vol; block = kept.head.block; bytes = bytes } ≡ update_with r
       same_update r n bytes head number whole =
           ap (λ (xs : List ℕ). record { line = kept.head.line; number = n; vol = kept.head.vol; block = kept.head.block; bytes = xs }) whole
           ∙ ap (λ (i : ℕ). record { line = kept.head.line; number = i; vol = kept.head.vol; block = kept.head.block; bytes = given r }) number

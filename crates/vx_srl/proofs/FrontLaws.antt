@@ -12,11 +12,11 @@ use Rattle.vx_disk.specs.declared.shelf.ShelfError.TheVariants.{Fault, Down}
 use Rattle.vx_ringlog.specs.Cells.{Act, Flush, Write}
 use Rattle.vx_ringlog.specs.Chain.{block}
 use Rattle.vx_disk.specs.Burns.{FallsShort, MakesCalls}
-use Rattle.vx_ringio.specs.Tracks.{Arrives, Follows, Lies}
+use Rattle.vx_ringio.specs.Tracks.{Arrives, Follows, RingLies}
 use Rattle.vx_disk.proofs.Burning.{sooner_short, then_calls, then_short}
 use Rattle.vx_ringio.proofs.Following.{nothing_arrives, nothing_follows, sooner, then_arrives, then_follows}
 use Rattle.vx_disk.specs.Causes.{DeviceCause, refusal_of}
-use Rattle.vx_srl.specs.Causes.{Ended}
+use Rattle.vx_srl.specs.Causes.{CallsEnded}
 use Rattle.vx_srl.specs.Fronts.{fronts_written, seal_written}
 use Rattle.vx_srl.specs.Views.{PlacedFrom, width_of}
 use Rattle.vx_srl.specs.declared.kept.Kept.{Kept}
@@ -59,7 +59,7 @@ fronts_split ring ks from k =
 
 -- ---- calls
 
-pub lies_stays : (unit ring : ℕ) (acts : List Act) (old new : Meaning) → Follows unit ring acts old new → Lies unit ring old → Lies unit ring new
+pub lies_stays : (unit ring : ℕ) (acts : List Act) (old new : Meaning) → Follows unit ring acts old new → RingLies unit ring old → RingLies unit ring new
 lies_stays unit ring acts old new follows lies = record {
   exists = omega (arith, lies.exists, follows.units);
   within = omega (arith, lies.within, follows.size unit);
@@ -148,12 +148,12 @@ module _ (unit ring : ℕ) (ks : List Kept) (old : Meaning) where
 
 -- ---- causes
 
-pub ended_last : (T : Type 0) (unit ring : ℕ) (acts : List Act) (old late new : Meaning) (r : Result T ShelfError) → Follows unit ring acts old late → Cause late new unit r → Ended old new r
+pub ended_last : (T : Type 0) (unit ring : ℕ) (acts : List Act) (old late new : Meaning) (r : Result T ShelfError) → Follows unit ring acts old late → Cause late new unit r → CallsEnded old new r
 ended_last T unit ring acts old late new (Ok x) follows cause = cause.after
 ended_last T unit ring acts old late new (Err e) follows cause = later_cause T unit ring acts old late new e follows cause
 
-pub ended_err : (T : Type 0) (unit ring : ℕ) (acts : List Act) (old mid new : Meaning) (r : Result T ShelfError) (e : ShelfError) → r ≡ Err e → Follows unit ring acts old mid → DeviceCause mid new (refusal_of e) → Ended old new r
-ended_err T unit ring acts old mid new r e is follows cause = subst (λ (x : Result T ShelfError). Ended old new x) (sym is) (later_device unit ring acts old mid new e follows cause)
+pub ended_err : (T : Type 0) (unit ring : ℕ) (acts : List Act) (old mid new : Meaning) (r : Result T ShelfError) (e : ShelfError) → r ≡ Err e → Follows unit ring acts old mid → DeviceCause mid new (refusal_of e) → CallsEnded old new r
+ended_err T unit ring acts old mid new r e is follows cause = subst (λ (x : Result T ShelfError). CallsEnded old new x) (sym is) (later_device unit ring acts old mid new e follows cause)
 
 -- ---- how many calls they are
 

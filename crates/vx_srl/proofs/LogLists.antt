@@ -4,7 +4,7 @@ use Rattle.std.proofs.Math.Nat.{add-mod_right, mod-add-mod, mod-eq_of_lt, mod-lt
 use Rattle.std.proofs.lemmas.Bool.{and_from, and_parts, cases_lt, lt-ltb, ltb-true}
 use Rattle.std.proofs.lemmas.List.{drop-drop, drop-take, drop_more, take-append-drop, take-take, take_all}
 use Rattle.std.proofs.lemmas.List.Elements.{All-drop}
-use Rattle.vx_srlfmt.specs.Headers.{CanSpell}
+use Rattle.vx_srlfmt.specs.Headers.{CanSpellHeader}
 use Rattle.vx_srlfmt.specs.Records.{CanSpellHead}
 use Rattle.vx_srlfmt.specs.declared.header.Header.{Header}
 use Rattle.vx_ringio.specs.Classes.{is_of_ring}
@@ -79,7 +79,7 @@ some_behind : (n : ℕ) (ks : List Kept) (d : Kept) → n < length ks → 0 < wi
 some_behind n ks d low = omega (arith, first_width n ks d low)
 
 -- the first ones are gone, and the header says so
-pub ordered_behind : (ring : ℕ) (h g : Header) (n : ℕ) (ks : List Kept) → n ≤ length ks → CanSpell g → is_of_ring ring g ≡ true
+pub ordered_behind : (ring : ℕ) (h g : Header) (n : ℕ) (ks : List Kept) → n ≤ length ks → CanSpellHeader g → is_of_ring ring g ≡ true
     → g.low ≤ h.low + n → g.place ≡ place_after ring h.place (take n ks) → IsOrdered ring h ks → IsOrdered ring g (drop n ks)
 ordered_behind ring h g n ks few spell of_ring low place ordered = record {
   some = ordered.some;

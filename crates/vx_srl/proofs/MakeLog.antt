@@ -7,11 +7,11 @@ use Rattle.vx_srlfmt.specs.Kinds.{Other}
 use Rattle.vx_srlfmt.specs.declared.header.Header.{Header}
 use Rattle.vx_disk.specs.Shelf.{Meaning}
 use Rattle.vx_ringlog.specs.Logs.{State}
-use Rattle.vx_ringlog.specs.Starting.{Made, made}
+use Rattle.vx_ringlog.specs.Starting.{Made, state_made}
 use Rattle.vx_ringlog.proofs.Runs.{made_safe}
 use Rattle.vx_srl.specs.Headers.{new_header}
 use Rattle.vx_srl.specs.Rings.{RingOn}
-use Rattle.vx_srl.specs.Starts.{HasNewHeaders, IsNew, new_cells}
+use Rattle.vx_srl.specs.Starts.{HasNewHeaders, IsNewLog, new_cells}
 use Rattle.vx_srl.specs.Views.{Log}
 use Rattle.vx_srl.specs.declared.kept.Kept.{Kept}
 
@@ -39,7 +39,7 @@ is_made head state second one = record {
 new_stands : (unit ring head : ℕ) (state : SiteState) (second : Header) (old new : Meaning) → 0 < ring → second.stamp ≡ 1 → HasNewHeaders unit ring (new_header state head) second old new → IsTrue old.tells
     → (s : State) × RingOn (new_log unit ring head state) s new × (s.held ≡ []) × (s.staged ≡ [])
 new_stands unit ring head state second old new some one written tells = (
-  made (new_cells (new_header state head) second).stable (new_header state head),
+  state_made (new_cells (new_header state head) second).stable (new_header state head),
   record {
     is_log = (made_safe ring head (new_cells (new_header state head) second).stable (new_header state head) second (is_made head state second one)).0.0;
     tracks = written.each tells refl one;
@@ -50,7 +50,7 @@ new_stands unit ring head state second old new some one written tells = (
 )
 
 pub is_new : (unit ring head : ℕ) (state : SiteState) (second : Header) (l : Log) (old new : Meaning) → l ≡ new_log unit ring head state → 0 < ring → second.stamp ≡ 1
-    → HasNewHeaders unit ring (new_header state head) second old new → new.tells ≡ old.tells → IsNew unit ring head state l new
+    → HasNewHeaders unit ring (new_header state head) second old new → new.tells ≡ old.tells → IsNewLog unit ring head state l new
 is_new unit ring head state second l old new is some one written tells = record {
   is = is;
   stands = λ told.
@@ -61,7 +61,7 @@ is_new unit ring head state second l old new is some one written tells = record 
 -- the same of what the program makes
 pub makes_new : (unit ring blocks head : ℕ) (state : SiteState) (first second : Header) (held : List Kept) (l : Log) (old new : Meaning) → blocks ≡ ring → first ≡ new_header state head → second.stamp ≡ 1
     → 0 < blocks → held ≡ [] → l ≡ record { unit = unit; ring = blocks; header = first; held = held; staged = [] } → HasNewHeaders unit blocks first second old new → new.tells ≡ old.tells
-    → IsNew unit ring head state l new
+    → IsNewLog unit ring head state l new
 makes_new unit ring blocks head state first second held l old new size top one some none is written tells =
     is_new unit ring head state second l old new
     (is

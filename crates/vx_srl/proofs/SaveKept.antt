@@ -1,11 +1,11 @@
 -- What memory keeps of a log behind a reclaim.
 use Rattle.std.proofs.Common.{◌≡◌, ℕ, ◌+◌, ◌-◌, ◌≤◌, true, List, length, take, drop, sym, ◌∙◌, ap, subst, arith, length-drop, length-take}
-use Rattle.vx_srlfmt.specs.Headers.{CanSpell}
+use Rattle.vx_srlfmt.specs.Headers.{CanSpellHeader}
 use Rattle.vx_srlfmt.specs.declared.header.Header.{Header}
 use Rattle.vx_ringio.specs.Classes.{is_of_ring}
 use Rattle.vx_srl.specs.Calls.{saved}
 use Rattle.vx_srl.specs.Headers.{without}
-use Rattle.vx_srl.specs.Kepts.{IsKept}
+use Rattle.vx_srl.specs.Kepts.{IsLogKept}
 use Rattle.vx_srl.specs.Views.{IsOrdered, Log, count_to, place_after, widths}
 use Rattle.vx_srl.specs.declared.kept.Kept.{Kept}
 use Rattle.vx_srl.proofs.LogLists.{end_behind, first_held, held_behind, ordered_behind, staged_behind}
@@ -35,8 +35,8 @@ module _ (unit ring : ℕ) (h g : Header) (ks : List Kept) (capacity s end used 
     place = reclaim_place View l g n same n_is is ∙ ap (λ (xs : List Kept). place_after ring h.place xs) (first_held n s ks few)
 
     module _ (new_ring new_s new_end new_used new_capacity : ℕ) (new_ks : List Kept) (ring_is : new_ring ≡ ring) (s_is : new_s ≡ s) (end_is : new_end ≡ end) (ks_is : new_ks ≡ drop n ks) where
-      pub still_kept : IsKept ring h ks capacity s end used → CanSpell g → is_of_ring l.ring g ≡ true → new_used ≡ widths new_ks → new_capacity ≡ capacity
-          → IsKept new_ring g new_ks new_capacity (new_s - n) new_end new_used
+      pub still_kept : IsLogKept ring h ks capacity s end used → CanSpellHeader g → is_of_ring l.ring g ≡ true → new_used ≡ widths new_ks → new_capacity ≡ capacity
+          → IsLogKept new_ring g new_ks new_capacity (new_s - n) new_end new_used
       still_kept kept spell of_ring used_is capacity_is =
           let mine : is_of_ring ring g ≡ true = subst (λ (r : ℕ). is_of_ring r g ≡ true) (sym (ap (λ (x : Log). x.ring) same)) of_ring in
           record {

@@ -5,12 +5,12 @@ use Rattle.std.proofs.lemmas.List.{take-append-drop}
 use Rattle.vx_srlfmt.specs.declared.header.Header.{Header}
 use Rattle.vx_disk.specs.Shelf.{Meaning}
 use Rattle.vx_ringlog.specs.Acts.{head_acts}
-use Rattle.vx_ringlog.specs.Logs.{MayRestart, MaySave, State, done}
+use Rattle.vx_ringlog.specs.Logs.{MayRestart, MaySave, State, behind_call}
 use Rattle.vx_ringlog.specs.Ready.{after}
 use Rattle.vx_ringlog.specs.Records.{era_of}
 use Rattle.vx_ringio.specs.Tracks.{Arrives, Follows}
-use Rattle.vx_srl.specs.Calls.{restarted, restarting, saved, saving}
-use Rattle.vx_srl.specs.Rings.{Describes, Goes, LeadsTo, RingOn}
+use Rattle.vx_srl.specs.Calls.{restarted_log, restarting, saved, saving}
+use Rattle.vx_srl.specs.Rings.{Describes, RingGoes, LeadsTo, RingOn}
 use Rattle.vx_srl.specs.Views.{Log, last_incarnation, place_after}
 use Rattle.vx_srl.proofs.Shared_S1.{first_after, first_last, first_next, held_same, same_drop, same_heads}
 use Rattle.vx_srl.proofs.Calling.{Makes, makes_goes, makes_leads}
@@ -63,7 +63,7 @@ module _ (l : Log) (g : Header) (n : ℕ) (keeps : Keeps l g n) where
       floor = keeps.floor ∙ sym (first_last l s m on n);
     }
 
-    save_describes : Describes (saved l g n) (done l.ring s (saving g n s))
+    save_describes : Describes (saved l g n) (behind_call l.ring s (saving g n s))
     save_describes = record {
       header = refl;
       here = other_is l g keeps.stamp s m on;
@@ -76,7 +76,7 @@ module _ (l : Log) (g : Header) (n : ℕ) (keeps : Keeps l g n) where
   save_makes : (m : Meaning) → Makes l (saving g n) (head_acts (g.stamp % 2) g) m
   save_makes m = record { allowed = λ s on. save_may s m on; acts_are = λ s on. acts_same l g keeps.stamp s m on }
 
-  pub save_goes : (old new : Meaning) → Follows l.unit l.ring (head_acts (g.stamp % 2) g) old new → Goes l (saving g n) old new
+  pub save_goes : (old new : Meaning) → Follows l.unit l.ring (head_acts (g.stamp % 2) g) old new → RingGoes l (saving g n) old new
   save_goes old new follows = makes_goes l (saving g n) (head_acts (g.stamp % 2) g) old new (save_makes old) follows
 
   pub save_leads : (old new : Meaning) → Arrives l.unit l.ring (head_acts (g.stamp % 2) g) old new → LeadsTo l (saving g n) (saved l g n) old new
@@ -92,7 +92,7 @@ module _ (l : Log) (g : Header) (empties : Empties l g) where
       floor = empties.floor ∙ ap (λ (h : Header). h.incarnation) (sym on.describes.header);
     }
 
-    restart_describes : Describes (restarted l g) (done l.ring s (restarting g s))
+    restart_describes : Describes (restarted_log l g) (behind_call l.ring s (restarting g s))
     restart_describes = record {
       header = refl;
       here = other_is l g empties.stamp s m on;
@@ -105,8 +105,8 @@ module _ (l : Log) (g : Header) (empties : Empties l g) where
   restart_makes : (m : Meaning) → Makes l (restarting g) (head_acts (g.stamp % 2) g) m
   restart_makes m = record { allowed = λ s on. restart_may s m on; acts_are = λ s on. acts_same l g empties.stamp s m on }
 
-  pub restart_goes : (old new : Meaning) → Follows l.unit l.ring (head_acts (g.stamp % 2) g) old new → Goes l (restarting g) old new
+  pub restart_goes : (old new : Meaning) → Follows l.unit l.ring (head_acts (g.stamp % 2) g) old new → RingGoes l (restarting g) old new
   restart_goes old new follows = makes_goes l (restarting g) (head_acts (g.stamp % 2) g) old new (restart_makes old) follows
 
-  pub restart_leads : (old new : Meaning) → Arrives l.unit l.ring (head_acts (g.stamp % 2) g) old new → LeadsTo l (restarting g) (restarted l g) old new
-  restart_leads old new arrives = makes_leads l (restarting g) (head_acts (g.stamp % 2) g) (restarted l g) old new (restart_makes old) arrives refl refl (λ s on. restart_describes s old on)
+  pub restart_leads : (old new : Meaning) → Arrives l.unit l.ring (head_acts (g.stamp % 2) g) old new → LeadsTo l (restarting g) (restarted_log l g) old new
+  restart_leads old new arrives = makes_leads l (restarting g) (head_acts (g.stamp % 2) g) (restarted_log l g) old new (restart_makes old) arrives refl refl (λ s on. restart_describes s old on)

@@ -9,16 +9,16 @@ use Rattle.vx_srlfmt.proofs.KindLaws.{kind_of-is}
 use Rattle.vx_srlfmt.specs.declared.record.RecordHead.{RecordHead}
 use Rattle.vx_wire.specs.Seals.{digest_of}
 use Rattle.vx_disk.specs.Shelf.{Meaning}
-use Rattle.vx_ringlog.specs.Cells.{Image}
+use Rattle.vx_ringlog.specs.Cells.{RingImage}
 use Rattle.vx_ringlog.specs.Chain.{HasBody}
-use Rattle.vx_ringlog.specs.Records.{Record, Genuine, with_firsts}
-use Rattle.vx_ringio.specs.Bodies.{blocks_of, all_blocks, given_of}
+use Rattle.vx_ringlog.specs.Records.{Record, Genuine, with_firsts, first_blocks}
+use Rattle.vx_ringio.specs.Bodies.{all_blocks, given_of}
 use Rattle.vx_ringio.specs.Classes.{class_of}
 use Rattle.vx_ringio.specs.Reading.{GaveBlocks, ShowsBlocks}
 use Rattle.vx_ringio.proofs.Bodies.{count_blocks}
 use Rattle.vx_ringio.proofs.Classing.{class_body}
 use Rattle.vx_ringio.proofs.Following.{narrowed_body, body_same}
-use Rattle.vx_srl.specs.Damages.{SeesBody}
+use Rattle.vx_srl.specs.Damages.{SeesRecordBody}
 
 -- ---- the first byte of each block
 
@@ -30,20 +30,20 @@ later_byte bytes k =
     let at : 512 + 512 * k ≡ 512 * suc k = omega arith in
     get_or-drop 512 bytes (512 * k) 0 ∙ ap (λ (i : ℕ). get_or bytes i 0) at
 
-bodies_each : (n : ℕ) (bytes : List ℕ) → ((k : ℕ) → k < n → get_or bytes (512 * k) 0 ≡ body_byte) → AllByRecursion IsBody (blocks_of n bytes)
+bodies_each : (n : ℕ) (bytes : List ℕ) → ((k : ℕ) → k < n → get_or bytes (512 * k) 0 ≡ body_byte) → AllByRecursion IsBody (first_blocks n bytes)
 bodies_each zero bytes each = tt
 bodies_each (suc n) bytes each = (first_byte bytes ∙ each 0 (omega arith), bodies_each n (drop 512 bytes) (λ k low. later_byte bytes k ∙ each (suc k) (omega arith)))
 
-each_body : (n : ℕ) (bytes : List ℕ) → AllByRecursion IsBody (blocks_of n bytes) → (k : ℕ) → k < n → get_or bytes (512 * k) 0 ≡ body_byte
+each_body : (n : ℕ) (bytes : List ℕ) → AllByRecursion IsBody (first_blocks n bytes) → (k : ℕ) → k < n → get_or bytes (512 * k) 0 ≡ body_byte
 each_body zero bytes all k low = absurd (omega arith)
 each_body (suc n) bytes all zero low = sym (first_byte bytes) ∙ all.0
 each_body (suc n) bytes all (suc k) low = sym (later_byte bytes k) ∙ each_body n (drop 512 bytes) all.1 k (omega arith)
 
-pub are_bodies : (n : ℕ) (bytes : List ℕ) → ((k : ℕ) → k < n → get_or bytes (512 * k) 0 ≡ body_byte) → All IsBody (blocks_of n bytes)
-are_bodies n bytes each = All-from_recursion IsBody (blocks_of n bytes) (bodies_each n bytes each)
+pub are_bodies : (n : ℕ) (bytes : List ℕ) → ((k : ℕ) → k < n → get_or bytes (512 * k) 0 ≡ body_byte) → All IsBody (first_blocks n bytes)
+are_bodies n bytes each = All-from_recursion IsBody (first_blocks n bytes) (bodies_each n bytes each)
 
-pub byte_of_body : (n : ℕ) (bytes : List ℕ) → All IsBody (blocks_of n bytes) → (k : ℕ) → k < n → get_or bytes (512 * k) 0 ≡ body_byte
-byte_of_body n bytes all k low = each_body n bytes (recursion_from_All IsBody (blocks_of n bytes) all) k low
+pub byte_of_body : (n : ℕ) (bytes : List ℕ) → All IsBody (first_blocks n bytes) → (k : ℕ) → k < n → get_or bytes (512 * k) 0 ≡ body_byte
+byte_of_body n bytes all k low = each_body n bytes (recursion_from_All IsBody (first_blocks n bytes) all) k low
 
 -- ---- what stands where blocks were read
 
@@ -52,24 +52,24 @@ unfolding class_of
 body_class ring b x is = (subst (λ (k : Kind). IsKind b k) (narrowed_body ring (kind_of b) x is) (kind_of-is b)).0
 
 -- the blocks of a body that stands are those that were read
-read_same : (ring : ℕ) (c : Image) (p : ℕ) (bs xs : List (List ℕ)) → length bs ≡ length xs → ShowsBlocks ring c p bs → HasBody ring c p xs → bs ≡ xs
+read_same : (ring : ℕ) (c : RingImage) (p : ℕ) (bs xs : List (List ℕ)) → length bs ≡ length xs → ShowsBlocks ring c p bs → HasBody ring c p xs → bs ≡ xs
 read_same ring c p [] [] size shows has = refl
 read_same ring c p [] (x ∷ xs) size shows has = absurd (omega arith)
 read_same ring c p (b ∷ bs) [] size shows has = absurd (omega arith)
 read_same ring c p (b ∷ bs) (x ∷ xs) size shows has =
     ap (λ (y : List ℕ). y ∷ bs) (body_same ring b x (shows.0 ∙ has.0)) ∙ ap (λ (ys : List (List ℕ)). x ∷ ys) (read_same ring c (suc p) bs xs (omega arith) shows.1 has.1)
 
-read_bodies : (ring : ℕ) (c : Image) (p : ℕ) (bs xs : List (List ℕ)) → length bs ≡ length xs → ShowsBlocks ring c p bs → HasBody ring c p xs → AllByRecursion IsBody bs
+read_bodies : (ring : ℕ) (c : RingImage) (p : ℕ) (bs xs : List (List ℕ)) → length bs ≡ length xs → ShowsBlocks ring c p bs → HasBody ring c p xs → AllByRecursion IsBody bs
 read_bodies ring c p [] xs size shows has = tt
 read_bodies ring c p (b ∷ bs) [] size shows has = absurd (omega arith)
 read_bodies ring c p (b ∷ bs) (x ∷ xs) size shows has = (body_class ring b x (shows.0 ∙ has.0), read_bodies ring c (suc p) bs xs (omega arith) shows.1 has.1)
 
 -- body blocks that were read stand
-stand_read : (ring : ℕ) (c : Image) (p : ℕ) (bs : List (List ℕ)) → AllByRecursion IsBody bs → ShowsBlocks ring c p bs → HasBody ring c p bs
+stand_read : (ring : ℕ) (c : RingImage) (p : ℕ) (bs : List (List ℕ)) → AllByRecursion IsBody bs → ShowsBlocks ring c p bs → HasBody ring c p bs
 stand_read ring c p [] all shows = tt
 stand_read ring c p (b ∷ bs) all shows = (sym shows.0 ∙ class_body ring b all.0, stand_read ring c (suc p) bs all.1 shows.1)
 
-module _ (ring : ℕ) (c : Image) (p : ℕ) (head : RecordHead) (bytes : List ℕ) (size : length bytes ≡ 512 * head.count) (shows : ShowsBlocks ring c p (all_blocks bytes)) where
+module _ (ring : ℕ) (c : RingImage) (p : ℕ) (head : RecordHead) (bytes : List ℕ) (size : length bytes ≡ 512 * head.count) (shows : ShowsBlocks ring c p (all_blocks bytes)) where
   count : length (all_blocks bytes) ≡ head.count
   count = count_blocks (length bytes / 512) bytes ∙ omega arith
 
@@ -97,7 +97,7 @@ module _ (ring : ℕ) (c : Image) (p : ℕ) (head : RecordHead) (bytes : List �
 
 -- a body that was read has its digest
 pub body_shown : (unit ring place : ℕ) (head : RecordHead) (bytes : List ℕ) (m : Meaning) (computed : List ℕ) → length bytes ≡ 512 * head.count → GaveBlocks unit ring m (place + 1) (all_blocks bytes)
-    → computed ≡ digest_of (given_of head bytes) → SeesBody unit ring place head computed m
+    → computed ≡ digest_of (given_of head bytes) → SeesRecordBody unit ring place head computed m
 body_shown unit ring place head bytes m computed size gave is = record {
   body = all_blocks bytes;
   count = count_blocks (length bytes / 512) bytes ∙ omega (arith, size);

@@ -6,12 +6,12 @@ use Rattle.vx_disk.specs.Shelf.{Meaning, Nothing, Goes}
 use Rattle.vx_disk.specs.declared.shelf.ShelfError.{ShelfError}
 use Rattle.vx_disk.specs.declared.shelf.ShelfError.TheVariants.{Fault, Down}
 use Rattle.vx_model.specs.declared.no.No.{No}
-use Rattle.vx_ringio.specs.Tracks.{Lies}
+use Rattle.vx_ringio.specs.Tracks.{RingLies}
 use Rattle.vx_srlfmt.specs.declared.header.Header.{Header}
 use Rattle.vx_disk.specs.Causes.{DeviceCause, refusal_of}
 use Rattle.vx_srl.specs.Scans.{ScanCause}
 
-pub lies_still : (unit ring : ℕ) (old new : Meaning) → Goes Nothing old new → Lies unit ring old → Lies unit ring new
+pub lies_still : (unit ring : ℕ) (old new : Meaning) → Goes Nothing old new → RingLies unit ring old → RingLies unit ring new
 lies_still unit ring old new goes lies = record { exists = omega (arith, goes.units, lies.exists); within = omega (arith, goes.size unit, lies.within) }
 
 pub rose_since : (a b d : ℕ) → a ≤ b → Rose b d → Rose a d

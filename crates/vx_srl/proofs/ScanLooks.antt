@@ -6,22 +6,22 @@ use Rattle.vx_srlfmt.specs.Kinds.{Kind, Front, Damaged}
 use Rattle.vx_srlfmt.specs.Records.{CanSpellHead}
 use Rattle.vx_srlfmt.specs.declared.record.RecordHead.{RecordHead}
 use Rattle.vx_srlfmt.specs.declared.record.Seen.TheVariants as seen
-use Rattle.vx_ringlog.specs.Cells.{Image}
+use Rattle.vx_ringlog.specs.Cells.{RingImage}
 use Rattle.vx_ringlog.specs.Chain.{block, total, Accepts, HasBody, Scan}
 use Rattle.vx_ringlog.specs.Records.{Era, Record, Genuine}
 use Rattle.vx_ringio.specs.Reading.{ReadsAs, SeesFront}
 use Rattle.vx_ringio.proofs.Seeing.{gave_before}
-use Rattle.vx_srl.specs.Scans.{MayFollow, BodyShown, BodyStands, IsOf, IsShown, Agrees, StandsThere, TakenFits}
+use Rattle.vx_srl.specs.Scans.{MayFollow, BodyShown, BodyStands, IsOf, IsShown, FindsByScan, StandsThere, TakenFits}
 use Rattle.vx_srl.specs.declared.scan.Found.{Found}
 use Rattle.vx_srl.specs.declared.scan.Found.TheVariants.{Taken, End, Broken}
 
 -- where a damaged block stands a scan takes nothing, and does not end
-pub damaged_agrees : (ring : ℕ) (c : Image) (e : Era) (p n prev : ℕ) (rs : List Record) (at : ℕ) (stored computed : List ℕ) → c (block ring p) ≡ Damaged → Scan ring c e p n prev rs → Agrees rs (Broken at stored computed)
+pub damaged_agrees : (ring : ℕ) (c : RingImage) (e : Era) (p n prev : ℕ) (rs : List Record) (at : ℕ) (stored computed : List ℕ) → c (block ring p) ≡ Damaged → Scan ring c e p n prev rs → FindsByScan rs (Broken at stored computed)
 damaged_agrees ring c e p n prev [] at stored computed is scan = scan.1 is
 damaged_agrees ring c e p n prev (r ∷ rs) at stored computed is scan = cc (scan.0.0.is, is)
 
 -- where no header of a record stands a scan ends
-pub other_agrees : (ring : ℕ) (c : Image) (e : Era) (p n prev : ℕ) (rs : List Record) → ((r : RecordHead) → c (block ring p) ≡ Front r → ⊥) → Scan ring c e p n prev rs → Agrees rs End
+pub other_agrees : (ring : ℕ) (c : RingImage) (e : Era) (p n prev : ℕ) (rs : List Record) → ((r : RecordHead) → c (block ring p) ≡ Front r → ⊥) → Scan ring c e p n prev rs → FindsByScan rs End
 other_agrees ring c e p n prev [] none scan = tt
 other_agrees ring c e p n prev (r ∷ rs) none scan = none r.head scan.0.0.is
 
@@ -33,25 +33,25 @@ follows : (e : Era) (n prev : ℕ) (v : Kind) (r : RecordHead) → Accepts e n p
 follows e n prev v r accepts = record { number = accepts.number; run = accepts.run; line = accepts.line; not_below = accepts.not_below; not_above = accepts.not_above }
 
 -- a header that is not taken, or has no room, ends it
-pub passed_agrees : (ring : ℕ) (c : Image) (e : Era) (p n prev left : ℕ) (rs : List Record) (head : RecordHead) → c (block ring p) ≡ Front head → (MayFollow e n prev head → head.count < left → ⊥)
-    → Scan ring c e p n prev rs → total rs ≤ left → Agrees rs End
+pub passed_agrees : (ring : ℕ) (c : RingImage) (e : Era) (p n prev left : ℕ) (rs : List Record) (head : RecordHead) → c (block ring p) ≡ Front head → (MayFollow e n prev head → head.count < left → ⊥)
+    → Scan ring c e p n prev rs → total rs ≤ left → FindsByScan rs End
 passed_agrees ring c e p n prev left [] head is none scan fits = tt
 passed_agrees ring c e p n prev left (r ∷ rs) head is none scan fits =
     let same : r.head ≡ head = same_head (c (block ring p)) r.head head scan.0.0.is is in
     let count : head.count ≡ length r.body = sym (ap (λ (h : RecordHead). h.count) same) ∙ scan.0.1.count in
     none (subst (λ (h : RecordHead). MayFollow e n prev h) same (follows e n prev (c (block ring p)) r.head scan.0.0)) (omega arith)
 
-taken_agrees : (ring : ℕ) (c : Image) (e : Era) (p n prev : ℕ) (rs : List Record) (head : RecordHead) (found : Found) → c (block ring p) ≡ Front head → MayFollow e n prev head
-    → ((r : Record) → r.head ≡ head → Genuine r → HasBody ring c (p + 1) r.body → found ≡ Taken head) → Scan ring c e p n prev rs → Agrees rs found
+taken_agrees : (ring : ℕ) (c : RingImage) (e : Era) (p n prev : ℕ) (rs : List Record) (head : RecordHead) (found : Found) → c (block ring p) ≡ Front head → MayFollow e n prev head
+    → ((r : Record) → r.head ≡ head → Genuine r → HasBody ring c (p + 1) r.body → found ≡ Taken head) → Scan ring c e p n prev rs → FindsByScan rs found
 taken_agrees ring c e p n prev [] head found is may has scan =
     absurd (scan.0 head (record { is = is; number = may.number; run = may.run; line = may.line; not_below = may.not_below; not_above = may.not_above }))
 taken_agrees ring c e p n prev (r ∷ rs) head found is may has scan =
     let same : r.head ≡ head = same_head (c (block ring p)) r.head head scan.0.0.is is in
     let next : suc p ≡ p + 1 = omega arith in
     let taken : found ≡ Taken head = has r same scan.0.1 (subst (λ (q : ℕ). HasBody ring c q r.body) next scan.1) in
-    subst (λ (f : Found). Agrees (r ∷ rs) f) (sym taken) (sym same)
+    subst (λ (f : Found). FindsByScan (r ∷ rs) f) (sym taken) (sym same)
 
-taken_stands : (ring : ℕ) (c : Image) (e : Era) (p n prev : ℕ) (head : RecordHead) (found : Found) → c (block ring p) ≡ Front head → MayFollow e n prev head
+taken_stands : (ring : ℕ) (c : RingImage) (e : Era) (p n prev : ℕ) (head : RecordHead) (found : Found) → c (block ring p) ≡ Front head → MayFollow e n prev head
     → BodyStands ring c (p + 1) found → IsOf head found → StandsThere ring c e p n prev found
 taken_stands ring c e p n prev head (Taken taken) is may stands of =
     let same : head ≡ stands.0.head = sym of ∙ sym stands.1 in
@@ -70,16 +70,16 @@ taken_fits left n head End can number low of = tt
 taken_fits left n head (Broken at stored computed) can number low of = tt
 
 -- of the answer of a look
-module _ (unit ring : ℕ) (m : Meaning) (e : Era) (p n prev : ℕ) (head : RecordHead) (may : MayFollow e n prev head) (front : (c : Image) → ReadsAs unit ring c m → c (block ring p) ≡ Front head)
-    (m' : Meaning) (stay : (c : Image) → ReadsAs unit ring c m → ReadsAs unit ring c m') where
+module _ (unit ring : ℕ) (m : Meaning) (e : Era) (p n prev : ℕ) (head : RecordHead) (may : MayFollow e n prev head) (front : (c : RingImage) → ReadsAs unit ring c m → c (block ring p) ≡ Front head)
+    (m' : Meaning) (stay : (c : RingImage) → ReadsAs unit ring c m → ReadsAs unit ring c m') where
   pub answer_agrees : (left : ℕ) (result : Result Found ShelfError)
-      → IfOk result (λ found. (c : Image) (r : Record) → ReadsAs unit ring c m' → r.head ≡ head → Genuine r → HasBody ring c (p + 1) r.body → found ≡ Taken head)
-      → IfOk result (λ found. (c : Image) (rs : List Record) → ReadsAs unit ring c m → Scan ring c e p n prev rs → total rs ≤ left → Agrees rs found)
+      → IfOk result (λ found. (c : RingImage) (r : Record) → ReadsAs unit ring c m' → r.head ≡ head → Genuine r → HasBody ring c (p + 1) r.body → found ≡ Taken head)
+      → IfOk result (λ found. (c : RingImage) (rs : List Record) → ReadsAs unit ring c m → Scan ring c e p n prev rs → total rs ≤ left → FindsByScan rs found)
   answer_agrees left (Ok found) has = λ c rs reads scan fits. taken_agrees ring c e p n prev rs head found (front c reads) may (λ r is genuine body. has c r (stay c reads) is genuine body) scan
   answer_agrees left (Err error) has = tt
 
-  pub answer_stands : (result : Result Found ShelfError) → IfOk result (λ found. (c : Image) → ReadsAs unit ring c m' → BodyStands ring c (p + 1) found) → IfOk result (IsOf head)
-      → IfOk result (λ found. (c : Image) → ReadsAs unit ring c m → StandsThere ring c e p n prev found)
+  pub answer_stands : (result : Result Found ShelfError) → IfOk result (λ found. (c : RingImage) → ReadsAs unit ring c m' → BodyStands ring c (p + 1) found) → IfOk result (IsOf head)
+      → IfOk result (λ found. (c : RingImage) → ReadsAs unit ring c m → StandsThere ring c e p n prev found)
   answer_stands (Ok found) stands of = λ c reads. taken_stands ring c e p n prev head found (front c reads) may (stands c (stay c reads)) of
   answer_stands (Err error) stands of = tt
 

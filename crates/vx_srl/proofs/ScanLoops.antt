@@ -5,23 +5,23 @@ use Rattle.std.proofs.Math.Nat.{mod-add-mod, mod-eq_of_lt}
 use Rattle.std.proofs.lemmas.List.Elements.{All-nil, All-push}
 use Rattle.vx_disk.specs.Shelf.{Meaning, Nothing, Goes}
 use Rattle.vx_disk.proofs.Runs.{same_Goes, then_nothing}
-use Rattle.vx_srlfmt.specs.Headers.{CanSpell}
+use Rattle.vx_srlfmt.specs.Headers.{CanSpellHeader}
 use Rattle.vx_srlfmt.specs.Records.{CanSpellHead}
 use Rattle.vx_srlfmt.specs.declared.header.Header.{Header}
 use Rattle.vx_srlfmt.specs.declared.record.RecordHead.{RecordHead}
 use Rattle.vx_srlfmt.specs.declared.record.Seen.{Seen}
 use Rattle.vx_srlfmt.specs.declared.record.Seen.TheVariants as seen
-use Rattle.vx_ringlog.specs.Cells.{Image as Kinds}
-use Rattle.vx_ringlog.specs.Chain.{block, width, total, Takes, Stops, HasBody, Scan}
+use Rattle.vx_ringlog.specs.Cells.{RingImage as Kinds}
+use Rattle.vx_ringlog.specs.Chain.{block, width, total, Takes, ScanStops, HasBody, Scan}
 use Rattle.vx_ringlog.specs.Ready.{last}
 use Rattle.vx_ringlog.specs.Records.{Era, era_of, Record}
 use Rattle.vx_ringio.specs.Classes.{is_of_ring}
 use Rattle.vx_ringio.specs.Reading.{GaveBlocks, ReadsAs, SeesFront}
 use Rattle.vx_ringio.proofs.Following.{reads_stay, still_read}
 use Rattle.vx_srl.specs.Damages.{RecordDamaged, SeesFronts}
-use Rattle.vx_srl.specs.Kepts.{IsKept}
+use Rattle.vx_srl.specs.Kepts.{IsLogKept}
 use Rattle.vx_srl.specs.Rings.{heads_of, kept_heads}
-use Rattle.vx_srl.specs.Scans.{Agrees, Chained, IsShown, StandsThere, TakenFits, Scans, AreChained}
+use Rattle.vx_srl.specs.Scans.{FindsByScan, Chained, IsShown, StandsThere, TakenFits, Scans, AreChained}
 use Rattle.vx_srl.specs.Views.{PlacedFrom, place_after, width_of, widths, most_number}
 use Rattle.vx_srl.specs.declared.kept.Kept.{Kept}
 use Rattle.vx_srl.specs.declared.scan.Found.{Found}
@@ -43,7 +43,7 @@ body_at ring c p q [] same has = tt
 body_at ring c p q (b ∷ bs) same has = (ap (λ (m : ℕ). c (2 + m)) (sym same) ∙ has.0, body_at ring c (suc p) (suc q) bs (suc_same ring p q same) has.1)
 
 pub scan_at : (ring : ℕ) (c : Kinds) (e : Era) (p q n prev : ℕ) (rs : List Record) → p % ring ≡ q % ring → Scan ring c e p n prev rs → Scan ring c e q n prev rs
-scan_at ring c e p q n prev [] same scan = subst (λ (m : ℕ). Stops e n prev (c (2 + m))) same scan
+scan_at ring c e p q n prev [] same scan = subst (λ (m : ℕ). ScanStops e n prev (c (2 + m))) same scan
 scan_at ring c e p q n prev (r ∷ rs) same scan = (
   subst (λ (m : ℕ). Takes e n prev (c (2 + m)) r) same scan.0,
   body_at ring c (suc p) (suc q) r.body (suc_same ring p q same) scan.1,
@@ -143,7 +143,7 @@ pub record Scanning (unit ring : ℕ) (h : Header) (old now : Meaning) (found : 
       → Rest ring c (era_of h) rs found place left (h.low + length found) prev
   pub behind : (c : Kinds) → ReadsAs unit ring c old → Behind ring c h found place prev
 
-begun_with : (unit ring : ℕ) (h : Header) (m : Meaning) (capacity : ℕ) → CanSpell h → h.place < ring → ring ≤ 2 * capacity → Scanning unit ring h m m [] capacity h.place ring h.floor 0
+begun_with : (unit ring : ℕ) (h : Header) (m : Meaning) (capacity : ℕ) → CanSpellHeader h → h.place < ring → ring ≤ 2 * capacity → Scanning unit ring h m m [] capacity h.place ring h.floor 0
 begun_with unit ring h m capacity spell inside room = record {
   goes = same_Goes Nothing m;
   reads = λ c reads. reads;
@@ -162,7 +162,7 @@ begun_with unit ring h m capacity spell inside room = record {
   behind = λ c reads. record { rs = []; heads = refl; chained = tt; at = ap (λ (x : ℕ). x % ring) (omega arith); last_is = refl };
 }
 
-pub begun : (unit ring : ℕ) (h : Header) (m : Meaning) (found : List Kept) (capacity : ℕ) → CanSpell h → h.place < ring → ring ≤ 2 * capacity → found ≡ []
+pub begun : (unit ring : ℕ) (h : Header) (m : Meaning) (found : List Kept) (capacity : ℕ) → CanSpellHeader h → h.place < ring → ring ≤ 2 * capacity → found ≡ []
     → Scanning unit ring h m m found capacity h.place ring h.floor 0
 begun unit ring h m found capacity spell inside room none =
     subst (λ (ks : List Kept). Scanning unit ring h m m ks capacity h.place ring h.floor 0) (sym none) (begun_with unit ring h m capacity spell inside room)
@@ -170,7 +170,7 @@ begun unit ring h m found capacity spell inside room none =
 module _ (unit ring : ℕ) (h : Header) (old now : Meaning) (found : List Kept) (capacity place left prev turns : ℕ) (s : Scanning unit ring h old now found capacity place left prev turns) where
   -- what a look says of the records that a scan takes from here, behind so many
   abbrev pub LooksAt : ℕ → Found → Type 0
-  LooksAt count x = (c : Kinds) (rs : List Record) → ReadsAs unit ring c now → Scan ring c (era_of h) place (h.low + count) prev rs → total rs ≤ left → Agrees rs x
+  LooksAt count x = (c : Kinds) (rs : List Record) → ReadsAs unit ring c now → Scan ring c (era_of h) place (h.low + count) prev rs → total rs ≤ left → FindsByScan rs x
 
   abbrev pub LooksLike : Found → Type 0
   LooksLike x = LooksAt (length found) x
@@ -194,7 +194,7 @@ module _ (unit ring : ℕ) (h : Header) (old now : Meaning) (found : List Kept) 
       let so = s.rest scans.kinds rs scans.reads scans.scan scans.fits in
       go so.rest so.whole (looks scans.kinds so.rest (s.reads scans.kinds scans.reads) so.scan so.fits)
     where
-      go : (rest : List Record) → kept_heads found ++ heads_of rest ≡ heads_of rs → Agrees rest End → kept_heads found ≡ heads_of rs
+      go : (rest : List Record) → kept_heads found ++ heads_of rest ≡ heads_of rs → FindsByScan rest End → kept_heads found ≡ heads_of rs
       go [] whole agrees = sym (append-nil (kept_heads found)) ∙ whole
       go (r ∷ rest) whole agrees = absurd agrees
 
@@ -211,7 +211,7 @@ module _ (unit ring : ℕ) (h : Header) (old now : Meaning) (found : List Kept) 
       let so = s.rest scans.kinds rs scans.reads scans.scan scans.fits in
       go so.rest (looks_here x (Broken at stored computed) count same is looks scans.kinds so.rest (s.reads scans.kinds scans.reads) so.scan so.fits)
     where
-      go : (rest : List Record) → Agrees rest (Broken at stored computed) → ⊥
+      go : (rest : List Record) → FindsByScan rest (Broken at stored computed) → ⊥
       go [] agrees = agrees
       go (r ∷ rest) agrees = agrees
 
@@ -238,7 +238,7 @@ module _ (unit ring : ℕ) (h : Header) (old now : Meaning) (found : List Kept) 
   damaged_read x at stored computed same shown tells = damaged_back at stored computed (subst (λ (f : Found). IsShown unit ring place now f) same (shown (still_told tells)))
 
   -- what was found is kept as a log
-  pub found_kept : 6 ≤ ring → ring ≤ 65534 → CanSpell h → is_of_ring ring h ≡ true → (used : ℕ) → used + left ≡ ring → IsKept ring h found capacity (length found) place used
+  pub found_kept : 6 ≤ ring → ring ≤ 65534 → CanSpellHeader h → is_of_ring ring h ≡ true → (used : ℕ) → used + left ≡ ring → IsLogKept ring h found capacity (length found) place used
   found_kept some few spell of_ring used used_is = record {
     ordered = record { some = some; few = few; spell = spell; of_ring = of_ring; heads = s.heads; placed = s.placed; fits = omega (arith, s.left_is); numbers = s.numbers };
     room = s.room;
@@ -274,7 +274,7 @@ module _ (unit ring : ℕ) (h : Header) (old now : Meaning) (found : List Kept) 
         let so = s.rest c rs reads scan few in
         go so.rest so.whole so.scan so.fits (looks c so.rest (s.reads c reads) so.scan so.fits)
       where
-        go : (rest : List Record) → kept_heads found ++ heads_of rest ≡ heads_of rs → Scan ring c (era_of h) place (h.low + length found) prev rest → total rest ≤ left → Agrees rest (Taken head)
+        go : (rest : List Record) → kept_heads found ++ heads_of rest ≡ heads_of rs → Scan ring c (era_of h) place (h.low + length found) prev rest → total rest ≤ left → FindsByScan rest (Taken head)
             → Rest ring c (era_of h) rs (found ++ k ∷ []) next left' (h.low + length (found ++ k ∷ [])) head.incarnation
         go [] whole here small agrees = absurd agrees
         go (r ∷ rest) whole here small agrees =

@@ -7,13 +7,13 @@ use Rattle.vx_disk.specs.Shelf.{Meaning}
 use Rattle.vx_ringlog.specs.Acts.{fronts_of}
 use Rattle.vx_ringlog.specs.Cells.{Act, Flush, Write}
 use Rattle.vx_ringlog.specs.Chain.{block, width}
-use Rattle.vx_ringlog.specs.Logs.{State, done}
+use Rattle.vx_ringlog.specs.Logs.{State, behind_call}
 use Rattle.vx_ringlog.specs.Ready.{after}
 use Rattle.vx_ringlog.specs.Records.{Record}
 use Rattle.vx_ringio.specs.Tracks.{Arrives, Follows}
-use Rattle.vx_srl.specs.Calls.{sealed, sealing}
+use Rattle.vx_srl.specs.Calls.{sealed_log, sealing}
 use Rattle.vx_srl.specs.Fronts.{fronts_written, seal_written}
-use Rattle.vx_srl.specs.Rings.{Describes, Goes, LeadsTo, RingOn}
+use Rattle.vx_srl.specs.Rings.{Describes, RingGoes, LeadsTo, RingOn}
 use Rattle.vx_srl.specs.Views.{IsOrdered, Log, PlacedFrom, all_of, place_after, width_of}
 use Rattle.vx_srl.specs.declared.kept.Kept.{Kept}
 use Rattle.vx_srl.proofs.Shared_S1.{Same, block_wraps, held_end, held_same, same_append, same_heads, staged_same, wrapped}
@@ -46,7 +46,7 @@ module _ (l : Log) (ordered : IsOrdered l.ring l.header (all_of l)) where
         (fronts_same l.ring (after s.base s.held) (place_after l.ring l.header.place l.held) s.staged l.staged (held_end l s m on) (staged_same l s m on) staged_placed);
   }
 
-  seal_describes : (s : State) (m : Meaning) → RingOn l s m → Describes (sealed l) (done l.ring s (sealing s))
+  seal_describes : (s : State) (m : Meaning) → RingOn l s m → Describes (sealed_log l) (behind_call l.ring s (sealing s))
   seal_describes s m on = record {
     header = on.describes.header;
     here = on.describes.here;
@@ -56,8 +56,8 @@ module _ (l : Log) (ordered : IsOrdered l.ring l.header (all_of l)) where
     staged = refl;
   }
 
-  pub seal_goes : (old new : Meaning) → Follows l.unit l.ring (seal_written l.ring l.staged) old new → Goes l sealing old new
+  pub seal_goes : (old new : Meaning) → Follows l.unit l.ring (seal_written l.ring l.staged) old new → RingGoes l sealing old new
   seal_goes old new follows = makes_goes l sealing (seal_written l.ring l.staged) old new (seal_makes old) follows
 
-  pub seal_leads : (old new : Meaning) → Arrives l.unit l.ring (seal_written l.ring l.staged) old new → LeadsTo l sealing (sealed l) old new
-  seal_leads old new arrives = makes_leads l sealing (seal_written l.ring l.staged) (sealed l) old new (seal_makes old) arrives refl refl (λ s on. seal_describes s old on)
+  pub seal_leads : (old new : Meaning) → Arrives l.unit l.ring (seal_written l.ring l.staged) old new → LeadsTo l sealing (sealed_log l) old new
+  seal_leads old new arrives = makes_leads l sealing (seal_written l.ring l.staged) (sealed_log l) old new (seal_makes old) arrives refl refl (λ s on. seal_describes s old on)

@@ -7,7 +7,7 @@ use Rattle.vx_disk.specs.Shelf.{Meaning}
 use Rattle.vx_ringlog.specs.Cells.{Act, Write}
 use Rattle.vx_ringlog.specs.Records.{Era, era_of, Record}
 use Rattle.vx_ringlog.specs.Chain.{block, width, total}
-use Rattle.vx_ringlog.specs.Ready.{after, next, last, Fits}
+use Rattle.vx_ringlog.specs.Ready.{after, next, last, RecordsFit}
 use Rattle.vx_ringlog.specs.Acts.{body_acts}
 use Rattle.vx_ringlog.specs.Logs.{State}
 use Rattle.vx_srl.specs.Rings.{RingOn, heads_of, kept_heads}
@@ -32,7 +32,7 @@ tail_is a b xs ys is = cc
 no_head : (a : RecordHead) (xs : List RecordHead) → a ∷ xs ≡ [] → ⊥
 no_head a xs is = cc
 
-pub same_of : (e : Era) (n prev : ℕ) (rs : List Record) (ks : List Kept) → Fits e n prev rs → heads_of rs ≡ kept_heads ks → Same rs ks
+pub same_of : (e : Era) (n prev : ℕ) (rs : List Record) (ks : List Kept) → RecordsFit e n prev rs → heads_of rs ≡ kept_heads ks → Same rs ks
 same_of e n prev [] [] fits is = tt
 same_of e n prev [] (k ∷ ks) fits is = no_head k.head (kept_heads ks) (sym is)
 same_of e n prev (r ∷ rs) [] fits is = no_head r.head (heads_of rs) is

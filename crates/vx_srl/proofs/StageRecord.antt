@@ -12,7 +12,7 @@ use Rattle.vx_ringlog.specs.Acts.{body_acts}
 use Rattle.vx_ringlog.specs.Cells.{Act, run_all, LeftBy}
 use Rattle.vx_ringlog.specs.Logs.{State, Stage, MayStage, Found, acts_of}
 use Rattle.vx_ringlog.specs.Ready.{after}
-use Rattle.vx_ringlog.specs.Records.{Record, Genuine, IsWhole, on_disk, given}
+use Rattle.vx_ringlog.specs.Records.{Record, Genuine, IsWhole, as_on_disk, given}
 use Rattle.vx_ringlog.proofs.Blocks.{blocks_stand, given_comes_back}
 use Rattle.vx_ringlog.proofs.Calls.{call_safe}
 use Rattle.vx_ringio.specs.Bodies.{IsBlocks, all_blocks}
@@ -21,8 +21,8 @@ use Rattle.vx_ringio.specs.Tracks.{Tracks, Follows, Arrives}
 use Rattle.vx_ringio.proofs.Bodies.{count_blocks, whole_blocks, concat_blocks}
 use Rattle.vx_ringio.proofs.Following.{following_gives, always_left}
 use Rattle.vx_srl.specs.Calls.{staging, staged_with}
-use Rattle.vx_srl.specs.Rings.{RingOn, Finding, Goes, LeadsTo, heads_of, kept_heads}
-use Rattle.vx_srl.specs.Views.{Log, end_of, free_of, need_of, record_of, kept_of}
+use Rattle.vx_srl.specs.Rings.{RingOn, Finding, RingGoes, LeadsTo, heads_of, kept_heads}
+use Rattle.vx_srl.specs.Views.{Log, end_of, free_of, blocks_needed, record_next, kept_record}
 use Rattle.vx_srl.specs.declared.kept.Kept.{Kept}
 use Rattle.vx_srl.proofs.Shared_S1.{all_end, all_next, all_total, body_wraps, wrapped}
 
@@ -35,28 +35,28 @@ module _ (bytes : List ℕ) (blocks : IsBlocks bytes) where
   pub all_whole : All IsWhole (all_blocks bytes)
   all_whole = whole_blocks (length bytes / 512) bytes size_is
 
-  pub count_is : length (on_disk (all_blocks bytes)) ≡ blocks_in bytes
+  pub count_is : length (as_on_disk (all_blocks bytes)) ≡ blocks_in bytes
   count_is = (blocks_stand (all_blocks bytes) all_whole).count ∙ count_blocks (length bytes / 512) bytes
 
-  pub body_is : All IsBody (on_disk (all_blocks bytes))
+  pub body_is : All IsBody (as_on_disk (all_blocks bytes))
   body_is = (blocks_stand (all_blocks bytes) all_whole).body
 
-pub body_blocks : (bytes disk : List ℕ) → IsBlocks bytes → all_blocks disk ≡ on_disk (all_blocks bytes) → All IsBody (all_blocks disk)
+pub body_blocks : (bytes disk : List ℕ) → IsBlocks bytes → all_blocks disk ≡ as_on_disk (all_blocks bytes) → All IsBody (all_blocks disk)
 body_blocks bytes disk blocks is = subst (λ (bs : List (List ℕ)). All IsBody bs) (sym is) (body_is bytes blocks)
 
 -- ---- the record
 
 module _ (l : Log) (vol block : ℕ) (bytes : List ℕ) (blocks : IsBlocks bytes) where
-  given_is : given (record_of l vol block bytes) ≡ bytes
+  given_is : given (record_next l vol block bytes) ≡ bytes
   given_is =
-      given_comes_back (record_of l vol block bytes) (all_blocks bytes) (all_whole bytes blocks) (record { firsts = refl; body = refl })
+      given_comes_back (record_next l vol block bytes) (all_blocks bytes) (all_whole bytes blocks) (record { firsts = refl; body = refl })
       ∙ concat_blocks (length bytes / 512) bytes (size_is bytes blocks)
 
-  is_genuine : Genuine (record_of l vol block bytes)
+  is_genuine : Genuine (record_next l vol block bytes)
   is_genuine = record { count = sym (count_is bytes blocks); digest = ap (λ (xs : List ℕ). digest_of xs) (sym given_is) }
 
-  module _ (room : need_of bytes ≤ free_of l) (s : State) (m : Meaning) (on : RingOn l s m) where
-    pub may_stage : MayStage l.ring s (record_of l vol block bytes)
+  module _ (room : blocks_needed bytes ≤ free_of l) (s : State) (m : Meaning) (on : RingOn l s m) where
+    pub may_stage : MayStage l.ring s (record_next l vol block bytes)
     may_stage = record {
       room = omega (arith, room, all_total l s m on, count_is bytes blocks);
       number = sym (all_next l s m on);
@@ -67,13 +67,13 @@ module _ (l : Log) (vol block : ℕ) (bytes : List ℕ) (blocks : IsBlocks bytes
     }
 
     -- the acts of the call, by the place that is kept
-    pub acts_are : (disk : List ℕ) → all_blocks disk ≡ on_disk (all_blocks bytes)
-        → body_acts l.ring (end_of l + 1) (all_blocks disk) ≡ acts_of l.ring s (staging (record_of l vol block bytes) s)
+    pub acts_are : (disk : List ℕ) → all_blocks disk ≡ as_on_disk (all_blocks bytes)
+        → body_acts l.ring (end_of l + 1) (all_blocks disk) ≡ acts_of l.ring s (staging (record_next l vol block bytes) s)
     acts_are disk is =
         let at : suc (after (after s.base s.held) s.staged) ≡ after (after s.base s.held) s.staged + 1 = omega arith in
         ap (λ (bs : List (List ℕ)). body_acts l.ring (end_of l + 1) bs) is
-        ∙ sym (ap (λ (p : ℕ). body_acts l.ring p (on_disk (all_blocks bytes))) at
-        ∙ body_wraps l.ring (after (after s.base s.held) s.staged + 1) (end_of l + 1) (on_disk (all_blocks bytes)) (wrapped l.ring (after (after s.base s.held) s.staged) (end_of l) 1 (all_end l s m on)))
+        ∙ sym (ap (λ (p : ℕ). body_acts l.ring p (as_on_disk (all_blocks bytes))) at
+        ∙ body_wraps l.ring (after (after s.base s.held) s.staged + 1) (end_of l + 1) (as_on_disk (all_blocks bytes)) (wrapped l.ring (after (after s.base s.held) s.staged) (end_of l) 1 (all_end l s m on)))
 
 -- ---- the call
 
@@ -84,22 +84,22 @@ heads_with rs ks r k is same =
     ∙ ap (λ (h : RecordHead). kept_heads ks ++ h ∷ []) same
     ∙ sym (map-append (λ (k : Kept). k.head) ks (k ∷ []))
 
-module _ (l : Log) (vol block : ℕ) (bytes disk : List ℕ) (blocks : IsBlocks bytes) (room : need_of bytes ≤ free_of l) (is : all_blocks disk ≡ on_disk (all_blocks bytes)) (old new : Meaning) where
-  pub stage_goes : Follows l.unit l.ring (body_acts l.ring (end_of l + 1) (all_blocks disk)) old new → Goes l (staging (record_of l vol block bytes)) old new
+module _ (l : Log) (vol block : ℕ) (bytes disk : List ℕ) (blocks : IsBlocks bytes) (room : blocks_needed bytes ≤ free_of l) (is : all_blocks disk ≡ as_on_disk (all_blocks bytes)) (old new : Meaning) where
+  pub stage_goes : Follows l.unit l.ring (body_acts l.ring (end_of l + 1) (all_blocks disk)) old new → RingGoes l (staging (record_next l vol block bytes)) old new
   stage_goes follows =
-      following_gives l.unit l.ring (body_acts l.ring (end_of l + 1) (all_blocks disk)) (Finding l (staging (record_of l vol block bytes)) old) old new follows
+      following_gives l.unit l.ring (body_acts l.ring (end_of l + 1) (all_blocks disk)) (Finding l (staging (record_next l vol block bytes)) old) old new follows
       (λ i amid. record {
         each = λ s on.
-            always_left (Found l.ring s (Stage (record_of l vol block bytes))) s.unit (acts_of l.ring s (Stage (record_of l vol block bytes))) (classes l.unit l.ring i)
-            (call_safe l.ring s (Stage (record_of l vol block bytes)) on.is_log (may_stage l vol block bytes blocks room s old on)).0
+            always_left (Found l.ring s (Stage (record_next l vol block bytes))) s.unit (acts_of l.ring s (Stage (record_next l vol block bytes))) (classes l.unit l.ring i)
+            (call_safe l.ring s (Stage (record_next l vol block bytes)) on.is_log (may_stage l vol block bytes blocks room s old on)).0
             (subst (λ (acts : List Act). LeftBy s.unit acts (classes l.unit l.ring i)) (acts_are l vol block bytes blocks room s old on disk is) (amid.each s.unit on.tracks));
       })
 
   pub stage_leads : Arrives l.unit l.ring (body_acts l.ring (end_of l + 1) (all_blocks disk)) old new
-      → LeadsTo l (staging (record_of l vol block bytes)) (staged_with l (kept_of l vol block bytes)) old new
+      → LeadsTo l (staging (record_next l vol block bytes)) (staged_with l (kept_record l vol block bytes)) old new
   stage_leads arrives = record {
     each = λ s on. record {
-      is_log = (call_safe l.ring s (Stage (record_of l vol block bytes)) on.is_log (may_stage l vol block bytes blocks room s old on)).1;
+      is_log = (call_safe l.ring s (Stage (record_next l vol block bytes)) on.is_log (may_stage l vol block bytes blocks room s old on)).1;
       tracks = subst (λ (acts : List Act). Tracks l.unit l.ring (run_all s.unit acts) new) (acts_are l vol block bytes blocks room s old on disk is) (arrives.each s.unit on.tracks);
       describes = record {
         header = on.describes.header;
@@ -107,7 +107,7 @@ module _ (l : Log) (vol block : ℕ) (bytes disk : List ℕ) (blocks : IsBlocks 
         other = on.describes.other;
         place = on.describes.place;
         held = on.describes.held;
-        staged = heads_with s.staged l.staged (record_of l vol block bytes) (kept_of l vol block bytes) on.describes.staged refl;
+        staged = heads_with s.staged l.staged (record_next l vol block bytes) (kept_record l vol block bytes) on.describes.staged refl;
       };
     };
   }

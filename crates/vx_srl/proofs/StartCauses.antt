@@ -16,14 +16,14 @@ use Rattle.vx_srl.specs.Damages.{RecordDamaged, SeesFronts}
 use Rattle.vx_srl.specs.declared.kept.Kept.{Kept}
 use Rattle.vx_srl.specs.Scans.{Scans, ScanCause}
 use Rattle.vx_srl.specs.Standings.{NoneCounts, StandingCause, TakeOverCause}
-use Rattle.vx_srl.specs.Starts.{LeavesLog, NoneLeft, ReadsAtLimit, StartCause}
+use Rattle.vx_srl.specs.Starts.{LeavesLog, NoLogLeft, ReadsAtLimit, LogStartCause}
 use Rattle.vx_srl.specs.Views.{most_number}
 use Rattle.vx_srl.proofs.ScanCauses.{rose_since}
 
-none_left : (unit ring : ℕ) (old : Meaning) → Lawful old → NoneCounts unit ring old → NoneLeft unit ring old
+none_left : (unit ring : ℕ) (old : Meaning) → Lawful old → NoneCounts unit ring old → NoLogLeft unit ring old
 none_left unit ring old lawful none h rs left = none left.kinds h (leaves_read unit ring left.kinds old lawful left.leaves) left.recovers.starts.counts
 
-pub no_header_cause : (unit ring : ℕ) (old new : Meaning) → Lawful old → (why : No) → StandingCause unit ring old new why → StartCause unit ring old new why
+pub no_header_cause : (unit ring : ℕ) (old new : Meaning) → Lawful old → (why : No) → StandingCause unit ring old new why → LogStartCause unit ring old new why
 no_header_cause unit ring old new lawful NoConfig cause = (cause.0, none_left unit ring old lawful cause.1)
 no_header_cause unit ring old new lawful (Damaged u block stored computed) cause = (cause.0, cause.1, (λ tells. inl (cause.2 tells)), none_left unit ring old lawful cause.3)
 no_header_cause unit ring old new lawful (Limit what most) cause = absurd cause
@@ -49,7 +49,7 @@ fronts_before unit ring records old mid goes up fronts tells =
     (λ k sees. sees_front_before unit (block_of ring k.place) old mid (seen.Record k.head) goes up sees) records (fronts (subst (λ (t : Bool). IsTrue t) (sym goes.tells) tells))
 
 pub scan_cause : (unit ring : ℕ) (h : Header) (old mid new : Meaning) → Goes Nothing old mid → (IsTrue mid.down → ⊥) → ((g : Header) (rs : List Record) → LeavesLog unit ring g rs old → Scans unit ring h rs mid)
-    → (why : No) → ScanCause unit ring h mid new why → StartCause unit ring old new why
+    → (why : No) → ScanCause unit ring h mid new why → LogStartCause unit ring old new why
 scan_cause unit ring h old mid new goes up scans (Damaged u block stored computed) cause = (
   cause.0,
   cause.1,
@@ -61,7 +61,7 @@ scan_cause unit ring h old mid new goes up scans Down cause = cause
 scan_cause unit ring h old mid new goes up scans other cause = absurd cause
 
 pub take_over_cause : (unit ring : ℕ) (h : Header) (old now new : Meaning) → Goes Nothing old now → ((g : Header) (rs : List Record) → LeavesLog unit ring g rs old → h ≡ g)
-    → (why : No) → TakeOverCause h now new why → StartCause unit ring old new why
+    → (why : No) → TakeOverCause h now new why → LogStartCause unit ring old new why
 take_over_cause unit ring h old now new goes same (Limit what most) cause =
     (cause.0, cause.1, (λ g rs left. subst (λ (x : Header). (most_number ≤ x.stamp + 2) ⊎ (most_number ≤ x.incarnation)) (same g rs left) cause.2))
 take_over_cause unit ring h old now new goes same (Device disk) cause = rose_since (old.disk_faults disk) (now.disk_faults disk) (new.disk_faults disk) (goes.disk_faults disk) cause

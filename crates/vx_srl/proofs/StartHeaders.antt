@@ -1,14 +1,14 @@
 -- The header with which a start begins.
 use Rattle.std.proofs.Common.{◌≡◌, inl, inr, ⊎_elim, ℕ, ◌-◌, ◌<◌, ◌≤◌, Bool, true, List, IsTrue, refl, sym, ◌∙◌, subst, arith}
 use Rattle.vx_disk.specs.Shelf.{Meaning, Nothing, Goes}
-use Rattle.vx_ringlog.specs.Cells.{Image as Kinds}
-use Rattle.vx_ringlog.specs.Chain.{Counts}
-use Rattle.vx_ringlog.specs.Heads.{StandsAt}
+use Rattle.vx_ringlog.specs.Cells.{RingImage as Kinds}
+use Rattle.vx_ringlog.specs.Chain.{IsGreaterTop}
+use Rattle.vx_ringlog.specs.Heads.{HeaderStands}
 use Rattle.vx_ringio.specs.Classes.{class_of, is_of_ring}
-use Rattle.vx_ringio.specs.Reading.{ReadsAs, IsTop, SeesTop, DigestsDiffer, TopIsOfRing}
+use Rattle.vx_ringio.specs.Reading.{ReadsAs, IsTopSeen, SeesTop, DigestsDiffer, TopIsOfRing}
 use Rattle.vx_ringio.specs.declared.top.TopSeen.{TopSeen}
 use Rattle.vx_ringio.specs.declared.top.TopSeen.TheVariants as top
-use Rattle.vx_srlfmt.specs.Headers.{CanSpell}
+use Rattle.vx_srlfmt.specs.Headers.{CanSpellHeader}
 use Rattle.vx_srlfmt.specs.Kinds.{Kind, Top}
 use Rattle.vx_srlfmt.specs.declared.header.Header.{Header}
 use Rattle.vx_srl.specs.Damages.{HeadersDamaged, SeesNoTop}
@@ -36,7 +36,7 @@ same_top v g h one two = cc
 valid_same : (g h : Header) → top.Valid g ≡ top.Valid h → Top g ≡ Top h
 valid_same g h is = cc
 
-seen_at : (ring : ℕ) (bytes : List ℕ) (seen : TopSeen) → IsTop ring bytes seen → IsSeenAt (class_of ring bytes) seen
+seen_at : (ring : ℕ) (bytes : List ℕ) (seen : TopSeen) → IsTopSeen ring bytes seen → IsSeenAt (class_of ring bytes) seen
 seen_at ring bytes (top.Valid g) is = record { valid = λ h same. is ∙ valid_same g h same; only = λ h there. same_top (class_of ring bytes) g h is there }
 seen_at ring bytes (top.Broken stored computed) is = record { valid = λ h same. absurd (cc); only = λ h there. absurd (is.0 h there) }
 seen_at ring bytes top.Other is = record { valid = λ h same. absurd (cc); only = λ h there. absurd (is.0 h there) }
@@ -57,7 +57,7 @@ same_header v g h one two = cc
 -- ---- the header that counts
 
 module _ (c : Kinds) (first second : TopSeen) (at_first : IsSeenAt (c 0) first) (at_second : IsSeenAt (c 1) second) where
-  picked_first : (g h : Header) → first ≡ top.Valid g → IsBelow second g → Counts c h → (g ≡ h) × StandsAt c 0 1 h
+  picked_first : (g h : Header) → first ≡ top.Valid g → IsBelow second g → IsGreaterTop c h → (g ≡ h) × HeaderStands c 0 1 h
   picked_first g h is below (inl counts) =
       (same_header (c 0) g h (at_first.valid g is) counts.0, record { slots = inl (refl, refl); top = counts.0; less = counts.1 })
   picked_first g h is below (inr counts) =
@@ -65,7 +65,7 @@ module _ (c : Kinds) (first second : TopSeen) (at_first : IsSeenAt (c 0) first) 
       let two : h.stamp < g.stamp = valid_below second h g (at_second.only h counts.0) below in
       absurd (omega arith)
 
-  picked_second : (g h : Header) → second ≡ top.Valid g → IsNotAbove first g → Counts c h → (g ≡ h) × StandsAt c 1 0 h
+  picked_second : (g h : Header) → second ≡ top.Valid g → IsNotAbove first g → IsGreaterTop c h → (g ≡ h) × HeaderStands c 1 0 h
   picked_second g h is above (inl counts) =
       let one : g.stamp < h.stamp = counts.1 g (at_second.valid g is) in
       let two : h.stamp ≤ g.stamp = valid_not_above first h g (at_first.only h counts.0) above in
@@ -73,15 +73,15 @@ module _ (c : Kinds) (first second : TopSeen) (at_first : IsSeenAt (c 0) first) 
   picked_second g h is above (inr counts) =
       (same_header (c 1) g h (at_second.valid g is) counts.0, record { slots = inr (refl, refl); top = counts.0; less = counts.1 })
 
-  none_picked : IsNoHeader first → IsNoHeader second → (h : Header) → Counts c h → ⊥
+  none_picked : IsNoHeader first → IsNoHeader second → (h : Header) → IsGreaterTop c h → ⊥
   none_picked one two h (inl counts) = one h (at_first.only h counts.0)
   none_picked one two h (inr counts) = two h (at_second.only h counts.0)
 
-stands_at : (c : Kinds) (b : ℕ) (g h : Header) (block : ℕ) → block ≡ b → (g ≡ h) × StandsAt c b (1 - b) h → (g ≡ h) × StandsAt c block (1 - block) h
-stands_at c b g h block is there = subst (λ (n : ℕ). (g ≡ h) × StandsAt c n (1 - n) h) (sym is) there
+stands_at : (c : Kinds) (b : ℕ) (g h : Header) (block : ℕ) → block ≡ b → (g ≡ h) × HeaderStands c b (1 - b) h → (g ≡ h) × HeaderStands c block (1 - block) h
+stands_at c b g h block is there = subst (λ (n : ℕ). (g ≡ h) × HeaderStands c n (1 - n) h) (sym is) there
 
 -- a block that is seen as no header
-no_top_in : (ring : ℕ) (bytes : List ℕ) (seen : TopSeen) → IsNoHeader seen → IsTop ring bytes seen → (h : Header) → class_of ring bytes ≡ Top h → ⊥
+no_top_in : (ring : ℕ) (bytes : List ℕ) (seen : TopSeen) → IsNoHeader seen → IsTopSeen ring bytes seen → (h : Header) → class_of ring bytes ≡ Top h → ⊥
 no_top_in ring bytes (top.Valid g) none is h at = none g refl
 no_top_in ring bytes (top.Broken stored computed) none is h at = is.0 h at
 no_top_in ring bytes top.Other none is h at = is.0 h at
@@ -104,7 +104,7 @@ module _ (unit ring : ℕ) (old mid : Meaning) (first second : TopSeen) (sees_fi
 
   pub found : (s : Standing) → IsPicked first second (picked.Stands s) → TopIsOfRing ring first → TopIsOfRing ring second → IsStanding unit ring s old
   found s (inl is) one two =
-      let of : CanSpell s.header × (is_of_ring ring s.header ≡ true) = subst (λ (x : TopSeen). TopIsOfRing ring x) is.1 one in
+      let of : CanSpellHeader s.header × (is_of_ring ring s.header ≡ true) = subst (λ (x : TopSeen). TopIsOfRing ring x) is.1 one in
       record {
         block = omega (arith, is.0);
         spell = of.0;
@@ -115,7 +115,7 @@ module _ (unit ring : ℕ) (old mid : Meaning) (first second : TopSeen) (sees_fi
             s.header h is.1 is.2 counts);
       }
   found s (inr is) one two =
-      let of : CanSpell s.header × (is_of_ring ring s.header ≡ true) = subst (λ (x : TopSeen). TopIsOfRing ring x) is.1 two in
+      let of : CanSpellHeader s.header × (is_of_ring ring s.header ≡ true) = subst (λ (x : TopSeen). TopIsOfRing ring x) is.1 two in
       record {
         block = omega (arith, is.0);
         spell = of.0;

@@ -7,25 +7,25 @@ use Rattle.vx_disk.specs.Moves.{Moves, Run}
 use Rattle.vx_disk.specs.Shelf.{Meaning, Image, Lawful, Nothing, Goes}
 use Rattle.vx_disk.proofs.Moving.{goes_on}
 use Rattle.vx_ringlog.specs.Acts.{start_acts}
-use Rattle.vx_ringlog.specs.Cells.{Image as Kinds, Always, Leaves, LeftBy, still}
-use Rattle.vx_ringlog.specs.Chain.{Counts, Recovers}
-use Rattle.vx_ringlog.specs.Heads.{StandsAt}
+use Rattle.vx_ringlog.specs.Cells.{RingImage as Kinds, Always, Leaves, LeftBy, still}
+use Rattle.vx_ringlog.specs.Chain.{IsGreaterTop, Recovers}
+use Rattle.vx_ringlog.specs.Heads.{HeaderStands}
 use Rattle.vx_ringlog.specs.Logs.{IsLog}
 use Rattle.vx_ringlog.specs.Records.{Record}
 use Rattle.vx_ringlog.specs.Starting.{Raises, Repeats, SameLog, started}
 use Rattle.vx_ringlog.proofs.Starting.{start_safe}
 use Rattle.vx_ringio.specs.Classes.{classes, is_of_ring}
-use Rattle.vx_ringio.specs.Tracks.{Tracks, Amid, Follows, Arrives}
+use Rattle.vx_ringio.specs.Tracks.{Tracks, AmidCalls, Follows, Arrives}
 use Rattle.vx_ringio.proofs.Following.{left_now, always_left, following_gives, rest_follows, reads_stay, leaves_stay, leaves_read, left_tracks}
-use Rattle.vx_srlfmt.specs.Headers.{CanSpell}
+use Rattle.vx_srlfmt.specs.Headers.{CanSpellHeader}
 use Rattle.vx_srlfmt.specs.declared.header.Header.{Header}
 use Rattle.vx_srl.specs.Damages.{SeesFronts}
 use Rattle.vx_srl.specs.Headers.{raised}
-use Rattle.vx_srl.specs.Kepts.{IsKept}
+use Rattle.vx_srl.specs.Kepts.{IsLogKept}
 use Rattle.vx_srl.specs.Rings.{RingOn, heads_of, kept_heads}
 use Rattle.vx_srl.specs.Scans.{Scans}
 use Rattle.vx_srl.specs.Standings.{IsStanding, first_step_of, taken_over, taking_over}
-use Rattle.vx_srl.specs.Starts.{LeavesLog, IsRaised, Restarting, IsStarted}
+use Rattle.vx_srl.specs.Starts.{LeavesLog, IsRaised, Restarting, IsStartedLog}
 use Rattle.vx_srl.specs.Views.{Log}
 use Rattle.vx_srl.specs.declared.kept.Kept.{Kept}
 use Rattle.vx_srl.specs.declared.start.Standing.{Standing}
@@ -33,7 +33,7 @@ use Rattle.vx_srl.proofs.StartPlaces.{place_of_ring}
 
 -- ---- the headers that a start writes
 
-stands_of : (c : Kinds) (h : Header) → Counts c h → (here : ℕ) × (other : ℕ) × StandsAt c here other h
+stands_of : (c : Kinds) (h : Header) → IsGreaterTop c h → (here : ℕ) × (other : ℕ) × HeaderStands c here other h
 stands_of c h (inl counts) = (0, 1, record { slots = inl (refl, refl); top = counts.0; less = counts.1 })
 stands_of c h (inr counts) = (1, 0, record { slots = inr (refl, refl); top = counts.0; less = counts.1 })
 
@@ -52,7 +52,7 @@ same_stands ring h n rs i some few (inl old) = (h, inl refl, old)
 same_stands ring h n rs i some few (inr (inl first)) = (raised h n, inr (n, some, omega arith, refl), first)
 same_stands ring h n rs i some few (inr (inr again)) = (raised h (n + 1), inr (n + 1, omega arith, omega arith, refl), again)
 
-module _ (ring : ℕ) (c : Kinds) (here other : ℕ) (h : Header) (rs : List Record) (n : ℕ) (some : 0 < n) (few : n ≤ 2) (stands : StandsAt c here other h) (recovers : Recovers ring c h rs) where
+module _ (ring : ℕ) (c : Kinds) (here other : ℕ) (h : Header) (rs : List Record) (n : ℕ) (some : 0 < n) (few : n ≤ 2) (stands : HeaderStands c here other h) (recovers : Recovers ring c h rs) where
   safe : Always (Leaves (SameLog ring h (raised h n) (raised h (n + 1)) rs)) (still c) (start_acts here other (raised h n) (raised h (n + 1))) × IsLog ring (started c here other (raised h n) (raised h (n + 1)) rs)
   safe = start_safe ring c here other h (raised h n) (raised h (n + 1)) rs (record { stands = stands; raises = raises h n some; repeats = repeats h n }) recovers
 
@@ -66,7 +66,7 @@ module _ (unit ring : ℕ) (old : Meaning) (lawful : Lawful old) where
   pub rests : (new : Meaning) → Goes Nothing old new → Moves (Run unit 0 (ring + 2)) (Restarting unit ring old) old new
   rests new goes = following_gives unit ring [] (Restarting unit ring old) old new (rest_follows unit ring old new goes) (λ i amid. record { each = λ h rs left. each i amid h rs left })
     where
-      each : (i : Image) → Amid unit ring [] old i → (h : Header) (rs : List Record) → LeavesLog unit ring h rs old → StandsFor ring h rs (classes unit ring i)
+      each : (i : Image) → AmidCalls unit ring [] old i → (h : Header) (rs : List Record) → LeavesLog unit ring h rs old → StandsFor ring h rs (classes unit ring i)
       each i amid h rs left =
           let at = stands_of left.kinds h left.recovers.starts.counts in
           left_stands ring left.kinds at.0 at.1 h rs 1 (omega arith) (omega arith) at.2 left.recovers (classes unit ring i)
@@ -89,9 +89,9 @@ module _ (unit ring : ℕ) (s : Standing) (old : Meaning) (lawful : Lawful old) 
   pub header_left : (h : Header) (rs : List Record) → LeavesLog unit ring h rs old → s.header ≡ h
   header_left h rs left = (standing.counts left.kinds h (leaves_read unit ring left.kinds old lawful left.leaves) left.recovers.starts.counts).0
 
-  stands_left : (h : Header) (rs : List Record) (left : LeavesLog unit ring h rs old) → StandsAt left.kinds s.block (1 - s.block) s.header
+  stands_left : (h : Header) (rs : List Record) (left : LeavesLog unit ring h rs old) → HeaderStands left.kinds s.block (1 - s.block) s.header
   stands_left h rs left =
-      subst (λ (x : Header). StandsAt left.kinds s.block (1 - s.block) x) (sym (header_left h rs left))
+      subst (λ (x : Header). HeaderStands left.kinds s.block (1 - s.block) x) (sym (header_left h rs left))
       (standing.counts left.kinds h (leaves_read unit ring left.kinds old lawful left.leaves) left.recovers.starts.counts).1
 
   recovers_left : (h : Header) (rs : List Record) (left : LeavesLog unit ring h rs old) → Recovers ring left.kinds s.header rs
@@ -112,10 +112,10 @@ module _ (unit ring : ℕ) (s : Standing) (old : Meaning) (lawful : Lawful old) 
 
     pub goes_over : Follows unit ring (taking_over s) now new → Moves (Run unit 0 (ring + 2)) (Restarting unit ring old) old new
     goes_over follows =
-        goes_on (Run unit 0 (ring + 2)) (Run unit 0 (ring + 2)) (Restarting unit ring old) (Amid unit ring (taking_over s) now) old now new (rests unit ring old lawful now goes) follows
+        goes_on (Run unit 0 (ring + 2)) (Run unit 0 (ring + 2)) (Restarting unit ring old) (AmidCalls unit ring (taking_over s) now) old now new (rests unit ring old lawful now goes) follows
         (λ u b is. is) (λ i beside amid. record { each = λ h rs left. each i amid h rs left })
       where
-        each : (i : Image) → Amid unit ring (taking_over s) now i → (h : Header) (rs : List Record) → LeavesLog unit ring h rs old → StandsFor ring h rs (classes unit ring i)
+        each : (i : Image) → AmidCalls unit ring (taking_over s) now i → (h : Header) (rs : List Record) → LeavesLog unit ring h rs old → StandsFor ring h rs (classes unit ring i)
         each i amid h rs left =
             let step = step_some s.header.stamp s.block in
             subst (λ (x : Header). StandsFor ring x rs (classes unit ring i)) (header_left h rs left)
@@ -163,7 +163,7 @@ module _ (unit ring : ℕ) (s : Standing) (old : Meaning) (lawful : Lawful old) 
           let step = step_some s.header.stamp s.block in
           (first_step_of s.header.stamp s.block + 1, omega arith, omega (arith, step.1), ap (λ (x : Header). raised x (first_step_of s.header.stamp s.block + 1)) (header_left h rs left))
 
-      log_started : IsStarted unit ring log old new
+      log_started : IsStartedLog unit ring log old new
       log_started = record {
         unit_is = refl;
         ring_is = refl;
@@ -173,21 +173,21 @@ module _ (unit ring : ℕ) (s : Standing) (old : Meaning) (lawful : Lawful old) 
         each = λ h rs left. (raised_left h rs left, (started left.kinds s.block (1 - s.block) (raised s.header n) (taken_over s) rs, on h rs left, refl, refl, refl));
       }
 
-      pub is_started : (header : Header) (l : Log) → header ≡ taken_over s → l ≡ record { unit = unit; ring = ring; header = header; held = records; staged = [] } → IsStarted unit ring l old new
+      pub is_started : (header : Header) (l : Log) → header ≡ taken_over s → l ≡ record { unit = unit; ring = ring; header = header; held = records; staged = [] } → IsStartedLog unit ring l old new
       is_started header l same is =
           let at : l ≡ log = is ∙ ap (λ (x : Header). record { unit = unit; ring = ring; header = x; held = records; staged = [] }) same in
-          subst (λ (x : Log). IsStarted unit ring x old new) (sym at) log_started
+          subst (λ (x : Log). IsStartedLog unit ring x old new) (sym at) log_started
 
 -- what was found is kept behind the header that was written
-pub kept_over : (ring : ℕ) (s : Standing) (records : List Kept) (capacity sealed end used : ℕ) (header : Header) → IsKept ring s.header records capacity sealed end used → header ≡ taken_over s → CanSpell header
-    → is_of_ring ring header ≡ true → IsKept ring header records capacity sealed end used
+pub kept_over : (ring : ℕ) (s : Standing) (records : List Kept) (capacity sealed end used : ℕ) (header : Header) → IsLogKept ring s.header records capacity sealed end used → header ≡ taken_over s → CanSpellHeader header
+    → is_of_ring ring header ≡ true → IsLogKept ring header records capacity sealed end used
 kept_over ring s records capacity sealed end used header kept same spell of_ring =
-    subst (λ (h : Header). IsKept ring h records capacity sealed end used) (sym same)
+    subst (λ (h : Header). IsLogKept ring h records capacity sealed end used) (sym same)
     (record {
       ordered = record {
         some = kept.ordered.some;
         few = kept.ordered.few;
-        spell = subst CanSpell same spell;
+        spell = subst CanSpellHeader same spell;
         of_ring = subst (λ (h : Header). is_of_ring ring h ≡ true) same of_ring;
         heads = kept.ordered.heads;
         placed = kept.ordered.placed;

@@ -11,9 +11,9 @@ use Rattle.vx_ringlog.specs.Chain.{block as block_of}
 use Rattle.vx_ringlog.specs.Logs.{State, Call, Stage, Seal, Save, Restart}
 use Rattle.vx_ringlog.specs.Records.{Record, given}
 use Rattle.vx_disk.specs.Causes.{DeviceCause}
-use Rattle.vx_srl.specs.Damages.{SeesBody}
+use Rattle.vx_srl.specs.Damages.{SeesRecordBody}
 use Rattle.vx_srl.specs.Rings.{RingOn}
-use Rattle.vx_srl.specs.Views.{Log, IsFront, head_of, next_of, most_number}
+use Rattle.vx_srl.specs.Views.{Log, IsFront, head_number, next_of, most_number}
 use Rattle.vx_srl.specs.declared.errors.SrlNo.{SrlNo}
 use Rattle.vx_srl.specs.declared.errors.SrlNo.TheVariants.{Other}
 use Rattle.vx_srl.specs.declared.kept.Kept.{Kept}
@@ -38,8 +38,8 @@ LogCause old new (Other why) = DeviceCause old new why
 LogCause old new other = ⊥
 
 -- a number would go past its limit
-abbrev pub no_number : SrlNo
-no_number = Other (Limit Number most_number)
+abbrev pub log_no_number : SrlNo
+log_no_number = Other (Limit Number most_number)
 
 -- whether a stamp, a run and a number are left for an emptied log behind a record of this number
 abbrev pub can_restart : Log → ℕ → Bool
@@ -50,40 +50,40 @@ abbrev pub staged_with : Log → Kept → Log
 staged_with l k = record l { staged = l.staged ++ k ∷ [] }
 
 -- the record was staged under the next number, or a device call failed
-abbrev pub Stages : Log → Kept → Meaning → Meaning → Log → Result ℕ SrlNo → Type 0
-Stages l k old new l' (Ok number) = (number ≡ next_of l) × (l' ≡ staged_with l k) × (IsTrue new.down → ⊥)
-Stages l k old new l' (Err why) = (l' ≡ l) × LogCause old new why
+abbrev pub StagesRecord : Log → Kept → Meaning → Meaning → Log → Result ℕ SrlNo → Type 0
+StagesRecord l k old new l' (Ok number) = (number ≡ next_of l) × (l' ≡ staged_with l k) × (IsTrue new.down → ⊥)
+StagesRecord l k old new l' (Err why) = (l' ≡ l) × LogCause old new why
 
 -- with all that is staged as part of the log
-abbrev pub sealed : Log → Log
-sealed l = record l { held = l.held ++ l.staged; staged = [] }
+abbrev pub sealed_log : Log → Log
+sealed_log l = record l { held = l.held ++ l.staged; staged = [] }
 
-abbrev pub Seals : Log → Meaning → Meaning → Log → Result ℕ SrlNo → Type 0
-Seals l old new l' (Ok number) = (number ≡ head_of (sealed l)) × (l' ≡ sealed l) × (IsTrue new.down → ⊥)
-Seals l old new l' (Err why) = (l' ≡ l) × LogCause old new why
+abbrev pub SealsStaged : Log → Meaning → Meaning → Log → Result ℕ SrlNo → Type 0
+SealsStaged l old new l' (Ok number) = (number ≡ head_number (sealed_log l)) × (l' ≡ sealed_log l) × (IsTrue new.down → ⊥)
+SealsStaged l old new l' (Err why) = (l' ≡ l) × LogCause old new why
 
 -- with a new header, and without the first n records
 abbrev pub saved : Log → Header → ℕ → Log
 saved l g n = record l { header = g; held = drop n l.held }
 
-abbrev pub restarted : Log → Header → Log
-restarted l g = record l { header = g; held = []; staged = [] }
+abbrev pub restarted_log : Log → Header → Log
+restarted_log l g = record l { header = g; held = []; staged = [] }
 
 -- the header was written, or a device call failed
-abbrev pub Saves : Log → Log → Meaning → Meaning → Log → Result (Unit {0}) SrlNo → Type 0
-Saves l after old new l' (Ok done) = (l' ≡ after) × (IsTrue new.down → ⊥)
-Saves l after old new l' (Err why) = (l' ≡ l) × LogCause old new why
+abbrev pub SavesHeader : Log → Log → Meaning → Meaning → Log → Result (Unit {0}) SrlNo → Type 0
+SavesHeader l after old new l' (Ok done) = (l' ≡ after) × (IsTrue new.down → ⊥)
+SavesHeader l after old new l' (Err why) = (l' ≡ l) × LogCause old new why
 
 -- an update that has this record
-abbrev pub update_of : Record → Update
-update_of r = record { line = r.head.line; number = r.head.number; vol = r.head.vol; block = r.head.block; bytes = given r }
+abbrev pub update_with : Record → Update
+update_with r = record { line = r.head.line; number = r.head.number; vol = r.head.vol; block = r.head.block; bytes = given r }
 
 -- what a fetch of number n gives, of whatever log stands on the shelf: its record
 pub record Fetches (l : Log) (n : ℕ) (m : Meaning) (update : Update) : Type 0 where
-  pub each : (s : State) → RingOn l s m → IsTrue m.tells → (r : Record) × (slice_get s.held (n - l.header.low) ≡ Some r) × (update ≡ update_of r)
+  pub each : (s : State) → RingOn l s m → IsTrue m.tells → (r : Record) × (slice_get s.held (n - l.header.low) ≡ Some r) × (update ≡ update_with r)
 
 -- whatever stands on the shelf, an update that is given agrees with the header that is kept of it, and has its digest
-pub record Agrees (l : Log) (n : ℕ) (update : Update) : Type 0 where
+pub record AgreesWithFront (l : Log) (n : ℕ) (update : Update) : Type 0 where
   pub head : RecordHead
   pub front : IsFront l n head
   pub line : update.line ≡ head.line
@@ -97,7 +97,7 @@ pub record Agrees (l : Log) (n : ℕ) (update : Update) : Type 0 where
 abbrev pub NamesBody : Log → ℕ → Meaning → SrlNo → Type 0
 NamesBody l n m (Other (Damaged unit block stored computed)) =
     (kept : Kept) × (slice_get l.held (n - l.header.low) ≡ Some kept) × (block ≡ block_of l.ring (kept.place + 1)) × (stored ≡ kept.head.digest)
-    × (IsTrue m.tells → SeesBody l.unit l.ring kept.place kept.head computed m)
+    × (IsTrue m.tells → SeesRecordBody l.unit l.ring kept.place kept.head computed m)
 NamesBody l n m other = Unit {0}
 
 -- why a fetch of a number that is held is refused: a device call failed, or the digests of its body differ, which a log that stands there does not give

@@ -5,11 +5,11 @@ use Rattle.vx_disk.specs.Causes.{DeviceCause, refusal_of}
 use Rattle.vx_disk.specs.Shelf.{Meaning}
 
 -- a call on the shelf, or several, or none: it stays up, or one of them failed
-abbrev pub Stopped : {T : Type 0} → Meaning → Meaning → Result T ShelfError → Type 0
-Stopped old new (Ok x) = (IsTrue old.down → ⊥) → IsTrue new.down → ⊥
-Stopped old new (Err error) = DeviceCause old new (refusal_of error)
+abbrev pub CallsStopped : {T : Type 0} → Meaning → Meaning → Result T ShelfError → Type 0
+CallsStopped old new (Ok x) = (IsTrue old.down → ⊥) → IsTrue new.down → ⊥
+CallsStopped old new (Err error) = DeviceCause old new (refusal_of error)
 
 -- calls on the shelf, one at least: it is up behind them, or one of them failed
-abbrev pub Ended : {T : Type 0} → Meaning → Meaning → Result T ShelfError → Type 0
-Ended old new (Ok x) = IsTrue new.down → ⊥
-Ended old new (Err error) = DeviceCause old new (refusal_of error)
+abbrev pub CallsEnded : {T : Type 0} → Meaning → Meaning → Result T ShelfError → Type 0
+CallsEnded old new (Ok x) = IsTrue new.down → ⊥
+CallsEnded old new (Err error) = DeviceCause old new (refusal_of error)

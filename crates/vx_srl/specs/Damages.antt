@@ -34,7 +34,7 @@ pub record SeesOwner (unit ring block : ℕ) (stored : List ℕ) (m : Meaning) :
   pub stored_is : stored ≡ head.digest
 
 -- reads gave the body of a record at a place, and this is its digest
-pub record SeesBody (unit ring place : ℕ) (head : RecordHead) (computed : List ℕ) (m : Meaning) : Type 0 where
+pub record SeesRecordBody (unit ring place : ℕ) (head : RecordHead) (computed : List ℕ) (m : Meaning) : Type 0 where
   pub body : List (List ℕ)
   pub count : length body ≡ head.count
   pub gave : GaveBlocks unit ring m (place + 1) body
@@ -43,7 +43,7 @@ pub record SeesBody (unit ring place : ℕ) (head : RecordHead) (computed : List
 -- the header of a record is damaged, or its body has another digest than its header
 abbrev pub RecordDamaged : (unit ring block : ℕ) (stored computed : List ℕ) → Meaning → Type 0
 RecordDamaged unit ring block stored computed m =
-    SeesFront unit block m (seen.Damaged stored computed) ⊎ ((owner : SeesOwner unit ring block stored m) × SeesBody unit ring owner.place owner.head computed m)
+    SeesFront unit block m (seen.Damaged stored computed) ⊎ ((owner : SeesOwner unit ring block stored m) × SeesRecordBody unit ring owner.place owner.head computed m)
 
 -- a block of the log has these digests: a header block where none is a header, or a block of a record
 abbrev pub HasDamage : (unit ring block : ℕ) (stored computed : List ℕ) → Meaning → Type 0

@@ -9,8 +9,8 @@ abbrev pub new_header : State → ℕ → Header
 new_header state head = record { stamp = 2; state = state; incarnation = 1; floor = 0; run = 1; low = head + 1; place = 0; applied = head }
 
 -- with a new state
-abbrev pub with_state : Log → State → Header
-with_state l state = record l.header { stamp = l.header.stamp + 1; state = state }
+abbrev pub with_header_state : Log → State → Header
+with_header_state l state = record l.header { stamp = l.header.stamp + 1; state = state }
 
 -- without the records up to a number
 abbrev pub without : Log → ℕ → Header
@@ -23,8 +23,8 @@ without l to = record l.header {
 }
 
 -- of an emptied log, behind a record of this number
-abbrev pub emptied : Log → State → ℕ → Header
-emptied l state head = record l.header {
+abbrev pub emptied_header : Log → State → ℕ → Header
+emptied_header l state head = record l.header {
   stamp = l.header.stamp + 1;
   state = state;
   floor = l.header.incarnation;

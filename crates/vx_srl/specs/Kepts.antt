@@ -5,7 +5,7 @@ use Rattle.vx_srl.specs.Views.{IsOrdered, place_after, widths}
 use Rattle.vx_srl.specs.declared.kept.Kept.{Kept}
 
 -- its records in one queue, of which the first `sealed` are part of the log, and what is counted of them
-pub record IsKept (ring : ℕ) (header : Header) (records : List Kept) (capacity sealed end used : ℕ) : Type 0 where
+pub record IsLogKept (ring : ℕ) (header : Header) (records : List Kept) (capacity sealed end used : ℕ) : Type 0 where
   pub ordered : IsOrdered ring header records
   pub room : ring ≤ 2 * capacity
   pub few : sealed ≤ length records

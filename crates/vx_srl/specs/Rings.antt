@@ -3,7 +3,7 @@ use Rattle.std.specs.Prelude.{◌≡◌, ◌+◌, ◌%◌, List, map}
 use Rattle.vx_srlfmt.specs.declared.record.RecordHead.{RecordHead}
 use Rattle.vx_disk.specs.Moves.{Moves, Run}
 use Rattle.vx_disk.specs.Shelf.{Meaning, Image}
-use Rattle.vx_ringlog.specs.Logs.{State, Call, IsLog, Found, done}
+use Rattle.vx_ringlog.specs.Logs.{State, Call, IsLog, Found, behind_call}
 use Rattle.vx_ringlog.specs.Records.{Record}
 use Rattle.vx_ringio.specs.Classes.{classes}
 use Rattle.vx_ringio.specs.Tracks.{Tracks}
@@ -36,9 +36,9 @@ pub record Finding (l : Log) (call : State → Call) (m : Meaning) (i : Image) :
   pub each : (s : State) → RingOn l s m → Found l.ring s (call s) (classes l.unit l.ring i)
 
 -- what a call may change, and what a crash in it leaves
-abbrev pub Goes : Log → (State → Call) → Meaning → Meaning → Type 0
-Goes l call old new = Moves (Run l.unit 0 (l.ring + 2)) (Finding l call old) old new
+abbrev pub RingGoes : Log → (State → Call) → Meaning → Meaning → Type 0
+RingGoes l call old new = Moves (Run l.unit 0 (l.ring + 2)) (Finding l call old) old new
 
 -- behind the call every log that stood there is what the call makes of it
 pub record LeadsTo (l : Log) (call : State → Call) (after : Log) (old new : Meaning) : Type 0 where
-  pub each : (s : State) → RingOn l s old → RingOn after (done l.ring s (call s)) new
+  pub each : (s : State) → RingOn l s old → RingOn after (behind_call l.ring s (call s)) new

@@ -7,12 +7,12 @@ use Rattle.vx_srlfmt.specs.declared.header.Header.{Header}
 use Rattle.vx_srlfmt.specs.declared.record.RecordHead.{RecordHead}
 use Rattle.vx_srlfmt.specs.declared.record.Seen.TheVariants as seen
 use Rattle.vx_disk.specs.Shelf.{Meaning}
-use Rattle.vx_ringlog.specs.Cells.{Image as Kinds}
+use Rattle.vx_ringlog.specs.Cells.{RingImage as Kinds}
 use Rattle.vx_ringlog.specs.Chain.{block, width, total, Takes, HasBody, Scan}
 use Rattle.vx_ringlog.specs.Records.{Era, era_of, Record, Genuine}
 use Rattle.vx_disk.specs.Causes.{DeviceCause}
 use Rattle.vx_ringio.specs.Reading.{ReadsAs, SeesFront}
-use Rattle.vx_srl.specs.Damages.{RecordDamaged, SeesBody}
+use Rattle.vx_srl.specs.Damages.{RecordDamaged, SeesRecordBody}
 use Rattle.vx_srl.specs.Rings.{heads_of, kept_heads}
 use Rattle.vx_srl.specs.declared.kept.Kept.{Kept}
 use Rattle.vx_srl.specs.declared.scan.Found.{Found}
@@ -27,11 +27,11 @@ pub record MayFollow (e : Era) (n prev : ℕ) (r : RecordHead) : Type 0 where
   pub not_above : r.incarnation ≤ e.incarnation
 
 -- what is found at a place, by the records that a scan from there takes
-abbrev pub Agrees : List Record → Found → Type 0
-Agrees [] End = Unit {0}
-Agrees [] other = ⊥
-Agrees (r ∷ rs) (Taken head) = head ≡ r.head
-Agrees (r ∷ rs) other = ⊥
+abbrev pub FindsByScan : List Record → Found → Type 0
+FindsByScan [] End = Unit {0}
+FindsByScan [] other = ⊥
+FindsByScan (r ∷ rs) (Taken head) = head ≡ r.head
+FindsByScan (r ∷ rs) other = ⊥
 
 -- a record that is taken stands there, with its body
 abbrev pub StandsThere : ℕ → Kinds → Era → ℕ → ℕ → ℕ → Found → Type 0
@@ -73,7 +73,7 @@ IsShown unit ring place m (Broken at stored computed) = RecordDamaged unit ring 
 abbrev pub BodyShown : ℕ → ℕ → ℕ → RecordHead → Meaning → Found → Type 0
 BodyShown unit ring place head m (Taken taken) = Unit {0}
 BodyShown unit ring place head m End = Unit {0}
-BodyShown unit ring place head m (Broken at stored computed) = (at ≡ block ring (place + 1)) × (stored ≡ head.digest) × SeesBody unit ring place head computed m
+BodyShown unit ring place head m (Broken at stored computed) = (at ≡ block ring (place + 1)) × (stored ≡ head.digest) × SeesRecordBody unit ring place head computed m
 
 -- these records stand one behind another, each with its body
 abbrev pub Chained : ℕ → Kinds → Era → ℕ → ℕ → ℕ → List Record → Type 0

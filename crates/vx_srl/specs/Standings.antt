@@ -3,13 +3,13 @@ use Rattle.std.specs.Prelude.{◌≡◌, ◌⊎◌, ℕ, ◌+◌, ◌-◌, ◌%�
 use Rattle.vx_model.specs.declared.no.No.{No}
 use Rattle.vx_model.specs.declared.no.No.TheVariants.{Damaged, NoConfig, Limit}
 use Rattle.vx_model.specs.declared.no.Counted.TheVariants.{Number}
-use Rattle.vx_srlfmt.specs.Headers.{CanSpell}
+use Rattle.vx_srlfmt.specs.Headers.{CanSpellHeader}
 use Rattle.vx_srlfmt.specs.declared.header.Header.{Header}
 use Rattle.vx_disk.specs.Shelf.{Meaning}
 use Rattle.vx_ringlog.specs.Acts.{start_acts}
-use Rattle.vx_ringlog.specs.Cells.{Act, Image as Kinds}
-use Rattle.vx_ringlog.specs.Chain.{Counts}
-use Rattle.vx_ringlog.specs.Heads.{StandsAt}
+use Rattle.vx_ringlog.specs.Cells.{Act, RingImage as Kinds}
+use Rattle.vx_ringlog.specs.Chain.{IsGreaterTop}
+use Rattle.vx_ringlog.specs.Heads.{HeaderStands}
 use Rattle.vx_ringio.specs.Classes.{is_of_ring}
 use Rattle.vx_ringio.specs.Reading.{ReadsAs, SeesTop}
 use Rattle.vx_ringio.specs.declared.top.TopSeen.{TopSeen}
@@ -50,14 +50,14 @@ IsPicked first second picked.Nothing = (first ≡ top.Other) × (second ≡ top.
 -- a header of the log stands in the block, and where one counts it is this
 pub record IsStanding (unit ring : ℕ) (s : Standing) (m : Meaning) : Type 0 where
   pub block : s.block < 2
-  pub spell : CanSpell s.header
+  pub spell : CanSpellHeader s.header
   pub of_ring : is_of_ring ring s.header ≡ true
   pub sees : IsTrue m.tells → SeesTop unit ring s.block m (top.Valid s.header)
-  pub counts : (c : Kinds) (h : Header) → ReadsAs unit ring c m → Counts c h → (s.header ≡ h) × StandsAt c s.block (1 - s.block) h
+  pub counts : (c : Kinds) (h : Header) → ReadsAs unit ring c m → IsGreaterTop c h → (s.header ≡ h) × HeaderStands c s.block (1 - s.block) h
 
 -- no header counts
 abbrev pub NoneCounts : ℕ → ℕ → Meaning → Type 0
-NoneCounts unit ring m = (c : Kinds) (h : Header) → ReadsAs unit ring c m → Counts c h → ⊥
+NoneCounts unit ring m = (c : Kinds) (h : Header) → ReadsAs unit ring c m → IsGreaterTop c h → ⊥
 
 -- why no header was found: neither block is one, or the lower broken one has two digests; or a device call failed
 abbrev pub StandingCause : ℕ → ℕ → Meaning → Meaning → No → Type 0

@@ -10,7 +10,7 @@ use Rattle.vx_srlfmt.specs.Kinds.{Other}
 use Rattle.vx_srlfmt.specs.declared.header.Header.{Header}
 use Rattle.vx_disk.specs.Shelf.{Meaning, Image, Goes, Nothing}
 use Rattle.vx_ringlog.specs.Acts.{head_acts}
-use Rattle.vx_ringlog.specs.Cells.{Cells, Image as Kinds, run_all, still}
+use Rattle.vx_ringlog.specs.Cells.{Cells, RingImage as Kinds, run_all, still}
 use Rattle.vx_ringlog.specs.Chain.{Recovers}
 use Rattle.vx_ringlog.specs.Logs.{State}
 use Rattle.vx_ringlog.specs.Records.{Record}
@@ -25,7 +25,7 @@ use Rattle.vx_srl.specs.Rings.{RingOn}
 use Rattle.vx_srl.specs.Views.{Log, most_number}
 
 -- nothing is held or staged, on the shelf and in memory
-pub record IsNew (unit ring head : ℕ) (state : SiteState) (l : Log) (m : Meaning) : Type 0 where
+pub record IsNewLog (unit ring head : ℕ) (state : SiteState) (l : Log) (m : Meaning) : Type 0 where
   pub is : l ≡ record { unit = unit; ring = ring; header = new_header state head; held = []; staged = [] }
   pub stands : IsTrue m.tells → (s : State) × RingOn l s m × (s.held ≡ []) × (s.staged ≡ [])
 
@@ -39,7 +39,7 @@ pub record HasNewHeaders (unit ring : ℕ) (first second : Header) (old new : Me
 
 -- a log was made, or a device call failed, or memory ran out
 abbrev pub Makes : ℕ → ℕ → ℕ → SiteState → Meaning → Meaning → Result Log Stop → Type 0
-Makes unit ring head state old new (Ok l) = IsNew unit ring head state l new × (IsTrue new.down → ⊥)
+Makes unit ring head state old new (Ok l) = IsNewLog unit ring head state l new × (IsTrue new.down → ⊥)
 Makes unit ring head state old new (Err (Refused why)) = DeviceCause old new why
 Makes unit ring head state old new (Err OutOfMemory) = Unit {0}
 
@@ -59,7 +59,7 @@ pub record Restarting (unit ring : ℕ) (m : Meaning) (i : Image) : Type 0 where
       → (g : Header) × ((g ≡ h) ⊎ IsRaised h g) × Recovers ring (classes unit ring i) g rs
 
 -- the log that a start gives holds the records that were left
-pub record IsStarted (unit ring : ℕ) (l : Log) (old new : Meaning) : Type 0 where
+pub record IsStartedLog (unit ring : ℕ) (l : Log) (old new : Meaning) : Type 0 where
   pub unit_is : l.unit ≡ unit
   pub ring_is : l.ring ≡ ring
   pub nothing_staged : l.staged ≡ []
@@ -75,20 +75,20 @@ pub record NoHeader (unit ring : ℕ) (m : Meaning) : Type 0 where
   pub second : SeesTop unit ring 1 m top.Other
 
 -- no log was left that a start should have found
-abbrev pub NoneLeft : ℕ → ℕ → Meaning → Type 0
-NoneLeft unit ring m = (h : Header) (rs : List Record) → LeavesLog unit ring h rs m → ⊥
+abbrev pub NoLogLeft : ℕ → ℕ → Meaning → Type 0
+NoLogLeft unit ring m = (h : Header) (rs : List Record) → LeavesLog unit ring h rs m → ⊥
 
 -- where a log was left, its stamp or incarnation is at its limit
 abbrev pub AtLimit : ℕ → ℕ → Meaning → Type 0
 AtLimit unit ring m = (h : Header) (rs : List Record) → LeavesLog unit ring h rs m → (most_number ≤ h.stamp + 2) ⊎ (most_number ≤ h.incarnation)
 
 -- why a start is refused: nothing is a header; a block is damaged; a number would go past its limit; or a device call failed
-abbrev pub StartCause : ℕ → ℕ → Meaning → Meaning → No → Type 0
-StartCause unit ring old new NoConfig = (IsTrue old.tells → NoHeader unit ring old) × NoneLeft unit ring old
-StartCause unit ring old new (Damaged u block stored computed) =
-    (u ≡ unit) × (stored ≡ computed → ⊥) × (IsTrue old.tells → HasDamage unit ring block stored computed old) × NoneLeft unit ring old
-StartCause unit ring old new (Limit what most) = (what ≡ Number) × (most ≡ most_number) × AtLimit unit ring old
-StartCause unit ring old new why = DeviceCause old new why
+abbrev pub LogStartCause : ℕ → ℕ → Meaning → Meaning → No → Type 0
+LogStartCause unit ring old new NoConfig = (IsTrue old.tells → NoHeader unit ring old) × NoLogLeft unit ring old
+LogStartCause unit ring old new (Damaged u block stored computed) =
+    (u ≡ unit) × (stored ≡ computed → ⊥) × (IsTrue old.tells → HasDamage unit ring block stored computed old) × NoLogLeft unit ring old
+LogStartCause unit ring old new (Limit what most) = (what ≡ Number) × (most ≡ most_number) × AtLimit unit ring old
+LogStartCause unit ring old new why = DeviceCause old new why
 
 -- a start that is refused for want of a number has only read
 abbrev pub ReadsAtLimit : Meaning → Meaning → No → Type 0
@@ -101,15 +101,15 @@ StopReadsAtLimit old new OutOfMemory = Goes Nothing old new
 
 -- the log was started, or the start was refused, or memory ran out
 abbrev pub StartIs : ℕ → ℕ → Meaning → Meaning → Result Log Stop → Type 0
-StartIs unit ring old new (Ok l) = IsStarted unit ring l old new × (IsTrue new.down → ⊥)
-StartIs unit ring old new (Err (Refused why)) = StartCause unit ring old new why
+StartIs unit ring old new (Ok l) = IsStartedLog unit ring l old new × (IsTrue new.down → ⊥)
+StartIs unit ring old new (Err (Refused why)) = LogStartCause unit ring old new why
 StartIs unit ring old new (Err OutOfMemory) = Unit {0}
 
 -- the same where memory was taken before
 abbrev pub StartInIs : ℕ → ℕ → Meaning → Meaning → Result Log No → Type 0
-StartInIs unit ring old new (Ok l) = IsStarted unit ring l old new × (IsTrue new.down → ⊥)
-StartInIs unit ring old new (Err why) = StartCause unit ring old new why
+StartInIs unit ring old new (Ok l) = IsStartedLog unit ring l old new × (IsTrue new.down → ⊥)
+StartInIs unit ring old new (Err why) = LogStartCause unit ring old new why
 
 -- memory for a start, as callers see it
-pub record Room : Type 0 where
+pub record LogSpace : Type 0 where
   pub ring : ℕ

@@ -3,11 +3,11 @@ use Rattle.std.specs.Prelude.{◌≡◌, ℕ, ◌+◌, ◌-◌, ◌%◌, ◌≤�
 use Rattle.vx_model.specs.declared.limits.TheConstants.{MOST_NUMBER}
 use Rattle.vx_model.specs.Content.{blocks_in}
 use Rattle.vx_wire.specs.Seals.{digest_of}
-use Rattle.vx_srlfmt.specs.Headers.{CanSpell}
+use Rattle.vx_srlfmt.specs.Headers.{CanSpellHeader}
 use Rattle.vx_srlfmt.specs.Records.{CanSpellHead}
 use Rattle.vx_srlfmt.specs.declared.header.Header.{Header}
 use Rattle.vx_srlfmt.specs.declared.record.RecordHead.{RecordHead}
-use Rattle.vx_ringlog.specs.Records.{Record, on_disk, firsts_of}
+use Rattle.vx_ringlog.specs.Records.{Record, as_on_disk, firsts_of}
 use Rattle.vx_ringio.specs.Bodies.{all_blocks}
 use Rattle.vx_ringio.specs.Classes.{is_of_ring}
 use Rattle.vx_srl.specs.declared.kept.Kept.{Kept}
@@ -35,8 +35,8 @@ abbrev pub widths : List Kept → ℕ
 widths [] = 0
 widths (k ∷ ks) = width_of k + widths ks
 
-abbrev pub need_of : List ℕ → ℕ
-need_of bytes = blocks_in bytes + 1
+abbrev pub blocks_needed : List ℕ → ℕ
+blocks_needed bytes = blocks_in bytes + 1
 
 -- all that the log holds or has staged
 abbrev pub all_of : Log → List Kept
@@ -47,8 +47,8 @@ abbrev pub free_of : Log → ℕ
 free_of l = l.ring - widths (all_of l)
 
 -- the number of the last record that is part of the log, and the number behind all that is staged
-abbrev pub head_of : Log → ℕ
-head_of l = l.header.low + length l.held - 1
+abbrev pub head_number : Log → ℕ
+head_number l = l.header.low + length l.held - 1
 
 abbrev pub next_of : Log → ℕ
 next_of l = l.header.low + length (all_of l)
@@ -58,8 +58,8 @@ abbrev pub count_to : Log → ℕ → ℕ
 count_to l to = to + 1 - l.header.low
 
 -- so many blocks are taken by the numbers above this one
-abbrev pub used_above : Log → ℕ → ℕ
-used_above l n = widths (drop (count_to l n) (all_of l))
+abbrev pub blocks_above : Log → ℕ → ℕ
+blocks_above l n = widths (drop (count_to l n) (all_of l))
 
 -- the place behind these records, in the ring
 abbrev pub place_after : ℕ → ℕ → List Kept → ℕ
@@ -88,7 +88,7 @@ last_incarnation floor (k ∷ ks) = last_incarnation k.head.incarnation ks
 pub record IsOrdered (ring : ℕ) (header : Header) (records : List Kept) : Type 0 where
   pub some : 6 ≤ ring
   pub few : ring ≤ 65534
-  pub spell : CanSpell header
+  pub spell : CanSpellHeader header
   pub of_ring : is_of_ring ring header ≡ true
   pub heads : All (λ k. CanSpellHead k.head) records
   pub placed : PlacedFrom ring header.place records
@@ -96,8 +96,8 @@ pub record IsOrdered (ring : ℕ) (header : Header) (records : List Kept) : Type
   pub numbers : header.low + length records ≤ most_number + 1
 
 -- the record of a write, as the log would stage it next
-abbrev pub record_of : Log → ℕ → ℕ → List ℕ → Record
-record_of l vol block bytes = record {
+abbrev pub record_next : Log → ℕ → ℕ → List ℕ → Record
+record_next l vol block bytes = record {
   head = record {
     incarnation = l.header.incarnation;
     run = l.header.run;
@@ -109,12 +109,12 @@ record_of l vol block bytes = record {
     digest = digest_of bytes;
     firsts = firsts_of (all_blocks bytes);
   };
-  body = on_disk (all_blocks bytes);
+  body = as_on_disk (all_blocks bytes);
 }
 
 -- the same in memory
-abbrev pub kept_of : Log → ℕ → ℕ → List ℕ → Kept
-kept_of l vol block bytes = record { place = end_of l; head = (record_of l vol block bytes).head }
+abbrev pub kept_record : Log → ℕ → ℕ → List ℕ → Kept
+kept_record l vol block bytes = record { place = end_of l; head = (record_next l vol block bytes).head }
 
 -- the header of the record of a number that is held
 pub record IsFront (l : Log) (n : ℕ) (head : RecordHead) : Type 0 where

@@ -8,12 +8,12 @@ ghost use Rattle.vx_model.specs.declared.no.No.TheVariants.{Size, Limit};
 ghost use Rattle.vx_model.specs.declared.no.Counted.TheVariants.{Number};
 ghost use Rattle.vx_ringio.specs.Classes.{is_of_ring};
 ghost use Rattle.vx_ringio.specs.Spends.{Spends};
-ghost use Rattle.vx_ringio.specs.Tracks.{Lies};
-ghost use Rattle.vx_srl.specs.Causes.{Ended};
+ghost use Rattle.vx_ringio.specs.Tracks.{RingLies};
+ghost use Rattle.vx_srl.specs.Causes.{CallsEnded};
 ghost use Rattle.vx_srl.specs.Headers.{new_header};
 ghost use Rattle.vx_srl.specs.Starts.{Makes, HasNewHeaders};
 ghost use Rattle.vx_srl.specs.Views.{most_number};
-ghost use Rattle.vx_srlfmt.specs.Headers.{CanSpell, CanSpellState};
+ghost use Rattle.vx_srlfmt.specs.Headers.{CanSpellHeader, CanSpellState};
 
 use crate::Srl;
 use std::alloc::Global;
@@ -31,7 +31,7 @@ fn new_header(state: &State, head: u64, stamp: u64) -> Header
     requires some { 1 ≤ stamp }
     requires few { stamp ≤ 2 }
     ensures is { result ≡ record (new_header state.now head) { stamp = stamp } }
-    ensures spell { CanSpell result }
+    ensures spell { CanSpellHeader result }
     ensures of_ring { (ring : ℕ) → 0 < ring → is_of_ring ring result ≡ true }
 {
     Header {
@@ -54,16 +54,16 @@ fn write_new<S: Shelf>(
     first: &Header,
     second: &Header,
 ) -> Result<(), ShelfError>
-    requires lies { Lies unit ring (S.meaning shelf.old) }
+    requires lies { RingLies unit ring (S.meaning shelf.old) }
     requires some { 0 < ring }
     requires few { ring ≤ 65534 }
-    requires spell { CanSpell first.now }
-    requires spell_second { CanSpell second.now }
+    requires spell { CanSpellHeader first.now }
+    requires spell_second { CanSpellHeader second.now }
     requires of_ring { is_of_ring ring first.now ≡ true }
     requires second_of_ring { is_of_ring ring second.now ≡ true }
     ensures moves { Moves (Run unit 0 (ring + 2)) Anything (S.meaning shelf.old) (S.meaning shelf.new) }
     ensures written { OnOk result (HasNewHeaders unit ring first.now second.now (S.meaning shelf.old) (S.meaning shelf.new)) }
-    ensures cause { Ended (S.meaning shelf.old) (S.meaning shelf.new) result }
+    ensures cause { CallsEnded (S.meaning shelf.old) (S.meaning shelf.new) result }
     ensures spends { Spends (S.meaning shelf.old) (S.meaning shelf.new) }
     ensures works { OnOk result (Works (S.meaning shelf.old).disks unit) }
 {

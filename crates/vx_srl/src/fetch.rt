@@ -4,9 +4,9 @@ ghost use Rattle.vx_disk.specs.Causes.{OnDisks, Works};
 ghost use Rattle.vx_disk.specs.Disks.{Untouched};
 ghost use Rattle.vx_disk.specs.Shelf.{Goes, Nothing};
 ghost use Rattle.vx_ringio.specs.Spends.{Spends};
-ghost use Rattle.vx_ringio.specs.Tracks.{Lies};
-ghost use Rattle.vx_srl.specs.Calls.{Fetches, FetchCause, Agrees, NamesBody};
-ghost use Rattle.vx_srl.specs.Views.{head_of};
+ghost use Rattle.vx_ringio.specs.Tracks.{RingLies};
+ghost use Rattle.vx_srl.specs.Calls.{Fetches, FetchCause, AgreesWithFront, NamesBody};
+ghost use Rattle.vx_srl.specs.Views.{head_number};
 
 use crate::{Srl, SrlNo};
 use vx_disk::{Shelf, refusal};
@@ -19,11 +19,11 @@ impl Srl {
     /// Refusals: `Overrun` exactly where the number is below the lowest that is held, which changes nothing; 7 and 6; 22 only where
     /// the digest of the record and the one computed of its blocks differ. After a refusal `into` is as it was.
     pub fn fetch<S: Shelf>(&self, shelf: &mut S, n: u64, into: &mut Update) -> Result<(), SrlNo>
-        requires lies { Lies self.now.unit self.now.ring (S.meaning shelf.old) }
-        requires held { n ≤ head_of self.now }
+        requires lies { RingLies self.now.unit self.now.ring (S.meaning shelf.old) }
+        requires held { n ≤ head_number self.now }
         ensures overrun { n < self.now.header.low → (result ≡ Err (SrlNo.Overrun self.now.header.low)) × (shelf.new ≡ shelf.old) }
         ensures gives { OnOk result (Fetches self.now n (S.meaning shelf.old) into.new) }
-        ensures agrees { OnOk result (Agrees self.now n into.new) }
+        ensures agrees { OnOk result (AgreesWithFront self.now n into.new) }
         ensures up { OnOk result (IsTrue (S.meaning shelf.new).down → ⊥) }
         ensures cause { self.now.header.low ≤ n → IfErr result (λ why. FetchCause self.now (S.meaning shelf.old) (S.meaning shelf.new) why) }
         ensures names { self.now.header.low ≤ n → IfErr result (NamesBody self.now n (S.meaning shelf.old)) }

@@ -20,6 +20,3 @@ pub use errors::SrlNo;
 pub use kept::Kept;
 pub use log::Srl;
 pub use start::LogRoom;
-
-#[cfg(test)]
-mod tests;

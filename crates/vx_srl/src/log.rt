@@ -1,8 +1,8 @@
 // A log, and what it tells of itself.
 ghost use Rattle.std.specs.Prelude.{◌≡◌, ◌+◌, ◌<◌, ◌≤◌, [], length};
 ghost use Rattle.std.specs.VecDeque.{deque_capacity};
-ghost use Rattle.vx_srl.specs.Kepts.{IsKept};
-ghost use Rattle.vx_srl.specs.Views.{IsOrdered, IsFront, free_of, head_of, next_of, used_above, all_of, most_number};
+ghost use Rattle.vx_srl.specs.Kepts.{IsLogKept};
+ghost use Rattle.vx_srl.specs.Views.{IsOrdered, IsFront, free_of, head_number, next_of, blocks_above, all_of, most_number};
 ghost use Rattle.vx_srlfmt.specs.Headers.{CanSpellState};
 
 use crate::Kept;
@@ -28,14 +28,14 @@ pub struct Srl {
 impl Model for Srl {
     ghost use Rattle.std.specs.Prelude.{take, drop};
     ghost use Rattle.std.specs.VecDeque.{deque_capacity};
-    ghost use Rattle.vx_srl.specs.Kepts.{IsKept};
+    ghost use Rattle.vx_srl.specs.Kepts.{IsLogKept};
     ghost use Rattle.vx_srl.specs.Views.{Log};
 
     ghost Value = { Log };
 
     ghost view = { λ s. record { unit = s.unit; ring = s.ring; header = s.header; held = take s.sealed s.records.items; staged = drop s.sealed s.records.items } };
 
-    ghost invariant = { λ s. IsKept s.ring s.header s.records.items (deque_capacity s.records) s.sealed s.end s.used };
+    ghost invariant = { λ s. IsLogKept s.ring s.header s.records.items (deque_capacity s.records) s.sealed s.end s.used };
 }
 
 impl Srl {
@@ -48,7 +48,7 @@ impl Srl {
         end: u32,
         used: u64,
     ) -> Srl
-        requires { IsKept ring header records.items (deque_capacity records) (length records.items) end used }
+        requires { IsLogKept ring header records.items (deque_capacity records) (length records.items) end used }
         ensures { result ≡ record { unit = unit; ring = ring; header = header; held = records.items; staged = [] } }
     {
         let sealed = records.len();
@@ -70,6 +70,13 @@ impl Srl {
         self.ring - self.used
     }
 
+    /// The unit that it lies in.
+    pub fn unit(&self) -> u32
+        ensures { result ≡ self.now.unit }
+    {
+        self.unit
+    }
+
     /// The blocks of the unit that hold records.
     pub fn ring(&self) -> u64
         ensures is { result ≡ self.now.ring }
@@ -89,7 +96,7 @@ impl Srl {
 
     /// The number of the last record that is part of the log.
     pub fn head(&self) -> u64
-        ensures { result ≡ head_of self.now }
+        ensures { result ≡ head_number self.now }
     {
         self.header.low + self.sealed as u64 - 1
     }
@@ -113,7 +120,7 @@ impl Srl {
     /// What stands before the blocks of a number that is held.
     pub fn front(&self, n: u64) -> &RecordHead
         requires low { self.now.header.low ≤ n }
-        requires held { n ≤ head_of self.now }
+        requires held { n ≤ head_number self.now }
         ensures { IsFront self.now n result.now }
     {
         &self.records[(n - self.header.low) as usize].head
@@ -123,7 +130,7 @@ impl Srl {
     pub fn used(&self, above: u64) -> u64
         requires low { self.now.header.low ≤ above + 1 }
         requires known { above < next_of self.now }
-        ensures { result ≡ used_above self.now above }
+        ensures { result ≡ blocks_above self.now above }
     {
         let low = self.header.low;
         let gone = (above + 1 - low) as usize;

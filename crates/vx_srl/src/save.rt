@@ -1,14 +1,15 @@
 // The calls that write a header: a new state, a raised low number, an emptied log.
 ghost use Rattle.std.specs.Prelude.{◌≡◌, ◌⊎◌, ◌+◌, ◌-◌, ◌<◌, ◌≤◌, ◌%◌, [], length, take, drop, leb, true, Ok, Err, OnOk};
+ghost use Rattle.vx_disk.specs.Burns.{FallsShort, MakesCalls};
 ghost use Rattle.vx_ringio.specs.Classes.{is_of_ring};
 ghost use Rattle.vx_ringio.specs.Spends.{Spends};
-ghost use Rattle.vx_ringio.specs.Tracks.{Lies, Follows, Arrives};
+ghost use Rattle.vx_ringio.specs.Tracks.{RingLies, Follows, Arrives};
 ghost use Rattle.vx_ringlog.specs.Acts.{head_acts};
-ghost use Rattle.vx_srl.specs.Calls.{Saves, can_restart, saving, restarting, saved, restarted, no_number};
-ghost use Rattle.vx_srl.specs.Headers.{with_state, without, emptied};
-ghost use Rattle.vx_srl.specs.Rings.{Goes, LeadsTo};
-ghost use Rattle.vx_srl.specs.Views.{head_of, count_to, most_number};
-ghost use Rattle.vx_srlfmt.specs.Headers.{CanSpell, CanSpellState};
+ghost use Rattle.vx_srl.specs.Calls.{SavesHeader, can_restart, saving, restarting, saved, restarted_log, log_no_number};
+ghost use Rattle.vx_srl.specs.Headers.{with_header_state, without, emptied_header};
+ghost use Rattle.vx_srl.specs.Rings.{RingGoes, LeadsTo};
+ghost use Rattle.vx_srl.specs.Views.{head_number, count_to, most_number};
+ghost use Rattle.vx_srlfmt.specs.Headers.{CanSpellHeader, CanSpellState};
 
 use crate::stage::no_number_left;
 use crate::{Srl, SrlNo};
@@ -23,8 +24,8 @@ impl Srl {
     fn header_with(&self, state: &State) -> Header
         requires stamp { self.now.header.stamp < most_number }
         requires state { CanSpellState state.now }
-        ensures is { result ≡ with_state self.now state.now }
-        ensures spell { CanSpell result }
+        ensures is { result ≡ with_header_state self.now state.now }
+        ensures spell { CanSpellHeader result }
         ensures of_ring { is_of_ring self.now.ring result ≡ true }
     {
         Header {
@@ -44,9 +45,9 @@ impl Srl {
         requires stamp { self.now.header.stamp < most_number }
         requires number { to < most_number }
         requires low { self.now.header.low ≤ to }
-        requires held { to ≤ head_of self.now }
+        requires held { to ≤ head_number self.now }
         ensures is { result ≡ without self.now to }
-        ensures spell { CanSpell result }
+        ensures spell { CanSpellHeader result }
         ensures of_ring { is_of_ring self.now.ring result ≡ true }
     {
         let gone = (to + 1 - self.header.low) as usize;
@@ -73,8 +74,8 @@ impl Srl {
         requires run { self.now.header.run < most_number }
         requires number { head < most_number }
         requires state { CanSpellState state.now }
-        ensures is { result ≡ emptied self.now state.now head }
-        ensures spell { CanSpell result }
+        ensures is { result ≡ emptied_header self.now state.now head }
+        ensures spell { CanSpellHeader result }
         ensures of_ring { is_of_ring self.now.ring result ≡ true }
     {
         Header {
@@ -94,7 +95,7 @@ impl Srl {
         requires held { gone ≤ length self.old.held }
         requires gone_is { gone ≡ count_to self.old (header.low - 1) }
         requires header { header ≡ without self.old (header.low - 1) }
-        requires spell { CanSpell header }
+        requires spell { CanSpellHeader header }
         requires of_ring { is_of_ring self.old.ring header ≡ true }
         ensures { self.new ≡ saved self.old header gone }
     {
@@ -111,14 +112,16 @@ impl Srl {
     ///
     /// Refusals: 19 exactly where no stamp is left, which changes nothing; then 7 and 6, after which the log has to be started again.
     pub fn set_state<S: Shelf>(&mut self, shelf: &mut S, state: &State) -> Result<(), SrlNo>
-        requires lies { Lies self.old.unit self.old.ring (S.meaning shelf.old) }
+        requires lies { RingLies self.old.unit self.old.ring (S.meaning shelf.old) }
         requires state { CanSpellState state.now }
         requires line { state.now.line ≡ self.old.header.state.line }
-        ensures limit { most_number ≤ self.old.header.stamp → (result ≡ Err no_number) × (self.new ≡ self.old) × (shelf.new ≡ shelf.old) }
+        ensures limit { most_number ≤ self.old.header.stamp → (result ≡ Err log_no_number) × (self.new ≡ self.old) × (shelf.new ≡ shelf.old) }
         ensures saves { self.old.header.stamp < most_number
-            → Saves self.old (saved self.old (with_state self.old state.now) 0) (S.meaning shelf.old) (S.meaning shelf.new) self.new result }
-        ensures goes { Goes self.old (saving (with_state self.old state.now) 0) (S.meaning shelf.old) (S.meaning shelf.new) }
-        ensures leads { OnOk result (LeadsTo self.old (saving (with_state self.old state.now) 0) self.new (S.meaning shelf.old) (S.meaning shelf.new)) }
+            → SavesHeader self.old (saved self.old (with_header_state self.old state.now) 0) (S.meaning shelf.old) (S.meaning shelf.new) self.new result }
+        ensures goes { RingGoes self.old (saving (with_header_state self.old state.now) 0) (S.meaning shelf.old) (S.meaning shelf.new) }
+        ensures leads { OnOk result (LeadsTo self.old (saving (with_header_state self.old state.now) 0) self.new (S.meaning shelf.old) (S.meaning shelf.new)) }
+        ensures calls { OnOk result (MakesCalls 2 (S.meaning shelf.old) (S.meaning shelf.new)) }
+        ensures short { FallsShort 2 (S.meaning shelf.old) (S.meaning shelf.new) }
         ensures spends { Spends (S.meaning shelf.old) (S.meaning shelf.new) }
     {
         if self.header.stamp >= MOST_NUMBER {
@@ -137,16 +140,18 @@ impl Srl {
     /// Where none of them is held it makes no call on the shelf. Refusals: 19 exactly where no stamp or number is left, which changes
     /// nothing; then 7 and 6, after which the log has to be started again.
     pub fn reclaim<S: Shelf>(&mut self, shelf: &mut S, to: u64) -> Result<(), SrlNo>
-        requires lies { Lies self.old.unit self.old.ring (S.meaning shelf.old) }
-        requires held { to ≤ head_of self.old }
+        requires lies { RingLies self.old.unit self.old.ring (S.meaning shelf.old) }
+        requires held { to ≤ head_number self.old }
         ensures nothing { to < self.old.header.low → (result ≡ Ok tt) × (self.new ≡ self.old) × (shelf.new ≡ shelf.old) }
         ensures limit { self.old.header.low ≤ to → (most_number ≤ self.old.header.stamp) ⊎ (most_number ≤ to)
-            → (result ≡ Err no_number) × (self.new ≡ self.old) × (shelf.new ≡ shelf.old) }
+            → (result ≡ Err log_no_number) × (self.new ≡ self.old) × (shelf.new ≡ shelf.old) }
         ensures saves { self.old.header.low ≤ to → self.old.header.stamp < most_number → to < most_number
-            → Saves self.old (saved self.old (without self.old to) (count_to self.old to)) (S.meaning shelf.old) (S.meaning shelf.new) self.new result }
-        ensures goes { Goes self.old (saving (without self.old to) (count_to self.old to)) (S.meaning shelf.old) (S.meaning shelf.new) }
+            → SavesHeader self.old (saved self.old (without self.old to) (count_to self.old to)) (S.meaning shelf.old) (S.meaning shelf.new) self.new result }
+        ensures goes { RingGoes self.old (saving (without self.old to) (count_to self.old to)) (S.meaning shelf.old) (S.meaning shelf.new) }
         ensures leads { OnOk result (self.old.header.low ≤ to
             → LeadsTo self.old (saving (without self.old to) (count_to self.old to)) self.new (S.meaning shelf.old) (S.meaning shelf.new)) }
+        ensures calls { OnOk result (self.old.header.low ≤ to → MakesCalls 2 (S.meaning shelf.old) (S.meaning shelf.new)) }
+        ensures short { FallsShort 2 (S.meaning shelf.old) (S.meaning shelf.new) }
         ensures spends { Spends (S.meaning shelf.old) (S.meaning shelf.new) }
     {
         if to < self.header.low {
@@ -188,15 +193,17 @@ impl Srl {
         state: &State,
         head: u64,
     ) -> Result<(), SrlNo>
-        requires lies { Lies self.old.unit self.old.ring (S.meaning shelf.old) }
+        requires lies { RingLies self.old.unit self.old.ring (S.meaning shelf.old) }
         requires state { CanSpellState state.now }
         requires number { head ≤ most_number }
         ensures limit { (most_number ≤ self.old.header.stamp) ⊎ (most_number ≤ self.old.header.run) ⊎ (most_number ≤ head)
-            → (result ≡ Err no_number) × (self.new ≡ self.old) × (shelf.new ≡ shelf.old) }
+            → (result ≡ Err log_no_number) × (self.new ≡ self.old) × (shelf.new ≡ shelf.old) }
         ensures saves { self.old.header.stamp < most_number → self.old.header.run < most_number → head < most_number
-            → Saves self.old (restarted self.old (emptied self.old state.now head)) (S.meaning shelf.old) (S.meaning shelf.new) self.new result }
-        ensures goes { Goes self.old (restarting (emptied self.old state.now head)) (S.meaning shelf.old) (S.meaning shelf.new) }
-        ensures leads { OnOk result (LeadsTo self.old (restarting (emptied self.old state.now head)) self.new (S.meaning shelf.old) (S.meaning shelf.new)) }
+            → SavesHeader self.old (restarted_log self.old (emptied_header self.old state.now head)) (S.meaning shelf.old) (S.meaning shelf.new) self.new result }
+        ensures goes { RingGoes self.old (restarting (emptied_header self.old state.now head)) (S.meaning shelf.old) (S.meaning shelf.new) }
+        ensures leads { OnOk result (LeadsTo self.old (restarting (emptied_header self.old state.now head)) self.new (S.meaning shelf.old) (S.meaning shelf.new)) }
+        ensures calls { OnOk result (MakesCalls 2 (S.meaning shelf.old) (S.meaning shelf.new)) }
+        ensures short { FallsShort 2 (S.meaning shelf.old) (S.meaning shelf.new) }
         ensures spends { Spends (S.meaning shelf.old) (S.meaning shelf.new) }
     {
         if self.header.stamp >= MOST_NUMBER

@@ -6,17 +6,17 @@ ghost use Rattle.vx_disk.specs.Shelf.{Goes, Nothing};
 ghost use Rattle.vx_ringio.specs.Bodies.{IsBlocks, all_blocks};
 ghost use Rattle.vx_ringio.specs.Reading.{ReadsAs};
 ghost use Rattle.vx_ringio.specs.Spends.{Spends};
-ghost use Rattle.vx_ringio.specs.Tracks.{Lies};
-ghost use Rattle.vx_ringlog.specs.Cells.{Image};
+ghost use Rattle.vx_ringio.specs.Tracks.{RingLies};
+ghost use Rattle.vx_ringlog.specs.Cells.{RingImage};
 ghost use Rattle.vx_ringlog.specs.Chain.{HasBody, Scan, total};
 ghost use Rattle.vx_ringlog.specs.Records.{Genuine, Record, era_of};
 ghost use Rattle.vx_ringio.specs.Classes.{is_of_ring};
-ghost use Rattle.vx_srl.specs.Causes.{Stopped};
+ghost use Rattle.vx_srl.specs.Causes.{CallsStopped};
 ghost use Rattle.vx_srl.specs.Damages.{SeesFronts};
-ghost use Rattle.vx_srl.specs.Kepts.{IsKept};
+ghost use Rattle.vx_srl.specs.Kepts.{IsLogKept};
 ghost use Rattle.vx_srl.specs.Rings.{heads_of, kept_heads};
-ghost use Rattle.vx_srl.specs.Scans.{MayFollow, BodyShown, BodyStands, IsOf, IsShown, Agrees, StandsThere, TakenFits, Differ, Scans, AreChained, ScanCause};
-ghost use Rattle.vx_srlfmt.specs.Headers.{CanSpell};
+ghost use Rattle.vx_srl.specs.Scans.{MayFollow, BodyShown, BodyStands, IsOf, IsShown, FindsByScan, StandsThere, TakenFits, Differ, Scans, AreChained, ScanCause};
+ghost use Rattle.vx_srlfmt.specs.Headers.{CanSpellHeader};
 ghost use Rattle.vx_srlfmt.specs.Kinds.{IsBody};
 ghost use Rattle.vx_srlfmt.specs.Records.{CanSpellHead};
 
@@ -73,14 +73,14 @@ fn take<S: Shelf>(
     place: u64,
     head: RecordHead,
 ) -> Result<Found, ShelfError>
-    requires lies { Lies unit ring (S.meaning shelf.old) }
+    requires lies { RingLies unit ring (S.meaning shelf.old) }
     requires few { ring ≤ 65534 }
     requires place { place < ring }
     requires spell { CanSpellHead head }
     requires fits { head.count < ring }
-    ensures has { IfOk result (λ found. (c : Image) (r : Record) → ReadsAs unit ring c (S.meaning shelf.old) → r.head ≡ head → Genuine r
+    ensures has { IfOk result (λ found. (c : RingImage) (r : Record) → ReadsAs unit ring c (S.meaning shelf.old) → r.head ≡ head → Genuine r
         → HasBody ring c (place + 1) r.body → found ≡ Found.Taken head) }
-    ensures stands { IfOk result (λ found. (c : Image) → ReadsAs unit ring c (S.meaning shelf.old) → BodyStands ring c (place + 1) found) }
+    ensures stands { IfOk result (λ found. (c : RingImage) → ReadsAs unit ring c (S.meaning shelf.old) → BodyStands ring c (place + 1) found) }
     ensures taken { IfOk result (IsOf head) }
     ensures shown { IfOk result (λ found. IsTrue (S.meaning shelf.old).tells → BodyShown unit ring place head (S.meaning shelf.old) found) }
     ensures differ { IfOk result Differ }
@@ -118,14 +118,14 @@ fn look<S: Shelf>(
     last: u64,
     left: u64,
 ) -> Result<Found, ShelfError>
-    requires lies { Lies unit ring (S.meaning shelf.old) }
+    requires lies { RingLies unit ring (S.meaning shelf.old) }
     requires some { 0 < ring }
     requires few { ring ≤ 65534 }
     requires place { place < ring }
     requires left { left ≤ ring }
-    ensures agrees { IfOk result (λ found. (c : Image) (rs : List Record) → ReadsAs unit ring c (S.meaning shelf.old)
-        → Scan ring c (era_of header.now) place number last rs → total rs ≤ left → Agrees rs found) }
-    ensures stands { IfOk result (λ found. (c : Image) → ReadsAs unit ring c (S.meaning shelf.old) → StandsThere ring c (era_of header.now) place number last found) }
+    ensures agrees { IfOk result (λ found. (c : RingImage) (rs : List Record) → ReadsAs unit ring c (S.meaning shelf.old)
+        → Scan ring c (era_of header.now) place number last rs → total rs ≤ left → FindsByScan rs found) }
+    ensures stands { IfOk result (λ found. (c : RingImage) → ReadsAs unit ring c (S.meaning shelf.old) → StandsThere ring c (era_of header.now) place number last found) }
     ensures fits { IfOk result (λ found. TakenFits left number found) }
     ensures shown { IfOk result (λ found. IsTrue (S.meaning shelf.old).tells → IsShown unit ring place (S.meaning shelf.old) found) }
     ensures differ { IfOk result Differ }
@@ -166,14 +166,14 @@ pub(crate) fn scan<S: Shelf>(
     header: &Header,
     records: &mut VecDeque<Kept>,
 ) -> Result<Scanned, No>
-    requires lies { Lies unit ring (S.meaning shelf.old) }
+    requires lies { RingLies unit ring (S.meaning shelf.old) }
     requires some { 6 ≤ ring }
     requires few { ring ≤ 65534 }
-    requires spell { CanSpell header.now }
+    requires spell { CanSpellHeader header.now }
     requires of_ring { is_of_ring ring header.now ≡ true }
     requires none { records.old.items ≡ [] }
     requires room { ring ≤ 2 * deque_capacity records.old }
-    ensures kept { IfOk result (λ scanned. IsKept ring header.now records.new.items (deque_capacity records.new) (length records.new.items) scanned.end scanned.used) }
+    ensures kept { IfOk result (λ scanned. IsLogKept ring header.now records.new.items (deque_capacity records.new) (length records.new.items) scanned.end scanned.used) }
     ensures finds { (rs : List Record) → Scans unit ring header.now rs (S.meaning shelf.old) → OnOk result (kept_heads records.new.items ≡ heads_of rs) }
     ensures takes { OnOk result (AreChained unit ring header.now records.new.items (S.meaning shelf.old)) }
     ensures fronts { OnOk result (IsTrue (S.meaning shelf.old).tells → SeesFronts unit ring records.new.items (S.meaning shelf.old)) }

@@ -2,12 +2,12 @@
 ghost use Rattle.std.specs.Prelude.{◌≡◌, ◌+◌, ◌-◌, ◌≤◌, ◌<◌, [], length, drop, All, Ok, OnOk};
 ghost use Rattle.vx_disk.specs.Burns.{FallsShort, MakesCalls};
 ghost use Rattle.vx_ringio.specs.Spends.{Spends};
-ghost use Rattle.vx_ringio.specs.Tracks.{Lies, Follows, Arrives};
-ghost use Rattle.vx_srl.specs.Calls.{Seals, sealing};
-ghost use Rattle.vx_srl.specs.Causes.{Ended, Stopped};
+ghost use Rattle.vx_ringio.specs.Tracks.{RingLies, Follows, Arrives};
+ghost use Rattle.vx_srl.specs.Calls.{SealsStaged, sealing};
+ghost use Rattle.vx_srl.specs.Causes.{CallsEnded, CallsStopped};
 ghost use Rattle.vx_srl.specs.Fronts.{fronts_written, seal_written};
-ghost use Rattle.vx_srl.specs.Rings.{Goes, LeadsTo};
-ghost use Rattle.vx_srl.specs.Views.{head_of};
+ghost use Rattle.vx_srl.specs.Rings.{RingGoes, LeadsTo};
+ghost use Rattle.vx_srl.specs.Views.{head_number};
 ghost use Rattle.vx_srlfmt.specs.Records.{CanSpellHead};
 
 use crate::{Kept, Srl, SrlNo};
@@ -23,7 +23,7 @@ fn write_fronts<S: Shelf>(
     records: &VecDeque<Kept>,
     from: usize,
 ) -> Result<(), ShelfError>
-    requires lies { Lies unit ring (S.meaning shelf.old) }
+    requires lies { RingLies unit ring (S.meaning shelf.old) }
     requires some { 0 < ring }
     requires few { ring ≤ 65534 }
     requires spell { All (λ k. CanSpellHead k.head) records.now.items }
@@ -31,7 +31,7 @@ fn write_fronts<S: Shelf>(
     requires from { from ≤ length records.now.items }
     ensures follows { Follows unit ring (fronts_written ring (drop from records.now.items)) (S.meaning shelf.old) (S.meaning shelf.new) }
     ensures arrives { OnOk result (Arrives unit ring (fronts_written ring (drop from records.now.items)) (S.meaning shelf.old) (S.meaning shelf.new)) }
-    ensures cause { Stopped (S.meaning shelf.old) (S.meaning shelf.new) result }
+    ensures cause { CallsStopped (S.meaning shelf.old) (S.meaning shelf.new) result }
     ensures calls { OnOk result (MakesCalls (length records.now.items - from) (S.meaning shelf.old) (S.meaning shelf.new)) }
     ensures short { FallsShort (length records.now.items - from) (S.meaning shelf.old) (S.meaning shelf.new) }
     ensures spends { Spends (S.meaning shelf.old) (S.meaning shelf.new) }
@@ -46,10 +46,10 @@ fn write_fronts<S: Shelf>(
 impl Srl {
     // Makes the blocks of what is staged durable, and then its headers.
     fn write_staged<S: Shelf>(&self, shelf: &mut S) -> Result<(), ShelfError>
-        requires lies { Lies self.now.unit self.now.ring (S.meaning shelf.old) }
+        requires lies { RingLies self.now.unit self.now.ring (S.meaning shelf.old) }
         ensures follows { Follows self.now.unit self.now.ring (seal_written self.now.ring self.now.staged) (S.meaning shelf.old) (S.meaning shelf.new) }
         ensures arrives { OnOk result (Arrives self.now.unit self.now.ring (seal_written self.now.ring self.now.staged) (S.meaning shelf.old) (S.meaning shelf.new)) }
-        ensures cause { Ended (S.meaning shelf.old) (S.meaning shelf.new) result }
+        ensures cause { CallsEnded (S.meaning shelf.old) (S.meaning shelf.new) result }
         ensures calls { OnOk result (MakesCalls (length self.now.staged + 2) (S.meaning shelf.old) (S.meaning shelf.new)) }
         ensures short { FallsShort (length self.now.staged + 2) (S.meaning shelf.old) (S.meaning shelf.new) }
         ensures spends { Spends (S.meaning shelf.old) (S.meaning shelf.new) }
@@ -64,10 +64,10 @@ impl Srl {
     /// It is a flush, a write for each header, and a flush. Where nothing is staged it makes no call on the shelf. Refusals: 7 and 6;
     /// then the log has to be started again.
     pub fn seal<S: Shelf>(&mut self, shelf: &mut S) -> Result<u64, SrlNo>
-        requires lies { Lies self.old.unit self.old.ring (S.meaning shelf.old) }
-        ensures nothing { self.old.staged ≡ [] → (result ≡ Ok (head_of self.old)) × (self.new ≡ self.old) × (shelf.new ≡ shelf.old) }
-        ensures seals { 0 < length self.old.staged → Seals self.old (S.meaning shelf.old) (S.meaning shelf.new) self.new result }
-        ensures goes { Goes self.old sealing (S.meaning shelf.old) (S.meaning shelf.new) }
+        requires lies { RingLies self.old.unit self.old.ring (S.meaning shelf.old) }
+        ensures nothing { self.old.staged ≡ [] → (result ≡ Ok (head_number self.old)) × (self.new ≡ self.old) × (shelf.new ≡ shelf.old) }
+        ensures seals { 0 < length self.old.staged → SealsStaged self.old (S.meaning shelf.old) (S.meaning shelf.new) self.new result }
+        ensures goes { RingGoes self.old sealing (S.meaning shelf.old) (S.meaning shelf.new) }
         ensures leads { OnOk result (0 < length self.old.staged → LeadsTo self.old sealing self.new (S.meaning shelf.old) (S.meaning shelf.new)) }
         ensures calls { OnOk result (0 < length self.old.staged → MakesCalls (length self.old.staged + 2) (S.meaning shelf.old) (S.meaning shelf.new)) }
         ensures short { FallsShort (length self.old.staged + 2) (S.meaning shelf.old) (S.meaning shelf.new) }

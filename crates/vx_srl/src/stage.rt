@@ -4,11 +4,11 @@ ghost use Rattle.vx_ringio.specs.Bodies.{IsBlocks, all_blocks};
 ghost use Rattle.vx_disk.specs.Burns.{FallsShort, MakesCalls};
 ghost use Rattle.vx_disk.specs.Causes.{Works};
 ghost use Rattle.vx_ringio.specs.Spends.{MakesAtLeast, Spends};
-ghost use Rattle.vx_ringio.specs.Tracks.{Lies};
-ghost use Rattle.vx_ringlog.specs.Records.{on_disk};
-ghost use Rattle.vx_srl.specs.Calls.{Stages, staging, staged_with, no_number};
-ghost use Rattle.vx_srl.specs.Rings.{Goes, LeadsTo};
-ghost use Rattle.vx_srl.specs.Views.{BodyFits, free_of, need_of, next_of, most_number, record_of, kept_of};
+ghost use Rattle.vx_ringio.specs.Tracks.{RingLies};
+ghost use Rattle.vx_ringlog.specs.Records.{as_on_disk};
+ghost use Rattle.vx_srl.specs.Calls.{StagesRecord, staging, staged_with, log_no_number};
+ghost use Rattle.vx_srl.specs.Rings.{RingGoes, LeadsTo};
+ghost use Rattle.vx_srl.specs.Views.{BodyFits, free_of, blocks_needed, next_of, most_number, record_next, kept_record};
 
 use crate::{Kept, Srl, SrlNo};
 use vx_disk::{Shelf, refusal};
@@ -20,7 +20,7 @@ use vx_wire::digest;
 
 /// Refusal 19 for a number that would go past its limit.
 pub(crate) fn no_number_left() -> SrlNo
-    ensures { result ≡ no_number }
+    ensures { result ≡ log_no_number }
 {
     SrlNo::Other(No::Limit {
         what: Counted::Number,
@@ -33,8 +33,8 @@ impl Srl {
     fn next_front(&self, vol: u32, block: u64, bytes: &[u8], disk: &mut [u8]) -> RecordHead
         requires blocks { IsBlocks bytes.now }
         requires size { length disk.old ≡ length bytes.now }
-        ensures front { result ≡ (record_of self.now vol block bytes.now).head }
-        ensures body { all_blocks disk.new ≡ on_disk (all_blocks bytes.now) }
+        ensures front { result ≡ (record_next self.now vol block bytes.now).head }
+        ensures body { all_blocks disk.new ≡ as_on_disk (all_blocks bytes.now) }
         ensures size { length disk.new ≡ length bytes.now }
     {
         disk.copy_from_slice(bytes);
@@ -55,10 +55,10 @@ impl Srl {
     // Keeps a record that was staged.
     fn keep(&mut self, vol: u32, block: u64, bytes: &[u8], head: RecordHead)
         requires blocks { IsBlocks bytes.now }
-        requires front { head ≡ (record_of self.old vol block bytes.now).head }
-        requires room { need_of bytes.now ≤ free_of self.old }
+        requires front { head ≡ (record_next self.old vol block bytes.now).head }
+        requires room { blocks_needed bytes.now ≤ free_of self.old }
         requires number { next_of self.old ≤ most_number }
-        ensures { self.new ≡ staged_with self.old (kept_of self.old vol block bytes.now) }
+        ensures { self.new ≡ staged_with self.old (kept_record self.old vol block bytes.now) }
     {
         let need = head.count as u64 + 1;
         let place = self.end;
@@ -79,15 +79,15 @@ impl Srl {
         block: u64,
         bytes: &[u8],
     ) -> Result<u64, SrlNo>
-        requires lies { Lies self.old.unit self.old.ring (S.meaning shelf.old) }
+        requires lies { RingLies self.old.unit self.old.ring (S.meaning shelf.old) }
         requires blocks { IsBlocks bytes.now }
-        ensures no_room { free_of self.old < need_of bytes.now → result ≡ Err (SrlNo.NoRoom (need_of bytes.now) (free_of self.old)) }
-        ensures no_number { need_of bytes.now ≤ free_of self.old → most_number < next_of self.old → result ≡ Err no_number }
-        ensures unchanged { (free_of self.old < need_of bytes.now) ⊎ (most_number < next_of self.old) → (self.new ≡ self.old) × (shelf.new ≡ shelf.old) }
-        ensures stages { need_of bytes.now ≤ free_of self.old → next_of self.old ≤ most_number
-            → Stages self.old (kept_of self.old vol block bytes.now) (S.meaning shelf.old) (S.meaning shelf.new) self.new result }
-        ensures goes { Goes self.old (staging (record_of self.old vol block bytes.now)) (S.meaning shelf.old) (S.meaning shelf.new) }
-        ensures leads { OnOk result (LeadsTo self.old (staging (record_of self.old vol block bytes.now)) self.new (S.meaning shelf.old) (S.meaning shelf.new)) }
+        ensures no_room { free_of self.old < blocks_needed bytes.now → result ≡ Err (SrlNo.NoRoom (blocks_needed bytes.now) (free_of self.old)) }
+        ensures no_number { blocks_needed bytes.now ≤ free_of self.old → most_number < next_of self.old → result ≡ Err log_no_number }
+        ensures unchanged { (free_of self.old < blocks_needed bytes.now) ⊎ (most_number < next_of self.old) → (self.new ≡ self.old) × (shelf.new ≡ shelf.old) }
+        ensures stages { blocks_needed bytes.now ≤ free_of self.old → next_of self.old ≤ most_number
+            → StagesRecord self.old (kept_record self.old vol block bytes.now) (S.meaning shelf.old) (S.meaning shelf.new) self.new result }
+        ensures goes { RingGoes self.old (staging (record_next self.old vol block bytes.now)) (S.meaning shelf.old) (S.meaning shelf.new) }
+        ensures leads { OnOk result (LeadsTo self.old (staging (record_next self.old vol block bytes.now)) self.new (S.meaning shelf.old) (S.meaning shelf.new)) }
         ensures calls { OnOk result (BodyFits self.old bytes.now → MakesCalls 1 (S.meaning shelf.old) (S.meaning shelf.new)) }
         ensures short { BodyFits self.old bytes.now → FallsShort 1 (S.meaning shelf.old) (S.meaning shelf.new) }
         ensures least { OnOk result (MakesAtLeast 1 (S.meaning shelf.old) (S.meaning shelf.new)) }

@@ -5,16 +5,16 @@ ghost use Rattle.vx_disk.specs.Moves.{Anything, Moves, Run};
 ghost use Rattle.vx_disk.specs.Shelf.{Goes, Nothing};
 ghost use Rattle.vx_model.specs.Sizes.{ring_of};
 ghost use Rattle.vx_ringio.specs.Classes.{is_of_ring};
-ghost use Rattle.vx_ringio.specs.Reading.{IsTop, DigestsDiffer};
+ghost use Rattle.vx_ringio.specs.Reading.{IsTopSeen, DigestsDiffer};
 ghost use Rattle.vx_ringio.specs.Spends.{Spends};
-ghost use Rattle.vx_ringio.specs.Tracks.{Lies, Follows, Arrives};
+ghost use Rattle.vx_ringio.specs.Tracks.{RingLies, Follows, Arrives};
 ghost use Rattle.vx_ringlog.specs.Acts.{head_acts};
-ghost use Rattle.vx_srl.specs.Causes.{Stopped};
+ghost use Rattle.vx_srl.specs.Causes.{CallsStopped};
 ghost use Rattle.vx_srl.specs.Headers.{raised};
 ghost use Rattle.vx_srl.specs.Standings.{IsPicked, IsStanding, StandingCause, TakeOverCause, taken_over, taking_over, first_step_of};
 ghost use Rattle.vx_srl.specs.Starts.{ReadsAtLimit, Restarting, StartInIs, StartIs, StopReadsAtLimit};
 ghost use Rattle.vx_srl.specs.Views.{most_number};
-ghost use Rattle.vx_srlfmt.specs.Headers.{CanSpell};
+ghost use Rattle.vx_srlfmt.specs.Headers.{CanSpellHeader};
 
 use crate::scan::scan;
 use crate::{Kept, Srl};
@@ -83,7 +83,7 @@ fn pick(first: TopSeen, second: TopSeen) -> Picked
 
 // The header that counts.
 fn find_header<S: Shelf>(shelf: &mut S, unit: u32, ring: u64) -> Result<Standing, No>
-    requires lies { Lies unit ring (S.meaning shelf.old) }
+    requires lies { RingLies unit ring (S.meaning shelf.old) }
     ensures found { IfOk result (λ standing. IsStanding unit ring standing (S.meaning shelf.old)) }
     ensures goes { Goes Nothing (S.meaning shelf.old) (S.meaning shelf.new) }
     ensures spends { Spends (S.meaning shelf.old) (S.meaning shelf.new) }
@@ -119,9 +119,9 @@ fn find_header<S: Shelf>(shelf: &mut S, unit: u32, ring: u64) -> Result<Standing
 fn raise(header: &Header, by: u64) -> Header
     requires stamp { header.now.stamp + by ≤ most_number }
     requires incarnation { header.now.incarnation < most_number }
-    requires spell { CanSpell header.now }
+    requires spell { CanSpellHeader header.now }
     ensures is { result ≡ raised header.now by }
-    ensures spell { CanSpell result }
+    ensures spell { CanSpellHeader result }
     ensures of_ring { (ring : ℕ) → is_of_ring ring header.now ≡ true → is_of_ring ring result ≡ true }
 {
     Header {
@@ -152,12 +152,12 @@ fn take_over<S: Shelf>(
     ring: u64,
     standing: &Standing,
 ) -> Result<Header, No>
-    requires lies { Lies unit ring (S.meaning shelf.old) }
+    requires lies { RingLies unit ring (S.meaning shelf.old) }
     requires block { standing.now.block < 2 }
-    requires spell { CanSpell standing.now.header }
+    requires spell { CanSpellHeader standing.now.header }
     requires of_ring { is_of_ring ring standing.now.header ≡ true }
     ensures header { IfOk result (λ header. header ≡ taken_over standing.now) }
-    ensures spell { IfOk result CanSpell }
+    ensures spell { IfOk result CanSpellHeader }
     ensures of_ring { IfOk result (λ header. is_of_ring ring header ≡ true) }
     ensures follows { Follows unit ring (taking_over standing.now) (S.meaning shelf.old) (S.meaning shelf.new) }
     ensures arrives { OnOk result (Arrives unit ring (taking_over standing.now) (S.meaning shelf.old) (S.meaning shelf.new)) }
@@ -196,9 +196,9 @@ pub struct LogRoom {
 impl Model for LogRoom {
     ghost use Rattle.std.specs.VecDeque.{deque_capacity};
     ghost use Rattle.vx_srl.specs.Kepts.{IsEmptyRoom};
-    ghost use Rattle.vx_srl.specs.Starts.{Room};
+    ghost use Rattle.vx_srl.specs.Starts.{LogSpace};
 
-    ghost Value = { Room };
+    ghost Value = { LogSpace };
 
     ghost view = { λ r. record { ring = r.ring } };
 

@@ -6,13 +6,13 @@ use Rattle.std.proofs.lemmas.List.Elements.{recursion_from_All}
 use Rattle.std.proofs.lemmas.List.{length-append}
 use Rattle.vx_model.specs.declared.state.KeptLink.{KeptLink}
 use Rattle.vx_model.specs.declared.state.State.{State}
-use Rattle.vx_wire.specs.Fields.{spelled, zeros}
+use Rattle.vx_wire.specs.Fields.{spelled, zero_bytes}
 use Rattle.vx_wire.specs.Seals.{sealed, filled, digest_of}
 use Rattle.vx_wire.specs.Numbers.{be_bytes, number_at}
 use Rattle.vx_srlfmt.proofs.Numbers.{read, number_at-behind}
 use Rattle.vx_srlfmt.specs.Codes.{role_code, mark_code, phase_code, mode_code, sync_code, prot_code, flags_code, role_of}
 use Rattle.vx_srlfmt.specs.HeaderReading.{link_at, links_at, state_in, header_in}
-use Rattle.vx_srlfmt.specs.Headers.{header_magic, header_table, link_table, link_bytes, header_fields, header_block, Agrees, CanSpellLink, CanSpellState, CanSpell, IsTypedState, IsHeader}
+use Rattle.vx_srlfmt.specs.Headers.{header_magic, header_table, link_table, link_bytes, header_fields, header_block, Agrees, CanSpellLink, CanSpellState, CanSpellHeader, IsTypedState, IsHeader}
 use Rattle.vx_srlfmt.specs.declared.header.Header.{Header}
 use Rattle.vx_srlfmt.proofs.Lengths.{length-header_table, length-link_bytes}
 use Rattle.vx_srlfmt.proofs.CodeLemmas.{Agrees-role_of, role_of-role_code, role_code-lt, mark_of-mark_code, mark_code-lt, phase_of-phase_code, phase_code-lt, mode_of-mode_code, mode_code-lt, sync_of-sync_code, sync_code-lt, prot_of-prot_code, prot_code-lt, attached_of-flags_code, bunker_of-flags_code, flags_code-lt}
@@ -112,7 +112,7 @@ HasState-table h rest can typed = record {
   count = read 1 (length h.state.links) (omega (arith, can.few));
 }
 
-HasHeader-table : (h : Header) (rest : List ℕ) → CanSpell h → h.place < 2 ^ 32 → HasHeader (spelled (header_table h) ++ rest) h
+HasHeader-table : (h : Header) (rest : List ℕ) → CanSpellHeader h → h.place < 2 ^ 32 → HasHeader (spelled (header_table h) ++ rest) h
 unfolding number_at be_bytes spelled header_table
 HasHeader-table h rest can typed = record {
   stamp = read 8 h.stamp (omega (arith, can.stamp));
@@ -141,12 +141,12 @@ unfolding header_block header_fields sealed filled
 split h =
     let table : List ℕ = spelled (header_table h) in
     let links : List ℕ = flat_map link_bytes h.state.links in
-    let pad : List ℕ = zeros (480 - length (table ++ links)) in
+    let pad : List ℕ = zero_bytes (480 - length (table ++ links)) in
     let seal : List ℕ = digest_of ((table ++ links) ++ pad) in
     (pad ++ seal, append_assoc (table ++ links) pad seal ∙ append_assoc table links (pad ++ seal))
 
 -- what is read in a header's block is the header
-pub header_in-header_block : (h : Header) → CanSpell h → IsTypedState h.state → h.place < 2 ^ 32 → header_in (header_block h) ≡ h
+pub header_in-header_block : (h : Header) → CanSpellHeader h → IsTypedState h.state → h.place < 2 ^ 32 → header_in (header_block h) ≡ h
 header_in-header_block h can typed place =
     let tail : List ℕ = (split h).0 in
     let rest : List ℕ = flat_map link_bytes h.state.links ++ tail in

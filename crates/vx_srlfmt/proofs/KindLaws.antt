@@ -8,7 +8,7 @@ use Rattle.std.proofs.lemmas.Cmp.{nat_list_eq_equiv}
 use Rattle.std.proofs.lemmas.List.{get_or-take}
 use Rattle.std.proofs.lemmas.List.Elements.{All-from_recursion, recursion_from_All}
 use Rattle.vx_model.specs.declared.state.KeptLink.{KeptLink}
-use Rattle.vx_wire.specs.Fields.{zeros}
+use Rattle.vx_wire.specs.Fields.{zero_bytes}
 use Rattle.vx_wire.specs.Numbers.{be_bytes}
 use Rattle.vx_wire.specs.Seals.{digest_of}
 use Rattle.vx_srlfmt.specs.HeaderReading.{header_in}
@@ -110,10 +110,10 @@ from_header block h is =
 record_from : (block : List ℕ) (r : RecordHead) → is_record block r ≡ true → IsRecord block r
 unfolding is_record
 record_from block r test =
-    let parts = and_parts (bytes_eq block (record_block r)) (all_below (head_bounds r) && (bytes_eq (drop r.count r.firsts) (zeros (16 - r.count)) && (length r.digest == 32 && length r.firsts == 16))) test in
-    let bounds = and_parts (all_below (head_bounds r)) (bytes_eq (drop r.count r.firsts) (zeros (16 - r.count)) && (length r.digest == 32 && length r.firsts == 16)) parts.1 in
+    let parts = and_parts (bytes_eq block (record_block r)) (all_below (head_bounds r) && (bytes_eq (drop r.count r.firsts) (zero_bytes (16 - r.count)) && (length r.digest == 32 && length r.firsts == 16))) test in
+    let bounds = and_parts (all_below (head_bounds r)) (bytes_eq (drop r.count r.firsts) (zero_bytes (16 - r.count)) && (length r.digest == 32 && length r.firsts == 16)) parts.1 in
     let b = below_from (head_bounds r) bounds.0 in
-    let rest = and_parts (bytes_eq (drop r.count r.firsts) (zeros (16 - r.count))) (length r.digest == 32 && length r.firsts == 16) bounds.1 in
+    let rest = and_parts (bytes_eq (drop r.count r.firsts) (zero_bytes (16 - r.count))) (length r.digest == 32 && length r.firsts == 16) bounds.1 in
     let lengths = and_parts (length r.digest == 32) (length r.firsts == 16) rest.1 in
     let few : r.count < 17 = b.1.1.1.1.1.1.1.1.0 in
     record {
@@ -124,7 +124,7 @@ record_from block r test =
         number = b.1.1.1.1.0;
         some = b.1.1.1.1.1.1.1.0;
         few = omega (arith, few);
-        firsts = same_bytes (drop r.count r.firsts) (zeros (16 - r.count)) rest.0;
+        firsts = same_bytes (drop r.count r.firsts) (zero_bytes (16 - r.count)) rest.0;
       };
       typed = record {
         origin = b.1.1.1.0;
@@ -146,11 +146,11 @@ from_record block r is =
     (c.incarnation, (c.run, (c.generation, (t.origin, (c.number, (t.vol, (t.block, (c.some, (few, tt))))))))) in
     let lengths : (length r.digest == 32 && length r.firsts == 16) ≡ true =
     and_from (length r.digest == 32) (length r.firsts == 16) (eq-eqb (length r.digest) 32 t.digest) (eq-eqb (length r.firsts) 16 t.firsts) in
-    let rest : (bytes_eq (drop r.count r.firsts) (zeros (16 - r.count)) && (length r.digest == 32 && length r.firsts == 16)) ≡ true =
-    and_from (bytes_eq (drop r.count r.firsts) (zeros (16 - r.count))) (length r.digest == 32 && length r.firsts == 16) (alike (drop r.count r.firsts) (zeros (16 - r.count)) c.firsts) lengths in
-    and_from (bytes_eq block (record_block r)) (all_below (head_bounds r) && (bytes_eq (drop r.count r.firsts) (zeros (16 - r.count)) && (length r.digest == 32 && length r.firsts == 16)))
+    let rest : (bytes_eq (drop r.count r.firsts) (zero_bytes (16 - r.count)) && (length r.digest == 32 && length r.firsts == 16)) ≡ true =
+    and_from (bytes_eq (drop r.count r.firsts) (zero_bytes (16 - r.count))) (length r.digest == 32 && length r.firsts == 16) (alike (drop r.count r.firsts) (zero_bytes (16 - r.count)) c.firsts) lengths in
+    and_from (bytes_eq block (record_block r)) (all_below (head_bounds r) && (bytes_eq (drop r.count r.firsts) (zero_bytes (16 - r.count)) && (length r.digest == 32 && length r.firsts == 16)))
     (alike block (record_block r) is.is)
-    (and_from (all_below (head_bounds r)) (bytes_eq (drop r.count r.firsts) (zeros (16 - r.count)) && (length r.digest == 32 && length r.firsts == 16)) bounds rest)
+    (and_from (all_below (head_bounds r)) (bytes_eq (drop r.count r.firsts) (zero_bytes (16 - r.count)) && (length r.digest == 32 && length r.firsts == 16)) bounds rest)
 
 -- ---- one kind excludes another
 

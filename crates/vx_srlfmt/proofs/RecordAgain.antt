@@ -1,7 +1,7 @@
 -- A record header that is spelled is read again.
 use Rattle.std.proofs.Common.{◌≡◌, ℕ, ◌-◌, List, ◌++◌, length, take, drop, refl, ap, sym, append_assoc, ◌∙◌, arith}
 use Rattle.std.proofs.lemmas.List.{drop-drop, drop_at, take_at, length-append}
-use Rattle.vx_wire.specs.Fields.{spelled, zeros}
+use Rattle.vx_wire.specs.Fields.{spelled, zero_bytes}
 use Rattle.vx_wire.specs.Numbers.{be_bytes, number_at}
 use Rattle.vx_wire.specs.Places.{cut}
 use Rattle.vx_wire.specs.Seals.{sealed, filled, digest_of}
@@ -52,7 +52,7 @@ unfolding record_block record_fields sealed filled
 split r =
     let table : List ℕ = spelled (record_table r) in
     let two : List ℕ = r.digest ++ r.firsts in
-    let pad : List ℕ = zeros (480 - length (table ++ two)) in
+    let pad : List ℕ = zero_bytes (480 - length (table ++ two)) in
     let seal : List ℕ = digest_of ((table ++ two) ++ pad) in
     (pad ++ seal, append_assoc (table ++ two) pad seal ∙ append_assoc table two (pad ++ seal) ∙ ap (λ (t : List ℕ). table ++ t) (append_assoc r.digest r.firsts (pad ++ seal)))
 

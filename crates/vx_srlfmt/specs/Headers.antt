@@ -90,7 +90,7 @@ pub record CanSpellState (s : State) : Type 0 where
   pub links : All CanSpellLink s.links
 
 -- a header that the table can spell
-pub record CanSpell (h : Header) : Type 0 where
+pub record CanSpellHeader (h : Header) : Type 0 where
   pub stamp : h.stamp < 2 ^ 63
   pub state : CanSpellState h.state
   pub incarnation : h.incarnation < 2 ^ 63
@@ -113,7 +113,7 @@ pub record IsDamagedHeader (block : List ℕ) : Type 0 where
 
 -- the block is the spelling of the header
 pub record IsHeader (block : List ℕ) (h : Header) : Type 0 where
-  pub can : CanSpell h
+  pub can : CanSpellHeader h
   pub typed : IsTypedState h.state
   pub place : h.place < 2 ^ 32
   pub is : block ≡ header_block h

@@ -2,7 +2,7 @@
 use Rattle.std.specs.Prelude.{◌≡◌, ℕ, ◌-◌, ◌<◌, ◌≤◌, ◌^◌, List, [], ◌∷◌, ◌++◌, length, take, drop}
 use Rattle.vx_wire.specs.declared.field.Field.{Field}
 use Rattle.vx_wire.specs.declared.field.Field.TheVariants.{U32, U64}
-use Rattle.vx_wire.specs.Fields.{spelled, zeros}
+use Rattle.vx_wire.specs.Fields.{spelled, zero_bytes}
 use Rattle.vx_wire.specs.Numbers.{be_bytes}
 use Rattle.vx_wire.specs.Seals.{sealed, digest_of, IsSealed}
 use Rattle.vx_srlfmt.specs.declared.record.RecordHead.{RecordHead}
@@ -43,7 +43,7 @@ pub record CanSpellHead (r : RecordHead) : Type 0 where
   pub number : r.number < 2 ^ 63
   pub some : 0 < r.count
   pub few : r.count ≤ 16
-  pub firsts : drop r.count r.firsts ≡ zeros (16 - r.count)
+  pub firsts : drop r.count r.firsts ≡ zero_bytes (16 - r.count)
 
 -- its fields are of their types
 pub record IsTypedHead (r : RecordHead) : Type 0 where

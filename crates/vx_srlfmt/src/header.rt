@@ -1,6 +1,6 @@
 // The header of a log.
 ghost use Rattle.std.specs.Prelude.{◌≡◌, ◌↔◌, ◌<◌, ◌≤◌, ◌^◌, take, length, flat_map, IsTrue, IfSome, Some};
-ghost use Rattle.vx_srlfmt.specs.Headers.{CanSpell, CanSpellLink, CanSpellState, Agrees, IsTypedState, IsHeader, header_table, link_table, header_fields, header_block};
+ghost use Rattle.vx_srlfmt.specs.Headers.{CanSpellHeader, CanSpellLink, CanSpellState, Agrees, IsTypedState, IsHeader, header_table, link_table, header_fields, header_block};
 ghost use Rattle.vx_srlfmt.specs.declared.header.Header.{Header as HeaderValue};
 ghost use Rattle.vx_wire.specs.Places.{put_at};
 ghost use Rattle.vx_wire.specs.Seals.{filled};
@@ -152,7 +152,7 @@ fn can_spell_state(state: &State) -> bool
 fn can_spell(h: &Header) -> bool
     requires role { Agrees h.now.state.role h.now.state.other }
     requires few { length h.now.state.links ≤ 4 }
-    ensures { IsTrue result ↔ CanSpell h.now }
+    ensures { IsTrue result ↔ CanSpellHeader h.now }
 {
     h.stamp <= MOST_NUMBER
         && h.incarnation <= MOST_NUMBER
@@ -165,7 +165,7 @@ fn can_spell(h: &Header) -> bool
 
 /// Writes a header as a block.
 pub fn put_header(h: &Header, into: &mut [u8; 512])
-    requires { CanSpell h.now }
+    requires { CanSpellHeader h.now }
     ensures { IsHeader into.new h.now }
 {
     is_typed(h);

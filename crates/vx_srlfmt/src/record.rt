@@ -3,7 +3,7 @@ ghost use Rattle.std.specs.Prelude.{◌≡◌, ◌↔◌, ◌-◌, ◌<◌, ◌�
 ghost use Rattle.vx_srlfmt.specs.RecordReading.{head_in};
 ghost use Rattle.vx_srlfmt.specs.Records.{record_table, record_fields, CanSpellHead, IsTypedHead, IsRecord, IsDamaged, HasDigests, IsSeen};
 ghost use Rattle.vx_srlfmt.specs.declared.record.RecordHead.{RecordHead as HeadValue};
-ghost use Rattle.vx_wire.specs.Fields.{zeros};
+ghost use Rattle.vx_wire.specs.Fields.{zero_bytes};
 ghost use Rattle.vx_wire.specs.Places.{put_at};
 ghost use Rattle.vx_wire.specs.Seals.{filled, digest_of, IsSealed};
 
@@ -121,7 +121,7 @@ fn is_spelled(h: &RecordHead, block: &[u8; 512]) -> bool
 // Whether the bytes behind the first bytes of the blocks are zero.
 fn has_zeros(h: &RecordHead) -> bool
     requires { h.now.count ≤ 16 }
-    ensures { IsTrue result ↔ (drop h.now.count h.now.firsts ≡ zeros (16 - h.now.count)) }
+    ensures { IsTrue result ↔ (drop h.now.count h.now.firsts ≡ zero_bytes (16 - h.now.count)) }
 {
     let count = h.count as usize;
     is_zero(&h.firsts, count, 16 - count)

@@ -1,5 +1,5 @@
 ghost use Rattle.std.specs.Prelude.{◌<◌, ◌≤◌, ◌^◌, length};
-ghost use Rattle.vx_srlfmt.specs.Headers.{CanSpell};
+ghost use Rattle.vx_srlfmt.specs.Headers.{CanSpellHeader, CanSpellState};
 ghost use Rattle.vx_srlfmt.specs.Records.{CanSpellHead};
 
 use super::*;
@@ -31,7 +31,7 @@ fn changed(block: [u8; 512], at: usize, byte: u8) -> [u8; 512] {
 
 fn new_header(stamp: u64) -> Header
     requires { stamp ≤ MOST_NUMBER }
-    ensures { CanSpell result }
+    ensures { CanSpellHeader result }
 {
     Header {
         stamp,
@@ -46,7 +46,7 @@ fn new_header(stamp: u64) -> Header
 }
 
 fn spelled(header: &Header) -> [u8; 512]
-    requires { CanSpell header.now }
+    requires { CanSpellHeader header.now }
 {
     let mut block = [0xff; 512];
     put_header(header, &mut block);
@@ -69,8 +69,8 @@ fn a_new_log_has_two_headers(rt: HostRuntime) {
     assert_eq!(rt; found.state.links.as_slice().len(), 0);
 }
 
-fn most_header() -> Header
-    ensures { CanSpell result }
+fn most_state() -> State
+    ensures { CanSpellState result }
 {
     let line = Line {
         generation: MOST_NUMBER,
@@ -91,21 +91,27 @@ fn most_header() -> Header
     links.push(link);
     links.push(link);
     links.push(link);
+    State {
+        line,
+        top: MOST_NUMBER,
+        role: Role::Handing { to: u32::MAX },
+        mark: Mark::Consistent,
+        phase: SPhase::ForkKept,
+        replay: MOST_NUMBER,
+        end: MOST_NUMBER,
+        other: u32::MAX,
+        parent: line,
+        fork: MOST_NUMBER,
+        links,
+    }
+}
+
+fn most_header() -> Header
+    ensures { CanSpellHeader result }
+{
     Header {
         stamp: MOST_NUMBER,
-        state: State {
-            line,
-            top: MOST_NUMBER,
-            role: Role::Handing { to: u32::MAX },
-            mark: Mark::Consistent,
-            phase: SPhase::ForkKept,
-            replay: MOST_NUMBER,
-            end: MOST_NUMBER,
-            other: u32::MAX,
-            parent: line,
-            fork: MOST_NUMBER,
-            links,
-        },
+        state: most_state(),
         incarnation: MOST_NUMBER,
         floor: MOST_NUMBER,
         run: MOST_NUMBER,

@@ -10,7 +10,7 @@ use Rattle.vx_turn.specs.Turning.{first_view, upper}
 use Rattle.vx_turn.specs.Resting.{only}
 use Rattle.std.proofs.lemmas.List.{append-nil}
 use Rattle.vx_turn.specs.declared.passes.Passes.{Passes}
-use Rattle.vx_turn.specs.Passing.{IsNew, AreLeft, Pops}
+use Rattle.vx_turn.specs.Passing.{IsNewPass, PassesLeft, Pops}
 
 pub get-snoc : {A : Type 0} (l : List A) (a b : A) (k : ℕ) → slice_get (l ++ a ∷ []) k ≡ Some b → (slice_get l k ≡ Some b) ⊎ ((k ≡ length l) × (a ≡ b))
 get-snoc [] a b zero e = inr (refl, cc)
@@ -30,27 +30,27 @@ get-last (x ∷ xs) a = get-last xs a
 pops_from : (new : List Pass) (given : Option Pass) → MatchOption given (length new ≡ 0) (λ _. ⊤) → (old left : Passes) → left.left.items ≡ new → old.left.items ≡ new ++ option_to_list given → Pops old given left
 pops_from new None none old left now is z start callers n d = let all : old.left.items ≡ new = is ∙ append-nil new in
     let zero : length left.left.items ≡ 0 = ap (λ l. length l) now ∙ none in
-    ((let k = d.1 in let l : length old.left.items ≡ length new = ap (λ l. length l) all in omega (arith, k, l, none)), (subst (AreLeft z start callers) (all ∙ sym now) d.0, zero))
+    ((let k = d.1 in let l : length old.left.items ≡ length new = ap (λ l. length l) all in omega (arith, k, l, none)), (subst (PassesLeft z start callers) (all ∙ sym now) d.0, zero))
 pops_from new (Some p) none old left now is z start callers n d =
     let l : length old.left.items ≡ length (new ++ p ∷ []) = ap (λ l. length l) is in let k = length-append new (p ∷ []) in let m : length left.left.items ≡ length new = ap (λ l. length l) now in
-    let all : AreLeft z start callers (new ++ p ∷ []) = subst (AreLeft z start callers) is d.0 in
+    let all : PassesLeft z start callers (new ++ p ∷ []) = subst (PassesLeft z start callers) is d.0 in
     let at : suc (length new) ≡ n = (let x = d.1 in omega (arith, l, k, x)) in (
       (omega (arith, at)),
-      subst (λ x. IsNew z start callers (callers - x) p) at (all (length new) p (get-last new p)).1,
-      (subst (AreLeft z start callers) (sym now) (λ q r e. all q r (get-longer new (p ∷ []) q r e)), omega (arith, m, at)),
+      subst (λ x. IsNewPass z start callers (callers - x) p) at (all (length new) p (get-last new p)).1,
+      (subst (PassesLeft z start callers) (sym now) (λ q r e. all q r (get-longer new (p ∷ []) q r e)), omega (arith, m, at)),
     )
 
 module _ (z : TableId) (start : State) (callers : ℕ) where
-  pub none_left : AreLeft z start callers []
+  pub none_left : PassesLeft z start callers []
   none_left k p e = absurd cc
 
-  pub one_more : (left : List Pass) (number : ℕ) (p : Pass) → length left + suc number ≡ callers → IsNew z start callers number p → AreLeft z start callers left → AreLeft z start callers (left ++ p ∷ [])
+  pub one_more : (left : List Pass) (number : ℕ) (p : Pass) → length left + suc number ≡ callers → IsNewPass z start callers number p → PassesLeft z start callers left → PassesLeft z start callers (left ++ p ∷ [])
   one_more left number p at new old k q e = ⊎_elim (λ (h : slice_get left k ≡ Some q). old k q h)
-      (λ (h : (k ≡ length left) × (p ≡ q)). let n : number ≡ callers - suc k = omega (arith, h.0, at) in (omega (arith, h.0, at), subst (λ (x : ℕ × Pass). IsNew z start callers x.0 x.1) (λ i. (n i, h.1 i)) new))
+      (λ (h : (k ≡ length left) × (p ≡ q)). let n : number ≡ callers - suc k = omega (arith, h.0, at) in (omega (arith, h.0, at), subst (λ (x : ℕ × Pass). IsNewPass z start callers x.0 x.1) (λ i. (n i, h.1 i)) new))
       (get-snoc left p q k e)
 
   -- the pass that the first view's upper part gives
-  pub dealt : (number n : ℕ) (v w : View) (p : Pass) → v ≡ record (first_view callers start) { high = n } → p.number ≡ number → p.badge.table_id ≡ z → w ≡ upper v → p.badge.views ≡ w ∷ [] → IsNew z start callers number p
+  pub dealt : (number n : ℕ) (v w : View) (p : Pass) → v ≡ record (first_view callers start) { high = n } → p.number ≡ number → p.badge.table_id ≡ z → w ≡ upper v → p.badge.views ≡ w ∷ [] → IsNewPass z start callers number p
   dealt number n v w p root is table new views = let u : only p.badge.views ≡ upper (record (first_view callers start) { high = n }) = ap only views ∙ (new ∙ ap upper root) in record {
     number_is = is;
     table = table;

@@ -8,16 +8,16 @@ use Rattle.vx_turn.specs.declared.meaning.Entry.{Entry}
 use Rattle.vx_turn.specs.declared.view.View.{View}
 use Rattle.vx_turn.specs.declared.slot.Slot.{Slot}
 use Rattle.vx_turn.specs.declared.passes.Pass.{Pass}
-use Rattle.vx_turn.specs.Acting.{Acts}
-use Rattle.vx_turn.specs.History.{Legal, Given, Fits, Named, places, places_from, Begins}
-use Rattle.vx_turn.specs.Turning.{Has, IsOne, Tells, sees, ask_in, said_in, entry_in, longer_by, joined, Out}
+use Rattle.vx_turn.specs.Acting.{EngineActs}
+use Rattle.vx_turn.specs.History.{Legal, Given, FitsHistory, Named, places, places_from, BeginsWith}
+use Rattle.vx_turn.specs.Turning.{Has, IsOneSeat, TellsView, sees, ask_in, said_in, entry_in, longer_by, joined_views, Out}
 use Rattle.vx_turn.specs.Resting.{only, IsAtRest}
-use Rattle.vx_turn.specs.Passing.{view_of, Calls, Meets}
+use Rattle.vx_turn.specs.Passing.{pass_view, PassCalls, Meets}
 use Rattle.vx_turn.proofs.Holding.{given-of}
 use Rattle.vx_turn.proofs.Keeps.{grown-own, sees-all}
 use Rattle.vx_turn.proofs.Histories.{acts-legal, places-own, places-rest, named-snoc}
 
-pub rests : (views : List View) (w : View) (number : ℕ) → views ≡ w ∷ [] → w.holds ≡ false → w.low ≡ number → IsOne w → w.live ≡ true → IsAtRest number views
+pub rests : (views : List View) (w : View) (number : ℕ) → views ≡ w ∷ [] → w.holds ≡ false → w.low ≡ number → IsOneSeat w → w.live ≡ true → IsAtRest number views
 rests views w number is bare low one live = subst (IsAtRest number) (sym is) (refl, bare, low, one, live)
 
 module _ {E : Type 0} (state : E → State) (root : E → E) (begun : E) where
@@ -28,19 +28,19 @@ module _ {E : Type 0} (state : E → State) (root : E → E) (begun : E) where
   abbrev pub after_ask : View → List Entry → ℕ → Slot E → View
   after_ask v log place slot = longer_by state (sees v true log v.mine) place slot
 
-  pub call_done : (p q : Pass) (v : View) (place : ℕ) (engine : E) (m : M) (slot : Slot E) (ask : Ask) (said : Said) (o : Out state root begun v place engine m) → view_of p ≡ v → v.low ≡ p.number → IsOne v
-      → Acts (state engine) ask said (state slot.engine) → slot.before.value ≡ engine → ask_in slot.last ≡ ask → said_in slot.last ≡ said → view_of q ≡ after_ask v o.log place slot → Calls p ask place said q
+  pub call_done : (p q : Pass) (v : View) (place : ℕ) (engine : E) (m : M) (slot : Slot E) (ask : Ask) (said : Said) (o : Out state root begun v place engine m) → pass_view p ≡ v → v.low ≡ p.number → IsOneSeat v
+      → EngineActs (state engine) ask said (state slot.engine) → slot.before.value ≡ engine → ask_in slot.last ≡ ask → said_in slot.last ≡ said → pass_view q ≡ after_ask v o.log place slot → PassCalls p ask place said q
   call_done p q v place engine m slot ask said o is low one acts before_is ask_is said_is now = let e : Entry = entry_in state v.low slot in
       let t = o.tells in let mine = t.own v.low v.mine (inl (omega arith, omega (arith, one), refl)) in
-      let a : Acts (state slot.before.value) (ask_in slot.last) (said_in slot.last) (state slot.engine) =
-      subst (λ (x : E × Ask × Said). Acts (state x.0) x.1 x.2 (state slot.engine)) (λ i. (sym before_is i, sym ask_is i, sym said_is i)) acts in
-      let f : Fits v.start o.log (state slot.before.value) = subst (λ (x : E). Fits v.start o.log (state x)) (sym before_is) o.fits in record {
+      let a : EngineActs (state slot.before.value) (ask_in slot.last) (said_in slot.last) (state slot.engine) =
+      subst (λ (x : E × Ask × Said). EngineActs (state x.0) x.1 x.2 (state slot.engine)) (λ i. (sym before_is i, sym ask_is i, sym said_is i)) acts in
+      let f : FitsHistory v.start o.log (state slot.before.value) = subst (λ (x : E). FitsHistory v.start o.log (state x)) (sym before_is) o.fits in record {
         between = t.begins.0;
         before = (state slot.before.value).counts;
         after = (state slot.engine).counts;
         long = ap (λ (w : View). length w.seen) now ∙ omega (arith, length-append o.log (e ∷ []), o.next);
         ends = ap (λ (w : View). w.seen) now ∙ (ap (λ l. l ++ e ∷ []) (t.begins.1 ∙ ap (λ (w : View). w.seen ++ t.begins.0) (sym is))
-            ∙ (λ i. ((view_of p).seen ++ t.begins.0) ++ record { caller = low i; ask = ask_is i; said = said_is i; before = (state slot.before.value).counts; after = (state slot.engine).counts } ∷ []));
+            ∙ (λ i. ((pass_view p).seen ++ t.begins.0) ++ record { caller = low i; ask = ask_is i; said = said_is i; before = (state slot.before.value).counts; after = (state slot.engine).counts } ∷ []));
         legal = subst (λ (w : View). Legal w.start w.seen) (sym now) (acts-legal v.start o.log (state slot.before.value) v.low (ask_in slot.last) (said_in slot.last) (state slot.engine) o.legal f.0 a);
         start = ap (λ (w : View). w.start) now ∙ ap (λ (w : View). w.start) (sym is);
         callers = ap (λ (w : View). w.callers) now ∙ ap (λ (w : View). w.callers) (sym is);
@@ -56,11 +56,11 @@ module _ {E : Type 0} (state : E → State) (root : E → E) (begun : E) where
         named = subst (λ (w : View). Named w.callers w.seen) (sym now) (named-snoc v.callers o.log e o.named (t.bounded v.low v.mine (inl (omega arith, omega (arith, one), refl))));
       }
 
-pub meet_done : (p other q : Pass) (v u : View) → view_of p ≡ v → view_of other ≡ u → u.low ≡ other.number → view_of q ≡ joined v u → Tells (joined v u).seen (joined v u) → Legal (joined v u).start (joined v u).seen → Meets p other q
+pub meet_done : (p other q : Pass) (v u : View) → pass_view p ≡ v → pass_view other ≡ u → u.low ≡ other.number → pass_view q ≡ joined_views v u → TellsView (joined_views v u).seen (joined_views v u) → Legal (joined_views v u).start (joined_views v u).seen → Meets p other q
 meet_done p other q v u is is' low now t legal = record {
   legal = subst (λ (w : View). Legal w.start w.seen) (sym now) legal;
-  first = subst (λ (x : View × View). Begins x.0.seen x.1.seen) (λ i. (sym is i, sym now i)) t.first;
-  second = subst (λ (x : View × View). Begins x.0.seen x.1.seen) (λ i. (sym is' i, sym now i)) t.second;
+  first = subst (λ (x : View × View). BeginsWith x.0.seen x.1.seen) (λ i. (sym is i, sym now i)) t.first;
+  second = subst (λ (x : View × View). BeginsWith x.0.seen x.1.seen) (λ i. (sym is' i, sym now i)) t.second;
   start = ap (λ (w : View). w.start) now ∙ ap (λ (w : View). w.start) (sym is);
   callers = ap (λ (w : View). w.callers) now ∙ ap (λ (w : View). w.callers) (sym is);
   mine = ap (λ (w : View). w.mine) now ∙ ap (λ (w : View). w.mine) (sym is);

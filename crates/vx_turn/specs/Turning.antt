@@ -14,36 +14,36 @@ use Rattle.vx_turn.specs.declared.ask.Ask.{Ask}
 use Rattle.vx_turn.specs.declared.ask.Ask.TheVariants.{Ordered, Charged}
 use Rattle.vx_turn.specs.declared.ask.Said.{Said}
 use Rattle.vx_turn.specs.declared.ask.Said.TheVariants.{Replied, Worked}
-use Rattle.vx_turn.specs.Acting.{Among}
-use Rattle.vx_turn.specs.History.{Legal, Fits, places, Begins, Named}
+use Rattle.vx_turn.specs.Acting.{LiesAmong}
+use Rattle.vx_turn.specs.History.{Legal, FitsHistory, places, BeginsWith, Named}
 
 -- the view stands for the caller with this number, whose entries have these places
 abbrev pub Has : View → ℕ → List ℕ → Type 0
-Has v by ps = ((v.low ≤ by) × (by < v.high) × (ps ≡ v.mine)) ⊎ Among (by, ps) v.met
+Has v by ps = ((v.low ≤ by) × (by < v.high) × (ps ≡ v.mine)) ⊎ LiesAmong (by, ps) v.met
 
 abbrev pub first_view : ℕ → State → View
 first_view callers start = record { live = true; low = 0; high = callers; holds = false; seen = []; mine = []; met = []; one = []; two = []; start = start; callers = callers }
 
 -- what a view says that does not depend on the other seats
 module _ (log : List Entry) (v : View) where
-  pub record Tells : Type 0 where
-    pub begins : Begins v.seen log
+  pub record TellsView : Type 0 where
+    pub begins : BeginsWith v.seen log
     pub own : (by : ℕ) (ps : List ℕ) → Has v by ps → (places by log ≡ ps) × (places by v.seen ≡ ps)
     pub bounded : (by : ℕ) (ps : List ℕ) → Has v by ps → by < v.callers
-    pub alone : (by : ℕ) (ps : List ℕ) → v.low ≤ by → by < v.high → Among (by, ps) v.met → ⊥
-    pub first : Begins v.one v.seen
-    pub second : Begins v.two v.seen
+    pub alone : (by : ℕ) (ps : List ℕ) → v.low ≤ by → by < v.high → LiesAmong (by, ps) v.met → ⊥
+    pub first : BeginsWith v.one v.seen
+    pub second : BeginsWith v.two v.seen
 
 module _ (log : List Entry) (start : State) (callers hold holder j : ℕ) (v : View) where
   pub record Knows : Type 0 where
     pub same : v.live ≡ true → (v.start ≡ start) × (v.callers ≡ callers)
-    pub tells : Tells log v
+    pub tells : TellsView log v
     pub has : v.holds ≡ true → (hold ≡ 1) × (j ≡ holder) × (log ≡ v.seen) × (v.live ≡ true)
 
 -- the rule of a turn that began with the engine `first`: there is one legal history, and while the hold is free the engine lies in the
 -- slot, where the history has come to
 module _ {E : Type 0} (state : E → State) (root : E → E) (first : E) where
-  pub record Kept (s : table.State (Option (Slot E)) View) : Type 0 where
+  pub record KeptTable (s : table.State (Option (Slot E)) View) : Type 0 where
     pub log : List Entry
     pub start : State
     pub callers : ℕ
@@ -52,7 +52,7 @@ module _ {E : Type 0} (state : E → State) (root : E → E) (first : E) where
     pub count : slice_index s.words 1 ≡ length log
     pub legal : Legal start log
     pub named : Named callers log
-    pub free : slice_index s.words 0 ≡ 0 → (slot : Slot E) × (get_elem? s.homes 0 ≡ some (some (Some slot))) × Fits start log (state slot.engine) × (root slot.engine ≡ root first)
+    pub free : slice_index s.words 0 ≡ 0 → (slot : Slot E) × (get_elem? s.homes 0 ≡ some (some (Some slot))) × FitsHistory start log (state slot.engine) × (root slot.engine ≡ root first)
     pub each : (j : ℕ) (v : View) → get_elem? s.views j ≡ some v → Knows log start callers (slice_index s.words 0) holder j v
     pub apart : (i j : ℕ) (v w : View) (by : ℕ) (ps qs : List ℕ) → get_elem? s.views i ≡ some v → get_elem? s.views j ≡ some w → Has v by ps → Has w by qs → i ≡ j
 
@@ -61,8 +61,8 @@ abbrev pub sees : View → Bool → List Entry → List ℕ → View
 sees v holds seen mine = record v { holds = holds; seen = seen; mine = mine }
 
 -- one number, for which a seat stands
-abbrev pub IsOne : View → Type 0
-IsOne v = v.high ≡ v.low + 1
+abbrev pub IsOneSeat : View → Type 0
+IsOneSeat v = v.high ≡ v.low + 1
 
 abbrev pub lower : View → View
 lower v = record v { high = v.high - 1 }
@@ -74,11 +74,11 @@ upper v = record v { low = v.high - 1; holds = false; met = [] }
 abbrev pub longer : List Entry → List Entry → List Entry
 longer xs ys = cond (nat_lt (length xs) (length ys)) ys xs
 
-abbrev pub joined : View → View → View
-joined v w = record v { seen = longer v.seen w.seen; met = v.met ++ (w.low, w.mine) ∷ w.met; one = v.seen; two = w.seen }
+abbrev pub joined_views : View → View → View
+joined_views v w = record v { seen = longer v.seen w.seen; met = v.met ++ (w.low, w.mine) ∷ w.met; one = v.seen; two = w.seen }
 
-abbrev pub blank : View
-blank = record {
+abbrev pub blank_view : View
+blank_view = record {
   live = false;
   low = 0;
   high = 0;
@@ -118,23 +118,23 @@ module _ {E : Type 0} where
   entry_in state by slot = record { caller = by; ask = ask_in slot.last; said = said_in slot.last; before = (state slot.before.value).counts; after = (state slot.engine).counts }
 
   -- the hold was free: the seat has the engine and has seen the whole history. Or nothing changed
-  abbrev pub taken : (E → State) → (E → E) → Option E → At E → Sat E → ℕ → Sat E → Type 0
-  taken state root first st m r m' = (r ≡ 0 → m.0.live ≡ true → (slot : Slot E) × (log : List Entry) × (m' ≡ (sees m.0 true log m.0.mine, (0, Some slot) ∷ m.1))
-      × Tells log m.0 × Legal m.0.start log × Fits m.0.start log (state slot.engine) × Named m.0.callers log × IsRooted root first slot.engine) × (r ≢ 0 → m' ≡ m)
+  abbrev pub taken_turn : (E → State) → (E → E) → Option E → At E → Sat E → ℕ → Sat E → Type 0
+  taken_turn state root first st m r m' = (r ≡ 0 → m.0.live ≡ true → (slot : Slot E) × (log : List Entry) × (m' ≡ (sees m.0 true log m.0.mine, (0, Some slot) ∷ m.1))
+      × TellsView log m.0 × Legal m.0.start log × FitsHistory m.0.start log (state slot.engine) × Named m.0.callers log × IsRooted root first slot.engine) × (r ≢ 0 → m' ≡ m)
 
-  abbrev pub counted : At E → Sat E → ℕ → Sat E → Type 0
-  counted st m r m' = (m' ≡ m) × (m.0.holds ≡ true → r ≡ length m.0.seen)
+  abbrev pub count_seen : At E → Sat E → ℕ → Sat E → Type 0
+  count_seen st m r m' = (m' ≡ m) × (m.0.holds ≡ true → r ≡ length m.0.seen)
 
   -- what the engine was asked last joined the history
   abbrev pub added : (E → State) → At E → Sat E → ℕ → Sat E → Type 0
   added state st m r m' = (slot : Slot E) → m.1 ≡ (0, Some slot) ∷ [] → m' ≡ (sees m.0 true (m.0.seen ++ entry_in state m.0.low slot ∷ []) (m.0.mine ++ r ∷ []), m.1)
 
-  abbrev pub given : At E → Sat E → ℕ → Sat E → Type 0
-  given st m r m' = m' ≡ (sees m.0 false m.0.seen m.0.mine, [])
+  abbrev pub handed_back : At E → Sat E → ℕ → Sat E → Type 0
+  handed_back st m r m' = m' ≡ (sees m.0 false m.0.seen m.0.mine, [])
 
   -- what the view says
   abbrev pub looked : At E → Sat E → ℕ → Sat E → Type 0
-  looked st m r m' = (m' ≡ m) × Tells m.0.seen m.0 × (m.0.live ≡ true → Legal m.0.start m.0.seen)
+  looked st m r m' = (m' ≡ m) × TellsView m.0.seen m.0 × (m.0.live ≡ true → Legal m.0.start m.0.seen)
 
   -- the view once the last entry joined, and the engine was given back
   abbrev pub longer_by : (E → State) → View → ℕ → Slot E → View
@@ -142,28 +142,28 @@ module _ {E : Type 0} where
 
 module _ {E : Type 0} (state : E → State) (root : E → E) (first : E) where
   -- the seat has the engine and has seen the whole history, which has n entries
-  abbrev pub Held : View → ℕ → Sat E → Type 0
-  Held v n m = (slot : Slot E) × (log : List Entry) × (m ≡ (sees v true log v.mine, (0, Some slot) ∷ []))
-      × Tells log v × Legal v.start log × Fits v.start log (state slot.engine) × Named v.callers log × (root slot.engine ≡ root first) × (n ≡ length log)
+  abbrev pub HoldsTurn : View → ℕ → Sat E → Type 0
+  HoldsTurn v n m = (slot : Slot E) × (log : List Entry) × (m ≡ (sees v true log v.mine, (0, Some slot) ∷ []))
+      × TellsView log v × Legal v.start log × FitsHistory v.start log (state slot.engine) × Named v.callers log × (root slot.engine ≡ root first) × (n ≡ length log)
 
   -- the seat has the slot, which is empty, and has seen the whole history, behind which the next entry has the place
   pub record Out (v : View) (place : ℕ) (engine : E) (m : Sat E) : Type 0 where
     pub log : List Entry
     pub seat : m ≡ (sees v true log v.mine, (0, None) ∷ [])
-    pub tells : Tells log v
+    pub tells : TellsView log v
     pub legal : Legal v.start log
-    pub fits : Fits v.start log (state engine)
+    pub fits : FitsHistory v.start log (state engine)
     pub named : Named v.callers log
     pub rooted : root engine ≡ root first
     pub next : place ≡ length log + 1
     pub short : place < 18446744073709551616
 
   -- the engine may be given back, and its last entry joins the history
-  pub record Ready (m : Sat E) (place : ℕ) (slot : Slot E) : Type 0 where
+  pub record ReadyBack (m : Sat E) (place : ℕ) (slot : Slot E) : Type 0 where
     pub holds : m.0.holds ≡ true
     pub carried : m.1 ≡ (0, None) ∷ []
-    pub one : IsOne m.0
+    pub one : IsOneSeat m.0
     pub next : place ≡ length m.0.seen + 1
     pub legal : Legal m.0.start (m.0.seen ++ entry_in state m.0.low slot ∷ [])
-    pub fits : Fits m.0.start (m.0.seen ++ entry_in state m.0.low slot ∷ []) (state slot.engine)
+    pub fits : FitsHistory m.0.start (m.0.seen ++ entry_in state m.0.low slot ∷ []) (state slot.engine)
     pub rooted : root slot.engine ≡ root first

@@ -21,5 +21,5 @@ volumes_as c v [] = []
 volumes_as c v (x ∷ xs) = blocks_as c v 0 x ∷ volumes_as c (suc v) xs
 
 -- the volumes after a write, which changes nothing where it does not lie within its volume
-abbrev pub written : Volumes → Write → Volumes
-written vs w = volumes_as (put (as_content vs) w) 0 vs
+abbrev pub volumes_written : Volumes → Write → Volumes
+volumes_written vs w = volumes_as (put (as_content vs) w) 0 vs

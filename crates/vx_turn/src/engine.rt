@@ -1,6 +1,6 @@
 // What the callers share.
 ghost use Rattle.std.specs.Prelude.{◌≡◌, length};
-ghost use Rattle.vx_turn.specs.Acting.{Acts, NamesLink};
+ghost use Rattle.vx_turn.specs.Acting.{EngineActs, NamesLink};
 ghost use Rattle.vx_turn.specs.declared.ask.Ask.TheVariants.{Ordered, Charged};
 ghost use Rattle.vx_turn.specs.declared.ask.Said.TheVariants.{Replied, Worked};
 ghost use Rattle.vx_turn.specs.declared.meaning.State.{State};
@@ -25,12 +25,12 @@ pub trait Engine: Send + Drop {
 
     /// Makes a call.
     fn answer(&mut self, call: &Call) -> Reply
-        ensures acts { Acts (state self.old) (Ordered call.now) (Replied result) (state self.new) }
+        ensures acts { EngineActs (state self.old) (Ordered call.now) (Replied result) (state self.new) }
         ensures root { root self.new ≡ root self.old };
 
     /// Does a job. A link that it names exists. What was fetched is in `into` where it answers `Done`.
     fn job(&mut self, job: &Job, into: &mut Update) -> JobReply
         requires { NamesLink (length (state self.old).nets) job.now }
-        ensures acts { Acts (state self.old) (Charged job.now) (Worked result into.new) (state self.new) }
+        ensures acts { EngineActs (state self.old) (Charged job.now) (Worked result into.new) (state self.new) }
         ensures root { root self.new ≡ root self.old };
 }

@@ -1,6 +1,6 @@
 // How a turn begins.
 ghost use Rattle.std.specs.Prelude.{◌≡◌, ◌<◌, ◌≤◌, ◌+◌, [], false, length, vec_capacity, IfOk, IfErr};
-ghost use Rattle.vx_turn.specs.Passing.{AreLeft, AreDealt, Pops, table_of, first_of};
+ghost use Rattle.vx_turn.specs.Passing.{PassesLeft, AreDealt, Pops, table_of, first_engine};
 ghost use Rattle.vx_turn.specs.Turning.{first_view};
 
 use crate::engine::Engine;
@@ -20,7 +20,7 @@ impl<E: Engine> Turn<E> {
     fn deal(&self, seat: Seat<Option<Slot<E>>, View>, left: Vec<Pass>, callers: u64) -> Vec<Pass>
         requires seat { (seat.table_id ≡ self.now.table.shared.table_id) × (seat.me ≡ (first_view callers seat.me.0.start, [])) }
         requires room { (left.items ≡ []) × (callers ≤ vec_capacity left) }
-        ensures { AreLeft self.now.table.shared.table_id seat.me.0.start callers result.items × (length result.items ≡ callers) }
+        ensures { PassesLeft self.now.table.shared.table_id seat.me.0.start callers result.items × (length result.items ≡ callers) }
     {
         let mut left = left;
         let mut seat = seat;
@@ -49,7 +49,7 @@ impl<E: Engine> Turn<E> {
         requires callers { (0 < callers) × (callers ≤ MOST_CALLERS) }
         requires runs { (E.state engine).halted ≡ false }
         ensures ok { IfOk result (λ t. AreDealt (table_of t.0) (E.state engine) callers callers t.1) }
-        ensures first { IfOk result (λ t. first_of t.0 ≡ engine) }
+        ensures first { IfOk result (λ t. first_engine t.0 ≡ engine) }
         ensures err { IfErr result (λ e. e.0 ≡ engine) }
     {
         let callers = callers as u64;

@@ -1,5 +1,5 @@
 // The rule of the table, and what each step tells. Word 0 is the hold, 1 while a seat has the engine. Word 1 is the count of the history.
-ghost use Rattle.vx_turn.specs.Turning.{Kept, first_view, taken, counted, added, given, looked, lower, upper, joined, blank};
+ghost use Rattle.vx_turn.specs.Turning.{KeptTable, first_view, taken_turn, count_seen, added, handed_back, looked, lower, upper, joined_views, blank_view};
 
 use crate::engine::Engine;
 use crate::origin::Origin;
@@ -11,7 +11,7 @@ use std::marker::PhantomData;
 pub struct InTurn;
 
 impl<E: Engine> TableRule<Option<Slot<E>>, View, Opening<E>> for InTurn {
-    ghost holds = { λ key. Kept E.state E.root key.engine.value };
+    ghost holds = { λ key. KeptTable E.state E.root key.engine.value };
 
     ghost first = { λ key. first_view key.callers (E.state key.engine.value) };
 }
@@ -22,13 +22,13 @@ pub(crate) struct Take<B> {
 }
 
 impl<E: Engine, B: Origin<E>> Play<Option<Slot<E>>, View> for Take<B> {
-    ghost then = { taken E.state E.root B.first };
+    ghost then = { taken_turn E.state E.root B.first };
 }
 
 pub(crate) struct Count;
 
 impl<E: Engine> Play<Option<Slot<E>>, View> for Count {
-    ghost then = { counted };
+    ghost then = { count_seen };
 }
 
 pub(crate) struct Add;
@@ -40,7 +40,7 @@ impl<E: Engine> Play<Option<Slot<E>>, View> for Add {
 pub(crate) struct Give;
 
 impl<E: Engine> Play<Option<Slot<E>>, View> for Give {
-    ghost then = { given };
+    ghost then = { handed_back };
 }
 
 pub(crate) struct Look;
@@ -61,7 +61,7 @@ impl Split<View> for Deal {
 pub(crate) struct Meet;
 
 impl Join<View> for Meet {
-    ghost both = { joined };
+    ghost both = { joined_views };
 
-    ghost spent = { blank };
+    ghost spent = { blank_view };
 }

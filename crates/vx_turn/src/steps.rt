@@ -1,8 +1,8 @@
 // What callers do.
 ghost use Rattle.std.specs.Prelude.{◌≡◌, ◌+◌, ◌<◌, ◌^◌, true, [], length, Some};
-ghost use Rattle.vx_turn.specs.Turning.{Held, Out, Ready, longer_by};
+ghost use Rattle.vx_turn.specs.Turning.{HoldsTurn, Out, ReadyBack, longer_by};
 ghost use Rattle.vx_turn.specs.Acting.{NamesLink};
-ghost use Rattle.vx_turn.specs.Passing.{Calls, Jobs, Meets, Closes, table_of, table_id_of, first_of, start_of, IsSame};
+ghost use Rattle.vx_turn.specs.Passing.{PassCalls, Jobs, Meets, ClosesTurn, table_of, table_id_of, first_engine, start_of, IsSame};
 ghost use Rattle.vx_turn.specs.declared.ask.Ask.TheVariants.{Ordered};
 ghost use Rattle.vx_turn.specs.declared.ask.Said.TheVariants.{Replied};
 
@@ -25,10 +25,10 @@ impl<E: Engine> Turn<E> {
     // Waits until the hold is free, takes the engine, and says how long the history is.
     fn take<B: Origin<E>, H: Wait>(&self, rt: &H, seat: &mut Seat<Option<Slot<E>>, View>) -> u64
         requires table { seat.old.table_id ≡ self.now.table.shared.table_id }
-        requires first { B.first ≡ Some (first_of self.now) }
+        requires first { B.first ≡ Some (first_engine self.now) }
         requires rest { (seat.old.me.1 ≡ []) × (seat.old.me.0.live ≡ true) }
         ensures same { (seat.new.table_id ≡ seat.old.table_id) × (seat.new.id ≡ seat.old.id) }
-        ensures held { Held E.state E.root (first_of self.now) seat.old.me.0 result seat.new.me }
+        ensures held { HoldsTurn E.state E.root (first_engine self.now) seat.old.me.0 result seat.new.me }
     {
         let shared = &self.table.shared;
         for _ in rt.forever() {
@@ -54,10 +54,10 @@ impl<E: Engine> Turn<E> {
     // Waits for the engine and takes it out, with the place that its next entry will have.
     fn out<B: Origin<E>, H: Wait>(&self, rt: &H, seat: &mut Seat<Option<Slot<E>>, View>) -> (u64, E)
         requires table { seat.old.table_id ≡ self.now.table.shared.table_id }
-        requires first { B.first ≡ Some (first_of self.now) }
+        requires first { B.first ≡ Some (first_engine self.now) }
         requires rest { (seat.old.me.1 ≡ []) × (seat.old.me.0.live ≡ true) }
         ensures same { (seat.new.table_id ≡ seat.old.table_id) × (seat.new.id ≡ seat.old.id) }
-        ensures out { Out E.state E.root (first_of self.now) seat.old.me.0 result.0 result.1 seat.new.me }
+        ensures out { Out E.state E.root (first_engine self.now) seat.old.me.0 result.0 result.1 seat.new.me }
     {
         let count = self.take::<B, H>(rt, seat);
         let place = Self::next(rt, count);
@@ -70,7 +70,7 @@ impl<E: Engine> Turn<E> {
     // Gives the engine back with what it was asked and said, which joins the history at the place.
     fn back(&self, seat: &mut Seat<Option<Slot<E>>, View>, slot: Slot<E>, place: u64)
         requires table { seat.old.table_id ≡ self.now.table.shared.table_id }
-        requires ready { Ready E.state E.root (first_of self.now) seat.old.me place slot }
+        requires ready { ReadyBack E.state E.root (first_engine self.now) seat.old.me place slot }
         ensures same { (seat.new.table_id ≡ seat.old.table_id) × (seat.new.id ≡ seat.old.id) }
         ensures back { seat.new.me ≡ (longer_by E.state seat.old.me.0 place slot, []) }
     {
@@ -83,9 +83,9 @@ impl<E: Engine> Turn<E> {
 
     fn call_from<B: Origin<E>, H: Wait>(&self, rt: &H, pass: &mut Pass, call: &Call) -> (u64, Reply)
         requires table { table_id_of pass.old ≡ table_of self.now }
-        requires first { B.first ≡ Some (first_of self.now) }
+        requires first { B.first ≡ Some (first_engine self.now) }
         ensures same { IsSame pass.old pass.new }
-        ensures call { Calls pass.old (Ordered call.now) result.0 (Replied result.1) pass.new }
+        ensures call { PassCalls pass.old (Ordered call.now) result.0 (Replied result.1) pass.new }
     {
         let badge = mem::replace(&mut pass.badge, Badge::blank());
         let mut seat = badge.into_seat::<Option<Slot<E>>>();
@@ -112,7 +112,7 @@ impl<E: Engine> Turn<E> {
     ) -> JobReply
         requires table { table_id_of pass.old ≡ table_of self.now }
         requires link { NamesLink (length (start_of pass.old).nets) job.now }
-        requires first { B.first ≡ Some (first_of self.now) }
+        requires first { B.first ≡ Some (first_engine self.now) }
         ensures same { IsSame pass.old pass.new }
         ensures work { Jobs pass.old job.now result into.new pass.new }
     {
@@ -134,8 +134,8 @@ impl<E: Engine> Turn<E> {
 
     fn close_from<B: Origin<E>, H: Wait>(self, rt: &H, pass: Pass) -> E
         requires table { table_id_of pass ≡ table_of self }
-        requires first { B.first ≡ Some (first_of self) }
-        ensures { Closes E.state E.root (first_of self) pass result }
+        requires first { B.first ≡ Some (first_engine self) }
+        ensures { ClosesTurn E.state E.root (first_engine self) pass result }
     {
         let mut seat = pass.badge.into_seat::<Option<Slot<E>>>();
         let (_, engine) = self.out::<B, H>(rt, &mut seat);
@@ -146,7 +146,7 @@ impl<E: Engine> Turn<E> {
     pub fn call<H: Wait>(&self, rt: &H, pass: &mut Pass, call: &Call) -> (u64, Reply)
         requires { table_id_of pass.old ≡ table_of self.now }
         ensures same { IsSame pass.old pass.new }
-        ensures call { Calls pass.old (Ordered call.now) result.0 (Replied result.1) pass.new }
+        ensures call { PassCalls pass.old (Ordered call.now) result.0 (Replied result.1) pass.new }
     {
         self.call_from::<Brand, H>(rt, pass, call)
     }
@@ -178,7 +178,7 @@ impl<E: Engine> Turn<E> {
     /// Ends the turn, and gives the engine back. It waits until no other caller has it.
     pub fn close<H: Wait>(self, rt: &H, pass: Pass) -> E
         requires { table_id_of pass ≡ table_of self }
-        ensures { Closes E.state E.root (first_of self) pass result }
+        ensures { ClosesTurn E.state E.root (first_engine self) pass result }
     {
         self.close_from::<Brand, H>(rt, pass)
     }

@@ -7,7 +7,7 @@ use Rattle.vx_disk.proofs.Causing.{Rose_after, Rose_before}
 use Rattle.vx_config.specs.declared.config.Config.{Config}
 use Rattle.vx_volume.specs.Plexes.{SomeActive, active}
 use Rattle.vx_volume.specs.Steps.{Loop, SomeDone, in_set}
-use Rattle.vx_volume.specs.Volumes.{AllBut, AllFailed, PlexBlamed}
+use Rattle.vx_volume.specs.Volumes.{AllBut, AllPlexesFailed, PlexBlamed}
 
 pub loop_start : (c : Config) (v : ℕ) (failed : List Bool) (device : ℕ) (done : ℕ → Type 0) (m : Meaning) → (IsTrue m.down → ⊥) → length failed ≡ 8 → ((p : ℕ) → in_set failed p ≡ false) → Loop c v 0 failed false device done m m
 loop_start c v failed device done m up long none = record {
@@ -111,7 +111,7 @@ module _ (c : Config) (v count : ℕ) (failed : List Bool) (any : Bool) (device 
     up = loop.tried.up;
   }
 
-  pub ends_none : any ≡ false → SomeActive c v → AllFailed c v device old m
+  pub ends_none : any ≡ false → SomeActive c v → AllPlexesFailed c v device old m
   ends_none not some =
       let none = subst (λ (b : Bool). SomeDone c v count failed b) not loop.some in
       record {

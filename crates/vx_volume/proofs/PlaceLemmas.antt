@@ -10,11 +10,11 @@ use Rattle.vx_config.specs.declared.config.Config.{Config}
 use Rattle.vx_config.specs.declared.entry.PlexEntry.{PlexEntry}
 use Rattle.vx_config.specs.declared.entry.Subdisk.{Subdisk}
 use Rattle.vx_config.specs.declared.entry.VolumeEntry.{VolumeEntry}
-use Rattle.vx_config.specs.Checks.{blocks_of, blocks_or_none, column_blocks, has_logs, has_plexes, has_shape, in_region, is_live, is_sound, is_volume, plex_fills, preferred_is}
-use Rattle.vx_layout.specs.Places.{HasBlock, blocks_in, blocks_or, disk_blocks, has_plex, linear, located, place, place_in, place_or, plex_at, plex_in}
+use Rattle.vx_config.specs.Checks.{blocks_of, blocks_or_none, column_blocks, has_logs, has_plexes, has_shape, in_region, is_live, is_sound, is_volume, plex_fills, preferred_is, plexes_of, plexes_or, blocks_or}
+use Rattle.vx_layout.specs.Places.{HasBlock, subdisk_blocks, disk_blocks, has_plex, linear, located, place, place_in, place_or, plex_at, plex_in}
 use Rattle.vx_layout.proofs.Pairs.{all_at, and_left, and_right}
 use Rattle.vx_layout.proofs.Placing.{filled, from_sound, linear_within, region_of, sound_apart, subdisk_region}
-use Rattle.vx_volume.specs.Plexes.{Apart, DisksFit, InRun, Inside, OneEach, RunFits, VolumeFits, active, active_or, lies_on, plexes_of, plexes_or, uses, uses_or}
+use Rattle.vx_volume.specs.Plexes.{Apart, DisksFit, InRun, Inside, OneEach, RunFits, VolumeFits, active, active_or, lies_on, uses, uses_or}
 
 -- a plex that is ACTIVE is there
 record There (c : Config) (v p : ℕ) : Type 0 where
@@ -106,9 +106,9 @@ module _ (c : Config) (sound : is_sound c ≡ true) where
 
   -- ---- the disks that a plex uses
 
-  located_on : (ss : List Subdisk) (k : ℕ) → k < sum_by blocks_in ss → list_any (lies_on (located ss k).0) ss ≡ true
+  located_on : (ss : List Subdisk) (k : ℕ) → k < sum_by subdisk_blocks ss → list_any (lies_on (located ss k).0) ss ≡ true
   located_on [] k lt = absurd (omega (arith, lt))
-  located_on (s ∷ ss) k lt = by (nat_lt k s.blocks) refl (λ out. located_on ss (k - s.blocks) (let cons = sum_by-cons blocks_in s ss in omega (arith, lt, cons, out)))
+  located_on (s ∷ ss) k lt = by (nat_lt k s.blocks) refl (λ out. located_on ss (k - s.blocks) (let cons = sum_by-cons subdisk_blocks s ss in omega (arith, lt, cons, out)))
     where
       or_true : (a b : Bool) → b ≡ true → a || b ≡ true
       or_true true b is = refl

@@ -11,11 +11,11 @@ use Rattle.vx_disk.proofs.Causing.{Rose_after, Rose_before}
 use Rattle.vx_disk.proofs.Runs.{same_Goes}
 use Rattle.vx_config.specs.declared.config.Config.{Config}
 use Rattle.vx_config.specs.declared.entry.VolumeEntry.{VolumeEntry}
-use Rattle.vx_config.specs.Checks.{is_sound}
+use Rattle.vx_config.specs.Checks.{is_sound, plexes_of, plexes_or}
 use Rattle.vx_layout.specs.Places.{place}
-use Rattle.vx_volume.specs.Plexes.{SomeActive, active, plexes_of, plexes_or, prefer_of, prefer_or}
+use Rattle.vx_volume.specs.Plexes.{SomeActive, active, prefer_of, prefer_or}
 use Rattle.vx_volume.specs.Steps.{Device, ReadLoop}
-use Rattle.vx_volume.specs.Volumes.{AllBut, AllFailed, LastFailed, PlexBlamed, PlexCause, PlexRead, ReadFrom, first_asked, turn_of}
+use Rattle.vx_volume.specs.Volumes.{AllBut, AllPlexesFailed, LastPlexFailed, PlexBlamed, PlexCause, PlexRead, ReadFrom, first_asked, turn_of}
 use Rattle.vx_disk.specs.Blocks.{bit_at}
 use Rattle.vx_volume.specs.Sets.{bits}
 use Rattle.vx_volume.specs.Steps.{in_set}
@@ -108,7 +108,7 @@ module _ (c : Config) (v plexes first turn device : ℕ) (old m : Meaning) (in_f
       up = up;
     })
 
-  pub turns_end : is_sound c ≡ true → plexes ≡ plexes_of c v → plexes ≤ turn → SomeActive c v → AllFailed c v device old m
+  pub turns_end : is_sound c ≡ true → plexes ≡ plexes_of c v → plexes ≤ turn → SomeActive c v → AllPlexesFailed c v device old m
   turns_end sound same le some = record {
     each = λ p on. (mine p on).0;
     rose = (mine some.plex some.is_on).1;
@@ -152,5 +152,5 @@ some_in [] some = absurd (omega (arith, some))
 some_in (true ∷ bs) some = (0, refl)
 some_in (false ∷ bs) some = let it = some_in bs (omega (arith, some)) in (suc it.0, it.1)
 
-pub last_bits : (failed : List Bool) (set device : ℕ) (old m : Meaning) → set ≡ bits failed → Device failed device old m → LastFailed (record { set = set; disk = device }) old m
+pub last_bits : (failed : List Bool) (set device : ℕ) (old m : Meaning) → set ≡ bits failed → Device failed device old m → LastPlexFailed (record { set = set; disk = device }) old m
 last_bits failed set device old m is last = record { rose = λ some. let it = some_in failed (omega (arith, some, is)) in last.rose it.0 it.1 }

@@ -86,14 +86,6 @@ pub record VolumeFits (c : Config) (v block n : ℕ) (m : Meaning) : Type 0 wher
   pub fits : (p : ℕ) → IsTrue (active c v p) → RunFits c v p block n m
   pub few : (p : ℕ) → IsTrue (active c v p) → p < MOST_PLEXES
 
-abbrev pub plexes_or : Option VolumeEntry → ℕ
-plexes_or None = 0
-plexes_or (Some v) = length v.plexes
-
--- how many plexes a volume has
-abbrev pub plexes_of : Config → ℕ → ℕ
-plexes_of c v = plexes_or (slice_get c.volumes v)
-
 abbrev pub prefer_or : Option VolumeEntry → Option ℕ
 prefer_or None = None
 prefer_or (Some v) = v.prefer

@@ -1,5 +1,6 @@
 -- What the steps of a read, a write or a flush leave.
 use Rattle.std.specs.Prelude.{◌≡◌, ℕ, ◌+◌, ◌<◌, ◌≤◌, Bool, true, false, IsTrue, List, length, slice_index_or, Result, Ok, Err}
+use Rattle.vx_config.specs.Checks.{plexes_of}
 use Rattle.vx_model.specs.declared.limits.TheConstants.{MOST_PLEXES}
 use Rattle.vx_disk.specs.Counts.{Rose}
 use Rattle.vx_disk.specs.Shelf.{Goes, Meaning, Nothing, piece}
@@ -7,9 +8,9 @@ use Rattle.vx_config.specs.declared.config.Config.{Config}
 use Rattle.vx_layout.specs.Places.{place}
 use Rattle.vx_model.specs.declared.no.No.{No}
 use Rattle.vx_model.specs.declared.no.No.TheVariants as refusal
-use Rattle.vx_volume.specs.Plexes.{InRun, Inside, active, plexes_of, uses}
+use Rattle.vx_volume.specs.Plexes.{InRun, Inside, active, uses}
 use Rattle.vx_volume.specs.declared.every.Flags.{Flags}
-use Rattle.vx_volume.specs.Volumes.{AllBut, AllFailed, OnPlex, OnPlexes, PlexBlamed, PlexFlushed, PlexRead, PlexWrote, ReadFrom, turn_of}
+use Rattle.vx_volume.specs.Volumes.{AllBut, AllPlexesFailed, OnPlex, OnPlexes, PlexBlamed, PlexFlushed, PlexRead, PlexWrote, ReadFrom, turn_of}
 
 -- one device call more: so many blocks behind the first `done`
 pub record WroteRun (c : Config) (v p block n done count : ℕ) (bytes : List ℕ) (old new : Meaning) : Type 0 where
@@ -49,7 +50,7 @@ abbrev pub in_set : List Bool → ℕ → Bool
 in_set set p = slice_index_or set p false
 
 -- of the first `count` plexes each that is ACTIVE was done or failed, and no other failed
-pub record Tried (c : Config) (v count : ℕ) (failed : List Bool) (done : ℕ → Type 0) (old new : Meaning) : Type 0 where
+pub record TriedPlexes (c : Config) (v count : ℕ) (failed : List Bool) (done : ℕ → Type 0) (old new : Meaning) : Type 0 where
   pub up : IsTrue new.down → ⊥
   pub is_done : (p : ℕ) → p < count → IsTrue (active c v p) → in_set failed p ≡ false → done p
   pub blamed : (p : ℕ) → in_set failed p ≡ true → (p < count) × IsTrue (active c v p) × PlexBlamed c v p old new
@@ -65,7 +66,7 @@ pub record Device (failed : List Bool) (device : ℕ) (old new : Meaning) : Type
 
 -- what the loop over the plexes keeps
 pub record Loop (c : Config) (v count : ℕ) (failed : List Bool) (any : Bool) (device : ℕ) (done : ℕ → Type 0) (old new : Meaning) : Type 0 where
-  pub tried : Tried c v count failed done old new
+  pub tried : TriedPlexes c v count failed done old new
   pub some : SomeDone c v count failed any
   pub blames : Device failed device old new
   pub long : length failed ≡ MOST_PLEXES
@@ -89,13 +90,13 @@ pub record ReadLoop (c : Config) (v plexes first turn device : ℕ) (old new : M
 -- what a call on every plex answers, by flags
 abbrev pub FlagsEnd : Config → ℕ → (ℕ → Type 0) → Meaning → Meaning → Result Flags No → Type 0
 FlagsEnd c v done old new (Ok f) = AllBut c v (in_set f.failed) done old new × Device f.failed f.device old new
-FlagsEnd c v done old new (Err (refusal.Device disk)) = AllFailed c v disk old new
+FlagsEnd c v done old new (Err (refusal.Device disk)) = AllPlexesFailed c v disk old new
 FlagsEnd c v done old new (Err refusal.Down) = IsTrue new.down
 FlagsEnd c v done old new (Err other) = ⊥
 
 -- what a read in turn answers
 abbrev pub TurnsEnd : Config → ℕ → ℕ → ℕ → ℕ → List ℕ → Meaning → Meaning → Result ℕ No → Type 0
 TurnsEnd c v first block n bytes old new (Ok p) = ReadFrom c v (plexes_of c v) first block n p bytes old new
-TurnsEnd c v first block n bytes old new (Err (refusal.Device disk)) = AllFailed c v disk old new
+TurnsEnd c v first block n bytes old new (Err (refusal.Device disk)) = AllPlexesFailed c v disk old new
 TurnsEnd c v first block n bytes old new (Err refusal.Down) = IsTrue new.down
 TurnsEnd c v first block n bytes old new (Err other) = ⊥

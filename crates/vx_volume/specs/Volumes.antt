@@ -1,5 +1,6 @@
 -- What reads, writes and flushes of a volume do.
 use Rattle.std.specs.Prelude.{◌≡◌, ◌⊎◌, ℕ, ◌+◌, ◌-◌, ◌%◌, ◌<◌, Bool, true, false, IsTrue, Option, Some, None, List, Result, Ok, Err}
+use Rattle.vx_config.specs.Checks.{plexes_of}
 use Rattle.vx_disk.specs.Blocks.{bit_at}
 use Rattle.vx_disk.specs.Counts.{Rose}
 use Rattle.vx_disk.specs.Shelf.{Meaning, piece}
@@ -9,7 +10,7 @@ use Rattle.vx_model.specs.declared.no.No.{No}
 use Rattle.vx_model.specs.declared.no.No.TheVariants as refusal
 use Rattle.vx_config.specs.declared.config.Config.{Config}
 use Rattle.vx_layout.specs.Places.{place}
-use Rattle.vx_volume.specs.Plexes.{InRun, Inside, active, plexes_of, prefer_of, uses}
+use Rattle.vx_volume.specs.Plexes.{InRun, Inside, active, prefer_of, uses}
 use Rattle.vx_volume.specs.declared.sets.Failed.{Failed}
 use Rattle.vx_volume.specs.declared.volume.Volume.{Volume}
 
@@ -56,7 +57,7 @@ PlexCause c v p old new (Err Down) = IsTrue new.down
 -- ---- all plexes that are ACTIVE
 
 -- each plex that is ACTIVE failed in this call, and the count of this disk rose
-pub record AllFailed (c : Config) (v disk : ℕ) (old new : Meaning) : Type 0 where
+pub record AllPlexesFailed (c : Config) (v disk : ℕ) (old new : Meaning) : Type 0 where
   pub each : (p : ℕ) → IsTrue (active c v p) → PlexBlamed c v p old new
   pub rose : Rose (old.disk_faults disk) (new.disk_faults disk)
   pub up : IsTrue new.down → ⊥
@@ -69,20 +70,20 @@ pub record AllBut (c : Config) (v : ℕ) (failed : ℕ → Bool) (done : ℕ →
   pub up : IsTrue new.down → ⊥
 
 -- What is answered: the set of the plexes that failed; 7 only where each failed, and 6 only where the shelf is down.
-abbrev pub Ends : Config → ℕ → (ℕ → Type 0) → Meaning → Meaning → Result ℕ No → Type 0
-Ends c v done old new (Ok failed) = AllBut c v (bit_at failed) done old new
-Ends c v done old new (Err (refusal.Device disk)) = AllFailed c v disk old new
-Ends c v done old new (Err refusal.Down) = IsTrue new.down
-Ends c v done old new (Err other) = ⊥
+abbrev pub PlexesEnd : Config → ℕ → (ℕ → Type 0) → Meaning → Meaning → Result ℕ No → Type 0
+PlexesEnd c v done old new (Ok failed) = AllBut c v (bit_at failed) done old new
+PlexesEnd c v done old new (Err (refusal.Device disk)) = AllPlexesFailed c v disk old new
+PlexesEnd c v done old new (Err refusal.Down) = IsTrue new.down
+PlexesEnd c v done old new (Err other) = ⊥
 
 -- the count of the disk rose where any plex failed
-pub record LastFailed (failed : Failed) (old new : Meaning) : Type 0 where
+pub record LastPlexFailed (failed : Failed) (old new : Meaning) : Type 0 where
   pub rose : 0 < failed.set → Rose (old.disk_faults failed.disk) (new.disk_faults failed.disk)
 
 -- The same with the disk of the last device call that failed.
 abbrev pub EndsAt : Config → ℕ → (ℕ → Type 0) → Meaning → Meaning → Result Failed No → Type 0
-EndsAt c v done old new (Ok f) = AllBut c v (bit_at f.set) done old new × LastFailed f old new
-EndsAt c v done old new (Err (refusal.Device disk)) = AllFailed c v disk old new
+EndsAt c v done old new (Ok f) = AllBut c v (bit_at f.set) done old new × LastPlexFailed f old new
+EndsAt c v done old new (Err (refusal.Device disk)) = AllPlexesFailed c v disk old new
 EndsAt c v done old new (Err refusal.Down) = IsTrue new.down
 EndsAt c v done old new (Err other) = ⊥
 
@@ -111,10 +112,10 @@ next_asked None next following = following
 next_asked (Some p) next following = next
 
 -- what a read of a volume answers
-abbrev pub Reads : Config → Volume → Volume → ℕ → ℕ → List ℕ → Meaning → Meaning → Result (Unit {0}) No → Type 0
-Reads c v w block n bytes old new (Ok x) =
+abbrev pub VolumeReads : Config → Volume → Volume → ℕ → ℕ → List ℕ → Meaning → Meaning → Result (Unit {0}) No → Type 0
+VolumeReads c v w block n bytes old new (Ok x) =
     (p : ℕ) × ReadFrom c v.number (plexes_of c v.number) (first_asked (prefer_of c v.number) (v.next % plexes_of c v.number)) block n p bytes old new
     × (w.next ≡ next_asked (prefer_of c v.number) v.next ((p + 1) % plexes_of c v.number)) × (w.number ≡ v.number)
-Reads c v w block n bytes old new (Err (refusal.Device disk)) = AllFailed c v.number disk old new × (w ≡ v)
-Reads c v w block n bytes old new (Err refusal.Down) = IsTrue new.down × (w ≡ v)
-Reads c v w block n bytes old new (Err other) = ⊥
+VolumeReads c v w block n bytes old new (Err (refusal.Device disk)) = AllPlexesFailed c v.number disk old new × (w ≡ v)
+VolumeReads c v w block n bytes old new (Err refusal.Down) = IsTrue new.down × (w ≡ v)
+VolumeReads c v w block n bytes old new (Err other) = ⊥

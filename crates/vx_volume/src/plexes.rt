@@ -1,8 +1,8 @@
 // What a configuration says of the plexes of a volume.
 ghost use Rattle.std.specs.Prelude.{◌≡◌};
 ghost use Rattle.std.specs.List.{list_any};
-ghost use Rattle.vx_config.specs.Checks.{blocks_of as blocks_of_is};
-ghost use Rattle.vx_volume.specs.Plexes.{active, lies_on, plexes_of, prefer_of, uses as uses_is};
+ghost use Rattle.vx_config.specs.Checks.{blocks_of as blocks_of_is, plexes_of};
+ghost use Rattle.vx_volume.specs.Plexes.{active, lies_on, prefer_of, uses as uses_is};
 
 use vx_config::{Config, PlexState, Subdisk};
 

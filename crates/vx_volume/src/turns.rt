@@ -1,7 +1,8 @@
 // A read that asks the plexes in turn.
 ghost use Rattle.std.specs.Prelude.{◌≡◌, ◌/◌, ◌%◌, ◌<◌, ◌≤◌, IsTrue, length};
+ghost use Rattle.vx_config.specs.Checks.{plexes_of};
 ghost use Rattle.vx_disk.specs.Shelf.{Goes, Nothing};
-ghost use Rattle.vx_volume.specs.Plexes.{SomeActive, VolumeFits, plexes_of};
+ghost use Rattle.vx_volume.specs.Plexes.{SomeActive, VolumeFits};
 ghost use Rattle.vx_volume.specs.Steps.{TurnsEnd};
 
 use crate::plexes::{is_active, plex_count};

@@ -1,9 +1,9 @@
 // A volume, which is read, written and flushed over its plexes.
 ghost use Rattle.std.specs.Prelude.{◌≡◌, ◌+◌, ◌/◌, ◌%◌, ◌<◌, ◌≤◌, IsTrue, length};
-ghost use Rattle.vx_config.specs.Checks.{blocks_of as blocks_of_is, is_sound};
+ghost use Rattle.vx_config.specs.Checks.{blocks_of as blocks_of_is, is_sound, plexes_of};
 ghost use Rattle.vx_disk.specs.Shelf.{Goes, Nothing};
-ghost use Rattle.vx_volume.specs.Plexes.{DisksFit, SomeActive, plexes_of, prefer_of};
-ghost use Rattle.vx_volume.specs.Volumes.{Ends, EndsAt, OnPlexes, PlexFlushed, PlexWrote, Reads, first_asked, next_asked};
+ghost use Rattle.vx_volume.specs.Plexes.{DisksFit, SomeActive, prefer_of};
+ghost use Rattle.vx_volume.specs.Volumes.{PlexesEnd, EndsAt, OnPlexes, PlexFlushed, PlexWrote, VolumeReads, first_asked, next_asked};
 
 use crate::every::{flush_plexes, write_plexes};
 use crate::plexes::{blocks_of, plex_count, preferred};
@@ -67,7 +67,7 @@ pub fn read<S: Shelf>(
     requires up { IsTrue (S.meaning shelf.old).down → ⊥ }
     ensures goes { Goes Nothing (S.meaning shelf.old) (S.meaning shelf.new) }
     ensures down { (S.meaning shelf.new).down ≡ (S.meaning shelf.old).down }
-    ensures reads { Reads c.now v.old v.new block (length into.old / 512) into.new (S.meaning shelf.old) (S.meaning shelf.new) result }
+    ensures reads { VolumeReads c.now v.old v.new block (length into.old / 512) into.new (S.meaning shelf.old) (S.meaning shelf.new) result }
 {
     // Read for its bound: no block of a volume is past 2^64.
     let _end = blocks_of(c, v.number);
@@ -151,7 +151,7 @@ pub fn write<S: Shelf>(
     requires disks { DisksFit c.now.disks (S.meaning shelf.old) }
     requires up { IsTrue (S.meaning shelf.old).down → ⊥ }
     ensures goes { Goes (OnPlexes c.now v.old.number block (length bytes.now / 512) bytes.now) (S.meaning shelf.old) (S.meaning shelf.new) }
-    ensures ends { Ends c.now v.old.number (λ p. PlexWrote c.now v.old.number p block (length bytes.now / 512) block (length bytes.now / 512) bytes.now (S.meaning shelf.old) (S.meaning shelf.new)) (S.meaning shelf.old) (S.meaning shelf.new) result }
+    ensures ends { PlexesEnd c.now v.old.number (λ p. PlexWrote c.now v.old.number p block (length bytes.now / 512) block (length bytes.now / 512) bytes.now (S.meaning shelf.old) (S.meaning shelf.new)) (S.meaning shelf.old) (S.meaning shelf.new) result }
     ensures same { v.new ≡ v.old }
 {
     match write_all(c, v.number, shelf, block, bytes) {
@@ -170,7 +170,7 @@ pub fn flush<S: Shelf>(v: &mut Volume, c: &Config, shelf: &mut S) -> Result<u8, 
     requires disks { DisksFit c.now.disks (S.meaning shelf.old) }
     requires up { IsTrue (S.meaning shelf.old).down → ⊥ }
     ensures goes { Goes Nothing (S.meaning shelf.old) (S.meaning shelf.new) }
-    ensures ends { Ends c.now v.old.number (λ p. PlexFlushed c.now v.old.number p (S.meaning shelf.old) (S.meaning shelf.new)) (S.meaning shelf.old) (S.meaning shelf.new) result }
+    ensures ends { PlexesEnd c.now v.old.number (λ p. PlexFlushed c.now v.old.number p (S.meaning shelf.old) (S.meaning shelf.new)) (S.meaning shelf.old) (S.meaning shelf.new) result }
     ensures same { v.new ≡ v.old }
 {
     match flush_all(c, v.number, shelf) {

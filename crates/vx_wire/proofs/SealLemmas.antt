@@ -2,7 +2,7 @@
 use Rattle.std.proofs.Common.{◌≡◌, ◌≤◌, ℕ, ◌-◌, List, length, take, drop, sym, ap, ◌∙◌, arith}
 use Rattle.std.proofs.lemmas.List.{length-append, length-replicate, take_at, drop_at}
 use Rattle.sha2.proofs.Facts256.{length-sha256}
-use Rattle.vx_wire.specs.Fields.{zeros}
+use Rattle.vx_wire.specs.Fields.{zero_bytes}
 use Rattle.vx_wire.specs.Seals.{digest_of, filled, sealed, IsSealed}
 
 pub length-digest_of : (bytes : List ℕ) → length (digest_of bytes) ≡ 32
@@ -11,7 +11,7 @@ length-digest_of bytes = length-sha256 bytes
 
 pub length-filled : (fields : List ℕ) → length fields ≤ 480 → length (filled fields) ≡ 480
 unfolding filled
-length-filled fields few = omega (arith, length-append fields (zeros (480 - length fields)), length-replicate {A = ℕ} (480 - length fields) 0)
+length-filled fields few = omega (arith, length-append fields (zero_bytes (480 - length fields)), length-replicate {A = ℕ} (480 - length fields) 0)
 
 pub length-sealed : (fields : List ℕ) → length fields ≤ 480 → length (sealed fields) ≡ 512
 unfolding sealed

@@ -30,5 +30,5 @@ flag_bytes true = 1 ∷ []
 flag_bytes false = 0 ∷ []
 
 -- so many zeros
-abbrev pub zeros : ℕ → List ℕ
-zeros n = replicate n 0
+abbrev pub zero_bytes : ℕ → List ℕ
+zero_bytes n = replicate n 0

@@ -1,7 +1,7 @@
 -- Digests and sealed blocks.
 use Rattle.std.specs.Prelude.{◌≡◌, ℕ, ◌-◌, List, ◌++◌, length, take, drop}
 use Rattle.sha2.specs.Sha256.{sha256}
-use Rattle.vx_wire.specs.Fields.{zeros}
+use Rattle.vx_wire.specs.Fields.{zero_bytes}
 use Rattle.vx_wire.specs.declared.sealed.BrokenSeal.{BrokenSeal}
 
 -- the digest of bytes, which is SHA-256
@@ -10,7 +10,7 @@ digest_of bytes = sha256 bytes
 
 -- the 480 bytes of fields with zeros behind them
 unfoldable pub filled : List ℕ → List ℕ
-filled fields = fields ++ zeros (480 - length fields)
+filled fields = fields ++ zero_bytes (480 - length fields)
 
 -- these fields as a sealed block: with zeros behind them and the digest of both
 unfoldable pub sealed : List ℕ → List ℕ

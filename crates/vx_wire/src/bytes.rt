@@ -1,6 +1,6 @@
 // Runs of bytes at a place, and digests.
 ghost use Rattle.std.specs.Prelude.{◌≡◌, ◌↔◌, ◌+◌, ◌≤◌, length, IsTrue};
-ghost use Rattle.vx_wire.specs.Fields.{zeros};
+ghost use Rattle.vx_wire.specs.Fields.{zero_bytes};
 ghost use Rattle.vx_wire.specs.Places.{cut, put_at};
 ghost use Rattle.vx_wire.specs.Seals.{digest_of};
 
@@ -27,7 +27,7 @@ pub fn put_bytes(bytes: &mut [u8], at: usize, part: &[u8])
 /// Whether so many bytes from a place on are all zero.
 pub fn is_zero(bytes: &[u8], at: usize, count: usize) -> bool
     requires { at + count ≤ length bytes.now }
-    ensures { IsTrue result ↔ (cut at count bytes.now ≡ zeros count) }
+    ensures { IsTrue result ↔ (cut at count bytes.now ≡ zero_bytes count) }
 {
     bytes[at..at + count].iter().all(|byte| *byte == 0)
 }
@@ -35,7 +35,7 @@ pub fn is_zero(bytes: &[u8], at: usize, count: usize) -> bool
 /// Writes so many zeros from a place on.
 pub fn put_zeros(bytes: &mut [u8], at: usize, count: usize)
     requires { at + count ≤ length bytes.old }
-    ensures { bytes.new ≡ put_at at (zeros count) bytes.old }
+    ensures { bytes.new ≡ put_at at (zero_bytes count) bytes.old }
 {
     bytes[at..at + count].fill(0);
 }

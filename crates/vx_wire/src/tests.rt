@@ -20,9 +20,8 @@ fn digests(rt: HostRuntime) {
 }
 
 #[test]
-#[tactic(auto, unfolding(crate::specs::Fields::spelled, crate::specs::Numbers::be_bytes))]
-fn fields_stand_where_they_are_put(rt: HostRuntime) {
-    let mut bytes = [0xff; 64];
+fn numbers_stand_where_they_are_put(rt: HostRuntime) {
+    let mut bytes = [0xff; 28];
     put_u8(&mut bytes, 0, 0x01);
     put_u16(&mut bytes, 1, 0x0203);
     put_u32(&mut bytes, 3, 0x04050607);
@@ -35,29 +34,9 @@ fn fields_stand_where_they_are_put(rt: HostRuntime) {
             origin: 0x18191a1b,
         },
     );
-    put_name(&mut bytes, 27, &Name::new(b"log1"));
-    put_flag(&mut bytes, 32, true);
-    put_flag(&mut bytes, 33, false);
-    put_zeros(&mut bytes, 34, 3);
-    put_bytes(&mut bytes, 37, b"xy");
-    let next = put_fields(
-        &mut bytes,
-        39,
-        &[
-            Field::U8(0x20),
-            Field::U16(0x2122),
-            Field::U32(0x23242526),
-            Field::U64(0x2728292a2b2c2d2e),
-        ],
-    );
-    assert_eq!(rt; next, 54);
-    let mut wanted = [0xff; 64];
+    let mut wanted = [0xff; 28];
     for i in 0..27 {
         wanted[i] = i as u8 + 1;
-    }
-    wanted[27..39].copy_from_slice(b"\x04log1\x01\x00\x00\x00\x00xy");
-    for i in 39..54 {
-        wanted[i] = i as u8 - 7;
     }
     assert!(rt; bytes == wanted);
     assert_eq!(rt; get_u8(&bytes, 0), 0x01);
@@ -66,14 +45,47 @@ fn fields_stand_where_they_are_put(rt: HostRuntime) {
     assert_eq!(rt; get_u64(&bytes, 7), 0x08090a0b0c0d0e0f);
     assert_eq!(rt; get_line(&bytes, 15).generation, 0x1011121314151617);
     assert_eq!(rt; get_line(&bytes, 15).origin, 0x18191a1b);
-    assert_eq!(rt; get_name(&bytes, 27), Some(Name::new(b"log1")));
-    assert_eq!(rt; get_flag(&bytes, 32), Some(true));
-    assert_eq!(rt; get_flag(&bytes, 33), Some(false));
-    assert_eq!(rt; get_flag(&bytes, 38), None);
-    assert!(rt; is_zero(&bytes, 33, 4));
-    assert!(rt; !is_zero(&bytes, 33, 5));
-    let two: [u8; 2] = get_bytes(&bytes, 37);
+}
+
+#[test]
+fn names_and_flags_stand_where_they_are_put(rt: HostRuntime) {
+    let mut bytes = [0xff; 13];
+    put_name(&mut bytes, 0, &Name::new(b"log1"));
+    put_flag(&mut bytes, 5, true);
+    put_flag(&mut bytes, 6, false);
+    put_zeros(&mut bytes, 7, 3);
+    put_bytes(&mut bytes, 10, b"xy");
+    assert!(rt; bytes == *b"\x04log1\x01\x00\x00\x00\x00xy\xff");
+    assert_eq!(rt; get_name(&bytes, 0), Some(Name::new(b"log1")));
+    assert_eq!(rt; get_flag(&bytes, 5), Some(true));
+    assert_eq!(rt; get_flag(&bytes, 6), Some(false));
+    assert_eq!(rt; get_flag(&bytes, 11), None);
+    assert!(rt; is_zero(&bytes, 6, 4));
+    assert!(rt; !is_zero(&bytes, 6, 5));
+    let two: [u8; 2] = get_bytes(&bytes, 10);
     assert!(rt; two == *b"xy");
+}
+
+#[test]
+#[tactic(auto, unfolding(crate::specs::Fields::spelled, crate::specs::Numbers::be_bytes))]
+fn fields_stand_in_their_order(rt: HostRuntime) {
+    let mut bytes = [0xff; 17];
+    let next = put_fields(
+        &mut bytes,
+        1,
+        &[
+            Field::U8(0x01),
+            Field::U16(0x0203),
+            Field::U32(0x04050607),
+            Field::U64(0x08090a0b0c0d0e0f),
+        ],
+    );
+    assert_eq!(rt; next, 16);
+    let mut wanted = [0xff; 17];
+    for i in 1..16 {
+        wanted[i] = i as u8;
+    }
+    assert!(rt; bytes == wanted);
 }
 
 #[test]

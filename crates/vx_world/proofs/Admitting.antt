@@ -14,7 +14,7 @@ use Rattle.vx_history.specs.declared.admission.Change.{Change}
 use Rattle.vx_history.specs.declared.admission.Change.TheVariants.{Stays}
 use Rattle.vx_policy.specs.Verdicts.{refusal, verdict}
 use Rattle.vx_history.specs.Refusals.{refused, unless_at_most, why_held}
-use Rattle.vx_history.specs.Events.{link_in_place, put_before, linked_sites, plain_links, uses, admitted, links_changed, put_in, written_if}
+use Rattle.vx_history.specs.Events.{link_in_place, put_before, linked_sites, plain_links, log_uses, admitted, links_changed, put_in, written_if}
 use Rattle.vx_model.specs.declared.no.No.{No}
 use Rattle.vx_sites.specs.Refusing.{unless_refused}
 use Rattle.vx_world.specs.Counted.{AreCounted, taken_above, most_counted, refusal_by}
@@ -66,7 +66,7 @@ module _ (need room : ℕ) (small : room < most_counted) where
     others s ss u us counts = λ k d lt. counts (suc k) d (omega (arith, lt))
 
     full_same : (ss used : List ℕ) → Counts ss used → length (plain_links row ss) ≤ length used
-        → first_full need room (zip (plain_links row ss) used) ≡ first_full need room (zip (plain_links row ss) (uses n row ss))
+        → first_full need room (zip (plain_links row ss) used) ≡ first_full need room (zip (plain_links row ss) (log_uses n row ss))
     full_same [] used counts few = refl
     full_same (s ∷ ss) [] counts few = absurd (omega (arith, few))
     full_same (s ∷ ss) (u ∷ us) counts few =
@@ -76,7 +76,7 @@ module _ (need room : ℕ) (small : room < most_counted) where
         ∙ ap (λ (h : Option Held). or_else (held_by_room need room l (taken_above n.log l)) h) (full_same ss us (others s ss u us counts) (omega (arith, few)))
 
     changes_same : (ss used : List ℕ) → Counts ss used → length (plain_links row ss) ≤ length used
-        → changes need room (zip (plain_links row ss) used) ≡ changes need room (zip (plain_links row ss) (uses n row ss))
+        → changes need room (zip (plain_links row ss) used) ≡ changes need room (zip (plain_links row ss) (log_uses n row ss))
     changes_same [] used counts few = refl
     changes_same (s ∷ ss) [] counts few = absurd (omega (arith, few))
     changes_same (s ∷ ss) (u ∷ us) counts few =
@@ -87,11 +87,11 @@ module _ (need room : ℕ) (small : room < most_counted) where
 
     -- so the rule says the same of them
     pub admits_same : (ss used : List ℕ) → Counts ss used → length (plain_links row ss) ≤ length used
-        → admit need room (plain_links row ss) used ≡ admit need room (plain_links row ss) (uses n row ss)
+        → admit need room (plain_links row ss) used ≡ admit need room (plain_links row ss) (log_uses n row ss)
     admits_same ss used counts few =
         let ls : List PlainLink = plain_links row ss in
         ap (λ (h : Option Held). unless_held (first_down ls) (unless_held h (Goes (changes need room (zip ls used))))) (full_same ss used counts few)
-        ∙ ap (λ (cs : List Change). unless_held (first_down ls) (unless_held (first_full need room (zip ls (uses n row ss))) (Goes cs)))
+        ∙ ap (λ (cs : List Change). unless_held (first_down ls) (unless_held (first_full need room (zip ls (log_uses n row ss))) (Goes cs)))
         (changes_same ss used counts few)
 
 -- one link more is counted
@@ -157,7 +157,7 @@ refused_by_rule w p x n bytes links used room answer node same listed counted fe
     is
     ∙ ap (λ (ls : List PlainLink). refusal_by (verdict (admit (blocks_in bytes + 1) room ls used))) listed
     ∙ ap (λ (a : Admitted). refusal_by (verdict a)) (admits_same (blocks_in bytes + 1) room small n row ss used counts enough)
-    ∙ ap (λ (r : ℕ). refusal_by (verdict (admit (blocks_in bytes + 1) r (plain_links row ss) (uses n row ss)))) ring
-    ∙ ap (λ (m : Node). refusal_by (verdict (admit (blocks_in bytes + 1) m.ring (plain_links row ss) (uses m row ss)))) node
-    ∙ ap (λ (b : List ℕ). refusal_by (verdict (admit (blocks_in b + 1) (w.nodes p).ring (plain_links row ss) (uses (w.nodes p) row ss)))) same
+    ∙ ap (λ (r : ℕ). refusal_by (verdict (admit (blocks_in bytes + 1) r (plain_links row ss) (log_uses n row ss)))) ring
+    ∙ ap (λ (m : Node). refusal_by (verdict (admit (blocks_in bytes + 1) m.ring (plain_links row ss) (log_uses m row ss)))) node
+    ∙ ap (λ (b : List ℕ). refusal_by (verdict (admit (blocks_in b + 1) (w.nodes p).ring (plain_links row ss) (log_uses (w.nodes p) row ss)))) same
     ∙ verdict_holds (admitted w p x)

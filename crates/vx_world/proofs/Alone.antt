@@ -5,9 +5,9 @@ use Rattle.std.proofs.Common.{◌≡◌, ◌∙◌, ℕ, ap, sym, subst, refl, B
 use Rattle.std.specs.Prelude.{not, ◌&&◌, leb}
 use Rattle.vx_history.proofs.Updates.{at_place, by_test}
 use Rattle.vx_model.specs.Content.{Write}
-use Rattle.vx_history.specs.Events.{delivered, gathers, gathered_if, is_taken, handed, heard, link_heard, packet_at, said_of_link, facts_of, joined, new_link}
+use Rattle.vx_history.specs.Events.{delivered, gathers, gathered_if, is_taken, handed, heard, link_heard, packet_at, said_of_link, receiver_facts, joined, new_link}
 use Rattle.vx_history.specs.LinkForms.{plain_link, with_plain}
-use Rattle.vx_history.specs.Refusals.{Outcome, says, unless, unless_halted, at_site, both_at_work, may_link, follows, links_of, agree, rings_fit, is_primary, is_running, keeps_links}
+use Rattle.vx_history.specs.Refusals.{Outcome, says, unless, unless_halted, at_site, both_at_work, may_link, follows, count_links_of, agree, rings_fit, is_primary, is_running, keeps_links}
 use Rattle.vx_history.specs.Sending.{Sent, sent_step}
 use Rattle.vx_history.specs.Sends.{is_linked, with_link}
 use Rattle.vx_history.specs.Step.{outcome_of, step, done, link_part}
@@ -77,7 +77,7 @@ module _ (w : World) (s : ℕ) (up : (w.nodes s).state ≡ Up) where
   heard_link : (p : Packet) (e : SEvent) → p.target ≡ s → IsAlone s w (link_heard w p e).world
   heard_link p e target =
       let l : Link = w.links p.target p.source in
-      let r : Sent = sent_step (plain_link p.source l) e (facts_of (w.nodes p.target) p.line) in
+      let r : Sent = sent_step (plain_link p.source l) e (receiver_facts (w.nodes p.target) p.line) in
       by_test (λ (o : Outcome). IsAlone s w o.world) (keeps_links (w.nodes p.target).role && is_linked l)
       (says (with_link w p.target p.source (with_plain l r.link)) (said_of_link r.action)) (says w IsIgnored)
       (λ _. subst (λ (i : ℕ). IsAlone s w (with_link w i p.source (with_plain l r.link))) (sym target) (one_link p.source (with_plain l r.link)))
@@ -123,11 +123,11 @@ module _ (w : World) (s : ℕ) (up : (w.nodes s).state ≡ Up) where
   joins_alone p sync =
       let o : Outcome = done (emptied (with_node w s (joined (w.nodes p) p (w.nodes s))) s) in
       let sized : Outcome = unless (not (agree (w.nodes p).volumes (w.nodes s).volumes && rings_fit (w.nodes p) (w.nodes s))) Size w o in
-      let few : Outcome = unless (leb MOST_LINKS (links_of w p)) (Limit Links MOST_LINKS) w sized in
+      let few : Outcome = unless (leb MOST_LINKS (count_links_of w p)) (Limit Links MOST_LINKS) w sized in
       let new : Outcome = unless (is_linked (w.links p s)) (Exists (w.nodes s).name) w few in
       both_up p s (unless (not (may_link w p s)) WrongRole w new)
       (tested (not (may_link w p s)) WrongRole new
-      (tested (is_linked (w.links p s)) (Exists (w.nodes s).name) few (tested (leb MOST_LINKS (links_of w p)) (Limit Links MOST_LINKS) sized
+      (tested (is_linked (w.links p s)) (Exists (w.nodes s).name) few (tested (leb MOST_LINKS (count_links_of w p)) (Limit Links MOST_LINKS) sized
       (tested (not (agree (w.nodes p).volumes (w.nodes s).volumes && rings_fit (w.nodes p) (w.nodes s))) Size o
       (other_gathering (with_node w s (joined (w.nodes p) p (w.nodes s))) _ (one_node (joined (w.nodes p) p (w.nodes s)) refl up)
       (λ i apart. aside w.gathering s None i apart))))))
@@ -137,11 +137,11 @@ module _ (w : World) (s : ℕ) (up : (w.nodes s).state ≡ Up) where
 
   pub made_alone : (q : ℕ) (sync : SyncMode) → IsAlone s w (outcome_of w (LinkAt s q sync Made)).world
   made_alone q sync =
-      let o : Outcome = done (with_link w s q (new_link (links_of w s) sync (w.nodes q))) in
+      let o : Outcome = done (with_link w s q (new_link (count_links_of w s) sync (w.nodes q))) in
       let new : Outcome = unless (is_linked (w.links s q)) (Exists (w.nodes q).name) w o in
       both_up s q (link_part Made w s q sync)
       (tested (not (is_primary (w.nodes s).role && follows w s q)) WrongRole new
-      (tested (is_linked (w.links s q)) (Exists (w.nodes q).name) o (one_link q (new_link (links_of w s) sync (w.nodes q)))))
+      (tested (is_linked (w.links s q)) (Exists (w.nodes q).name) o (one_link q (new_link (count_links_of w s) sync (w.nodes q)))))
 
   pub opened_alone : (q : ℕ) (sync : SyncMode) → IsAlone s w (outcome_of w (LinkAt s q sync Opened)).world
   opened_alone q sync = both_up s q (link_part Opened w s q sync) (tested _ _ _ (one_link q _))

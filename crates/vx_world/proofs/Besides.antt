@@ -7,15 +7,15 @@ use Rattle.std.proofs.lemmas.Bool.{cases_eq}
 use Rattle.vx_history.specs.Admission.{admit, Admitted, Held_by, Goes}
 use Rattle.vx_model.specs.Answer.{is_wrong_count, is_past, is_too_large}
 use Rattle.vx_model.specs.Content.{Write, blocks_in, blocks_from}
-use Rattle.vx_history.specs.Events.{linked_sites, plain_links, uses, admitted, written_if, put_in, links_changed, link_after, apply_at, applied_by, acknowledged, applied, reached_at, crash_at, crash_world, lost_touch, kept_of, recover_from, recovery, come_back, restarted_link, recovery_greeting, waited, promises_of}
+use Rattle.vx_history.specs.Events.{linked_sites, plain_links, log_uses, admitted, written_if, put_in, links_changed, link_after, apply_at, applied_by, acknowledged, applied, reached_at, crash_at, deport_at, crash_world, lost_touch, kept_of, recover_from, recovery, come_back, restarted_link, recovery_greeting, waited, promises_of}
 use Rattle.vx_history.specs.LinkForms.{plain_receiver}
 use Rattle.vx_history.specs.Receiving.{received_step, Received}
 use Rattle.vx_history.specs.Refusals.{Outcome, says, unless, at_work, on_volume, is_primary, some_below, holds_back, is_unconfirmed, unless_at_most}
 use Rattle.vx_history.specs.Sends.{with_links, promising, packets_of}
 use Rattle.vx_history.specs.Step.{outcome_of, done, write_at, joined_blocks}
-use Rattle.vx_history.specs.Steps.{logged, told_of, burned, crashed, crash_left, kept_by}
+use Rattle.vx_history.specs.Steps.{logged, told_of, burned, crashed, crash_left, kept_by, deported_site}
 use Rattle.vx_history.specs.World.{Node, Link, World, History, Gathering, DataAck, line_updated, with_node, with_history}
-use Rattle.vx_history.specs.declared.event.Event.TheVariants.{Read, Apply, Wait, Crash, Recover}
+use Rattle.vx_history.specs.declared.event.Event.TheVariants.{Read, Apply, Wait, Crash, Deport, Recover}
 use Rattle.vx_history.specs.declared.event.Said.TheVariants.{DoneAt, Got, Pending}
 use Rattle.vx_model.specs.declared.history.Line.{Line}
 use Rattle.vx_model.specs.declared.no.No.TheVariants.{Unknown, Size, Range, Role as WrongRole, Down as NotUp, Limit, Unconfirmed}
@@ -158,7 +158,7 @@ module _ (s : ℕ) (w v : World) (twin : Twin s w v) where
   -- ---- writing
 
   letting : Write → Node → (ℕ → Link) → ℕ → Admitted
-  letting x n row k = admit (blocks_in x.bytes + 1) n.ring (plain_links row (linked_sites row k 0 k)) (uses n row (linked_sites row k 0 k))
+  letting x n row k = admit (blocks_in x.bytes + 1) n.ring (plain_links row (linked_sites row k 0 k)) (log_uses n row (linked_sites row k 0 k))
 
   pub same_admitted : (p : ℕ) (x : Write) → (p ≡ s → ⊥) → admitted v p x ≡ admitted w p x
   unfolding letting
@@ -240,8 +240,8 @@ module _ (s : ℕ) (w v : World) (twin : Twin s w v) where
   pub up_both : (p : ℕ) → (p ≡ s → ⊥) → not (is_up (v.nodes p).state) ≡ not (is_up (w.nodes p).state)
   up_both p apart = ap (λ (n : Node). not (is_up n.state)) (twin.nodes p apart)
 
-  pub twin_crash : (p kept : ℕ) → (p ≡ s → ⊥) → Twin s (outcome_of w (Crash p kept)).world (outcome_of v (Crash p kept)).world
-  twin_crash p kept apart =
+  fall_both : (p kept : ℕ) → (p ≡ s → ⊥) → Twin s (crash_at w p (kept_of (w.nodes p) kept)) (crash_at v p (kept_of (v.nodes p) kept))
+  fall_both p kept apart =
       let node : v.nodes p ≡ w.nodes p = twin.nodes p apart in
       let k : ℕ = kept_of (w.nodes p) kept in
       let j : ℕ = kept_of (v.nodes p) kept in
@@ -255,17 +255,35 @@ module _ (s : ℕ) (w v : World) (twin : Twin s w v) where
       (λ (ls : Line → History). kept_by (ls (w.nodes p).line) (w.nodes p) k) twin.lines) in
       let receiver : Twin s (with_node w p (crashed (w.nodes p) k)) (with_node v p (crashed (v.nodes p) j)) = twin_node s w v twin p (crashed (w.nodes p) k)
       (crashed (v.nodes p) j) apart (fallen node) in
-      there s w v p (unless (not (is_up (w.nodes p).state)) NotUp w (done (crash_at w p k)))
-      (unless (not (is_up (v.nodes p).state)) NotUp v (done (crash_at v p j))) twin
-      (both s (not (is_up (w.nodes p).state)) (not (is_up (v.nodes p).state)) NotUp NotUp w v (done (crash_at w p k)) (done (crash_at v p j))
-      (up_both p apart) twin
-      (λ _. twin_empty s (with_links (crash_world w p k) p (λ to. lost_touch (w.links p to)))
+      twin_empty s (with_links (crash_world w p k) p (λ to. lost_touch (w.links p to)))
       (with_links (crash_world v p j) p (λ to. lost_touch (v.links p to))) p
       (twin_row s (crash_world w p k) (crash_world v p j)
       (one_world s (is_origin (w.nodes p).role) (is_origin (v.nodes p).role) (crash_left w p k) (crash_left v p j) (with_node w p (crashed (w.nodes p) k))
       (with_node v p (crashed (v.nodes p) j)) (ap (λ (n : Node). is_origin n.role) node) origin receiver)
       p (λ to. lost_touch (w.links p to)) (λ to. lost_touch (v.links p to)) apart
-      (ap (λ (r : ℕ → Link). (λ (to : ℕ). lost_touch (r to))) (twin.rows p apart)))))
+      (ap (λ (r : ℕ → Link). (λ (to : ℕ). lost_touch (r to))) (twin.rows p apart)))
+
+  pub twin_crash : (p kept : ℕ) → (p ≡ s → ⊥) → Twin s (outcome_of w (Crash p kept)).world (outcome_of v (Crash p kept)).world
+  twin_crash p kept apart =
+      let k : ℕ = kept_of (w.nodes p) kept in
+      let j : ℕ = kept_of (v.nodes p) kept in
+      there s w v p (unless (not (is_up (w.nodes p).state)) NotUp w (done (crash_at w p k)))
+      (unless (not (is_up (v.nodes p).state)) NotUp v (done (crash_at v p j))) twin
+      (both s (not (is_up (w.nodes p).state)) (not (is_up (v.nodes p).state)) NotUp NotUp w v (done (crash_at w p k)) (done (crash_at v p j))
+      (up_both p apart) twin (λ _. fall_both p kept apart))
+
+  -- a halted site is not deported
+  pub twin_deport : (p : ℕ) → Twin s (outcome_of w (Deport p)).world (outcome_of v (Deport p)).world
+  twin_deport p =
+      let o : Outcome = done (deport_at w p) in
+      let r : Outcome = done (deport_at v p) in
+      there s w v p (at_work w p o) (at_work v p r) twin
+      (works s w v p o r twin
+      (λ apart.
+      let u : World = crash_at w p (kept_of (w.nodes p) 0) in
+      let x : World = crash_at v p (kept_of (v.nodes p) 0) in
+      let fallen : Twin s u x = fall_both p 0 apart in
+      twin_node s u x fallen p (deported_site (u.nodes p)) (deported_site (x.nodes p)) apart (ap deported_site (fallen.nodes p apart))))
 
   pub recovery_both : (p : ℕ) (fails : Option ℕ) → (p ≡ s → ⊥) → Twin s (recovery w p fails).world (recovery v p fails).world
   recovery_both p None apart =
@@ -288,7 +306,8 @@ module _ (s : ℕ) (w v : World) (twin : Twin s w v) where
   pub recovers_both : (t : SiteState) (p : ℕ) (fails : Option ℕ) → (p ≡ s → ⊥) → Twin s (recover_from t w p fails).world (recover_from t v p fails).world
   recovers_both Bare p fails apart = twin
   recovers_both Up p fails apart = twin
-  recovers_both Deported p fails apart = twin
+  recovers_both Deported p fails apart = at_most (w.nodes p).session (v.nodes p).session (recovery w p fails) (recovery v p fails)
+      (ap (λ (n : Node). n.session) (twin.nodes p apart)) (recovery_both p fails apart)
   recovers_both Down p fails apart = at_most (w.nodes p).session (v.nodes p).session (recovery w p fails) (recovery v p fails)
       (ap (λ (n : Node). n.session) (twin.nodes p apart)) (recovery_both p fails apart)
 

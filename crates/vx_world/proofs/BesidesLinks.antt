@@ -7,12 +7,12 @@ use Rattle.std.specs.Prelude.{Option, Some, None, not, ◌&&◌, ◌||◌, eqb, 
 use Rattle.std.proofs.lemmas.Bool.{cases_eq}
 use Rattle.vx_history.specs.Events.{joined, new_link, opened}
 use Rattle.vx_history.specs.Receiving.{phase_takes}
-use Rattle.vx_history.specs.Refusals.{Outcome, unless, unless_halted, at_site, both_at_work, may_link, follows, links_of, is_fresh, is_running, is_primary, is_consistent, is_stale, is_empty, agree, rings_fit, some_below, count_below}
+use Rattle.vx_history.specs.Refusals.{Outcome, unless, unless_halted, at_site, both_at_work, may_link, follows, count_links_of, is_fresh, is_running, is_primary, is_consistent, is_stale_mode, is_empty, agree, rings_fit, some_below, how_many_below}
 use Rattle.vx_history.specs.Sends.{is_linked, with_link}
 use Rattle.vx_history.specs.Step.{outcome_of, done, link_part}
-use Rattle.vx_history.specs.Steps.{site_made, raw_made, raw_set, raw_history}
-use Rattle.vx_history.specs.World.{Node, Link, World, bare_site, updated, with_node}
-use Rattle.vx_history.specs.declared.event.Event.TheVariants.{Site, Raw, Link as LinkAt}
+use Rattle.vx_history.specs.Steps.{site_made, raw_made, raw_set, raw_history, group_made, group_set, begun_line}
+use Rattle.vx_history.specs.World.{Node, Link, World, bare_site, no_volumes, updated, with_node}
+use Rattle.vx_history.specs.declared.event.Event.TheVariants.{Site, Raw, Group, Link as LinkAt}
 use Rattle.vx_history.specs.declared.event.LinkPart.{LinkPart}
 use Rattle.vx_history.specs.declared.event.LinkPart.TheVariants.{Joins, Made, Marked, Opened}
 use Rattle.vx_model.specs.declared.link.SyncMode.{SyncMode}
@@ -47,6 +47,19 @@ module _ (s : ℕ) (w v : World) (twin : Twin s w v) where
             (done (raw_made w p)) (done (raw_made v p)) (ap (λ (n : Node). not (is_raw_shape n.disks n.blocks)) node) twin
             (λ _. twin_history s w v twin p (raw_set p (w.nodes p)) (raw_set p (v.nodes p)) (raw_history (w.nodes p)) (raw_history (v.nodes p)) apart
             (ap (λ (n : Node). raw_set p n) node) (ap raw_history node))
+      ]))
+
+  pub twin_group : (p : ℕ) → Twin s (outcome_of w (Group p)).world (outcome_of v (Group p)).world
+  twin_group p =
+      there s w v p (unless (not (is_bare (w.nodes p).state)) WrongRole w (done (group_made w p)))
+      (unless (not (is_bare (v.nodes p).state)) WrongRole v (done (group_made v p))) twin
+      (both s (not (is_bare (w.nodes p).state)) (not (is_bare (v.nodes p).state)) WrongRole WrongRole w v (done (group_made w p)) (done (group_made v p))
+      (ap not ((bare_both s w v twin) p)) twin
+      (λ bare. elim (cases_eq p s) [
+        | inl same ↦ absurd (not_both (not (is_bare (w.nodes p).state))
+            (subst (λ (i : ℕ). not (is_bare (w.nodes i).state) ≡ true) (sym same) (ap (λ (t : SiteState). not (is_bare t)) twin.up)) bare)
+        | inr apart ↦ twin_history s w v twin p (group_set p (w.nodes p)) (group_set p (v.nodes p)) (begun_line no_volumes) (begun_line no_volumes) apart
+            (ap (λ (n : Node). group_set p n) (twin.nodes p apart)) refl
       ]))
 
   pub made_both : (name : List ℕ) (disks blocks : ℕ) → Twin s (site_made w name disks blocks) (site_made v name disks blocks)
@@ -152,9 +165,9 @@ module _ (s : ℕ) (w v : World) (twin : Twin s w v) where
     same_follows = ap (λ (n : Node). not (is_origin n.role) && same_line n.line (v.nodes p).line) there_is ∙ ap
         (λ (n : Node). not (is_origin (w.nodes q).role) && same_line (w.nodes q).line n.line) here_is
 
-    same_links : links_of v p ≡ links_of w p
-    same_links = ap (λ (r : ℕ → Link). count_below v.sites (λ k. is_linked (r k))) row_is ∙ ap
-        (λ (n : ℕ). count_below n (λ k. is_linked (w.links p k))) twin.sites
+    same_links : count_links_of v p ≡ count_links_of w p
+    same_links = ap (λ (r : ℕ → Link). how_many_below v.sites (λ k. is_linked (r k))) row_is ∙ ap
+        (λ (n : ℕ). how_many_below n (λ k. is_linked (w.links p k))) twin.sites
 
     same_fresh : is_fresh v q ≡ is_fresh w q
     same_fresh =
@@ -178,12 +191,12 @@ module _ (s : ℕ) (w v : World) (twin : Twin s w v) where
         let r : Outcome = done (emptied (with_node v q (joined (v.nodes p) p (v.nodes q))) q) in
         let fit_w : Outcome = unless (not (agree (w.nodes p).volumes (w.nodes q).volumes && rings_fit (w.nodes p) (w.nodes q))) Size w o in
         let fit_v : Outcome = unless (not (agree (v.nodes p).volumes (v.nodes q).volumes && rings_fit (v.nodes p) (v.nodes q))) Size v r in
-        let few_w : Outcome = unless (leb MOST_LINKS (links_of w p)) (Limit Links MOST_LINKS) w fit_w in
-        let few_v : Outcome = unless (leb MOST_LINKS (links_of v p)) (Limit Links MOST_LINKS) v fit_v in
+        let few_w : Outcome = unless (leb MOST_LINKS (count_links_of w p)) (Limit Links MOST_LINKS) w fit_w in
+        let few_v : Outcome = unless (leb MOST_LINKS (count_links_of v p)) (Limit Links MOST_LINKS) v fit_v in
         both s (not (may_link w p q)) (not (may_link v p q)) WrongRole WrongRole w v (unless (is_linked (w.links p q)) (Exists (w.nodes q).name) w few_w)
         (unless (is_linked (v.links p q)) (Exists (v.nodes q).name) v few_v) (ap not same_may) twin
         (λ _. both s (is_linked (w.links p q)) (is_linked (v.links p q)) (Exists (w.nodes q).name) (Exists (v.nodes q).name) w v few_w few_v same_linked twin
-        (λ _. both s (leb MOST_LINKS (links_of w p)) (leb MOST_LINKS (links_of v p)) (Limit Links MOST_LINKS) (Limit Links MOST_LINKS) w v fit_w fit_v
+        (λ _. both s (leb MOST_LINKS (count_links_of w p)) (leb MOST_LINKS (count_links_of v p)) (Limit Links MOST_LINKS) (Limit Links MOST_LINKS) w v fit_w fit_v
         (ap (λ (n : ℕ). leb MOST_LINKS n) same_links) twin
         (λ _. both s (not (agree (w.nodes p).volumes (w.nodes q).volumes && rings_fit (w.nodes p) (w.nodes q)))
         (not (agree (v.nodes p).volumes (v.nodes q).volumes && rings_fit (v.nodes p) (v.nodes q))) Size Size w v o r
@@ -193,8 +206,8 @@ module _ (s : ℕ) (w v : World) (twin : Twin s w v) where
         (twin_node s w v twin q (joined (w.nodes p) p (w.nodes q)) (joined (v.nodes p) p (v.nodes q)) other
         (ap (λ (n : Node). joined n p (v.nodes q)) here_is ∙ ap (λ (n : Node). joined (w.nodes p) p n) there_is))))))
     part_both sync Made =
-        let l : Link = new_link (links_of w p) sync (w.nodes q) in
-        let m : Link = new_link (links_of v p) sync (v.nodes q) in
+        let l : Link = new_link (count_links_of w p) sync (w.nodes q) in
+        let m : Link = new_link (count_links_of v p) sync (v.nodes q) in
         both s (not (is_primary (w.nodes p).role && follows w p q)) (not (is_primary (v.nodes p).role && follows v p q)) WrongRole WrongRole w v
         (unless (is_linked (w.links p q)) (Exists (w.nodes q).name) w (done (with_link w p q l)))
         (unless (is_linked (v.links p q)) (Exists (v.nodes q).name) v (done (with_link v p q m)))
@@ -202,7 +215,7 @@ module _ (s : ℕ) (w v : World) (twin : Twin s w v) where
         (λ _. both s (is_linked (w.links p q)) (is_linked (v.links p q)) (Exists (w.nodes q).name) (Exists (v.nodes q).name) w v (done (with_link w p q l))
         (done (with_link v p q m)) same_linked twin
         (λ _. twin_link s w v twin p q l m apart
-        (ap (λ (n : ℕ). new_link n sync (v.nodes q)) same_links ∙ ap (λ (n : Node). new_link (links_of w p) sync n) there_is)))
+        (ap (λ (n : ℕ). new_link n sync (v.nodes q)) same_links ∙ ap (λ (n : Node). new_link (count_links_of w p) sync n) there_is)))
     part_both sync Marked =
         let marks : Node → Node = λ n. record n { mark = Consistent } in
         both s (not (is_primary (w.nodes p).role && (follows w p q && (is_linked (w.links p q) && is_empty (w.nodes p).log))))
@@ -213,7 +226,7 @@ module _ (s : ℕ) (w v : World) (twin : Twin s w v) where
         ∙ ap (λ (b : Bool). not (is_primary (w.nodes p).role && (follows w p q && (b && is_empty (w.nodes p).log)))) same_linked) twin
         (λ _. twin_node s w v twin q (marks (w.nodes q)) (marks (v.nodes q)) other (ap marks there_is))
     part_both sync Opened =
-        let rest : Node → Node → Link → Bool = λ n k l. is_linked l && (is_empty n.log && (is_stale l.mode && (phase_takes k.phase && is_consistent k.mark))) in
+        let rest : Node → Node → Link → Bool = λ n k l. is_linked l && (is_empty n.log && (is_stale_mode l.mode && (phase_takes k.phase && is_consistent k.mark))) in
         both s (not (is_primary (w.nodes p).role && (follows w p q && rest (w.nodes p) (w.nodes q) (w.links p q))))
         (not (is_primary (v.nodes p).role && (follows v p q && rest (v.nodes p) (v.nodes q) (v.links p q)))) WrongRole WrongRole w v
         (done (with_link w p q (opened (w.links p q) (w.nodes p).safe))) (done (with_link v p q (opened (v.links p q) (v.nodes p).safe)))

@@ -13,17 +13,18 @@ use Rattle.vx_history.specs.LinkForms.{plain_receiver}
 use Rattle.vx_model.specs.declared.site.Mark.{Mark}
 use Rattle.vx_model.specs.declared.site.Mark.TheVariants.{Consistent}
 use Rattle.vx_model.specs.declared.site.SPhase.TheVariants.{Log as ByLog}
-use Rattle.vx_model.specs.declared.site.SiteState.TheVariants.{Up, Down}
+use Rattle.vx_model.specs.declared.site.SiteState.TheVariants.{Up}
 use Rattle.vx_history.specs.declared.receiver.RState.{RState}
 use Rattle.vx_history.specs.declared.receiver.RAction.TheVariants.{Nothing as DoesNothing}
 use Rattle.vx_history.proofs.Updates.{by_test, at_place}
 use Rattle.vx_history.proofs.GoodLemmas.{good_written, good_half_written, up_is_made, prefix_push}
 use Rattle.vx_history.specs.Sends.{packets_of, greeting}
 use Rattle.vx_history.specs.Events
-use Rattle.vx_history.specs.Sound.{IsWhole, GoodPacket, CameTo, KnownNode, Sound}
+use Rattle.vx_history.specs.Sound.{LosesNothing, GoodPacket, CameTo, KnownNode, Sound}
 use Rattle.vx_world.proofs.Lists.{prefix_refl, not_both}
 use Rattle.vx_world.proofs.Moves.{sound_sending, sound_with_links, sound_with_node, sound_with_history, good_later, at_changed, stays_fed}
 use Rattle.vx_world.proofs.Tests.{Keeps, unless_keeps}
+use Rattle.vx_world.proofs.Guards.{rest_up}
 use Rattle.vx_world.proofs.Nodes
 use Rattle.vx_world.proofs.Links
 
@@ -33,8 +34,8 @@ use Rattle.vx_world.proofs.Links
 pub origin_known : (w : World) (i : ℕ) (n : Node) → is_origin n.role ≡ true → KnownNode w.nodes w.links i n
 origin_known w i n o = λ _ r _. not_both (is_origin n.role) o r
 
-pub up_whole : (n : Node) → n.state ≡ Up → IsWhole n
-up_whole n up down = absurd (let e : Up ≡ Down = sym up ∙ down in cc)
+pub up_whole : (n : Node) → n.state ≡ Up → LosesNothing n
+up_whole n up rest = absurd (rest_up n.state rest up)
 
 pub links_changed_keeps : (w : World) (p : ℕ) (x : Write) → Sound w → Sound (Events.links_changed w p x)
 links_changed_keeps w p x s =

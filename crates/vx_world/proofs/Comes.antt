@@ -13,7 +13,7 @@ use Rattle.vx_history.specs.Refusals.{is_bunker}
 use Rattle.vx_history.proofs.Updates.{all_updated, by_test, eqb_equal}
 use Rattle.vx_history.proofs.GoodLemmas.{good_stays}
 use Rattle.vx_history.specs.Sends.{is_linked}
-use Rattle.vx_history.specs.Sound.{IsWhole, IsFed, TakesUpdates, IsMarked, IsNewest, StoodHere, has_line, HasCome, CameTo, GoodLink, GoodMessage, GoodPacket, GoodPromise, IsKept, IsStranger, StrangerSays, KnownNode, Sound}
+use Rattle.vx_history.specs.Sound.{LosesNothing, IsFed, TakesUpdates, IsMarked, IsNewest, StoodHere, has_line, HasCome, CameTo, GoodLink, GoodMessage, GoodPacket, GoodPromise, IsKept, IsStranger, StrangerSays, KnownNode, Sound}
 use Rattle.vx_world.specs.Comings.{MayCome, MayComeFirst}
 use Rattle.vx_world.proofs.Lists.{each_append, each_weaker, not_both}
 use Rattle.vx_world.proofs.Stood.{more_lines, last_line, who_came}
@@ -95,11 +95,11 @@ module _ (w : World) (i : ℕ) (n : Node) (s : Sound w) (apart : n.line.origin �
   pub sound_coming : ((p : ℕ) → GoodLink (w.lines (w.nodes p).line).held p i (w.nodes p) n (w.links p i))
       → ((p : Packet) → p.source ≡ i → n.line ≡ p.line → GoodPacket w.nodes w.links w.lines p → GoodMessage (w.lines p.line).held n p.line p.message)
       → ((e : Promise) → e.site ≡ i → n.line ≡ e.line → GoodPromise w.nodes w.links e → IsKept n e.line e.number e.surety)
-      → KnownNode joined_nodes w.links i n → Good (with_node w i n) → IsWhole n → IsFed n → TakesUpdates n → IsMarked n → IsNewest n
+      → KnownNode joined_nodes w.links i n → Good (with_node w i n) → LosesNothing n → IsFed n → TakesUpdates n → IsMarked n → IsNewest n
       → Sound (with_node w i n)
   sound_coming comes says keeps known good whole fed takes marked newest = record {
     good = good;
-    whole = all_updated (λ k (m : Node). IsWhole m) w.nodes i n whole (λ k _. s.whole k);
+    whole = all_updated (λ k (m : Node). LosesNothing m) w.nodes i n whole (λ k _. s.whole k);
     fed = all_updated (λ k (m : Node). IsFed m) w.nodes i n fed (λ k _. s.fed k);
     takes = all_updated (λ k (m : Node). TakesUpdates m) w.nodes i n takes (λ k _. s.takes k);
     marked = all_updated (λ k (m : Node). IsMarked m) w.nodes i n marked (λ k _. s.marked k);
@@ -182,7 +182,7 @@ module _ (w : World) (i : ℕ) (n : Node) (s : Sound w) (stranger : IsStranger w
     says = λ _ v. absurd (unlinked p v.0 v.2);
   }
 
-  pub sound_joining : Good (with_node w i n) → IsWhole n → IsFed n → TakesUpdates n → IsMarked n → IsNewest n → length n.log ≤ 0
+  pub sound_joining : Good (with_node w i n) → LosesNothing n → IsFed n → TakesUpdates n → IsMarked n → IsNewest n → length n.log ≤ 0
       → Sound (with_node w i n)
   sound_joining good whole fed takes marked newest empty =
       sound_coming w i n s apart made stays grows may alone stranger.2 comes
@@ -258,12 +258,12 @@ module _ (w : World) (i sites : ℕ) (n : Node) (h : Line → History) (s : Soun
         (λ _ _ e. e) k q.2,
   )
 
-  pub sound_founding : Good (record w { sites = sites; nodes = founded_nodes; lines = h }) → IsWhole n → is_origin n.role ≡ true → TakesUpdates n
+  pub sound_founding : Good (record w { sites = sites; nodes = founded_nodes; lines = h }) → LosesNothing n → is_origin n.role ≡ true → TakesUpdates n
       → IsMarked n → IsNewest n → StoodHere n → AllByRecursion (HasCome founded_nodes i) n.stood
       → Sound (record w { sites = sites; nodes = founded_nodes; lines = h })
   sound_founding good whole origin takes marked newest stands come = record {
     good = good;
-    whole = all_updated (λ k (m : Node). IsWhole m) w.nodes i n whole (λ k _. s.whole k);
+    whole = all_updated (λ k (m : Node). LosesNothing m) w.nodes i n whole (λ k _. s.whole k);
     fed = all_updated (λ k (m : Node). IsFed m) w.nodes i n (λ r. not_both (is_origin n.role) origin r) (λ k _. s.fed k);
     takes = all_updated (λ k (m : Node). TakesUpdates m) w.nodes i n takes (λ k _. s.takes k);
     marked = all_updated (λ k (m : Node). IsMarked m) w.nodes i n marked (λ k _. s.marked k);

@@ -1,12 +1,12 @@
 -- Crashes, recoveries and halts keep what holds of the world.
-use Rattle.std.proofs.Common.{◌≡◌, ℕ, ◌+◌, ◌≤◌, [], length, take, refl, sym, ◌∙◌, subst, arith, Bool, true, false}
+use Rattle.std.proofs.Common.{◌≡◌, ℕ, ◌+◌, ◌≤◌, [], length, take, refl, ap, sym, ◌∙◌, subst, arith, Bool, true, false}
 use Rattle.std.specs.Prelude.{Option, Some, None}
 use Rattle.std.specs.List.{AllByRecursion}
 use Rattle.std.proofs.lemmas.List.{length-take, take-take}
 use Rattle.vx_model.specs.Content.{IsPrefixOf}
 use Rattle.vx_history.specs.World.{World, Node, with_node}
 use Rattle.vx_model.specs.Sites.{is_origin}
-use Rattle.vx_history.specs.Steps.{burned, crashed, crash_left, stopped_by}
+use Rattle.vx_history.specs.Steps.{burned, crashed, crash_left, deported_site, deported_world, stopped_by}
 use Rattle.vx_history.specs.Good.{IsMade}
 use Rattle.vx_model.specs.declared.site.Mark.{Mark}
 use Rattle.vx_model.specs.declared.site.Mark.TheVariants.{Consistent}
@@ -15,14 +15,15 @@ use Rattle.vx_model.specs.declared.site.SiteState.{SiteState}
 use Rattle.vx_model.specs.declared.site.SiteState.TheVariants.{Bare, Up, Deported, Down}
 use Rattle.vx_history.proofs.Updates.{by_test, at_place}
 use Rattle.vx_history.proofs.GoodLemmas.{up_is_made}
-use Rattle.vx_history.proofs.CrashLemmas.{good_crashed, good_session_begun, good_stopped, kept_length}
+use Rattle.vx_history.proofs.CrashLemmas.{good_crashed, good_deported, good_session_begun, good_stopped, kept_length, crash_state}
 use Rattle.vx_history.specs.Sends.{with_links, sending, greeting}
 use Rattle.vx_history.specs.Events
-use Rattle.vx_history.specs.Sound.{GoodPacket, IsWhole, Sound}
+use Rattle.vx_history.specs.Sound.{GoodPacket, LosesNothing, is_at_rest, Sound}
 use Rattle.vx_world.proofs.Lists.{prefix_take}
 use Rattle.vx_world.proofs.Carry.{IsLater}
 use Rattle.vx_world.proofs.Moves.{sound_gathering, sound_sending, sound_with_links, sound_with_node, sound_with_history, good_later, stays_fed}
 use Rattle.vx_world.proofs.Tests.{Keeps, unless_keeps}
+use Rattle.vx_world.proofs.Guards.{rest_up, rest_bare}
 use Rattle.vx_world.proofs.Changes.{greeting_good, up_whole, origin_known}
 use Rattle.vx_world.proofs.Nodes
 use Rattle.vx_world.proofs.Links
@@ -35,7 +36,7 @@ lost_keeps v q s =
     (λ k is. is)
     (λ _ k is. is)
 
-crashed_whole : (n : Node) (k : ℕ) → n.safe ≤ k → k ≤ length n.log → IsWhole (crashed n k)
+crashed_whole : (n : Node) (k : ℕ) → n.safe ≤ k → k ≤ length n.log → LosesNothing (crashed n k)
 crashed_whole n k least most = λ _. omega (arith, kept_length n k least most)
 
 origin_crash_keeps : (w : World) (q k : ℕ) → Sound w → IsMade (w.nodes q) → is_origin (w.nodes q).role ≡ true → (w.nodes q).safe ≤ k
@@ -85,21 +86,44 @@ crash_keeps w q kept s up =
     (λ o. lost_keeps (crash_left w q k) q (origin_crash_keeps w q k s made o least most))
     (λ r. lost_keeps (with_node w q (crashed n k)) q (receiver_crash_keeps w q k s made r least most)))
 
+-- a site that is down and gives its disks up
+deported_keeps : (w : World) (q : ℕ) → Sound w → (w.nodes q).state ≡ Down → Sound (deported_world w q)
+deported_keeps w q s down =
+    let n : Node = w.nodes q in
+    let rest : is_at_rest n.state ≡ true = ap is_at_rest down in
+    let made : IsMade n = rest_bare n.state rest in
+    sound_with_node w q (deported_site n) s
+    (good_deported w q s.good made (s.whole q rest))
+    (Nodes.later_deported n down)
+    (λ _. s.whole q rest)
+    (s.fed q)
+    (s.takes q)
+    (λ up. absurd (let e : Deported ≡ Up = up in cc))
+    (s.newest q)
+    (λ _. s.stands q made)
+    (stays_fed w q (deported_site n) (λ m. m) (λ t. t))
+    (λ _ r g. s.known q made r g)
+
+pub deport_keeps : (w : World) (q : ℕ) → Sound w → (w.nodes q).state ≡ Up → Sound (Events.deport_at w q)
+deport_keeps w q s up =
+    let k : ℕ = Events.kept_of (w.nodes q) 0 in
+    deported_keeps (Events.crash_at w q k) q (crash_keeps w q 0 s up) (crash_state w q k)
+
 -- the world of a site that has risen with this mark, with its links and its greeting
 abbrev pub RisenWorld : World → ℕ → Node → World
 RisenWorld w q m = sending (with_links (with_node w q m) q (λ to. Events.restarted_link m to (w.links q to))) (Events.recovery_greeting q m)
 
-risen_keeps : (w : World) (q : ℕ) (mark : Mark) → Sound w → (w.nodes q).state ≡ Down → ((w.nodes q).mark ≡ Consistent → mark ≡ Consistent)
+risen_keeps : (w : World) (q : ℕ) (mark : Mark) → Sound w → is_at_rest (w.nodes q).state ≡ true → ((w.nodes q).mark ≡ Consistent → mark ≡ Consistent)
     → (is_origin (w.nodes q).role ≡ true → mark ≡ (w.nodes q).mark)
     → (is_origin (w.nodes q).role ≡ false → (w.nodes q).phase ≡ ByLog → (w.nodes q).end ≤ length (w.nodes q).log → mark ≡ Consistent) → Sound (RisenWorld w q (Nodes.risen (w.nodes q) mark))
-risen_keeps w q mark s down marks same ends =
+risen_keeps w q mark s rest marks same ends =
     let n : Node = w.nodes q in
     let m : Node = Nodes.risen n mark in
-    let made : IsMade n = λ bare. let e : Down ≡ Bare = sym down ∙ bare in cc in
+    let made : IsMade n = rest_bare n.state rest in
     let later : IsLater n m = Nodes.later_risen n mark marks in
     let u : World = with_node w q m in
     let sound_u : Sound u = sound_with_node w q m s
-    (good_later w q m s.good made refl later.made (Nodes.good_risen (w.lines n.line) q mark n (s.takes q) made same (s.whole q down) (s.good.nodes q)))
+    (good_later w q m s.good made refl later.made (Nodes.good_risen (w.lines n.line) q mark n (s.takes q) made same (s.whole q rest) (s.good.nodes q)))
     later
     (up_whole m refl)
     (s.fed q)
@@ -126,19 +150,19 @@ risen_keeps w q mark s down marks same ends =
     marked true o by end = same o ∙ (s.good.nodes q).origin_mark o
     marked false r by end = ends r by (omega (arith, end, (s.good.nodes q).safe_fits))
 
-recovery_keeps : (w : World) (q : ℕ) (fails : Option ℕ) → Sound w → (w.nodes q).state ≡ Down → Keeps (Events.recovery w q fails)
-recovery_keeps w q None s down =
-    Nodes.back_by (λ (m : Node). Sound (RisenWorld w q m)) (w.nodes q) (λ mark marks same ends. risen_keeps w q mark s down marks same ends)
-recovery_keeps w q (Some disk) s down =
+recovery_keeps : (w : World) (q : ℕ) (fails : Option ℕ) → Sound w → is_at_rest (w.nodes q).state ≡ true → Keeps (Events.recovery w q fails)
+recovery_keeps w q None s rest =
+    Nodes.back_by (λ (m : Node). Sound (RisenWorld w q m)) (w.nodes q) (λ mark marks same ends. risen_keeps w q mark s rest marks same ends)
+recovery_keeps w q (Some disk) s rest =
     let n : Node = w.nodes q in
-    let made : IsMade n = λ bare. let e : Down ≡ Bare = sym down ∙ bare in cc in
+    let made : IsMade n = rest_bare n.state rest in
     sound_with_node w q (record n { session = n.session + 1 }) s
     (good_session_begun w q s.good made)
-    (Nodes.later_begun n down)
+    (Nodes.later_begun n rest)
     (s.whole q)
     (s.fed q)
     (s.takes q)
-    (λ up. absurd (let e : Down ≡ Up = sym down ∙ up in cc))
+    (λ up. absurd (rest_up n.state rest up))
     (s.newest q)
     (s.stands q)
     (stays_fed w q (record n { session = n.session + 1 }) (λ m. m) (λ t. t))
@@ -148,8 +172,8 @@ pub recover_keeps : (w : World) (q : ℕ) (state : SiteState) (fails : Option �
     → Keeps (Events.recover_from state w q fails)
 recover_keeps w q Bare fails s e = s
 recover_keeps w q Up fails s e = s
-recover_keeps w q Deported fails s e = s
-recover_keeps w q Down fails s e = unless_keeps _ _ w (Events.recovery w q fails) s (λ _. recovery_keeps w q fails s e)
+recover_keeps w q Deported fails s e = unless_keeps _ _ w (Events.recovery w q fails) s (λ _. recovery_keeps w q fails s (ap is_at_rest e))
+recover_keeps w q Down fails s e = unless_keeps _ _ w (Events.recovery w q fails) s (λ _. recovery_keeps w q fails s (ap is_at_rest e))
 
 pub fault_keeps : (w : World) (q disk : ℕ) → Sound w → (w.nodes q).state ≡ Up → Sound (stopped_by w q disk)
 fault_keeps w q disk s up =

@@ -35,6 +35,13 @@ crash_links : (w : World) (s k : ℕ) (b : Bool) → (let x : World = if b then 
 crash_links w s k true = refl
 crash_links w s k false = refl
 
+pub crash_count : (w : World) (s k : ℕ) → (crash_at w s k).sites ≡ w.sites
+crash_count w s k = by_role (is_origin (w.nodes s).role)
+  where
+    by_role : (b : Bool) → (let x : World = if b then crash_left w s k else with_node w s (crashed (w.nodes s) k) in x).sites ≡ w.sites
+    by_role true = refl
+    by_role false = refl
+
 pub crash_done : (w mid apart v : World) (s k : ℕ) → mid ≡ crash_world w s k → apart ≡ with_links mid s (λ to. lost_touch (mid.links s to))
     → v ≡ emptied apart s → v ≡ crash_at w s k
 crash_done w mid apart v s k down lost empty =

@@ -6,7 +6,7 @@ use Rattle.vx_model.specs.Content.{Write, IsNumber, IsPrefixOf}
 use Rattle.vx_history.specs.World.{World, Node, Link, Packet, Message, Hello, Update, NetAck, DataAck, with_node}
 use Rattle.vx_model.specs.Sites.{is_origin, same_line}
 use Rattle.vx_history.specs.Good.{IsMade}
-use Rattle.vx_history.specs.Admission.{is_live}
+use Rattle.vx_history.specs.Admission.{is_live_link}
 use Rattle.vx_history.specs.Sending.{Sent, sent_step, by_log, pumped_up_to, with_nothing}
 use Rattle.vx_history.specs.Receiving.{Received, takes, repeats, with_next, phase_takes}
 use Rattle.vx_history.specs.LinkForms.{plain_link, with_plain, plain_receiver}
@@ -69,7 +69,7 @@ pump_keeps w p q s up linked =
     let l : PlainLink = plain_link q (w.links p q) in
     let low : ℕ = max l.sent l.stored in
     let high : ℕ = min n.safe (l.net + MOST_AHEAD) in
-    by_test (λ (r : Sent). Sound (Events.moved_by w p q r)) (is_live l && by_log l.mode) (pumped_up_to l low high) (with_nothing l)
+    by_test (λ (r : Sent). Sound (Events.moved_by w p q r)) (is_live_link l && by_log l.mode) (pumped_up_to l low high) (with_nothing l)
     (λ _. by_test (λ (r : Sent). Sound (Events.moved_by w p q r)) (ltb low high)
     (record { link = record l { sent = high }; action = Updates (low + 1) high }) (with_nothing (record l { sent = low }))
     (λ _. sends low high (omega arith))
@@ -136,9 +136,9 @@ connect_keeps w p q s =
 -- ## Packets
 
 link_heard_keeps : (w : World) (p : Packet) (e : SEvent) → Sound w
-    → GoodLink (w.lines (w.nodes p.target).line).held p.target p.source (w.nodes p.target) (w.nodes p.source) (with_plain (w.links p.target p.source) (sent_step (plain_link p.source (w.links p.target p.source)) e (Events.facts_of (w.nodes p.target) p.line)).link) → Keeps (Events.link_heard w p e)
+    → GoodLink (w.lines (w.nodes p.target).line).held p.target p.source (w.nodes p.target) (w.nodes p.source) (with_plain (w.links p.target p.source) (sent_step (plain_link p.source (w.links p.target p.source)) e (Events.receiver_facts (w.nodes p.target) p.line)).link) → Keeps (Events.link_heard w p e)
 link_heard_keeps w p e s good =
-    let r : Sent = sent_step (plain_link p.source (w.links p.target p.source)) e (Events.facts_of (w.nodes p.target) p.line) in
+    let r : Sent = sent_step (plain_link p.source (w.links p.target p.source)) e (Events.receiver_facts (w.nodes p.target) p.line) in
     by_test Keeps (keeps_links (w.nodes p.target).role && is_linked (w.links p.target p.source))
     (says (with_link w p.target p.source (with_plain (w.links p.target p.source) r.link)) (Events.said_of_link r.action)) _
     (λ _. sound_with_link w p.target p.source (with_plain (w.links p.target p.source) r.link) s good (λ is. is) (λ _ is. is))

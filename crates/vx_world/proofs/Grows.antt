@@ -1,15 +1,15 @@
 -- Every event leaves what lines hold, what was answered, sent and promised.
-use Rattle.std.proofs.Common.{◌≡◌, ℕ, ◌+◌, ◌≤◌, List, [], ◌∷◌, ◌++◌, take, refl, ap, sym, ◌∙◌, subst, arith, append_assoc, Bool, true, false}
+use Rattle.std.proofs.Common.{◌≡◌, ℕ, ◌+◌, ◌-◌, ◌≤◌, List, [], ◌∷◌, ◌++◌, take, refl, ap, sym, ◌∙◌, subst, arith, append_assoc, Bool, true, false}
 use Rattle.std.specs.Prelude.{leb, not, if◌then◌else◌, Option, Some, None, eqb, ltb, ◌&&◌, ◌||◌, bytes_eq}
 use Rattle.std.proofs.lemmas.List.{take-take}
-use Rattle.vx_model.specs.Content.{Write, IsPrefixOf, blocks_in}
+use Rattle.vx_model.specs.Content.{Write, Content, IsPrefixOf, blocks_in}
 use Rattle.vx_model.specs.Answer.{is_too_large}
 use Rattle.vx_history.specs.Admission.{Admitted, Held_by, Goes}
 use Rattle.vx_history.specs.Receiving.{Received, received_step}
 use Rattle.vx_history.specs.LinkForms.{plain_receiver, with_plain}
-use Rattle.vx_history.specs.World.{World, Node, Link as LinkRecord, History, Gathering, Packet, Promise, Message, Hello, Update, NetAck, DataAck, with_node, with_history, bare_site}
+use Rattle.vx_history.specs.World.{World, Node, Volume, Link as LinkRecord, History, Gathering, Packet, Promise, Message, Hello, Update, NetAck, DataAck, with_node, with_history, bare_site, no_volumes}
 use Rattle.vx_model.specs.Sites.{is_origin}
-use Rattle.vx_history.specs.Steps.{burned, logged, told_of, written, half_written, crashed, crash_left, site_made, raw_made, raw_set, raw_history, stopped_by}
+use Rattle.vx_history.specs.Steps.{burned, logged, told_of, written, half_written, crashed, crash_left, deported_site, site_made, begun_site, begun_line, line_begun, raw_made, raw_volumes, raw_content, group_made, stopped_by}
 use Rattle.vx_history.specs.Good.{IsMade}
 use Rattle.vx_model.specs.declared.history.Line.{Line}
 use Rattle.vx_model.specs.declared.link.SyncMode.{SyncMode}
@@ -31,18 +31,18 @@ use Rattle.vx_history.proofs.GoodLemmas.{up_is_made}
 use Rattle.vx_history.specs.declared.event.LinkPart.{LinkPart}
 use Rattle.vx_history.specs.declared.event.LinkPart.TheVariants.{Joins, Made, Marked, Opened}
 use Rattle.vx_history.specs.declared.event.Event.{Event}
-use Rattle.vx_history.specs.declared.event.Event.TheVariants.{Site, Raw, Write as WriteAt, Read, Apply, Pump, Tick, Deliver, Connect, Cut, Pause, Resume, Wait, Link, Set, Crash, Recover, Fault}
+use Rattle.vx_history.specs.declared.event.Event.TheVariants.{Site, Raw, Group, Write as WriteAt, Read, Apply, Pump, Tick, Deliver, Connect, Cut, Pause, Resume, Wait, Link, Set, Crash, Deport, Recover, Fault}
 use Rattle.vx_history.specs.declared.event.Said.TheVariants.{Ignored as IsIgnored, Pending, DoneAt}
-use Rattle.vx_history.specs.Refusals.{Outcome, says, unless, at_work, on_link, keeps_links, is_primary, is_running, follows, some_below, is_unconfirmed, holds_back, may_link, agree, rings_fit, links_of}
+use Rattle.vx_history.specs.Refusals.{Outcome, says, unless, at_work, on_link, keeps_links, is_primary, is_running, follows, some_below, is_unconfirmed, holds_back, may_link, agree, rings_fit, count_links_of}
 use Rattle.vx_model.specs.Sites.{is_up, is_bare}
-use Rattle.vx_model.specs.Sizes.{is_raw_shape}
+use Rattle.vx_model.specs.Sizes.{is_raw_shape, ring_of}
 use Rattle.vx_history.specs.Events
 use Rattle.vx_history.specs.Gatherings.{completes, emptied}
 use Rattle.vx_history.specs.Step.{done, outcome_of, step, run, link_part}
 use Rattle.vx_history.specs.Sends.{is_linked, with_link, with_links, sending, promising, sent_by}
 use Rattle.vx_model.specs.declared.limits.TheConstants.{MOST_DISKS, MOST_LINKS, MOST_SITES}
 use Rattle.vx_history.specs.Sound.{has_line, Sound}
-use Rattle.vx_world.specs.Grown.{Grown}
+use Rattle.vx_world.specs.Grown.{GrownWorld}
 use Rattle.vx_world.proofs.Lists.{prefix_refl, prefix_trans, prefix_more, prefix_take, not_false}
 use Rattle.vx_world.proofs.Stood.{more_lines}
 use Rattle.vx_world.proofs.Guards
@@ -54,7 +54,7 @@ append-nil : {A : Type 0} (xs : List A) → xs ++ [] ≡ xs
 append-nil [] = refl
 append-nil (x ∷ xs) = ap (λ t. x ∷ t) (append-nil xs)
 
-pub grown_same : (w : World) → Grown w w
+pub grown_same : (w : World) → GrownWorld w w
 grown_same w = record {
   held = λ l _. prefix_refl (w.lines l).held;
   told = λ l _. omega arith;
@@ -64,7 +64,7 @@ grown_same w = record {
   promised = ([], sym (append-nil w.promised));
 }
 
-pub grown_trans : (u v w : World) → Grown u v → Grown v w → Grown u w
+pub grown_trans : (u v w : World) → GrownWorld u v → GrownWorld v w → GrownWorld u w
 grown_trans u v w g h = record {
   held = λ l made. prefix_trans (u.lines l).held (v.lines l).held (w.lines l).held (g.held l made) (h.held l (g.made l.origin made));
   told = λ l made. omega (arith, g.told l made, h.told l (g.made l.origin made));
@@ -78,14 +78,14 @@ grown_trans u v w g h = record {
   );
 }
 
-module _ (w v : World) (g : Grown w v) where
-  grown_links : (f : ℕ → ℕ → LinkRecord) → Grown w (record v { links = f })
+module _ (w v : World) (g : GrownWorld w v) where
+  grown_links : (f : ℕ → ℕ → LinkRecord) → GrownWorld w (record v { links = f })
   grown_links f = record { held = g.held; told = g.told; made = g.made; came = g.came; sent = g.sent; promised = g.promised }
 
-  grown_gathering : (f : ℕ → Option Gathering) → Grown w (record v { gathering = f })
+  grown_gathering : (f : ℕ → Option Gathering) → GrownWorld w (record v { gathering = f })
   grown_gathering f = record { held = g.held; told = g.told; made = g.made; came = g.came; sent = g.sent; promised = g.promised }
 
-  grown_sending : (more : List Packet) → Grown w (sending v more)
+  grown_sending : (more : List Packet) → GrownWorld w (sending v more)
   grown_sending more = record {
     held = g.held;
     told = g.told;
@@ -95,7 +95,7 @@ module _ (w v : World) (g : Grown w v) where
     promised = g.promised;
   }
 
-  grown_promising : (more : List Promise) → Grown w (promising v more)
+  grown_promising : (more : List Promise) → GrownWorld w (promising v more)
   grown_promising more = record {
     held = g.held;
     told = g.told;
@@ -109,7 +109,7 @@ module _ (w v : World) (g : Grown w v) where
 abbrev StoodMore : Node → Node → Type 0
 StoodMore a n = IsMade a → (l : Line) → has_line a.stood l ≡ true → has_line n.stood l ≡ true
 
-grown_node : (w : World) (i : ℕ) (n : Node) → (IsMade (w.nodes i) → IsMade n) → StoodMore (w.nodes i) n → Grown w (with_node w i n)
+grown_node : (w : World) (i : ℕ) (n : Node) → (IsMade (w.nodes i) → IsMade n) → StoodMore (w.nodes i) n → GrownWorld w (with_node w i n)
 grown_node w i n stays stood = record {
   held = λ l _. prefix_refl (w.lines l).held;
   told = λ l _. omega arith;
@@ -120,7 +120,7 @@ grown_node w i n stays stood = record {
 }
 
 grown_history : (w : World) (i : ℕ) (n : Node) (h : History) → (IsMade (w.nodes i) → IsMade n) → StoodMore (w.nodes i) n
-    → (IsMade (w.nodes n.line.origin) → IsPrefixOf (w.lines n.line).held h.held × ((w.lines n.line).told ≤ h.told)) → Grown w (with_history w i n h)
+    → (IsMade (w.nodes n.line.origin) → IsPrefixOf (w.lines n.line).held h.held × ((w.lines n.line).told ≤ h.told)) → GrownWorld w (with_history w i n h)
 grown_history w i n h stays stood grows = record {
   held = all_lines (λ l (r : History). IsMade (w.nodes l.origin) → IsPrefixOf (w.lines l).held r.held) w.lines n.line h (λ made. (grows made).0)
       (λ l _ _. prefix_refl (w.lines l).held);
@@ -135,9 +135,9 @@ grown_history w i n h stays stood grows = record {
 
 -- an outcome after which the world has grown
 abbrev Leaves : World → Outcome → Type 0
-Leaves w o = Grown w o.world
+Leaves w o = GrownWorld w o.world
 
-put_grows : (w v : World) (p : ℕ) (x : Write) (fails : Option ℕ) → Sound v → Grown w v → Leaves w (Events.put_in v p x fails)
+put_grows : (w v : World) (p : ℕ) (x : Write) (fails : Option ℕ) → Sound v → GrownWorld w v → Leaves w (Events.put_in v p x fails)
 put_grows w v p x None s g =
     let n : Node = v.nodes p in
     grown_trans w v (written v p x) g
@@ -151,7 +151,7 @@ written_grows : (admitted : Admitted) (w : World) (p : ℕ) (x : Write) (fails :
     → Leaves w (Events.written_if admitted w p x fails)
 written_grows (Held_by why) w p x fails s v = grown_same w
 written_grows (Goes changes) w p x fails s v =
-    Guards.unless_holds (Grown w) _ _ w (Events.put_in (Events.links_changed w p x) p x fails) (grown_same w)
+    Guards.unless_holds (GrownWorld w) _ _ w (Events.put_in (Events.links_changed w p x) p x fails) (grown_same w)
     (λ _. put_grows w (Events.links_changed w p x) p x fails v (grown_links w w (grown_same w) (Events.links_changed w p x).links))
 
 applied_grows : (w : World) (q : ℕ) (r : RState) (action : RAction) → Leaves w (Events.applied_by w q r action)
@@ -163,7 +163,7 @@ applied_grows w q r (AcksFromDisk number) =
     let n : Node = Events.applied (w.nodes q) number r.mark in
     grown_sending w (with_node w q n) (grown_node w q n (λ made. made) (λ _ _ h. h)) _
 
-moved_grows : (w : World) (p q : ℕ) (e : SEvent) → Grown w (Events.link_event w p q e)
+moved_grows : (w : World) (p q : ℕ) (e : SEvent) → GrownWorld w (Events.link_event w p q e)
 moved_grows w p q e =
     let l : LinkRecord = with_plain (w.links p q) (Events.link_step w p q e).link in
     grown_sending w (with_link w p q l) (grown_links w w (grown_same w) (with_link w p q l).links) (sent_by (Events.link_step w p q e).action p q (w.nodes p))
@@ -198,7 +198,7 @@ heard_grows w p (DataAck number) = link_heard_grows w p (HearDataAck number)
 gathers_grows : (w : World) (p : Packet) (o : Outcome) → Leaves w o → Leaves w (Events.gathers p o)
 gathers_grows w p o g = by_taken (Events.is_taken o.said)
   where
-    by_taken : (b : Bool) → Grown w (Events.gathered_if b o.world p)
+    by_taken : (b : Bool) → GrownWorld w (Events.gathered_if b o.world p)
     by_taken true = grown_gathering w o.world g _
     by_taken false = g
 
@@ -210,13 +210,13 @@ delivered_grows w number (Some p) =
     (λ _. heard_grows w p p.message)
     (λ _. grown_same w))
 
-crash_grows : (w : World) (q k : ℕ) → Sound w → (w.nodes q).state ≡ Up → (w.nodes q).safe ≤ k → Grown w (Events.crash_at w q k)
+crash_grows : (w : World) (q k : ℕ) → Sound w → (w.nodes q).state ≡ Up → (w.nodes q).safe ≤ k → GrownWorld w (Events.crash_at w q k)
 crash_grows w q k s up least =
     let n : Node = w.nodes q in
     let made : IsMade n = up_is_made n up in
     let row : ℕ → LinkRecord = λ to. Events.lost_touch (w.links q to) in
     grown_gathering w (with_links (Events.crash_world w q k) q row)
-    (by_test (λ (v : World). Grown w (with_links v q row)) (is_origin n.role) (crash_left w q k) (with_node w q (crashed n k))
+    (by_test (λ (v : World). GrownWorld w (with_links v q row)) (is_origin n.role) (crash_left w q k) (with_node w q (crashed n k))
     (λ o. grown_links w (crash_left w q k)
     (grown_history w q (crashed n k) (record (w.lines n.line) { held = take k n.log }) (λ _ e. cc) (λ _ _ h. h)
     (λ _. (
@@ -227,9 +227,16 @@ crash_grows w q k s up least =
     (with_links (crash_left w q k) q row).links)
     (λ _. grown_links w (with_node w q (crashed n k)) (grown_node w q (crashed n k) (λ _ e. cc) (λ _ _ h. h)) (with_links (with_node w q (crashed n k)) q row).links)) _
 
+deport_grows : (w : World) (q : ℕ) → Sound w → (w.nodes q).state ≡ Up → GrownWorld w (Events.deport_at w q)
+deport_grows w q s up =
+    let k : ℕ = Events.kept_of (w.nodes q) 0 in
+    let v : World = Events.crash_at w q k in
+    grown_trans w v (Events.deport_at w q) (crash_grows w q k s up (Nodes.kept_least (w.nodes q) 0 (s.good.nodes q).safe_fits))
+    (grown_node v q (deported_site (v.nodes q)) (λ _ e. cc) (λ _ _ h. h))
+
 recovery_grows : (w : World) (q : ℕ) (fails : Option ℕ) → Leaves w (Events.recovery w q fails)
 recovery_grows w q None =
-    Nodes.back_by (λ (m : Node). Grown w
+    Nodes.back_by (λ (m : Node). GrownWorld w
     (sending (with_links (with_node w q m) q (λ to. Events.restarted_link m to (w.links q to))) (Events.recovery_greeting q m))) (w.nodes q)
     (λ mark _ _ _.
     let m : Node = Nodes.risen (w.nodes q) mark in
@@ -241,86 +248,95 @@ recovery_grows w q (Some disk) = grown_node w q (record (w.nodes q) { session = 
 recover_grows : (w : World) (q : ℕ) (state : SiteState) (fails : Option ℕ) → Leaves w (Events.recover_from state w q fails)
 recover_grows w q Bare fails = grown_same w
 recover_grows w q Up fails = grown_same w
-recover_grows w q Deported fails = grown_same w
-recover_grows w q Down fails = Guards.unless_holds (Grown w) _ _ w (Events.recovery w q fails) (grown_same w) (λ _. recovery_grows w q fails)
+recover_grows w q Deported fails = Guards.unless_holds (GrownWorld w) _ _ w (Events.recovery w q fails) (grown_same w) (λ _. recovery_grows w q fails)
+recover_grows w q Down fails = Guards.unless_holds (GrownWorld w) _ _ w (Events.recovery w q fails) (grown_same w) (λ _. recovery_grows w q fails)
 
-site_grows : (w : World) (name : List ℕ) (disks blocks : ℕ) → Sound w → Grown w (site_made w name disks blocks)
+site_grows : (w : World) (name : List ℕ) (disks blocks : ℕ) → Sound w → GrownWorld w (site_made w name disks blocks)
 site_grows w name disks blocks s =
-    let g : Grown w (with_node w w.sites (bare_site name disks blocks)) = grown_node w w.sites (bare_site name disks blocks)
+    let g : GrownWorld w (with_node w w.sites (bare_site name disks blocks)) = grown_node w w.sites (bare_site name disks blocks)
     (λ made. absurd (made (s.good.later w.sites (omega arith)))) (λ made. absurd (made (s.good.later w.sites (omega arith)))) in
     record { held = g.held; told = g.told; made = g.made; came = g.came; sent = g.sent; promised = g.promised }
 
-raw_grows : (w : World) (q : ℕ) → (w.nodes q).state ≡ Bare → Grown w (raw_made w q)
-raw_grows w q bare = grown_history w q (raw_set q (w.nodes q)) (raw_history (w.nodes q)) (λ made. absurd (made bare)) (λ made. absurd (made bare)) (λ made. absurd (made bare))
+begun_grows : (w : World) (q ring : ℕ) (volumes : List Volume) (content : Content) → (w.nodes q).state ≡ Bare → GrownWorld w (line_begun w q ring volumes content)
+begun_grows w q ring volumes content bare =
+    grown_history w q (begun_site q ring volumes content (w.nodes q)) (begun_line content) (λ made. absurd (made bare)) (λ made. absurd (made bare)) (λ made. absurd (made bare))
+
+raw_grows : (w : World) (q : ℕ) → (w.nodes q).state ≡ Bare → GrownWorld w (raw_made w q)
+raw_grows w q = let n : Node = w.nodes q in begun_grows w q (ring_of n.blocks) (raw_volumes 1 (n.disks - 2) n.blocks) (raw_content n.disks n.blocks)
 
 link_part_grows : (part : LinkPart) (w : World) (p q : ℕ) (sync : SyncMode) → (w.nodes q).state ≡ Up → Leaves w (link_part part w p q sync)
 link_part_grows Joins w p q sync up =
     let joins : World = with_node w q (Events.joined (w.nodes p) p (w.nodes q)) in
     let o : Outcome = done (emptied joins q) in
     let fits : Outcome = unless (not (agree (w.nodes p).volumes (w.nodes q).volumes && rings_fit (w.nodes p) (w.nodes q))) Size w o in
-    let few : Outcome = unless (leb MOST_LINKS (links_of w p)) (Limit Links MOST_LINKS) w fits in
-    Guards.unless_holds (Grown w) (not (may_link w p q)) WrongRole w (unless (is_linked (w.links p q)) (Exists (w.nodes q).name) w few) (grown_same w)
-    (λ _. Guards.unless_holds (Grown w) (is_linked (w.links p q)) (Exists (w.nodes q).name) w few (grown_same w)
-    (λ _. Guards.unless_holds (Grown w) (leb MOST_LINKS (links_of w p)) (Limit Links MOST_LINKS) w fits (grown_same w)
-    (λ _. Guards.unless_holds (Grown w) (not (agree (w.nodes p).volumes (w.nodes q).volumes && rings_fit (w.nodes p) (w.nodes q))) Size w o (grown_same w)
+    let few : Outcome = unless (leb MOST_LINKS (count_links_of w p)) (Limit Links MOST_LINKS) w fits in
+    Guards.unless_holds (GrownWorld w) (not (may_link w p q)) WrongRole w (unless (is_linked (w.links p q)) (Exists (w.nodes q).name) w few) (grown_same w)
+    (λ _. Guards.unless_holds (GrownWorld w) (is_linked (w.links p q)) (Exists (w.nodes q).name) w few (grown_same w)
+    (λ _. Guards.unless_holds (GrownWorld w) (leb MOST_LINKS (count_links_of w p)) (Limit Links MOST_LINKS) w fits (grown_same w)
+    (λ _. Guards.unless_holds (GrownWorld w) (not (agree (w.nodes p).volumes (w.nodes q).volumes && rings_fit (w.nodes p) (w.nodes q))) Size w o (grown_same w)
     (λ _. grown_gathering w joins (grown_node w q (Events.joined (w.nodes p) p (w.nodes q)) (λ made. made)
     (λ _ l h. more_lines (w.nodes q).stood ((w.nodes p).line ∷ []) l h)) _))))
 link_part_grows Made w p q sync up =
-    let l : LinkRecord = Events.new_link (links_of w p) sync (w.nodes q) in
-    Guards.unless_holds (Grown w) (not (is_primary (w.nodes p).role && follows w p q)) WrongRole w
+    let l : LinkRecord = Events.new_link (count_links_of w p) sync (w.nodes q) in
+    Guards.unless_holds (GrownWorld w) (not (is_primary (w.nodes p).role && follows w p q)) WrongRole w
     (unless (is_linked (w.links p q)) (Exists (w.nodes q).name) w (done (with_link w p q l))) (grown_same w)
-    (λ _. Guards.unless_holds (Grown w) (is_linked (w.links p q)) (Exists (w.nodes q).name) w (done (with_link w p q l)) (grown_same w)
+    (λ _. Guards.unless_holds (GrownWorld w) (is_linked (w.links p q)) (Exists (w.nodes q).name) w (done (with_link w p q l)) (grown_same w)
     (λ _. grown_links w w (grown_same w) (with_link w p q l).links))
 link_part_grows Marked w p q sync up =
-    Guards.unless_holds (Grown w) _ WrongRole w (done (with_node w q (record (w.nodes q) { mark = Consistent }))) (grown_same w)
+    Guards.unless_holds (GrownWorld w) _ WrongRole w (done (with_node w q (record (w.nodes q) { mark = Consistent }))) (grown_same w)
     (λ _. grown_node w q (record (w.nodes q) { mark = Consistent }) (λ made. made) (λ _ _ h. h))
 link_part_grows Opened w p q sync up =
     let l : LinkRecord = Events.opened (w.links p q) (w.nodes p).safe in
-    Guards.unless_holds (Grown w) _ WrongRole w (done (with_link w p q l)) (grown_same w) (λ _. grown_links w w (grown_same w) (with_link w p q l).links)
+    Guards.unless_holds (GrownWorld w) _ WrongRole w (done (with_link w p q l)) (grown_same w) (λ _. grown_links w w (grown_same w) (with_link w p q l).links)
 
 on_link_grows : (w : World) (p q : ℕ) (e : SEvent) → Leaves w (on_link w p q (done (Events.link_event w p q e)))
-on_link_grows w p q e = Guards.on_link_holds (Grown w) keeps_links w p q (done (Events.link_event w p q e)) (grown_same w) (λ _ _ _. moved_grows w p q e)
+on_link_grows w p q e = Guards.on_link_holds (GrownWorld w) keeps_links w p q (done (Events.link_event w p q e)) (grown_same w) (λ _ _ _. moved_grows w p q e)
 
 outcome_grows : (w : World) (e : Event) → Sound w → Leaves w (outcome_of w e)
 outcome_grows w (Site name disks blocks) s =
     let o : Outcome = done (site_made w name disks blocks) in
     let few : Outcome = unless (eqb disks 0 || ltb blocks 8) Size w o in
     let some : Outcome = unless (ltb MOST_DISKS disks) (Limit Disks MOST_DISKS) w few in
-    Guards.unless_holds (Grown w) (some_below w.sites (λ k. bytes_eq (w.nodes k).name name)) (Exists name) w
+    Guards.unless_holds (GrownWorld w) (some_below w.sites (λ k. bytes_eq (w.nodes k).name name)) (Exists name) w
     (unless (leb MOST_SITES w.sites) (Limit Sites MOST_SITES) w some) (grown_same w)
-    (λ _. Guards.unless_holds (Grown w) (leb MOST_SITES w.sites) (Limit Sites MOST_SITES) w some (grown_same w)
-    (λ _. Guards.unless_holds (Grown w) (ltb MOST_DISKS disks) (Limit Disks MOST_DISKS) w few (grown_same w)
-    (λ _. Guards.unless_holds (Grown w) (eqb disks 0 || ltb blocks 8) Size w o (grown_same w) (λ _. site_grows w name disks blocks s))))
+    (λ _. Guards.unless_holds (GrownWorld w) (leb MOST_SITES w.sites) (Limit Sites MOST_SITES) w some (grown_same w)
+    (λ _. Guards.unless_holds (GrownWorld w) (ltb MOST_DISKS disks) (Limit Disks MOST_DISKS) w few (grown_same w)
+    (λ _. Guards.unless_holds (GrownWorld w) (eqb disks 0 || ltb blocks 8) Size w o (grown_same w) (λ _. site_grows w name disks blocks s))))
 outcome_grows w (Raw q) s =
     let o : Outcome = done (raw_made w q) in
     let shaped : Outcome = unless (not (is_raw_shape (w.nodes q).disks (w.nodes q).blocks)) Size w o in
-    Guards.at_site_holds (Grown w) w q (unless (not (is_bare (w.nodes q).state)) WrongRole w shaped) (grown_same w)
-    (λ _. Guards.unless_holds (Grown w) (not (is_bare (w.nodes q).state)) WrongRole w shaped (grown_same w)
-    (λ bare. Guards.unless_holds (Grown w) (not (is_raw_shape (w.nodes q).disks (w.nodes q).blocks)) Size w o (grown_same w)
+    Guards.at_site_holds (GrownWorld w) w q (unless (not (is_bare (w.nodes q).state)) WrongRole w shaped) (grown_same w)
+    (λ _. Guards.unless_holds (GrownWorld w) (not (is_bare (w.nodes q).state)) WrongRole w shaped (grown_same w)
+    (λ bare. Guards.unless_holds (GrownWorld w) (not (is_raw_shape (w.nodes q).disks (w.nodes q).blocks)) Size w o (grown_same w)
     (λ _. raw_grows w q (Guards.bare_is (w.nodes q).state (not_false (is_bare (w.nodes q).state) bare)))))
+outcome_grows w (Group q) s =
+    let o : Outcome = done (group_made w q) in
+    Guards.at_site_holds (GrownWorld w) w q (unless (not (is_bare (w.nodes q).state)) WrongRole w o) (grown_same w)
+    (λ _. Guards.unless_holds (GrownWorld w) (not (is_bare (w.nodes q).state)) WrongRole w o (grown_same w)
+    (λ bare. begun_grows w q 0 [] no_volumes (Guards.bare_is (w.nodes q).state (not_false (is_bare (w.nodes q).state) bare))))
 outcome_grows w (WriteAt p volume start bytes fails) s =
     let x : Write = record { volume = volume; start = start; bytes = bytes } in
-    Guards.on_volume_holds (Grown w) w p volume start (blocks_in bytes) (is_too_large (w.nodes p).ring (blocks_in bytes))
+    Guards.on_volume_holds (GrownWorld w) w p volume start (blocks_in bytes) (is_too_large (w.nodes p).ring (blocks_in bytes))
     (Events.written_if (Events.admitted w p x) w p x fails) (grown_same w)
     (λ _ _ _. written_grows (Events.admitted w p x) w p x fails s (links_changed_keeps w p x s))
-outcome_grows w (Read p volume start count) s = Guards.on_volume_holds (Grown w) w p volume start count false _ (grown_same w) (λ _ _ _. grown_same w)
+outcome_grows w (Read p volume start count) s = Guards.on_volume_holds (GrownWorld w) w p volume start count false _ (grown_same w) (λ _ _ _. grown_same w)
 outcome_grows w (Apply q count reached) s =
     let o : Outcome = if is_origin (w.nodes q).role then Events.reached_at w q count reached else Events.apply_at w q count in
     let r : Received = received_step (plain_receiver (w.nodes q)) (Applied count) in
-    Guards.at_site_holds (Grown w) w q (at_work w q o) (grown_same w)
-    (λ _. Guards.at_work_holds (Grown w) w q o (grown_same w)
+    Guards.at_site_holds (GrownWorld w) w q (at_work w q o) (grown_same w)
+    (λ _. Guards.at_work_holds (GrownWorld w) w q o (grown_same w)
     (λ _ _. by_test (Leaves w) (is_origin (w.nodes q).role) (Events.reached_at w q count reached) (Events.apply_at w q count) (λ _. grown_same w)
     (λ _. applied_grows w q r.state r.action)))
 outcome_grows w (Pump p q) s =
-    Guards.on_link_holds (Grown w) keeps_links w p q _ (grown_same w)
-    (λ _ _ _. Guards.when_live_holds (Grown w) w q (w.links p q) (done (Events.link_event w p q PumpLink)) (grown_same w) (moved_grows w p q PumpLink))
+    Guards.on_link_holds (GrownWorld w) keeps_links w p q _ (grown_same w)
+    (λ _ _ _. Guards.when_live_holds (GrownWorld w) w q (w.links p q) (done (Events.link_event w p q PumpLink)) (grown_same w) (moved_grows w p q PumpLink))
 outcome_grows w (Tick p q) s =
-    Guards.on_link_holds (Grown w) keeps_links w p q (done (Events.ticked_at w p q)) (grown_same w)
+    Guards.on_link_holds (GrownWorld w) keeps_links w p q (done (Events.ticked_at w p q)) (grown_same w)
     (λ _ _ _. grown_links w w (grown_same w) (Events.ticked_at w p q).links)
 outcome_grows w (Deliver number) s = delivered_grows w number (Events.packet_at w.packets number)
 outcome_grows w (Connect p q) s =
     let v : World = Events.link_event w p q ConnectLink in
-    Guards.on_link_holds (Grown w) keeps_links w p q (done (sending v (Events.greeting_back w p q))) (grown_same w)
+    Guards.on_link_holds (GrownWorld w) keeps_links w p q (done (sending v (Events.greeting_back w p q))) (grown_same w)
     (λ _ _ _. grown_sending w v (moved_grows w p q ConnectLink) (Events.greeting_back w p q))
 outcome_grows w (Cut p q) s = on_link_grows w p q CutLink
 outcome_grows w (Pause p q) s = on_link_grows w p q PauseLink
@@ -333,37 +349,41 @@ outcome_grows w (Wait p number) s =
     let known : Outcome = unless unconfirmed (Unconfirmed number) w answered in
     let o : Outcome = unless (not (is_origin (w.nodes p).role)) WrongRole w
     (unless (eqb number 0 || ltb (w.nodes p).safe number) (Unknown (ByNumber number)) w known) in
-    Guards.at_site_holds (Grown w) w p (at_work w p o) (grown_same w)
-    (λ _. Guards.at_work_holds (Grown w) w p o (grown_same w)
-    (λ _ _. Guards.unless_holds (Grown w) (not (is_origin (w.nodes p).role)) WrongRole w _ (grown_same w)
-    (λ _. Guards.unless_holds (Grown w) (eqb number 0 || ltb (w.nodes p).safe number) (Unknown (ByNumber number)) w known (grown_same w)
-    (λ _. Guards.unless_holds (Grown w) unconfirmed (Unconfirmed number) w answered (grown_same w)
+    Guards.at_site_holds (GrownWorld w) w p (at_work w p o) (grown_same w)
+    (λ _. Guards.at_work_holds (GrownWorld w) w p o (grown_same w)
+    (λ _ _. Guards.unless_holds (GrownWorld w) (not (is_origin (w.nodes p).role)) WrongRole w _ (grown_same w)
+    (λ _. Guards.unless_holds (GrownWorld w) (eqb number 0 || ltb (w.nodes p).safe number) (Unknown (ByNumber number)) w known (grown_same w)
+    (λ _. Guards.unless_holds (GrownWorld w) unconfirmed (Unconfirmed number) w answered (grown_same w)
     (λ _. by_test (Leaves w) held (says w (Pending number)) promised (λ _. grown_same w)
     (λ _. grown_promising w w (grown_same w) (Events.promises_of (w.nodes p) number (w.links p) w.sites)))))))
 outcome_grows w (Link p q sync part) s =
-    Guards.at_site_holds (Grown w) w p _ (grown_same w)
-    (λ _. Guards.at_site_holds (Grown w) w q _ (grown_same w)
-    (λ _. Guards.both_holds (Grown w) w p q (link_part part w p q sync) (grown_same w) (λ _ up _ _. link_part_grows part w p q sync up)))
+    Guards.at_site_holds (GrownWorld w) w p _ (grown_same w)
+    (λ _. Guards.at_site_holds (GrownWorld w) w q _ (grown_same w)
+    (λ _. Guards.both_holds (GrownWorld w) w p q (link_part part w p q sync) (grown_same w) (λ _ up _ _. link_part_grows part w p q sync up)))
 outcome_grows w (Set p q sync) s =
     let l : LinkRecord = record (w.links p q) { sync = sync; prot = FailsWhenFull } in
-    Guards.on_link_holds (Grown w) is_origin w p q (done (with_link w p q l)) (grown_same w) (λ _ _ _. grown_links w w (grown_same w) (with_link w p q l).links)
+    Guards.on_link_holds (GrownWorld w) is_origin w p q (done (with_link w p q l)) (grown_same w) (λ _ _ _. grown_links w w (grown_same w) (with_link w p q l).links)
 outcome_grows w (Crash q kept) s =
     let o : Outcome = done (Events.crash_at w q (Events.kept_of (w.nodes q) kept)) in
-    Guards.at_site_holds (Grown w) w q (unless (not (is_up (w.nodes q).state)) NotUp w o) (grown_same w)
-    (λ _. Guards.unless_holds (Grown w) (not (is_up (w.nodes q).state)) NotUp w o (grown_same w)
+    Guards.at_site_holds (GrownWorld w) w q (unless (not (is_up (w.nodes q).state)) NotUp w o) (grown_same w)
+    (λ _. Guards.unless_holds (GrownWorld w) (not (is_up (w.nodes q).state)) NotUp w o (grown_same w)
     (λ up. crash_grows w q (Events.kept_of (w.nodes q) kept) s (Guards.up_is (w.nodes q).state (not_false (is_up (w.nodes q).state) up))
     (Nodes.kept_least (w.nodes q) kept (s.good.nodes q).safe_fits)))
-outcome_grows w (Recover q fails) s = Guards.at_site_holds (Grown w) w q _ (grown_same w) (λ _. recover_grows w q (w.nodes q).state fails)
+outcome_grows w (Deport q) s =
+    let o : Outcome = done (Events.deport_at w q) in
+    Guards.at_site_holds (GrownWorld w) w q (at_work w q o) (grown_same w)
+    (λ _. Guards.at_work_holds (GrownWorld w) w q o (grown_same w) (λ up _. deport_grows w q s up))
+outcome_grows w (Recover q fails) s = Guards.at_site_holds (GrownWorld w) w q _ (grown_same w) (λ _. recover_grows w q (w.nodes q).state fails)
 outcome_grows w (Fault q disk) s =
-    Guards.at_site_holds (Grown w) w q _ (grown_same w)
-    (λ _. Guards.unless_holds (Grown w) (not (is_up (w.nodes q).state)) NotUp w (says (stopped_by w q disk) _) (grown_same w)
+    Guards.at_site_holds (GrownWorld w) w q _ (grown_same w)
+    (λ _. Guards.unless_holds (GrownWorld w) (not (is_up (w.nodes q).state)) NotUp w (says (stopped_by w q disk) _) (grown_same w)
     (λ _. grown_node w q (record (w.nodes q) { halted = Some disk; fuse = burned (w.nodes q).fuse }) (λ made. made) (λ _ _ h. h)))
 
 -- whatever headers it writes
 pub step_grows : (w : World) (e : Event) → Sound w → Leaves w (step w e)
-step_grows w e s = let g : Grown w
+step_grows w e s = let g : GrownWorld w
     (outcome_of w e).world = outcome_grows w e s in record { held = g.held; told = g.told; made = g.made; came = g.came; sent = g.sent; promised = g.promised }
 
-pub run_grows : (w : World) (events : List Event) → Sound w → Grown w (run w events)
+pub run_grows : (w : World) (events : List Event) → Sound w → GrownWorld w (run w events)
 run_grows w [] s = grown_same w
 run_grows w (e ∷ es) s = grown_trans w (step w e).world (run w (e ∷ es)) (step_grows w e s) (run_grows (step w e).world es (step_keeps w e s))

@@ -1,5 +1,5 @@
 -- What is refused leaves a world as it was, and what goes past a test is known of it.
-use Rattle.std.proofs.Common.{◌≡◌, ℕ, ◌≤◌, Bool, true, false, refl, arith, length}
+use Rattle.std.proofs.Common.{◌≡◌, ◌∙◌, ℕ, ◌≤◌, Bool, true, false, ap, sym, refl, arith, length}
 use Rattle.std.specs.Prelude.{not, ◌&&◌, ◌||◌, leb, Option, Some, None}
 use Rattle.std.proofs.lemmas.Bool.Decides.{nat_tests}
 use Rattle.vx_history.specs.World.{World, Link}
@@ -15,6 +15,7 @@ use Rattle.vx_model.specs.declared.no.SiteName.TheVariants.{Number as SiteNumber
 use Rattle.vx_model.specs.Answer.{is_wrong_count, is_past}
 use Rattle.vx_history.proofs.Updates.{by_test, and_left, and_right}
 use Rattle.vx_history.specs.Sends.{is_linked}
+use Rattle.vx_history.specs.Sound.{is_at_rest}
 use Rattle.vx_history.specs.Refusals.{Outcome, refused, unless, unless_halted, is_primary, is_running, at_site, at_work, both_at_work, on_link_if, when_live, on_volume}
 use Rattle.vx_model.specs.Sites.{is_up, is_bare}
 use Rattle.vx_world.proofs.Lists.{not_false}
@@ -30,6 +31,13 @@ bare_is Bare e = refl
 bare_is Up e = absurd (cc)
 bare_is Deported e = absurd (cc)
 bare_is Down e = absurd (cc)
+
+-- a site that is down or deported is more than bare, and not up
+pub rest_up : (s : SiteState) → is_at_rest s ≡ true → s ≡ Up → ⊥
+rest_up s rest up = let e : false ≡ true = sym (ap is_at_rest up) ∙ rest in cc
+
+pub rest_bare : (s : SiteState) → is_at_rest s ≡ true → s ≡ Bare → ⊥
+rest_bare s rest bare = let e : false ≡ true = sym (ap is_at_rest bare) ∙ rest in cc
 
 pub runs_is : (halted : Option ℕ) → is_running halted ≡ true → halted ≡ None
 runs_is None e = refl

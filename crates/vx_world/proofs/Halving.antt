@@ -1,12 +1,13 @@
 -- An event of a site that a failing disk ended: what the site is then, and what it may be on its disks, are both sound.
 use Rattle.std.proofs.Common.{◌≡◌, ◌∙◌, inl, inr, ℕ, ap, sym, subst, refl, Bool, true, false, Some}
-use Rattle.std.specs.Prelude.{eqb, if◌then◌else◌}
+use Rattle.std.specs.Prelude.{Option, eqb, if◌then◌else◌}
 use Rattle.std.proofs.lemmas.Bool.{cases_eq}
 use Rattle.vx_history.proofs.GoodLemmas.{up_is_made, made_is_given}
 use Rattle.vx_history.proofs.Updates.{at_place, eqb_equal}
 use Rattle.vx_history.specs.Refusals.{is_running}
 use Rattle.vx_history.specs.Sends.{is_linked}
 use Rattle.vx_history.specs.Steps.{stopped_by, burned}
+use Rattle.vx_history.specs.Groups.{GroupNode}
 use Rattle.vx_history.specs.World.{Node, Link, Fuse, World, updated}
 use Rattle.vx_model.specs.declared.site.SiteState.TheVariants.{Up}
 use Rattle.vx_world.proofs.Crashes.{fault_keeps}
@@ -60,11 +61,12 @@ module _ (s disk : ℕ) (w u : World) (good : GoodWorld w) (done : GoodWorld u) 
     | inr apart ↦ aside w.links s (u.links s) i apart ∙ sym (alone.rows i apart)
   ]
 
-  noted : (a b : Node) → b ≡ a → b ≡ record a { fuse = b.fuse; failing = b.failing }
+  noted : (a b : Node) → b ≡ a → b ≡ record a { fuse = b.fuse; failing = b.failing; group = b.group }
   noted a b e =
       e
       ∙ ap (λ (f : Fuse). let n : Node = record a { fuse = f } in n) (sym (ap (λ (n : Node). n.fuse) e))
       ∙ ap (λ (f : ℕ → Bool). let n : Node = record a { fuse = b.fuse; failing = f } in n) (sym (ap (λ (n : Node). n.failing) e))
+      ∙ ap (λ (g : Option GroupNode). let n : Node = record a { fuse = b.fuse; failing = b.failing; group = g } in n) (sym (ap (λ (n : Node). n.group) e))
 
   -- the world behind the event, with what the site had in assembly before it
   abbrev told : World

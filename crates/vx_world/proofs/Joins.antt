@@ -1,12 +1,14 @@
 -- Sites that are made, and the events of a link, keep what holds of the world.
-use Rattle.std.proofs.Common.{◌≡◌, ℕ, ◌+◌, ◌≤◌, ◌<◌, List, [], ◌∷◌, length, refl, ap, sym, ◌∙◌, subst, arith, Bool, true, false, inl}
+use Rattle.std.proofs.Common.{◌≡◌, ℕ, ◌+◌, ◌-◌, ◌≤◌, ◌<◌, List, [], ◌∷◌, length, refl, ap, sym, ◌∙◌, subst, arith, Bool, true, false, inl}
 use Rattle.std.specs.Prelude.{None, if◌then◌else◌, eqb, leb, not, ◌&&◌, ◌||◌, zero, suc, bytes_eq, ltb}
 use Rattle.std.proofs.lemmas.Bool.{eq-eqb}
 use Rattle.std.proofs.lemmas.Bool.Decides.{nat_tests}
-use Rattle.vx_history.specs.World.{World, Node, History, updated, line_updated, with_node, bare_site}
+use Rattle.vx_history.specs.World.{World, Node, Volume, History, updated, line_updated, with_node, bare_site, no_volumes}
+use Rattle.vx_model.specs.Content.{Content}
 use Rattle.vx_model.specs.Sites.{is_origin, same_line}
+use Rattle.vx_model.specs.Sizes.{ring_of}
 use Rattle.vx_history.specs.Receiving.{phase_takes}
-use Rattle.vx_history.specs.Steps.{site_made, raw_made, raw_set, raw_history}
+use Rattle.vx_history.specs.Steps.{site_made, begun_site, begun_line, line_begun, raw_made, raw_volumes, raw_content, group_made}
 use Rattle.vx_model.specs.Sites.{first_line}
 use Rattle.vx_history.specs.Good.{IsMade}
 use Rattle.vx_model.specs.declared.history.Line.{Line}
@@ -20,11 +22,11 @@ use Rattle.vx_model.specs.declared.link.SyncMode.{SyncMode}
 use Rattle.vx_model.specs.declared.no.No.TheVariants.{Exists, Size, Role as WrongRole, Limit}
 use Rattle.vx_model.specs.declared.no.Counted.TheVariants.{Sites, Disks, Links}
 use Rattle.vx_history.proofs.Updates.{by_test, and_left, and_right, same_line_equal}
-use Rattle.vx_history.proofs.GoodLemmas.{good_site, good_raw, good_stays, made_is_given, up_is_made}
+use Rattle.vx_history.proofs.GoodLemmas.{good_site, good_begun, good_stays, made_is_given, up_is_made}
 use Rattle.vx_history.specs.declared.event.LinkPart.{LinkPart}
 use Rattle.vx_history.specs.declared.event.LinkPart.TheVariants.{Joins, Made, Marked, Opened}
 use Rattle.vx_history.specs.Sends.{is_linked, with_link}
-use Rattle.vx_history.specs.Refusals.{Outcome, unless, some_below, is_primary, is_bunker, is_consistent, is_stale, is_empty, is_fresh, may_link, may_join, may_be_site, agree, rings_fit, links_of, follows}
+use Rattle.vx_history.specs.Refusals.{Outcome, unless, some_below, is_primary, is_bunker, is_consistent, is_stale_mode, is_empty, is_fresh, may_link, may_join, may_be_site, agree, rings_fit, count_links_of, follows}
 use Rattle.vx_history.specs.Events.{joined, new_link, opened}
 use Rattle.vx_history.specs.Gatherings.{emptied}
 use Rattle.vx_history.specs.Step.{done, link_part}
@@ -68,14 +70,16 @@ may_be_site_keeps w name disks blocks s =
     (λ _. unless_keeps (eqb disks 0 || ltb blocks 8) Size w o s
     (λ _. site_keeps w name disks blocks s))))
 
-pub raw_keeps : (w : World) (q : ℕ) → Sound w → q < w.sites → (w.nodes q).state ≡ Bare → Sound (raw_made w q)
-raw_keeps w q s there bare =
-    let n : Node = raw_set q (w.nodes q) in
-    sound_founding w q w.sites n (line_updated w.lines n.line (raw_history (w.nodes q))) s bare
-    (λ l apart. by_test (λ (r : History). w.lines l ≡ r) (same_line l n.line) (raw_history (w.nodes q)) (w.lines l)
+begun_keeps : (w : World) (q ring : ℕ) (volumes : List Volume) (content : Content) → Sound w → q < w.sites → (w.nodes q).state ≡ Bare
+    → Sound (line_begun w q ring volumes content)
+begun_keeps w q ring volumes content s there bare =
+    let n : Node = begun_site q ring volumes content (w.nodes q) in
+    let h : History = begun_line content in
+    sound_founding w q w.sites n (line_updated w.lines n.line h) s bare
+    (λ l apart. by_test (λ (r : History). w.lines l ≡ r) (same_line l n.line) h (w.lines l)
     (λ e. absurd (apart (ap (λ (x : Line). x.origin) (same_line_equal l n.line e))))
     (λ _. refl))
-    (good_raw w q s.good there bare)
+    (good_begun w q ring volumes content s.good there bare)
     (up_whole n refl)
     refl
     (s.takes q)
@@ -93,6 +97,12 @@ raw_keeps w q s there bare =
       },
       tt,
     ))
+
+pub raw_keeps : (w : World) (q : ℕ) → Sound w → q < w.sites → (w.nodes q).state ≡ Bare → Sound (raw_made w q)
+raw_keeps w q = let n : Node = w.nodes q in begun_keeps w q (ring_of n.blocks) (raw_volumes 1 (n.disks - 2) n.blocks) (raw_content n.disks n.blocks)
+
+pub group_keeps : (w : World) (q : ℕ) → Sound w → q < w.sites → (w.nodes q).state ≡ Bare → Sound (group_made w q)
+group_keeps w q = begun_keeps w q 0 [] no_volumes
 
 -- ## The events of a link
 
@@ -166,10 +176,10 @@ may_join_keeps : (w : World) (p q : ℕ) → Sound w → (w.nodes p).state ≡ U
 may_join_keeps w p q s up_p up_q =
     let o : Outcome = done (emptied (with_node w q (joined (w.nodes p) p (w.nodes q))) q) in
     let fits : Outcome = unless (not (agree (w.nodes p).volumes (w.nodes q).volumes && rings_fit (w.nodes p) (w.nodes q))) Size w o in
-    let few : Outcome = unless (leb MOST_LINKS (links_of w p)) (Limit Links MOST_LINKS) w fits in
+    let few : Outcome = unless (leb MOST_LINKS (count_links_of w p)) (Limit Links MOST_LINKS) w fits in
     unless_keeps (not (may_link w p q)) WrongRole w (unless (is_linked (w.links p q)) (Exists (w.nodes q).name) w few) s
     (λ may. unless_keeps (is_linked (w.links p q)) (Exists (w.nodes q).name) w few s
-    (λ unlinked. unless_keeps (leb MOST_LINKS (links_of w p)) (Limit Links MOST_LINKS) w fits s
+    (λ unlinked. unless_keeps (leb MOST_LINKS (count_links_of w p)) (Limit Links MOST_LINKS) w fits s
     (λ _. unless_keeps (not (agree (w.nodes p).volumes (w.nodes q).volumes && rings_fit (w.nodes p) (w.nodes q))) Size w o s
     (λ _. sound_gathering (with_node w q (joined (w.nodes p) p (w.nodes q))) _ (joins (not_false (may_link w p q) may) unlinked)))))
   where
@@ -258,11 +268,11 @@ pub link_part_keeps : (part : LinkPart) (w : World) (p q : ℕ) (sync : SyncMode
     → (w.nodes q).halted ≡ None → Keeps (link_part part w p q sync)
 link_part_keeps Joins w p q sync s up_p up_q runs_q = may_join_keeps w p q s up_p up_q
 link_part_keeps Made w p q sync s up_p up_q runs_q =
-    let o : Outcome = done (with_link w p q (new_link (links_of w p) sync (w.nodes q))) in
+    let o : Outcome = done (with_link w p q (new_link (count_links_of w p) sync (w.nodes q))) in
     let test : Bool = is_primary (w.nodes p).role && follows w p q in
     unless_keeps (not test) WrongRole w (unless (is_linked (w.links p q)) (Exists (w.nodes q).name) w o) s
     (λ c. unless_keeps (is_linked (w.links p q)) (Exists (w.nodes q).name) w o s
-    (λ _. make_keeps w p q (links_of w p) sync s up_p up_q runs_q
+    (λ _. make_keeps w p q (count_links_of w p) sync s up_p up_q runs_q
     (primary_origin (w.nodes p).role (and_left (is_primary (w.nodes p).role) (follows w p q) (not_false test c)))
     (follows_is w p q (and_right (is_primary (w.nodes p).role) (follows w p q) (not_false test c)))
     (same_line_equal (w.nodes q).line (w.nodes p).line
@@ -276,7 +286,7 @@ link_part_keeps Opened w p q sync s up_p up_q runs_q =
     let a : Node = w.nodes p in
     let marked : Bool = is_consistent (w.nodes q).mark in
     let taken : Bool = phase_takes (w.nodes q).phase in
-    let stale : Bool = is_stale (w.links p q).mode && (taken && marked) in
+    let stale : Bool = is_stale_mode (w.links p q).mode && (taken && marked) in
     let empty : Bool = is_empty a.log && stale in
     let linked : Bool = is_linked (w.links p q) && empty in
     let followed : Bool = follows w p q && linked in
@@ -285,5 +295,5 @@ link_part_keeps Opened w p q sync s up_p up_q runs_q =
     (λ c.
     let all : empty ≡ true = and_right (is_linked (w.links p q)) empty
     (and_right (follows w p q) linked (and_right (is_primary a.role) followed (not_false test c))) in
-    let last : (taken && marked) ≡ true = and_right (is_stale (w.links p q).mode) (taken && marked) (and_right (is_empty a.log) stale all) in
+    let last : (taken && marked) ≡ true = and_right (is_stale_mode (w.links p q).mode) (taken && marked) (and_right (is_empty a.log) stale all) in
     open_keeps w p q s (and_left (is_empty a.log) stale all) (and_left taken marked last) (and_right taken marked last))

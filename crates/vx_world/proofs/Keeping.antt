@@ -14,7 +14,7 @@ use Rattle.vx_history.specs.Good.{IsMade}
 use Rattle.vx_history.specs.Listed.{HasPlaces}
 use Rattle.vx_history.specs.Sends.{packets_from, packets_of, parts_of, sending, promising, with_link}
 use Rattle.vx_history.specs.Refusals.{agree}
-use Rattle.vx_history.specs.Fits.{Fits, Fitting, IsSized, IsAlike, size_of}
+use Rattle.vx_history.specs.Fits.{WriteFits, Fitting, IsSized, IsAlike, blocks_of_volume}
 use Rattle.vx_history.specs.GoodGatherings.{IsPart, Gathers, MayGather}
 use Rattle.vx_world.proofs.Lists.{each_append, each_weaker}
 use Rattle.vx_world.proofs.Told.{append-nil}
@@ -75,26 +75,26 @@ pub record IsFitted (n m : Node) : Type 0 where
   pub made : IsMade m → IsMade n
   pub start : (v : ℕ) → m.start.size v ≡ n.start.size v
   pub base : (v : ℕ) → m.base.size v ≡ n.base.size v
-  pub log : AllByRecursion (Fits n) n.log → AllByRecursion (Fits n) m.log
+  pub log : AllByRecursion (WriteFits n) n.log → AllByRecursion (WriteFits n) m.log
 
 -- the same sizes hold the same writes
-pub fits_there : (n m : Node) → m.volumes ≡ n.volumes → m.ring ≡ n.ring → (x : Write) → Fits n x → Fits m x
+pub fits_there : (n m : Node) → m.volumes ≡ n.volumes → m.ring ≡ n.ring → (x : Write) → WriteFits n x → WriteFits m x
 fits_there n m volumes ring x h = record {
   some = h.some;
   few = h.few;
   room = omega (arith, h.room, ring);
-  within = subst (λ (vs : List Volume). x.start + blocks_in x.bytes ≤ size_of vs x.volume) (sym volumes) h.within;
+  within = subst (λ (vs : List Volume). x.start + blocks_in x.bytes ≤ blocks_of_volume vs x.volume) (sym volumes) h.within;
 }
 
 sized_later : (n m : Node) → IsFitted n m → (m.state ≡ Bare → m.ring ≡ 0) → IsSized n → IsSized m
 sized_later n m f bare h = record {
-  start = λ v. f.start v ∙ h.start v ∙ ap (λ (vs : List Volume). size_of vs v) (sym f.volumes);
-  base = λ v. f.base v ∙ h.base v ∙ ap (λ (vs : List Volume). size_of vs v) (sym f.volumes);
+  start = λ v. f.start v ∙ h.start v ∙ ap (λ (vs : List Volume). blocks_of_volume vs v) (sym f.volumes);
+  base = λ v. f.base v ∙ h.base v ∙ ap (λ (vs : List Volume). blocks_of_volume vs v) (sym f.volumes);
   bare = bare;
 }
 
-log_later : (n m : Node) → IsFitted n m → AllByRecursion (Fits n) n.log → AllByRecursion (Fits m) m.log
-log_later n m f h = each_weaker (Fits n) (Fits m) (fits_there n m f.volumes f.ring) m.log (f.log h)
+log_later : (n m : Node) → IsFitted n m → AllByRecursion (WriteFits n) n.log → AllByRecursion (WriteFits m) m.log
+log_later n m f h = each_weaker (WriteFits n) (WriteFits m) (fits_there n m f.volumes f.ring) m.log (f.log h)
 
 pub alike_there : (o n p m : Node) → p.volumes ≡ o.volumes → p.ring ≡ o.ring → m.volumes ≡ n.volumes → m.ring ≡ n.ring → IsAlike o n → IsAlike p m
 alike_there o n p m ov or nv nr h = record {
@@ -112,7 +112,7 @@ each_take P (suc n) [] h = tt
 each_take P (suc n) (x ∷ xs) (h, t) = (h, each_take P n xs t)
 
 -- sites alike have volumes of the same sizes
-size_alike : (xs ys : List Volume) (v : ℕ) → agree xs ys ≡ true → size_of ys v ≡ size_of xs v
+size_alike : (xs ys : List Volume) (v : ℕ) → agree xs ys ≡ true → blocks_of_volume ys v ≡ blocks_of_volume xs v
 size_alike [] [] v e = refl
 size_alike [] (y ∷ ys) v e = absurd (cc)
 size_alike (x ∷ xs) [] v e = absurd (cc)
@@ -120,7 +120,7 @@ size_alike (x ∷ xs) (y ∷ ys) zero e = sym (eqb_equal x.blocks y.blocks (and_
 size_alike (x ∷ xs) (y ∷ ys) (suc v) e = size_alike xs ys v (and_right (eqb x.blocks y.blocks) (agree xs ys) e)
 
 -- so what fits the one fits the other
-pub fits_alike : (o n : Node) (x : Write) → IsAlike o n → Fits o x → Fits n x
+pub fits_alike : (o n : Node) (x : Write) → IsAlike o n → WriteFits o x → WriteFits n x
 fits_alike o n x alike h = record {
   some = h.some;
   few = h.few;
@@ -179,7 +179,7 @@ module _ (w v : World) (k : Keeps w v) where
 
 -- a line with what it holds, which fits the site that began it
 abbrev FitsLine : (ℕ → Node) → Line → History → Type 0
-FitsLine nodes l h = AllByRecursion (Fits (nodes l.origin)) h.held
+FitsLine nodes l h = AllByRecursion (WriteFits (nodes l.origin)) h.held
 
 module _ (w : World) (i : ℕ) (n : Node) (fitted : Fitting w → IsFitted (w.nodes i) n) (bare : Fitting w → n.state ≡ Bare → n.ring ≡ 0) where
   abbrev nodes_now : ℕ → Node
@@ -192,13 +192,13 @@ module _ (w : World) (i : ℕ) (n : Node) (fitted : Fitting w → IsFitted (w.no
   ring_now f = all_updated (λ k (m : Node). m.ring ≡ (w.nodes k).ring) w.nodes i n (fitted f).ring (λ _ _. refl)
 
   held_now : Fitting w → (l : Line) (h : History) → FitsLine w.nodes l h → FitsLine nodes_now l h
-  held_now f l h all = each_weaker (Fits (w.nodes l.origin)) (Fits (nodes_now l.origin))
+  held_now f l h all = each_weaker (WriteFits (w.nodes l.origin)) (WriteFits (nodes_now l.origin))
       (fits_there (w.nodes l.origin) (nodes_now l.origin) (volumes_now f l.origin) (ring_now f l.origin)) h.held all
 
   fit_nodes : Fitting w → (lines : Line → History) → ((l : Line) → FitsLine w.nodes l (lines l)) → Fitting (record w { nodes = nodes_now; lines = lines })
   fit_nodes f lines held = record {
     sized = all_updated (λ _ (m : Node). IsSized m) w.nodes i n (sized_later (w.nodes i) n (fitted f) (bare f) (f.sized i)) (λ k _. f.sized k);
-    logs = all_updated (λ _ (m : Node). AllByRecursion (Fits m) m.log) w.nodes i n (log_later (w.nodes i) n (fitted f) (f.logs i)) (λ k _. f.logs k);
+    logs = all_updated (λ _ (m : Node). AllByRecursion (WriteFits m) m.log) w.nodes i n (log_later (w.nodes i) n (fitted f) (f.logs i)) (λ k _. f.logs k);
     held = λ l. held_now f l (lines l) (held l);
     alike = all_updated (λ _ (m : Node). IsMade m → IsAlike (nodes_now m.line.origin) m) w.nodes i n
         (λ made. subst (λ (l : Line). IsAlike (nodes_now l.origin) n) (sym (fitted f).line)

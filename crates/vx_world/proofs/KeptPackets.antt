@@ -15,7 +15,7 @@ use Rattle.vx_history.specs.Sends.{is_linked, packets_of}
 use Rattle.vx_history.specs.Refusals.{Outcome, says, keeps_links as has_links, is_running}
 use Rattle.vx_history.specs.Gatherings.{key_of, came_after, completes, left_by}
 use Rattle.vx_history.specs.Events
-use Rattle.vx_history.specs.Fits.{Fits, Fitting}
+use Rattle.vx_history.specs.Fits.{WriteFits, Fitting}
 use Rattle.vx_history.specs.GoodGatherings.{Gathers, MayGather}
 use Rattle.vx_history.specs.Sound.{Sound, GoodMessage, GoodPacket}
 use Rattle.vx_history.specs.declared.event.Said.TheVariants.{Ignored as IsIgnored}
@@ -51,13 +51,13 @@ module _ (w : World) (p : Packet) (number : ℕ) (x : Write) (up : (w.nodes p.ta
       (bare_same w p.target m refl refl) (λ u. u))
       (packets_of p.target p.source n.line (NetAck n.session number)) (all_parts p.target p.source n.line (NetAck n.session number))
     where
-      held : Fitting w → Fits (w.nodes p.line.origin) x
-      held f = each_found (Fits (w.nodes p.line.origin)) (w.lines p.line).held _ x is.1 (f.held p.line)
+      held : Fitting w → WriteFits (w.nodes p.line.origin) x
+      held f = each_found (WriteFits (w.nodes p.line.origin)) (w.lines p.line).held _ x is.1 (f.held p.line)
 
-      fits : Fitting w → p.line ≡ (w.nodes p.target).line → Fits (w.nodes p.target) x
+      fits : Fitting w → p.line ≡ (w.nodes p.target).line → WriteFits (w.nodes p.target) x
       fits f e =
           fits_alike (w.nodes (w.nodes p.target).line.origin) (w.nodes p.target) x (f.alike p.target (up_is_made (w.nodes p.target) up))
-          (subst (λ (l : Line). Fits (w.nodes l.origin) x) e (held f))
+          (subst (λ (l : Line). WriteFits (w.nodes l.origin) x) e (held f))
 
   pub taken_leaves : p.line ≡ (w.nodes p.target).line → Leaves w (Events.update_taken w p x (Take number))
   taken_leaves e = by_whole (completes (w.gathering p.target) p)

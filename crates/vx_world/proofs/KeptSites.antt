@@ -3,7 +3,8 @@ use Rattle.std.proofs.Common.{◌≡◌, ◌∙◌, ◌⊎◌, inl, inr, ℕ, ze
 use Rattle.std.specs.Prelude.{leb, not, if◌then◌else◌, Option, Some, None, eqb, ltb, ◌&&◌, ◌||◌}
 use Rattle.std.specs.List.{AllByRecursion}
 use Rattle.std.proofs.lemmas.Bool.Decides.{nat_tests}
-use Rattle.vx_model.specs.Content.{Write}
+use Rattle.vx_model.specs.Content.{Write, Content}
+use Rattle.vx_model.specs.Sizes.{ring_of}
 use Rattle.vx_model.specs.Sites.{is_origin, first_line}
 use Rattle.vx_model.specs.declared.history.Line.{Line}
 use Rattle.vx_model.specs.declared.limits.TheConstants.{MOST_LINKS}
@@ -14,26 +15,28 @@ use Rattle.vx_model.specs.declared.site.Mark.TheVariants.{Consistent}
 use Rattle.vx_model.specs.declared.site.SiteState.{SiteState}
 use Rattle.vx_model.specs.declared.site.SiteState.TheVariants.{Bare, Up, Deported, Down}
 use Rattle.vx_history.proofs.Updates.{all_updated, all_lines, by_test, at_place, and_left, and_right}
+use Rattle.vx_history.proofs.CrashLemmas.{crash_state}
 use Rattle.vx_history.proofs.GoodLemmas.{up_is_made, made_is_given}
 use Rattle.vx_history.proofs.Places.{places_further, places_made}
-use Rattle.vx_history.specs.World.{World, Node, Link as LinkRecord, Volume, History, Gathering, Hello, with_node, bare_site, updated, line_updated}
-use Rattle.vx_history.specs.Steps.{raw_volumes, burned, crashed, crash_left, kept_by, site_made, raw_made, raw_set, raw_history, stopped_by}
+use Rattle.vx_history.specs.World.{World, Node, Link as LinkRecord, Volume, History, Gathering, Hello, with_node, bare_site, no_volumes, updated, line_updated}
+use Rattle.vx_history.specs.Steps.{raw_volumes, raw_content, burned, crashed, crash_left, kept_by, deported_site, site_made, begun_site, begun_line, line_begun, raw_made, group_made, stopped_by}
 use Rattle.vx_history.specs.Good.{IsMade}
 use Rattle.vx_history.specs.Listed.{HasPlaces}
 use Rattle.vx_history.specs.Sends.{is_linked, with_link, with_links, sending, greeting}
-use Rattle.vx_history.specs.Refusals.{Outcome, unless, is_primary, follows, may_link, agree, rings_fit, links_of}
+use Rattle.vx_history.specs.Refusals.{Outcome, unless, is_primary, follows, may_link, agree, rings_fit, count_links_of}
 use Rattle.vx_history.specs.Gatherings.{emptied}
 use Rattle.vx_history.specs.Events
 use Rattle.vx_history.specs.Step.{done, link_part}
-use Rattle.vx_history.specs.Fits.{Fits, Fitting, IsSized, IsAlike, size_of}
+use Rattle.vx_history.specs.Fits.{WriteFits, Fitting, IsSized, IsAlike, blocks_of_volume}
 use Rattle.vx_history.specs.GoodGatherings.{IsPart, MayGather}
-use Rattle.vx_history.specs.Sound.{Sound}
+use Rattle.vx_history.specs.Sound.{Sound, is_at_rest}
 use Rattle.vx_history.specs.declared.event.LinkPart.{LinkPart}
 use Rattle.vx_history.specs.declared.event.LinkPart.TheVariants.{Joins, Made, Marked, Opened}
 use Rattle.vx_world.proofs.Lists.{each_weaker, not_false}
 use Rattle.vx_world.proofs.Guards
+use Rattle.vx_world.proofs.Guards.{rest_bare}
 use Rattle.vx_world.proofs.Nodes
-use Rattle.vx_world.proofs.Keeping.{Keeps, keeps_same, keeps_links, made_link, made_rows, ArePlaced, keeps_sending, keeps_node, keeps_crash, IsFitted, fold_size, each_take, fits_there, alike_there, gather_up, all_parts}
+use Rattle.vx_world.proofs.Keeping.{Keeps, keeps_same, keeps_trans, keeps_links, made_link, made_rows, ArePlaced, keeps_sending, keeps_node, keeps_crash, IsFitted, fold_size, each_take, fits_there, alike_there, gather_up, all_parts}
 use Rattle.vx_world.proofs.KeptWrites.{Leaves, like_fitted, bare_same}
 
 -- ## Crashes and recoveries
@@ -49,19 +52,29 @@ crash_leaves w q k s up =
       made = λ _ e. let g : Up ≡ Bare = sym up ∙ e in cc;
       start = λ v. refl;
       base = fold_size n.base (drop n.safe (take k n.log));
-      log = each_take (Fits n) k n.log;
+      log = each_take (WriteFits n) k n.log;
     } in
     let bare : Fitting w → (crashed n k).state ≡ Bare → n.ring ≡ 0 = λ f e. absurd (let g : Down ≡ Bare = e in cc) in
     by_test (λ (v : World). Keeps w (emptied (with_links v q row) q)) (is_origin n.role) (crash_left w q k) (with_node w q (crashed n k))
     (λ o. keeps_crash w q (crashed n k) fitted bare (line_updated w.lines n.line (kept_by (w.lines n.line) n k)) (updated w.links q row) (made_rows w q row (λ to. refl))
-    (λ f. all_lines (λ l (r : History). AllByRecursion (Fits (w.nodes l.origin)) r.held) w.lines n.line (kept_by (w.lines n.line) n k)
-    (subst (λ (i : ℕ). AllByRecursion (Fits (w.nodes i)) (take k n.log)) (sym ((s.good.nodes q).own_line (up_is_made n up) o))
-    (each_take (Fits n) k n.log (f.logs q)))
+    (λ f. all_lines (λ l (r : History). AllByRecursion (WriteFits (w.nodes l.origin)) r.held) w.lines n.line (kept_by (w.lines n.line) n k)
+    (subst (λ (i : ℕ). AllByRecursion (WriteFits (w.nodes i)) (take k n.log)) (sym ((s.good.nodes q).own_line (up_is_made n up) o))
+    (each_take (WriteFits n) k n.log (f.logs q)))
     (λ l _. f.held l)))
     (λ _. keeps_crash w q (crashed n k) fitted bare w.lines (updated w.links q row) (made_rows w q row (λ to. refl)) (λ f. f.held))
 
-pub recovery_leaves : (w : World) (q : ℕ) (fails : Option ℕ) → (w.nodes q).state ≡ Down → Leaves w (Events.recovery w q fails)
-recovery_leaves w q None down =
+pub deport_leaves : (w : World) (q : ℕ) → Sound w → (w.nodes q).state ≡ Up → Keeps w (Events.deport_at w q)
+deport_leaves w q s up =
+    let k : ℕ = Events.kept_of (w.nodes q) 0 in
+    let v : World = Events.crash_at w q k in
+    let down : (v.nodes q).state ≡ Down = crash_state w q k in
+    let m : Node = deported_site (v.nodes q) in
+    keeps_trans w v (Events.deport_at w q) (crash_leaves w q k s up)
+    (keeps_node v q m (λ f. like_fitted (v.nodes q) m refl refl refl (λ _ e. let g : Down ≡ Bare = sym down ∙ e in cc) refl refl refl)
+    (λ f e. absurd (let g : Deported ≡ Bare = e in cc)) (λ u. absurd (let g : Down ≡ Up = sym down ∙ u in cc)))
+
+pub recovery_leaves : (w : World) (q : ℕ) (fails : Option ℕ) → is_at_rest (w.nodes q).state ≡ true → Leaves w (Events.recovery w q fails)
+recovery_leaves w q None rest =
     Nodes.back_by (λ (m : Node). Keeps w
     (sending (with_links (with_node w q m) q (λ to. Events.restarted_link m to (w.links q to))) (Events.recovery_greeting q m))) (w.nodes q)
     (λ mark _ _ _.
@@ -71,21 +84,21 @@ recovery_leaves w q None down =
     let u : World = with_links v q (λ to. Events.restarted_link m to (w.links q to)) in
     keeps_sending w u
     (keeps_links w v
-    (keeps_node w q m (λ f. like_fitted n m refl refl refl (λ _ e. let g : Down ≡ Bare = sym down ∙ e in cc) refl refl refl)
+    (keeps_node w q m (λ f. like_fitted n m refl refl refl (λ _. rest_bare n.state rest) refl refl refl)
     (λ f e. absurd (let g : Up ≡ Bare = e in cc)) (λ _. refl))
     u.links (made_rows v q (λ to. Events.restarted_link m to (w.links q to)) (λ to. refl)))
     (Events.recovery_greeting q m)
     (by_test (AllByRecursion IsPart) (is_origin m.role) [] (greeting q m.other m) (λ _. tt)
     (λ _. all_parts q m.other m.line (Hello m.session (length m.log) m.safe))))
-recovery_leaves w q (Some disk) down =
+recovery_leaves w q (Some disk) rest =
     let m : Node = record (w.nodes q) { session = (w.nodes q).session + 1 } in
     keeps_node w q m (λ f. like_fitted (w.nodes q) m refl refl refl (λ made. made) refl refl refl) (bare_same w q m refl refl) (λ u. u)
 
 pub recover_leaves : (w : World) (q : ℕ) (state : SiteState) (fails : Option ℕ) → (w.nodes q).state ≡ state → Leaves w (Events.recover_from state w q fails)
 recover_leaves w q Bare fails e = keeps_same w
 recover_leaves w q Up fails e = keeps_same w
-recover_leaves w q Deported fails e = keeps_same w
-recover_leaves w q Down fails e = Guards.unless_holds (Keeps w) _ _ w (Events.recovery w q fails) (keeps_same w) (λ _. recovery_leaves w q fails e)
+recover_leaves w q Deported fails e = Guards.unless_holds (Keeps w) _ _ w (Events.recovery w q fails) (keeps_same w) (λ _. recovery_leaves w q fails (ap is_at_rest e))
+recover_leaves w q Down fails e = Guards.unless_holds (Keeps w) _ _ w (Events.recovery w q fails) (keeps_same w) (λ _. recovery_leaves w q fails (ap is_at_rest e))
 
 -- ## Sites that are made, and that join
 
@@ -117,15 +130,15 @@ module _ (w : World) (i sites : ℕ) (n : Node) (h : Line → History) (s : Soun
   abbrev pub founded : ℕ → Node
   founded = updated w.nodes i n
 
-  pub founded_held : Fitting w → (l : Line) → AllByRecursion (Fits (founded l.origin)) (h l).held
+  pub founded_held : Fitting w → (l : Line) → AllByRecursion (WriteFits (founded l.origin)) (h l).held
   founded_held f l = by_case (lines l)
     where
-      by_case : ((h l).held ≡ []) ⊎ ((h l).held ≡ (w.lines l).held) → AllByRecursion (Fits (founded l.origin)) (h l).held
-      by_case (inl none) = subst (λ (xs : List Write). AllByRecursion (Fits (founded l.origin)) xs) (sym none) tt
+      by_case : ((h l).held ≡ []) ⊎ ((h l).held ≡ (w.lines l).held) → AllByRecursion (WriteFits (founded l.origin)) (h l).held
+      by_case (inl none) = subst (λ (xs : List Write). AllByRecursion (WriteFits (founded l.origin)) xs) (sym none) tt
       by_case (inr same) =
-          subst (λ (xs : List Write). AllByRecursion (Fits (founded l.origin)) xs) (sym same)
-          (each_weaker (Fits (w.nodes l.origin)) (Fits (founded l.origin))
-          (λ x. all_updated (λ k (m : Node). Fits (w.nodes k) x → Fits m x) w.nodes i n (λ fits. absurd (omega (arith, fits.room, (f.sized i).bare bare)))
+          subst (λ (xs : List Write). AllByRecursion (WriteFits (founded l.origin)) xs) (sym same)
+          (each_weaker (WriteFits (w.nodes l.origin)) (WriteFits (founded l.origin))
+          (λ x. all_updated (λ k (m : Node). WriteFits (w.nodes k) x → WriteFits m x) w.nodes i n (λ fits. absurd (omega (arith, fits.room, (f.sized i).bare bare)))
           (λ _ _ fits. fits) l.origin)
           (w.lines l).held (f.held l))
 
@@ -147,8 +160,8 @@ module _ (w : World) (i sites : ℕ) (n : Node) (h : Line → History) (s : Soun
     };
     fits = λ f. record {
       sized = all_updated (λ _ (m : Node). IsSized m) w.nodes i n sized (λ k _. f.sized k);
-      logs = all_updated (λ _ (m : Node). AllByRecursion (Fits m) m.log) w.nodes i n
-          (subst (λ (xs : List Write). AllByRecursion (Fits n) xs) (sym empty) tt) (λ k _. f.logs k);
+      logs = all_updated (λ _ (m : Node). AllByRecursion (WriteFits m) m.log) w.nodes i n
+          (subst (λ (xs : List Write). AllByRecursion (WriteFits n) xs) (sym empty) tt) (λ k _. f.logs k);
       held = founded_held f;
       alike = founded_alike f;
     };
@@ -159,7 +172,7 @@ site_leaves w name disks blocks s =
     founded_leaves w w.sites (w.sites + 1) (bare_site name disks blocks) w.lines s (s.good.later w.sites (omega arith))
     (record { start = λ v. refl; base = λ v. refl; bare = λ _. refl }) refl (λ made. absurd (made refl)) (λ l. inr refl) (λ h p. places_further w.sites (w.links p) (h p))
 
-pub raw_sizes : (k n blocks v : ℕ) → (if ltb v n then blocks else 0) ≡ size_of (raw_volumes k n blocks) v
+pub raw_sizes : (k n blocks v : ℕ) → (if ltb v n then blocks else 0) ≡ blocks_of_volume (raw_volumes k n blocks) v
 raw_sizes k zero blocks v = let e : ltb v 0 ≡ false = grind (arith, nat_tests) in ap (λ (b : Bool). if b then blocks else 0) e
 raw_sizes k (suc n) blocks zero = let e : ltb 0 (suc n) ≡ true = grind (arith, nat_tests) in ap (λ (b : Bool). if b then blocks else 0) e
 raw_sizes k (suc n) blocks (suc v) = ap (λ (b : Bool). if b then blocks else 0) (less v n) ∙ raw_sizes (k + 1) n blocks v
@@ -167,18 +180,21 @@ raw_sizes k (suc n) blocks (suc v) = ap (λ (b : Bool). if b then blocks else 0)
     less : (a b : ℕ) → ltb (suc a) (suc b) ≡ ltb a b
     less a b = grind (arith, nat_tests)
 
-pub raw_leaves : (w : World) (q : ℕ) → Sound w → (w.nodes q).state ≡ Bare → Keeps w (raw_made w q)
-raw_leaves w q s bare =
-    let n : Node = w.nodes q in
-    founded_leaves w q w.sites (raw_set q n) (line_updated w.lines (first_line q) (raw_history n)) s bare
-    (record {
-      start = λ v. raw_sizes 1 (n.disks - 2) n.blocks v;
-      base = λ v. raw_sizes 1
-          (n.disks - 2) n.blocks v;
-      bare = λ e. absurd (let g : Up ≡ Bare = e in cc);
-    })
+begun_leaves : (w : World) (q ring : ℕ) (volumes : List Volume) (content : Content) → ((v : ℕ) → content.size v ≡ blocks_of_volume volumes v)
+    → Sound w → (w.nodes q).state ≡ Bare → Keeps w (line_begun w q ring volumes content)
+begun_leaves w q ring volumes content sizes s bare =
+    founded_leaves w q w.sites (begun_site q ring volumes content (w.nodes q)) (line_updated w.lines (first_line q) (begun_line content)) s bare
+    (record { start = sizes; base = sizes; bare = λ e. absurd (let g : Up ≡ Bare = e in cc) })
     refl (λ _. refl)
-    (all_lines (λ l (r : History). (r.held ≡ []) ⊎ (r.held ≡ (w.lines l).held)) w.lines (first_line q) (raw_history n) (inl refl) (λ l _. inr refl)) (λ h. h)
+    (all_lines (λ l (r : History). (r.held ≡ []) ⊎ (r.held ≡ (w.lines l).held)) w.lines (first_line q) (begun_line content) (inl refl) (λ l _. inr refl)) (λ h. h)
+
+pub raw_leaves : (w : World) (q : ℕ) → Sound w → (w.nodes q).state ≡ Bare → Keeps w (raw_made w q)
+raw_leaves w q =
+    let n : Node = w.nodes q in
+    begun_leaves w q (ring_of n.blocks) (raw_volumes 1 (n.disks - 2) n.blocks) (raw_content n.disks n.blocks) (λ v. raw_sizes 1 (n.disks - 2) n.blocks v)
+
+pub group_leaves : (w : World) (q : ℕ) → Sound w → (w.nodes q).state ≡ Bare → Keeps w (group_made w q)
+group_leaves w q = begun_leaves w q 0 [] no_volumes (λ v. refl)
 
 -- a site that joins has the sizes of its primary
 pub join_leaves : (w : World) (p q : ℕ) → (w.nodes p).line.origin ≡ p → IsAlike (w.nodes p) (w.nodes q)
@@ -194,8 +210,8 @@ join_leaves w p q own alike = record {
   fits = λ f. record {
     sized = all_updated (λ _ (m : Node). IsSized m) w.nodes q n (record { start = (f.sized q).base; base = (f.sized q).base; bare = (f.sized q).bare })
         (λ k _. f.sized k);
-    logs = all_updated (λ _ (m : Node). AllByRecursion (Fits m) m.log) w.nodes q n tt (λ k _. f.logs k);
-    held = λ l. each_weaker (Fits (w.nodes l.origin)) (Fits (joined l.origin))
+    logs = all_updated (λ _ (m : Node). AllByRecursion (WriteFits m) m.log) w.nodes q n tt (λ k _. f.logs k);
+    held = λ l. each_weaker (WriteFits (w.nodes l.origin)) (WriteFits (joined l.origin))
         (fits_there (w.nodes l.origin) (joined l.origin) (volumes l.origin) (rings l.origin)) (w.lines l).held (f.held l);
     alike = all_updated (λ _ (m : Node). IsMade m → IsAlike (joined m.line.origin) m) w.nodes q n
         (λ _. subst (λ (o : ℕ). IsAlike (joined o) n) (sym own) (alike_there (w.nodes p) (w.nodes q) (joined p) n (volumes p) (rings p) refl refl alike))
@@ -217,7 +233,7 @@ join_leaves w p q own alike = record {
     rings = all_updated (λ k (m : Node). m.ring ≡ (w.nodes k).ring) w.nodes q (Events.joined (w.nodes p) p (w.nodes q)) refl (λ _ _. refl)
 
 -- a link that is made in the next place
-made_leaves : (w : World) (p q : ℕ) (l : LinkRecord) → q < w.sites → is_linked (w.links p q) ≡ false → l.made ≡ Some (links_of w p) → Keeps w (with_link w p q l)
+made_leaves : (w : World) (p q : ℕ) (l : LinkRecord) → q < w.sites → is_linked (w.links p q) ≡ false → l.made ≡ Some (count_links_of w p) → Keeps w (with_link w p q l)
 made_leaves w p q l below free made = record {
   gathers = λ g. record { parts = g.parts; each = g.each };
   fits = λ f. record { sized = f.sized; logs = f.logs; held = f.held; alike = f.alike };
@@ -231,10 +247,10 @@ link_part_leaves Joins w p q sync s up there =
     let o : Outcome = done (emptied (with_node w q (Events.joined a p (w.nodes q))) q) in
     let fit : Bool = agree a.volumes (w.nodes q).volumes && rings_fit a (w.nodes q) in
     let fits : Outcome = unless (not fit) Size w o in
-    let few : Outcome = unless (leb MOST_LINKS (links_of w p)) (Limit Links MOST_LINKS) w fits in
+    let few : Outcome = unless (leb MOST_LINKS (count_links_of w p)) (Limit Links MOST_LINKS) w fits in
     Guards.unless_holds (Keeps w) (not (may_link w p q)) WrongRole w (unless (is_linked (w.links p q)) (Exists (w.nodes q).name) w few) (keeps_same w)
     (λ may. Guards.unless_holds (Keeps w) (is_linked (w.links p q)) (Exists (w.nodes q).name) w few (keeps_same w)
-    (λ _. Guards.unless_holds (Keeps w) (leb MOST_LINKS (links_of w p)) (Limit Links MOST_LINKS) w fits (keeps_same w)
+    (λ _. Guards.unless_holds (Keeps w) (leb MOST_LINKS (count_links_of w p)) (Limit Links MOST_LINKS) w fits (keeps_same w)
     (λ _. Guards.unless_holds (Keeps w) (not fit) Size w o (keeps_same w)
     (λ sizes. join_leaves w p q
     ((s.good.nodes p).own_line (up_is_made a up) (Guards.primary_origin a.role (and_left (is_primary a.role) _ (not_false (may_link w p q) may))))
@@ -244,7 +260,7 @@ link_part_leaves Joins w p q sync s up there =
           (agree a.volumes (w.nodes q).volumes) (rings_fit a (w.nodes q)) (not_false fit sizes);
     })))))
 link_part_leaves Made w p q sync s up there =
-    let l : LinkRecord = Events.new_link (links_of w p) sync (w.nodes q) in
+    let l : LinkRecord = Events.new_link (count_links_of w p) sync (w.nodes q) in
     Guards.unless_holds (Keeps w) (not (is_primary (w.nodes p).role && follows w p q)) WrongRole w
     (unless (is_linked (w.links p q)) (Exists (w.nodes q).name) w (done (with_link w p q l))) (keeps_same w)
     (λ _. Guards.unless_holds (Keeps w) (is_linked (w.links p q)) (Exists (w.nodes q).name) w (done (with_link w p q l)) (keeps_same w)

@@ -22,7 +22,7 @@ use Rattle.vx_history.specs.Sends.{with_link, sent_by, packets_of, updates, betw
 use Rattle.vx_history.specs.Refusals.{Outcome, is_primary}
 use Rattle.vx_history.specs.Events
 use Rattle.vx_history.specs.Step.{write_at}
-use Rattle.vx_history.specs.Fits.{Fits, Fitting, IsSized}
+use Rattle.vx_history.specs.Fits.{WriteFits, Fitting, IsSized}
 use Rattle.vx_history.specs.GoodGatherings.{IsPart}
 use Rattle.vx_history.specs.Sound.{Sound}
 use Rattle.vx_history.specs.declared.sender.Action.{Action}
@@ -48,12 +48,12 @@ like_fitted n m volumes ring line made start base log = record {
   made = made;
   start = λ v. ap (λ (c : Content). c.size v) start;
   base = λ v. ap (λ (c : Content). c.size v) base;
-  log = λ h. subst (λ (xs : List Write). AllByRecursion (Fits n) xs) (sym log) h;
+  log = λ h. subst (λ (xs : List Write). AllByRecursion (WriteFits n) xs) (sym log) h;
 }
 
 -- with one write more
 pub longer_fitted : (n : Node) (x : Write) (halted : Option ℕ) (m : Node) → m.volumes ≡ n.volumes → m.ring ≡ n.ring → m.line ≡ n.line → (IsMade m → IsMade n)
-    → m.start ≡ n.start → ((v : ℕ) → m.base.size v ≡ n.base.size v) → m.log ≡ n.log ++ x ∷ [] → Fits n x → IsFitted n m
+    → m.start ≡ n.start → ((v : ℕ) → m.base.size v ≡ n.base.size v) → m.log ≡ n.log ++ x ∷ [] → WriteFits n x → IsFitted n m
 longer_fitted n x halted m volumes ring line made start base log fits = record {
   volumes = volumes;
   ring = ring;
@@ -61,7 +61,7 @@ longer_fitted n x halted m volumes ring line made start base log fits = record {
   made = made;
   start = λ v. ap (λ (c : Content). c.size v) start;
   base = base;
-  log = λ h. subst (λ (xs : List Write). AllByRecursion (Fits n) xs) (sym log) (each_append (Fits n) n.log (x ∷ []) h (fits, tt));
+  log = λ h. subst (λ (xs : List Write). AllByRecursion (WriteFits n) xs) (sym log) (each_append (WriteFits n) n.log (x ∷ []) h (fits, tt));
 }
 
 -- no bare site has a ring
@@ -73,7 +73,7 @@ bare_never n not bare = absurd (not bare)
 
 -- ## Writes
 
-module _ (w : World) (p : ℕ) (x : Write) (up : (w.nodes p).state ≡ Up) (own : (w.nodes p).line.origin ≡ p) (fits : Fitting w → Fits (w.nodes p) x) where
+module _ (w : World) (p : ℕ) (x : Write) (up : (w.nodes p).state ≡ Up) (own : (w.nodes p).line.origin ≡ p) (fits : Fitting w → WriteFits (w.nodes p) x) where
   pub not_bare : (w.nodes p).state ≡ Bare → ⊥
   not_bare e = let f : Up ≡ Bare = sym up ∙ e in cc
 
@@ -84,8 +84,8 @@ module _ (w : World) (p : ℕ) (x : Write) (up : (w.nodes p).state ≡ Up) (own 
       (λ f. longer_fitted n x n.halted (logged n x) refl refl refl (λ made. made) refl (λ v. refl) refl (fits f))
       (λ f e. bare_never (logged n x) not_bare e)
       (told_of (w.lines n.line) x) (λ u. u)
-      (λ f. each_append (Fits (w.nodes n.line.origin)) (w.lines n.line).held (x ∷ []) (f.held n.line)
-      (subst (λ (i : ℕ). Fits (w.nodes i) x) (sym own) (fits f), tt))
+      (λ f. each_append (WriteFits (w.nodes n.line.origin)) (w.lines n.line).held (x ∷ []) (f.held n.line)
+      (subst (λ (i : ℕ). WriteFits (w.nodes i) x) (sym own) (fits f), tt))
 
   pub half_leaves : (disk : ℕ) → Keeps w (half_written w p x disk)
   half_leaves disk =
@@ -101,7 +101,7 @@ module _ (w : World) (p : ℕ) (x : Write) (up : (w.nodes p).state ≡ Up) (own 
   put_leaves (Some disk) = half_leaves disk
 
 pub written_if_leaves : (admitted : Admitted) (w : World) (p : ℕ) (x : Write) (fails : Option ℕ) → (w.nodes p).state ≡ Up → (w.nodes p).line.origin ≡ p
-    → (Fitting w → Fits (w.nodes p) x) → Leaves w (Events.written_if admitted w p x fails)
+    → (Fitting w → WriteFits (w.nodes p) x) → Leaves w (Events.written_if admitted w p x fails)
 written_if_leaves (Held_by why) w p x fails up own fits = keeps_same w
 written_if_leaves (Goes changes) w p x fails up own fits =
     let v : World = Events.links_changed w p x in
@@ -111,7 +111,7 @@ written_if_leaves (Goes changes) w p x fails up own fits =
 
 -- the tests of a write say that it fits
 pub tested_fits : (n : Node) (x : Write) → IsSized n → (is_wrong_count (blocks_in x.bytes) || is_too_large n.ring (blocks_in x.bytes)) ≡ false
-    → is_past n.base x.volume x.start (blocks_in x.bytes) ≡ false → Fits n x
+    → is_past n.base x.volume x.start (blocks_in x.bytes) ≡ false → WriteFits n x
 tested_fits n x sized few within = record {
   some = some (blocks_in x.bytes) (is_too_large n.ring (blocks_in x.bytes)) few;
   few = most (blocks_in x.bytes) (is_too_large n.ring (blocks_in x.bytes)) few;

@@ -124,8 +124,8 @@ module _ (w v : World) (like : IsLike w v) where
   moved_same p q e same =
       let r : Sent = Events.link_step w p q e in
       let t : Sent = Events.link_step v p q e in
-      let is : t ≡ r = ap (λ (l : LinkState). sent_step (plain_link q l) e (Events.facts_of (v.nodes p) (v.nodes p).line)) same ∙ ap
-      (λ (n : Node). sent_step (plain_link q (w.links p q)) e (Events.facts_of n n.line)) (like.nodes p) in
+      let is : t ≡ r = ap (λ (l : LinkState). sent_step (plain_link q l) e (Events.receiver_facts (v.nodes p) (v.nodes p).line)) same ∙ ap
+      (λ (n : Node). sent_step (plain_link q (w.links p q)) e (Events.receiver_facts n n.line)) (like.nodes p) in
       let put : with_plain (v.links p q) t.link ≡ with_plain (w.links p q) r.link = ap (λ (x : Sent). with_plain (v.links p q) x.link) is ∙ ap
       (λ (l : LinkState). with_plain l r.link) same in
       like_sending (with_link w p q (with_plain (w.links p q) r.link)) (with_link v p q (with_plain (v.links p q) t.link))
@@ -166,7 +166,7 @@ module _ (w v : World) (like : IsLike w v) where
   link_heard_same p e = by_link (is_linked (w.links p.target p.source)) refl
     where
       rule : LinkState → Node → Sent
-      rule l n = sent_step (plain_link p.source l) e (Events.facts_of n p.line)
+      rule l n = sent_step (plain_link p.source l) e (Events.receiver_facts n p.line)
 
       not_linked : (a b : Bool) → (a && b) ≡ true → b ≡ false → ⊥
       not_linked true true e f = let g : true ≡ false = f in cc
@@ -178,10 +178,10 @@ module _ (w v : World) (like : IsLike w v) where
           let same : v.links p.target p.source ≡ w.links p.target p.source = (like.links p.target p.source).same is in
           let l : LinkState = w.links p.target p.source in
           let m : LinkState = v.links p.target p.source in
-          let r : Sent = sent_step (plain_link p.source l) e (Events.facts_of (w.nodes p.target) p.line) in
-          let t : Sent = sent_step (plain_link p.source m) e (Events.facts_of (v.nodes p.target) p.line) in
-          let ruled : t ≡ r = ap (λ (k : LinkState). sent_step (plain_link p.source k) e (Events.facts_of (v.nodes p.target) p.line)) same ∙ ap
-          (λ (n : Node). sent_step (plain_link p.source l) e (Events.facts_of n p.line)) (like.nodes p.target) in
+          let r : Sent = sent_step (plain_link p.source l) e (Events.receiver_facts (w.nodes p.target) p.line) in
+          let t : Sent = sent_step (plain_link p.source m) e (Events.receiver_facts (v.nodes p.target) p.line) in
+          let ruled : t ≡ r = ap (λ (k : LinkState). sent_step (plain_link p.source k) e (Events.receiver_facts (v.nodes p.target) p.line)) same ∙ ap
+          (λ (n : Node). sent_step (plain_link p.source l) e (Events.receiver_facts n p.line)) (like.nodes p.target) in
           let put : with_plain m t.link ≡ with_plain l r.link = ap (λ (x : Sent). with_plain m x.link) ruled ∙ ap
           (λ (k : LinkState). with_plain k r.link) same in
           one_of (keeps_links (w.nodes p.target).role && is_linked l) (keeps_links (v.nodes p.target).role && is_linked m)
@@ -198,8 +198,8 @@ module _ (w v : World) (like : IsLike w v) where
       by_link false is =
           let l : LinkState = w.links p.target p.source in
           let m : LinkState = v.links p.target p.source in
-          let r : Sent = sent_step (plain_link p.source l) e (Events.facts_of (w.nodes p.target) p.line) in
-          let t : Sent = sent_step (plain_link p.source m) e (Events.facts_of (v.nodes p.target) p.line) in
+          let r : Sent = sent_step (plain_link p.source l) e (Events.receiver_facts (w.nodes p.target) p.line) in
+          let t : Sent = sent_step (plain_link p.source m) e (Events.receiver_facts (v.nodes p.target) p.line) in
           one_of (keeps_links (w.nodes p.target).role && is_linked l) (keeps_links (v.nodes p.target).role && is_linked m)
           (says (with_link w p.target p.source (with_plain l r.link)) (Events.said_of_link r.action))
           (says (with_link v p.target p.source (with_plain m t.link)) (Events.said_of_link t.action)) (says w IsIgnored) (says v IsIgnored)

@@ -16,9 +16,9 @@ use Rattle.vx_history.specs.Receiving.{received_step, phase_takes}
 use Rattle.vx_history.specs.LinkForms.{plain_receiver}
 use Rattle.vx_history.specs.World.{World, Node, Link as LinkState, History, Packet, Promise, Gathering, Durable, InSession, with_node}
 use Rattle.vx_history.specs.Likes.{IsLike, SameLink}
-use Rattle.vx_history.specs.Steps.{crashed, crash_left, kept_by, recovered}
+use Rattle.vx_history.specs.Steps.{crashed, crash_left, kept_by, deported_site, recovered}
 use Rattle.vx_history.specs.Sends.{is_linked, with_links, greeting}
-use Rattle.vx_history.specs.Refusals.{says, is_primary, is_consistent, is_stale, is_empty, follows, some_below, is_unconfirmed, holds_back, may_link, is_fresh, agree, rings_fit, links_of}
+use Rattle.vx_history.specs.Refusals.{says, is_primary, is_consistent, is_stale_mode, is_empty, follows, some_below, is_unconfirmed, holds_back, may_link, is_fresh, agree, rings_fit, count_links_of}
 use Rattle.vx_history.specs.Gatherings.{emptied}
 use Rattle.vx_history.specs.Events
 use Rattle.vx_history.specs.Step.{done, link_part}
@@ -114,6 +114,17 @@ module _ (w v : World) (like : IsLike w v) where
       by_role true false e = let f : false ≡ true = e in absurd (cc)
       by_role false true e = let f : true ≡ false = e in absurd (cc)
 
+  pub crash_like : (q kept : ℕ) → IsLike (Events.crash_at w q (Events.kept_of (w.nodes q) kept)) (Events.crash_at v q (Events.kept_of (v.nodes q) kept))
+  crash_like q kept =
+      subst (λ (k : ℕ). IsLike (Events.crash_at w q (Events.kept_of (w.nodes q) kept)) (Events.crash_at v q k))
+      (sym (ap (λ (n : Node). Events.kept_of n kept) (like.nodes q))) (crash_same q (Events.kept_of (w.nodes q) kept))
+
+  pub deport_same : (q : ℕ) → IsLike (Events.deport_at w q) (Events.deport_at v q)
+  deport_same q =
+      let u : World = Events.crash_at w q (Events.kept_of (w.nodes q) 0) in
+      let x : World = Events.crash_at v q (Events.kept_of (v.nodes q) 0) in
+      like_node u x (crash_like q 0) q (deported_site (u.nodes q)) (deported_site (x.nodes q)) (ap deported_site ((crash_like q 0).nodes q))
+
   pub come_back_same : (a k : Node) → k ≡ noted a k → Events.come_back k ≡ noted (Events.come_back a) (Events.come_back k)
   come_back_same a k e = ap Events.come_back e ∙ by_origin (is_origin a.role) ∙ ap (λ (n : Node). noted (Events.come_back a) n) (sym (ap Events.come_back e))
     where
@@ -167,7 +178,9 @@ module _ (w v : World) (like : IsLike w v) where
   pub recover_same : (q : ℕ) (state : SiteState) (fails : Option ℕ) → Same (Events.recover_from state w q fails) (Events.recover_from state v q fails)
   recover_same q Bare fails = same_of w v (Refused NoConfig) (Refused NoConfig) like refl
   recover_same q Up fails = same_of w v (Refused WrongRole) (Refused WrongRole) like refl
-  recover_same q Deported fails = same_of w v (Refused WrongRole) (Refused WrongRole) like refl
+  recover_same q Deported fails =
+      tests (leb MOST_NUMBER (w.nodes q).session) (leb MOST_NUMBER (v.nodes q).session) (Limit CountOfNumbers MOST_NUMBER)
+      (Limit CountOfNumbers MOST_NUMBER) w v _ _ (ap (λ (n : Node). leb MOST_NUMBER n.session) (like.nodes q)) refl like (λ _. recovery_same q fails)
   recover_same q Down fails =
       tests (leb MOST_NUMBER (w.nodes q).session) (leb MOST_NUMBER (v.nodes q).session) (Limit CountOfNumbers MOST_NUMBER)
       (Limit CountOfNumbers MOST_NUMBER) w v _ _ (ap (λ (n : Node). leb MOST_NUMBER n.session) (like.nodes q)) refl like (λ _. recovery_same q fails)
@@ -214,13 +227,13 @@ module _ (w v : World) (like : IsLike w v) where
       tests (not (may_link w p q)) (not (may_link v p q)) WrongRole WrongRole w v _ _ (ap not (may_link_same p q)) refl like
       (λ _. tests (is_linked (w.links p q)) (is_linked (v.links p q)) (Exists (w.nodes q).name) (Exists (v.nodes q).name) w v _ _ (like.links p q).linked
       (name_same q) like
-      (λ _. tests (leb MOST_LINKS (links_of w p)) (leb MOST_LINKS (links_of v p)) (Limit Links MOST_LINKS) (Limit Links MOST_LINKS) w v _ _
+      (λ _. tests (leb MOST_LINKS (count_links_of w p)) (leb MOST_LINKS (count_links_of v p)) (Limit Links MOST_LINKS) (Limit Links MOST_LINKS) w v _ _
       (ap (λ (n : ℕ). leb MOST_LINKS n) (many_linked w v like p)) refl like
       (λ _. tests _ _ Size Size w v _ _ (ap not (fit_same p q)) refl like (λ _. joins_same p q))))
   part_same Made p q sync =
-      let l : LinkState = Events.new_link (links_of w p) sync (w.nodes q) in
-      let m : LinkState = Events.new_link (links_of v p) sync (v.nodes q) in
-      let e : m ≡ l = ap (λ (n : ℕ). Events.new_link n sync (v.nodes q)) (many_linked w v like p) ∙ ap (λ (n : Node). Events.new_link (links_of w p) sync n)
+      let l : LinkState = Events.new_link (count_links_of w p) sync (w.nodes q) in
+      let m : LinkState = Events.new_link (count_links_of v p) sync (v.nodes q) in
+      let e : m ≡ l = ap (λ (n : ℕ). Events.new_link n sync (v.nodes q)) (many_linked w v like p) ∙ ap (λ (n : Node). Events.new_link (count_links_of w p) sync n)
       (like.nodes q) in
       tests (not (is_primary (w.nodes p).role && follows w p q)) (not (is_primary (v.nodes p).role && follows v p q)) WrongRole WrongRole w v _ _
       (ap (λ (n : Node). not (is_primary n.role && follows v p q)) (like.nodes p) ∙ ap (λ (b : Bool). not (is_primary (w.nodes p).role && b))
@@ -244,12 +257,12 @@ module _ (w v : World) (like : IsLike w v) where
   part_same Opened p q sync = by_link (is_linked (w.links p q)) refl
     where
       rest_of : (u : World) → LinkState → Bool
-      rest_of u l = is_empty (u.nodes p).log && (is_stale l.mode && (phase_takes (u.nodes q).phase && is_consistent (u.nodes q).mark))
+      rest_of u l = is_empty (u.nodes p).log && (is_stale_mode l.mode && (phase_takes (u.nodes q).phase && is_consistent (u.nodes q).mark))
 
       rest_same : (l : LinkState) → rest_of v l ≡ rest_of w l
       rest_same l =
-          ap (λ (n : Node). is_empty n.log && (is_stale l.mode && (phase_takes (v.nodes q).phase && is_consistent (v.nodes q).mark))) (like.nodes p)
-          ∙ ap (λ (n : Node). is_empty (w.nodes p).log && (is_stale l.mode && (phase_takes n.phase && is_consistent n.mark))) (like.nodes q)
+          ap (λ (n : Node). is_empty n.log && (is_stale_mode l.mode && (phase_takes (v.nodes q).phase && is_consistent (v.nodes q).mark))) (like.nodes p)
+          ∙ ap (λ (n : Node). is_empty (w.nodes p).log && (is_stale_mode l.mode && (phase_takes n.phase && is_consistent n.mark))) (like.nodes q)
 
       fronts : (c : Bool) → (is_primary (v.nodes p).role && (follows v p q && c)) ≡ (is_primary (w.nodes p).role && (follows w p q && c))
       fronts c = ap (λ (n : Node). is_primary n.role && (follows v p q && c)) (like.nodes p) ∙ ap (λ (b : Bool). is_primary (w.nodes p).role && (b && c))

@@ -8,18 +8,18 @@ use Rattle.vx_model.specs.declared.link.Prot.TheVariants.{Fail as FailsWhenFull}
 use Rattle.vx_model.specs.declared.no.No.TheVariants.{Size, Role as WrongRole, Down as NotUp, Exists, Limit}
 use Rattle.vx_model.specs.declared.no.Counted.TheVariants.{Sites, Disks}
 use Rattle.vx_model.specs.declared.site.SiteState.{SiteState}
-use Rattle.vx_history.specs.World.{World, Node, Link as LinkState, bare_site, updated}
+use Rattle.vx_history.specs.World.{World, Node, Link as LinkState, bare_site, no_volumes, updated}
 use Rattle.vx_history.specs.Likes.{IsLike}
-use Rattle.vx_history.specs.Steps.{burned, site_made, raw_set, raw_history}
+use Rattle.vx_history.specs.Steps.{burned, site_made, raw_set, raw_history, group_set, begun_line}
 use Rattle.vx_history.specs.Refusals.{keeps_links, some_below}
 use Rattle.vx_history.specs.Events
 use Rattle.vx_history.specs.Step.{outcome_of, step, run}
 use Rattle.vx_history.specs.declared.event.Event.{Event}
-use Rattle.vx_history.specs.declared.event.Event.TheVariants.{Site, Raw, Write as WriteAt, Read, Apply, Pump, Tick, Deliver, Connect, Cut, Pause, Resume, Wait, Link, Set, Crash, Recover, Fault}
+use Rattle.vx_history.specs.declared.event.Event.TheVariants.{Site, Raw, Group, Write as WriteAt, Read, Apply, Pump, Tick, Deliver, Connect, Cut, Pause, Resume, Wait, Link, Set, Crash, Deport, Recover, Fault}
 use Rattle.vx_history.specs.declared.sender.SEvent.TheVariants.{Connect as ConnectLink, Pump as PumpLink, Cut as CutLink, Pause as PauseLink, Resume as ResumeLink}
 use Rattle.vx_world.proofs.Likely.{noted, Same, tests, some_same, link_changed, pair_updated, like_node, like_history, like_link, like_sending, like_headers, at_site_same, at_work_same, both_same, on_link_same, when_live_same}
 use Rattle.vx_world.proofs.LikeChanges.{write_same, read_same, apply_same, moved_same, event_same, tick_same, greeting_same}
-use Rattle.vx_world.proofs.LikeCrashes.{deliver_same, wait_same, crash_same, recover_same, part_same}
+use Rattle.vx_world.proofs.LikeCrashes.{deliver_same, wait_same, crash_like, deport_same, recover_same, part_same}
 
 -- ## Every event
 
@@ -59,6 +59,15 @@ outcome_same w v like (Raw q) =
           (ap (λ (n : Node). raw_set q n) (like.nodes q)) (ap raw_history (like.nodes q));
       said = refl;
     })))
+outcome_same w v like (Group q) =
+    at_site_same w v like q _ _
+    (tests (not (is_bare (w.nodes q).state)) (not (is_bare (v.nodes q).state)) WrongRole WrongRole w v _ _
+    (ap (λ (n : Node). not (is_bare n.state)) (like.nodes q)) refl like
+    (λ _. record {
+      world = like_history w v like q (group_set q (w.nodes q)) (group_set q (v.nodes q)) (begun_line no_volumes) (begun_line no_volumes)
+          (ap (λ (n : Node). group_set q n) (like.nodes q)) refl;
+      said = refl;
+    }))
 outcome_same w v like (WriteAt p volume start bytes fails) = write_same w v like p (record { volume = volume; start = start; bytes = bytes }) fails
 outcome_same w v like (Read p volume start count) = read_same w v like p volume start count
 outcome_same w v like (Apply q count reached) = at_site_same w v like q _ _ (at_work_same w v like q _ _ (apply_same w v like q count reached))
@@ -94,11 +103,9 @@ outcome_same w v like (Set p q sync) =
 outcome_same w v like (Crash q kept) =
     at_site_same w v like q _ _
     (tests (not (is_up (w.nodes q).state)) (not (is_up (v.nodes q).state)) NotUp NotUp w v _ _ (ap (λ (n : Node). not (is_up n.state)) (like.nodes q)) refl like
-    (λ _. record {
-      world = subst (λ (k : ℕ). IsLike (Events.crash_at w q (Events.kept_of (w.nodes q) kept)) (Events.crash_at v q k))
-          (sym (ap (λ (n : Node). Events.kept_of n kept) (like.nodes q))) (crash_same w v like q (Events.kept_of (w.nodes q) kept));
-      said = refl;
-    }))
+    (λ _. record { world = crash_like w v like q kept; said = refl }))
+outcome_same w v like (Deport q) =
+    at_site_same w v like q _ _ (at_work_same w v like q _ _ (record { world = deport_same w v like q; said = refl }))
 outcome_same w v like (Recover q fails) =
     at_site_same w v like q _ _ (subst (λ (s : SiteState). Same (Events.recover_from (w.nodes q).state w q fails) (Events.recover_from s v q fails))
     (sym (ap (λ (n : Node). n.state) (like.nodes q))) (recover_same w v like q (w.nodes q).state fails))

@@ -8,7 +8,7 @@ use Rattle.vx_history.specs.LinkForms.{plain_link}
 use Rattle.vx_history.specs.World.{World, Node, Link as LinkState}
 use Rattle.vx_history.specs.Likes.{IsLike, SameLink}
 use Rattle.vx_history.specs.Sends.{is_made, is_linked}
-use Rattle.vx_history.specs.Refusals.{some_below, is_unconfirmed, is_waited_for, holds_back, links_of, goes, waits, count_below}
+use Rattle.vx_history.specs.Refusals.{some_below, is_unconfirmed, is_waited_for, holds_back, count_links_of, goes, waits, how_many_below}
 use Rattle.vx_history.specs.Events
 use Rattle.vx_world.proofs.Likely.{some_same, count_same, link_test, link_changed, made_same, like_rows}
 
@@ -24,9 +24,9 @@ module _ (w v : World) (like : IsLike w v) where
   pub any_linked : (p : ℕ) → some_below v.sites (λ k. is_linked (v.links p k)) ≡ some_below w.sites (λ k. is_linked (w.links p k))
   any_linked p = some_links p (λ k l. is_linked l) (λ k l e. e)
 
-  pub many_linked : (p : ℕ) → links_of v p ≡ links_of w p
+  pub many_linked : (p : ℕ) → count_links_of v p ≡ count_links_of w p
   many_linked p =
-      ap (λ (n : ℕ). count_below n (λ k. is_linked (v.links p k))) like.sites
+      ap (λ (n : ℕ). how_many_below n (λ k. is_linked (v.links p k))) like.sites
       ∙ count_same w.sites (λ k. is_linked (w.links p k)) (λ k. is_linked (v.links p k)) (λ k. (like.links p k).linked)
 
   pub waited_same : (p : ℕ) → some_below v.sites (λ k. is_waited_for k (v.links p k)) ≡ some_below w.sites (λ k. is_waited_for k (w.links p k))
@@ -87,16 +87,16 @@ module _ (w v : World) (like : IsLike w v) where
           ∙ ap (λ (ls : List PlainLink). plain_link s (w.links p s) ∷ ls) rest
 
   uses_same : (m : Node) (p n place places : ℕ)
-      → Events.uses m (v.links p) (Events.linked_sites (w.links p) n place places) ≡ Events.uses m (w.links p) (Events.linked_sites (w.links p) n place places)
+      → Events.log_uses m (v.links p) (Events.linked_sites (w.links p) n place places) ≡ Events.log_uses m (w.links p) (Events.linked_sites (w.links p) n place places)
   uses_same m p n place zero = refl
   uses_same m p n place (suc k) = by_place (uses_same m p n (place + 1) k) (Events.link_in_place (w.links p) place n) refl
     where
-      by_place : Events.uses m (v.links p) (Events.linked_sites (w.links p) n (place + 1) k) ≡ Events.uses m (w.links p) (Events.linked_sites (w.links p) n (place + 1) k) → (o : Option ℕ) → Events.link_in_place (w.links p) place n ≡ o
-          → Events.uses m (v.links p) (Events.put_before o (Events.linked_sites (w.links p) n (place + 1) k)) ≡ Events.uses m (w.links p)
+      by_place : Events.log_uses m (v.links p) (Events.linked_sites (w.links p) n (place + 1) k) ≡ Events.log_uses m (w.links p) (Events.linked_sites (w.links p) n (place + 1) k) → (o : Option ℕ) → Events.link_in_place (w.links p) place n ≡ o
+          → Events.log_uses m (v.links p) (Events.put_before o (Events.linked_sites (w.links p) n (place + 1) k)) ≡ Events.log_uses m (w.links p)
           (Events.put_before o (Events.linked_sites (w.links p) n (place + 1) k))
       by_place rest None e = rest
       by_place rest (Some s) e =
-          ap (λ (l : LinkState). Events.used_above m s l ∷ Events.uses m (v.links p) (Events.linked_sites (w.links p) n (place + 1) k))
+          ap (λ (l : LinkState). Events.used_above m s l ∷ Events.log_uses m (v.links p) (Events.linked_sites (w.links p) n (place + 1) k))
           ((like.links p s).same (place_linked p place n s e))
           ∙ ap (λ (ns : List ℕ). Events.used_above m s (w.links p s) ∷ ns) rest
 
@@ -105,14 +105,14 @@ module _ (w v : World) (like : IsLike w v) where
       let rule : Node → List PlainLink → List ℕ → Admitted = λ n links used. admit (blocks_in x.bytes + 1) n.ring links used in
       let linked : List ℕ = Events.linked_sites (w.links p) w.sites 0 w.sites in
       ap (λ (n : ℕ). let ss : List ℕ = Events.linked_sites (v.links p) n 0 n in rule (v.nodes p) (Events.plain_links (v.links p) ss)
-      (Events.uses (v.nodes p) (v.links p) ss)) like.sites
-      ∙ ap (λ (ss : List ℕ). rule (v.nodes p) (Events.plain_links (v.links p) ss) (Events.uses (v.nodes p) (v.links p) ss)) (sites_same p w.sites 0 w.sites)
-      ∙ ap (λ (ls : List PlainLink). rule (v.nodes p) ls (Events.uses (v.nodes p) (v.links p) linked)) (plain_same p w.sites 0 w.sites)
+      (Events.log_uses (v.nodes p) (v.links p) ss)) like.sites
+      ∙ ap (λ (ss : List ℕ). rule (v.nodes p) (Events.plain_links (v.links p) ss) (Events.log_uses (v.nodes p) (v.links p) ss)) (sites_same p w.sites 0 w.sites)
+      ∙ ap (λ (ls : List PlainLink). rule (v.nodes p) ls (Events.log_uses (v.nodes p) (v.links p) linked)) (plain_same p w.sites 0 w.sites)
       ∙ ap (λ (ns : List ℕ). rule (v.nodes p) (Events.plain_links (w.links p) linked) ns) (uses_same (v.nodes p) p w.sites 0 w.sites)
       ∙ ap (λ (n : Node). rule n (Events.plain_links (w.links p) linked) (uses_by n)) (like.nodes p)
     where
       uses_by : Node → List ℕ
-      uses_by n = Events.uses n (w.links p) (Events.linked_sites (w.links p) w.sites 0 w.sites)
+      uses_by n = Events.log_uses n (w.links p) (Events.linked_sites (w.links p) w.sites 0 w.sites)
 
   pub changed_same : (p : ℕ) (x : Write) → IsLike (Events.links_changed w p x) (Events.links_changed v p x)
   changed_same p x =

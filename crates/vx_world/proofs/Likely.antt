@@ -10,14 +10,14 @@ use Rattle.vx_model.specs.declared.site.Role.{Role}
 use Rattle.vx_history.specs.World.{Node, Link, History, Packet, Promise, Gathering, World, updated, line_updated, with_node, with_history}
 use Rattle.vx_history.specs.Likes.{IsLike, SameLink}
 use Rattle.vx_history.specs.Sends.{is_made, is_linked, with_links, with_link, sending, promising}
-use Rattle.vx_history.specs.Refusals.{Outcome, says, unless, unless_halted, at_site, at_work, both_at_work, on_link_if, when_live, some_below, count_below}
+use Rattle.vx_history.specs.Refusals.{Outcome, says, unless, unless_halted, at_site, at_work, both_at_work, on_link_if, when_live, some_below, how_many_below}
 use Rattle.vx_world.proofs.Lists.{not_false}
 use Rattle.vx_history.specs.declared.event.Said.{Said}
 use Rattle.vx_history.specs.declared.event.Said.TheVariants.{Refused}
 
 -- the site with these notes
 abbrev pub noted : Node → Node → Node
-noted n k = record n { fuse = k.fuse; failing = k.failing }
+noted n k = record n { fuse = k.fuse; failing = k.failing; group = k.group }
 
 -- the same is said, of worlds that differ in notes alone
 pub record Same (o r : Outcome) : Type 0 where
@@ -53,9 +53,9 @@ pub some_same : (n : ℕ) (f g : ℕ → Bool) → ((k : ℕ) → g k ≡ f k) �
 some_same zero f g e = refl
 some_same (suc n) f g e = ap (λ (b : Bool). b || some_below n g) (e n) ∙ ap (λ (b : Bool). f n || b) (some_same n f g e)
 
-pub count_same : (n : ℕ) (f g : ℕ → Bool) → ((k : ℕ) → g k ≡ f k) → count_below n g ≡ count_below n f
+pub count_same : (n : ℕ) (f g : ℕ → Bool) → ((k : ℕ) → g k ≡ f k) → how_many_below n g ≡ how_many_below n f
 count_same zero f g e = refl
-count_same (suc n) f g e = ap (λ (b : Bool). (if b then 1 else 0) + count_below n g) (e n) ∙ ap (λ (k : ℕ). (if f n then 1 else 0) + k) (count_same n f g e)
+count_same (suc n) f g e = ap (λ (b : Bool). (if b then 1 else 0) + how_many_below n g) (e n) ∙ ap (λ (k : ℕ). (if f n then 1 else 0) + k) (count_same n f g e)
 
 -- a test of links that fails where there is none
 pub link_test : (t : Link → Bool) → ((l : Link) → is_linked l ≡ false → t l ≡ false) → (a b : Link) → SameLink a b → t b ≡ t a

@@ -7,27 +7,27 @@ use Rattle.vx_history.specs.Good.{GoodNode, Good, IsMade}
 use Rattle.vx_history.proofs.Places.{places_same}
 use Rattle.vx_history.specs.Listed.{HasPlaces}
 use Rattle.vx_history.specs.Sends.{is_linked, is_made}
-use Rattle.vx_history.specs.World.{Node, Link, History, Gathering, Packet, Promise, World, Fuse}
+use Rattle.vx_history.specs.World.{Node, Link, History, Gathering, Packet, Promise, World}
 use Rattle.vx_model.specs.declared.history.Line.{Line}
 use Rattle.vx_model.specs.declared.site.Mark.TheVariants.{Consistent}
 use Rattle.vx_model.specs.declared.site.SiteState.TheVariants.{Bare}
 use Rattle.vx_history.specs.Receiving.{phase_takes}
-use Rattle.vx_history.specs.Sound.{Sound, IsWhole, IsFed, TakesUpdates, IsMarked, IsNewest, StoodHere, HasCome, GoodLink, GoodPacket, GoodPromise, IsStranger, KnownNode}
+use Rattle.vx_history.specs.Sound.{Sound, LosesNothing, IsFed, TakesUpdates, IsMarked, IsNewest, StoodHere, HasCome, GoodLink, GoodPacket, GoodPromise, IsStranger, KnownNode}
 use Rattle.vx_world.proofs.Lists.{prefix_refl}
 use Rattle.vx_world.proofs.Carry.{IsLater, come_later, mode_later, link_later, packets_later, promises_later}
 use Rattle.vx_world.proofs.Moves.{unlinked_good}
 use Rattle.vx_history.specs.Likes.{IsLike, SameLink}
-use Rattle.vx_history.specs.Fits.{Fits, Fitting, IsSized, IsAlike}
+use Rattle.vx_history.specs.Fits.{WriteFits, Fitting, IsSized, IsAlike}
 use Rattle.vx_history.specs.GoodGatherings.{IsPart, Gathers, MayGather}
 use Rattle.vx_history.specs.GoodWorld.{GoodWorld}
 use Rattle.vx_world.proofs.Keeping.{gather_up, fits_there, alike_there}
 use Rattle.vx_world.proofs.Lists.{each_weaker}
 
-abbrev with_notes : Node → Fuse → (ℕ → Bool) → Node
-with_notes a f g = record a { fuse = f; failing = g }
+abbrev with_notes : Node → Node → Node
+with_notes a b = record a { fuse = b.fuse; failing = b.failing; group = b.group }
 
-later_note : (a : Node) (f : Fuse) (g : ℕ → Bool) → IsLater a (with_notes a f g)
-later_note a f g = record {
+later_note : (a b : Node) → IsLater a (with_notes a b)
+later_note a b = record {
   line = refl;
   origin = refl;
   bunker = refl;
@@ -41,8 +41,8 @@ later_note a f g = record {
   stood = refl;
 }
 
-good_note : (h : History) (i : ℕ) (a : Node) (f : Fuse) (failing : ℕ → Bool) → GoodNode h i a → GoodNode h i (with_notes a f failing)
-good_note h i a f failing g = record {
+good_note : (h : History) (i : ℕ) (a b : Node) → GoodNode h i a → GoodNode h i (with_notes a b)
+good_note h i a b g = record {
   safe_fits = g.safe_fits;
   own_line = g.own_line;
   receiver_log = g.receiver_log;
@@ -58,11 +58,11 @@ true_or_false true = inl refl
 true_or_false false = inr refl
 
 module _ (w v : World) (s : Sound w) (like : IsLike w v) where
-  at : (P : Node → Type 0) (i : ℕ) → P (with_notes (w.nodes i) (v.nodes i).fuse (v.nodes i).failing) → P (v.nodes i)
+  at : (P : Node → Type 0) (i : ℕ) → P (with_notes (w.nodes i) (v.nodes i)) → P (v.nodes i)
   at P i h = subst P (sym (like.nodes i)) h
 
   later : (i : ℕ) → IsLater (w.nodes i) (v.nodes i)
-  later i = at (λ b. IsLater (w.nodes i) b) i (later_note (w.nodes i) (v.nodes i).fuse (v.nodes i).failing)
+  later i = at (λ b. IsLater (w.nodes i) b) i (later_note (w.nodes i) (v.nodes i))
 
   made_back : (i : ℕ) → IsMade (v.nodes i) → IsMade (w.nodes i)
   made_back i = at (λ b. IsMade b → IsMade (w.nodes i)) i (λ is. is)
@@ -73,7 +73,7 @@ module _ (w v : World) (s : Sound w) (like : IsLike w v) where
   node_good : (i : ℕ) → GoodNode (v.lines (v.nodes i).line) i (v.nodes i)
   node_good i =
       subst (λ (h : History). GoodNode h i (v.nodes i)) (sym (like.lines (v.nodes i).line))
-      (at (λ b. GoodNode (w.lines b.line) i b) i (good_note (w.lines (w.nodes i).line) i (w.nodes i) (v.nodes i).fuse (v.nodes i).failing (s.good.nodes i)))
+      (at (λ b. GoodNode (w.lines b.line) i b) i (good_note (w.lines (w.nodes i).line) i (w.nodes i) (v.nodes i) (s.good.nodes i)))
 
   sites_like : Good v
   sites_like = record {
@@ -108,7 +108,7 @@ module _ (w v : World) (s : Sound w) (like : IsLike w v) where
   pub sound_like : Sound v
   sound_like = record {
     good = sites_like;
-    whole = λ i. at (λ b. IsWhole b) i (s.whole i);
+    whole = λ i. at (λ b. LosesNothing b) i (s.whole i);
     fed = λ i. at (λ b. IsFed b) i (s.fed i);
     takes = λ i. at (λ b. TakesUpdates b) i (s.takes i);
     marked = λ i. at (λ b. IsMarked b) i (s.marked i);
@@ -135,11 +135,11 @@ module _ (w v : World) (s : Sound w) (like : IsLike w v) where
   pub fits_like : Fitting w → Fitting v
   fits_like f = record {
     sized = λ i. at (λ b. IsSized b) i (record { start = (f.sized i).start; base = (f.sized i).base; bare = (f.sized i).bare });
-    logs = λ i. at (λ b. AllByRecursion (Fits b) b.log) i
-        (each_weaker (Fits (w.nodes i)) (Fits (with_notes (w.nodes i) (v.nodes i).fuse (v.nodes i).failing))
-        (fits_there (w.nodes i) (with_notes (w.nodes i) (v.nodes i).fuse (v.nodes i).failing) refl refl) (w.nodes i).log (f.logs i));
-    held = λ l. subst (λ (h : History). AllByRecursion (Fits (v.nodes l.origin)) h.held) (sym (like.lines l))
-        (each_weaker (Fits (w.nodes l.origin)) (Fits (v.nodes l.origin))
+    logs = λ i. at (λ b. AllByRecursion (WriteFits b) b.log) i
+        (each_weaker (WriteFits (w.nodes i)) (WriteFits (with_notes (w.nodes i) (v.nodes i)))
+        (fits_there (w.nodes i) (with_notes (w.nodes i) (v.nodes i)) refl refl) (w.nodes i).log (f.logs i));
+    held = λ l. subst (λ (h : History). AllByRecursion (WriteFits (v.nodes l.origin)) h.held) (sym (like.lines l))
+        (each_weaker (WriteFits (w.nodes l.origin)) (WriteFits (v.nodes l.origin))
         (fits_there (w.nodes l.origin) (v.nodes l.origin) (volumes l.origin) (rings l.origin)) (w.lines l).held (f.held l));
     alike = λ i made. subst (λ (l : Line). IsAlike (v.nodes l.origin) (v.nodes i)) (sym (later i).line)
         (alike_there (w.nodes (w.nodes i).line.origin) (w.nodes i) (v.nodes (w.nodes i).line.origin) (v.nodes i) (volumes (w.nodes i).line.origin)

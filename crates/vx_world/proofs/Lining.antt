@@ -11,10 +11,10 @@ use Rattle.vx_history.specs.Likes.{IsLike, SameLink}
 use Rattle.vx_history.specs.Refusals.{is_running}
 use Rattle.vx_history.specs.Step.{outcome_of, step}
 use Rattle.vx_history.specs.Steps.{stopped_by}
-use Rattle.vx_history.specs.Stops.{Stops, AllDone, Halts, Cuts, Reads, IsOpen, WritesAt}
+use Rattle.vx_history.specs.Stops.{EventsEnd, AllDone, Halts, Cuts, Reads, IsOpen, WritesAt}
 use Rattle.vx_history.specs.World.{World, Node, Link as LinkState}
 use Rattle.vx_history.specs.declared.event.Event.{Event}
-use Rattle.vx_history.specs.declared.event.Event.TheVariants.{Site, Raw, Write, Read, Apply, Pump, Tick, Deliver, Connect, Cut, Pause, Resume, Wait, Link, Set, Crash, Recover, Fault}
+use Rattle.vx_history.specs.declared.event.Event.TheVariants.{Site, Raw, Group, Write, Read, Apply, Pump, Tick, Deliver, Connect, Cut, Pause, Resume, Wait, Link, Set, Crash, Deport, Recover, Fault}
 use Rattle.vx_world.specs.Lines.{IsDoubt, GoodDoubted, node_as, row_as, resolved_as}
 use Rattle.vx_world.specs.Twins.{GoodTwin, IsElsewhere}
 use Rattle.vx_world.proofs.Crashed.{not_past, crash_is}
@@ -31,6 +31,7 @@ use Rattle.vx_world.proofs.Doubting.{world_good, doubt_moved, doubt_of, like_goo
 writes_as : (w : World) (after : ℕ → Option After) (c : ℕ → Bool) (e : Event) (site : ℕ) → WritesAt w e site → WritesAt (resolved_as w after c) e site
 writes_as w after c (Site name disks blocks) site at = at
 writes_as w after c (Raw p) site at = at
+writes_as w after c (Group p) site at = at
 writes_as w after c (Write p volume start bytes None) site at = at
 writes_as w after c (Write p volume start bytes (Some disk)) site at = at
 writes_as w after c (Read p volume start count) site at = at
@@ -46,6 +47,7 @@ writes_as w after c (Wait p number) site at = at
 writes_as w after c (Link p q sync part) site at = at
 writes_as w after c (Set p q sync) site at = at
 writes_as w after c (Crash p kept) site at = at
+writes_as w after c (Deport p) site at = at
 writes_as w after c (Recover p fails) site at = at
 writes_as w after c (Fault p disk) site at = at
 
@@ -53,6 +55,7 @@ writes_as w after c (Fault p disk) site at = at
 calm_write : (w : World) (e : Event) (site : ℕ) → WritesAt w e site → (s : ℕ) → (s ≡ site → ⊥) → IsElsewhere s e
 calm_write w (Site name disks blocks) site at s apart = tt
 calm_write w (Raw p) site at s apart = tt
+calm_write w (Group p) site at s apart = tt
 calm_write w (Write p volume start bytes fails) site at s apart = tt
 calm_write w (Read p volume start count) site at s apart = tt
 calm_write w (Apply p count reached) site at s apart = tt
@@ -67,6 +70,7 @@ calm_write w (Wait p number) site at s apart = tt
 calm_write w (Link p q sync part) site at s apart = tt
 calm_write w (Set p q sync) site at s apart = tt
 calm_write w (Crash p kept) site at s apart = absurd at
+calm_write w (Deport p) site at s apart = tt
 calm_write w (Recover p fails) site at s apart = absurd at
 calm_write w (Fault p disk) site at s apart = λ here. apart (sym here ∙ at)
 
@@ -259,7 +263,7 @@ crashed_all d s kept taken a is g =
 
 -- ## Lines
 
-pub line_good : (d new : Doubted) (events : List Event) (fails : List (ℕ × ℕ)) → GoodDoubted d → Stops d events fails new → GoodDoubted new
+pub line_good : (d new : Doubted) (events : List Event) (fails : List (ℕ × ℕ)) → GoodDoubted d → EventsEnd d events fails new → GoodDoubted new
 line_good d new events fails g (AllDone last runs failed like) = like_good last new (runs_good events d last g runs) like
 line_good d new events fails g (Halts e site disk middle comes failed like) =
     like_good (halved middle e site disk) new (halved_all middle e site disk (runs_good comes.before d middle g comes.runs) comes.opens comes.writes) like

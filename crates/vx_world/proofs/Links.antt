@@ -25,7 +25,7 @@ use Rattle.vx_history.proofs.Updates.{by_test, and_left, and_right, same_line_eq
 use Rattle.vx_history.specs.Sound.{IsPresent, IsFollowed, HasStored, ModeSays, GoodLink, GoodMessage, GoodPromise, IsKept, IsStranger, CameTo}
 use Rattle.vx_history.specs.Sends.{is_linked, packets_of, packets_from, parts_of, packet, updates, between}
 use Rattle.vx_history.specs.Refusals.{holds_back, is_unconfirmed, some_below, goes, waits}
-use Rattle.vx_history.specs.Events.{facts_of, restarted_link, lost_touch, link_after, promise_of, promises_of}
+use Rattle.vx_history.specs.Events.{receiver_facts, restarted_link, lost_touch, link_after, promise_of, promises_of}
 use Rattle.vx_world.proofs.Lists.{prefix_get, prefix_take, drop_get, or_left, or_right, each_append, prefix_trans, refuted}
 
 -- a mode that says no more: by the log only where it went by the log
@@ -131,12 +131,12 @@ module _ (own : List Write) (h : History) (p s : ℕ) (a b : Node) (l : Link) (l
   same : After (with_ignored (plain_link s l))
   same = link_like own p s a b l (with_plain l (plain_link s l)) refl refl refl refl (λ e. e) good
 
-  on_line : (r : Sent) → (line ≡ a.line → After r) → After (if_on_line (facts_of a line) (plain_link s l) r)
+  on_line : (r : Sent) → (line ≡ a.line → After r) → After (if_on_line (receiver_facts a line) (plain_link s l) r)
   on_line r heard =
       by_test After (same_line line a.line) r (with_ignored (plain_link s l)) (λ e. heard (same_line_equal line a.line e)) (λ _. same)
 
   pub link_hello : (held : List Write) (session number stored : ℕ) → GoodMessage held b line (Hello session number stored)
-      → After (sent_step (plain_link s l) (HearHello session number stored) (facts_of a line))
+      → After (sent_step (plain_link s l) (HearHello session number stored) (receiver_facts a line))
   link_hello held session number stored (old, memory, disk) =
       on_line (greeted (plain_link s l) session number stored)
       (λ e. by_test After (ltb session l.session) (with_ignored (plain_link s l)) _
@@ -171,7 +171,7 @@ module _ (own : List Write) (h : History) (p s : ℕ) (a b : Node) (l : Link) (l
       between_both m n f g = grind (arith, nat_tests)
 
   pub link_net_ack : (held : List Write) (session number : ℕ) → GoodMessage held b line (NetAck session number)
-      → After (sent_step (plain_link s l) (HearNetAck session number) (facts_of a line))
+      → After (sent_step (plain_link s l) (HearNetAck session number) (receiver_facts a line))
   link_net_ack held session number (old, memory) =
       on_line (memory_acknowledged (plain_link s l) session number)
       (λ e. by_test After (by_log l.mode && (eqb session l.session && ltb l.net number)) _ (with_ignored (plain_link s l))
@@ -191,7 +191,7 @@ module _ (own : List Write) (h : History) (p s : ℕ) (a b : Node) (l : Link) (l
       is_same m n t = grind (arith, nat_tests)
 
   pub link_data_ack : (held : List Write) (number : ℕ) → GoodMessage held b line (DataAck number)
-      → After (sent_step (plain_link s l) (HearDataAck number) (facts_of a line))
+      → After (sent_step (plain_link s l) (HearDataAck number) (receiver_facts a line))
   link_data_ack held number disk =
       on_line (disk_acknowledged (plain_link s l) number)
       (λ e. by_test After (by_log l.mode && ltb l.stored number) _ (with_ignored (plain_link s l))

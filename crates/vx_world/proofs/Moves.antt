@@ -13,7 +13,7 @@ use Rattle.vx_history.specs.Receiving.{phase_takes}
 use Rattle.vx_history.proofs.Updates.{all_updated, all_lines, at_place}
 use Rattle.vx_history.proofs.GoodLemmas.{good_stays}
 use Rattle.vx_history.specs.Sends.{is_linked, with_links, with_link, sending, promising}
-use Rattle.vx_history.specs.Sound.{IsWhole, IsFed, TakesUpdates, IsMarked, IsNewest, StoodHere, HasCome, IsFollowed, ModeSays, GoodLink, GoodPacket, GoodPromise, IsStranger, KnownNode, Sound}
+use Rattle.vx_history.specs.Sound.{LosesNothing, IsFed, TakesUpdates, IsMarked, IsNewest, StoodHere, HasCome, IsFollowed, ModeSays, GoodLink, GoodPacket, GoodPromise, IsStranger, KnownNode, Sound}
 use Rattle.vx_world.proofs.Lists.{each_append, each_weaker, prefix_refl, refuted, not_both}
 use Rattle.vx_world.proofs.Carry.{IsLater, later_same, come_later, mode_later, link_later, packets_later, promises_later}
 
@@ -159,7 +159,7 @@ sound_with_link w p q l s h made old =
 
 -- any later state of the sites and the lines
 pub sound_later : (w : World) (f : ℕ → Node) (h : Line → History) → Sound w → ((i : ℕ) → IsLater (w.nodes i) (f i))
-    → ((l : Line) → IsPrefixOf (w.lines l).held (h l).held) → Good (record w { nodes = f; lines = h }) → ((i : ℕ) → IsWhole (f i))
+    → ((l : Line) → IsPrefixOf (w.lines l).held (h l).held) → Good (record w { nodes = f; lines = h }) → ((i : ℕ) → LosesNothing (f i))
     → ((i : ℕ) → IsFed (f i)) → ((i : ℕ) → TakesUpdates (f i)) → ((i : ℕ) → IsMarked (f i)) → ((i : ℕ) → IsNewest (f i))
     → ((i : ℕ) → StoodHere (f i))
     → ((p q : ℕ) → is_origin (f p).role ≡ true → IsFollowed (f p) (f q) (w.links p q)
@@ -205,14 +205,14 @@ modes_now w i n h stays p q says =
     (mode_later (w.lines (w.nodes p).line).held held (w.nodes q) (w.nodes q) (w.links p q).mode (λ x. x) (λ x. x) says)
 
 -- one site, with the lines as they are
-pub sound_with_node : (w : World) (i : ℕ) (n : Node) → Sound w → Good (with_node w i n) → IsLater (w.nodes i) n → IsWhole n → IsFed n → TakesUpdates n
+pub sound_with_node : (w : World) (i : ℕ) (n : Node) → Sound w → Good (with_node w i n) → IsLater (w.nodes i) n → LosesNothing n → IsFed n → TakesUpdates n
     → IsMarked n → IsNewest n → StoodHere n → StaysFed w i n → KnownNode w.nodes w.links i n → Sound (with_node w i n)
 sound_with_node w i n s good later whole fed takes marked newest stands stays known =
     sound_later w (updated w.nodes i n) w.lines s
     (all_updated (λ k (m : Node). IsLater (w.nodes k) m) w.nodes i n later (λ k _. later_same (w.nodes k)))
     (λ l. prefix_refl (w.lines l).held)
     good
-    (all_updated (λ k (m : Node). IsWhole m) w.nodes i n whole (λ k _. s.whole k))
+    (all_updated (λ k (m : Node). LosesNothing m) w.nodes i n whole (λ k _. s.whole k))
     (all_updated (λ k (m : Node). IsFed m) w.nodes i n fed (λ k _. s.fed k))
     (all_updated (λ k (m : Node). TakesUpdates m) w.nodes i n takes (λ k _. s.takes k))
     (all_updated (λ k (m : Node). IsMarked m) w.nodes i n marked (λ k _. s.marked k))
@@ -223,14 +223,14 @@ sound_with_node w i n s good later whole fed takes marked newest stands stays kn
 
 -- one site, with its line's record
 pub sound_with_history : (w : World) (i : ℕ) (n : Node) (h : History) → Sound w → Good (with_history w i n h) → IsLater (w.nodes i) n
-    → IsPrefixOf (w.lines n.line).held h.held → IsWhole n → IsFed n → TakesUpdates n → IsMarked n → IsNewest n → StoodHere n
+    → IsPrefixOf (w.lines n.line).held h.held → LosesNothing n → IsFed n → TakesUpdates n → IsMarked n → IsNewest n → StoodHere n
     → StaysFed w i n → KnownNode w.nodes w.links i n → Sound (with_history w i n h)
 sound_with_history w i n h s good later grow whole fed takes marked newest stands stays known =
     sound_later w (updated w.nodes i n) (line_updated w.lines n.line h) s
     (all_updated (λ k (m : Node). IsLater (w.nodes k) m) w.nodes i n later (λ k _. later_same (w.nodes k)))
     (all_lines (λ l (r : History). IsPrefixOf (w.lines l).held r.held) w.lines n.line h grow (λ l _. prefix_refl (w.lines l).held))
     good
-    (all_updated (λ k (m : Node). IsWhole m) w.nodes i n whole (λ k _. s.whole k))
+    (all_updated (λ k (m : Node). LosesNothing m) w.nodes i n whole (λ k _. s.whole k))
     (all_updated (λ k (m : Node). IsFed m) w.nodes i n fed (λ k _. s.fed k))
     (all_updated (λ k (m : Node). TakesUpdates m) w.nodes i n takes (λ k _. s.takes k))
     (all_updated (λ k (m : Node). IsMarked m) w.nodes i n marked (λ k _. s.marked k))

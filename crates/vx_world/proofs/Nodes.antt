@@ -6,19 +6,21 @@ use Rattle.std.proofs.lemmas.List.{take-take, take-append-le, take-append-drop}
 use Rattle.vx_model.specs.Content.{Content, Write, fold_writes, IsNumber}
 use Rattle.vx_history.specs.World.{Node, History, Fuse}
 use Rattle.vx_model.specs.Sites.{is_origin}
-use Rattle.vx_history.specs.Steps.{burned, logged, crashed, recovered}
+use Rattle.vx_history.specs.Steps.{burned, logged, crashed, deported_site, recovered}
 use Rattle.vx_history.specs.Good.{GoodNode, IsMade}
 use Rattle.vx_history.specs.Receiving.{marked_by, is_log_phase, phase_takes}
 use Rattle.vx_history.specs.LinkForms.{plain_receiver}
 use Rattle.vx_model.specs.declared.site.Mark.{Mark}
 use Rattle.vx_model.specs.declared.site.Mark.TheVariants.{Consistent}
 use Rattle.vx_model.specs.declared.site.SPhase.TheVariants.{Log as ByLog}
-use Rattle.vx_model.specs.declared.site.SiteState.TheVariants.{Up, Down}
+use Rattle.vx_model.specs.declared.site.SiteState.TheVariants.{Up, Deported, Down}
 use Rattle.vx_history.specs.declared.receiver.RState.{RState}
 use Rattle.vx_history.proofs.Updates.{by_test}
 use Rattle.vx_history.proofs.GoodLemmas.{fold_append}
 use Rattle.vx_history.proofs.CrashLemmas.{kept_length, kept_content}
 use Rattle.vx_history.specs.Events.{applied, joined, with_write, come_back, kept_of}
+use Rattle.vx_history.specs.Sound.{is_at_rest}
+use Rattle.vx_world.proofs.Guards.{rest_up}
 use Rattle.vx_world.proofs.Lists.{prefix_none, prefix_next, prefix_trans, prefix_take, not_both}
 use Rattle.vx_world.proofs.Carry.{IsLater, stored_still}
 
@@ -213,17 +215,32 @@ later_risen n mark marks = record {
   stood = refl;
 }
 
--- a session that began at a site that stays down
-pub later_begun : (n : Node) → n.state ≡ Down → IsLater n (record n { session = n.session + 1 })
-later_begun n down = record {
+-- a session that began at a site that stays down or deported
+pub later_begun : (n : Node) → is_at_rest n.state ≡ true → IsLater n (record n { session = n.session + 1 })
+later_begun n rest = record {
   line = refl;
   origin = refl;
   bunker = refl;
   session = omega arith;
   safe = omega arith;
   stored = λ k h. h;
-  present = λ up _. absurd (let e : Down ≡ Up = sym down ∙ up in cc);
+  present = λ up _. absurd (rest_up n.state rest up);
   made = λ m. m;
+  top = omega arith;
+  stood = refl;
+}
+
+-- a site that is down and gives its disks up
+pub later_deported : (n : Node) → n.state ≡ Down → IsLater n (deported_site n)
+later_deported n down = record {
+  line = refl;
+  origin = refl;
+  bunker = refl;
+  session = omega arith;
+  safe = omega arith;
+  stored = λ k h. h;
+  present = λ up _. absurd (let e : Deported ≡ Up = up in cc);
+  made = λ _ e. cc;
   top = omega arith;
   stood = refl;
 }

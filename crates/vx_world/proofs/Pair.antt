@@ -87,11 +87,11 @@ other_place f i k x apart = by_test (λ y. y ≡ f k) (eqb k i) x (f k) (λ e. a
 module _ (v : World) (p s : ℕ) (a b : Node) (l : Link) (ps : List Packet) (at : At v p s a b l ps) where
   -- what the rule of the link makes of it
   pub link_event_at : (e : SEvent)
-      → At (Events.link_event v p s e) p s a b (with_plain l (sent_step (plain_link s l) e (Events.facts_of a a.line)).link) (ps ++ sent_by (sent_step (plain_link s l) e (Events.facts_of a a.line)).action p s a)
+      → At (Events.link_event v p s e) p s a b (with_plain l (sent_step (plain_link s l) e (Events.receiver_facts a a.line)).link) (ps ++ sent_by (sent_step (plain_link s l) e (Events.receiver_facts a a.line)).action p s a)
   link_event_at e =
       via v p s a b l ps at
-      (λ a b l ps. At (Events.link_event v p s e) p s a b (with_plain l (sent_step (plain_link s l) e (Events.facts_of a a.line)).link)
-      (ps ++ sent_by (sent_step (plain_link s l) e (Events.facts_of a a.line)).action p s a))
+      (λ a b l ps. At (Events.link_event v p s e) p s a b (with_plain l (sent_step (plain_link s l) e (Events.receiver_facts a a.line)).link)
+      (ps ++ sent_by (sent_step (plain_link s l) e (Events.receiver_facts a a.line)).action p s a))
       (record {
         given_p = at.given_p;
         given_s = at.given_s;

@@ -4,7 +4,7 @@ use Rattle.vx_history.specs.World.{Node, Link, World, no_regions}
 use Rattle.vx_history.specs.Sends.{with_link}
 use Rattle.vx_history.specs.LinkForms.{plain_link, with_plain}
 use Rattle.vx_history.specs.Sending.{Sent, sent_step}
-use Rattle.vx_history.specs.Events.{facts_of, link_step}
+use Rattle.vx_history.specs.Events.{receiver_facts, link_step}
 use Rattle.vx_model.specs.declared.link.Link.{Link as PlainLink}
 use Rattle.vx_history.specs.declared.sender.SEvent.{SEvent}
 use Rattle.vx_history.specs.declared.sender.SFacts.{SFacts}
@@ -21,13 +21,13 @@ ticked_is w new p s mid put after r is stepped made none changed =
     ∙ ap (λ (l : PlainLink). let m : Link = record (with_plain (w.links p s) l) { since = no_regions } in m) stepped)
 
 -- what a message of the site's own line finds there
-pub own_facts : (n m : Node) → n ≡ m → (let f : SFacts = record { safe = n.safe; line_ok = true } in f) ≡ facts_of m m.line
+pub own_facts : (n m : Node) → n ≡ m → (let f : SFacts = record { safe = n.safe; line_ok = true } in f) ≡ receiver_facts m m.line
 own_facts n m same =
     ap (λ (x : Node). let f : SFacts = record { safe = x.safe; line_ok = true } in f) same
     ∙ ap (λ b. let f : SFacts = record { safe = m.safe; line_ok = b } in f) (sym (same_line_self m.line))
 
 pub step_is : (w : World) (p s : ℕ) (e : SEvent) (mid : Link) (plain : PlainLink) (facts : SFacts) → mid ≡ w.links p s → plain ≡ plain_link s mid
-    → facts ≡ facts_of (w.nodes p) (w.nodes p).line
+    → facts ≡ receiver_facts (w.nodes p) (w.nodes p).line
     → sent_step plain e facts ≡ link_step w p s e
 step_is w p s e mid plain facts is spelled told =
     ap (λ (l : PlainLink). sent_step l e facts) (spelled ∙ ap (λ (l : Link). plain_link s l) is)

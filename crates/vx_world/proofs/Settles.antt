@@ -21,7 +21,7 @@ use Rattle.vx_history.specs.Refusals.{keeps_links}
 use Rattle.vx_history.specs.Step.{step, run}
 use Rattle.vx_history.specs.Settling.{delivery, greeting_events, is_stuck, turn, turns, settling, MaySettle, IsMet}
 use Rattle.vx_history.specs.Sound.{Sound, GoodLink, IsFollowed, ModeSays}
-use Rattle.vx_history.specs.Fits.{Fits}
+use Rattle.vx_history.specs.Fits.{WriteFits}
 use Rattle.vx_history.specs.GoodWorld.{GoodWorld}
 use Rattle.std.specs.List.{AllByRecursion}
 use Rattle.vx_world.proofs.Lists.{prefix_length, each_weaker}
@@ -84,7 +84,7 @@ module _ (w : World) (p s : ℕ) (good : GoodWorld w) (may : MaySettle w p s) wh
 
   -- the writes of the sending site are small
   pub small : AllByRecursion IsSmall (w.nodes p).log
-  small = each_weaker (Fits (w.nodes p)) IsSmall (λ x h. h.few) (w.nodes p).log (good.fits.logs p)
+  small = each_weaker (WriteFits (w.nodes p)) IsSmall (λ x h. h.few) (w.nodes p).log (good.fits.logs p)
 
   -- no more is stored than is durable
   pub stored_most : (w.links p s).stored ≤ (w.nodes p).safe

@@ -11,6 +11,7 @@ use Rattle.vx_history.specs.Likes.{IsLike, SameLink}
 use Rattle.vx_history.specs.Refusals.{is_running}
 use Rattle.vx_history.specs.Sends.{is_linked}
 use Rattle.vx_history.specs.Step.{step}
+use Rattle.vx_history.specs.Groups.{GroupNode}
 use Rattle.vx_history.specs.World.{World, Node, Link as LinkRecord, History}
 use Rattle.vx_history.specs.declared.event.Event.{Event}
 use Rattle.vx_world.specs.Lines.{IsDoubt, node_as, row_as, resolved_as}
@@ -30,6 +31,7 @@ exact_note a b e =
     e
     ∙ ap (λ f. let n : Node = record a { fuse = f } in n) (sym (ap (λ (n : Node). n.fuse) e))
     ∙ ap (λ (f : ℕ → Bool). let n : Node = record a { fuse = b.fuse; failing = f } in n) (sym (ap (λ (n : Node). n.failing) e))
+    ∙ ap (λ (g : Option GroupNode). let n : Node = record a { fuse = b.fuse; failing = b.failing; group = g } in n) (sym (ap (λ (n : Node). n.group) e))
 
 -- worlds with the same at each place
 pub like_exact : (w v : World) → v.sites ≡ w.sites → ((i : ℕ) → v.nodes i ≡ w.nodes i) → ((i : ℕ) → v.links i ≡ w.links i) → v.lines ≡ w.lines

@@ -6,7 +6,7 @@ use Rattle.vx_model.specs.Content.{Write, blocks_in}
 use Rattle.vx_model.specs.Answer.{is_too_large}
 use Rattle.vx_history.specs.World.{World, Link as LinkRecord, empty_world}
 use Rattle.vx_model.specs.Sites.{is_origin}
-use Rattle.vx_history.specs.Steps.{raw_made}
+use Rattle.vx_history.specs.Steps.{raw_made, group_made}
 use Rattle.vx_model.specs.declared.link.Prot.TheVariants.{Fail as FailsWhenFull}
 use Rattle.vx_model.specs.declared.site.SiteState.TheVariants.{Bare, Up}
 use Rattle.vx_model.specs.declared.no.No.TheVariants.{Size, Role as WrongRole, Down as NotUp}
@@ -15,7 +15,7 @@ use Rattle.vx_model.specs.declared.link.Link.{Link as PlainLink}
 use Rattle.vx_history.proofs.Updates.{by_test}
 use Rattle.vx_history.proofs.GoodLemmas.{good_empty}
 use Rattle.vx_history.specs.declared.event.Event.{Event}
-use Rattle.vx_history.specs.declared.event.Event.TheVariants.{Site, Raw, Write as WriteAt, Read, Apply, Pump, Tick, Deliver, Connect, Cut, Pause, Resume, Wait, Link, Set, Crash, Recover, Fault}
+use Rattle.vx_history.specs.declared.event.Event.TheVariants.{Site, Raw, Group, Write as WriteAt, Read, Apply, Pump, Tick, Deliver, Connect, Cut, Pause, Resume, Wait, Link, Set, Crash, Deport, Recover, Fault}
 use Rattle.vx_history.specs.Refusals.{Outcome, unless, at_work, keeps_links}
 use Rattle.vx_model.specs.Sites.{is_up, is_bare}
 use Rattle.vx_model.specs.Sizes.{is_raw_shape}
@@ -29,8 +29,8 @@ use Rattle.vx_world.proofs.Tests.{Keeps, unless_keeps, at_site_keeps, at_work_ke
 use Rattle.vx_world.proofs.Guards.{primary_origin, up_is, bare_is}
 use Rattle.vx_world.proofs.Changes.{written_if_keeps, apply_keeps}
 use Rattle.vx_world.proofs.Feeds.{quiet_keeps, pump_keeps, connect_keeps, deliver_keeps, wait_keeps}
-use Rattle.vx_world.proofs.Crashes.{crash_keeps, recover_keeps, fault_keeps}
-use Rattle.vx_world.proofs.Joins.{may_be_site_keeps, raw_keeps, link_part_keeps}
+use Rattle.vx_world.proofs.Crashes.{crash_keeps, deport_keeps, recover_keeps, fault_keeps}
+use Rattle.vx_world.proofs.Joins.{may_be_site_keeps, raw_keeps, group_keeps, link_part_keeps}
 use Rattle.vx_world.proofs.Links
 
 less : (a b : ℕ) → leb a b ≡ false → b < a
@@ -52,6 +52,11 @@ outcome_keeps w (Raw q) s =
     (λ there. unless_keeps (not (is_bare (w.nodes q).state)) WrongRole w shaped s
     (λ bare. unless_keeps (not (is_raw_shape (w.nodes q).disks (w.nodes q).blocks)) Size w o s
     (λ _. raw_keeps w q s (less w.sites q there) (bare_is (w.nodes q).state (not_false (is_bare (w.nodes q).state) bare)))))
+outcome_keeps w (Group q) s =
+    let o : Outcome = done (group_made w q) in
+    at_site_keeps w q (unless (not (is_bare (w.nodes q).state)) WrongRole w o) s
+    (λ there. unless_keeps (not (is_bare (w.nodes q).state)) WrongRole w o s
+    (λ bare. group_keeps w q s (less w.sites q there) (bare_is (w.nodes q).state (not_false (is_bare (w.nodes q).state) bare))))
 outcome_keeps w (WriteAt p volume start bytes fails) s = write_keeps w p (record { volume = volume; start = start; bytes = bytes }) fails s
 outcome_keeps w (Read p volume start count) s = on_volume_keeps w p volume start count false _ s (λ _ _ _. s)
 outcome_keeps w (Apply q count reached) s =
@@ -94,6 +99,9 @@ outcome_keeps w (Crash q kept) s =
     at_site_keeps w q (unless (not (is_up (w.nodes q).state)) NotUp w o) s
     (λ _. unless_keeps (not (is_up (w.nodes q).state)) NotUp w o s
     (λ up. crash_keeps w q kept s (up_is (w.nodes q).state (not_false (is_up (w.nodes q).state) up))))
+outcome_keeps w (Deport q) s =
+    let o : Outcome = done (Events.deport_at w q) in
+    at_site_keeps w q (at_work w q o) s (λ _. at_work_keeps w q o s (λ up _. deport_keeps w q s up))
 outcome_keeps w (Recover q fails) s = at_site_keeps w q _ s (λ _. recover_keeps w q (w.nodes q).state fails s refl)
 outcome_keeps w (Fault q disk) s =
     at_site_keeps w q _ s

@@ -21,14 +21,14 @@ use Rattle.vx_history.specs.Events
 use Rattle.vx_history.specs.Gatherings.{completes}
 use Rattle.vx_history.specs.LinkForms.{plain_receiver, with_plain}
 use Rattle.vx_history.specs.Receiving.{Received, received_step, phase_takes}
-use Rattle.vx_history.specs.Refusals.{Outcome, says, unless, unless_halted, at_site, at_work, both_at_work, on_link_if, on_volume, keeps_links, is_primary, is_consistent, is_stale, is_empty, is_running, is_unconfirmed, holds_back, follows, some_below, may_link, agree, rings_fit, links_of}
+use Rattle.vx_history.specs.Refusals.{Outcome, says, unless, unless_halted, at_site, at_work, both_at_work, on_link_if, on_volume, keeps_links, is_primary, is_consistent, is_stale_mode, is_empty, is_running, is_unconfirmed, holds_back, follows, some_below, may_link, agree, rings_fit, count_links_of}
 use Rattle.vx_history.specs.Sending.{Sent}
 use Rattle.vx_history.specs.Sends.{is_linked, with_links, with_link, sending, sent_by}
 use Rattle.vx_history.specs.Step.{outcome_of, step, link_part}
-use Rattle.vx_history.specs.Steps.{raw_set, logged, crashed, crash_left}
+use Rattle.vx_history.specs.Steps.{raw_set, group_set, logged, crashed, crash_left, deported_site}
 use Rattle.vx_history.specs.World.{World, Node, Link as LinkRecord, History, Gathering, Packet, Message, Hello, Update, NetAck, DataAck, with_node, with_history, bare_site, updated}
 use Rattle.vx_history.specs.declared.event.Event.{Event}
-use Rattle.vx_history.specs.declared.event.Event.TheVariants.{Site, Raw, Write as WriteAt, Read, Apply, Pump, Tick, Deliver, Connect, Cut, Pause, Resume, Wait, Link, Set, Crash, Recover, Fault}
+use Rattle.vx_history.specs.declared.event.Event.TheVariants.{Site, Raw, Group, Write as WriteAt, Read, Apply, Pump, Tick, Deliver, Connect, Cut, Pause, Resume, Wait, Link, Set, Crash, Deport, Recover, Fault}
 use Rattle.vx_history.specs.declared.event.LinkPart.{LinkPart}
 use Rattle.vx_history.specs.declared.event.LinkPart.TheVariants.{Joins, Made, Marked, Opened}
 use Rattle.vx_history.specs.declared.event.Said.TheVariants.{Ignored as IsIgnored, Pending}
@@ -210,16 +210,16 @@ module _ (s : ℕ) (w : World) (up : (w.nodes s).state ≡ Up) (halted : is_runn
   part_still Joins p q sync here there =
       tested (not (may_link w p q)) _ _
       (λ _. tested (is_linked (w.links p q)) _ _
-      (λ _. tested (leb MOST_LINKS (links_of w p)) _ _
+      (λ _. tested (leb MOST_LINKS (count_links_of w p)) _ _
       (λ _. tested (not (agree (w.nodes p).volumes (w.nodes q).volumes && rings_fit (w.nodes p) (w.nodes q))) _ _
       (λ _. gathering_still (with_node w q (Events.joined (w.nodes p) p (w.nodes q))) _ (node_still q (Events.joined (w.nodes p) p (w.nodes q)) there)))))
   part_still Made p q sync here there =
       tested (not (is_primary (w.nodes p).role && follows w p q)) _ _
-      (λ _. tested (is_linked (w.links p q)) _ _ (λ _. row_still w p (updated (w.links p) q (Events.new_link (links_of w p) sync (w.nodes q))) same here))
+      (λ _. tested (is_linked (w.links p q)) _ _ (λ _. row_still w p (updated (w.links p) q (Events.new_link (count_links_of w p) sync (w.nodes q))) same here))
   part_still Marked p q sync here there = tested (not (is_primary (w.nodes p).role && (follows w p q && (is_linked (w.links p q) && is_empty (w.nodes p).log)))) _ _ (λ _. node_still q (record (w.nodes q) { mark = Consistent }) there)
   part_still Opened p q sync here there =
       tested
-      (not (is_primary (w.nodes p).role && (follows w p q && (is_linked (w.links p q) && (is_empty (w.nodes p).log && (is_stale (w.links p q).mode && (phase_takes (w.nodes q).phase && is_consistent (w.nodes q).mark)))))))
+      (not (is_primary (w.nodes p).role && (follows w p q && (is_linked (w.links p q) && (is_empty (w.nodes p).log && (is_stale_mode (w.links p q).mode && (phase_takes (w.nodes q).phase && is_consistent (w.nodes q).mark)))))))
       _ _ (λ _. row_still w p (updated (w.links p) q (Events.opened (w.links p q) (w.nodes p).safe)) same here)
 
   crash_still : (q k : ℕ) → (s ≡ q → ⊥) → Stands s w (Events.crash_at w q k)
@@ -229,6 +229,13 @@ module _ (s : ℕ) (w : World) (up : (w.nodes s).state ≡ Up) (halted : is_runn
       (with_node w q (crashed (w.nodes q) k))
       (λ _. row_still (crash_left w q k) q _ (history_still q (crashed (w.nodes q) k) _ apart) apart)
       (λ _. row_still (with_node w q (crashed (w.nodes q) k)) q _ (node_still q (crashed (w.nodes q) k) apart) apart))
+
+  deport_still : (q : ℕ) → (s ≡ q → ⊥) → Stands s w (Events.deport_at w q)
+  deport_still q apart =
+      let k : ℕ = Events.kept_of (w.nodes q) 0 in
+      let v : World = Events.crash_at w q k in
+      let is : Stands s w v = crash_still q k apart in
+      record { node = aside v.nodes q (deported_site (v.nodes q)) s apart ∙ is.node; row = is.row }
 
   recovery_still : (q : ℕ) (fails : Option ℕ) → (s ≡ q → ⊥) → Leaves (Events.recovery w q fails)
   recovery_still q None apart =
@@ -240,7 +247,8 @@ module _ (s : ℕ) (w : World) (up : (w.nodes s).state ≡ Up) (halted : is_runn
   recover_still : (q : ℕ) (state : SiteState) (fails : Option ℕ) → (w.nodes q).state ≡ state → Leaves (Events.recover_from state w q fails)
   recover_still q Bare fails e = same
   recover_still q Up fails e = same
-  recover_still q Deported fails e = same
+  recover_still q Deported fails e = tested (leb MOST_NUMBER (w.nodes q).session) _ _ (λ _. recovery_still q fails
+      (λ here. let g : Up ≡ Deported = sym up ∙ ap (λ (i : ℕ). (w.nodes i).state) here ∙ e in absurd (cc)))
   recover_still q Down fails e = tested (leb MOST_NUMBER (w.nodes q).session) _ _ (λ _. recovery_still q fails
       (λ here. let g : Up ≡ Down = sym up ∙ ap (λ (i : ℕ). (w.nodes i).state) here ∙ e in absurd (cc)))
 
@@ -258,6 +266,12 @@ module _ (s : ℕ) (w : World) (up : (w.nodes s).state ≡ Up) (halted : is_runn
       (λ _. history_still q (raw_set q (w.nodes q)) _
       (λ here. let g : Up ≡ Bare = sym up ∙ ap (λ (i : ℕ). (w.nodes i).state) here ∙ bare_is (w.nodes q).state
       (not_false (is_bare (w.nodes q).state) bare) in absurd (cc)))))
+  outcome_still (Group q) there calm =
+      site_still q _
+      (tested (not (is_bare (w.nodes q).state)) _ _
+      (λ bare. history_still q (group_set q (w.nodes q)) _
+      (λ here. let g : Up ≡ Bare = sym up ∙ ap (λ (i : ℕ). (w.nodes i).state) here ∙ bare_is (w.nodes q).state
+      (not_false (is_bare (w.nodes q).state) bare) in absurd (cc))))
   outcome_still (WriteAt p volume start bytes fails) there calm =
       let x : LogWrite = record { volume = volume; start = start; bytes = bytes } in
       volume_still p volume start (blocks_in bytes) (is_too_large (w.nodes p).ring (blocks_in bytes))
@@ -292,6 +306,7 @@ module _ (s : ℕ) (w : World) (up : (w.nodes s).state ≡ Up) (halted : is_runn
       (λ apart. row_still w p (updated (w.links p) q (record (w.links p q) { sync = sync; prot = FailsWhenFull })) same apart)
   outcome_still (Crash q kept) there calm =
       site_still q _ (tested (not (is_up (w.nodes q).state)) _ _ (λ _. crash_still q (Events.kept_of (w.nodes q) kept) (λ e. calm (sym e))))
+  outcome_still (Deport q) there calm = work_still q _ (λ apart. deport_still q apart)
   outcome_still (Recover q fails) there calm = site_still q _ (recover_still q (w.nodes q).state fails refl)
   outcome_still (Fault q disk) there calm =
       site_still q _ (tested (not (is_up (w.nodes q).state)) _ _ (λ _. node_still q _ (λ e. calm (sym e))))

@@ -5,7 +5,7 @@ use Rattle.std.proofs.lemmas.Bool.Decides.{nat_tests}
 use Rattle.vx_model.specs.Content.{Write}
 use Rattle.vx_history.specs.World.{World, Node, Link, Packet, Message, Update, NetAck, DataAck, no_regions, with_node}
 use Rattle.vx_model.specs.Sites.{is_origin, same_line}
-use Rattle.vx_history.specs.Admission.{is_live}
+use Rattle.vx_history.specs.Admission.{is_live_link}
 use Rattle.vx_history.specs.Sending.{Sent, sent_step, by_log, pumped_up_to, with_nothing, with_ignored, memory_acknowledged, disk_acknowledged, if_on_line}
 use Rattle.vx_history.specs.Receiving.{Received, takes, repeats, with_next, update_heard, phase_takes}
 use Rattle.vx_history.specs.LinkForms.{plain_link, with_plain, plain_receiver}
@@ -65,14 +65,14 @@ module _ (v : World) (p s : ℕ) (a b : Node) (l : Link) (ps : List Packet) (at 
       (sym (link_passes v p s a b l ps at (done (Events.ticked_at v p s)) fit))
       (subst (λ (x : Link). At (with_link v p s x) p s a b m ps) (sym is) (with_link_at v p s a b l ps at m)))
 
-  pub live : (is_live (plain_link s l) && by_log l.mode) ≡ true
+  pub live : (is_live_link (plain_link s l) && by_log l.mode) ≡ true
   live =
-      both (is_live (plain_link s l)) (by_log l.mode)
+      both (is_live_link (plain_link s l)) (by_log l.mode)
       (both l.attached (l.connected && not l.paused) fit.attached (both l.connected (not l.paused) fit.connected (ap not fit.running)))
       (ap by_log fit.mode)
 
-  pub pumps : sent_step (plain_link s l) PumpLink (Events.facts_of a a.line) ≡ pumped_up_to (plain_link s l) (max l.sent l.stored) (min a.safe (l.net + MOST_AHEAD))
-  pumps = by_true (is_live (plain_link s l) && by_log l.mode) _ _ live
+  pub pumps : sent_step (plain_link s l) PumpLink (Events.receiver_facts a a.line) ≡ pumped_up_to (plain_link s l) (max l.sent l.stored) (min a.safe (l.net + MOST_AHEAD))
+  pumps = by_true (is_live_link (plain_link s l) && by_log l.mode) _ _ live
 
   pub pump_passes : (o : Outcome) → on_link v p s (when_live v s (v.links p s) o) ≡ o
   pump_passes o =
@@ -87,7 +87,7 @@ module _ (v : World) (p s : ℕ) (a b : Node) (l : Link) (ps : List Packet) (at 
       → At (step v (Pump p s)).world p s a b (record l { sent = high }) (ps ++ updates p s a.line (low + 1) (between (low + 1) high a.log))
   pump_at low high is_low is_high less =
       let r : Sent = record { link = record (plain_link s l) { sent = high }; action = Updates (low + 1) high } in
-      let e : sent_step (plain_link s l) PumpLink (Events.facts_of a a.line) ≡ r =
+      let e : sent_step (plain_link s l) PumpLink (Events.receiver_facts a a.line) ≡ r =
       pumps ∙ ap (λ k. pumped_up_to (plain_link s l) k (min a.safe (l.net + MOST_AHEAD))) is_low ∙ ap (λ k. pumped_up_to (plain_link s l) low k) is_high ∙ by_true
       (ltb low high) _ _ (below low high less) in
       counted_at p s a b (record l { sent = high }) (ps ++ updates p s a.line (low + 1) (between (low + 1) high a.log)) v (Pump p s)
@@ -102,7 +102,7 @@ module _ (v : World) (p s : ℕ) (a b : Node) (l : Link) (ps : List Packet) (at 
   pub pump_none : max l.sent l.stored ≡ l.sent → min a.safe (l.net + MOST_AHEAD) ≤ l.sent → At (step v (Pump p s)).world p s a b l ps
   pump_none is_low most =
       let r : Sent = with_nothing (plain_link s l) in
-      let e : sent_step (plain_link s l) PumpLink (Events.facts_of a a.line) ≡ r =
+      let e : sent_step (plain_link s l) PumpLink (Events.receiver_facts a a.line) ≡ r =
       pumps ∙ ap (λ k. pumped_up_to (plain_link s l) k (min a.safe (l.net + MOST_AHEAD))) is_low ∙ by_false (ltb l.sent (min a.safe (l.net + MOST_AHEAD))) _ _
       (above l.sent (min a.safe (l.net + MOST_AHEAD)) most) in
       counted_at p s a b l ps v (Pump p s)
@@ -251,10 +251,10 @@ module _ (v : World) (p s : ℕ) (a b : Node) (l : Link) (ps : List Packet) (at 
   -- what the link hears of its receiver
   pub link_at : (k : ℕ) (m : Message) (e : SEvent) → IsYoung ps k → slice_get ps k ≡ Some (packet s p b.line m 0)
       → Events.heard v (packet s p b.line m 0) m ≡ Events.link_heard v (packet s p b.line m 0) e
-      → At (step v (Deliver (suc k))).world p s a b (with_plain l (sent_step (plain_link s l) e (Events.facts_of a b.line)).link) ps
+      → At (step v (Deliver (suc k))).world p s a b (with_plain l (sent_step (plain_link s l) e (Events.receiver_facts a b.line)).link) ps
   link_at k m e young found is =
       let q : Packet = packet s p b.line m 0 in
-      let r : Link → Node → Sent = λ x y. sent_step (plain_link s x) e (Events.facts_of y b.line) in
+      let r : Link → Node → Sent = λ x y. sent_step (plain_link s x) e (Events.receiver_facts y b.line) in
       let v' : World = with_link v p s (with_plain (v.links p s) (r (v.links p s) (v.nodes p)).link) in
       let goes : Events.link_heard v q e ≡ says v' (Events.said_of_link (r (v.links p s) (v.nodes p)).action) =
       by_true (keeps_links (v.nodes p).role && is_linked (v.links p s)) _ _
@@ -271,7 +271,7 @@ module _ (v : World) (p s : ℕ) (a b : Node) (l : Link) (ps : List Packet) (at 
   pub ours : same_line b.line a.line ≡ true
   ours = ap (λ (y : Line). same_line y a.line) fit.line ∙ same_line_self a.line
 
-  pub heard_as : (r : Sent) → if_on_line (Events.facts_of a b.line) (plain_link s l) r ≡ r
+  pub heard_as : (r : Sent) → if_on_line (Events.receiver_facts a b.line) (plain_link s l) r ≡ r
   heard_as r = by_true (same_line b.line a.line) r (with_ignored (plain_link s l)) ours
 
   -- an acknowledgement from memory in the present session that tells something new

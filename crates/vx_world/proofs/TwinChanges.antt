@@ -3,7 +3,7 @@ use Rattle.vx_model.specs.Sites.{is_origin, is_up}
 use Rattle.std.proofs.Common.{◌≡◌, ◌∙◌, ℕ, List, ◌++◌, ap, sym, refl, Bool, true, false}
 use Rattle.std.specs.Prelude.{◌&&◌, eqb, if◌then◌else◌}
 use Rattle.vx_model.specs.Content.{Write}
-use Rattle.vx_history.specs.Events.{facts_of, handed, taken_if, heard, update_taken, said_of_link}
+use Rattle.vx_history.specs.Events.{receiver_facts, handed, taken_if, heard, update_taken, said_of_link}
 use Rattle.vx_history.specs.LinkForms.{plain_link, plain_receiver}
 use Rattle.vx_history.specs.Receiving.{received_step}
 use Rattle.vx_history.specs.Refusals.{Outcome, says, is_running, keeps_links}
@@ -119,7 +119,7 @@ said_of_taken (act.Take number) = IsTaken
 said_of_taken (act.DataAck number) = IsIgnored
 
 abbrev pub say_of_link : Packet → Node → Link → SEvent → Said
-say_of_link p n l e = if keeps_links n.role && is_linked l then said_of_link (sent_step (plain_link p.source l) e (facts_of n p.line)).action else IsIgnored
+say_of_link p n l e = if keeps_links n.role && is_linked l then said_of_link (sent_step (plain_link p.source l) e (receiver_facts n p.line)).action else IsIgnored
 
 abbrev pub say_of_message : Packet → Node → Link → Message → Said
 say_of_message p n l (Hello session number stored) = say_of_link p n l (HearHello session number stored)

@@ -4,7 +4,7 @@ use Rattle.std.proofs.Common.{◌≡◌, ◌∙◌, inl, inr, ℕ, List, [], ap,
 use Rattle.std.specs.Prelude.{Option, Some, None, not, ◌&&◌, eqb, if◌then◌else◌}
 use Rattle.std.proofs.lemmas.Bool.{cases_eq}
 use Rattle.vx_model.specs.Content.{Write}
-use Rattle.vx_history.specs.Events.{link_event, ticked_link, ticked_at, link_step, facts_of, greets, greeting_back, packet_at, delivered, handed, gathers, gathered_if, is_taken, taken_if, heard, link_heard, update_heard, update_taken, from_memory, with_write, said_of_link}
+use Rattle.vx_history.specs.Events.{link_event, ticked_link, ticked_at, link_step, receiver_facts, greets, greeting_back, packet_at, delivered, handed, gathers, gathered_if, is_taken, taken_if, heard, link_heard, update_heard, update_taken, from_memory, with_write, said_of_link}
 use Rattle.vx_history.specs.LinkForms.{plain_link, with_plain, plain_receiver}
 use Rattle.vx_history.specs.Receiving.{received_step}
 use Rattle.vx_history.specs.Refusals.{Outcome, says, unless, when_live, is_running, keeps_links}
@@ -37,8 +37,8 @@ use Rattle.vx_world.proofs.TwinChanges.{twin_sending, twin_link, twin_node, say_
 module _ (s : ℕ) (w v : World) (twin : Twin s w v) where
   pub same_step : (p q : ℕ) (e : SEvent) → (p ≡ s → ⊥) → link_step v p q e ≡ link_step w p q e
   same_step p q e apart =
-      ap (λ (row : ℕ → Link). sent_step (plain_link q (row q)) e (facts_of (v.nodes p) (v.nodes p).line)) (twin.rows p apart)
-      ∙ ap (λ (n : Node). sent_step (plain_link q (w.links p q)) e (facts_of n n.line)) (twin.nodes p apart)
+      ap (λ (row : ℕ → Link). sent_step (plain_link q (row q)) e (receiver_facts (v.nodes p) (v.nodes p).line)) (twin.rows p apart)
+      ∙ ap (λ (n : Node). sent_step (plain_link q (w.links p q)) e (receiver_facts n n.line)) (twin.nodes p apart)
 
   pub event : (p q : ℕ) (e : SEvent) → (p ≡ s → ⊥) → Twin s (link_event w p q e) (link_event v p q e)
   event p q e apart =
@@ -125,11 +125,11 @@ module _ (s : ℕ) (w v : World) (twin : Twin s w v) where
   heard_link p e apart =
       let l : Link = w.links p.target p.source in
       let m : Link = v.links p.target p.source in
-      let r : Sent = sent_step (plain_link p.source l) e (facts_of (w.nodes p.target) p.line) in
-      let t : Sent = sent_step (plain_link p.source m) e (facts_of (v.nodes p.target) p.line) in
+      let r : Sent = sent_step (plain_link p.source l) e (receiver_facts (w.nodes p.target) p.line) in
+      let t : Sent = sent_step (plain_link p.source m) e (receiver_facts (v.nodes p.target) p.line) in
       let links : m ≡ l = ap (λ (row : ℕ → Link). row p.source) (twin.rows p.target apart) in
-      let same : t ≡ r = ap (λ (k : Link). sent_step (plain_link p.source k) e (facts_of (v.nodes p.target) p.line)) links ∙ ap
-      (λ (n : Node). sent_step (plain_link p.source l) e (facts_of n p.line)) (twin.nodes p.target apart) in
+      let same : t ≡ r = ap (λ (k : Link). sent_step (plain_link p.source k) e (receiver_facts (v.nodes p.target) p.line)) links ∙ ap
+      (λ (n : Node). sent_step (plain_link p.source l) e (receiver_facts n p.line)) (twin.nodes p.target apart) in
       one_of (keeps_links (w.nodes p.target).role && is_linked l) (keeps_links (v.nodes p.target).role && is_linked m)
       (says (with_link w p.target p.source (with_plain l r.link)) (said_of_link r.action))
       (says (with_link v p.target p.source (with_plain m t.link)) (said_of_link t.action)) (says w IsIgnored) (says v IsIgnored)

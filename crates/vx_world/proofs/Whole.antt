@@ -13,7 +13,7 @@ use Rattle.vx_history.specs.Receiving.{Received, received_step}
 use Rattle.vx_history.specs.LinkForms.{plain_receiver}
 use Rattle.vx_history.specs.World.{World, Link as LinkRecord, empty_world, no_link}
 use Rattle.vx_history.specs.Listed.{HasPlaces}
-use Rattle.vx_history.specs.Steps.{site_made, raw_made, stopped_by}
+use Rattle.vx_history.specs.Steps.{site_made, raw_made, group_made, stopped_by}
 use Rattle.vx_history.specs.Sends.{with_link, sending, promising}
 use Rattle.vx_history.specs.Refusals.{Outcome, says, unless, at_work, on_link, keeps_links as has_links, some_below, is_unconfirmed, holds_back}
 use Rattle.vx_history.specs.Events
@@ -21,7 +21,7 @@ use Rattle.vx_history.specs.Step.{done, outcome_of, step, run, link_part}
 use Rattle.vx_history.specs.GoodWorld.{GoodWorld}
 use Rattle.vx_history.specs.Sound.{Sound}
 use Rattle.vx_history.specs.declared.event.Event.{Event}
-use Rattle.vx_history.specs.declared.event.Event.TheVariants.{Site, Raw, Write as WriteAt, Read, Apply, Pump, Tick, Deliver, Connect, Cut, Pause, Resume, Wait, Link, Set, Crash, Recover, Fault}
+use Rattle.vx_history.specs.declared.event.Event.TheVariants.{Site, Raw, Group, Write as WriteAt, Read, Apply, Pump, Tick, Deliver, Connect, Cut, Pause, Resume, Wait, Link, Set, Crash, Deport, Recover, Fault}
 use Rattle.vx_history.specs.declared.event.Said.TheVariants.{Pending, DoneAt}
 use Rattle.vx_history.specs.declared.sender.SEvent.{SEvent}
 use Rattle.vx_history.specs.declared.sender.SEvent.TheVariants.{Connect as ConnectLink, Pump as PumpLink, Cut as CutLink, Pause as PauseLink, Resume as ResumeLink}
@@ -32,7 +32,7 @@ use Rattle.vx_world.proofs.Keeping.{Keeps, keeps_same, keeps_links, made_link, k
 use Rattle.vx_world.proofs.Stays.{step_keeps, empty_sound}
 use Rattle.vx_world.proofs.KeptWrites.{Leaves, write_leaves, moved_leaves, greeting_parts, applied_leaves}
 use Rattle.vx_world.proofs.KeptPackets.{deliver_leaves}
-use Rattle.vx_world.proofs.KeptSites.{crash_leaves, recover_leaves, site_leaves, raw_leaves, link_part_leaves, stopped_leaves}
+use Rattle.vx_world.proofs.KeptSites.{crash_leaves, deport_leaves, recover_leaves, site_leaves, raw_leaves, group_leaves, link_part_leaves, stopped_leaves}
 
 -- ## Events
 
@@ -56,6 +56,11 @@ outcome_leaves w (Raw q) s =
     (λ _. Guards.unless_holds (Keeps w) (not (is_bare (w.nodes q).state)) WrongRole w shaped (keeps_same w)
     (λ bare. Guards.unless_holds (Keeps w) (not (is_raw_shape (w.nodes q).disks (w.nodes q).blocks)) Size w o (keeps_same w)
     (λ _. raw_leaves w q s (Guards.bare_is (w.nodes q).state (not_false (is_bare (w.nodes q).state) bare)))))
+outcome_leaves w (Group q) s =
+    let o : Outcome = done (group_made w q) in
+    Guards.at_site_holds (Keeps w) w q (unless (not (is_bare (w.nodes q).state)) WrongRole w o) (keeps_same w)
+    (λ _. Guards.unless_holds (Keeps w) (not (is_bare (w.nodes q).state)) WrongRole w o (keeps_same w)
+    (λ bare. group_leaves w q s (Guards.bare_is (w.nodes q).state (not_false (is_bare (w.nodes q).state) bare))))
 outcome_leaves w (WriteAt p volume start bytes fails) s = write_leaves w p (record { volume = volume; start = start; bytes = bytes }) fails s
 outcome_leaves w (Read p volume start count) s = Guards.on_volume_holds (Keeps w) w p volume start count false _ (keeps_same w) (λ _ _ _. keeps_same w)
 outcome_leaves w (Apply q count reached) s =
@@ -105,6 +110,10 @@ outcome_leaves w (Crash q kept) s =
     Guards.at_site_holds (Keeps w) w q (unless (not (is_up (w.nodes q).state)) NotUp w o) (keeps_same w)
     (λ _. Guards.unless_holds (Keeps w) (not (is_up (w.nodes q).state)) NotUp w o (keeps_same w)
     (λ up. crash_leaves w q (Events.kept_of (w.nodes q) kept) s (Guards.up_is (w.nodes q).state (not_false (is_up (w.nodes q).state) up))))
+outcome_leaves w (Deport q) s =
+    let o : Outcome = done (Events.deport_at w q) in
+    Guards.at_site_holds (Keeps w) w q (at_work w q o) (keeps_same w)
+    (λ _. Guards.at_work_holds (Keeps w) w q o (keeps_same w) (λ up _. deport_leaves w q s up))
 outcome_leaves w (Recover q fails) s = Guards.at_site_holds (Keeps w) w q _ (keeps_same w) (λ _. recover_leaves w q (w.nodes q).state fails refl)
 outcome_leaves w (Fault q disk) s =
     Guards.at_site_holds (Keeps w) w q _ (keeps_same w)

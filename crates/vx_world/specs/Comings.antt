@@ -5,7 +5,7 @@ use Rattle.vx_history.specs.World.{Node, World}
 use Rattle.vx_history.specs.Good.{GoodNode, IsMade}
 use Rattle.vx_history.specs.Refusals.{is_bunker}
 use Rattle.vx_history.specs.Sends.{is_linked}
-use Rattle.vx_history.specs.Sound.{has_line, HasCome, IsWhole, IsFed, TakesUpdates, IsMarked, IsNewest, KnownNode}
+use Rattle.vx_history.specs.Sound.{has_line, HasCome, LosesNothing, IsFed, TakesUpdates, IsMarked, IsNewest, KnownNode}
 
 -- Site i, which is to be n, comes to the line of n: who began the line stood on it, the site notes the line behind those on which it stood,
 -- and of the lines of that origin on which it stood none is newer.
@@ -29,7 +29,7 @@ pub record MayComeFirst (w : World) (i : ℕ) (n : Node) : Type 0 where
   pub alone : (k : ℕ) → is_linked (w.links i k) ≡ false
   pub plain : is_bunker (w.nodes i).role ≡ false
   pub good : GoodNode (w.lines n.line) i n
-  pub whole : IsWhole n
+  pub whole : LosesNothing n
   pub fed : IsFed n
   pub takes : TakesUpdates n
   pub marked : IsMarked n

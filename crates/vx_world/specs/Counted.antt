@@ -5,7 +5,7 @@ use Rattle.vx_model.specs.Content.{Write}
 use Rattle.vx_model.specs.declared.link.Link.{Link}
 use Rattle.vx_model.specs.declared.no.No.{No}
 use Rattle.vx_history.specs.Admission.{hold}
-use Rattle.vx_history.specs.Events.{log_blocks}
+use Rattle.vx_history.specs.Events.{logged_blocks}
 use Rattle.vx_policy.specs.declared.verdict.Verdict.{Verdict}
 use Rattle.vx_policy.specs.declared.verdict.Verdict.TheVariants.{Go, Refuse}
 
@@ -15,7 +15,7 @@ most_counted = 0x1_0000_0000
 
 -- the blocks that the numbers above a link's hold take
 abbrev pub taken_above : List Write → Link → ℕ
-taken_above log l = log_blocks (drop (hold l) log)
+taken_above log l = logged_blocks (drop (hold l) log)
 
 -- the first numbers, so many, are those of the links, and none counts further than that
 abbrev pub AreCounted : List Write → List Link → (count : ℕ) → (used : List ℕ) → Type 0

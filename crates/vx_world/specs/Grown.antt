@@ -8,7 +8,7 @@ use Rattle.vx_model.specs.declared.history.Line.{Line}
 
 -- v is w after some events: what a line holds only grows and what was answered on it only rises, once the site that begins it is more
 -- than bare, as it then stays; who came to a line came to it; and all that was sent or promised was
-pub record Grown (w v : World) : Type 0 where
+pub record GrownWorld (w v : World) : Type 0 where
   pub held : (l : Line) → IsMade (w.nodes l.origin) → IsPrefixOf (w.lines l).held (v.lines l).held
   pub told : (l : Line) → IsMade (w.nodes l.origin) → (w.lines l).told ≤ (v.lines l).told
   pub made : (i : ℕ) → IsMade (w.nodes i) → IsMade (v.nodes i)

@@ -4,7 +4,7 @@ ghost use Rattle.vx_history.specs.Refusals.{says};
 ghost use Rattle.vx_history.specs.Sends.{with_link};
 ghost use Rattle.vx_history.specs.LinkForms.{plain_link, with_plain};
 ghost use Rattle.vx_history.specs.Sending.{sent_step};
-ghost use Rattle.vx_history.specs.Events.{facts_of, link_heard, said_of_link};
+ghost use Rattle.vx_history.specs.Events.{receiver_facts, link_heard, said_of_link};
 ghost use Rattle.vx_sites.specs.Shapes.{world_of, packet_of};
 
 use vx_history::{Action, SEvent, SFacts, Said};
@@ -31,8 +31,8 @@ pub fn hear_on_link(world: &mut World, packet: &Packet, event: &SEvent) -> Resul
 // The link after the message, by its rule, and what the rule says.
 fn change_link(world: &mut World, packet: &Packet, event: &SEvent) -> Result<Action, OutOfMemory>
     requires { packet.now.target < length world.old.nodes.items }
-    ensures moved { let w = world_of world.old in let p = packet.now in let l = w.links p.target p.source in let r = sent_step (plain_link p.source l) event.now (facts_of (w.nodes p.target) p.line) in IfOk result (λ action. world_of world.new ≡ with_link w p.target p.source (with_plain l r.link)) }
-    ensures action { let w = world_of world.old in let p = packet.now in let l = w.links p.target p.source in let r = sent_step (plain_link p.source l) event.now (facts_of (w.nodes p.target) p.line) in IfOk result (λ action. action ≡ r.action) }
+    ensures moved { let w = world_of world.old in let p = packet.now in let l = w.links p.target p.source in let r = sent_step (plain_link p.source l) event.now (receiver_facts (w.nodes p.target) p.line) in IfOk result (λ action. world_of world.new ≡ with_link w p.target p.source (with_plain l r.link)) }
+    ensures action { let w = world_of world.old in let p = packet.now in let l = w.links p.target p.source in let r = sent_step (plain_link p.source l) event.now (receiver_facts (w.nodes p.target) p.line) in IfOk result (λ action. action ≡ r.action) }
 {
     let node = world.node(packet.target);
     let facts = SFacts {

@@ -7,20 +7,20 @@ ghost use Rattle.vx_model.specs.Sites.{is_origin};
 ghost use Rattle.vx_model.specs.declared.history.Line.{Line};
 ghost use Rattle.vx_history.specs.declared.event.Event.{Event};
 ghost use Rattle.vx_world.specs.Comings.{MayComeFirst};
-ghost use Rattle.vx_world.specs.Grown.{Grown};
+ghost use Rattle.vx_world.specs.Grown.{GrownWorld};
 ghost use Rattle.vx_history.specs.Settling.{MaySettle, IsMet, deliver_new, delivery, greeting_events, turn, settling};
 ghost use Rattle.vx_history.specs.Sound.{Sound, IsKept};
 ghost use Rattle.vx_history.specs.GoodWorld.{GoodWorld};
 ghost use Rattle.vx_history.specs.Likes.{IsLike};
 ghost use Rattle.vx_history.specs.Listed.{AreListed};
 ghost use Rattle.vx_history.specs.Steps.{stopped_by};
-ghost use Rattle.vx_history.specs.Events.{packet_at};
+ghost use Rattle.vx_history.specs.Events.{kept_of, packet_at};
 ghost use Rattle.vx_history.specs.Doubts.{After, Doubted, resolved, crashed_as, halved, happened};
 ghost use Rattle.vx_history.specs.declared.event.Event.TheVariants.{Deliver, Set, Link};
 ghost use Rattle.vx_history.specs.declared.event.LinkPart.TheVariants.{Joins, Made, Marked, Opened};
 ghost use Rattle.vx_model.specs.declared.link.SyncMode.{SyncMode};
 ghost use Rattle.vx_model.specs.declared.site.SiteState.TheVariants.{Up};
-ghost use Rattle.vx_history.specs.Stops.{Stops, IsOpen, WritesAt};
+ghost use Rattle.vx_history.specs.Stops.{EventsEnd, IsOpen, WritesAt};
 ghost use Rattle.vx_world.specs.Lines.{NoDoubts, GoodDoubted};
 ghost use Rattle.vx_world.specs.Twins.{Twin, IsAlone, IsElsewhere, GoodTwin};
 ghost use Rattle.vx_history.specs.Step.{step, run};
@@ -67,7 +67,7 @@ pub fn in_order()
 /// What a line holds only grows, what was answered on it only rises, and no packet, no promise and no site that came to a line is
 /// forgotten, whatever happens. So a write that its line holds under a number is held under that number from then on.
 pub fn forgets_nothing()
-    ensures run { (w : World) (events : List Event) → Sound w → Grown w (run w events) }
+    ensures run { (w : World) (events : List Event) → Sound w → GrownWorld w (run w events) }
     ensures number { (w : World) (events : List Event) (l : Line) (n : ℕ) (x : Write) → Sound w → IsMade (w.nodes l.origin) → IsNumber (w.lines l).held n x → IsNumber ((run w events).lines l).held n x }
 {}
 
@@ -126,8 +126,13 @@ pub fn passes_halted_sites()
 /// However a line ends, and whatever sites are in doubt before it: its world is good, whichever of the sites that are in doubt then are as
 /// they may be on their disks. A good world without doubts is a beginning.
 pub fn lines_stay_good()
-    ensures line { (d new : Doubted) (events : List Event) (fails : List (ℕ × ℕ)) → GoodDoubted d → Stops d events fails new → GoodDoubted new }
+    ensures line { (d new : Doubted) (events : List Event) (fails : List (ℕ × ℕ)) → GoodDoubted d → EventsEnd d events fails new → GoodDoubted new }
     ensures begins { (d : Doubted) → GoodWorld d.world → NoDoubts d → GoodDoubted d }
     ensures world { (d : Doubted) → GoodDoubted d → GoodWorld d.world }
     ensures twins { (d : Doubted) (s : ℕ) (a : After) → GoodDoubted d → d.after s ≡ Some a → GoodTwin s d.world (resolved d.world s a) }
+{}
+
+/// A deport keeps of a site's writes those that a crash keeps for certain, and no others.
+pub fn deports_keep_what_is_safe()
+    ensures { (w : World) (s : ℕ) → Sound w → kept_of (w.nodes s) 0 ≡ (w.nodes s).safe }
 {}

@@ -24,8 +24,6 @@ mod switches;
 mod targets;
 mod ticks;
 mod waits;
-#[cfg(test)]
-mod worked;
 mod writes;
 
 pub use machine::{Answer, step};

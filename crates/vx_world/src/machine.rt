@@ -9,12 +9,12 @@ use crate::applies::apply;
 use crate::deliveries::deliver;
 use crate::faults::fault;
 use crate::greetings::connect;
-use crate::outages::crash;
+use crate::outages::{crash, deport};
 use crate::pumps::pump;
 use crate::reads::read;
 use crate::recoveries::recover;
 use crate::settings::{link_sites, set};
-use crate::sites::{add_site, make_raw};
+use crate::sites::{add_site, make_group, make_raw};
 use crate::switches::{cut, pause, resume};
 use crate::ticks::tick;
 use crate::waits::wait;
@@ -58,6 +58,7 @@ fn happen(world: &mut World, event: &Event) -> Result<Said, OutOfMemory>
             blocks,
         } => add_site(world, name, *disks, *blocks),
         Event::Raw { site } => make_raw(world, *site),
+        Event::Group { site } => make_group(world, *site),
         Event::Write {
             site,
             vol,
@@ -79,6 +80,7 @@ fn happen(world: &mut World, event: &Event) -> Result<Said, OutOfMemory>
         Event::Deliver { packet } => deliver(world, *packet),
         Event::Wait { site, number } => wait(world, *site, *number),
         Event::Crash { site, kept } => crash(world, *site, *kept),
+        Event::Deport { site } => deport(world, *site),
         Event::Recover { site, fails } => recover(world, *site, *fails),
         Event::Fault { site, disk } => Ok(fault(world, *site, *disk)),
         Event::Pump { site, to } => pump(world, *site, *to),

@@ -1,15 +1,15 @@
-// Sites that crash.
+// Sites that crash or are deported.
 ghost use Rattle.std.specs.Prelude.{◌≡◌, ◌<◌, length, IfOk, OnOk};
 ghost use Rattle.vx_history.specs.Refusals.{says};
-ghost use Rattle.vx_history.specs.Events.{kept_of, crash_world, crash_at};
+ghost use Rattle.vx_history.specs.Events.{kept_of, crash_world, crash_at, deport_at};
 ghost use Rattle.vx_history.specs.Step.{outcome_of};
-ghost use Rattle.vx_history.specs.declared.event.Event.TheVariants.{Crash};
+ghost use Rattle.vx_history.specs.declared.event.Event.TheVariants.{Crash, Deport};
 ghost use Rattle.vx_sites.specs.Shapes.{world_of};
 
 use vx_history::Said;
 use vx_model::OutOfMemory;
 use vx_sites::World;
-use vx_sites::refusals::{has_writes, refuse_not_up, refuse_site};
+use vx_sites::refusals::{has_writes, refuse_not_up, refuse_site, refuse_work};
 
 /// The site is down, and keeps its first writes: as many as are nearest to `kept` of those that a crash may keep. Refused with 1
 /// and 6.
@@ -24,6 +24,29 @@ pub fn crash(world: &mut World, site: u32, kept: u64) -> Result<Said, OutOfMemor
     }
     crash_site(world, site, kept)?;
     Ok(Said::Done)
+}
+
+/// The site gives its disks up, and keeps what a crash keeps for certain. Refused with 1, 6 and 20.
+pub fn deport(world: &mut World, site: u32) -> Result<Said, OutOfMemory>
+    ensures { IfOk result (λ said. says (world_of world.new) said ≡ outcome_of (world_of world.old) (Deport site)) }
+{
+    if let Some(no) = refuse_site(world, site) {
+        return Ok(Said::Refused(no));
+    }
+    if let Some(no) = refuse_work(world, site) {
+        return Ok(Said::Refused(no));
+    }
+    deport_site(world, site)?;
+    Ok(Said::Done)
+}
+
+fn deport_site(world: &mut World, site: u32) -> Result<(), OutOfMemory>
+    requires { site < length world.old.nodes.items }
+    ensures { OnOk result (world_of world.new ≡ deport_at (world_of world.old) site) }
+{
+    crash_site(world, site, 0)?;
+    world.deport(site);
+    Ok(())
 }
 
 fn crash_site(world: &mut World, site: u32, kept: u64) -> Result<(), OutOfMemory>

@@ -16,8 +16,8 @@ use vx_sites::bounds::refuse_most;
 use vx_sites::refusals::{has_writes, refuse_site};
 use vx_sites::{Dispatch, Message, Node, World};
 
-/// A site that is down comes up in its next session, and a receiver greets its primary. Where a disk fails the session has begun,
-/// and the site is down still. Refused with 1, with 9 where the site is bare, with 5 where it is not down, and with 19.
+/// A site that is down or deported comes up in its next session, and a receiver greets its primary. Where a disk fails the session
+/// has begun, and the site is down or deported still. Refused with 1, with 9 where the site is bare, with 5 where it is up, and with 19.
 pub fn recover(world: &mut World, site: u32, fails: Option<u32>) -> Result<Said, OutOfMemory>
     ensures { IfOk result (λ said. says (world_of world.new) said ≡ outcome_of (world_of world.old) (Recover site fails)) }
 {
@@ -26,8 +26,9 @@ pub fn recover(world: &mut World, site: u32, fails: Option<u32>) -> Result<Said,
     }
     match world.node(site).state {
         SiteState::Bare => Ok(Said::Refused(No::NoConfig)),
-        SiteState::Up | SiteState::Deported => Ok(Said::Refused(No::Role)),
+        SiteState::Up => Ok(Said::Refused(No::Role)),
         SiteState::Down => recover_down(world, site, fails),
+        SiteState::Deported => recover_down(world, site, fails),
     }
 }
 

@@ -2,7 +2,7 @@
 ghost use Rattle.std.specs.Prelude.{◌≡◌, ◌<◌, ◌&&◌, not, length, IfOk};
 ghost use Rattle.vx_history.specs.Sends.{is_linked};
 ghost use Rattle.vx_history.specs.Receiving.{phase_takes};
-ghost use Rattle.vx_history.specs.Refusals.{says, is_primary as primary, is_consistent, is_stale, is_empty, unless, links_of, follows as following};
+ghost use Rattle.vx_history.specs.Refusals.{says, is_primary as primary, is_consistent, is_stale_mode, is_empty, unless, count_links_of, follows as following};
 ghost use Rattle.vx_model.specs.declared.link.SyncMode.{SyncMode};
 ghost use Rattle.vx_history.specs.Step.{outcome_of, link_part};
 ghost use Rattle.vx_history.specs.declared.event.Event.TheVariants.{Link as LinkSites, Set};
@@ -118,7 +118,7 @@ fn refuse_no_receiver(world: &World, from: u32, to: u32) -> Option<No>
 // The next link that the site `from` makes.
 fn next_link(world: &World, from: u32, to: u32, sync: SyncMode) -> Link
     requires { to < length world.now.nodes.items }
-    ensures { let w = world_of world.now in link_of result ≡ new_link (links_of w from) sync (w.nodes to) }
+    ensures { let w = world_of world.now in link_of result ≡ new_link (count_links_of w from) sync (w.nodes to) }
 {
     Link::new(count_links(world, from), sync, world.node(to).session)
 }
@@ -161,7 +161,7 @@ fn open_link(world: &mut World, from: u32, to: u32) -> Result<Said, OutOfMemory>
 fn may_open(world: &World, from: u32, to: u32) -> bool
     requires from { from < length world.now.nodes.items }
     requires to { to < length world.now.nodes.items }
-    ensures { let w = world_of world.now in result ≡ (primary (w.nodes from).role && (following w from to && (is_linked (w.links from to) && (is_empty (w.nodes from).log && (is_stale (w.links from to).mode && (phase_takes (w.nodes to).phase && is_consistent (w.nodes to).mark)))))) }
+    ensures { let w = world_of world.now in result ≡ (primary (w.nodes from).role && (following w from to && (is_linked (w.links from to) && (is_empty (w.nodes from).log && (is_stale_mode (w.links from to).mode && (phase_takes (w.nodes to).phase && is_consistent (w.nodes to).mark)))))) }
 {
     let here = world.node(from);
     let there = world.node(to);

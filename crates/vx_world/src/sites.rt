@@ -2,12 +2,12 @@
 ghost use Rattle.std.specs.Prelude.{◌≡◌, IfOk};
 ghost use Rattle.vx_history.specs.Refusals.{says};
 ghost use Rattle.vx_history.specs.Step.{outcome_of};
-ghost use Rattle.vx_history.specs.declared.event.Event.TheVariants.{Site, Raw};
+ghost use Rattle.vx_history.specs.declared.event.Event.TheVariants.{Site, Raw, Group};
 ghost use Rattle.vx_sites.specs.Shapes.{world_of};
 
 use vx_history::Said;
 use vx_model::{Name, OutOfMemory};
-use vx_sites::bounds::{refuse_new_site, refuse_raw};
+use vx_sites::bounds::{refuse_new_site, refuse_not_bare, refuse_raw};
 use vx_sites::refusals::refuse_site;
 use vx_sites::{Node, World};
 
@@ -38,5 +38,19 @@ pub fn make_raw(world: &mut World, site: u32) -> Result<Said, OutOfMemory>
         return Ok(Said::Refused(no));
     }
     world.make_raw(site)?;
+    Ok(Said::Done)
+}
+
+/// A bare site becomes a group of disks without volumes. Refused with 1 and 5.
+pub fn make_group(world: &mut World, site: u32) -> Result<Said, OutOfMemory>
+    ensures { IfOk result (λ said. says (world_of world.new) said ≡ outcome_of (world_of world.old) (Group site)) }
+{
+    if let Some(no) = refuse_site(world, site) {
+        return Ok(Said::Refused(no));
+    }
+    if let Some(no) = refuse_not_bare(world, site) {
+        return Ok(Said::Refused(no));
+    }
+    world.make_group(site)?;
     Ok(Said::Done)
 }

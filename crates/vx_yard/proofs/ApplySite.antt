@@ -22,12 +22,12 @@ use Rattle.vx_order.specs.declared.facts.LinkFacts.{LinkFacts}
 use Rattle.vx_order.specs.declared.facts.SiteFacts.{SiteFacts}
 use Rattle.vx_script.specs.declared.line.ScriptLine.TheVariants.{Apply}
 use Rattle.vx_diskset.proofs.KeepsFailing.{same_on}
-use Rattle.vx_diskset.specs.Asked.{FailsAs, FusedAs, LeavesFuse, SameFailing, disks_in, size_in}
+use Rattle.vx_diskset.specs.Asked.{FailsAs, FusedAs, LeavesFuse, SameFailing, disks_told, size_in}
 use Rattle.vx_diskset.specs.Burning.{Burnt, NoMore}
 use Rattle.vx_diskset.specs.DiskSets.{AppliedAt, CanApply, halted_at, worked}
-use Rattle.vx_diskset.specs.Holds.{Beside, Kept, beside_of, itself, sure_of}
+use Rattle.vx_diskset.specs.Holds.{KeptBeside, KeptSite, beside_of, itself, sure_of}
 use Rattle.vx_diskset.proofs.Roles.{role_like}
-use Rattle.vx_diskset.specs.Stands.{KeepsRole, RoleIs, StandsAt}
+use Rattle.vx_diskset.specs.Stands.{KeepsRole, RoleIs, SiteStands}
 use Rattle.vx_diskset.specs.declared.disk_set.DiskSet.{DiskSet}
 use Rattle.vx_diskset.specs.declared.disk_set.DiskSet.TheVariants.{Bare, Spoiled, Up, Receives, Down, Gone}
 use Rattle.vx_effects.proofs.Effects.{changes_then}
@@ -44,7 +44,7 @@ use Rattle.vx_events.specs.Facts.{group_by, group_fact, seat_of, site_fact, site
 use Rattle.vx_events.specs.LinkedFacts.{link_facts, links_by}
 use Rattle.vx_events.specs.LinksFit.{LinksFit}
 use Rattle.vx_events.specs.Lists.{Choice}
-use Rattle.vx_events.specs.Sayings.{Repeats, Replies}
+use Rattle.vx_events.specs.Sayings.{RepeatsSaid, Replies}
 use Rattle.vx_events.specs.declared.said.Said.{Said}
 use Rattle.vx_events.specs.declared.said.Said.TheVariants.{DoneAt, Refused}
 use Rattle.vx_yard.specs.Changes.{down_facts, halted_facts}
@@ -94,7 +94,7 @@ halted_fact n row sites disk =
 
 module _ {R : Type 0} {g : Ghosts R} where
   -- a running site is what its node says
-  pub sure_at : (beside : Beside) (n : Node) (e : DiskSet R g) → StandsAt beside n e → n.state ≡ IsUp → n.halted ≡ None → beside.doubt ≡ None
+  pub sure_at : (beside : KeptBeside) (n : Node) (e : DiskSet R g) → SiteStands beside n e → n.state ≡ IsUp → n.halted ≡ None → beside.doubt ≡ None
   sure_at beside n (Bare rack) h up runs = absurd (let e : IsBare ≡ IsUp = sym (ap (λ (k : Node). k.state) h.bare.is) ∙ up in cc)
   sure_at beside n (Spoiled rack) h up runs = absurd (let e : IsBare ≡ IsUp = sym (ap (λ (k : Node). k.state) h.is) ∙ up in cc)
   sure_at beside n (Up rvg) h up runs = h.sure runs
@@ -103,20 +103,20 @@ module _ {R : Type 0} {g : Ghosts R} where
   sure_at beside n Gone h up runs = absurd h
 
   pub calls_keep : (P : Disks → Disks → Type 0) (said : Said) (before after : DiskSet R g) → LeavesFuse P said before after → SameFailing before after
-  calls_keep P said before after did = record { told = same_on (Burnt P said (size_in before)) (disks_in before) (disks_in after) did.told }
+  calls_keep P said before after did = record { told = same_on (Burnt P said (size_in before)) (disks_told before) (disks_told after) did.told }
 
   -- a site that an event left so, with what it has beside its node
   pub comes_effect : (d e : Doubted) (s : ℕ) (n : Node) (packets : List Packet) (gathered : Option Gathering) (after : DiskSet R g)
       → EffectAt s d e n (d.world.links s) (d.world.headers s) (d.after s) packets gathered → LinksFit e
       → n.name ≡ (d.world.nodes s).name → n.disks ≡ (d.world.nodes s).disks → n.blocks ≡ (d.world.nodes s).blocks → n.volumes ≡ (d.world.nodes s).volumes → n.role ≡ (d.world.nodes s).role
-      → StandsAt (beside_of d s) n after → FailsAs n after → FusedAs n after → RoleIs (d.world.nodes s) after → Comes d e s after
+      → SiteStands (beside_of d s) n after → FailsAs n after → FusedAs n after → RoleIs (d.world.nodes s) after → Comes d e s after
   comes_effect d e s n packets gathered after eff fits name disks blocks volumes role stands failing fuse kind =
       let here : n ≡ e.world.nodes s = sym eff.is.node in
       record {
         changes = eff.site;
         links = fits;
-        stands = subst (λ (m : Node). StandsAt (beside_of e s) m after) here
-            (subst (λ (b : Beside). StandsAt b n after) (sym (beside_same d e s eff.site.sites (λ k. eff.is.links k) eff.is.headers eff.is.after)) stands);
+        stands = subst (λ (m : Node). SiteStands (beside_of e s) m after) here
+            (subst (λ (b : KeptBeside). SiteStands b n after) (sym (beside_same d e s eff.site.sites (λ k. eff.is.links k) eff.is.headers eff.is.after)) stands);
         failing = subst (λ (m : Node). FailsAs m after) here failing;
         fuse = subst (λ (m : Node). FusedAs m after) here fuse;
         role = subst (λ (m : Node). RoleIs m after) here (role_like (d.world.nodes s) n after (ap is_origin role) kind);
@@ -174,7 +174,7 @@ module _ {R : Type 0} {g : Ghosts R} where
             ends = subst (λ (i : ℕ). Ends (IsTold new) d (Apply name to) i [] (DoneAt number) e) (sym here.seat.number)
                 (AllDone c false refl
                 (subst (λ (es : List Event). Replies (IsTold new) (Apply name to) s false d es (DoneAt number)) (sym ev)
-                (subst (λ (o : EventSaid). Repeats (step d.world (ApplyAt s to number)).world s o (DoneAt number)) (sym said) refl))
+                (subst (λ (o : EventSaid). RepeatsSaid (step d.world (ApplyAt s to number)).world s o (DoneAt number)) (sym said) refl))
                 (subst (λ (es : List Event). IsLeft s (Apply name to) false d (run_as false d es) e) (sym ev) (record { world = refl; after = λ i. refl })));
             counts = tt;
             works = tt;
@@ -232,9 +232,9 @@ module _ {R : Type 0} {g : Ghosts R} where
         sure : (beside_of d s).doubt ≡ None
         sure = sure_at (beside_of d s) n before (stands.disk_sets.sites s before here.seat.below changed.there) here.can.up here.can.running
 
-        itself_by : (x : Kept) → x ≡ itself (beside_of d s) n → (count : ℕ) → x.node.safe ≤ count → count ≤ length x.node.log → StandsAt (sure_of x) (crashed x.node count) after → Leads d (Apply name to) (Refused Off) old new
+        itself_by : (x : KeptSite) → x ≡ itself (beside_of d s) n → (count : ℕ) → x.node.safe ≤ count → count ≤ length x.node.log → SiteStands (sure_of x) (crashed x.node count) after → Leads d (Apply name to) (Refused Off) old new
         itself_by x own =
-            subst (λ (q : Kept). (count : ℕ) → q.node.safe ≤ count → count ≤ length q.node.log → StandsAt (sure_of q) (crashed q.node count) after → Leads d (Apply name to) (Refused Off) old new) (sym own)
+            subst (λ (q : KeptSite). (count : ℕ) → q.node.safe ≤ count → count ≤ length q.node.log → SiteStands (sure_of q) (crashed q.node count) after → Leads d (Apply name to) (Refused Off) old new) (sym own)
             (λ count least most stood.
             let k : ℕ = site_number d.world name in
             let h : Doubted = crash_of d s count false in
@@ -265,7 +265,7 @@ module _ {R : Type 0} {g : Ghosts R} where
                   (record {
                     changes = changes_then s d h e before_noted.changes note.site;
                     links = fit_worked h s before_noted.links;
-                    stands = subst (λ (q : Node). StandsAt (beside_of h s) q after) same before_noted.stands;
+                    stands = subst (λ (q : Node). SiteStands (beside_of h s) q after) same before_noted.stands;
                     failing = subst (λ (q : Node). FailsAs q after) same before_noted.failing;
                     fuse = subst (λ (q : Node). FusedAs q after) same before_noted.fuse;
                     role = subst (λ (q : Node). RoleIs q after) same before_noted.role;

@@ -20,7 +20,7 @@ use Rattle.vx_model.specs.declared.site.Role.{Role}
 use Rattle.vx_model.specs.declared.site.SiteState.TheVariants.{Bare, Up}
 use Rattle.vx_net.proofs.Sent.{all-sent}
 use Rattle.vx_net.specs.Flights.{Flying, nothing_sent}
-use Rattle.vx_packet.specs.Assemblies.{Assembled, Held}
+use Rattle.vx_packet.specs.Assemblies.{Assembled, HeldParts}
 use Rattle.vx_parts.specs.Spelling.{IsTied}
 use Rattle.vx_yard.specs.Carries.{Carries}
 use Rattle.vx_yard.specs.Loads.{LetGo, LetGoBy}
@@ -31,7 +31,7 @@ use Rattle.vx_yard.proofs.Lists.{get-set_other, get-set_same, length-set, set_sa
 -- nothing is in assembly
 pub empty_stands : (ps : List Packet) (s : ℕ) (a : Assembled) → a.held ≡ None → AssemblyStands ps s None a
 empty_stands ps s a none = record {
-  tied = subst (λ (h : Option Held). IsTied h None) (sym none) tt;
+  tied = subst (λ (h : Option HeldParts). IsTied h None) (sym none) tt;
   each = λ h some. absurd (never_some (sym none ∙ some));
 }
 

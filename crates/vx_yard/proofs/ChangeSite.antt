@@ -8,7 +8,7 @@ use Rattle.vx_disk.specs.Counts.{Rose}
 use Rattle.vx_disk.specs.declared.shelf.Shelf.{Ghosts}
 use Rattle.vx_diskset.specs.declared.disk_set.DiskSet.{DiskSet}
 use Rattle.vx_diskset.specs.DiskSets.{Later}
-use Rattle.vx_yard.specs.Stands.{AreTold, RoseAll, RoseBy, faults_of, fault_count, times}
+use Rattle.vx_yard.specs.Stands.{AreTold, RoseAll, RoseBy, site_faults, fault_count, times}
 use Rattle.vx_diskset.specs.Stands.{IsToldAt, faults_at}
 use Rattle.vx_yard.proofs.Lists.{get-set_same, get-set_other}
 
@@ -47,18 +47,18 @@ rose_one s d old new later rose = record { each = each }
 
 module _ {R : Type 0} {g : Ghosts R} where
   -- the counts with another disk set in the place of one
-  pub counts_later : (es : List (DiskSet R g)) (s : ℕ) (e new : DiskSet R g) → slice_get es s ≡ Some e → Later e new → (s' d : ℕ) → faults_of es s' d ≤ faults_of (slice_set es s new) s' d
+  pub counts_later : (es : List (DiskSet R g)) (s : ℕ) (e new : DiskSet R g) → slice_get es s ≡ Some e → Later e new → (s' d : ℕ) → site_faults es s' d ≤ site_faults (slice_set es s new) s' d
   counts_later es s e new at later s' d = ⊎_elim
-      (λ is. subst (λ (k : ℕ). faults_of es k d ≤ faults_of (slice_set es s new) k d) (sym is) here)
+      (λ is. subst (λ (k : ℕ). site_faults es k d ≤ site_faults (slice_set es s new) k d) (sym is) here)
       (λ apart. omega (arith, ap (λ (x : Option (DiskSet R g)). fault_count x d) (get-set_other es s s' new apart)))
       (cases_eq s' s)
     where
-      here : faults_of es s d ≤ faults_of (slice_set es s new) s d
+      here : site_faults es s d ≤ site_faults (slice_set es s new) s d
       here = omega (arith, later.counts d, ap (λ (x : Option (DiskSet R g)). fault_count x d) at, ap (λ (x : Option (DiskSet R g)). fault_count x d) (get-set_same es s new (slice_get_within es s e at)))
 
-  pub counts_rose : (es : List (DiskSet R g)) (s d : ℕ) (e new : DiskSet R g) → slice_get es s ≡ Some e → Rose (faults_at e d) (faults_at new d) → Rose (faults_of es s d) (faults_of (slice_set es s new) s d)
+  pub counts_rose : (es : List (DiskSet R g)) (s d : ℕ) (e new : DiskSet R g) → slice_get es s ≡ Some e → Rose (faults_at e d) (faults_at new d) → Rose (site_faults es s d) (site_faults (slice_set es s new) s d)
   counts_rose es s d e new at rose =
-      subst (λ (a : ℕ). Rose a (faults_of (slice_set es s new) s d)) (sym (ap (λ (x : Option (DiskSet R g)). fault_count x d) at))
+      subst (λ (a : ℕ). Rose a (site_faults (slice_set es s new) s d)) (sym (ap (λ (x : Option (DiskSet R g)). fault_count x d) at))
       (subst (λ (b : ℕ). Rose (faults_at e d) b) (sym (ap (λ (x : Option (DiskSet R g)). fault_count x d) (get-set_same es s new (slice_get_within es s e at)))) rose)
 
   pub told_before : (es : List (DiskSet R g)) (s : ℕ) (e new : DiskSet R g) → slice_get es s ≡ Some e → Later e new → AreTold (slice_set es s new) → AreTold es

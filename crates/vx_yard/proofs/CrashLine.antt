@@ -1,6 +1,7 @@
 -- What a line comes to that crashes a site, or that applies what is logged.
 use Rattle.std.proofs.Common.{◌≡◌, ℕ, [], ap, sym, subst, refl}
 use Rattle.std.specs.Prelude.{Some, slice_get, slice_set}
+use Rattle.vx_effects.specs.Facts.{halted_group}
 use Rattle.vx_history.specs.World.{Node, Fuse}
 use Rattle.vx_model.specs.declared.site.SiteState.{SiteState}
 use Rattle.vx_model.specs.declared.site.SiteState.TheVariants.{Bare as IsBare, Up as IsUp, Deported, Down as IsDown}
@@ -8,10 +9,10 @@ use Rattle.vx_disk.specs.declared.shelf.Shelf.{Ghosts}
 use Rattle.vx_order.specs.declared.facts.SiteFacts.{SiteFacts}
 use Rattle.vx_diskset.specs.declared.disk_set.DiskSet.{DiskSet}
 use Rattle.vx_yard.specs.declared.yard.Yard.{Yard}
-use Rattle.vx_yard.specs.Changes.{halted_facts, halted_group}
+use Rattle.vx_yard.specs.Changes.{halted_facts}
 use Rattle.vx_diskset.specs.DiskSets.{Later, halted_at}
 use Rattle.vx_events.specs.Facts.{site_fact, group_by}
-use Rattle.vx_yard.specs.Stands.{RoseAll, faults_of}
+use Rattle.vx_yard.specs.Stands.{RoseAll, site_faults}
 use Rattle.vx_yard.specs.Yards.{count_of}
 use Rattle.vx_yard.proofs.ChangeSite.{rose_none, counts_later}
 
@@ -37,5 +38,5 @@ fuse_fact n f = ap (λ r. let x : SiteFacts = record (site_fact n) { rvg = r } i
 module _ {R : Type 0} {g : Ghosts R} where
   pub rose_still : (old new : Yard R g) (s : ℕ) (e after : DiskSet R g) → slice_get old.disk_sets.items s ≡ Some e → Later e after → new.disk_sets.items ≡ slice_set old.disk_sets.items s after → RoseAll [] (count_of old) (count_of new)
   rose_still old new s e after there later disk_sets =
-      subst (λ es. RoseAll [] (count_of old) (faults_of es)) (sym disk_sets)
-      (rose_none (count_of old) (faults_of (slice_set old.disk_sets.items s after)) (λ i d. counts_later old.disk_sets.items s e after there later i d))
+      subst (λ es. RoseAll [] (count_of old) (site_faults es)) (sym disk_sets)
+      (rose_none (count_of old) (site_faults (slice_set old.disk_sets.items s after)) (λ i d. counts_later old.disk_sets.items s e after there later i d))

@@ -4,13 +4,14 @@ use Rattle.std.specs.Prelude.{Option, Some, None, map, slice_get, slice_set}
 use Rattle.vx_history.proofs.Updates.{at_place}
 use Rattle.vx_history.specs.Doubts.{After, Doubted, happened, resolved_at, taken_up}
 use Rattle.vx_history.specs.Events.{kept_of, lost_touch}
+use Rattle.vx_history.specs.Groups.{GroupNode}
 use Rattle.vx_history.specs.Refusals.{Outcome}
 use Rattle.vx_history.specs.Step.{step}
 use Rattle.vx_history.specs.Steps.{crashed}
 use Rattle.vx_history.specs.World.{Link, Node, Volume, World}
 use Rattle.vx_history.specs.declared.event.Event.TheVariants.{Crash as CrashAt}
 use Rattle.vx_history.specs.declared.event.Said.TheVariants.{Done as IsDone}
-use Rattle.vx_model.specs.declared.site.SiteState.TheVariants.{Down as IsDown, Up}
+use Rattle.vx_model.specs.declared.site.SiteState.TheVariants.{Bare as IsBare, Down as IsDown, Up}
 use Rattle.vx_model.specs.declared.limits.TheConstants.{MOST_SITES}
 use Rattle.vx_model.specs.declared.state.KeptLink.{KeptLink}
 use Rattle.vx_disk.specs.declared.shelf.Shelf.{Ghosts}
@@ -18,17 +19,17 @@ use Rattle.vx_order.specs.declared.facts.SiteFacts.{SiteFacts}
 use Rattle.vx_script.specs.declared.line.ScriptLine.TheVariants.{Crash}
 use Rattle.vx_diskset.specs.Asked.{FailsAs, FusedAs, SameFailing}
 use Rattle.vx_diskset.specs.DiskSets.{CrashedAt}
-use Rattle.vx_diskset.specs.Holds.{Beside, Kept, beside_of, doubt_of, itself, row_links, sure_of}
-use Rattle.vx_diskset.specs.Stands.{StandsAt}
+use Rattle.vx_diskset.specs.Holds.{KeptBeside, KeptSite, beside_of, doubt_of, itself, row_links, sure_of}
+use Rattle.vx_diskset.specs.Stands.{SiteStands}
 use Rattle.vx_diskset.specs.declared.disk_set.DiskSet.{DiskSet}
-use Rattle.vx_diskset.proofs.FailGroup.{stands_failing}
+use Rattle.vx_diskset.proofs.FailGroup.{stands_noted}
 use Rattle.vx_effects.proofs.Effects.{changes_same, changes_then, crash_effect, resolved_changes}
 use Rattle.vx_effects.proofs.Fitting.{fit_happened}
 use Rattle.vx_effects.proofs.Leaving.{fit_disks}
 use Rattle.vx_effects.proofs.Rows.{touch_kept}
 use Rattle.vx_events.proofs.Places.{never_some, some_same}
 use Rattle.vx_events.proofs.Steps.{crash_step, kept_is}
-use Rattle.vx_events.specs.Doubts.{chosen, run_as, with_disks}
+use Rattle.vx_events.specs.Doubts.{doubt_chosen, run_as, with_disks}
 use Rattle.vx_events.proofs.Refused.{crash_may}
 use Rattle.vx_yard.specs.OfSites.{OfSite}
 use Rattle.vx_diskset.specs.Asked.{CrashesBy}
@@ -41,7 +42,7 @@ use Rattle.vx_events.specs.Effects.{ChangesNode, EffectAt}
 use Rattle.vx_events.specs.Ends.{AllDone, Ends, IsLeft}
 use Rattle.vx_events.specs.Facts.{seat_of, site_number, volume_fact}
 use Rattle.vx_events.specs.LinkedFacts.{linked_fact}
-use Rattle.vx_events.specs.Sayings.{Repeats, Replies}
+use Rattle.vx_events.specs.Sayings.{RepeatsSaid, Replies}
 use Rattle.vx_events.specs.declared.said.Said.TheVariants.{Done}
 use Rattle.vx_history.specs.declared.event.Event.{Event}
 use Rattle.vx_history.specs.declared.event.Said.{Said as EventSaid}
@@ -58,13 +59,17 @@ use Rattle.vx_yard.proofs.Rows.{fact_same, row_links_same}
 
 -- the node that it leaves
 abbrev pub crashed_node : (n m : Node) → (count : ℕ) → Node
-crashed_node n m count = record (crashed m count) { failing = n.failing }
+crashed_node n m count = record (crashed m count) { failing = n.failing; group = n.group }
+
+-- which of its disks are made to fail, and the group that they are
+abbrev pub disk_notes : Node → (ℕ → Bool) × Option GroupNode
+disk_notes n = (n.failing, n.group)
 
 changes_disks : (b : Bool) (s : ℕ) (w : World) (h : Doubted) → ChangesNode s h (record h { world = with_disks b s w h.world })
 changes_disks false s w h = changes_same s h
 changes_disks true s w h = record {
   sites = refl;
-  nodes = λ i apart. apart_place h.world.nodes s (record (h.world.nodes s) { failing = (w.nodes s).failing }) i apart;
+  nodes = λ i apart. apart_place h.world.nodes s (record (h.world.nodes s) { failing = (w.nodes s).failing; group = (w.nodes s).group }) i apart;
   links = λ i k apart. refl;
   headers = λ i apart. refl;
   after = λ i apart. refl;
@@ -90,22 +95,28 @@ same_gathering true s w v = refl
 pub down_up : IsDown ≡ Up → ⊥
 down_up e = cc
 
+down_bare : IsDown ≡ IsBare → ⊥
+down_bare e = cc
+
 -- the node, by what it was before
-disks_node : (b : Bool) (s : ℕ) (w v : World) (n : Node) → v.nodes s ≡ n → (b ≡ false → n.failing ≡ (w.nodes s).failing) → (with_disks b s w v).nodes s ≡ record n { failing = (w.nodes s).failing }
-disks_node false s w v n is same = is ∙ ap (λ (f : ℕ → Bool). let k : Node = record n { failing = f } in k) (same refl)
-disks_node true s w v n is same = at_place v.nodes s (record (v.nodes s) { failing = (w.nodes s).failing }) ∙ ap (λ (k : Node). let x : Node = record k { failing = (w.nodes s).failing } in x) is
+disks_node : (b : Bool) (s : ℕ) (w v : World) (n : Node) → v.nodes s ≡ n → (b ≡ false → disk_notes n ≡ disk_notes (w.nodes s))
+    → (with_disks b s w v).nodes s ≡ record n { failing = (w.nodes s).failing; group = (w.nodes s).group }
+disks_node false s w v n is same = is ∙ ap (λ (p : (ℕ → Bool) × Option GroupNode). let k : Node = record n { failing = p.0; group = p.1 } in k) (same refl)
+disks_node true s w v n is same =
+    at_place v.nodes s (record (v.nodes s) { failing = (w.nodes s).failing; group = (w.nodes s).group })
+    ∙ ap (λ (k : Node). let x : Node = record k { failing = (w.nodes s).failing; group = (w.nodes s).group } in x) is
 
 -- a site that is not in doubt
 pub beside_sure : (e : Doubted) (s : ℕ) (ls : List KeptLink) (many : ℕ) → row_links (e.world.links s) e.world.sites ≡ ls → e.world.headers s ≡ many → e.after s ≡ None
     → beside_of e s ≡ record { links = ls; headers = many; doubt = None }
 beside_sure e s ls many links headers sure =
-    ap (λ (x : List KeptLink). let b : Beside = record { links = x; headers = e.world.headers s; doubt = doubt_of e.world s (e.after s) } in b) links
-    ∙ ap (λ (k : ℕ). let b : Beside = record { links = ls; headers = k; doubt = doubt_of e.world s (e.after s) } in b) headers
-    ∙ ap (λ (o : Option After). let b : Beside = record { links = ls; headers = many; doubt = doubt_of e.world s o } in b) sure
+    ap (λ (x : List KeptLink). let b : KeptBeside = record { links = x; headers = e.world.headers s; doubt = doubt_of e.world s (e.after s) } in b) links
+    ∙ ap (λ (k : ℕ). let b : KeptBeside = record { links = ls; headers = k; doubt = doubt_of e.world s (e.after s) } in b) headers
+    ∙ ap (λ (o : Option After). let b : KeptBeside = record { links = ls; headers = many; doubt = doubt_of e.world s o } in b) sure
 
 -- a site that is one of the two that it may be
 module _ (d : Doubted) (s count : ℕ) (taken : Bool) (m : Node) (row : ℕ → Link) (node_is : (resolved_at d s taken).world.nodes s ≡ m) (row_is : (k : ℕ) → (resolved_at d s taken).world.links s k ≡ row k)
-    (own : taken ≡ false → m.failing ≡ (d.world.nodes s).failing) (below : s < d.world.sites) (up : m.state ≡ Up) (least : m.safe ≤ count) (most : count ≤ length m.log) where
+    (own : taken ≡ false → disk_notes m ≡ disk_notes (d.world.nodes s)) (below : s < d.world.sites) (up : m.state ≡ Up) (least : m.safe ≤ count) (most : count ≤ length m.log) where
   abbrev r : Doubted
   r = resolved_at d s taken
 
@@ -148,7 +159,7 @@ module _ (d : Doubted) (s count : ℕ) (taken : Bool) (m : Node) (row : ℕ → 
       ∙ ap (λ (n : ℕ). row_links (λ k. lost_touch (row k)) n) crash_changes.sites ∙ touch_kept row d.world.sites)
       (same_headers taken s d.world h.world ∙ eff.is.headers) eff.is.after
 
-  pub crash_said : (step (chosen taken d (CrashAt s count)).world (CrashAt s count)).said ≡ IsDone
+  pub crash_said : (step (doubt_chosen taken d (CrashAt s count)).world (CrashAt s count)).said ≡ IsDone
   crash_said = ap (λ (o : Outcome). o.said) (crash_step r.world s count below_r up_r)
 
   pub crash_fits : LinksFit d → LinksFit e
@@ -167,8 +178,8 @@ module _ (d : Doubted) (s count : ℕ) (taken : Bool) (m : Node) (row : ℕ → 
 module _ {R : Type 0} {g : Ghosts R} where
   -- the site, whose disks crashed
   pub crash_comes : (d : Doubted) (s count : ℕ) (taken : Bool) (m : Node) (row : ℕ → Link) (node_is : (resolved_at d s taken).world.nodes s ≡ m) (row_is : (k : ℕ) → (resolved_at d s taken).world.links s k ≡ row k)
-      (own : taken ≡ false → m.failing ≡ (d.world.nodes s).failing) (below : s < d.world.sites) (up : m.state ≡ Up) (least : m.safe ≤ count) (most : count ≤ length m.log) (before after : DiskSet R g)
-      → LinksFit d → FailsAs (d.world.nodes s) before → SameFailing before after → StandsAt (record { links = row_links row d.world.sites; headers = d.world.headers s; doubt = None }) (crashed m count) after
+      (own : taken ≡ false → disk_notes m ≡ disk_notes (d.world.nodes s)) (below : s < d.world.sites) (up : m.state ≡ Up) (least : m.safe ≤ count) (most : count ≤ length m.log) (before after : DiskSet R g)
+      → LinksFit d → FailsAs (d.world.nodes s) before → SameFailing before after → SiteStands (record { links = row_links row d.world.sites; headers = d.world.headers s; doubt = None }) (crashed m count) after
       → Comes d (crash_of d s count taken) s after
   crash_comes d s count taken m row node_is row_is own below up least most before after fits fails same stands =
       let e : Doubted = crash_of d s count taken in
@@ -179,8 +190,9 @@ module _ {R : Type 0} {g : Ghosts R} where
       record {
         changes = crash_changes d s count taken m row node_is row_is own below up least most;
         links = crash_fits d s count taken m row node_is row_is own below up least most fits;
-        stands = subst (λ (k : Node). StandsAt (beside_of e s) k after) here
-            (subst (λ (b : Beside). StandsAt b n after) (sym there) (stands_failing (record { links = row_links row d.world.sites; headers = d.world.headers s; doubt = None }) (crashed m count) (d.world.nodes s).failing after stands));
+        stands = subst (λ (k : Node). SiteStands (beside_of e s) k after) here
+            (subst (λ (b : KeptBeside). SiteStands b n after) (sym there) (stands_noted (record { links = row_links row d.world.sites; headers = d.world.headers s; doubt = None }) (crashed m count) (d.world.nodes s).failing (d.world.nodes s).group after
+            (λ bare. absurd (down_bare bare)) stands));
         failing = subst (λ (k : Node). FailsAs k after) here (fails_then (d.world.nodes s) n before after refl same fails);
         fuse = subst (λ (k : Node). FusedAs k after) here (fused_none n after refl);
         role = role_off (record { links = row_links row d.world.sites; headers = d.world.headers s; doubt = None }) (crashed m count) (e.world.nodes s) after stands (λ is_up. down_up is_up);
@@ -204,9 +216,9 @@ module _ {R : Type 0} {g : Ghosts R} where
       small : s < MOST_SITES
       small = omega (arith, below, stands.disk_sets.few)
 
-      itself_by : (k : Kept) → k ≡ itself (beside_of d s) n → (count : ℕ) → k.node.safe ≤ count → count ≤ length k.node.log → StandsAt (sure_of k) (crashed k.node count) after → Falls d s old new
+      itself_by : (k : KeptSite) → k ≡ itself (beside_of d s) n → (count : ℕ) → k.node.safe ≤ count → count ≤ length k.node.log → SiteStands (sure_of k) (crashed k.node count) after → Falls d s old new
       itself_by k own =
-          subst (λ (x : Kept). (count : ℕ) → x.node.safe ≤ count → count ≤ length x.node.log → StandsAt (sure_of x) (crashed x.node count) after → Falls d s old new) (sym own)
+          subst (λ (x : KeptSite). (count : ℕ) → x.node.safe ≤ count → count ≤ length x.node.log → SiteStands (sure_of x) (crashed x.node count) after → Falls d s old new) (sym own)
           (λ count least most here. record {
             count = count;
             taken = false;
@@ -223,17 +235,17 @@ module _ {R : Type 0} {g : Ghosts R} where
             rose = rose_still old new s before after changed.there changed.later changed.disk_sets;
           })
 
-      doubt_by : (o : Option After) → d.after s ≡ o → (k : Kept) → doubt_of d.world s (d.after s) ≡ Some k → (count : ℕ) → k.node.safe ≤ count → count ≤ length k.node.log → StandsAt (sure_of k) (crashed k.node count) after → Falls d s old new
+      doubt_by : (o : Option After) → d.after s ≡ o → (k : KeptSite) → doubt_of d.world s (d.after s) ≡ Some k → (count : ℕ) → k.node.safe ≤ count → count ≤ length k.node.log → SiteStands (sure_of k) (crashed k.node count) after → Falls d s old new
       doubt_by None none k other = absurd (never_some (sym (ap (λ (o : Option After). doubt_of d.world s o) none) ∙ other))
       doubt_by (Some a) some k other =
-          let kept : (let x : Kept = record { node = a.node; links = row_links a.row d.world.sites; headers = d.world.headers s } in x) ≡ k =
+          let kept : (let x : KeptSite = record { node = a.node; links = row_links a.row d.world.sites; headers = d.world.headers s } in x) ≡ k =
           some_same (sym (ap (λ (o : Option After). doubt_of d.world s o) some) ∙ other) in
           let fits = stands.links.doubts s a some in
           let same_site = stands.doubts s a some in
           let node_is : (resolved_at d s true).world.nodes s ≡ a.node = ap (λ (o : Option After). (taken_up d.world s o).nodes s) some ∙ at_place d.world.nodes s a.node in
           let row_is : (j : ℕ) → (resolved_at d s true).world.links s j ≡ a.row j =
           λ j. ap (λ (o : Option After). (taken_up d.world s o).links s j) some ∙ ap (λ (r : ℕ → Link). r j) (at_place d.world.links s a.row) in
-          subst (λ (x : Kept). (count : ℕ) → x.node.safe ≤ count → count ≤ length x.node.log → StandsAt (sure_of x) (crashed x.node count) after → Falls d s old new) kept
+          subst (λ (x : KeptSite). (count : ℕ) → x.node.safe ≤ count → count ≤ length x.node.log → SiteStands (sure_of x) (crashed x.node count) after → Falls d s old new) kept
           (λ count least most here. record {
             count = count;
             taken = true;
@@ -271,7 +283,7 @@ module _ {R : Type 0} {g : Ghosts R} where
           ends = subst (λ (i : ℕ). Ends (IsTold new) d (Crash name pick) i [] Done e) (sym here.number)
               (AllDone (keeps_k f.count) f.taken refl
               (subst (λ (es : List Event). Replies (IsTold new) (Crash name pick) s f.taken d es Done) (sym ev)
-              (subst (λ (o : EventSaid). Repeats (step (chosen f.taken d (CrashAt s f.count)).world (CrashAt s f.count)).world s o Done) (sym f.said) refl))
+              (subst (λ (o : EventSaid). RepeatsSaid (step (doubt_chosen f.taken d (CrashAt s f.count)).world (CrashAt s f.count)).world s o Done) (sym f.said) refl))
               (subst (λ (es : List Event). IsLeft s (Crash name pick) f.taken d (run_as f.taken d es) e) (sym ev) (record { world = refl; after = λ i. refl })));
           counts = tt;
           works = tt;

@@ -15,10 +15,10 @@ use Rattle.vx_events.specs.Facts.{site_fact, group_by}
 use Rattle.vx_events.specs.declared.said.Said.{Said}
 use Rattle.vx_events.specs.declared.said.Said.TheVariants.{DoneAt, Logged}
 use Rattle.vx_events.specs.Sayings.{is_written}
-use Rattle.vx_diskset.specs.Asked.{FailsAs, LeavesAlone, SameFailing, SetsFuse, disks_in}
+use Rattle.vx_diskset.specs.Asked.{FailsAs, LeavesAlone, SameFailing, SetsFuse, disks_told}
 use Rattle.vx_diskset.specs.Burning.{Burnt, IsLogged}
-use Rattle.vx_diskset.specs.Holds.{Beside}
-use Rattle.vx_diskset.specs.Stands.{StandsAt}
+use Rattle.vx_diskset.specs.Holds.{KeptBeside}
+use Rattle.vx_diskset.specs.Stands.{SiteStands}
 use Rattle.vx_ringio.specs.Spends.{Passed}
 use Rattle.vx_diskset.specs.declared.disk_set.DiskSet.{DiskSet}
 use Rattle.vx_diskset.specs.declared.disk_set.DiskSet.TheVariants.{Bare, Spoiled, Up, Receives, Down, Gone}
@@ -69,17 +69,17 @@ works_by (Some o) (Some n) size d said written is on =
 
 module _ {R : Type 0} {g : Ghosts R} where
   pub fails_then : (n m : Node) (e after : DiskSet R g) → m.failing ≡ n.failing → SameFailing e after → FailsAs n e → FailsAs m after
-  fails_then n m e after is same fails = record { told = λ d there u on. fails_on (disks_in e) (disks_in after) n.failing m.failing is fails.told same.told d there u on }
+  fails_then n m e after is same fails = record { told = λ d there u on. fails_on (disks_told e) (disks_told after) n.failing m.failing is fails.told same.told d there u on }
 
   pub fuse_keeps : (calls pick : ℕ) (a b : DiskSet R g) → SetsFuse calls pick a b → SameFailing a b
-  fuse_keeps calls pick a b did = record { told = same_on (λ o n. SameBlocks o n × (n.fuse ≡ Some (calls, pick))) (disks_in a) (disks_in b) did }
+  fuse_keeps calls pick a b did = record { told = same_on (λ o n. SameBlocks o n × (n.fuse ≡ Some (calls, pick))) (disks_told a) (disks_told b) did }
 
   pub alone_keeps : (a b : DiskSet R g) → LeavesAlone a b → SameFailing a b
-  alone_keeps a b did = record { told = same_on Untouched (disks_in a) (disks_in b) did.told }
+  alone_keeps a b did = record { told = same_on Untouched (disks_told a) (disks_told b) did.told }
 
   -- ---- a write is done only where the disk of the log works
 
-  pub told_disks : ((r : R) → IsRack (g.meaning r)) → (beside : Beside) (n : Node) (e : DiskSet R g) → StandsAt beside n e → (d : Disks) × (disks_in e ≡ Some d)
+  pub told_disks : ((r : R) → IsRack (g.meaning r)) → (beside : KeptBeside) (n : Node) (e : DiskSet R g) → SiteStands beside n e → (d : Disks) × (disks_told e ≡ Some d)
   told_disks racks beside n (Bare rack) h = ((racks rack).told, (racks rack).is)
   told_disks racks beside n (Spoiled rack) h = ((racks rack).told, (racks rack).is)
   told_disks racks beside n (Up rvg) h = ((racks rvg.shelf).told, (racks rvg.shelf).is)

@@ -12,7 +12,7 @@ use Rattle.vx_events.specs.Fuses.{MayPass}
 use Rattle.vx_events.specs.declared.said.Said.{Said}
 use Rattle.vx_events.specs.declared.said.Said.TheVariants.{DoneAt, Refused}
 use Rattle.vx_events.proofs.Places.{some_same}
-use Rattle.vx_diskset.specs.Asked.{FusedAs, SetsDisk, disks_in}
+use Rattle.vx_diskset.specs.Asked.{FusedAs, SetsDisk, disks_told}
 use Rattle.vx_diskset.specs.Burning.{Burnt}
 use Rattle.vx_diskset.specs.Fuses.{HasLeft, LeftAs}
 use Rattle.vx_diskset.specs.declared.disk_set.DiskSet.{DiskSet}
@@ -81,10 +81,10 @@ module _ {R : Type 0} {g : Ghosts R} where
 
   pub fused_set : (n m : Node) (a b : DiskSet R g) (disk : ℕ) (on : Bool) → m.fuse ≡ n.fuse → SetsDisk disk on a b → FusedAs n a → FusedAs m b
   fused_set n m a b disk on is did h = record {
-    told = λ d at. subst (λ (f : FuseOf). LeftAs f d.fuse) (sym is) (set_left disk on (disks_in a) (disks_in b) n.fuse did h.told d at);
+    told = λ d at. subst (λ (f : FuseOf). LeftAs f d.fuse) (sym is) (set_left disk on (disks_told a) (disks_told b) n.fuse did h.told d at);
   }
 
-  pub fused_on : (P : Disks → Disks → Type 0) (n m : Node) (f : FuseOf) (a b : DiskSet R g) → m.fuse ≡ f → ((x y : Disks) → P x y → LeftAs n.fuse x.fuse → LeftAs f y.fuse) → OnDisks (disks_in a) (disks_in b) P → FusedAs n a → FusedAs m b
+  pub fused_on : (P : Disks → Disks → Type 0) (n m : Node) (f : FuseOf) (a b : DiskSet R g) → m.fuse ≡ f → ((x y : Disks) → P x y → LeftAs n.fuse x.fuse → LeftAs f y.fuse) → OnDisks (disks_told a) (disks_told b) P → FusedAs n a → FusedAs m b
   fused_on P n m f a b is step on h = record {
-    told = λ d at. subst (λ (k : FuseOf). LeftAs k d.fuse) (sym is) (left_on P (disks_in a) (disks_in b) n.fuse f step on h.told d at);
+    told = λ d at. subst (λ (k : FuseOf). LeftAs k d.fuse) (sym is) (left_on P (disks_told a) (disks_told b) n.fuse f step on h.told d at);
   }

@@ -2,6 +2,7 @@
 use Rattle.std.proofs.Common.{◌≡◌, ◌∙◌, ⊎_elim, ◌+◌, ◌≤◌, ℕ, zero, suc, List, [], ◌∷◌, length, drop, Bool, true, ap, sym, refl, arith}
 use Rattle.std.specs.Prelude.{◌&&◌, Some, slice_get, if◌then◌else◌}
 use Rattle.std.proofs.lemmas.List.{drop_all}
+use Rattle.vx_order.specs.Sending.{last_number}
 use Rattle.vx_model.specs.Content.{Write, blocks_in}
 use Rattle.vx_model.specs.Sites.{is_origin}
 use Rattle.vx_model.specs.declared.link.Mode.{Mode}
@@ -10,7 +11,7 @@ use Rattle.vx_model.specs.declared.site.SiteState.{SiteState}
 use Rattle.vx_model.specs.declared.site.SiteState.TheVariants.{Up}
 use Rattle.vx_model.specs.declared.state.KeptLink.{KeptLink}
 use Rattle.vx_history.specs.Admission.{Goes, hold, is_holding, mode_hold, mode_holds}
-use Rattle.vx_history.specs.Events.{admitted, linked_sites, log_blocks, used_above}
+use Rattle.vx_history.specs.Events.{admitted, linked_sites, logged_blocks, used_above}
 use Rattle.vx_history.specs.KeptLinks.{kept_link, kept_links, kept_mode, kept_start}
 use Rattle.vx_history.specs.LinkForms.{plain_link}
 use Rattle.vx_history.specs.Sends.{is_linked}
@@ -18,20 +19,20 @@ use Rattle.vx_history.specs.World.{Link, Node, World}
 use Rattle.vx_history.specs.declared.admission.Change.{Change}
 use Rattle.vx_order.specs.declared.facts.LinkFacts.{LinkFacts}
 use Rattle.vx_order.specs.declared.facts.SiteFacts.{SiteFacts}
-use Rattle.vx_diskset.specs.Holds.{links_of}
-use Rattle.vx_diskset.specs.Needs.{HasRoom, NoneNeeds, hold_of, is_needing, mode_hold as kept_hold, mode_needs}
+use Rattle.vx_diskset.specs.Holds.{header_links}
+use Rattle.vx_diskset.specs.Needs.{HasRoom, NoneNeeds, hold_of, is_needing, kept_mode_hold as kept_hold, mode_needs}
 use Rattle.vx_events.proofs.LinkTesting.{AllLinked, all_linked}
 use Rattle.vx_events.proofs.Places.{some_same}
 use Rattle.vx_events.specs.Facts.{group_by}
-use Rattle.vx_events.specs.Fuses.{taken}
+use Rattle.vx_events.specs.Fuses.{ring_taken}
 use Rattle.vx_events.specs.LinkedFacts.{link_fact, link_facts, linked_fact, links_by}
 use Rattle.vx_events.specs.LinksFit.{RowFits, is_plain_mode}
 use Rattle.vx_effects.proofs.Rooms.{has_room}
-use Rattle.vx_linked.specs.Holds.{HeldBy, last_number, least_hold}
+use Rattle.vx_linked.specs.Holds.{HeldBy, least_hold}
 use Rattle.vx_linked.proofs.LeastHolds.{least_by, least_each}
 
 -- the blocks of writes are counted alike
-pub taken_same : (xs : List Write) → taken xs ≡ log_blocks xs
+pub taken_same : (xs : List Write) → ring_taken xs ≡ logged_blocks xs
 taken_same [] = refl
 taken_same (x ∷ xs) = ap (λ (k : ℕ). (blocks_in x.bytes + 1) + k) (taken_same xs)
 
@@ -87,7 +88,7 @@ module _ (w : World) (s : ℕ) (fit : RowFits s w.sites (w.links s)) (up : (w.no
   shown = ap (λ (t : SiteState). links_by t (link_facts n row ss)) up
 
   -- the least hold is no more than what any link needs
-  pub none_needs : NoneNeeds (links_of w s) (least_hold f)
+  pub none_needs : NoneNeeds (header_links w s) (least_hold f)
   none_needs = record {
     each = λ k l is needs.
         let a : AtPlace n row ss k = of_kept n row ss k l (all_linked row w.sites 0 w.sites) is in
@@ -106,14 +107,14 @@ module _ (w : World) (s : ℕ) (fit : RowFits s w.sites (w.links s)) (up : (w.no
     last_is : last_number f.rvg ≡ n.safe
     last_is = ap (λ (t : SiteState). last_number (group_by t n)) up ∙ ap (λ (b : Bool). if b then n.safe else length n.log) origin
 
-    by_last : least_hold f ≡ last_number f.rvg → blocks_in x.bytes + 1 + taken (drop (least_hold f) n.log) ≤ n.ring
+    by_last : least_hold f ≡ last_number f.rvg → blocks_in x.bytes + 1 + ring_taken (drop (least_hold f) n.log) ≤ n.ring
     by_last e =
         let at : least_hold f ≡ n.safe = e ∙ last_is in
         let none : drop (least_hold f) n.log ≡ [] = drop_all (least_hold f) n.log (omega (arith, at, all)) in
-        let zero_blocks : taken (drop (least_hold f) n.log) ≡ 0 = ap taken none in
+        let zero_blocks : ring_taken (drop (least_hold f) n.log) ≡ 0 = ap ring_taken none in
         omega (arith, zero_blocks, fits)
 
-    by_held : HeldBy (least_hold f) f.links → blocks_in x.bytes + 1 + taken (drop (least_hold f) n.log) ≤ n.ring
+    by_held : HeldBy (least_hold f) f.links → blocks_in x.bytes + 1 + ring_taken (drop (least_hold f) n.log) ≤ n.ring
     by_held h =
         let there : slice_get (link_facts n row ss) h.place ≡ Some h.link = ap (λ (ls : List LinkFacts). slice_get ls h.place) (sym shown) ∙ h.there in
         let a : AtPlace n row ss h.place = of_fact n row ss h.place h.link (all_linked row w.sites 0 w.sites) there in
@@ -122,8 +123,8 @@ module _ (w : World) (s : ℕ) (fit : RowFits s w.sites (w.links s)) (up : (w.no
         let holding : is_holding (plain_link a.to r) ≡ true = sym (ap (λ (y : LinkFacts). is_holding y.link) same) ∙ h.needs in
         let room : (blocks_in x.bytes + 1) + used_above n a.to r ≤ n.ring = has_room w s x cs fit goes a.to a.linked holding in
         let at : least_hold f ≡ hold (plain_link a.to r) = h.is ∙ ap (λ (y : LinkFacts). hold y.link) same in
-        let used : taken (drop (least_hold f) n.log) ≡ used_above n a.to r = taken_same (drop (least_hold f) n.log) ∙ ap (λ (k : ℕ). log_blocks (drop k n.log)) at in
+        let used : ring_taken (drop (least_hold f) n.log) ≡ used_above n a.to r = taken_same (drop (least_hold f) n.log) ∙ ap (λ (k : ℕ). logged_blocks (drop k n.log)) at in
         omega (arith, room, used)
 
-    pub room_beside : HasRoom (links_of w s) n (least_hold f) (blocks_in x.bytes)
+    pub room_beside : HasRoom (header_links w s) n (least_hold f) (blocks_in x.bytes)
     room_beside = record { unneeded = none_needs; room = ⊎_elim by_last by_held (least_by f) }

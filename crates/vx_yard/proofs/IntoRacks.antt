@@ -14,13 +14,13 @@ use Rattle.vx_diskset.specs.Lasts.{FoundWith}
 use Rattle.vx_rvg.specs.Views.{Core}
 use Rattle.vx_diskset.specs.declared.disk_set.DiskSet.{DiskSet}
 use Rattle.vx_diskset.specs.declared.disk_set.DiskSet.TheVariants.{Bare, Spoiled, Up, Receives, Down, Gone}
-use Rattle.vx_diskset.specs.Holds.{Beside, Holds, most_header, state_with, beside_of}
+use Rattle.vx_diskset.specs.Holds.{KeptBeside, HoldsSite, most_header, state_with, beside_of}
 use Rattle.vx_history.specs.Doubts.{Doubted}
 use Rattle.vx_yard.specs.Holds.{RacksHold, RacksTell, rack_count, rack_faults}
 use Rattle.vx_diskset.specs.Layouts.{units_of}
 use Rattle.vx_yard.specs.Racks.{rack_in, racks_in}
-use Rattle.vx_yard.specs.Stands.{AreTold, fault_count, faults_of}
-use Rattle.vx_diskset.specs.Stands.{IsUnused, IsBareAt, IsUpAt, IsReceiverAt, IsDownAt, IsToldAt, StandsAt}
+use Rattle.vx_yard.specs.Stands.{AreTold, fault_count, site_faults}
+use Rattle.vx_diskset.specs.Stands.{IsUnused, IsBareAt, IsUpAt, IsReceiverAt, IsDownAt, IsToldAt, SiteStands}
 use Rattle.vx_yard.specs.Standing.{SitesAgree}
 use Rattle.vx_diskset.proofs.CrashGroup.{left_with}
 use Rattle.vx_diskset.proofs.StaysUp.{all_taken, durable_content, told_now}
@@ -31,15 +31,15 @@ never_both : {x : SiteState} → x ≡ IsUp → x ≡ IsDown → ⊥
 never_both a b = let e : IsUp ≡ IsDown = sym a ∙ b in cc
 
 -- a site that is up
-up_holds : {beside : Beside} (n : Node) (c : Core) (m : Meaning) → IsUpAt beside n c m → Holds beside n m
+up_holds : {beside : KeptBeside} (n : Node) (c : Core) (m : Meaning) → IsUpAt beside n c m → HoldsSite beside n m
 up_holds n c m up = record { up = λ _ i now. up.left i now; down = λ down. absurd (never_both up.state down) }
 
 -- a site that receives
-receiver_holds : {beside : Beside} (n : Node) (c : Core) (us : List Update) (m : Meaning) → IsReceiverAt beside n c us m → Holds beside n m
+receiver_holds : {beside : KeptBeside} (n : Node) (c : Core) (us : List Update) (m : Meaning) → IsReceiverAt beside n c us m → HoldsSite beside n m
 receiver_holds n c us m up = record { up = λ _ i now. up.left i now; down = λ down. absurd (never_both up.state down) }
 
 -- a site that is down
-down_holds : {beside : Beside} (n : Node) (m : Meaning) → Lawful m → IsDownAt beside n m → Holds beside n m
+down_holds : {beside : KeptBeside} (n : Node) (m : Meaning) → Lawful m → IsDownAt beside n m → HoldsSite beside n m
 down_holds {beside} n m lawful is = record {
   up = λ up. absurd (never_both up is.state);
   down = λ _ i now. inl (record {
@@ -53,7 +53,7 @@ down_holds {beside} n m lawful is = record {
 }
 
 -- nothing is made of a bare site
-bare_holds : {beside : Beside} (n : Node) (m : Meaning) → IsBareAt n m → Holds beside n m
+bare_holds : {beside : KeptBeside} (n : Node) (m : Meaning) → IsBareAt n m → HoldsSite beside n m
 bare_holds n m bare = record {
   up = λ up. absurd (let e : IsBare ≡ IsUp = sym state ∙ up in cc);
   down = λ down. absurd (let e : IsBare ≡ IsDown = sym state ∙ down in cc);
@@ -141,7 +141,7 @@ module _ {R : Type 0} {g : Ghosts R} where
 
   -- ---- sites that may keep links and be in doubt
 
-  stood_there : (beside : Beside) (n : Node) (e : DiskSet R g) → StandsAt beside n e → IsThere e
+  stood_there : (beside : KeptBeside) (n : Node) (e : DiskSet R g) → SiteStands beside n e → IsThere e
   stood_there beside n (Bare rack) h = tt
   stood_there beside n (Spoiled rack) h = tt
   stood_there beside n (Up rvg) h = tt
@@ -153,18 +153,18 @@ module _ {R : Type 0} {g : Ghosts R} where
   agree_there d es agree s e at =
       ⊎_elim (λ below. stood_there (beside_of d s) (d.world.nodes s) e (agree.sites s e below at)) (λ past. unused_there e (agree.others s e past at)) (cases_lt s d.world.sites)
 
-  beside_holds : (lawful : (r : R) → Lawful (g.meaning r)) (beside : Beside) (n : Node) (x : Option (DiskSet R g)) (r : R) → ((e : DiskSet R g) → x ≡ Some e → StandsAt beside n e) → option_and_then rack_of x ≡ Some r → Holds beside n (g.meaning r)
+  beside_holds : (lawful : (r : R) → Lawful (g.meaning r)) (beside : KeptBeside) (n : Node) (x : Option (DiskSet R g)) (r : R) → ((e : DiskSet R g) → x ≡ Some e → SiteStands beside n e) → option_and_then rack_of x ≡ Some r → HoldsSite beside n (g.meaning r)
   beside_holds lawful beside n None r stands is = absurd (cc)
   beside_holds lawful beside n (Some (Bare rack)) r stands is =
-      subst (λ (k : R). Holds beside n (g.meaning k)) (some_same is) (bare_holds n (g.meaning rack) (stands (Bare rack) refl).bare)
+      subst (λ (k : R). HoldsSite beside n (g.meaning k)) (some_same is) (bare_holds n (g.meaning rack) (stands (Bare rack) refl).bare)
   beside_holds lawful beside n (Some (Spoiled rack)) r stands is =
-      subst (λ (k : R). Holds beside n (g.meaning k)) (some_same is) (bare_holds n (g.meaning rack) (stands (Spoiled rack) refl))
+      subst (λ (k : R). HoldsSite beside n (g.meaning k)) (some_same is) (bare_holds n (g.meaning rack) (stands (Spoiled rack) refl))
   beside_holds lawful beside n (Some (Up rvg)) r stands is =
-      subst (λ (k : R). Holds beside n (g.meaning k)) (some_same is) (up_holds n rvg.core (g.meaning rvg.shelf) (stands (Up rvg) refl))
+      subst (λ (k : R). HoldsSite beside n (g.meaning k)) (some_same is) (up_holds n rvg.core (g.meaning rvg.shelf) (stands (Up rvg) refl))
   beside_holds lawful beside n (Some (Receives s)) r stands is =
-      subst (λ (k : R). Holds beside n (g.meaning k)) (some_same is) (receiver_holds n s.rvg.core s.waiting (g.meaning s.rvg.shelf) (stands (Receives s) refl))
+      subst (λ (k : R). HoldsSite beside n (g.meaning k)) (some_same is) (receiver_holds n s.rvg.core s.waiting (g.meaning s.rvg.shelf) (stands (Receives s) refl))
   beside_holds lawful beside n (Some (Down rack)) r stands is =
-      subst (λ (k : R). Holds beside n (g.meaning k)) (some_same is) (down_holds n (g.meaning rack) (lawful rack) (stands (Down rack) refl))
+      subst (λ (k : R). HoldsSite beside n (g.meaning k)) (some_same is) (down_holds n (g.meaning rack) (lawful rack) (stands (Down rack) refl))
   beside_holds lawful beside n (Some Gone) r stands is = absurd (cc)
 
   pub racks_keep : (lawful : (r : R) → Lawful (g.meaning r)) (d : Doubted) (es : List (DiskSet R g)) → SitesAgree d es → RacksHold g.meaning d (racks_in es)
@@ -175,7 +175,7 @@ module _ {R : Type 0} {g : Ghosts R} where
         each = λ s r below at. beside_holds lawful (beside_of d s) (d.world.nodes s) (slice_get es s) r (λ e is. agree.sites s e below is) (sym (slice_get-racks_in es there s) ∙ at);
       }
 
-  pub racks_counted : (d : Doubted) (es : List (DiskSet R g)) → SitesAgree d es → (s u : ℕ) → rack_faults g.meaning (racks_in es) s u ≡ faults_of es s u
+  pub racks_counted : (d : Doubted) (es : List (DiskSet R g)) → SitesAgree d es → (s u : ℕ) → rack_faults g.meaning (racks_in es) s u ≡ site_faults es s u
   racks_counted d es agree s u = ap (λ (r : Option R). rack_count g.meaning r u) (slice_get-racks_in es (all_there es (agree_there d es agree)) s) ∙ counts_as (slice_get es s) u
 
   pub racks_told : (d : Doubted) (es : List (DiskSet R g)) → SitesAgree d es → RacksTell g.meaning (racks_in es) → AreTold es

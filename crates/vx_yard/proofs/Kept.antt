@@ -10,8 +10,8 @@ use Rattle.vx_model.specs.declared.site.SiteState.TheVariants.{Bare as IsBare, U
 use Rattle.vx_disk.specs.declared.shelf.Shelf.{Ghosts}
 use Rattle.vx_order.specs.declared.facts.SiteFacts.{SiteFacts}
 use Rattle.vx_order.specs.declared.facts.VolumeFacts.{VolumeFacts}
-use Rattle.vx_diskset.specs.Holds.{Beside, beside_of}
-use Rattle.vx_diskset.specs.Stands.{StandsAt}
+use Rattle.vx_diskset.specs.Holds.{KeptBeside, beside_of}
+use Rattle.vx_diskset.specs.Stands.{SiteStands}
 use Rattle.vx_diskset.specs.declared.disk_set.DiskSet.{DiskSet}
 use Rattle.vx_diskset.specs.declared.disk_set.DiskSet.TheVariants.{Bare, Spoiled, Up, Receives, Down, Gone}
 use Rattle.vx_events.proofs.Places.{position_within, some_same}
@@ -20,7 +20,7 @@ use Rattle.vx_events.specs.Facts.{place_of, volume_fact}
 use Rattle.vx_events.specs.LinkedFacts.{linked_fact}
 use Rattle.vx_yard.specs.Carries.{Carries}
 use Rattle.vx_yard.specs.Standing.{StandsFor}
-use Rattle.vx_yard.specs.Yards.{IsKept, IsShaped}
+use Rattle.vx_yard.specs.Yards.{IsYardKept, IsShaped}
 use Rattle.vx_yard.specs.declared.yard.Yard.{Yard}
 use Rattle.vx_yard.proofs.NamedSite.{fact_of}
 
@@ -53,7 +53,7 @@ module _ {R : Type 0} {g : Ghosts R} where
   pub many_sites : (d : Doubted) (y : Yard R g) → StandsFor d y → length y.facts.items ≡ d.world.sites
   many_sites d y stands = ap (λ (fs : List SiteFacts). length fs) stands.facts ∙ length-values_from (λ i. linked_fact d.world i) 0 d.world.sites
 
-  shape_at : (beside : Beside) (n : Node) (e : DiskSet R g) → StandsAt beside n e → IsNodeShaped n
+  shape_at : (beside : KeptBeside) (n : Node) (e : DiskSet R g) → SiteStands beside n e → IsNodeShaped n
   shape_at beside n (Bare rack) h = record {
     volumes = omega (arith, ap (λ (k : Node). length k.volumes) h.bare.is);
     disks = λ is. h.bare.few;
@@ -86,7 +86,7 @@ module _ {R : Type 0} {g : Ghosts R} where
   }
   shape_at beside n Gone h = absurd h
 
-  pub kept_for : (d : Doubted) (y : Yard R g) → StandsFor d y → Carries d y → IsKept y
+  pub kept_for : (d : Doubted) (y : Yard R g) → StandsFor d y → Carries d y → IsYardKept y
   kept_for d y stands carries = record {
     eight = stands.disk_sets.eight;
     few = omega (arith, many_sites d y stands, stands.disk_sets.few);

@@ -4,15 +4,15 @@ use Rattle.vx_model.specs.Sites.{is_origin}
 use Rattle.vx_model.specs.declared.site.SiteState.TheVariants.{Bare as IsBare, Up as IsUp, Down as IsDown}
 use Rattle.vx_history.specs.World.{Node}
 use Rattle.vx_disk.specs.declared.shelf.Shelf.{Ghosts}
-use Rattle.vx_diskset.specs.Holds.{Beside}
-use Rattle.vx_diskset.specs.Stands.{RoleIs, StandsAt}
+use Rattle.vx_diskset.specs.Holds.{KeptBeside}
+use Rattle.vx_diskset.specs.Stands.{RoleIs, SiteStands}
 use Rattle.vx_diskset.specs.declared.disk_set.DiskSet.{DiskSet}
 use Rattle.vx_diskset.specs.declared.disk_set.DiskSet.TheVariants.{Bare, Spoiled, Up, Receives as HasRoom, Down, Gone}
 use Rattle.vx_yard.specs.Deliveries.{Receives}
 
 module _ {R : Type 0} {g : Ghosts R} where
   -- one that is up is an origin
-  pub room_origin : (beside : Beside) (n : Node) (e : DiskSet R g) (b : Bool) → Receives e b → b ≡ false → RoleIs n e → StandsAt beside n e → n.state ≡ IsUp → is_origin n.role ≡ true
+  pub room_origin : (beside : KeptBeside) (n : Node) (e : DiskSet R g) (b : Bool) → Receives e b → b ≡ false → RoleIs n e → SiteStands beside n e → n.state ≡ IsUp → is_origin n.role ≡ true
   room_origin beside n (Bare rack) b is none role stands up = absurd (let e : IsBare ≡ IsUp = sym (ap (λ (k : Node). k.state) stands.bare.is) ∙ up in cc)
   room_origin beside n (Spoiled rack) b is none role stands up = absurd (let e : IsBare ≡ IsUp = sym (ap (λ (k : Node). k.state) stands.is) ∙ up in cc)
   room_origin beside n (Up rvg) b is none role stands up = role
@@ -21,7 +21,7 @@ module _ {R : Type 0} {g : Ghosts R} where
   room_origin beside n Gone b is none role stands up = absurd stands
 
   -- a group with that room is that of a site that is up and receives
-  pub room_receives : (beside : Beside) (n : Node) (e : DiskSet R g) (b : Bool) → Receives e b → b ≡ true → StandsAt beside n e → (n.state ≡ IsUp) × (is_origin n.role ≡ false)
+  pub room_receives : (beside : KeptBeside) (n : Node) (e : DiskSet R g) (b : Bool) → Receives e b → b ≡ true → SiteStands beside n e → (n.state ≡ IsUp) × (is_origin n.role ≡ false)
   room_receives beside n (Bare rack) b is yes_ stands = absurd (let e : false ≡ true = sym is ∙ yes_ in cc)
   room_receives beside n (Spoiled rack) b is yes_ stands = absurd (let e : false ≡ true = sym is ∙ yes_ in cc)
   room_receives beside n (Up rvg) b is yes_ stands = absurd (let e : false ≡ true = sym is ∙ yes_ in cc)

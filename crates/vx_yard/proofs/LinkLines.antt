@@ -8,8 +8,8 @@ use Rattle.vx_courier.specs.Together.{AssemblyStands}
 use Rattle.vx_courier.specs.UnderWay.{FlightStands}
 use Rattle.vx_disk.specs.declared.shelf.Shelf.{Ghosts}
 use Rattle.vx_diskset.specs.Asked.{FailsAs, FusedAs}
-use Rattle.vx_diskset.specs.Holds.{Beside, Kept, beside_of, doubt_of, links_of}
-use Rattle.vx_diskset.specs.Stands.{RoleIs, StandsAt}
+use Rattle.vx_diskset.specs.Holds.{KeptBeside, KeptSite, beside_of, doubt_of, header_links}
+use Rattle.vx_diskset.specs.Stands.{RoleIs, SiteStands}
 use Rattle.vx_diskset.specs.declared.disk_set.DiskSet.{DiskSet}
 use Rattle.vx_effects.proofs.Fitting.{fit_happened}
 use Rattle.vx_events.proofs.LinkWaiting.{wait_agrees}
@@ -18,7 +18,7 @@ use Rattle.vx_events.specs.LinkEnds.{LinksDone}
 use Rattle.vx_events.specs.LinkedFacts.{linked_facts, refused_by}
 use Rattle.vx_events.specs.Lines.{IsDone}
 use Rattle.vx_events.specs.LinksFit.{LinksFit}
-use Rattle.vx_events.specs.Sayings.{Repeats}
+use Rattle.vx_events.specs.Sayings.{RepeatsSaid}
 use Rattle.vx_events.specs.declared.said.Said.{Said}
 use Rattle.vx_events.specs.declared.said.Said.TheVariants.{Done}
 use Rattle.vx_history.proofs.Places.{all_listed}
@@ -32,21 +32,19 @@ use Rattle.vx_history.specs.declared.event.Said.TheVariants.{Done as IsDoneSo, D
 use Rattle.vx_linked.proofs.Leaving.{connect_leaves, connect_sends, cut_leaves, cut_sends, pause_leaves, pause_sends, resume_leaves, resume_sends, tick_leaves, tick_sends, wait_leaves, wait_sends}
 use Rattle.vx_linked.specs.Disks.{LeavesDisks}
 use Rattle.vx_linked.specs.Greetings.{Tells}
-use Rattle.vx_linked.specs.Turns.{ComesTo, StandsFor as LinksStand}
+use Rattle.vx_linked.specs.Turns.{ComesBehind, FactsStandFor as LinksStand}
 use Rattle.vx_model.specs.declared.errors.OutOfMemory.{OutOfMemory}
 use Rattle.vx_model.specs.declared.limits.TheConstants.{MOST_SITES}
 use Rattle.vx_model.specs.declared.site.SiteState.TheVariants.{Up}
 use Rattle.vx_net.specs.Flights.{Flying}
-use Rattle.vx_order.specs.Order.{refusal_of}
+use Rattle.vx_order.specs.Order.{line_refusal}
 use Rattle.vx_order.specs.declared.facts.SiteFacts.{SiteFacts}
 use Rattle.vx_script.specs.declared.line.ScriptLine.{ScriptLine}
-use Rattle.vx_script.specs.declared.line.ScriptLine.TheVariants.{Write as WriteLine, Put as PutLine, Apply as ApplyLine, Connect, Cut, Pause, Resume, Tick, Wait}
+use Rattle.vx_script.specs.declared.line.ScriptLine.TheVariants.{Connect, Cut, Pause, Resume, Tick, Wait}
 use Rattle.vx_yard.specs.Carries.{Carries}
 use Rattle.vx_yard.specs.Happenings.{reply_of}
-use Rattle.vx_yard.specs.LinkLines.{is_on_links}
-use Rattle.vx_yard.specs.OfSites.{HasCalled}
 use Rattle.vx_yard.specs.Standing.{Leads, LeadsIs, SitesAgree, StandsFor, StaysFor}
-use Rattle.vx_yard.specs.Stands.{AreTold, RoseAll, faults_of}
+use Rattle.vx_yard.specs.Stands.{AreTold, RoseAll, site_faults}
 use Rattle.vx_yard.specs.Working.{IsFree}
 use Rattle.vx_yard.specs.Yards.{IsTold, count_of, in_files}
 use Rattle.vx_yard.specs.declared.yard.Yard.{Yard}
@@ -58,9 +56,9 @@ use Rattle.vx_yard.proofs.OneSite.{doubt_same}
 -- what the world has of a site beside its node stays
 beside_kept : (d : Doubted) (v : World) (s : ℕ) → LeavesDisks d.world v → beside_of (record d { world = v }) s ≡ beside_of d s
 beside_kept d v s left =
-    ap (λ ls. let b : Beside = record { links = ls; headers = v.headers s; doubt = doubt_of v s (d.after s) } in b) (left.kept s)
-    ∙ ap (λ (k : ℕ). let b : Beside = record { links = links_of d.world s; headers = k; doubt = doubt_of v s (d.after s) } in b) (left.headers s)
-    ∙ ap (λ (o : Option Kept). let b : Beside = record { links = links_of d.world s; headers = d.world.headers s; doubt = o } in b)
+    ap (λ ls. let b : KeptBeside = record { links = ls; headers = v.headers s; doubt = doubt_of v s (d.after s) } in b) (left.kept s)
+    ∙ ap (λ (k : ℕ). let b : KeptBeside = record { links = header_links d.world s; headers = k; doubt = doubt_of v s (d.after s) } in b) (left.headers s)
+    ∙ ap (λ (o : Option KeptSite). let b : KeptBeside = record { links = header_links d.world s; headers = d.world.headers s; doubt = o } in b)
     (doubt_same d.world v s left.sites (left.headers s) (d.after s))
 
 -- ---- one event of a link, as the end of its line
@@ -70,7 +68,7 @@ pub connect_done : (told : Type 0) (d : Doubted) (p s : List ℕ) → (step d.wo
 connect_done told d p s is =
     let v : World = (step d.world (ConnectAt (site_number d.world p) (site_number d.world s))).world in
     record {
-      ends = LinksDone (record d { world = v }) (false, refl) refl refl (subst (λ (x : EventSaid). Repeats v 0 x Done) (sym is) refl) (record { world = refl; after = λ i. refl });
+      ends = LinksDone (record d { world = v }) (false, refl) refl refl (subst (λ (x : EventSaid). RepeatsSaid v 0 x Done) (sym is) refl) (record { world = refl; after = λ i. refl });
       counts = tt;
       works = tt;
       calls = tt;
@@ -81,7 +79,7 @@ pub cut_done : (told : Type 0) (d : Doubted) (p s : List ℕ) → (step d.world 
 cut_done told d p s is =
     let v : World = (step d.world (CutAt (site_number d.world p) (site_number d.world s))).world in
     record {
-      ends = LinksDone (record d { world = v }) (false, refl) refl refl (subst (λ (x : EventSaid). Repeats v 0 x Done) (sym is) refl) (record { world = refl; after = λ i. refl });
+      ends = LinksDone (record d { world = v }) (false, refl) refl refl (subst (λ (x : EventSaid). RepeatsSaid v 0 x Done) (sym is) refl) (record { world = refl; after = λ i. refl });
       counts = tt;
       works = tt;
       calls = tt;
@@ -92,7 +90,7 @@ pub pause_done : (told : Type 0) (d : Doubted) (p s : List ℕ) → (step d.worl
 pause_done told d p s is =
     let v : World = (step d.world (PauseAt (site_number d.world p) (site_number d.world s))).world in
     record {
-      ends = LinksDone (record d { world = v }) (false, refl) refl refl (subst (λ (x : EventSaid). Repeats v 0 x Done) (sym is) refl) (record { world = refl; after = λ i. refl });
+      ends = LinksDone (record d { world = v }) (false, refl) refl refl (subst (λ (x : EventSaid). RepeatsSaid v 0 x Done) (sym is) refl) (record { world = refl; after = λ i. refl });
       counts = tt;
       works = tt;
       calls = tt;
@@ -103,7 +101,7 @@ pub resume_done : (told : Type 0) (d : Doubted) (p s : List ℕ) → (step d.wor
 resume_done told d p s is =
     let v : World = (step d.world (ResumeAt (site_number d.world p) (site_number d.world s))).world in
     record {
-      ends = LinksDone (record d { world = v }) (false, refl) refl refl (subst (λ (x : EventSaid). Repeats v 0 x Done) (sym is) refl) (record { world = refl; after = λ i. refl });
+      ends = LinksDone (record d { world = v }) (false, refl) refl refl (subst (λ (x : EventSaid). RepeatsSaid v 0 x Done) (sym is) refl) (record { world = refl; after = λ i. refl });
       counts = tt;
       works = tt;
       calls = tt;
@@ -114,7 +112,7 @@ pub tick_done : (told : Type 0) (d : Doubted) (p s : List ℕ) → (step d.world
 tick_done told d p s is =
     let v : World = (step d.world (TickAt (site_number d.world p) (site_number d.world s))).world in
     record {
-      ends = LinksDone (record d { world = v }) (false, refl) refl refl (subst (λ (x : EventSaid). Repeats v 0 x Done) (sym is) refl) (record { world = refl; after = λ i. refl });
+      ends = LinksDone (record d { world = v }) (false, refl) refl refl (subst (λ (x : EventSaid). RepeatsSaid v 0 x Done) (sym is) refl) (record { world = refl; after = λ i. refl });
       counts = tt;
       works = tt;
       calls = tt;
@@ -124,10 +122,10 @@ pub listed : (d : Doubted) → LinksFit d → AreListed d.world
 listed d fits = all_listed d.world (λ p. (fits.rows p).places)
 
 -- what is said of a wait is its reply
-repeated : (v : World) (number : ℕ) (x : EventSaid) → (x ≡ IsDoneAt number) ⊎ (x ≡ IsPending number) → Repeats v 0 x (reply_of x)
+repeated : (v : World) (number : ℕ) (x : EventSaid) → (x ≡ IsDoneAt number) ⊎ (x ≡ IsPending number) → RepeatsSaid v 0 x (reply_of x)
 repeated v number x one = ⊎_elim
-    (λ (is : x ≡ IsDoneAt number). subst (λ (y : EventSaid). Repeats v 0 y (reply_of y)) (sym is) refl)
-    (λ (is : x ≡ IsPending number). subst (λ (y : EventSaid). Repeats v 0 y (reply_of y)) (sym is) refl) one
+    (λ (is : x ≡ IsDoneAt number). subst (λ (y : EventSaid). RepeatsSaid v 0 y (reply_of y)) (sym is) refl)
+    (λ (is : x ≡ IsPending number). subst (λ (y : EventSaid). RepeatsSaid v 0 y (reply_of y)) (sym is) refl) one
 
 pub wait_done : (told : Type 0) (files : Bool) (d : Doubted) (p : List ℕ) (number : ℕ) → AreListed d.world → refused_by d.world files (Wait p number) ≡ None
     → IsDone told d (Wait p number) [] (reply_of (step d.world (WaitAt (site_number d.world p) number)).said) (record d { world = (step d.world (WaitAt (site_number d.world p) number)).world })
@@ -154,8 +152,8 @@ module _ {R : Type 0} {g : Ghosts R} where
     eight = agree.eight;
     few = omega (arith, agree.few, left.sites);
     sites = λ s e inside is.
-        subst (λ (b : Beside). StandsAt b (v.nodes s) e) (sym (beside_kept d v s left))
-        (subst (λ (n : Node). StandsAt (beside_of d s) n e) (sym (left.nodes s)) (agree.sites s e (omega (arith, inside, left.sites)) is));
+        subst (λ (b : KeptBeside). SiteStands b (v.nodes s) e) (sym (beside_kept d v s left))
+        (subst (λ (n : Node). SiteStands (beside_of d s) n e) (sym (left.nodes s)) (agree.sites s e (omega (arith, inside, left.sites)) is));
     others = λ s e past is. agree.others s e (omega (arith, past, left.sites)) is;
   }
 
@@ -208,7 +206,7 @@ module _ {R : Type 0} {g : Ghosts R} where
   }
 
   rose_kept : (old new : Yard R g) → Relinks old new → RoseAll [] (count_of old) (count_of new)
-  rose_kept old new relinks = subst (λ es. RoseAll [] (count_of old) (faults_of es)) (sym (relinked_disks old new relinks)) (rose_none (count_of old) (count_of old) (λ s u. omega arith))
+  rose_kept old new relinks = subst (λ es. RoseAll [] (count_of old) (site_faults es)) (sym (relinked_disks old new relinks)) (rose_none (count_of old) (count_of old) (λ s u. omega arith))
 
   -- a line that changes links in memory, and may have sent something
   pub brings_by : (d : Doubted) (v : World) (line : ScriptLine) (said : Said) (old new : Yard R g) (more : List Packet) → StandsFor d old → Carries d old → LeavesDisks d.world v
@@ -248,8 +246,8 @@ module _ {R : Type 0} {g : Ghosts R} where
 
   -- the session and the last durable write of the site that may greet
   pub tells : (d : Doubted) (y : Yard R g) (name : List ℕ) (s session stored : ℕ) (e f : DiskSet R g) → StandsFor d y → seat_of y.facts.items name ≡ Some s → slice_get y.disk_sets.items s ≡ Some e
-      → slice_get y.disk_sets.items s ≡ Some f → ((beside : Beside) (n : Node) → StandsAt beside n e → n.state ≡ Up → session ≡ n.session)
-      → ((beside : Beside) (n : Node) → StandsAt beside n f → n.state ≡ Up → n.halted ≡ None → stored ≡ n.safe) → Tells (d.world.nodes (site_number d.world name)) session stored
+      → slice_get y.disk_sets.items s ≡ Some f → ((beside : KeptBeside) (n : Node) → SiteStands beside n e → n.state ≡ Up → session ≡ n.session)
+      → ((beside : KeptBeside) (n : Node) → SiteStands beside n f → n.state ≡ Up → n.halted ≡ None → stored ≡ n.safe) → Tells (d.world.nodes (site_number d.world name)) session stored
   tells d y name s session stored e f stands is there too session_is stored_is =
       let at = site_at d y name s stands is in
       let here = stands.disk_sets.sites s e at.below there in
@@ -261,7 +259,7 @@ module _ {R : Type 0} {g : Ghosts R} where
 
   -- ---- the lines
 
-  pub connect_brings : (d : Doubted) (old new : Yard R g) (p s : List ℕ) (fs : List SiteFacts) → StandsFor d old → Carries d old → ComesTo d.world (ConnectAt (site_number d.world p) (site_number d.world s)) fs new.flight
+  pub connect_brings : (d : Doubted) (old new : Yard R g) (p s : List ℕ) (fs : List SiteFacts) → StandsFor d old → Carries d old → ComesBehind d.world (ConnectAt (site_number d.world p) (site_number d.world s)) fs new.flight
       → new.facts.items ≡ fs → Relinks old new → Leads d (Connect p s) Done old new
   connect_brings d old new p s fs stands carries comes facts relinks =
       let a : ℕ = site_number d.world p in
@@ -270,7 +268,7 @@ module _ {R : Type 0} {g : Ghosts R} where
       brings_by d (step d.world (ConnectAt a b)).world (Connect p s) Done old new sends.0 stands carries (connect_leaves d.world a b) sends.1 (fit_happened d (ConnectAt a b) false stands.links)
       (connect_done (IsTold new) d p s comes.said) relinks (facts ∙ comes.stands.facts) comes.stands.flight
 
-  pub cut_brings : (d : Doubted) (old new : Yard R g) (p s : List ℕ) (fs : List SiteFacts) → StandsFor d old → Carries d old → ComesTo d.world (CutAt (site_number d.world p) (site_number d.world s)) fs new.flight
+  pub cut_brings : (d : Doubted) (old new : Yard R g) (p s : List ℕ) (fs : List SiteFacts) → StandsFor d old → Carries d old → ComesBehind d.world (CutAt (site_number d.world p) (site_number d.world s)) fs new.flight
       → new.facts.items ≡ fs → Relinks old new → Leads d (Cut p s) Done old new
   cut_brings d old new p s fs stands carries comes facts relinks =
       let a : ℕ = site_number d.world p in
@@ -278,7 +276,7 @@ module _ {R : Type 0} {g : Ghosts R} where
       brings_by d (step d.world (CutAt a b)).world (Cut p s) Done old new [] stands carries (cut_leaves d.world a b) (cut_sends d.world a b ∙ sym (append-nil d.world.packets))
       (fit_happened d (CutAt a b) false stands.links) (cut_done (IsTold new) d p s comes.said) relinks (facts ∙ comes.stands.facts) comes.stands.flight
 
-  pub pause_brings : (d : Doubted) (old new : Yard R g) (p s : List ℕ) (fs : List SiteFacts) → StandsFor d old → Carries d old → ComesTo d.world (PauseAt (site_number d.world p) (site_number d.world s)) fs new.flight
+  pub pause_brings : (d : Doubted) (old new : Yard R g) (p s : List ℕ) (fs : List SiteFacts) → StandsFor d old → Carries d old → ComesBehind d.world (PauseAt (site_number d.world p) (site_number d.world s)) fs new.flight
       → new.facts.items ≡ fs → Relinks old new → Leads d (Pause p s) Done old new
   pause_brings d old new p s fs stands carries comes facts relinks =
       let a : ℕ = site_number d.world p in
@@ -286,7 +284,7 @@ module _ {R : Type 0} {g : Ghosts R} where
       brings_by d (step d.world (PauseAt a b)).world (Pause p s) Done old new [] stands carries (pause_leaves d.world a b) (pause_sends d.world a b ∙ sym (append-nil d.world.packets))
       (fit_happened d (PauseAt a b) false stands.links) (pause_done (IsTold new) d p s comes.said) relinks (facts ∙ comes.stands.facts) comes.stands.flight
 
-  pub resume_brings : (d : Doubted) (old new : Yard R g) (p s : List ℕ) (fs : List SiteFacts) → StandsFor d old → Carries d old → ComesTo d.world (ResumeAt (site_number d.world p) (site_number d.world s)) fs new.flight
+  pub resume_brings : (d : Doubted) (old new : Yard R g) (p s : List ℕ) (fs : List SiteFacts) → StandsFor d old → Carries d old → ComesBehind d.world (ResumeAt (site_number d.world p) (site_number d.world s)) fs new.flight
       → new.facts.items ≡ fs → Relinks old new → Leads d (Resume p s) Done old new
   resume_brings d old new p s fs stands carries comes facts relinks =
       let a : ℕ = site_number d.world p in
@@ -294,7 +292,7 @@ module _ {R : Type 0} {g : Ghosts R} where
       brings_by d (step d.world (ResumeAt a b)).world (Resume p s) Done old new [] stands carries (resume_leaves d.world a b) (resume_sends d.world a b ∙ sym (append-nil d.world.packets))
       (fit_happened d (ResumeAt a b) false stands.links) (resume_done (IsTold new) d p s comes.said) relinks (facts ∙ comes.stands.facts) comes.stands.flight
 
-  pub tick_brings : (d : Doubted) (old new : Yard R g) (p s : List ℕ) (fs : List SiteFacts) → StandsFor d old → Carries d old → ComesTo d.world (TickAt (site_number d.world p) (site_number d.world s)) fs new.flight
+  pub tick_brings : (d : Doubted) (old new : Yard R g) (p s : List ℕ) (fs : List SiteFacts) → StandsFor d old → Carries d old → ComesBehind d.world (TickAt (site_number d.world p) (site_number d.world s)) fs new.flight
       → new.facts.items ≡ fs → Relinks old new → Leads d (Tick p s) Done old new
   tick_brings d old new p s fs stands carries comes facts relinks =
       let a : ℕ = site_number d.world p in
@@ -316,11 +314,4 @@ module _ {R : Type 0} {g : Ghosts R} where
 
   -- no test of the line refuses it, as the world sees it
   pub wait_free : (d : Doubted) (y : Yard R g) (p : List ℕ) (number : ℕ) → StandsFor d y → IsFree y (Wait p number) → refused_by d.world (in_files y) (Wait p number) ≡ None
-  wait_free d y p number stands free = subst (λ (fs : List SiteFacts). refusal_of fs (in_files y) (Wait p number) ≡ None) stands.facts free
-
-  -- no line on links has a word on calls
-  pub links_called : (w : World) (line : ScriptLine) (said : Said) (old new : Yard R g) → is_on_links line ≡ true → HasCalled w line said old new
-  links_called w (WriteLine site volume block count fill) said old new is = absurd (let e : false ≡ true = is in cc)
-  links_called w (PutLine site volume block bytes) said old new is = absurd (let e : false ≡ true = is in cc)
-  links_called w (ApplyLine site count) said old new is = absurd (let e : false ≡ true = is in cc)
-  links_called w other said old new is = tt
+  wait_free d y p number stands free = subst (λ (fs : List SiteFacts). line_refusal fs (in_files y) (Wait p number) ≡ None) stands.facts free

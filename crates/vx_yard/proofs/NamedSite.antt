@@ -18,7 +18,7 @@ use Rattle.vx_model.specs.declared.errors.OutOfMemory.{OutOfMemory}
 use Rattle.vx_script.specs.declared.line.ScriptLine.{ScriptLine}
 use Rattle.vx_events.specs.declared.said.Said.{Said}
 use Rattle.vx_yard.specs.Standing.{LeadsIs, SitesAgree, StandsFor, StaysFor}
-use Rattle.vx_yard.specs.Stands.{AreTold, RoseAll, faults_of}
+use Rattle.vx_yard.specs.Stands.{AreTold, RoseAll, site_faults}
 use Rattle.std.specs.Vec.{vec_capacity}
 use Rattle.vx_yard.specs.Yards.{count_of}
 use Rattle.vx_yard.proofs.Carrying.{SameLoad, carries_same}
@@ -88,7 +88,7 @@ module _ {R : Type 0} {g : Ghosts R} where
       room = omega (arith, stands.room, ap (λ rs. vec_capacity rs) racks);
     };
     carries = carries_same d y new load (λ told. subst (λ es. AreTold es) sets told);
-    rose = subst (λ es. RoseAll [] (count_of y) (faults_of es)) (sym sets) (rose_none (count_of y) (count_of y) (λ s u. omega arith));
+    rose = subst (λ es. RoseAll [] (count_of y) (site_faults es)) (sym sets) (rose_none (count_of y) (count_of y) (λ s u. omega arith));
   })
     where
       sets : new.disk_sets.items ≡ y.disk_sets.items

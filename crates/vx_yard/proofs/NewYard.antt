@@ -11,7 +11,7 @@ use Rattle.vx_events.specs.Doubts.{sure}
 use Rattle.vx_yard.specs.Standing.{SitesAgree, StandsFor}
 use Rattle.vx_yard.specs.declared.yard.Yard.{Yard}
 use Rattle.vx_yard.specs.Holds.{AreFresh, rack_faults}
-use Rattle.vx_yard.specs.Stands.{faults_of}
+use Rattle.vx_yard.specs.Stands.{site_faults}
 use Rattle.vx_diskset.specs.Stands.{IsUnused}
 use Rattle.vx_diskset.proofs.StaysUp.{not_true}
 
@@ -19,7 +19,7 @@ length-bare : {A B : Type 0} (f : A → B) (rs : List A) → length (map f rs) �
 length-bare f [] = refl
 length-bare f (r ∷ rs) = ap suc (length-bare f rs)
 
-pub counts_new : {R : Type 0} (g : Ghosts R) (rs : List R) (s d : ℕ) → faults_of {g = g} (map (λ (r : R). let e : DiskSet R g = Bare r in e) rs) s d ≡ rack_faults g.meaning rs s d
+pub counts_new : {R : Type 0} (g : Ghosts R) (rs : List R) (s d : ℕ) → site_faults {g = g} (map (λ (r : R). let e : DiskSet R g = Bare r in e) rs) s d ≡ rack_faults g.meaning rs s d
 counts_new g [] s d = refl
 counts_new g (r ∷ rs) zero d = refl
 counts_new g (r ∷ rs) (suc s) d = counts_new g rs s d

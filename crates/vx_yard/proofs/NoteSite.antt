@@ -4,7 +4,7 @@ use Rattle.std.specs.Prelude.{Option, None}
 use Rattle.vx_history.proofs.Updates.{at_place}
 use Rattle.vx_history.specs.Doubts.{Doubted, crashed_by, resolved_for}
 use Rattle.vx_history.specs.Refusals.{Outcome}
-use Rattle.vx_history.specs.Step.{counted, outcome_of, run, step}
+use Rattle.vx_history.specs.Step.{headers_counted, outcome_of, run, step}
 use Rattle.vx_history.specs.World.{Node, World, with_node}
 use Rattle.vx_history.specs.declared.event.Event.{Event}
 use Rattle.vx_disk.specs.declared.shelf.Shelf.{Ghosts}
@@ -12,7 +12,7 @@ use Rattle.vx_script.specs.declared.line.ScriptLine.{ScriptLine}
 use Rattle.vx_diskset.specs.Asked.{FailsAs, FusedAs}
 use Rattle.vx_diskset.specs.Holds.{beside_of}
 use Rattle.vx_diskset.proofs.Roles.{role_like}
-use Rattle.vx_diskset.specs.Stands.{RoleIs, StandsAt}
+use Rattle.vx_diskset.specs.Stands.{RoleIs, SiteStands}
 use Rattle.vx_diskset.specs.declared.disk_set.DiskSet.{DiskSet}
 use Rattle.vx_events.proofs.Calm.{chosen_world, run_world}
 use Rattle.vx_events.specs.Doubts.{run_as}
@@ -70,13 +70,13 @@ none_left told d line s said v is says leads = AllDone first_choice false refl
 
 -- a line that was done by its one event, which crashes no site
 pub one_left : (told : Type 0) (d : Doubted) (line : ScriptLine) (s : ℕ) (c : Choice) (e : Event) (o : Outcome) (said : Said) (v : World) → events_of d.world line c ≡ e ∷ [] → crashed_by e ≡ None → outcome_of d.world e ≡ o
-    → RepeatsOf told s e (counted d.world e o) said → v ≡ noted s line (counted d.world e o).world → Ends told d line s [] said (record d { world = v })
+    → RepeatsOf told s e (headers_counted d.world e o) said → v ≡ noted s line (headers_counted d.world e o).world → Ends told d line s [] said (record d { world = v })
 one_left told d line s c e o said v is whole at says leads =
-    let here : RepeatsOf told s e (step d.world e) said = subst (λ (p : Outcome). RepeatsOf told s e (counted d.world e p) said) (sym at) says in
+    let here : RepeatsOf told s e (step d.world e) said = subst (λ (p : Outcome). RepeatsOf told s e (headers_counted d.world e p) said) (sym at) says in
     AllDone c false refl
     (subst (λ (es : List Event). Replies told line s false d es said) (sym is) (subst (λ (u : World). RepeatsOf told s e (step u e) said) (sym (chosen_world d e)) here))
     (record {
-      world = leads ∙ ap (λ (p : Outcome). noted s line (counted d.world e p).world) (sym at) ∙ ap (λ (es : List Event). noted s line (run d.world es)) (sym is)
+      world = leads ∙ ap (λ (p : Outcome). noted s line (headers_counted d.world e p).world) (sym at) ∙ ap (λ (es : List Event). noted s line (run d.world es)) (sym is)
           ∙ ap (λ (u : World). noted s line u) (sym (run_world d (events_of d.world line c)));
       after = λ i. ap (λ (k : Option ℕ). (resolved_for k d false).after i) (sym whole) ∙ ap (λ (es : List Event). (run_as false d es).after i) (sym is);
     })
@@ -88,13 +88,13 @@ only_left told d line s e disk is leaves still = DiskFails first_choice false []
 
 module _ {R : Type 0} {g : Ghosts R} where
   -- a site whose node is another, with what it has beside it
-  pub comes_one : (d : Doubted) (s : ℕ) (n : Node) (after : DiskSet R g) → IsNoted (d.world.nodes s) n → LinksFit d → StandsAt (beside_of d s) n after → FailsAs n after → FusedAs n after → RoleIs (d.world.nodes s) after → Comes d (with_one d s n) s after
+  pub comes_one : (d : Doubted) (s : ℕ) (n : Node) (after : DiskSet R g) → IsNoted (d.world.nodes s) n → LinksFit d → SiteStands (beside_of d s) n after → FailsAs n after → FusedAs n after → RoleIs (d.world.nodes s) after → Comes d (with_one d s n) s after
   comes_one d s n after noted fits stands failing fuse role =
       let here : n ≡ (with_one d s n).world.nodes s = sym (at_place d.world.nodes s n) in
       record {
         changes = changes_one d s n;
         links = fits_one d s n noted fits;
-        stands = subst (λ (m : Node). StandsAt (beside_of d s) m after) here stands;
+        stands = subst (λ (m : Node). SiteStands (beside_of d s) m after) here stands;
         failing = subst (λ (m : Node). FailsAs m after) here failing;
         fuse = subst (λ (m : Node). FusedAs m after) here fuse;
         role = subst (λ (m : Node). RoleIs m after) here (role_like (d.world.nodes s) n after (ap (λ (m : Node). is_origin m.role) noted) role);
@@ -110,7 +110,7 @@ module _ {R : Type 0} {g : Ghosts R} where
       }
 
   -- a site of which nothing is noted
-  pub comes_same : (d : Doubted) (s : ℕ) (after : DiskSet R g) → LinksFit d → StandsAt (beside_of d s) (d.world.nodes s) after → FailsAs (d.world.nodes s) after → FusedAs (d.world.nodes s) after → RoleIs (d.world.nodes s) after → Comes d d s after
+  pub comes_same : (d : Doubted) (s : ℕ) (after : DiskSet R g) → LinksFit d → SiteStands (beside_of d s) (d.world.nodes s) after → FailsAs (d.world.nodes s) after → FusedAs (d.world.nodes s) after → RoleIs (d.world.nodes s) after → Comes d d s after
   comes_same d s after fits stands failing fuse role = record {
     changes = record { sites = refl; nodes = λ i apart. refl; links = λ i k apart. refl; headers = λ i apart. refl; after = λ i apart. refl; gathering = λ i apart. refl };
     links = fits;

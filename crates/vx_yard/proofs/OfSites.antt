@@ -7,7 +7,7 @@ use Rattle.vx_disk.specs.Disks.{Disks}
 use Rattle.vx_disk.specs.declared.shelf.Shelf.{Ghosts}
 use Rattle.vx_events.proofs.Places.{some_same}
 use Rattle.vx_events.specs.declared.said.Said.{Said}
-use Rattle.vx_diskset.specs.Asked.{SameFailing, LeavesFuse, WritesUnder, disks_in, size_in}
+use Rattle.vx_diskset.specs.Asked.{SameFailing, LeavesFuse, WritesUnder, disks_told, size_in}
 use Rattle.vx_yard.specs.OfSites.{AllSameFailing, OfSite}
 use Rattle.vx_diskset.specs.Burning.{Burnt, IsLogged}
 use Rattle.vx_diskset.specs.declared.disk_set.DiskSet.{DiskSet}
@@ -24,7 +24,7 @@ module _ {R : Type 0} {g : Ghosts R} where
     after = of.after;
     there = of.there;
     disk_sets = of.disk_sets;
-    did = record { told = same_on (Burnt P said (size_in of.before)) (disks_in of.before) (disks_in of.after) of.did.told };
+    did = record { told = same_on (Burnt P said (size_in of.before)) (disks_told of.before) (disks_told of.after) of.did.told };
   }
 
   -- a write

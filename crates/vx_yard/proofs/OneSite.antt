@@ -11,8 +11,8 @@ use Rattle.vx_disk.specs.declared.shelf.Shelf.{Ghosts}
 use Rattle.vx_order.specs.declared.facts.SiteFacts.{SiteFacts}
 use Rattle.vx_diskset.specs.Asked.{FailsAs, FusedAs}
 use Rattle.vx_diskset.specs.DiskSets.{Later, RoseAt}
-use Rattle.vx_diskset.specs.Holds.{Beside, Kept, beside_of, doubt_of, row_links}
-use Rattle.vx_diskset.specs.Stands.{KeepsRole, RoleIs, StandsAt}
+use Rattle.vx_diskset.specs.Holds.{KeptBeside, KeptSite, beside_of, doubt_of, row_links}
+use Rattle.vx_diskset.specs.Stands.{KeepsRole, RoleIs, SiteStands}
 use Rattle.vx_diskset.specs.declared.disk_set.DiskSet.{DiskSet}
 use Rattle.vx_diskset.specs.declared.disk_set.DiskSet.TheVariants.{Bare, Spoiled, Up, Receives, Down, Gone}
 use Rattle.vx_model.specs.declared.site.SiteState.TheVariants.{Up as IsUp}
@@ -22,7 +22,7 @@ use Rattle.vx_events.specs.LinkedFacts.{linked_fact, linked_facts}
 use Rattle.vx_events.specs.LinksFit.{LinksFit}
 use Rattle.vx_events.proofs.Places.{some_same}
 use Rattle.vx_events.proofs.Values.{slice_get-values_from}
-use Rattle.vx_yard.specs.Stands.{AreTold, RoseAll, faults_of}
+use Rattle.vx_yard.specs.Stands.{AreTold, RoseAll, site_faults}
 use Rattle.vx_yard.specs.Standing.{IsSameSite, SitesAgree, StandsFor}
 use Rattle.vx_yard.specs.Yards.{IsTold, count_of}
 use Rattle.vx_yard.specs.declared.yard.Yard.{Yard}
@@ -35,16 +35,16 @@ use Rattle.vx_yard.proofs.Rows.{fact_same, row_links_same}
 pub doubt_same : (w v : World) (i : ℕ) → v.sites ≡ w.sites → v.headers i ≡ w.headers i → (o : Option After) → doubt_of v i o ≡ doubt_of w i o
 doubt_same w v i sites headers None = refl
 doubt_same w v i sites headers (Some a) =
-    ap (λ (k : ℕ). Some (let x : Kept = record { node = a.node; links = row_links a.row k; headers = v.headers i } in x)) sites
-    ∙ ap (λ (k : ℕ). Some (let x : Kept = record { node = a.node; links = row_links a.row w.sites; headers = k } in x)) headers
+    ap (λ (k : ℕ). Some (let x : KeptSite = record { node = a.node; links = row_links a.row k; headers = v.headers i } in x)) sites
+    ∙ ap (λ (k : ℕ). Some (let x : KeptSite = record { node = a.node; links = row_links a.row w.sites; headers = k } in x)) headers
 
 -- what the world has of a site beside its node
 pub beside_same : (d e : Doubted) (i : ℕ) → e.world.sites ≡ d.world.sites → ((k : ℕ) → e.world.links i k ≡ d.world.links i k) → e.world.headers i ≡ d.world.headers i → e.after i ≡ d.after i → beside_of e i ≡ beside_of d i
 beside_same d e i sites links headers after =
-    ap (λ (ls : List KeptLink). let b : Beside = record { links = ls; headers = e.world.headers i; doubt = doubt_of e.world i (e.after i) } in b)
+    ap (λ (ls : List KeptLink). let b : KeptBeside = record { links = ls; headers = e.world.headers i; doubt = doubt_of e.world i (e.after i) } in b)
     (ap (λ (k : ℕ). row_links (e.world.links i) k) sites ∙ row_links_same (d.world.links i) (e.world.links i) links d.world.sites)
-    ∙ ap (λ (k : ℕ). let b : Beside = record { links = row_links (d.world.links i) d.world.sites; headers = k; doubt = doubt_of e.world i (e.after i) } in b) headers
-    ∙ ap (λ (o : Option Kept). let b : Beside = record { links = row_links (d.world.links i) d.world.sites; headers = d.world.headers i; doubt = o } in b)
+    ∙ ap (λ (k : ℕ). let b : KeptBeside = record { links = row_links (d.world.links i) d.world.sites; headers = k; doubt = doubt_of e.world i (e.after i) } in b) headers
+    ∙ ap (λ (o : Option KeptSite). let b : KeptBeside = record { links = row_links (d.world.links i) d.world.sites; headers = d.world.headers i; doubt = o } in b)
     (ap (λ (o : Option After). doubt_of e.world i o) after ∙ doubt_same d.world e.world i sites headers (d.after i))
 
 pub facts_set : (d e : Doubted) (s : ℕ) → ChangesNode s d e → linked_facts e.world ≡ slice_set (linked_facts d.world) s (linked_fact e.world s)
@@ -61,7 +61,7 @@ module _ {R : Type 0} {g : Ghosts R} where
   pub record Comes (d e : Doubted) (s : ℕ) (after : DiskSet R g) : Type 1 where
     pub changes : ChangesNode s d e
     pub links : LinksFit e
-    pub stands : StandsAt (beside_of e s) (e.world.nodes s) after
+    pub stands : SiteStands (beside_of e s) (e.world.nodes s) after
     pub failing : FailsAs (e.world.nodes s) after
     pub fuse : FusedAs (e.world.nodes s) after
     pub role : RoleIs (e.world.nodes s) after
@@ -83,7 +83,7 @@ module _ {R : Type 0} {g : Ghosts R} where
   role_kept d y s before after stands below there keeps = keeps.kept (d.world.nodes s) (stands.roles.each s before below there)
 
   -- a site that is not up has no group
-  pub role_off : (beside : Beside) (n k : Node) (e : DiskSet R g) → StandsAt beside n e → (n.state ≡ IsUp → ⊥) → RoleIs k e
+  pub role_off : (beside : KeptBeside) (n k : Node) (e : DiskSet R g) → SiteStands beside n e → (n.state ≡ IsUp → ⊥) → RoleIs k e
   role_off beside n k (Bare rack) stands off = tt
   role_off beside n k (Spoiled rack) stands off = tt
   role_off beside n k (Up rvg) stands off = absurd (off stands.state)
@@ -106,11 +106,11 @@ module _ {R : Type 0} {g : Ghosts R} where
     eight = length-set es s after ∙ agree.eight;
     few = omega (arith, agree.few, comes.changes.sites);
     sites = λ i x inside is.
-        at_set (λ j y. StandsAt (beside_of e j) (e.world.nodes j) y) es s after (omega (arith, below, agree.few, agree.eight)) comes.stands i x is
+        at_set (λ j y. SiteStands (beside_of e j) (e.world.nodes j) y) es s after (omega (arith, below, agree.few, agree.eight)) comes.stands i x is
         (λ apart was.
-        subst (λ (b : Beside). StandsAt b (e.world.nodes i) x)
+        subst (λ (b : KeptBeside). SiteStands b (e.world.nodes i) x)
         (sym (beside_same d e i comes.changes.sites (λ k. comes.changes.links i k apart) (comes.changes.headers i apart) (comes.changes.after i apart)))
-        (subst (λ (n : Node). StandsAt (beside_of d i) n x) (sym (comes.changes.nodes i apart)) (agree.sites i x (omega (arith, inside, comes.changes.sites)) was)));
+        (subst (λ (n : Node). SiteStands (beside_of d i) n x) (sym (comes.changes.nodes i apart)) (agree.sites i x (omega (arith, inside, comes.changes.sites)) was)));
     others = λ i x past is. agree.others i x (omega (arith, past, comes.changes.sites)) (sym (get-set_other es s i after (λ same. omega (arith, past, below, same, comes.changes.sites))) ∙ is);
   }
 
@@ -161,6 +161,6 @@ module _ {R : Type 0} {g : Ghosts R} where
   -- one call failed, on a disk of the site
   pub rose_at : (old new : Yard R g) (s disk : ℕ) (before after : DiskSet R g) → Changed old new s before after → RoseAt before after disk → RoseAll ((s, disk) ∷ []) (count_of old) (count_of new)
   rose_at old new s disk before after changed rose =
-      subst (λ es. RoseAll ((s, disk) ∷ []) (count_of old) (faults_of es)) (sym changed.disk_sets)
-      (rose_one s disk (count_of old) (faults_of (slice_set old.disk_sets.items s after)) (λ i u. counts_later old.disk_sets.items s before after changed.there changed.later i u)
+      subst (λ es. RoseAll ((s, disk) ∷ []) (count_of old) (site_faults es)) (sym changed.disk_sets)
+      (rose_one s disk (count_of old) (site_faults (slice_set old.disk_sets.items s after)) (λ i u. counts_later old.disk_sets.items s before after changed.there changed.later i u)
       (counts_rose old.disk_sets.items s disk before after changed.there rose))

@@ -1,5 +1,6 @@
 -- What the tests of a line look at, as events change it.
-use Rattle.std.specs.Prelude.{ℕ, ◌+◌, List, [], ◌∷◌, Option, Some, None}
+use Rattle.std.specs.Prelude.{ℕ, false, ◌+◌, List, [], ◌∷◌, Option, Some, None}
+use Rattle.vx_effects.specs.Facts.{halted_group, last_group}
 use Rattle.vx_model.specs.Sites.{first_line}
 use Rattle.vx_model.specs.Sizes.{ring_of}
 use Rattle.vx_model.specs.Sites.{no_line}
@@ -13,11 +14,11 @@ use Rattle.vx_order.specs.declared.facts.VolumeFacts.{VolumeFacts}
 use Rattle.vx_order.specs.declared.facts.VolumeKind.TheVariants.{Data}
 
 abbrev pub bare_facts : List ℕ → ℕ → ℕ → SiteFacts
-bare_facts name disks blocks = record { name = name; state = Bare; disks = disks; blocks = blocks; volumes = []; rvg = None; links = [] }
+bare_facts name disks blocks = record { name = name; state = Bare; disks = disks; blocks = blocks; grouped = false; volumes = []; rvg = None; links = [] }
 
 -- volume k + 1 of a raw set: `d` and a digit
 abbrev pub raw_volume_fact : ℕ → ℕ → VolumeFacts
-raw_volume_fact k blocks = record { name = 100 ∷ (49 + k) ∷ []; blocks = blocks; kind = Data }
+raw_volume_fact k blocks = record { name = 100 ∷ (49 + k) ∷ []; blocks = blocks; kind = Data; plexes = 0 }
 
 abbrev pub first_group : ℕ → ℕ → RvgFacts
 first_group site blocks = record {
@@ -34,16 +35,8 @@ first_group site blocks = record {
 abbrev pub raw_facts : ℕ → List VolumeFacts → SiteFacts → SiteFacts
 raw_facts site volumes f = record f { state = Up; volumes = volumes; rvg = Some (first_group site f.blocks) }
 
-abbrev pub last_group : ℕ → Option RvgFacts → Option RvgFacts
-last_group number None = None
-last_group number (Some rvg) = Some (record rvg { last = number })
-
 abbrev pub last_facts : ℕ → SiteFacts → SiteFacts
 last_facts number f = record f { rvg = last_group number f.rvg }
-
-abbrev pub halted_group : ℕ → Option RvgFacts → Option RvgFacts
-halted_group disk None = None
-halted_group disk (Some rvg) = Some (record rvg { halted = Some disk })
 
 abbrev pub halted_facts : ℕ → SiteFacts → SiteFacts
 halted_facts disk f = record f { rvg = halted_group disk f.rvg }

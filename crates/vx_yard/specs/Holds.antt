@@ -3,13 +3,13 @@ use Rattle.std.specs.Prelude.{◌≡◌, ℕ, ◌<◌, List, length, None, Optio
 use Rattle.vx_model.specs.declared.limits.TheConstants.{MOST_SITES}
 use Rattle.vx_history.specs.Doubts.{Doubted}
 use Rattle.vx_disk.specs.Shelf.{Meaning}
-use Rattle.vx_diskset.specs.Holds.{Holds, beside_of}
+use Rattle.vx_diskset.specs.Holds.{HoldsSite, beside_of}
 
 module _ {R : Type 0} (meaning : R → Meaning) where
   -- the rack of each site holds it, with what the world has of it beside its node
   pub record RacksHold (d : Doubted) (racks : List R) : Type 0 where
     pub eight : length racks ≡ MOST_SITES
-    pub each : (s : ℕ) (r : R) → s < d.world.sites → slice_get racks s ≡ Some r → Holds (beside_of d s) (d.world.nodes s) (meaning r)
+    pub each : (s : ℕ) (r : R) → s < d.world.sites → slice_get racks s ≡ Some r → HoldsSite (beside_of d s) (d.world.nodes s) (meaning r)
 
   -- the contents of each rack are told
   pub record RacksTell (racks : List R) : Type 0 where

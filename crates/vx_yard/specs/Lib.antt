@@ -1,3 +1,4 @@
+pub mod BothSites
 pub mod Carries
 pub mod Changes
 pub mod Deliveries

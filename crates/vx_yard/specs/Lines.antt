@@ -7,9 +7,9 @@ use Rattle.vx_model.specs.declared.link.Prot.{Prot}
 use Rattle.vx_model.specs.declared.link.Prot.TheVariants.{Fail}
 
 -- whether a full log fails writes
-abbrev pub is_fail : Prot → Bool
-is_fail Fail = true
-is_fail _ = false
+abbrev pub is_fail_prot : Prot → Bool
+is_fail_prot Fail = true
+is_fail_prot _ = false
 
 -- whether lines of this kind are built: those that make a link, or give it a setting, only where a full log fails writes
 abbrev pub is_built : ScriptLine → Bool
@@ -25,8 +25,8 @@ is_built (Read _ _ _ _) = true
 is_built (Show _ _ _ _) = true
 is_built (Apply _ _) = true
 is_built (Status _) = true
-is_built (Link _ _ _ prot) = is_fail prot
-is_built (Set _ _ _ prot) = is_fail prot
+is_built (Link _ _ _ prot) = is_fail_prot prot
+is_built (Set _ _ _ prot) = is_fail_prot prot
 is_built (Connect _ _) = true
 is_built (Cut _ _) = true
 is_built (Pause _ _) = true

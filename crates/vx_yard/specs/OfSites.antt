@@ -1,6 +1,7 @@
 -- What a line asks of the rack of its site, and of no other.
-use Rattle.std.specs.Prelude.{◌≡◌, ℕ, ◌*◌, replicate, Some, slice_get, slice_set}
-use Rattle.vx_history.specs.World.{World}
+use Rattle.std.specs.Prelude.{◌≡◌, ℕ, ◌*◌, ◌<◌, ◌≤◌, replicate, Option, None, Some, slice_get, slice_set}
+use Rattle.vx_history.specs.Events.{delivered, packet_at}
+use Rattle.vx_history.specs.World.{Message, Packet, Update, World}
 use Rattle.vx_disk.specs.declared.shelf.Shelf.{Ghosts}
 use Rattle.vx_script.specs.declared.line.ScriptLine.{ScriptLine}
 use Rattle.vx_script.specs.declared.line.ScriptLine.TheVariants.{Site, Raw, Disk, Crash, Fuse, Recover, Write, Put, Read, Show, Apply, Status, Link, Set, Connect, Cut, Pause, Resume, Pump, Tick, Wait, Deliver, Settle}
@@ -9,8 +10,13 @@ use Rattle.vx_events.specs.Facts.{site_number}
 use Rattle.vx_events.specs.Failing.{is_failing}
 use Rattle.vx_diskset.specs.declared.disk_set.DiskSet.{DiskSet}
 use Rattle.vx_yard.specs.declared.yard.Yard.{Yard}
-use Rattle.vx_diskset.specs.Asked.{SetsDisk, SetsFuse, CrashesBy, SameFailing, LeavesAlone, LeavesFuse, WritesUnder}
+use Rattle.vx_yard.specs.BothSites.{BothSites, LinkBurns, SettleBurns}
+use Rattle.vx_diskset.specs.Asked.{SetsDisk, SetsFuse, CrashesBy, SameFailing, HeadUnder, LeavesAlone, LeavesFuse, WritesUnder, stored_calls}
 use Rattle.vx_diskset.specs.Burning.{NoMore}
+
+-- the calls of a packet that a site hears of another one: those of a header where its link comes to count more as stored
+abbrev pub heard_calls : World → (number site source : ℕ) → ℕ
+heard_calls w number site source = stored_calls (w.links site source).stored ((delivered w number (packet_at w.packets number)).world.links site source).stored
 
 module _ {R : Type 0} {g : Ghosts R} where
   -- the disk set of this site did so, and no other changed
@@ -56,9 +62,32 @@ module _ {R : Type 0} {g : Ghosts R} where
   AsSettled (Settle p s) old new = AllSameFailing old new
   AsSettled other old new = Unit {0}
 
+  -- no block, no fuse and no disk that is made to fail changed, and so the answer is not 6
+  abbrev pub TouchesNone : Said → DiskSet R g → DiskSet R g → Type 0
+  TouchesNone said old new = LeavesAlone old new × LeavesFuse NoMore said old new
+
+  -- what the calls on the disks of its target make of them, by its message: an update waits in memory
+  abbrev pub HandedCalls : World → (number : ℕ) → Packet → Message → Said → Yard R g → Yard R g → Type 0
+  HandedCalls w number p (Update k x) said old new = OfSite (TouchesNone said) p.target old new
+  HandedCalls w number p other said old new = OfSite (HeadUnder (heard_calls w number p.target p.source) said) p.target old new
+
+  -- a packet that goes to no site touches no disk
+  pub record PacketCalls (w : World) (number : ℕ) (p : Packet) (said : Said) (old new : Yard R g) : Type 0 where
+    pub none : w.sites ≤ p.target → new.disk_sets.items ≡ old.disk_sets.items
+    pub some : p.target < w.sites → HandedCalls w number p p.message said old new
+
+  abbrev pub DeliverCalls : World → (number : ℕ) → Option Packet → Said → Yard R g → Yard R g → Type 0
+  DeliverCalls w number None said old new = new.disk_sets.items ≡ old.disk_sets.items
+  DeliverCalls w number (Some p) said old new = PacketCalls w number p said old new
+
   -- What the calls of a line that was answered so leave of the fuse of its site.
   abbrev pub HasCalled : World → ScriptLine → Said → Yard R g → Yard R g → Type 0
   HasCalled w (Write site volume block count fill) said old new = OfSite (WritesUnder (replicate (512 * count) fill) said) (site_number w site) old new
   HasCalled w (Put site volume block bytes) said old new = OfSite (WritesUnder bytes said) (site_number w site) old new
   HasCalled w (Apply site count) said old new = OfSite (LeavesFuse NoMore said) (site_number w site) old new
+  HasCalled w (Link p s sync prot) said old new = BothSites (LinkBurns said) (site_number w p) (site_number w s) old new
+  HasCalled w (Set p s sync prot) said old new = OfSite (HeadUnder 2 said) (site_number w p) old new
+  HasCalled w (Pump p s) said old new = OfSite (LeavesFuse NoMore said) (site_number w p) old new
+  HasCalled w (Deliver number) said old new = DeliverCalls w number (packet_at w.packets number) said old new
+  HasCalled w (Settle p s) said old new = BothSites (SettleBurns said) (site_number w p) (site_number w s) old new
   HasCalled w other said old new = Unit {0}

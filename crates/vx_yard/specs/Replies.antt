@@ -57,6 +57,6 @@ reply_to (No why) = Ok (Refused why)
 reply_to MemoryStop = Err (record {})
 
 -- the refusal of a call that did not end for want of memory
-abbrev pub no_of : Stop → Option Refusal
-no_of (No why) = Some why
-no_of MemoryStop = None
+abbrev pub refusal_in : Stop → Option Refusal
+refusal_in (No why) = Some why
+refusal_in MemoryStop = None

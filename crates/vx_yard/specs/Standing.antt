@@ -11,13 +11,13 @@ use Rattle.vx_history.specs.World.{Node}
 use Rattle.vx_history.specs.declared.event.Event.TheVariants.{Crash as CrashAt}
 use Rattle.vx_history.specs.declared.event.Said.TheVariants.{Done as IsDone}
 use Rattle.vx_model.specs.declared.site.SiteState.TheVariants.{Down as IsDown}
-use Rattle.vx_events.specs.Doubts.{chosen, with_disks}
+use Rattle.vx_events.specs.Doubts.{doubt_chosen, with_disks}
 use Rattle.vx_disk.specs.declared.shelf.Shelf.{Ghosts}
 use Rattle.std.specs.Io.KnownBytes.{Appends}
 use Rattle.vx_script.specs.declared.line.ScriptLine.{ScriptLine}
 use Rattle.vx_diskset.specs.Asked.{FailsAs, FusedAs}
 use Rattle.vx_diskset.specs.Holds.{beside_of}
-use Rattle.vx_diskset.specs.Stands.{IsUnused, RoleIs, StandsAt}
+use Rattle.vx_diskset.specs.Stands.{IsUnused, RoleIs, SiteStands}
 use Rattle.vx_diskset.specs.declared.disk_set.DiskSet.{DiskSet}
 use Rattle.vx_events.specs.Fails.{Fails}
 use Rattle.vx_events.specs.LinkedFacts.{linked_facts}
@@ -52,7 +52,7 @@ module _ {R : Type 0} {g : Ghosts R} where
   pub record SitesAgree (d : Doubted) (disk_sets : List (DiskSet R g)) : Type 0 where
     pub eight : length disk_sets ≡ MOST_SITES
     pub few : d.world.sites ≤ MOST_SITES
-    pub sites : (s : ℕ) (e : DiskSet R g) → s < d.world.sites → slice_get disk_sets s ≡ Some e → StandsAt (beside_of d s) (d.world.nodes s) e
+    pub sites : (s : ℕ) (e : DiskSet R g) → s < d.world.sites → slice_get disk_sets s ≡ Some e → SiteStands (beside_of d s) (d.world.nodes s) e
     pub others : (s : ℕ) (e : DiskSet R g) → d.world.sites ≤ s → slice_get disk_sets s ≡ Some e → IsUnused e
 
   -- the group of each site has the room in which updates wait, or not, as the role of the site has it
@@ -121,7 +121,7 @@ module _ {R : Type 0} {g : Ghosts R} where
   pub record Falls (d : Doubted) (s : ℕ) (old new : Yard R g) : Type 0 where
     pub count : ℕ
     pub taken : Bool
-    pub said : (step (chosen taken d (CrashAt s count)).world (CrashAt s count)).said ≡ IsDone
+    pub said : (step (doubt_chosen taken d (CrashAt s count)).world (CrashAt s count)).said ≡ IsDone
     pub down : ((crash_of d s count taken).world.nodes s).state ≡ IsDown
     pub blocks : ((crash_of d s count taken).world.nodes s).blocks ≡ (d.world.nodes s).blocks
     pub sites : (crash_of d s count taken).world.sites ≡ d.world.sites

@@ -11,8 +11,8 @@ module _ {R : Type 0} {g : Ghosts R} where
   fault_count (Some disk_set) d = faults_at disk_set d
 
   -- the count of a disk of a site
-  abbrev pub faults_of : List (DiskSet R g) → ℕ → ℕ → ℕ
-  faults_of disk_sets s d = fault_count (slice_get disk_sets s) d
+  abbrev pub site_faults : List (DiskSet R g) → ℕ → ℕ → ℕ
+  site_faults disk_sets s d = fault_count (slice_get disk_sets s) d
 
   pub record AreTold (disk_sets : List (DiskSet R g)) : Type 0 where
     pub each : (s : ℕ) (e : DiskSet R g) → slice_get disk_sets s ≡ Some e → IsToldAt e

@@ -22,5 +22,5 @@ SaidStep told files d (Ok (Some line)) fails text new = Prints told files d line
 SaidStep told files d (Err column) fails text new = ⊥
 
 -- what the bytes of a line do to the world, with the failed calls in it, and the text that answers it
-abbrev pub LineStep : Type 0 → Bool → Doubted → List ℕ → Fails → List ℕ → Doubted → Type 0
-LineStep told files d bytes fails text new = SaidStep told files d (script_line bytes) fails text new
+abbrev pub BytesStep : Type 0 → Bool → Doubted → List ℕ → Fails → List ℕ → Doubted → Type 0
+BytesStep told files d bytes fails text new = SaidStep told files d (script_line bytes) fails text new

@@ -5,7 +5,7 @@ use Rattle.vx_model.specs.declared.site.SiteState.TheVariants.{Bare, Deported}
 use Rattle.vx_order.specs.declared.facts.SiteFacts.{SiteFacts}
 use Rattle.vx_disk.specs.declared.shelf.Shelf.{Ghosts}
 use Rattle.vx_yard.specs.declared.yard.Yard.{Yard}
-use Rattle.vx_yard.specs.Stands.{AreTold, faults_of}
+use Rattle.vx_yard.specs.Stands.{AreTold, site_faults}
 
 -- A site of no more volumes than disks may be, of blocks enough, and in a state that a line may find it in.
 pub record IsShaped (f : SiteFacts) : Type 0 where
@@ -21,14 +21,14 @@ module _ {R : Type 0} {g : Ghosts R} where
 
   -- the count of faults of a disk of a site
   abbrev pub count_of : Yard R g → ℕ → ℕ → ℕ
-  count_of y = faults_of y.disk_sets.items
+  count_of y = site_faults y.disk_sets.items
 
   -- the contents of all its disks are told
   abbrev pub IsTold : Yard R g → Type 0
   IsTold y = AreTold y.disk_sets.items
 
   -- eight disk sets, and no more sites, each of a shape that a site may have; and for each number a message in assembly and the site that feeds it
-  pub record IsKept (y : Yard R g) : Type 0 where
+  pub record IsYardKept (y : Yard R g) : Type 0 where
     pub eight : length y.disk_sets.items ≡ MOST_SITES
     pub few : length y.facts.items ≤ MOST_SITES
     pub each : (s : ℕ) (f : SiteFacts) → slice_get y.facts.items s ≡ Some f → IsShaped f

@@ -18,6 +18,7 @@ pub fn bare(alloc: Global, name: &Name, disks: u32, blocks: u64) -> SiteFacts
         state: SiteState::Bare,
         disks,
         blocks,
+        grouped: false,
         volumes: VolumeTable::new(alloc),
         rvg: None,
         links: LinkTable::new(alloc),
@@ -45,6 +46,7 @@ fn raw_volume(k: u32, blocks: u64) -> VolumeFacts
         name: Name::new(&[b'd', b'1' + k as u8]),
         blocks,
         kind: VolumeKind::Data,
+        plexes: 0,
     }
 }
 

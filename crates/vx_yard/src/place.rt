@@ -3,7 +3,7 @@ ghost use Rattle.std.specs.Prelude.{◌≡◌, ◌<◌, Some, IsSome, length, sl
 ghost use Rattle.vx_model.specs.declared.limits.TheConstants.{MOST_SITES};
 ghost use Rattle.vx_order.specs.declared.facts.SiteFacts.{SiteFacts};
 ghost use Rattle.vx_events.specs.Facts.{seat_of, place_of};
-ghost use Rattle.vx_yard.specs.Yards.{IsKept};
+ghost use Rattle.vx_yard.specs.Yards.{IsYardKept};
 
 use crate::{Yard, facts};
 use vx_disk::Rack;
@@ -22,7 +22,7 @@ pub fn seat(sites: &[SiteFacts], name: &Name) -> Option<usize>
 impl<R: Rack> Yard<R> {
     /// The number of the site that a line names.
     pub fn site_of(&self, name: &Name) -> usize
-        requires kept { IsKept self.now }
+        requires kept { IsYardKept self.now }
         requires named { IsSome (seat_of self.now.facts.items name.now) }
         ensures seat { seat_of self.now.facts.items name.now ≡ Some result }
         ensures fact { result < length self.now.facts.items }
@@ -37,7 +37,7 @@ impl<R: Rack> Yard<R> {
 
     /// The number of the data volume that a line names at this site.
     pub fn volume_of(&self, site: usize, name: &Name) -> usize
-        requires kept { IsKept self.now }
+        requires kept { IsYardKept self.now }
         requires site { site < length self.now.facts.items }
         requires named { (f : SiteFacts) → slice_get self.now.facts.items site ≡ Some f → IsSome (place_of f.volumes name.now) }
         ensures place { (f : SiteFacts) → slice_get self.now.facts.items site ≡ Some f → place_of f.volumes name.now ≡ Some result }

@@ -1,7 +1,7 @@
 // Whether a yard has the shape that a line asks for.
 ghost use Rattle.std.specs.Prelude.{◌≡◌, ℕ, Some, slice_get, true};
 ghost use Rattle.vx_order.specs.declared.facts.SiteFacts.{SiteFacts as SiteValue};
-ghost use Rattle.vx_yard.specs.Yards.{IsKept, IsShaped};
+ghost use Rattle.vx_yard.specs.Yards.{IsYardKept, IsShaped};
 
 use crate::Yard;
 use vx_disk::Rack;
@@ -36,7 +36,7 @@ fn are_shaped(sites: &[SiteFacts]) -> bool
 impl<R: Rack> Yard<R> {
     /// Whether there are as many places as sites may be, and each site has the shape that a site may have.
     pub fn is_whole(&self) -> bool
-        ensures { result ≡ true → IsKept self.now }
+        ensures { result ≡ true → IsYardKept self.now }
     {
         if self.disk_sets.len() != MOST_SITES || self.facts.len() > MOST_SITES {
             return false;

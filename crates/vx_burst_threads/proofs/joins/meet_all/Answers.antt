@@ -15,7 +15,7 @@ loop-worker-init g c = (loop-first c.args.pass c.args.peers.items c.args.workers
 pub meet-requires-after_bounds : goal.meet-requires-after_bounds
 meet-requires-after_bounds g c κs within = let pop : c.loop-worker.workers.items ≡ c.pop.new.self.items ++ c.in-Some.worker ∷ [] = search rules in (
   c.loop-worker.invariant.0.met.same.0 ∙ c.requires.table.0,
-  subst (λ w. table_id_of (pass_of w) ≡ table_of c.args.turn.now) c.in-Writes.is (c.loop-worker.invariant.1 c.in-Some.worker (subst (λ l. Rattle.vx_turn.specs.Acting.Among c.in-Some.worker l) (sym pop) (among-head c.in-Some.worker c.pop.new.self.items []))),
+  subst (λ w. table_id_of (pass_of w) ≡ table_of c.args.turn.now) c.in-Writes.is (c.loop-worker.invariant.1 c.in-Some.worker (subst (λ l. Rattle.vx_turn.specs.Acting.LiesAmong c.in-Some.worker l) (sym pop) (among-head c.in-Some.worker c.pop.new.self.items []))),
 )
 
 pub loop-worker-preserved-in-Writes : goal.loop-worker-preserved-in-Writes
@@ -23,14 +23,14 @@ loop-worker-preserved-in-Writes g c = let pop : c.loop-worker.workers.items ≡ 
     let pop' : c.loop-worker.workers.items ≡ c.pop.new.self.items ++ Writes c.in-Writes.writer ∷ [] = pop ∙ ap (λ v. c.pop.new.self.items ++ v ∷ []) c.in-Writes.is in (
       loop-more c.args.pass c.loop-worker.pass c.meet.new.pass c.args.peers.items c.loop-worker.peers.items c.loop-worker.peers.items c.args.workers.items c.loop-worker.workers.items c.pop.new.self.items c.args.answers.now c.loop-worker.answers c.lay.new.answers (Writes c.in-Writes.writer) pop' c.loop-worker.invariant.0 (lays-writer c.in-Writes.writer c.loop-worker.answers c.lay.new.answers c.lay.ensures)
           c.meet.ensures.met c.meet.ensures.same (sym (append-nil c.loop-worker.peers.items)),
-      (λ w m. c.loop-worker.invariant.1 w (subst (λ l. Rattle.vx_turn.specs.Acting.Among w l) (sym pop) (among-left w c.pop.new.self.items (c.in-Some.worker ∷ []) m))),
+      (λ w m. c.loop-worker.invariant.1 w (subst (λ l. Rattle.vx_turn.specs.Acting.LiesAmong w l) (sym pop) (among-left w c.pop.new.self.items (c.in-Some.worker ∷ []) m))),
       c.loop-worker.invariant.2,
     )
 
 pub meet-requires-in-Drains-after_bounds : goal.meet-requires-in-Drains-after_bounds
 meet-requires-in-Drains-after_bounds g c κs within = let pop : c.loop-worker.workers.items ≡ c.pop.new.self.items ++ c.in-Some.worker ∷ [] = search rules in (
   c.loop-worker.invariant.0.met.same.0 ∙ c.requires.table.0,
-  subst (λ w. table_id_of (pass_of w) ≡ table_of c.args.turn.now) c.in-Drains.is (c.loop-worker.invariant.1 c.in-Some.worker (subst (λ l. Rattle.vx_turn.specs.Acting.Among c.in-Some.worker l) (sym pop) (among-head c.in-Some.worker c.pop.new.self.items []))),
+  subst (λ w. table_id_of (pass_of w) ≡ table_of c.args.turn.now) c.in-Drains.is (c.loop-worker.invariant.1 c.in-Some.worker (subst (λ l. Rattle.vx_turn.specs.Acting.LiesAmong c.in-Some.worker l) (sym pop) (among-head c.in-Some.worker c.pop.new.self.items []))),
 )
 
 pub loop-worker-preserved : goal.loop-worker-preserved
@@ -42,7 +42,7 @@ loop-worker-preserved g c = let pop : c.loop-worker.workers.items ≡ c.pop.new.
     let items : c.push.new.self.items ≡ c.loop-worker.peers.items ++ c.in-Drains.drainer.peer ∷ [] = c.push.ensures.items ∙ ap (λ b. if b then c.loop-worker.peers.items ++ c.in-Drains.drainer.peer ∷ [] else c.loop-worker.peers.items) ok in (
       loop-more c.args.pass c.loop-worker.pass c.meet-in-Drains.new.pass c.args.peers.items c.loop-worker.peers.items c.push.new.self.items c.args.workers.items c.loop-worker.workers.items c.pop.new.self.items c.args.answers.now c.loop-worker.answers c.loop-worker.answers (Drains c.in-Drains.drainer) pop' c.loop-worker.invariant.0 (lays-none c.in-Drains.drainer c.loop-worker.answers)
           c.meet-in-Drains.ensures.met c.meet-in-Drains.ensures.same items,
-      (λ w m. c.loop-worker.invariant.1 w (subst (λ l. Rattle.vx_turn.specs.Acting.Among w l) (sym pop) (among-left w c.pop.new.self.items (c.in-Some.worker ∷ []) m))),
+      (λ w m. c.loop-worker.invariant.1 w (subst (λ l. Rattle.vx_turn.specs.Acting.LiesAmong w l) (sym pop) (among-left w c.pop.new.self.items (c.in-Some.worker ∷ []) m))),
       (let z = c.push.ensures.capacity in omega (arith, z, r)),
     )
 

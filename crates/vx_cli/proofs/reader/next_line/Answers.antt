@@ -1,5 +1,5 @@
 use Rattle.std.proofs.Common.{◌≡◌, ◌<◌, length, false, List, ℕ, sym, subst, arith}
-use Rattle.vx_script.specs.Lines.{IsPlain}
+use Rattle.vx_script.specs.Lines.{HasNoNewline}
 use Rattle.vx_cli.specs.Reading.{CutIs}
 use Rattle.vx_cli.proofs.ReaderLemmas.{next_cut, next_last, next_long, follows_uncut}
 use Rattle.vx_cli.proofs.reader.next_line.Goals as goal
@@ -16,7 +16,7 @@ returns-then-not-branch-clause-next g c =
     let was = rw c.if-not-branch.true at c.in_ok-fill.ensures.fill in
     let before : 0 < length c.cut.new.held.items = subst (λ (xs : List ℕ). 0 < length xs) was.0 some in
     next_last _ c.cut.new.held.items c.extend_from_slice.new.self.items c.fill.new.held.items _ _ _
-    (follows_uncut _ _ _ _ _ cut.1 c.loop-held.invariant.before) (subst IsPlain (sym cut.1) cut.0) before was same
+    (follows_uncut _ _ _ _ _ cut.1 c.loop-held.invariant.before) (subst HasNoNewline (sym cut.1) cut.0) before was same
 
 pub returns-then-branch-2-clause-next : goal.returns-then-branch-2-clause-next
 returns-then-branch-2-clause-next g c =

@@ -1,10 +1,10 @@
 use Rattle.std.proofs.Common.{◌≤◌, ◌-◌, [], vec_len}
-use Rattle.vx_cli.specs.Reading.{Follows}
+use Rattle.vx_cli.specs.Reading.{FollowsInput}
 use Rattle.vx_cli.proofs.reader.next_line.Given as goal
 
 abbrev pub invariant-loop-held : goal.invariant-loop-held
 invariant-loop-held g l = record {
-  before : Follows l.initial.held.items (g.S.Source.left l.initial.source) [] l.held.items (g.S.Source.left l.source);
+  before : FollowsInput l.initial.held.items (g.S.Source.left l.initial.source) [] l.held.items (g.S.Source.left l.source);
   later : g.S.Source.faults l.initial.source ≤ g.S.Source.faults l.source;
 }
 

@@ -1,5 +1,5 @@
 use Rattle.std.proofs.Common.{◌≡◌, subst, sym, arith}
-use Rattle.vx_script.specs.Lines.{IsPlain}
+use Rattle.vx_script.specs.Lines.{HasNoNewline}
 use Rattle.vx_yard.proofs.Kept.{kept_for}
 use Rattle.vx_cli.proofs.TurnLemmas.{reaches_first, reaches_more, reaches_end, turn_end, turn_fault, turn_memory, turn_most}
 use Rattle.vx_cli.proofs.run.answer_all.Goals as goal
@@ -45,7 +45,7 @@ pub returns-in-Err-Fault-clause-run : goal.returns-in-Err-Fault-clause-run
 returns-in-Err-Fault-clause-run g c =
     let at = c.loop-number.invariant.reaches in
     let more = rw c.in-Err-Fault.field-0-is at c.in-Err-Fault.ensures.more in
-    reaches_end _ _ _ _ _ _ _ _ _ _ _ _ _ at (λ t. t) (turn_fault _ at.world _ _ _ _ _ _ (subst IsPlain (sym more.0) tt) more.1 (omega arith) at.serves)
+    reaches_end _ _ _ _ _ _ _ _ _ _ _ _ _ at (λ t. t) (turn_fault _ at.world _ _ _ _ _ _ (subst HasNoNewline (sym more.0) tt) more.1 (omega arith) at.serves)
 
 pub returns-clause-run : goal.returns-clause-run
 returns-clause-run g c =

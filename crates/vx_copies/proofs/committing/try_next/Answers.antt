@@ -3,7 +3,7 @@ use Rattle.vx_disk.specs.declared.shelf.ShelfError.TheVariants.{Fault}
 use Rattle.vx_disk.specs.Shelf.{Meaning}
 use Rattle.vx_copyio.specs.Putting.{FailedOn}
 use Rattle.vx_config.specs.declared.config.Config.{Config}
-use Rattle.vx_copies.specs.Commits.{Grown, Held}
+use Rattle.vx_copies.specs.Commits.{Grown, HeldGood}
 use Rattle.vx_copies.proofs.MarkedDisks.{mark_grown, mark_new, mark_other, serial_grown}
 use Rattle.vx_copies.proofs.OneTry.{held_member, kept_good, member_held, try_remain, try_stands, try_tidy, try_underway, wanted_count, wanted_same, wanted_serial}
 use Rattle.vx_copies.proofs.committing.try_next.Goals as goal
@@ -85,7 +85,7 @@ returns-in-Fault-clause-ends g c =
     let old : Meaning = g.S.Shelf.meaning c.args.shelf.now in
     let new : Meaning = g.S.Shelf.meaning c.put_config.new.shelf in
     let count : length c.args.config.now.disks ≡ old.units = wanted_count old.units old.size c.args.config.now c.requires.wanted in
-    let was : Held (next c.args.config.now) old c.in-Err.failed.disk = member_held (next c.args.config.now) old count c.in-Err.failed.disk c.in-Err.ensures.stops.member in (
+    let was : HeldGood (next c.args.config.now) old c.in-Err.failed.disk = member_held (next c.args.config.now) old count c.in-Err.failed.disk c.in-Err.ensures.stops.member in (
       record {
         unit = c.in-Err.failed.disk;
         failed = ((fault g c).0, (fault g c).1);

@@ -1,6 +1,6 @@
 use Rattle.std.proofs.Common.{arith, ◌≡◌, ◌-◌, ◌∙◌, ◌++◌, ap, sym, List, ℕ, length}
 use Rattle.std.proofs.lemmas.List.{length-append}
-use Rattle.vx_wire.specs.Fields.{spelled, zeros}
+use Rattle.vx_wire.specs.Fields.{spelled, zero_bytes}
 use Rattle.vx_wire.specs.Places.{put_at}
 use Rattle.vx_wire.specs.Seals.{filled}
 use Rattle.vx_wire.proofs.PlaceLemmas.{put_at-put_at}
@@ -26,6 +26,6 @@ returns c =
     let second : c.put_bytes.new.bytes ≡ put_at 0 (table ++ digest) old =
     c.put_bytes.ensures ∙ ap (put_at 20 digest) first ∙ put_at-put_at 0 20 table digest old (omega arith) (omega arith) in
     let left : 480 - length (table ++ digest) ≡ 428 = omega arith in
-    let rest : zeros (480 - length (table ++ digest)) ≡ zeros 428 = ap zeros left in
-    c.put_zeros.ensures ∙ ap (put_at 52 (zeros 428)) second ∙ put_at-put_at 0 52 (table ++ digest) (zeros 428) old (omega arith) (omega arith)
+    let rest : zero_bytes (480 - length (table ++ digest)) ≡ zero_bytes 428 = ap zero_bytes left in
+    c.put_zeros.ensures ∙ ap (put_at 52 (zero_bytes 428)) second ∙ put_at-put_at 0 52 (table ++ digest) (zero_bytes 428) old (omega arith) (omega arith)
     ∙ ap (λ (t : List ℕ). put_at 0 ((table ++ digest) ++ t) old) (sym rest)

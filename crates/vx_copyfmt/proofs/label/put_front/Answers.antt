@@ -1,5 +1,5 @@
 use Rattle.std.proofs.Common.{arith, ◌≡◌, ◌-◌, ◌∙◌, ◌++◌, ap, sym, List, ℕ, length}
-use Rattle.vx_wire.specs.Fields.{spelled, zeros}
+use Rattle.vx_wire.specs.Fields.{spelled, zero_bytes}
 use Rattle.vx_wire.specs.Places.{put_at}
 use Rattle.vx_wire.specs.Seals.{filled}
 use Rattle.vx_wire.proofs.PlaceLemmas.{put_at-put_at}
@@ -20,6 +20,6 @@ returns c =
     let wide : length fields ≡ 28 = length-label_table c.args.label.now in
     let first : c.put_fields.new.bytes ≡ put_at 0 fields old = c.put_fields.ensures.written ∙ ap (λ t. put_at 0 (spelled t) old) c.table.ensures in
     let left : 480 - length fields ≡ 452 = omega arith in
-    let rest : zeros (480 - length fields) ≡ zeros 452 = ap zeros left in
-    c.put_zeros.ensures ∙ ap (put_at 28 (zeros 452)) first ∙ put_at-put_at 0 28 fields (zeros 452) old (omega arith) (omega arith)
+    let rest : zero_bytes (480 - length fields) ≡ zero_bytes 452 = ap zero_bytes left in
+    c.put_zeros.ensures ∙ ap (put_at 28 (zero_bytes 452)) first ∙ put_at-put_at 0 28 fields (zero_bytes 452) old (omega arith) (omega arith)
     ∙ ap (λ (t : List ℕ). put_at 0 (fields ++ t) old) (sym rest)

@@ -32,6 +32,15 @@ returns-then-is_down-clause-spends g c = c.set_state-answer.ensures.spends
 pub returns-clause-spends : goal.returns-clause-spends
 returns-clause-spends g c = c.set_state-answer.ensures.spends
 
+pub returns-then-is_down-clause-short : goal.returns-then-is_down-clause-short
+returns-then-is_down-clause-short g c = c.set_state-answer.ensures.short
+
+pub returns-clause-calls : goal.returns-clause-calls
+returns-clause-calls g c = c.set_state-answer.ensures.calls
+
+pub returns-clause-short : goal.returns-clause-short
+returns-clause-short g c = c.set_state-answer.ensures.short
+
 pub returns-then-is_down-clause-waiting : goal.returns-then-is_down-clause-waiting
 returns-then-is_down-clause-waiting g c = λ us.
     wait_kept (change_refusal c.args.rvg.now.core) c.args.rvg.now.core c.set_state-answer.new.self.core c.args.state.now (g.R.Shelf.meaning c.args.rvg.now.shelf) (g.R.Shelf.meaning c.set_state-answer.new.self.shelf) c.set_state-answer.result us (search rules)

@@ -1,9 +1,9 @@
 -- The blocks of the maps are those of each volume.
 use Rattle.std.proofs.Common.{◌≡◌, ◌≤◌, ◌+◌, ◌-◌, ◌*◌, ℕ, suc, ap, sym, ◌∙◌, refl, arith}
 use Rattle.std.proofs.lemmas.Bool.{le-leb, leb-true}
+use Rattle.vx_disk.specs.Maps.{maps_of}
 use Rattle.vx_events.specs.Facts.{values_from}
 use Rattle.vx_model.specs.Sizes.{map_blocks}
-use Rattle.vx_rvg.specs.Views.{maps_of}
 use Rattle.vx_diskset.proofs.Laying.{maps_more}
 use Rattle.vx_diskset.proofs.starting.has_maps.Goals as goal
 

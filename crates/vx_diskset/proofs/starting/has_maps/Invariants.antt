@@ -1,6 +1,6 @@
 use Rattle.std.proofs.Common.{◌≡◌, ◌≤◌, ◌*◌, ◌-◌}
+use Rattle.vx_disk.specs.Maps.{maps_of}
 use Rattle.vx_events.specs.Facts.{values_from}
-use Rattle.vx_rvg.specs.Views.{maps_of}
 use Rattle.vx_diskset.proofs.starting.has_maps.Given as goal
 
 abbrev pub invariant-loop-disk : goal.invariant-loop-disk

@@ -1,7 +1,8 @@
 use Rattle.std.proofs.Common.{◌*◌, ◌≤◌, ℕ, subst, sym, refl, rules, arith}
+use Rattle.vx_disk.specs.Maps.{maps_of}
 use Rattle.vx_model.specs.declared.units.Units.{Units}
 use Rattle.vx_model.specs.declared.limits.TheConstants.{LINK_PLACES}
-use Rattle.vx_rvg.specs.Views.{Placed, maps_of}
+use Rattle.vx_rvg.specs.Views.{UnitsPlaced}
 use Rattle.vx_diskset.specs.Layouts.{raw_units}
 use Rattle.vx_diskset.specs.declared.disk_set.DiskSet.TheVariants.{Spoiled}
 use Rattle.vx_diskset.proofs.MakeGroup.{placed_raw, first_spells, made_stands, raw_failed}
@@ -13,7 +14,7 @@ use Rattle.vx_diskset.proofs.starting.make_group.Goals.{then-disks-lt-LEAST_RAW_
 
 pub create-requires : goal.create-requires
 create-requires g c = record {
-  placed = subst (λ (u : Units). Placed u (g.R.Shelf.meaning c.args.rack)) (sym c.raw_units.ensures)
+  placed = subst (λ (u : Units). UnitsPlaced u (g.R.Shelf.meaning c.args.rack)) (sym c.raw_units.ensures)
       (placed_raw c.units-disks.result (g.R.Shelf.meaning c.args.rack) c.units-disks.ensures c.if-disks-lt-LEAST_RAW_DISKS.false
       (subst (λ (k : ℕ). LINK_PLACES * maps_of (raw_units k).vols (g.R.Shelf.meaning c.args.rack) ≤ (g.R.Shelf.meaning c.args.rack).size (raw_units k).maps) (sym c.units-disks.ensures)
       (c.has_maps.ensures.is (search rules))));

@@ -1,9 +1,10 @@
 -- Each case of the start of a bare site.
 use Rattle.std.proofs.Common.{◌∙◌, ◌*◌, ◌≤◌, ℕ, IsTrue, sym, subst, refl, rules, arith}
+use Rattle.vx_disk.specs.Maps.{maps_of}
 use Rattle.vx_model.specs.declared.units.Units.{Units}
 use Rattle.vx_model.specs.declared.limits.TheConstants.{LINK_PLACES}
 use Rattle.vx_rvg.proofs.WriteSound.{maps_fit_as}
-use Rattle.vx_rvg.specs.Views.{Placed, maps_of}
+use Rattle.vx_rvg.specs.Views.{UnitsPlaced}
 use Rattle.vx_diskset.specs.Layouts.{raw_units}
 use Rattle.vx_diskset.proofs.StartBare.{clean_read, clean_untold, bare_came, bare_refused, bare_unread, start_rose}
 use Rattle.vx_diskset.proofs.MakeGroup.{placed_raw}
@@ -23,7 +24,7 @@ returns-in-Err-clause-found g c = λ n clean some ring.
 pub start_in-requires-clause-placed : goal.start_in-requires-clause-placed
 start_in-requires-clause-placed g c =
     let can = c.can_hold.ensures.is (search rules) in
-    subst (λ (u : Units). Placed u (g.R.Shelf.meaning c.has_log.new.rack)) (sym c.raw_units-units.ensures)
+    subst (λ (u : Units). UnitsPlaced u (g.R.Shelf.meaning c.has_log.new.rack)) (sym c.raw_units-units.ensures)
     (placed_raw c.units.result (g.R.Shelf.meaning c.has_log.new.rack) (c.units.ensures ∙ sym c.has_log.ensures.goes.units) (omega (arith, c.units.ensures, can.some))
     (subst (λ (k : ℕ). LINK_PLACES * maps_of (raw_units k).vols (g.R.Shelf.meaning c.has_log.new.rack) ≤ (g.R.Shelf.meaning c.has_log.new.rack).size (raw_units k).maps) (sym c.units.ensures)
     (maps_fit_as (raw_units (g.R.Shelf.meaning c.args.rack).units) (g.R.Shelf.meaning c.args.rack) (g.R.Shelf.meaning c.has_log.new.rack) c.has_log.ensures.goes.size can.maps)))

@@ -2,7 +2,7 @@
 use Rattle.std.proofs.Common.{sym, ◌∙◌}
 use Rattle.vx_diskset.proofs.ApplyGroup.{applied_as, applied_cut}
 use Rattle.std.specs.Prelude.{None}
-use Rattle.vx_rvg.specs.Groups.{unless_halted}
+use Rattle.vx_rvg.specs.Groups.{halted_or}
 use Rattle.vx_diskset.proofs.CallsBurn.{apply_off}
 use Rattle.vx_diskset.proofs.MakeRoom.{apply_log}
 use Rattle.vx_diskset.proofs.Receiving.{wait_applied}
@@ -37,21 +37,21 @@ returns-clause-spends g c = c.apply-answer.ensures.spends
 
 pub returns-clause-log : goal.returns-clause-log
 returns-clause-log g c =
-    apply_log (unless_halted c.args.rvg.now.core.halted None) c.args.rvg.now.core c.args.to (g.R.Shelf.meaning c.args.rvg.now.shelf) (g.R.Shelf.meaning c.apply-answer.new.self.shelf) c.apply-answer.new.self.core c.apply-answer.result c.apply-answer.ensures.answers
+    apply_log (halted_or c.args.rvg.now.core.halted None) c.args.rvg.now.core c.args.to (g.R.Shelf.meaning c.args.rvg.now.shelf) (g.R.Shelf.meaning c.apply-answer.new.self.shelf) c.apply-answer.new.self.core c.apply-answer.result c.apply-answer.ensures.answers
 
 pub returns-then-is_down-clause-waiting : goal.returns-then-is_down-clause-waiting
 returns-then-is_down-clause-waiting g c = λ us.
-    wait_applied (unless_halted c.args.rvg.now.core.halted None) c.args.rvg.now.core c.apply-answer.new.self.core c.args.to (g.R.Shelf.meaning c.args.rvg.now.shelf) (g.R.Shelf.meaning c.apply-answer.new.self.shelf) c.apply-answer.result us c.apply-answer.ensures.answers c.apply-answer.ensures.moves.size
+    wait_applied (halted_or c.args.rvg.now.core.halted None) c.args.rvg.now.core c.apply-answer.new.self.core c.args.to (g.R.Shelf.meaning c.args.rvg.now.shelf) (g.R.Shelf.meaning c.apply-answer.new.self.shelf) c.apply-answer.result us c.apply-answer.ensures.answers c.apply-answer.ensures.moves.size
 
 pub returns-clause-waiting : goal.returns-clause-waiting
 returns-clause-waiting g c = λ us.
-    wait_applied (unless_halted c.args.rvg.now.core.halted None) c.args.rvg.now.core c.apply-answer.new.self.core c.args.to (g.R.Shelf.meaning c.args.rvg.now.shelf) (g.R.Shelf.meaning c.apply-answer.new.self.shelf) c.apply-answer.result us c.apply-answer.ensures.answers c.apply-answer.ensures.moves.size
+    wait_applied (halted_or c.args.rvg.now.core.halted None) c.args.rvg.now.core c.apply-answer.new.self.core c.args.to (g.R.Shelf.meaning c.args.rvg.now.shelf) (g.R.Shelf.meaning c.apply-answer.new.self.shelf) c.apply-answer.result us c.apply-answer.ensures.answers c.apply-answer.ensures.moves.size
 
 pub returns-then-is_down-clause-group : goal.returns-then-is_down-clause-group
-returns-then-is_down-clause-group g c = more_applied (unless_halted c.args.rvg.now.core.halted None) c.args.rvg.now.core c.apply-answer.new.self.core c.args.to (g.R.Shelf.meaning c.args.rvg.now.shelf) (g.R.Shelf.meaning c.apply-answer.new.self.shelf) c.apply-answer.result c.apply-answer.ensures.answers
+returns-then-is_down-clause-group g c = more_applied (halted_or c.args.rvg.now.core.halted None) c.args.rvg.now.core c.apply-answer.new.self.core c.args.to (g.R.Shelf.meaning c.args.rvg.now.shelf) (g.R.Shelf.meaning c.apply-answer.new.self.shelf) c.apply-answer.result c.apply-answer.ensures.answers
 
 pub returns-clause-group : goal.returns-clause-group
-returns-clause-group g c = more_applied (unless_halted c.args.rvg.now.core.halted None) c.args.rvg.now.core c.apply-answer.new.self.core c.args.to (g.R.Shelf.meaning c.args.rvg.now.shelf) (g.R.Shelf.meaning c.apply-answer.new.self.shelf) c.apply-answer.result c.apply-answer.ensures.answers
+returns-clause-group g c = more_applied (halted_or c.args.rvg.now.core.halted None) c.args.rvg.now.core c.apply-answer.new.self.core c.args.to (g.R.Shelf.meaning c.args.rvg.now.shelf) (g.R.Shelf.meaning c.apply-answer.new.self.shelf) c.apply-answer.result c.apply-answer.ensures.answers
 
 pub returns-clause-never : goal.returns-clause-never
 returns-clause-never g c = apply_never c.args.rvg.now.core c.args.to (g.R.Shelf.meaning c.args.rvg.now.shelf) (g.R.Shelf.meaning c.apply-answer.new.self.shelf) c.apply-answer.new.self.core c.apply-answer.result c.apply-answer.ensures.answers

@@ -15,7 +15,7 @@ use Rattle.vx_ringio.proofs.Spending.{then_spends}
 use Rattle.vx_diskset.proofs.CallsBurn.{called_by, called_still, cut_short, is_logged, least_since, never_off, up_not_off, write_off}
 use Rattle.vx_ringio.proofs.Spending.{spends_none}
 use Rattle.vx_rvg.specs.Views.{unit_of}
-use Rattle.vx_diskset.specs.Rooms.{IsMore, count_of}
+use Rattle.vx_diskset.specs.Rooms.{IsMore, logged_count}
 use Rattle.vx_diskset.proofs.Mores.{more_after, more_down, more_none, more_written}
 use Rattle.vx_diskset.proofs.LeavesNumbers.{never_as, write_takes}
 use Rattle.vx_diskset.proofs.writing.write_group.Goals as goal
@@ -113,7 +113,7 @@ returns-then-head-ge-MOST_NUMBER-clause-group g c = more_none c.args.rvg.now.cor
 pub returns-in_err-make_room-clause-group : goal.returns-in_err-make_room-clause-group
 returns-in_err-make_room-clause-group g c =
     let p = err_from_is_err_and c.from_residual.result c.from_residual.ensures.1 in
-    subst (λ r. IsMore (count_of r) c.args.rvg.now.core c.make_room.new.rvg.core) (sym p.1) c.make_room.ensures.group
+    subst (λ r. IsMore (logged_count r) c.args.rvg.now.core c.make_room.new.rvg.core) (sym p.1) c.make_room.ensures.group
 
 pub returns-then-is_down-clause-group : goal.returns-then-is_down-clause-group
 returns-then-is_down-clause-group g c =
@@ -123,7 +123,7 @@ returns-then-is_down-clause-group g c =
 
 pub returns-clause-group : goal.returns-clause-group
 returns-clause-group g c =
-    more_after (count_of c.write-answer.result) c.args.rvg.now.core c.make_room.new.rvg.core c.write-answer.new.self.core c.make_room.ensures.group
+    more_after (logged_count c.write-answer.result) c.args.rvg.now.core c.make_room.new.rvg.core c.write-answer.new.self.core c.make_room.ensures.group
     (more_written c.make_room.new.rvg.core c.write-answer.new.self.core c.args.volume c.args.start c.args.bytes.now (g.R.Shelf.meaning c.make_room.new.rvg.shelf) (g.R.Shelf.meaning c.write-answer.new.self.shelf) c.make_room.new.rvg.sound c.write-answer.ensures.moves.falls c.ring-ring.ensures.low
     ((g.R.Shelf.meaning c.make_room.new.rvg.shelf).size (unit_of c.make_room.new.rvg.core.units.vols c.args.volume)) (blocks_in c.args.bytes.now) c.write-answer.result c.write-answer.ensures.answers)
 

@@ -1,7 +1,7 @@
 use Rattle.std.proofs.Common.{ap, refl, sym, ◌∙◌, subst, arith}
 use Rattle.vx_volume.specs.Plexes.{active}
 use Rattle.vx_group.specs.Attaches.{Attaches, MayAttach}
-use Rattle.vx_group.specs.Stands.{Stands}
+use Rattle.vx_group.specs.Stands.{InnerStands}
 use Rattle.vx_group.specs.declared.inner.Inner.{Inner}
 use Rattle.vx_group.proofs.AttachLemmas.{then_attaches}
 use Rattle.vx_group.proofs.SourcesLemmas.{sources_all, sources_blame, sources_next, sources_start}
@@ -13,7 +13,7 @@ loop-source-init g c =
 
 pub try_from-requires-clause-stands : goal.try_from-requires-clause-stands
 try_from-requires-clause-stands g c =
-    subst (λ (x : Inner). Stands x (g.S.Shelf.meaning c.loop-source.shelf)) (sym c.loop-source.invariant.1) c.loop-source.invariant.0.stands
+    subst (λ (x : Inner). InnerStands x (g.S.Shelf.meaning c.loop-source.shelf)) (sym c.loop-source.invariant.1) c.loop-source.invariant.0.stands
 
 pub try_from-requires-clause-may : goal.try_from-requires-clause-may
 try_from-requires-clause-may g c =
@@ -65,7 +65,7 @@ returns-in-Err-Down-clause-disks g c =
 
 pub returns-clause-stands : goal.returns-clause-stands
 returns-clause-stands g c =
-    subst (λ (x : Inner). Stands x (g.S.Shelf.meaning c.loop-source.shelf)) (sym c.loop-source.invariant.1) c.loop-source.invariant.0.stands
+    subst (λ (x : Inner). InnerStands x (g.S.Shelf.meaning c.loop-source.shelf)) (sym c.loop-source.invariant.1) c.loop-source.invariant.0.stands
 
 pub returns-clause-attaches : goal.returns-clause-attaches
 returns-clause-attaches g c =

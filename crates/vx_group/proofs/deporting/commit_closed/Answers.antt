@@ -6,7 +6,7 @@ use Rattle.vx_config.specs.declared.entry.DiskEntry.{DiskEntry}
 use Rattle.vx_copies.specs.Marks.{NoneGood}
 use Rattle.vx_kept.specs.Cleans.{cleaned}
 use Rattle.vx_kept.proofs.CleanLemmas.{all_clean}
-use Rattle.vx_group.specs.Blames.{StopsBy}
+use Rattle.vx_group.specs.Blames.{StopsByDevice}
 use Rattle.vx_group.proofs.CallLemmas.{not_down}
 use Rattle.vx_group.proofs.DeportLemmas.{blames_stop, closed, given_back}
 use Rattle.vx_group.proofs.DetachLemmas.{stop_sure}
@@ -35,7 +35,7 @@ returns-else-is_down-clause-cause g c =
     let new : Meaning = g.S.Shelf.meaning c.commit_clean.new.shelf in
     let a : Config = cleaned core.unsure core.config (length core.config.volumes) in
     let alike = (all_clean core.unsure (length core.config.volumes) core.config).alike in
-    subst (λ (e : ShelfError). StopsBy {T = Unit {0}} m new (Err e)) (sym c.fault_of.ensures) (blames_stop m new _
+    subst (λ (e : ShelfError). StopsByDevice {T = Unit {0}} m new (Err e)) (sym c.fault_of.ensures) (blames_stop m new _
     (stop_sure core.good a _ m new (subst (λ (ds : List DiskEntry). NoneGood ds (length ds) core.good → ⊥) (sym alike.disks) c.requires.stands.some)
     (not_down c.is_down.result new.down c.is_down.ensures c.if-is_down.false) c.in-Err.no 0
     (let same = alike.serial in let less = c.requires.more in omega (arith, same, less)) c.in-Err.ensures.ends.cause))

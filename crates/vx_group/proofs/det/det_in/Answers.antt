@@ -1,6 +1,6 @@
 use Rattle.std.proofs.Common.{ℕ, List, ap, sym, ◌∙◌, arith}
 use Rattle.vx_disk.specs.Shelf.{Nothing}
-use Rattle.vx_group.specs.Stands.{counted}
+use Rattle.vx_group.specs.Stands.{volume_faults}
 use Rattle.vx_group.proofs.CallLemmas.{narrows_Goes}
 use Rattle.vx_group.proofs.DetLemmas.{may_room, may_serial}
 use Rattle.vx_group.proofs.HoldLemmas.{det_other, from_none, none_Stands, wide_none}
@@ -37,8 +37,8 @@ pub returns-in-Ok-detach_plex-clause-goes : goal.returns-in-Ok-detach_plex-claus
 returns-in-Ok-detach_plex-clause-goes g c =
     through_goes c.args.core.now c.release.new.core (record { inner = c.detach_plex.new.core; held = c.release.new.core.held }) c.release.new.core.inner c.detach_plex.new.core (g.S.Shelf.meaning c.args.shelf.now) (g.S.Shelf.meaning c.release.new.shelf) (g.S.Shelf.meaning c.detach_plex.new.shelf) (sym (wide_none c.release.new.core (c.in-Ok.ensures.done (may_serial c.args.core.now.inner.config c.args.vol c.args.plex (sym c.refuse.ensures ∙ c.in_default.is))))) (wide_none (record { inner = c.detach_plex.new.core; held = c.release.new.core.held }) (c.in-Ok.ensures.done (may_serial c.args.core.now.inner.config c.args.vol c.args.plex (sym c.refuse.ensures ∙ c.in_default.is))))
     Nothing (released_goes c.args.core.now c.release.new.core (g.S.Shelf.meaning c.args.shelf.now) (g.S.Shelf.meaning c.release.new.shelf) c.requires.stands c.release.ensures.narrows c.release.ensures.volumes (g.met.S.Shelf.lawful c.release.new.shelf))
-    (narrows_Goes c.release.new.core.inner c.detach_plex.new.core (g.S.Shelf.meaning c.release.new.shelf) (g.S.Shelf.meaning c.detach_plex.new.shelf) (g.met.S.Shelf.lawful c.detach_plex.new.shelf) (from_none c.release.new.core (g.S.Shelf.meaning c.release.new.shelf) (c.in-Ok.ensures.done (may_serial c.args.core.now.inner.config c.args.vol c.args.plex (sym c.refuse.ensures ∙ c.in_default.is))) c.release.ensures.stands) c.detach_plex.ensures.narrows (counted c.release.new.core.inner.faults) (counted c.detach_plex.new.core.faults)
-    (λ u. let same = ap (λ (f : List ℕ). counted f u) c.detach_plex.ensures.narrows.faults in omega (arith, same)))
+    (narrows_Goes c.release.new.core.inner c.detach_plex.new.core (g.S.Shelf.meaning c.release.new.shelf) (g.S.Shelf.meaning c.detach_plex.new.shelf) (g.met.S.Shelf.lawful c.detach_plex.new.shelf) (from_none c.release.new.core (g.S.Shelf.meaning c.release.new.shelf) (c.in-Ok.ensures.done (may_serial c.args.core.now.inner.config c.args.vol c.args.plex (sym c.refuse.ensures ∙ c.in_default.is))) c.release.ensures.stands) c.detach_plex.ensures.narrows (volume_faults c.release.new.core.inner.faults) (volume_faults c.detach_plex.new.core.faults)
+    (λ u. let same = ap (λ (f : List ℕ). volume_faults f u) c.detach_plex.ensures.narrows.faults in omega (arith, same)))
 
 pub returns-in-Ok-detach_plex-clause-narrows : goal.returns-in-Ok-detach_plex-clause-narrows
 returns-in-Ok-detach_plex-clause-narrows g c =
@@ -54,8 +54,8 @@ pub returns-in-Err-detach_plex-clause-goes : goal.returns-in-Err-detach_plex-cla
 returns-in-Err-detach_plex-clause-goes g c =
     through_goes c.args.core.now c.release.new.core (record { inner = c.detach_plex.new.core; held = c.release.new.core.held }) c.release.new.core.inner c.detach_plex.new.core (g.S.Shelf.meaning c.args.shelf.now) (g.S.Shelf.meaning c.release.new.shelf) (g.S.Shelf.meaning c.detach_plex.new.shelf) (sym (wide_none c.release.new.core (c.in-Ok.ensures.done (may_serial c.args.core.now.inner.config c.args.vol c.args.plex (sym c.refuse.ensures ∙ c.in_default.is))))) (wide_none (record { inner = c.detach_plex.new.core; held = c.release.new.core.held }) (c.in-Ok.ensures.done (may_serial c.args.core.now.inner.config c.args.vol c.args.plex (sym c.refuse.ensures ∙ c.in_default.is))))
     Nothing (released_goes c.args.core.now c.release.new.core (g.S.Shelf.meaning c.args.shelf.now) (g.S.Shelf.meaning c.release.new.shelf) c.requires.stands c.release.ensures.narrows c.release.ensures.volumes (g.met.S.Shelf.lawful c.release.new.shelf))
-    (narrows_Goes c.release.new.core.inner c.detach_plex.new.core (g.S.Shelf.meaning c.release.new.shelf) (g.S.Shelf.meaning c.detach_plex.new.shelf) (g.met.S.Shelf.lawful c.detach_plex.new.shelf) (from_none c.release.new.core (g.S.Shelf.meaning c.release.new.shelf) (c.in-Ok.ensures.done (may_serial c.args.core.now.inner.config c.args.vol c.args.plex (sym c.refuse.ensures ∙ c.in_default.is))) c.release.ensures.stands) c.detach_plex.ensures.narrows (counted c.release.new.core.inner.faults) (counted c.detach_plex.new.core.faults)
-    (λ u. let same = ap (λ (f : List ℕ). counted f u) c.detach_plex.ensures.narrows.faults in omega (arith, same)))
+    (narrows_Goes c.release.new.core.inner c.detach_plex.new.core (g.S.Shelf.meaning c.release.new.shelf) (g.S.Shelf.meaning c.detach_plex.new.shelf) (g.met.S.Shelf.lawful c.detach_plex.new.shelf) (from_none c.release.new.core (g.S.Shelf.meaning c.release.new.shelf) (c.in-Ok.ensures.done (may_serial c.args.core.now.inner.config c.args.vol c.args.plex (sym c.refuse.ensures ∙ c.in_default.is))) c.release.ensures.stands) c.detach_plex.ensures.narrows (volume_faults c.release.new.core.inner.faults) (volume_faults c.detach_plex.new.core.faults)
+    (λ u. let same = ap (λ (f : List ℕ). volume_faults f u) c.detach_plex.ensures.narrows.faults in omega (arith, same)))
 
 pub returns-in-Err-detach_plex-clause-narrows : goal.returns-in-Err-detach_plex-clause-narrows
 returns-in-Err-detach_plex-clause-narrows g c =

@@ -1,17 +1,20 @@
 use Rattle.std.proofs.Common.{◌∙◌, ℕ, List, ap, subst, arith}
 use Rattle.vx_disk.specs.Shelf.{Flushed, Meaning, Nothing}
-use Rattle.vx_group.specs.Blames.{Counts}
+use Rattle.vx_group.specs.Blames.{CountsRise}
 use Rattle.vx_group.specs.Holding.{wide}
-use Rattle.vx_group.specs.Stands.{counted}
+use Rattle.vx_group.specs.Stands.{volume_faults}
 use Rattle.vx_group.proofs.CallLemmas.{cause_by, counts_less, narrows_Goes, not_down, nothing_Flushed}
 use Rattle.vx_group.proofs.LoseLemmas.{loses_none}
 use Rattle.vx_group.proofs.RegainLemmas.{all_holds}
 use Rattle.vx_group.proofs.ThroughLemmas.{again_none, new_Stands, new_wide, released_goes, through_cause, through_gives, through_goes, through_loses, through_ok}
 use Rattle.vx_group.proofs.TrustLemmas.{ok_from}
+use Rattle.vx_config.specs.declared.config.Config.{Config}
+use Rattle.vx_kept.proofs.PlexActing.{none_PlexActs}
+use Rattle.vx_group.proofs.ActsLemmas.{narrow_PlexActs, through_PlexActs}
 use Rattle.vx_group.proofs.flushing.flush_group.Goals as goal
 
 pub returns-in-Err-clause-goes : goal.returns-in-Err-clause-goes
-returns-in-Err-clause-goes g c = narrows_Goes (wide c.args.core.now) (wide c.release.new.core) (g.S.Shelf.meaning c.args.shelf.now) (g.S.Shelf.meaning c.release.new.shelf) (g.met.S.Shelf.lawful c.release.new.shelf) c.requires.stands.stands c.release.ensures.narrows (counted c.args.core.now.inner.faults) (counted c.give_up.new.faults) (λ u. let same = ap (λ (f : List ℕ). counted f u) c.release.ensures.narrows.faults in let less = counts_less c.in-Err.error c.args.vol (counted c.release.new.core.inner.faults) (counted c.give_up.new.faults) c.give_up.ensures.counts u in omega (arith, same, less))
+returns-in-Err-clause-goes g c = narrows_Goes (wide c.args.core.now) (wide c.release.new.core) (g.S.Shelf.meaning c.args.shelf.now) (g.S.Shelf.meaning c.release.new.shelf) (g.met.S.Shelf.lawful c.release.new.shelf) c.requires.stands.stands c.release.ensures.narrows (volume_faults c.args.core.now.inner.faults) (volume_faults c.give_up.new.faults) (λ u. let same = ap (λ (f : List ℕ). volume_faults f u) c.release.ensures.narrows.faults in let less = counts_less c.in-Err.error c.args.vol (volume_faults c.release.new.core.inner.faults) (volume_faults c.give_up.new.faults) c.give_up.ensures.counts u in omega (arith, same, less))
 
 pub returns-in-Err-clause-loses : goal.returns-in-Err-clause-loses
 returns-in-Err-clause-loses g c =
@@ -19,9 +22,9 @@ returns-in-Err-clause-loses g c =
 
 pub returns-in-Err-clause-cause : goal.returns-in-Err-clause-cause
 returns-in-Err-clause-cause g c =
-    cause_by (Unit {0}) c.in-Err.error (wide c.args.core.now).config (wide c.release.new.core).config c.args.vol (counted c.args.core.now.inner.faults) (counted c.give_up.new.faults) (g.S.Shelf.meaning c.args.shelf.now) (g.S.Shelf.meaning c.release.new.shelf)
+    cause_by (Unit {0}) c.in-Err.error (wide c.args.core.now).config (wide c.release.new.core).config c.args.vol (volume_faults c.args.core.now.inner.faults) (volume_faults c.give_up.new.faults) (g.S.Shelf.meaning c.args.shelf.now) (g.S.Shelf.meaning c.release.new.shelf)
     (not_down c.is_down.result (g.S.Shelf.meaning c.args.shelf.now).down c.is_down.ensures c.if-is_down.false) c.in-Err.ensures.cause
-    (subst (λ (f : List ℕ). Counts c.in-Err.error c.args.vol (counted f) (counted c.give_up.new.faults)) c.release.ensures.narrows.faults c.give_up.ensures.counts)
+    (subst (λ (f : List ℕ). CountsRise c.in-Err.error c.args.vol (volume_faults f) (volume_faults c.give_up.new.faults)) c.release.ensures.narrows.faults c.give_up.ensures.counts)
 
 pub returns-clause-stands : goal.returns-clause-stands
 returns-clause-stands g c =
@@ -58,3 +61,16 @@ returns-clause-cause g c =
 pub returns-clause-clear : goal.returns-clause-clear
 returns-clause-clear g c = λ less. all_holds c.flush_in-result.result
     (again_none c.open_held-held.result _ c.close_held.new.core (c.open_held-held.ensures.held ∙ c.in-Ok.ensures.done less) c.open_held-held.ensures.none c.close_held.ensures)
+
+pub returns-then-is_down-clause-acts : goal.returns-then-is_down-clause-acts
+returns-then-is_down-clause-acts g c =
+    none_PlexActs (Nothing) (wide c.args.core.now).config (g.S.Shelf.meaning c.args.shelf.now)
+
+pub returns-in-Err-clause-acts : goal.returns-in-Err-clause-acts
+returns-in-Err-clause-acts g c =
+    narrow_PlexActs (Nothing) (wide c.args.core.now) (wide c.release.new.core) (g.S.Shelf.meaning c.args.shelf.now) (g.S.Shelf.meaning c.release.new.shelf) c.release.ensures.narrows
+
+pub returns-clause-acts : goal.returns-clause-acts
+returns-clause-acts g c =
+    through_PlexActs (λ (k : Config). Nothing) c.args.core.now c.release.new.core c.close_held.new.core c.open_held-held.new.core.inner c.flush_in-result.new.core (g.S.Shelf.meaning c.args.shelf.now) (g.S.Shelf.meaning c.release.new.shelf) (g.S.Shelf.meaning c.flush_in-result.new.shelf) c.open_held-held.ensures.inner (new_wide c.args.core.now c.release.new.core (record { inner = c.flush_in-result.new.core; held = c.open_held-held.new.core.held }) c.close_held.new.core c.open_held-held.new.core.inner (g.S.Shelf.meaning c.args.shelf.now) (g.S.Shelf.meaning c.release.new.shelf) (g.S.Shelf.meaning c.flush_in-result.new.shelf) c.requires.stands c.release.ensures.stands c.release.ensures.narrows c.release.ensures.volumes c.open_held-held.result c.open_held-held.ensures.held c.open_held-held.ensures.inner c.open_held-held.ensures.none c.close_held.ensures)
+    c.release.ensures.narrows (λ u b x none. none) c.flush_in-result.ensures.acts

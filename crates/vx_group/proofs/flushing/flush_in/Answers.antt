@@ -1,36 +1,38 @@
 use Rattle.std.proofs.Common.{refl, ◌∙◌, ℕ, Bool, List, ap, subst, Err, arith}
 use Rattle.vx_disk.specs.Shelf.{Nothing}
 use Rattle.vx_disk.proofs.Runs.{nothing_then}
-use Rattle.vx_group.specs.Blames.{Counts, Marks}
-use Rattle.vx_group.specs.Stands.{counted, meaning_of}
+use Rattle.vx_group.specs.Blames.{CountsRise, MarksUnsure}
+use Rattle.vx_group.specs.Stands.{volume_faults, inner_meaning}
 use Rattle.vx_group.proofs.LoseLemmas.{loses_none, loses_same, then_loses}
 use Rattle.vx_group.proofs.GiveLemmas.{later_gives, ready_gives, same_gives}
 use Rattle.vx_group.proofs.CallLemmas.{blames_later, cause_by, counts_less, narrows_Goes, not_down, nothing_Flushed, raised_Goes}
+use Rattle.vx_kept.proofs.PlexActing.{none_PlexActs}
+use Rattle.vx_group.proofs.ActsLemmas.{narrow_PlexActs, then_PlexActs}
 use Rattle.vx_group.proofs.flushing.flush_in.Goals as goal
 
 pub returns-in-Err-clause-goes : goal.returns-in-Err-clause-goes
-returns-in-Err-clause-goes g c = narrows_Goes c.args.core.now c.make_ready.new.core (g.S.Shelf.meaning c.args.shelf.now) (g.S.Shelf.meaning c.make_ready.new.shelf) (g.met.S.Shelf.lawful c.make_ready.new.shelf) c.requires.stands c.make_ready.ensures.narrows (counted c.args.core.now.faults) (counted c.give_up.new.faults) (λ u. let same = ap (λ (f : List ℕ). counted f u) c.make_ready.ensures.narrows.faults in let less = counts_less c.in-Err.error c.args.vol (counted c.make_ready.new.core.faults) (counted c.give_up.new.faults) c.give_up.ensures.counts u in omega (arith, same, less))
+returns-in-Err-clause-goes g c = narrows_Goes c.args.core.now c.make_ready.new.core (g.S.Shelf.meaning c.args.shelf.now) (g.S.Shelf.meaning c.make_ready.new.shelf) (g.met.S.Shelf.lawful c.make_ready.new.shelf) c.requires.stands c.make_ready.ensures.narrows (volume_faults c.args.core.now.faults) (volume_faults c.give_up.new.faults) (λ u. let same = ap (λ (f : List ℕ). volume_faults f u) c.make_ready.ensures.narrows.faults in let less = counts_less c.in-Err.error c.args.vol (volume_faults c.make_ready.new.core.faults) (volume_faults c.give_up.new.faults) c.give_up.ensures.counts u in omega (arith, same, less))
 
 pub returns-in-Err-clause-cause : goal.returns-in-Err-clause-cause
-returns-in-Err-clause-cause g c = cause_by (Unit {0}) c.in-Err.error c.args.core.now.config c.make_ready.new.core.config c.args.vol (counted c.args.core.now.faults) (counted c.give_up.new.faults) (g.S.Shelf.meaning c.args.shelf.now) (g.S.Shelf.meaning c.make_ready.new.shelf) (not_down c.is_down.result (g.S.Shelf.meaning c.args.shelf.now).down c.is_down.ensures c.if-is_down.false) c.in-Err.ensures.cause (subst (λ (f : List ℕ). Counts c.in-Err.error c.args.vol (counted f) (counted c.give_up.new.faults)) c.make_ready.ensures.narrows.faults c.give_up.ensures.counts)
+returns-in-Err-clause-cause g c = cause_by (Unit {0}) c.in-Err.error c.args.core.now.config c.make_ready.new.core.config c.args.vol (volume_faults c.args.core.now.faults) (volume_faults c.give_up.new.faults) (g.S.Shelf.meaning c.args.shelf.now) (g.S.Shelf.meaning c.make_ready.new.shelf) (not_down c.is_down.result (g.S.Shelf.meaning c.args.shelf.now).down c.is_down.ensures c.if-is_down.false) c.in-Err.ensures.cause (subst (λ (f : List ℕ). CountsRise c.in-Err.error c.args.vol (volume_faults f) (volume_faults c.give_up.new.faults)) c.make_ready.ensures.narrows.faults c.give_up.ensures.counts)
 
 pub returns-in-Ok-flush_plexes-clause-goes : goal.returns-in-Ok-flush_plexes-clause-goes
-returns-in-Ok-flush_plexes-clause-goes g c = nothing_then Nothing (meaning_of c.args.core.now (g.S.Shelf.meaning c.args.shelf.now)) (meaning_of c.make_ready.new.core (g.S.Shelf.meaning c.make_ready.new.shelf)) (meaning_of c.flush_plexes.new.core (g.S.Shelf.meaning c.flush_plexes.new.shelf)) (narrows_Goes c.args.core.now c.make_ready.new.core (g.S.Shelf.meaning c.args.shelf.now) (g.S.Shelf.meaning c.make_ready.new.shelf) (g.met.S.Shelf.lawful c.make_ready.new.shelf) c.requires.stands c.make_ready.ensures.narrows (counted c.args.core.now.faults) (counted c.make_ready.new.core.faults) (λ u. let same = ap (λ (f : List ℕ). counted f u) c.make_ready.ensures.narrows.faults in omega (arith, same))) c.flush_plexes.ensures.goes
+returns-in-Ok-flush_plexes-clause-goes g c = nothing_then Nothing (inner_meaning c.args.core.now (g.S.Shelf.meaning c.args.shelf.now)) (inner_meaning c.make_ready.new.core (g.S.Shelf.meaning c.make_ready.new.shelf)) (inner_meaning c.flush_plexes.new.core (g.S.Shelf.meaning c.flush_plexes.new.shelf)) (narrows_Goes c.args.core.now c.make_ready.new.core (g.S.Shelf.meaning c.args.shelf.now) (g.S.Shelf.meaning c.make_ready.new.shelf) (g.met.S.Shelf.lawful c.make_ready.new.shelf) c.requires.stands c.make_ready.ensures.narrows (volume_faults c.args.core.now.faults) (volume_faults c.make_ready.new.core.faults) (λ u. let same = ap (λ (f : List ℕ). volume_faults f u) c.make_ready.ensures.narrows.faults in omega (arith, same))) c.flush_plexes.ensures.goes
 
 pub returns-in-Ok-flush_plexes-clause-ok : goal.returns-in-Ok-flush_plexes-clause-ok
-returns-in-Ok-flush_plexes-clause-ok g c = nothing_Flushed c.args.vol (meaning_of c.args.core.now (g.S.Shelf.meaning c.args.shelf.now)) (meaning_of c.make_ready.new.core (g.S.Shelf.meaning c.make_ready.new.shelf)) (meaning_of c.flush_plexes.new.core (g.S.Shelf.meaning c.flush_plexes.new.shelf)) (narrows_Goes c.args.core.now c.make_ready.new.core (g.S.Shelf.meaning c.args.shelf.now) (g.S.Shelf.meaning c.make_ready.new.shelf) (g.met.S.Shelf.lawful c.make_ready.new.shelf) c.requires.stands c.make_ready.ensures.narrows (counted c.args.core.now.faults) (counted c.make_ready.new.core.faults) (λ u. let same = ap (λ (f : List ℕ). counted f u) c.make_ready.ensures.narrows.faults in omega (arith, same))) c.in-Ok.ensures.cause c.in-Ok-flush_plexes.ensures.ok
+returns-in-Ok-flush_plexes-clause-ok g c = nothing_Flushed c.args.vol (inner_meaning c.args.core.now (g.S.Shelf.meaning c.args.shelf.now)) (inner_meaning c.make_ready.new.core (g.S.Shelf.meaning c.make_ready.new.shelf)) (inner_meaning c.flush_plexes.new.core (g.S.Shelf.meaning c.flush_plexes.new.shelf)) (narrows_Goes c.args.core.now c.make_ready.new.core (g.S.Shelf.meaning c.args.shelf.now) (g.S.Shelf.meaning c.make_ready.new.shelf) (g.met.S.Shelf.lawful c.make_ready.new.shelf) c.requires.stands c.make_ready.ensures.narrows (volume_faults c.args.core.now.faults) (volume_faults c.make_ready.new.core.faults) (λ u. let same = ap (λ (f : List ℕ). volume_faults f u) c.make_ready.ensures.narrows.faults in omega (arith, same))) c.in-Ok.ensures.cause c.in-Ok-flush_plexes.ensures.ok
 
 pub returns-in-Err-flush_plexes-clause-goes : goal.returns-in-Err-flush_plexes-clause-goes
-returns-in-Err-flush_plexes-clause-goes g c = raised_Goes Nothing (meaning_of c.args.core.now (g.S.Shelf.meaning c.args.shelf.now)) c.flush_plexes.new.core.config (counted c.flush_plexes.new.core.faults) (counted c.give_up-in-Err-flush_plexes.new.faults) (g.S.Shelf.meaning c.flush_plexes.new.shelf) (counts_less c.in-Err-flush_plexes.error c.args.vol (counted c.flush_plexes.new.core.faults) (counted c.give_up-in-Err-flush_plexes.new.faults) c.give_up-in-Err-flush_plexes.ensures.counts) (nothing_then Nothing (meaning_of c.args.core.now (g.S.Shelf.meaning c.args.shelf.now)) (meaning_of c.make_ready.new.core (g.S.Shelf.meaning c.make_ready.new.shelf)) (meaning_of c.flush_plexes.new.core (g.S.Shelf.meaning c.flush_plexes.new.shelf)) (narrows_Goes c.args.core.now c.make_ready.new.core (g.S.Shelf.meaning c.args.shelf.now) (g.S.Shelf.meaning c.make_ready.new.shelf) (g.met.S.Shelf.lawful c.make_ready.new.shelf) c.requires.stands c.make_ready.ensures.narrows (counted c.args.core.now.faults) (counted c.make_ready.new.core.faults) (λ u. let same = ap (λ (f : List ℕ). counted f u) c.make_ready.ensures.narrows.faults in omega (arith, same))) c.flush_plexes.ensures.goes)
+returns-in-Err-flush_plexes-clause-goes g c = raised_Goes Nothing (inner_meaning c.args.core.now (g.S.Shelf.meaning c.args.shelf.now)) c.flush_plexes.new.core.config (volume_faults c.flush_plexes.new.core.faults) (volume_faults c.give_up-in-Err-flush_plexes.new.faults) (g.S.Shelf.meaning c.flush_plexes.new.shelf) (counts_less c.in-Err-flush_plexes.error c.args.vol (volume_faults c.flush_plexes.new.core.faults) (volume_faults c.give_up-in-Err-flush_plexes.new.faults) c.give_up-in-Err-flush_plexes.ensures.counts) (nothing_then Nothing (inner_meaning c.args.core.now (g.S.Shelf.meaning c.args.shelf.now)) (inner_meaning c.make_ready.new.core (g.S.Shelf.meaning c.make_ready.new.shelf)) (inner_meaning c.flush_plexes.new.core (g.S.Shelf.meaning c.flush_plexes.new.shelf)) (narrows_Goes c.args.core.now c.make_ready.new.core (g.S.Shelf.meaning c.args.shelf.now) (g.S.Shelf.meaning c.make_ready.new.shelf) (g.met.S.Shelf.lawful c.make_ready.new.shelf) c.requires.stands c.make_ready.ensures.narrows (volume_faults c.args.core.now.faults) (volume_faults c.make_ready.new.core.faults) (λ u. let same = ap (λ (f : List ℕ). volume_faults f u) c.make_ready.ensures.narrows.faults in omega (arith, same))) c.flush_plexes.ensures.goes)
 
 pub returns-in-Err-flush_plexes-clause-cause : goal.returns-in-Err-flush_plexes-clause-cause
-returns-in-Err-flush_plexes-clause-cause g c = cause_by (Unit {0}) c.in-Err-flush_plexes.error c.args.core.now.config c.flush_plexes.new.core.config c.args.vol (counted c.args.core.now.faults) (counted c.give_up-in-Err-flush_plexes.new.faults) (g.S.Shelf.meaning c.args.shelf.now) (g.S.Shelf.meaning c.flush_plexes.new.shelf) (not_down c.is_down.result (g.S.Shelf.meaning c.args.shelf.now).down c.is_down.ensures c.if-is_down.false) (blames_later {T = Unit {0}} (Err c.in-Err-flush_plexes.error) (g.S.Shelf.meaning c.args.shelf.now) (g.S.Shelf.meaning c.make_ready.new.shelf) (g.S.Shelf.meaning c.flush_plexes.new.shelf) c.make_ready.ensures.narrows.acts.disk_faults c.in-Err-flush_plexes.ensures.cause) (subst (λ (f : List ℕ). Counts c.in-Err-flush_plexes.error c.args.vol (counted f) (counted c.give_up-in-Err-flush_plexes.new.faults)) (c.flush_plexes.ensures.faults ∙ c.make_ready.ensures.narrows.faults) c.give_up-in-Err-flush_plexes.ensures.counts)
+returns-in-Err-flush_plexes-clause-cause g c = cause_by (Unit {0}) c.in-Err-flush_plexes.error c.args.core.now.config c.flush_plexes.new.core.config c.args.vol (volume_faults c.args.core.now.faults) (volume_faults c.give_up-in-Err-flush_plexes.new.faults) (g.S.Shelf.meaning c.args.shelf.now) (g.S.Shelf.meaning c.flush_plexes.new.shelf) (not_down c.is_down.result (g.S.Shelf.meaning c.args.shelf.now).down c.is_down.ensures c.if-is_down.false) (blames_later {T = Unit {0}} (Err c.in-Err-flush_plexes.error) (g.S.Shelf.meaning c.args.shelf.now) (g.S.Shelf.meaning c.make_ready.new.shelf) (g.S.Shelf.meaning c.flush_plexes.new.shelf) c.make_ready.ensures.narrows.acts.disk_faults c.in-Err-flush_plexes.ensures.cause) (subst (λ (f : List ℕ). CountsRise c.in-Err-flush_plexes.error c.args.vol (volume_faults f) (volume_faults c.give_up-in-Err-flush_plexes.new.faults)) (c.flush_plexes.ensures.faults ∙ c.make_ready.ensures.narrows.faults) c.give_up-in-Err-flush_plexes.ensures.counts)
 
 pub returns-in-Err-clause-marks : goal.returns-in-Err-clause-marks
-returns-in-Err-clause-marks g c = subst (λ (l : List Bool). Marks c.in-Err.error c.args.vol l c.give_up.new.unsure) c.make_ready.ensures.narrows.unsure c.give_up.ensures.marks
+returns-in-Err-clause-marks g c = subst (λ (l : List Bool). MarksUnsure c.in-Err.error c.args.vol l c.give_up.new.unsure) c.make_ready.ensures.narrows.unsure c.give_up.ensures.marks
 
 pub returns-in-Err-flush_plexes-clause-marks : goal.returns-in-Err-flush_plexes-clause-marks
-returns-in-Err-flush_plexes-clause-marks g c = subst (λ (l : List Bool). Marks c.in-Err-flush_plexes.error c.args.vol l c.give_up-in-Err-flush_plexes.new.unsure) (c.flush_plexes.ensures.unsure ∙ c.make_ready.ensures.narrows.unsure) c.give_up-in-Err-flush_plexes.ensures.marks
+returns-in-Err-flush_plexes-clause-marks g c = subst (λ (l : List Bool). MarksUnsure c.in-Err-flush_plexes.error c.args.vol l c.give_up-in-Err-flush_plexes.new.unsure) (c.flush_plexes.ensures.unsure ∙ c.make_ready.ensures.narrows.unsure) c.give_up-in-Err-flush_plexes.ensures.marks
 
 pub returns-in-Err-clause-gave_up : goal.returns-in-Err-clause-gave_up
 returns-in-Err-clause-gave_up g c =
@@ -75,3 +77,21 @@ returns-in-Ok-flush_plexes-clause-unit_faults g c = λ u. let one = c.make_ready
 
 pub returns-in-Err-flush_plexes-clause-unit_faults : goal.returns-in-Err-flush_plexes-clause-unit_faults
 returns-in-Err-flush_plexes-clause-unit_faults g c = λ u. let one = c.make_ready.ensures.narrows.acts.faults u in let two = c.flush_plexes.ensures.narrows.acts.faults u in omega (arith, one, two)
+
+pub returns-then-is_down-clause-acts : goal.returns-then-is_down-clause-acts
+returns-then-is_down-clause-acts g c =
+    none_PlexActs Nothing c.args.core.now.config (g.S.Shelf.meaning c.args.shelf.now)
+
+pub returns-in-Err-clause-acts : goal.returns-in-Err-clause-acts
+returns-in-Err-clause-acts g c =
+    narrow_PlexActs Nothing c.args.core.now c.make_ready.new.core (g.S.Shelf.meaning c.args.shelf.now) (g.S.Shelf.meaning c.make_ready.new.shelf) c.make_ready.ensures.narrows
+
+pub returns-in-Ok-flush_plexes-clause-acts : goal.returns-in-Ok-flush_plexes-clause-acts
+returns-in-Ok-flush_plexes-clause-acts g c =
+    then_PlexActs Nothing c.args.core.now c.make_ready.new.core c.flush_plexes.new.core (g.S.Shelf.meaning c.args.shelf.now) (g.S.Shelf.meaning c.make_ready.new.shelf) (g.S.Shelf.meaning c.flush_plexes.new.shelf)
+    (narrow_PlexActs Nothing c.args.core.now c.make_ready.new.core (g.S.Shelf.meaning c.args.shelf.now) (g.S.Shelf.meaning c.make_ready.new.shelf) c.make_ready.ensures.narrows) c.flush_plexes.ensures.narrows
+
+pub returns-in-Err-flush_plexes-clause-acts : goal.returns-in-Err-flush_plexes-clause-acts
+returns-in-Err-flush_plexes-clause-acts g c =
+    then_PlexActs Nothing c.args.core.now c.make_ready.new.core c.flush_plexes.new.core (g.S.Shelf.meaning c.args.shelf.now) (g.S.Shelf.meaning c.make_ready.new.shelf) (g.S.Shelf.meaning c.flush_plexes.new.shelf)
+    (narrow_PlexActs Nothing c.args.core.now c.make_ready.new.core (g.S.Shelf.meaning c.args.shelf.now) (g.S.Shelf.meaning c.make_ready.new.shelf) c.make_ready.ensures.narrows) c.flush_plexes.ensures.narrows

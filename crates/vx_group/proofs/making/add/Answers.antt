@@ -1,6 +1,6 @@
 use Rattle.std.proofs.Common.{List, refl, sym, subst, arith}
 use Rattle.vx_config.specs.declared.entry.DiskEntry.{DiskEntry}
-use Rattle.vx_group.specs.Nexts.{IsNext}
+use Rattle.vx_group.specs.Nexts.{IsNextConfig}
 use Rattle.vx_group.proofs.DeportLemmas.{blames_stop, stops_later}
 use Rattle.vx_group.proofs.MakeLemmas.{later_adds, later_next, later_stay, settled_stay}
 use Rattle.vx_group.proofs.making.add.Goals as goal
@@ -22,7 +22,7 @@ add_last-requires-clause-more g c = let same = c.settle_headers.ensures.serial i
 
 pub add_last-requires-clause-is_next : goal.add_last-requires-clause-is_next
 add_last-requires-clause-is_next g c =
-    subst (λ (ds : List DiskEntry). IsNext c.settle_headers.new.core.config (record { serial = c.args.next.serial; site = c.args.next.site; disks = ds; volumes = c.args.next.volumes; rvg = c.args.next.rvg })) (sym c.copy-next.ensures)
+    subst (λ (ds : List DiskEntry). IsNextConfig c.settle_headers.new.core.config (record { serial = c.args.next.serial; site = c.args.next.site; disks = ds; volumes = c.args.next.volumes; rvg = c.args.next.rvg })) (sym c.copy-next.ensures)
     (later_next c.args.core.now c.settle_headers.new.core (g.S.Shelf.meaning c.args.shelf.now) (g.S.Shelf.meaning c.settle_headers.new.shelf) (g.met.S.Shelf.lawful c.settle_headers.new.shelf) c.requires.stands c.settle_headers.ensures.stands c.settle_headers.ensures.narrows c.settle_headers.ensures.same c.args.next c.requires.is_next)
 
 pub returns-clause-stays : goal.returns-clause-stays

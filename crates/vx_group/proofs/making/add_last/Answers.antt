@@ -2,7 +2,7 @@ use Rattle.std.proofs.Common.{ℕ, length, Err, refl, ap, sym, subst, arith}
 use Rattle.vx_disk.specs.Shelf.{Goes, Meaning}
 use Rattle.vx_disk.specs.declared.shelf.ShelfError.{ShelfError}
 use Rattle.vx_volume.specs.Plexes.{SomeActive}
-use Rattle.vx_group.specs.Blames.{StopsBy, fault_of as fault_is}
+use Rattle.vx_group.specs.Blames.{StopsByDevice, fault_of as fault_is}
 use Rattle.vx_group.specs.Makes.{AreZero, ZerosOn}
 use Rattle.vx_group.proofs.AddLemmas.{added, added_Stands, added_stay, missed_Stands, missed_blames, missed_stay, next_can, next_count, next_fit, next_follows, next_on, next_some, next_tidy, next_wanted, zero_Stands, zero_stay}
 use Rattle.vx_group.proofs.CallLemmas.{not_down}
@@ -88,7 +88,7 @@ returns-else-is_down-clause-cause g c =
     let m : Meaning = g.S.Shelf.meaning c.args.shelf.now in
     let m1 : Meaning = g.S.Shelf.meaning c.zero_volume.new.shelf in
     let m2 : Meaning = g.S.Shelf.meaning c.commit_next.new.shelf in
-    subst (λ (e : ShelfError). StopsBy {T = Unit {0}} m m2 (Err e)) (sym c.fault_of.ensures)
+    subst (λ (e : ShelfError). StopsByDevice {T = Unit {0}} m m2 (Err e)) (sym c.fault_of.ensures)
     (stops_later {T = Unit {0}} (Err (fault_is c.in-Err-commit_next.no 0)) m m1 m2 c.zero_volume.ensures.goes.disk_faults
     (blames_stop m1 m2 (fault_is c.in-Err-commit_next.no 0)
     (missed_blames c.args.core.now c.args.next (g.S.Shelf.meaning c.args.shelf.now) c.requires.stands c.requires.is_next m1 m2 _ c.in-Err-commit_next.no c.in-Err-commit_next.ensures.ends.cause (not_down c.is_down.result m2.down c.is_down.ensures c.if-is_down.false) c.requires.more)))

@@ -1,7 +1,7 @@
 use Rattle.std.proofs.Common.{ℕ, ◌/◌, sym, subst, arith}
 use Rattle.vx_volume.specs.Volumes.{PlexRead}
 use Rattle.vx_group.specs.Holding.{wide}
-use Rattle.vx_group.specs.Stands.{counted}
+use Rattle.vx_group.specs.Stands.{volume_faults}
 use Rattle.vx_group.proofs.CallLemmas.{with_Stands}
 use Rattle.vx_group.proofs.HoldLemmas.{narrow_size, narrow_some, narrow_units}
 use Rattle.vx_group.proofs.ReadLemmas.{group_read, narrow_fits, wide_read}
@@ -26,13 +26,13 @@ pub returns-in-Ok-clause-stands : goal.returns-in-Ok-clause-stands
 returns-in-Ok-clause-stands g c = record { stands = with_Stands (wide c.args.core.now) _ _ (g.S.Shelf.meaning c.read.new.shelf) (flushed_Stands (wide c.args.core.now) c.args.vol (g.S.Shelf.meaning c.args.shelf.now) (g.S.Shelf.meaning c.read.new.shelf) (g.met.S.Shelf.lawful c.args.shelf.now) (g.met.S.Shelf.lawful c.read.new.shelf) c.requires.stands.stands c.read.ensures.goes); held = c.requires.stands.held }
 
 pub returns-in-Ok-clause-goes : goal.returns-in-Ok-clause-goes
-returns-in-Ok-clause-goes g c = plain_Goes (wide c.args.core.now) c.args.vol (g.S.Shelf.meaning c.args.shelf.now) (g.S.Shelf.meaning c.read.new.shelf) (g.met.S.Shelf.lawful c.args.shelf.now) (g.met.S.Shelf.lawful c.read.new.shelf) c.requires.stands.stands c.read.ensures.goes (counted c.args.core.now.inner.faults) (λ u. omega arith)
+returns-in-Ok-clause-goes g c = plain_Goes (wide c.args.core.now) c.args.vol (g.S.Shelf.meaning c.args.shelf.now) (g.S.Shelf.meaning c.read.new.shelf) (g.met.S.Shelf.lawful c.args.shelf.now) (g.met.S.Shelf.lawful c.read.new.shelf) c.requires.stands.stands c.read.ensures.goes (volume_faults c.args.core.now.inner.faults) (λ u. omega arith)
 
 pub returns-in-Err-Device-clause-stands : goal.returns-in-Err-Device-clause-stands
 returns-in-Err-Device-clause-stands g c = record { stands = with_Stands (wide c.args.core.now) _ _ (g.S.Shelf.meaning c.read.new.shelf) (flushed_Stands (wide c.args.core.now) c.args.vol (g.S.Shelf.meaning c.args.shelf.now) (g.S.Shelf.meaning c.read.new.shelf) (g.met.S.Shelf.lawful c.args.shelf.now) (g.met.S.Shelf.lawful c.read.new.shelf) c.requires.stands.stands c.read.ensures.goes); held = c.requires.stands.held }
 
 pub returns-in-Err-Device-clause-goes : goal.returns-in-Err-Device-clause-goes
-returns-in-Err-Device-clause-goes g c = plain_Goes (wide c.args.core.now) c.args.vol (g.S.Shelf.meaning c.args.shelf.now) (g.S.Shelf.meaning c.read.new.shelf) (g.met.S.Shelf.lawful c.args.shelf.now) (g.met.S.Shelf.lawful c.read.new.shelf) c.requires.stands.stands c.read.ensures.goes (counted c.count_fault.new.faults) c.count_fault.ensures.no_less
+returns-in-Err-Device-clause-goes g c = plain_Goes (wide c.args.core.now) c.args.vol (g.S.Shelf.meaning c.args.shelf.now) (g.S.Shelf.meaning c.read.new.shelf) (g.met.S.Shelf.lawful c.args.shelf.now) (g.met.S.Shelf.lawful c.read.new.shelf) c.requires.stands.stands c.read.ensures.goes (volume_faults c.count_fault.new.faults) c.count_fault.ensures.no_less
 
 pub returns-in-Ok-clause-shown : goal.returns-in-Ok-clause-shown
 returns-in-Ok-clause-shown g c =

@@ -1,13 +1,13 @@
 use Rattle.std.proofs.Common.{true, length, refl, sym, ◌∙◌, subst, arith}
 use Rattle.vx_config.specs.declared.config.Config.{Config}
-use Rattle.vx_group.specs.Stands.{Stands}
+use Rattle.vx_group.specs.Stands.{InnerStands}
 use Rattle.vx_group.proofs.CallLemmas.{both_Narrows}
 use Rattle.vx_group.proofs.RegainLemmas.{back_narrows, flags_back, regained_Narrows, regained_Stands, none_holds, regained_held, regained_regains, same_narrows, same_regains, then_regains}
 use Rattle.vx_group.proofs.regaining.regain.Goals as goal
 
 pub returns-then-not-hold_plex-clause-stands : goal.returns-then-not-hold_plex-clause-stands
 returns-then-not-hold_plex-clause-stands g c =
-    subst (λ (x : Config). Stands (record { config = x; good = c.args.core.now.good; room = c.args.core.now.room; unsettled = c.args.core.now.unsettled; committed = c.args.core.now.committed; agreed = c.args.core.now.agreed; next = c.args.core.now.next; faults = c.args.core.now.faults; unsure = c.args.core.now.unsure }) (g.S.Shelf.meaning c.args.shelf.now)) (sym (c.hold_plex.ensures.regained.none c.if-not-hold_plex.true)) c.requires.stands
+    subst (λ (x : Config). InnerStands (record { config = x; good = c.args.core.now.good; room = c.args.core.now.room; unsettled = c.args.core.now.unsettled; committed = c.args.core.now.committed; agreed = c.args.core.now.agreed; next = c.args.core.now.next; faults = c.args.core.now.faults; unsure = c.args.core.now.unsure }) (g.S.Shelf.meaning c.args.shelf.now)) (sym (c.hold_plex.ensures.regained.none c.if-not-hold_plex.true)) c.requires.stands
 
 pub returns-then-not-hold_plex-clause-narrows : goal.returns-then-not-hold_plex-clause-narrows
 returns-then-not-hold_plex-clause-narrows g c =

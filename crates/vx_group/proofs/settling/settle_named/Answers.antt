@@ -8,7 +8,7 @@ use Rattle.vx_group.specs.declared.inner.Inner.{Inner}
 use Rattle.vx_group.proofs.FailingLemmas.{no_failing}
 use Rattle.vx_group.proofs.ReadyLemmas.{core_back, core_settled, disks_Narrows, disks_Stands, fault_cause, one_failed, same_but, settle_acts, settle_end, settle_kept, settle_mark, settle_one, settle_pass, settle_start, settled_named, settle_less, settle_trusts, settled_still}
 use Rattle.vx_group.specs.Moves.{Narrows}
-use Rattle.vx_group.specs.Stands.{Stands}
+use Rattle.vx_group.specs.Stands.{InnerStands}
 use Rattle.vx_kept.proofs.Trusting.{less_trusts}
 use Rattle.vx_group.proofs.CallLemmas.{settled_Stands, settled_only}
 use Rattle.vx_group.proofs.DetachLemmas.{some_good}
@@ -57,7 +57,7 @@ loop-disk-preserved g c =
 
 pub returns-in-Err-Down-clause-stands : goal.returns-in-Err-Down-clause-stands
 returns-in-Err-Down-clause-stands g c =
-    subst (λ (k : Inner). Stands k (g.S.Shelf.meaning c.settle.new.shelf)) (sym (core_back c.args.core.now c.loop-disk.core c.copy-kept.result c.loop-disk.invariant.1 c.loop-disk.invariant.0.same c.copy-kept.ensures))
+    subst (λ (k : Inner). InnerStands k (g.S.Shelf.meaning c.settle.new.shelf)) (sym (core_back c.args.core.now c.loop-disk.core c.copy-kept.result c.loop-disk.invariant.1 c.loop-disk.invariant.0.same c.copy-kept.ensures))
     (settled_Stands c.args.core.now c.args.core.now.unsettled (g.S.Shelf.meaning c.args.shelf.now) (g.S.Shelf.meaning c.settle.new.shelf) c.requires.stands (settle_kept c.args.core.now.good c.args.core.now.config c.loop-disk.core.config c.loop-disk.disk c.loop-disk.device c.loop-disk.failed (g.S.Shelf.meaning c.args.shelf.now) (g.S.Shelf.meaning c.loop-disk.shelf) c.loop-disk.invariant.0 (g.S.Shelf.meaning c.settle.new.shelf) c.settle.ensures.goes (g.met.S.Shelf.lawful c.loop-disk.shelf) (g.met.S.Shelf.lawful c.settle.new.shelf)) (settle_acts c.args.core.now.good c.args.core.now.config c.loop-disk.core.config c.loop-disk.disk c.loop-disk.device c.loop-disk.failed (g.S.Shelf.meaning c.args.shelf.now) (g.S.Shelf.meaning c.loop-disk.shelf) c.loop-disk.invariant.0 (g.S.Shelf.meaning c.settle.new.shelf) c.settle.ensures.goes (g.met.S.Shelf.lawful c.loop-disk.shelf) (g.met.S.Shelf.lawful c.settle.new.shelf)) (λ is. absurd (let un = c.if-not-core.false in let clash : true ≡ false = sym un ∙ is in cc)) (less_trusts c.args.core.now.committed c.args.core.now.agreed c.args.core.now.good (g.S.Shelf.meaning c.args.shelf.now) (g.S.Shelf.meaning c.settle.new.shelf) (g.met.S.Shelf.lawful c.args.shelf.now) (g.met.S.Shelf.lawful c.settle.new.shelf) (c.settle.ensures.goes.units ∙ c.loop-disk.invariant.0.acts.units) (λ u. c.settle.ensures.goes.size u ∙ c.loop-disk.invariant.0.acts.size u) (c.settle.ensures.goes.tells ∙ c.loop-disk.invariant.0.acts.tells) (λ u b v lt left. settle_less c.args.core.now.good c.args.core.now.config c.loop-disk.core.config c.loop-disk.disk c.loop-disk.device c.loop-disk.failed (g.S.Shelf.meaning c.args.shelf.now) (g.S.Shelf.meaning c.loop-disk.shelf) c.loop-disk.invariant.0 (g.S.Shelf.meaning c.settle.new.shelf) c.settle.ensures.goes (g.met.S.Shelf.lawful c.loop-disk.shelf) (g.met.S.Shelf.lawful c.settle.new.shelf) u b v left) c.requires.stands.trusts))
 
 pub returns-in-Err-Down-clause-narrows : goal.returns-in-Err-Down-clause-narrows
@@ -67,7 +67,7 @@ returns-in-Err-Down-clause-narrows g c =
 
 pub returns-then-not-has_good-clause-stands : goal.returns-then-not-has_good-clause-stands
 returns-then-not-has_good-clause-stands g c =
-    subst (λ (k : Inner). Stands k (g.S.Shelf.meaning c.loop-disk.shelf)) (sym (core_back c.args.core.now c.loop-disk.core c.copy-kept.result c.loop-disk.invariant.1 c.loop-disk.invariant.0.same c.copy-kept.ensures))
+    subst (λ (k : Inner). InnerStands k (g.S.Shelf.meaning c.loop-disk.shelf)) (sym (core_back c.args.core.now c.loop-disk.core c.copy-kept.result c.loop-disk.invariant.1 c.loop-disk.invariant.0.same c.copy-kept.ensures))
     (settled_Stands c.args.core.now c.args.core.now.unsettled (g.S.Shelf.meaning c.args.shelf.now) (g.S.Shelf.meaning c.loop-disk.shelf) c.requires.stands c.loop-disk.invariant.0.kept c.loop-disk.invariant.0.acts (λ is. absurd (let un = c.if-not-core.false in let clash : true ≡ false = sym un ∙ is in cc)) (settle_trusts c.args.core.now.committed c.args.core.now.agreed c.args.core.now.good c.args.core.now.config c.loop-disk.core.config c.loop-disk.disk c.loop-disk.device c.loop-disk.failed (g.S.Shelf.meaning c.args.shelf.now) (g.S.Shelf.meaning c.loop-disk.shelf) (g.met.S.Shelf.lawful c.args.shelf.now) (g.met.S.Shelf.lawful c.loop-disk.shelf) c.loop-disk.invariant.0 c.requires.stands.trusts))
 
 pub returns-then-not-has_good-clause-narrows : goal.returns-then-not-has_good-clause-narrows
@@ -84,7 +84,7 @@ returns-then-not-has_good-clause-cause g c = (
 pub returns-clause-stands : goal.returns-clause-stands
 returns-clause-stands g c =
     let count = wanted_count (g.S.Shelf.meaning c.args.shelf.now).units (g.S.Shelf.meaning c.args.shelf.now).size c.args.core.now.config c.requires.stands.wanted in let ds = ap length (c.as_slice.ensures.disks ∙ c.copy-kept.ensures) in let units = c.loop-disk.invariant.0.acts.units in
-    subst (λ (k : Inner). Stands k (g.S.Shelf.meaning c.loop-disk.shelf)) (sym (core_settled c.args.core.now c.loop-disk.core c.loop-disk.invariant.1))
+    subst (λ (k : Inner). InnerStands k (g.S.Shelf.meaning c.loop-disk.shelf)) (sym (core_settled c.args.core.now c.loop-disk.core c.loop-disk.invariant.1))
     (disks_Stands c.args.core.now c.loop-disk.core.config c.loop-disk.disk c.loop-disk.device c.loop-disk.failed (g.S.Shelf.meaning c.args.shelf.now) (g.S.Shelf.meaning c.loop-disk.shelf) c.requires.stands c.loop-disk.invariant.0
     (subst (λ (k : ℕ). NoneGood c.loop-disk.core.config.disks (length c.loop-disk.core.config.disks) k → ⊥) (ap (λ (x : Inner). x.good) c.loop-disk.invariant.1)
     (some_good c.loop-disk.core.config.disks c.loop-disk.core.good (c.has_good.ensures.some c.if-not-has_good.false)))

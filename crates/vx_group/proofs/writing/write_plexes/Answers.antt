@@ -9,6 +9,9 @@ use Rattle.vx_group.specs.GivesUp.{GivesUp}
 use Rattle.vx_group.proofs.GiveLemmas.{detach_gives, ends_gives}
 use Rattle.vx_group.proofs.Standing.{fit_of, some_active}
 use Rattle.vx_group.proofs.WriteLemmas.{no_commit, wrote_Goes, wrote_Stands, wrote_Wrote, wrote_all}
+use Rattle.vx_volume.specs.Volumes.{OnPlexes}
+use Rattle.vx_kept.proofs.PlexActing.{only_PlexActs}
+use Rattle.vx_group.proofs.ActsLemmas.{then_PlexActs}
 use Rattle.vx_group.proofs.writing.write_plexes.Goals as goal
 
 pub write_all-requires-clause-some : goal.write_all-requires-clause-some
@@ -102,3 +105,20 @@ returns-in-Err-clause-unit_faults g c =
 pub returns-else-core-clause-unit_faults : goal.returns-else-core-clause-unit_faults
 returns-else-core-clause-unit_faults g c =
     λ u. let one = c.write_all.ensures.goes.faults u in let two = c.detach.ensures.narrows.acts.faults u in omega (arith, one, two)
+
+pub returns-then-failed-eq0-clause-acts : goal.returns-then-failed-eq0-clause-acts
+returns-then-failed-eq0-clause-acts g c =
+    only_PlexActs (OnPlexes c.args.core.now.config c.args.vol c.args.block (length c.args.bytes.now / 512) c.args.bytes.now) c.args.core.now.config (g.S.Shelf.meaning c.args.shelf.now) (g.S.Shelf.meaning c.write_all.new.shelf) c.write_all.ensures.goes
+
+pub returns-then-core-clause-acts : goal.returns-then-core-clause-acts
+returns-then-core-clause-acts g c =
+    only_PlexActs (OnPlexes c.args.core.now.config c.args.vol c.args.block (length c.args.bytes.now / 512) c.args.bytes.now) c.args.core.now.config (g.S.Shelf.meaning c.args.shelf.now) (g.S.Shelf.meaning c.write_all.new.shelf) c.write_all.ensures.goes
+
+pub returns-in-Err-clause-acts : goal.returns-in-Err-clause-acts
+returns-in-Err-clause-acts g c =
+    only_PlexActs (OnPlexes c.args.core.now.config c.args.vol c.args.block (length c.args.bytes.now / 512) c.args.bytes.now) c.args.core.now.config (g.S.Shelf.meaning c.args.shelf.now) (g.S.Shelf.meaning c.write_all.new.shelf) c.write_all.ensures.goes
+
+pub returns-else-core-clause-acts : goal.returns-else-core-clause-acts
+returns-else-core-clause-acts g c =
+    then_PlexActs (OnPlexes c.args.core.now.config c.args.vol c.args.block (length c.args.bytes.now / 512) c.args.bytes.now) c.args.core.now c.args.core.now c.detach.new.core (g.S.Shelf.meaning c.args.shelf.now) (g.S.Shelf.meaning c.write_all.new.shelf) (g.S.Shelf.meaning c.detach.new.shelf)
+    (only_PlexActs (OnPlexes c.args.core.now.config c.args.vol c.args.block (length c.args.bytes.now / 512) c.args.bytes.now) c.args.core.now.config (g.S.Shelf.meaning c.args.shelf.now) (g.S.Shelf.meaning c.write_all.new.shelf) c.write_all.ensures.goes) c.detach.ensures.narrows

@@ -1,5 +1,5 @@
-use Rattle.vx_history.proofs.GoodLemmas.{good_empty, good_site, good_raw, good_written, good_half_written}
-use Rattle.vx_history.proofs.CrashLemmas.{good_crashed, good_recovered, good_session_begun, good_stopped}
+use Rattle.vx_history.proofs.GoodLemmas.{good_empty, good_site, good_raw, good_group, good_written, good_half_written}
+use Rattle.vx_history.proofs.CrashLemmas.{good_crashed, good_deported, good_recovered, good_session_begun, good_stopped}
 use Rattle.vx_history.proofs.laws.stays_good.Goals as goal
 
 pub returns : goal.returns
@@ -7,9 +7,11 @@ returns c = record {
   empty = good_empty;
   site = good_site;
   raw = good_raw;
+  group = good_group;
   write = good_written;
   fault = good_half_written;
   crash = good_crashed;
+  deport = good_deported;
   recovery = good_recovered;
   refused = good_session_begun;
   halt = good_stopped;

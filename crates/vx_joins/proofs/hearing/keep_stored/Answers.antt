@@ -1,8 +1,10 @@
 -- The header with more stored, where there is more.
-use Rattle.std.proofs.Common.{◌∙◌, ap, sym, subst, arith}
+use Rattle.std.proofs.Common.{◌∙◌, ap, sym, subst, refl, arith}
 use Rattle.vx_model.specs.declared.state.State.{State}
 use Rattle.vx_diskset.specs.Keeps.{CanKeep}
 use Rattle.vx_joins.specs.Hearings.{links_stored}
+use Rattle.vx_events.specs.declared.said.Said.TheVariants.{Done, Refused}
+use Rattle.vx_joins.proofs.StoresCalls.{stores_more, stores_none}
 use Rattle.vx_joins.proofs.StoresLink.{called_none, can_store, stored_more, stored_not, stored_same}
 use Rattle.vx_joins.proofs.hearing.keep_stored.Goals as goal
 
@@ -32,3 +34,16 @@ returns-in-Ok-clause-called g c = λ beside n stands. c.in-Ok.ensures.called bes
 
 pub returns-in-Err-clause-called : goal.returns-in-Err-clause-called
 returns-in-Err-clause-called g c = λ beside n stands. c.in-Err.ensures.called beside n stands
+
+pub returns-then-stored-old-clause-headed : goal.returns-then-stored-old-clause-headed
+returns-then-stored-old-clause-headed g c = λ beside n stands some. stores_none c.args.old c.args.stored c.args.disks.now (omega (arith, c.if-stored-old.true))
+
+pub returns-then-stored-gt-MOST_NUMBER-clause-headed : goal.returns-then-stored-gt-MOST_NUMBER-clause-headed
+returns-then-stored-gt-MOST_NUMBER-clause-headed g c = λ beside n stands some. absurd (some refl)
+
+pub returns-in-Ok-clause-headed : goal.returns-in-Ok-clause-headed
+returns-in-Ok-clause-headed g c = λ beside n stands some. stores_more c.args.old c.args.stored Done c.args.disks.now c.keep.new.self (omega (arith, c.if-stored-old.false)) (c.in-Ok.ensures.headed beside n stands)
+
+pub returns-in-Err-clause-headed : goal.returns-in-Err-clause-headed
+returns-in-Err-clause-headed g c = λ beside n stands some.
+    stores_more c.args.old c.args.stored (Refused c.in-Err.no) c.args.disks.now c.keep.new.self (omega (arith, c.if-stored-old.false)) (c.in-Err.ensures.headed beside n stands)

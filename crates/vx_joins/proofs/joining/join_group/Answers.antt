@@ -5,7 +5,7 @@ use Rattle.vx_disk.specs.Moves.{Moves}
 use Rattle.vx_rvg.specs.Saves.{RestartIs, change_blocks, restart_refusal, with_restart}
 use Rattle.vx_rvg.specs.Stands.{Saving}
 use Rattle.std.specs.Prelude.{Some}
-use Rattle.vx_joins.proofs.JoinGroup.{join_cut, joined_as}
+use Rattle.vx_joins.proofs.JoinGroup.{join_calls, join_cut, joined_as, none_applied}
 use Rattle.vx_joins.proofs.joining.join_group.Goals as goal
 
 pub returns-then-is_down-clause-joined : goal.returns-then-is_down-clause-joined
@@ -28,3 +28,15 @@ returns-clause-joined g c = λ beside a p n up can is.
     c.ring-ring.ensures.run c.change-answer.result
     (subst (λ (s : State). RestartIs (restart_refusal old 0) old (with_restart old s 0) m new c.change-answer.new.self.core c.change-answer.result) is c.change-answer.ensures.answers)
     (λ some. ap g.R.Shelf.meaning (c.change-answer.ensures.unchanged some)) c.change-answer.ensures.stands
+
+pub returns-then-is_down-clause-short : goal.returns-then-is_down-clause-short
+returns-then-is_down-clause-short g c = λ beside n up can.
+    c.change-answer.ensures.short (none_applied n c.args.rvg.now.core (g.R.Shelf.meaning c.args.rvg.now.shelf) up can)
+
+pub returns-clause-calls : goal.returns-clause-calls
+returns-clause-calls g c =
+    join_calls c.args.rvg.now.core (g.R.Shelf.meaning c.args.rvg.now.shelf) (g.R.Shelf.meaning c.change-answer.new.self.shelf) c.change-answer.result c.change-answer.ensures.calls
+
+pub returns-clause-short : goal.returns-clause-short
+returns-clause-short g c = λ beside n up can.
+    c.change-answer.ensures.short (none_applied n c.args.rvg.now.core (g.R.Shelf.meaning c.args.rvg.now.shelf) up can)

@@ -7,7 +7,7 @@ use Rattle.vx_history.specs.declared.event.Said.TheVariants.{Ignored as IsIgnore
 use Rattle.vx_courier.specs.Together.{AssemblyStands}
 use Rattle.vx_peers.specs.Receivers.{DeliveredAt, TookOne, rule_at}
 use Rattle.vx_diskset.specs.Holds.{beside_of}
-use Rattle.vx_diskset.specs.Stands.{StandsAt}
+use Rattle.vx_diskset.specs.Stands.{SiteStands}
 use Rattle.vx_diskset.specs.declared.disk_set.DiskSet.TheVariants.{Receives}
 use Rattle.vx_joins.specs.Deliveries.{DeliveredTo, TookTo}
 use Rattle.vx_joins.proofs.TakesUpdate.{alone_group, alone_same, err_map, halted_to, later_group, later_same, ok_map, receives_at, same_stands, taken_to}
@@ -21,7 +21,7 @@ returns-in-Some-clause-delivered g c = λ d p k x at target message one flight s
     let s = c.args.secondary.now in
     let f = g.N.Net.flying c.args.flight.now in
     subst
-    (λ (t : ℕ). StandsAt (beside_of d t) (w.nodes t) (Receives s) → c.args.fed_by.now ≡ (w.nodes t).fed_by → AssemblyStands w.packets t (w.gathering t) c.args.assembly.now
+    (λ (t : ℕ). SiteStands (beside_of d t) (w.nodes t) (Receives s) → c.args.fed_by.now ≡ (w.nodes t).fed_by → AssemblyStands w.packets t (w.gathering t) c.args.assembly.now
     → DeliveredTo (delivered w c.args.number (packet_at w.packets c.args.number)) (beside_of d t) t (Receives s) c.args.fed_by.now c.args.assembly.now f IsIgnored) target
     (λ stands fed assembly. halted_to w c.args.number p k x at message (beside_of d p.target) s c.in-Some.field-0 c.args.fed_by.now c.args.assembly.now f (sym c.in-Some.is ∙ c.halted.ensures) stands fed assembly flight)
     stands fed assembly
@@ -44,7 +44,7 @@ returns-clause-delivered g c = λ d p k x at target message one flight stands fe
     let done = c.deliver_update.ensures.delivered w p k x at target message one flight receives assembly
     (λ is. fits_group (w.nodes c.args.site) s.rvg.core (g.R.Shelf.meaning s.rvg.shelf) p.line k x stands.lies stands.units stands.ring (fits (is ∙ line))) in
     subst
-    (λ (t : ℕ). StandsAt (beside_of d t) (w.nodes t) (Receives s) → (w.nodes t).halted ≡ None → IfOk c.deliver_update.result (λ said. DeliveredAt w t c.args.number new.rvg.core new.waiting c.deliver_update.new.fed_by c.deliver_update.new.assembly (g.N.Net.flying c.deliver_update.new.flight) said)
+    (λ (t : ℕ). SiteStands (beside_of d t) (w.nodes t) (Receives s) → (w.nodes t).halted ≡ None → IfOk c.deliver_update.result (λ said. DeliveredAt w t c.args.number new.rvg.core new.waiting c.deliver_update.new.fed_by c.deliver_update.new.assembly (g.N.Net.flying c.deliver_update.new.flight) said)
     → IfOk c.deliver_update.result (λ said. DeliveredTo (delivered w c.args.number (packet_at w.packets c.args.number)) (beside_of d t) t (Receives new) c.deliver_update.new.fed_by c.deliver_update.new.assembly (g.N.Net.flying c.deliver_update.new.flight) said)) target
     (λ stands running done. ok_map c.deliver_update.result done
     (λ said stood. taken_to w c.args.number p k x at message (beside_of d p.target) s new c.deliver_update.new.fed_by c.deliver_update.new.assembly (g.N.Net.flying c.deliver_update.new.flight) said c.deliver_update.ensures.group stands running stood))
@@ -76,7 +76,7 @@ returns-in-Some-clause-took g c = λ d p k x at target message flight stands fed
     let s = c.args.secondary.now in
     let f = g.N.Net.flying c.args.flight.now in
     subst
-    (λ (t : ℕ). StandsAt (beside_of d t) (w.nodes t) (Receives s) → c.args.fed_by.now ≡ (w.nodes t).fed_by
+    (λ (t : ℕ). SiteStands (beside_of d t) (w.nodes t) (Receives s) → c.args.fed_by.now ≡ (w.nodes t).fed_by
     → TookTo w c.args.number p k (beside_of d t) (Receives s) c.args.fed_by.now c.args.assembly.now c.args.assembly.now f f IsIgnored) target
     (λ stands fed. halted_took w c.args.number p k x at message (beside_of d p.target) s c.in-Some.field-0 c.args.fed_by.now c.args.assembly.now f (sym c.in-Some.is ∙ c.halted.ensures) stands fed)
     stands fed
@@ -95,7 +95,7 @@ returns-clause-took g c = λ d p k x at target message flight stands fed.
     let a = c.args.assembly.now in
     let a' = c.deliver_update.new.assembly in
     subst
-    (λ (t : ℕ). StandsAt (beside_of d t) (w.nodes t) (Receives s) → (w.nodes t).halted ≡ None → fed_by ≡ (w.nodes t).fed_by
+    (λ (t : ℕ). SiteStands (beside_of d t) (w.nodes t) (Receives s) → (w.nodes t).halted ≡ None → fed_by ≡ (w.nodes t).fed_by
     → IfOk c.deliver_update.result (λ said. TookOne (rule_at core s.waiting p.line k) p.source t core s.waiting new.waiting fed_by fed_new a a' f f' said)
     → IfOk c.deliver_update.result (λ said. TookTo w c.args.number p k (beside_of d t) (Receives new) fed_new a a' f f' said)) target
     (λ stands running fed took. ok_map c.deliver_update.result took

@@ -1,6 +1,6 @@
-use Rattle.vx_layout.specs.Space.{room}
+use Rattle.vx_layout.specs.Space.{disk_room}
 use Rattle.vx_layout.specs.Steps.{AreRooms}
 use Rattle.vx_layout.proofs.rooms.rooms_of.Given as goal
 
 abbrev pub invariant-loop-disk : goal.invariant-loop-disk
-invariant-loop-disk l = AreRooms (room l.used l.disks l.found) l.disk l.rooms
+invariant-loop-disk l = AreRooms (disk_room l.used l.disks l.found) l.disk l.rooms

@@ -1,7 +1,7 @@
 -- A seat in the subdisks is one in the plex: within a unit blocks stand one behind the other.
 use Rattle.std.proofs.Common.{◌≡◌, arith, ap}
 use Rattle.std.specs.Prelude.{sum_by}
-use Rattle.vx_layout.specs.Places.{blocks_in}
+use Rattle.vx_layout.specs.Places.{subdisk_blocks}
 use Rattle.vx_layout.proofs.Placing.{linear_within, run_in}
 use Rattle.vx_layout.proofs.spot.seat_in.Goals as goal
 
@@ -9,7 +9,7 @@ pub locate-seat-requires : goal.locate-seat-requires
 locate-seat-requires c = record {
   inside =
       let within = linear_within c.args.volume.now c.args.plex.now c.args.block c.requires.filled c.requires.block in
-      let same : sum_by blocks_in c.as_slice.result.now ≡ sum_by blocks_in c.args.plex.now.subdisks = ap (sum_by blocks_in) c.as_slice.ensures.subdisks in
+      let same : sum_by subdisk_blocks c.as_slice.result.now ≡ sum_by subdisk_blocks c.args.plex.now.subdisks = ap (sum_by subdisk_blocks) c.as_slice.ensures.subdisks in
       omega (arith, within, same, c.linear.ensures);
 }
 

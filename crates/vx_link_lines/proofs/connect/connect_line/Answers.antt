@@ -2,9 +2,9 @@ use Rattle.std.proofs.Common.{◌≡◌, ◌∙◌, ◌≤◌, length, refl, sub
 use Rattle.std.specs.Prelude.{None}
 use Rattle.std.proofs.lemmas.List.{with_items_is}
 use Rattle.std.proofs.lemmas.Result.{err_from_is_err_and}
-use Rattle.vx_linked.specs.Turns.{StandsFor as LinksStand}
+use Rattle.vx_linked.specs.Turns.{FactsStandFor as LinksStand}
 use Rattle.vx_model.specs.declared.limits.TheConstants.{MOST_SITES}
-use Rattle.vx_order.specs.Order.{refusal_of}
+use Rattle.vx_order.specs.Order.{line_refusal}
 use Rattle.vx_script.specs.declared.line.ScriptLine.TheVariants.{Connect}
 use Rattle.vx_linked.proofs.Finding.{connect_tested, seat_found}
 use Rattle.vx_yard.specs.Yards.{in_files}
@@ -19,7 +19,7 @@ site_of-there-requires-clause-named g c = λ κs within.
 pub connect-requires : goal.connect-requires
 connect-requires g c = record {
   few = subst (λ fs. length fs ≤ MOST_SITES) (sym c.deref_mut.ensures.value) c.requires.kept.few;
-  free = (in_files c.args.yard.now, subst (λ fs. refusal_of fs (in_files c.args.yard.now) (Connect c.args.first.now c.args.second.now) ≡ None) (sym c.deref_mut.ensures.value) c.requires.free);
+  free = (in_files c.args.yard.now, subst (λ fs. line_refusal fs (in_files c.args.yard.now) (Connect c.args.first.now c.args.second.now) ≡ None) (sym c.deref_mut.ensures.value) c.requires.free);
 }
 
 pub returns-clause-leads : goal.returns-clause-leads

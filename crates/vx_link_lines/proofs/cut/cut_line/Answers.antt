@@ -1,8 +1,8 @@
 use Rattle.std.proofs.Common.{◌≡◌, ◌∙◌, refl, subst, sym}
 use Rattle.std.specs.Prelude.{None}
 use Rattle.std.proofs.lemmas.List.{with_items_is}
-use Rattle.vx_linked.specs.Turns.{StandsFor as LinksStand}
-use Rattle.vx_order.specs.Order.{refusal_of}
+use Rattle.vx_linked.specs.Turns.{FactsStandFor as LinksStand}
+use Rattle.vx_order.specs.Order.{line_refusal}
 use Rattle.vx_script.specs.declared.line.ScriptLine.TheVariants.{Cut}
 use Rattle.vx_yard.specs.Yards.{in_files}
 use Rattle.vx_yard.proofs.LinkLines.{cut_brings, links_stand}
@@ -10,7 +10,7 @@ use Rattle.vx_link_lines.proofs.cut.cut_line.Goals as goal
 
 pub cut-requires : goal.cut-requires
 cut-requires g c = record {
-  free = (in_files c.args.yard.now, subst (λ fs. refusal_of fs (in_files c.args.yard.now) (Cut c.args.first.now c.args.second.now) ≡ None) (sym c.deref_mut.ensures.value) c.requires.free);
+  free = (in_files c.args.yard.now, subst (λ fs. line_refusal fs (in_files c.args.yard.now) (Cut c.args.first.now c.args.second.now) ≡ None) (sym c.deref_mut.ensures.value) c.requires.free);
 }
 
 pub returns-clause-leads : goal.returns-clause-leads

@@ -1,7 +1,12 @@
 -- The packet of a number at its target, by its kind.
 use Rattle.std.proofs.Common.{◌<◌, ◌≤◌, ap, refl, arith}
 use Rattle.vx_history.specs.Events.{packet_at}
+use Rattle.vx_diskset.specs.Asked.{HeadUnder}
+use Rattle.vx_events.specs.declared.said.Said.TheVariants.{Ignored}
 use Rattle.vx_packet.specs.declared.part.Part.{Part}
+use Rattle.vx_script.specs.declared.line.ScriptLine.TheVariants.{Deliver}
+use Rattle.vx_yard.specs.OfSites.{HasCalled, OfSite, TouchesNone, heard_calls}
+use Rattle.vx_link_lines.proofs.DeliverCalls.{answer_calls, if_ok_then, unsited_calls, update_calls}
 use Rattle.vx_link_lines.proofs.DeliverLine.{found, kind_answer, kind_update, never_lost, packet_kept, sites_many}
 use Rattle.vx_link_lines.proofs.HeardLine.{unsited_stays}
 use Rattle.vx_yard.proofs.OfSites.{all_still}
@@ -100,3 +105,40 @@ returns-clause-told g c = c.hear_answer.ensures.told
 
 pub returns-clause-files : goal.returns-clause-files
 returns-clause-files g c = c.hear_answer.ensures.files
+
+pub returns-in_default-clause-called : goal.returns-in_default-clause-called
+returns-in_default-clause-called g c = λ d stands carries.
+    let q = packet_kept d c.args.yard.now c.args.number carries c.requires.free in
+    absurd (never_lost c.part_at.result (packet_at d.world.packets c.args.number) q.0 (c.part_at.ensures d.world.packets carries.flight) q.1 c.in_default.is)
+
+pub returns-then-target-len-clause-called : goal.returns-then-target-len-clause-called
+returns-then-target-len-clause-called g c = λ d stands carries.
+    let y = c.args.yard.now in
+    let f = found d y c.args.number c.part_at.result c.in-Some.part carries c.requires.free (c.part_at.ensures d.world.packets carries.flight) c.in-Some.is in
+    let past : d.world.sites ≤ f.packet.target = omega (arith, c.if-target-len.true, c.len.ensures, y.facts.ok, sites_many d y stands, f.to) in
+    unsited_calls d.world c.args.number f.packet Ignored y f.at past
+
+pub returns-then-part-eq-UPDATE-clause-called : goal.returns-then-part-eq-UPDATE-clause-called
+returns-then-part-eq-UPDATE-clause-called g c = λ d stands carries.
+    let y = c.args.yard.now in
+    let new = c.hand_update.new.yard in
+    let f = found d y c.args.number c.part_at.result c.in-Some.part carries c.requires.free (c.part_at.ensures d.world.packets carries.flight) c.in-Some.is in
+    let kind = ap (λ (x : Part). x.kind) f.is in
+    let update = kind_update f.packet (omega (arith, c.if-part-eq-UPDATE.true, kind)) in
+    let below : c.in-Some.part.target < d.world.sites = omega (arith, c.if-target-len.false, c.len.ensures, y.facts.ok, sites_many d y stands) in
+    if_ok_then (λ said. OfSite (TouchesNone said) c.in-Some.part.target y new) (λ said. HasCalled d.world (Deliver c.args.number) said y new) c.hand_update.result
+    (λ said calls. update_calls d.world c.args.number f.packet said y new c.in-Some.part.target f.at f.to below update.0 update.1 update.2 calls) c.hand_update.ensures.called
+
+pub returns-clause-called : goal.returns-clause-called
+returns-clause-called g c = λ d stands carries.
+    let y = c.args.yard.now in
+    let new = c.hear_answer.new.yard in
+    let t = c.in-Some.part.target in
+    let q = c.in-Some.part.source in
+    let f = found d y c.args.number c.part_at.result c.in-Some.part carries c.requires.free (c.part_at.ensures d.world.packets carries.flight) c.in-Some.is in
+    let kind = ap (λ (x : Part). x.kind) f.is in
+    let below : t < d.world.sites = omega (arith, c.if-target-len.false, c.len.ensures, y.facts.ok, sites_many d y stands) in
+    let answers = kind_answer f.packet (λ e. omega (arith, c.if-part-eq-UPDATE.false, kind, e)) in
+    if_ok_then (λ said. OfSite (HeadUnder (heard_calls d.world c.args.number t q) said) t y new) (λ said. HasCalled d.world (Deliver c.args.number) said y new) c.hear_answer.result
+    (λ said calls. answer_calls d.world c.args.number f.packet said y new t f.at f.to below q f.from answers calls)
+    (c.hear_answer.ensures.called d f.packet stands carries f.at f.to f.from below answers)

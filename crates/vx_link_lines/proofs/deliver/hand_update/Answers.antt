@@ -3,13 +3,13 @@ use Rattle.std.proofs.Common.{◌≡◌, ◌∙◌, ◌<◌, ℕ, ap, sym, subst
 use Rattle.std.specs.Prelude.{Some, slice_get, slice_set}
 use Rattle.std.proofs.lemmas.Result.{err_from_is_err_and}
 use Rattle.vx_history.specs.Events.{delivered, packet_at}
-use Rattle.vx_history.specs.Fits.{Fits}
+use Rattle.vx_history.specs.Fits.{WriteFits}
 use Rattle.vx_model.specs.declared.site.SiteState.TheVariants.{Up}
 use Rattle.vx_effects.specs.Facts.{received_fact}
 use Rattle.vx_events.proofs.Places.{some_same}
 use Rattle.vx_script.specs.declared.line.ScriptLine.TheVariants.{Deliver}
 use Rattle.vx_diskset.specs.Holds.{beside_of}
-use Rattle.vx_diskset.specs.Stands.{RoleIs, StandsAt}
+use Rattle.vx_diskset.specs.Stands.{RoleIs, SiteStands}
 use Rattle.vx_joins.proofs.TakesUpdate.{alone_same, later_same}
 use Rattle.vx_joins.proofs.UpdatesFit.{are_one, update_fits}
 use Rattle.vx_joins.specs.Deliveries.{DeliveredTo, TookTo}
@@ -19,7 +19,10 @@ use Rattle.vx_yard.proofs.ChangeSite.{told_before}
 use Rattle.vx_link_lines.proofs.Deaf.{deaf_leads, fact_at, last_received, none_start, took_ignored}
 use Rattle.vx_yard.proofs.Leads.{room_receives}
 use Rattle.vx_yard.proofs.FailsStay.{alone_keeps}
-use Rattle.vx_yard.proofs.OfSites.{all_of_site, all_still}
+use Rattle.vx_events.specs.declared.said.Said.TheVariants.{Ignored, Refused, Taken}
+use Rattle.vx_yard.specs.OfSites.{TouchesNone}
+use Rattle.vx_link_lines.proofs.DeliverCalls.{no_answer, waits_alone}
+use Rattle.vx_yard.proofs.OfSites.{all_of_site, all_still, site_still}
 use Rattle.vx_yard.proofs.Lists.{get-set_same, get_at, length-set, set_same}
 use Rattle.vx_link_lines.proofs.deliver.hand_update.Goals as goal
 
@@ -35,7 +38,7 @@ returns-then-not-receives-clause-leads g c = λ d p k x stands carries good at t
     let place = subst (λ (i : ℕ). slice_get old.disk_sets.items i ≡ Some e) (sym to) there in
     deaf_leads d c.args.number p k x at message old old e e c.receives.result stands (subst (λ (i : ℕ). i < d.world.sites) (sym to) below)
     (record { there = place; later = later_same e; disk_sets = sym (set_same old.disk_sets.items p.target e place); racks = refl }) (alone_same e) c.receives.ensures c.if-not-receives.true
-    (subst (λ (i : ℕ). RoleIs (d.world.nodes i) e) (sym to) (stands.roles.each t e below there)) (subst (λ (i : ℕ). StandsAt (beside_of d i) (d.world.nodes i) e) (sym to) (stands.disk_sets.sites t e below there)) refl
+    (subst (λ (i : ℕ). RoleIs (d.world.nodes i) e) (sym to) (stands.roles.each t e below there)) (subst (λ (i : ℕ). SiteStands (beside_of d i) (d.world.nodes i) e) (sym to) (stands.disk_sets.sites t e below there)) refl
     (record { flight = refl; assemblies = refl; feeders = refl }) (λ tells. tells)
 
 pub returns-in_err-said-clause-told : goal.returns-in_err-said-clause-told
@@ -79,7 +82,7 @@ returns-in-Taken-clause-leads g c = λ d p k x stands carries good at to below m
     let same_before = some_same (sym (get_at old.disk_sets.items t c.index.result.now c.requires.disk_set c.index.ensures) ∙ there) in
     let here = stands.disk_sets.sites t before below there in
     let role = stands.roles.each t before below there in
-    let opens = room_receives (beside_of d t) (d.world.nodes t) c.index.result.now c.receives.result c.receives.ensures c.if-not-receives.false (subst (λ e. StandsAt (beside_of d t) (d.world.nodes t) e) (sym same_before) here) in
+    let opens = room_receives (beside_of d t) (d.world.nodes t) c.index.result.now c.receives.result c.receives.ensures c.if-not-receives.false (subst (λ e. SiteStands (beside_of d t) (d.world.nodes t) e) (sym same_before) here) in
     let fed = carries.feeders t c.index_mut-2.result.now (get_at old.feeders.items t c.index_mut-2.result.now c.requires.feeder c.index_mut-2.ensures.value) opens.0 opens.1 in
     let told = told_before old.disk_sets.items t before after there c.deliver_update.ensures.later in
     let up = subst (λ (i : ℕ). (d.world.nodes i).state ≡ Up) (sym to) opens.0 in
@@ -101,15 +104,22 @@ returns-in-Taken-clause-leads g c = λ d p k x stands carries good at to below m
           subst (λ r. DeliveredTo (delivered d.world c.args.number (packet_at d.world.packets c.args.number)) (beside_of d t) t after feeder a flight r) c.in-Taken.is
           (c.in_ok-said.ensures.delivered d p k x at to message (are_one d.world world) carries.flight here role fed
           (carries.assemblies (told tells) t was (get_at old.assemblies.items t was c.requires.place c.index_mut-3.ensures.value))
-          (subst (λ (i : ℕ). p.line ≡ (d.world.nodes i).line → Fits (d.world.nodes i) x) to (update_fits d.world c.args.number p k x world at message up)));
+          (subst (λ (i : ℕ). p.line ≡ (d.world.nodes i).line → WriteFits (d.world.nodes i) x) to (update_fits d.world c.args.number p k x world at message up)));
       receives = opens.1;
       none = none_start (d.world.nodes t) (d.world.links t) d.world.sites (stands.links.starts t) opens.1;
     })
-    (λ m stood running. c.received-last.ensures (beside_of d t) m (subst (λ e. StandsAt (beside_of d t) m e) same_after stood) running.0 running.1)
+    (λ m stood running. c.received-last.ensures (beside_of d t) m (subst (λ e. SiteStands (beside_of d t) m e) same_after stood) running.0 running.1)
     (ap (λ f. slice_set old.facts.items t f) (c.set_last.ensures ∙ last_received last seen ∙ ap (λ f. received_fact last f) shown))
 
 pub returns-in_default : goal.returns-in_default
 returns-in_default g c = record {
+  called = record {
+    before = c.index_mut.result.now;
+    after = c.deliver_update.new.disks;
+    there = get_at c.args.yard.now.disk_sets.items c.args.target c.index_mut.result.now c.requires.disk_set c.index_mut.ensures.value;
+    disk_sets = refl;
+    did = waits_alone Ignored c.index_mut.result.now c.deliver_update.new.disks (λ why is. let said : Ignored ≡ Refused why = is in cc) c.deliver_update.ensures.still;
+  };
   leads = λ d p k x stands carries good at to below message.
       let old = c.args.yard.now in
       let t = c.args.target in
@@ -123,7 +133,7 @@ returns-in_default g c = record {
       let same_before = some_same (sym (get_at old.disk_sets.items t c.index.result.now c.requires.disk_set c.index.ensures) ∙ there) in
       let here = stands.disk_sets.sites t before below there in
       let role = stands.roles.each t before below there in
-      let opens = room_receives (beside_of d t) (d.world.nodes t) c.index.result.now c.receives.result c.receives.ensures c.if-not-receives.false (subst (λ e. StandsAt (beside_of d t) (d.world.nodes t) e) (sym same_before) here) in
+      let opens = room_receives (beside_of d t) (d.world.nodes t) c.index.result.now c.receives.result c.receives.ensures c.if-not-receives.false (subst (λ e. SiteStands (beside_of d t) (d.world.nodes t) e) (sym same_before) here) in
       let fed = carries.feeders t c.index_mut-2.result.now (get_at old.feeders.items t c.index_mut-2.result.now c.requires.feeder c.index_mut-2.ensures.value) opens.0 opens.1 in
       let told = told_before old.disk_sets.items t before after there c.deliver_update.ensures.later in
       let up = subst (λ (i : ℕ). (d.world.nodes i).state ≡ Up) (sym to) opens.0 in
@@ -141,7 +151,7 @@ returns-in_default g c = record {
             subst (λ r. DeliveredTo (delivered d.world c.args.number (packet_at d.world.packets c.args.number)) (beside_of d t) t after feeder a flight r) ignored
             (c.in_ok-said.ensures.delivered d p k x at to message (are_one d.world world) carries.flight here role fed
             (carries.assemblies (told tells) t was (get_at old.assemblies.items t was c.requires.place c.index_mut-3.ensures.value))
-            (subst (λ (i : ℕ). p.line ≡ (d.world.nodes i).line → Fits (d.world.nodes i) x) to (update_fits d.world c.args.number p k x world at message up)));
+            (subst (λ (i : ℕ). p.line ≡ (d.world.nodes i).line → WriteFits (d.world.nodes i) x) to (update_fits d.world c.args.number p k x world at message up)));
         receives = opens.1;
         none = none_start (d.world.nodes t) (d.world.links t) d.world.sites (stands.links.starts t) opens.1;
       }) refl;
@@ -177,3 +187,21 @@ returns-in-Taken-clause-asked g c = all_of_site c.args.target c.args.yard.now _ 
   disk_sets = refl;
   did = alone_keeps c.index_mut.result.now c.deliver_update.new.disks c.deliver_update.ensures.still;
 })
+
+pub returns-then-not-receives-clause-called : goal.returns-then-not-receives-clause-called
+returns-then-not-receives-clause-called g c =
+    site_still (TouchesNone Ignored) c.args.target c.args.yard.now _ (λ e. waits_alone Ignored e e (λ why is. let said : Ignored ≡ Refused why = is in cc) (alone_same e)) c.requires.disk_set refl
+
+pub returns-in_err-said-clause-called : goal.returns-in_err-said-clause-called
+returns-in_err-said-clause-called g c =
+    let short = err_from_is_err_and c.from_residual.result c.from_residual.ensures.1 in
+    no_answer _ c.from_residual.result short.0 short.1
+
+pub returns-in-Taken-clause-called : goal.returns-in-Taken-clause-called
+returns-in-Taken-clause-called g c = record {
+  before = c.index_mut.result.now;
+  after = c.deliver_update.new.disks;
+  there = get_at c.args.yard.now.disk_sets.items c.args.target c.index_mut.result.now c.requires.disk_set c.index_mut.ensures.value;
+  disk_sets = refl;
+  did = waits_alone Taken c.index_mut.result.now c.deliver_update.new.disks (λ why is. let said : Taken ≡ Refused why = is in cc) c.deliver_update.ensures.still;
+}

@@ -1,23 +1,24 @@
 -- A greeting or an acknowledgement at its target, case by case.
-use Rattle.std.proofs.Common.{◌≡◌, ◌∙◌, ◌<◌, ℕ, ap, sym, subst, refl}
+use Rattle.std.proofs.Common.{◌≡◌, ◌⊎◌, ◌∙◌, ◌<◌, ℕ, ap, sym, subst, refl}
 use Rattle.std.specs.Prelude.{Result, Some, Err, slice_get, slice_set}
 use Rattle.std.proofs.lemmas.List.{with_items_is}
 use Rattle.vx_model.specs.declared.errors.Stop.{Stop}
 use Rattle.vx_model.specs.declared.state.State.{State}
 use Rattle.vx_history.specs.LinkForms.{plain_link}
 use Rattle.vx_history.specs.declared.event.Said.{Said as EventSaid}
+use Rattle.vx_history.specs.declared.event.Said.TheVariants.{Ignored as IsIgnored, Taken as IsTaken}
 use Rattle.vx_order.specs.declared.facts.LinkFacts.{LinkFacts}
 use Rattle.vx_peers.proofs.Hears.{event_for}
 use Rattle.vx_script.specs.declared.line.ScriptLine.TheVariants.{Deliver}
-use Rattle.vx_diskset.specs.Asked.{LeavesAlone, LeavesFuse}
+use Rattle.vx_diskset.specs.Asked.{HeadUnder, LeavesAlone, LeavesFuse}
 use Rattle.vx_diskset.specs.Burning.{NoMore}
 use Rattle.vx_diskset.specs.Holds.{beside_of}
-use Rattle.vx_diskset.specs.Stands.{StandsAt}
+use Rattle.vx_diskset.specs.Stands.{SiteStands}
 use Rattle.vx_events.specs.LinkedFacts.{link_fact, needed_by}
-use Rattle.vx_events.specs.declared.said.Said.TheVariants.{Done}
+use Rattle.vx_events.specs.declared.said.Said.TheVariants.{Done, Ignored}
 use Rattle.vx_joins.proofs.TakesUpdate.{alone_same}
 use Rattle.vx_joins.proofs.UpdatesFit.{are_one}
-use Rattle.vx_joins.specs.Hearings.{IsListening, PartHeardAt, behind, reply_by}
+use Rattle.vx_joins.specs.Hearings.{IsListening, PartHeardAt, world_behind, reply_by}
 use Rattle.vx_linked.specs.Hearings.{Hears}
 use Rattle.vx_world.proofs.Doubting.{world_good}
 use Rattle.vx_yard.specs.Loads.{LetGoBy}
@@ -25,10 +26,12 @@ use Rattle.vx_yard.proofs.ApplySite.{calls_keep}
 use Rattle.vx_link_lines.proofs.Behind.{behind_short}
 use Rattle.vx_yard.proofs.ChangeSite.{told_before}
 use Rattle.vx_link_lines.proofs.HeardLine.{deaf_to, heard_by, refused_by, stays_same, stop_is, stop_none, unheard_stays}
-use Rattle.vx_link_lines.proofs.HeardWorld.{hears_as, listening, shown_by}
+use Rattle.vx_link_lines.proofs.DeliverCalls.{deaf_calls, deaf_head, heard_head, never_short, never_stopped, refused_head}
+use Rattle.vx_link_lines.proofs.HeardWorld.{answer_says, hears_as, listening, shown_by}
 use Rattle.vx_yard.proofs.LinkLines.{listed}
 use Rattle.vx_yard.proofs.Lists.{get_at, set_same}
-use Rattle.vx_yard.proofs.OfSites.{all_of_site, all_still}
+use Rattle.vx_yard.specs.OfSites.{heard_calls}
+use Rattle.vx_yard.proofs.OfSites.{all_of_site, all_still, site_still}
 use Rattle.vx_yard.proofs.OneSite.{role_kept}
 use Rattle.vx_yard.proofs.WriteLine.{get_there}
 use Rattle.vx_link_lines.proofs.hearing.hear_answer.Goals as goal
@@ -139,7 +142,7 @@ returns-in-None-clause-leads g c = λ d p stands carries good at to from below a
     let same : after ≡ before = c.in-Err.ensures.short (ap (λ (x : Stop). let r : Result EventSaid Stop = Err x in r) stop) in
     behind_short d (Deliver c.args.number) old _ before after t (Err (record {})) (record {}) refl stands below (record { there = there; later = c.hear-said.ensures.later; disk_sets = refl; racks = refl })
     (subst (λ e. LeavesAlone before e) (sym same) (alone_same before)) (role_kept d old t before after stands below there c.hear-said.ensures.role)
-    (λ beside n stood. subst (λ e. StandsAt beside n e) (sym same) stood) refl
+    (λ beside n stood. subst (λ e. SiteStands beside n e) (sym same) stood) refl
     (record {
       flight = refl;
       assemblies = ap (λ b. slice_set old.assemblies.items t b) c.in-Err.ensures.assembly ∙ set_same old.assemblies.items t c.index_mut-2.result.now was;
@@ -205,10 +208,10 @@ returns-in-Ok-clause-leads g c = λ d p stands carries good at to from below ans
     let part = c.in-Ok.ensures.part d p t at to answers carries.flight listens link here state in
     let asked = stands.disk_sets.sites t c.index-2.result.now below (get_at old.disk_sets.items t c.index-2.result.now c.requires.disk_set c.index-2.ensures) in
     let needs = c.in-Some-heard_needs.ensures.is d p stands.links at answers carries.flight (subst (λ (i : ℕ). IsListening (d.world.nodes i) (d.world.links i q)) (sym to) listens)
-    (subst (λ (i : ℕ). c.in-Some.l.link ≡ plain_link q (d.world.links i q)) (sym to) link) (subst (λ (i : ℕ). StandsAt (beside_of d i) (d.world.nodes i) c.index-2.result.now) (sym to) asked)
+    (subst (λ (i : ℕ). c.in-Some.l.link ≡ plain_link q (d.world.links i q)) (sym to) link) (subst (λ (i : ℕ). SiteStands (beside_of d i) (d.world.nodes i) c.index-2.result.now) (sym to) asked)
     (ap (λ (x : State). x.line) state ∙ ap (λ (i : ℕ). (d.world.nodes i).line) (sym to)) in
-    let used = subst (λ (i : ℕ). c.in-Some-heard_needs.used ≡ needed_by (d.world.nodes i) q ((behind d.world c.args.number).links i q)) to needs in
-    let shown = shown_by n q ((behind d.world c.args.number).links t q) c.hear-said.new.link c.in-Some-heard_needs.used part.0.link used in
+    let used = subst (λ (i : ℕ). c.in-Some-heard_needs.used ≡ needed_by (d.world.nodes i) q ((world_behind d.world c.args.number).links i q)) to needs in
+    let shown = shown_by n q ((world_behind d.world c.args.number).links t q) c.hear-said.new.link c.in-Some-heard_needs.used part.0.link used in
     heard_by d c.args.number p old _ before after a said c.reply.result t at answers stands to c.reply.ensures (record {
       below = below;
       changed = record { there = there; later = c.hear-said.ensures.later; disk_sets = refl; racks = refl };
@@ -218,7 +221,7 @@ returns-in-Ok-clause-leads g c = λ d p stands carries good at to from below ans
       calls = c.in-Ok.ensures.called (beside_of d t) n here;
       facts = with_items_is old.facts c.keep_heard.new.sites (c.keep_heard.auto.sites ∙ c.deref_mut.ensures.len)
           ∙ c.keep_heard.ensures.world d.world c.args.number p (event_for p.message) (c.deref_mut.ensures.value ∙ stands.facts) at to from (hears_as d c.args.number p at answers p.message answers) hears.site
-          (subst (λ (i : ℕ). (let x : LinkFacts = record { link = c.hear-said.new.link; used = c.in-Some-heard_needs.used } in x) ≡ link_fact n i ((behind d.world c.args.number).links t i)) from shown);
+          (subst (λ (i : ℕ). (let x : LinkFacts = record { link = c.hear-said.new.link; used = c.in-Some-heard_needs.used } in x) ≡ link_fact n i ((world_behind d.world c.args.number).links t i)) from shown);
       flight = refl;
       assemblies = refl;
       feeders = refl;
@@ -228,3 +231,74 @@ returns-in-Ok-clause-leads g c = λ d p stands carries good at to from below ans
           (carries.assemblies told t was (get_at old.assemblies.items t was c.requires.place c.index_mut-2.ensures.value)) here state).0.assembly;
       stored = part.1;
     })
+
+pub returns-in_default-clause-called : goal.returns-in_default-clause-called
+returns-in_default-clause-called g c = λ d p stands carries at to from below answers.
+    let y = c.args.yard.now in
+    let is = deaf_to d c.args.number p at answers stands.links
+    (λ small. c.in_default.ensures.deaf d.world p (event_for p.message) (c.deref.ensures.value ∙ stands.facts) refl to from below (subst (λ (i : ℕ). i < d.world.sites) from small) (listed d stands.links)
+    (hears_as d c.args.number p at answers p.message answers)) in
+    site_still (HeadUnder (heard_calls d.world c.args.number c.args.target c.args.source) Ignored) c.args.target y _ (λ e. deaf_head (heard_calls d.world c.args.number c.args.target c.args.source) e (deaf_calls d.world c.args.number c.args.target c.args.source is)) c.requires.disk_set refl
+
+pub returns-in_default-state_here-clause-called : goal.returns-in_default-state_here-clause-called
+returns-in_default-state_here-clause-called g c = λ d p stands carries at to from below answers. tt
+
+pub returns-in_default-heard_needs-clause-called : goal.returns-in_default-heard_needs-clause-called
+returns-in_default-heard_needs-clause-called g c = λ d p stands carries at to from below answers. tt
+
+pub returns-in-None-clause-called : goal.returns-in-None-clause-called
+returns-in-None-clause-called g c = λ d p stands carries at to from below answers. tt
+
+pub returns-in-Ok-clause-called : goal.returns-in-Ok-clause-called
+returns-in-Ok-clause-called g c = λ d p stands carries at to from below answers.
+    let old = c.args.yard.now in
+    let t = c.args.target in
+    let q = p.source in
+    let n = d.world.nodes t in
+    let before = c.index_mut.result.now in
+    let after = c.hear-said.new.disks in
+    let there = get_at old.disk_sets.items t before c.requires.disk_set c.index_mut.ensures.value in
+    let here = stands.disk_sets.sites t before below there in
+    let hears : Hears d.world t q c.in-Some.l = subst (λ (i : ℕ). Hears d.world t i c.in-Some.l) (sym from) (c.in-Some.ensures.hears d.world c.in-Some.l (c.deref.ensures.value ∙ stands.facts) refl) in
+    let listens = listening d t q c.in-Some.l stands.links hears in
+    let link : c.in-Some.l.link ≡ plain_link q (d.world.links t q) = ap (λ (x : LinkFacts). x.link) hears.link.link_is in
+    let state = c.in-Some-state_here.ensures.is (beside_of d t) n d.world
+    (stands.disk_sets.sites t c.index.result.now below (get_at old.disk_sets.items t c.index.result.now c.requires.disk_set c.index.ensures)) listens.up (c.deref-2.ensures.value ∙ stands.facts) below listens.up in
+    let part = c.in-Ok.ensures.part d p t at to answers carries.flight listens link here state in
+    let head = c.in-Ok.ensures.headed d p t at to answers carries.flight listens link here state (λ is. never_stopped c.in-Ok.said is) in
+    let said = subst (λ (x : EventSaid). (x ≡ IsTaken) ⊎ (x ≡ IsIgnored)) (sym part.0.says) (answer_says d c.args.number p at answers) in
+    record {
+      before = before;
+      after = after;
+      there = there;
+      disk_sets = refl;
+      did = heard_head (heard_calls d.world c.args.number t c.args.source) c.in-Ok.said c.reply.result before after c.reply.ensures said
+          (subst (λ (i : ℕ). HeadUnder (heard_calls d.world c.args.number t i) Done before after) from head);
+    }
+
+pub returns-in-Some-refusal-clause-called : goal.returns-in-Some-refusal-clause-called
+returns-in-Some-refusal-clause-called g c = λ d p stands carries at to from below answers.
+    let old = c.args.yard.now in
+    let t = c.args.target in
+    let q = p.source in
+    let n = d.world.nodes t in
+    let before = c.index_mut.result.now in
+    let after = c.hear-said.new.disks in
+    let no = c.in-Some-refusal.no in
+    let there = get_at old.disk_sets.items t before c.requires.disk_set c.index_mut.ensures.value in
+    let here = stands.disk_sets.sites t before below there in
+    let hears : Hears d.world t q c.in-Some.l = subst (λ (i : ℕ). Hears d.world t i c.in-Some.l) (sym from) (c.in-Some.ensures.hears d.world c.in-Some.l (c.deref.ensures.value ∙ stands.facts) refl) in
+    let listens = listening d t q c.in-Some.l stands.links hears in
+    let link : c.in-Some.l.link ≡ plain_link q (d.world.links t q) = ap (λ (x : LinkFacts). x.link) hears.link.link_is in
+    let state = c.in-Some-state_here.ensures.is (beside_of d t) n d.world
+    (stands.disk_sets.sites t c.index.result.now below (get_at old.disk_sets.items t c.index.result.now c.requires.disk_set c.index.ensures)) listens.up (c.deref-2.ensures.value ∙ stands.facts) below listens.up in
+    let stop = stop_is c.in-Err.stop no (sym c.refusal.ensures ∙ c.in-Some-refusal.is) in
+    let head = c.in-Err.ensures.headed d p t at to answers carries.flight listens link here state (λ is. never_short c.in-Err.stop no stop is) in
+    record {
+      before = before;
+      after = after;
+      there = there;
+      disk_sets = refl;
+      did = refused_head (heard_calls d.world c.args.number t c.args.source) c.in-Err.stop no c.refused.result before after stop c.refused.ensures.said
+          (subst (λ (i : ℕ). HeadUnder (heard_calls d.world c.args.number t i) (reply_by (let r : Result EventSaid Stop = Err c.in-Err.stop in r)) before after) from head);
+    }

@@ -1,15 +1,17 @@
 -- Each case of a part in which a site comes to the line of another one.
 use Rattle.std.proofs.Common.{◌∙◌, ◌<◌, List, ap, refl, subst, sym}
-use Rattle.std.specs.Prelude.{length, slice_get}
+use Rattle.std.specs.Prelude.{Ok, Err, length, slice_get}
 use Rattle.std.proofs.lemmas.List.{with_items_is}
 use Rattle.vx_order.specs.declared.facts.SiteFacts.{SiteFacts}
+use Rattle.vx_diskset.specs.Asked.{HeadUnder}
 use Rattle.vx_diskset.specs.Burning.{NoMore}
 use Rattle.vx_diskset.specs.Holds.{beside_of}
 use Rattle.vx_events.proofs.Places.{some_same}
+use Rattle.vx_events.specs.declared.said.Said.{Said}
 use Rattle.vx_events.specs.declared.said.Said.TheVariants.{Done, Refused}
 use Rattle.vx_yard.proofs.ApplySite.{calls_keep}
 use Rattle.vx_yard.proofs.ChangeSite.{told_before}
-use Rattle.vx_link_lines.proofs.JoinLine.{join_done, join_refused}
+use Rattle.vx_link_lines.proofs.JoinLine.{join_done, join_headed, join_refused}
 use Rattle.vx_yard.proofs.Lists.{get_at, length-set}
 use Rattle.vx_link_lines.proofs.joins.join_site.Goals as goal
 
@@ -79,6 +81,35 @@ returns-in-Err-clause-asked g c = λ d stands below.
       there = at;
       disk_sets = refl;
       did = calls_keep NoMore (Refused c.in-Err.no) before c.join.new.disks (c.in-Err.ensures.called (beside_of d s) (d.world.nodes s) (stands.disk_sets.sites s before below at));
+    }
+
+pub returns-in-Ok-clause-called : goal.returns-in-Ok-clause-called
+returns-in-Ok-clause-called g c = λ d note sync notes stands fit below said.
+    let old = c.args.yard.now in
+    let s = c.args.there in
+    let before = c.index_mut.result.now in
+    let at = get_at old.disk_sets.items s before c.requires.disk_set c.index_mut.ensures.value in
+    record {
+      before = before;
+      after = c.join.new.disks;
+      there = at;
+      disk_sets = refl;
+      did = join_headed note d c.args.here s sync notes fit said old before c.join.new.disks stands below at (Ok tt) (λ beside k stood can. c.in-Ok.ensures.headed beside k stood can);
+    }
+
+pub returns-in-Err-clause-called : goal.returns-in-Err-clause-called
+returns-in-Err-clause-called g c = λ d note sync notes stands fit below said.
+    let old = c.args.yard.now in
+    let s = c.args.there in
+    let before = c.index_mut.result.now in
+    let at = get_at old.disk_sets.items s before c.requires.disk_set c.index_mut.ensures.value in
+    record {
+      before = before;
+      after = c.join.new.disks;
+      there = at;
+      disk_sets = refl;
+      did = subst (λ (answer : Said). HeadUnder 2 answer before c.join.new.disks) (sym c.refused.ensures.said)
+          (join_headed note d c.args.here s sync notes fit said old before c.join.new.disks stands below at (Err c.in-Err.no) (λ beside k stood can. c.in-Err.ensures.headed beside k stood can));
     }
 
 pub returns-in-Ok-clause-many : goal.returns-in-Ok-clause-many

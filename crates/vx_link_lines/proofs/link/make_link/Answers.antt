@@ -3,8 +3,10 @@ use Rattle.std.proofs.Common.{◌≡◌, ◌∙◌, ◌<◌, List, refl, subst, 
 use Rattle.std.specs.Prelude.{Some, length, slice_get}
 use Rattle.std.proofs.lemmas.List.{with_items_is}
 use Rattle.vx_order.specs.declared.facts.SiteFacts.{SiteFacts}
+use Rattle.vx_diskset.specs.Asked.{HeadUnder}
 use Rattle.vx_diskset.specs.Burning.{NoMore}
 use Rattle.vx_diskset.specs.Holds.{beside_of}
+use Rattle.vx_events.specs.declared.said.Said.{Said}
 use Rattle.vx_events.specs.declared.said.Said.TheVariants.{Done, Refused}
 use Rattle.vx_yard.proofs.ApplySite.{calls_keep}
 use Rattle.vx_yard.proofs.ChangeSite.{told_before}
@@ -80,6 +82,35 @@ returns-in-Err-clause-asked g c = λ d stands below.
       there = at;
       disk_sets = refl;
       did = calls_keep NoMore (Refused c.in-Err.no) before c.keep.new.self (c.in-Err.ensures.called (beside_of d s) (d.world.nodes s) (stands.disk_sets.sites s before below at));
+    }
+
+pub returns-in-Ok-clause-called : goal.returns-in-Ok-clause-called
+returns-in-Ok-clause-called g c = λ d stands below.
+    let old = c.args.yard.now in
+    let s = c.args.here in
+    let before = c.index_mut.result.now in
+    let at = get_at old.disk_sets.items s before c.requires.disk_set c.index_mut.ensures.value in
+    record {
+      before = before;
+      after = c.keep.new.self;
+      there = at;
+      disk_sets = refl;
+      did = c.in-Ok.ensures.headed (beside_of d s) (d.world.nodes s) (stands.disk_sets.sites s before below at);
+    }
+
+pub returns-in-Err-clause-called : goal.returns-in-Err-clause-called
+returns-in-Err-clause-called g c = λ d stands below.
+    let old = c.args.yard.now in
+    let s = c.args.here in
+    let before = c.index_mut.result.now in
+    let at = get_at old.disk_sets.items s before c.requires.disk_set c.index_mut.ensures.value in
+    record {
+      before = before;
+      after = c.keep.new.self;
+      there = at;
+      disk_sets = refl;
+      did = subst (λ (said : Said). HeadUnder 2 said before c.keep.new.self) (sym c.refused.ensures.said)
+          (c.in-Err.ensures.headed (beside_of d s) (d.world.nodes s) (stands.disk_sets.sites s before below at));
     }
 
 pub returns-in-Ok-clause-many : goal.returns-in-Ok-clause-many

@@ -1,13 +1,18 @@
 use Rattle.std.proofs.Common.{◌≡◌, ◌∙◌, ⊎_elim, refl, subst, sym}
 use Rattle.std.specs.Prelude.{None, slice_set}
+use Rattle.vx_events.specs.Facts.{site_number}
 use Rattle.std.proofs.lemmas.List.{with_items_is}
-use Rattle.vx_order.specs.Order.{refusal_of}
+use Rattle.vx_order.specs.Order.{line_refusal}
 use Rattle.vx_script.specs.declared.line.ScriptLine.TheVariants.{Pump}
-use Rattle.vx_diskset.specs.Asked.{LeavesAlone}
+use Rattle.vx_events.specs.declared.said.Said.TheVariants.{Done, Refused}
+use Rattle.vx_diskset.specs.Asked.{LeavesAlone, LeavesFuse}
+use Rattle.vx_diskset.specs.Burning.{NoMore}
+use Rattle.vx_diskset.proofs.AloneCalls.{alone_leaves}
+use Rattle.vx_link_lines.proofs.PumpCalls.{pump_stopped}
 use Rattle.vx_diskset.specs.Holds.{beside_of}
 use Rattle.vx_diskset.specs.Stands.{faults_at}
 use Rattle.vx_linked.proofs.Finding.{found, pump_tested, seat_found}
-use Rattle.vx_linked.specs.Tables.{Found}
+use Rattle.vx_linked.specs.Tables.{FoundLink}
 use Rattle.vx_yard.specs.Yards.{in_files}
 use Rattle.vx_yard.proofs.ChangeSite.{told_before}
 use Rattle.vx_link_lines.proofs.Deaf.{all_told}
@@ -22,13 +27,13 @@ site_of-here-requires-clause-named g c = λ κs within.
 
 pub link_named-requires : goal.link_named-requires
 link_named-requires g c = record {
-  found = subst (λ fs. Found fs c.args.first.now c.args.second.now) (sym c.deref.ensures.value)
+  found = subst (λ fs. FoundLink fs c.args.first.now c.args.second.now) (sym c.deref.ensures.value)
       (found c.args.yard.now.facts.items c.args.first.now c.args.second.now (pump_tested c.args.yard.now.facts.items c.args.first.now c.args.second.now (in_files c.args.yard.now, c.requires.free)));
 }
 
 pub keep_pumped-requires : goal.keep_pumped-requires
 keep_pumped-requires g c = record {
-  free = (in_files c.args.yard.now, subst (λ fs. refusal_of fs (in_files c.args.yard.now) (Pump c.args.first.now c.args.second.now) ≡ None) (sym c.deref_mut.ensures.value) c.requires.free);
+  free = (in_files c.args.yard.now, subst (λ fs. line_refusal fs (in_files c.args.yard.now) (Pump c.args.first.now c.args.second.now) ≡ None) (sym c.deref_mut.ensures.value) c.requires.free);
 }
 
 pub returns-in-Ok-clause-told : goal.returns-in-Ok-clause-told
@@ -55,7 +60,7 @@ returns-in-Ok-clause-leads g c = λ d stands carries.
     let at = get_at es s before c.site_of-here.ensures.disk_set c.index_mut.ensures.value in
     let there = found old.facts.items p q (pump_tested old.facts.items p q (in_files old, c.requires.free)) in
     let asks = pumping d old p q s c.deref.result.now c.link_named.result stands c.requires.free c.site_of-here.ensures.seat c.deref.ensures.value c.link_named.ensures.link
-    (subst (λ fs. Found fs p q) (sym c.deref.ensures.value) there) in
+    (subst (λ fs. FoundLink fs p q) (sym c.deref.ensures.value) there) in
     let stood = stands.disk_sets.sites s before asks.seat.below at in
     let was = told_before es s before after at c.in-Ok.ensures.later in
     let items = with_items_is old.facts c.keep_pumped.new.sites (c.keep_pumped.auto.sites ∙ c.deref_mut.ensures.len) in
@@ -84,7 +89,7 @@ returns-in-Err-clause-leads g c = λ d stands carries.
     let at = get_at es s before c.site_of-here.ensures.disk_set c.index_mut.ensures.value in
     let there = found old.facts.items p q (pump_tested old.facts.items p q (in_files old, c.requires.free)) in
     let asks = pumping d old p q s c.deref.result.now c.link_named.result stands c.requires.free c.site_of-here.ensures.seat c.deref.ensures.value c.link_named.ensures.link
-    (subst (λ fs. Found fs p q) (sym c.deref.ensures.value) there) in
+    (subst (λ fs. FoundLink fs p q) (sym c.deref.ensures.value) there) in
     let stood = stands.disk_sets.sites s before asks.seat.below at in
     let was = told_before es s before after at c.in-Err.ensures.later in
     pump_stops d old _ s before after stands carries asks.seat.below (record { there = at; later = c.in-Err.ensures.later; disk_sets = refl; racks = refl }) c.in-Err.ensures.still c.in-Err.ensures.stands c.in-Err.ensures.role
@@ -107,3 +112,29 @@ returns-in-Err-clause-asked g c = λ d stands.
     let s = c.site_of-here.result in
     asks_at LeavesAlone d old _ c.args.first.now s c.index_mut.result.now c.pump.new.self stands c.site_of-here.ensures.seat
     (get_at old.disk_sets.items s c.index_mut.result.now c.site_of-here.ensures.disk_set c.index_mut.ensures.value) refl c.in-Err.ensures.still
+
+pub returns-in-Ok-clause-called : goal.returns-in-Ok-clause-called
+returns-in-Ok-clause-called g c = λ d stands.
+    let old = c.args.yard.now in
+    let s = c.site_of-here.result in
+    let before = c.index_mut.result.now in
+    let after = c.pump.new.self in
+    asks_at (LeavesFuse NoMore Done) d old _ c.args.first.now s before after stands c.site_of-here.ensures.seat
+    (get_at old.disk_sets.items s before c.site_of-here.ensures.disk_set c.index_mut.ensures.value) refl
+    (alone_leaves Done before after (λ why is. let said : Done ≡ Refused why = is in cc) c.in-Ok.ensures.still)
+
+pub returns-in-Err-clause-called : goal.returns-in-Err-clause-called
+returns-in-Err-clause-called g c = λ d stands.
+    let old = c.args.yard.now in
+    let s = c.site_of-here.result in
+    let p = c.args.first.now in
+    let q = c.args.second.now in
+    let before = c.index_mut.result.now in
+    let after = c.pump.new.self in
+    let at = get_at old.disk_sets.items s before c.site_of-here.ensures.disk_set c.index_mut.ensures.value in
+    let there = found old.facts.items p q (pump_tested old.facts.items p q (in_files old, c.requires.free)) in
+    let asks = pumping d old p q s c.deref.result.now c.link_named.result stands c.requires.free c.site_of-here.ensures.seat c.deref.ensures.value c.link_named.ensures.link
+    (subst (λ fs. FoundLink fs p q) (sym c.deref.ensures.value) there) in
+    let stood = stands.disk_sets.sites s before asks.seat.below at in
+    pump_stopped s old _ before after at refl c.in-Err.ensures.still (faults_at before) (faults_at after) (site_number d.world p) c.in-Err.stop c.stopped.result asks.seat.number
+    (c.in-Err.ensures.stops (beside_of d s) (d.world.nodes s) stood asks.origin asks.up asks.running) c.stopped.ensures

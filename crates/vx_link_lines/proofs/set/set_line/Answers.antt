@@ -1,5 +1,5 @@
 -- Each case of a line that gives a link another setting.
-use Rattle.std.proofs.Common.{◌∙◌, refl, sym}
+use Rattle.std.proofs.Common.{◌∙◌, refl, subst, sym}
 use Rattle.std.specs.Prelude.{Ok, Err}
 use Rattle.std.proofs.lemmas.List.{with_items_is}
 use Rattle.vx_diskset.specs.Holds.{beside_of}
@@ -7,8 +7,9 @@ use Rattle.vx_diskset.specs.DiskSets.{worked}
 use Rattle.vx_yard.specs.Yards.{in_files}
 use Rattle.vx_yard.proofs.ChangeSite.{told_before}
 use Rattle.vx_diskset.proofs.KeepsFailing.{failing_same}
-use Rattle.vx_diskset.specs.Asked.{SameFailing}
+use Rattle.vx_diskset.specs.Asked.{HeadUnder, SameFailing}
 use Rattle.vx_diskset.specs.Burning.{NoMore}
+use Rattle.vx_events.specs.declared.said.Said.{Said}
 use Rattle.vx_events.specs.declared.said.Said.TheVariants.{Done, Refused}
 use Rattle.vx_yard.proofs.ApplySite.{calls_keep}
 use Rattle.vx_yard.proofs.Lists.{get_at, set_same}
@@ -110,3 +111,26 @@ returns-in_default-clause-asked g c = λ d prot stands.
     let s = c.site_of-here.result in
     let at = get_at old.disk_sets.items s c.index.result.now c.site_of-here.ensures.disk_set c.index.ensures in
     asks_at SameFailing d old _ c.args.first.now s c.index.result.now c.index.result.now stands c.site_of-here.ensures.seat at (sym (set_same old.disk_sets.items s c.index.result.now at)) (failing_same c.index.result.now)
+
+pub returns-in-Ok-clause-called : goal.returns-in-Ok-clause-called
+returns-in-Ok-clause-called g c = λ d prot stands.
+    let old = c.args.yard.now in
+    let s = c.site_of-here.result in
+    let before = c.index_mut.result.now in
+    let at = get_at old.disk_sets.items s before c.site_of-here.ensures.disk_set c.index_mut.ensures.value in
+    let here = site_at d old c.args.first.now s stands c.site_of-here.ensures.seat in
+    asks_at (HeadUnder 2 Done) d old _ c.args.first.now s before c.keep.new.self stands c.site_of-here.ensures.seat at refl
+    (c.in-Ok.ensures.headed (beside_of d s) (d.world.nodes s) (stands.disk_sets.sites s before here.below at))
+
+pub returns-in-Err-clause-called : goal.returns-in-Err-clause-called
+returns-in-Err-clause-called g c = λ d prot stands.
+    let old = c.args.yard.now in
+    let s = c.site_of-here.result in
+    let before = c.index_mut.result.now in
+    let at = get_at old.disk_sets.items s before c.site_of-here.ensures.disk_set c.index_mut.ensures.value in
+    let here = site_at d old c.args.first.now s stands c.site_of-here.ensures.seat in
+    asks_at (HeadUnder 2 c.refused.result) d old _ c.args.first.now s before c.keep.new.self stands c.site_of-here.ensures.seat at refl
+    (subst (λ (said : Said). HeadUnder 2 said before c.keep.new.self) (sym c.refused.ensures.said) (c.in-Err.ensures.headed (beside_of d s) (d.world.nodes s) (stands.disk_sets.sites s before here.below at)))
+
+pub returns-in_default-clause-called : goal.returns-in_default-clause-called
+returns-in_default-clause-called g c = λ d prot stands. tt

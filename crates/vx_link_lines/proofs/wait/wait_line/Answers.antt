@@ -1,6 +1,6 @@
 use Rattle.std.proofs.Common.{◌≡◌, ◌∙◌, subst, sym}
 use Rattle.std.specs.Prelude.{None}
-use Rattle.vx_order.specs.Order.{refusal_of}
+use Rattle.vx_order.specs.Order.{line_refusal}
 use Rattle.vx_script.specs.declared.line.ScriptLine.TheVariants.{Wait}
 use Rattle.vx_yard.specs.Yards.{in_files}
 use Rattle.vx_yard.proofs.LinkLines.{listed, wait_brings, wait_free}
@@ -8,7 +8,7 @@ use Rattle.vx_link_lines.proofs.wait.wait_line.Goals as goal
 
 pub wait-requires : goal.wait-requires
 wait-requires g c = record {
-  free = (in_files c.args.yard.now, subst (λ fs. refusal_of fs (in_files c.args.yard.now) (Wait c.args.name.now c.args.number) ≡ None) (sym c.deref.ensures.value) c.requires.free);
+  free = (in_files c.args.yard.now, subst (λ fs. line_refusal fs (in_files c.args.yard.now) (Wait c.args.name.now c.args.number) ≡ None) (sym c.deref.ensures.value) c.requires.free);
 }
 
 pub returns : goal.returns

@@ -5,7 +5,7 @@ use Rattle.vx_disk.specs.Moves.{Along}
 use Rattle.vx_disk.specs.Shelf.{Goes}
 use Rattle.vx_volume.proofs.CopyLemmas.{disks_still}
 use Rattle.vx_logs.specs.Marks.{MarksFirst}
-use Rattle.vx_logs.specs.Writes.{Marked, MarkedAt, first_region, last_region}
+use Rattle.vx_logs.specs.Writes.{MarkedLogs, MarkedAt, first_region, last_region}
 use Rattle.vx_logs.proofs.PutLemmas.{first_last, last_inside, renamed}
 use Rattle.vx_logs.proofs.WriteLemmas.{ends_keep, first_Along, mark_Along, mark_writes, marks_refused, puts_refused, was_put, whole_writes}
 use Rattle.vx_logs.proofs.writing.write.Goals.{then-lost-via-then-lost, then-lost-via-else-lost+then-lost-2}
@@ -49,7 +49,7 @@ pub returns-then-lost-clause-writes : goal.returns-then-lost-clause-writes
 returns-then-lost-clause-writes g c =
     record {
       some = elim c.then-lost.branch [ then-lost-via-then-lost w ↦ inl w.if-lost.true | then-lost-via-else-lost+then-lost-2 w ↦ inr w.if-lost-2.true ];
-      marked = renamed (λ a b. Marked c.args.config.now c.args.vol a b c.in-Ok.lost c.args.logs.now c.mark.new.logs (g.S.Shelf.meaning c.args.shelf.now) (g.S.Shelf.meaning c.mark.new.shelf)) c.first_region-first.result c.last_region-last.result (first_region c.args.block) (last_region c.args.block (length c.args.bytes.now / 512)) c.first_region-first.ensures c.last_region-last.ensures c.in-Ok.ensures.marks;
+      marked = renamed (λ a b. MarkedLogs c.args.config.now c.args.vol a b c.in-Ok.lost c.args.logs.now c.mark.new.logs (g.S.Shelf.meaning c.args.shelf.now) (g.S.Shelf.meaning c.mark.new.shelf)) c.first_region-first.result c.last_region-last.result (first_region c.args.block) (last_region c.args.block (length c.args.bytes.now / 512)) c.first_region-first.ensures c.last_region-last.ensures c.in-Ok.ensures.marks;
       goes = renamed (λ a b. Goes (MarkedAt c.args.config.now c.args.vol a b c.args.logs.now (g.S.Shelf.meaning c.args.shelf.now)) (g.S.Shelf.meaning c.args.shelf.now) (g.S.Shelf.meaning c.mark.new.shelf)) c.first_region-first.result c.last_region-last.result (first_region c.args.block) (last_region c.args.block (length c.args.bytes.now / 512)) c.first_region-first.ensures c.last_region-last.ensures c.mark.ensures.writes;
     }
 
@@ -57,7 +57,7 @@ pub returns-in-Ok-put-clause-goes : goal.returns-in-Ok-put-clause-goes
 returns-in-Ok-put-clause-goes g c =
     let n : 0 < length c.args.bytes.now / 512 = omega (arith, c.requires.many, c.requires.whole) in
     whole_writes c.args.config.now c.requires.checked c.args.vol c.args.block (length c.args.bytes.now / 512) c.args.bytes.now n c.requires.volume c.requires.within c.args.logs.now c.mark.new.logs c.mark.ensures.fits c.in-Ok.lost c.if-lost.false c.if-lost-2.false (g.S.Shelf.meaning c.args.shelf.now) (g.S.Shelf.meaning c.mark.new.shelf) (disks_still c.args.config.now.disks (g.S.Shelf.meaning c.args.shelf.now) (g.S.Shelf.meaning c.mark.new.shelf) c.requires.disks c.mark.ensures.writes.units c.mark.ensures.writes.size)
-    (renamed (λ a b. Marked c.args.config.now c.args.vol a b c.in-Ok.lost c.args.logs.now c.mark.new.logs (g.S.Shelf.meaning c.args.shelf.now) (g.S.Shelf.meaning c.mark.new.shelf)) c.first_region-first.result c.last_region-last.result (first_region c.args.block) (last_region c.args.block (length c.args.bytes.now / 512)) c.first_region-first.ensures c.last_region-last.ensures c.in-Ok.ensures.marks)
+    (renamed (λ a b. MarkedLogs c.args.config.now c.args.vol a b c.in-Ok.lost c.args.logs.now c.mark.new.logs (g.S.Shelf.meaning c.args.shelf.now) (g.S.Shelf.meaning c.mark.new.shelf)) c.first_region-first.result c.last_region-last.result (first_region c.args.block) (last_region c.args.block (length c.args.bytes.now / 512)) c.first_region-first.ensures c.last_region-last.ensures c.in-Ok.ensures.marks)
     (g.S.Shelf.meaning c.put.new.shelf) c.put.ensures.writes
     (renamed (λ a b. Goes (MarkedAt c.args.config.now c.args.vol a b c.args.logs.now (g.S.Shelf.meaning c.args.shelf.now)) (g.S.Shelf.meaning c.args.shelf.now) (g.S.Shelf.meaning c.mark.new.shelf)) c.first_region-first.result c.last_region-last.result (first_region c.args.block) (last_region c.args.block (length c.args.bytes.now / 512)) c.first_region-first.ensures c.last_region-last.ensures c.mark.ensures.writes)
 
@@ -65,7 +65,7 @@ pub returns-in-Ok-put-clause-first : goal.returns-in-Ok-put-clause-first
 returns-in-Ok-put-clause-first g c =
     let n : 0 < length c.args.bytes.now / 512 = omega (arith, c.requires.many, c.requires.whole) in
     first_Along c.args.config.now c.requires.checked c.args.vol c.args.block (length c.args.bytes.now / 512) c.args.bytes.now n c.requires.volume c.requires.within c.args.logs.now c.mark.new.logs c.mark.ensures.fits c.in-Ok.lost c.if-lost.false c.if-lost-2.false (g.S.Shelf.meaning c.args.shelf.now) (g.S.Shelf.meaning c.mark.new.shelf) (disks_still c.args.config.now.disks (g.S.Shelf.meaning c.args.shelf.now) (g.S.Shelf.meaning c.mark.new.shelf) c.requires.disks c.mark.ensures.writes.units c.mark.ensures.writes.size)
-    (renamed (λ a b. Marked c.args.config.now c.args.vol a b c.in-Ok.lost c.args.logs.now c.mark.new.logs (g.S.Shelf.meaning c.args.shelf.now) (g.S.Shelf.meaning c.mark.new.shelf)) c.first_region-first.result c.last_region-last.result (first_region c.args.block) (last_region c.args.block (length c.args.bytes.now / 512)) c.first_region-first.ensures c.last_region-last.ensures c.in-Ok.ensures.marks)
+    (renamed (λ a b. MarkedLogs c.args.config.now c.args.vol a b c.in-Ok.lost c.args.logs.now c.mark.new.logs (g.S.Shelf.meaning c.args.shelf.now) (g.S.Shelf.meaning c.mark.new.shelf)) c.first_region-first.result c.last_region-last.result (first_region c.args.block) (last_region c.args.block (length c.args.bytes.now / 512)) c.first_region-first.ensures c.last_region-last.ensures c.in-Ok.ensures.marks)
     (g.S.Shelf.meaning c.put.new.shelf) c.put.ensures.writes
     (renamed (λ a b. Goes (MarkedAt c.args.config.now c.args.vol a b c.args.logs.now (g.S.Shelf.meaning c.args.shelf.now)) (g.S.Shelf.meaning c.args.shelf.now) (g.S.Shelf.meaning c.mark.new.shelf)) c.first_region-first.result c.last_region-last.result (first_region c.args.block) (last_region c.args.block (length c.args.bytes.now / 512)) c.first_region-first.ensures c.last_region-last.ensures c.mark.ensures.writes)
 
@@ -73,7 +73,7 @@ pub returns-in-Ok-put-clause-writes : goal.returns-in-Ok-put-clause-writes
 returns-in-Ok-put-clause-writes g c =
     let n : 0 < length c.args.bytes.now / 512 = omega (arith, c.requires.many, c.requires.whole) in
     was_put c.args.config.now c.requires.checked c.args.vol c.args.block (length c.args.bytes.now / 512) c.args.bytes.now n c.requires.volume c.requires.within c.args.logs.now c.mark.new.logs c.mark.ensures.fits c.in-Ok.lost c.if-lost.false c.if-lost-2.false (g.S.Shelf.meaning c.args.shelf.now) (g.S.Shelf.meaning c.mark.new.shelf) (disks_still c.args.config.now.disks (g.S.Shelf.meaning c.args.shelf.now) (g.S.Shelf.meaning c.mark.new.shelf) c.requires.disks c.mark.ensures.writes.units c.mark.ensures.writes.size)
-    (renamed (λ a b. Marked c.args.config.now c.args.vol a b c.in-Ok.lost c.args.logs.now c.mark.new.logs (g.S.Shelf.meaning c.args.shelf.now) (g.S.Shelf.meaning c.mark.new.shelf)) c.first_region-first.result c.last_region-last.result (first_region c.args.block) (last_region c.args.block (length c.args.bytes.now / 512)) c.first_region-first.ensures c.last_region-last.ensures c.in-Ok.ensures.marks)
+    (renamed (λ a b. MarkedLogs c.args.config.now c.args.vol a b c.in-Ok.lost c.args.logs.now c.mark.new.logs (g.S.Shelf.meaning c.args.shelf.now) (g.S.Shelf.meaning c.mark.new.shelf)) c.first_region-first.result c.last_region-last.result (first_region c.args.block) (last_region c.args.block (length c.args.bytes.now / 512)) c.first_region-first.ensures c.last_region-last.ensures c.in-Ok.ensures.marks)
     (g.S.Shelf.meaning c.put.new.shelf) c.put.ensures.writes
     (renamed (λ a b. Goes (MarkedAt c.args.config.now c.args.vol a b c.args.logs.now (g.S.Shelf.meaning c.args.shelf.now)) (g.S.Shelf.meaning c.args.shelf.now) (g.S.Shelf.meaning c.mark.new.shelf)) c.first_region-first.result c.last_region-last.result (first_region c.args.block) (last_region c.args.block (length c.args.bytes.now / 512)) c.first_region-first.ensures c.last_region-last.ensures c.mark.ensures.writes) c.requires.fits c.requires.disks (λ down. c.requires.up (c.in-Ok.ensures.marks.up down))
     (ends_keep c.first_region-first.result c.last_region-last.result c.in-Ok.lost.drl c.args.logs.now.drl c.mark.new.logs.drl (g.S.Shelf.meaning c.args.shelf.now) (g.S.Shelf.meaning c.mark.new.shelf) c.in-Ok.ensures.marks.drl) c.in-Ok-put.stored c.put.new.logs c.in-Ok-put.ensures.puts
@@ -82,7 +82,7 @@ pub returns-in-Err-put-clause-goes : goal.returns-in-Err-put-clause-goes
 returns-in-Err-put-clause-goes g c =
     let n : 0 < length c.args.bytes.now / 512 = omega (arith, c.requires.many, c.requires.whole) in
     whole_writes c.args.config.now c.requires.checked c.args.vol c.args.block (length c.args.bytes.now / 512) c.args.bytes.now n c.requires.volume c.requires.within c.args.logs.now c.mark.new.logs c.mark.ensures.fits c.in-Ok.lost c.if-lost.false c.if-lost-2.false (g.S.Shelf.meaning c.args.shelf.now) (g.S.Shelf.meaning c.mark.new.shelf) (disks_still c.args.config.now.disks (g.S.Shelf.meaning c.args.shelf.now) (g.S.Shelf.meaning c.mark.new.shelf) c.requires.disks c.mark.ensures.writes.units c.mark.ensures.writes.size)
-    (renamed (λ a b. Marked c.args.config.now c.args.vol a b c.in-Ok.lost c.args.logs.now c.mark.new.logs (g.S.Shelf.meaning c.args.shelf.now) (g.S.Shelf.meaning c.mark.new.shelf)) c.first_region-first.result c.last_region-last.result (first_region c.args.block) (last_region c.args.block (length c.args.bytes.now / 512)) c.first_region-first.ensures c.last_region-last.ensures c.in-Ok.ensures.marks)
+    (renamed (λ a b. MarkedLogs c.args.config.now c.args.vol a b c.in-Ok.lost c.args.logs.now c.mark.new.logs (g.S.Shelf.meaning c.args.shelf.now) (g.S.Shelf.meaning c.mark.new.shelf)) c.first_region-first.result c.last_region-last.result (first_region c.args.block) (last_region c.args.block (length c.args.bytes.now / 512)) c.first_region-first.ensures c.last_region-last.ensures c.in-Ok.ensures.marks)
     (g.S.Shelf.meaning c.put.new.shelf) c.put.ensures.writes
     (renamed (λ a b. Goes (MarkedAt c.args.config.now c.args.vol a b c.args.logs.now (g.S.Shelf.meaning c.args.shelf.now)) (g.S.Shelf.meaning c.args.shelf.now) (g.S.Shelf.meaning c.mark.new.shelf)) c.first_region-first.result c.last_region-last.result (first_region c.args.block) (last_region c.args.block (length c.args.bytes.now / 512)) c.first_region-first.ensures c.last_region-last.ensures c.mark.ensures.writes)
 
@@ -90,7 +90,7 @@ pub returns-in-Err-put-clause-first : goal.returns-in-Err-put-clause-first
 returns-in-Err-put-clause-first g c =
     let n : 0 < length c.args.bytes.now / 512 = omega (arith, c.requires.many, c.requires.whole) in
     first_Along c.args.config.now c.requires.checked c.args.vol c.args.block (length c.args.bytes.now / 512) c.args.bytes.now n c.requires.volume c.requires.within c.args.logs.now c.mark.new.logs c.mark.ensures.fits c.in-Ok.lost c.if-lost.false c.if-lost-2.false (g.S.Shelf.meaning c.args.shelf.now) (g.S.Shelf.meaning c.mark.new.shelf) (disks_still c.args.config.now.disks (g.S.Shelf.meaning c.args.shelf.now) (g.S.Shelf.meaning c.mark.new.shelf) c.requires.disks c.mark.ensures.writes.units c.mark.ensures.writes.size)
-    (renamed (λ a b. Marked c.args.config.now c.args.vol a b c.in-Ok.lost c.args.logs.now c.mark.new.logs (g.S.Shelf.meaning c.args.shelf.now) (g.S.Shelf.meaning c.mark.new.shelf)) c.first_region-first.result c.last_region-last.result (first_region c.args.block) (last_region c.args.block (length c.args.bytes.now / 512)) c.first_region-first.ensures c.last_region-last.ensures c.in-Ok.ensures.marks)
+    (renamed (λ a b. MarkedLogs c.args.config.now c.args.vol a b c.in-Ok.lost c.args.logs.now c.mark.new.logs (g.S.Shelf.meaning c.args.shelf.now) (g.S.Shelf.meaning c.mark.new.shelf)) c.first_region-first.result c.last_region-last.result (first_region c.args.block) (last_region c.args.block (length c.args.bytes.now / 512)) c.first_region-first.ensures c.last_region-last.ensures c.in-Ok.ensures.marks)
     (g.S.Shelf.meaning c.put.new.shelf) c.put.ensures.writes
     (renamed (λ a b. Goes (MarkedAt c.args.config.now c.args.vol a b c.args.logs.now (g.S.Shelf.meaning c.args.shelf.now)) (g.S.Shelf.meaning c.args.shelf.now) (g.S.Shelf.meaning c.mark.new.shelf)) c.first_region-first.result c.last_region-last.result (first_region c.args.block) (last_region c.args.block (length c.args.bytes.now / 512)) c.first_region-first.ensures c.last_region-last.ensures c.mark.ensures.writes)
 
@@ -98,7 +98,7 @@ pub returns-in-Err-put-clause-writes : goal.returns-in-Err-put-clause-writes
 returns-in-Err-put-clause-writes g c =
     let n : 0 < length c.args.bytes.now / 512 = omega (arith, c.requires.many, c.requires.whole) in
     puts_refused c.args.config.now c.requires.checked c.args.vol c.args.block (length c.args.bytes.now / 512) c.args.bytes.now n c.requires.volume c.requires.within c.args.logs.now c.mark.new.logs c.mark.ensures.fits c.in-Ok.lost c.if-lost.false c.if-lost-2.false (g.S.Shelf.meaning c.args.shelf.now) (g.S.Shelf.meaning c.mark.new.shelf) (disks_still c.args.config.now.disks (g.S.Shelf.meaning c.args.shelf.now) (g.S.Shelf.meaning c.mark.new.shelf) c.requires.disks c.mark.ensures.writes.units c.mark.ensures.writes.size)
-    (renamed (λ a b. Marked c.args.config.now c.args.vol a b c.in-Ok.lost c.args.logs.now c.mark.new.logs (g.S.Shelf.meaning c.args.shelf.now) (g.S.Shelf.meaning c.mark.new.shelf)) c.first_region-first.result c.last_region-last.result (first_region c.args.block) (last_region c.args.block (length c.args.bytes.now / 512)) c.first_region-first.ensures c.last_region-last.ensures c.in-Ok.ensures.marks)
+    (renamed (λ a b. MarkedLogs c.args.config.now c.args.vol a b c.in-Ok.lost c.args.logs.now c.mark.new.logs (g.S.Shelf.meaning c.args.shelf.now) (g.S.Shelf.meaning c.mark.new.shelf)) c.first_region-first.result c.last_region-last.result (first_region c.args.block) (last_region c.args.block (length c.args.bytes.now / 512)) c.first_region-first.ensures c.last_region-last.ensures c.in-Ok.ensures.marks)
     (g.S.Shelf.meaning c.put.new.shelf) c.put.ensures.writes
     (renamed (λ a b. Goes (MarkedAt c.args.config.now c.args.vol a b c.args.logs.now (g.S.Shelf.meaning c.args.shelf.now)) (g.S.Shelf.meaning c.args.shelf.now) (g.S.Shelf.meaning c.mark.new.shelf)) c.first_region-first.result c.last_region-last.result (first_region c.args.block) (last_region c.args.block (length c.args.bytes.now / 512)) c.first_region-first.ensures c.last_region-last.ensures c.mark.ensures.writes)
     (ends_keep c.first_region-first.result c.last_region-last.result c.in-Ok.lost.drl c.args.logs.now.drl c.mark.new.logs.drl (g.S.Shelf.meaning c.args.shelf.now) (g.S.Shelf.meaning c.mark.new.shelf) c.in-Ok.ensures.marks.drl) c.put.new.logs c.in-Err-put.no c.in-Err-put.ensures.puts

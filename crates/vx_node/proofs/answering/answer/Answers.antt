@@ -1,6 +1,7 @@
 -- What a line is answered.
-use Rattle.std.proofs.Common.{◌∙◌, sym}
-use Rattle.std.specs.Prelude.{◌≡◌, Option, None, Some}
+use Rattle.std.proofs.Common.{◌∙◌, ⊎_elim, false, refl, sym, subst, true}
+use Rattle.std.specs.Prelude.{◌≡◌, IsSome, Option, None, Some}
+use Rattle.vx_model.specs.declared.no.No.{No}
 use Rattle.vx_yard.specs.Working.{refused_in}
 use Rattle.vx_link_lines.proofs.AnswerFor.{leads_answer, refusal_answer}
 use Rattle.vx_node.proofs.answering.answer.Goals as goal
@@ -20,3 +21,10 @@ returns-in-Some-clause-settled g c = λ d stands carries good free.
 pub returns-in-Some-clause-leads : goal.returns-in-Some-clause-leads
 returns-in-Some-clause-leads g c = λ d stands carries good.
     refusal_answer d c.args.words.now c.args.yard.now c.in-Some.no stands carries (sym c.refusal.ensures ∙ c.in-Some.is)
+
+pub returns-in-Some-clause-whole : goal.returns-in-Some-clause-whole
+returns-in-Some-clause-whole g c = λ none. refl
+
+pub returns-in-None-clause-whole : goal.returns-in-None-clause-whole
+returns-in-None-clause-whole g c = λ none.
+    ⊎_elim (λ taken. c.perform.ensures.whole taken) (λ some. absurd (let e : false ≡ true = subst (λ (o : Option No). IsSome o) (sym c.refusal.ensures ∙ c.in-None.is) some in cc)) none

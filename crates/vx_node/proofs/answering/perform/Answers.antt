@@ -1,10 +1,10 @@
 -- What a line that no test refuses does.
-use Rattle.std.proofs.Common.{subst, sym}
+use Rattle.std.proofs.Common.{refl, subst, sym}
 use Rattle.std.specs.Prelude.{IfOk}
 use Rattle.vx_yard.specs.OfSites.{AsAsked, AsSettled, HasCalled}
 use Rattle.vx_yard.specs.Standing.{LeadsOrStops}
 use Rattle.vx_yard.specs.Working.{IsFree}
-use Rattle.vx_link_lines.proofs.AnswerFor.{if_ok, leads_whole, other_settled}
+use Rattle.vx_link_lines.proofs.AnswerFor.{leads_whole, memory_taken, other_settled}
 use Rattle.vx_node.proofs.Built.{goes_whole}
 use Rattle.vx_node.proofs.answering.perform.Goals as goal
 
@@ -29,9 +29,14 @@ pub returns-in_default-clause-settled : goal.returns-in_default-clause-settled
 returns-in_default-clause-settled g c = λ d stands carries good. other_settled c.args.words.now c.args.yard.now c.work.new.yard (λ p s is. c.in_default.not-Settle p s is)
 
 pub returns-in-Settle-clause-called : goal.returns-in-Settle-clause-called
-returns-in-Settle-clause-called g c = λ d stands.
-    if_ok (λ said. HasCalled d.world c.args.words.now said c.args.yard.now c.settle_line.new.yard) c.settle_line.result
-    (λ said. subst (λ line. HasCalled d.world line said c.args.yard.now c.settle_line.new.yard) (sym c.in-Settle.is) tt)
+returns-in-Settle-clause-called g c = λ d stands carries good.
+    subst (λ line. IfOk c.settle_line.result (λ said. HasCalled d.world line said c.args.yard.now c.settle_line.new.yard)) (sym c.in-Settle.is) (c.settle_line.ensures.called d stands carries good)
 
 pub returns-in_default-clause-leads : goal.returns-in_default-clause-leads
 returns-in_default-clause-leads g c = λ d stands carries good. leads_whole d c.args.words.now c.args.yard.now c.work.new.yard c.work.result (c.work.ensures.leads d stands carries good)
+
+pub returns-in-Settle-clause-whole : goal.returns-in-Settle-clause-whole
+returns-in-Settle-clause-whole g c = λ none. memory_taken c.args.words.now _ c.in-Settle.is refl none
+
+pub returns-in_default-clause-whole : goal.returns-in_default-clause-whole
+returns-in_default-clause-whole g c = λ none. c.work.ensures.whole none

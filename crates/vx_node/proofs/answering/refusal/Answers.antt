@@ -1,6 +1,6 @@
 -- The first refusal of a line.
 use Rattle.std.proofs.Common.{◌∙◌, ap, sym}
-use Rattle.vx_order.specs.Order.{refusal_of}
+use Rattle.vx_order.specs.Order.{line_refusal}
 use Rattle.vx_order.specs.Packets.{packet_unknown}
 use Rattle.vx_yard.specs.Working.{refused_in}
 use Rattle.vx_yard.specs.Yards.{in_files}
@@ -13,5 +13,5 @@ returns-in-Deliver g c =
 
 pub returns-in_default : goal.returns-in_default
 returns-in_default g c =
-    c.refuse.ensures ∙ ap (λ files. refusal_of c.deref.result.now files c.args.words.now) c.is_some-files.ensures
-    ∙ ap (λ fs. refusal_of fs (in_files c.args.yard.now) c.args.words.now) c.deref.ensures.value ∙ refused_other c.args.yard.now c.args.words.now (λ number is. c.in_default.not-Deliver number is)
+    c.refuse.ensures ∙ ap (λ files. line_refusal c.deref.result.now files c.args.words.now) c.is_some-files.ensures
+    ∙ ap (λ fs. line_refusal fs (in_files c.args.yard.now) c.args.words.now) c.deref.ensures.value ∙ refused_other c.args.yard.now c.args.words.now (λ number is. c.in_default.not-Deliver number is)

@@ -1,7 +1,7 @@
 -- The work of a line that no test refuses.
 use Rattle.std.proofs.Common.{subst, sym, refl}
 use Rattle.std.proofs.lemmas.Result.{err_from_is_err_and}
-use Rattle.vx_link_lines.proofs.AnswerFor.{if_ok}
+use Rattle.vx_link_lines.proofs.AnswerFor.{if_ok, memory_taken}
 use Rattle.vx_yard.proofs.NamedSite.{unbegun_by, unbegun_site}
 use Rattle.std.specs.Prelude.{IfOk, Result}
 use Rattle.vx_model.specs.declared.errors.OutOfMemory.{OutOfMemory}
@@ -113,7 +113,7 @@ pub returns-in-Apply-clause-asked : goal.returns-in-Apply-clause-asked
 returns-in-Apply-clause-asked g c = λ d stands. subst (λ line. AsAsked d.world line c.args.yard.now c.apply_line.new.yard) (sym c.in-Apply.is) (c.apply_line.ensures.asked d stands)
 
 pub returns-in-Apply-clause-called : goal.returns-in-Apply-clause-called
-returns-in-Apply-clause-called g c = λ d stands. subst (λ line. IfOk c.apply_line.result (λ said. HasCalled d.world line said c.args.yard.now c.apply_line.new.yard)) (sym c.in-Apply.is) (c.apply_line.ensures.called d stands)
+returns-in-Apply-clause-called g c = λ d stands carries good. subst (λ line. IfOk c.apply_line.result (λ said. HasCalled d.world line said c.args.yard.now c.apply_line.new.yard)) (sym c.in-Apply.is) (c.apply_line.ensures.called d stands)
 
 pub returns-in-Status-clause-leads : goal.returns-in-Status-clause-leads
 returns-in-Status-clause-leads g c = λ d stands carries good. subst (λ line. LeadsIs d line c.args.yard.now c.args.yard.now c.status_line.result) (sym c.in-Status.is) (c.status_line.ensures.leads d stands)
@@ -128,7 +128,7 @@ pub returns-in-Recover-clause-asked : goal.returns-in-Recover-clause-asked
 returns-in-Recover-clause-asked g c = λ d stands. subst (λ line. AsAsked d.world line c.args.yard.now c.recover_line.new.yard) (sym c.in-Recover.is) (c.recover_line.ensures.asked d stands)
 
 pub returns-in-Recover-clause-called : goal.returns-in-Recover-clause-called
-returns-in-Recover-clause-called g c = λ d stands. if_ok (λ said. HasCalled d.world c.args.words.now said c.args.yard.now c.recover_line.new.yard) c.recover_line.result (λ said. subst (λ line. HasCalled d.world line said c.args.yard.now c.recover_line.new.yard) (sym c.in-Recover.is) tt)
+returns-in-Recover-clause-called g c = λ d stands carries good. if_ok (λ said. HasCalled d.world c.args.words.now said c.args.yard.now c.recover_line.new.yard) c.recover_line.result (λ said. subst (λ line. HasCalled d.world line said c.args.yard.now c.recover_line.new.yard) (sym c.in-Recover.is) tt)
 
 pub returns-in_ok-bytes-in-Write-clause-leads : goal.returns-in_ok-bytes-in-Write-clause-leads
 returns-in_ok-bytes-in-Write-clause-leads g c = λ d stands carries good. subst (λ line. Leads d line c.write_line.result c.args.yard.now c.write_line.new.yard) (sym c.in-Write.is) (c.write_line.ensures.leads d stands)
@@ -137,7 +137,7 @@ pub returns-in_ok-bytes-in-Write-clause-asked : goal.returns-in_ok-bytes-in-Writ
 returns-in_ok-bytes-in-Write-clause-asked g c = λ d stands. subst (λ line. AsAsked d.world line c.args.yard.now c.write_line.new.yard) (sym c.in-Write.is) (c.write_line.ensures.asked d stands)
 
 pub returns-in_ok-bytes-in-Write-clause-called : goal.returns-in_ok-bytes-in-Write-clause-called
-returns-in_ok-bytes-in-Write-clause-called g c = λ d stands. subst (λ line. HasCalled d.world line c.write_line.result c.args.yard.now c.write_line.new.yard) (sym c.in-Write.is) (c.write_line.ensures.called d stands)
+returns-in_ok-bytes-in-Write-clause-called g c = λ d stands carries good. subst (λ line. HasCalled d.world line c.write_line.result c.args.yard.now c.write_line.new.yard) (sym c.in-Write.is) (c.write_line.ensures.called d stands)
 
 pub returns-in_err-bytes-in-Write-clause-leads : goal.returns-in_err-bytes-in-Write-clause-leads
 returns-in_err-bytes-in-Write-clause-leads g c = λ d stands carries good.
@@ -152,7 +152,7 @@ returns-in_err-bytes-in-Write-clause-asked g c = λ d stands.
     (unbegun_site SameFailing d y c.in-Write.site failing_same stands (write_may y.facts.items (in_files y) c.in-Write.site c.in-Write.volume c.in-Write.block c.in-Write.count c.in-Write.fill free).call.site)
 
 pub returns-in_err-bytes-in-Write-clause-called : goal.returns-in_err-bytes-in-Write-clause-called
-returns-in_err-bytes-in-Write-clause-called g c = λ d stands.
+returns-in_err-bytes-in-Write-clause-called g c = λ d stands carries good.
     let p = err_from_is_err_and c.from_residual.result c.from_residual.ensures.1 in
     subst (λ (r : Result Said OutOfMemory). IfOk r (λ said. HasCalled d.world c.args.words.now said c.args.yard.now c.args.yard.now)) (sym p.1) tt
 
@@ -163,38 +163,38 @@ pub returns-in-Put-clause-asked : goal.returns-in-Put-clause-asked
 returns-in-Put-clause-asked g c = λ d stands. subst (λ line. AsAsked d.world line c.args.yard.now c.put_line.new.yard) (sym c.in-Put.is) (c.put_line.ensures.asked d stands)
 
 pub returns-in-Put-clause-called : goal.returns-in-Put-clause-called
-returns-in-Put-clause-called g c = λ d stands. subst (λ line. HasCalled d.world line c.put_line.result c.args.yard.now c.put_line.new.yard) (sym c.in-Put.is) (c.put_line.ensures.called d stands)
+returns-in-Put-clause-called g c = λ d stands carries good. subst (λ line. HasCalled d.world line c.put_line.result c.args.yard.now c.put_line.new.yard) (sym c.in-Put.is) (c.put_line.ensures.called d stands)
 
 pub returns-in-Site-clause-called : goal.returns-in-Site-clause-called
-returns-in-Site-clause-called g c = λ d stands. if_ok (λ said. HasCalled d.world c.args.words.now said c.args.yard.now c.make_site.new.yard) c.make_site.result (λ said. subst (λ line. HasCalled d.world line said c.args.yard.now c.make_site.new.yard) (sym c.in-Site.is) tt)
+returns-in-Site-clause-called g c = λ d stands carries good. if_ok (λ said. HasCalled d.world c.args.words.now said c.args.yard.now c.make_site.new.yard) c.make_site.result (λ said. subst (λ line. HasCalled d.world line said c.args.yard.now c.make_site.new.yard) (sym c.in-Site.is) tt)
 
 pub returns-in-Raw-clause-called : goal.returns-in-Raw-clause-called
-returns-in-Raw-clause-called g c = λ d stands. if_ok (λ said. HasCalled d.world c.args.words.now said c.args.yard.now c.make_raw.new.yard) c.make_raw.result (λ said. subst (λ line. HasCalled d.world line said c.args.yard.now c.make_raw.new.yard) (sym c.in-Raw.is) tt)
+returns-in-Raw-clause-called g c = λ d stands carries good. if_ok (λ said. HasCalled d.world c.args.words.now said c.args.yard.now c.make_raw.new.yard) c.make_raw.result (λ said. subst (λ line. HasCalled d.world line said c.args.yard.now c.make_raw.new.yard) (sym c.in-Raw.is) tt)
 
 pub returns-in-Disk-clause-called : goal.returns-in-Disk-clause-called
-returns-in-Disk-clause-called g c = λ d stands. subst (λ line. HasCalled d.world line c.set_disk.result c.args.yard.now c.set_disk.new.yard) (sym c.in-Disk.is) tt
+returns-in-Disk-clause-called g c = λ d stands carries good. subst (λ line. HasCalled d.world line c.set_disk.result c.args.yard.now c.set_disk.new.yard) (sym c.in-Disk.is) tt
 
 pub returns-in-Crash-clause-called : goal.returns-in-Crash-clause-called
-returns-in-Crash-clause-called g c = λ d stands. subst (λ line. HasCalled d.world line c.crash_line.result c.args.yard.now c.crash_line.new.yard) (sym c.in-Crash.is) tt
+returns-in-Crash-clause-called g c = λ d stands carries good. subst (λ line. HasCalled d.world line c.crash_line.result c.args.yard.now c.crash_line.new.yard) (sym c.in-Crash.is) tt
 
 pub returns-in-Fuse-clause-called : goal.returns-in-Fuse-clause-called
-returns-in-Fuse-clause-called g c = λ d stands. subst (λ line. HasCalled d.world line c.fuse_line.result c.args.yard.now c.fuse_line.new.yard) (sym c.in-Fuse.is) tt
+returns-in-Fuse-clause-called g c = λ d stands carries good. subst (λ line. HasCalled d.world line c.fuse_line.result c.args.yard.now c.fuse_line.new.yard) (sym c.in-Fuse.is) tt
 
 pub returns-in_ok-room-in-Read-clause-called : goal.returns-in_ok-room-in-Read-clause-called
-returns-in_ok-room-in-Read-clause-called g c = λ d stands. subst (λ line. HasCalled d.world line c.read_line.result c.args.yard.now c.read_line.new.yard) (sym c.in-Read.is) tt
+returns-in_ok-room-in-Read-clause-called g c = λ d stands carries good. subst (λ line. HasCalled d.world line c.read_line.result c.args.yard.now c.read_line.new.yard) (sym c.in-Read.is) tt
 
 pub returns-in_ok-room-in-Show-clause-called : goal.returns-in_ok-room-in-Show-clause-called
-returns-in_ok-room-in-Show-clause-called g c = λ d stands. subst (λ line. HasCalled d.world line c.show_line.result c.args.yard.now c.show_line.new.yard) (sym c.in-Show.is) tt
+returns-in_ok-room-in-Show-clause-called g c = λ d stands carries good. subst (λ line. HasCalled d.world line c.show_line.result c.args.yard.now c.show_line.new.yard) (sym c.in-Show.is) tt
 
 pub returns-in-Status-clause-called : goal.returns-in-Status-clause-called
-returns-in-Status-clause-called g c = λ d stands. if_ok (λ said. HasCalled d.world c.args.words.now said c.args.yard.now c.args.yard.now) c.status_line.result (λ said. subst (λ line. HasCalled d.world line said c.args.yard.now c.args.yard.now) (sym c.in-Status.is) tt)
+returns-in-Status-clause-called g c = λ d stands carries good. if_ok (λ said. HasCalled d.world c.args.words.now said c.args.yard.now c.args.yard.now) c.status_line.result (λ said. subst (λ line. HasCalled d.world line said c.args.yard.now c.args.yard.now) (sym c.in-Status.is) tt)
 
 pub returns-in_err-room-in-Read-clause-leads : goal.returns-in_err-room-in-Read-clause-leads
 returns-in_err-room-in-Read-clause-leads g c = λ d stands carries good.
     let p = err_from_is_err_and c.from_residual-in_err-room-in-Read.result c.from_residual-in_err-room-in-Read.ensures.1 in unbegun_by d c.args.words.now c.args.yard.now _ c.from_residual-in_err-room-in-Read.result p.0 p.1 refl refl refl (record { flight = refl; assemblies = refl; feeders = refl }) stands
 
 pub returns-in_err-room-in-Read-clause-called : goal.returns-in_err-room-in-Read-clause-called
-returns-in_err-room-in-Read-clause-called g c = λ d stands.
+returns-in_err-room-in-Read-clause-called g c = λ d stands carries good.
     if_ok (λ said. HasCalled d.world c.args.words.now said c.args.yard.now c.args.yard.now) c.from_residual-in_err-room-in-Read.result (λ said. subst (λ line. HasCalled d.world line said c.args.yard.now c.args.yard.now) (sym c.in-Read.is) tt)
 
 pub returns-in_err-room-in-Read-clause-asked : goal.returns-in_err-room-in-Read-clause-asked
@@ -209,7 +209,7 @@ returns-in_err-room-in-Show-clause-leads g c = λ d stands carries good.
     let p = err_from_is_err_and c.from_residual-in_err-room-in-Show.result c.from_residual-in_err-room-in-Show.ensures.1 in unbegun_by d c.args.words.now c.args.yard.now _ c.from_residual-in_err-room-in-Show.result p.0 p.1 refl refl refl (record { flight = refl; assemblies = refl; feeders = refl }) stands
 
 pub returns-in_err-room-in-Show-clause-called : goal.returns-in_err-room-in-Show-clause-called
-returns-in_err-room-in-Show-clause-called g c = λ d stands.
+returns-in_err-room-in-Show-clause-called g c = λ d stands carries good.
     if_ok (λ said. HasCalled d.world c.args.words.now said c.args.yard.now c.args.yard.now) c.from_residual-in_err-room-in-Show.result (λ said. subst (λ line. HasCalled d.world line said c.args.yard.now c.args.yard.now) (sym c.in-Show.is) tt)
 
 pub returns-in_err-room-in-Show-clause-asked : goal.returns-in_err-room-in-Show-clause-asked
@@ -229,7 +229,7 @@ pub returns-in-Set-clause-asked : goal.returns-in-Set-clause-asked
 returns-in-Set-clause-asked g c = λ d stands. c.work_link.ensures.asked d stands
 
 pub returns-in-Set-clause-called : goal.returns-in-Set-clause-called
-returns-in-Set-clause-called g c = λ d stands. c.work_link.ensures.called d
+returns-in-Set-clause-called g c = λ d stands carries good. c.work_link.ensures.called d stands
 
 pub deliver_line-requires-clause-free : goal.deliver_line-requires-clause-free
 deliver_line-requires-clause-free g c = λ κs lives. subst (λ line. IsFree c.args.yard.now line) c.in-Deliver.is c.requires.free
@@ -242,4 +242,55 @@ pub returns-in-Deliver-clause-asked : goal.returns-in-Deliver-clause-asked
 returns-in-Deliver-clause-asked g c = λ d stands. subst (λ line. AsAsked d.world line c.args.yard.now c.deliver_line.new.yard) (sym c.in-Deliver.is) (c.deliver_line.ensures.asked d stands)
 
 pub returns-in-Deliver-clause-called : goal.returns-in-Deliver-clause-called
-returns-in-Deliver-clause-called g c = λ d stands. if_ok (λ said. HasCalled d.world c.args.words.now said c.args.yard.now c.deliver_line.new.yard) c.deliver_line.result (λ said. subst (λ line. HasCalled d.world line said c.args.yard.now c.deliver_line.new.yard) (sym c.in-Deliver.is) tt)
+returns-in-Deliver-clause-called g c = λ d stands carries good. subst (λ line. IfOk c.deliver_line.result (λ said. HasCalled d.world line said c.args.yard.now c.deliver_line.new.yard)) (sym c.in-Deliver.is) (c.deliver_line.ensures.called d stands carries)
+
+pub returns-in-Site-clause-whole : goal.returns-in-Site-clause-whole
+returns-in-Site-clause-whole g c = λ none. memory_taken c.args.words.now _ c.in-Site.is refl none
+
+pub returns-in-Raw-clause-whole : goal.returns-in-Raw-clause-whole
+returns-in-Raw-clause-whole g c = λ none. memory_taken c.args.words.now _ c.in-Raw.is refl none
+
+pub returns-in-Recover-clause-whole : goal.returns-in-Recover-clause-whole
+returns-in-Recover-clause-whole g c = λ none. memory_taken c.args.words.now _ c.in-Recover.is refl none
+
+pub returns-in-Apply-clause-whole : goal.returns-in-Apply-clause-whole
+returns-in-Apply-clause-whole g c = λ none. memory_taken c.args.words.now _ c.in-Apply.is refl none
+
+pub returns-in-Status-clause-whole : goal.returns-in-Status-clause-whole
+returns-in-Status-clause-whole g c = λ none. memory_taken c.args.words.now _ c.in-Status.is refl none
+
+pub returns-in-Deliver-clause-whole : goal.returns-in-Deliver-clause-whole
+returns-in-Deliver-clause-whole g c = λ none. memory_taken c.args.words.now _ c.in-Deliver.is refl none
+
+pub returns-in-Disk-clause-whole : goal.returns-in-Disk-clause-whole
+returns-in-Disk-clause-whole g c = λ none. refl
+
+pub returns-in-Crash-clause-whole : goal.returns-in-Crash-clause-whole
+returns-in-Crash-clause-whole g c = λ none. refl
+
+pub returns-in-Fuse-clause-whole : goal.returns-in-Fuse-clause-whole
+returns-in-Fuse-clause-whole g c = λ none. refl
+
+pub returns-in-Put-clause-whole : goal.returns-in-Put-clause-whole
+returns-in-Put-clause-whole g c = λ none. refl
+
+pub returns-in_ok-bytes-in-Write-clause-whole : goal.returns-in_ok-bytes-in-Write-clause-whole
+returns-in_ok-bytes-in-Write-clause-whole g c = λ none. refl
+
+pub returns-in_err-bytes-in-Write-clause-whole : goal.returns-in_err-bytes-in-Write-clause-whole
+returns-in_err-bytes-in-Write-clause-whole g c = λ none. memory_taken c.args.words.now _ c.in-Write.is refl none
+
+pub returns-in_ok-room-in-Read-clause-whole : goal.returns-in_ok-room-in-Read-clause-whole
+returns-in_ok-room-in-Read-clause-whole g c = λ none. refl
+
+pub returns-in_err-room-in-Read-clause-whole : goal.returns-in_err-room-in-Read-clause-whole
+returns-in_err-room-in-Read-clause-whole g c = λ none. memory_taken c.args.words.now _ c.in-Read.is refl none
+
+pub returns-in_ok-room-in-Show-clause-whole : goal.returns-in_ok-room-in-Show-clause-whole
+returns-in_ok-room-in-Show-clause-whole g c = λ none. refl
+
+pub returns-in_err-room-in-Show-clause-whole : goal.returns-in_err-room-in-Show-clause-whole
+returns-in_err-room-in-Show-clause-whole g c = λ none. memory_taken c.args.words.now _ c.in-Show.is refl none
+
+pub returns-in-Set-clause-whole : goal.returns-in-Set-clause-whole
+returns-in-Set-clause-whole g c = λ none. c.work_link.ensures.whole none

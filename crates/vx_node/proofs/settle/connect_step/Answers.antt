@@ -9,6 +9,7 @@ use Rattle.vx_node.specs.Settling.{WentFor}
 use Rattle.vx_yard.specs.Yards.{IsTold}
 use Rattle.vx_node.specs.declared.going.Went.{Went}
 use Rattle.vx_yard.proofs.OfSites.{all_still}
+use Rattle.vx_node.proofs.SettleParts.{done_at}
 use Rattle.vx_node.proofs.StepWent.{step_same, step_went, told_same}
 use Rattle.vx_node.proofs.settle.connect_step.Goals as goal
 
@@ -31,7 +32,8 @@ returns-clause-went g c = λ d a b serves.
     subst (λ (w : Went). WentFor c.args.first.now c.args.second.now a b d (ConnectAt a b ∷ []) y new w) (sym c.answered.ensures)
     (step_went c.args.first.now c.args.second.now a b d (ConnectAt a b ∷ []) y new serves (told_same y new (ap (λ es. es.items) c.connect_line.ensures.still)) (all_still y new (ap (λ es. es.items) c.connect_line.ensures.still)) (Connect c.args.first.now c.args.second.now)
     (λ fails said e done. connect_goes (IsTold new) a b d serves.may n.fuses n.burns n.stands.links c.args.first.now c.args.second.now fails said e serves.from serves.to done.ends)
-    c.connect_line.result (c.connect_line.ensures.leads (noted_as n.fuses d) n.stands n.carries))
+    c.connect_line.result (c.connect_line.ensures.leads (noted_as n.fuses d) n.stands n.carries)
+    (done_at c.args.first.now c.args.second.now a b d y new serves c.connect_line.result c.connect_line.ensures.done (ap (λ es. es.items) c.connect_line.ensures.still)))
 
 pub returns-clause-told : goal.returns-clause-told
 returns-clause-told g c = told_same c.args.yard.now c.connect_line.new.yard (ap (λ es. es.items) c.connect_line.ensures.still)

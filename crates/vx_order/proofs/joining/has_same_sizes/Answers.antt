@@ -1,5 +1,5 @@
-use Rattle.std.proofs.Common.{◌∙◌, sym, length, arith}
-use Rattle.vx_order.specs.Joining.{data_sizes, same_size}
+use Rattle.std.proofs.Common.{◌∙◌, sym, arith}
+use Rattle.vx_order.specs.Joining.{data_sizes}
 use Rattle.vx_order.proofs.SizeLemmas.{all_same, one_differs, few_sizes}
 use Rattle.vx_order.proofs.joining.has_same_sizes.Goals as goal
 

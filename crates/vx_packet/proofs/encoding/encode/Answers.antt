@@ -1,7 +1,7 @@
 use Rattle.std.proofs.Common.{arith, ◌≡◌, ◌≤◌, ◌+◌, ◌++◌, ◌∙◌, ap, sym, take, length, ℕ, List}
 use Rattle.vx_wire.specs.Fields.{spelled}
-use Rattle.vx_packet.specs.Messages.{parts_of, payload_of, part_count, chunk}
-use Rattle.vx_packet.specs.Packets.{header_table, part_of, packet_of}
+use Rattle.vx_packet.specs.Messages.{count_of_parts, payload_of, part_count, chunk}
+use Rattle.vx_packet.specs.Packets.{packet_table, part_numbered, part_packet}
 use Rattle.vx_packet.specs.declared.message.Envelope.{Envelope}
 use Rattle.vx_packet.specs.declared.message.Message.{Message}
 use Rattle.vx_packet.specs.declared.part.Part.{Part}
@@ -29,7 +29,7 @@ overflow_cast-carried c =
 pub put_fields-requires : goal.put_fields-requires
 put_fields-requires c =
     let p : Part = carried c.args.e.now c.row_of-row.result c.args.part c.part_count.result c.min-length.result in
-    let same : length (spelled c.table.result) ≡ length (spelled (header_table p)) = ap (λ t. length (spelled t)) c.table.ensures in
+    let same : length (spelled c.table.result) ≡ length (spelled (packet_table p)) = ap (λ t. length (spelled t)) c.table.ensures in
     omega (arith, same, length-header_table p)
 
 pub put_chunk-requires-clause-part : goal.put_chunk-requires-clause-part
@@ -50,13 +50,13 @@ returns c =
     let few : length (payload_of m) ≤ 65560 = omega (arith, c.row_of-row.ensures.few, c.put_front-len.ensures.few) in
     let payload : chunk k (front ++ found.bytes.now) ≡ chunk k (payload_of m) =
     ap (chunk k) (payload-row found m front c.row_of-row.ensures.row c.put_front-len.ensures.written) in
-    let parts : c.part_count.result ≡ parts_of m = c.part_count.ensures ∙ ap part_count total ∙ sym (same_parts m) in
+    let parts : c.part_count.result ≡ count_of_parts m = c.part_count.ensures ∙ ap part_count total ∙ sym (same_parts m) in
     let long : c.min-length.result ≡ length (chunk k (payload_of m)) = omega (arith, length-chunk k (payload_of m)) in
-    let is : carried e found k c.part_count.result c.min-length.result ≡ part_of e m k =
+    let is : carried e found k c.part_count.result c.min-length.result ≡ part_numbered e m k =
     carried-is e m found k c.part_count.result c.min-length.result c.row_of-row.ensures.row parts long in
-    let header : spelled c.table.result ≡ spelled (header_table (part_of e m k)) =
-    ap spelled c.table.ensures ∙ ap (λ (p : Part). spelled (header_table p)) is in
-    let written : IsWritten (packet_of e m k) c.args.into.now c.put_chunk.new.into (48 + c.min-length.result) =
+    let header : spelled c.table.result ≡ spelled (packet_table (part_numbered e m k)) =
+    ap spelled c.table.ensures ∙ ap (λ (p : Part). spelled (packet_table p)) is in
+    let written : IsWritten (part_packet e m k) c.args.into.now c.put_chunk.new.into (48 + c.min-length.result) =
     IsWritten-parts e m k (48 + c.min-length.result) (spelled c.table.result) (chunk k (front ++ found.bytes.now)) c.args.into.now c.put_fields.new.bytes c.put_chunk.new.into header payload (omega (arith, ap length payload, long)) c.put_fields.ensures.written c.put_chunk.ensures in record {
       length = written.length;
       few = omega arith;

@@ -1,11 +1,11 @@
 use Rattle.std.proofs.Common.{arith, ◌≡◌, ◌+◌, ◌∙◌, ap, sym, take, length, ℕ, List}
 use Rattle.std.proofs.lemmas.List.{length-append}
-use Rattle.vx_packet.specs.Messages.{parts_of, payload_of, part_count}
+use Rattle.vx_packet.specs.Messages.{count_of_parts, payload_of, part_count}
 use Rattle.vx_packet.proofs.RowLemmas.{payload-row}
 use Rattle.vx_packet.proofs.encoding.parts.Goals as goal
 
 pub returns : goal.returns
-unfolding parts_of
+unfolding count_of_parts
 returns c =
     let front : List ℕ = take c.put_front-len.result c.put_front-len.new.into in
     let payload = payload-row c.row_of-row.result c.args.m.now front c.row_of-row.ensures.row c.put_front-len.ensures.written in

@@ -1,7 +1,7 @@
 use Rattle.std.proofs.Common.{arith, ◌≡◌, ◌<◌, ◌+◌, ◌∙◌, ap, sym, subst, List, ℕ, Option, Some, length, take, set}
 use Rattle.std.proofs.Math.Seq.{take-set-lt}
 use Rattle.std.proofs.lemmas.List.{length-take}
-use Rattle.vx_packet.specs.Gathering.{came, AreFull}
+use Rattle.vx_packet.specs.Gathering.{parts_came, AreFull}
 use Rattle.vx_packet.proofs.GatherLemmas.{came-put, came-told, kept-in, kept-past, AreFull-set}
 use Rattle.vx_packet.proofs.gathered.keep.Goals as goal
 
@@ -14,10 +14,10 @@ pub returns-then-part-lt-MOST_PARTS-clause-came : goal.returns-then-part-lt-MOST
 returns-then-part-lt-MOST_PARTS-clause-came c =
     let payload : List ℕ = c.args.payload.now in
     let front : List (Option ℕ) = take c.args.count c.args.lengths.now in
-    ap (λ (ls : List (Option ℕ)). came ls c.put_bytes.new.bytes) (take-set-lt c.args.count c.args.lengths.now c.args.part (Some (length payload)) c.requires.part)
-    ∙ ap (came (set front c.args.part (Some (length payload)))) c.put_bytes.ensures
+    ap (λ (ls : List (Option ℕ)). parts_came ls c.put_bytes.new.bytes) (take-set-lt c.args.count c.args.lengths.now c.args.part (Some (length payload)) c.requires.part)
+    ∙ ap (parts_came (set front c.args.part (Some (length payload)))) c.put_bytes.ensures
     ∙ came-put front c.args.part payload c.args.buffer.now c.requires.few (omega (arith, c.requires.room, c.requires.few, c.if-part-lt-MOST_PARTS.true))
-    ∙ ap (λ (t : List ℕ). set (came front c.args.buffer.now) c.args.part (Some t)) (sym (kept-in c.args.part payload c.if-part-lt-MOST_PARTS.true))
+    ∙ ap (λ (t : List ℕ). set (parts_came front c.args.buffer.now) c.args.part (Some t)) (sym (kept-in c.args.part payload c.if-part-lt-MOST_PARTS.true))
 
 pub returns-then-part-lt-MOST_PARTS-clause-full : goal.returns-then-part-lt-MOST_PARTS-clause-full
 returns-then-part-lt-MOST_PARTS-clause-full c full =
@@ -27,9 +27,9 @@ pub returns-else-part-lt-MOST_PARTS-clause-came : goal.returns-else-part-lt-MOST
 returns-else-part-lt-MOST_PARTS-clause-came c =
     let payload : List ℕ = c.args.payload.now in
     let front : List (Option ℕ) = take c.args.count c.args.lengths.now in
-    ap (λ (ls : List (Option ℕ)). came ls c.args.buffer.now) (take-set-lt c.args.count c.args.lengths.now c.args.part (Some (length payload)) c.requires.part)
+    ap (λ (ls : List (Option ℕ)). parts_came ls c.args.buffer.now) (take-set-lt c.args.count c.args.lengths.now c.args.part (Some (length payload)) c.requires.part)
     ∙ came-told front c.args.part (length payload) c.args.buffer.now (omega (arith, c.requires.room))
-    ∙ ap (λ (t : List ℕ). set (came front c.args.buffer.now) c.args.part (Some t)) (sym (kept-past c.args.part payload (omega arith)))
+    ∙ ap (λ (t : List ℕ). set (parts_came front c.args.buffer.now) c.args.part (Some t)) (sym (kept-past c.args.part payload (omega arith)))
 
 pub returns-else-part-lt-MOST_PARTS-clause-full : goal.returns-else-part-lt-MOST_PARTS-clause-full
 returns-else-part-lt-MOST_PARTS-clause-full c full =

@@ -1,7 +1,7 @@
 use Rattle.std.proofs.Common.{arith, ◌≡◌, ◌∙◌, ◌+◌, ap, sym, subst, List, ℕ, length, Some, refl}
 use Rattle.vx_wire.specs.Fields.{spelled}
 use Rattle.vx_packet.specs.PacketReading.{part_in}
-use Rattle.vx_packet.specs.Packets.{header_table, CanCarry}
+use Rattle.vx_packet.specs.Packets.{packet_table, CanCarry}
 use Rattle.vx_packet.specs.declared.part.Part.{Part}
 use Rattle.vx_packet.proofs.Numbers.{not_both}
 use Rattle.vx_packet.proofs.PartLemmas.{part_in-is, front_packet, packet_from}
@@ -32,7 +32,7 @@ returns-else-whole-clause-only c p is =
     let whole : length c.args.bytes.now ≡ 48 + c.read_part-part.result.length = is.whole ∙ ap (λ (q : Part). 48 + q.length) same in
     elim c.else-whole.branch [
       | else-whole-via-then-whole+then-can_carry+else-is_spelled w ↦
-          absurd (not_both (w.if-is_spelled.ensures.1 (front_packet c.args.bytes.now p is ∙ ap (λ (q : Part). spelled (header_table q)) same)))
+          absurd (not_both (w.if-is_spelled.ensures.1 (front_packet c.args.bytes.now p is ∙ ap (λ (q : Part). spelled (packet_table q)) same)))
       | else-whole-via-then-whole+else-can_carry w ↦ absurd (not_both (w.if-can_carry.ensures.1 (subst CanCarry same is.can)))
       | else-whole-via-else-whole w ↦ absurd (w.if-whole.false whole)
     ]

@@ -1,5 +1,5 @@
 use Rattle.std.proofs.Common.{◌≡◌, ◌∙◌, sym, subst}
-use Rattle.vx_packet.specs.Messages.{CanSpell, IsSpelled}
+use Rattle.vx_packet.specs.Messages.{CanSpellMessage, IsSpelled}
 use Rattle.vx_packet.specs.declared.message.Message.{Message}
 use Rattle.vx_packet.proofs.MessageAgain.{message_in-is, some_same}
 use Rattle.vx_packet.proofs.Numbers.{not_both}
@@ -13,7 +13,7 @@ pub returns-else-spelled-clause-only : goal.returns-else-spelled-clause-only
 returns-else-spelled-clause-only c m is =
     let same : m ≡ c.in-Some.message = some_same m c.in-Some.message (sym (message_in-is c.args.kind c.args.session c.args.number c.args.payload.now m is) ∙ sym c.in-Some.ensures) in
     elim c.else-spelled.branch [
-      | else-spelled-via-then-spelled+else-can_spell w ↦ absurd (not_both (w.if-can_spell.ensures.1 (subst CanSpell same is.can)))
+      | else-spelled-via-then-spelled+else-can_spell w ↦ absurd (not_both (w.if-can_spell.ensures.1 (subst CanSpellMessage same is.can)))
       | else-spelled-via-else-spelled w ↦
           absurd (not_both (w.if-spelled.ensures.spelled.1 (subst (λ (q : Message). IsSpelled c.args.kind c.args.session c.args.number c.args.payload.now q) same is.spelled)))
     ]

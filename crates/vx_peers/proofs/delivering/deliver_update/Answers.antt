@@ -6,7 +6,7 @@ use Rattle.vx_courier.specs.Together.{AssemblyStands}
 use Rattle.vx_history.specs.Events.{delivered, packet_at}
 use Rattle.vx_history.specs.declared.event.Said.TheVariants.{Ignored as IsIgnored, Taken as IsTaken}
 use Rattle.vx_model.specs.declared.state.State.{State}
-use Rattle.vx_peers.specs.Receivers.{AcksAgain, GatheredIs, NoneWaits, NotHeard, OneWaits, Receives, SendsOn, StandsFor, WaitsBy, acks_of, rule_at}
+use Rattle.vx_peers.specs.Receivers.{AcksAgain, GatheredIs, NoneWaits, NotHeard, OneWaits, ReceivesWrites, SendsOn, StandsForOutcome, WaitsBy, acks_of, rule_at}
 use Rattle.vx_peers.specs.Senders.{Sends}
 use Rattle.vx_peers.proofs.Delivers.{again_at, ignored_at, is_idle, never_lost, read_of, rule_is, rule_read, some_kept, some_waits}
 use Rattle.vx_peers.proofs.Found.{never_none, never_other}
@@ -33,12 +33,12 @@ returns-in-Nothing g c = record {
       let core = c.args.secondary.now.rvg.core in
       let us = c.args.secondary.now.waiting in
       let f = g.N.Net.flying c.args.flight.now in
-      let here = subst (λ (t : ℕ). Receives (w.nodes t) core us c.args.fed_by.now) (sym target) receives in
+      let here = subst (λ (t : ℕ). ReceivesWrites (w.nodes t) core us c.args.fed_by.now) (sym target) receives in
       let there = subst (λ (t : ℕ). AssemblyStands w.packets t (w.gathering t) c.args.assembly.now) (sym target) stands in
       let running = sym here.halted ∙ sym c.halted.ensures ∙ c.in_default.is in
       let read = read_of w c.args.number p k x at message f flight c.in-Some-get.bytes.now c.in-Some-decode.part c.in-Some-get.ensures.packet c.decode.result c.decode.ensures.only c.in-Some-decode.is in
       let rule = rule_is w c.args.number p k x at message f flight core us c.args.fed_by.now here running c.in-Some-get.bytes.now c.in-Some-decode.part read c.rule_for.result c.rule_for.ensures in
-      subst (λ (t : ℕ). StandsFor (delivered w c.args.number (packet_at w.packets c.args.number)) t core us c.args.fed_by.now c.args.assembly.now f IsIgnored) target
+      subst (λ (t : ℕ). StandsForOutcome (delivered w c.args.number (packet_at w.packets c.args.number)) t core us c.args.fed_by.now c.args.assembly.now f IsIgnored) target
       (ignored_at w c.args.number p k x at message f flight core us c.args.fed_by.now here running c.args.assembly.now there c.rule_for.result rule c.in-Nothing.is);
   group = refl;
   waiting = tt;
@@ -52,13 +52,13 @@ returns-else-number-gt-MOST_NUMBER-clause-delivered g c = λ w p k x at target m
     let core = c.args.secondary.now.rvg.core in
     let us = c.args.secondary.now.waiting in
     let f = g.N.Net.flying c.args.flight.now in
-    let here = subst (λ (t : ℕ). Receives (w.nodes t) core us c.args.fed_by.now) (sym target) receives in
+    let here = subst (λ (t : ℕ). ReceivesWrites (w.nodes t) core us c.args.fed_by.now) (sym target) receives in
     let there = subst (λ (t : ℕ). AssemblyStands w.packets t (w.gathering t) c.args.assembly.now) (sym target) stands in
     let running = sym here.halted ∙ sym c.halted.ensures ∙ c.in_default.is in
     let read = read_of w c.args.number p k x at message f flight c.in-Some-get.bytes.now c.in-Some-decode.part c.in-Some-get.ensures.packet c.decode.result c.decode.ensures.only c.in-Some-decode.is in
     let rule = rule_is w c.args.number p k x at message f flight core us c.args.fed_by.now here running c.in-Some-get.bytes.now c.in-Some-decode.part read c.rule_for.result c.rule_for.ensures in
     let sends = subst (λ (t : ℕ). SendsOn t c.in-Some-decode.part.source c.state.result.now.line c.session-session.result c.in-IgnoredAck.number f (g.N.Net.flying c.acknowledge-in-IgnoredAck.new.flight)) (sym target) c.acknowledge-in-IgnoredAck.ensures.sends in
-    subst (λ (t : ℕ). StandsFor (delivered w c.args.number (packet_at w.packets c.args.number)) t core us c.args.fed_by.now c.args.assembly.now (g.N.Net.flying c.acknowledge-in-IgnoredAck.new.flight) IsIgnored) target
+    subst (λ (t : ℕ). StandsForOutcome (delivered w c.args.number (packet_at w.packets c.args.number)) t core us c.args.fed_by.now c.args.assembly.now (g.N.Net.flying c.acknowledge-in-IgnoredAck.new.flight) IsIgnored) target
     (again_at w c.args.number p k x at message f flight core us c.args.fed_by.now here running c.args.assembly.now there c.in-IgnoredAck.number (sym rule ∙ c.in-IgnoredAck.is) c.in-Some-get.bytes.now c.in-Some-decode.part read
     c.state.result.now.line c.session-session.result (ap (λ (s : State). s.line) c.state.ensures.is) c.session-session.ensures.is (g.N.Net.flying c.acknowledge-in-IgnoredAck.new.flight) (omega (arith, c.if-count-ge-MOST_NUMBER.false, c.count.ensures.count)) sends)
 
@@ -67,7 +67,7 @@ returns-in-None-clause-delivered g c = λ w p k x at target message one flight r
     let core = c.args.secondary.now.rvg.core in
     let us = c.args.secondary.now.waiting in
     let f = g.N.Net.flying c.args.flight.now in
-    let here = subst (λ (t : ℕ). Receives (w.nodes t) core us c.args.fed_by.now) (sym target) receives in
+    let here = subst (λ (t : ℕ). ReceivesWrites (w.nodes t) core us c.args.fed_by.now) (sym target) receives in
     let there = subst (λ (t : ℕ). AssemblyStands w.packets t (w.gathering t) c.args.assembly.now) (sym target) stands in
     let running = sym here.halted ∙ sym c.halted.ensures ∙ c.in_default.is in
     let bytes = c.in-Some-get.bytes.now in
@@ -86,7 +86,7 @@ returns-in-Some-false-clause-delivered g c = λ w p k x at target message one fl
     let core = c.args.secondary.now.rvg.core in
     let us = c.args.secondary.now.waiting in
     let f = g.N.Net.flying c.args.flight.now in
-    let here = subst (λ (t : ℕ). Receives (w.nodes t) core us c.args.fed_by.now) (sym target) receives in
+    let here = subst (λ (t : ℕ). ReceivesWrites (w.nodes t) core us c.args.fed_by.now) (sym target) receives in
     let there = subst (λ (t : ℕ). AssemblyStands w.packets t (w.gathering t) c.args.assembly.now) (sym target) stands in
     let running = sym here.halted ∙ sym c.halted.ensures ∙ c.in_default.is in
     let bytes = c.in-Some-get.bytes.now in
@@ -99,15 +99,15 @@ returns-in-Some-false-clause-delivered g c = λ w p k x at target message one fl
     let new = c.gather.new.assembly in
     let gathered = subst (λ (r : Option Bool). GatheredIs core size part (payload_in part bytes) us c.args.assembly.now waiting new r) (c.in-Some-false.is ∙ ap (λ (b : Bool). Some b) c.in-Some-false.field-0-test) c.gather.ensures.gathered in
     let done = some_kept w c.args.number p k x at message f flight core us c.args.fed_by.now here running c.args.assembly.now there c.in-Take.ack takes size fits one bytes part read waiting new gathered in
-    subst (λ (v : Core). StandsFor (delivered w c.args.number (packet_at w.packets c.args.number)) c.args.site v waiting c.args.fed_by.now new f IsTaken) (sym (ap (λ r. r.core) c.gather.ensures.group))
-    (subst (λ (t : ℕ). StandsFor (delivered w c.args.number (packet_at w.packets c.args.number)) t core waiting c.args.fed_by.now new f IsTaken) target done)
+    subst (λ (v : Core). StandsForOutcome (delivered w c.args.number (packet_at w.packets c.args.number)) c.args.site v waiting c.args.fed_by.now new f IsTaken) (sym (ap (λ r. r.core) c.gather.ensures.group))
+    (subst (λ (t : ℕ). StandsForOutcome (delivered w c.args.number (packet_at w.packets c.args.number)) t core waiting c.args.fed_by.now new f IsTaken) target done)
 
 pub returns-in-Some-true-clause-delivered : goal.returns-in-Some-true-clause-delivered
 returns-in-Some-true-clause-delivered g c = λ w p k x at target message one flight receives stands fits.
     let core = c.args.secondary.now.rvg.core in
     let us = c.args.secondary.now.waiting in
     let f = g.N.Net.flying c.args.flight.now in
-    let here = subst (λ (t : ℕ). Receives (w.nodes t) core us c.args.fed_by.now) (sym target) receives in
+    let here = subst (λ (t : ℕ). ReceivesWrites (w.nodes t) core us c.args.fed_by.now) (sym target) receives in
     let there = subst (λ (t : ℕ). AssemblyStands w.packets t (w.gathering t) c.args.assembly.now) (sym target) stands in
     let running = sym here.halted ∙ sym c.halted.ensures ∙ c.in_default.is in
     let bytes = c.in-Some-get.bytes.now in
@@ -122,8 +122,8 @@ returns-in-Some-true-clause-delivered g c = λ w p k x at target message one fli
     let f' = g.N.Net.flying c.acknowledge.new.flight in
     let sends = subst (λ (t : ℕ). SendsOn t part.source c.state.result.now.line c.session-session.result c.in-Take.ack f f') (sym target) c.acknowledge.ensures.sends in
     let done = some_waits w c.args.number p k x at message f flight core us c.args.fed_by.now here running c.args.assembly.now there c.in-Take.ack takes size fits one bytes part read waiting new gathered c.state.result.now.line c.session-session.result (ap (λ (s : State). s.line) c.state.ensures.is) c.session-session.ensures.is f' (omega (arith, c.if-count-ge-MOST_NUMBER.false, c.count.ensures.count)) sends in
-    subst (λ (v : Core). StandsFor (delivered w c.args.number (packet_at w.packets c.args.number)) c.args.site v waiting part.source new f' IsTaken) (sym (ap (λ r. r.core) c.gather.ensures.group))
-    (subst (λ (t : ℕ). StandsFor (delivered w c.args.number (packet_at w.packets c.args.number)) t core waiting part.source new f' IsTaken) target done)
+    subst (λ (v : Core). StandsForOutcome (delivered w c.args.number (packet_at w.packets c.args.number)) c.args.site v waiting part.source new f' IsTaken) (sym (ap (λ r. r.core) c.gather.ensures.group))
+    (subst (λ (t : ℕ). StandsForOutcome (delivered w c.args.number (packet_at w.packets c.args.number)) t core waiting part.source new f' IsTaken) target done)
 
 -- ---- whatever is in assembly
 

@@ -3,7 +3,7 @@ use Rattle.vx_model.specs.declared.call.Update.{Update}
 use Rattle.vx_courier.specs.UnderWay.{FlightStands}
 use Rattle.vx_history.specs.Sends.{updates}
 use Rattle.vx_history.specs.World.{Packet}
-use Rattle.vx_secondary.specs.Receivers.{write_of}
+use Rattle.vx_secondary.specs.Receivers.{write_of_update}
 use Rattle.vx_peers.proofs.MorePackets.{more_updates}
 use Rattle.vx_peers.proofs.pumping.send_range.Goals as goal
 
@@ -15,7 +15,7 @@ returns-clause-sent g c = λ tells h stands.
         updates = c.in_ok-updates.updates.items;
         read = read.0;
         all = omega (arith, c.in_ok-updates.ensures.read.0, c.requires.some);
-        flies = subst (λ (us : List Update). (ps : List Packet) → FlightStands ps (g.N.Net.flying c.args.flight.now) → FlightStands (ps ++ updates e.source e.target e.line c.args.from (map write_of us)) (g.N.Net.flying c.send_updates.new.flight)) c.deref.ensures.value c.send_updates.ensures.flies;
+        flies = subst (λ (us : List Update). (ps : List Packet) → FlightStands ps (g.N.Net.flying c.args.flight.now) → FlightStands (ps ++ updates e.source e.target e.line c.args.from (map write_of_update us)) (g.N.Net.flying c.send_updates.new.flight)) c.deref.ensures.value c.send_updates.ensures.flies;
       },
       read.1,
     )

@@ -1,6 +1,6 @@
 use Rattle.std.proofs.Common.{◌+◌, arith, map}
 use Rattle.vx_history.specs.Sends.{updates}
-use Rattle.vx_secondary.specs.Receivers.{write_of}
+use Rattle.vx_secondary.specs.Receivers.{write_of_update}
 use Rattle.vx_peers.proofs.Updates.{all_sent, at_place_of, one_sent, start_of}
 use Rattle.vx_peers.proofs.sending.send_updates.Goals as goal
 
@@ -19,7 +19,7 @@ loop-past-preserved g c =
     let was = c.loop-past.invariant in
     let e = c.args.envelope.now in
     let us = c.args.updates.now in (
-      (λ ps stands. one_sent ps (updates e.source e.target e.line c.args.first (map write_of us)) e c.args.first c.loop-past.past (c.loop-past.past + 1) us c.index-updates-past.result
+      (λ ps stands. one_sent ps (updates e.source e.target e.line c.args.first (map write_of_update us)) e c.args.first c.loop-past.past (c.loop-past.past + 1) us c.index-updates-past.result
           (g.N.Net.flying c.loop-past.flight) (g.N.Net.flying c.send_update.new.flight) (was.0 ps stands) (at_place_of us c.loop-past.past c.index-updates-past.result (omega (arith, c.loop-past-test.true)) c.index-updates-past.is) (omega arith) c.send_update.ensures.flies),
       omega (arith, was.1, c.send_update.ensures.count),
     )

@@ -1,4 +1,4 @@
-use Rattle.vx_resync.proofs.CauseLemmas.{later_cause, ok_by, plex_refused}
+use Rattle.vx_resync.proofs.CauseLemmas.{copy_refused, later_cause, ok_by, plex_refused, source_refused}
 use Rattle.vx_resync.proofs.CopyLemmas.{asked_of, disks_after, run_alike, run_fits, run_goes, run_in}
 use Rattle.vx_disk.proofs.Runs.{none_written}
 use Rattle.vx_resync.proofs.copying.copy_run.Goals as goal
@@ -31,3 +31,9 @@ returns-in-Err-clause-goes g c = none_written _ (g.S.Shelf.meaning c.args.shelf.
 
 pub returns-in-Err-clause-cause : goal.returns-in-Err-clause-cause
 returns-in-Err-clause-cause g c = plex_refused c.args.config.now c.args.vol c.args.source (g.S.Shelf.meaning c.args.shelf.now) (g.S.Shelf.meaning c.read_plex.new.shelf) c.in-Err.error c.refusal.result c.refusal.ensures c.in-Err.ensures.cause
+
+pub returns-in-Ok-clause-blamed : goal.returns-in-Ok-clause-blamed
+returns-in-Ok-clause-blamed g c = copy_refused c.args.config.now c.args.vol c.args.source c.args.to (g.S.Shelf.meaning c.args.shelf.now) (g.S.Shelf.meaning c.read_plex.new.shelf) (g.S.Shelf.meaning c.put_run.new.shelf) c.read_plex.ensures.goes.faults c.read_plex.ensures.goes.disk_faults c.put_run.result c.put_run.ensures.blamed
+
+pub returns-in-Err-clause-blamed : goal.returns-in-Err-clause-blamed
+returns-in-Err-clause-blamed g c = source_refused (Unit {0}) c.args.config.now c.args.vol c.args.source c.args.to (g.S.Shelf.meaning c.args.shelf.now) (g.S.Shelf.meaning c.read_plex.new.shelf) c.in-Err.error c.refusal.result c.refusal.ensures c.in-Err.ensures.cause

@@ -1,4 +1,4 @@
-use Rattle.vx_resync.proofs.CauseLemmas.{plex_refused}
+use Rattle.vx_resync.proofs.CauseLemmas.{plex_refused, target_refused}
 use Rattle.vx_resync.proofs.CopyLemmas.{one_wrote, put_one_Goes}
 use Rattle.vx_resync.proofs.putting.put_one.Goals as goal
 
@@ -13,3 +13,9 @@ returns-in-Err-clause-goes g c = put_one_Goes c.args.config.now c.args.vol c.arg
 
 pub returns-in-Err-clause-cause : goal.returns-in-Err-clause-cause
 returns-in-Err-clause-cause g c = plex_refused c.args.config.now c.args.vol c.args.plex (g.S.Shelf.meaning c.args.shelf.now) (g.S.Shelf.meaning c.write_plex.new.shelf) c.in-Err.error c.refusal.result c.refusal.ensures c.in-Err.ensures.cause
+
+pub returns-in-Ok-clause-blamed : goal.returns-in-Ok-clause-blamed
+returns-in-Ok-clause-blamed g c = c.in-Ok.ensures.cause
+
+pub returns-in-Err-clause-blamed : goal.returns-in-Err-clause-blamed
+returns-in-Err-clause-blamed g c = target_refused (Unit {0}) c.args.config.now c.args.vol c.args.plex (g.S.Shelf.meaning c.args.shelf.now) (g.S.Shelf.meaning c.write_plex.new.shelf) c.in-Err.error c.refusal.result c.refusal.ensures c.in-Err.ensures.cause

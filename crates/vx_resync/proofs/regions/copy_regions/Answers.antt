@@ -4,7 +4,7 @@ use Rattle.vx_config.specs.Checks.{blocks_of}
 use Rattle.vx_model.specs.Sizes.{regions_of}
 use Rattle.vx_resync.specs.Copies.{CopiedBelow}
 use Rattle.vx_resync.specs.Picks.{InPicked, InPickedBelow, is_picked, picked_below}
-use Rattle.vx_resync.proofs.CauseLemmas.{cause_before}
+use Rattle.vx_resync.proofs.CauseLemmas.{cause_before, copy_accepted, copy_refused_later}
 use Rattle.vx_resync.proofs.CopyLemmas.{alike_less, below_goes, none_copied, passed_region, ready_after, region_copied, region_goes}
 use Rattle.vx_resync.proofs.PickLemmas.{in_regions, maps_less}
 use Rattle.vx_resync.proofs.regions.copy_regions.Goals.{then-is_picked+in-Ok, else-is_picked}
@@ -57,3 +57,9 @@ pub returns-clause-count : goal.returns-clause-count
 returns-clause-count g c =
     let same : c.loop-region.region ≡ regions_of (blocks_of c.args.config.now.volumes c.args.vol) = omega (arith, c.loop-region-test.false, c.loop-region.invariant.1, c.div_ceil-regions.ensures, c.blocks_of.ensures) in
     subst (λ (n : ℕ). c.loop-region.copied ≡ picked_below (is_picked c.args.to (option_copied c.args.drl) (option_copied c.args.fmr)) n) same c.loop-region.invariant.0.counted
+
+pub returns-in-Err-clause-blamed : goal.returns-in-Err-clause-blamed
+returns-in-Err-clause-blamed g c = copy_refused_later (Unit {0}) ℕ c.args.config.now c.args.vol c.args.source c.args.to (g.S.Shelf.meaning c.args.shelf.now) (g.S.Shelf.meaning c.loop-region.shelf) (g.S.Shelf.meaning c.copy_region.new.shelf) c.loop-region.invariant.0.goes.faults c.loop-region.invariant.0.goes.disk_faults c.in-Err.no c.in-Err.ensures.blamed
+
+pub returns-clause-blamed : goal.returns-clause-blamed
+returns-clause-blamed g c = copy_accepted c.args.config.now c.args.vol c.args.source c.args.to (g.S.Shelf.meaning c.args.shelf.now) (g.S.Shelf.meaning c.loop-region.shelf) c.loop-region.copied c.loop-region.invariant.0.alike.up

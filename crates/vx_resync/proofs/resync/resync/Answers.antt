@@ -22,13 +22,13 @@ pub flush_targets-requires-clause-some : goal.flush_targets-requires-clause-some
 flush_targets-requires-clause-some g c = source_some c.args.config.now c.args.vol c.find_source-source.result c.args.to c.find_source-source.ensures
 
 pub returns-in-Ok-flush_targets-clause-moved : goal.returns-in-Ok-flush_targets-clause-moved
-returns-in-Ok-flush_targets-clause-moved g c = flushed_Resyncs c.args.config.now c.args.vol c.find_source-source.result c.args.to (is_picked c.args.to (option_copied c.args.drl) (option_copied c.args.fmr)) (g.S.Shelf.meaning c.args.shelf.now) (g.S.Shelf.meaning c.copy_regions.new.shelf) (g.S.Shelf.meaning c.flush_targets.new.shelf) c.find_source-source.ensures c.copy_regions.ensures.goes c.flush_targets.ensures.goes
+returns-in-Ok-flush_targets-clause-moved g c = flushed_Resyncs c.args.config.now c.args.vol c.find_source-source.result c.args.to (is_picked c.args.to (option_copied c.args.drl) (option_copied c.args.fmr)) (g.S.Shelf.meaning c.args.shelf.now) (g.S.Shelf.meaning c.copy_regions.new.shelf) (g.S.Shelf.meaning c.flush_targets.new.shelf) c.copy_regions.ensures.goes c.flush_targets.ensures.goes c.find_source-source.ensures
 
 pub returns-in-Ok-flush_targets-clause-done : goal.returns-in-Ok-flush_targets-clause-done
-returns-in-Ok-flush_targets-clause-done g c = flushed_Resynced c.args.config.now c.args.vol c.find_source-source.result c.args.to (is_picked c.args.to (option_copied c.args.drl) (option_copied c.args.fmr)) (g.S.Shelf.meaning c.args.shelf.now) (g.S.Shelf.meaning c.copy_regions.new.shelf) (g.S.Shelf.meaning c.flush_targets.new.shelf) c.find_source-source.ensures c.copy_regions.ensures.goes c.flush_targets.ensures.goes c.in-Ok.ensures.ok c.in-Ok-flush_targets.ensures.ok
+returns-in-Ok-flush_targets-clause-done g c = flushed_Resynced c.args.config.now c.args.vol c.find_source-source.result c.args.to (is_picked c.args.to (option_copied c.args.drl) (option_copied c.args.fmr)) (g.S.Shelf.meaning c.args.shelf.now) (g.S.Shelf.meaning c.copy_regions.new.shelf) (g.S.Shelf.meaning c.flush_targets.new.shelf) c.copy_regions.ensures.goes c.flush_targets.ensures.goes c.find_source-source.ensures c.in-Ok.ensures.ok c.in-Ok-flush_targets.ensures.ok
 
 pub returns-in-Err-flush_targets-clause-moved : goal.returns-in-Err-flush_targets-clause-moved
-returns-in-Err-flush_targets-clause-moved g c = flushed_Resyncs c.args.config.now c.args.vol c.find_source-source.result c.args.to (is_picked c.args.to (option_copied c.args.drl) (option_copied c.args.fmr)) (g.S.Shelf.meaning c.args.shelf.now) (g.S.Shelf.meaning c.copy_regions.new.shelf) (g.S.Shelf.meaning c.flush_targets.new.shelf) c.find_source-source.ensures c.copy_regions.ensures.goes c.flush_targets.ensures.goes
+returns-in-Err-flush_targets-clause-moved g c = flushed_Resyncs c.args.config.now c.args.vol c.find_source-source.result c.args.to (is_picked c.args.to (option_copied c.args.drl) (option_copied c.args.fmr)) (g.S.Shelf.meaning c.args.shelf.now) (g.S.Shelf.meaning c.copy_regions.new.shelf) (g.S.Shelf.meaning c.flush_targets.new.shelf) c.copy_regions.ensures.goes c.flush_targets.ensures.goes c.find_source-source.ensures
 
 pub returns-in-Err-flush_targets-clause-cause : goal.returns-in-Err-flush_targets-clause-cause
 returns-in-Err-flush_targets-clause-cause g c = cause_before (g.S.Shelf.meaning c.args.shelf.now) (g.S.Shelf.meaning c.copy_regions.new.shelf) (g.S.Shelf.meaning c.flush_targets.new.shelf) c.copy_regions.ensures.goes.disk_faults c.in-Err-flush_targets.no c.in-Err-flush_targets.ensures.cause

@@ -1,4 +1,7 @@
 -- The group behind a restart of its log.
+use Rattle.std.proofs.Common.{◌≤◌, ap, arith}
+use Rattle.vx_rvg.specs.Views.{Core, last_of}
+use Rattle.vx_rvg.proofs.ChangeCalls.{calls_since, short_same, short_since}
 use Rattle.vx_rvg.proofs.RestartMoves.{applied_by, apply_part, restart_part}
 use Rattle.vx_ringio.proofs.Spending.{then_spends}
 use Rattle.vx_rvg.proofs.change.restart.Goals as goal
@@ -14,3 +17,18 @@ returns-in-Ok-clause-moves g c =
 
 pub returns-in-Ok-clause-spends : goal.returns-in-Ok-clause-spends
 returns-in-Ok-clause-spends g c = then_spends _ _ _ c.apply_to.ensures.spends c.empty.ensures.spends
+
+pub returns-in-Ok-clause-calls : goal.returns-in-Ok-clause-calls
+returns-in-Ok-clause-calls g c =
+    calls_since (last_of c.args.core.now ≤ c.args.core.now.applied) 2 c.empty.result (g.S.Shelf.meaning c.args.shelf.now) (g.S.Shelf.meaning c.apply_to.new.shelf) (g.S.Shelf.meaning c.empty.new.shelf)
+    (λ low. ap g.S.Shelf.meaning (c.apply_to.ensures.nothing (omega (arith, low, c.head-last.ensures, ap (λ (k : Core). last_of k) c.core.view_is)))) c.empty.ensures.calls
+
+pub returns-in-Ok-clause-short : goal.returns-in-Ok-clause-short
+returns-in-Ok-clause-short g c = λ low.
+    short_since 2 (g.S.Shelf.meaning c.args.shelf.now) (g.S.Shelf.meaning c.apply_to.new.shelf) (g.S.Shelf.meaning c.empty.new.shelf)
+    (ap g.S.Shelf.meaning (c.apply_to.ensures.nothing (omega (arith, low, c.head-last.ensures, ap (λ (k : Core). last_of k) c.core.view_is)))) c.empty.ensures.short
+
+pub returns-in-Err-clause-short : goal.returns-in-Err-clause-short
+returns-in-Err-clause-short g c = λ low.
+    short_same 2 (g.S.Shelf.meaning c.args.shelf.now) (g.S.Shelf.meaning c.apply_to.new.shelf)
+    (ap g.S.Shelf.meaning (c.apply_to.ensures.nothing (omega (arith, low, c.head-last.ensures, ap (λ (k : Core). last_of k) c.core.view_is))))

@@ -1,13 +1,13 @@
 -- The group behind the sealing of what is staged.
 use Rattle.std.proofs.Common.{◌<◌, ◌+◌, length, sym, ◌∙◌, ap, subst, Ok, Err, refl}
 use Rattle.vx_disk.specs.Burns.{FallsShort, MakesCalls}
-use Rattle.vx_ringio.specs.Tracks.{Lies}
+use Rattle.vx_ringio.specs.Tracks.{RingLies}
 use Rattle.vx_rvg.specs.Views.{Core}
 use Rattle.vx_rvg.proofs.StagedCalls.{all_sound, all_stand, core_kept, not_none, seal_done, seal_failed, seal_stopped, sealed_moves}
 use Rattle.vx_rvg.proofs.seal.seal_records.Goals as goal
 
 pub seal-requires : goal.seal-requires
-seal-requires g c = record { lies = subst (λ (k : Core). Lies k.log.unit k.log.ring (g.S.Shelf.meaning c.args.shelf.now)) (sym c.core.view_is) c.requires.sound.lies }
+seal-requires g c = record { lies = subst (λ (k : Core). RingLies k.log.unit k.log.ring (g.S.Shelf.meaning c.args.shelf.now)) (sym c.core.view_is) c.requires.sound.lies }
 
 pub returns-in-Ok-clause-answers : goal.returns-in-Ok-clause-answers
 returns-in-Ok-clause-answers g c =

@@ -3,14 +3,14 @@ use Rattle.std.proofs.Common.{◌≤◌, ◌+◌, inr, length, sym, ap, subst, a
 use Rattle.vx_model.specs.Content.{blocks_in}
 use Rattle.vx_disk.specs.Burns.{FallsShort, MakesCalls}
 use Rattle.vx_disk.specs.Causes.{Works}
-use Rattle.vx_srl.specs.Views.{BodyFits, free_of, need_of, next_of}
-use Rattle.vx_ringio.specs.Tracks.{Lies}
+use Rattle.vx_srl.specs.Views.{BodyFits, free_of, blocks_needed, next_of}
+use Rattle.vx_ringio.specs.Tracks.{RingLies}
 use Rattle.vx_rvg.specs.Views.{Core}
 use Rattle.vx_rvg.proofs.StagedCalls.{number_fits, stage_done, stage_stopped, staged_has, staged_moves, staged_room, staged_sound, stopped_sound, where_refused}
 use Rattle.vx_rvg.proofs.stage.stage_record.Goals as goal
 
 pub stage-requires-clause-lies : goal.stage-requires-clause-lies
-stage-requires-clause-lies g c = subst (λ (k : Core). Lies k.log.unit k.log.ring (g.S.Shelf.meaning c.args.shelf.now)) (sym c.core.view_is) c.requires.sound.lies
+stage-requires-clause-lies g c = subst (λ (k : Core). RingLies k.log.unit k.log.ring (g.S.Shelf.meaning c.args.shelf.now)) (sym c.core.view_is) c.requires.sound.lies
 
 pub add_all-requires-clause-room : goal.add_all-requires-clause-room
 add_all-requires-clause-room g c =
@@ -19,7 +19,7 @@ add_all-requires-clause-room g c =
 
 pub returns-in-Ok-clause-answers : goal.returns-in-Ok-clause-answers
 returns-in-Ok-clause-answers g c =
-    let room = subst (λ (k : Core). need_of c.args.bytes.now ≤ free_of k.log) (sym c.core.view_is) c.requires.room in
+    let room = subst (λ (k : Core). blocks_needed c.args.bytes.now ≤ free_of k.log) (sym c.core.view_is) c.requires.room in
     let fits = number_fits c.core.inside.srl c.in-Ok.number (c.in-Ok.ensures.no_number room) in
     let did = c.in-Ok.ensures.stages room fits in
     stage_done _ c.args.core.now c.core.view_is c.args.vol c.args.start c.args.bytes.now (g.S.Shelf.meaning c.args.shelf.now) (g.S.Shelf.meaning c.stage.new.shelf) c.requires.sound c.requires.some c.in-Ok.ensures.goes
@@ -27,20 +27,20 @@ returns-in-Ok-clause-answers g c =
 
 pub returns-in-Ok-clause-unchanged : goal.returns-in-Ok-clause-unchanged
 returns-in-Ok-clause-unchanged g c =
-    let room = subst (λ (k : Core). need_of c.args.bytes.now ≤ free_of k.log) (sym c.core.view_is) c.requires.room in
+    let room = subst (λ (k : Core). blocks_needed c.args.bytes.now ≤ free_of k.log) (sym c.core.view_is) c.requires.room in
     let fits = number_fits c.core.inside.srl c.in-Ok.number (c.in-Ok.ensures.no_number room) in
     where_refused c.args.core.now _ (λ past. absurd (omega (arith, past, fits, ap (λ (k : Core). next_of k.log) c.core.view_is)))
 
 pub returns-in-Ok-clause-sound : goal.returns-in-Ok-clause-sound
 returns-in-Ok-clause-sound g c =
-    let room = subst (λ (k : Core). need_of c.args.bytes.now ≤ free_of k.log) (sym c.core.view_is) c.requires.room in
+    let room = subst (λ (k : Core). blocks_needed c.args.bytes.now ≤ free_of k.log) (sym c.core.view_is) c.requires.room in
     let did = c.in-Ok.ensures.stages room (number_fits c.core.inside.srl c.in-Ok.number (c.in-Ok.ensures.no_number room)) in
     staged_sound _ c.args.core.now c.core.view_is c.args.vol c.args.start c.args.bytes.now (g.S.Shelf.meaning c.args.shelf.now) (g.S.Shelf.meaning c.stage.new.shelf) c.requires.sound c.requires.some c.in-Ok.ensures.goes
     c.stage.new.self c.add_all.new.pending did.1 c.add_all.ensures.capacity c.add_all.ensures.entries c.requires.within
 
 pub returns-in-Ok-clause-staged : goal.returns-in-Ok-clause-staged
 returns-in-Ok-clause-staged g c =
-    let room = subst (λ (k : Core). need_of c.args.bytes.now ≤ free_of k.log) (sym c.core.view_is) c.requires.room in
+    let room = subst (λ (k : Core). blocks_needed c.args.bytes.now ≤ free_of k.log) (sym c.core.view_is) c.requires.room in
     let did = c.in-Ok.ensures.stages room (number_fits c.core.inside.srl c.in-Ok.number (c.in-Ok.ensures.no_number room)) in
     staged_has _ c.args.core.now c.core.view_is c.args.vol c.args.start c.args.bytes.now (g.S.Shelf.meaning c.args.shelf.now) (g.S.Shelf.meaning c.stage.new.shelf) c.requires.sound c.requires.some c.in-Ok.ensures.goes
     c.stage.new.self c.add_all.new.pending did.1 c.add_all.ensures.capacity c.add_all.ensures.entries c.requires.volume c.requires.blocks c.requires.within c.in-Ok.ensures.leads
@@ -60,7 +60,7 @@ returns-in-Ok-clause-works g c = subst (λ (k : Core). Works (g.S.Shelf.meaning 
 
 pub returns-in-Err-clause-answers : goal.returns-in-Err-clause-answers
 returns-in-Err-clause-answers g c =
-    let room = subst (λ (k : Core). need_of c.args.bytes.now ≤ free_of k.log) (sym c.core.view_is) c.requires.room in
+    let room = subst (λ (k : Core). blocks_needed c.args.bytes.now ≤ free_of k.log) (sym c.core.view_is) c.requires.room in
     stage_stopped _ c.args.core.now c.core.view_is c.args.vol c.args.start c.args.bytes.now (g.S.Shelf.meaning c.args.shelf.now) (g.S.Shelf.meaning c.stage.new.shelf) c.requires.sound c.requires.some c.in-Err.ensures.goes
     c.stage.new.self c.in-Err.why (λ past. (c.in-Err.ensures.no_number room past, (c.in-Err.ensures.unchanged (inr past)).0)) (c.in-Err.ensures.stages room) c.refused-no.result c.refused-no.ensures _ c.halt.ensures
 
@@ -70,7 +70,7 @@ returns-in-Err-clause-unchanged g c =
 
 pub returns-in-Err-clause-sound : goal.returns-in-Err-clause-sound
 returns-in-Err-clause-sound g c =
-    let room = subst (λ (k : Core). need_of c.args.bytes.now ≤ free_of k.log) (sym c.core.view_is) c.requires.room in
+    let room = subst (λ (k : Core). blocks_needed c.args.bytes.now ≤ free_of k.log) (sym c.core.view_is) c.requires.room in
     stopped_sound _ c.args.core.now c.core.view_is c.args.vol c.args.start c.args.bytes.now (g.S.Shelf.meaning c.args.shelf.now) (g.S.Shelf.meaning c.stage.new.shelf) c.requires.sound c.requires.some c.in-Err.ensures.goes
     c.stage.new.self c.in-Err.why (λ past. (c.in-Err.ensures.no_number room past, (c.in-Err.ensures.unchanged (inr past)).0)) (c.in-Err.ensures.stages room) c.refused-no.result c.refused-no.ensures _ c.halt.ensures
 

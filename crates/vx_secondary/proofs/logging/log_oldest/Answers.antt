@@ -1,8 +1,8 @@
 -- The logging of the oldest updates, case by case.
 use Rattle.std.proofs.Common.{ℕ, subst, take, arith}
 use Rattle.std.proofs.lemmas.Result.{err_from_is_err_and}
-use Rattle.vx_secondary.specs.Logging.{Logs}
-use Rattle.vx_secondary.specs.Receivers.{writes_of}
+use Rattle.vx_secondary.specs.Logging.{LogsAll}
+use Rattle.vx_secondary.specs.Receivers.{writes_of_updates}
 use Rattle.vx_secondary.proofs.Waits.{all_steps, logged_next, next_ends, stopped_waits}
 use Rattle.vx_secondary.proofs.logging.log_oldest.Goals as goal
 
@@ -22,4 +22,4 @@ loop-preserved g c = logged_next c.args.waiting.now c.loop.counter c.args.count 
 
 pub returns-clause-logs : goal.returns-clause-logs
 returns-clause-logs g c =
-    subst (λ (n : ℕ). Logs (writes_of (take n c.args.waiting.now)) c.args.rvg.now.core c.loop.rvg.core (g.S.Shelf.meaning c.args.rvg.now.shelf) (g.S.Shelf.meaning c.loop.rvg.shelf)) (omega (arith, c.loop-test.false, c.loop.auto.counter-end)) c.loop.invariant.logs
+    subst (λ (n : ℕ). LogsAll (writes_of_updates (take n c.args.waiting.now)) c.args.rvg.now.core c.loop.rvg.core (g.S.Shelf.meaning c.args.rvg.now.shelf) (g.S.Shelf.meaning c.loop.rvg.shelf)) (omega (arith, c.loop-test.false, c.loop.auto.counter-end)) c.loop.invariant.logs

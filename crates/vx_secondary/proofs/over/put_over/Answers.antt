@@ -1,14 +1,14 @@
 -- A block of a write over that of a volume, case by case.
 use Rattle.std.proofs.Common.{◌∙◌, ◌+◌, ◌-◌, ℕ, List, sym, ap, subst, arith}
 use Rattle.vx_model.specs.Content.{block_of, touches}
-use Rattle.vx_secondary.specs.Receivers.{write_of}
+use Rattle.vx_secondary.specs.Receivers.{write_of_update}
 use Rattle.vx_secondary.proofs.Overs.{IsPutTo, cut, touch_told, touch_none, touched, untouched}
 use Rattle.vx_secondary.proofs.over.put_over.Goals as goal
 use Rattle.vx_secondary.proofs.over.put_over.Goals.{in-Some, in_default}
 
 pub loop-k-preserved : goal.loop-k-preserved
 loop-k-preserved c =
-    let x : _ = write_of c.args.update.now in
+    let x : _ = write_of_update c.args.update.now in
     let at : ℕ = c.args.start + c.loop-k.k in
     elim c.match-touched.branch [
       | in-Some w ↦

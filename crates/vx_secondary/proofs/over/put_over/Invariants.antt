@@ -1,6 +1,6 @@
-use Rattle.vx_secondary.specs.Receivers.{write_of}
+use Rattle.vx_secondary.specs.Receivers.{write_of_update}
 use Rattle.vx_secondary.proofs.Overs.{IsPutTo}
 use Rattle.vx_secondary.proofs.over.put_over.Given as goal
 
 abbrev pub invariant-loop-k : goal.invariant-loop-k
-invariant-loop-k l = IsPutTo (write_of l.update) l.vol l.start l.k l.initial.into l.into
+invariant-loop-k l = IsPutTo (write_of_update l.update) l.vol l.start l.k l.initial.into l.into

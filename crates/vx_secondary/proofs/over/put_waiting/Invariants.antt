@@ -1,6 +1,6 @@
-use Rattle.vx_secondary.specs.Receivers.{writes_of}
+use Rattle.vx_secondary.specs.Receivers.{writes_of_updates}
 use Rattle.vx_secondary.proofs.Overs.{ShowsTo}
 use Rattle.vx_secondary.proofs.over.put_waiting.Given as goal
 
 abbrev pub invariant-loop-place : goal.invariant-loop-place
-invariant-loop-place l = ShowsTo (writes_of l.waiting) l.place l.vol l.start l.initial.into l.into
+invariant-loop-place l = ShowsTo (writes_of_updates l.waiting) l.place l.vol l.start l.initial.into l.into

@@ -1,6 +1,6 @@
 -- The facts of the site are those of one that came up, with its links behind them.
 use Rattle.std.proofs.Common.{◌≡◌, ◌∙◌, ap, sym, arith, length, slice_set}
-use Rattle.vx_diskset.specs.Stands.{StandsAt}
+use Rattle.vx_diskset.specs.Stands.{SiteStands}
 use Rattle.vx_effects.specs.Restarts.{facts_again}
 use Rattle.vx_yard.proofs.Lists.{get_at, length-set}
 use Rattle.vx_site_lines.proofs.RiseNeeds.{noted_risen, of_place}
@@ -19,4 +19,4 @@ pub returns-clause-last : goal.returns-clause-last
 returns-clause-last g c =
     let es = c.args.yard.now.disk_sets.items in
     let there = get_at es c.args.site c.index.result.now c.requires.disk_set c.index.ensures in
-    record { each = λ beside n e at stands up running. c.last-last.ensures.is beside n (of_place (λ x. StandsAt beside n x) es c.args.site e c.index.result.now there at stands) up running }
+    record { each = λ beside n e at stands up running. c.last-last.ensures.is beside n (of_place (λ x. SiteStands beside n x) es c.args.site e c.index.result.now there at stands) up running }

@@ -10,7 +10,7 @@ use Rattle.vx_diskset.proofs.KeepsFailing.{failing_same}
 use Rattle.vx_events.specs.Facts.{site_number}
 use Rattle.vx_events.proofs.Places.{some_same}
 use Rattle.vx_events.proofs.Refused.{recover_may}
-use Rattle.vx_site_lines.specs.Rises.{IsEmptyRoom}
+use Rattle.vx_site_lines.specs.Rises.{IsEmptyRiseRoom}
 use Rattle.vx_yard.specs.Yards.{in_files}
 use Rattle.vx_yard.proofs.Lists.{get_at}
 use Rattle.vx_yard.proofs.NamedSite.{site_at, unbegun_by, unbegun_for, unbegun_site}
@@ -37,7 +37,7 @@ rise_bare-requires-clause-room g c κs within = λ f at.
     let facts = c.args.yard.now.facts.items in
     let s = c.site_of-site.result in
     let two = get_at facts s c.index-2.result.now c.site_of-site.ensures.fact c.index-2.ensures in
-    subst (λ (x : SiteFacts). IsEmptyRoom x.blocks c.in_ok-room.room) (some_same (sym two ∙ at)) c.in_ok-room.ensures
+    subst (λ (x : SiteFacts). IsEmptyRiseRoom x.blocks c.in_ok-room.room) (some_same (sym two ∙ at)) c.in_ok-room.ensures
 
 pub returns-then-count-ge-MOST_NUMBER-clause-leads : goal.returns-then-count-ge-MOST_NUMBER-clause-leads
 returns-then-count-ge-MOST_NUMBER-clause-leads g c = λ d stands. unbegun_for d c.args.yard.now stands

@@ -3,8 +3,8 @@ use Rattle.vx_history.specs.World.{Node}
 use Rattle.vx_model.specs.declared.limits.TheConstants.{LINK_PLACES}
 use Rattle.vx_model.specs.declared.site.SiteState.TheVariants.{Up as UpState}
 use Rattle.std.specs.Prelude.{None}
-use Rattle.vx_diskset.specs.Holds.{Beside}
-use Rattle.vx_diskset.specs.Stands.{StandsAt}
+use Rattle.vx_diskset.specs.Holds.{KeptBeside}
+use Rattle.vx_diskset.specs.Stands.{SiteStands}
 use Rattle.vx_site_lines.specs.Rises.{NeedsBelow}
 use Rattle.vx_site_lines.proofs.rooms.used_links.Given as goal
 
@@ -12,4 +12,4 @@ use Rattle.vx_site_lines.proofs.rooms.used_links.Given as goal
 abbrev pub invariant-loop-k : goal.invariant-loop-k
 invariant-loop-k g l =
     (length l.used ≡ LINK_PLACES)
-    × ((beside : Beside) (n : Node) → StandsAt beside n l.fn.disk_set → n.state ≡ UpState → n.halted ≡ None → NeedsBelow n l.fn.links l.used l.k)
+    × ((beside : KeptBeside) (n : Node) → SiteStands beside n l.fn.disk_set → n.state ≡ UpState → n.halted ≡ None → NeedsBelow n l.fn.links l.used l.k)

@@ -1,6 +1,6 @@
 use Rattle.std.proofs.Common.{◌≡◌, min, take}
-use Rattle.vx_history.specs.Events.{log_blocks}
+use Rattle.vx_history.specs.Events.{logged_blocks}
 use Rattle.vx_sites.proofs.row.count_blocks.Given as goal
 
 abbrev pub invariant-loop-write : goal.invariant-loop-write
-invariant-loop-write l = l.count ≡ min (log_blocks (take l.write-index l.writes)) 0x1_0000_0000
+invariant-loop-write l = l.count ≡ min (logged_blocks (take l.write-index l.writes)) 0x1_0000_0000

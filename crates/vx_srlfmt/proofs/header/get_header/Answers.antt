@@ -2,7 +2,7 @@ use Rattle.std.proofs.Common.{arith, ◌≡◌, ◌≤◌, ◌∙◌, ap, sym, s
 use Rattle.std.specs.Option.{is_some}
 use Rattle.vx_wire.specs.Seals.{filled, IsSealed}
 use Rattle.vx_wire.proofs.SealLemmas.{take-sealed, IsSealed-sealed}
-use Rattle.vx_srlfmt.specs.Headers.{header_fields, header_block, CanSpell, IsHeader}
+use Rattle.vx_srlfmt.specs.Headers.{header_fields, header_block, CanSpellHeader, IsHeader}
 use Rattle.vx_srlfmt.specs.declared.header.Header.{Header}
 use Rattle.vx_srlfmt.proofs.HeaderAgain.{Agrees-header_in, few-header_in, header_in-is}
 use Rattle.vx_srlfmt.proofs.Lengths.{length-header_fields}
@@ -44,5 +44,5 @@ returns-else-can_spell-clause-only c h is =
           let none : is_some w.broken_seal.result ≡ false = from_sealed w.broken_seal.result c.args.block.now w.broken_seal.ensures parts.1 in
           absurd (not_both (sym none ∙ w.if-is_none.ensures))
       | else-can_spell-via-then-can_spell+else-is_spelled w ↦ absurd (not_both (w.if-is_spelled.ensures.1 (parts.0 ∙ ap (λ (g : Header). filled (header_fields g)) same)))
-      | else-can_spell-via-else-can_spell w ↦ absurd (not_both (w.if-can_spell.ensures.1 (subst CanSpell same is.can)))
+      | else-can_spell-via-else-can_spell w ↦ absurd (not_both (w.if-can_spell.ensures.1 (subst CanSpellHeader same is.can)))
     ]

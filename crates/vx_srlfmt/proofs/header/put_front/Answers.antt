@@ -1,7 +1,7 @@
 use Rattle.std.proofs.Common.{arith, ◌≡◌, ◌<◌, ◌+◌, ◌-◌, ◌∙◌, ◌++◌, ap, sym, List, ℕ, length, get_or, take}
 use Rattle.std.proofs.lemmas.List.{length-take, length-append, append-nil}
 use Rattle.vx_model.specs.declared.state.KeptLink.{KeptLink}
-use Rattle.vx_wire.specs.Fields.{spelled, zeros}
+use Rattle.vx_wire.specs.Fields.{spelled, zero_bytes}
 use Rattle.vx_wire.specs.Places.{put_at}
 use Rattle.vx_wire.specs.Seals.{filled}
 use Rattle.vx_wire.proofs.PlaceLemmas.{put_at-put_at}
@@ -66,6 +66,6 @@ returns c =
     let items : c.as_slice-link-items.result.now ≡ links = c.as_slice-link-items.ensures.links in
     let all : front_of c.args.h.now (take i links) ≡ header_fields c.args.h.now = front_of-all c.args.h.now i (omega (arith, c.loop-link-test.false, ap length items)) in
     let place : c.loop-link.place ≡ length (header_fields c.args.h.now) = c.loop-link.invariant.next ∙ ap length all in
-    c.put_zeros.ensures ∙ ap (put_at c.loop-link.place (zeros (480 - c.loop-link.place))) (c.loop-link.invariant.written ∙ ap (λ (b : List ℕ). put_at 0 b c.args.into.now) all)
-    ∙ put_at-put_at 0 c.loop-link.place (header_fields c.args.h.now) (zeros (480 - c.loop-link.place)) c.args.into.now (place ∙ omega arith) (omega arith)
-    ∙ ap (λ (n : ℕ). put_at 0 (header_fields c.args.h.now ++ zeros (480 - n)) c.args.into.now) place
+    c.put_zeros.ensures ∙ ap (put_at c.loop-link.place (zero_bytes (480 - c.loop-link.place))) (c.loop-link.invariant.written ∙ ap (λ (b : List ℕ). put_at 0 b c.args.into.now) all)
+    ∙ put_at-put_at 0 c.loop-link.place (header_fields c.args.h.now) (zero_bytes (480 - c.loop-link.place)) c.args.into.now (place ∙ omega arith) (omega arith)
+    ∙ ap (λ (n : ℕ). put_at 0 (header_fields c.args.h.now ++ zero_bytes (480 - n)) c.args.into.now) place

@@ -1,6 +1,6 @@
 use Rattle.std.proofs.Common.{arith, ◌≡◌, ◌-◌, ◌∙◌, ◌++◌, ap, sym, List, ℕ, length, append_assoc}
 use Rattle.std.proofs.lemmas.List.{length-append}
-use Rattle.vx_wire.specs.Fields.{spelled, zeros}
+use Rattle.vx_wire.specs.Fields.{spelled, zero_bytes}
 use Rattle.vx_wire.specs.Places.{put_at}
 use Rattle.vx_wire.specs.Seals.{filled}
 use Rattle.vx_wire.proofs.PlaceLemmas.{put_at-put_at}
@@ -33,6 +33,6 @@ returns c =
     let third : c.put_bytes-2.new.bytes ≡ put_at 0 fields old =
     c.put_bytes-2.ensures ∙ ap (put_at 92 firsts) second ∙ put_at-put_at 0 92 (table ++ digest) firsts old (omega arith) (omega arith) ∙ ap (λ (t : List ℕ). put_at 0 t old) grouped in
     let left : 480 - length fields ≡ 372 = omega arith in
-    let rest : zeros (480 - length fields) ≡ zeros 372 = ap zeros left in
-    c.put_zeros.ensures ∙ ap (put_at 108 (zeros 372)) third ∙ put_at-put_at 0 108 fields (zeros 372) old (omega arith) (omega arith)
+    let rest : zero_bytes (480 - length fields) ≡ zero_bytes 372 = ap zero_bytes left in
+    c.put_zeros.ensures ∙ ap (put_at 108 (zero_bytes 372)) third ∙ put_at-put_at 0 108 fields (zero_bytes 372) old (omega arith) (omega arith)
     ∙ ap (λ (t : List ℕ). put_at 0 (fields ++ t) old) (sym rest)

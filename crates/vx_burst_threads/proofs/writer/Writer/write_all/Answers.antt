@@ -1,6 +1,6 @@
 use Rattle.std.proofs.Common.{rules, ◌≡◌, ◌∙◌, ap, subst, sym, refl, slice_get, Some, true, false}
 use Rattle.std.proofs.lemmas.Option.{slice_get_read}
-use Rattle.vx_burst_threads.specs.Writing.{Goes}
+use Rattle.vx_burst_threads.specs.Writing.{WriterGoes}
 use Rattle.vx_burst_threads.proofs.Making.{loop-first, loop-room, loop-step, loop-stop, loop-end}
 use Rattle.vx_burst_threads.proofs.writer.Writer.write_all.Goals as goal
 
@@ -20,14 +20,14 @@ returns-then-not-write_one g c =
     let at : slice_get c.args.plan.now c.loop-k.k ≡ Some c.in-Some.planned.now = slice_get_read c.args.plan.now _ c.loop-k.k c.in-Some.planned.now refl (search rules) (search rules) in
     let no : c.write_one.result ≡ false = search rules in
     loop-stop c.args.plan.now c.args.self.now c.loop-k.k c.loop-k.self c.write_one.new.self c.in-Some.planned.now at c.loop-k.invariant
-    (subst (λ b. Goes c.in-Some.planned.now c.loop-k.k c.loop-k.self b c.write_one.new.self) no c.write_one.ensures)
+    (subst (λ b. WriterGoes c.in-Some.planned.now c.loop-k.k c.loop-k.self b c.write_one.new.self) no c.write_one.ensures)
 
 pub loop-k-preserved : goal.loop-k-preserved
 loop-k-preserved g c =
     let at : slice_get c.args.plan.now c.loop-k.k ≡ Some c.in-Some.planned.now = slice_get_read c.args.plan.now _ c.loop-k.k c.in-Some.planned.now refl (search rules) (search rules) in
     let yes : c.write_one.result ≡ true = search rules in
     loop-step c.args.plan.now c.args.self.now c.loop-k.k c.loop-k.self c.write_one.new.self c.in-Some.planned.now at c.loop-k.invariant
-    (subst (λ b. Goes c.in-Some.planned.now c.loop-k.k c.loop-k.self b c.write_one.new.self) yes c.write_one.ensures)
+    (subst (λ b. WriterGoes c.in-Some.planned.now c.loop-k.k c.loop-k.self b c.write_one.new.self) yes c.write_one.ensures)
 
 pub returns : goal.returns
 returns g c = loop-end c.args.plan.now c.args.self.now c.loop-k.k c.loop-k.self (search rules) c.loop-k.invariant

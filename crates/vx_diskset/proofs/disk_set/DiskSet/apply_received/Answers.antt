@@ -3,6 +3,8 @@ use Rattle.std.proofs.Common.{◌∙◌, ℕ, ap, sym, arith}
 use Rattle.std.specs.Prelude.{min}
 use Rattle.vx_diskset.proofs.Reaching.{reached_full, reached_idle, reached_none_up, reached_up}
 use Rattle.vx_rvg.specs.Groups.{has_numbers}
+use Rattle.vx_diskset.specs.Received.{reached_by}
+use Rattle.vx_diskset.proofs.HeadCalls.{called_received, reached_called}
 use Rattle.vx_diskset.proofs.LeavesNumbers.{has_them}
 use Rattle.vx_diskset.proofs.disk_set.DiskSet.apply_received.Goals as goal
 
@@ -33,3 +35,8 @@ returns-then-few-eq0-clause-brought g c = λ beside n stands can is. absurd (cc)
 pub apply_oldest-requires-clause-numbers : goal.apply_oldest-requires-clause-numbers
 apply_oldest-requires-clause-numbers g c κs within =
     has_them c.in-Receives.site.rvg.core c.min-few.result (ap (λ (k : ℕ). has_numbers c.in-Receives.site.rvg.core k) (sym c.from-in-Receives.ensures) ∙ sym c.has_numbers.ensures ∙ c.if-not-has_numbers.false)
+
+pub returns-else-not-has_numbers-clause-called : goal.returns-else-not-has_numbers-clause-called
+returns-else-not-has_numbers-clause-called g c = λ beside n stands.
+    called_received (reached_by c.apply_oldest.result) beside n c.args.self.now c.in-Receives.site _ c.in-Receives.is stands
+    (λ up. reached_called c.apply_oldest.result c.in-Receives.site.rvg c.apply_oldest.new.rvg up (c.apply_oldest.ensures.off up) c.apply_oldest.ensures.spends)

@@ -1,5 +1,5 @@
 use Rattle.std.proofs.Common.{◌∙◌, ap, subst}
-use Rattle.vx_diskset.specs.Stands.{CutAt, StandsAt}
+use Rattle.vx_diskset.specs.Stands.{CutAt, SiteStands}
 use Rattle.vx_diskset.proofs.CrashGroup.{crashed_at, cut_crashed, held_crashed}
 use Rattle.vx_diskset.proofs.Asking.{crash_did}
 use Rattle.vx_diskset.proofs.KeepsFailing.{stopped_up}
@@ -10,7 +10,7 @@ pub returns-in-Up-clause-crashed : goal.returns-in-Up-clause-crashed
 returns-in-Up-clause-crashed g c = λ beside n stands state.
     let lawful = (g.met.R.Shelf g.world.𝓛 g.world.𝓜 g.world.𝓡 ((λ s x. x), (λ x. x), (λ x. x), λ x. x)).lawful in
     let is_rack = (g.met.R.Rack g.world.𝓛 g.world.𝓜 g.world.𝓡 ((λ s x. x), (λ x. x), (λ x. x), λ x. x)).rack in
-    crashed_at n c.in-Up.rvg.core c.in-Up.rvg.shelf c.into_shelf-rack.result c.crash.new.self c.into_shelf-rack.ensures (subst (λ e. StandsAt beside n e) c.in-Up.is stands)
+    crashed_at n c.in-Up.rvg.core c.in-Up.rvg.shelf c.into_shelf-rack.result c.crash.new.self c.into_shelf-rack.ensures (subst (λ e. SiteStands beside n e) c.in-Up.is stands)
     (lawful c.crash.new.self) (is_rack c.crash.new.self) c.crash.ensures.stopped
 
 pub returns-in-Up-clause-cut : goal.returns-in-Up-clause-cut
@@ -23,14 +23,14 @@ pub returns-in-Up-clause-asked : goal.returns-in-Up-clause-asked
 returns-in-Up-clause-asked g c = λ beside n stands state. crash_did c.args.self c.in-Up.rvg c.into_shelf-rack.result c.crash.new.self c.args.pick c.in-Up.is c.into_shelf-rack.ensures c.crash.ensures.disks
 
 pub returns-in-Up-clause-stopped : goal.returns-in-Up-clause-stopped
-returns-in-Up-clause-stopped g c = stopped_up c.args.self c.in-Up.rvg c.into_shelf-rack.result c.crash.new.self c.args.pick c.in-Up.is c.into_shelf-rack.ensures c.crash.ensures.disks
+returns-in-Up-clause-stopped g c = stopped_up c.args.self c.in-Up.rvg c.into_shelf-rack.result c.crash.new.self c.args.pick c.in-Up.is c.into_shelf-rack.ensures c.crash.ensures.disks c.crash.ensures.stopped.size
 
 pub returns-in-Receives-clause-crashed : goal.returns-in-Receives-clause-crashed
 returns-in-Receives-clause-crashed g c = λ beside n stands state.
     let lawful = (g.met.R.Shelf g.world.𝓛 g.world.𝓜 g.world.𝓡 ((λ s x. x), (λ x. x), (λ x. x), λ x. x)).lawful in
     let is_rack = (g.met.R.Rack g.world.𝓛 g.world.𝓜 g.world.𝓡 ((λ s x. x), (λ x. x), (λ x. x), λ x. x)).rack in
     held_crashed n c.in-Receives.site.rvg.shelf c.into_shelf-rack-in-Receives.result c.crash-in-Receives.new.self (c.into_shelf-rack-in-Receives.ensures ∙ ap (λ r. r.shelf) c.into_rvg.ensures)
-    (receiver_held n c.in-Receives.site.rvg.core c.in-Receives.site.waiting (g.R.Shelf.meaning c.in-Receives.site.rvg.shelf) (subst (λ e. StandsAt beside n e) c.in-Receives.is stands))
+    (receiver_held n c.in-Receives.site.rvg.core c.in-Receives.site.waiting (g.R.Shelf.meaning c.in-Receives.site.rvg.shelf) (subst (λ e. SiteStands beside n e) c.in-Receives.is stands))
     (lawful c.crash-in-Receives.new.self) (is_rack c.crash-in-Receives.new.self) c.crash-in-Receives.ensures.stopped
 
 pub returns-in-Receives-clause-cut : goal.returns-in-Receives-clause-cut

@@ -1,6 +1,6 @@
 use Rattle.std.proofs.Common.{refl, subst}
 use Rattle.vx_rvg.proofs.ReadStands.{rest_sound}
-use Rattle.vx_diskset.specs.Stands.{StandsAt}
+use Rattle.vx_diskset.specs.Stands.{SiteStands}
 use Rattle.vx_diskset.proofs.StartBare.{clean_read}
 use Rattle.vx_diskset.proofs.MakeGroup.{bare_still, up_still, fuse_still}
 use Rattle.vx_diskset.proofs.StartGroup.{down_still}
@@ -11,23 +11,23 @@ pub invariant_of-rvg : goal.invariant_of-rvg
 invariant_of-rvg g c = record { sound = rest_sound c.in-Up.rvg.core _ _ c.fail-in-Up.ensures.goes c.in-Up.rvg.sound }
 
 pub returns-in-Bare-clause-stands : goal.returns-in-Bare-clause-stands
-returns-in-Bare-clause-stands g c = λ beside n stands. clean_read n _ _ c.fail.ensures.goes (subst (λ e. StandsAt beside n e) c.in-Bare.is stands)
+returns-in-Bare-clause-stands g c = λ beside n stands. clean_read n _ _ c.fail.ensures.goes (subst (λ e. SiteStands beside n e) c.in-Bare.is stands)
 
 pub returns-in-Spoiled-clause-stands : goal.returns-in-Spoiled-clause-stands
-returns-in-Spoiled-clause-stands g c = λ beside n stands. bare_still _ _ _ c.fail-in-Spoiled.ensures.goes c.fail-in-Spoiled.ensures.down c.fail-in-Spoiled.ensures.armed (subst (λ e. StandsAt beside n e) c.in-Spoiled.is stands)
+returns-in-Spoiled-clause-stands g c = λ beside n stands. bare_still _ _ _ c.fail-in-Spoiled.ensures.goes c.fail-in-Spoiled.ensures.down c.fail-in-Spoiled.ensures.armed (subst (λ e. SiteStands beside n e) c.in-Spoiled.is stands)
 
 pub returns-in-Up-clause-stands : goal.returns-in-Up-clause-stands
 returns-in-Up-clause-stands g c = λ beside n stands.
-    let up = subst (λ e. StandsAt beside n e) c.in-Up.is stands in
+    let up = subst (λ e. SiteStands beside n e) c.in-Up.is stands in
     up_still n c.in-Up.rvg.core _ _ c.fail-in-Up.ensures.goes c.fail-in-Up.ensures.alike.contents.now c.fail-in-Up.ensures.down
     (fuse_still n.fuse _ _ _ (λ o k is. is.0.fuse) c.fail-in-Up.ensures.armed c.fail-in-Up.ensures.disks up.fuse) up
 
 pub returns-in-Down-clause-stands : goal.returns-in-Down-clause-stands
-returns-in-Down-clause-stands g c = λ beside n stands. down_still n _ _ c.fail-in-Down.ensures.goes c.fail-in-Down.ensures.down c.fail-in-Down.ensures.armed (subst (λ e. StandsAt beside n e) c.in-Down.is stands)
+returns-in-Down-clause-stands g c = λ beside n stands. down_still n _ _ c.fail-in-Down.ensures.goes c.fail-in-Down.ensures.down c.fail-in-Down.ensures.armed (subst (λ e. SiteStands beside n e) c.in-Down.is stands)
 
 pub returns-in-Receives-clause-stands : goal.returns-in-Receives-clause-stands
 returns-in-Receives-clause-stands g c = λ beside n stands.
-    let r = subst (λ e. StandsAt beside n e) c.in-Receives.is stands in
+    let r = subst (λ e. SiteStands beside n e) c.in-Receives.is stands in
     receiver_still n c.in-Receives.site.rvg.core c.in-Receives.site.waiting _ _ c.fail-in-Receives.ensures.goes c.fail-in-Receives.ensures.alike.contents.now c.fail-in-Receives.ensures.down
     (fuse_still n.fuse _ _ _ (λ o k is. is.0.fuse) c.fail-in-Receives.ensures.armed c.fail-in-Receives.ensures.disks r.fuse) r
 

@@ -1,5 +1,5 @@
 use Rattle.std.proofs.Common.{subst}
-use Rattle.vx_diskset.specs.Stands.{StandsAt}
+use Rattle.vx_diskset.specs.Stands.{SiteStands}
 use Rattle.vx_diskset.proofs.Asking.{fuse_did}
 use Rattle.vx_diskset.proofs.FuseGroup.{up_fused}
 use Rattle.vx_diskset.proofs.Receiving.{receiver_fused}
@@ -8,7 +8,7 @@ use Rattle.vx_diskset.proofs.disk_set.DiskSet.fuse.Goals as goal
 pub returns-in-Up-clause-fused : goal.returns-in-Up-clause-fused
 returns-in-Up-clause-fused g c = λ beside n stands state.
     let is_rack = (g.met.R.Rack g.world.𝓛 g.world.𝓜 g.world.𝓡 ((λ s x. x), (λ x. x), (λ x. x), λ x. x)).rack in
-    up_fused n c.in-Up.rvg.core _ _ c.args.calls c.args.pick (is_rack c.fuse.new.self) c.fuse.ensures.alike c.fuse.ensures.down c.fuse.ensures.disks (subst (λ e. StandsAt beside n e) c.in-Up.is stands)
+    up_fused n c.in-Up.rvg.core _ _ c.args.calls c.args.pick (is_rack c.fuse.new.self) c.fuse.ensures.alike c.fuse.ensures.down c.fuse.ensures.disks (subst (λ e. SiteStands beside n e) c.in-Up.is stands)
 
 pub returns-in-Up-clause-asked : goal.returns-in-Up-clause-asked
 returns-in-Up-clause-asked g c = λ beside n stands state. fuse_did c.args.self.now c.in-Up.rvg (g.R.Shelf.meaning c.fuse.new.self).disks c.args.calls c.args.pick c.in-Up.is c.fuse.ensures.disks
@@ -17,4 +17,4 @@ pub returns-in-Receives-clause-fused : goal.returns-in-Receives-clause-fused
 returns-in-Receives-clause-fused g c = λ beside n stands state.
     let is_rack = (g.met.R.Rack g.world.𝓛 g.world.𝓜 g.world.𝓡 ((λ s x. x), (λ x. x), (λ x. x), λ x. x)).rack in
     receiver_fused n c.in-Receives.site.rvg.core c.in-Receives.site.waiting _ _ c.args.calls c.args.pick (is_rack c.fuse-in-Receives.new.self) c.fuse-in-Receives.ensures.alike c.fuse-in-Receives.ensures.down c.fuse-in-Receives.ensures.disks
-    (subst (λ e. StandsAt beside n e) c.in-Receives.is stands)
+    (subst (λ e. SiteStands beside n e) c.in-Receives.is stands)

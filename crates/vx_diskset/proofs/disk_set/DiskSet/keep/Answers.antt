@@ -4,6 +4,7 @@ use Rattle.vx_diskset.specs.Burning.{NoMore}
 use Rattle.vx_diskset.specs.DiskSets.{halted_at}
 use Rattle.vx_diskset.specs.Keeps.{doubting}
 use Rattle.vx_diskset.proofs.CallsBurn.{called_cut}
+use Rattle.vx_diskset.proofs.HeadCalls.{head_cut}
 use Rattle.vx_diskset.proofs.KeepGroup.{kept_off, kept_on}
 use Rattle.vx_diskset.proofs.Roles.{role_then}
 use Rattle.vx_diskset.proofs.disk_set.DiskSet.keep.Goals as goal
@@ -23,6 +24,13 @@ returns-then-is_off-clause-called g c = λ beside n stands.
 
 pub returns-else-is_off-clause-called : goal.returns-else-is_off-clause-called
 returns-else-is_off-clause-called g c = λ beside n stands. c.in-Err.ensures.called beside n stands
+
+pub returns-then-is_off-clause-headed : goal.returns-then-is_off-clause-headed
+returns-then-is_off-clause-headed g c = λ beside n stands.
+    head_cut 2 c.in-Err.no 0xffff_ffff_ffff_ffff c.args.self.now c.keep_up.new.self c.fall.new.self (sym c.is_off.ensures ∙ c.if-is_off.true) (c.in-Err.ensures.headed beside n stands) c.fall.ensures.stopped
+
+pub returns-else-is_off-clause-headed : goal.returns-else-is_off-clause-headed
+returns-else-is_off-clause-headed g c = λ beside n stands. c.in-Err.ensures.headed beside n stands
 
 pub returns-then-is_off-clause-role : goal.returns-then-is_off-clause-role
 returns-then-is_off-clause-role g c = role_then c.args.self.now c.keep_up.new.self c.fall.new.self c.keep_up.ensures.role c.fall.ensures.role

@@ -16,7 +16,7 @@ returns-then-volume-volumes-clause-read g c = λ beside n stands can.
     (is_rack c.in-Up.rvg.shelf) (is_rack c.read.new.self.shelf)
 
 pub returns-then-volume-volumes-clause-still : goal.returns-then-volume-volumes-clause-still
-returns-then-volume-volumes-clause-still g c = subst (λ e. LeavesAlone e (Up c.read.new.self)) (sym c.in-Up.is) (record { told = c.read.ensures.disks })
+returns-then-volume-volumes-clause-still g c = subst (λ e. LeavesAlone e (Up c.read.new.self)) (sym c.in-Up.is) (record { told = c.read.ensures.disks; sizes = c.read.ensures.goes.size })
 
 pub returns-else-volume-volumes-clause-still : goal.returns-else-volume-volumes-clause-still
 returns-else-volume-volumes-clause-still g c = subst (λ e. LeavesAlone e (Up c.in-Up.rvg)) (sym c.in-Up.is) (alone_same (Up c.in-Up.rvg))

@@ -4,7 +4,7 @@ use Rattle.vx_diskset.specs.Asked.{SameFailing}
 use Rattle.vx_diskset.specs.declared.disk_set.DiskSet.TheVariants.{Up, Down}
 use Rattle.vx_disk.specs.Disks.{Crashed, Untouched}
 use Rattle.vx_diskset.proofs.KeepsFailing.{same_on, same_spent, same_then}
-use Rattle.vx_diskset.specs.Stands.{StandsAt}
+use Rattle.vx_diskset.specs.Stands.{SiteStands}
 use Rattle.vx_diskset.proofs.StartGroup.{can_start, start_needs, came_at, refused_at}
 use Rattle.vx_diskset.proofs.StaysUp.{never_both}
 use Rattle.vx_diskset.proofs.disk_set.DiskSet.recover.Goals as goal
@@ -18,7 +18,7 @@ start_in-requires g c =
 pub returns-in-Ok-clause-recovered : goal.returns-in-Ok-clause-recovered
 returns-in-Ok-clause-recovered g c = λ beside n stands down ring.
     let lawful = (g.met.R.Shelf g.world.𝓛 g.world.𝓜 g.world.𝓡 ((λ s x. x), (λ x. x), (λ x. x), λ x. x)).lawful in
-    came_at n c.units.result c.raw_units-units.result c.in-Down.rack c.revive.new.self c.in-Ok.rvg c.raw_units-units.ensures c.units.ensures (subst (λ e. StandsAt beside n e) c.in-Down.is stands)
+    came_at n c.units.result c.raw_units-units.result c.in-Down.rack c.revive.new.self c.in-Ok.rvg c.raw_units-units.ensures c.units.ensures (subst (λ e. SiteStands beside n e) c.in-Down.is stands)
     c.revive.ensures.alike c.revive.ensures.up c.revive.ensures.armed (lawful c.revive.new.self) (lawful c.in-Ok.rvg.shelf) c.in-Ok.ensures.starts c.in-Ok.ensures.moves
 
 pub returns-in-Err-clause-recovered : goal.returns-in-Err-clause-recovered
@@ -26,7 +26,7 @@ returns-in-Err-clause-recovered g c = λ beside n stands down ring.
     let lawful = (g.met.R.Shelf g.world.𝓛 g.world.𝓜 g.world.𝓡 ((λ s x. x), (λ x. x), (λ x. x), λ x. x)).lawful in
     let is_rack = (g.met.R.Rack g.world.𝓛 g.world.𝓜 g.world.𝓡 ((λ s x. x), (λ x. x), (λ x. x), λ x. x)).rack in
     refused_at n c.units.result c.raw_units-units.result c.args.self c.in-Down.rack c.revive.new.self c.in-Err.rack c.crash.new.self c.in-Err.no c.in-Down.is c.raw_units-units.ensures c.units.ensures
-    (subst (λ e. StandsAt beside n e) c.in-Down.is stands) c.revive.ensures.alike c.revive.ensures.up c.revive.ensures.armed (lawful c.revive.new.self) (lawful c.in-Err.rack)
+    (subst (λ e. SiteStands beside n e) c.in-Down.is stands) c.revive.ensures.alike c.revive.ensures.up c.revive.ensures.armed (lawful c.revive.new.self) (lawful c.in-Err.rack)
     c.in-Err.ensures.cause c.in-Err.ensures.limit c.in-Err.ensures.left c.crash.ensures.stopped (lawful c.crash.new.self) (is_rack c.crash.new.self)
 
 pub returns-in-Ok-clause-failing : goal.returns-in-Ok-clause-failing
@@ -43,4 +43,4 @@ returns-in-Err-clause-failing g c = subst (λ e. SameFailing e (Down c.crash.new
 pub returns-then-not-can_start-clause-recovered : goal.returns-then-not-can_start-clause-recovered
 returns-then-not-can_start-clause-recovered g c = λ beside n stands down ring.
     absurd (never_both c.can_start.result
-    (c.can_start.ensures.all (can_start n (g.R.Shelf.meaning c.in-Down.rack) c.args.room.ring (subst (λ e. StandsAt beside n e) c.in-Down.is stands) ring)) c.if-not-can_start.true)
+    (c.can_start.ensures.all (can_start n (g.R.Shelf.meaning c.in-Down.rack) c.args.room.ring (subst (λ e. SiteStands beside n e) c.in-Down.is stands) ring)) c.if-not-can_start.true)

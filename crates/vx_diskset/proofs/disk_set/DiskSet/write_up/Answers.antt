@@ -5,7 +5,7 @@ use Rattle.vx_events.specs.declared.said.Said.TheVariants.{Refused}
 use Rattle.vx_diskset.specs.Burning.{IsLogged, said_by}
 use Rattle.vx_diskset.specs.declared.disk_set.DiskSet.TheVariants.{Up}
 use Rattle.vx_diskset.specs.DiskSets.{LoggedUp}
-use Rattle.vx_diskset.specs.Stands.{StandsAt}
+use Rattle.vx_diskset.specs.Stands.{SiteStands}
 use Rattle.vx_diskset.proofs.WriteGroup.{logged_wrote}
 use Rattle.vx_diskset.proofs.CallsBurn.{called_still, called_up, cuts_none, cuts_up}
 use Rattle.vx_diskset.proofs.disk_set.DiskSet.write_up.Goals as goal
@@ -27,5 +27,5 @@ returns-then-volume-volumes-clause-wrote g c = λ beside n stands can has.
     let x = (let w : Write = record { volume = c.args.volume; start = c.args.start; bytes = c.args.bytes.now } in w) in
     logged_wrote beside n x c.args.self.now (Up c.write_group.new.rvg) c.write_group.result can.origin
     (subst (λ e. LoggedUp beside n x e (Up c.write_group.new.rvg) c.write_group.result) (sym c.in-Up.is)
-    (c.write_group.ensures.wrote beside n (subst (λ e. StandsAt beside n e) c.in-Up.is stands)
+    (c.write_group.ensures.wrote beside n (subst (λ e. SiteStands beside n e) c.in-Up.is stands)
     (record { up = can.up; running = can.running; volume_exists = can.volume_exists; fits = can.fits; within = can.within }) has))

@@ -1,8 +1,8 @@
 use Rattle.std.proofs.Common.{arith, ◌≡◌, ◌∙◌, ◌-◌, ◌+◌, ap, Option, Some, length, take, drop}
 use Rattle.std.proofs.lemmas.List.{length-take, length-drop}
 use Rattle.std.proofs.lemmas.List.{length-set}
-use Rattle.vx_packet.specs.Assemblies.{Held, Assembled, key_of, parts_before}
-use Rattle.vx_packet.specs.Gathering.{kept}
+use Rattle.vx_packet.specs.Assemblies.{HeldParts, Assembled, key_in_part, parts_before}
+use Rattle.vx_packet.specs.Gathering.{kept_payload}
 use Rattle.vx_packet.specs.Packets.{payload_in}
 use Rattle.vx_packet.specs.declared.key.Key.{Key}
 use Rattle.vx_packet.specs.declared.part.Part.{Part}
@@ -11,7 +11,7 @@ use Rattle.vx_packet.proofs.KeyLemmas.{HasParts-held, held_of-parts}
 use Rattle.vx_packet.proofs.assembly.Assembly.take.Goals as goal
 
 -- the place is begun with the part's key
-place : (old new : Assembled) (p : Part) (key : Key) (held : Option Held) → held ≡ new.held → new.held ≡ Some (record { key = key; parts = parts_before old.held key }) → key ≡ key_of p → held ≡ Some (begun old.held p)
+place : (old new : Assembled) (p : Part) (key : Key) (held : Option HeldParts) → held ≡ new.held → new.held ≡ Some (record { key = key; parts = parts_before old.held key }) → key ≡ key_in_part p → held ≡ Some (begun old.held p)
 place old new p key held view is same = view ∙ is ∙ ap (λ (q : Key). Some (record { key = q; parts = parts_before old.held q })) same
 
 pub put-requires-clause-part : goal.put-requires-clause-part
@@ -34,7 +34,7 @@ payload-requires c =
     let p : Part = c.args.part.now in
     let is = place c.args.self.now c.begin.new.self p c.of-key.result _ (ap (λ (a : Assembled). a.held) c.self.view_is) c.begin.ensures c.of-key.ensures in
     let count = HasParts-held c.self.inside.key c.self.inside.parts (begun c.args.self.now.held p) is c.self.invariant.0 in
-    omega (arith, count, ap length (held_of-parts c.self.inside.key c.self.inside.parts (begun c.args.self.now.held p) is), c.requires.can.part, ap length c.put.ensures ∙ length-set c.self.inside.parts p.part (Some (kept p.part (take (p.start + p.length - p.start) (drop p.start c.args.bytes.now)))))
+    omega (arith, count, ap length (held_of-parts c.self.inside.key c.self.inside.parts (begun c.args.self.now.held p) is), c.requires.can.part, ap length c.put.ensures ∙ length-set c.self.inside.parts p.part (Some (kept_payload p.part (take (p.start + p.length - p.start) (drop p.start c.args.bytes.now)))))
 
 pub returns-in-None : goal.returns-in-None
 returns-in-None c =

@@ -2,7 +2,7 @@ use Rattle.std.proofs.Common.{◌≡◌, ◌∙◌, ap, sym, ℕ, List, Option, 
 use Rattle.std.specs.List.{list_all}
 use Rattle.std.specs.Option.{is_some}
 use Rattle.std.proofs.lemmas.List.{take_min}
-use Rattle.vx_packet.specs.Gathering.{all_came, joined, whole_length}
+use Rattle.vx_packet.specs.Gathering.{all_parts_came, joined_parts, whole_length}
 use Rattle.vx_packet.proofs.GatherLemmas.{all_came-came, joined-came}
 use Rattle.vx_packet.proofs.gathered.Gathered.payload.Goals as goal
 
@@ -12,7 +12,7 @@ returns-then-not-is_whole c =
     let lengths : List (Option ℕ) = take count c.self.inside.lengths.items in
     let all : list_all is_some lengths ≡ false =
     ap (λ (ls : List (Option ℕ)). list_all is_some (take count ls)) (sym c.deref.ensures.value) ∙ sym c.is_whole.ensures ∙ c.if-not-is_whole.true in
-    ap all_came (sym c.self.view_is) ∙ all_came-came lengths c.self.inside.buffer.items ∙ all
+    ap all_parts_came (sym c.self.view_is) ∙ all_came-came lengths c.self.inside.buffer.items ∙ all
 
 pub returns : goal.returns
 returns c =
@@ -26,6 +26,6 @@ returns c =
     let end : c.min.result ≡ min (whole_length lengths) (length buffer) = c.min.ensures ∙ ap (λ (n : ℕ). min n c.len.result) total ∙ ap (min (whole_length lengths)) room in
     let front : take c.min.result c.deref-2.result.now ≡ take (whole_length lengths) buffer =
     ap (take c.min.result) c.deref-2.ensures.value ∙ ap (λ (n : ℕ). take n buffer) end ∙ take_min (whole_length lengths) buffer in (
-      ap all_came (sym c.self.view_is) ∙ all_came-came lengths buffer ∙ all,
-      front ∙ sym (joined-came lengths buffer c.self.invariant.full all) ∙ ap joined c.self.view_is,
+      ap all_parts_came (sym c.self.view_is) ∙ all_came-came lengths buffer ∙ all,
+      front ∙ sym (joined-came lengths buffer c.self.invariant.full all) ∙ ap joined_parts c.self.view_is,
     )

@@ -1,7 +1,7 @@
 -- The group behind a fetch, and what it gives.
 use Rattle.std.proofs.Common.{subst, OnOk, IsFalse}
 use Rattle.vx_rvg.specs.Holdings.{Holding}
-use Rattle.vx_rvg.specs.Stands.{Gives, Stands}
+use Rattle.vx_rvg.specs.Stands.{GivesWrite, Stands}
 use Rattle.vx_rvg.specs.contracts.rvg_core.RvgCore.{the_view}
 use Rattle.vx_rvg.specs.declared.group.Rvg.{Rvg}
 use Rattle.vx_rvg.proofs.FetchGives.{gives_ok}
@@ -14,7 +14,7 @@ invariant_of-self-inside g c = record { sound = rest_sound _ (g.S.Shelf.meaning 
 
 pub returns-clause-gives : goal.returns-clause-gives
 returns-clause-gives g c =
-    subst (λ (r : Rvg g.row.S.Denot g.S.Shelf). OnOk c.fetch.result (Gives r.core c.args.n (g.S.Shelf.meaning r.shelf) c.fetch.new.into)) c.self.view_is
+    subst (λ (r : Rvg g.row.S.Denot g.S.Shelf). OnOk c.fetch.result (GivesWrite r.core c.args.n (g.S.Shelf.meaning r.shelf) c.fetch.new.into)) c.self.view_is
     (gives_ok (the_view c.self.inside.0.1.0) c.args.n (g.S.Shelf.meaning c.self.inside.0.0) c.fetch.new.into c.fetch.result c.fetch.ensures.gives c.fetch.ensures.agrees)
 
 pub returns-clause-stands : goal.returns-clause-stands

@@ -3,7 +3,7 @@ use Rattle.std.proofs.Common.{IsTrue, List, ◌++◌}
 use Rattle.vx_model.specs.Content.{Content, Write, blocks_in, fold_writes}
 use Rattle.vx_ringlog.specs.Records.{Record}
 use Rattle.vx_rvg.specs.Commits.{HasStaged}
-use Rattle.vx_rvg.specs.Contents.{Shows}
+use Rattle.vx_rvg.specs.Contents.{ShowsContent}
 use Rattle.vx_rvg.specs.Holdings.{Holding}
 use Rattle.vx_rvg.specs.Stands.{IsCovered}
 use Rattle.vx_rvg.proofs.CommitCalls.{counted_same}
@@ -21,9 +21,9 @@ invariant_of-self g c = record {
 
 pub returns-clause-gives : goal.returns-clause-gives
 returns-clause-gives g c =
-    let all : Type 0 = (x : Content) (rs : List Record) → IsCovered c.args.self.now.core x rs (g.S.Shelf.meaning c.args.self.now.shelf) → IsTrue (g.S.Shelf.meaning c.args.self.now.shelf).tells → Shows x c.args.vol c.args.start (blocks_in c.args.into.now) c.read_blocks.new.into in
+    let all : Type 0 = (x : Content) (rs : List Record) → IsCovered c.args.self.now.core x rs (g.S.Shelf.meaning c.args.self.now.shelf) → IsTrue (g.S.Shelf.meaning c.args.self.now.shelf).tells → ShowsContent x c.args.vol c.args.start (blocks_in c.args.into.now) c.read_blocks.new.into in
     let staged : Type 0 = (xs : List Write) (h : Holding) → HasStaged xs c.args.self.now.core h (g.S.Shelf.meaning c.args.self.now.shelf) → IsTrue (g.S.Shelf.meaning c.args.self.now.shelf).tells
-    → Shows (fold_writes h.content xs) c.args.vol c.args.start (blocks_in c.args.into.now) c.read_blocks.new.into in
+    → ShowsContent (fold_writes h.content xs) c.args.vol c.args.start (blocks_in c.args.into.now) c.read_blocks.new.into in
     on_same c.read_blocks.result all staged
     (λ give xs h has tells. give (fold_writes h.content xs) (has.stands.log.held ++ has.stands.log.staged)
     (staged_covers xs c.args.self.now.core h (g.S.Shelf.meaning c.args.self.now.shelf) has (few_applied c.args.self.now.core c.args.self.now.core.log.staged (g.S.Shelf.meaning c.args.self.now.shelf) c.args.self.now.sound c.read_blocks.ensures.numbers)) tells) c.read_blocks.ensures.gives

@@ -1,5 +1,5 @@
 use Rattle.std.proofs.Common.{◌≡◌, ◌<◌, ◌≤◌, ◌+◌, ◌-◌, length, take, ap, refl, ◌∙◌, ℕ, arith, length-take}
-use Rattle.vx_srl.specs.Views.{Log, head_of, place_after}
+use Rattle.vx_srl.specs.Views.{Log, head_number, place_after}
 use Rattle.vx_srl.proofs.LogLists.{floor_behind, low_some, numbers_of_ring, place_behind, place_below, place_low, place_of_all, run_few}
 use Rattle.vx_srl.proofs.Saving.{without_is}
 use Rattle.vx_srl.proofs.log.Srl.header_without.Goals as goal
@@ -13,7 +13,7 @@ few c =
     let ks = c.self.inside.records.items in
     let low = c.self.inside.header.low in
     held_few (c.args.to + 1 - low) c.self.inside.sealed low c.args.to (length ks) (length (take c.self.inside.sealed ks)) (low_some c.self.inside.ring c.self.inside.header c.self.invariant.ordered.of_ring) refl
-    (omega (arith, c.requires.held, ap head_of c.self.view_is)) (omega (arith, length-take c.self.inside.sealed ks)) c.self.invariant.few
+    (omega (arith, c.requires.held, ap head_number c.self.view_is)) (omega (arith, length-take c.self.inside.sealed ks)) c.self.invariant.few
 
 place_is : (c : goal.After-index-2) → c.if-gone-len.place ≡ place_after c.self.inside.ring c.self.inside.header.place (take (c.args.to + 1 - c.self.inside.header.low) (take c.self.inside.sealed c.self.inside.records.items))
 place_is c =

@@ -1,6 +1,6 @@
 use Rattle.std.proofs.Common.{sym, subst}
 use Rattle.std.proofs.lemmas.Result.{err_from_is_err_and, on_ok_weaker}
-use Rattle.vx_ringio.specs.Tracks.{Arrives, Follows, Lies}
+use Rattle.vx_ringio.specs.Tracks.{Arrives, Follows, RingLies}
 use Rattle.vx_srl.specs.Fronts.{seal_written}
 use Rattle.vx_srl.specs.Views.{Log}
 use Rattle.vx_srl.proofs.FrontLaws.{ended_err, ended_last, flush_cut, fronts_cut, fronts_follow, lies_stays, places_low, seal_arrives, seal_follows}
@@ -15,7 +15,7 @@ returns-in_err-flush_ring-clause-follows g c =
 
 pub write_fronts-requires-clause-lies : goal.write_fronts-requires-clause-lies
 write_fronts-requires-clause-lies g c =
-    lies_stays c.self.inside.unit c.self.inside.ring _ _ _ (c.flush_ring.ensures.follows c.self.inside.ring) (subst (λ (x : Log). Lies x.unit x.ring (g.S.Shelf.meaning c.args.shelf.now)) (sym c.self.view_is) c.requires.lies)
+    lies_stays c.self.inside.unit c.self.inside.ring _ _ _ (c.flush_ring.ensures.follows c.self.inside.ring) (subst (λ (x : Log). RingLies x.unit x.ring (g.S.Shelf.meaning c.args.shelf.now)) (sym c.self.view_is) c.requires.lies)
 
 pub write_fronts-requires-clause-places : goal.write_fronts-requires-clause-places
 write_fronts-requires-clause-places g c =
@@ -34,7 +34,7 @@ returns-in_err-write_fronts-clause-cause g c =
 
 pub flush_ring-requires-2 : goal.flush_ring-requires-2
 flush_ring-requires-2 g c =
-    let first = lies_stays c.self.inside.unit c.self.inside.ring _ _ _ (c.flush_ring.ensures.follows c.self.inside.ring) (subst (λ (x : Log). Lies x.unit x.ring (g.S.Shelf.meaning c.args.shelf.now)) (sym c.self.view_is) c.requires.lies) in
+    let first = lies_stays c.self.inside.unit c.self.inside.ring _ _ _ (c.flush_ring.ensures.follows c.self.inside.ring) (subst (λ (x : Log). RingLies x.unit x.ring (g.S.Shelf.meaning c.args.shelf.now)) (sym c.self.view_is) c.requires.lies) in
     record { exists = (lies_stays c.self.inside.unit c.self.inside.ring _ _ _ c.write_fronts.ensures.follows first).exists }
 
 pub returns-clause-follows : goal.returns-clause-follows

@@ -1,6 +1,6 @@
 use Rattle.std.proofs.Common.{rules, ◌≡◌, ap, sym, ◌∙◌, ◌<◌, subst, arith, suc, ◌+◌, ◌-◌, length, length-append, refl}
 use Rattle.vx_turn.specs.Turning.{lower}
-use Rattle.vx_turn.specs.Passing.{AreLeft}
+use Rattle.vx_turn.specs.Passing.{PassesLeft}
 use Rattle.vx_turn.proofs.Keeps.{deals}
 use Rattle.vx_turn.proofs.Dealing.{one_more, dealt, ok_of}
 use Rattle.vx_turn.proofs.turn.Turn.deal.Goals as goal
@@ -16,7 +16,7 @@ loop-number-preserved g c =
     let long : length c.push.new.self.items ≡ length c.loop-number.left.items + 1 = ap length e ∙ length-append c.loop-number.left.items _ in record {
       count = omega (arith, long, inv.count, c.loop-number-test.true);
       room = search rules;
-      left = subst (λ l. AreLeft z start c.args.callers l) (sym e) (one_more z start c.args.callers c.loop-number.left.items (n - 1) _ at
+      left = subst (λ l. PassesLeft z start c.args.callers l) (sym e) (one_more z start c.args.callers c.loop-number.left.items (n - 1) _ at
           (dealt z start c.args.callers (n - 1) n c.loop-number.seat.me.0 c.split_seat-dealt.result.me.0 _ (ap (λ m. m.0) inv.root) refl (c.into_badge.ensures.0 ∙ (cut.3 ∙ inv.table)) (ap (λ m. m.0) cut.4) c.into_badge.ensures.2) inv.left);
       table = cut.0 ∙ inv.table;
       root = cut.2 ∙ ap (λ m. (lower m.0, m.1)) inv.root;

@@ -1,5 +1,5 @@
 use Rattle.std.proofs.Common.{ap, ◌∙◌, ◌++◌, ◌∷◌, [], subst, Some}
-use Rattle.vx_turn.specs.Passing.{AreLeft}
+use Rattle.vx_turn.specs.Passing.{PassesLeft}
 use Rattle.vx_turn.proofs.Keeps.{opens_at}
 use Rattle.vx_turn.proofs.turn.Turn.new.Goals as goal
 
@@ -10,7 +10,7 @@ new-made-requires g c =
 
 pub returns-clause-ok : goal.returns-clause-ok
 returns-clause-ok g c = (
-  subst (λ s. AreLeft c.in-Ok-made.made.0.shared.table_id s c.args.callers c.deal-left.result.items)
+  subst (λ s. PassesLeft c.in-Ok-made.made.0.shared.table_id s c.args.callers c.deal-left.result.items)
       (ap (λ m. m.0.start) c.in-Ok-made.ensures.ok.4 ∙ ap g.E.Engine.state c.of.ensures) c.deal-left.ensures.0,
   c.deal-left.ensures.1,
 )

@@ -3,14 +3,14 @@ use Rattle.std.proofs.Common.{◌∙◌, ap, sym, subst, arith}
 use Rattle.vx_history.specs.World.{empty_world}
 use Rattle.vx_events.specs.Doubts.{sure}
 use Rattle.vx_yard.specs.Standing.{SitesAgree}
-use Rattle.vx_yard.specs.Stands.{faults_of}
+use Rattle.vx_yard.specs.Stands.{site_faults}
 use Rattle.vx_yard.proofs.Carrying.{carries_none, none_held}
 use Rattle.vx_yard.proofs.NewYard.{begins_empty, disk_sets_new, counts_new}
 use Rattle.vx_yard.proofs.yard.Yard.new.Goals as goal
 
 pub returns-clause-counts : goal.returns-clause-counts
 returns-clause-counts g c = λ s d.
-    ap (λ es. faults_of es s d) (c.put_racks-racks.ensures.disk_sets c.in-Ok.ensures.items (omega (arith, c.in-Ok.ensures.capacity, c.args.racks.ok, c.requires.eight)))
+    ap (λ es. site_faults es s d) (c.put_racks-racks.ensures.disk_sets c.in-Ok.ensures.items (omega (arith, c.in-Ok.ensures.capacity, c.args.racks.ok, c.requires.eight)))
     ∙ counts_new g.R.Shelf c.args.racks.items s d
 
 pub returns-clause-carries : goal.returns-clause-carries

@@ -1,0 +1,333 @@
+ghost use Rattle.std.specs.Prelude.{IfOk};
+ghost use Rattle.vx_config.specs.Configs.{CanSpell};
+
+use std::alloc::Global;
+use std::test::Fail;
+use vx_config::{
+    Config, ConfigStop, DiskEntry, Disks, LogEntry, PlexEntry, PlexState, Plexes, Subdisk,
+    Subdisks, VolumeEntry, VolumeLog, Volumes, check, decode, encode, encode_into, is_short,
+};
+use vx_model::{Counted, Name, No, OutOfMemory, Stop};
+
+// A group of two disks, of which the second is failed, and a mirror of 64 blocks over both, as the table spells it.
+const MIRROR: [u8; 117] = [
+    // version, serial, site
+    0, 0, 0, 1, 0, 0, 0, 0, 0, 0, 0, 5, 0, 0, 0, 1, // 16: two disks
+    2, 0, 0, 0, 0, 0, 0, 4, 0, 0, 0, 0, 0, 0, 0, 0, 4, 0, 1,
+    // 35: one volume: name, blocks, ncol, width
+    1, 1, b'v', 0, 0, 0, 0, 0, 0, 0, 64, 1, 0, 0, 0, 0,
+    // 51: drl, fmr, policy, preferred, then the DRL log and no FMR log
+    1, 0, 1, 1, 1, 0, 0, 0, 0, 0, 0, 0, 0, 2, 0x40, 0, 0, 0, 0, 0, 0, 0, 1, 0,
+    // 75: two plexes
+    2, 0, 0, 1, 0, 0, 0, 0, 0, 0, 0, 2, 0, 0, 0, 0, 0, 0, 0, 0, 64, 2, 1, 1, 1, 0, 0, 0, 0, 0, 0,
+    2, 0, 0, 0, 0, 0, 0, 0, 0, 64, // 116: no replicated volume group
+    0,
+];
+
+// A group of one disk without volumes, whose replicated volume group names three.
+const GROUP: [u8; 32] = [
+    0, 0, 0, 1, 0, 0, 0, 0, 0, 0, 0, 0, 0, 0, 0, 7, 1, 0, 0, 0, 0, 0, 0, 4, 0, 0, 0, 1, 0, 1, 1, 2,
+];
+
+const WHOLE: DiskEntry = DiskEntry {
+    blocks: 1024,
+    failed: false,
+};
+
+const FAILED: DiskEntry = DiskEntry {
+    blocks: 1024,
+    failed: true,
+};
+
+fn run(disk: u8, start: u64, blocks: u64) -> Subdisk {
+    Subdisk {
+        disk,
+        start,
+        blocks,
+    }
+}
+
+fn plex(alloc: Global, state: PlexState, runs: &[Subdisk]) -> Result<PlexEntry, OutOfMemory> {
+    let mut subdisks = Subdisks::new(alloc);
+    for run in runs {
+        if subdisks.as_slice().len() < 255 {
+            subdisks.push(*run)?;
+        }
+    }
+    Ok(PlexEntry {
+        state,
+        whole: state == PlexState::Stale,
+        subdisks,
+    })
+}
+
+fn log(start: u64) -> Option<LogEntry> {
+    Some(LogEntry {
+        lost: false,
+        disk: 0,
+        start,
+        blocks: 1,
+    })
+}
+
+// The disks of the mirror, with one volume of two plexes and a DRL at this block.
+fn group(
+    alloc: Global,
+    ncol: u8,
+    width: u32,
+    drl: u64,
+    first: &[Subdisk],
+    second: &[Subdisk],
+) -> Result<Config, OutOfMemory>
+    ensures { IfOk result CanSpell }
+{
+    let mut disks = Disks::new();
+    disks.push(WHOLE);
+    disks.push(FAILED);
+    let mut plexes = Plexes::new(alloc);
+    plexes.push(plex(alloc, PlexState::Active, first)?)?;
+    plexes.push(plex(alloc, PlexState::Stale, second)?)?;
+    let mut volumes = Volumes::new(alloc);
+    volumes.push(VolumeEntry {
+        name: Name::new(b"v"),
+        blocks: 64,
+        ncol,
+        width,
+        prefer: Some(1),
+        drl: log(drl),
+        fmr: None,
+        plexes,
+    })?;
+    Ok(Config {
+        serial: 5,
+        site: 1,
+        disks,
+        volumes,
+        rvg: None,
+    })
+}
+
+fn mirror(alloc: Global) -> Result<Config, OutOfMemory>
+    ensures { IfOk result CanSpell }
+{
+    group(alloc, 1, 0, 576, &[run(0, 512, 64)], &[run(1, 512, 64)])
+}
+
+#[test]
+fn spells_a_mirror(rt: HostRuntime) -> Result<(), Fail> {
+    let config = mirror(rt.alloc())?;
+    let bytes = encode(rt.alloc(), &config)
+        .ok()
+        .ok_or("a mirror has a spelling")?;
+    assert_eq!(rt; bytes.as_slice(), MIRROR.as_slice());
+    let mut into = [0xff; 65024];
+    is_short(&config);
+    assert_eq!(rt; encode_into(&config, &mut into), 117);
+    assert!(rt; into.starts_with(&MIRROR));
+    assert_eq!(rt; into[117], 0xff);
+    Ok(())
+}
+
+#[test]
+fn reads_a_mirror(rt: HostRuntime) -> Result<(), Fail> {
+    let mut bytes = [9; 200];
+    bytes[..117].copy_from_slice(&MIRROR);
+    let (config, len) = decode(rt.alloc(), &bytes)?;
+    assert_eq!(rt; len, 117);
+    assert_eq!(rt; config.serial, 5);
+    assert_eq!(rt; config.site, 1);
+    assert_eq!(rt; config.disks.as_slice().len(), 2);
+    assert!(rt; config.disks.as_slice()[1].failed);
+    assert!(rt; config.rvg.is_none());
+    for volume in config.volumes.as_slice() {
+        assert_eq!(rt; volume.name, Name::new(b"v"));
+        assert_eq!(rt; volume.prefer, Some(1));
+        assert_eq!(rt; volume.drl, log(576));
+        assert_eq!(rt; volume.fmr, None);
+        for plex in volume.plexes.as_slice() {
+            assert_eq!(rt; plex.whole, plex.state == PlexState::Stale);
+            for subdisk in plex.subdisks.as_slice() {
+                assert_eq!(rt; subdisk.start, 512);
+                assert_eq!(rt; subdisk.blocks, 64);
+            }
+        }
+    }
+    assert!(rt; check(&config));
+    Ok(())
+}
+
+#[test]
+fn reads_a_group(rt: HostRuntime) -> Result<(), Fail> {
+    let (config, len) = decode(rt.alloc(), &GROUP)?;
+    assert_eq!(rt; len, 32);
+    assert!(rt; !check(&config));
+    match &config.rvg {
+        Some(units) => {
+            assert_eq!(rt; units.srl, 0);
+            assert_eq!(rt; units.maps, 1);
+            assert_eq!(rt; units.vols.as_slice(), [2].as_slice());
+        }
+        None => assert!(rt; false),
+    }
+    Ok(())
+}
+
+#[test]
+fn finds_the_first_wrong_field(rt: HostRuntime) {
+    for (place, byte, wanted) in [
+        (3, 2, 0),
+        (4, 0x80, 4),
+        (16, 0, 16),
+        (16, 9, 16),
+        (25, 2, 25),
+        (35, 33, 35),
+        (36, 0, 36),
+        (36, 9, 36),
+        (51, 2, 51),
+        (51, 0, 55),
+        (52, 1, 74),
+        (53, 0, 54),
+        (56, 2, 56),
+        (76, 3, 76),
+        (97, 2, 97),
+        (116, 2, 116),
+    ] {
+        let mut bytes = MIRROR;
+        if place < bytes.len() {
+            bytes[place] = byte;
+        }
+        match decode(rt.alloc(), &bytes) {
+            Err(ConfigStop::BadConfig { at }) => assert_eq!(rt; at, wanted),
+            _ => assert!(rt; false),
+        }
+    }
+}
+
+#[test]
+fn finds_the_first_missing_field(rt: HostRuntime) {
+    for (len, wanted) in [
+        (0, 0),
+        (3, 0),
+        (16, 16),
+        (37, 36),
+        (69, 66),
+        (115, 108),
+        (116, 116),
+    ] {
+        match decode(rt.alloc(), &MIRROR[..len]) {
+            Err(ConfigStop::BadConfig { at }) => assert_eq!(rt; at, wanted),
+            _ => assert!(rt; false),
+        }
+    }
+}
+
+#[test]
+fn tests_where_blocks_lie(rt: HostRuntime) -> Result<(), Fail> {
+    for (first, second, drl, wanted) in [
+        (run(0, 512, 64), run(1, 512, 64), 576, true),
+        (run(0, 512, 64), run(0, 577, 64), 576, true),
+        (run(0, 512, 64), run(0, 576, 64), 576, false),
+        (run(0, 512, 64), run(0, 575, 64), 700, false),
+        (run(0, 511, 64), run(1, 512, 64), 576, false),
+        (run(0, 512, 64), run(1, 961, 64), 576, false),
+        (run(0, 512, 64), run(1, 960, 64), 576, true),
+        (run(0, 512, 64), run(2, 512, 64), 576, false),
+        (run(0, 512, 63), run(1, 512, 64), 576, false),
+        (run(0, 512, 64), run(1, 512, 64), 1024, false),
+    ] {
+        let config = group(rt.alloc(), 1, 0, drl, &[first], &[second])?;
+        assert_eq!(rt; check(&config), wanted);
+    }
+    Ok(())
+}
+
+#[test]
+fn tests_columns(rt: HostRuntime) -> Result<(), Fail> {
+    for (ncol, width, runs, wanted) in [
+        (2, 16, [run(0, 512, 32), run(1, 512, 32)], true),
+        (2, 16, [run(0, 512, 16), run(1, 512, 48)], false),
+        (2, 5, [run(0, 512, 35), run(1, 512, 35)], true),
+        (2, 0, [run(0, 512, 32), run(1, 512, 32)], false),
+        (9, 16, [run(0, 512, 32), run(1, 512, 32)], false),
+        (1, 0, [run(0, 512, 32), run(1, 512, 32)], true),
+    ] {
+        let other = [run(0, 700, runs[0].blocks), run(1, 700, runs[1].blocks)];
+        let config = group(rt.alloc(), ncol, width, 1000, &runs, &other)?;
+        assert_eq!(rt; check(&config), wanted);
+    }
+    Ok(())
+}
+
+#[test]
+fn refuses_too_many_subdisks(rt: HostRuntime) -> Result<(), Fail> {
+    let runs = [run(0, 512, 0); 255];
+    let mut config = group(rt.alloc(), 1, 0, 576, &runs, &runs)?;
+    let mut volumes = Volumes::new(rt.alloc());
+    for _ in 0..3 {
+        let mut plexes = Plexes::new(rt.alloc());
+        plexes.push(plex(rt.alloc(), PlexState::Active, &runs)?)?;
+        plexes.push(plex(rt.alloc(), PlexState::Active, &runs)?)?;
+        if volumes.as_slice().len() < 32 {
+            volumes.push(VolumeEntry {
+                name: Name::new(b"v"),
+                blocks: 1,
+                ncol: 1,
+                width: 0,
+                prefer: None,
+                drl: None,
+                fmr: None,
+                plexes,
+            })?;
+        }
+    }
+    config.volumes = volumes;
+    assert!(rt; !check(&config));
+    match encode(rt.alloc(), &config) {
+        Err(
+            Stop::No(
+                No::Limit {
+                    what: Counted::Subdisks,
+                    most: 1024,
+                },
+            ),
+        ) => {}
+        _ => assert!(rt; false),
+    }
+    Ok(())
+}
+
+// The state of the first plex, whether it is whole, and the same of the second; and whether the DRL is lost.
+fn states(alloc: Global, config: &Config) -> Option<[u8; 5]>
+    requires { CanSpell config.now }
+{
+    let bytes = encode(alloc, config).ok()?;
+    let bytes = bytes.as_slice();
+    if bytes.len() != 117 {
+        return None;
+    }
+    Some([bytes[76], bytes[77], bytes[96], bytes[97], bytes[56]])
+}
+
+#[test]
+fn changes_a_mirror_in_place(rt: HostRuntime) -> Result<(), Fail> {
+    let alloc = rt.alloc();
+    let mut config = mirror(alloc)?;
+    assert_eq!(rt; states(alloc, &config), Some([0, 0, 2, 1, 0]));
+    config.set_state(0, 0, PlexState::Stale, true);
+    assert_eq!(rt; states(alloc, &config), Some([2, 1, 2, 1, 0]));
+    assert!(rt; !check(&config));
+    config.set_state(0, 1, PlexState::Clean, false);
+    assert_eq!(rt; states(alloc, &config), Some([2, 1, 1, 0, 0]));
+    assert!(rt; check(&config));
+    config.set_lost(0, VolumeLog::Drl, true);
+    assert_eq!(rt; states(alloc, &config), Some([2, 1, 1, 0, 1]));
+    // There is no such log, plex or volume.
+    config.set_lost(0, VolumeLog::Fmr, true);
+    config.set_state(0, 2, PlexState::Stale, true);
+    config.set_lost(1, VolumeLog::Drl, false);
+    assert_eq!(rt; states(alloc, &config), Some([2, 1, 1, 0, 1]));
+    assert!(rt; check(&config));
+    assert!(rt; config.volumes.pop().is_some());
+    assert!(rt; config.volumes.pop().is_none());
+    Ok(())
+}

@@ -1,0 +1,62 @@
+-- The commit of a log that is lost, behind headers that were written back.
+use Rattle.std.proofs.Common.{◌≡◌, ◌∙◌, arith}
+use Rattle.vx_kept.proofs.RunLemmas.{logs_volumes}
+use Rattle.vx_group.proofs.CallLemmas.{blames_later, both_Narrows}
+use Rattle.vx_group.proofs.FailingLemmas.{then_failing}
+use Rattle.vx_group.proofs.GiveLemmas.{keeps_volumes}
+use Rattle.vx_group.proofs.LostLemmas.{later_keeps, left_plexes}
+use Rattle.vx_group.proofs.TrustLemmas.{err_from, ok_from}
+use Rattle.vx_group.proofs.losing.lose_log.Goals as goal
+
+pub lose_settled-requires-clause-more : goal.lose_settled-requires-clause-more
+lose_settled-requires-clause-more g c =
+    let same = c.settle_headers.ensures.serial in let less = c.requires.more in omega (arith, same, less)
+
+pub returns-clause-cause : goal.returns-clause-cause
+returns-clause-cause g c =
+    blames_later c.lose_settled.result (g.S.Shelf.meaning c.args.shelf.now) (g.S.Shelf.meaning c.settle_headers.new.shelf) (g.S.Shelf.meaning c.lose_settled.new.shelf) c.settle_headers.ensures.narrows.acts.disk_faults c.lose_settled.ensures.cause
+
+pub returns-clause-narrows : goal.returns-clause-narrows
+returns-clause-narrows g c =
+    both_Narrows c.args.core.now c.settle_headers.new.core c.lose_settled.new.core (g.S.Shelf.meaning c.args.shelf.now) (g.S.Shelf.meaning c.settle_headers.new.shelf) (g.S.Shelf.meaning c.lose_settled.new.shelf) c.settle_headers.ensures.volumes c.settle_headers.ensures.good c.settle_headers.ensures.narrows c.lose_settled.ensures.narrows
+
+pub returns-clause-plexes : goal.returns-clause-plexes
+returns-clause-plexes g c =
+    λ w p. c.lose_settled.ensures.plexes w p ∙ left_plexes c.args.core.now.config c.settle_headers.new.core.config c.settle_headers.ensures.volumes w p
+
+pub returns-in-Err-clause-plexes : goal.returns-in-Err-clause-plexes
+returns-in-Err-clause-plexes g c =
+    left_plexes c.args.core.now.config c.settle_headers.new.core.config c.settle_headers.ensures.volumes
+
+pub returns-clause-others : goal.returns-clause-others
+returns-clause-others g c =
+    λ w k apart. c.lose_settled.ensures.others w k apart ∙ logs_volumes c.settle_headers.new.core.config c.args.core.now.config c.settle_headers.ensures.volumes w k
+
+pub returns-in-Err-clause-others : goal.returns-in-Err-clause-others
+returns-in-Err-clause-others g c =
+    λ w k apart. logs_volumes c.settle_headers.new.core.config c.args.core.now.config c.settle_headers.ensures.volumes w k
+
+pub returns-clause-trust : goal.returns-clause-trust
+returns-clause-trust g c =
+    ok_from c.lose_settled.result (λ keeps is. keeps (c.settle_headers.ensures.trust ∙ is)) c.lose_settled.ensures.trust
+
+pub returns-clause-agreed : goal.returns-clause-agreed
+returns-clause-agreed g c =
+    err_from c.lose_settled.result (λ keeps is. keeps (c.settle_headers.ensures.trust ∙ is)) c.lose_settled.ensures.agreed
+
+pub returns-in-Err-clause-agreed : goal.returns-in-Err-clause-agreed
+returns-in-Err-clause-agreed g c =
+    λ is. c.settle_headers.ensures.agreed ∙ c.requires.stands.trusts.both is
+
+pub returns-clause-failing : goal.returns-clause-failing
+returns-clause-failing g c =
+    then_failing (g.S.Shelf.meaning c.args.shelf.now) (g.S.Shelf.meaning c.settle_headers.new.shelf) (g.S.Shelf.meaning c.lose_settled.new.shelf) c.settle_headers.ensures.narrows.acts.faults c.lose_settled.ensures.narrows.acts.faults
+    c.args.core.now.config.disks c.settle_headers.new.core.config.disks c.lose_settled.new.core.config.disks c.settle_headers.ensures.failing c.lose_settled.ensures.failing
+
+pub returns-clause-keeps : goal.returns-clause-keeps
+returns-clause-keeps g c =
+    later_keeps c.args.core.now.config c.settle_headers.new.core.config c.lose_settled.new.core.config c.settle_headers.ensures.volumes c.lose_settled.result c.lose_settled.ensures.keeps
+
+pub returns-in-Err-clause-keeps : goal.returns-in-Err-clause-keeps
+returns-in-Err-clause-keeps g c =
+    keeps_volumes c.args.core.now.config c.settle_headers.new.core.config c.in-Err.error c.settle_headers.ensures.volumes

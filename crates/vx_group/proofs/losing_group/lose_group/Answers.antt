@@ -1,0 +1,63 @@
+-- A log that is lost, behind the commit that detaches the plex that is held back.
+use Rattle.std.proofs.Common.{◌∙◌, ◌≤◌, ℕ, Bool, List, ap, subst, sym, arith}
+use Rattle.vx_config.specs.Table.{greatest}
+use Rattle.vx_config.specs.declared.config.Config.{Config}
+use Rattle.vx_disk.specs.Shelf.{Nothing}
+use Rattle.vx_kept.specs.LogRuns.{log_trusted}
+use Rattle.vx_kept.proofs.PlexActing.{none_PlexActs}
+use Rattle.vx_group.specs.Blames.{CountsRise}
+use Rattle.vx_group.specs.Holding.{wide}
+use Rattle.vx_group.specs.Stands.{volume_faults}
+use Rattle.vx_group.specs.declared.inner.Inner.{Inner}
+use Rattle.vx_group.proofs.ActsLemmas.{narrow_PlexActs, through_PlexActs}
+use Rattle.vx_group.proofs.CallLemmas.{cause_by, counts_less, narrows_Goes, not_down}
+use Rattle.vx_group.proofs.LostLemmas.{error_to, if_ok_from}
+use Rattle.vx_group.proofs.ThroughLemmas.{new_Stands, new_wide, released_goes, through_cause, through_goes}
+use Rattle.vx_group.proofs.losing_group.lose_group.Goals as goal
+
+pub returns-in-Err-clause-goes : goal.returns-in-Err-clause-goes
+returns-in-Err-clause-goes g c = narrows_Goes (wide c.args.core.now) (wide c.release.new.core) (g.S.Shelf.meaning c.args.shelf.now) (g.S.Shelf.meaning c.release.new.shelf) (g.met.S.Shelf.lawful c.release.new.shelf) c.requires.stands.stands c.release.ensures.narrows (volume_faults c.args.core.now.inner.faults) (volume_faults c.give_up.new.faults) (λ u. let same = ap (λ (f : List ℕ). volume_faults f u) c.release.ensures.narrows.faults in let less = counts_less c.in-Err.error c.args.vol (volume_faults c.release.new.core.inner.faults) (volume_faults c.give_up.new.faults) c.give_up.ensures.counts u in omega (arith, same, less))
+
+pub returns-in-Err-clause-cause : goal.returns-in-Err-clause-cause
+returns-in-Err-clause-cause g c =
+    cause_by Bool c.in-Err.error (wide c.args.core.now).config (wide c.release.new.core).config c.args.vol (volume_faults c.args.core.now.inner.faults) (volume_faults c.give_up.new.faults) (g.S.Shelf.meaning c.args.shelf.now) (g.S.Shelf.meaning c.release.new.shelf)
+    (not_down c.is_down.result (g.S.Shelf.meaning c.args.shelf.now).down c.is_down.ensures c.if-is_down.false) (error_to (Unit {0}) Bool c.in-Err.error (g.S.Shelf.meaning c.args.shelf.now) (g.S.Shelf.meaning c.release.new.shelf) c.in-Err.ensures.cause)
+    (subst (λ (f : List ℕ). CountsRise c.in-Err.error c.args.vol (volume_faults f) (volume_faults c.give_up.new.faults)) c.release.ensures.narrows.faults c.give_up.ensures.counts)
+
+pub returns-clause-stands : goal.returns-clause-stands
+returns-clause-stands g c =
+    new_Stands c.args.core.now c.release.new.core (record { inner = c.lose_in-result.new.core; held = c.open_held-held.new.core.held }) c.close_held.new.core c.open_held-held.new.core.inner (g.S.Shelf.meaning c.args.shelf.now) (g.S.Shelf.meaning c.release.new.shelf) (g.S.Shelf.meaning c.lose_in-result.new.shelf) c.requires.stands c.release.ensures.stands c.release.ensures.narrows c.release.ensures.volumes c.open_held-held.result c.open_held-held.ensures.held c.open_held-held.ensures.inner c.open_held-held.ensures.none c.close_held.ensures
+    c.lose_in-result.ensures.stands
+
+pub returns-clause-goes : goal.returns-clause-goes
+returns-clause-goes g c =
+    through_goes c.args.core.now c.release.new.core c.close_held.new.core c.open_held-held.new.core.inner c.lose_in-result.new.core (g.S.Shelf.meaning c.args.shelf.now) (g.S.Shelf.meaning c.release.new.shelf) (g.S.Shelf.meaning c.lose_in-result.new.shelf) c.open_held-held.ensures.inner (new_wide c.args.core.now c.release.new.core (record { inner = c.lose_in-result.new.core; held = c.open_held-held.new.core.held }) c.close_held.new.core c.open_held-held.new.core.inner (g.S.Shelf.meaning c.args.shelf.now) (g.S.Shelf.meaning c.release.new.shelf) (g.S.Shelf.meaning c.lose_in-result.new.shelf) c.requires.stands c.release.ensures.stands c.release.ensures.narrows c.release.ensures.volumes c.open_held-held.result c.open_held-held.ensures.held c.open_held-held.ensures.inner c.open_held-held.ensures.none c.close_held.ensures)
+    Nothing (released_goes c.args.core.now c.release.new.core (g.S.Shelf.meaning c.args.shelf.now) (g.S.Shelf.meaning c.release.new.shelf) c.requires.stands c.release.ensures.narrows c.release.ensures.volumes (g.met.S.Shelf.lawful c.release.new.shelf)) c.lose_in-result.ensures.goes
+
+pub returns-clause-cause : goal.returns-clause-cause
+returns-clause-cause g c =
+    through_cause c.args.core.now c.release.new.core c.close_held.new.core c.open_held-held.new.core.inner c.lose_in-result.new.core (g.S.Shelf.meaning c.args.shelf.now) (g.S.Shelf.meaning c.release.new.shelf) (g.S.Shelf.meaning c.lose_in-result.new.shelf) c.open_held-held.ensures.inner (new_wide c.args.core.now c.release.new.core (record { inner = c.lose_in-result.new.core; held = c.open_held-held.new.core.held }) c.close_held.new.core c.open_held-held.new.core.inner (g.S.Shelf.meaning c.args.shelf.now) (g.S.Shelf.meaning c.release.new.shelf) (g.S.Shelf.meaning c.lose_in-result.new.shelf) c.requires.stands c.release.ensures.stands c.release.ensures.narrows c.release.ensures.volumes c.open_held-held.result c.open_held-held.ensures.held c.open_held-held.ensures.inner c.open_held-held.ensures.none c.close_held.ensures)
+    c.release.ensures.narrows (not_down c.is_down.result (g.S.Shelf.meaning c.args.shelf.now).down c.is_down.ensures c.if-is_down.false) c.args.vol c.lose_in-result.result c.lose_in-result.ensures.cause
+
+pub returns-then-is_down-clause-acts : goal.returns-then-is_down-clause-acts
+returns-then-is_down-clause-acts g c =
+    none_PlexActs (Nothing) (wide c.args.core.now).config (g.S.Shelf.meaning c.args.shelf.now)
+
+pub returns-in-Err-clause-acts : goal.returns-in-Err-clause-acts
+returns-in-Err-clause-acts g c =
+    narrow_PlexActs (Nothing) (wide c.args.core.now) (wide c.release.new.core) (g.S.Shelf.meaning c.args.shelf.now) (g.S.Shelf.meaning c.release.new.shelf) c.release.ensures.narrows
+
+pub returns-clause-acts : goal.returns-clause-acts
+returns-clause-acts g c =
+    through_PlexActs (λ (k : Config). Nothing) c.args.core.now c.release.new.core c.close_held.new.core c.open_held-held.new.core.inner c.lose_in-result.new.core (g.S.Shelf.meaning c.args.shelf.now) (g.S.Shelf.meaning c.release.new.shelf) (g.S.Shelf.meaning c.lose_in-result.new.shelf) c.open_held-held.ensures.inner (new_wide c.args.core.now c.release.new.core (record { inner = c.lose_in-result.new.core; held = c.open_held-held.new.core.held }) c.close_held.new.core c.open_held-held.new.core.inner (g.S.Shelf.meaning c.args.shelf.now) (g.S.Shelf.meaning c.release.new.shelf) (g.S.Shelf.meaning c.lose_in-result.new.shelf) c.requires.stands c.release.ensures.stands c.release.ensures.narrows c.release.ensures.volumes c.open_held-held.result c.open_held-held.ensures.held c.open_held-held.ensures.inner c.open_held-held.ensures.none c.close_held.ensures)
+    c.release.ensures.narrows (λ u b x none. none) c.lose_in-result.ensures.acts
+
+pub returns-clause-lost : goal.returns-clause-lost
+returns-clause-lost g c = if_ok_from c.lose_in-result.result (λ (done : Bool) gone is. ap (λ (i : Inner). log_trusted i.config c.args.vol c.args.log) (new_wide c.args.core.now c.release.new.core (record { inner = c.lose_in-result.new.core; held = c.open_held-held.new.core.held }) c.close_held.new.core c.open_held-held.new.core.inner (g.S.Shelf.meaning c.args.shelf.now) (g.S.Shelf.meaning c.release.new.shelf) (g.S.Shelf.meaning c.lose_in-result.new.shelf) c.requires.stands c.release.ensures.stands c.release.ensures.narrows c.release.ensures.volumes c.open_held-held.result c.open_held-held.ensures.held c.open_held-held.ensures.inner c.open_held-held.ensures.none c.close_held.ensures) ∙ gone is) c.lose_in-result.ensures.lost
+
+pub returns-clause-full : goal.returns-clause-full
+returns-clause-full g c =
+    if_ok_from c.lose_in-result.result (λ (done : Bool) full is.
+    let few = c.in-Ok.ensures.few in
+    let here : greatest ≤ (wide c.release.new.core).config.serial = subst (λ (i : Inner). greatest ≤ i.config.serial) c.open_held-held.ensures.inner (full is) in
+    omega (arith, few, here)) c.lose_in-result.ensures.full

@@ -1,0 +1,46 @@
+-- A log that is lost in a call on its volume.
+use Rattle.std.proofs.Common.{◌∙◌, ℕ, Bool, List, ap, subst, arith}
+use Rattle.vx_disk.specs.Shelf.{Nothing}
+use Rattle.vx_group.specs.Blames.{CountsRise}
+use Rattle.vx_group.specs.Stands.{volume_faults}
+use Rattle.vx_kept.proofs.PlexActing.{none_PlexActs}
+use Rattle.vx_group.proofs.ActsLemmas.{narrow_PlexActs}
+use Rattle.vx_group.proofs.CallLemmas.{cause_by, counts_less, narrows_Goes, not_down}
+use Rattle.vx_group.proofs.LostLemmas.{error_to}
+use Rattle.vx_group.proofs.losing_group.lose_in.Goals as goal
+
+pub returns-then-is_down-clause-acts : goal.returns-then-is_down-clause-acts
+returns-then-is_down-clause-acts g c =
+    none_PlexActs Nothing c.args.core.now.config (g.S.Shelf.meaning c.args.shelf.now)
+
+pub returns-then-core-ge-MOST_NUMBER-clause-acts : goal.returns-then-core-ge-MOST_NUMBER-clause-acts
+returns-then-core-ge-MOST_NUMBER-clause-acts g c =
+    none_PlexActs Nothing c.args.core.now.config (g.S.Shelf.meaning c.args.shelf.now)
+
+pub returns-in-Ok-clause-acts : goal.returns-in-Ok-clause-acts
+returns-in-Ok-clause-acts g c =
+    narrow_PlexActs Nothing c.args.core.now c.lose_log.new.core (g.S.Shelf.meaning c.args.shelf.now) (g.S.Shelf.meaning c.lose_log.new.shelf) c.lose_log.ensures.narrows
+
+pub returns-in-Err-clause-acts : goal.returns-in-Err-clause-acts
+returns-in-Err-clause-acts g c =
+    narrow_PlexActs Nothing c.args.core.now c.lose_log.new.core (g.S.Shelf.meaning c.args.shelf.now) (g.S.Shelf.meaning c.lose_log.new.shelf) c.lose_log.ensures.narrows
+
+pub returns-in-Ok-clause-goes : goal.returns-in-Ok-clause-goes
+returns-in-Ok-clause-goes g c =
+    narrows_Goes c.args.core.now c.lose_log.new.core (g.S.Shelf.meaning c.args.shelf.now) (g.S.Shelf.meaning c.lose_log.new.shelf) (g.met.S.Shelf.lawful c.lose_log.new.shelf) c.requires.stands c.lose_log.ensures.narrows (volume_faults c.args.core.now.faults) (volume_faults c.lose_log.new.core.faults)
+    (λ u. let same = ap (λ (f : List ℕ). volume_faults f u) c.lose_log.ensures.narrows.faults in omega (arith, same))
+
+pub returns-in-Err-clause-goes : goal.returns-in-Err-clause-goes
+returns-in-Err-clause-goes g c =
+    narrows_Goes c.args.core.now c.lose_log.new.core (g.S.Shelf.meaning c.args.shelf.now) (g.S.Shelf.meaning c.lose_log.new.shelf) (g.met.S.Shelf.lawful c.lose_log.new.shelf) c.requires.stands c.lose_log.ensures.narrows (volume_faults c.args.core.now.faults) (volume_faults c.give_up.new.faults)
+    (λ u. let same = ap (λ (f : List ℕ). volume_faults f u) c.lose_log.ensures.narrows.faults in let less = counts_less c.in-Err.error c.args.vol (volume_faults c.lose_log.new.core.faults) (volume_faults c.give_up.new.faults) c.give_up.ensures.counts u in omega (arith, same, less))
+
+pub returns-in-Err-clause-cause : goal.returns-in-Err-clause-cause
+returns-in-Err-clause-cause g c =
+    cause_by Bool c.in-Err.error c.args.core.now.config c.lose_log.new.core.config c.args.vol (volume_faults c.args.core.now.faults) (volume_faults c.give_up.new.faults) (g.S.Shelf.meaning c.args.shelf.now) (g.S.Shelf.meaning c.lose_log.new.shelf)
+    (not_down c.is_down.result (g.S.Shelf.meaning c.args.shelf.now).down c.is_down.ensures c.if-is_down.false) (error_to (Unit {0}) Bool c.in-Err.error (g.S.Shelf.meaning c.args.shelf.now) (g.S.Shelf.meaning c.lose_log.new.shelf) c.in-Err.ensures.cause)
+    (subst (λ (f : List ℕ). CountsRise c.in-Err.error c.args.vol (volume_faults f) (volume_faults c.give_up.new.faults)) c.lose_log.ensures.narrows.faults c.give_up.ensures.counts)
+
+pub returns-in-Ok-clause-lost : goal.returns-in-Ok-clause-lost
+returns-in-Ok-clause-lost g c =
+    λ is. c.in-Ok.ensures.lost

@@ -1,0 +1,44 @@
+-- The log of a volume behind its marks.
+use Rattle.std.proofs.Common.{◌+◌, ◌-◌, ◌/◌}
+use Rattle.vx_grouplogs.proofs.OnCalls.{mark_down, marked_plain, on_gone, on_others, still_plain}
+use Rattle.vx_grouplogs.proofs.guarding.guard_run.Goals as goal
+
+pub returns-in-Ok-clause-on : goal.returns-in-Ok-clause-on
+returns-in-Ok-clause-on g c =
+    let on = c.requires.on in
+    record {
+      fits = c.mark_run.ensures.fits;
+      plain = marked_plain c.args.config.now c.args.vol (c.args.block / 64) ((c.args.block + c.args.count - 1) / 64) _ c.args.logs.now c.mark_run.new.logs (g.S.Shelf.meaning c.args.shelf.now) (g.S.Shelf.meaning c.mark_run.new.shelf) on.plain c.in-Ok.ensures.marks;
+      stands = c.in-Ok.ensures.stands on.stands;
+      memory = c.in-Ok.ensures.memory on.memory;
+      disk = λ trusted. c.mark_run.ensures.covers on.stands on.memory (on.disk trusted);
+    }
+
+pub returns-in-Err-clause-on : goal.returns-in-Err-clause-on
+returns-in-Err-clause-on g c =
+    let on = c.requires.on in
+    on_gone c.args.config.now c.args.vol (g.S.Shelf.meaning c.mark_run.new.shelf) (λ trusted. c.mark_run.ensures.covers on.stands on.memory (on.disk trusted))
+
+pub returns-in-Ok-clause-others : goal.returns-in-Ok-clause-others
+returns-in-Ok-clause-others g c =
+    on_others c.args.config.now c.args.vol (g.S.Shelf.meaning c.args.shelf.now) (g.S.Shelf.meaning c.mark_run.new.shelf) c.mark_run.ensures.others
+
+pub returns-in-Ok-clause-nothing : goal.returns-in-Ok-clause-nothing
+returns-in-Ok-clause-nothing g c =
+    λ holds. c.mark_run.ensures.nothing holds (still_plain c.args.config.now c.args.vol (c.args.block / 64) ((c.args.block + c.args.count - 1) / 64) c.args.logs.now.fmr c.requires.on.plain)
+
+pub returns-in-Err-clause-others : goal.returns-in-Err-clause-others
+returns-in-Err-clause-others g c =
+    on_others c.args.config.now c.args.vol (g.S.Shelf.meaning c.args.shelf.now) (g.S.Shelf.meaning c.mark_run.new.shelf) c.mark_run.ensures.others
+
+pub returns-in-Err-clause-nothing : goal.returns-in-Err-clause-nothing
+returns-in-Err-clause-nothing g c =
+    λ holds. c.mark_run.ensures.nothing holds (still_plain c.args.config.now c.args.vol (c.args.block / 64) ((c.args.block + c.args.count - 1) / 64) c.args.logs.now.fmr c.requires.on.plain)
+
+pub returns-in-Ok-clause-up : goal.returns-in-Ok-clause-up
+returns-in-Ok-clause-up g c =
+    c.in-Ok.ensures.marks.up
+
+pub returns-in-Err-clause-down : goal.returns-in-Err-clause-down
+returns-in-Err-clause-down g c =
+    mark_down c.args.config.now c.args.vol (c.args.block / 64) ((c.args.block + c.args.count - 1) / 64) c.args.logs.now c.mark_run.new.logs (g.S.Shelf.meaning c.args.shelf.now) (g.S.Shelf.meaning c.mark_run.new.shelf) c.in-Err.no c.in-Err.ensures.marks

@@ -1,0 +1,9 @@
+pub mod MapPlaces
+pub mod AgreeLemmas
+pub mod BeginLemmas
+pub mod ReadyLemmas
+pub mod NotedLemmas
+pub mod TakenLemmas
+pub mod BetweenLemmas
+pub mod FlushLemmas
+pub mod FillLemmas

@@ -1,0 +1,5 @@
+use Rattle.vx_groupmaps.specs.Flushing.{MappedLoop}
+use Rattle.vx_groupmaps.proofs.flushing.flush_mapped.Given as goal
+
+abbrev pub invariant-loop-plex : goal.invariant-loop-plex
+invariant-loop-plex g l = MappedLoop l.config l.vol l.plex l.failed (g.S.Shelf.meaning l.fn.shelf) (g.S.Shelf.meaning l.shelf)

@@ -1,0 +1,179 @@
+-- The logs of a group beside its calls, and the group beside calls on a log.
+use Rattle.std.proofs.Common.{◌≡◌, ◌∙◌, inl, inr, ⊎_elim, ℕ, ◌/◌, ◌≤◌, Bool, true, false, IsTrue, Option, Some, None, List, length, refl, sym, ap, subst, arith}
+use Rattle.vx_config.specs.Checks.{is_sound}
+use Rattle.vx_config.specs.declared.config.Config.{Config}
+use Rattle.vx_model.specs.declared.site.PlexState.TheVariants.{Stale}
+use Rattle.std.specs.Prelude.{Result, Ok, Err, not}
+use Rattle.vx_disk.specs.Causes.{Cause}
+use Rattle.vx_disk.specs.declared.shelf.ShelfError.{ShelfError}
+use Rattle.vx_disk.specs.declared.shelf.ShelfError.TheVariants.{Fault, Down}
+use Rattle.vx_disk.specs.Shelf.{Fits, Flushed, Goes, Lawful, Meaning, Nothing, Values}
+use Rattle.vx_disk.proofs.Runs.{then_nothing}
+use Rattle.vx_kept.specs.Commits.{Member}
+use Rattle.vx_kept.specs.Groups.{OnSome, OutsideVolumes}
+use Rattle.vx_kept.specs.Keeping.{Kept, SameShape}
+use Rattle.vx_kept.specs.PlexActs.{PlexActs}
+use Rattle.vx_kept.specs.States.{whole_of}
+use Rattle.vx_kept.proofs.PlexActing.{wider_Acts}
+use Rattle.vx_kept.proofs.StateLemmas.{same_shape, stated_shape, then_shape}
+use Rattle.vx_kept.proofs.Steps.{inside_same}
+use Rattle.vx_logs.specs.Writes.{first_region, last_region}
+use Rattle.vx_logs.specs.declared.logs.Logs.{Logs}
+use Rattle.vx_volume.specs.Plexes.{DisksFit, InRun, Inside}
+use Rattle.vx_volume.specs.Volumes.{OnPlexes}
+use Rattle.vx_group.specs.Calls.{GroupNarrows}
+use Rattle.vx_group.specs.Holding.{GroupStands, active_at, config_by, wide}
+use Rattle.vx_group.specs.Stands.{InnerStands, inner_meaning, volume_faults}
+use Rattle.vx_group.specs.declared.group_core.GroupCore.{GroupCore}
+use Rattle.vx_group.specs.declared.group_core.Held.{Held}
+use Rattle.vx_group.specs.declared.inner.Inner.{Inner}
+use Rattle.vx_group.proofs.HoldLemmas.{wide_none, wide_shape}
+use Rattle.vx_group.proofs.Standing.{fit_of, kept_of, low_Stands, sound_of}
+use Rattle.vx_grouplogs.specs.Covering.{AllAlike, OnLogs}
+use Rattle.vx_grouplogs.specs.Keeps.{KeepsGroup}
+use Rattle.vx_grouplogs.specs.Marking.{HoldRegions}
+use Rattle.vx_grouplogs.specs.On.{ReadsOne, SparesVolume, VolumeOn}
+use Rattle.vx_grouplogs.proofs.LogPlaces.{logs_above}
+use Rattle.vx_grouplogs.proofs.OnLemmas.{on_acts, spares_marked, spares_none, spares_other}
+use Rattle.vx_logged.specs.Logged.{EachOn, LogKept, LogOn, MayWrite, OthersOn}
+
+-- ---- calls that write no block of a plex or a log
+
+pub each_same : (c : GroupCore) (m : Meaning) → EachOn c c m m
+each_same c m = record { each = λ w l on. on }
+
+pub each_then : (c d e : GroupCore) (m m1 m2 : Meaning) → EachOn c d m m1 → EachOn d e m1 m2 → EachOn c e m m2
+each_then c d e m m1 m2 one two = record { each = λ w l on. two.each w l (one.each w l on) }
+
+pub each_on : (c d : GroupCore) (m m' : Meaning) → GroupStands c m → PlexActs Nothing (wide c).config (wide d).config m m' → EachOn c d m m'
+each_on c d m m' stands acts = record {
+  each = λ w l on. on_acts Nothing (wide c).config (wide d).config (sound_of (wide c) m stands.stands) w l m m' (fit_of (wide c) m stands.stands) acts (spares_none Nothing (wide c).config w l (λ u b x none. none)) on;
+}
+
+-- commits that touch no block of a plex
+module _ (c d : GroupCore) (m m' : Meaning) (stands : GroupStands c m) (narrows : GroupNarrows c d m m') where
+  -- the configuration in memory has the places of that with the plex that is held back
+  inner_wide : (o : Option Held) → c.held ≡ o → SameShape c.inner.config (wide c).config
+  inner_wide None is = subst (λ (x : Config). SameShape c.inner.config x) (sym (ap (λ (i : Inner). i.config) (wide_none c is))) (same_shape c.inner.config)
+  inner_wide (Some h) is =
+      let kept = stands.held h is in
+      let on : Config = active_at h.vol h.plex c.inner.config in
+      subst (λ (o : Option Held). SameShape c.inner.config (config_by o c.inner.config)) (sym is)
+      (subst (λ (x : Config). SameShape x on) kept.back (stated_shape h.vol h.plex Stale (whole_of on h.vol h.plex) on))
+
+  pub narrows_acts : PlexActs Nothing (wide c).config (wide d).config m m'
+  narrows_acts = record {
+    acts = wider_Acts Nothing Nothing _ m m' narrows.acts (λ u b x none. none);
+    shape = then_shape (wide d).config d.inner.config (wide c).config (wide_shape d) (then_shape d.inner.config c.inner.config (wide c).config narrows.shape (inner_wide c.held refl));
+    on = narrows.wide_on;
+  }
+
+-- ---- calls on a log, where no plex is held back
+
+module _ (core : GroupCore) (v : ℕ) (m m' : Meaning) (none : core.held ≡ None) (stands : GroupStands core m) where
+  pub config_is : (wide core).config ≡ core.inner.config
+  config_is = ap (λ (i : Inner). i.config) (wide_none core none)
+
+  pub inner_sound : is_sound core.inner.config ≡ true
+  inner_sound = subst (λ (c : Config). is_sound c ≡ true) config_is (sound_of (wide core) m stands.stands)
+
+  pub inner_fit : DisksFit core.inner.config.disks m
+  inner_fit = fit_of (wide core) m stands.stands
+
+  pub to_inner : (w : ℕ) (l : Logs) → LogOn core w l m → VolumeOn core.inner.config w l m
+  to_inner w l on = subst (λ (c : Config). VolumeOn c w l m) config_is on
+
+  pub to_wide : (w : ℕ) (l : Logs) → VolumeOn core.inner.config w l m' → LogOn core w l m'
+  to_wide w l on = subst (λ (c : Config). VolumeOn c w l m') (sym config_is) on
+
+  inner_kept : Kept core.inner.config (Member core.inner.good m) m
+  inner_kept = subst (λ (c : Config). Kept c (Member core.inner.good m) m) config_is (kept_of (wide core) m stands.stands)
+
+  pub logs_goes : KeepsGroup core.inner.config m m' → Goes Nothing (inner_meaning (wide core) m) (inner_meaning (wide core) m')
+  logs_goes keeps = subst (λ (i : Inner). Goes Nothing (inner_meaning i m) (inner_meaning i m')) (sym (wide_none core none)) (keeps.goes core.inner.good (volume_faults core.inner.faults) inner_kept)
+
+  pub logs_Stands : Goes (OnLogs core.inner.config v) m m' → Lawful m → Lawful m' → GroupStands core m'
+  logs_Stands goes before after =
+      let wide_goes : Goes (OnLogs (wide core).config v) m m' = subst (λ (c : Config). Goes (OnLogs c v) m m') (sym config_is) goes in
+      record {
+        stands = low_Stands (wide core) (OnLogs (wide core).config v) m m' wide_goes (logs_above (wide core).config (sound_of (wide core) m stands.stands) v) before after stands.stands;
+        held = stands.held;
+      }
+
+  pub inner_others : ((w : ℕ) (l : Logs) → (w ≡ v → ⊥) → VolumeOn core.inner.config w l m → VolumeOn core.inner.config w l m') → OthersOn v core core m m'
+  inner_others others = record { each = λ w l apart on. to_wide w l (others w l apart (to_inner w l on)) }
+
+pub others_each : (v : ℕ) (c d : GroupCore) (m m' : Meaning) → EachOn c d m m' → OthersOn v c d m m'
+others_each v c d m m' on = record { each = λ w l apart was. on.each w l was }
+
+pub others_then : (v : ℕ) (c d e : GroupCore) (m m1 m2 : Meaning) → OthersOn v c d m m1 → OthersOn v d e m1 m2 → OthersOn v c e m m2
+others_then v c d e m m1 m2 one two = record { each = λ w l apart on. two.each w l apart (one.each w l apart on) }
+
+-- ---- a write
+
+module _ (c d : GroupCore) (v block : ℕ) (bytes : List ℕ) (m m' : Meaning) (stands : GroupStands c m) (fits : Fits (inner_meaning (wide c) m) v block (length bytes))
+    (acts : PlexActs (OnPlexes (wide c).config v block (length bytes / 512) bytes) (wide c).config (wide d).config m m') where
+  within : (k : ℕ) → InRun block (length bytes / 512) k → Inside (wide c).config v k
+  within k run = record { volume = fits.exists; within = omega (arith, run.last, fits.within) }
+
+  pub write_others : OthersOn v c d m m'
+  write_others = record {
+    each = λ w l apart on. on_acts (OnPlexes (wide c).config v block (length bytes / 512) bytes) (wide c).config (wide d).config (sound_of (wide c) m stands.stands) w l m m' (fit_of (wide c) m stands.stands) acts
+        (spares_other (wide c).config (sound_of (wide c) m stands.stands) v block (length bytes / 512) bytes within w l apart) on;
+  }
+
+  pub write_here : (l : Logs) → MayWrite c v (first_region block) (last_region block (length bytes / 512)) l → LogOn c v l m → LogOn d v l m'
+  write_here l may on = on_acts (OnPlexes (wide c).config v block (length bytes / 512) bytes) (wide c).config (wide d).config (sound_of (wide c) m stands.stands) v l m m' (fit_of (wide c) m stands.stands) acts
+      (spares_marked (wide c).config (sound_of (wide c) m stands.stands) v block (length bytes / 512) bytes within l may.some may.held) on
+
+-- ---- plexes that are alike
+
+-- behind calls that write no block of the group
+pub alike_goes : (c d : GroupCore) (v : ℕ) (m m' : Meaning) → Goes Nothing (inner_meaning (wide c) m) (inner_meaning (wide d) m') → AllAlike (wide c).config v m → AllAlike (wide d).config v m'
+alike_goes c d v m m' goes alike = record { one = λ b x y off one two. alike.one b x y refl (back b x one) (back b y two) }
+  where
+    back : (b : ℕ) (x : List ℕ) → OnSome (wide d).config m'.leaves v b x → OnSome (wide c).config m.leaves v b x
+    back b x is = elim (goes.leaves v b x (inl is)) [
+      | inl (inl some) ↦ some
+      | inl (inr out) ↦ absurd (out.outside (record { volume = omega (arith, is.inside.volume, goes.units); within = omega (arith, is.inside.within, goes.size v) }))
+      | inr none ↦ absurd none
+    ]
+
+-- ---- a flush
+
+-- what was flushed has one value behind a crash where it read as one
+pub flushed_alike : (c d : GroupCore) (v : ℕ) (m m' : Meaning) → PlexActs Nothing (wide c).config (wide d).config m m' → Flushed v (inner_meaning (wide c) m) (inner_meaning (wide d) m') → ReadsOne (wide c).config v m → AllAlike (wide d).config v m'
+flushed_alike c d v m m' acts flushed reads = record { one = λ b x y off one two. reads.one b x y (back b x one) (back b y two) }
+  where
+    back : (b : ℕ) (x : List ℕ) → OnSome (wide d).config m'.leaves v b x → OnSome (wide c).config m.reads v b x
+    back b x is = elim (flushed.each b x (inl is)) [
+      | inl some ↦ some
+      | inr out ↦ absurd (out.outside (inside_same (wide d).config (wide c).config acts.shape v b is.inside))
+    ]
+
+pub flushed_then : (v : ℕ) (a b c : Meaning) → Flushed v a b → Goes Nothing b c → Flushed v a c
+flushed_then v a b c flushed goes = record { each = λ k x left. flushed.each k x (⊎_elim (λ was. was) (λ none. absurd none) (goes.leaves v k x left)) }
+
+-- a refusal, whatever an Ok would answer
+pub cause_to : (T U : Type 0) (v : ℕ) (error : ShelfError) (a c : Meaning) → Cause {T = T} a c v (Err error) → Cause {T = U} a c v (Err error)
+cause_to T U v (Fault disk) a c cause = cause
+cause_to T U v Down a c down = down
+
+-- a run of blocks fits on behind calls that changed nothing
+pub fits_later : (c d : GroupCore) (v block n : ℕ) (m m' : Meaning) → Goes Nothing (inner_meaning (wide c) m) (inner_meaning (wide d) m') → Fits (inner_meaning (wide c) m) v block n → Fits (inner_meaning (wide d) m') v block n
+fits_later c d v block n m m' goes fits = record {
+  exists = omega (arith, fits.exists, goes.units);
+  some = fits.some;
+  whole = fits.whole;
+  within = omega (arith, fits.within, goes.size v);
+}
+
+-- ---- an answer that is turned
+
+pub not_false : (b : Bool) → not b ≡ false → b ≡ true
+not_false true is = refl
+not_false false is = absurd (let clash : true ≡ false = is in cc)
+
+pub not_true : (b : Bool) → not b ≡ true → b ≡ false
+not_true true is = absurd (let clash : false ≡ true = is in cc)
+not_true false is = refl

@@ -1,0 +1,82 @@
+-- A flush, and marks that are taken off behind it.
+use Rattle.std.proofs.Common.{Bool, Err, arith}
+use Rattle.vx_disk.specs.Shelf.{Nothing}
+use Rattle.vx_disk.proofs.Causing.{Cause_both}
+use Rattle.vx_disk.proofs.Runs.{then_nothing}
+use Rattle.vx_group.specs.Holding.{wide}
+use Rattle.vx_group.specs.Stands.{inner_meaning}
+use Rattle.vx_logged.proofs.StandLemmas.{cause_to, each_on, flushed_alike, flushed_then, others_each, others_then}
+use Rattle.vx_logged.proofs.flushing.flush_cleared.Goals as goal
+
+pub clear_group-requires-clause-there : goal.clear_group-requires-clause-there
+clear_group-requires-clause-there g c =
+    omega (arith, c.requires.there, c.flush_group.ensures.goes.units)
+
+pub clear_group-requires-clause-log : goal.clear_group-requires-clause-log
+clear_group-requires-clause-log g c =
+    (each_on c.args.core.now c.flush_group.new.core (g.S.Shelf.meaning c.args.shelf.now) (g.S.Shelf.meaning c.flush_group.new.shelf) c.requires.stands c.flush_group.ensures.acts).each c.args.vol c.args.logs.now (c.requires.log c.if-not-sure.false)
+
+pub clear_group-requires-clause-alike : goal.clear_group-requires-clause-alike
+clear_group-requires-clause-alike g c =
+    flushed_alike c.args.core.now c.flush_group.new.core c.args.vol (g.S.Shelf.meaning c.args.shelf.now) (g.S.Shelf.meaning c.flush_group.new.shelf) c.flush_group.ensures.acts c.in-Ok.ensures.ok (c.requires.one c.if-not-sure.false)
+
+pub returns-in-Err-clause-log : goal.returns-in-Err-clause-log
+returns-in-Err-clause-log g c =
+    (each_on c.args.core.now c.flush_group.new.core (g.S.Shelf.meaning c.args.shelf.now) (g.S.Shelf.meaning c.flush_group.new.shelf) c.requires.stands c.flush_group.ensures.acts).each c.args.vol c.args.logs.now
+
+pub returns-in-Err-clause-others : goal.returns-in-Err-clause-others
+returns-in-Err-clause-others g c =
+    others_each c.args.vol c.args.core.now c.flush_group.new.core (g.S.Shelf.meaning c.args.shelf.now) (g.S.Shelf.meaning c.flush_group.new.shelf) (each_on c.args.core.now c.flush_group.new.core (g.S.Shelf.meaning c.args.shelf.now) (g.S.Shelf.meaning c.flush_group.new.shelf) c.requires.stands c.flush_group.ensures.acts)
+
+pub returns-then-not-sure-clause-log : goal.returns-then-not-sure-clause-log
+returns-then-not-sure-clause-log g c =
+    (each_on c.args.core.now c.flush_group.new.core (g.S.Shelf.meaning c.args.shelf.now) (g.S.Shelf.meaning c.flush_group.new.shelf) c.requires.stands c.flush_group.ensures.acts).each c.args.vol c.args.logs.now
+
+pub returns-then-not-sure-clause-others : goal.returns-then-not-sure-clause-others
+returns-then-not-sure-clause-others g c =
+    others_each c.args.vol c.args.core.now c.flush_group.new.core (g.S.Shelf.meaning c.args.shelf.now) (g.S.Shelf.meaning c.flush_group.new.shelf) (each_on c.args.core.now c.flush_group.new.core (g.S.Shelf.meaning c.args.shelf.now) (g.S.Shelf.meaning c.flush_group.new.shelf) c.requires.stands c.flush_group.ensures.acts)
+
+pub returns-in-Ok-clear_group-clause-log : goal.returns-in-Ok-clear_group-clause-log
+returns-in-Ok-clear_group-clause-log g c =
+    λ on. c.clear_group.ensures.log
+
+pub returns-in-Ok-clear_group-clause-others : goal.returns-in-Ok-clear_group-clause-others
+returns-in-Ok-clear_group-clause-others g c =
+    others_then c.args.vol c.args.core.now c.flush_group.new.core c.clear_group.new.core (g.S.Shelf.meaning c.args.shelf.now) (g.S.Shelf.meaning c.flush_group.new.shelf) (g.S.Shelf.meaning c.clear_group.new.shelf) (others_each c.args.vol c.args.core.now c.flush_group.new.core (g.S.Shelf.meaning c.args.shelf.now) (g.S.Shelf.meaning c.flush_group.new.shelf) (each_on c.args.core.now c.flush_group.new.core (g.S.Shelf.meaning c.args.shelf.now) (g.S.Shelf.meaning c.flush_group.new.shelf) c.requires.stands c.flush_group.ensures.acts)) c.clear_group.ensures.others
+
+pub returns-in-Ok-clear_group-clause-goes : goal.returns-in-Ok-clear_group-clause-goes
+returns-in-Ok-clear_group-clause-goes g c =
+    then_nothing Nothing (inner_meaning (wide c.args.core.now) (g.S.Shelf.meaning c.args.shelf.now)) (inner_meaning (wide c.flush_group.new.core) (g.S.Shelf.meaning c.flush_group.new.shelf)) (inner_meaning (wide c.clear_group.new.core) (g.S.Shelf.meaning c.clear_group.new.shelf)) c.flush_group.ensures.goes c.clear_group.ensures.goes
+
+pub returns-in-Err-clear_group-clause-log : goal.returns-in-Err-clear_group-clause-log
+returns-in-Err-clear_group-clause-log g c =
+    λ on. c.clear_group.ensures.log
+
+pub returns-in-Err-clear_group-clause-others : goal.returns-in-Err-clear_group-clause-others
+returns-in-Err-clear_group-clause-others g c =
+    others_then c.args.vol c.args.core.now c.flush_group.new.core c.clear_group.new.core (g.S.Shelf.meaning c.args.shelf.now) (g.S.Shelf.meaning c.flush_group.new.shelf) (g.S.Shelf.meaning c.clear_group.new.shelf) (others_each c.args.vol c.args.core.now c.flush_group.new.core (g.S.Shelf.meaning c.args.shelf.now) (g.S.Shelf.meaning c.flush_group.new.shelf) (each_on c.args.core.now c.flush_group.new.core (g.S.Shelf.meaning c.args.shelf.now) (g.S.Shelf.meaning c.flush_group.new.shelf) c.requires.stands c.flush_group.ensures.acts)) c.clear_group.ensures.others
+
+pub returns-in-Err-clear_group-clause-goes : goal.returns-in-Err-clear_group-clause-goes
+returns-in-Err-clear_group-clause-goes g c =
+    then_nothing Nothing (inner_meaning (wide c.args.core.now) (g.S.Shelf.meaning c.args.shelf.now)) (inner_meaning (wide c.flush_group.new.core) (g.S.Shelf.meaning c.flush_group.new.shelf)) (inner_meaning (wide c.clear_group.new.core) (g.S.Shelf.meaning c.clear_group.new.shelf)) c.flush_group.ensures.goes c.clear_group.ensures.goes
+
+pub returns-in-Ok-clear_group-clause-ok : goal.returns-in-Ok-clear_group-clause-ok
+returns-in-Ok-clear_group-clause-ok g c =
+    flushed_then c.args.vol (inner_meaning (wide c.args.core.now) (g.S.Shelf.meaning c.args.shelf.now)) (inner_meaning (wide c.flush_group.new.core) (g.S.Shelf.meaning c.flush_group.new.shelf)) (inner_meaning (wide c.clear_group.new.core) (g.S.Shelf.meaning c.clear_group.new.shelf)) c.in-Ok.ensures.ok c.clear_group.ensures.goes
+
+pub returns-in-Ok-clear_group-clause-trust : goal.returns-in-Ok-clear_group-clause-trust
+returns-in-Ok-clear_group-clause-trust g c =
+    λ is. c.in-Ok-clear_group.ensures.trust (c.in-Ok.ensures.trust is)
+
+pub returns-in-Err-clear_group-clause-agreed : goal.returns-in-Err-clear_group-clause-agreed
+returns-in-Err-clear_group-clause-agreed g c =
+    λ is. c.in-Err-clear_group.ensures.agreed (c.in-Ok.ensures.trust is)
+
+pub returns-in-Ok-clear_group-clause-cause : goal.returns-in-Ok-clear_group-clause-cause
+returns-in-Ok-clear_group-clause-cause g c =
+    record { before = c.in-Ok.ensures.cause.before; after = c.in-Ok-clear_group.ensures.cause.after }
+
+pub returns-in-Err-clear_group-clause-cause : goal.returns-in-Err-clear_group-clause-cause
+returns-in-Err-clear_group-clause-cause g c =
+    Cause_both {T = Unit {0}} (inner_meaning (wide c.args.core.now) (g.S.Shelf.meaning c.args.shelf.now)) (inner_meaning (wide c.flush_group.new.core) (g.S.Shelf.meaning c.flush_group.new.shelf)) (inner_meaning (wide c.clear_group.new.core) (g.S.Shelf.meaning c.clear_group.new.shelf)) c.args.vol (Err c.in-Err-clear_group.error) c.in-Ok.ensures.cause c.flush_group.ensures.goes.faults c.flush_group.ensures.goes.disk_faults
+    (cause_to Bool (Unit {0}) c.args.vol c.in-Err-clear_group.error (inner_meaning (wide c.flush_group.new.core) (g.S.Shelf.meaning c.flush_group.new.shelf)) (inner_meaning (wide c.clear_group.new.core) (g.S.Shelf.meaning c.clear_group.new.shelf)) c.in-Err-clear_group.ensures.cause)

@@ -1,0 +1,123 @@
+-- Marks of a group before a write.
+use Rattle.std.proofs.Common.{◌≡◌, ◌+◌, ◌<◌, ◌≤◌, Bool, false, true, ap, subst, sym, arith}
+use Rattle.vx_config.specs.Checks.{blocks_of}
+use Rattle.vx_config.specs.declared.config.Config.{Config}
+use Rattle.vx_disk.specs.Shelf.{Nothing}
+use Rattle.vx_disk.proofs.Causing.{Cause_both}
+use Rattle.vx_disk.proofs.Runs.{then_nothing}
+use Rattle.vx_group.specs.Holding.{wide}
+use Rattle.vx_group.specs.Stands.{inner_meaning}
+use Rattle.vx_group.proofs.LostLemmas.{if_ok_from}
+use Rattle.vx_group.proofs.TrustLemmas.{err_from, ok_from}
+use Rattle.vx_logged.proofs.StandLemmas.{config_is, inner_fit, inner_others, inner_sound, logs_Stands, logs_goes, others_each, others_then, to_inner, to_wide}
+use Rattle.vx_logged.proofs.marking.mark_group.Goals as goal
+
+pub guard_run-requires-clause-checked : goal.guard_run-requires-clause-checked
+guard_run-requires-clause-checked g c =
+    inner_sound c.ready_group.new.core c.args.vol (g.S.Shelf.meaning c.ready_group.new.shelf) (g.S.Shelf.meaning c.ready_group.new.shelf) (c.in-Ok.ensures.none c.if-not-ready.false) c.ready_group.ensures.stands
+
+pub guard_run-requires-clause-disks : goal.guard_run-requires-clause-disks
+guard_run-requires-clause-disks g c =
+    inner_fit c.ready_group.new.core c.args.vol (g.S.Shelf.meaning c.ready_group.new.shelf) (g.S.Shelf.meaning c.ready_group.new.shelf) (c.in-Ok.ensures.none c.if-not-ready.false) c.ready_group.ensures.stands
+
+pub guard_run-requires-clause-on : goal.guard_run-requires-clause-on
+guard_run-requires-clause-on g c =
+    to_inner c.ready_group.new.core c.args.vol (g.S.Shelf.meaning c.ready_group.new.shelf) (g.S.Shelf.meaning c.ready_group.new.shelf) (c.in-Ok.ensures.none c.if-not-ready.false) c.ready_group.ensures.stands c.args.vol c.args.logs.now (c.ready_group.ensures.logs.each c.args.vol c.args.logs.now c.requires.log)
+
+pub guard_run-requires-clause-within : goal.guard_run-requires-clause-within
+guard_run-requires-clause-within g c =
+    subst (λ (x : Config). c.args.block + c.args.count ≤ blocks_of x.volumes c.args.vol) (config_is c.ready_group.new.core c.args.vol (g.S.Shelf.meaning c.ready_group.new.shelf) (g.S.Shelf.meaning c.ready_group.new.shelf) (c.in-Ok.ensures.none c.if-not-ready.false) c.ready_group.ensures.stands) (let same = c.ready_group.ensures.goes.size c.args.vol in omega (arith, c.requires.within, same))
+
+pub keep_log-requires-clause-stands : goal.keep_log-requires-clause-stands
+keep_log-requires-clause-stands g c =
+    logs_Stands c.ready_group.new.core c.args.vol (g.S.Shelf.meaning c.ready_group.new.shelf) (g.S.Shelf.meaning c.guard_run.new.shelf) (c.in-Ok.ensures.none c.if-not-ready.false) c.ready_group.ensures.stands c.guard_run.ensures.goes (g.met.S.Shelf.lawful c.ready_group.new.shelf) (g.met.S.Shelf.lawful c.guard_run.new.shelf)
+
+pub keep_log-requires-clause-there : goal.keep_log-requires-clause-there
+keep_log-requires-clause-there g c =
+    omega (arith, c.requires.there, c.ready_group.ensures.goes.units)
+
+pub keep_log-requires-clause-none : goal.keep_log-requires-clause-none
+keep_log-requires-clause-none g c =
+    c.in-Ok.ensures.none c.if-not-ready.false
+
+pub returns-in-Err-guard_run-clause-stands : goal.returns-in-Err-guard_run-clause-stands
+returns-in-Err-guard_run-clause-stands g c =
+    logs_Stands c.ready_group.new.core c.args.vol (g.S.Shelf.meaning c.ready_group.new.shelf) (g.S.Shelf.meaning c.guard_run.new.shelf) (c.in-Ok.ensures.none c.if-not-ready.false) c.ready_group.ensures.stands c.guard_run.ensures.goes (g.met.S.Shelf.lawful c.ready_group.new.shelf) (g.met.S.Shelf.lawful c.guard_run.new.shelf)
+
+pub returns-in-Err-guard_run-clause-goes : goal.returns-in-Err-guard_run-clause-goes
+returns-in-Err-guard_run-clause-goes g c =
+    then_nothing Nothing (inner_meaning (wide c.args.core.now) (g.S.Shelf.meaning c.args.shelf.now)) (inner_meaning (wide c.ready_group.new.core) (g.S.Shelf.meaning c.ready_group.new.shelf)) (inner_meaning (wide c.ready_group.new.core) (g.S.Shelf.meaning c.guard_run.new.shelf)) c.ready_group.ensures.goes (logs_goes c.ready_group.new.core c.args.vol (g.S.Shelf.meaning c.ready_group.new.shelf) (g.S.Shelf.meaning c.guard_run.new.shelf) (c.in-Ok.ensures.none c.if-not-ready.false) c.ready_group.ensures.stands c.guard_run.ensures.group)
+
+pub returns-clause-goes : goal.returns-clause-goes
+returns-clause-goes g c =
+    then_nothing Nothing (inner_meaning (wide c.args.core.now) (g.S.Shelf.meaning c.args.shelf.now)) (inner_meaning (wide c.ready_group.new.core) (g.S.Shelf.meaning c.guard_run.new.shelf)) (inner_meaning (wide c.keep_log.new.core) (g.S.Shelf.meaning c.keep_log.new.shelf)) (then_nothing Nothing (inner_meaning (wide c.args.core.now) (g.S.Shelf.meaning c.args.shelf.now)) (inner_meaning (wide c.ready_group.new.core) (g.S.Shelf.meaning c.ready_group.new.shelf)) (inner_meaning (wide c.ready_group.new.core) (g.S.Shelf.meaning c.guard_run.new.shelf)) c.ready_group.ensures.goes (logs_goes c.ready_group.new.core c.args.vol (g.S.Shelf.meaning c.ready_group.new.shelf) (g.S.Shelf.meaning c.guard_run.new.shelf) (c.in-Ok.ensures.none c.if-not-ready.false) c.ready_group.ensures.stands c.guard_run.ensures.group)) c.keep_log.ensures.goes
+
+pub returns-in-Err-clause-log : goal.returns-in-Err-clause-log
+returns-in-Err-clause-log g c =
+    c.ready_group.ensures.logs.each c.args.vol c.args.logs.now c.requires.log
+
+pub returns-in-Err-clause-others : goal.returns-in-Err-clause-others
+returns-in-Err-clause-others g c =
+    others_each c.args.vol c.args.core.now c.ready_group.new.core (g.S.Shelf.meaning c.args.shelf.now) (g.S.Shelf.meaning c.ready_group.new.shelf) c.ready_group.ensures.logs
+
+pub returns-then-not-ready-clause-log : goal.returns-then-not-ready-clause-log
+returns-then-not-ready-clause-log g c =
+    c.ready_group.ensures.logs.each c.args.vol c.args.logs.now c.requires.log
+
+pub returns-then-not-ready-clause-others : goal.returns-then-not-ready-clause-others
+returns-then-not-ready-clause-others g c =
+    others_each c.args.vol c.args.core.now c.ready_group.new.core (g.S.Shelf.meaning c.args.shelf.now) (g.S.Shelf.meaning c.ready_group.new.shelf) c.ready_group.ensures.logs
+
+pub returns-in-Err-guard_run-clause-log : goal.returns-in-Err-guard_run-clause-log
+returns-in-Err-guard_run-clause-log g c =
+    to_wide c.ready_group.new.core c.args.vol (g.S.Shelf.meaning c.ready_group.new.shelf) (g.S.Shelf.meaning c.guard_run.new.shelf) (c.in-Ok.ensures.none c.if-not-ready.false) c.ready_group.ensures.stands c.args.vol c.guard_run.new.logs c.guard_run.ensures.on
+
+pub returns-clause-log : goal.returns-clause-log
+returns-clause-log g c =
+    c.keep_log.ensures.logs.each c.args.vol c.guard_run.new.logs (to_wide c.ready_group.new.core c.args.vol (g.S.Shelf.meaning c.ready_group.new.shelf) (g.S.Shelf.meaning c.guard_run.new.shelf) (c.in-Ok.ensures.none c.if-not-ready.false) c.ready_group.ensures.stands c.args.vol c.guard_run.new.logs c.guard_run.ensures.on)
+
+pub returns-in-Err-guard_run-clause-others : goal.returns-in-Err-guard_run-clause-others
+returns-in-Err-guard_run-clause-others g c =
+    others_then c.args.vol c.args.core.now c.ready_group.new.core c.ready_group.new.core (g.S.Shelf.meaning c.args.shelf.now) (g.S.Shelf.meaning c.ready_group.new.shelf) (g.S.Shelf.meaning c.guard_run.new.shelf) (others_each c.args.vol c.args.core.now c.ready_group.new.core (g.S.Shelf.meaning c.args.shelf.now) (g.S.Shelf.meaning c.ready_group.new.shelf) c.ready_group.ensures.logs) (inner_others c.ready_group.new.core c.args.vol (g.S.Shelf.meaning c.ready_group.new.shelf) (g.S.Shelf.meaning c.guard_run.new.shelf) (c.in-Ok.ensures.none c.if-not-ready.false) c.ready_group.ensures.stands c.guard_run.ensures.others)
+
+pub returns-clause-others : goal.returns-clause-others
+returns-clause-others g c =
+    others_then c.args.vol c.args.core.now c.ready_group.new.core c.keep_log.new.core (g.S.Shelf.meaning c.args.shelf.now) (g.S.Shelf.meaning c.guard_run.new.shelf) (g.S.Shelf.meaning c.keep_log.new.shelf) (others_then c.args.vol c.args.core.now c.ready_group.new.core c.ready_group.new.core (g.S.Shelf.meaning c.args.shelf.now) (g.S.Shelf.meaning c.ready_group.new.shelf) (g.S.Shelf.meaning c.guard_run.new.shelf) (others_each c.args.vol c.args.core.now c.ready_group.new.core (g.S.Shelf.meaning c.args.shelf.now) (g.S.Shelf.meaning c.ready_group.new.shelf) c.ready_group.ensures.logs) (inner_others c.ready_group.new.core c.args.vol (g.S.Shelf.meaning c.ready_group.new.shelf) (g.S.Shelf.meaning c.guard_run.new.shelf) (c.in-Ok.ensures.none c.if-not-ready.false) c.ready_group.ensures.stands c.guard_run.ensures.others)) (others_each c.args.vol c.ready_group.new.core c.keep_log.new.core (g.S.Shelf.meaning c.guard_run.new.shelf) (g.S.Shelf.meaning c.keep_log.new.shelf) c.keep_log.ensures.logs)
+
+pub returns-then-not-ready-clause-full : goal.returns-then-not-ready-clause-full
+returns-then-not-ready-clause-full g c =
+    λ is. let full = c.in-Ok.ensures.full c.if-not-ready.true in omega (arith, full)
+
+pub returns-clause-full : goal.returns-clause-full
+returns-clause-full g c =
+    if_ok_from c.keep_log.result (λ (done : Bool) full is. let few = c.in-Ok.ensures.few in let here = full is in omega (arith, few, here)) c.keep_log.ensures.full
+
+pub returns-clause-trust : goal.returns-clause-trust
+returns-clause-trust g c =
+    ok_from c.keep_log.result (λ keeps is. keeps (c.in-Ok.ensures.trust is)) c.keep_log.ensures.trust
+
+pub returns-clause-agreed : goal.returns-clause-agreed
+returns-clause-agreed g c =
+    err_from c.keep_log.result (λ keeps is. keeps (c.in-Ok.ensures.trust is)) c.keep_log.ensures.agreed
+
+pub returns-in-Err-guard_run-clause-agreed : goal.returns-in-Err-guard_run-clause-agreed
+returns-in-Err-guard_run-clause-agreed g c =
+    λ is. c.ready_group.ensures.stands.stands.trusts.both (c.in-Ok.ensures.trust is)
+
+pub returns-in-Err-guard_run-clause-cause : goal.returns-in-Err-guard_run-clause-cause
+returns-in-Err-guard_run-clause-cause g c =
+    c.in-Err-guard_run.ensures.down
+
+pub returns-clause-cause : goal.returns-clause-cause
+returns-clause-cause g c =
+    let goes = then_nothing Nothing (inner_meaning (wide c.args.core.now) (g.S.Shelf.meaning c.args.shelf.now)) (inner_meaning (wide c.ready_group.new.core) (g.S.Shelf.meaning c.ready_group.new.shelf)) (inner_meaning (wide c.ready_group.new.core) (g.S.Shelf.meaning c.guard_run.new.shelf)) c.ready_group.ensures.goes (logs_goes c.ready_group.new.core c.args.vol (g.S.Shelf.meaning c.ready_group.new.shelf) (g.S.Shelf.meaning c.guard_run.new.shelf) (c.in-Ok.ensures.none c.if-not-ready.false) c.ready_group.ensures.stands c.guard_run.ensures.group) in
+    Cause_both (inner_meaning (wide c.args.core.now) (g.S.Shelf.meaning c.args.shelf.now)) (inner_meaning (wide c.ready_group.new.core) (g.S.Shelf.meaning c.guard_run.new.shelf)) (inner_meaning (wide c.keep_log.new.core) (g.S.Shelf.meaning c.keep_log.new.shelf)) c.args.vol c.keep_log.result
+    (record { before = c.in-Ok.ensures.cause.before; after = λ down. c.in-Ok.ensures.cause.after (c.in-Ok-guard_run.ensures.up down) }) goes.faults goes.disk_faults c.keep_log.ensures.cause
+
+pub returns-then-not-ready-clause-may : goal.returns-then-not-ready-clause-may
+returns-then-not-ready-clause-may g c =
+    λ is. absurd (let clash : false ≡ true = is in cc)
+
+pub returns-clause-may : goal.returns-clause-may
+returns-clause-may g c =
+    if_ok_from c.keep_log.result (λ (done : Bool) kept is. record { some = kept is; held = c.in-Ok-guard_run.ensures.held }) c.keep_log.ensures.kept

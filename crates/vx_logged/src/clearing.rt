@@ -1,0 +1,57 @@
+// Marks of a group that are taken off behind a flush.
+ghost use Rattle.std.specs.Prelude.{◌≡◌, ◌+◌, ◌<◌, ◌≤◌, false, true, IfErr, IfOk, OnOk};
+ghost use Rattle.vx_config.specs.Table.{greatest};
+ghost use Rattle.vx_disk.specs.Causes.{Cause};
+ghost use Rattle.vx_disk.specs.Shelf.{Goes, Nothing};
+ghost use Rattle.vx_group.specs.Holding.{GroupStands, wide};
+ghost use Rattle.vx_group.specs.Stands.{inner_meaning};
+ghost use Rattle.vx_grouplogs.specs.Covering.{AllAlike};
+ghost use Rattle.vx_logged.specs.Logged.{LogOn, OthersOn};
+
+use crate::keeping::keep_log;
+use crate::readying::ready_group;
+use vx_disk::{Shelf, ShelfError};
+use vx_group::GroupCore;
+use vx_grouplogs::clear_run;
+use vx_logs::Logs;
+use vx_volume::blocks_of;
+
+/// Takes all marks off the log of a volume where more than 64 regions were marked since, and answers whether the log may be gone by further.
+/// The caller says that of each block of the volume a crash leaves one value. A log of which the disk fails is committed as lost. All volumes
+/// read as before; whatever is answered, each log stands.
+pub fn clear_group<S: Shelf>(
+    shelf: &mut S,
+    core: &mut GroupCore,
+    logs: &mut Logs,
+    vol: u32,
+) -> Result<bool, ShelfError>
+    requires stands { GroupStands core.old (S.meaning shelf.old) }
+    requires there { vol < (inner_meaning (wide core.old) (S.meaning shelf.old)).units }
+    requires log { LogOn core.old vol logs.old (S.meaning shelf.old) }
+    requires alike { AllAlike (wide core.old).config vol (S.meaning shelf.old) }
+    ensures stands { GroupStands core.new (S.meaning shelf.new) }
+    ensures goes { Goes Nothing (inner_meaning (wide core.old) (S.meaning shelf.old)) (inner_meaning (wide core.new) (S.meaning shelf.new)) }
+    ensures log { LogOn core.new vol logs.new (S.meaning shelf.new) }
+    ensures others { OthersOn vol core.old core.new (S.meaning shelf.old) (S.meaning shelf.new) }
+    ensures full { IfOk result (λ done. done ≡ false → greatest ≤ core.old.inner.config.serial + 18) }
+    ensures trust { OnOk result (core.old.inner.committed ≡ true → core.new.inner.committed ≡ true) }
+    ensures agreed { IfErr result (λ e. core.old.inner.committed ≡ true → core.new.inner.agreed ≡ true) }
+    ensures cause { Cause (inner_meaning (wide core.old) (S.meaning shelf.old)) (inner_meaning (wide core.new) (S.meaning shelf.new)) vol result }
+{
+    let ready = match ready_group(shelf, core, vol) {
+        Ok(ready) => ready,
+        Err(error) => return Err(error),
+    };
+    if !ready {
+        return Ok(false);
+    }
+    let blocks = blocks_of(&core.inner.config, vol);
+    if blocks == 0 {
+        return Ok(true);
+    }
+    match clear_run(logs, &core.inner.config, vol, shelf) {
+        Ok(()) => {}
+        Err(_) => return Err(ShelfError::Down),
+    }
+    keep_log(shelf, core, logs, vol)
+}

@@ -1,0 +1,49 @@
+// A flush of a group behind which marks are taken off.
+ghost use Rattle.std.specs.Prelude.{◌≡◌, ◌<◌, false, true, IfErr, IsTrue, OnOk};
+ghost use Rattle.vx_disk.specs.Causes.{Cause};
+ghost use Rattle.vx_disk.specs.Shelf.{Flushed, Goes, Nothing};
+ghost use Rattle.vx_group.specs.Holding.{GroupStands, wide};
+ghost use Rattle.vx_group.specs.Stands.{inner_meaning};
+ghost use Rattle.vx_grouplogs.specs.On.{ReadsOne};
+ghost use Rattle.vx_logged.specs.Logged.{LogOn, OthersOn};
+
+use crate::clearing::clear_group;
+use vx_disk::{Shelf, ShelfError};
+use vx_group::{GroupCore, flush_group};
+use vx_logs::Logs;
+
+/// Makes a volume durable, and takes the marks off its log where more than 64 regions were marked since. So it is only where logs are not
+/// stopped, and where the caller is sure that each block of the volume reads as one value on all plexes that are ACTIVE: else it is a flush
+/// and no more.
+pub fn flush_cleared<S: Shelf>(
+    shelf: &mut S,
+    core: &mut GroupCore,
+    logs: &mut Logs,
+    sure: bool,
+    vol: u32,
+) -> Result<(), ShelfError>
+    requires stands { GroupStands core.old (S.meaning shelf.old) }
+    requires there { vol < (inner_meaning (wide core.old) (S.meaning shelf.old)).units }
+    requires log { sure ≡ true → LogOn core.old vol logs.old (S.meaning shelf.old) }
+    requires one { sure ≡ true → ReadsOne (wide core.old).config vol (S.meaning shelf.old) }
+    ensures stands { GroupStands core.new (S.meaning shelf.new) }
+    ensures goes { Goes Nothing (inner_meaning (wide core.old) (S.meaning shelf.old)) (inner_meaning (wide core.new) (S.meaning shelf.new)) }
+    ensures ok { OnOk result (Flushed vol (inner_meaning (wide core.old) (S.meaning shelf.old)) (inner_meaning (wide core.new) (S.meaning shelf.new))) }
+    ensures log { LogOn core.old vol logs.old (S.meaning shelf.old) → LogOn core.new vol logs.new (S.meaning shelf.new) }
+    ensures others { OthersOn vol core.old core.new (S.meaning shelf.old) (S.meaning shelf.new) }
+    ensures trust { OnOk result (core.old.inner.committed ≡ true → core.new.inner.committed ≡ true) }
+    ensures agreed { IfErr result (λ e. core.old.inner.committed ≡ true → core.new.inner.agreed ≡ true) }
+    ensures cause { Cause (inner_meaning (wide core.old) (S.meaning shelf.old)) (inner_meaning (wide core.new) (S.meaning shelf.new)) vol result }
+{
+    match flush_group(shelf, core, vol) {
+        Ok(()) => {}
+        Err(error) => return Err(error),
+    }
+    if !sure {
+        return Ok(());
+    }
+    match clear_group(shelf, core, logs, vol) {
+        Ok(_) => Ok(()),
+        Err(error) => Err(error),
+    }
+}

@@ -1,0 +1,57 @@
+// Marks of a group before a write.
+ghost use Rattle.std.specs.Prelude.{◌≡◌, ◌+◌, ◌<◌, ◌≤◌, false, true, IfErr, IfOk, OnOk};
+ghost use Rattle.vx_config.specs.Table.{greatest};
+ghost use Rattle.vx_config.specs.Checks.{blocks_of as blocks_of_is};
+ghost use Rattle.vx_disk.specs.Causes.{Cause};
+ghost use Rattle.vx_disk.specs.Shelf.{Goes, Nothing};
+ghost use Rattle.vx_group.specs.Holding.{GroupStands, wide};
+ghost use Rattle.vx_group.specs.Stands.{inner_meaning};
+ghost use Rattle.vx_logged.specs.Logged.{LogOn, MayWrite, OthersOn};
+ghost use Rattle.vx_logs.specs.Writes.{first_region, last_region};
+
+use crate::keeping::keep_log;
+use crate::readying::ready_group;
+use vx_disk::{Shelf, ShelfError};
+use vx_group::GroupCore;
+use vx_grouplogs::guard_run;
+use vx_logs::Logs;
+
+/// Marks the regions of a run of blocks of a volume durably before a write, and answers whether they may be written so. A log of which the
+/// disk fails is committed as lost. All volumes read as before; whatever is answered, each log stands. The answer is false only where no
+/// serial is left.
+pub fn mark_group<S: Shelf>(
+    shelf: &mut S,
+    core: &mut GroupCore,
+    logs: &mut Logs,
+    vol: u32,
+    block: u64,
+    count: u64,
+) -> Result<bool, ShelfError>
+    requires stands { GroupStands core.old (S.meaning shelf.old) }
+    requires there { vol < (inner_meaning (wide core.old) (S.meaning shelf.old)).units }
+    requires some { 0 < count }
+    requires within { block + count ≤ blocks_of_is (wide core.old).config.volumes vol }
+    requires log { LogOn core.old vol logs.old (S.meaning shelf.old) }
+    ensures stands { GroupStands core.new (S.meaning shelf.new) }
+    ensures goes { Goes Nothing (inner_meaning (wide core.old) (S.meaning shelf.old)) (inner_meaning (wide core.new) (S.meaning shelf.new)) }
+    ensures log { LogOn core.new vol logs.new (S.meaning shelf.new) }
+    ensures others { OthersOn vol core.old core.new (S.meaning shelf.old) (S.meaning shelf.new) }
+    ensures may { IfOk result (λ done. done ≡ true → MayWrite core.new vol (first_region block) (last_region block count) logs.new) }
+    ensures full { IfOk result (λ done. done ≡ false → greatest ≤ core.old.inner.config.serial + 18) }
+    ensures trust { OnOk result (core.old.inner.committed ≡ true → core.new.inner.committed ≡ true) }
+    ensures agreed { IfErr result (λ e. core.old.inner.committed ≡ true → core.new.inner.agreed ≡ true) }
+    ensures cause { Cause (inner_meaning (wide core.old) (S.meaning shelf.old)) (inner_meaning (wide core.new) (S.meaning shelf.new)) vol result }
+{
+    let ready = match ready_group(shelf, core, vol) {
+        Ok(ready) => ready,
+        Err(error) => return Err(error),
+    };
+    if !ready {
+        return Ok(false);
+    }
+    match guard_run(logs, &core.inner.config, vol, shelf, block, count) {
+        Ok(()) => {}
+        Err(_) => return Err(ShelfError::Down),
+    }
+    keep_log(shelf, core, logs, vol)
+}

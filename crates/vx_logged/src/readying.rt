@@ -1,0 +1,41 @@
+// A group that is made ready for work on its logs.
+ghost use Rattle.std.specs.Prelude.{◌≡◌, ◌+◌, ◌<◌, ◌≤◌, false, true, IfErr, IfOk, None, OnOk};
+ghost use Rattle.vx_config.specs.Table.{greatest};
+ghost use Rattle.vx_disk.specs.Causes.{Cause};
+ghost use Rattle.vx_disk.specs.Shelf.{Goes, Nothing};
+ghost use Rattle.vx_group.specs.Holding.{GroupStands, wide};
+ghost use Rattle.vx_group.specs.Stands.{inner_meaning};
+ghost use Rattle.vx_logged.specs.Logged.{EachOn};
+
+use vx_disk::{Shelf, ShelfError};
+use vx_group::{GroupCore, give_up, release};
+
+/// Detaches the plex that is held back, in a call on a volume, and answers whether none is held back then: so it is while a serial is left.
+pub fn ready_group<S: Shelf>(
+    shelf: &mut S,
+    core: &mut GroupCore,
+    vol: u32,
+) -> Result<bool, ShelfError>
+    requires stands { GroupStands core.old (S.meaning shelf.old) }
+    requires there { vol < (inner_meaning (wide core.old) (S.meaning shelf.old)).units }
+    ensures stands { GroupStands core.new (S.meaning shelf.new) }
+    ensures goes { Goes Nothing (inner_meaning (wide core.old) (S.meaning shelf.old)) (inner_meaning (wide core.new) (S.meaning shelf.new)) }
+    ensures logs { EachOn core.old core.new (S.meaning shelf.old) (S.meaning shelf.new) }
+    ensures none { IfOk result (λ done. done ≡ true → core.new.held ≡ None) }
+    ensures few { OnOk result (core.new.inner.config.serial ≤ core.old.inner.config.serial + 9) }
+    ensures full { IfOk result (λ done. done ≡ false → greatest ≤ core.old.inner.config.serial) }
+    ensures trust { OnOk result (core.old.inner.committed ≡ true → core.new.inner.committed ≡ true) }
+    ensures agreed { IfErr result (λ e. core.old.inner.committed ≡ true → core.new.inner.agreed ≡ true) }
+    ensures cause { Cause (inner_meaning (wide core.old) (S.meaning shelf.old)) (inner_meaning (wide core.new) (S.meaning shelf.new)) vol result }
+{
+    if shelf.is_down() {
+        return Err(ShelfError::Down);
+    }
+    match release(shelf, core) {
+        Ok(()) => Ok(core.held.is_none()),
+        Err(error) => {
+            give_up(&mut core.inner.faults, &mut core.inner.unsure, vol, error);
+            Err(error)
+        }
+    }
+}

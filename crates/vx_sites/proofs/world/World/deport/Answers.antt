@@ -1,0 +1,13 @@
+use Rattle.std.proofs.Common.{refl}
+use Rattle.vx_history.specs.World.{Node}
+use Rattle.vx_history.specs.Steps.{deported_site}
+use Rattle.vx_model.specs.declared.site.SiteState.TheVariants.{Deported}
+use Rattle.vx_sites.specs.Shapes.{world_of}
+use Rattle.vx_sites.proofs.Worlds.{node_changed}
+use Rattle.vx_sites.proofs.world.World.deport.Goals as goal
+
+pub returns : goal.returns
+returns c =
+    node_changed (world_of c.args.self.now) c.args.self.now.nodes.items c.args.site c.index_mut.result.now (record c.index_mut.result.now { state = Deported })
+    (λ (n : Node). deported_site n) refl refl c.requires c.index_mut.ensures.value
+    refl
