@@ -2,7 +2,8 @@
 """Tests the sizes and the names of the sources.
 
 house.py   fails where a file of code has more than 400 lines, where the body of a function has more than 40 lines and is more than one
-           match, or where two crates have a definition of one name. The lines of a contract are not counted.
+           match, where two crates have a definition of one name, or where a file of definitions or proofs does not begin with a line
+           that says what it defines or proves. The lines of a contract are not counted.
 """
 import re
 import sys
@@ -78,9 +79,15 @@ def shared():
             yield f'{name} is defined in {" and ".join(sorted(crates))}'
 
 
+def silent():
+    for path in sorted([*CRATES.glob('*/specs/**/*.antt'), *CRATES.glob('*/proofs/**/*.antt')]):
+        if path.name != 'Lib.antt' and not path.read_text().startswith('-- '):
+            yield f'{path.relative_to(CRATES)} does not say what it holds'
+
+
 def main():
-    wrong = [*long(), *shared()]
-    print('\n'.join(wrong) or 'house: files and functions are short, and a definition has one name in one crate')
+    wrong = [*long(), *shared(), *silent()]
+    print('\n'.join(wrong) or 'house: files and functions are short, a definition has one name in one crate, and files say what they hold')
     return 1 if wrong else 0
 
 

@@ -1,3 +1,4 @@
+-- `blocks_come_back`: its result.
 use Rattle.vx_ringlog.proofs.Blocks.{given_comes_back, blocks_stand, write_comes_back}
 use Rattle.vx_ringlog.proofs.blocks_come_back.Goals as goal
 

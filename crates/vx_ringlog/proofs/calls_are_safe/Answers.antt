@@ -1,3 +1,4 @@
+-- `calls_are_safe`: its result.
 use Rattle.vx_ringlog.proofs.Calls.{call_safe}
 use Rattle.vx_ringlog.proofs.Passed.{none_passed_over}
 use Rattle.vx_ringlog.proofs.Rest.{rest_is_still, nothing_loose}

@@ -1,3 +1,4 @@
+-- `runs_are_safe`: its result.
 use Rattle.vx_ringlog.proofs.Runs.{run_safe}
 use Rattle.vx_ringlog.proofs.runs_are_safe.Goals as goal
 

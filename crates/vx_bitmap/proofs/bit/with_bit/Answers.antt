@@ -1,3 +1,4 @@
+-- `with_bit`: that no number grows too large.
 use Rattle.std.proofs.Common.{◌∙◌, sym, arith}
 use Rattle.vx_bitmap.proofs.Bytes.{fits-more}
 use Rattle.vx_bitmap.proofs.bit.with_bit.Goals as goal

@@ -1,3 +1,4 @@
+-- The loop of `change` over `block`: what stays true.
 use Rattle.std.proofs.Common.{◌≡◌, ◌*◌, IsTrue}
 use Rattle.vx_bitmap.specs.Bits.{AllAre, is_marked}
 use Rattle.vx_bitmap.specs.Maps.{ChangedAt}

@@ -1,3 +1,4 @@
+-- The loop of `mark_run` over `r`: what stays true.
 use Rattle.vx_bitmap.proofs.Marks.{MarkedTo}
 use Rattle.vx_bitmap.proofs.run.mark_run.Given as goal
 

@@ -1,3 +1,4 @@
+-- `join_all`: its result; what `unreachable` and `work_and_meet-pass` ask.
 use Rattle.std.proofs.Common.{rules, ◌≡◌, ◌∙◌, ap, subst, arith, length, None}
 use Rattle.vx_turn.specs.Passing.{table_of, first_engine}
 use Rattle.vx_burst_threads.specs.Joining.{WorkedAndMet}

@@ -1,3 +1,4 @@
+-- `run`: what `work_all` asks.
 use Rattle.std.proofs.Common.{rules, ◌≡◌, ◌+◌, sym, ap, subst, length, ℕ}
 use Rattle.vx_turn.specs.Passing.{table_of, first_engine, AreDealt}
 use Rattle.vx_burst.proofs.burst.run.Goals as goal

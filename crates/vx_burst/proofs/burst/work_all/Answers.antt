@@ -1,3 +1,4 @@
+-- `work_all`: its result; what `join_all-left` and `ask_rest` ask.
 use Rattle.std.proofs.Common.{rules, ◌≡◌, ◌∙◌, ◌+◌, sym, ap, subst, length, List}
 use Rattle.vx_turn.specs.Passing.{table_of, first_engine, AreDealt}
 use Rattle.vx_settle.specs.Bringing.{HaveLinks}

@@ -1,3 +1,4 @@
+-- `ask_next`: clauses stages, links, rest and placed.
 use Rattle.std.proofs.Common.{rules, ◌≡◌, ◌∙◌, ◌+◌, refl, slice_get, Some, arith, slice_index_or}
 use Rattle.std.proofs.lemmas.Option.{slice_get_read, slice_get-get_or}
 use Rattle.vx_settle.proofs.ManyPeers.{set-long}

@@ -1,3 +1,4 @@
+-- `ask_rest`: what stays true in its loop over `k`.
 use Rattle.std.proofs.Common.{◌∙◌, refl, arith}
 use Rattle.vx_burst.proofs.Stages.{stages-none, stages-then}
 use Rattle.vx_burst.proofs.finishing.ask_rest.Goals as goal

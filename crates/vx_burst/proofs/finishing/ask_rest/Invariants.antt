@@ -1,3 +1,4 @@
+-- The loop of `ask_rest` over `k`: what stays true.
 use Rattle.std.proofs.Common.{◌≡◌, ◌+◌, length}
 use Rattle.vx_settle.specs.Bringing.{HaveLinks}
 use Rattle.vx_burst.specs.Finishing.{StagesOn, ArePlaced, unplaced}

@@ -1,3 +1,4 @@
+-- `wait_all`: what stays true in its loop over `k`.
 use Rattle.std.proofs.Common.{rules, ◌≡◌, ◌<◌, ◌∙◌, sym, subst, refl, slice_get, Some, arith, length, slice_index_or}
 use Rattle.std.proofs.lemmas.Option.{slice_get-get_or}
 use Rattle.vx_settle.proofs.ManyPeers.{some-one}

@@ -1,3 +1,4 @@
+-- The loop of `wait_all` over `k`: what stays true.
 use Rattle.std.proofs.Common.{◌≡◌}
 use Rattle.vx_settle.specs.Bringing.{HaveLinks}
 use Rattle.vx_burst.specs.Finishing.{WaitsOn}

@@ -1,3 +1,4 @@
+-- `note`: what `note_one` asks; what stays true in its loop over `k`.
 use Rattle.std.proofs.Common.{rules, ◌≡◌, ◌<◌, arith, slice_get, Some, slice_index_or, length}
 use Rattle.std.proofs.lemmas.Option.{slice_get-get_or}
 use Rattle.vx_burst.proofs.Placings.{noted-none, noted-more}

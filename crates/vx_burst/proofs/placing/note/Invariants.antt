@@ -1,3 +1,4 @@
+-- The loop of `note` over `k`: what stays true.
 use Rattle.std.proofs.Common.{◌≤◌, vec_capacity}
 use Rattle.vx_burst.specs.Placing.{SpotsNoted}
 use Rattle.vx_burst.proofs.placing.note.Given as goal

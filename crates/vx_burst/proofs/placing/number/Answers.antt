@@ -1,3 +1,4 @@
+-- `number`: what stays true in its loop over `k`.
 use Rattle.std.proofs.Common.{rules, ◌≡◌, ◌+◌, arith, refl, slice_get, Some, slice_index_or}
 use Rattle.std.proofs.lemmas.Option.{slice_get-get_or}
 use Rattle.vx_burst.proofs.Placings.{numbered-none, numbered-more}

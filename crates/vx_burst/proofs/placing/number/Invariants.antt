@@ -1,3 +1,4 @@
+-- The loop of `number` over `k`: what stays true.
 use Rattle.vx_burst.specs.Placing.{SpotsNumbered}
 use Rattle.vx_burst.proofs.placing.number.Given as goal
 

@@ -1,3 +1,4 @@
+-- `renumber`: its result; what `number` asks.
 use Rattle.std.proofs.Common.{rules, subst, sym, length, List}
 use Rattle.vx_burst.specs.declared.placing.Spot.{Spot}
 use Rattle.vx_burst.specs.Placing.{NotedOnce, SpotsInside, SpotsNumbered}

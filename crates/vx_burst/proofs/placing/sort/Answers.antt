@@ -1,3 +1,4 @@
+-- `sort`: its result.
 use Rattle.std.proofs.Common.{rules}
 use Rattle.std.proofs.lemmas.List.Sorted.{IsNonDecreasingBy-from_sort_by_key}
 use Rattle.vx_burst.specs.declared.placing.Spot.{Spot}

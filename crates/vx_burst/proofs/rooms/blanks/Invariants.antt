@@ -1,3 +1,4 @@
+-- The loop of `blanks` over `k`: what stays true.
 use Rattle.std.proofs.Common.{◌≡◌, length}
 use Rattle.vx_burst.specs.Setting.{AreBlank}
 use Rattle.vx_burst.proofs.rooms.blanks.Given as goal

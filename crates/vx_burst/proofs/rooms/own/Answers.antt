@@ -1,3 +1,4 @@
+-- `own`: its result; what stays true in its loop over `k`.
 use Rattle.std.proofs.Common.{rules, ◌≡◌, ◌==◌, slice_get, Some, refl, ◌∙◌, arith}
 use Rattle.std.proofs.lemmas.Option.{slice_get_read}
 use Rattle.vx_burst.proofs.Roomy.{own-next, own-all, one-few}

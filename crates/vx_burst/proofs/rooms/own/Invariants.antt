@@ -1,3 +1,4 @@
+-- The loop of `own` over `k`: what stays true.
 use Rattle.std.proofs.Common.{◌≡◌, ◌≤◌, take}
 use Rattle.vx_burst_threads.specs.Planning.{own_count}
 use Rattle.vx_burst.proofs.rooms.own.Given as goal

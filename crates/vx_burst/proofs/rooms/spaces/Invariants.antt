@@ -1,3 +1,4 @@
+-- The loop of `spaces` over `thread`: what stays true, and what falls.
 use Rattle.std.proofs.Common.{◌≡◌, ◌+◌, length}
 use Rattle.vx_burst.specs.Setting.{AreThreadRooms}
 use Rattle.vx_burst.proofs.rooms.spaces.Given as goal

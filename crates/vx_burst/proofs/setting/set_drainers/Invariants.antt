@@ -1,3 +1,4 @@
+-- The loop of `set_drainers` over `peer`: what stays true, and what falls.
 use Rattle.std.proofs.Common.{◌≤◌, length, vec_capacity}
 use Rattle.vx_turn.specs.Passing.{table_of, first_engine}
 use Rattle.vx_burst.proofs.Settings.{Linking}

@@ -1,3 +1,4 @@
+-- `set_writers`: what `unreachable` asks; what stays true in its loop over `thread`.
 use Rattle.std.proofs.Common.{rules, ◌≡◌, ◌+◌, ◌++◌, ◌∷◌, [], true, length, ap, ◌∙◌, arith, None, refl, length-append}
 use Rattle.std.specs.Bool.{if◌then◌else◌}
 use Rattle.std.specs.Result.{is_ok}

@@ -1,3 +1,4 @@
+-- The loop of `set_writers` over `thread`: what stays true.
 use Rattle.std.proofs.Common.{◌≤◌, vec_capacity}
 use Rattle.vx_turn.specs.Passing.{table_of, first_engine}
 use Rattle.vx_burst.proofs.Settings.{Writing}

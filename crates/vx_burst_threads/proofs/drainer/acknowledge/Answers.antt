@@ -1,3 +1,4 @@
+-- `acknowledge`: its result.
 use Rattle.vx_burst_threads.proofs.Draining.{drained-ack}
 use Rattle.vx_burst_threads.proofs.drainer.acknowledge.Goals as goal
 

@@ -1,3 +1,4 @@
+-- `finish`: clause drained.
 use Rattle.vx_burst_threads.proofs.Draining.{drained-then, drained-peer}
 use Rattle.vx_burst_threads.proofs.drainer.finish.Goals as goal
 

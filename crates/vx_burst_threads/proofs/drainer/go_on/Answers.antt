@@ -1,3 +1,4 @@
+-- `go_on`: clauses drained and leads.
 use Rattle.vx_burst_threads.specs.declared.drainer.Next.TheVariants as next
 use Rattle.vx_burst_threads.proofs.Draining.{drained-then}
 use Rattle.vx_burst_threads.proofs.Spending.{spent-finish, leads-as}

@@ -1,3 +1,4 @@
+-- `hand_next`: clauses drained and leads.
 use Rattle.std.proofs.Common.{rules, ◌≡◌, ◌≤◌, ◌+◌, subst, sym}
 use Rattle.vx_turn.specs.declared.ask.Job.TheVariants.{Fetch}
 use Rattle.vx_turn.specs.declared.ask.JobReply.TheVariants as job

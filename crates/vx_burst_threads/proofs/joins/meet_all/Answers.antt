@@ -1,3 +1,4 @@
+-- `meet_all`: clauses met and laid; what stays true in its loop over `worker`.
 use Rattle.std.proofs.Common.{rules, ◌≡◌, ◌+◌, ◌≤◌, length, vec_capacity, List, [], ◌∷◌, ◌++◌, ap, sym, subst, ◌∙◌, refl, arith, true, false}
 use Rattle.std.specs.Bool.{if◌then◌else◌}
 use Rattle.std.specs.Result.{is_ok}

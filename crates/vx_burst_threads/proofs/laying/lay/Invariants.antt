@@ -1,3 +1,4 @@
+-- The loop of `lay` over `one`: what stays true, and what falls.
 use Rattle.std.proofs.Common.{length}
 use Rattle.vx_burst_threads.proofs.Layings.{Laying}
 use Rattle.vx_burst_threads.proofs.laying.lay.Given as goal

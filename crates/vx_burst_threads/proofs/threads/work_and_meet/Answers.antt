@@ -1,3 +1,4 @@
+-- `work_and_meet`: what the search does not find.
 use Rattle.std.proofs.Common.{rules, ◌≡◌}
 use denote.RattleType.{RattleType}
 use denote.Param.Send.{IsSend, IsSync}

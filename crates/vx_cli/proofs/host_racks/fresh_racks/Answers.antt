@@ -1,3 +1,4 @@
+-- `fresh_racks`: its result; what stays true in its loop over `step`.
 use Rattle.std.proofs.Common.{◌∷◌, [], List, ap, arith, length, length-append, subst, sym}
 use Rattle.std.specs.List.{All}
 use Rattle.std.proofs.lemmas.List.Elements.{All-push}

@@ -1,3 +1,4 @@
+-- `vx_main`: clauses complete, bad, long and clean.
 use Rattle.vx_cli.proofs.CompleteLemmas.{run_complete, run_bad, run_long, run_clean_is, asked_is}
 use Rattle.vx_cli.proofs.main_call.vx_main.Goals as goal
 

@@ -1,3 +1,4 @@
+-- `cut`: clause cut.
 use Rattle.std.proofs.Common.{◌≡◌, ◌<◌, ℕ, List, false, eqb, get_or, length, take, refl, subst, arith, ◌∙◌, ap}
 use Rattle.vx_script.specs.Lines.{without_return}
 use Rattle.vx_cli.proofs.ReaderLemmas.{cut_true, cut_false}

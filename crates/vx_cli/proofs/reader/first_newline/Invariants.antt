@@ -1,3 +1,4 @@
+-- The loop of `first_newline` over `i`: what stays true.
 use Rattle.std.proofs.Common.{◌≡◌, ℕ, ◌<◌, get_or, false, eqb}
 use Rattle.vx_cli.proofs.reader.first_newline.Given as goal
 

@@ -1,3 +1,4 @@
+-- `more`: clause more.
 use Rattle.std.proofs.Common.{◌≡◌, ◌<◌, [], length, arith}
 use Rattle.std.proofs.lemmas.List.{nil_from_length}
 use Rattle.vx_cli.proofs.ReaderLemmas.{more_is, more_held}

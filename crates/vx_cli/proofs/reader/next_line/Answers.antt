@@ -1,3 +1,4 @@
+-- `next_line`: clause next.
 use Rattle.std.proofs.Common.{◌≡◌, ◌<◌, length, false, List, ℕ, sym, subst, arith}
 use Rattle.vx_script.specs.Lines.{HasNoNewline}
 use Rattle.vx_cli.specs.Reading.{CutIs}

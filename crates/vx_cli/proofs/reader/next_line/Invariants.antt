@@ -1,3 +1,4 @@
+-- The loop of `next_line` over `held`: what stays true, and what falls.
 use Rattle.std.proofs.Common.{◌≤◌, ◌-◌, [], vec_len}
 use Rattle.vx_cli.specs.Reading.{FollowsInput}
 use Rattle.vx_cli.proofs.reader.next_line.Given as goal

@@ -1,3 +1,4 @@
+-- `strip_return`: its result.
 use Rattle.std.proofs.Common.{◌≡◌, ◌<◌, ◌-◌, ℕ, false, length, eqb, get_or, take, arith, subst, sym, ◌∙◌, ap}
 use Rattle.std.proofs.lemmas.List.{get_or_read}
 use Rattle.vx_cli.proofs.ReaderLemmas.{stripped, unstripped}

@@ -1,3 +1,4 @@
+-- `answer_all`: clause run; what `turn` asks; what stays true in its loop over `number`.
 use Rattle.std.proofs.Common.{◌≡◌, subst, sym, arith}
 use Rattle.vx_script.specs.Lines.{HasNoNewline}
 use Rattle.vx_yard.proofs.Kept.{kept_for}

@@ -1,3 +1,4 @@
+-- The loop of `answer_all` over `number`: what stays true.
 use Rattle.std.proofs.Common.{◌≤◌, []}
 use Rattle.vx_cli.specs.Turns.{TurnReaches}
 use Rattle.vx_cli.proofs.run.answer_all.Given as goal

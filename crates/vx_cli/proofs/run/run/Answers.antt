@@ -1,3 +1,4 @@
+-- `run`: clause run; what `answer_all-status` asks.
 use Rattle.std.proofs.Common.{ap, ◌∙◌}
 use Rattle.vx_yard.specs.Holds.{rack_faults}
 use Rattle.vx_cli.proofs.RunLemmas.{begins, run_is, run_stops}

@@ -1,3 +1,4 @@
+-- `answer`: clause answer; what `answer_line` asks.
 use Rattle.std.proofs.Common.{[], ℕ, Ok, ap, subst, ◌∙◌}
 use Rattle.vx_stream.proofs.SendLemmas.{appends_none}
 use Rattle.vx_cli.specs.Turns.{BadIs, StopsAtReply, StopsBefore}

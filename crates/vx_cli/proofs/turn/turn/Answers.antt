@@ -1,3 +1,4 @@
+-- `turn`: clause turn.
 use Rattle.std.proofs.Common.{ℕ, List, Some, subst, arith}
 use Rattle.vx_cli.specs.Turns.{AnswerIs}
 use Rattle.vx_cli.proofs.TurnLemmas.{turn_line, turn_last, turn_last_stop, turn_end, turn_long, turn_fault, turn_memory}

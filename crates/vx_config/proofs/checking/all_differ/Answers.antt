@@ -1,3 +1,4 @@
+-- `all_differ`: its result; what stays true in its loop over `i`.
 use Rattle.std.proofs.Common.{◌≡◌, ◌+◌, ◌-◌, length, take, drop, subst, true, false}
 use Rattle.std.specs.List.{list_all}
 use Rattle.vx_config.specs.Checks.{differ}

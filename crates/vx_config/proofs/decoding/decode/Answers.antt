@@ -1,3 +1,4 @@
+-- `decode`: clauses found, only and stop; that no number grows too large.
 use Rattle.std.proofs.Common.{arith}
 use Rattle.vx_config.proofs.DecodeLemmas.{rest-shorter, read-spelled, read-same, none-read, stops-read}
 use Rattle.vx_config.proofs.decoding.decode.Goals as goal

@@ -1,3 +1,4 @@
+-- `is_short`: its result.
 use Rattle.vx_config.proofs.LengthLemmas.{length-spelled}
 use Rattle.vx_config.proofs.encoding.is_short.Goals as goal
 

@@ -1,3 +1,4 @@
+-- `disks_fit`: its result; what stays true in its loop over `disk`.
 use Rattle.vx_config.specs.Table.{disk}
 use Rattle.vx_config.proofs.FitLemmas.{fit-more, fit-all}
 use Rattle.vx_config.proofs.fits.disks_fit.Goals as goal

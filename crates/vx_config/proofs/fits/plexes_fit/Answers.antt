@@ -1,3 +1,4 @@
+-- `plexes_fit`: its result; what stays true in its loop over `plex`.
 use Rattle.std.proofs.Common.{subst}
 use Rattle.vx_config.specs.Table.{plex}
 use Rattle.vx_config.specs.declared.entry.PlexEntry.{PlexEntry}

@@ -1,3 +1,4 @@
+-- `subdisks_fit`: its result; what stays true in its loop over `subdisk`.
 use Rattle.vx_config.specs.Table.{subdisk}
 use Rattle.vx_config.proofs.FitLemmas.{fit-more, fit-all}
 use Rattle.vx_config.proofs.fits.subdisks_fit.Goals as goal

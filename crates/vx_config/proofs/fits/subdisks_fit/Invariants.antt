@@ -1,3 +1,4 @@
+-- The loop of `subdisks_fit` over `subdisk`: what stays true.
 use Rattle.std.proofs.Common.{take}
 use Rattle.std.specs.List.{AllByRecursion}
 use Rattle.vx_config.specs.Table.{subdisk}

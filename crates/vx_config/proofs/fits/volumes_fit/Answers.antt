@@ -1,3 +1,4 @@
+-- `volumes_fit`: its result; what stays true in its loop over `volume`.
 use Rattle.std.proofs.Common.{subst}
 use Rattle.vx_config.specs.Table.{volume}
 use Rattle.vx_config.specs.declared.entry.VolumeEntry.{VolumeEntry}

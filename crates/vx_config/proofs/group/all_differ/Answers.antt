@@ -1,3 +1,4 @@
+-- `all_differ`: its result; what stays true in its loop over `i`.
 use Rattle.vx_config.specs.Checks.{other_than}
 use Rattle.vx_config.proofs.PairLemmas.{pairwise-more, pairwise-over, pairwise-all}
 use Rattle.vx_config.proofs.group.all_differ.Goals as goal

@@ -1,3 +1,4 @@
+-- The loop of `map_sum` over `number`: what stays true.
 use Rattle.std.proofs.Common.{◌≡◌, ◌≤◌, ◌*◌, take}
 use Rattle.std.specs.Prelude.{sum_by}
 use Rattle.vx_config.specs.Checks.{map_blocks_of}

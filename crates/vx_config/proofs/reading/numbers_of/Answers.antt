@@ -1,3 +1,4 @@
+-- `numbers_of`: its result; what stays true in its loop.
 use Rattle.std.proofs.Common.{◌∷◌, [], length-append, arith}
 use Rattle.std.proofs.lemmas.Result.{err_from_is_err_and}
 use Rattle.vx_config.specs.Forms.{read_many}

@@ -1,3 +1,4 @@
+-- The loop of `plexes_of`: what stays true.
 use Rattle.std.proofs.Common.{◌≡◌, ◌-◌, length}
 use Rattle.vx_config.specs.Forms.{read_many}
 use Rattle.vx_config.specs.Table.{plex}

@@ -1,3 +1,4 @@
+-- `all_apart`: its result; what stays true in its loop over `i`.
 use Rattle.vx_config.specs.Checks.{are_apart}
 use Rattle.vx_config.proofs.PairLemmas.{pairwise-more, pairwise-over, pairwise-all}
 use Rattle.vx_config.proofs.runs.all_apart.Goals as goal

@@ -1,3 +1,4 @@
+-- The loop of `all_apart` over `i`: what stays true.
 use Rattle.std.proofs.Common.{◌≡◌, drop}
 use Rattle.vx_config.specs.Checks.{pairwise, are_apart}
 use Rattle.vx_config.proofs.runs.all_apart.Given as goal

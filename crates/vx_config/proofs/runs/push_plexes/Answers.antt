@@ -1,3 +1,4 @@
+-- `push_plexes`: what `push_subdisks` asks.
 use Rattle.std.proofs.Common.{◌≤◌, ◌+◌, ap, sym, subst, arith, length}
 use Rattle.vx_config.specs.Checks.{plex_runs}
 use Rattle.vx_config.specs.Configs.{plex_subdisks}

@@ -1,3 +1,4 @@
+-- The loop of `push_plexes` over `plex`: what stays true.
 use Rattle.std.proofs.Common.{◌≡◌, ◌++◌, take}
 use Rattle.std.specs.Prelude.{flat_map}
 use Rattle.vx_config.specs.Checks.{plex_runs}

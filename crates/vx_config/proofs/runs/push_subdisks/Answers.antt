@@ -1,3 +1,4 @@
+-- `push_subdisks`: what `push` asks.
 use Rattle.std.proofs.Common.{ap, arith, length, length-append, take}
 use Rattle.std.proofs.lemmas.List.{length-take}
 use Rattle.vx_config.proofs.runs.push_subdisks.Goals as goal

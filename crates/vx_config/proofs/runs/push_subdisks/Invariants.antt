@@ -1,3 +1,4 @@
+-- The loop of `push_subdisks` over `subdisk`: what stays true.
 use Rattle.std.proofs.Common.{◌≡◌, ◌++◌, take}
 use Rattle.vx_config.proofs.runs.push_subdisks.Given as goal
 

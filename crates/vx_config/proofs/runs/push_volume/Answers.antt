@@ -1,3 +1,4 @@
+-- `push_volume`: what `push_log` asks.
 use Rattle.std.proofs.Common.{◌≡◌, ap, arith, length, length-append}
 use Rattle.std.specs.Prelude.{flat_map, sum_by}
 use Rattle.vx_config.specs.Checks.{plex_runs, log_runs}

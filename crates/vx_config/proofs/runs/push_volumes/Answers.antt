@@ -1,3 +1,4 @@
+-- `push_volumes`: what `push_volume` asks.
 use Rattle.std.proofs.Common.{◌≤◌, ◌+◌, sym, subst, length}
 use Rattle.vx_config.specs.Checks.{volume_runs, volume_room}
 use Rattle.vx_config.specs.declared.entry.VolumeEntry.{VolumeEntry}

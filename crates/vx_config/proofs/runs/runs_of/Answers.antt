@@ -1,3 +1,4 @@
+-- `runs_of`: what `push_volumes` asks.
 use Rattle.std.proofs.Common.{◌≡◌, ap, arith, length}
 use Rattle.std.specs.Prelude.{sum_by}
 use Rattle.vx_config.specs.Checks.{volume_room}

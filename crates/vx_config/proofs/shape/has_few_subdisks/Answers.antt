@@ -1,3 +1,4 @@
+-- `has_few_subdisks`: its result.
 use Rattle.std.proofs.Common.{ap, ◌∙◌, List, Option, ℕ}
 use Rattle.std.specs.Prelude.{is_some, sum_by}
 use Rattle.vx_config.specs.Configs.{left_of, volume_subdisks}

@@ -1,3 +1,4 @@
+-- The loop of `left_by_volumes` over `volume`: what stays true.
 use Rattle.std.proofs.Common.{◌≡◌, ◌+◌, take}
 use Rattle.std.specs.Prelude.{sum_by}
 use Rattle.vx_config.specs.Configs.{volume_subdisks}

@@ -1,3 +1,4 @@
+-- `column_blocks`: its result.
 use Rattle.std.proofs.Common.{◌≡◌, refl, false}
 use Rattle.std.specs.Prelude.{◌==◌}
 use Rattle.vx_config.specs.Checks.{column_blocks}

@@ -1,3 +1,4 @@
+-- `fills`: its result; what stays true in its loop over `subdisk`.
 use Rattle.vx_config.specs.Checks.{fill}
 use Rattle.vx_config.proofs.FillLemmas.{fill-over, fill-full, fill-part, fill-ends, fill-stops}
 use Rattle.vx_config.proofs.soundness.fills.Goals as goal

@@ -1,3 +1,4 @@
+-- The loop of `fills` over `subdisk`: what stays true.
 use Rattle.std.proofs.Common.{◌≡◌, drop}
 use Rattle.vx_config.specs.Checks.{fill}
 use Rattle.vx_config.proofs.soundness.fills.Given as goal

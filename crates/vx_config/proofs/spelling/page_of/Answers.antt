@@ -1,3 +1,4 @@
+-- `page_of`: its result.
 use Rattle.std.proofs.Common.{◌∙◌}
 use Rattle.vx_config.specs.Configs.{spelled_config}
 use Rattle.vx_config.proofs.PageLemmas.{onto-nothing}

@@ -1,3 +1,4 @@
+-- `put_numbers`: its result; what stays true in its loop over `number`.
 use Rattle.std.proofs.Common.{length}
 use Rattle.vx_wire.specs.Numbers.{be_bytes}
 use Rattle.vx_config.specs.Forms.{number}

@@ -1,3 +1,4 @@
+-- `put_plexes`: its result; what stays true in its loop over `plex`.
 use Rattle.std.proofs.Common.{length, ap, ◌∙◌}
 use Rattle.vx_wire.specs.Numbers.{be_bytes}
 use Rattle.vx_config.specs.Table.{plex}

@@ -1,3 +1,4 @@
+-- The loop of `put_plexes` over `plex`: what stays true.
 use Rattle.std.proofs.Common.{◌≡◌, ◌++◌, length, take}
 use Rattle.std.specs.Prelude.{flat_map}
 use Rattle.vx_wire.specs.Numbers.{be_bytes}

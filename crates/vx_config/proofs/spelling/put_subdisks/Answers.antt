@@ -1,3 +1,4 @@
+-- `put_subdisks`: its result; what stays true in its loop over `subdisk`.
 use Rattle.std.proofs.Common.{length}
 use Rattle.vx_wire.specs.Numbers.{be_bytes}
 use Rattle.vx_config.specs.Table.{subdisk}

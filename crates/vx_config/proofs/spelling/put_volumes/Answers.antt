@@ -1,3 +1,4 @@
+-- `put_volumes`: its result; what stays true in its loop over `volume`.
 use Rattle.std.proofs.Common.{length, ap, ◌∙◌}
 use Rattle.vx_wire.specs.Numbers.{be_bytes}
 use Rattle.vx_config.specs.Table.{volume}

@@ -1,3 +1,4 @@
+-- `judge`: clause fits.
 use Rattle.std.proofs.Common.{sym, subst, ◌∙◌}
 use Rattle.vx_copies.specs.Bodies.{HasFewDisks}
 use Rattle.vx_copies.proofs.Bodies.{read_fits}

@@ -1,3 +1,4 @@
+-- `read_area`: clauses sees and counts; what `read_copy` asks.
 use Rattle.std.proofs.Common.{arith, sym}
 use Rattle.vx_copyfmt.proofs.AreaLemmas.{header_of-only}
 use Rattle.vx_copies.proofs.Reading.{area_none, area_sees, then_area}

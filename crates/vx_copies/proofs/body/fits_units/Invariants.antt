@@ -1,3 +1,4 @@
+-- The loop of `fits_units` over `k`: what stays true.
 use Rattle.std.proofs.Common.{◌≡◌, drop}
 use Rattle.vx_copies.specs.Bodies.{have_blocks}
 use Rattle.vx_copies.proofs.body.fits_units.Given as goal

@@ -1,3 +1,4 @@
+-- `read_body`: clause found.
 use Rattle.std.proofs.Common.{sym, subst}
 use Rattle.vx_config.specs.Configs.{Stops}
 use Rattle.vx_copies.proofs.Bodies.{read_whole, read_unwanted, read_longer, read_refused}

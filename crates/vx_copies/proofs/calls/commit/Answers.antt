@@ -1,3 +1,4 @@
+-- `commit`: clauses begins, finds and fit.
 use Rattle.vx_copies.proofs.Found.{begins_try, finds_try, fits_try}
 use Rattle.vx_copies.proofs.ManyTries.{none_yet}
 use Rattle.vx_copies.proofs.calls.commit.Goals as goal

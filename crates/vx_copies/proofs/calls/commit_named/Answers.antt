@@ -1,3 +1,4 @@
+-- `commit_named`: clauses begins, finds, wanted, ends, fit, last, calls and named.
 use Rattle.std.proofs.Common.{◌≡◌, ◌+◌, ◌*◌, ◌<◌, true, Result, OnOk, IfErr, IfOk, ℕ, refl, ap, subst, sym, ◌∙◌, arith, List}
 use Rattle.vx_disk.specs.Burns.{MakesCalls}
 use Rattle.vx_disk.specs.Shelf.{Meaning}

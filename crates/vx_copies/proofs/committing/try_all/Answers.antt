@@ -1,3 +1,4 @@
+-- `try_all`: clauses underway, ends, last, calls and named; what stays true in its loop over `shelf`.
 use Rattle.std.proofs.Common.{Err, ◌*◌, inl, inr, refl, subst, sym, ◌∙◌, ◌<◌, arith, List}
 use Rattle.vx_disk.specs.declared.shelf.ShelfError.{ShelfError}
 use Rattle.vx_disk.specs.Shelf.{Meaning}

@@ -1,3 +1,4 @@
+-- The loop of `try_all` over `shelf`: what stays true, and what falls.
 use Rattle.std.proofs.Common.{◌≡◌, ◌+◌, ◌≤◌, true, length}
 use Rattle.vx_disk.specs.Burns.{MakesCalls}
 use Rattle.vx_config.specs.Configs.{CanSpell, subdisk_count}

@@ -1,3 +1,4 @@
+-- `try_next`: clauses wanted, underway and ends; what `put_config` asks.
 use Rattle.std.proofs.Common.{◌≡◌, ◌+◌, length, ap, refl, subst, arith}
 use Rattle.vx_disk.specs.declared.shelf.ShelfError.TheVariants.{Fault}
 use Rattle.vx_disk.specs.Shelf.{Meaning}

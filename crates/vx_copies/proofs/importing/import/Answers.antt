@@ -1,3 +1,4 @@
+-- `import`: clause imported.
 use Rattle.std.proofs.Common.{arith}
 use Rattle.vx_copies.proofs.Imports.{imported_none, imported_ok, imported_err}
 use Rattle.vx_copies.proofs.importing.import.Goals as goal

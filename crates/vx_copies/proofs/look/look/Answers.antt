@@ -1,3 +1,4 @@
+-- `look`: clauses sees and counts.
 use Rattle.std.proofs.Common.{arith, refl}
 use Rattle.vx_copyfmt.specs.declared.label.LabelSeen.TheVariants as label
 use Rattle.vx_copies.proofs.Reading.{disk_sees, shows_format, shows_other, then_disk}

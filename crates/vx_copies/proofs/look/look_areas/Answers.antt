@@ -1,3 +1,4 @@
+-- `look_areas`: clauses sees, goes, disks and counts.
 use Rattle.std.proofs.Common.{IsTrue, subst, Bool, ◌∙◌}
 use Rattle.vx_disk.proofs.Runs.{then_nothing}
 use Rattle.vx_disk.specs.Shelf.{Nothing}

@@ -1,3 +1,4 @@
+-- `mark`: clauses wanted and falls.
 use Rattle.std.proofs.Common.{◌≡◌, ◌∙◌, true, ap, sym, get_or, ℕ, List}
 use Rattle.std.specs.Prelude.{slice_set}
 use Rattle.vx_config.specs.declared.entry.DiskEntry.{DiskEntry}

@@ -1,3 +1,4 @@
+-- `search_all`: what stays true in its loop over `disk`.
 use Rattle.std.proofs.Common.{refl, ◌∙◌, IsTrue, subst, Bool}
 use Rattle.vx_disk.proofs.Runs.{same_Goes, then_nothing}
 use Rattle.vx_disk.specs.Shelf.{Nothing}

@@ -1,3 +1,4 @@
+-- The loop of `search_all` over `disk`: what stays true.
 use Rattle.std.proofs.Common.{◌≡◌, IsTrue, length}
 use Rattle.vx_disk.specs.Causes.{OnDisks}
 use Rattle.vx_disk.specs.Disks.{Untouched}

@@ -1,3 +1,4 @@
+-- `lowest_missing`: its result; what stays true in its loop over `k`.
 use Rattle.std.proofs.Common.{arith, ◌≡◌, ◌∙◌, ◌<◌, length, get_or, ap, sym, inl, inr, List}
 use Rattle.vx_config.specs.declared.entry.DiskEntry.{DiskEntry}
 use Rattle.vx_copies.specs.Answers.{flag_at}

@@ -1,3 +1,4 @@
+-- The loop of `lowest_missing` over `k`: what stays true.
 use Rattle.std.proofs.Common.{◌≡◌, None}
 use Rattle.vx_copyfmt.specs.Imports.{missing}
 use Rattle.vx_copies.specs.Answers.{flag_at}

@@ -1,3 +1,4 @@
+-- The loop of `returned_disks` over `k`: what stays true.
 use Rattle.std.proofs.Common.{◌≡◌, ◌++◌, drop, length}
 use Rattle.vx_copies.specs.Answers.{flag_at, returned_from}
 use Rattle.vx_copies.proofs.settle.returned_disks.Given as goal

@@ -1,3 +1,4 @@
+-- `spell`: clauses can, text, digest and body.
 use Rattle.std.proofs.Common.{◌≡◌, ℕ, ◌++◌, arith, ap, ◌∙◌, take}
 use Rattle.vx_wire.specs.Fields.{zero_bytes}
 use Rattle.vx_wire.specs.Places.{put_at}

@@ -1,3 +1,4 @@
+-- `put_config`: clauses tried, ok, stops, first, order and calls.
 use Rattle.std.proofs.Common.{◌≡◌, ◌*◌, length, ap, sym, Some, false, true, OnOk, IfErr, List, ℕ, take, subst, ◌∙◌}
 use Rattle.std.proofs.lemmas.List.{take-take}
 use Rattle.vx_disk.specs.Blocks.{bit_at}

@@ -1,3 +1,4 @@
+-- `get_area`: its result.
 use Rattle.std.proofs.Common.{◌≡◌, ◌∙◌, ap, sym, subst, false, refl}
 use Rattle.std.specs.Option.{is_some}
 use Rattle.vx_wire.specs.Seals.{filled}

@@ -1,3 +1,4 @@
+-- `get_label`: its result; what `whole_label` asks.
 use Rattle.std.proofs.Common.{arith, ◌≡◌, ◌∙◌, sym, ap, true, false}
 use Rattle.std.specs.Option.{is_some}
 use Rattle.vx_wire.specs.Numbers.{be_bytes}

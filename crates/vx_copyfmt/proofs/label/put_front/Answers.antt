@@ -1,3 +1,4 @@
+-- `put_front`: its result; what `put_fields` asks.
 use Rattle.std.proofs.Common.{arith, ◌≡◌, ◌-◌, ◌∙◌, ◌++◌, ap, sym, List, ℕ, length}
 use Rattle.vx_wire.specs.Fields.{spelled, zero_bytes}
 use Rattle.vx_wire.specs.Places.{put_at}

@@ -1,3 +1,4 @@
+-- `whole_label`: its result.
 use Rattle.std.proofs.Common.{◌∙◌, sym}
 use Rattle.vx_copyfmt.proofs.LabelLemmas.{seen_format, seen_label, seen_other}
 use Rattle.vx_copyfmt.proofs.Told.{not_both}

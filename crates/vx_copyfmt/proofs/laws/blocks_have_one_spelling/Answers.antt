@@ -1,3 +1,4 @@
+-- `blocks_have_one_spelling`: clauses area, only_area and label.
 use Rattle.vx_copyfmt.proofs.AreaLemmas.{header_of-is, header_of-only}
 use Rattle.vx_copyfmt.proofs.LabelLemmas.{seen_in-is}
 use Rattle.vx_copyfmt.proofs.laws.blocks_have_one_spelling.Goals as goal

@@ -1,3 +1,4 @@
+-- The loop of `clear` over `disk`: what stays true.
 use Rattle.vx_copyio.proofs.Cleared.{Clearing}
 use Rattle.vx_copyio.proofs.clearing.clear.Given as goal
 

@@ -1,3 +1,4 @@
+-- `put_copy`: clauses moves, leaves and ok.
 use Rattle.std.proofs.lemmas.Result.{on_ok_weaker}
 use Rattle.vx_disk.proofs.Runs.{nothing_then}
 use Rattle.vx_copyio.proofs.Putting.{read_moves, read_leaves, body_moves, body_leaves, header_moves, header_leaves, header_stands}

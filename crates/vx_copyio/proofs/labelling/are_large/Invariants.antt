@@ -1,3 +1,4 @@
+-- The loop of `are_large` over `unit`: what stays true.
 use Rattle.std.proofs.Common.{ℕ, ◌<◌, ◌≤◌}
 use Rattle.vx_copyio.specs.Labelling.{least_blocks}
 use Rattle.vx_copyio.proofs.labelling.are_large.Given as goal

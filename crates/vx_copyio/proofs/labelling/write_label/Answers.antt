@@ -1,3 +1,4 @@
+-- `write_label`: clauses goes and kept.
 use Rattle.std.proofs.Common.{ap, ℕ}
 use Rattle.std.proofs.lemmas.Result.{on_ok_weaker}
 use Rattle.vx_copyio.specs.Labelling.{label_of}

@@ -1,3 +1,4 @@
+-- The loop of `write_labels` over `unit`: what stays true.
 use Rattle.vx_copyio.proofs.Labels.{SoFar}
 use Rattle.vx_copyio.proofs.labelling.write_labels.Given as goal
 

@@ -1,3 +1,4 @@
+-- `is_member`: its result.
 use Rattle.std.proofs.Common.{arith, inl, inr}
 use Rattle.std.proofs.lemmas.Bool.{cases_lt}
 use Rattle.vx_copyio.proofs.Spreading.{member_bit}

@@ -1,3 +1,4 @@
+-- `put_copies`: clauses copied, ok, stops, first, order and calls.
 use Rattle.std.proofs.Common.{◌≡◌, ◌*◌, ℕ, IfErr, OnOk, true, false, sym, subst, ◌∙◌}
 use Rattle.vx_disk.specs.Blocks.{bit_at}
 use Rattle.vx_disk.specs.Burns.{MakesCalls}

@@ -1,3 +1,4 @@
+-- `put_part`: clauses copied and stops; what stays true in its loop over `disk`.
 use Rattle.std.proofs.Common.{arith, ℕ, Bool, ◌+◌, ◌*◌, sym, subst}
 use Rattle.vx_disk.specs.Burns.{MakesCalls}
 use Rattle.vx_disk.specs.Disks.{count_below}

@@ -1,3 +1,4 @@
+-- The loop of `put_part` over `disk`: what stays true.
 use Rattle.std.proofs.Common.{◌*◌}
 use Rattle.vx_disk.specs.Burns.{MakesCalls}
 use Rattle.vx_disk.specs.Disks.{count_below}

@@ -1,3 +1,4 @@
+-- `part_at`: its result.
 use Rattle.vx_courier.proofs.Flying.{read_none, read_some}
 use Rattle.vx_courier.proofs.finding.part_at.Goals as goal
 

@@ -1,3 +1,4 @@
+-- `puts_together`: its result.
 use Rattle.vx_courier.proofs.Joining.{put_together, stands_later}
 use Rattle.vx_courier.proofs.laws.puts_together.Goals as goal
 

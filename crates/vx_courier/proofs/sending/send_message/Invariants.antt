@@ -1,3 +1,4 @@
+-- The loop of `send_message` over `part`: what stays true.
 use Rattle.std.proofs.Common.{◌≡◌, ◌+◌, ◌≤◌, ◌++◌, List}
 use Rattle.vx_courier.specs.UnderWay.{FlightStands}
 use Rattle.vx_history.specs.Sends.{packets_from, parts_of}

@@ -1,3 +1,4 @@
+-- The loop of `count_run` over `r`: what stays true.
 use Rattle.std.proofs.Common.{◌≡◌, ◌+◌}
 use Rattle.vx_bitmap.specs.Bits.{is_marked}
 use Rattle.vx_dcm.specs.Counts.{marks_below}

@@ -1,3 +1,4 @@
+-- The loop of `all_exist` over `v`: what stays true.
 use Rattle.vx_dcm.proofs.Fits.{ExistBelow}
 use Rattle.vx_dcm.proofs.fit.all_exist.Given as goal
 

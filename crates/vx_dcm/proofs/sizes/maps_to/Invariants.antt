@@ -1,3 +1,4 @@
+-- The loop of `maps_to` over `v`: what stays true.
 use Rattle.std.proofs.Common.{◌≡◌, ◌*◌, ◌≤◌, take}
 use Rattle.vx_dcm.specs.Places.{maps_in}
 use Rattle.vx_dcm.proofs.sizes.maps_to.Given as goal

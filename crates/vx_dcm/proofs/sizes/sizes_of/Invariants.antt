@@ -1,3 +1,4 @@
+-- The loop of `sizes_of` over `unit`: what stays true.
 use Rattle.std.proofs.Common.{◌≡◌, map, take}
 use Rattle.vx_dcm.proofs.sizes.sizes_of.Given as goal
 

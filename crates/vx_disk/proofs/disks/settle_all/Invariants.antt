@@ -1,3 +1,4 @@
+-- The loop of `settle_all` over `unit`: what stays true.
 use Rattle.std.proofs.Common.{◌≡◌, ◌≤◌, ◌<◌, ℕ, ◌%◌, get_or}
 use Rattle.vx_disk.specs.declared.unit.MemUnit.{MemUnit}
 use Rattle.vx_disk.specs.Memory.{SettledUnit, loose_before}

@@ -1,3 +1,4 @@
+-- The loop of `zeroed` over `unit`: what stays true.
 use Rattle.vx_disk.specs.Memory.{AllZeroed}
 use Rattle.vx_disk.proofs.disks.zeroed.Given as goal
 

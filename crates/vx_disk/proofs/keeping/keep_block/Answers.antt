@@ -1,3 +1,4 @@
+-- `keep_block`: its result.
 use Rattle.std.proofs.Common.{◌≡◌, ◌+◌, ◌-◌, ◌*◌, ℕ, take, drop, ap, ◌∙◌, arith}
 use Rattle.vx_disk.specs.Blocks.{over}
 use Rattle.vx_disk.proofs.keeping.keep_block.Goals as goal

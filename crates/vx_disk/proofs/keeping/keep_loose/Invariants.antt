@@ -1,3 +1,4 @@
+-- The loop of `keep_loose` over `b`: what stays true.
 use Rattle.std.proofs.Common.{◌≡◌, ◌≤◌, ℕ, ◌<◌, cond, get_or, false}
 use Rattle.vx_disk.specs.Blocks.{block_at}
 use Rattle.vx_disk.proofs.keeping.keep_loose.Given as goal

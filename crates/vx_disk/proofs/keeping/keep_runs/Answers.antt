@@ -1,3 +1,4 @@
+-- `keep_runs`: clauses kept and none; what stays true in its loop over `k`.
 use Rattle.std.proofs.Common.{◌≡◌, ◌+◌, ◌≤◌, ℕ, Bool, false, List, length, replicate, get_or, refl, ap, sym, ◌∙◌, arith}
 use Rattle.vx_disk.specs.Blocks.{block_at}
 use Rattle.vx_disk.specs.Runs.{run_at}

@@ -1,3 +1,4 @@
+-- The loop of `keep_runs` over `k`: what stays true.
 use Rattle.std.proofs.Common.{◌≡◌, ◌≤◌, ◌<◌, ℕ, get_or, false}
 use Rattle.vx_disk.specs.Blocks.{block_at}
 use Rattle.vx_disk.specs.Runs.{run_at, Outside}

@@ -1,3 +1,4 @@
+-- `keep_where`: clauses here and elsewhere.
 use Rattle.std.proofs.Common.{◌≡◌, ℕ, Bool, true, cond, List, ◌∙◌, ap, arith}
 use Rattle.vx_disk.specs.Blocks.{block_at}
 use Rattle.vx_disk.proofs.Blocks.{block-over_same, block-over_other, length-block_at}

@@ -1,3 +1,4 @@
+-- `keep_written`: clause kept.
 use Rattle.std.proofs.Common.{false, length, get_or, arith}
 use Rattle.vx_disk.specs.Blocks.{block_at}
 use Rattle.vx_disk.proofs.Same.{same_blocks, kept_all}

@@ -1,3 +1,4 @@
+-- `put`: clauses goes, kept and holds.
 use Rattle.std.proofs.Common.{Ok, Err, Result, OnOk}
 use Rattle.vx_disk.proofs.Runs.{then_nothing, wrote_HoldsAll, flush_HoldsAll, flush_KeepsAll}
 use Rattle.vx_disk.proofs.Causing.{ok_up}

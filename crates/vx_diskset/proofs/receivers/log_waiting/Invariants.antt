@@ -1,3 +1,4 @@
+-- The loop of `log_waiting`: what stays true.
 use Rattle.vx_diskset.proofs.Reaching.{LoggedSo}
 use Rattle.vx_diskset.proofs.receivers.log_waiting.Given as goal
 

@@ -1,3 +1,4 @@
+-- `has_log`: clause spends.
 use Rattle.vx_ringio.proofs.Spending.{then_spends}
 use Rattle.vx_diskset.proofs.starting.has_log.Goals as goal
 

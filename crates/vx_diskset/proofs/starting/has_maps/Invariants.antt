@@ -1,3 +1,4 @@
+-- The loop of `has_maps` over `disk`: what stays true.
 use Rattle.std.proofs.Common.{◌≡◌, ◌≤◌, ◌*◌, ◌-◌}
 use Rattle.vx_disk.specs.Maps.{maps_of}
 use Rattle.vx_events.specs.Facts.{values_from}

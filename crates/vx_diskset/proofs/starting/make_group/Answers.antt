@@ -1,3 +1,4 @@
+-- `make_group`: clauses made and failing; what `create` asks.
 use Rattle.std.proofs.Common.{◌*◌, ◌≤◌, ℕ, subst, sym, refl, rules, arith}
 use Rattle.vx_disk.specs.Maps.{maps_of}
 use Rattle.vx_model.specs.declared.units.Units.{Units}

@@ -1,3 +1,4 @@
+-- `raw_units`: what `push` asks; what stays true in its loop over `k`.
 use Rattle.std.proofs.Common.{ap, arith, length, ℕ, ◌-◌}
 use Rattle.vx_events.proofs.Values.{raw_more, length-values_from}
 use Rattle.vx_diskset.proofs.units.raw_units.Goals as goal

@@ -1,3 +1,4 @@
+-- The loop of `raw_units` over `k`: what stays true.
 use Rattle.std.proofs.Common.{◌≡◌, ◌-◌}
 use Rattle.vx_events.specs.Facts.{values_from}
 use Rattle.vx_diskset.proofs.units.raw_units.Given as goal

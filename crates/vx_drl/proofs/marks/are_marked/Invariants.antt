@@ -1,3 +1,4 @@
+-- The loop of `are_marked` over `region`: what stays true.
 use Rattle.vx_drl.proofs.Keeping.{MarkedTo}
 use Rattle.vx_drl.proofs.marks.are_marked.Given as goal
 

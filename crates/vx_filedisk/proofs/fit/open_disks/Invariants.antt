@@ -1,3 +1,4 @@
+-- The loop of `open_disks` over `disk`: what stays true.
 use Rattle.std.proofs.Common.{◌≡◌, length}
 use Rattle.vx_filedisk.proofs.fit.open_disks.Given as goal
 

@@ -1,3 +1,4 @@
+-- `att_in`: clauses attaches, ends, stands, regains and held; what `attach_held` asks.
 use Rattle.std.proofs.Common.{length, refl, ap, sym, ◌∙◌, arith}
 use Rattle.vx_kept.proofs.StateLemmas.{same_shape}
 use Rattle.vx_group.proofs.HoldLemmas.{back_Stands, back_gone, back_others, back_shape, back_wide, from_none, none_Stands, wide_none}

@@ -1,3 +1,4 @@
+-- `attach_held`: clauses attaches, ends, regains, held and cause; what `regain` and `attach` ask.
 use Rattle.std.proofs.Common.{inl, ◌∙◌}
 use Rattle.vx_kept.proofs.Chosen.{active_volumes}
 use Rattle.vx_group.proofs.AttachLemmas.{narrows_attaches, then_attaches}

@@ -1,3 +1,4 @@
+-- `attach`: clauses attaches, ends, cause and failing; what `copy_to` and `commit_open` ask.
 use Rattle.std.proofs.Common.{◌<◌, inl, Err, ◌∙◌, arith}
 use Rattle.vx_config.specs.Table.{greatest}
 use Rattle.vx_kept.proofs.Chosen.{active_volumes}

@@ -1,3 +1,4 @@
+-- `commit_open`: clauses attaches and failing; what `detach` asks.
 use Rattle.std.proofs.Common.{refl}
 use Rattle.vx_group.proofs.AttachLemmas.{narrows_attaches, no_bit, then_attaches}
 use Rattle.vx_group.proofs.DetachLemmas.{zero_bit}

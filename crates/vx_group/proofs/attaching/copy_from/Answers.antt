@@ -1,3 +1,4 @@
+-- `copy_from`: clauses stands, attaches, opens, serial, cause, same and disks; what `copy_plex` asks.
 use Rattle.std.proofs.Common.{◌≡◌, true, false, IsTrue, Err, length, ap, sym, ◌∙◌, subst, arith, ℕ}
 use Rattle.vx_model.specs.declared.site.PlexState.TheVariants.{Active}
 use Rattle.vx_config.specs.Checks.{is_sound}

@@ -1,3 +1,4 @@
+-- `copy_to`: clauses attaches, settled, serial, disks, stands, opens, no_source and cause; what `try_from` asks; what stays true in its loop over `source`.
 use Rattle.std.proofs.Common.{ap, refl, sym, ◌∙◌, subst, arith}
 use Rattle.vx_volume.specs.Plexes.{active}
 use Rattle.vx_group.specs.Attaches.{Attaches, MayAttach}

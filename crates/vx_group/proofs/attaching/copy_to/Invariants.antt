@@ -1,3 +1,4 @@
+-- The loop of `copy_to` over `source`: what stays true.
 use Rattle.std.proofs.Common.{◌≡◌}
 use Rattle.vx_group.specs.Attaches.{SourcesTried}
 use Rattle.vx_group.proofs.attaching.copy_to.Given as goal

@@ -1,3 +1,4 @@
+-- `take_back`: clauses attaches, off and failing; what `detach` asks; that each place lies within.
 use Rattle.std.proofs.Common.{inl, refl}
 use Rattle.vx_volume.proofs.PlaceLemmas.{active_few}
 use Rattle.vx_kept.proofs.Chosen.{active_volumes}

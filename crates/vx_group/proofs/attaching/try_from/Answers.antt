@@ -1,3 +1,4 @@
+-- `try_from`: clauses attaches and tried; what `copy_from` asks.
 use Rattle.std.proofs.Common.{inl, refl, sym, ◌∙◌}
 use Rattle.vx_group.proofs.SourcesLemmas.{no_attaches, tried_by}
 use Rattle.vx_group.proofs.attaching.try_from.Goals as goal

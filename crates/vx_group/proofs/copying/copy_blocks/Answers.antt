@@ -1,3 +1,4 @@
+-- `copy_blocks`: clauses moved, cause and copied; what `copy_run` asks; what stays true in its loop over `done`.
 use Rattle.std.proofs.Common.{◌≡◌, ◌*◌, ℕ, Err, subst, arith}
 use Rattle.vx_config.specs.Checks.{blocks_of}
 use Rattle.vx_group.specs.Copying.{RunCopied}

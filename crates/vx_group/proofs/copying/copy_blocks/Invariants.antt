@@ -1,3 +1,4 @@
+-- The loop of `copy_blocks` over `done`: what stays true, and what falls.
 use Rattle.std.proofs.Common.{◌-◌, ◌≤◌}
 use Rattle.vx_group.specs.Copying.{RunCopied}
 use Rattle.vx_group.proofs.copying.copy_blocks.Given as goal

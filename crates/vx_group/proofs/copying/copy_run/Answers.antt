@@ -1,3 +1,4 @@
+-- `copy_run`: clauses moved and copied; what `read_plex`, `write_all` and `detach` ask.
 use Rattle.std.proofs.Common.{◌≡◌, refl, sym, ◌∙◌, true, false, arith}
 use Rattle.vx_group.proofs.LoseLemmas.{loses_detach}
 use Rattle.vx_group.proofs.UsesLemmas.{blamed_later}

@@ -1,3 +1,4 @@
+-- `copy_volume`: clauses moved, mirrored and cause.
 use Rattle.std.proofs.Common.{refl}
 use Rattle.vx_group.proofs.CallLemmas.{blames_later}
 use Rattle.vx_group.proofs.CopyLemmas.{flush_Mirrored, flush_Moved, ok_blamed, ok_both}

@@ -1,3 +1,4 @@
+-- `crash_in`: clauses stands, volumes and can.
 use Rattle.vx_group.specs.Holding.{wide}
 use Rattle.vx_group.proofs.FallenLemmas.{fallen_Stands, fallen_can, fallen_volumes}
 use Rattle.vx_group.proofs.crashing.crash_in.Goals as goal

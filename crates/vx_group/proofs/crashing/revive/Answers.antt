@@ -1,3 +1,4 @@
+-- `revive`: clause can.
 use Rattle.vx_group.proofs.FallenLemmas.{alike_can}
 use Rattle.vx_group.proofs.crashing.revive.Goals as goal
 

@@ -1,3 +1,4 @@
+-- `disks_of`: what stays true in its loop over `unit`.
 use Rattle.std.proofs.Common.{◌≡◌, ◌+◌, true, false, ℕ, length, List, refl, sym, ap, ◌∙◌, subst, arith}
 use Rattle.std.proofs.lemmas.List.{length_push}
 use Rattle.vx_config.specs.declared.entry.DiskEntry.{DiskEntry}

@@ -1,3 +1,4 @@
+-- The loop of `disks_of` over `unit`: what stays true.
 use Rattle.std.proofs.Common.{◌≡◌, length, true, false, ℕ}
 use Rattle.vx_copies.specs.Bodies.{have_blocks}
 use Rattle.vx_copies.specs.Marks.{failed_at}

@@ -1,3 +1,4 @@
+-- `prepare`: its result.
 use Rattle.std.proofs.Common.{arith}
 use Rattle.vx_group.proofs.CreateLemmas.{labels_ready, prepared}
 use Rattle.vx_group.proofs.Standing.{still_large}

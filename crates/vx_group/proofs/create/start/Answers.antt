@@ -1,3 +1,4 @@
+-- `start`: clause created; what `commit_first` asks.
 use Rattle.std.proofs.Common.{⊎_elim, false, ◌≡◌, true, inr, ℕ, List, None, length, refl, ap, sym, subst, arith}
 use Rattle.vx_config.specs.declared.config.Config.{Config}
 use Rattle.vx_config.specs.declared.entry.VolumeEntry.{VolumeEntry}

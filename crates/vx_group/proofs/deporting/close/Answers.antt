@@ -1,3 +1,4 @@
+-- `close`: clauses ends and cause; what `flush_volumes` and `commit_closed` ask.
 use Rattle.std.proofs.Common.{Err, arith}
 use Rattle.vx_group.proofs.DeportLemmas.{back_flushed, blames_stop, closes_later, settled_back, stops_later}
 use Rattle.vx_group.proofs.deporting.close.Goals as goal

@@ -1,3 +1,4 @@
+-- `commit_closed`: clauses ends and cause; what `commit_clean` asks.
 use Rattle.std.proofs.Common.{inl, true, List, length, Err, refl, sym, subst, arith}
 use Rattle.vx_disk.specs.Shelf.{Meaning}
 use Rattle.vx_disk.specs.declared.shelf.ShelfError.{ShelfError}

@@ -1,3 +1,4 @@
+-- `deport_in`: clause ends; what `close` asks.
 use Rattle.std.proofs.Common.{arith}
 use Rattle.vx_group.proofs.BehindLemmas.{behind_back, behind_deported, released_back}
 use Rattle.vx_group.proofs.HoldLemmas.{from_none}

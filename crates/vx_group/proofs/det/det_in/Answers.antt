@@ -1,3 +1,4 @@
+-- `det_in`: clauses goes, narrows, others and stands; what `detach_plex` asks.
 use Rattle.std.proofs.Common.{ℕ, List, ap, sym, ◌∙◌, arith}
 use Rattle.vx_disk.specs.Shelf.{Nothing}
 use Rattle.vx_group.specs.Stands.{volume_faults}

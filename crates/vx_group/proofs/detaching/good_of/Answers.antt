@@ -1,3 +1,4 @@
+-- `good_of`: that no number grows too large.
 use Rattle.std.proofs.Common.{arith, ◌≤◌, ◌<◌, ◌-◌, drop, length, ap}
 use Rattle.std.proofs.lemmas.List.{length-drop}
 use Rattle.vx_copies.specs.Answers.{good_set}

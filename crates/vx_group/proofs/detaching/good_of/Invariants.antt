@@ -1,3 +1,4 @@
+-- The loop of `good_of` over `k`: what stays true.
 use Rattle.std.proofs.Common.{◌≡◌, ◌-◌, drop, length}
 use Rattle.vx_copies.specs.Answers.{good_set}
 use Rattle.vx_group.proofs.detaching.good_of.Given as goal

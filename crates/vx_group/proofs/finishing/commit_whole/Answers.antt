@@ -1,3 +1,4 @@
+-- `commit_whole`: its result; what `commit_stale` asks.
 use Rattle.std.proofs.Common.{◌≡◌, inl, true, false, refl, sym, ◌∙◌}
 use Rattle.vx_group.proofs.CallLemmas.{not_down}
 use Rattle.vx_group.proofs.DetachLemmas.{zero_bit}

@@ -1,3 +1,4 @@
+-- `renew`: its result; what `mend_volumes` asks.
 use Rattle.std.proofs.Common.{◌∙◌, inl, sym, subst, ap, length, arith}
 use Rattle.vx_disk.specs.Causes.{DeviceCause}
 use Rattle.vx_model.specs.declared.no.No.{No}

@@ -1,3 +1,4 @@
+-- `flush_in`: clauses goes, cause, ok, marks, gave_up, loses, trust and 3 more.
 use Rattle.std.proofs.Common.{refl, ◌∙◌, ℕ, Bool, List, ap, subst, Err, arith}
 use Rattle.vx_disk.specs.Shelf.{Nothing}
 use Rattle.vx_disk.proofs.Runs.{nothing_then}

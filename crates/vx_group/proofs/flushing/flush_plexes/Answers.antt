@@ -1,3 +1,4 @@
+-- `flush_plexes`: clauses stands, goes, ok, all, cause, narrows, spent and 2 more; what `flush_all` and `detach` ask.
 use Rattle.std.proofs.Common.{inr, Err, refl, sym, subst, arith}
 use Rattle.vx_group.proofs.LoseLemmas.{loses_detach}
 use Rattle.vx_group.proofs.CopyLemmas.{spent_by, spent_none}

@@ -1,3 +1,4 @@
+-- The loop of `has_other` over `other`: what stays true.
 use Rattle.std.proofs.Common.{◌≡◌}
 use Rattle.vx_group.specs.Dets.{any_below, is_other}
 use Rattle.vx_group.proofs.holding.has_other.Given as goal

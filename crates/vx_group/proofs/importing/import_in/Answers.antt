@@ -1,3 +1,4 @@
+-- `import_in`: its result; what `renew` asks.
 use Rattle.std.proofs.Common.{inl, inr, refl, sym, ◌∙◌}
 use Rattle.vx_group.proofs.ImportLemmas.{import_early, import_late, import_ok, serial_left, source_active}
 use Rattle.vx_group.proofs.MendLemmas.{same_Goes}

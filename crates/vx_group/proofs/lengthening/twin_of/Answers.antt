@@ -1,3 +1,4 @@
+-- `twin_of`: its result.
 use Rattle.std.proofs.Common.{[], sym, ◌∙◌}
 use Rattle.std.proofs.lemmas.List.{append-nil}
 use Rattle.vx_config.specs.Configs.{spelled_config}

@@ -1,3 +1,4 @@
+-- `add`: clauses stays, adds and cause; what `add_last` asks.
 use Rattle.std.proofs.Common.{List, refl, sym, subst, arith}
 use Rattle.vx_config.specs.declared.entry.DiskEntry.{DiskEntry}
 use Rattle.vx_group.specs.Nexts.{IsNextConfig}

@@ -1,3 +1,4 @@
+-- `add_last`: clauses stands, stays, adds, cause and whole; what `zero_volume` and `commit_next` ask.
 use Rattle.std.proofs.Common.{ℕ, length, Err, refl, ap, sym, subst, arith}
 use Rattle.vx_disk.specs.Shelf.{Goes, Meaning}
 use Rattle.vx_disk.specs.declared.shelf.ShelfError.{ShelfError}

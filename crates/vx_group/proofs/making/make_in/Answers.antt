@@ -1,3 +1,4 @@
+-- `make_in`: clauses stays, unmoved, ends and stands; what `plan` and `add` ask.
 use Rattle.std.proofs.Common.{◌≡◌, ℕ, List, length, Err, refl, ap, sym, ◌∙◌, subst, arith}
 use Rattle.vx_config.specs.declared.entry.DiskEntry.{DiskEntry}
 use Rattle.vx_model.specs.declared.errors.Stop.TheVariants.{No as Refused}

@@ -1,3 +1,4 @@
+-- `plan`: clause ends; what `find_space`, `volume_of` and `longer` ask.
 use Rattle.std.proofs.Common.{inl, refl, ap, sym, ◌∙◌, arith}
 use Rattle.std.specs.List.{list_all}
 use Rattle.vx_kept.proofs.Narrower.{sound_few}

@@ -1,3 +1,4 @@
+-- `has_good`: what stays true in its loop over `k`.
 use Rattle.std.proofs.Common.{◌∙◌, sym, inl, inr}
 use Rattle.vx_copies.proofs.Settling.{failed_at as failed_is, no_disk}
 use Rattle.vx_copies.proofs.Marked.{none_more}

@@ -1,3 +1,4 @@
+-- The loop of `has_good` over `k`: what stays true.
 use Rattle.vx_copies.specs.Marks.{NoneGood}
 use Rattle.vx_group.proofs.marking.has_good.Given as goal
 

@@ -1,3 +1,4 @@
+-- `hold_good`: its result.
 use Rattle.std.proofs.Common.{◌∙◌, ap, sym, get_or, ℕ, List, false}
 use Rattle.std.specs.Prelude.{slice_set}
 use Rattle.vx_config.specs.declared.entry.DiskEntry.{DiskEntry}

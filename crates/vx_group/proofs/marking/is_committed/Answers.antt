@@ -1,3 +1,4 @@
+-- `is_committed`: what stays true in its loop over `k`.
 use Rattle.std.proofs.Common.{◌∙◌, arith}
 use Rattle.vx_copies.proofs.Settling.{failed_at as failed_is, no_disk}
 use Rattle.vx_group.proofs.TrustLemmas.{good_more}

@@ -1,3 +1,4 @@
+-- The loop of `is_committed` over `k`: what stays true.
 use Rattle.vx_group.proofs.TrustLemmas.{GoodBelow}
 use Rattle.vx_group.proofs.marking.is_committed.Given as goal
 

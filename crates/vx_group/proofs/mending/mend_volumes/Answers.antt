@@ -1,3 +1,4 @@
+-- `mend_volumes`: clause mended; what stays true in its loop over `vol`.
 use Rattle.std.proofs.Common.{◌+◌, sym, subst, ap, length, arith}
 use Rattle.vx_group.specs.Mends.{Mending}
 use Rattle.vx_group.specs.declared.inner.Inner.{Inner}

@@ -1,3 +1,4 @@
+-- The loop of `mend_volumes` over `vol`: what stays true.
 use Rattle.vx_group.specs.Mends.{Mending}
 use Rattle.vx_group.proofs.mending.mend_volumes.Given as goal
 

@@ -1,3 +1,4 @@
+-- `first_inside`: its result; what stays true in its loop over `place`.
 use Rattle.std.proofs.Common.{Some, ap, sym, ◌∙◌, arith}
 use Rattle.vx_group.specs.Resumes.{takes_in}
 use Rattle.vx_group.proofs.PlanLemmas.{at_get, first_at, first_none, none_step}

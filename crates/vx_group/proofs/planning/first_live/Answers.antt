@@ -1,3 +1,4 @@
+-- `first_live`: its result; what stays true in its loop over `place`.
 use Rattle.std.proofs.Common.{Some, ap, sym, ◌∙◌, arith}
 use Rattle.vx_config.specs.Checks.{is_live}
 use Rattle.vx_group.proofs.PlanLemmas.{at_get, first_at, first_none, none_step}

@@ -1,3 +1,4 @@
+-- The loop of `first_live` over `place`: what stays true.
 use Rattle.vx_config.specs.Checks.{is_live}
 use Rattle.vx_group.proofs.PlanLemmas.{NoneBelow}
 use Rattle.vx_group.proofs.planning.first_live.Given as goal

@@ -1,3 +1,4 @@
+-- `first_of`: its result.
 use Rattle.std.proofs.Common.{arith}
 use Rattle.vx_group.proofs.PlanLemmas.{first_inside_is, first_live_is}
 use Rattle.vx_group.proofs.planning.first_of.Goals as goal

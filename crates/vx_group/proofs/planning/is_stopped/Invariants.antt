@@ -1,3 +1,4 @@
+-- The loop of `is_stopped` over `plex`: what stays true.
 use Rattle.std.proofs.Common.{◌≡◌}
 use Rattle.vx_volume.specs.Plexes.{active}
 use Rattle.vx_group.specs.Dets.{any_below}

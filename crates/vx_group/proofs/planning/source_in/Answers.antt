@@ -1,3 +1,4 @@
+-- `source_in`: that no number grows too large.
 use Rattle.std.proofs.Common.{ap, length, arith}
 use Rattle.vx_group.proofs.PlanLemmas.{in_few}
 use Rattle.vx_group.proofs.planning.source_in.Goals as goal

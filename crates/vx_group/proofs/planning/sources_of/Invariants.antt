@@ -1,3 +1,4 @@
+-- The loop of `sources_of` over `vol`: what stays true.
 use Rattle.std.proofs.Common.{◌≡◌, ℕ, ◌<◌, length}
 use Rattle.vx_group.specs.Resumes.{source_at, source_of}
 use Rattle.vx_group.proofs.planning.sources_of.Given as goal

@@ -1,3 +1,4 @@
+-- The loop of `stopped_of` over `vol`: what stays true.
 use Rattle.std.proofs.Common.{◌≡◌, ℕ, ◌<◌, length}
 use Rattle.vx_kept.specs.Cleans.{is_unsure}
 use Rattle.vx_group.specs.Resumes.{stopped}

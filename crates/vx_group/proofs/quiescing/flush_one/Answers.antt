@@ -1,3 +1,4 @@
+-- `flush_one`: clauses ends and cause; what `flush_all` and `detach` ask.
 use Rattle.std.proofs.Common.{Err, inl, inr, refl, sym, subst, arith}
 use Rattle.vx_disk.proofs.Causing.{Rose_after}
 use Rattle.vx_disk.specs.declared.shelf.ShelfError.{ShelfError}

@@ -1,3 +1,4 @@
+-- `flush_volumes`: clauses ends and cause; what `flush_one` asks; what stays true in its loop over `vol`.
 use Rattle.std.proofs.Common.{Err, ap, length, arith}
 use Rattle.vx_group.proofs.CallLemmas.{blames_later}
 use Rattle.vx_group.proofs.QuiesceLemmas.{all_quiesced, none_quiesced, one_less, one_more}

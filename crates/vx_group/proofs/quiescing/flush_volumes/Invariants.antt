@@ -1,3 +1,4 @@
+-- The loop of `flush_volumes` over `vol`: what stays true.
 use Rattle.std.proofs.Common.{ℕ, ◌<◌}
 use Rattle.vx_group.specs.Quiesces.{Quiesced}
 use Rattle.vx_group.proofs.quiescing.flush_volumes.Given as goal

@@ -1,3 +1,4 @@
+-- `read_in`: clauses stands, goes, shown and ok; what `read` asks.
 use Rattle.std.proofs.Common.{ℕ, ◌/◌, sym, subst, arith}
 use Rattle.vx_volume.specs.Volumes.{PlexRead}
 use Rattle.vx_group.specs.Holding.{wide}

@@ -1,3 +1,4 @@
+-- `hold_one`: its result.
 use Rattle.std.proofs.Common.{◌≡◌, inl, inr, true, false, List, length, refl, ap, sym, ◌∙◌, arith}
 use Rattle.vx_config.specs.declared.entry.DiskEntry.{DiskEntry}
 use Rattle.vx_copies.specs.Marks.{failed_at}

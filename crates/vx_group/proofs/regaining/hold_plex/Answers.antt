@@ -1,3 +1,4 @@
+-- `hold_plex`: clause regained; what `hold_one-any` asks; what stays true in its loop over `disk`.
 use Rattle.std.proofs.Common.{length, ap, arith}
 use Rattle.vx_group.proofs.RegainLemmas.{regained_start, regained_step, regained_to}
 use Rattle.vx_group.proofs.regaining.hold_plex.Goals as goal

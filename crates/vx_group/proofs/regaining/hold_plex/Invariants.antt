@@ -1,3 +1,4 @@
+-- The loop of `hold_plex` over `disk`: what stays true.
 use Rattle.vx_group.specs.Regains.{Regained}
 use Rattle.vx_group.proofs.regaining.hold_plex.Given as goal
 

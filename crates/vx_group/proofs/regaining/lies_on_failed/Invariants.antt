@@ -1,3 +1,4 @@
+-- The loop of `lies_on_failed` over `disk`: what stays true.
 use Rattle.vx_group.proofs.RegainLemmas.{HeldBelow}
 use Rattle.vx_group.proofs.regaining.lies_on_failed.Given as goal
 

@@ -1,3 +1,4 @@
+-- `recommit`: clause narrows; what `detach_named` asks.
 use Rattle.std.proofs.Common.{refl}
 use Rattle.vx_group.proofs.CallLemmas.{both_Narrows}
 use Rattle.vx_group.proofs.DetachLemmas.{zero_bit}

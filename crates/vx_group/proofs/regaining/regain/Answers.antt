@@ -1,3 +1,4 @@
+-- `regain`: clauses stands, narrows, volumes, few, regains and held; what `recommit` asks.
 use Rattle.std.proofs.Common.{true, length, refl, sym, ◌∙◌, subst, arith}
 use Rattle.vx_config.specs.declared.config.Config.{Config}
 use Rattle.vx_group.specs.Stands.{InnerStands}

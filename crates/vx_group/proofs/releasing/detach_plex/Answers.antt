@@ -1,3 +1,4 @@
+-- `detach_plex`: clauses off, cause, narrows, others, trust, agreed, kept and 3 more; what `detach` asks; that each place lies within.
 use Rattle.std.proofs.Common.{inl, length, ◌∙◌, arith}
 use Rattle.vx_volume.proofs.PlaceLemmas.{active_few}
 use Rattle.vx_group.proofs.CallLemmas.{blames_later, both_Narrows}

@@ -1,3 +1,4 @@
+-- `release`: clauses stands, narrows and volumes; what `detach_plex-result` asks.
 use Rattle.std.proofs.Common.{◌∙◌, refl, sym}
 use Rattle.vx_group.proofs.HoldLemmas.{e_Stands, e_narrows, e_volumes, x_other}
 use Rattle.vx_group.proofs.releasing.release.Goals as goal

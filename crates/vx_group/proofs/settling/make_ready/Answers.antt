@@ -1,3 +1,4 @@
+-- `make_ready`: clauses narrows, cause, volumes, failing, few, good, trust and agreed; what `detach` asks.
 use Rattle.std.proofs.Common.{◌∙◌, length, refl, arith}
 use Rattle.vx_group.proofs.CallLemmas.{blames_later, both_Narrows}
 use Rattle.vx_group.proofs.DetachLemmas.{zero_bit}

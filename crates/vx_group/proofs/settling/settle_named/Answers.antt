@@ -1,3 +1,4 @@
+-- `settle_named`: clauses stands, narrows, cause, same, still, failing, named and 2 more; what `settle` asks; what stays true in its loop over `disk`.
 use Rattle.std.proofs.Common.{◌≡◌, ◌+◌, ◌<◌, ◌∙◌, ℕ, Bool, true, false, List, length, refl, ap, sym, subst, arith}
 use Rattle.vx_config.specs.declared.entry.DiskEntry.{DiskEntry}
 use Rattle.vx_copies.proofs.OneTry.{wanted_count}

@@ -1,3 +1,4 @@
+-- The loop of `settle_named` over `disk`: what stays true.
 use Rattle.std.proofs.Common.{◌≡◌}
 use Rattle.vx_group.specs.Settled.{SettledTo}
 use Rattle.vx_group.proofs.settling.settle_named.Given as goal

@@ -1,3 +1,4 @@
+-- The loop of `plex_of` over `run`: what stays true.
 use Rattle.std.proofs.Common.{◌≡◌, take}
 use Rattle.vx_group.proofs.shaping.plex_of.Given as goal
 

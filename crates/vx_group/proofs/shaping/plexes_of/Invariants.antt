@@ -1,3 +1,4 @@
+-- The loop of `plexes_of` over `runs`: what stays true.
 use Rattle.std.proofs.Common.{◌≡◌, take}
 use Rattle.std.specs.Prelude.{map}
 use Rattle.vx_layout.specs.Made.{made_plex}

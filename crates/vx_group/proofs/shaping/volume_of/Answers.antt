@@ -1,3 +1,4 @@
+-- `volume_of`: its result.
 use Rattle.std.proofs.Common.{refl, ap, ◌∙◌}
 use Rattle.std.specs.Prelude.{map}
 use Rattle.vx_layout.specs.Made.{made_plex}

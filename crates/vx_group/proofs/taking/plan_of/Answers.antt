@@ -1,3 +1,4 @@
+-- `plan_of`: its result; what `new` asks.
 use Rattle.std.proofs.Common.{ℕ, Bool, false, List, [], ◌∷◌, refl, arith}
 use Rattle.vx_kept.proofs.Narrower.{sound_few}
 use Rattle.vx_group.proofs.ResumeLemmas.{false_at, plan_can, zeros_at}

@@ -1,3 +1,4 @@
+-- `sizes_fit`: clause small; what stays true in its loop over `vol`.
 use Rattle.std.proofs.Common.{length, ap, arith}
 use Rattle.vx_group.proofs.PlanLemmas.{blocks_all, blocks_more}
 use Rattle.vx_group.proofs.taking.sizes_fit.Goals as goal

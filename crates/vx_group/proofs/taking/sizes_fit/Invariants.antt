@@ -1,3 +1,4 @@
+-- The loop of `sizes_fit` over `vol`: what stays true.
 use Rattle.std.proofs.Common.{ℕ, ◌<◌, ◌^◌}
 use Rattle.vx_config.specs.Checks.{blocks_of}
 use Rattle.vx_group.proofs.taking.sizes_fit.Given as goal

@@ -1,3 +1,4 @@
+-- `take_up`: clause takes; what `plan_of` asks.
 use Rattle.vx_group.proofs.TakeLemmas.{came_sound, err_takes, takes_all}
 use Rattle.vx_group.proofs.taking.take_up.Goals as goal
 

@@ -1,3 +1,4 @@
+-- `write_group`: clauses goes, loses, cause, stands, ok, gave_up, clear and acts.
 use Rattle.std.proofs.Common.{◌/◌, ◌∙◌, ℕ, List, length, ap, subst, arith}
 use Rattle.vx_disk.specs.Shelf.{Meaning, Written, Wrote}
 use Rattle.vx_disk.proofs.Runs.{none_written}

@@ -1,3 +1,4 @@
+-- `write_in`: clauses goes, cause, ok, marks, gave_up, loses, trust and 3 more.
 use Rattle.std.proofs.Common.{refl, ◌/◌, ◌∙◌, ℕ, Bool, List, length, ap, subst, Err, arith}
 use Rattle.vx_disk.specs.Shelf.{Written}
 use Rattle.vx_disk.proofs.Runs.{none_written, nothing_then}

@@ -1,3 +1,4 @@
+-- `write_plexes`: clauses stands, goes, ok, all, cause, gave_up, loses and 2 more; what `write_all` and `detach` ask.
 use Rattle.std.proofs.Common.{refl, inr, ◌/◌, length, Err, sym, subst, arith}
 use Rattle.vx_group.proofs.LoseLemmas.{loses_detach, loses_same}
 use Rattle.vx_group.proofs.CallLemmas.{blames_by, ends_blame, left_done, ok_by}

@@ -1,3 +1,4 @@
+-- `zero_blocks`: clauses goes and ok; what stays true in its loop over `done`.
 use Rattle.std.proofs.Common.{arith}
 use Rattle.vx_config.specs.Checks.{blocks_of}
 use Rattle.vx_group.proofs.ZeroLemmas.{zero_end, zero_more, zero_then}

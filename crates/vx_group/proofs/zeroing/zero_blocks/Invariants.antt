@@ -1,3 +1,4 @@
+-- The loop of `zero_blocks` over `done`: what stays true, and what falls.
 use Rattle.std.proofs.Common.{◌-◌}
 use Rattle.vx_config.specs.Checks.{blocks_of}
 use Rattle.vx_group.specs.Makes.{ZeroLoop}

@@ -1,3 +1,4 @@
+-- `zero_run`: clauses goes and ok.
 use Rattle.vx_group.proofs.ZeroLemmas.{run_is, zero_goes, zero_ok}
 use Rattle.vx_group.proofs.zeroing.zero_run.Goals as goal
 

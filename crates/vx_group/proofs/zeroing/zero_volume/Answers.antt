@@ -1,3 +1,4 @@
+-- `zero_volume`: clauses goes, ok and cause.
 use Rattle.vx_group.proofs.CallLemmas.{blames_later}
 use Rattle.vx_group.proofs.ZeroLemmas.{zero_all, zero_flushed}
 use Rattle.vx_group.proofs.zeroing.zero_volume.Goals as goal

@@ -1,3 +1,4 @@
+-- `crash_and_import`: what `import` asks.
 use Rattle.std.proofs.Common.{◌∙◌, sym}
 use Rattle.vx_group_rows.proofs.crashes.crash_and_import.Goals as goal
 

@@ -1,3 +1,4 @@
+-- `behind`: what `import` asks.
 use Rattle.vx_group_rows.proofs.UntoldLemmas.{untold_can}
 use Rattle.vx_group_rows.proofs.cuts.behind.Goals as goal
 

@@ -1,3 +1,4 @@
+-- `again`: what `import` asks.
 use Rattle.vx_group_rows.proofs.UntoldLemmas.{untold_can}
 use Rattle.vx_group_rows.proofs.imports.again.Goals as goal
 

@@ -1,3 +1,4 @@
+-- `import`: what `import` asks.
 use Rattle.vx_group_rows.proofs.UntoldLemmas.{untold_can}
 use Rattle.vx_group_rows.proofs.imports.import.Goals as goal
 

@@ -1,3 +1,4 @@
+-- `reads`: what `import` asks.
 use Rattle.vx_group_rows.proofs.UntoldLemmas.{untold_can}
 use Rattle.vx_group_rows.proofs.imports.reads.Goals as goal
 

@@ -1,3 +1,4 @@
+-- `failing`: what the search does not find.
 use Rattle.vx_group_rows.proofs.UntoldLemmas.{untold_stands}
 use Rattle.vx_group_rows.proofs.regains.failing.Goals as goal
 

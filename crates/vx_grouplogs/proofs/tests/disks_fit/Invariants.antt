@@ -1,3 +1,4 @@
+-- The loop of `disks_fit` over `k`: what stays true.
 use Rattle.std.proofs.Common.{◌≡◌, ℕ, ◌<◌}
 use Rattle.vx_layout.specs.Places.{disk_blocks}
 use Rattle.vx_grouplogs.proofs.tests.disks_fit.Given as goal

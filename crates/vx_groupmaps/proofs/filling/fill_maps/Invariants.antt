@@ -1,3 +1,4 @@
+-- The loop of `fill_maps` over `plex`: what stays true.
 use Rattle.vx_groupmaps.proofs.FillLemmas.{Filling}
 use Rattle.vx_groupmaps.proofs.filling.fill_maps.Given as goal
 

@@ -1,3 +1,4 @@
+-- The loop of `flush_mapped` over `plex`: what stays true.
 use Rattle.vx_groupmaps.specs.Flushing.{MappedLoop}
 use Rattle.vx_groupmaps.proofs.flushing.flush_mapped.Given as goal
 

@@ -1,3 +1,4 @@
+-- The loop of `flush_one` over `disk`: what stays true.
 use Rattle.vx_volume.specs.Steps.{FlushedBelow}
 use Rattle.vx_groupmaps.proofs.flushing.flush_one.Given as goal
 

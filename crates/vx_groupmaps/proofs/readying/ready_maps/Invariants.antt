@@ -1,3 +1,4 @@
+-- The loop of `ready_maps` over `plex`: what stays true.
 use Rattle.std.proofs.Common.{◌≡◌}
 use Rattle.vx_groupmaps.specs.Missing.{MapsReady}
 use Rattle.vx_groupmaps.proofs.ReadyLemmas.{Readying}

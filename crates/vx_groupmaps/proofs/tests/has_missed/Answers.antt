@@ -1,3 +1,4 @@
+-- `has_missed`: what `missed` asks.
 use Rattle.std.proofs.Common.{◌≡◌, ◌∙◌, ap, arith}
 use Rattle.vx_groupmaps.proofs.tests.has_missed.Goals as goal
 

@@ -1,3 +1,4 @@
+-- The loop of `with_stored` over `link`: what stays true.
 use Rattle.std.proofs.Common.{◌≡◌, take}
 use Rattle.vx_joins.specs.Hearings.{links_stored}
 use Rattle.vx_joins.proofs.hearing.with_stored.Given as goal

@@ -1,3 +1,4 @@
+-- `updates_fit`: clauses fit and one.
 use Rattle.vx_joins.proofs.UpdatesFit.{are_one, update_fits}
 use Rattle.vx_joins.proofs.laws.updates_fit.Goals as goal
 

@@ -1,3 +1,4 @@
+-- `clean_volume`: what stays true in its loop over `plex`.
 use Rattle.std.proofs.Common.{◌≡◌, ◌+◌, ℕ, IsTrue, sym, ◌∙◌, subst}
 use Rattle.vx_config.specs.Checks.{is_sound}
 use Rattle.vx_config.specs.Configs.{CanSpell}

@@ -1,3 +1,4 @@
+-- `make_clean`: what stays true in its loop over `vol`.
 use Rattle.std.proofs.Common.{◌≡◌, ◌+◌, ℕ, List, Bool, IsTrue, sym, ◌∙◌, subst}
 use Rattle.vx_config.specs.Checks.{is_sound}
 use Rattle.vx_config.specs.Configs.{CanSpell}

@@ -1,3 +1,4 @@
+-- `make_open`: clauses back, opens, can and sound; what stays true in its loop over `turn`.
 use Rattle.std.proofs.Common.{◌≡◌, ◌+◌, ◌-◌, ℕ, List, Bool, length, ap, ◌∙◌, subst, arith}
 use Rattle.vx_config.specs.declared.config.Config.{Config}
 use Rattle.vx_kept.specs.Cleans.{cleaned}

@@ -1,3 +1,4 @@
+-- `open_volume`: clauses back, same, opens, can and sound; what stays true in its loop over `turn`.
 use Rattle.std.proofs.Common.{◌≡◌, ◌+◌, ◌-◌, ℕ, IsTrue, refl, ap, sym, ◌∙◌, subst, arith}
 use Rattle.std.specs.Prelude.{true, slice_get}
 use Rattle.vx_config.specs.Changes.{has_live}

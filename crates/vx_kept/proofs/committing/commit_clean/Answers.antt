@@ -1,3 +1,4 @@
+-- `commit_clean`: clauses acts, ends, can, wanted and trusts; what `commit_in` asks.
 use Rattle.std.proofs.Common.{◌≡◌, true, refl, sym, subst}
 use Rattle.vx_disk.specs.Shelf.{Meaning}
 use Rattle.vx_config.specs.Configs.{CanSpell}

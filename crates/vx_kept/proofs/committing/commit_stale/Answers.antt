@@ -1,3 +1,4 @@
+-- `commit_stale`: clauses acts, on, ends, can, wanted, named and trusts; what `commit_named` asks.
 use Rattle.std.proofs.Common.{ap, inl, inr, ⊎_elim, ◌∙◌, ◌≡◌, true, refl, sym, subst}
 use Rattle.vx_disk.specs.Shelf.{Meaning}
 use Rattle.vx_config.specs.Configs.{CanSpell}

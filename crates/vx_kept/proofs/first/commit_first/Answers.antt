@@ -1,3 +1,4 @@
+-- `commit_first`: clauses ends and trusts; what `commit_in` asks.
 use Rattle.vx_disk.specs.Shelf.{Meaning}
 use Rattle.vx_kept.proofs.Firsts.{first_ends, first_trusts}
 use Rattle.vx_kept.proofs.Narrower.{sound_few, wanted_sound}

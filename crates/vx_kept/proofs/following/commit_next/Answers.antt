@@ -1,3 +1,4 @@
+-- `commit_next`: clauses acts, ends, on and trusts; what `commit_in` asks.
 use Rattle.vx_disk.specs.Shelf.{Meaning}
 use Rattle.vx_kept.specs.Commits.{Member}
 use Rattle.vx_kept.proofs.Committed.{base_of, take_acts}

@@ -1,3 +1,4 @@
+-- `make_active`: what stays true in its loop over `turn`.
 use Rattle.std.proofs.Common.{◌≡◌, ◌+◌, ◌-◌, ℕ, suc, subst, sym, ◌∙◌, arith}
 use Rattle.vx_config.specs.declared.config.Config.{Config}
 use Rattle.vx_kept.specs.States.{staled}

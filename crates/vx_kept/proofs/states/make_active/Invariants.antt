@@ -1,3 +1,4 @@
+-- The loop of `make_active` over `turn`: what stays true.
 use Rattle.std.proofs.Common.{◌≡◌, ◌-◌}
 use Rattle.vx_config.specs.declared.config.Config.{Config}
 use Rattle.vx_kept.specs.States.{AreOn, staled}

@@ -1,3 +1,4 @@
+-- `make_stale`: what stays true in its loop over `plex`.
 use Rattle.std.proofs.Common.{◌≡◌, ◌+◌, ℕ, IsTrue, suc, subst, sym, ◌∙◌, arith}
 use Rattle.vx_config.specs.Checks.{is_sound}
 use Rattle.vx_config.specs.Configs.{CanSpell}

@@ -1,3 +1,4 @@
+-- The loop of `make_stale` over `plex`: what stays true.
 use Rattle.std.proofs.Common.{◌≡◌, IsTrue}
 use Rattle.vx_config.specs.Checks.{is_sound}
 use Rattle.vx_config.specs.Configs.{CanSpell}

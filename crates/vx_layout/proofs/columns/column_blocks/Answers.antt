@@ -1,3 +1,4 @@
+-- `column_blocks`: that no number grows too large.
 use Rattle.std.proofs.Common.{arith}
 use Rattle.vx_layout.proofs.RoomLemmas.{column_fits}
 use Rattle.vx_layout.proofs.columns.column_blocks.Goals as goal

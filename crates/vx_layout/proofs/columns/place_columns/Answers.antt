@@ -1,3 +1,4 @@
+-- `place_columns`: its result; what stays true in its loop over `column`.
 use Rattle.std.proofs.Common.{arith, refl}
 use Rattle.std.proofs.lemmas.Result.{err_from_is_err_and}
 use Rattle.vx_layout.proofs.RoomLemmas.{column_end, column_more, column_start, columns_err}

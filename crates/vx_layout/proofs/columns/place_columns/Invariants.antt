@@ -1,3 +1,4 @@
+-- The loop of `place_columns` over `column`: what stays true.
 use Rattle.vx_layout.specs.Steps.{Columning}
 use Rattle.vx_layout.proofs.columns.place_columns.Given as goal
 

@@ -1,3 +1,4 @@
+-- `place_whole`: what `take_lowest` asks.
 use Rattle.vx_layout.proofs.RoomLemmas.{one_fits}
 use Rattle.vx_layout.proofs.columns.place_whole.Goals as goal
 

@@ -1,3 +1,4 @@
+-- `spread`: its result; what `take_lowest` asks; what stays true in its loop over `disk`.
 use Rattle.std.proofs.Common.{◌≡◌, arith}
 use Rattle.std.specs.Prelude.{min}
 use Rattle.vx_layout.specs.Space.{disk_room}

@@ -1,3 +1,4 @@
+-- The loop of `spread` over `disk`: what stays true.
 use Rattle.vx_layout.specs.Space.{disk_room}
 use Rattle.vx_layout.specs.Steps.{Spreading}
 use Rattle.vx_layout.proofs.columns.spread.Given as goal

@@ -1,3 +1,4 @@
+-- `free_on`: what stays true in its loop over `block`.
 use Rattle.vx_layout.proofs.Gaps.{count_more}
 use Rattle.vx_layout.proofs.gap.free_on.Goals as goal
 

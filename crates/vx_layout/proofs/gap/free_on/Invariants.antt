@@ -1,3 +1,4 @@
+-- The loop of `free_on` over `block`: what stays true, and what falls.
 use Rattle.std.proofs.Common.{◌≡◌, ◌⊎◌, ◌+◌, ◌≤◌, ◌-◌}
 use Rattle.vx_layout.specs.Free.{free_in}
 use Rattle.vx_layout.proofs.gap.free_on.Given as goal

@@ -1,3 +1,4 @@
+-- `held_from`: clauses held and free.
 use Rattle.std.proofs.Common.{refl, sym}
 use Rattle.vx_layout.proofs.Gaps.{held_on, none_held}
 use Rattle.vx_layout.proofs.gap.held_from.Goals as goal

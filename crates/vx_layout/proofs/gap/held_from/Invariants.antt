@@ -1,3 +1,4 @@
+-- The loop of `held_from` over `run`: what stays true.
 use Rattle.std.proofs.Common.{◌≡◌, false, take}
 use Rattle.std.specs.List.{list_any}
 use Rattle.vx_layout.specs.Free.{holds}

@@ -1,3 +1,4 @@
+-- `reach`: its result; what `cut-blocks` asks; what stays true in its loop over `run`.
 use Rattle.std.proofs.Common.{arith}
 use Rattle.vx_layout.proofs.Gaps.{free_item, reach_end, reach_more}
 use Rattle.vx_layout.proofs.gap.reach.Goals as goal

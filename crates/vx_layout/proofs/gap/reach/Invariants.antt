@@ -1,3 +1,4 @@
+-- The loop of `reach` over `run`: what stays true.
 use Rattle.vx_layout.specs.Reaches.{Reaching}
 use Rattle.vx_layout.proofs.gap.reach.Given as goal
 

@@ -1,3 +1,4 @@
+-- The loop of `skip` over `block`: what stays true, and what falls.
 use Rattle.std.proofs.Common.{◌≡◌, ℕ, ◌<◌, ◌≤◌, ◌-◌, false}
 use Rattle.vx_layout.specs.Free.{is_free}
 use Rattle.vx_layout.proofs.gap.skip.Given as goal

@@ -1,3 +1,4 @@
+-- `find_run`: its result; what stays true in its loop over `disk`.
 use Rattle.vx_layout.proofs.LogLemmas.{none_end, none_hit, none_more, none_start}
 use Rattle.vx_layout.proofs.logs.find_run.Goals as goal
 

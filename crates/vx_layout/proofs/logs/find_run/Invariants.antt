@@ -1,3 +1,4 @@
+-- The loop of `find_run` over `disk`: what stays true.
 use Rattle.vx_layout.specs.Steps.{NoneBelow}
 use Rattle.vx_layout.proofs.logs.find_run.Given as goal
 

@@ -1,3 +1,4 @@
+-- `run_on`: its result; what stays true in its loop over `block`.
 use Rattle.std.proofs.Common.{arith}
 use Rattle.vx_layout.proofs.LogLemmas.{before_end, before_hit, before_more, before_start}
 use Rattle.vx_layout.proofs.logs.run_on.Goals as goal

@@ -1,3 +1,4 @@
+-- The loop of `run_on` over `block`: what stays true, and what falls.
 use Rattle.std.proofs.Common.{◌-◌}
 use Rattle.vx_layout.specs.Runs.{LongestBefore}
 use Rattle.vx_layout.proofs.logs.run_on.Given as goal

@@ -1,3 +1,4 @@
+-- `place_plexes`: its result; what stays true in its loop over `plex`.
 use Rattle.std.proofs.Common.{◌≡◌, Global, Vec, length, ◌∙◌, arith, refl}
 use Rattle.std.proofs.lemmas.Result.{err_from_is_err_and}
 use Rattle.vx_layout.specs.Steps.{Placed}

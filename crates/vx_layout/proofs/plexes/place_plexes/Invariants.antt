@@ -1,3 +1,4 @@
+-- The loop of `place_plexes` over `plex`: what stays true.
 use Rattle.vx_layout.specs.Steps.{Placing}
 use Rattle.vx_layout.proofs.plexes.place_plexes.Given as goal
 

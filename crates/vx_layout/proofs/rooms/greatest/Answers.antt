@@ -1,3 +1,4 @@
+-- `greatest`: what stays true in its loop over `disk`.
 use Rattle.vx_layout.proofs.RoomLemmas.{most_more}
 use Rattle.vx_layout.proofs.rooms.greatest.Goals as goal
 

@@ -1,3 +1,4 @@
+-- The loop of `greatest` over `disk`: what stays true.
 use Rattle.std.proofs.Common.{◌≡◌, ℕ, ◌<◌, ◌≤◌, get_or}
 use Rattle.vx_layout.proofs.rooms.greatest.Given as goal
 

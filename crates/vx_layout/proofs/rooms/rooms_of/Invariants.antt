@@ -1,3 +1,4 @@
+-- The loop of `rooms_of` over `disk`: what stays true.
 use Rattle.vx_layout.specs.Space.{disk_room}
 use Rattle.vx_layout.specs.Steps.{AreRooms}
 use Rattle.vx_layout.proofs.rooms.rooms_of.Given as goal

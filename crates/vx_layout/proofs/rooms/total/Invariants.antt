@@ -1,3 +1,4 @@
+-- The loop of `total` over `disk`: what stays true.
 use Rattle.std.proofs.Common.{◌≡◌, ◌+◌, ◌*◌, ◌-◌, ◌≤◌}
 use Rattle.std.specs.Prelude.{slice_index}
 use Rattle.vx_layout.specs.Space.{room_sum}

@@ -1,3 +1,4 @@
+-- The loop of `locate` over `subdisk`: what stays true.
 use Rattle.std.proofs.Common.{◌≡◌, ◌+◌, ◌<◌, ℕ, drop}
 use Rattle.std.specs.Prelude.{sum_by}
 use Rattle.vx_layout.specs.Places.{subdisk_blocks, located}

@@ -1,3 +1,4 @@
+-- `take_lowest`: its result; what `next_gap-gap` asks; what stays true in its loop over `left`.
 use Rattle.std.proofs.Common.{arith}
 use Rattle.vx_layout.proofs.Takes.{before_end, gap_some, take_end, take_more, take_start}
 use Rattle.vx_layout.proofs.take.take_lowest.Goals as goal

@@ -1,3 +1,4 @@
+-- The loop of `take_lowest` over `left`: what stays true, and what falls.
 use Rattle.vx_layout.specs.Reaches.{Taking}
 use Rattle.vx_layout.proofs.take.take_lowest.Given as goal
 

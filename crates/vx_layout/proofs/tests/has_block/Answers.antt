@@ -1,3 +1,4 @@
+-- `has_block`: its result.
 use Rattle.std.proofs.Common.{◌≡◌, ap, arith, length}
 use Rattle.std.proofs.lemmas.Bool.{ltb-true}
 use Rattle.vx_layout.proofs.Placing.{got, has_from}

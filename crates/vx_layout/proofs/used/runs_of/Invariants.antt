@@ -1,3 +1,4 @@
+-- The loop of `runs_of` over `volume`: what stays true.
 use Rattle.std.proofs.Common.{◌≡◌, take}
 use Rattle.std.specs.Prelude.{flat_map}
 use Rattle.vx_config.specs.Checks.{volume_runs}

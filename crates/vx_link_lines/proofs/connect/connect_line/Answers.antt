@@ -1,3 +1,4 @@
+-- `connect_line`: clause leads; what `site_of-there` and `connect` ask.
 use Rattle.std.proofs.Common.{◌≡◌, ◌∙◌, ◌≤◌, length, refl, subst, sym}
 use Rattle.std.specs.Prelude.{None}
 use Rattle.std.proofs.lemmas.List.{with_items_is}

@@ -1,3 +1,4 @@
+-- `pump_line`: clauses told, leads, asked and called; what `site_of-here`, `link_named` and `keep_pumped` ask.
 use Rattle.std.proofs.Common.{◌≡◌, ◌∙◌, ⊎_elim, refl, subst, sym}
 use Rattle.std.specs.Prelude.{None, slice_set}
 use Rattle.vx_events.specs.Facts.{site_number}

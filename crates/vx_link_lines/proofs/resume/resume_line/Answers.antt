@@ -1,3 +1,4 @@
+-- `resume_line`: clause leads; what `resume` asks.
 use Rattle.std.proofs.Common.{◌≡◌, ◌∙◌, refl, subst, sym}
 use Rattle.std.specs.Prelude.{None}
 use Rattle.std.proofs.lemmas.List.{with_items_is}

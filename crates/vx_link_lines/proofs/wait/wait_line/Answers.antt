@@ -1,3 +1,4 @@
+-- `wait_line`: its result; what `wait` asks.
 use Rattle.std.proofs.Common.{◌≡◌, ◌∙◌, subst, sym}
 use Rattle.std.specs.Prelude.{None}
 use Rattle.vx_order.specs.Order.{line_refusal}

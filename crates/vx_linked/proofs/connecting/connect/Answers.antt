@@ -1,3 +1,4 @@
+-- `connect`: clauses done, world and silent; what `seat-here`, `seat-there` and `turn` ask.
 use Rattle.std.proofs.Common.{◌≡◌, ◌∙◌, true, false, List, ap, sym, subst}
 use Rattle.vx_history.specs.declared.sender.SEvent.TheVariants.{Connect}
 use Rattle.vx_order.specs.declared.facts.SiteFacts.{SiteFacts}

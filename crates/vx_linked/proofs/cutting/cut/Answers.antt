@@ -1,3 +1,4 @@
+-- `cut`: clause world; what `turn` asks.
 use Rattle.vx_history.specs.declared.sender.SEvent.TheVariants.{Cut}
 use Rattle.vx_linked.proofs.Finding.{cut_tested, found}
 use Rattle.vx_linked.proofs.Moves.{cut_comes, tested_there, with_facts}

@@ -1,3 +1,4 @@
+-- `note_links`: its result; what `put_at` asks; what stays true in its loop over `k`; that each place lies within.
 use Rattle.std.proofs.Common.{◌≡◌, ◌∙◌, ◌+◌, ◌<◌, ◌≤◌, ℕ, suc, List, length, ap, sym, arith}
 use Rattle.std.specs.Prelude.{Some, slice_get, slice_index_or, slice_set}
 use Rattle.vx_order.specs.declared.facts.LinkFacts.{LinkFacts}

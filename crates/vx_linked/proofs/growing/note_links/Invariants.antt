@@ -1,3 +1,4 @@
+-- The loop of `note_links` over `k`: what stays true.
 use Rattle.std.proofs.Common.{◌≡◌, false, length}
 use Rattle.std.specs.List.{list_any}
 use Rattle.vx_linked.specs.Holds.{grown_below, is_over}

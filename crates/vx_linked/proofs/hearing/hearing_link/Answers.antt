@@ -1,3 +1,4 @@
+-- `hearing_link`: clauses hears, between and deaf.
 use Rattle.std.proofs.Common.{◌∙◌, ◌<◌, ℕ, ap, sym, subst}
 use Rattle.vx_linked.specs.Hearings.{hearing}
 use Rattle.vx_linked.proofs.Heard.{between_so, deaf_so, hears_so}

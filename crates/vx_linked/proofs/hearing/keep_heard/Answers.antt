@@ -1,3 +1,4 @@
+-- `keep_heard`: clause world.
 use Rattle.std.proofs.Common.{◌∙◌, List, ap, sym}
 use Rattle.vx_order.specs.declared.facts.SiteFacts.{SiteFacts}
 use Rattle.vx_linked.specs.Tables.{fact_between}

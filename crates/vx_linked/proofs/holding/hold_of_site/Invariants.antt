@@ -1,3 +1,4 @@
+-- The loop of `hold_of_site` over `l`: what stays true.
 use Rattle.std.proofs.Common.{◌≡◌, drop}
 use Rattle.vx_linked.specs.Holds.{held_from, least_hold}
 use Rattle.vx_linked.proofs.holding.hold_of_site.Given as goal

@@ -1,3 +1,4 @@
+-- `link_between`: clause world.
 use Rattle.std.proofs.Common.{◌∙◌, List, ap, sym}
 use Rattle.std.specs.Prelude.{Option}
 use Rattle.vx_order.specs.declared.facts.SiteFacts.{SiteFacts}

@@ -1,3 +1,4 @@
+-- `put_in`: its result; what `put_to` asks.
 use Rattle.std.proofs.Common.{◌≡◌, ◌∙◌, ℕ, sym, subst}
 use Rattle.std.specs.Prelude.{Some, IsSome}
 use Rattle.vx_order.specs.declared.facts.SiteFacts.{SiteFacts}

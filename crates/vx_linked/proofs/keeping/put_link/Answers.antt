@@ -1,3 +1,4 @@
+-- `put_link`: clause world; what `put_in` asks.
 use Rattle.std.proofs.Common.{◌∙◌, List, ap, sym}
 use Rattle.std.proofs.lemmas.Option.{slice_get_within}
 use Rattle.vx_order.specs.declared.facts.SiteFacts.{SiteFacts}

@@ -1,3 +1,4 @@
+-- The loop of `keep_each` over `l`: what stays true.
 use Rattle.std.proofs.Common.{◌≡◌, take}
 use Rattle.vx_linked.specs.Making.{kept_each}
 use Rattle.vx_linked.proofs.kept.keep_each.Given as goal

@@ -1,3 +1,4 @@
+-- `kept_facts`: clause world.
 use Rattle.std.proofs.Common.{◌∙◌, List, ap}
 use Rattle.vx_history.specs.Events.{linked_sites}
 use Rattle.vx_order.specs.declared.facts.LinkFacts.{LinkFacts}

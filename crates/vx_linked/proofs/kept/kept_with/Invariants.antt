@@ -1,3 +1,4 @@
+-- The loop of `kept_with` over `l`: what stays true.
 use Rattle.std.proofs.Common.{◌≡◌, take}
 use Rattle.vx_effects.specs.LinkParts.{kept_over}
 use Rattle.vx_linked.specs.Making.{kept_plain}

@@ -1,3 +1,4 @@
+-- `leaves_disks`: its result.
 use Rattle.vx_linked.proofs.Leaving.{connect_leaves, cut_leaves, pause_leaves, pump_leaves, resume_leaves, tick_leaves, wait_leaves}
 use Rattle.vx_linked.proofs.laws.leaves_disks.Goals as goal
 

@@ -1,3 +1,4 @@
+-- `sends_nothing`: its result.
 use Rattle.vx_linked.proofs.Leaving.{connect_sends, cut_sends, pause_sends, pump_sends, resume_sends, tick_sends, wait_sends}
 use Rattle.vx_linked.proofs.laws.sends_nothing.Goals as goal
 

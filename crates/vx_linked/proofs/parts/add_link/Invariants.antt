@@ -1,3 +1,4 @@
+-- The loop of `add_link` over `k`: what stays true.
 use Rattle.std.proofs.Common.{◌≡◌, length, take}
 use Rattle.vx_linked.proofs.parts.add_link.Given as goal
 

@@ -1,3 +1,4 @@
+-- `keep_joined`: clauses world and links.
 use Rattle.std.proofs.Common.{◌≡◌, ◌∙◌, ap, refl, sym}
 use Rattle.std.specs.Prelude.{slice_set}
 use Rattle.vx_order.specs.declared.facts.RvgFacts.{RvgFacts}

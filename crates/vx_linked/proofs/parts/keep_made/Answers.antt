@@ -1,3 +1,4 @@
+-- `keep_made`: its result.
 use Rattle.std.proofs.Common.{◌∙◌, ap, sym}
 use Rattle.std.specs.Prelude.{slice_set}
 use Rattle.vx_model.specs.declared.link.Link.{Link as PlainLink}

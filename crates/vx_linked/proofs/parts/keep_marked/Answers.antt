@@ -1,3 +1,4 @@
+-- `keep_marked`: its result.
 use Rattle.std.proofs.Common.{◌∙◌, sym}
 use Rattle.vx_model.specs.declared.site.Mark.TheVariants.{Consistent}
 use Rattle.vx_effects.specs.Facts.{marked_fact}

@@ -1,3 +1,4 @@
+-- `keep_opened`: its result.
 use Rattle.std.proofs.Common.{◌∙◌, ap, refl, sym}
 use Rattle.vx_order.specs.declared.facts.LinkFacts.{LinkFacts}
 use Rattle.vx_history.specs.declared.event.LinkPart.TheVariants.{Opened}

@@ -1,3 +1,4 @@
+-- `keep_set`: its result.
 use Rattle.std.proofs.Common.{◌∙◌, ap, refl, sym}
 use Rattle.vx_model.specs.declared.link.Link.{Link as PlainLink}
 use Rattle.vx_order.specs.declared.facts.LinkFacts.{LinkFacts}

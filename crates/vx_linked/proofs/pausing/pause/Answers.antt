@@ -1,3 +1,4 @@
+-- `pause`: clause world; what `turn` asks.
 use Rattle.vx_history.specs.declared.sender.SEvent.TheVariants.{Pause}
 use Rattle.vx_linked.proofs.Finding.{pause_tested, found}
 use Rattle.vx_linked.proofs.Moves.{pause_comes, tested_there, with_facts}

@@ -1,3 +1,4 @@
+-- `keep_pumped`: clauses world and facts; what `relink` asks.
 use Rattle.std.proofs.Common.{List, subst}
 use Rattle.vx_order.specs.declared.facts.SiteFacts.{SiteFacts}
 use Rattle.vx_script.specs.declared.line.ScriptLine.TheVariants.{Pump}

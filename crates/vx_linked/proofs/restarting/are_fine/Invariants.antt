@@ -1,3 +1,4 @@
+-- The loop of `are_fine` over `k`: what stays true.
 use Rattle.std.proofs.Common.{◌≡◌, drop}
 use Rattle.vx_effects.specs.Restarts.{are_fine as all_fine}
 use Rattle.vx_linked.proofs.restarting.are_fine.Given as goal

@@ -1,3 +1,4 @@
+-- `restart_links`: what `push` asks; what stays true in its loop over `k`.
 use Rattle.std.proofs.Common.{◌≡◌, ◌∙◌, ◌+◌, ◌<◌, ◌≤◌, ℕ, suc, List, [], ◌∷◌, ◌++◌, length, take, ap, sym, arith}
 use Rattle.vx_order.specs.declared.facts.LinkFacts.{LinkFacts}
 use Rattle.vx_effects.specs.Restarts.{facts_again}

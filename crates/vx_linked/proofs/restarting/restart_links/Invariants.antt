@@ -1,3 +1,4 @@
+-- The loop of `restart_links` over `k`: what stays true.
 use Rattle.std.proofs.Common.{◌≡◌, take}
 use Rattle.vx_effects.specs.Restarts.{facts_again}
 use Rattle.vx_linked.proofs.restarting.restart_links.Given as goal

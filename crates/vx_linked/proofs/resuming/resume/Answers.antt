@@ -1,3 +1,4 @@
+-- `resume`: clause world; what `turn` asks.
 use Rattle.vx_history.specs.declared.sender.SEvent.TheVariants.{Resume}
 use Rattle.vx_linked.proofs.Finding.{resume_tested, found}
 use Rattle.vx_linked.proofs.Moves.{resume_comes, tested_there, with_facts}

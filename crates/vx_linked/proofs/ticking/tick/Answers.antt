@@ -1,3 +1,4 @@
+-- `tick`: clause world; what `turn` asks.
 use Rattle.vx_history.specs.declared.sender.SEvent.TheVariants.{Tick}
 use Rattle.vx_linked.proofs.Finding.{tick_tested, found}
 use Rattle.vx_linked.proofs.Moves.{tick_comes, tested_there, with_facts}

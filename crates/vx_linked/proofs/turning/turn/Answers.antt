@@ -1,3 +1,4 @@
+-- `turn`: its result.
 use Rattle.std.proofs.Common.{◌≡◌, ◌∙◌, ap, sym, subst}
 use Rattle.std.specs.Prelude.{Some, slice_get}
 use Rattle.vx_order.specs.declared.facts.SiteFacts.{SiteFacts}

@@ -1,3 +1,4 @@
+-- `wait`: clauses said, world and facts; what `seat-here` asks.
 use Rattle.std.proofs.Common.{◌≡◌, ◌∙◌, ap, sym}
 use Rattle.vx_order.specs.declared.facts.SiteFacts.{SiteFacts}
 use Rattle.vx_events.specs.Facts.{site_number}

@@ -1,3 +1,4 @@
+-- The loop of `note_plexes` over `plex`: what stays true.
 use Rattle.std.proofs.Common.{◌≡◌}
 use Rattle.vx_logs.specs.Noting.{IsStill}
 use Rattle.vx_logs.proofs.PlexesLemmas.{NotesTo}

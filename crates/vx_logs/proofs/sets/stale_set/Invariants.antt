@@ -1,3 +1,4 @@
+-- The loop of `stale_set` over `plex`: what stays true.
 use Rattle.std.proofs.Common.{◌≡◌, ℕ, ◌<◌, length}
 use Rattle.vx_volume.specs.Steps.{in_set}
 use Rattle.vx_logs.specs.Held.{stale}

@@ -1,3 +1,4 @@
+-- `is_dirty`: what `dirty` asks.
 use Rattle.std.proofs.Common.{◌≡◌, ◌∙◌, ap, arith}
 use Rattle.vx_logs.proofs.tests.is_dirty.Goals as goal
 

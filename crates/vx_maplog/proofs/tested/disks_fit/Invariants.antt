@@ -1,3 +1,4 @@
+-- The loop of `disks_fit` over `k`: what stays true.
 use Rattle.vx_maplog.proofs.Fits.{FitBelow}
 use Rattle.vx_maplog.proofs.tested.disks_fit.Given as goal
 

@@ -1,3 +1,4 @@
+-- `gives_what_was_sent`: clauses count, given and dropped.
 use Rattle.std.proofs.Common.{◌+◌, ap, ◌∙◌}
 use Rattle.vx_net.specs.Flights.{Flying, kept_packet}
 use Rattle.vx_net.proofs.Sent.{all-sent, given-after, dropped-after}

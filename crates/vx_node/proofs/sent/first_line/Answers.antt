@@ -1,3 +1,4 @@
+-- `first_line`: clause ends; what stays true in its loop over `k`.
 use Rattle.std.proofs.Common.{◌≡◌, ℕ, length, subst, arith}
 use Rattle.vx_node.proofs.SentText.{GoesOn, byte_at, ends_last, ends_there, goes_first, goes_further}
 use Rattle.vx_node.proofs.sent.first_line.Goals as goal

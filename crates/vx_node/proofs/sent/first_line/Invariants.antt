@@ -1,3 +1,4 @@
+-- The loop of `first_line` over `k`: what stays true.
 use Rattle.vx_node.proofs.SentText.{GoesOn}
 use Rattle.vx_node.proofs.sent.first_line.Given as goal
 

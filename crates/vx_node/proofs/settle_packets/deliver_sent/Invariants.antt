@@ -1,3 +1,4 @@
+-- The loop of `deliver_sent` over `done`: what stays true.
 use Rattle.std.proofs.Common.{◌≡◌, ◌≤◌, ◌+◌, length}
 use Rattle.vx_history.specs.Doubts.{Doubted}
 use Rattle.vx_node.specs.Settling.{OnFor, SettlesFor}

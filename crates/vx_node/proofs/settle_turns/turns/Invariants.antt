@@ -1,3 +1,4 @@
+-- The loop of `turns` over `past`: what stays true.
 use Rattle.std.proofs.Common.{◌≡◌}
 use Rattle.vx_history.specs.Doubts.{Doubted}
 use Rattle.vx_node.specs.Settling.{SettlesFor}

@@ -1,3 +1,4 @@
+-- `block_at`: clauses shows and size.
 use Rattle.std.proofs.Common.{◌∙◌, ap, length, ℕ, List}
 use Rattle.vx_node.proofs.Replies.{block_taken, block_whole}
 use Rattle.vx_node.proofs.text.block_at.Goals as goal

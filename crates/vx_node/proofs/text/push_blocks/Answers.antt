@@ -1,3 +1,4 @@
+-- `push_blocks`: what stays true in its loop over `k`.
 use Rattle.vx_node.proofs.Replies.{block_more}
 use Rattle.vx_node.proofs.text.push_blocks.Goals as goal
 

@@ -1,3 +1,4 @@
+-- The loop of `push_blocks` over `k`: what stays true.
 use Rattle.std.proofs.Common.{◌≡◌, ◌++◌}
 use Rattle.vx_yard.specs.Replies.{blocks_text}
 use Rattle.vx_node.proofs.text.push_blocks.Given as goal

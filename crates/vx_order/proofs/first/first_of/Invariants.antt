@@ -1,3 +1,4 @@
+-- The loop of `first_of` over `test`: what stays true.
 use Rattle.std.proofs.Common.{◌≡◌, drop}
 use Rattle.vx_order.specs.Tests.{first_said_no}
 use Rattle.vx_order.proofs.first.first_of.Given as goal

@@ -1,3 +1,4 @@
+-- `deport_lines`: its result.
 use Rattle.vx_order.proofs.GroupLemmas.{deport_lines_are}
 use Rattle.vx_order.proofs.group_laws.deport_lines.Goals as goal
 

@@ -1,3 +1,4 @@
+-- `plex_lines`: its result.
 use Rattle.vx_order.proofs.GroupLemmas.{detach_lines_are, attach_lines_are}
 use Rattle.vx_order.proofs.group_laws.plex_lines.Goals as goal
 

@@ -1,3 +1,4 @@
+-- `rvg_lines`: its result.
 use Rattle.vx_order.proofs.GroupLemmas.{rvg_lines_are}
 use Rattle.vx_order.proofs.group_laws.rvg_lines.Goals as goal
 

@@ -1,3 +1,4 @@
+-- The loop of `first_down` over `l`: what stays true.
 use Rattle.std.proofs.Common.{◌≡◌, drop}
 use Rattle.vx_order.specs.Holding.{down_link}
 use Rattle.vx_order.proofs.holding.first_down.Given as goal

@@ -1,3 +1,4 @@
+-- The loop of `first_full` over `l`: what stays true.
 use Rattle.std.proofs.Common.{◌≡◌, drop}
 use Rattle.vx_order.specs.Holding.{full_link}
 use Rattle.vx_order.proofs.holding.first_full.Given as goal

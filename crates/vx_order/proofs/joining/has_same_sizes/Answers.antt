@@ -1,3 +1,4 @@
+-- `has_same_sizes`: its result.
 use Rattle.std.proofs.Common.{◌∙◌, sym, arith}
 use Rattle.vx_order.specs.Joining.{data_sizes}
 use Rattle.vx_order.proofs.SizeLemmas.{all_same, one_differs, few_sizes}

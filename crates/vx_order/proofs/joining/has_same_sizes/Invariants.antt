@@ -1,3 +1,4 @@
+-- The loop of `has_same_sizes` over `place`: what stays true.
 use Rattle.std.proofs.Common.{◌≡◌, ◌<◌, ℕ, true}
 use Rattle.std.specs.Prelude.{slice_get}
 use Rattle.vx_order.specs.Joining.{data_sizes, same_size}

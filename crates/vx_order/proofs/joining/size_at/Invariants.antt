@@ -1,3 +1,4 @@
+-- The loop of `size_at` over `volume`: what stays true.
 use Rattle.std.proofs.Common.{◌≡◌, drop}
 use Rattle.std.specs.Prelude.{slice_get}
 use Rattle.vx_order.specs.Joining.{data_sizes}

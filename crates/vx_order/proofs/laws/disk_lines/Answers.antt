@@ -1,3 +1,4 @@
+-- `disk_lines`: its result.
 use Rattle.vx_order.proofs.KindLemmas.{disk_lines_are}
 use Rattle.vx_order.proofs.laws.disk_lines.Goals as goal
 

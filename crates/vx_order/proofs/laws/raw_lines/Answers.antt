@@ -1,3 +1,4 @@
+-- `raw_lines`: its result.
 use Rattle.vx_order.proofs.KindLemmas.{raw_lines_are}
 use Rattle.vx_order.proofs.laws.raw_lines.Goals as goal
 

@@ -1,3 +1,4 @@
+-- `link_lines`: its result.
 use Rattle.vx_order.proofs.LinkLemmas.{link_lines_are}
 use Rattle.vx_order.proofs.link_laws.link_lines.Goals as goal
 

@@ -1,3 +1,4 @@
+-- `turn_lines`: its result.
 use Rattle.vx_order.proofs.LinkLemmas.{connect_lines_are, cut_lines_are, pause_lines_are, resume_lines_are, tick_lines_are}
 use Rattle.vx_order.proofs.link_laws.turn_lines.Goals as goal
 

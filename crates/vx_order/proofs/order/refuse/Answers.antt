@@ -1,3 +1,4 @@
+-- `refuse`: its result.
 use Rattle.std.proofs.Common.{◌≡◌, ◌∙◌, ap, List, ◌∷◌, refl}
 use Rattle.std.specs.Prelude.{Option}
 use Rattle.vx_model.specs.declared.no.No.{No}

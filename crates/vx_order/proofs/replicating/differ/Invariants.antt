@@ -1,3 +1,4 @@
+-- The loop of `differ` over `i`: what stays true.
 use Rattle.std.proofs.Common.{◌≡◌, drop}
 use Rattle.vx_order.specs.Replicating.{are_distinct}
 use Rattle.vx_order.proofs.replicating.differ.Given as goal

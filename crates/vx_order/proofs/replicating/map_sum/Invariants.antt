@@ -1,3 +1,4 @@
+-- The loop of `map_sum` over `name`: what stays true.
 use Rattle.std.proofs.Common.{◌≡◌, ◌≤◌, ◌*◌, take}
 use Rattle.std.specs.Option.{option_copied}
 use Rattle.std.specs.Prelude.{sum_by}

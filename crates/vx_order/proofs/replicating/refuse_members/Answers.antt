@@ -1,3 +1,4 @@
+-- `refuse_members`: its result.
 use Rattle.std.proofs.Common.{◌∙◌}
 use Rattle.vx_order.proofs.NameLemmas.{three_in_a_row}
 use Rattle.vx_order.proofs.replicating.refuse_members.Goals as goal

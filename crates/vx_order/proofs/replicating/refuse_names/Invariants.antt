@@ -1,3 +1,4 @@
+-- The loop of `refuse_names` over `name`: what stays true.
 use Rattle.std.proofs.Common.{◌≡◌, drop}
 use Rattle.std.specs.Option.{option_copied}
 use Rattle.vx_order.specs.Replicating.{names_unknown}

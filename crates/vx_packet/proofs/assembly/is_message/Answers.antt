@@ -1,3 +1,4 @@
+-- `is_message`: its result.
 use Rattle.vx_packet.specs.declared.part.Part.{Part}
 use Rattle.vx_packet.proofs.MessageAgain.{message_in-is}
 use Rattle.vx_packet.proofs.assembly.is_message.Goals as goal

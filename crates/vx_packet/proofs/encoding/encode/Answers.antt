@@ -1,3 +1,4 @@
+-- `encode`: its result; what `put_fields` and `put_chunk` ask; that no number grows too large.
 use Rattle.std.proofs.Common.{arith, ◌≡◌, ◌≤◌, ◌+◌, ◌++◌, ◌∙◌, ap, sym, take, length, ℕ, List}
 use Rattle.vx_wire.specs.Fields.{spelled}
 use Rattle.vx_packet.specs.Messages.{count_of_parts, payload_of, part_count, chunk}

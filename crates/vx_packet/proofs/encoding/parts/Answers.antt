@@ -1,3 +1,4 @@
+-- `parts`: its result.
 use Rattle.std.proofs.Common.{arith, ◌≡◌, ◌+◌, ◌∙◌, ap, sym, take, length, ℕ, List}
 use Rattle.std.proofs.lemmas.List.{length-append}
 use Rattle.vx_packet.specs.Messages.{count_of_parts, payload_of, part_count}

@@ -1,3 +1,4 @@
+-- `clear`: its result.
 use Rattle.std.proofs.Common.{arith, ◌≡◌, ◌∙◌, ◌++◌, ap, sym, subst, ℕ, List, Option, None, length, take, drop, replicate}
 use Rattle.std.proofs.lemmas.List.{take_at, length-take, length-append, length-drop, length-replicate}
 use Rattle.vx_packet.specs.Gathering.{parts_came, AreFull}

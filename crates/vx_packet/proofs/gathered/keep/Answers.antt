@@ -1,3 +1,4 @@
+-- `keep`: clauses came and full.
 use Rattle.std.proofs.Common.{arith, ◌≡◌, ◌<◌, ◌+◌, ◌∙◌, ap, sym, subst, List, ℕ, Option, Some, length, take, set}
 use Rattle.std.proofs.Math.Seq.{take-set-lt}
 use Rattle.std.proofs.lemmas.List.{length-take}

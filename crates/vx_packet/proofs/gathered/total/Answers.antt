@@ -1,3 +1,4 @@
+-- `total`: its result.
 use Rattle.std.proofs.Common.{arith, ◌-◌, length}
 use Rattle.vx_packet.proofs.GatherLemmas.{whole_length-last}
 use Rattle.vx_packet.proofs.gathered.total.Goals as goal

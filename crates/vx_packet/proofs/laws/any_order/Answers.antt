@@ -1,3 +1,4 @@
+-- `any_order`: its result.
 use Rattle.vx_packet.proofs.TakingLemmas.{fresh, none-bad, step-kept, whole-comes, step-whole}
 use Rattle.vx_packet.proofs.laws.any_order.Goals as goal
 

@@ -1,3 +1,4 @@
+-- `one_spelling`: its result.
 use Rattle.std.proofs.Common.{◌∙◌, sym}
 use Rattle.vx_packet.proofs.MessageAgain.{message_in-is, some_same}
 use Rattle.vx_packet.proofs.PacketLemmas.{payload_in-packet_of, packet_of-is}

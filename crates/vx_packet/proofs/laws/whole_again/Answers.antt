@@ -1,3 +1,4 @@
+-- `whole_again`: its result.
 use Rattle.vx_packet.proofs.CarriedLemmas.{came-fresh, came-after, whole-again}
 use Rattle.vx_packet.proofs.laws.whole_again.Goals as goal
 

@@ -1,3 +1,4 @@
+-- `decode`: clauses found and only.
 use Rattle.std.proofs.Common.{arith, ◌≡◌, ◌∙◌, ◌+◌, ap, sym, subst, List, ℕ, length, Some, refl}
 use Rattle.vx_wire.specs.Fields.{spelled}
 use Rattle.vx_packet.specs.PacketReading.{part_in}

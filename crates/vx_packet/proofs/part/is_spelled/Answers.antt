@@ -1,3 +1,4 @@
+-- `is_spelled`: its result; what `put_fields` asks.
 use Rattle.std.proofs.Common.{arith, ◌≡◌, ◌∙◌, sym, ap, List, ℕ, length, take, replicate}
 use lib.Pointwise.{pointwise}
 use Rattle.std.specs.Prelude.{nat_eq}

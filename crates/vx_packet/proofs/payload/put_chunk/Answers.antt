@@ -1,3 +1,4 @@
+-- `put_chunk`: its result.
 use Rattle.std.proofs.Common.{arith, ◌≡◌, ◌∙◌, ◌++◌, ◌-◌, ◌*◌, sym, ap, List, ℕ, length, take, drop}
 use Rattle.vx_wire.specs.Places.{put_at}
 use Rattle.vx_wire.proofs.PlaceLemmas.{put_at-put_at}

@@ -1,3 +1,4 @@
+-- `is_payload`: its result.
 use Rattle.std.proofs.Common.{◌∙◌, sym}
 use Rattle.vx_packet.proofs.Numbers.{not_both}
 use Rattle.vx_packet.proofs.Runs.{equal-text, text-equal, runs-join, runs-first, runs-second}

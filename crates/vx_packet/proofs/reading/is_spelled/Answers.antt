@@ -1,3 +1,4 @@
+-- `is_spelled`: clause spelled.
 use Rattle.std.proofs.Common.{◌≡◌, ◌∙◌, ◌++◌, sym, take, ℕ, List, refl}
 use Rattle.vx_packet.specs.Messages.{payload_of}
 use Rattle.vx_packet.proofs.RowLemmas.{payload-row}

@@ -1,3 +1,4 @@
+-- `read_message`: clause only.
 use Rattle.std.proofs.Common.{◌≡◌, ◌∙◌, sym, subst}
 use Rattle.vx_packet.specs.Messages.{CanSpellMessage, IsSpelled}
 use Rattle.vx_packet.specs.declared.message.Message.{Message}

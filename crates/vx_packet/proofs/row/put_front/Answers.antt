@@ -1,3 +1,4 @@
+-- `put_front`: clauses few and written; what `put` asks.
 use Rattle.std.proofs.Common.{arith, ◌∙◌, ap, take}
 use Rattle.std.proofs.lemmas.List.{take_at}
 use Rattle.vx_wire.specs.Fields.{spelled}

@@ -1,3 +1,4 @@
+-- `deliver_answer`: clauses exact and part.
 use Rattle.std.proofs.Common.{◌≡◌, ◌∙◌, ap, sym, subst, ℕ}
 use Rattle.vx_courier.specs.Together.{AssemblyStands}
 use Rattle.vx_history.specs.Events.{delivered, packet_at}

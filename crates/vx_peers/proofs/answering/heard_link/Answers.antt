@@ -1,3 +1,4 @@
+-- `heard_link`: its result.
 use Rattle.std.proofs.Common.{◌≡◌, ◌∙◌, ap, sym, subst, ℕ}
 use Rattle.vx_history.specs.Events.{delivered, packet_at}
 use Rattle.vx_history.specs.LinkForms.{plain_link}

@@ -1,3 +1,4 @@
+-- `acknowledge`: its result.
 use Rattle.std.proofs.Common.{refl, arith}
 use Rattle.vx_history.specs.World.{NetAck}
 use Rattle.vx_peers.proofs.delivering.acknowledge.Goals as goal

@@ -1,3 +1,4 @@
+-- `deliver_update`: clauses delivered and took.
 use Rattle.std.proofs.Common.{◌≡◌, ◌∙◌, inl, inr, ap, sym, subst, refl, arith, Some, Option, Bool, ℕ}
 use Rattle.std.specs.Prelude.{None}
 use Rattle.vx_packet.specs.Packets.{payload_in}

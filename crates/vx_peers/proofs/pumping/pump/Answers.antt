@@ -1,3 +1,4 @@
+-- `pump`: clauses moved, more and rule.
 use Rattle.std.proofs.Common.{◌∙◌, ℕ, true, ap, sym, subst, arith}
 use Rattle.vx_model.specs.declared.state.State.{State}
 use Rattle.vx_history.specs.Sending.{Sent}

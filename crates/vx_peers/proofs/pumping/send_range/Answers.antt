@@ -1,3 +1,4 @@
+-- `send_range`: clauses sent and more; what `send_updates` asks.
 use Rattle.std.proofs.Common.{◌++◌, List, length, map, ap, subst, arith}
 use Rattle.vx_model.specs.declared.call.Update.{Update}
 use Rattle.vx_courier.specs.UnderWay.{FlightStands}

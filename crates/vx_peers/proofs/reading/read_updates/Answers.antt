@@ -1,3 +1,4 @@
+-- `read_updates`: clauses cause, core, goes, down, disks, spends and read; what `fetch` and `stop_of` ask; what stays true in its loop over `past`.
 use Rattle.std.proofs.Common.{◌∙◌, ◌+◌, length, ap, sym, subst, arith, List, [], ◌∷◌, length-append}
 use Rattle.vx_model.specs.declared.call.Update.{Update}
 use Rattle.vx_model.specs.declared.errors.Stop.{Stop}

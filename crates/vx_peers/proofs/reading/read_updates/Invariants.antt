@@ -1,3 +1,4 @@
+-- The loop of `read_updates` over `past`: what stays true.
 use Rattle.std.proofs.Common.{◌≡◌, length, IsTrue}
 use Rattle.vx_rvg.specs.Holdings.{Holding}
 use Rattle.vx_rvg.specs.Stands.{Stands}

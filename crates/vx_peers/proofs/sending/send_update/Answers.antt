@@ -1,3 +1,4 @@
+-- `send_update`: clause count.
 use Rattle.std.proofs.Common.{List, ap, arith, ℕ}
 use Rattle.vx_packet.specs.Messages.{count_of_parts}
 use Rattle.vx_packet.specs.declared.message.Message.TheVariants.{Update}

@@ -1,3 +1,4 @@
+-- `send_updates`: its result; what `send_update` asks; what stays true in its loop over `past`.
 use Rattle.std.proofs.Common.{◌+◌, arith, map}
 use Rattle.vx_history.specs.Sends.{updates}
 use Rattle.vx_secondary.specs.Receivers.{write_of_update}

@@ -1,3 +1,4 @@
+-- The loop of `send_updates` over `past`: what stays true.
 use Rattle.std.proofs.Common.{◌+◌, ◌*◌, ◌≤◌, List, map, drop}
 use Rattle.vx_history.specs.World.{Packet}
 use Rattle.vx_history.specs.Sends.{updates}

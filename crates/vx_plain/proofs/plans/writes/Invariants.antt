@@ -1,3 +1,4 @@
+-- The loop of `writes` over `k`: what stays true.
 use Rattle.std.proofs.Common.{◌≡◌, length}
 use Rattle.vx_burst_threads.specs.Planning.{AllCalls}
 use Rattle.vx_plain.proofs.plans.writes.Given as goal

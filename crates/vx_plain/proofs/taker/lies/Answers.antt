@@ -1,3 +1,4 @@
+-- `lies`: its result.
 use Rattle.std.proofs.Common.{rules, ◌≡◌, ◌≤◌, ◌+◌, arith}
 use Rattle.vx_model.specs.Content.{blocks_in}
 use Rattle.vx_plain.specs.declared.small.TheConstants.{VOLUME_BLOCKS}

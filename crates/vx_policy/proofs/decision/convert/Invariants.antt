@@ -1,3 +1,4 @@
+-- The loop of `convert` over `back`: what stays true.
 use Rattle.std.proofs.Common.{◌≡◌, ◌-◌, ◌<◌, ◌^◌, drop, zip, length}
 use Rattle.vx_history.specs.Admission.{changes}
 use Rattle.vx_policy.specs.Verdicts.{bits_for, goes_stale, goes_dcm}

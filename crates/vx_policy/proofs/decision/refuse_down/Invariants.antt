@@ -1,3 +1,4 @@
+-- The loop of `refuse_down` over `link`: what stays true.
 use Rattle.std.proofs.Common.{◌≡◌, drop}
 use Rattle.vx_history.specs.Admission.{first_down}
 use Rattle.vx_policy.proofs.decision.refuse_down.Given as goal

@@ -1,3 +1,4 @@
+-- The loop of `refuse_first_full` over `at`: what stays true.
 use Rattle.std.proofs.Common.{◌≡◌, drop, zip}
 use Rattle.vx_history.specs.Admission.{first_full}
 use Rattle.vx_policy.proofs.decision.refuse_first_full.Given as goal

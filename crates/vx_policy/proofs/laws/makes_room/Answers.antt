@@ -1,3 +1,4 @@
+-- `makes_room`: clauses up, room and stays.
 use Rattle.vx_policy.proofs.Room.{parts-of, none-down, all-room, all-stay}
 use Rattle.vx_policy.proofs.laws.makes_room.Goals as goal
 

@@ -1,3 +1,4 @@
+-- `takes_in_order`: clauses next, few, becomes, stays, ignored and again.
 use Rattle.vx_receiver.proofs.Events.{takes-next, few-wait, becomes-consistent, stays-consistent, ignored-keeps, answers-again}
 use Rattle.vx_receiver.proofs.laws.takes_in_order.Goals as goal
 

@@ -1,3 +1,4 @@
+-- `consistent_at_the_end`: clauses becomes, begins, stores and ignored.
 use Rattle.vx_replay.proofs.Comes.{becomes-consistent, begins-later, ignored-keeps, stores-its-own}
 use Rattle.vx_replay.proofs.laws.consistent_at_the_end.Goals as goal
 

@@ -1,3 +1,4 @@
+-- `ends_when_stored`: clauses finished, only, ignored and earlier.
 use Rattle.vx_replay.proofs.Ends.{earlier-ignored, finished-only, finished-stored, ignored-keeps}
 use Rattle.vx_replay.proofs.laws.ends_when_stored.Goals as goal
 

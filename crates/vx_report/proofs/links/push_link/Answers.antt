@@ -1,3 +1,4 @@
+-- `push_link`: its result.
 use Rattle.std.proofs.Common.{◌≡◌, ℕ, List, [], ◌∷◌, ◌++◌, append_assoc, codes}
 use Rattle.std.specs.Fmt.{decimal}
 use Rattle.vx_report.proofs.links.push_link.Goals as goal

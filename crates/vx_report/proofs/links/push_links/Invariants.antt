@@ -1,3 +1,4 @@
+-- The loop of `push_links` over `link`: what stays true.
 use Rattle.std.proofs.Common.{◌≡◌, ◌++◌, take}
 use Rattle.std.specs.List.{flat_map}
 use Rattle.vx_report.specs.Statuses.{text_of_link}

@@ -1,3 +1,4 @@
+-- The loop of `push_disks` over `number`: what stays true.
 use Rattle.std.proofs.Common.{◌≡◌, ◌++◌, drop}
 use Rattle.vx_report.specs.Words.{numbered}
 use Rattle.vx_report.specs.Statuses.{disk_line}

@@ -1,3 +1,4 @@
+-- The loop of `push_plexes` over `number`: what stays true.
 use Rattle.std.proofs.Common.{◌≡◌, ◌++◌, drop}
 use Rattle.vx_report.specs.Words.{numbered}
 use Rattle.vx_report.specs.Statuses.{text_of_plex}

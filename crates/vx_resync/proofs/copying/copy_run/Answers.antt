@@ -1,3 +1,4 @@
+-- `copy_run`: clauses goes, ok, cause and blamed; what `read_plex` and `put_run` ask.
 use Rattle.vx_resync.proofs.CauseLemmas.{copy_refused, later_cause, ok_by, plex_refused, source_refused}
 use Rattle.vx_resync.proofs.CopyLemmas.{asked_of, disks_after, run_alike, run_fits, run_goes, run_in}
 use Rattle.vx_disk.proofs.Runs.{none_written}

@@ -1,3 +1,4 @@
+-- `flush_each`: clauses ok and cause.
 use Rattle.std.proofs.Common.{arith}
 use Rattle.vx_volume.specs.Volumes.{PlexFlushed}
 use Rattle.vx_resync.proofs.CauseLemmas.{ends_refused, zero_bit}

@@ -1,3 +1,4 @@
+-- `flush_one`: clauses ok, cause and blamed.
 use Rattle.vx_resync.proofs.CauseLemmas.{plex_refused, target_refused}
 use Rattle.vx_resync.proofs.CopyLemmas.{one_flushed}
 use Rattle.vx_resync.proofs.flushing.flush_one.Goals as goal

@@ -1,3 +1,4 @@
+-- `attach_from`: clauses moved, done, copied, blamed and cause; what `copy_regions` and `flush_targets` ask.
 use Rattle.std.proofs.Common.{ℕ, Result, Err, refl}
 use Rattle.std.specs.Prelude.{Some}
 use Rattle.std.specs.Option.{option_copied}

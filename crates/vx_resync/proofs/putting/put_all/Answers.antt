@@ -1,3 +1,4 @@
+-- `put_all`: clauses goes, ok and cause.
 use Rattle.std.proofs.Common.{◌/◌, length, arith}
 use Rattle.vx_volume.specs.Volumes.{PlexWrote}
 use Rattle.vx_resync.proofs.CauseLemmas.{ends_refused, zero_bit}

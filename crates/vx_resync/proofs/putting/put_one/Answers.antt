@@ -1,3 +1,4 @@
+-- `put_one`: clauses goes, ok, cause and blamed.
 use Rattle.vx_resync.proofs.CauseLemmas.{plex_refused, target_refused}
 use Rattle.vx_resync.proofs.CopyLemmas.{one_wrote, put_one_Goes}
 use Rattle.vx_resync.proofs.putting.put_one.Goals as goal

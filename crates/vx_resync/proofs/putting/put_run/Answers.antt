@@ -1,3 +1,4 @@
+-- `put_run`: what `put_one` asks.
 use Rattle.std.proofs.Common.{◌/◌, length}
 use Rattle.vx_resync.proofs.CopyLemmas.{some_fits}
 use Rattle.vx_resync.proofs.putting.put_run.Goals as goal

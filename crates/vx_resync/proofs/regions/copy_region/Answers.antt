@@ -1,3 +1,4 @@
+-- `copy_region`: clauses goes and ok.
 use Rattle.std.proofs.Common.{◌*◌, arith}
 use Rattle.std.proofs.lemmas.List.{length-take}
 use Rattle.vx_resync.proofs.CauseLemmas.{ok_by}

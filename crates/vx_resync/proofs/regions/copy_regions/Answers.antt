@@ -1,3 +1,4 @@
+-- `copy_regions`: clauses goes, cause, ok, count and blamed; what `is_picked` and `copy_region` ask; what stays true in its loop over `region`.
 use Rattle.std.proofs.Common.{◌≡◌, ◌+◌, ℕ, sym, ◌∙◌, subst, arith}
 use Rattle.std.specs.Option.{option_copied}
 use Rattle.vx_config.specs.Checks.{blocks_of}

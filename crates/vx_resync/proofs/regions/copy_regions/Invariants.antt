@@ -1,3 +1,4 @@
+-- The loop of `copy_regions` over `region`: what stays true.
 use Rattle.std.proofs.Common.{◌≤◌}
 use Rattle.std.specs.Option.{option_copied}
 use Rattle.vx_resync.specs.Copies.{CopiedBelow}

@@ -1,3 +1,4 @@
+-- `attach`: clauses moved and done; what `attach_from` asks.
 use Rattle.std.specs.Prelude.{Some}
 use Rattle.std.specs.Option.{option_copied}
 use Rattle.vx_resync.specs.Picks.{missed_or}

@@ -1,3 +1,4 @@
+-- `recover`: what `resync` asks.
 use Rattle.vx_resync.proofs.PickLemmas.{all_active, any_source}
 use Rattle.vx_resync.proofs.resync.recover.Goals as goal
 

@@ -1,3 +1,4 @@
+-- `resync`: clauses moved, done and cause; what `copy_regions` and `flush_targets` ask.
 use Rattle.std.specs.Option.{option_copied}
 use Rattle.vx_resync.specs.Picks.{is_picked}
 use Rattle.vx_resync.proofs.CauseLemmas.{cause_before}

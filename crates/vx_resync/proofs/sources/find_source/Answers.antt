@@ -1,3 +1,4 @@
+-- `find_source`: what `unreachable` asks; what stays true in its loop over `plex`.
 use Rattle.std.proofs.Common.{sym, ◌∙◌}
 use Rattle.vx_resync.proofs.PickLemmas.{none_next, some_gives}
 use Rattle.vx_resync.proofs.sources.find_source.Goals as goal

@@ -1,3 +1,4 @@
+-- The loop of `find_source` over `plex`: what stays true.
 use Rattle.vx_resync.proofs.PickLemmas.{NoneGives}
 use Rattle.vx_resync.proofs.sources.find_source.Given as goal
 

@@ -1,3 +1,4 @@
+-- `attached_all`: what `attach` asks.
 use Rattle.std.proofs.Common.{Bool, ap}
 use Rattle.std.specs.Prelude.{◌&&◌, ◌==◌, not}
 use Rattle.vx_resync.proofs.tests.attached_all.Goals as goal

@@ -1,3 +1,4 @@
+-- `recovered`: what `recover` asks.
 use Rattle.std.proofs.Common.{arith}
 use Rattle.vx_resync.proofs.tests.recovered.Goals as goal
 

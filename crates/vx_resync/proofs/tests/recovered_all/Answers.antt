@@ -1,3 +1,4 @@
+-- `recovered_all`: what `recover` asks.
 use Rattle.vx_resync.proofs.tests.recovered_all.Goals as goal
 
 pub recover-requires-clause-some : goal.recover-requires-clause-some

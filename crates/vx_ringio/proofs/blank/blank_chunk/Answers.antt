@@ -1,3 +1,4 @@
+-- `blank_chunk`: clauses ok and spends.
 use Rattle.std.proofs.lemmas.Result.{on_ok_weaker}
 use Rattle.vx_ringio.proofs.Blanks.{chunk_more}
 use Rattle.vx_ringio.proofs.Spending.{spends_write}

@@ -1,3 +1,4 @@
+-- `blank_ring`: clauses leaves and spends.
 use Rattle.std.proofs.Common.{arith}
 use Rattle.std.proofs.lemmas.Result.{on_ok_weaker}
 use Rattle.vx_ringio.proofs.Blanks.{all_chunks, blank_leaves}

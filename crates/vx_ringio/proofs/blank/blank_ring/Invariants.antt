@@ -1,3 +1,4 @@
+-- The loop of `blank_ring` over `chunk`: what stays true.
 use Rattle.std.proofs.Common.{min, ◌*◌}
 use Rattle.vx_disk.specs.Moves.{Moves, Run, Anything}
 use Rattle.vx_ringio.specs.Reading.{ReadsZero}

@@ -1,3 +1,4 @@
+-- `mask_body`: clauses blocks and firsts; what stays true in its loop over `k`.
 use Rattle.vx_ringio.proofs.Masks.{mask_none, mask_more, masked_blocks, masked_firsts}
 use Rattle.vx_ringio.proofs.body.mask_body.Goals as goal
 

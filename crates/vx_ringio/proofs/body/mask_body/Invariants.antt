@@ -1,3 +1,4 @@
+-- The loop of `mask_body` over `k`: what stays true.
 use Rattle.vx_ringio.proofs.Masks.{Masked}
 use Rattle.vx_ringio.proofs.body.mask_body.Given as goal
 

@@ -1,3 +1,4 @@
+-- `unmask_body`: clause is; what stays true in its loop over `k`.
 use Rattle.std.proofs.Common.{◌≡◌, ◌∙◌, ap, sym, List, ℕ, true, false, refl}
 use Rattle.std.specs.Prelude.{bytes_eq}
 use Rattle.std.specs.Cmp.Lexicographic.{same_text}

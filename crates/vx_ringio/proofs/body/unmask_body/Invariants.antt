@@ -1,3 +1,4 @@
+-- The loop of `unmask_body` over `k`: what stays true.
 use Rattle.vx_ringio.proofs.Masks.{Unmasked}
 use Rattle.vx_ringio.proofs.body.unmask_body.Given as goal
 

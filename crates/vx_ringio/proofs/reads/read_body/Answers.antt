@@ -1,3 +1,4 @@
+-- `read_body`: clauses shows, gave, spends and works.
 use Rattle.std.proofs.Common.{arith, ◌≡◌, ◌∙◌, eqb-true, sym, length}
 use Rattle.std.proofs.lemmas.Result.{on_ok_weaker}
 use Rattle.vx_ringio.specs.Classes.{class_of}

@@ -1,3 +1,4 @@
+-- `read_part`: clauses shows, gave and spends.
 use Rattle.std.proofs.Common.{arith}
 use Rattle.std.proofs.lemmas.Result.{on_ok_weaker}
 use Rattle.vx_ringio.proofs.Seeing.{part_gave, part_shows}

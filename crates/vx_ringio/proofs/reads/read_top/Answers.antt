@@ -1,3 +1,4 @@
+-- `read_top`: clauses sees and spends.
 use Rattle.std.proofs.Common.{arith}
 use Rattle.vx_ringio.proofs.Seeing.{one_read}
 use Rattle.vx_ringio.proofs.Spending.{spends_read}

@@ -1,3 +1,4 @@
+-- `top_of`: clauses is and of_ring.
 use Rattle.std.proofs.Common.{◌≡◌, ℕ, List, Option, Some, None}
 use Rattle.vx_srlfmt.specs.Headers.{IsHeader}
 use Rattle.vx_srlfmt.specs.declared.header.Header.{Header}

@@ -1,3 +1,4 @@
+-- `flush_ring`: clause spends.
 use Rattle.vx_ringio.proofs.Spending.{spends_flush}
 use Rattle.vx_ringio.proofs.writes.flush_ring.Goals as goal
 

@@ -1,3 +1,4 @@
+-- `write_body`: clauses follows, arrives, spends, least and works; what `write_part` asks.
 use Rattle.std.proofs.Common.{arith, ◌∙◌, eqb-true, sym}
 use Rattle.std.proofs.lemmas.Result.{on_ok_weaker}
 use Rattle.vx_ringio.proofs.Parts.{body_parts, in_parts, first_follows, first_arrives, both_follow, both_arrive}

@@ -1,3 +1,4 @@
+-- `write_front`: clauses follows, arrives and spends.
 use Rattle.std.proofs.Common.{arith}
 use Rattle.std.proofs.lemmas.Result.{on_ok_weaker}
 use Rattle.vx_ringio.proofs.Classing.{class_front, one_follows, one_arrives}

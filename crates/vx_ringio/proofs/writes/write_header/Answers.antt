@@ -1,3 +1,4 @@
+-- `write_header`: clauses follows, arrives, spends, aside and works.
 use Rattle.std.proofs.Common.{arith}
 use Rattle.std.proofs.lemmas.Result.{on_ok_weaker}
 use Rattle.vx_ringio.proofs.Classing.{class_top, one_follows, flushed_follows, flushed_arrives}

@@ -1,3 +1,4 @@
+-- `write_part`: clauses follows, arrives and spends.
 use Rattle.std.proofs.lemmas.Result.{on_ok_weaker}
 use Rattle.std.proofs.Common.{arith}
 use Rattle.vx_ringio.proofs.Classing.{part_follows, part_arrives}

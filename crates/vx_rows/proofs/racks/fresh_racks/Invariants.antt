@@ -1,3 +1,4 @@
+-- The loop of `fresh_racks` over `step`: what stays true.
 use Rattle.std.proofs.Common.{◌≡◌, length}
 use Rattle.std.specs.List.{All}
 use Rattle.vx_disk.specs.Racks.{Bare}

@@ -1,3 +1,4 @@
+-- `apply_to`: clauses sound, stands, moves and works; what `drop_oldest` asks.
 use Rattle.std.proofs.Common.{sym, subst, arith}
 use Rattle.vx_model.specs.declared.no.No.{No}
 use Rattle.vx_disk.specs.Causes.{DeviceCause}

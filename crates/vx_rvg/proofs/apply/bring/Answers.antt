@@ -1,3 +1,4 @@
+-- `bring`: clauses moves, brings, spends and works; what `bring_one` and `flush_volumes` ask; what stays true in its loop over `n`; that no number grows too large.
 use Rattle.std.proofs.Common.{◌≤◌, ◌+◌, subst, arith}
 use Rattle.vx_srl.specs.Views.{IsOrdered, all_of}
 use Rattle.vx_rvg.specs.Views.{Core, volume_size}

@@ -1,3 +1,4 @@
+-- The loop of `bring` over `n`: what stays true.
 use Rattle.std.proofs.Common.{◌≤◌}
 use Rattle.vx_ringio.specs.Spends.{Spends}
 use Rattle.vx_rvg.proofs.ApplyAll.{BroughtTo}

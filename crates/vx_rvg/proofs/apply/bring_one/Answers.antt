@@ -1,3 +1,4 @@
+-- `bring_one`: clauses moves, brings and spends.
 use Rattle.std.proofs.Common.{ℕ, ap, arith}
 use Rattle.std.proofs.lemmas.List.{length-take-le}
 use Rattle.vx_rvg.proofs.ApplyOne.{count_few, kept_at, kept_there, one_brings, one_moves, patched_in}

@@ -1,3 +1,4 @@
+-- `flush_volumes`: clauses spends and works; what stays true in its loop over `vol`.
 use Rattle.std.proofs.Common.{arith}
 use Rattle.vx_ringio.proofs.Spending.{spends_flush, spends_none, then_spends}
 use Rattle.vx_rvg.proofs.ApplyFlush.{flush_more, none_flushed, works_more}

@@ -1,3 +1,4 @@
+-- The loop of `flush_volumes` over `vol`: what stays true.
 use Rattle.std.proofs.Common.{ℕ, ◌<◌}
 use Rattle.vx_disk.specs.Causes.{Works}
 use Rattle.vx_ringio.specs.Spends.{Spends}

@@ -1,3 +1,4 @@
+-- The loop of `add_all` over `k`: what stays true.
 use Rattle.std.proofs.Common.{◌≡◌, ◌++◌}
 use Rattle.vx_overlay.specs.Writes.{entries_at}
 use Rattle.vx_rvg.proofs.patch.add_all.Given as goal

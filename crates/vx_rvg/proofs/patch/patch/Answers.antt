@@ -1,3 +1,4 @@
+-- `patch`: what stays true in its loop over `k`.
 use Rattle.std.proofs.Common.{sym, ap, Some, subst, ℕ, arith, ◌+◌, ◌∙◌, List}
 use Rattle.vx_overlay.specs.Pending.{newest}
 use Rattle.vx_rvg.proofs.PatchFacts.{IsPatchedTo, patched_none, patched_put, got, got_none}

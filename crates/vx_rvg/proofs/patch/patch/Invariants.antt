@@ -1,3 +1,4 @@
+-- The loop of `patch` over `k`: what stays true.
 use Rattle.vx_rvg.proofs.PatchFacts.{IsPatchedTo}
 use Rattle.vx_rvg.proofs.patch.patch.Given as goal
 

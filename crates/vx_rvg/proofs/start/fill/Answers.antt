@@ -1,3 +1,4 @@
+-- `fill`: clauses goes, spends and cause; what `add_within` asks; what stays true in its loop over `before`.
 use Rattle.std.proofs.Common.{arith, ◌+◌, subst, sym}
 use Rattle.vx_model.specs.declared.no.No.{No}
 use Rattle.vx_disk.specs.Shelf.{Nothing}

@@ -1,3 +1,4 @@
+-- `grammar`: clauses lines and quiet.
 use Rattle.vx_script.proofs.GrammarLemmas.{line_of_exact, quiet_exact}
 use Rattle.vx_script.proofs.laws.grammar.Goals as goal
 

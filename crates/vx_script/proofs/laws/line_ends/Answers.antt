@@ -1,3 +1,4 @@
+-- `line_ends`: clauses ended, last, whole and cut.
 use Rattle.vx_script.proofs.LineLemmas.{lines_of_line, lines_of_last, whole_lines_of_line, whole_lines_of_last}
 use Rattle.vx_script.proofs.laws.line_ends.Goals as goal
 

@@ -1,3 +1,4 @@
+-- `wrong_place`: clauses long and wrong.
 use Rattle.vx_script.proofs.ColumnLemmas.{column_exact}
 use Rattle.vx_script.proofs.GrammarLemmas.{line_of_long}
 use Rattle.vx_script.proofs.laws.wrong_place.Goals as goal

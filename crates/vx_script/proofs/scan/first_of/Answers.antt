@@ -1,3 +1,4 @@
+-- `first_of`: clause value.
 use Rattle.std.proofs.Common.{◌≡◌, ◌==◌, true, length, get_or, sym, arith}
 use Rattle.std.proofs.lemmas.List.Sums.{position_or_len_is}
 use Rattle.vx_script.proofs.scan.first_of.Goals as goal

@@ -1,3 +1,4 @@
+-- `first_visible`: clause value.
 use Rattle.std.proofs.Common.{◌≡◌, true, length, get_or, sym, arith}
 use Rattle.std.proofs.lemmas.List.Sums.{position_or_len_is}
 use Rattle.vx_script.specs.Words.{is_visible}

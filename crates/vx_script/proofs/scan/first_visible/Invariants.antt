@@ -1,3 +1,4 @@
+-- The loop of `first_visible` over `i`: what stays true.
 use Rattle.std.proofs.Common.{◌≡◌, ℕ, ◌<◌, get_or, false}
 use Rattle.vx_script.specs.Words.{is_visible}
 use Rattle.vx_script.proofs.scan.first_visible.Given as goal

@@ -1,3 +1,4 @@
+-- `as_names`: its result.
 use Rattle.std.proofs.Common.{◌≡◌, ◌∙◌, sym, ap, subst, List, [], ◌∷◌, ◌++◌, ℕ, Some, None, take}
 use Rattle.std.specs.List.{position_or_len}
 use Rattle.vx_script.proofs.NamesLemmas.{front_none, one_more_name, last_name, wrong_name}

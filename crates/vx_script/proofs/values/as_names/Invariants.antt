@@ -1,3 +1,4 @@
+-- The loop of `as_names`: what stays true, and what falls.
 use Rattle.std.proofs.Common.{◌≡◌, length}
 use Rattle.vx_script.specs.Words.{names_of, with_front}
 use Rattle.vx_script.proofs.values.as_names.Given as goal

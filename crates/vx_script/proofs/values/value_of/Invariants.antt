@@ -1,3 +1,4 @@
+-- The loop of `value_of` over `b`: what stays true.
 use Rattle.std.proofs.Common.{◌≡◌, ◌≤◌, ◌+◌, ◌*◌, length, drop, ◌^◌}
 use Rattle.vx_script.specs.Words.{digits_after}
 use Rattle.vx_script.proofs.values.value_of.Given as goal

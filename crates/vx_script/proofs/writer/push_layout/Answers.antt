@@ -1,3 +1,4 @@
+-- `push_layout`: its result.
 use Rattle.std.proofs.Common.{append_assoc, append-nil}
 use Rattle.vx_script.proofs.writer.push_layout.Goals as goal
 

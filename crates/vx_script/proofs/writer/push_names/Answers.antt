@@ -1,3 +1,4 @@
+-- `push_names`: what stays true in its loop over `i`.
 use Rattle.std.proofs.Common.{◌∙◌, ◌<◌, sym, ap, List, ◌++◌, ℕ, take, length, append_assoc, arith}
 use Rattle.std.specs.List.{join_with_byte}
 use Rattle.vx_script.specs.Tokens.{comma_name}

@@ -1,3 +1,4 @@
+-- The loop of `push_names` over `i`: what stays true.
 use Rattle.std.proofs.Common.{◌≡◌, ◌++◌, take}
 use Rattle.std.specs.List.{join_with_byte}
 use Rattle.vx_script.proofs.writer.push_names.Given as goal

@@ -1,3 +1,4 @@
+-- The loop of `log_oldest`: what stays true.
 use Rattle.vx_secondary.proofs.Waits.{LoggedTo}
 use Rattle.vx_secondary.proofs.logging.log_oldest.Given as goal
 

@@ -1,3 +1,4 @@
+-- The loop of `put_waiting` over `place`: what stays true.
 use Rattle.vx_secondary.specs.Receivers.{writes_of_updates}
 use Rattle.vx_secondary.proofs.Overs.{ShowsTo}
 use Rattle.vx_secondary.proofs.over.put_waiting.Given as goal

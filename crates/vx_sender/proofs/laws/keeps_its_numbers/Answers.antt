@@ -1,3 +1,4 @@
+-- `keeps_its_numbers`: clauses stored, updates and ignored.
 use Rattle.vx_sender.proofs.Events.{stored-rises, updates-fit, ignored-keeps}
 use Rattle.vx_sender.proofs.laws.keeps_its_numbers.Goals as goal
 

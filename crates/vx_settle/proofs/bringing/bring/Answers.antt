@@ -1,3 +1,4 @@
+-- `bring`: clause brings.
 use Rattle.vx_settle.proofs.Bringings.{bring-done}
 use Rattle.vx_settle.proofs.bringing.bring.Goals as goal
 

@@ -1,3 +1,4 @@
+-- `bring_all`: clause brings; what stays true in its loop over `i`.
 use Rattle.std.proofs.Common.{arith, slice_get, Some, ◌≡◌, ◌∙◌, refl, slice_index_or, length}
 use Rattle.std.proofs.lemmas.Option.{slice_get-get_or}
 use Rattle.vx_settle.proofs.ManyPeers.{brought-first, brought-step, brought-all, brought-link}

@@ -1,3 +1,4 @@
+-- The loop of `bring_all` over `i`: what stays true.
 use Rattle.std.proofs.Common.{◌≡◌}
 use Rattle.vx_settle.proofs.ManyPeers.{Brought}
 use Rattle.vx_settle.proofs.bringing.bring_all.Given as goal

@@ -1,3 +1,4 @@
+-- `climb`: clause climbs; what `step` asks; what stays true in its loop over `net`.
 use Rattle.std.proofs.Common.{rules, arith, subst, refl, ◌∙◌, Some, None}
 use Rattle.vx_settle.specs.Bringing.{Steps}
 use Rattle.vx_settle.proofs.Bringings.{mid-step, mid-stuck, mid-end, mid-first}

@@ -1,3 +1,4 @@
+-- `wait_once`: clause once.
 use Rattle.vx_settle.proofs.ManyPeers.{once-done, once-nothing, once-gone, once-ended}
 use Rattle.vx_settle.proofs.bringing.wait_once.Goals as goal
 

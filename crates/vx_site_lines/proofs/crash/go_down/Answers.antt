@@ -1,3 +1,4 @@
+-- `go_down`: clauses told, failing, falls and asked.
 use Rattle.std.proofs.Common.{◌∙◌, ap, sym, refl}
 use Rattle.std.specs.Prelude.{Some, slice_set}
 use Rattle.vx_site_lines.proofs.RawLine.{raw_told}

@@ -1,3 +1,4 @@
+-- `make_site`: clauses told, leads and asked; what `unreachable` asks.
 use Rattle.std.proofs.Common.{◌≡◌, ◌∙◌, ◌++◌, ◌∷◌, [], ◌<◌, ℕ, length, ap, sym, arith, refl, vec_len}
 use Rattle.std.specs.Prelude.{slice_get, slice_set}
 use Rattle.vx_order.specs.declared.facts.SiteFacts.{SiteFacts}

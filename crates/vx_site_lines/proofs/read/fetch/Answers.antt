@@ -1,3 +1,4 @@
+-- `fetch`: clauses told, leads and asked; what `site_of-site`, `volume_of-place` and `unreachable` ask.
 use Rattle.std.proofs.Common.{◌≡◌, arith, refl}
 use Rattle.std.specs.Prelude.{Some}
 use Rattle.vx_events.specs.Facts.{seat_of}

@@ -1,3 +1,4 @@
+-- `read_line`: clauses leads and asked; what `fetch` asks.
 use Rattle.std.proofs.Common.{inl, refl}
 use Rattle.vx_script.specs.declared.line.ScriptLine.TheVariants.{Read as ReadBlocks}
 use Rattle.vx_yard.proofs.Leading.{read_leads}

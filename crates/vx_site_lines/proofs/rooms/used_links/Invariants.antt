@@ -1,3 +1,4 @@
+-- The loop of `used_links` over `k`: what stays true.
 use Rattle.std.proofs.Common.{◌≡◌, length}
 use Rattle.vx_history.specs.World.{Node}
 use Rattle.vx_model.specs.declared.limits.TheConstants.{LINK_PLACES}

@@ -1,3 +1,4 @@
+-- The loop of `link_views` over `link`: what stays true.
 use Rattle.std.proofs.Common.{◌≡◌, take}
 use Rattle.vx_site_lines.specs.Seen.{links_seen}
 use Rattle.vx_site_lines.proofs.status.link_views.Given as goal

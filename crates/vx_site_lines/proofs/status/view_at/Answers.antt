@@ -1,3 +1,4 @@
+-- `view_at`: its result.
 use Rattle.std.proofs.Common.{◌∙◌, ap, List}
 use Rattle.vx_order.specs.declared.facts.SiteFacts.{SiteFacts}
 use Rattle.vx_site_lines.specs.Seen.{site_seen}

@@ -1,3 +1,4 @@
+-- `put_line`: clauses leads, called and asked; what `write_blocks` asks.
 use Rattle.std.proofs.Common.{◌∙◌, List, ℕ, ap, length, refl, subst, sym}
 use Rattle.vx_script.specs.declared.line.ScriptLine.TheVariants.{Put as PutLine}
 use Rattle.vx_yard.specs.Standing.{Leads}

@@ -1,3 +1,4 @@
+-- `write_line`: clauses leads, called and asked; what `unreachable` and `write_blocks` ask.
 use Rattle.std.proofs.Common.{◌≡◌, ◌∙◌, ◌*◌, ◌≤◌, ℕ, ap, arith, refl}
 use Rattle.std.specs.Prelude.{min, replicate}
 use Rattle.vx_script.specs.declared.line.ScriptLine.TheVariants.{Write as WriteLine}

@@ -1,3 +1,4 @@
+-- `are_same`: its result; what stays true in its loop over `volume`.
 use Rattle.std.proofs.Common.{◌≡◌, ◌∙◌, ℕ, ◌+◌, ◌<◌, suc, Bool, List, length, take, true, slice_index_or, sym, ap, subst, arith}
 use Rattle.std.specs.Prelude.{◌&&◌}
 use Rattle.vx_history.specs.Refusals.{agree}

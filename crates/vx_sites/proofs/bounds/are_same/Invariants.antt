@@ -1,3 +1,4 @@
+-- The loop of `are_same` over `volume`: what stays true.
 use Rattle.std.proofs.Common.{◌≡◌, take, true}
 use Rattle.vx_history.specs.Refusals.{agree}
 use Rattle.vx_sites.specs.Shapes.{named_volumes}

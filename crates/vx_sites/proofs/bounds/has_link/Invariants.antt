@@ -1,3 +1,4 @@
+-- The loop of `has_link` over `to`: what stays true.
 use Rattle.std.proofs.Common.{◌≡◌}
 use Rattle.vx_history.specs.Sends.{is_linked}
 use Rattle.vx_history.specs.Refusals.{some_below}

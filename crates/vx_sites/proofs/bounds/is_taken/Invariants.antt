@@ -1,3 +1,4 @@
+-- The loop of `is_taken` over `site`: what stays true.
 use Rattle.std.proofs.Common.{◌≡◌}
 use Rattle.std.specs.Prelude.{bytes_eq}
 use Rattle.vx_history.specs.Refusals.{some_below}

@@ -1,3 +1,4 @@
+-- `lacks_volume`: its result.
 use Rattle.std.proofs.Common.{arith}
 use Rattle.std.proofs.lemmas.Bool.Decides.{nat_tests}
 use Rattle.vx_sites.proofs.Volumes.{length_named}

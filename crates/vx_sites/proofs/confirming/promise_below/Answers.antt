@@ -1,3 +1,4 @@
+-- `promise_below`: its result; what stays true in its loop over `back`.
 use Rattle.std.proofs.Common.{map}
 use Rattle.vx_sites.specs.Shapes.{plain_promise, node_of, link_of, row_of}
 use Rattle.vx_sites.proofs.Promising.{one_promised, all_promised}

@@ -1,3 +1,4 @@
+-- The loop of `promise_below` over `back`: what stays true.
 use Rattle.std.proofs.Common.{◌≡◌, ◌-◌, ◌++◌, map}
 use Rattle.vx_history.specs.Events.{promises_of}
 use Rattle.vx_sites.specs.Shapes.{plain_promise, node_of, row_of}

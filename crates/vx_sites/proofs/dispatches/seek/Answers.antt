@@ -1,3 +1,4 @@
+-- `seek`: clause is; what stays true in its loop over `back`; that no number grows too large.
 use Rattle.std.proofs.Common.{◌≡◌, ◌∙◌, ℕ, ◌+◌, ◌-◌, length, take, ap, arith}
 use Rattle.vx_sites.specs.Messages.{packets_in}
 use Rattle.vx_sites.proofs.Dispatching.{one_before}

@@ -1,3 +1,4 @@
+-- The loop of `seek` over `back`: what stays true.
 use Rattle.std.proofs.Common.{◌≡◌, ◌≤◌, ◌-◌, length, take}
 use Rattle.vx_sites.specs.Messages.{packets_in}
 use Rattle.vx_sites.proofs.dispatches.seek.Given as goal

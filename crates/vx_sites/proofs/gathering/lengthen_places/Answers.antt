@@ -1,3 +1,4 @@
+-- `lengthen_places`: what stays true in its loop over `places`.
 use Rattle.std.proofs.Common.{◌∙◌, refl}
 use Rattle.std.specs.Prelude.{None}
 use Rattle.vx_sites.specs.Shapes.{held_of}

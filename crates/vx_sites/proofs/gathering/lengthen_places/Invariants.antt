@@ -1,3 +1,4 @@
+-- The loop of `lengthen_places` over `places`: what stays true, and what falls.
 use Rattle.std.proofs.Common.{◌≡◌, ◌+◌, ◌-◌, length}
 use Rattle.vx_sites.specs.Shapes.{places_of}
 use Rattle.vx_sites.proofs.gathering.lengthen_places.Given as goal

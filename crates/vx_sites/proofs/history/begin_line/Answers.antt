@@ -1,3 +1,4 @@
+-- `begin_line`: its result.
 use Rattle.std.proofs.Common.{refl}
 use Rattle.vx_history.specs.World.{History, no_history}
 use Rattle.vx_sites.specs.Shapes.{content_of}

@@ -1,3 +1,4 @@
+-- `find_line`: clauses same and place.
 use Rattle.std.proofs.Common.{◌≡◌, List, length, refl, subst}
 use Rattle.vx_sites.specs.Shapes.{IsNewLine}
 use Rattle.vx_sites.specs.declared.history.Entry.{Entry}

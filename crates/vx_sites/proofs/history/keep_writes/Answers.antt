@@ -1,3 +1,4 @@
+-- `keep_writes`: its result.
 use Rattle.std.proofs.Common.{refl}
 use Rattle.vx_history.specs.World.{History}
 use Rattle.vx_sites.proofs.Entries.{line_changed}

@@ -1,3 +1,4 @@
+-- The loop of `seek_line` over `at`: what stays true.
 use Rattle.std.proofs.Common.{◌≡◌, ℕ, ◌<◌, get_or, false}
 use Rattle.vx_model.specs.Sites.{same_line}
 use Rattle.vx_sites.specs.declared.history.Entry.{Entry}

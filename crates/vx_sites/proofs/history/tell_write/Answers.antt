@@ -1,3 +1,4 @@
+-- `tell_write`: its result.
 use Rattle.std.proofs.Common.{◌≡◌, ◌+◌, length, refl, arith}
 use Rattle.vx_history.specs.World.{History}
 use Rattle.vx_history.specs.Steps.{told_of}

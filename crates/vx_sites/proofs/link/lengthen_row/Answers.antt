@@ -1,3 +1,4 @@
+-- `lengthen_row`: what stays true in its loop over `links`.
 use Rattle.std.proofs.Common.{◌∙◌}
 use Rattle.vx_history.specs.World.{no_link}
 use Rattle.vx_sites.specs.Shapes.{link_of}

@@ -1,3 +1,4 @@
+-- The loop of `lengthen_row` over `links`: what stays true, and what falls.
 use Rattle.std.proofs.Common.{◌≡◌, ◌+◌, ◌-◌, length}
 use Rattle.vx_sites.specs.Shapes.{row_of}
 use Rattle.vx_sites.proofs.link.lengthen_row.Given as goal

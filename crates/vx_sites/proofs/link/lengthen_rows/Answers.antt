@@ -1,3 +1,4 @@
+-- `lengthen_rows`: what stays true in its loop over `alloc`.
 use Rattle.std.proofs.Common.{◌∙◌, ℕ, List, ap}
 use Rattle.vx_history.specs.World.{no_link}
 use Rattle.vx_sites.specs.Shapes.{row_of}

@@ -1,3 +1,4 @@
+-- The loop of `lengthen_rows` over `alloc`: what stays true, and what falls.
 use Rattle.std.proofs.Common.{◌≡◌, ◌+◌, ◌-◌, length}
 use Rattle.vx_sites.specs.Shapes.{links_of}
 use Rattle.vx_sites.proofs.link.lengthen_rows.Given as goal

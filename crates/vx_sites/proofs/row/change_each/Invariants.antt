@@ -1,3 +1,4 @@
+-- The loop of `change_each` over `to`: what stays true.
 use Rattle.std.proofs.Common.{◌≡◌, length}
 use Rattle.vx_history.specs.Events.{link_after}
 use Rattle.vx_sites.specs.Shapes.{row_of, node_of}

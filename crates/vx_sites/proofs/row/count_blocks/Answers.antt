@@ -1,3 +1,4 @@
+-- `count_blocks`: what stays true in its loop over `write`.
 use Rattle.std.proofs.Common.{◌≡◌, ℕ, List, length, ap, arith}
 use Rattle.vx_sites.proofs.Each.{log_blocks_more}
 use Rattle.vx_sites.proofs.row.count_blocks.Goals as goal

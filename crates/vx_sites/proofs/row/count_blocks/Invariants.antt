@@ -1,3 +1,4 @@
+-- The loop of `count_blocks` over `write`: what stays true.
 use Rattle.std.proofs.Common.{◌≡◌, min, take}
 use Rattle.vx_history.specs.Events.{logged_blocks}
 use Rattle.vx_sites.proofs.row.count_blocks.Given as goal

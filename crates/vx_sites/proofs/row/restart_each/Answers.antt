@@ -1,3 +1,4 @@
+-- `restart_each`: its result; what stays true in its loop over `to`.
 use Rattle.std.proofs.Common.{◌≡◌, ℕ, ◌<◌, length, arith, refl, ◌∙◌}
 use Rattle.std.proofs.lemmas.List.{length-set}
 use Rattle.vx_history.specs.World.{Link, Node}

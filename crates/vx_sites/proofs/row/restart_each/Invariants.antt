@@ -1,3 +1,4 @@
+-- The loop of `restart_each` over `to`: what stays true.
 use Rattle.std.proofs.Common.{◌≡◌, ℕ, length}
 use Rattle.vx_history.specs.World.{Link, Node}
 use Rattle.vx_history.specs.Events.{restarted_link}

@@ -1,3 +1,4 @@
+-- The loop of `send_writes` over `past`: what stays true.
 use Rattle.std.proofs.Common.{◌≡◌, ◌+◌, ◌++◌, drop}
 use Rattle.vx_history.specs.Sends.{updates}
 use Rattle.vx_sites.proofs.updates.send_writes.Given as goal

@@ -1,3 +1,4 @@
+-- `writes_between`: clause is.
 use Rattle.std.proofs.Common.{◌≡◌, length, min, ◌-◌}
 use Rattle.vx_sites.proofs.Sendings.{between_is}
 use Rattle.vx_sites.proofs.updates.writes_between.Goals as goal

@@ -1,3 +1,4 @@
+-- `is_body`: its result.
 use Rattle.std.proofs.Common.{arith, refl}
 use Rattle.vx_srl.proofs.ScanBodies.{are_bodies, byte_of_body}
 use Rattle.vx_srl.proofs.scan.is_body.Goals as goal

@@ -1,3 +1,4 @@
+-- The loop of `is_body` over `k`: what stays true.
 use Rattle.std.proofs.Common.{◌≡◌, ℕ, ◌*◌, ◌<◌, get_or}
 use Rattle.vx_srlfmt.specs.Kinds.{body_byte}
 use Rattle.vx_srl.proofs.scan.is_body.Given as goal

@@ -1,3 +1,4 @@
+-- `look`: clauses agrees, shown, stands, fits and spends; what `take` asks.
 use Rattle.std.proofs.Common.{arith, inl, refl, subst, IsTrue, false}
 use Rattle.vx_ringlog.specs.Chain.{block}
 use Rattle.vx_ringlog.specs.Records.{era_of}

@@ -1,3 +1,4 @@
+-- `scan`: clauses cause, takes, finds, kept, goes and spends; what `look` asks; what stays true in its loop.
 use Rattle.std.proofs.Common.{arith, refl, subst}
 use Rattle.vx_disk.specs.Shelf.{Nothing}
 use Rattle.vx_disk.proofs.Runs.{then_nothing}

@@ -1,3 +1,4 @@
+-- The loop of `scan`: what stays true.
 use Rattle.std.specs.VecDeque.{deque_capacity}
 use Rattle.vx_ringio.specs.Spends.{Spends}
 use Rattle.vx_srl.proofs.ScanLoops.{Scanning}

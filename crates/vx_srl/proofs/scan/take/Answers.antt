@@ -1,3 +1,4 @@
+-- `take`: clauses has, stands and shown.
 use Rattle.std.proofs.Common.{rules, sym, refl, ap, ◌≡◌, ℕ, List, ◌*◌, ◌∙◌, length, IsTrue, false}
 use Rattle.vx_wire.specs.Seals.{digest_of}
 use Rattle.vx_srl.proofs.ScanBodies.{body_shown, read_are_bodies, read_digest, read_stands}

@@ -1,3 +1,4 @@
+-- `write_fronts`: clauses follows, short and spends; what stays true in its loop over `k`.
 use Rattle.std.proofs.Common.{arith}
 use Rattle.vx_srl.proofs.FrontLaws.{cut_follows, one_more, one_written, short_cut, short_more}
 use Rattle.vx_ringio.proofs.Spending.{then_spends}

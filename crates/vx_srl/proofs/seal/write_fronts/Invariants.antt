@@ -1,3 +1,4 @@
+-- The loop of `write_fronts` over `k`: what stays true.
 use Rattle.std.proofs.Common.{◌-◌}
 use Rattle.vx_disk.specs.Burns.{FallsShort, MakesCalls}
 use Rattle.vx_ringio.specs.Spends.{Spends}

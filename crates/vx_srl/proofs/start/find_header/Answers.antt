@@ -1,3 +1,4 @@
+-- `find_header`: clauses found, goes, cause and spends.
 use Rattle.std.proofs.Common.{refl}
 use Rattle.vx_disk.specs.Shelf.{Nothing}
 use Rattle.vx_disk.proofs.Runs.{then_nothing}

@@ -1,3 +1,4 @@
+-- `get_header`: clauses found and only; what `can_spell` asks.
 use Rattle.std.proofs.Common.{arith, ◌≡◌, ◌≤◌, ◌∙◌, ap, sym, subst, List, ℕ, length, take, false, Some, refl}
 use Rattle.std.specs.Option.{is_some}
 use Rattle.vx_wire.specs.Seals.{filled, IsSealed}

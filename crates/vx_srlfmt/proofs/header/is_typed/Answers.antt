@@ -1,3 +1,4 @@
+-- `is_typed`: clause state; what stays true in its loop over `link`.
 use Rattle.std.proofs.Common.{arith, ◌≡◌, ◌<◌, ◌^◌, ap, subst, List, ℕ, length, get_or, take}
 use Rattle.std.proofs.lemmas.List.{take_more, take_all}
 use Rattle.std.proofs.lemmas.List.Elements.{All-push}

@@ -1,3 +1,4 @@
+-- The loop of `is_typed` over `link`: what stays true.
 use Rattle.std.proofs.Common.{◌<◌, ◌^◌, take}
 use Rattle.std.specs.Prelude.{All}
 use Rattle.vx_srlfmt.proofs.header.is_typed.Given as goal

@@ -1,3 +1,4 @@
+-- `put_front`: its result; what `put_fields-place` and `put_zeros` ask; what stays true in its loop over `link`; that no number grows too large.
 use Rattle.std.proofs.Common.{arith, ◌≡◌, ◌<◌, ◌+◌, ◌-◌, ◌∙◌, ◌++◌, ap, sym, List, ℕ, length, get_or, take}
 use Rattle.std.proofs.lemmas.List.{length-take, length-append, append-nil}
 use Rattle.vx_model.specs.declared.state.KeptLink.{KeptLink}

@@ -1,3 +1,4 @@
+-- `read_links`: clause links; what stays true in its loop over `i`.
 use Rattle.std.proofs.Common.{arith, ◌≡◌, ◌∙◌, ◌+◌, ◌<◌, ◌^◌, ◌*◌, ◌-◌, ◌++◌, ◌∷◌, [], ap, sym, List, ℕ, length}
 use Rattle.std.proofs.lemmas.List.{length_push}
 use Rattle.std.proofs.lemmas.List.Elements.{All-push}

@@ -1,3 +1,4 @@
+-- The loop of `read_links` over `i`: what stays true.
 use Rattle.std.proofs.Common.{◌≡◌, ◌+◌, ◌-◌, ◌*◌, ◌^◌, ◌<◌, ◌++◌, length}
 use Rattle.std.specs.Prelude.{All}
 use Rattle.vx_srlfmt.specs.HeaderReading.{links_at}

@@ -1,3 +1,4 @@
+-- `kinds`: clauses is, only, body_is_no_header, body_is_no_record and body_is_not_damaged.
 use Rattle.vx_srlfmt.proofs.KindLaws.{kind_of-is, kind_of-only, header_not_body, record_not_body, damaged_not_body}
 use Rattle.vx_srlfmt.proofs.kind.kinds.Goals as goal
 

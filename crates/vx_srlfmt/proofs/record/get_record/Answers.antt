@@ -1,3 +1,4 @@
+-- `get_record`: clauses seen, only and damaged.
 use Rattle.std.proofs.Common.{arith, ◌≡◌, take}
 use Rattle.vx_wire.specs.Numbers.{be_bytes}
 use Rattle.vx_srlfmt.specs.Records.{record_magic}

@@ -1,3 +1,4 @@
+-- `put_record`: its result.
 use Rattle.std.proofs.Common.{arith, ◌≡◌, ◌≤◌, ◌∙◌, ◌++◌, ap, List, ℕ, length, take}
 use Rattle.vx_wire.specs.Seals.{filled, sealed, digest_of}
 use Rattle.vx_wire.proofs.SealLemmas.{length-filled}

@@ -1,3 +1,4 @@
+-- `whole_record`: its result.
 use Rattle.std.proofs.Common.{◌≡◌, ◌∙◌, ap, sym, subst, refl}
 use Rattle.vx_wire.specs.Seals.{filled}
 use Rattle.vx_srlfmt.specs.Records.{record_fields, record_block, CanSpellHead}

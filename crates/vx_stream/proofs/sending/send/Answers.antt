@@ -1,3 +1,4 @@
+-- `send`: clause bytes; what stays true in its loop over `sent`.
 use Rattle.std.proofs.Common.{take, drop, arith, sym, ap, subst, List, [], ℕ, ◌≡◌, length, length-drop}
 use Rattle.std.proofs.lemmas.Result.{err_from_is_err_and}
 use Rattle.std.proofs.lemmas.List.{take-append-drop, take_rest}

@@ -1,3 +1,4 @@
+-- The loop of `send` over `sent`: what stays true, and what falls.
 use Rattle.std.proofs.Common.{length, take, ◌-◌, ◌≤◌}
 use Rattle.std.specs.Io.KnownBytes.{Appends}
 use Rattle.vx_stream.proofs.sending.send.Given as goal

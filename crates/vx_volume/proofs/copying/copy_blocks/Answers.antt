@@ -1,3 +1,4 @@
+-- `copy_blocks`: clauses goes, cause and ok; what `copy_run` asks; what stays true in its loop over `done`.
 use Rattle.std.proofs.Common.{arith}
 use Rattle.vx_config.specs.Checks.{blocks_of}
 use Rattle.vx_volume.proofs.CopyLemmas.{cause_later, copy_end, copy_more, copy_start, copy_then, disks_still}

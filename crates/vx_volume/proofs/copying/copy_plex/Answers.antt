@@ -1,3 +1,4 @@
+-- `copy_plex`: clauses goes, ok and cause; what `flush_plex` asks.
 use Rattle.vx_volume.proofs.CopyLemmas.{copied_all, copy_flushed, disks_still, plex_cause}
 use Rattle.vx_volume.proofs.copying.copy_plex.Goals as goal
 

@@ -1,3 +1,4 @@
+-- `copy_run`: clauses goes, cause and ok; what `read_plex` and `write_plex` ask.
 use Rattle.std.proofs.Common.{ℕ, ◌/◌, length, OnOk, ap, ◌∙◌, subst, arith}
 use Rattle.vx_disk.specs.Shelf.{Goes, Nothing}
 use Rattle.vx_disk.proofs.Runs.{weaker}

@@ -1,3 +1,4 @@
+-- `flush_plexes`: clause ends; what stays true in its loop over `plex`.
 use Rattle.std.proofs.Common.{◌+◌, sym, ◌∙◌, subst, arith}
 use Rattle.vx_volume.specs.Steps.{FlushLoop}
 use Rattle.vx_volume.proofs.EveryLemmas.{flush_failed, flush_ok, flush_pass}

@@ -1,3 +1,4 @@
+-- The loop of `flush_plexes` over `plex`: what stays true.
 use Rattle.vx_volume.specs.Steps.{FlushLoop}
 use Rattle.vx_volume.proofs.every.flush_plexes.Given as goal
 

@@ -1,3 +1,4 @@
+-- `write_plexes`: clauses goes and ends; what stays true in its loop over `plex`.
 use Rattle.std.proofs.Common.{◌+◌, ◌/◌, length, sym, ◌∙◌, subst, arith}
 use Rattle.vx_volume.specs.Steps.{WriteLoop}
 use Rattle.vx_volume.proofs.EveryLemmas.{write_failed_by, write_goes, write_ok, write_pass}

@@ -1,3 +1,4 @@
+-- The loop of `write_plexes` over `plex`: what stays true.
 use Rattle.std.proofs.Common.{◌/◌, length}
 use Rattle.vx_volume.specs.Steps.{WriteLoop}
 use Rattle.vx_volume.proofs.every.write_plexes.Given as goal

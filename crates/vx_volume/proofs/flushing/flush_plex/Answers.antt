@@ -1,3 +1,4 @@
+-- `flush_plex`: clause ok.
 use Rattle.std.proofs.Common.{◌≡◌, length, ap, arith}
 use Rattle.vx_volume.proofs.EveryLemmas.{flushed_all}
 use Rattle.vx_volume.proofs.flushing.flush_plex.Goals as goal

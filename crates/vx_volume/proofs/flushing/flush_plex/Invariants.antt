@@ -1,3 +1,4 @@
+-- The loop of `flush_plex` over `disk`: what stays true.
 use Rattle.vx_volume.specs.Steps.{FlushedBelow}
 use Rattle.vx_volume.proofs.flushing.flush_plex.Given as goal
 

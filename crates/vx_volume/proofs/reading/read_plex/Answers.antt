@@ -1,3 +1,4 @@
+-- `read_plex`: what stays true in its loop over `done`.
 use Rattle.std.proofs.Common.{ℕ, ◌+◌, ◌/◌, ap, subst, sym}
 use Rattle.vx_volume.specs.Steps.{ReadPart}
 use Rattle.vx_volume.proofs.ReadRuns.{no_read, read_more}

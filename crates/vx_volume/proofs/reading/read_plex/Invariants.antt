@@ -1,3 +1,4 @@
+-- The loop of `read_plex` over `done`: what stays true, and what falls.
 use Rattle.std.proofs.Common.{◌-◌, ◌/◌, length}
 use Rattle.vx_volume.specs.Steps.{ReadPart}
 use Rattle.vx_volume.proofs.reading.read_plex.Given as goal

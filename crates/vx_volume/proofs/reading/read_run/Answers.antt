@@ -1,3 +1,4 @@
+-- `read_run`: clauses ok and cause; what `find_spot-spot` and `read` ask.
 use Rattle.std.proofs.Common.{◌≡◌, ◌+◌, ◌-◌, ◌*◌, ◌∙◌, length, arith, refl}
 use Rattle.vx_volume.proofs.PlaceLemmas.{has_of}
 use Rattle.vx_volume.proofs.ReadRuns.{part_length, put_length, read_ok}

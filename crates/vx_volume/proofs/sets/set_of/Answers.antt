@@ -1,3 +1,4 @@
+-- `set_of`: that no number grows too large.
 use Rattle.std.proofs.Common.{arith}
 use Rattle.vx_volume.proofs.BitLemmas.{set_small}
 use Rattle.vx_volume.proofs.sets.set_of.Goals as goal

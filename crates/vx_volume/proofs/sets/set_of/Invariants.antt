@@ -1,3 +1,4 @@
+-- The loop of `set_of` over `k`: what stays true.
 use Rattle.std.proofs.Common.{◌≡◌, ◌-◌, ◌<◌, ◌^◌, drop}
 use Rattle.vx_volume.specs.Sets.{bits}
 use Rattle.vx_volume.proofs.sets.set_of.Given as goal

@@ -1,3 +1,4 @@
+-- `read_in_turn`: clause ends; what stays true in its loop over `turn`.
 use Rattle.std.proofs.Common.{◌+◌, ◌/◌, ℕ, ap, sym, ◌∙◌, subst, arith}
 use Rattle.vx_volume.specs.Steps.{ReadLoop}
 use Rattle.vx_volume.proofs.TurnLemmas.{turns_end, turns_failed, turns_ok, turns_pass}

@@ -1,3 +1,4 @@
+-- The loop of `read_in_turn` over `turn`: what stays true.
 use Rattle.vx_volume.specs.Steps.{ReadLoop}
 use Rattle.vx_volume.proofs.turns.read_in_turn.Given as goal
 

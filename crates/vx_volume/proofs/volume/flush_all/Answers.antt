@@ -1,3 +1,4 @@
+-- `flush_all`: clause ends.
 use Rattle.vx_volume.proofs.TurnLemmas.{by_bits, last_bits}
 use Rattle.vx_volume.proofs.volume.flush_all.Goals as goal
 

@@ -1,3 +1,4 @@
+-- `read`: what `first_of-first`, `read_in_turn` and `next_of-v` ask.
 use Rattle.std.proofs.Common.{arith}
 use Rattle.vx_volume.proofs.PlaceLemmas.{count_few, volume_fits}
 use Rattle.vx_volume.proofs.TurnLemmas.{asked_below, some_plexes}

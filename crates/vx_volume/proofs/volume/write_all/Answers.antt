@@ -1,3 +1,4 @@
+-- `write_all`: clause ends; what `write_plexes` asks.
 use Rattle.vx_volume.proofs.PlaceLemmas.{volume_fits}
 use Rattle.vx_volume.proofs.TurnLemmas.{by_bits, last_bits}
 use Rattle.vx_volume.proofs.volume.write_all.Goals as goal

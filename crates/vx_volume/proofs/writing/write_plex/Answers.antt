@@ -1,3 +1,4 @@
+-- `write_plex`: clause goes; what stays true in its loop over `done`.
 use Rattle.vx_volume.proofs.WriteRuns.{part_goes, part_more}
 use Rattle.vx_volume.proofs.writing.write_plex.Goals as goal
 

@@ -1,3 +1,4 @@
+-- The loop of `write_plex` over `done`: what stays true, and what falls.
 use Rattle.std.proofs.Common.{◌-◌, ◌/◌, length}
 use Rattle.vx_volume.specs.Steps.{Part}
 use Rattle.vx_volume.proofs.writing.write_plex.Given as goal

@@ -1,3 +1,4 @@
+-- `write_run`: clauses goes, ok and cause; what `write` and `find_spot-spot` ask.
 use Rattle.std.proofs.Common.{arith, ◌+◌}
 use Rattle.vx_volume.proofs.PlaceLemmas.{has_of}
 use Rattle.vx_volume.proofs.WriteRuns.{run_Cause, run_Goes, run_Wrote, run_fits}

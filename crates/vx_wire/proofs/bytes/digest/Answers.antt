@@ -1,3 +1,4 @@
+-- `digest`: its result.
 use Rattle.vx_wire.specs.Seals.{digest_of}
 use Rattle.vx_wire.proofs.bytes.digest.Goals as goal
 

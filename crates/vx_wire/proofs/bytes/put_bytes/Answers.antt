@@ -1,3 +1,4 @@
+-- `put_bytes`: its result.
 use Rattle.std.proofs.Common.{arith}
 use Rattle.vx_wire.proofs.PlaceLemmas.{put_mid-whole}
 use Rattle.vx_wire.proofs.bytes.put_bytes.Goals as goal

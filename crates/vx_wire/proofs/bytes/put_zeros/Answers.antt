@@ -1,3 +1,4 @@
+-- `put_zeros`: its result.
 use Rattle.std.proofs.Common.{arith, length, ◌≡◌, ◌∙◌, ◌+◌, ◌-◌, ap, ℕ, take, drop}
 use Rattle.std.proofs.lemmas.List.{length-replicate, length-take, length-drop}
 use Rattle.vx_wire.specs.Fields.{zero_bytes}

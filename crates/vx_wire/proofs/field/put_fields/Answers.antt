@@ -1,3 +1,4 @@
+-- `put_fields`: what `put-place` asks; what stays true in its loop over `field`.
 use Rattle.std.proofs.Common.{arith, ◌∙◌, ap, sym, List, ℕ, length, get_or, take, length-append}
 use Rattle.vx_wire.specs.declared.field.Field.{Field}
 use Rattle.vx_wire.specs.declared.field.Field.TheVariants.{U8}

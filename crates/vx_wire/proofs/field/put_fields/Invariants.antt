@@ -1,3 +1,4 @@
+-- The loop of `put_fields` over `field`: what stays true.
 use Rattle.std.proofs.Common.{◌≡◌, ◌+◌, length, take}
 use Rattle.vx_wire.specs.Fields.{spelled}
 use Rattle.vx_wire.specs.Places.{put_at}

@@ -1,3 +1,4 @@
+-- `put_flag`: its result.
 use Rattle.std.proofs.Common.{arith}
 use Rattle.vx_wire.proofs.PlaceLemmas.{set-is}
 use Rattle.vx_wire.proofs.flag.put_flag.Goals.{then-flag, else-flag}

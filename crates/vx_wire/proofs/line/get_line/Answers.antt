@@ -1,3 +1,4 @@
+-- `get_line`: clause spelled.
 use Rattle.std.proofs.Common.{◌+◌, sym, ap, ℕ}
 use Rattle.vx_wire.specs.Fields.{line_bytes}
 use Rattle.vx_wire.specs.Numbers.{be_bytes}

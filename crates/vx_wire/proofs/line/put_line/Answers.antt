@@ -1,3 +1,4 @@
+-- `put_line`: its result.
 use Rattle.std.proofs.Common.{arith, ◌∙◌, ap, ◌≡◌, ◌+◌, length}
 use Rattle.vx_wire.specs.Fields.{line_bytes}
 use Rattle.vx_wire.specs.Numbers.{be_bytes}

@@ -1,3 +1,4 @@
+-- `get_u16`: clauses number and spelled.
 use Rattle.std.proofs.Common.{arith, ◌≡◌, ◌∙◌, ap}
 use Rattle.vx_wire.specs.Numbers.{be_bytes, number_at}
 use Rattle.vx_wire.proofs.NumberLemmas.{number_at-spelled, number_at-is}

@@ -1,3 +1,4 @@
+-- `get_u8`: clauses number and spelled.
 use Rattle.std.proofs.Common.{arith, ◌∙◌, sym, ap}
 use Rattle.vx_wire.specs.Numbers.{be_bytes}
 use Rattle.vx_wire.proofs.NumberLemmas.{number_at-byte, number_at-spelled}

@@ -1,3 +1,4 @@
+-- `numbers_are_spelled`: clauses spelled and read.
 use Rattle.vx_wire.proofs.NumberLemmas.{be_bytes-number, number_at-be_bytes}
 use Rattle.vx_wire.proofs.number.numbers_are_spelled.Goals as goal
 

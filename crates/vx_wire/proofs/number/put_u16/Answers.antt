@@ -1,3 +1,4 @@
+-- `put_u16`: its result.
 use Rattle.std.proofs.Common.{arith, refl}
 use Rattle.vx_wire.specs.Numbers.{be_bytes}
 use Rattle.vx_wire.proofs.PlaceLemmas.{put_mid-is}

@@ -1,3 +1,4 @@
+-- `put_u8`: its result.
 use Rattle.std.proofs.Common.{arith, ◌∙◌, sym, ap, List, ℕ}
 use Rattle.vx_wire.specs.Places.{put_at}
 use Rattle.vx_wire.proofs.NumberLemmas.{be_bytes-byte}

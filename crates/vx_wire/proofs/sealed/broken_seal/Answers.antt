@@ -1,3 +1,4 @@
+-- `broken_seal`: its result.
 use Rattle.std.proofs.Common.{arith, ◌≡◌, ◌∙◌, sym, drop, true, false}
 use lib.Pointwise.{pointwise}
 use Rattle.std.specs.Prelude.{nat_eq}

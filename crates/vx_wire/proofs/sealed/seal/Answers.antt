@@ -1,3 +1,4 @@
+-- `seal`: its result.
 use Rattle.std.proofs.Common.{arith, ◌≡◌, ◌+◌, ◌∙◌, ap, take, drop, [], ◌++◌, List, ℕ, length}
 use Rattle.std.proofs.lemmas.List.{drop_all, append-nil}
 use Rattle.vx_wire.specs.Places.{put_at}

@@ -1,3 +1,4 @@
+-- `count_used`: what stays true in its loop over `at`.
 use Rattle.std.proofs.Common.{◌∙◌, arith}
 use Rattle.std.proofs.lemmas.List.{length-set}
 use Rattle.vx_sites.specs.Shapes.{node_of}

@@ -1,3 +1,4 @@
+-- The loop of `count_used` over `at`: what stays true.
 use Rattle.std.proofs.Common.{◌≡◌, length}
 use Rattle.vx_sites.specs.Shapes.{node_of}
 use Rattle.vx_world.specs.Counted.{AreCounted}

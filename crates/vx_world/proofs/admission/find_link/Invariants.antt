@@ -1,3 +1,4 @@
+-- The loop of `find_link` over `to`: what stays true.
 use Rattle.std.proofs.Common.{◌≡◌}
 use Rattle.vx_history.specs.Events.{link_in_place}
 use Rattle.vx_sites.specs.Shapes.{world_of}

@@ -1,3 +1,4 @@
+-- The loop of `is_waited_for` over `to`: what stays true.
 use Rattle.std.proofs.Common.{◌≡◌}
 use Rattle.vx_history.specs.Refusals.{some_below, is_waited_for}
 use Rattle.vx_sites.specs.Shapes.{world_of}

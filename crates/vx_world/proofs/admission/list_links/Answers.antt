@@ -1,3 +1,4 @@
+-- `list_links`: what stays true in its loop over `place`.
 use Rattle.std.proofs.Common.{◌≡◌, ◌∙◌, ◌++◌, ℕ, ◌+◌, [], List, sym, ap, arith, add-one}
 use Rattle.std.specs.Prelude.{Option}
 use Rattle.vx_model.specs.declared.link.Link.{Link as PlainLink}

@@ -1,3 +1,4 @@
+-- The loop of `list_links` over `place`: what stays true.
 use Rattle.std.proofs.Common.{◌≡◌}
 use Rattle.vx_history.specs.Events.{plain_links, linked_sites}
 use Rattle.vx_sites.specs.Shapes.{world_of}

@@ -1,3 +1,4 @@
+-- `refuse_by_links`: its result.
 use Rattle.std.proofs.Common.{◌∙◌, arith, ap}
 use Rattle.vx_history.specs.Events.{admitted}
 use Rattle.vx_policy.specs.declared.verdict.Verdict.{Verdict}

@@ -1,3 +1,4 @@
+-- `apply`: its result.
 use Rattle.std.proofs.Common.{◌≡◌, ◌∙◌, Bool, sym, ap, false}
 use Rattle.std.specs.Prelude.{if◌then◌else◌}
 use Rattle.vx_history.specs.World.{Node}

@@ -1,3 +1,4 @@
+-- `apply_received`: its result.
 use Rattle.std.proofs.Common.{◌≡◌, ℕ, ◌-◌, min, length, refl, arith, subst, false}
 use Rattle.std.specs.Prelude.{eqb}
 use Rattle.std.proofs.lemmas.Bool.Decides.{nat_tests}

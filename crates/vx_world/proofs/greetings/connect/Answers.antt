@@ -1,3 +1,4 @@
+-- `connect`: its result.
 use Rattle.std.proofs.Common.{◌∙◌, ap}
 use Rattle.vx_history.specs.World.{World}
 use Rattle.vx_history.specs.Refusals.{says}

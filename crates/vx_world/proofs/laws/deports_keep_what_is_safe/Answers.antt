@@ -1,3 +1,4 @@
+-- `deports_keep_what_is_safe`: its result.
 use Rattle.std.proofs.Common.{arith}
 use Rattle.vx_world.proofs.laws.deports_keep_what_is_safe.Goals as goal
 

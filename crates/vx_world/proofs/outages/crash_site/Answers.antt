@@ -1,3 +1,4 @@
+-- `crash_site`: its result.
 use Rattle.std.proofs.Common.{◌≡◌, ◌∙◌, ℕ, length, ap, arith}
 use Rattle.vx_history.specs.World.{Node}
 use Rattle.vx_history.specs.Events.{kept_of, crash_at}

@@ -1,3 +1,4 @@
+-- `deport_site`: its result; what `deport` asks.
 use Rattle.std.proofs.Common.{◌≡◌, ◌∙◌, ◌<◌, length, ap, sym, subst}
 use Rattle.std.specs.Prelude.{ℕ}
 use Rattle.vx_history.specs.World.{World}

@@ -1,3 +1,4 @@
+-- `take_down`: its result.
 use Rattle.std.proofs.Common.{◌≡◌, ◌∙◌, sym, ap, true}
 use Rattle.vx_history.specs.World.{Node}
 use Rattle.vx_model.specs.Sites.{is_origin}

@@ -1,3 +1,4 @@
+-- `pump_link`: its result.
 use Rattle.vx_history.specs.declared.sender.SEvent.TheVariants.{Pump}
 use Rattle.vx_sites.specs.Shapes.{world_of}
 use Rattle.vx_world.proofs.Exchanges.{moved_and_sent}

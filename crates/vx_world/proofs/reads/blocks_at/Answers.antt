@@ -1,3 +1,4 @@
+-- `blocks_at`: what stays true in its loop over `k`.
 use Rattle.std.proofs.Common.{◌≡◌, ◌∙◌, ℕ, suc, ◌+◌, List, ◌++◌, length, add-one, length-append, ap, sym, arith}
 use Rattle.vx_model.specs.Content.{blocks_from}
 use Rattle.vx_history.specs.Step.{joined_blocks}

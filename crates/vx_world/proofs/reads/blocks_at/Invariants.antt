@@ -1,3 +1,4 @@
+-- The loop of `blocks_at` over `k`: what stays true.
 use Rattle.std.proofs.Common.{◌≡◌, ◌*◌, length}
 use Rattle.vx_model.specs.Content.{blocks_from}
 use Rattle.vx_history.specs.Step.{joined_blocks}

@@ -1,3 +1,4 @@
+-- `take`: its result.
 use Rattle.std.proofs.Common.{◌≡◌, ◌∙◌, true, sym}
 use Rattle.vx_history.specs.Gatherings.{completes}
 use Rattle.vx_sites.specs.Shapes.{world_of, packet_of}

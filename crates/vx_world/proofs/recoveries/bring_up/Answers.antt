@@ -1,3 +1,4 @@
+-- `bring_up`: its result.
 use Rattle.std.proofs.Common.{◌≡◌, ◌∙◌, ℕ, length, ap, subst, arith}
 use Rattle.vx_history.specs.World.{World, Node}
 use Rattle.vx_history.specs.Steps.{recovered}

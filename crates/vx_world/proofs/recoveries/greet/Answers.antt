@@ -1,3 +1,4 @@
+-- `greet`: its result.
 use Rattle.std.proofs.Common.{◌≡◌, ◌∙◌, ℕ, length, sym, ap, arith}
 use Rattle.vx_history.specs.World.{Node, Hello}
 use Rattle.vx_model.specs.Sites.{is_origin}

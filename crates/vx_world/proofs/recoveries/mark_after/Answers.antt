@@ -1,3 +1,4 @@
+-- `mark_after`: its result.
 use Rattle.std.proofs.Common.{◌≡◌, ◌∙◌, ◌+◌, ℕ, length, sym, ap, refl, arith}
 use Rattle.vx_history.specs.World.{Node}
 use Rattle.vx_history.specs.LinkForms.{plain_receiver}

@@ -1,3 +1,4 @@
+-- `recover`: its result.
 use Rattle.std.proofs.Common.{◌∙◌, sym, ap}
 use Rattle.vx_history.specs.World.{Node}
 use Rattle.vx_history.specs.Refusals.{unless_at_most, at_site}

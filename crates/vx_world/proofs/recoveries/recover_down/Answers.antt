@@ -1,3 +1,4 @@
+-- `recover_down`: its result.
 use Rattle.std.proofs.Common.{◌∙◌, ℕ, sym, ap}
 use Rattle.std.specs.Prelude.{Option, None}
 use Rattle.vx_history.specs.World.{Node}

@@ -1,3 +1,4 @@
+-- `move_link`: clauses moved and action.
 use Rattle.std.proofs.Common.{◌∙◌, ap}
 use Rattle.vx_history.specs.Events.{link_step}
 use Rattle.vx_history.specs.Sending.{Sent}

@@ -1,3 +1,4 @@
+-- `link_by_part`: its result.
 use Rattle.std.proofs.Common.{◌∙◌, sym, ap}
 use Rattle.vx_history.specs.Step.{link_part}
 use Rattle.vx_history.specs.declared.event.LinkPart.{LinkPart}

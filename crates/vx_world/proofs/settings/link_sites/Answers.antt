@@ -1,3 +1,4 @@
+-- `link_sites`: its result.
 use Rattle.std.proofs.Common.{◌∙◌}
 use Rattle.vx_history.specs.Refusals.{at_site, both_at_work}
 use Rattle.vx_history.specs.Step.{link_part}

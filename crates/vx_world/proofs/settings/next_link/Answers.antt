@@ -1,3 +1,4 @@
+-- `next_link`: its result.
 use Rattle.std.proofs.Common.{◌∙◌, ℕ, sym, ap}
 use Rattle.vx_history.specs.World.{Node}
 use Rattle.vx_history.specs.Events.{new_link}

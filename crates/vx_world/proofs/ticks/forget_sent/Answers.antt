@@ -1,3 +1,4 @@
+-- `forget_sent`: its result.
 use Rattle.std.proofs.Common.{◌∙◌, ap, refl}
 use Rattle.vx_history.specs.Events.{link_step}
 use Rattle.vx_history.specs.Sending.{Sent}

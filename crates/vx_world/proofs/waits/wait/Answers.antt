@@ -1,3 +1,4 @@
+-- `wait`: its result.
 use Rattle.std.proofs.Common.{◌≡◌, ◌∙◌}
 use Rattle.std.proofs.lemmas.Result.{IfOk-weaker}
 use Rattle.vx_history.specs.World.{World}

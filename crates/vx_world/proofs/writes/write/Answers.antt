@@ -1,3 +1,4 @@
+-- `write`: its result.
 use Rattle.std.proofs.Common.{◌≡◌, ◌∙◌, ℕ, ◌/◌, List, length, ap}
 use Rattle.std.specs.Prelude.{◌||◌}
 use Rattle.vx_model.specs.Content.{Write, blocks_in}

@@ -1,3 +1,4 @@
+-- `write_if_let_in`: its result.
 use Rattle.vx_history.specs.Refusals.{unless_at_most}
 use Rattle.vx_history.specs.Events.{links_changed, put_in, admitted, written_if}
 use Rattle.vx_sites.specs.Shapes.{world_of}

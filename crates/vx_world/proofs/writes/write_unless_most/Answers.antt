@@ -1,3 +1,4 @@
+-- `write_unless_most`: its result; what `put` asks.
 use Rattle.std.proofs.Common.{◌∙◌, ap, refl, arith}
 use Rattle.vx_history.specs.World.{World, Node}
 use Rattle.vx_history.specs.Refusals.{unless_at_most}

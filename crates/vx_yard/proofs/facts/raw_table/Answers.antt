@@ -1,3 +1,4 @@
+-- `raw_table`: what stays true in its loop over `k`.
 use Rattle.std.proofs.Common.{◌∙◌, ◌≡◌, ◌+◌, ap, arith, ℕ, suc, ◌++◌, ◌∷◌, []}
 use Rattle.std.specs.Prelude.{map}
 use Rattle.vx_history.specs.Steps.{raw_volumes}

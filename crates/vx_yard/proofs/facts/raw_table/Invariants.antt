@@ -1,3 +1,4 @@
+-- The loop of `raw_table` over `k`: what stays true.
 use Rattle.std.proofs.Common.{◌≡◌}
 use Rattle.std.specs.Prelude.{map}
 use Rattle.vx_history.specs.Steps.{raw_volumes}

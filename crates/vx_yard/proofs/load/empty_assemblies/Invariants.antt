@@ -1,3 +1,4 @@
+-- The loop of `empty_assemblies` over `k`: what stays true.
 use Rattle.std.proofs.Common.{◌≡◌, length}
 use Rattle.std.specs.Prelude.{All, None}
 use Rattle.vx_yard.proofs.load.empty_assemblies.Given as goal

@@ -1,3 +1,4 @@
+-- `let_go`: its result.
 use Rattle.std.proofs.Common.{◌≡◌, None, arith, false, refl, true}
 use Rattle.vx_yard.proofs.Lists.{set_past}
 use Rattle.vx_yard.proofs.load.let_go.Goals as goal

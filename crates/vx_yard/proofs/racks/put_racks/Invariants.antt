@@ -1,3 +1,4 @@
+-- The loop of `put_racks` over `rack`: what stays true, and what falls.
 use Rattle.std.proofs.Common.{◌≡◌, ◌+◌, ◌≤◌, ◌++◌, [], vec_len}
 use Rattle.std.specs.Prelude.{reverse, map}
 use Rattle.std.specs.Vec.{vec_capacity}

@@ -1,3 +1,4 @@
+-- The loop of `are_shaped` over `site`: what stays true.
 use Rattle.std.proofs.Common.{◌≡◌, ◌<◌, ℕ}
 use Rattle.std.specs.Prelude.{Some, slice_get}
 use Rattle.vx_order.specs.declared.facts.SiteFacts.{SiteFacts as SiteValue}

@@ -1,3 +1,4 @@
+-- `drain`: its result; what `go_on` asks; what stays true in its loop.
 use Rattle.std.proofs.Common.{rules, ◌≡◌, ◌∙◌, sym, subst, refl}
 use Rattle.vx_settle.proofs.Bringings.{goes-none}
 use Rattle.vx_burst_threads.specs.declared.drainer.Next.TheVariants as next

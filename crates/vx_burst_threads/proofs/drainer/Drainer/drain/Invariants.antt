@@ -1,3 +1,4 @@
+-- The loop of `drain`: what stays true.
 use Rattle.std.proofs.Common.{◌≡◌}
 use Rattle.vx_burst_threads.specs.Draining.{Drained}
 use Rattle.vx_burst_threads.proofs.drainer.Drainer.drain.Given as goal

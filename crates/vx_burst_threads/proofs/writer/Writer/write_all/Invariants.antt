@@ -1,3 +1,4 @@
+-- The loop of `write_all` over `k`: what stays true.
 use Rattle.vx_burst_threads.proofs.Making.{Loop}
 use Rattle.vx_burst_threads.proofs.writer.Writer.write_all.Given as goal
 

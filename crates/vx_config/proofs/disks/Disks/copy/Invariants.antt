@@ -1,3 +1,4 @@
+-- The loop of `copy` over `disk`: what stays true.
 use Rattle.std.proofs.Common.{◌≡◌, take}
 use Rattle.vx_config.proofs.disks.Disks.copy.Given as goal
 

@@ -1,3 +1,4 @@
+-- `name`: its result.
 use Rattle.std.proofs.Common.{ap, ◌∙◌, List, ◌∷◌, [], ℕ, length}
 use Rattle.vx_config.specs.Pages.{onto}
 use Rattle.vx_config.proofs.PageLemmas.{onto-onto}

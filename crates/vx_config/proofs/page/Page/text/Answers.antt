@@ -1,3 +1,4 @@
+-- `text`: its result.
 use Rattle.std.proofs.Common.{◌≡◌, ◌≤◌, ℕ, ◌+◌, ◌-◌, List, length, take, sym, ap, ◌∙◌, arith, ◌⊎◌, inl, inr}
 use Rattle.std.proofs.lemmas.List.{length-take}
 use Rattle.vx_wire.proofs.PlaceLemmas.{put_mid-whole}

@@ -1,3 +1,4 @@
+-- `u64`: its result.
 use Rattle.std.proofs.Common.{ap, ◌∙◌, List, ℕ, refl}
 use Rattle.vx_config.specs.Pages.{onto}
 use Rattle.vx_config.proofs.PageLemmas.{put_at-whole}

@@ -1,3 +1,4 @@
+-- `u8`: its result.
 use Rattle.std.proofs.Common.{sym, ap, ◌∙◌, List, ℕ, arith}
 use Rattle.vx_wire.proofs.NumberLemmas.{be_bytes-byte}
 use Rattle.vx_config.specs.Pages.{onto}

@@ -1,3 +1,4 @@
+-- The loop of `left` over `vol`: what stays true.
 use Rattle.std.proofs.Common.{◌≡◌}
 use Rattle.vx_dcm.specs.Counts.{left_to}
 use Rattle.vx_dcm.proofs.dcm.Dcm.left.Given as goal

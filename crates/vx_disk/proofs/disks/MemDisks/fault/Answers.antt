@@ -1,3 +1,4 @@
+-- `fault`: clauses goes, rose, others, blocks and failing; the invariant of what it hands on.
 use Rattle.std.proofs.Common.{refl}
 use Rattle.vx_disk.specs.Shelf.{Nothing}
 use Rattle.vx_disk.proofs.Changes.{change-goes, change-fault, fault-Rose, map_other}

@@ -1,3 +1,4 @@
+-- `fit`: clause fitted.
 use Rattle.std.proofs.Common.{refl}
 use Rattle.vx_disk.proofs.Fits.{zeroed-Fitted}
 use Rattle.vx_disk.proofs.disks.MemDisks.fit.Goals as goal

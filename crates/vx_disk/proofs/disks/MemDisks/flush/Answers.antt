@@ -1,3 +1,4 @@
+-- `flush`: clauses goes, flushed, disks and failing.
 use Rattle.std.proofs.Common.{refl}
 use Rattle.vx_disk.proofs.Changes.{change-goes, change-flush, flush-Flushed}
 use Rattle.vx_disk.proofs.DiskChanges.{flush-DisksFlushed, same_failing}

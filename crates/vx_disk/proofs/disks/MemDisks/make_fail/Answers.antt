@@ -1,3 +1,4 @@
+-- `make_fail`: clauses alike, disks, here and elsewhere; the invariant of what it hands on.
 use Rattle.std.proofs.Common.{◌∙◌, refl}
 use Rattle.vx_disk.proofs.DiskChanges.{same_NoneLoose, fail-Alike, failing_here, failing_elsewhere, fault-SameBlocks}
 use Rattle.vx_disk.proofs.disks.MemDisks.make_fail.Goals as goal

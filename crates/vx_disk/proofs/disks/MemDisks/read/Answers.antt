@@ -1,3 +1,4 @@
+-- `read`: its result.
 use Rattle.std.proofs.Common.{◌≡◌, arith, length, ◌*◌, ◌/◌}
 use Rattle.vx_disk.proofs.Changes.{read-Read}
 use Rattle.vx_disk.proofs.disks.MemDisks.read.Goals as goal

@@ -1,3 +1,4 @@
+-- `stop`: clauses stopped, crash and failing; the invariant of what it hands on.
 use Rattle.std.proofs.Common.{refl, sym, ◌∙◌, subst}
 use Rattle.std.proofs.lemmas.List.{with_items_is}
 use Rattle.vx_disk.specs.Memory.{Settled}

@@ -1,3 +1,4 @@
+-- `write`: clauses goes, wrote, disks and failing.
 use Rattle.std.proofs.Common.{◌≡◌, ◌*◌, ◌/◌, arith, length, refl}
 use Rattle.vx_disk.proofs.Changes.{change-goes, change-write, write-Wrote, begins_within}
 use Rattle.vx_disk.proofs.DiskChanges.{write-DisksWrote, room_within, same_failing}

@@ -1,3 +1,4 @@
+-- `begin`: clause goes.
 use Rattle.vx_disk.proofs.Runs.{then_nothing}
 use Rattle.vx_disk.proofs.memory.MemShelf.begin.Goals as goal
 

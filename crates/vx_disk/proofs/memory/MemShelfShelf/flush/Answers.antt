@@ -1,3 +1,4 @@
+-- `flush`: clause goes.
 use Rattle.vx_disk.proofs.Runs.{then_nothing}
 use Rattle.vx_disk.proofs.memory.MemShelfShelf.flush.Goals as goal
 

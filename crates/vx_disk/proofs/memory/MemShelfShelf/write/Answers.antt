@@ -1,3 +1,4 @@
+-- `write`: clause goes.
 use Rattle.vx_disk.proofs.Runs.{none_written, nothing_then}
 use Rattle.vx_disk.proofs.memory.MemShelfShelf.write.Goals as goal
 

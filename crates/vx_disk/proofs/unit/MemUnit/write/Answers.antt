@@ -1,3 +1,4 @@
+-- `write`: the invariant of what it hands on.
 use Rattle.std.proofs.Common.{◌≡◌, ℕ, ◌*◌, ◌/◌, ◌∙◌, true, false, get_or, length, replicate, sym, ap, subst, arith}
 use Rattle.std.proofs.lemmas.List.{with_items_is}
 use Rattle.vx_disk.specs.Blocks.{block_at, over}

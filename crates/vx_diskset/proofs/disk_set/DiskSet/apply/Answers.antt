@@ -1,3 +1,4 @@
+-- `apply`: clauses applied, called and role.
 use Rattle.std.proofs.Common.{sym, ◌∙◌}
 use Rattle.vx_diskset.proofs.CrashGroup.{applied_off, applied_on}
 use Rattle.vx_diskset.specs.Burning.{NoMore}

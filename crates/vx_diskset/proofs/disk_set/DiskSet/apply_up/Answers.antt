@@ -1,3 +1,4 @@
+-- `apply_up`: clauses called and applied.
 use Rattle.vx_diskset.specs.Burning.{NoMore, said_by}
 use Rattle.vx_diskset.specs.declared.disk_set.DiskSet.TheVariants.{Up}
 use Rattle.vx_diskset.proofs.CallsBurn.{called_by, called_up, is_done}

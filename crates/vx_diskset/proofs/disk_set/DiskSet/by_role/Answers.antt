@@ -1,3 +1,4 @@
+-- `by_role`: clauses rises and role.
 use Rattle.std.proofs.Common.{◌∙◌, ap, sym}
 use Rattle.vx_model.specs.Sites.{is_origin}
 use Rattle.vx_diskset.proofs.Receiving.{risen_at, risen_origin}

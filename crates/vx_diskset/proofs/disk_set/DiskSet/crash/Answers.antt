@@ -1,3 +1,4 @@
+-- `crash`: clauses crashed, cut, asked and stopped.
 use Rattle.std.proofs.Common.{◌∙◌, ap, subst}
 use Rattle.vx_diskset.specs.Stands.{CutAt, SiteStands}
 use Rattle.vx_diskset.proofs.CrashGroup.{crashed_at, cut_crashed, held_crashed}

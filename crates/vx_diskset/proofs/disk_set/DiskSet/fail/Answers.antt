@@ -1,3 +1,4 @@
+-- `fail`: clause stands; the invariant of what it hands on.
 use Rattle.std.proofs.Common.{refl, subst}
 use Rattle.vx_rvg.proofs.ReadStands.{rest_sound}
 use Rattle.vx_diskset.specs.Stands.{SiteStands}

@@ -1,3 +1,4 @@
+-- `fall`: clause stopped.
 use Rattle.std.proofs.Common.{subst}
 use Rattle.vx_diskset.specs.Asked.{MayCrash}
 use Rattle.vx_diskset.proofs.disk_set.DiskSet.fall.Goals as goal

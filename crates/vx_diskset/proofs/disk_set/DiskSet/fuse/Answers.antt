@@ -1,3 +1,4 @@
+-- `fuse`: clauses fused and asked.
 use Rattle.std.proofs.Common.{subst}
 use Rattle.vx_diskset.specs.Stands.{SiteStands}
 use Rattle.vx_diskset.proofs.Asking.{fuse_did}

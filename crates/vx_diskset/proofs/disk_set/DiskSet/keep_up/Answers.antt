@@ -1,3 +1,4 @@
+-- `keep_up`: clauses called, headed and kept.
 use Rattle.vx_diskset.specs.Burning.{NoMore}
 use Rattle.vx_diskset.specs.Keeps.{done_by}
 use Rattle.vx_diskset.specs.declared.disk_set.DiskSet.TheVariants.{Up}

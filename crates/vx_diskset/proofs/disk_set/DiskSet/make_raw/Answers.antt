@@ -1,3 +1,4 @@
+-- `make_raw`: clauses made and failing.
 use Rattle.std.proofs.Common.{subst, sym}
 use Rattle.vx_diskset.specs.Asked.{SameFailing}
 use Rattle.vx_diskset.specs.DiskSets.{MadeIs}

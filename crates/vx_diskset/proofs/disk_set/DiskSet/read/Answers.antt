@@ -1,3 +1,4 @@
+-- `read`: clauses read and still.
 use Rattle.std.proofs.Common.{refl, subst, sym}
 use Rattle.vx_model.specs.Content.{blocks_in}
 use Rattle.vx_diskset.specs.Asked.{LeavesAlone}

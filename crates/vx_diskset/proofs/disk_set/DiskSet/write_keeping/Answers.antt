@@ -1,3 +1,4 @@
+-- `write_keeping`: clauses wrote, called and role.
 use Rattle.std.proofs.Common.{sym, ◌∙◌}
 use Rattle.vx_history.specs.Steps.{half_begun}
 use Rattle.vx_diskset.proofs.CrashGroup.{wrote_off, wrote_on}

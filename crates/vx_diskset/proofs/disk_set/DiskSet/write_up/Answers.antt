@@ -1,3 +1,4 @@
+-- `write_up`: clauses called and wrote.
 use Rattle.std.proofs.Common.{refl, subst, sym}
 use Rattle.vx_model.specs.Content.{Write}
 use Rattle.vx_model.specs.declared.no.No.TheVariants.{Role}

@@ -1,3 +1,4 @@
+-- `fit_files`: clause unchanged.
 use Rattle.vx_disk.specs.Meanings.{shelf_meaning}
 use Rattle.vx_filedisk.specs.Counting.{counts_of}
 use Rattle.vx_filedisk.proofs.Hosts.{any_err}

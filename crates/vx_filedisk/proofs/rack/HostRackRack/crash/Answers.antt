@@ -1,3 +1,4 @@
+-- `crash`: clause disks.
 use Rattle.vx_disk.specs.Meanings.{shelf_meaning}
 use Rattle.vx_filedisk.specs.Counting.{counts_of}
 use Rattle.vx_filedisk.proofs.Hosts.{host_Crashed}

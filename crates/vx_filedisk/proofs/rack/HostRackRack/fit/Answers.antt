@@ -1,3 +1,4 @@
+-- `fit`: clauses fitted and unchanged.
 use Rattle.std.proofs.Common.{sym, subst}
 use Rattle.vx_disk.specs.Meanings.{shelf_meaning}
 use Rattle.vx_disk.specs.Racks.{Fitted}

@@ -1,3 +1,4 @@
+-- `flush`: clauses goes and disks.
 use Rattle.vx_disk.specs.Meanings.{shelf_meaning}
 use Rattle.vx_disk.specs.Shelf.{DisksFlushed}
 use Rattle.vx_filedisk.specs.Counting.{counts_of}

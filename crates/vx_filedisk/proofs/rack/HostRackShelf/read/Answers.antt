@@ -1,3 +1,4 @@
+-- `read`: clause goes.
 use Rattle.vx_filedisk.proofs.Answering.{in_memory_Goes}
 use Rattle.vx_filedisk.proofs.rack.HostRackShelf.read.Goals as goal
 

@@ -1,3 +1,4 @@
+-- `write`: clauses goes and disks.
 use Rattle.vx_disk.specs.Meanings.{shelf_meaning}
 use Rattle.vx_disk.specs.Shelf.{DisksFlushed, DisksWrote}
 use Rattle.vx_filedisk.specs.Counting.{counts_of}

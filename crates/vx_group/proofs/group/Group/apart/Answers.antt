@@ -1,3 +1,4 @@
+-- `apart`: clause can.
 use Rattle.vx_group.specs.Holding.{wide}
 use Rattle.vx_group.proofs.CrashLemmas.{rest_can}
 use Rattle.vx_group.proofs.group.Group.apart.Goals as goal

@@ -1,3 +1,4 @@
+-- `deport`: clauses limit and can.
 use Rattle.vx_group.specs.Holding.{wide}
 use Rattle.vx_group.proofs.CrashLemmas.{group_can}
 use Rattle.vx_group.proofs.DeportLemmas.{full_err, full_ok}

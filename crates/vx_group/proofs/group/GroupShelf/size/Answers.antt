@@ -1,3 +1,4 @@
+-- `size`: its result; that each place lies within.
 use Rattle.std.proofs.Common.{length, ap, sym, ◌∙◌, arith}
 use Rattle.vx_config.specs.Checks.{blocks_of}
 use Rattle.vx_group.proofs.HoldLemmas.{at_blocks, wide_shape}

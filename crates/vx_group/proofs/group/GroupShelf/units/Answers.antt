@@ -1,3 +1,4 @@
+-- `units`: its result.
 use Rattle.std.proofs.Common.{length, ap, sym, ◌∙◌}
 use Rattle.vx_group.proofs.HoldLemmas.{wide_shape}
 use Rattle.vx_group.proofs.group.GroupShelf.units.Goals as goal

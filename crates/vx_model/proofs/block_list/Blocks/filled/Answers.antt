@@ -1,3 +1,4 @@
+-- `filled`: the invariant of what it hands on.
 use Rattle.std.proofs.Common.{arith, ◌≤◌, ◌*◌, length, take, ◌≡◌, ◌∙◌, replicate, ℕ, List}
 use Rattle.std.proofs.lemmas.List.{length-replicate, length-take-le}
 use Rattle.vx_model.proofs.KeptLemmas.{IsBlockList-front}

@@ -1,3 +1,4 @@
+-- `new`: the invariant of what it hands on.
 use Rattle.std.proofs.Common.{ap, length}
 use Rattle.vx_model.proofs.KeptLemmas.{IsBlockList-front}
 use Rattle.vx_model.proofs.block_list.Blocks.new.Goals as goal

@@ -1,3 +1,4 @@
+-- The loop of `copy` over `link`: what stays true.
 use Rattle.std.proofs.Common.{◌≡◌, take}
 use Rattle.vx_model.proofs.state.KeptLinks.copy.Given as goal
 

@@ -1,3 +1,4 @@
+-- The loop of `copy` over `unit`: what stays true.
 use Rattle.std.proofs.Common.{◌≡◌, take}
 use Rattle.vx_model.proofs.units.VolumeUnits.copy.Given as goal
 

@@ -1,3 +1,4 @@
+-- `take`: its result; what `put` and `payload` ask.
 use Rattle.std.proofs.Common.{arith, ◌≡◌, ◌∙◌, ◌-◌, ◌+◌, ap, Option, Some, length, take, drop}
 use Rattle.std.proofs.lemmas.List.{length-take, length-drop}
 use Rattle.std.proofs.lemmas.List.{length-set}

@@ -1,3 +1,4 @@
+-- `payload`: its result.
 use Rattle.std.proofs.Common.{◌≡◌, ◌∙◌, ap, sym, ℕ, List, Option, length, take, min, true, false}
 use Rattle.std.specs.List.{list_all}
 use Rattle.std.specs.Option.{is_some}

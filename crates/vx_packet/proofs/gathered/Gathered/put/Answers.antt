@@ -1,3 +1,4 @@
+-- `put`: what `keep` asks.
 use Rattle.std.proofs.Common.{arith, ap, length, take}
 use Rattle.std.proofs.lemmas.List.{length-take}
 use Rattle.vx_packet.proofs.GatherLemmas.{length-came}

@@ -1,3 +1,4 @@
+-- `fetch`: its result.
 use Rattle.std.proofs.Common.{rules, ◌≡◌}
 use Rattle.vx_plain.proofs.Logged.{does-gone}
 use Rattle.vx_plain.proofs.small.Core.fetch.Goals as goal

@@ -1,3 +1,4 @@
+-- `read`: its result.
 use Rattle.std.proofs.Common.{rules, ◌≡◌, ◌<◌, ◌≤◌, ◌+◌, refl, inl, inr, arith}
 use Rattle.vx_plain.specs.declared.small.TheConstants.{VOLUME_BLOCKS}
 use Rattle.vx_plain.proofs.Logged.{read-range, read-fault}

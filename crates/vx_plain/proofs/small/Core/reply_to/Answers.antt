@@ -1,3 +1,4 @@
+-- `reply_to`: its result.
 use Rattle.std.proofs.Common.{sym, subst}
 use Rattle.vx_turn.specs.declared.ask.Ask.TheVariants.{Ordered}
 use Rattle.vx_turn.specs.declared.ask.Said.TheVariants.{Replied}

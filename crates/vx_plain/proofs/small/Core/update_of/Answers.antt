@@ -1,3 +1,4 @@
+-- `update_of`: its result.
 use Rattle.std.proofs.Common.{◌≡◌, ◌-◌, refl, arith, slice_get, Some}
 use Rattle.std.proofs.lemmas.Option.{slice_get_read}
 use Rattle.vx_plain.proofs.Logged.{kept-at}

@@ -1,3 +1,4 @@
+-- `work`: its result.
 use Rattle.std.proofs.Common.{sym, subst}
 use Rattle.vx_turn.specs.declared.ask.Ask.TheVariants.{Charged}
 use Rattle.vx_turn.specs.declared.ask.Said.TheVariants.{Worked}

@@ -1,3 +1,4 @@
+-- `job`: clause acts.
 use Rattle.std.proofs.Common.{◌≡◌, ◌∙◌, [], ◌∷◌, ◌++◌}
 use Rattle.vx_turn.specs.declared.ask.Ask.TheVariants.{Charged}
 use Rattle.vx_turn.specs.declared.ask.Said.TheVariants.{Worked}

@@ -1,3 +1,4 @@
+-- `create`: clause stands; the invariant of what it hands on.
 use Rattle.std.proofs.Common.{◌≤◌, ◌∙◌, ap, arith}
 use Rattle.vx_model.specs.Sizes.{ring_of}
 use Rattle.vx_disk.specs.Moves.{Anything}

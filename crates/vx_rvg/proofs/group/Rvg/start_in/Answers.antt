@@ -1,3 +1,4 @@
+-- `start_in`: clauses cause, left, starts, moves, spent and spends; what `fill` asks; the invariant of what it hands on.
 use Rattle.std.proofs.Common.{arith, ap, ◌∙◌}
 use Rattle.vx_rvg.specs.Starts.{Room}
 use Rattle.vx_rvg.proofs.StartStands.{all_moves, fill_stops, group_sound, group_started, log_moves, log_stops}

@@ -1,3 +1,4 @@
+-- `block`: what stays true in its loop over `write`.
 use Rattle.std.proofs.Common.{◌≡◌, ◌∙◌, ◌<◌, ℕ, List, length, get_or, take, ap, sym, subst}
 use Rattle.vx_model.specs.Content.{Write, Content, zeros, fold_writes}
 use Rattle.vx_sites.specs.Shapes.{sizes}

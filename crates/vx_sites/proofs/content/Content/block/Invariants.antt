@@ -1,3 +1,4 @@
+-- The loop of `block` over `write`: what stays true.
 use Rattle.std.proofs.Common.{◌≡◌, take, length}
 use Rattle.vx_model.specs.Content.{zeros, fold_writes}
 use Rattle.vx_sites.specs.Shapes.{sizes}

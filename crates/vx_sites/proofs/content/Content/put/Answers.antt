@@ -1,3 +1,4 @@
+-- `put`: its result.
 use Rattle.std.proofs.Common.{[], ◌∷◌}
 use Rattle.vx_model.specs.Content.{zeros}
 use Rattle.vx_history.proofs.GoodLemmas.{fold_append}

@@ -1,3 +1,4 @@
+-- `put_all`: its result.
 use Rattle.vx_model.specs.Content.{zeros}
 use Rattle.vx_history.proofs.GoodLemmas.{fold_append}
 use Rattle.vx_sites.specs.Shapes.{sizes}

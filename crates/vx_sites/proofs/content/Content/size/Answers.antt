@@ -1,3 +1,4 @@
+-- `size`: its result.
 use Rattle.std.proofs.Common.{◌∙◌, ℕ, List, ap, sym}
 use Rattle.vx_model.specs.Content.{zeros}
 use Rattle.vx_sites.specs.Shapes.{sizes}

@@ -1,3 +1,4 @@
+-- `packet`: its result.
 use Rattle.vx_sites.specs.Messages.{message_of}
 use Rattle.vx_sites.proofs.Dispatching.{picked}
 use Rattle.vx_sites.proofs.dispatches.Dispatches.packet.Goals as goal

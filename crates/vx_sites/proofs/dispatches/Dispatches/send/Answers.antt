@@ -1,3 +1,4 @@
+-- `send`: its result; the invariant of what it hands on.
 use Rattle.std.proofs.Common.{◌≡◌, ◌+◌, arith}
 use Rattle.vx_history.specs.Sends.{parts_of as parts}
 use Rattle.vx_sites.specs.Messages.{message_of}

@@ -1,3 +1,4 @@
+-- `set`: its result.
 use Rattle.std.proofs.Common.{◌∙◌, ℕ, ap}
 use Rattle.vx_history.specs.World.{no_link, updated, Link}
 use Rattle.vx_sites.specs.Shapes.{link_of}

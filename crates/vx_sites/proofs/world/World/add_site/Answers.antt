@@ -1,3 +1,4 @@
+-- `add_site`: its result.
 use Rattle.std.proofs.Common.{refl}
 use Rattle.vx_sites.specs.Shapes.{world_of}
 use Rattle.vx_sites.proofs.Worlds.{node_added}

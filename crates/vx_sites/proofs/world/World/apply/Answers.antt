@@ -1,3 +1,4 @@
+-- `apply`: its result.
 use Rattle.std.proofs.Common.{◌≡◌, ◌∙◌, List, take, drop, refl, ap}
 use Rattle.vx_history.specs.World.{Node}
 use Rattle.vx_history.specs.Events.{applied}

@@ -1,3 +1,4 @@
+-- `begin_session`: its result.
 use Rattle.std.proofs.Common.{◌+◌, refl}
 use Rattle.vx_history.specs.World.{Node}
 use Rattle.vx_sites.specs.Shapes.{world_of}

@@ -1,3 +1,4 @@
+-- `deport`: its result.
 use Rattle.std.proofs.Common.{refl}
 use Rattle.vx_history.specs.World.{Node}
 use Rattle.vx_history.specs.Steps.{deported_site}

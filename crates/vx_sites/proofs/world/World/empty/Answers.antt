@@ -1,3 +1,4 @@
+-- `empty`: its result.
 use Rattle.std.proofs.Common.{◌<◌, ℕ, length, ap, arith}
 use Rattle.std.specs.Prelude.{Option, None}
 use Rattle.vx_history.specs.World.{Gathering, World}

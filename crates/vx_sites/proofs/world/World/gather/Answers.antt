@@ -1,3 +1,4 @@
+-- `gather`: its result.
 use Rattle.std.proofs.Common.{◌≡◌, ◌∙◌, ℕ, Bool, List, ap}
 use Rattle.std.specs.Prelude.{Option, None}
 use Rattle.vx_history.specs.World.{Gathering, World, updated}

@@ -1,3 +1,4 @@
+-- `go_down`: its result.
 use Rattle.std.proofs.Common.{◌≡◌, ◌∙◌, List, take, drop, refl, ap, None}
 use Rattle.vx_history.specs.World.{Node}
 use Rattle.vx_history.specs.Steps.{crashed}

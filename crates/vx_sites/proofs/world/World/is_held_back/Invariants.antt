@@ -1,3 +1,4 @@
+-- The loop of `is_held_back` over `to`: what stays true.
 use Rattle.std.proofs.Common.{◌≡◌}
 use Rattle.vx_history.specs.Refusals.{some_below, holds_back}
 use Rattle.vx_sites.specs.Shapes.{world_of}

@@ -1,3 +1,4 @@
+-- `join`: its result.
 use Rattle.std.proofs.Common.{◌≡◌, ◌∙◌, refl, sym, ap}
 use Rattle.vx_history.specs.World.{Node}
 use Rattle.vx_history.specs.Events.{joined}

@@ -1,3 +1,4 @@
+-- `let_in`: its result.
 use Rattle.std.proofs.Common.{◌∙◌, ℕ, ap, refl, sym, ◌<◌, length, arith}
 use Rattle.vx_history.specs.World.{Link, Node}
 use Rattle.vx_history.specs.Sends.{with_links}

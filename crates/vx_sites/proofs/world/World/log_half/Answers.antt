@@ -1,3 +1,4 @@
+-- `log_half`: its result.
 use Rattle.std.proofs.Common.{◌++◌, [], ◌∷◌, refl, Some}
 use Rattle.vx_history.specs.World.{Node}
 use Rattle.vx_history.specs.Steps.{burned}

@@ -1,3 +1,4 @@
+-- `log_write`: its result.
 use Rattle.std.proofs.Common.{◌∙◌, ◌+◌, refl}
 use Rattle.vx_history.specs.World.{Node}
 use Rattle.vx_history.specs.Steps.{logged}

@@ -1,3 +1,4 @@
+-- `lose_touch`: its result.
 use Rattle.std.proofs.Common.{ℕ, refl, ◌<◌, length, arith}
 use Rattle.vx_history.specs.World.{Link}
 use Rattle.vx_history.specs.Events.{lost_touch}

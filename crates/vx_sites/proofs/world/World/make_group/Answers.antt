@@ -1,3 +1,4 @@
+-- `make_group`: its result.
 use Rattle.std.proofs.Common.{◌∙◌, refl, None}
 use Rattle.vx_history.specs.World.{Node}
 use Rattle.vx_history.specs.Steps.{group_set}

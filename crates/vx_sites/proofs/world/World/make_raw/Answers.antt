@@ -1,3 +1,4 @@
+-- `make_raw`: its result.
 use Rattle.std.proofs.Common.{◌≡◌, ◌∙◌, ◌-◌, ℕ, List, replicate, refl, ap, None}
 use Rattle.vx_history.specs.World.{Node}
 use Rattle.vx_model.specs.Content.{zeros}

@@ -1,3 +1,4 @@
+-- `mark_consistent`: its result.
 use Rattle.std.proofs.Common.{refl}
 use Rattle.vx_history.specs.World.{Node}
 use Rattle.vx_model.specs.declared.site.Mark.TheVariants.{Consistent}

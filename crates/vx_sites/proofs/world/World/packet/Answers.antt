@@ -1,3 +1,4 @@
+-- `packet`: clauses found and unknown.
 use Rattle.std.proofs.Common.{◌<◌, ◌≤◌, ◌+◌, length, arith}
 use Rattle.vx_model.specs.declared.limits.TheConstants.{MOST_PACKETS}
 use Rattle.vx_sites.specs.Shapes.{packet_of}

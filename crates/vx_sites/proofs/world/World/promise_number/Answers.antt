@@ -1,3 +1,4 @@
+-- `promise_number`: its result.
 use Rattle.std.proofs.Common.{◌≡◌, length, ◌≤◌, [], arith}
 use Rattle.vx_sites.specs.Shapes.{world_of, node_of, plain_promise, row_of}
 use Rattle.std.specs.Prelude.{map}

@@ -1,3 +1,4 @@
+-- `receive`: its result.
 use Rattle.std.proofs.Common.{refl}
 use Rattle.vx_history.specs.Events.{with_write}
 use Rattle.vx_history.specs.World.{Node as PlainNode}

@@ -1,3 +1,4 @@
+-- `restart_links`: its result.
 use Rattle.std.proofs.Common.{ℕ, refl, ◌<◌, length, arith}
 use Rattle.vx_history.specs.World.{Link}
 use Rattle.vx_history.specs.Events.{restarted_link}

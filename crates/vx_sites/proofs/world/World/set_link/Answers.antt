@@ -1,3 +1,4 @@
+-- `set_link`: its result.
 use Rattle.std.proofs.Common.{ℕ, ap}
 use Rattle.vx_history.specs.World.{Link, updated}
 use Rattle.vx_sites.specs.Shapes.{world_of, link_of, is_region_marked}

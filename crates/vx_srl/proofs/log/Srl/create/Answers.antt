@@ -1,3 +1,4 @@
+-- `create`: clause makes.
 use Rattle.std.proofs.Common.{ap, arith, ◌-◌}
 use Rattle.vx_srlfmt.specs.declared.header.Header.{Header}
 use Rattle.vx_srl.proofs.MakeLog.{makes_new}

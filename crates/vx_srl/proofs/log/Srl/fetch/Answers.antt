@@ -1,3 +1,4 @@
+-- `fetch`: clauses cause, gives, agrees, names and works; what `read_body` asks.
 use Rattle.std.proofs.Common.{ℕ, ◌*◌, ◌/◌, ◌≤◌, ◌∙◌, List, ap, sym, subst, arith, length, take, length-take}
 use Rattle.vx_wire.specs.Seals.{digest_of}
 use Rattle.vx_srl.specs.Views.{Log}

@@ -1,3 +1,4 @@
+-- `give_up`: its result; the invariant of what it hands on.
 use Rattle.std.proofs.Common.{◌≡◌, ℕ, ◌≤◌, ◌∙◌, drop, ap, arith}
 use Rattle.vx_srl.proofs.SaveKept.{is_saved, still_kept}
 use Rattle.vx_srl.proofs.log.Srl.give_up.Goals as goal

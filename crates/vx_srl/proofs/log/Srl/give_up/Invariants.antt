@@ -1,3 +1,4 @@
+-- The loop of `give_up`: what stays true.
 use Rattle.std.proofs.Common.{◌≡◌, drop}
 use Rattle.std.specs.VecDeque.{deque_capacity}
 use Rattle.vx_srl.specs.Views.{widths}

@@ -1,3 +1,4 @@
+-- `header_without`: clauses is and of_ring.
 use Rattle.std.proofs.Common.{◌≡◌, ◌<◌, ◌≤◌, ◌+◌, ◌-◌, length, take, ap, refl, ◌∙◌, ℕ, arith, length-take}
 use Rattle.vx_srl.specs.Views.{Log, head_number, place_after}
 use Rattle.vx_srl.proofs.LogLists.{floor_behind, low_some, numbers_of_ring, place_behind, place_below, place_low, place_of_all, run_few}

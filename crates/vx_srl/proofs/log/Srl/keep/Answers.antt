@@ -1,3 +1,4 @@
+-- `keep`: what `push_back_reserved` asks; the invariant of what it hands on.
 use Rattle.std.proofs.Common.{◌≤◌, ◌<◌, ◌≡◌, sym, subst, length, deque_capacity, arith}
 use Rattle.vx_srl.specs.Views.{Log, blocks_needed, free_of, next_of, most_number, record_next}
 use Rattle.vx_srl.proofs.StageKept.{room_kept, kept_with}

@@ -1,3 +1,4 @@
+-- `low`: clause run.
 use Rattle.std.proofs.Common.{◌≤◌, subst}
 use Rattle.vx_srl.specs.Views.{Log}
 use Rattle.vx_srl.proofs.LogLists.{run_few}

@@ -1,3 +1,4 @@
+-- `reclaim`: clauses goes and leads.
 use Rattle.std.proofs.Common.{◌≡◌, ℕ, ◌+◌, ◌-◌, ◌∙◌, ap, arith}
 use Rattle.vx_srl.specs.Calls.{saved}
 use Rattle.vx_srl.specs.Views.{Log}

@@ -1,3 +1,4 @@
+-- `restart`: clauses goes and leads.
 use Rattle.std.proofs.Common.{take, drop, ap, List}
 use Rattle.vx_srl.specs.declared.kept.Kept.{Kept}
 use Rattle.vx_srl.proofs.Saving.{emptied_goes, emptied_leads}

@@ -1,3 +1,4 @@
+-- `seal`: clauses nothing, goes and leads.
 use Rattle.std.proofs.Common.{subst, sym, arith}
 use Rattle.vx_srl.specs.Calls.{sealing}
 use Rattle.vx_srl.specs.Rings.{LeadsTo}

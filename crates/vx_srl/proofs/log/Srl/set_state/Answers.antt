@@ -1,3 +1,4 @@
+-- `set_state`: clauses goes and leads.
 use Rattle.vx_srl.proofs.Saving.{state_goes, state_leads}
 use Rattle.vx_srl.proofs.log.Srl.set_state.Goals as goal
 

@@ -1,3 +1,4 @@
+-- `stage`: clauses goes, leads and works; what `write_body` asks.
 use Rattle.std.proofs.Common.{arith, subst}
 use Rattle.vx_srl.proofs.StageRecord.{body_blocks}
 use Rattle.vx_srl.proofs.StageKept.{goes_kept, leads_kept}

@@ -1,3 +1,4 @@
+-- `start_in`: clauses starts, moves, limit and spends.
 use Rattle.std.proofs.Common.{◌≡◌, ◌∙◌, ◌+◌, ℕ, subst, ap}
 use Rattle.vx_disk.specs.Moves.{Moves, Run}
 use Rattle.vx_disk.specs.Shelf.{Goes, Nothing}

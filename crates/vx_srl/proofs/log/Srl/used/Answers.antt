@@ -1,3 +1,4 @@
+-- `used`: its result; that no number grows too large.
 use Rattle.std.proofs.Common.{◌<◌, ◌+◌, ◌-◌, length, ap, sym, arith}
 use Rattle.vx_srl.specs.Views.{next_of}
 use Rattle.vx_srl.proofs.LogLists.{blocks_behind, part_length, place_low, record_before, split_widths}

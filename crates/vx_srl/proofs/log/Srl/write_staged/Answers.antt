@@ -1,3 +1,4 @@
+-- `write_staged`: clauses follows, cause, arrives and spends; what `write_fronts` asks.
 use Rattle.std.proofs.Common.{sym, subst}
 use Rattle.std.proofs.lemmas.Result.{err_from_is_err_and, on_ok_weaker}
 use Rattle.vx_ringio.specs.Tracks.{Arrives, Follows, RingLies}

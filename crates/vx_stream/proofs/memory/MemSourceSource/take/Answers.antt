@@ -1,3 +1,4 @@
+-- `take`: clause bytes.
 use Rattle.std.proofs.Common.{refl, ◌≡◌, ◌≤◌, take, drop, ℕ, ◌+◌, ◌-◌, length, List, ◌++◌, arith, ap, sym, ◌∙◌, length-append, length-drop}
 use Rattle.std.proofs.lemmas.List.{take_at, take-append-drop, drop-drop, drop_all, length-take}
 use Rattle.vx_stream.proofs.memory.MemSourceSource.take.Goals as goal

@@ -1,3 +1,4 @@
+-- `pop`: its result.
 use Rattle.std.proofs.Common.{rules, refl, ◌≡◌, ◌+◌, [], length}
 use Rattle.std.specs.Prelude.{MatchOption}
 use Rattle.vx_turn.proofs.Dealing.{pops}

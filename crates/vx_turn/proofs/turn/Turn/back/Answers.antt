@@ -1,3 +1,4 @@
+-- `back`: clause back; what `exchange` and `store` ask.
 use Rattle.std.proofs.Common.{rules, ap, sym, None, ◌∷◌, ◌∙◌}
 use Rattle.atomic_table.specs.Table.{rest}
 use Rattle.vx_turn.specs.Passing.{first_engine}

@@ -1,3 +1,4 @@
+-- The loop of `close`: what stays true.
 use Rattle.std.proofs.Common.{Some}
 use Rattle.vx_turn.specs.Passing.{first_engine}
 use Rattle.vx_turn.proofs.turn.Turn.close.Given as goal

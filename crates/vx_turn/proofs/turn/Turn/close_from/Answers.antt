@@ -1,3 +1,4 @@
+-- `close_from`: its result.
 use Rattle.std.proofs.Common.{ap, sym, refl, subst}
 use Rattle.vx_turn.specs.Turning.{Out}
 use Rattle.vx_turn.specs.Resting.{only}

@@ -1,3 +1,4 @@
+-- `deal`: what `split_seat-dealt` asks; what stays true in its loop over `number`.
 use Rattle.std.proofs.Common.{rules, ◌≡◌, ap, sym, ◌∙◌, ◌<◌, subst, arith, suc, ◌+◌, ◌-◌, length, length-append, refl}
 use Rattle.vx_turn.specs.Turning.{lower}
 use Rattle.vx_turn.specs.Passing.{PassesLeft}

@@ -1,3 +1,4 @@
+-- The loop of `deal` over `number`: what stays true, and what falls.
 use Rattle.std.proofs.Common.{◌≡◌, ◌+◌, ◌≤◌, [], vec_capacity, length}
 use Rattle.vx_turn.specs.Turning.{first_view}
 use Rattle.vx_turn.specs.Passing.{PassesLeft}

@@ -1,3 +1,4 @@
+-- `meet`: clause met; what `join_seat` and `load` ask; the invariant of what it hands on.
 use Rattle.std.proofs.Common.{rules, ◌≡◌, ap, sym, ◌∙◌, subst, false, true, ◌∷◌, []}
 use Rattle.vx_turn.specs.Turning.{IsOneSeat, joined_views}
 use Rattle.vx_turn.specs.Resting.{only}

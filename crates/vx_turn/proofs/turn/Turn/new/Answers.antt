@@ -1,3 +1,4 @@
+-- `new`: clause ok; what `new-made` asks.
 use Rattle.std.proofs.Common.{ap, ◌∙◌, ◌++◌, ◌∷◌, [], subst, Some}
 use Rattle.vx_turn.specs.Passing.{PassesLeft}
 use Rattle.vx_turn.proofs.Keeps.{opens_at}

@@ -1,3 +1,4 @@
+-- `out`: clause out; what `exchange` asks.
 use Rattle.std.proofs.Common.{◌∙◌}
 use Rattle.vx_turn.specs.Passing.{first_engine}
 use Rattle.vx_turn.proofs.Holding.{in_hand, taken_out}

@@ -1,3 +1,4 @@
+-- `take`: clause held; what `compare_exchange` and `load` ask.
 use Rattle.std.proofs.Common.{rules, ap, ◌∙◌}
 use Rattle.vx_turn.specs.Passing.{first_engine}
 use Rattle.vx_turn.proofs.Keeps.{takes_it, counts}

@@ -1,3 +1,4 @@
+-- `work_from`: clause work; what `back` asks; the invariant of what it hands on.
 use Rattle.std.proofs.Common.{◌≡◌, ap, sym, refl, ◌∙◌, subst, false, true, ◌∷◌, []}
 use Rattle.vx_turn.specs.Turning.{IsOneSeat, longer_by}
 use Rattle.vx_turn.specs.Resting.{only}

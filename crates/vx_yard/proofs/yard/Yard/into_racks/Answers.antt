@@ -1,3 +1,4 @@
+-- `into_racks`: clauses holds, counts and told.
 use Rattle.std.proofs.Common.{◌∙◌, ap, sym, subst, arith}
 use Rattle.vx_yard.specs.Holds.{RacksHold, RacksTell, rack_faults}
 use Rattle.vx_yard.proofs.IntoRacks.{racks_counted, racks_keep, racks_told}
