@@ -1,0 +1,49 @@
+-- A group that crashed, as its site notes it.
+use Rattle.std.proofs.Common.{◌≡◌, inl, inr, ℕ, ◌<◌, true, false, length, refl, sym, ◌∙◌, ap, subst, arith, IsTrue}
+use Rattle.vx_model.specs.declared.site.SiteState.TheVariants.{Down as IsDown}
+use Rattle.vx_disk.specs.Racks.{Stopped}
+use Rattle.vx_disk.specs.Shelf.{Each, Image, Meaning}
+use Rattle.vx_history.specs.Groups.{GroupNode}
+use Rattle.vx_history.specs.World.{Node}
+use Rattle.vx_config.specs.declared.config.Config.{Config}
+use Rattle.vx_copyfmt.specs.Imports.{Found}
+use Rattle.vx_kept.specs.Choice.{live}
+use Rattle.vx_kept.specs.Groups.{found}
+use Rattle.vx_kept.specs.Keeping.{Kin}
+use Rattle.vx_kept.proofs.Steps.{inside_back}
+use Rattle.vx_layout.specs.Places.{place}
+use Rattle.vx_volume.specs.Plexes.{Inside}
+use Rattle.vx_group.specs.Holding.{wide}
+use Rattle.vx_group.specs.Resumes.{CanImport}
+use Rattle.vx_group.specs.Stands.{InnerStands, inner_meaning}
+use Rattle.vx_group.specs.declared.group_core.GroupCore.{GroupCore}
+use Rattle.vx_group.proofs.HoldLemmas.{wide_shape}
+use Rattle.vx_grouped.specs.Away.{IsAwayAt}
+use Rattle.vx_grouped.specs.GroupNotes.{GroupLies}
+use Rattle.vx_grouped.specs.Plain.{BlockMay}
+
+module _ (n : Node) (note : GroupNode) (c : GroupCore) (m m' : Meaning) (lies : GroupLies n note c m) (stopped : Stopped m m') (stands : InnerStands (wide c) m') where
+  kin : (i : Image) (x : Config) → Each m'.leaves i → found m' i ≡ Found x → Kin (wide c).config x
+  kin i x each is = stands.kept.kin i x each is
+
+  has : (i : Image) (x : Config) → Each m'.leaves i → found m' i ≡ Found x → (v p b : ℕ) → Inside c.inner.config v b → IsTrue (live x v p) → BlockMay note v b (i (place x v p b).0 (place x v p b).1)
+  has i x each is v p b inside on =
+      let it = kin i x each is in
+      let there : Inside (wide c).config v b = inside_back (wide c).config c.inner.config (wide_shape c) v b inside in
+      let same : place x v p b ≡ place (wide c).config v p b = it.shape.place v p b there.volume in
+      subst (λ (at : ℕ × ℕ). BlockMay note v b (i at.0 at.1)) (sym same)
+      (lies.holds.has v b (i (place (wide c).config v p b).0 (place (wide c).config v p b).1) there.volume there.within
+        (inl (record { inside = there; plex = p; is_on = it.on v p there.volume on; value = stopped.leaves (place (wide c).config v p b).0 (place (wide c).config v p b).1 (i (place (wide c).config v p b).0 (place (wide c).config v p b).1) (each (place (wide c).config v p b).0 (place (wide c).config v p b).1) })))
+
+  pub crash_away : (c.inner.agreed ≡ true → CanImport m') → IsAwayAt (record n { state = IsDown }) note m'
+  crash_away can = record {
+    state = refl;
+    units = stopped.units ∙ lies.units;
+    size = λ u low. stopped.size u ∙ lies.size u low;
+    can = λ tight. can (lies.agreed tight);
+    last = c.inner.config;
+    config = lies.config;
+    sizes = λ v. lies.holds.size v ∙ (wide_shape c).blocks v;
+    volumes = λ i x each is. let count = (kin i x each is).shape.volumes in let same = (wide_shape c).volumes in omega (arith, count, same);
+    has = has;
+  }

@@ -1,0 +1,70 @@
+-- Calls of a group that write to no volume, as its site notes them.
+use Rattle.std.proofs.Common.{◌≡◌, ℕ, ◌<◌, Bool, true, false, [], refl, sym, ap, IsTrue, subst}
+use Rattle.std.specs.Prelude.{Result, Ok, Err, OnOk, Option, Some, None, if◌then◌else◌}
+use Rattle.vx_model.specs.declared.errors.Stop.{Stop}
+use Rattle.vx_model.specs.declared.errors.Stop.TheVariants.{No as Refused, OutOfMemory}
+use Rattle.vx_model.specs.declared.no.Counted.TheVariants.{Number as Numbers}
+use Rattle.vx_model.specs.declared.no.Named.TheVariants.{Number}
+use Rattle.vx_model.specs.declared.no.No.{No}
+use Rattle.vx_model.specs.declared.no.No.TheVariants.{Device, Down, LastPlex, Limit, Unknown}
+use Rattle.vx_disk.specs.Shelf.{Goes, Meaning, Nothing}
+use Rattle.vx_history.specs.Groups.{GroupNode}
+use Rattle.vx_history.specs.World.{Node}
+use Rattle.vx_group.specs.Dets.{DetStops}
+use Rattle.vx_group.specs.Holding.{GroupStands, wide}
+use Rattle.vx_group.specs.Stands.{inner_meaning}
+use Rattle.vx_group.specs.declared.group_core.GroupCore.{GroupCore}
+use Rattle.vx_grouped.specs.Ends.{CallLeaves}
+use Rattle.vx_grouped.specs.GroupNotes.{GroupLies, IsGroupAt, note_done, note_refused}
+use Rattle.vx_grouped.proofs.NoteLemmas.{lies_done, lies_refused}
+use Rattle.vx_grouped.proofs.PlainLemmas.{same_holds, still_holds}
+
+-- tests of names and counts refuse nothing with 6
+pub det_not_down : (t u w x : Bool) (v p most : ℕ) → (if t then Some (Unknown (Number v)) else (if u then Some (Unknown (Number p)) else (if w then Some LastPlex else (if x then Some (Limit Numbers most) else None)))) ≡ Some Down → ⊥
+det_not_down true u w x v p most is = let clash : Some (Unknown (Number v)) ≡ Some Down = is in cc
+det_not_down false true w x v p most is = let clash : Some (Unknown (Number p)) ≡ Some Down = is in cc
+det_not_down false false true x v p most is = let clash : Some LastPlex ≡ Some Down = is in cc
+det_not_down false false false true v p most is = let clash : Some (Limit Numbers most) ≡ Some Down = is in cc
+det_not_down false false false false v p most is = let clash : None ≡ Some Down = is in cc
+
+pub att_not_down : (t u x : Bool) (v p most : ℕ) → (if t then Some (Unknown (Number v)) else (if u then Some (Unknown (Number p)) else (if x then Some (Limit Numbers most) else None))) ≡ Some Down → ⊥
+att_not_down true u x v p most is = let clash : Some (Unknown (Number v)) ≡ Some Down = is in cc
+att_not_down false true x v p most is = let clash : Some (Unknown (Number p)) ≡ Some Down = is in cc
+att_not_down false false true v p most is = let clash : Some (Limit Numbers most) ≡ Some Down = is in cc
+att_not_down false false false v p most is = let clash : None ≡ Some Down = is in cc
+
+module _ (n : Node) (note : GroupNode) (c d : GroupCore) (m m' : Meaning) (at : IsGroupAt n note c m) (two : GroupStands d m') (units : m'.units ≡ m.units) (size : (u : ℕ) → m'.size u ≡ m.size u)
+    (goes : Goes Nothing (inner_meaning (wide c) m) (inner_meaning (wide d) m')) where
+  kept_refused : GroupLies n (note_refused [] d.inner note) d m'
+  kept_refused =
+      lies_refused n note c d m m' at.lies two units (λ u low. size u) [] (note_refused [] d.inner note) refl refl refl
+      (same_holds note (inner_meaning (wide d) m') (note_refused [] d.inner note).config (note_refused [] d.inner note).begun (note_refused [] d.inner note).loose (still_holds note (inner_meaning (wide c) m) (inner_meaning (wide d) m') at.lies.holds goes))
+
+  kept_done : (c.inner.committed ≡ true → d.inner.committed ≡ true) → GroupLies n (note_done d.inner note) d m'
+  kept_done trust =
+      lies_done n note c d m m' at.lies two units (λ u low. size u) trust (note_done d.inner note) refl refl refl
+      (same_holds note (inner_meaning (wide d) m') (note_done d.inner note).config (note_done d.inner note).begun (note_done d.inner note).loose (still_holds note (inner_meaning (wide c) m) (inner_meaning (wide d) m') at.lies.holds goes))
+
+  -- the disks are down behind it
+  pub call_cut : {T : Type 0} → IsTrue m'.down → CallLeaves {T = T} n note d m' (Err (Refused Down))
+  call_cut down = ([], record { down = down; lies = kept_refused })
+
+  -- they are not, and it stopped for a device alone
+  pub call_up : {T : Type 0} (r : Result T Stop) → (IsTrue m'.down → ⊥) → OnOk r (c.inner.committed ≡ true → d.inner.committed ≡ true) → DetStops m m' r → CallLeaves n note d m' r
+  call_up (Ok done) up trust stops = record { state = at.state; up = up; lies = kept_done trust }
+  call_up (Err (Refused (Device disk))) up trust stops = ([], record { state = at.state; up = up; lies = kept_refused })
+  call_up (Err (Refused Down)) up trust stops = absurd (up stops)
+  call_up (Err (Refused other)) up trust stops = absurd stops
+  call_up (Err OutOfMemory) up trust stops = absurd stops
+
+  -- it was refused by a test, and nothing has changed
+  pub call_none : {T : Type 0} (no : No) → IsGroupAt n note d m' → (no ≡ Down → ⊥) → CallLeaves {T = T} n note d m' (Err (Refused no))
+  call_none (Device disk) same never = ([], record { state = at.state; up = same.up; lies = kept_refused })
+  call_none Down same never = absurd (never refl)
+  call_none other same never = same
+
+  pub call_leaves : {T : Type 0} (r : Result T Stop) (o : Option No) → (IsTrue m'.down → ⊥) → OnOk r (c.inner.committed ≡ true → d.inner.committed ≡ true) → (o ≡ None → DetStops m m' r)
+      → ((no : No) → o ≡ Some no → (r ≡ Err (Refused no)) × IsGroupAt n note d m') → (o ≡ Some Down → ⊥) → CallLeaves n note d m' r
+  call_leaves r None up trust stops refused never = call_up r up trust (stops refl)
+  call_leaves r (Some why) up trust stops refused never =
+      subst (λ (x : Result T Stop). CallLeaves n note d m' x) (sym (refused why refl).0) (call_none why (refused why refl).1 (λ is. never (ap (λ (y : No). Some y) is)))

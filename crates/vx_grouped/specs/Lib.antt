@@ -1,0 +1,4 @@
+pub mod Away
+pub mod Ends
+pub mod GroupNotes
+pub mod Plain
