@@ -1,5 +1,5 @@
 -- A group that crashed, as its site notes it.
-use Rattle.std.proofs.Common.{◌≡◌, inl, inr, ℕ, ◌<◌, true, false, length, refl, sym, ◌∙◌, ap, subst, arith, IsTrue}
+use Rattle.std.proofs.Common.{◌≡◌, inl, ℕ, true, refl, sym, ◌∙◌, subst, arith, IsTrue}
 use Rattle.vx_model.specs.declared.site.SiteState.TheVariants.{Down as IsDown}
 use Rattle.vx_disk.specs.Racks.{Stopped}
 use Rattle.vx_disk.specs.Shelf.{Each, Image, Meaning}
@@ -15,10 +15,10 @@ use Rattle.vx_layout.specs.Places.{place}
 use Rattle.vx_volume.specs.Plexes.{Inside}
 use Rattle.vx_group.specs.Holding.{wide}
 use Rattle.vx_group.specs.Resumes.{CanImport}
-use Rattle.vx_group.specs.Stands.{InnerStands, inner_meaning}
+use Rattle.vx_group.specs.Stands.{InnerStands}
 use Rattle.vx_group.specs.declared.group_core.GroupCore.{GroupCore}
 use Rattle.vx_group.proofs.HoldLemmas.{wide_shape}
-use Rattle.vx_grouped.specs.Away.{IsAwayAt}
+use Rattle.vx_grouped.specs.Away.{AwayLies, IsAwayAt}
 use Rattle.vx_grouped.specs.GroupNotes.{GroupLies}
 use Rattle.vx_grouped.specs.Plain.{BlockMay}
 
@@ -33,17 +33,21 @@ module _ (n : Node) (note : GroupNode) (c : GroupCore) (m m' : Meaning) (lies : 
       let same : place x v p b ≡ place (wide c).config v p b = it.shape.place v p b there.volume in
       subst (λ (at : ℕ × ℕ). BlockMay note v b (i at.0 at.1)) (sym same)
       (lies.holds.has v b (i (place (wide c).config v p b).0 (place (wide c).config v p b).1) there.volume there.within
-        (inl (record { inside = there; plex = p; is_on = it.on v p there.volume on; value = stopped.leaves (place (wide c).config v p b).0 (place (wide c).config v p b).1 (i (place (wide c).config v p b).0 (place (wide c).config v p b).1) (each (place (wide c).config v p b).0 (place (wide c).config v p b).1) })))
+      (inl (record { inside = there; plex = p; is_on = it.on v p there.volume on; value = stopped.leaves (place (wide c).config v p b).0 (place (wide c).config v p b).1 (i (place (wide c).config v p b).0 (place (wide c).config v p b).1) (each (place (wide c).config v p b).0 (place (wide c).config v p b).1) })))
 
-  pub crash_away : (c.inner.agreed ≡ true → CanImport m') → IsAwayAt (record n { state = IsDown }) note m'
-  crash_away can = record {
-    state = refl;
+  crash_lies : (c.inner.agreed ≡ true → CanImport m') → AwayLies (record n { state = IsDown }) note c.inner.config m'
+  crash_lies can = record {
     units = stopped.units ∙ lies.units;
     size = λ u low. stopped.size u ∙ lies.size u low;
     can = λ tight. can (lies.agreed tight);
-    last = c.inner.config;
-    config = lies.config;
     sizes = λ v. lies.holds.size v ∙ (wide_shape c).blocks v;
     volumes = λ i x each is. let count = (kin i x each is).shape.volumes in let same = (wide_shape c).volumes in omega (arith, count, same);
     has = has;
   }
+
+  pub crash_away : (c.inner.agreed ≡ true → CanImport m') → IsAwayAt (record n { state = IsDown }) note m'
+  crash_away can = record { state = refl; last = c.inner.config; config = lies.config; lies = crash_lies can }
+
+-- the same of equal parts
+pub lies_at : {S : Type 0} (meaning : S → Meaning) (n : Node) (note : GroupNode) (c d : GroupCore) (s t : S) → d ≡ c → t ≡ s → GroupLies n note c (meaning s) → GroupLies n note d (meaning t)
+lies_at meaning n note c d s t core shelf it = subst (λ (x : GroupCore). GroupLies n note x (meaning t)) (sym core) (subst (λ y. GroupLies n note c (meaning y)) (sym shelf) it)

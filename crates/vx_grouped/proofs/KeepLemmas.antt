@@ -1,6 +1,6 @@
 -- Calls of a group that write to no volume, as its site notes them.
-use Rattle.std.proofs.Common.{◌≡◌, ℕ, ◌<◌, Bool, true, false, [], refl, sym, ap, IsTrue, subst}
-use Rattle.std.specs.Prelude.{Result, Ok, Err, OnOk, Option, Some, None, if◌then◌else◌}
+use Rattle.std.proofs.Common.{◌≡◌, ℕ, Bool, true, false, List, [], refl, sym, ap, IsTrue, subst}
+use Rattle.std.specs.Prelude.{Result, Ok, Err, IfErr, OnOk, Option, Some, None, if◌then◌else◌}
 use Rattle.vx_model.specs.declared.errors.Stop.{Stop}
 use Rattle.vx_model.specs.declared.errors.Stop.TheVariants.{No as Refused, OutOfMemory}
 use Rattle.vx_model.specs.declared.no.Counted.TheVariants.{Number as Numbers}
@@ -15,7 +15,7 @@ use Rattle.vx_group.specs.Holding.{GroupStands, wide}
 use Rattle.vx_group.specs.Stands.{inner_meaning}
 use Rattle.vx_group.specs.declared.group_core.GroupCore.{GroupCore}
 use Rattle.vx_grouped.specs.Ends.{CallLeaves}
-use Rattle.vx_grouped.specs.GroupNotes.{GroupLies, IsGroupAt, note_done, note_refused}
+use Rattle.vx_grouped.specs.GroupNotes.{GroupLies, IsGroupAt, IsGroupCut, note_done, note_refused}
 use Rattle.vx_grouped.proofs.NoteLemmas.{lies_done, lies_refused}
 use Rattle.vx_grouped.proofs.PlainLemmas.{same_holds, still_holds}
 
@@ -46,7 +46,7 @@ module _ (n : Node) (note : GroupNode) (c d : GroupCore) (m m' : Meaning) (at : 
       (same_holds note (inner_meaning (wide d) m') (note_done d.inner note).config (note_done d.inner note).begun (note_done d.inner note).loose (still_holds note (inner_meaning (wide c) m) (inner_meaning (wide d) m') at.lies.holds goes))
 
   -- the disks are down behind it
-  pub call_cut : {T : Type 0} → IsTrue m'.down → CallLeaves {T = T} n note d m' (Err (Refused Down))
+  pub call_cut : IsTrue m'.down → (next : List ℕ) × IsGroupCut n (note_refused next d.inner note) d m'
   call_cut down = ([], record { down = down; lies = kept_refused })
 
   -- they are not, and it stopped for a device alone
@@ -58,13 +58,28 @@ module _ (n : Node) (note : GroupNode) (c d : GroupCore) (m m' : Meaning) (at : 
   call_up (Err OutOfMemory) up trust stops = absurd stops
 
   -- it was refused by a test, and nothing has changed
-  pub call_none : {T : Type 0} (no : No) → IsGroupAt n note d m' → (no ≡ Down → ⊥) → CallLeaves {T = T} n note d m' (Err (Refused no))
-  call_none (Device disk) same never = ([], record { state = at.state; up = same.up; lies = kept_refused })
-  call_none Down same never = absurd (never refl)
-  call_none other same never = same
+  pub call_none : (T : Type 0) (no : No) → IsGroupAt n note d m' → (no ≡ Down → ⊥) → CallLeaves {T = T} n note d m' (Err (Refused no))
+  call_none T (Device disk) same never = ([], record { state = at.state; up = same.up; lies = kept_refused })
+  call_none T Down same never = absurd (never refl)
+  call_none T other same never = same
 
   pub call_leaves : {T : Type 0} (r : Result T Stop) (o : Option No) → (IsTrue m'.down → ⊥) → OnOk r (c.inner.committed ≡ true → d.inner.committed ≡ true) → (o ≡ None → DetStops m m' r)
       → ((no : No) → o ≡ Some no → (r ≡ Err (Refused no)) × IsGroupAt n note d m') → (o ≡ Some Down → ⊥) → CallLeaves n note d m' r
-  call_leaves r None up trust stops refused never = call_up r up trust (stops refl)
-  call_leaves r (Some why) up trust stops refused never =
-      subst (λ (x : Result T Stop). CallLeaves n note d m' x) (sym (refused why refl).0) (call_none why (refused why refl).1 (λ is. never (ap (λ (y : No). Some y) is)))
+  call_leaves {T} r None up trust stops refused never = call_up r up trust (stops refl)
+  call_leaves {T} r (Some why) up trust stops refused never =
+      subst (λ (x : Result T Stop). CallLeaves n note d m' x) (sym (refused why refl).0) (call_none T why (refused why refl).1 (λ is. never (ap (λ (y : No). Some y) is)))
+
+-- ---- a call over a shelf that is looked at behind it
+
+-- where nothing has changed
+pub same_at : {S : Type 0} (meaning : S → Meaning) (n : Node) (note : GroupNode) (c d : GroupCore) (s t : S) → d ≡ c → t ≡ s → IsGroupAt n note c (meaning s) → IsGroupAt n note d (meaning t)
+same_at meaning n note c d s t core shelf at = subst (λ (x : GroupCore). IsGroupAt n note x (meaning t)) (sym core) (subst (λ y. IsGroupAt n note c (meaning y)) (sym shelf) at)
+
+-- nothing has changed, and the shelf was not down
+pub never_fell : {S : Type 0} (meaning : S → Meaning) (s t : S) → t ≡ s → (IsTrue (meaning s).down → ⊥) → IsTrue (meaning t).down → ⊥
+never_fell meaning s t same up down = up (subst (λ y. IsTrue (meaning y).down) same down)
+
+-- imports agree behind either answer
+pub agreed_either : {T : Type 0} (r : Result T Stop) (was kept agr : Bool) → OnOk r (was ≡ true → kept ≡ true) → (kept ≡ true → agr ≡ true) → IfErr r (λ stop. was ≡ true → agr ≡ true) → was ≡ true → agr ≡ true
+agreed_either (Ok done) was kept agr trust both refused is = both (trust is)
+agreed_either (Err stop) was kept agr trust both refused is = refused is

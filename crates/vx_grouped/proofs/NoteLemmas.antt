@@ -1,8 +1,7 @@
 -- What a site notes of its group, behind a call.
-use Rattle.std.proofs.Common.{◌≡◌, inl, inr, ℕ, zero, suc, ◌<◌, ◌||◌, Bool, true, false, List, [], ◌∷◌, length, refl, sym, ◌∙◌, ap, arith, IsTrue}
-use Rattle.std.specs.Prelude.{if◌then◌else◌, not, map, slice_index_or}
-use Rattle.vx_model.specs.Content.{Write}
-use Rattle.vx_disk.specs.Shelf.{Meaning, Goes, Nothing}
+use Rattle.std.proofs.Common.{◌≡◌, ℕ, zero, suc, ◌<◌, ◌||◌, Bool, true, false, List, [], ◌∷◌, length, refl, sym, ◌∙◌, arith}
+use Rattle.std.specs.Prelude.{if◌then◌else◌, not}
+use Rattle.vx_disk.specs.Shelf.{Meaning}
 use Rattle.vx_history.specs.Groups.{GroupNode}
 use Rattle.vx_history.specs.World.{Node}
 use Rattle.vx_config.specs.declared.entry.DiskEntry.{DiskEntry}
@@ -16,11 +15,10 @@ use Rattle.vx_group.specs.declared.group_core.GroupCore.{GroupCore}
 use Rattle.vx_group.proofs.Standing.{disks_fit}
 use Rattle.vx_grouped.specs.GroupNotes.{GroupLies, note_done, note_refused}
 use Rattle.vx_grouped.specs.Plain.{HoldsPlain}
-use Rattle.vx_grouped.proofs.PlainLemmas.{same_holds}
 
--- ---- flags, by what the core says: `com` is committed, `agr` agreed
+-- ---- flags, by what the core says: `kept` is committed, `agr` agreed
 
-done_agreed : (com agr l : Bool) → (com ≡ true → agr ≡ true) → (if com then false else (l || not agr)) ≡ false → agr ≡ true
+done_agreed : (kept agr l : Bool) → (kept ≡ true → agr ≡ true) → (if kept then false else (l || not agr)) ≡ false → agr ≡ true
 done_agreed true agr l both is = both refl
 done_agreed false true l both is = refl
 done_agreed false false true both is = cc
@@ -30,11 +28,11 @@ was_tight : (agr l : Bool) → (l || not agr) ≡ false → l ≡ false
 was_tight agr true is = cc
 was_tight agr false is = refl
 
-done_committed : (com agr l : Bool) (begun : List (List ℕ)) → (l ≡ false → begun ≡ [] → com ≡ true) → (if com then false else (l || not agr)) ≡ false → (if com then [] else begun) ≡ [] → com ≡ true
+done_committed : (kept agr l : Bool) (begun : List (List ℕ)) → (l ≡ false → begun ≡ [] → kept ≡ true) → (if kept then false else (l || not agr)) ≡ false → (if kept then [] else begun) ≡ [] → kept ≡ true
 done_committed true agr l begun trust is none = refl
 done_committed false agr l begun trust is none = trust (was_tight agr l is) none
 
-refused_committed : (com : Bool) (next : List ℕ) (begun : List (List ℕ)) → (if com then [] else next ∷ begun) ≡ [] → com ≡ true
+refused_committed : (kept : Bool) (next : List ℕ) (begun : List (List ℕ)) → (if kept then [] else next ∷ begun) ≡ [] → kept ≡ true
 refused_committed true next begun none = refl
 refused_committed false next begun none = cc
 

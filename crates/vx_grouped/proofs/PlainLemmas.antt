@@ -1,9 +1,9 @@
 -- The volumes of a group over writes and flushes, as its site notes them.
-use Rattle.std.proofs.Common.{◌≡◌, ◌⊎◌, inl, inr, ⊎_elim, ℕ, suc, ◌+◌, ◌-◌, ◌*◌, ◌/◌, ◌<◌, ◌≤◌, ◌&&◌, Bool, true, false, List, [], ◌∷◌, length, eqb, leb, ltb, IsTrue, refl, sym, ◌∙◌, ap, subst, arith}
+use Rattle.std.proofs.Common.{◌≡◌, ◌⊎◌, inl, inr, ℕ, suc, ◌+◌, ◌-◌, ◌*◌, ◌<◌, ◌≤◌, ◌&&◌, Bool, true, false, List, [], ◌∷◌, length, eqb, leb, ltb, refl, sym, ◌∙◌, subst, arith}
 use Rattle.std.specs.Prelude.{if◌then◌else◌, Contains}
 use Rattle.std.proofs.lemmas.Bool.Decides.{nat_tests}
 use Rattle.std.proofs.lemmas.Bool.{cases_eq}
-use Rattle.vx_model.specs.Content.{Content, Write, put, block_of, blocks_in, touches}
+use Rattle.vx_model.specs.Content.{Write, put, block_of, blocks_in, touches}
 use Rattle.vx_disk.specs.Shelf.{Covers, Fits, Flushed, Goes, Lawful, Meaning, Nothing, Written, Wrote}
 use Rattle.vx_history.specs.Groups.{GroupNode}
 use Rattle.vx_grouped.specs.Ends.{plain_write}
@@ -27,7 +27,7 @@ first_of : (y : List ℕ) (ys : List (List ℕ)) (x : List ℕ) → x ≡ y → 
 first_of y ys x same = (0, omega arith, sym same)
 
 later_of : (y : List ℕ) (ys : List (List ℕ)) (x : List ℕ) → Contains ys x → Contains (y ∷ ys) x
-later_of y ys x it = (suc it.0, (let low = it.1.0 in omega (arith, low)), it.1.1)
+later_of y ys x it = (suc it.0, (let low = it.1 in omega (arith, low)), it.2)
 
 more_of : (t : Bool) (y : List ℕ) (ys : List (List ℕ)) (x : List ℕ) → Contains ys x → Contains (if t then y ∷ ys else ys) x
 more_of true y ys x it = later_of y ys x it
@@ -58,7 +58,7 @@ module _ (note : GroupNode) (v block : ℕ) (bytes : List ℕ) where
   to_covers : (u b : ℕ) → touches own u b ≡ true → Covers v block bytes u b
   to_covers u b is =
       let parts : (u ≡ v) × (block ≤ b) × (512 * (b - block) < length bytes) = tells u v block b (512 * (b - block)) (length bytes) is in
-      record { there = parts.0; first = parts.1.0; last = parts.1.1 }
+      record { there = parts.0; first = parts.1; last = parts.2 }
 
   of_covers : (u b : ℕ) → Covers v block bytes u b → touches own u b ≡ true
   of_covers u b it = shows u v block b (512 * (b - block)) (length bytes) it.there it.first it.last
@@ -78,7 +78,7 @@ module _ (note : GroupNode) (v block : ℕ) (bytes : List ℕ) where
   write_new : (u b : ℕ) (x : List ℕ) → block + blocks_in bytes ≤ note.bytes.size v → Written v block bytes u b x → BlockMay (note_write own note) u b x
   write_new u b x within put =
       inl (put.value ∙ put_here (leb (block + blocks_in bytes) (note.bytes.size v)) (touches own u b) (block_of bytes (b - block)) (note.bytes.block u b)
-        (fits (block + blocks_in bytes) (note.bytes.size v) within) (of_covers u b put.covers))
+      (fits (block + blocks_in bytes) (note.bytes.size v) within) (of_covers u b put.covers))
 
   -- a block is one of the write, or not
   beside : (u b : ℕ) → Covers v block bytes u b ⊎ (touches own u b ≡ false)

@@ -18,14 +18,18 @@ use Rattle.vx_grouped.specs.Plain.{BlockMay}
 -- The disks of the site, on which the group was last up with a configuration. An import may go over them, unless imports may disagree. Each image that
 -- they keep has a configuration with the volumes of that one, and in it each plex that is ACTIVE or CLEAN has of each of their blocks a value
 -- that the block may have.
-pub record IsAwayAt (n : Node) (note : GroupNode) (m : Meaning) : Type 0 where
-  pub state : n.state ≡ IsDown
+pub record AwayLies (n : Node) (note : GroupNode) (last : Config) (m : Meaning) : Type 0 where
   pub units : m.units ≡ n.disks
   pub size : (u : ℕ) → u < n.disks → m.size u ≡ n.blocks
   pub can : note.loose ≡ false → CanImport m
-  pub last : Config
-  pub config : note.config ≡ noted_config last
   pub sizes : (v : ℕ) → note.bytes.size v ≡ blocks_of last.volumes v
   pub volumes : (i : Image) (x : Config) → Each m.leaves i → found m i ≡ Found x → length last.volumes ≤ length x.volumes
   pub has : (i : Image) (x : Config) → Each m.leaves i → found m i ≡ Found x → (v p b : ℕ) → Inside last v b → IsTrue (live x v p)
       → BlockMay note v b (i (place x v p b).0 (place x v p b).1)
+
+-- the disks of a site that crashed: it is noted with the configuration that memory had
+pub record IsAwayAt (n : Node) (note : GroupNode) (m : Meaning) : Type 0 where
+  pub state : n.state ≡ IsDown
+  pub last : Config
+  pub config : note.config ≡ noted_config last
+  pub lies : AwayLies n note last m
