@@ -11,6 +11,8 @@ pub mod CreateLemmas
 pub mod DetLemmas
 pub mod LoseLemmas
 pub mod CopyLemmas
+pub mod RegionLemmas
+pub mod MissLemmas
 pub mod QuiesceLemmas
 pub mod DeportLemmas
 pub mod FoundLemmas

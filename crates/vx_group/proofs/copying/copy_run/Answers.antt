@@ -13,7 +13,7 @@ pub read_plex-requires-clause-fits : goal.read_plex-requires-clause-fits
 read_plex-requires-clause-fits g c = fits_source c.args.core.now c.args.vol c.args.source c.args.block _ (g.S.Shelf.meaning c.args.shelf.now) c.requires.stands c.requires.is_on c.requires.fits
 
 pub returns-in-Err-clause-moved : goal.returns-in-Err-clause-moved
-returns-in-Err-clause-moved g c = read_Moved c.args.core.now c.args.vol c.args.source (g.S.Shelf.meaning c.args.shelf.now) (g.S.Shelf.meaning c.read_plex.new.shelf) (g.met.S.Shelf.lawful c.args.shelf.now) (g.met.S.Shelf.lawful c.read_plex.new.shelf) c.requires.stands c.read_plex.ensures.goes
+returns-in-Err-clause-moved g c = read_Moved c.args.core.now c.args.vol c.args.source (g.S.Shelf.meaning c.args.shelf.now) (g.S.Shelf.meaning c.read_plex.new.shelf) (g.met.S.Shelf.lawful c.args.shelf.now) (g.met.S.Shelf.lawful c.read_plex.new.shelf) c.requires.stands c.read_plex.ensures.goes _
 
 pub write_all-requires-clause-disks : goal.write_all-requires-clause-disks
 write_all-requires-clause-disks g c = fit_of c.args.core.now (g.S.Shelf.meaning c.read_plex.new.shelf) (flushed_Stands c.args.core.now c.args.vol (g.S.Shelf.meaning c.args.shelf.now) (g.S.Shelf.meaning c.read_plex.new.shelf) (g.met.S.Shelf.lawful c.args.shelf.now) (g.met.S.Shelf.lawful c.read_plex.new.shelf) c.requires.stands c.read_plex.ensures.goes)
