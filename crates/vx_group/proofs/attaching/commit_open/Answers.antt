@@ -44,5 +44,5 @@ returns-else-is_down-clause-failing g c =
 
 pub returns-else-is_down-clause-cause : goal.returns-else-is_down-clause-cause
 returns-else-is_down-clause-cause g c =
-    blames_then (Unit {0}) ℕ (g.S.Shelf.meaning c.args.shelf.now) (g.S.Shelf.meaning c.detach.new.shelf) (g.S.Shelf.meaning c.take_back.new.shelf) c.in-Err.error c.in-Err.ensures.cause (c.take_back.ensures.attaches None).acts.disk_faults (c.take_back.ensures.attaches None).acts.falls
+    blames_then (Unit {0}) ℕ (g.S.Shelf.meaning c.args.shelf.now) (g.S.Shelf.meaning c.detach.new.shelf) (g.S.Shelf.meaning c.take_back.new.shelf) c.in-Err.error (c.in-Err.ensures.sure c.requires.more) (c.take_back.ensures.attaches None).acts.disk_faults (c.take_back.ensures.attaches None).acts.falls
     (not_down c.is_down.result (g.S.Shelf.meaning c.take_back.new.shelf).down c.is_down.ensures c.if-is_down.false)
