@@ -1,10 +1,9 @@
 -- What may be imported still may with fewer contents, and behind a refused import.
-use Rattle.std.proofs.Common.{◌≡◌, inl, inr, ⊎_elim, ℕ, Bool, true, List, refl, ap, sym, ◌∙◌, subst, arith}
+use Rattle.std.proofs.Common.{◌≡◌, inl, inr, ⊎_elim, ℕ, Bool, true, Option, List, refl, ap, sym, ◌∙◌, subst, arith}
 use Rattle.vx_disk.specs.Racks.{IsRack, Stopped}
 use Rattle.vx_disk.specs.Shelf.{Each, Goes, Image, Lawful, Meaning, Nothing}
 use Rattle.vx_disk.proofs.Alikes.{rest_Settled}
 use Rattle.vx_copyfmt.specs.Commits.{Counts}
-use Rattle.vx_copyfmt.specs.Imports.{Found}
 use Rattle.vx_copyfmt.proofs.Subs.{counts_sub}
 use Rattle.vx_config.specs.declared.config.Config.{Config}
 use Rattle.vx_copies.specs.Looking.{on_shelf}

@@ -1,7 +1,7 @@
 -- What a crash of its disks leaves of a group, and what may be imported behind it.
-use Rattle.std.proofs.Common.{◌≡◌, inl, inr, ℕ, ◌<◌, Bool, true, IsTrue, Option, List, refl, sym, ap, ◌∙◌, subst, arith}
+use Rattle.std.proofs.Common.{◌≡◌, inl, inr, ℕ, ◌<◌, true, IsTrue, Option, List, refl, sym, ◌∙◌, subst, arith}
 use Rattle.vx_disk.specs.Racks.{Alike, IsRack, Stopped}
-use Rattle.vx_disk.specs.Shelf.{Each, Image, Lawful, Meaning}
+use Rattle.vx_disk.specs.Shelf.{Image, Lawful, Meaning}
 use Rattle.vx_copyfmt.specs.Commits.{Counts}
 use Rattle.vx_copyfmt.proofs.Subs.{counts_sub}
 use Rattle.vx_config.specs.declared.config.Config.{Config}

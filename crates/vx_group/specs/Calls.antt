@@ -91,4 +91,4 @@ GroupImported old meaning core shelf (Err (s, stop)) = ImportStops old (meaning 
 -- what a refused import hands back may be imported behind any crash
 abbrev pub ImportsAgain : {S G : Type 0} → (S → Meaning) → Result G (S × Stop) → Type 0
 ImportsAgain meaning (Ok g) = Unit {0}
-ImportsAgain meaning (Err (s, stop)) = CanImportBehind (meaning s)
+ImportsAgain meaning (Err e) = CanImportBehind (meaning e.0)

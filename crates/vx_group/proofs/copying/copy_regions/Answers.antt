@@ -1,5 +1,5 @@
 -- `copy_regions`: clauses moved, cause, copied and agreed; what `is_picked` and `copy_region` ask; what stays true in its loop over `region`.
-use Rattle.std.proofs.Common.{◌≡◌, ◌+◌, ℕ, Err, sym, ◌∙◌, subst, arith}
+use Rattle.std.proofs.Common.{◌+◌, Err, sym, ◌∙◌, subst, arith}
 use Rattle.std.specs.Option.{option_copied}
 use Rattle.vx_config.specs.Checks.{blocks_of}
 use Rattle.vx_model.specs.Sizes.{regions_of}
