@@ -11,6 +11,8 @@ pub mod CreateLemmas
 pub mod DetLemmas
 pub mod LoseLemmas
 pub mod CopyLemmas
+pub mod RegionLemmas
+pub mod MissLemmas
 pub mod QuiesceLemmas
 pub mod DeportLemmas
 pub mod FoundLemmas
@@ -31,6 +33,7 @@ pub mod ThroughLemmas
 pub mod BehindLemmas
 pub mod ImportLemmas
 pub mod CrashLemmas
+pub mod AgainLemmas
 pub mod FallenLemmas
 pub mod OpeningLemmas
 pub mod AttachLemmas
