@@ -14,3 +14,4 @@ pub mod RunLemmas
 pub mod FillLemmas
 pub mod Changed
 pub mod Fewer
+pub mod Grouped
