@@ -7,6 +7,7 @@ pub mod ReadLemmas
 pub mod FailingLemmas
 pub mod ReadyLemmas
 pub mod RegainLemmas
+pub mod RvgLemmas
 pub mod CreateLemmas
 pub mod DetLemmas
 pub mod LoseLemmas
@@ -31,6 +32,7 @@ pub mod ThroughLemmas
 pub mod BehindLemmas
 pub mod ImportLemmas
 pub mod CrashLemmas
+pub mod LessLemmas
 pub mod FallenLemmas
 pub mod OpeningLemmas
 pub mod AttachLemmas
