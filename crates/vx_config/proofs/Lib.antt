@@ -14,4 +14,3 @@ pub mod RunLemmas
 pub mod FillLemmas
 pub mod Changed
 pub mod Fewer
-pub mod Grouped

@@ -1,4 +1,4 @@
--- Changes of a configuration in place: the state of a plex, the loss of a log, one volume less, and the replicated volume group.
+-- Changes of a configuration in place: the state of a plex, the loss of a log, and one volume less.
 use Rattle.std.specs.Prelude.{ℕ, zero, suc, Bool, true, false, nat_lt, List, [], ◌∷◌, Option, Some, None, slice_get}
 use Rattle.std.specs.List.{list_all, list_any}
 use Rattle.vx_model.specs.declared.site.PlexState.{PlexState}
@@ -41,10 +41,6 @@ with_lost Fmr lost v =
 -- a configuration with other volumes
 abbrev pub with_volumes : List VolumeEntry → Config → Config
 with_volumes volumes c = record { serial = c.serial; site = c.site; disks = c.disks; volumes = volumes; rvg = c.rvg }
-
--- with another replicated volume group, or none
-abbrev pub with_rvg : Option Units → Config → Config
-with_rvg rvg c = record { serial = c.serial; site = c.site; disks = c.disks; volumes = c.volumes; rvg = rvg }
 
 -- with a plex of a volume in this state
 abbrev pub stated : ℕ → ℕ → PlexState → Bool → Config → Config

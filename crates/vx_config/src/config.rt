@@ -1,8 +1,8 @@
 // A configuration.
-ghost use Rattle.std.specs.Prelude.{◌≡◌, IfSome, true, slice_get};
-ghost use Rattle.vx_config.specs.Changes.{has_live, lost as lost_is, stated as stated_is, with_rvg};
-ghost use Rattle.vx_config.specs.Checks.{group_or_none, is_sound};
-ghost use Rattle.vx_config.specs.Configs.{CanSpell, UnitsFit, subdisk_count};
+ghost use Rattle.std.specs.Prelude.{◌≡◌, true, slice_get};
+ghost use Rattle.vx_config.specs.Changes.{has_live, lost as lost_is, stated as stated_is};
+ghost use Rattle.vx_config.specs.Checks.{is_sound};
+ghost use Rattle.vx_config.specs.Configs.{CanSpell, subdisk_count};
 
 use crate::{Disks, VolumeLog, Volumes};
 use vx_model::{PlexState, Units};
@@ -41,16 +41,5 @@ impl Config {
         ensures sound { is_sound self.new ≡ is_sound self.old }
     {
         self.volumes.set_lost(volume, log, lost);
-    }
-
-    /// Names the volumes of the replicated volume group, or none. A sound configuration stays so exactly where they may be one. It takes
-    /// no memory.
-    pub fn set_rvg(&mut self, rvg: Option<Units>)
-        ensures changed { self.new ≡ with_rvg rvg self.old }
-        ensures spelled { CanSpell self.old → IfSome rvg UnitsFit → CanSpell self.new }
-        ensures count { subdisk_count self.new ≡ subdisk_count self.old }
-        ensures sound { is_sound self.old ≡ true → is_sound self.new ≡ group_or_none self.old.volumes rvg }
-    {
-        self.rvg = rvg;
     }
 }

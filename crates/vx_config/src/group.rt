@@ -69,9 +69,7 @@ fn map_sum(volumes: &[VolumeEntry], numbers: &[u32]) -> u64
     sum
 }
 
-/// Whether these may be a replicated volume group: 1 to 30 data volumes beside a log of 8 blocks and more and the maps of all links, all
-/// of them distinct ones of the volumes.
-pub fn is_group(volumes: &[VolumeEntry], units: &Units) -> bool
+fn is_group(volumes: &[VolumeEntry], units: &Units) -> bool
     ensures { result ≡ is_group_is volumes.now units.now }
 {
     let vols = units.vols.as_slice();

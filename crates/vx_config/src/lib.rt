@@ -32,7 +32,6 @@ pub use decoding::decode;
 pub use disks::Disks;
 pub use encoding::{encode, encode_into, is_short};
 pub use entry::{DiskEntry, LogEntry, PlexEntry, Subdisk, VolumeEntry, VolumeLog};
-pub use group::is_group;
 pub use plexes::Plexes;
 pub use stop::ConfigStop;
 pub use subdisks::Subdisks;

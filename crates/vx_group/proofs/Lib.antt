@@ -7,6 +7,7 @@ pub mod ReadLemmas
 pub mod FailingLemmas
 pub mod ReadyLemmas
 pub mod RegainLemmas
+pub mod RvgSound
 pub mod RvgLemmas
 pub mod CreateLemmas
 pub mod DetLemmas

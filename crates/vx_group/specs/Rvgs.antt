@@ -11,6 +11,10 @@ use Rattle.vx_config.specs.declared.config.Config.{Config}
 use Rattle.vx_kept.specs.Commits.{IsCommitted}
 use Rattle.vx_group.specs.Dets.{margin}
 
+-- the configuration with another replicated volume group, or none
+abbrev pub with_rvg : Option Units → Config → Config
+with_rvg rvg c = record { serial = c.serial; site = c.site; disks = c.disks; volumes = c.volumes; rvg = rvg }
+
 -- The first refusal that holds: too few serials are left, or the volumes may not be a replicated volume group.
 abbrev pub set_rvg_refusal : Config → Units → Option No
 set_rvg_refusal c u = if nat_lt (greatest - margin) c.serial then Some (Limit Number greatest) else (if not (is_group c.volumes u) then Some Size else None)

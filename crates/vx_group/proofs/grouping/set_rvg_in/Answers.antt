@@ -1,82 +1,94 @@
--- `set_rvg_in`: what `commit_rvg` asks; clauses goes, narrows, volumes, site, disks, ends and stands.
-use Rattle.std.proofs.Common.{◌≡◌, ℕ, List, ap, sym, ◌∙◌, arith}
-use Rattle.vx_disk.specs.Shelf.{Nothing}
+-- `set_rvg_in`: what `may_name` and `name_rvg` ask; each clause, over the configuration that the test leaves as it was.
+use Rattle.std.proofs.Common.{◌≡◌, Some, refl, ap, sym, ◌∙◌, subst, Err, arith}
+use Rattle.vx_disk.specs.Shelf.{Goes, Nothing}
+use Rattle.vx_disk.proofs.Runs.{same_Goes}
+use Rattle.vx_model.specs.declared.errors.Stop.TheVariants.{No as Refused}
+use Rattle.vx_model.specs.declared.no.No.{No}
 use Rattle.vx_config.specs.Checks.{is_group}
-use Rattle.vx_config.specs.declared.entry.VolumeEntry.{VolumeEntry}
-use Rattle.vx_group.specs.Stands.{volume_faults}
-use Rattle.vx_group.proofs.CallLemmas.{narrows_Goes}
-use Rattle.vx_group.proofs.FailingLemmas.{then_failing}
-use Rattle.vx_group.proofs.HoldLemmas.{from_none, none_Stands, wide_none}
-use Rattle.vx_group.proofs.RvgLemmas.{may_commit, may_group}
-use Rattle.vx_group.proofs.ThroughLemmas.{released_goes, released_narrows, second_narrows, through_goes}
+use Rattle.vx_config.specs.declared.config.Config.{Config}
+use Rattle.vx_copies.specs.Commits.{MoreFailed}
+use Rattle.vx_group.specs.Calls.{GroupNarrows}
+use Rattle.vx_group.specs.Holding.{GroupStands, wide}
+use Rattle.vx_group.specs.Rvgs.{RvgEnds}
+use Rattle.vx_group.specs.Stands.{inner_meaning}
+use Rattle.vx_group.specs.declared.group_core.GroupCore.{GroupCore}
+use Rattle.vx_group.proofs.FailingLemmas.{no_failing}
+use Rattle.vx_group.proofs.HoldLemmas.{narrow_sound}
+use Rattle.vx_group.proofs.RvgLemmas.{late_refusal, no_narrows, no_refusal, none_some, one_some, same_core, small_refusal}
 use Rattle.vx_group.proofs.grouping.set_rvg_in.Goals as goal
 
-pub returns-in-Err-clause-goes : goal.returns-in-Err-clause-goes
-returns-in-Err-clause-goes g c = released_goes c.args.core.now c.release.new.core (g.S.Shelf.meaning c.args.shelf.now) (g.S.Shelf.meaning c.release.new.shelf) c.requires.stands c.release.ensures.narrows c.release.ensures.volumes (g.met.S.Shelf.lawful c.release.new.shelf)
+pub returns-then-core-clause-refused : goal.returns-then-core-clause-refused
+returns-then-core-clause-refused g c = λ why is. (ap (λ (n : No). Err (Refused n)) (one_some _ why (sym (late_refusal c.args.core.now.inner.config c.args.units.now c.if-core.true) ∙ is)), refl, refl)
 
-pub returns-in-Err-clause-narrows : goal.returns-in-Err-clause-narrows
-returns-in-Err-clause-narrows g c = released_narrows c.args.core.now c.release.new.core (g.S.Shelf.meaning c.args.shelf.now) (g.S.Shelf.meaning c.release.new.shelf) c.requires.stands c.release.ensures.narrows c.release.ensures.volumes
+pub returns-then-core-clause-goes : goal.returns-then-core-clause-goes
+returns-then-core-clause-goes g c = same_Goes Nothing (inner_meaning (wide c.args.core.now) (g.S.Shelf.meaning c.args.shelf.now))
 
-pub returns-in-Err-clause-site : goal.returns-in-Err-clause-site
-returns-in-Err-clause-site g c = c.release.ensures.parts.site
+pub returns-then-core-clause-narrows : goal.returns-then-core-clause-narrows
+returns-then-core-clause-narrows g c = no_narrows c.args.core.now (g.S.Shelf.meaning c.args.shelf.now)
 
-pub returns-in-Err-clause-ends : goal.returns-in-Err-clause-ends
-returns-in-Err-clause-ends g c = c.release.ensures.parts.rvg
+pub returns-then-core-clause-disks : goal.returns-then-core-clause-disks
+returns-then-core-clause-disks g c = no_failing (g.S.Shelf.meaning c.args.shelf.now) (g.S.Shelf.meaning c.args.shelf.now) c.args.core.now.inner.config.disks c.args.core.now.inner.config.disks refl
 
-pub commit_rvg-requires-clause-stands : goal.commit_rvg-requires-clause-stands
-commit_rvg-requires-clause-stands g c = from_none c.release.new.core (g.S.Shelf.meaning c.release.new.shelf) (c.in-Ok.ensures.done (let room = (may_commit c.args.core.now.inner.config c.args.units.now (sym c.refuse.ensures ∙ c.in_default.is)) in omega (arith, room))) c.release.ensures.stands
+pub returns-then-core-clause-cause : goal.returns-then-core-clause-cause
+returns-then-core-clause-cause g c = λ none. none_some _ (sym (late_refusal c.args.core.now.inner.config c.args.units.now c.if-core.true) ∙ none)
 
-pub commit_rvg-requires-clause-may : goal.commit_rvg-requires-clause-may
-commit_rvg-requires-clause-may g c = ap (λ (vs : List VolumeEntry). is_group vs c.args.units.now) c.release.ensures.volumes ∙ may_group c.args.core.now.inner.config c.args.units.now (sym c.refuse.ensures ∙ c.in_default.is)
+pub may_name-requires : goal.may_name-requires
+may_name-requires g c = narrow_sound c.args.core.now (g.S.Shelf.meaning c.args.shelf.now) c.requires
 
-pub commit_rvg-requires-clause-more : goal.commit_rvg-requires-clause-more
-commit_rvg-requires-clause-more g c = let le = c.in-Ok.ensures.few in let room = (may_commit c.args.core.now.inner.config c.args.units.now (sym c.refuse.ensures ∙ c.in_default.is)) in omega (arith, le, room)
+pub returns-then-not-may_name-clause-stands : goal.returns-then-not-may_name-clause-stands
+returns-then-not-may_name-clause-stands g c = subst (λ (k : GroupCore). GroupStands k (g.S.Shelf.meaning c.args.shelf.now)) (sym (same_core c.args.core.now c.may_name.new.config c.may_name.ensures.same)) c.requires
 
-pub returns-in-Ok-commit_rvg-clause-stands : goal.returns-in-Ok-commit_rvg-clause-stands
-returns-in-Ok-commit_rvg-clause-stands g c = none_Stands (record { inner = c.commit_rvg.new.core; held = c.release.new.core.held }) (g.S.Shelf.meaning c.commit_rvg.new.shelf) (c.in-Ok.ensures.done (let room = (may_commit c.args.core.now.inner.config c.args.units.now (sym c.refuse.ensures ∙ c.in_default.is)) in omega (arith, room))) c.commit_rvg.ensures.stands
+pub returns-then-not-may_name-clause-refused : goal.returns-then-not-may_name-clause-refused
+returns-then-not-may_name-clause-refused g c = λ why is. (ap (λ (n : No). Err (Refused n)) (one_some _ why (sym (small_refusal c.args.core.now.inner.config c.args.units.now (let le = c.if-core.false in omega (arith, le)) (sym c.may_name.ensures.is ∙ c.if-not-may_name.true)) ∙ is)), same_core c.args.core.now c.may_name.new.config c.may_name.ensures.same, refl)
 
-pub returns-in-Ok-commit_rvg-clause-goes : goal.returns-in-Ok-commit_rvg-clause-goes
-returns-in-Ok-commit_rvg-clause-goes g c =
-    through_goes c.args.core.now c.release.new.core (record { inner = c.commit_rvg.new.core; held = c.release.new.core.held }) c.release.new.core.inner c.commit_rvg.new.core (g.S.Shelf.meaning c.args.shelf.now) (g.S.Shelf.meaning c.release.new.shelf) (g.S.Shelf.meaning c.commit_rvg.new.shelf) (sym (wide_none c.release.new.core (c.in-Ok.ensures.done (let room = (may_commit c.args.core.now.inner.config c.args.units.now (sym c.refuse.ensures ∙ c.in_default.is)) in omega (arith, room))))) (wide_none (record { inner = c.commit_rvg.new.core; held = c.release.new.core.held }) (c.in-Ok.ensures.done (let room = (may_commit c.args.core.now.inner.config c.args.units.now (sym c.refuse.ensures ∙ c.in_default.is)) in omega (arith, room)))) Nothing
-    (released_goes c.args.core.now c.release.new.core (g.S.Shelf.meaning c.args.shelf.now) (g.S.Shelf.meaning c.release.new.shelf) c.requires.stands c.release.ensures.narrows c.release.ensures.volumes (g.met.S.Shelf.lawful c.release.new.shelf))
-    (narrows_Goes c.release.new.core.inner c.commit_rvg.new.core (g.S.Shelf.meaning c.release.new.shelf) (g.S.Shelf.meaning c.commit_rvg.new.shelf) (g.met.S.Shelf.lawful c.commit_rvg.new.shelf) (from_none c.release.new.core (g.S.Shelf.meaning c.release.new.shelf) (c.in-Ok.ensures.done (let room = (may_commit c.args.core.now.inner.config c.args.units.now (sym c.refuse.ensures ∙ c.in_default.is)) in omega (arith, room))) c.release.ensures.stands) c.commit_rvg.ensures.narrows (volume_faults c.release.new.core.inner.faults) (volume_faults c.commit_rvg.new.core.faults)
-    (λ u. let same = ap (λ (f : List ℕ). volume_faults f u) c.commit_rvg.ensures.narrows.faults in omega (arith, same)))
+pub returns-then-not-may_name-clause-goes : goal.returns-then-not-may_name-clause-goes
+returns-then-not-may_name-clause-goes g c =
+    subst (λ (k : GroupCore). Goes Nothing (inner_meaning (wide c.args.core.now) (g.S.Shelf.meaning c.args.shelf.now)) (inner_meaning (wide k) (g.S.Shelf.meaning c.args.shelf.now))) (sym (same_core c.args.core.now c.may_name.new.config c.may_name.ensures.same)) (same_Goes Nothing (inner_meaning (wide c.args.core.now) (g.S.Shelf.meaning c.args.shelf.now)))
 
-pub returns-in-Ok-commit_rvg-clause-narrows : goal.returns-in-Ok-commit_rvg-clause-narrows
-returns-in-Ok-commit_rvg-clause-narrows g c =
-    second_narrows (λ s. g.S.Shelf.meaning s) c.args.shelf.now c.release.new.shelf c.args.core.now c.release.new.core c.commit_rvg.new.core (g.S.Shelf.meaning c.commit_rvg.new.shelf) c.requires.stands c.release.ensures.narrows c.release.ensures.volumes c.release.ensures.none (c.in-Ok.ensures.done (let room = (may_commit c.args.core.now.inner.config c.args.units.now (sym c.refuse.ensures ∙ c.in_default.is)) in omega (arith, room))) c.commit_rvg.ensures.narrows
+pub returns-then-not-may_name-clause-narrows : goal.returns-then-not-may_name-clause-narrows
+returns-then-not-may_name-clause-narrows g c = subst (λ (k : GroupCore). GroupNarrows c.args.core.now k (g.S.Shelf.meaning c.args.shelf.now) (g.S.Shelf.meaning c.args.shelf.now)) (sym (same_core c.args.core.now c.may_name.new.config c.may_name.ensures.same)) (no_narrows c.args.core.now (g.S.Shelf.meaning c.args.shelf.now))
 
-pub returns-in-Ok-commit_rvg-clause-volumes : goal.returns-in-Ok-commit_rvg-clause-volumes
-returns-in-Ok-commit_rvg-clause-volumes g c = c.commit_rvg.ensures.volumes ∙ c.release.ensures.volumes
+pub returns-then-not-may_name-clause-volumes : goal.returns-then-not-may_name-clause-volumes
+returns-then-not-may_name-clause-volumes g c = ap (λ (x : Config). x.volumes) c.may_name.ensures.same
 
-pub returns-in-Ok-commit_rvg-clause-site : goal.returns-in-Ok-commit_rvg-clause-site
-returns-in-Ok-commit_rvg-clause-site g c = c.commit_rvg.ensures.site ∙ c.release.ensures.parts.site
+pub returns-then-not-may_name-clause-site : goal.returns-then-not-may_name-clause-site
+returns-then-not-may_name-clause-site g c = ap (λ (x : Config). x.site) c.may_name.ensures.same
 
-pub returns-in-Ok-commit_rvg-clause-disks : goal.returns-in-Ok-commit_rvg-clause-disks
-returns-in-Ok-commit_rvg-clause-disks g c = then_failing (g.S.Shelf.meaning c.args.shelf.now) (g.S.Shelf.meaning c.release.new.shelf) (g.S.Shelf.meaning c.commit_rvg.new.shelf) c.release.ensures.narrows.acts.faults c.commit_rvg.ensures.narrows.acts.faults c.args.core.now.inner.config.disks c.release.new.core.inner.config.disks c.commit_rvg.new.core.config.disks c.release.ensures.failing c.commit_rvg.ensures.failing
+pub returns-then-not-may_name-clause-disks : goal.returns-then-not-may_name-clause-disks
+returns-then-not-may_name-clause-disks g c = no_failing (g.S.Shelf.meaning c.args.shelf.now) (g.S.Shelf.meaning c.args.shelf.now) c.args.core.now.inner.config.disks c.may_name.new.config.disks (ap (λ (x : Config). x.disks) c.may_name.ensures.same)
 
-pub returns-in-Err-commit_rvg-clause-stands : goal.returns-in-Err-commit_rvg-clause-stands
-returns-in-Err-commit_rvg-clause-stands g c = none_Stands (record { inner = c.commit_rvg.new.core; held = c.release.new.core.held }) (g.S.Shelf.meaning c.commit_rvg.new.shelf) (c.in-Ok.ensures.done (let room = (may_commit c.args.core.now.inner.config c.args.units.now (sym c.refuse.ensures ∙ c.in_default.is)) in omega (arith, room))) c.commit_rvg.ensures.stands
+pub returns-then-not-may_name-clause-ends : goal.returns-then-not-may_name-clause-ends
+returns-then-not-may_name-clause-ends g c = ap (λ (x : Config). x.rvg) c.may_name.ensures.same
 
-pub returns-in-Err-commit_rvg-clause-goes : goal.returns-in-Err-commit_rvg-clause-goes
-returns-in-Err-commit_rvg-clause-goes g c =
-    through_goes c.args.core.now c.release.new.core (record { inner = c.commit_rvg.new.core; held = c.release.new.core.held }) c.release.new.core.inner c.commit_rvg.new.core (g.S.Shelf.meaning c.args.shelf.now) (g.S.Shelf.meaning c.release.new.shelf) (g.S.Shelf.meaning c.commit_rvg.new.shelf) (sym (wide_none c.release.new.core (c.in-Ok.ensures.done (let room = (may_commit c.args.core.now.inner.config c.args.units.now (sym c.refuse.ensures ∙ c.in_default.is)) in omega (arith, room))))) (wide_none (record { inner = c.commit_rvg.new.core; held = c.release.new.core.held }) (c.in-Ok.ensures.done (let room = (may_commit c.args.core.now.inner.config c.args.units.now (sym c.refuse.ensures ∙ c.in_default.is)) in omega (arith, room)))) Nothing
-    (released_goes c.args.core.now c.release.new.core (g.S.Shelf.meaning c.args.shelf.now) (g.S.Shelf.meaning c.release.new.shelf) c.requires.stands c.release.ensures.narrows c.release.ensures.volumes (g.met.S.Shelf.lawful c.release.new.shelf))
-    (narrows_Goes c.release.new.core.inner c.commit_rvg.new.core (g.S.Shelf.meaning c.release.new.shelf) (g.S.Shelf.meaning c.commit_rvg.new.shelf) (g.met.S.Shelf.lawful c.commit_rvg.new.shelf) (from_none c.release.new.core (g.S.Shelf.meaning c.release.new.shelf) (c.in-Ok.ensures.done (let room = (may_commit c.args.core.now.inner.config c.args.units.now (sym c.refuse.ensures ∙ c.in_default.is)) in omega (arith, room))) c.release.ensures.stands) c.commit_rvg.ensures.narrows (volume_faults c.release.new.core.inner.faults) (volume_faults c.commit_rvg.new.core.faults)
-    (λ u. let same = ap (λ (f : List ℕ). volume_faults f u) c.commit_rvg.ensures.narrows.faults in omega (arith, same)))
+pub returns-then-not-may_name-clause-cause : goal.returns-then-not-may_name-clause-cause
+returns-then-not-may_name-clause-cause g c = λ none. none_some _ (sym (small_refusal c.args.core.now.inner.config c.args.units.now (let le = c.if-core.false in omega (arith, le)) (sym c.may_name.ensures.is ∙ c.if-not-may_name.true)) ∙ none)
 
-pub returns-in-Err-commit_rvg-clause-narrows : goal.returns-in-Err-commit_rvg-clause-narrows
-returns-in-Err-commit_rvg-clause-narrows g c =
-    second_narrows (λ s. g.S.Shelf.meaning s) c.args.shelf.now c.release.new.shelf c.args.core.now c.release.new.core c.commit_rvg.new.core (g.S.Shelf.meaning c.commit_rvg.new.shelf) c.requires.stands c.release.ensures.narrows c.release.ensures.volumes c.release.ensures.none (c.in-Ok.ensures.done (let room = (may_commit c.args.core.now.inner.config c.args.units.now (sym c.refuse.ensures ∙ c.in_default.is)) in omega (arith, room))) c.commit_rvg.ensures.narrows
+pub name_rvg-requires-clause-stands : goal.name_rvg-requires-clause-stands
+name_rvg-requires-clause-stands g c = subst (λ (k : GroupCore). GroupStands k (g.S.Shelf.meaning c.args.shelf.now)) (sym (same_core c.args.core.now c.may_name.new.config c.may_name.ensures.same)) c.requires
 
-pub returns-in-Err-commit_rvg-clause-volumes : goal.returns-in-Err-commit_rvg-clause-volumes
-returns-in-Err-commit_rvg-clause-volumes g c = c.commit_rvg.ensures.volumes ∙ c.release.ensures.volumes
+pub name_rvg-requires-clause-may : goal.name_rvg-requires-clause-may
+name_rvg-requires-clause-may g c = ap (λ (x : Config). is_group x.volumes c.args.units.now) c.may_name.ensures.same ∙ sym c.may_name.ensures.is ∙ c.if-not-may_name.false
 
-pub returns-in-Err-commit_rvg-clause-site : goal.returns-in-Err-commit_rvg-clause-site
-returns-in-Err-commit_rvg-clause-site g c = c.commit_rvg.ensures.site ∙ c.release.ensures.parts.site
+pub name_rvg-requires-clause-more : goal.name_rvg-requires-clause-more
+name_rvg-requires-clause-more g c = let at = ap (λ (x : Config). x.serial) c.may_name.ensures.same in let le = c.if-core.false in omega (arith, at, le)
 
-pub returns-in-Err-commit_rvg-clause-disks : goal.returns-in-Err-commit_rvg-clause-disks
-returns-in-Err-commit_rvg-clause-disks g c = then_failing (g.S.Shelf.meaning c.args.shelf.now) (g.S.Shelf.meaning c.release.new.shelf) (g.S.Shelf.meaning c.commit_rvg.new.shelf) c.release.ensures.narrows.acts.faults c.commit_rvg.ensures.narrows.acts.faults c.args.core.now.inner.config.disks c.release.new.core.inner.config.disks c.commit_rvg.new.core.config.disks c.release.ensures.failing c.commit_rvg.ensures.failing
+pub returns-clause-refused : goal.returns-clause-refused
+returns-clause-refused g c = λ why is. none_some why (sym is ∙ no_refusal c.args.core.now.inner.config c.args.units.now (let le = c.if-core.false in omega (arith, le)) (sym c.may_name.ensures.is ∙ c.if-not-may_name.false))
 
-pub returns-in-Err-commit_rvg-clause-ends : goal.returns-in-Err-commit_rvg-clause-ends
-returns-in-Err-commit_rvg-clause-ends g c = c.in-Err-commit_rvg.ensures.ends ∙ c.release.ensures.parts.rvg
+pub returns-clause-goes : goal.returns-clause-goes
+returns-clause-goes g c = subst (λ (k : GroupCore). Goes Nothing (inner_meaning (wide k) (g.S.Shelf.meaning c.args.shelf.now)) (inner_meaning (wide c.name_rvg.new.core) (g.S.Shelf.meaning c.name_rvg.new.shelf))) (same_core c.args.core.now c.may_name.new.config c.may_name.ensures.same) c.name_rvg.ensures.goes
+
+pub returns-clause-narrows : goal.returns-clause-narrows
+returns-clause-narrows g c = subst (λ (k : GroupCore). GroupNarrows k c.name_rvg.new.core (g.S.Shelf.meaning c.args.shelf.now) (g.S.Shelf.meaning c.name_rvg.new.shelf)) (same_core c.args.core.now c.may_name.new.config c.may_name.ensures.same) c.name_rvg.ensures.narrows
+
+pub returns-clause-volumes : goal.returns-clause-volumes
+returns-clause-volumes g c = c.name_rvg.ensures.volumes ∙ ap (λ (x : Config). x.volumes) c.may_name.ensures.same
+
+pub returns-clause-site : goal.returns-clause-site
+returns-clause-site g c = c.name_rvg.ensures.site ∙ ap (λ (x : Config). x.site) c.may_name.ensures.same
+
+pub returns-clause-disks : goal.returns-clause-disks
+returns-clause-disks g c = subst (λ (k : GroupCore). MoreFailed (g.S.Shelf.meaning c.args.shelf.now) (g.S.Shelf.meaning c.name_rvg.new.shelf) k.inner.config.disks c.name_rvg.new.core.inner.config.disks) (same_core c.args.core.now c.may_name.new.config c.may_name.ensures.same) c.name_rvg.ensures.disks
+
+pub returns-clause-ends : goal.returns-clause-ends
+returns-clause-ends g c = subst (λ (k : GroupCore). RvgEnds c.args.units.now k.inner.config c.name_rvg.new.core.inner.config (g.S.Shelf.meaning c.name_rvg.new.shelf) c.name_rvg.result) (same_core c.args.core.now c.may_name.new.config c.may_name.ensures.same) c.name_rvg.ensures.ends

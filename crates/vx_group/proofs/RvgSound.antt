@@ -5,10 +5,10 @@ use Rattle.std.specs.List.{list_all}
 use Rattle.std.proofs.lemmas.Bool.{and_parts}
 use Rattle.vx_model.specs.declared.limits.TheConstants.{MOST_SUBDISKS}
 use Rattle.vx_model.specs.declared.units.Units.{Units}
-use Rattle.vx_config.specs.Changes.{with_rvg}
 use Rattle.vx_config.specs.Checks.{are_placed, differ, group_or_none, is_sound, is_volume, pairwise, runs}
 use Rattle.vx_config.specs.Configs.{subdisk_count}
 use Rattle.vx_config.specs.declared.config.Config.{Config}
+use Rattle.vx_group.specs.Rvgs.{with_rvg}
 
 and_rest : (a b : Bool) → a ≡ true → a && b ≡ b
 and_rest true b is = refl
