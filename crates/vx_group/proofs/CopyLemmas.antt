@@ -1,5 +1,5 @@
 -- Blocks that are copied from one plex to all that are ACTIVE, and two such copies in a row.
-use Rattle.std.proofs.Common.{◌≡◌, ◌⊎◌, inl, inr, ⊎_elim, ℕ, ◌+◌, ◌*◌, ◌/◌, ◌<◌, ◌≤◌, Bool, true, false, IsTrue, List, [], length, Result, Ok, Err, OnOk, refl, ap, sym, ◌∙◌, subst, arith}
+use Rattle.std.proofs.Common.{◌≡◌, ◌⊎◌, inl, inr, ⊎_elim, ℕ, ◌+◌, ◌/◌, ◌<◌, ◌≤◌, Bool, true, false, IsTrue, List, [], length, Result, Ok, Err, OnOk, refl, ap, sym, ◌∙◌, subst, arith}
 use Rattle.std.proofs.lemmas.Bool.{cases_lt}
 use Rattle.vx_disk.specs.Counts.{Rose}
 use Rattle.vx_disk.specs.Moves.{Says}
@@ -194,7 +194,7 @@ module _ (core d : Inner) (v source block : ℕ) (bytes : List ℕ) (m0 m1 m2 m3
         (loose_Acts (Or Nothing W) (Sees core.config (Member core.good m0) m0) (Sees core.config NoMember m0) m0 m3 run_acts (λ i sees. sees_none core.config (Member core.good m0) m0 i sees)) as_copy;
   }
 
-  module _ (settled : d.unsettled ≡ false) (source_on : IsTrue (active d.config v source)) (up : IsTrue m3.down → ⊥)
+  module _ (trust : core.committed ≡ true → d.committed ≡ true) (settled : d.unsettled ≡ false) (source_on : IsTrue (active d.config v source)) (up : IsTrue m3.down → ⊥)
       (wrote : (p : ℕ) → IsTrue (active d.config v p) → PlexWrote core.config v p block n block n bytes m1 m2) where
     before_commit : (w p k : ℕ) (x : List ℕ) → Inside core.config w k → IsTrue (active d.config w p) → m3.reads (place core.config w p k).0 (place core.config w p k).1 x → m2.reads (place core.config w p k).0 (place core.config w p k).1 x
     before_commit w p k x in_it is_on is = elim (narrows.acts.reads (place core.config w p k).0 (place core.config w p k).1 x ((apart_of_core core m0 stands).above w p k in_it (narrows.on w p is_on)) is) [
@@ -228,6 +228,7 @@ module _ (core d : Inner) (v source block : ℕ) (bytes : List ℕ) (m0 m1 m2 m3
     run_Copied = record {
       moved = run_Moved;
       settled = settled;
+      trust = trust;
       source_on = source_on;
       up = up;
       value = λ k. piece block bytes k;
@@ -253,10 +254,10 @@ module _ (core : Inner) (v source block len : ℕ) (bytes : List ℕ) (m0 m1 m2 
     put_Moved = subst (λ (n : ℕ). CopyMoved core v source (InRun block (n / 512)) d m0 m3) same
         (run_Moved core d v source block bytes m0 m1 m2 m3 law0 law1 law2 law3 stands fits_len read read_len write narrows stands3 spent others_on)
 
-    pub put_Copied : d.unsettled ≡ false → IsTrue (active d.config v source) → (IsTrue m3.down → ⊥)
+    pub put_Copied : (core.committed ≡ true → d.committed ≡ true) → d.unsettled ≡ false → IsTrue (active d.config v source) → (IsTrue m3.down → ⊥)
         → ((p : ℕ) → IsTrue (active d.config v p) → PlexWrote core.config v p block (length bytes / 512) block (length bytes / 512) bytes m1 m2) → RunCopied core v source (InRun block (len / 512)) d m0 m3
-    put_Copied settled source_on up wrote = subst (λ (n : ℕ). RunCopied core v source (InRun block (n / 512)) d m0 m3) same
-        (run_Copied core d v source block bytes m0 m1 m2 m3 law0 law1 law2 law3 stands fits_len read read_len write narrows stands3 spent others_on settled source_on up wrote)
+    put_Copied trust settled source_on up wrote = subst (λ (n : ℕ). RunCopied core v source (InRun block (n / 512)) d m0 m3) same
+        (run_Copied core d v source block bytes m0 m1 m2 m3 law0 law1 law2 law3 stands fits_len read read_len write narrows stands3 spent others_on trust settled source_on up wrote)
 
 pub ok_both : {T E : Type 0} (P Q : Type 0) (r : Result T E) → OnOk r P → OnOk r Q → OnOk r (P × Q)
 ok_both P Q (Ok x) p q = (p, q)
@@ -299,6 +300,7 @@ none_Copied core v source f m stands settled is_on up = record {
     acts = wide_Acts Nothing (FromSource core.config v source (InPickedBelow f 0) m) (Sees core.config NoMember m) m m (same_Acts (Sees core.config NoMember m) m) (λ u b x none. absurd none);
   };
   settled = settled;
+  trust = λ is. is;
   source_on = is_on;
   up = up;
   value = λ k. [];
@@ -326,6 +328,7 @@ pub copied_as : (core : Inner) (v source : ℕ) (P Q : ℕ → Type 0) (d : Inne
 copied_as core v source P Q d m m' back into run = record {
   moved = moved_wider core v source P Q d m m' into run.moved;
   settled = run.settled;
+  trust = run.trust;
   source_on = run.source_on;
   up = run.up;
   value = run.value;
@@ -418,6 +421,7 @@ module _ (core d e : Inner) (v source : ℕ) (P : ℕ → Type 0) (m0 m1 m2 : Me
     both_Copied = record {
       moved = both_Moved core d e v source P Q R first second m0 m1 m2 one.moved source_origin two.moved;
       settled = two.settled;
+      trust = λ is. two.trust (one.trust is);
       source_on = two.source_on;
       up = two.up;
       value = value;
@@ -447,7 +451,7 @@ module _ (core d e : Inner) (v source : ℕ) (f : ℕ → Bool) (m0 m1 m2 : Mean
   pub flush_Moved : CopyMoved core v source (InPicked f) e m0 m2
   flush_Moved = both_Moved core d e v source (InPicked f) (InPicked f) (InPicked f) (λ k is. is) (λ k is. is) m0 m1 m2 one.moved (source_origin core d e v source (InPicked f) m0 m1 m2 one (has_picked f)) narrows_Moved
 
-  module _ (settled : e.unsettled ≡ false) (up : IsTrue m2.down → ⊥) (flushed : AllFlushed e.config v m1 m2) where
+  module _ (settled : e.unsettled ≡ false) (trust : d.committed ≡ true → e.committed ≡ true) (up : IsTrue m2.down → ⊥) (flushed : AllFlushed e.config v m1 m2) where
     place_e : (w p k : ℕ) → place e.config w p k ≡ place core.config w p k
     place_e w p k = narrows.shape.place w p k ∙ one.moved.shape.place w p k
 
@@ -463,6 +467,7 @@ module _ (core d e : Inner) (v source : ℕ) (f : ℕ → Bool) (m0 m1 m2 : Mean
     flush_Mirrored above = record {
       moved = flush_Moved;
       settled = settled;
+      trust = λ is. trust (one.trust is);
       up = up;
       value = one.value;
       origin = one.origin;

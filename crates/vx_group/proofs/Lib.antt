@@ -33,6 +33,7 @@ pub mod ThroughLemmas
 pub mod BehindLemmas
 pub mod ImportLemmas
 pub mod CrashLemmas
+pub mod AgainLemmas
 pub mod FallenLemmas
 pub mod OpeningLemmas
 pub mod AttachLemmas

@@ -125,6 +125,7 @@ none_mended core flags sources logs m stands settled up goes = record {
   spent = spent_none core.config m m;
   only = any_acts Nothing (OnMarked core.config flags logs) AnyImage m m (same_Acts AnyImage m) (λ u b x none. absurd none);
   settled = settled;
+  trust = λ is. is;
   up = up;
   mended = λ v lt mark. absurd (omega (arith, lt));
   rest = λ w p k x le in_it on is. is;
@@ -164,6 +165,7 @@ module _ (core d : Inner) (flags : List Bool) (sources : List ℕ) (logs : List 
     spent = was.spent;
     only = was.only;
     settled = was.settled;
+    trust = was.trust;
     up = was.up;
     mended = λ v lt mark. elim (cases_lt v n) [
       | inl less ↦ was.mended v less mark
@@ -269,6 +271,7 @@ module _ (core d : Inner) (flags : List Bool) (sources : List ℕ) (logs : List 
         spent = spent_both core.config d.config e.config old m1 m2 was.on.disk_faults moved.acts.disk_faults was.on.unit_faults moved.acts.faults was.spent moved.spent;
         only = only;
         settled = mirrored.settled;
+        trust = λ is. mirrored.trust (was.trust is);
         up = mirrored.up;
         mended = λ v lt mark. elim (cases_eq v n) [
           | inl at ↦ subst (λ (w : ℕ). IsMended core.config w (source_at sources w) e old m2) (sym at) mended_here

@@ -1,7 +1,7 @@
 -- What a map knows of a plex stays, and a plex that took its regions by it.
-use Rattle.std.proofs.Common.{◌≡◌, ◌⊎◌, inl, inr, ⊎_elim, ℕ, zero, suc, ◌+◌, ◌<◌, ◌≤◌, Bool, true, false, IsTrue, Option, List, length, Result, Ok, Err, refl, ap, sym, ◌∙◌, subst, arith}
+use Rattle.std.proofs.Common.{◌≡◌, inl, inr, ℕ, zero, suc, ◌<◌, ◌≤◌, Bool, true, false, IsTrue, Option, List, length, Result, Ok, Err, refl, ap, sym, ◌∙◌, subst, arith}
 use Rattle.std.specs.Prelude.{Some, None, IfOk}
-use Rattle.vx_disk.specs.Shelf.{Goes, Meaning, Nothing, Or, Values}
+use Rattle.vx_disk.specs.Shelf.{Goes, Meaning}
 use Rattle.vx_disk.specs.declared.shelf.ShelfError.{ShelfError}
 use Rattle.vx_disk.specs.declared.shelf.ShelfError.TheVariants.{Fault, Down}
 use Rattle.vx_disk.proofs.Causing.{Rose_after}
@@ -19,7 +19,7 @@ use Rattle.vx_resync.specs.Gathers.{CopyRefused, MissesOnly}
 use Rattle.vx_resync.specs.Picks.{FmrReaches, InPicked, missed_or, picked_below}
 use Rattle.vx_resync.proofs.GatherLemmas.{misses_later}
 use Rattle.vx_volume.specs.Copies.{CopyCause}
-use Rattle.vx_volume.specs.Plexes.{Apart, Inside, active}
+use Rattle.vx_volume.specs.Plexes.{Inside, active}
 use Rattle.vx_volume.proofs.PlaceLemmas.{apart_of}
 use Rattle.vx_kept.specs.Groups.{PlacesApart}
 use Rattle.vx_kept.specs.Keeping.{SameShape}

@@ -7,7 +7,7 @@ use Rattle.vx_config.specs.Checks.{blocks_of}
 use Rattle.vx_model.specs.Sizes.{regions_of}
 use Rattle.vx_resync.specs.Picks.{InPicked, InPickedBelow, LiesInRegion}
 use Rattle.vx_resync.proofs.PickLemmas.{in_regions, of_run, run_of}
-use Rattle.vx_volume.specs.Plexes.{InRun, Inside}
+use Rattle.vx_volume.specs.Plexes.{InRun}
 use Rattle.vx_group.specs.Copying.{CopyMoved, RunCopied}
 use Rattle.vx_group.specs.Stands.{inner_meaning}
 use Rattle.vx_group.specs.declared.inner.Inner.{Inner}

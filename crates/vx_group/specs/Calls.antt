@@ -20,6 +20,7 @@ use Rattle.vx_group.specs.Deports.{DeportedBy}
 use Rattle.vx_group.specs.Holding.{GroupStands, config_by, wide}
 use Rattle.vx_group.specs.Imports.{ImportStops, Resumed}
 use Rattle.vx_group.specs.Quiesces.{NoVolume, QuiescesBy}
+use Rattle.vx_group.specs.Resumes.{CanImportBehind}
 use Rattle.vx_group.specs.Stands.{volume_faults, inner_meaning}
 use Rattle.vx_group.specs.declared.group_core.GroupCore.{GroupCore}
 use Rattle.vx_group.specs.declared.group_core.Held.{Held}
@@ -86,3 +87,8 @@ GroupCreated site old meaning core shelf (Err (s, OutOfMemory)) = Unit {0}
 abbrev pub GroupImported : {S G : Type 0} → Meaning → (S → Meaning) → (G → GroupCore) → (G → S) → Result G (S × Stop) → Type 0
 GroupImported old meaning core shelf (Ok g) = Resumed old (core g).inner (meaning (shelf g)) × ((core g).held ≡ None)
 GroupImported old meaning core shelf (Err (s, stop)) = ImportStops old (meaning s) stop
+
+-- what a refused import hands back may be imported behind any crash
+abbrev pub ImportsAgain : {S G : Type 0} → (S → Meaning) → Result G (S × Stop) → Type 0
+ImportsAgain meaning (Ok g) = Unit {0}
+ImportsAgain meaning (Err e) = CanImportBehind (meaning e.0)

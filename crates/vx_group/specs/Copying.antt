@@ -1,5 +1,5 @@
 -- A volume of which regions of one plex are copied to all that are ACTIVE.
-use Rattle.std.specs.Prelude.{◌≡◌, ◌⊎◌, ℕ, Bool, false, IsTrue, List}
+use Rattle.std.specs.Prelude.{◌≡◌, ◌⊎◌, ℕ, Bool, true, false, IsTrue, List}
 use Rattle.vx_disk.specs.Counts.{Rose}
 use Rattle.vx_disk.specs.Shelf.{Meaning}
 use Rattle.vx_config.specs.declared.config.Config.{Config}
@@ -41,10 +41,12 @@ pub record CopyMoved (core : Inner) (v source : ℕ) (P : ℕ → Type 0) (d : I
   pub spent : SpentBy core.config d.config old new
   pub acts : Acts (FromSource core.config v source P old) (Sees core.config NoMember old) old new
 
--- Of these blocks each plex that is ACTIVE reads one value, which the source read; every other block reads as it did.
+-- Of these blocks each plex that is ACTIVE reads one value, which the source read; every other block reads as it did. A newest configuration that
+-- was committed still is.
 pub record RunCopied (core : Inner) (v source : ℕ) (P : ℕ → Type 0) (d : Inner) (old new : Meaning) : Type 0 where
   pub moved : CopyMoved core v source P d old new
   pub settled : d.unsettled ≡ false
+  pub trust : core.committed ≡ true → d.committed ≡ true
   pub source_on : IsTrue (active d.config v source)
   pub up : IsTrue new.down → ⊥
   pub value : ℕ → List ℕ
@@ -54,10 +56,11 @@ pub record RunCopied (core : Inner) (v source : ℕ) (P : ℕ → Type 0) (d : I
       → old.reads (place core.config w p k).0 (place core.config w p k).1 x
 
 -- A crash leaves of each block of the picked regions of the volume one value on every plex that is ACTIVE, which the source read, and of each
--- other block what the plex read. Other volumes read as they did.
+-- other block what the plex read. Other volumes read as they did. A newest configuration that was committed still is.
 pub record Mirrored (core : Inner) (v source : ℕ) (picked : ℕ → Bool) (d : Inner) (old new : Meaning) : Type 0 where
   pub moved : CopyMoved core v source (InPicked picked) d old new
   pub settled : d.unsettled ≡ false
+  pub trust : core.committed ≡ true → d.committed ≡ true
   pub up : IsTrue new.down → ⊥
   pub value : ℕ → List ℕ
   pub origin : (k : ℕ) → InPicked picked k → Inside core.config v k → IsTrue old.tells → old.reads (place core.config v source k).0 (place core.config v source k).1 (value k)

@@ -58,12 +58,14 @@ pub record GroupGoesOn (core d : Inner) (old new : Meaning) : Type 0 where
   pub unit_faults : (u : ℕ) → old.faults u ≤ new.faults u
   pub disk_faults : (u : ℕ) → old.disk_faults u ≤ new.disk_faults u
 
--- and of the volumes below n those that are marked were made alike; the others read as they did, and have the plexes that they had
+-- And of the volumes below n those that are marked were made alike; the others read as they did, and have the plexes that they had. A newest
+-- configuration that was committed still is.
 pub record Mending (core : Inner) (flags : List Bool) (sources : List ℕ) (logs : List Logs) (n : ℕ) (d : Inner) (old new : Meaning) : Type 0 where
   pub on : GroupGoesOn core d old new
   pub spent : SpentBy core.config d.config old new
   pub only : Acts (OnMarked core.config flags logs) AnyImage old new
   pub settled : d.unsettled ≡ false
+  pub trust : core.committed ≡ true → d.committed ≡ true
   pub up : IsTrue new.down → ⊥
   pub mended : (v : ℕ) → v < n → is_unsure flags v ≡ true → IsMended core.config v (source_at sources v) d old new
   pub rest : (w p k : ℕ) (x : List ℕ) → n ≤ w → Inside core.config w k → IsTrue (active d.config w p) → new.reads (place core.config w p k).0 (place core.config w p k).1 x

@@ -1,5 +1,5 @@
 // A volume of which regions of one plex are copied to all that are ACTIVE.
-ghost use Rattle.std.specs.Prelude.{◌≡◌, ◌*◌, ◌/◌, ◌<◌, length, false, IsTrue, OnOk};
+ghost use Rattle.std.specs.Prelude.{◌≡◌, ◌*◌, ◌/◌, ◌<◌, length, true, false, IfErr, IsTrue, OnOk};
 ghost use Rattle.std.specs.Option.{option_copied};
 ghost use Rattle.vx_config.specs.Checks.{blocks_of as blocks_of_is};
 ghost use Rattle.vx_disk.specs.Shelf.{Fits};
@@ -41,6 +41,7 @@ fn copy_run<S: Shelf>(
     requires up { IsTrue (S.meaning shelf.old).down → ⊥ }
     ensures moved { CopyMoved core.old vol source (InRun block (length bytes.old / 512)) core.new (S.meaning shelf.old) (S.meaning shelf.new) }
     ensures copied { OnOk result (RunCopied core.old vol source (InRun block (length bytes.old / 512)) core.new (S.meaning shelf.old) (S.meaning shelf.new)) }
+    ensures agreed { IfErr result (λ e. core.old.committed ≡ true → core.new.agreed ≡ true) }
     ensures cause { Blames (S.meaning shelf.old) (S.meaning shelf.new) result }
 {
     match read_plex(&core.config, vol, source, shelf, block, bytes) {
@@ -78,6 +79,7 @@ fn copy_region<S: Shelf>(
     requires up { IsTrue (S.meaning shelf.old).down → ⊥ }
     ensures moved { CopyMoved core.old vol source (LiesInRegion region) core.new (S.meaning shelf.old) (S.meaning shelf.new) }
     ensures copied { OnOk result (RunCopied core.old vol source (LiesInRegion region) core.new (S.meaning shelf.old) (S.meaning shelf.new)) }
+    ensures agreed { IfErr result (λ e. core.old.committed ≡ true → core.new.agreed ≡ true) }
     ensures cause { Blames (S.meaning shelf.old) (S.meaning shelf.new) result }
 {
     let total = blocks_of(&core.config, vol);
@@ -103,6 +105,7 @@ fn copy_regions<S: Shelf>(
     requires reach { DrlReaches (regions_of (blocks_of_is core.old.config.volumes vol)) (option_copied drl) }
     ensures moved { CopyMoved core.old vol source (InPicked (marked_or (option_copied drl.entry))) core.new (S.meaning shelf.old) (S.meaning shelf.new) }
     ensures copied { OnOk result (RunCopied core.old vol source (InPicked (marked_or (option_copied drl.entry))) core.new (S.meaning shelf.old) (S.meaning shelf.new)) }
+    ensures agreed { IfErr result (λ e. core.old.committed ≡ true → core.new.agreed ≡ true) }
     ensures cause { Blames (S.meaning shelf.old) (S.meaning shelf.new) result }
 {
     let regions = blocks_of(&core.config, vol).div_ceil(REGION);
@@ -138,6 +141,7 @@ pub fn copy_volume<S: Shelf>(
     requires reach { DrlReaches (regions_of (blocks_of_is core.old.config.volumes vol)) (option_copied drl) }
     ensures moved { CopyMoved core.old vol source (InPicked (marked_or (option_copied drl.entry))) core.new (S.meaning shelf.old) (S.meaning shelf.new) }
     ensures mirrored { OnOk result (Mirrored core.old vol source (marked_or (option_copied drl.entry)) core.new (S.meaning shelf.old) (S.meaning shelf.new)) }
+    ensures agreed { IfErr result (λ e. core.old.committed ≡ true → core.new.agreed ≡ true) }
     ensures cause { Blames (S.meaning shelf.old) (S.meaning shelf.new) result }
 {
     match copy_regions(shelf, core, vol, source, drl) {

@@ -1,5 +1,5 @@
 // What an import does behind the configuration that it took up: headers, volumes, the last commit.
-ghost use Rattle.std.specs.Prelude.{◌≡◌, ◌<◌, ℕ, length, false, IsTrue};
+ghost use Rattle.std.specs.Prelude.{◌≡◌, ◌<◌, ℕ, length, true, false, IfErr, IsTrue, OnOk};
 ghost use Rattle.vx_config.specs.Table.{greatest};
 ghost use Rattle.vx_disk.specs.Shelf.{Nothing};
 ghost use Rattle.vx_group.specs.Attaches.{AnyImage};
@@ -28,6 +28,8 @@ fn commit_whole<S: Shelf>(shelf: &mut S, core: &mut Inner) -> Result<(), No>
     requires settled { core.old.unsettled ≡ false }
     ensures commits { CommitsAs core.old core.new (S.meaning shelf.old) (S.meaning shelf.new) result }
     ensures acts { Acts Nothing AnyImage (S.meaning shelf.old) (S.meaning shelf.new) }
+    ensures trust { OnOk result (core.old.committed ≡ true → core.new.committed ≡ true) }
+    ensures agreed { IfErr result (λ e. core.old.committed ≡ true → core.new.agreed ≡ true) }
 {
     match commit_stale(shelf, &mut core.config, 0, 0, core.good, &mut core.room) {
         Ok(_) => {
@@ -64,6 +66,8 @@ pub fn renew<S: Shelf>(
     requires up { IsTrue (S.meaning shelf.old).down → ⊥ }
     ensures only { Acts (OnMarked core.old.config stopped.now logs.now) AnyImage (S.meaning shelf.old) (S.meaning shelf.new) }
     ensures renews { Renews stopped.now sources.now core.old core.new (S.meaning shelf.old) (S.meaning shelf.new) result }
+    ensures trust { OnOk result (core.old.committed ≡ true → core.new.committed ≡ true) }
+    ensures agreed { IfErr result (λ e. core.old.committed ≡ true → core.new.agreed ≡ true) }
 {
     match settle_headers(shelf, core) {
         Ok(()) => {}

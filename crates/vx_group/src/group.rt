@@ -17,7 +17,7 @@ ghost use Rattle.vx_model.specs.declared.errors.Stop.TheVariants.{No as Refused}
 ghost use Rattle.vx_model.specs.declared.limits.TheConstants.{MOST_DISKS};
 ghost use Rattle.vx_model.specs.declared.no.No.TheVariants.{Size};
 ghost use Rattle.vx_group.specs.GivesUp.{GivesUp};
-ghost use Rattle.vx_group.specs.Calls.{GroupAttaches, GroupCreated, GroupDeported, GroupImported, GroupNarrows, GroupStays, IsFull};
+ghost use Rattle.vx_group.specs.Calls.{GroupAttaches, GroupCreated, GroupDeported, GroupImported, GroupNarrows, GroupStays, ImportsAgain, IsFull};
 ghost use Rattle.vx_group.specs.Holding.{GroupStands, wide};
 ghost use Rattle.vx_kept.specs.Trusts.{HasFailed};
 ghost use Rattle.vx_group.specs.Laws.{group_lawful};
@@ -78,10 +78,12 @@ impl<S: Shelf> Group<S> {
     ///
     /// Answers what an import of the configuration answers (25, 9, 22, 8), 9 where a disk has fewer than 1,024 blocks, 19 where fewer
     /// than 65,536 serials are left, 7 only where the count of the disk that it names rose, and 6 only where the shelf is down. Where none
-    /// is imported the shelf is handed back, and each block of a volume is as a crash might have left it. It takes memory.
+    /// is imported the shelf is handed back, and each block of a volume is as a crash might have left it: behind a crash it may be
+    /// imported again. It takes memory.
     pub fn import(alloc: Global, shelf: S) -> Result<Group<S>, (S, Stop)>
         requires can { CanImport (S.meaning shelf) }
         ensures imported { GroupImported (S.meaning shelf) (λ s. S.meaning s) (λ g. g.core) (λ g. g.shelf) result }
+        ensures again { ImportsAgain (λ s. S.meaning s) result }
     {
         let mut shelf = shelf;
         match import_in(alloc, &mut shelf) {

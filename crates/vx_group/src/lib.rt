@@ -38,7 +38,7 @@ mod zeroing;
 
 pub use att::att_in;
 pub use counting::give_up;
-pub use crashing::{crash_in, revive};
+pub use crashing::{crash_in, fall, revive};
 pub use create::start;
 pub use deporting::deport_in;
 pub use det::det_in;

@@ -1,5 +1,5 @@
 // The volumes that stopped uncleanly, whose plexes are made alike.
-ghost use Rattle.std.specs.Prelude.{◌≡◌, ◌<◌, ◌≤◌, ℕ, length, true, false, IsTrue, OnOk};
+ghost use Rattle.std.specs.Prelude.{◌≡◌, ◌<◌, ◌≤◌, ℕ, length, true, false, IfErr, IsTrue, OnOk};
 ghost use Rattle.vx_group.specs.Attaches.{AnyImage};
 ghost use Rattle.vx_group.specs.Blames.{Blames};
 ghost use Rattle.vx_kept.specs.Keeping.{Acts};
@@ -44,6 +44,7 @@ pub fn mend_volumes<S: Shelf>(
     requires up { IsTrue (S.meaning shelf.old).down → ⊥ }
     ensures mended { Mended stopped.now sources.now logs.now core.old core.new (S.meaning shelf.old) (S.meaning shelf.new) result }
     ensures only { Acts (OnMarked core.old.config stopped.now logs.now) AnyImage (S.meaning shelf.old) (S.meaning shelf.new) }
+    ensures agreed { IfErr result (λ e. core.old.committed ≡ true → core.new.agreed ≡ true) }
     ensures cause { Blames (S.meaning shelf.old) (S.meaning shelf.new) result }
 {
     for vol in 0..core.config.volumes.as_slice().len() {

@@ -1,5 +1,5 @@
 -- `copy_from`: clauses stands, attaches, opens, serial, cause, same, disks, count and knows; what `attach_from` asks.
-use Rattle.std.proofs.Common.{◌≡◌, true, false, IsTrue, Err, length, ap, sym, ◌∙◌, subst, arith, ℕ}
+use Rattle.std.proofs.Common.{◌≡◌, true, false, Err, length, ap, sym, ◌∙◌, subst, arith, ℕ}
 use Rattle.std.specs.Option.{option_copied}
 use Rattle.vx_model.specs.declared.site.PlexState.TheVariants.{Active}
 use Rattle.vx_config.specs.Checks.{is_sound}

@@ -1,7 +1,6 @@
 -- `copy_region`: clauses moved and copied; what `copy_run` asks.
-use Rattle.std.proofs.Common.{◌*◌, ℕ, arith}
+use Rattle.std.proofs.Common.{◌*◌, arith}
 use Rattle.std.proofs.lemmas.List.{length-take}
-use Rattle.vx_resync.specs.Picks.{LiesInRegion}
 use Rattle.vx_resync.proofs.CauseLemmas.{ok_by}
 use Rattle.vx_group.proofs.RegionLemmas.{run_fits, run_moved, run_region}
 use Rattle.vx_group.proofs.copying.copy_region.Goals as goal

@@ -1,5 +1,5 @@
--- `copy_regions`: clauses moved, cause and copied; what `is_picked` and `copy_region` ask; what stays true in its loop over `region`.
-use Rattle.std.proofs.Common.{◌≡◌, ◌+◌, ℕ, Err, sym, ◌∙◌, subst, arith}
+-- `copy_regions`: clauses moved, cause, copied and agreed; what `is_picked` and `copy_region` ask; what stays true in its loop over `region`.
+use Rattle.std.proofs.Common.{◌+◌, Err, sym, ◌∙◌, subst, arith}
 use Rattle.std.specs.Option.{option_copied}
 use Rattle.vx_config.specs.Checks.{blocks_of}
 use Rattle.vx_model.specs.Sizes.{regions_of}
@@ -53,3 +53,6 @@ returns-clause-copied g c = all_Copied c.args.core.now c.args.vol c.args.source 
 pub returns-clause-moved : goal.returns-clause-moved
 returns-clause-moved g c =
     moved_wider c.args.core.now c.args.vol c.args.source (InPickedBelow (marked_or (option_copied c.args.drl)) c.loop-region.region) (InPicked (marked_or (option_copied c.args.drl))) c.loop-region.core (g.S.Shelf.meaning c.args.shelf.now) (g.S.Shelf.meaning c.loop-region.shelf) (λ k is. is.picked) c.loop-region.invariant.0.moved
+
+pub returns-in-Err-clause-agreed : goal.returns-in-Err-clause-agreed
+returns-in-Err-clause-agreed g c = λ is. c.in-Err.ensures.agreed (c.loop-region.invariant.0.trust is)

@@ -1,4 +1,4 @@
--- `commit_whole`: clauses commits and acts; what `commit_stale` asks.
+-- `commit_whole`: clauses commits, acts, trust and agreed; what `commit_stale` asks.
 use Rattle.std.proofs.Common.{◌≡◌, inl, true, false, refl, sym, ◌∙◌}
 use Rattle.vx_disk.specs.Shelf.{Nothing}
 use Rattle.vx_kept.specs.Commits.{Member}
@@ -8,7 +8,7 @@ use Rattle.vx_group.proofs.CallLemmas.{not_down}
 use Rattle.vx_group.proofs.DetachLemmas.{zero_bit}
 use Rattle.vx_group.proofs.FinishLemmas.{commit_left, commit_made, commit_on}
 use Rattle.vx_group.proofs.Standing.{kept_of, some_active, tidy_of}
-use Rattle.vx_group.proofs.TrustLemmas.{committed_or}
+use Rattle.vx_group.proofs.TrustLemmas.{committed_or, stays_committed}
 use Rattle.vx_group.proofs.finishing.commit_whole.Goals as goal
 
 pub commit_stale-requires-clause-left : goal.commit_stale-requires-clause-left
@@ -50,3 +50,9 @@ returns-else-is_down-clause-acts g c = any_acts Nothing Nothing (Sees c.args.cor
 
 pub returns-in-Err-clause-acts : goal.returns-in-Err-clause-acts
 returns-in-Err-clause-acts g c = any_acts Nothing Nothing (Sees c.args.core.now.config (Member c.args.core.now.good (g.S.Shelf.meaning c.args.shelf.now)) (g.S.Shelf.meaning c.args.shelf.now)) (g.S.Shelf.meaning c.args.shelf.now) (g.S.Shelf.meaning c.commit_stale.new.shelf) c.commit_stale.ensures.acts (λ u b x none. none)
+
+pub returns-else-is_down-clause-trust : goal.returns-else-is_down-clause-trust
+returns-else-is_down-clause-trust g c = stays_committed c.args.core.now.committed c.is_committed-core.result (λ off. (c.is_committed-core.ensures.none off).0)
+
+pub returns-then-is_down-clause-agreed : goal.returns-then-is_down-clause-agreed
+returns-then-is_down-clause-agreed g c = stays_committed c.args.core.now.committed c.is_committed-core.result (λ off. (c.is_committed-core.ensures.none off).0)

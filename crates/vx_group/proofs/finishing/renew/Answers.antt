@@ -1,4 +1,4 @@
--- `renew`: clauses renews and only; what `mend_volumes` asks.
+-- `renew`: clauses renews, only, trust and agreed; what `mend_volumes` asks.
 use Rattle.std.proofs.Common.{◌∙◌, inl, sym, subst, ap, length, arith}
 use Rattle.vx_disk.specs.Causes.{DeviceCause}
 use Rattle.vx_model.specs.declared.no.No.{No}
@@ -13,6 +13,7 @@ use Rattle.vx_group.proofs.FinishLemmas.{blamed_cause, narrows_on, renew_all, st
 use Rattle.vx_group.proofs.MendLemmas.{marks_later, none_marked, then_marked}
 use Rattle.vx_group.proofs.MissLemmas.{narrows_reads}
 use Rattle.vx_group.proofs.Standing.{apart_of_core}
+use Rattle.vx_group.proofs.TrustLemmas.{err_from, ok_from}
 use Rattle.vx_group.proofs.finishing.renew.Goals as goal
 
 pub mend_volumes-requires-clause-on : goal.mend_volumes-requires-clause-on
@@ -58,3 +59,15 @@ returns-clause-only g c =
     then_marked c.args.core.now.config c.args.core.now.config c.args.stopped.now c.args.logs.now (same_shape c.args.core.now.config) (λ w p is. is) (g.S.Shelf.meaning c.args.shelf.now) (g.S.Shelf.meaning c.mend_volumes.new.shelf) (g.S.Shelf.meaning c.commit_whole.new.shelf)
     (then_marked c.args.core.now.config c.settle_headers.new.core.config c.args.stopped.now c.args.logs.now c.settle_headers.ensures.narrows.shape c.settle_headers.ensures.narrows.on (g.S.Shelf.meaning c.args.shelf.now) (g.S.Shelf.meaning c.settle_headers.new.shelf) (g.S.Shelf.meaning c.mend_volumes.new.shelf) (none_marked c.args.core.now.config c.args.stopped.now c.args.logs.now (Sees c.args.core.now.config (Member c.args.core.now.good (g.S.Shelf.meaning c.args.shelf.now)) (g.S.Shelf.meaning c.args.shelf.now)) (g.S.Shelf.meaning c.args.shelf.now) (g.S.Shelf.meaning c.settle_headers.new.shelf) c.settle_headers.ensures.narrows.acts) c.mend_volumes.ensures.only)
     (none_marked c.args.core.now.config c.args.stopped.now c.args.logs.now AnyImage (g.S.Shelf.meaning c.mend_volumes.new.shelf) (g.S.Shelf.meaning c.commit_whole.new.shelf) c.commit_whole.ensures.acts)
+
+pub returns-in-Err-clause-agreed : goal.returns-in-Err-clause-agreed
+returns-in-Err-clause-agreed g c = λ is. c.settle_headers.ensures.agreed ∙ c.requires.stands.trusts.both is
+
+pub returns-in-Err-mend_volumes-clause-agreed : goal.returns-in-Err-mend_volumes-clause-agreed
+returns-in-Err-mend_volumes-clause-agreed g c = λ is. c.in-Err-mend_volumes.ensures.agreed (c.settle_headers.ensures.trust ∙ is)
+
+pub returns-clause-trust : goal.returns-clause-trust
+returns-clause-trust g c = ok_from c.commit_whole.result (λ keeps is. keeps (c.in-Ok-mend_volumes.ensures.mended.trust (c.settle_headers.ensures.trust ∙ is))) c.commit_whole.ensures.trust
+
+pub returns-clause-agreed : goal.returns-clause-agreed
+returns-clause-agreed g c = err_from c.commit_whole.result (λ keeps is. keeps (c.in-Ok-mend_volumes.ensures.mended.trust (c.settle_headers.ensures.trust ∙ is))) c.commit_whole.ensures.agreed

@@ -1,4 +1,4 @@
--- `mend_volumes`: clauses mended and only; what `copy_volume` asks; what stays true in its loop over `vol`.
+-- `mend_volumes`: clauses mended, only and agreed; what `copy_volume` asks; what stays true in its loop over `vol`.
 use Rattle.std.proofs.Common.{◌+◌, ◌<◌, ℕ, sym, subst, ap, length, arith}
 use Rattle.std.specs.Prelude.{Option}
 use Rattle.vx_config.specs.Checks.{blocks_of}
@@ -55,3 +55,6 @@ returns-in-Err-clause-only g c =
 
 pub returns-clause-only : goal.returns-clause-only
 returns-clause-only g c = c.loop-vol.invariant.only
+
+pub returns-in-Err-clause-agreed : goal.returns-in-Err-clause-agreed
+returns-in-Err-clause-agreed g c = λ is. c.in-Err.ensures.agreed (c.loop-vol.invariant.trust is)
