@@ -60,12 +60,12 @@ module _ (old m1 : Meaning) (plan : Plan) (taken : IsTaken old m1 plan) (law : L
 
   -- logs that were not read
   pub unread : Lawful new → Goes Nothing m1 new → (stop : Stop) → LoadIsRefused new stop → ImportStops old new stop
-  unread law2 reads (Refused refusal.Down) down = import_late old m1 plan taken new law law1 goes large can plan.core refusal.Down (reads_on law2 reads, inl down)
+  unread law2 reads (Refused refusal.Down) down = import_late old m1 plan taken new law law1 goes large can plan.core refusal.Down (reads_on law2 reads, inl down) (λ committed. taken.made.agreed)
   unread law2 reads (Refused other) none = absurd none
   unread law2 reads OutOfMemory is = inl (still old m1 new goes reads, tt)
 
   module _ (d : Inner) (logs : List Logs) (m2 : Meaning) (read : LogsRead opened logs old m2) (counts : (disk : ℕ) → m2.disk_faults disk ≤ new.disk_faults disk) (are : AreDirtyLogs (length opened.volumes) logs) (tells : (v : ℕ) → DisksTell v old)
-      (law2 : Lawful new) (up1 : IsTrue m1.down → ⊥) (fin : Renewed plan.core plan.stopped plan.sources d m1 new) (only : Acts (OnMarked opened plan.stopped logs) AnyImage m1 new) where
+      (law2 : Lawful new) (up1 : IsTrue m1.down → ⊥) (fin : Renewed plan.core plan.stopped plan.sources d m1 new) (keeps : plan.core.committed ≡ true → d.committed ≡ true) (only : Acts (OnMarked opened plan.stopped logs) AnyImage m1 new) where
     in_back : (v : ℕ) → v < length opened.volumes → v < length (returned taken.up.readable taken.config).volumes
     in_back v lt = let same : length opened.volumes ≡ length (returned taken.up.readable taken.config).volumes = taken.up.opens.alike.shape.volumes in omega (arith, same, lt)
 
@@ -87,7 +87,7 @@ module _ (old m1 : Meaning) (plan : Plan) (taken : IsTaken old m1 plan) (law : L
 
     pub resumed_by : ResumedBy old (record { core = d; logs = logs; stopped = plan.stopped }) new
     resumed_by = record {
-      resumed = import_ok old m1 plan taken new law law1 goes large can d law2 up1 fin;
+      resumed = import_ok old m1 plan taken new law law1 goes large can d law2 up1 fin keeps;
       config = taken.config;
       opened = opened;
       taken = taken_new;
