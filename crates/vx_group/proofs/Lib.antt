@@ -13,6 +13,8 @@ pub mod CreateLemmas
 pub mod DetLemmas
 pub mod LoseLemmas
 pub mod CopyLemmas
+pub mod RegionLemmas
+pub mod MissLemmas
 pub mod QuiesceLemmas
 pub mod DeportLemmas
 pub mod FoundLemmas
@@ -34,6 +36,7 @@ pub mod BehindLemmas
 pub mod ImportLemmas
 pub mod CrashLemmas
 pub mod LessLemmas
+pub mod AgainLemmas
 pub mod FallenLemmas
 pub mod OpeningLemmas
 pub mod AttachLemmas

@@ -18,7 +18,7 @@ ghost use Rattle.vx_model.specs.declared.errors.Stop.TheVariants.{No as Refused}
 ghost use Rattle.vx_model.specs.declared.limits.TheConstants.{MOST_DISKS};
 ghost use Rattle.vx_model.specs.declared.no.No.TheVariants.{Size};
 ghost use Rattle.vx_group.specs.GivesUp.{GivesUp};
-ghost use Rattle.vx_group.specs.Calls.{GivesBack, GroupAttaches, GroupCreated, GroupDeported, GroupImported, GroupNarrows, GroupStays, IsFull};
+ghost use Rattle.vx_group.specs.Calls.{GivesBack, GroupAttaches, GroupCreated, GroupDeported, GroupImported, GroupNarrows, GroupStays, ImportsAgain, IsFull};
 ghost use Rattle.vx_group.specs.Holding.{GroupStands, wide};
 ghost use Rattle.vx_kept.specs.Trusts.{HasFailed};
 ghost use Rattle.vx_group.specs.Laws.{group_lawful};
@@ -40,6 +40,7 @@ use crate::importing::import_in;
 use crate::making::make_in;
 use crate::racking::{fail_in, fuse_in};
 use crate::reading::read_in;
+use crate::shaping::Marks;
 use crate::writing::write_group;
 use std::alloc::Global;
 use vx_config::Config;
@@ -82,10 +83,12 @@ impl<S: Shelf> Group<S> {
     ///
     /// Answers what an import of the configuration answers (25, 9, 22, 8), 9 where a disk has fewer than 1,024 blocks, 19 where fewer
     /// than 65,536 serials are left, 7 only where the count of the disk that it names rose, and 6 only where the shelf is down. Where none
-    /// is imported the shelf is handed back, and each block of a volume is as a crash might have left it. It takes memory.
+    /// is imported the shelf is handed back, and each block of a volume is as a crash might have left it: behind a crash it may be
+    /// imported again. It takes memory.
     pub fn import(alloc: Global, shelf: S) -> Result<Group<S>, (S, Stop)>
         requires can { CanImport (S.meaning shelf) }
         ensures imported { GroupImported (S.meaning shelf) (λ s. S.meaning s) (λ g. g.core) (λ g. g.shelf) result }
+        ensures again { ImportsAgain (λ s. S.meaning s) result }
     {
         let mut shelf = shelf;
         match import_in(alloc, &mut shelf) {
@@ -128,7 +131,14 @@ impl<S: Shelf> Group<S> {
         ensures agreed { IfErr result (λ e. self.old.core.inner.committed ≡ true → self.new.core.inner.agreed ≡ true) }
         ensures unmoved { Unmoved result ((self.new.core ≡ self.old.core) × (self.new.shelf ≡ self.old.shelf)) }
     {
-        make_in(alloc, &mut self.shelf, &mut self.core, name, want)
+        make_in(
+            alloc,
+            &mut self.shelf,
+            &mut self.core,
+            name,
+            want,
+            Marks::Lost,
+        )
     }
 
     /// Names the volumes that are the replicated volume group, by a commit: the log, the maps, and the data volumes. Every volume is left as
@@ -187,14 +197,14 @@ impl<S: Shelf> Group<S> {
         ensures refused { (no : NoValue) → att_refusal self.old.core.inner.config vol plex ≡ Some no → (result ≡ Err (Refused no)) × (self.new.core ≡ self.old.core) × (self.new.shelf ≡ self.old.shelf) }
         ensures already { att_refusal self.old.core.inner.config vol plex ≡ None → IsTrue (active self.old.core.inner.config vol plex) → (result ≡ Ok 0) × (self.new.core ≡ self.old.core) × (self.new.shelf ≡ self.old.shelf) }
         ensures count { active self.old.core.inner.config vol plex ≡ false → IfOk result (λ n. n ≡ copied_regions self.old.core.inner.config vol) }
-        ensures attaches { GroupAttaches vol plex self.old.core self.new.core (S.meaning self.old.shelf) (S.meaning self.new.shelf) }
+        ensures attaches { GroupAttaches vol plex None self.old.core self.new.core (S.meaning self.old.shelf) (S.meaning self.new.shelf) }
         ensures ends { active self.old.core.inner.config vol plex ≡ false → GroupAttachEnds vol plex self.new.core.inner.config (S.meaning self.new.shelf) result }
         ensures regains { Regains self.old.core.inner.config self.new.core.inner.config vol plex (S.meaning self.old.shelf) (S.meaning self.new.shelf) }
         ensures held { active self.old.core.inner.config vol plex ≡ false → OnOk result (HoldsPlex (λ s. S.meaning s) self.old.core.inner.config self.new.core.inner.config vol plex self.new.shelf) }
         ensures trust { OnOk result (self.old.core.inner.committed ≡ true → self.new.core.inner.committed ≡ true) }
         ensures cause { att_refusal self.old.core.inner.config vol plex ≡ None → DetStops (S.meaning self.old.shelf) (S.meaning self.new.shelf) result }
     {
-        att_in(&mut self.shelf, &mut self.core, vol, plex)
+        att_in(&mut self.shelf, &mut self.core, vol, plex, None)
     }
 
     /// Deports the group: every volume is flushed, then a commit puts the plexes that are ACTIVE into the state CLEAN, but those of the
