@@ -6,6 +6,8 @@ use Rattle.std.proofs.lemmas.Bool.{and_from, and_parts, cases_lt, lt-ltb, ltb-tr
 use Rattle.std.proofs.lemmas.List.Elements.{All-cons, All-nil}
 use Rattle.vx_disk.specs.Shelf.{Meaning}
 use Rattle.vx_model.specs.declared.limits.TheConstants.{LEAST_BLOCKS, LINK_PLACES, MOST_DATA_VOLUMES}
+use Rattle.vx_model.specs.declared.errors.Stop.{Stop}
+use Rattle.vx_model.specs.declared.errors.Stop.TheVariants.{No as Refused}
 use Rattle.vx_model.specs.declared.no.Counted.TheVariants.{Number}
 use Rattle.vx_model.specs.declared.no.No.{No}
 use Rattle.vx_model.specs.declared.no.No.TheVariants.{Limit, Size}
@@ -44,16 +46,19 @@ not_late a b le = by (nat_lt a b) refl
     by false is = is
     by true is = absurd (let lt = ltb-true a b is in omega (arith, lt, le))
 
-pub one_some : (x y : No) → Some x ≡ Some y → x ≡ y
+one_some : (x y : No) → Some x ≡ Some y → x ≡ y
 one_some x y is = cc
+
+pub refused_as : (x y : No) → Some x ≡ Some y → ◌≡◌ {A = Result (Unit {0}) Stop} (Err (Refused x)) (Err (Refused y))
+refused_as x y is = ap (λ (n : No). Err (Refused n)) (one_some x y is)
 
 pub none_some : {P : Type 0} (x : No) → Some x ≡ None → P
 none_some x is = absurd (let clash : Some x ≡ None = is in cc)
 
-module _ (c : Config) (u : Units) where
-  abbrev pub by_tests : Bool → Bool → Option No
-  by_tests late may = if late then Some (Limit Number greatest) else (if not may then Some Size else None)
+abbrev by_tests : Bool → Bool → Option No
+by_tests late may = if late then Some (Limit Number greatest) else (if not may then Some Size else None)
 
+module _ (c : Config) (u : Units) where
   pub late_refusal : greatest - margin < c.serial → set_rvg_refusal c u ≡ Some (Limit Number greatest)
   late_refusal lt = ap (λ (b : Bool). by_tests b (is_group c.volumes u)) (lt-ltb (greatest - margin) c.serial lt)
 

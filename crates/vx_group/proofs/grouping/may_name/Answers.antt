@@ -9,4 +9,4 @@ pub returns-clause-same : goal.returns-clause-same
 returns-clause-same c = ap (λ (r : Option Units). with_rvg r c.args.config.now) c.named_by-before.ensures
 
 pub returns-clause-is : goal.returns-clause-is
-returns-clause-is c = c.check-is_sound.ensures ∙ may_is c.args.config.now c.args.units.now c.copy.result c.copy.ensures c.requires
+returns-clause-is c = c.check-is_sound.ensures ∙ may_is c.args.config.now c.args.units.now c.copy.result c.copy.ensures c.requires.sound

@@ -1,9 +1,7 @@
 -- `set_rvg_in`: what `may_name` and `name_rvg` ask; each clause, over the configuration that the test leaves as it was.
-use Rattle.std.proofs.Common.{◌≡◌, Some, refl, ap, sym, ◌∙◌, subst, Err, arith}
+use Rattle.std.proofs.Common.{refl, ap, sym, ◌∙◌, subst, arith}
 use Rattle.vx_disk.specs.Shelf.{Goes, Nothing}
 use Rattle.vx_disk.proofs.Runs.{same_Goes}
-use Rattle.vx_model.specs.declared.errors.Stop.TheVariants.{No as Refused}
-use Rattle.vx_model.specs.declared.no.No.{No}
 use Rattle.vx_config.specs.Checks.{is_group}
 use Rattle.vx_config.specs.declared.config.Config.{Config}
 use Rattle.vx_copies.specs.Commits.{MoreFailed}
@@ -14,11 +12,11 @@ use Rattle.vx_group.specs.Stands.{inner_meaning}
 use Rattle.vx_group.specs.declared.group_core.GroupCore.{GroupCore}
 use Rattle.vx_group.proofs.FailingLemmas.{no_failing}
 use Rattle.vx_group.proofs.HoldLemmas.{narrow_sound}
-use Rattle.vx_group.proofs.RvgLemmas.{late_refusal, no_narrows, no_refusal, none_some, one_some, same_core, small_refusal}
+use Rattle.vx_group.proofs.RvgLemmas.{late_refusal, no_narrows, no_refusal, none_some, refused_as, same_core, small_refusal}
 use Rattle.vx_group.proofs.grouping.set_rvg_in.Goals as goal
 
 pub returns-then-core-clause-refused : goal.returns-then-core-clause-refused
-returns-then-core-clause-refused g c = λ why is. (ap (λ (n : No). Err (Refused n)) (one_some _ why (sym (late_refusal c.args.core.now.inner.config c.args.units.now c.if-core.true) ∙ is)), refl, refl)
+returns-then-core-clause-refused g c = λ why is. (refused_as _ why (sym (late_refusal c.args.core.now.inner.config c.args.units.now (let lt = c.if-core.true in omega (arith, lt))) ∙ is), refl, refl)
 
 pub returns-then-core-clause-goes : goal.returns-then-core-clause-goes
 returns-then-core-clause-goes g c = same_Goes Nothing (inner_meaning (wide c.args.core.now) (g.S.Shelf.meaning c.args.shelf.now))
@@ -30,16 +28,16 @@ pub returns-then-core-clause-disks : goal.returns-then-core-clause-disks
 returns-then-core-clause-disks g c = no_failing (g.S.Shelf.meaning c.args.shelf.now) (g.S.Shelf.meaning c.args.shelf.now) c.args.core.now.inner.config.disks c.args.core.now.inner.config.disks refl
 
 pub returns-then-core-clause-cause : goal.returns-then-core-clause-cause
-returns-then-core-clause-cause g c = λ none. none_some _ (sym (late_refusal c.args.core.now.inner.config c.args.units.now c.if-core.true) ∙ none)
+returns-then-core-clause-cause g c = λ none. none_some _ (sym (late_refusal c.args.core.now.inner.config c.args.units.now (let lt = c.if-core.true in omega (arith, lt))) ∙ none)
 
-pub may_name-requires : goal.may_name-requires
-may_name-requires g c = narrow_sound c.args.core.now (g.S.Shelf.meaning c.args.shelf.now) c.requires
+pub may_name-requires-clause-sound : goal.may_name-requires-clause-sound
+may_name-requires-clause-sound g c = narrow_sound c.args.core.now (g.S.Shelf.meaning c.args.shelf.now) c.requires.stands
 
 pub returns-then-not-may_name-clause-stands : goal.returns-then-not-may_name-clause-stands
-returns-then-not-may_name-clause-stands g c = subst (λ (k : GroupCore). GroupStands k (g.S.Shelf.meaning c.args.shelf.now)) (sym (same_core c.args.core.now c.may_name.new.config c.may_name.ensures.same)) c.requires
+returns-then-not-may_name-clause-stands g c = subst (λ (k : GroupCore). GroupStands k (g.S.Shelf.meaning c.args.shelf.now)) (sym (same_core c.args.core.now c.may_name.new.config c.may_name.ensures.same)) c.requires.stands
 
 pub returns-then-not-may_name-clause-refused : goal.returns-then-not-may_name-clause-refused
-returns-then-not-may_name-clause-refused g c = λ why is. (ap (λ (n : No). Err (Refused n)) (one_some _ why (sym (small_refusal c.args.core.now.inner.config c.args.units.now (let le = c.if-core.false in omega (arith, le)) (sym c.may_name.ensures.is ∙ c.if-not-may_name.true)) ∙ is)), same_core c.args.core.now c.may_name.new.config c.may_name.ensures.same, refl)
+returns-then-not-may_name-clause-refused g c = λ why is. (refused_as _ why (sym (small_refusal c.args.core.now.inner.config c.args.units.now (let le = c.if-core.false in omega (arith, le)) (sym c.may_name.ensures.is ∙ c.if-not-may_name.true)) ∙ is), same_core c.args.core.now c.may_name.new.config c.may_name.ensures.same, refl)
 
 pub returns-then-not-may_name-clause-goes : goal.returns-then-not-may_name-clause-goes
 returns-then-not-may_name-clause-goes g c =
@@ -64,7 +62,7 @@ pub returns-then-not-may_name-clause-cause : goal.returns-then-not-may_name-clau
 returns-then-not-may_name-clause-cause g c = λ none. none_some _ (sym (small_refusal c.args.core.now.inner.config c.args.units.now (let le = c.if-core.false in omega (arith, le)) (sym c.may_name.ensures.is ∙ c.if-not-may_name.true)) ∙ none)
 
 pub name_rvg-requires-clause-stands : goal.name_rvg-requires-clause-stands
-name_rvg-requires-clause-stands g c = subst (λ (k : GroupCore). GroupStands k (g.S.Shelf.meaning c.args.shelf.now)) (sym (same_core c.args.core.now c.may_name.new.config c.may_name.ensures.same)) c.requires
+name_rvg-requires-clause-stands g c = subst (λ (k : GroupCore). GroupStands k (g.S.Shelf.meaning c.args.shelf.now)) (sym (same_core c.args.core.now c.may_name.new.config c.may_name.ensures.same)) c.requires.stands
 
 pub name_rvg-requires-clause-may : goal.name_rvg-requires-clause-may
 name_rvg-requires-clause-may g c = ap (λ (x : Config). is_group x.volumes c.args.units.now) c.may_name.ensures.same ∙ sym c.may_name.ensures.is ∙ c.if-not-may_name.false
