@@ -264,6 +264,9 @@ impl<S: Shelf> Shelf for Group<S> {
         ensures disks { OnDisks (inner_meaning (wide self.old.core) (S.meaning self.old.shelf)).disks (inner_meaning (wide self.new.core) (S.meaning self.new.shelf)).disks Untouched }
         ensures shown { OnOk result (Read (inner_meaning self.old.core.inner (S.meaning self.old.shelf)) unit block into.new) }
         ensures same { self.new.core.inner.config ≡ self.old.core.inner.config }
+        ensures held { self.new.core.held ≡ self.old.core.held }
+        ensures trusted { (self.new.core.inner.committed ≡ self.old.core.inner.committed) × (self.new.core.inner.agreed ≡ self.old.core.inner.agreed) }
+        ensures below { Goes Nothing (S.meaning self.old.shelf) (S.meaning self.new.shelf) }
     {
         read_in(&mut self.shelf, &mut self.core, unit, block, into)
     }
