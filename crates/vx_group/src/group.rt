@@ -35,7 +35,6 @@ use crate::group_core::GroupCore;
 use crate::importing::import_in;
 use crate::making::make_in;
 use crate::reading::read_in;
-use crate::shaping::Marks;
 use crate::writing::write_group;
 use std::alloc::Global;
 use vx_config::Config;
@@ -119,14 +118,7 @@ impl<S: Shelf> Group<S> {
         ensures agreed { IfErr result (λ e. self.old.core.inner.committed ≡ true → self.new.core.inner.agreed ≡ true) }
         ensures unmoved { Unmoved result ((self.new.core ≡ self.old.core) × (self.new.shelf ≡ self.old.shelf)) }
     {
-        make_in(
-            alloc,
-            &mut self.shelf,
-            &mut self.core,
-            name,
-            want,
-            Marks::Lost,
-        )
+        make_in(alloc, &mut self.shelf, &mut self.core, name, want)
     }
 
     /// Detaches a plex. Nothing changes where it is not ACTIVE.

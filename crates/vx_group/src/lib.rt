@@ -52,6 +52,5 @@ pub use losing_group::lose_group;
 pub use making::make_in;
 pub use reading::read_in;
 pub use releasing::release;
-pub use shaping::Marks;
 pub use taking::{Plan, take_up};
 pub use writing::write_group;
