@@ -3,6 +3,7 @@ use Rattle.std.proofs.Common.{◌≡◌, inl, inr, ⊎_elim, ℕ, ◌+◌, ◌<�
 use Rattle.std.specs.Prelude.{◌&&◌, ◌==◌}
 use Rattle.std.proofs.lemmas.Bool.{and_from, and_parts, cases_eq, cases_lt}
 use Rattle.std.proofs.lemmas.Option.{slice_get_past}
+use Rattle.vx_disk.specs.Moves.{Anything}
 use Rattle.vx_disk.specs.Shelf.{Goes, Lawful, Meaning, Nothing, Or}
 use Rattle.vx_copyfmt.specs.Commits.{Tidy}
 use Rattle.vx_model.specs.declared.no.No.{No}
@@ -27,6 +28,7 @@ use Rattle.vx_kept.specs.Keeping.{Acts, AllOn, MayBeNext, IsTidy, Kept, Sees}
 use Rattle.vx_kept.proofs.Chosen.{active_volumes, alike_shape, place_volumes, same_extends}
 use Rattle.vx_kept.proofs.Lasting.{low_Acts}
 use Rattle.vx_kept.proofs.Narrower.{stand_apart}
+use Rattle.vx_kept.proofs.PlexActing.{wider_Acts}
 use Rattle.vx_kept.proofs.Staling.{all_serial, can_serial}
 use Rattle.vx_kept.proofs.StateLemmas.{same_shape}
 use Rattle.vx_kept.proofs.Steps.{both_Acts, group-Goes, wide_Acts}
@@ -124,6 +126,9 @@ module _ (core : Inner) (next : Config) (m : Meaning) (stands : InnerStands core
     zero_acts : Acts (ZerosOn next n) (Sees core.config (Member core.good m) m) m m1
     zero_acts = low_Acts core.config (Member core.good m) m m1 (ZerosOn next n) goes zeros_high before mid (kept_of core m stands)
 
+    pub zero_beside : Acts (ZerosOn next n) Anything m m1
+    zero_beside = wider_Acts (ZerosOn next n) (ZerosOn next n) (Sees core.config (Member core.good m) m) m m1 zero_acts (λ u b x put. put)
+
     pub zero_stay : StayAsWere core core m m1
     zero_stay = record {
       goes = acts_Goes m1 mid zero_acts;
@@ -144,6 +149,9 @@ module _ (core : Inner) (next : Config) (m : Meaning) (stands : InnerStands core
       whole_acts = wide_Acts (Or (ZerosOn next n) Nothing) (ZerosOn next n) (Sees core.config (Member core.good m) m) m m2
           (both_Acts (ZerosOn next n) Nothing (Sees core.config (Member core.good m) m) (Sees core.config (Member core.good m1) m1) m m1 m2 zero_acts commit (λ i sees. sees_back core.good core.config m m1 goes.units goes.size i sees))
           (λ u b x. ⊎_elim (λ put. put) (λ none. absurd none))
+
+      pub whole_beside : Acts (ZerosOn next n) Anything m m2
+      whole_beside = wider_Acts (ZerosOn next n) (ZerosOn next n) (Sees core.config (Member core.good m) m) m m2 whole_acts (λ u b x put. put)
 
       whole_goes : Goes Nothing (inner_meaning core m) (group_meaning core.config (volume_faults e.faults) m2)
       whole_goes = subst (λ (f : List ℕ). Goes Nothing (inner_meaning core m) (group_meaning core.config (volume_faults f) m2)) (sym faults) (acts_Goes m2 after whole_acts)

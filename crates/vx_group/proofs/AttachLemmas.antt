@@ -1,5 +1,5 @@
 -- A plex that is attached, as calls of a group.
-use Rattle.std.proofs.Common.{◌≡◌, ◌≢◌, ◌⊎◌, inl, inr, ⊎_elim, ℕ, ◌<◌, ◌≤◌, Bool, true, false, IsTrue, List, set, Result, Ok, Err, refl, ap, sym, ◌∙◌, subst, arith}
+use Rattle.std.proofs.Common.{◌≡◌, ◌≢◌, ◌⊎◌, inl, inr, ⊎_elim, ℕ, ◌<◌, ◌≤◌, Bool, true, false, IsTrue, Option, List, set, Result, Ok, Err, refl, ap, sym, ◌∙◌, subst, arith}
 use Rattle.std.proofs.lemmas.Bool.{cases_eq}
 use Rattle.vx_disk.specs.Blocks.{bit_at}
 use Rattle.vx_disk.specs.Moves.{Says}
@@ -11,9 +11,10 @@ use Rattle.vx_model.specs.declared.site.PlexState.TheVariants.{Stale}
 use Rattle.vx_config.specs.Changes.{stated}
 use Rattle.vx_config.specs.declared.config.Config.{Config}
 use Rattle.vx_layout.specs.Places.{place}
-use Rattle.vx_volume.specs.Copies.{CopyCause, IsCopied, OnCopy}
+use Rattle.vx_volume.specs.Copies.{CopyCause, IsCopied}
 use Rattle.vx_volume.specs.Plexes.{Inside, SomeActive, active}
 use Rattle.vx_volume.specs.Sets.{bits}
+use Rattle.vx_fmr.specs.Missed.{Missed}
 use Rattle.vx_kept.specs.Commits.{Member}
 use Rattle.vx_kept.specs.Groups.{PlacesApart, OnSome, OutsideVolumes, Shows, seen}
 use Rattle.vx_kept.specs.Keeping.{Acts, SameShape, Sees}
@@ -22,7 +23,7 @@ use Rattle.vx_kept.proofs.Lasting.{low_Acts}
 use Rattle.vx_kept.proofs.Narrower.{stand_apart}
 use Rattle.vx_kept.proofs.StateLemmas.{same_shape, then_shape}
 use Rattle.vx_kept.proofs.Steps.{both_Acts, group-Goes, inside_back, inside_same, same_Acts, wide_Acts}
-use Rattle.vx_group.specs.Attaches.{AnyImage, Attaches, HasOther, MayAttach, attached}
+use Rattle.vx_group.specs.Attaches.{AnyImage, Attaches, HasOther, MayAttach, OnMissed, attached}
 use Rattle.vx_group.specs.Blames.{Blames}
 use Rattle.vx_group.specs.Holding.{with_config}
 use Rattle.vx_group.specs.Moves.{Narrows}
@@ -39,15 +40,18 @@ use Rattle.vx_group.proofs.Standing.{apart_of_core, kept_of, low_Stands, sound_o
 pub any_acts : (W V : Values) (P : Says) (a b : Meaning) → Acts W P a b → ((u k : ℕ) (x : List ℕ) → W u k x → V u k x) → Acts V AnyImage a b
 any_acts W V P a b acts wide = wide_Acts (Or Nothing W) V AnyImage a b (both_Acts Nothing W AnyImage P a a b (same_Acts AnyImage a) acts (λ i now. tt)) (λ u k x. ⊎_elim (λ none. absurd none) (λ put. wide u k x put))
 
-pub on_back : (c d : Config) (v p : ℕ) → SameShape d c → (u b : ℕ) (x : List ℕ) → OnCopy d v p u b x → OnCopy c v p u b x
-on_back c d v p shape u b x put = record { number = put.number; inside = inside_same d c shape v put.number put.inside; at = sym (shape.place v p put.number) ∙ put.at }
+pub on_back : (c d : Config) (v p : ℕ) (f : Option Missed) → SameShape d c → (u b : ℕ) (x : List ℕ) → OnMissed d v p f u b x → OnMissed c v p f u b x
+on_back c d v p f shape u b x it = record {
+  put = record { number = it.put.number; inside = inside_same d c shape v it.put.number it.put.inside; at = sym (shape.place v p it.put.number) ∙ it.put.at };
+  missed = it.missed;
+}
 
-pub then_attaches : (v p : ℕ) (c d e : Inner) (m0 m1 m2 : Meaning) → Attaches v p c d m0 m1 → Attaches v p d e m1 m2 → Attaches v p c e m0 m2
-then_attaches v p c d e m0 m1 m2 one two = record {
+pub then_attaches : (v p : ℕ) (f : Option Missed) (c d e : Inner) (m0 m1 m2 : Meaning) → Attaches v p f c d m0 m1 → Attaches v p f d e m1 m2 → Attaches v p f c e m0 m2
+then_attaches v p f c d e m0 m1 m2 one two = record {
   goes = then_nothing Nothing (inner_meaning c m0) (inner_meaning d m1) (inner_meaning e m2) one.goes two.goes;
-  acts = wide_Acts (Or (OnCopy c.config v p) (OnCopy d.config v p)) (OnCopy c.config v p) AnyImage m0 m2
-      (both_Acts (OnCopy c.config v p) (OnCopy d.config v p) AnyImage AnyImage m0 m1 m2 one.acts two.acts (λ i now. tt))
-      (λ u b x. ⊎_elim (λ put. put) (λ put. on_back c.config d.config v p one.shape u b x put));
+  acts = wide_Acts (Or (OnMissed c.config v p f) (OnMissed d.config v p f)) (OnMissed c.config v p f) AnyImage m0 m2
+      (both_Acts (OnMissed c.config v p f) (OnMissed d.config v p f) AnyImage AnyImage m0 m1 m2 one.acts two.acts (λ i now. tt))
+      (λ u b x. ⊎_elim (λ put. put) (λ put. on_back c.config d.config v p f one.shape u b x put));
   shape = then_shape e.config d.config c.config two.shape one.shape;
   others = λ w q apart. two.others w q apart ∙ one.others w q apart;
   faults = two.faults ∙ one.faults;
@@ -55,10 +59,10 @@ then_attaches v p c d e m0 m1 m2 one two = record {
 }
 
 -- a commit that changes no other plex
-pub narrows_attaches : (v p : ℕ) (c d : Inner) (m m' : Meaning) → Lawful m' → InnerStands c m → Narrows c d m m' → ((w q : ℕ) → (w ≡ v → q ≡ p → ⊥) → active d.config w q ≡ active c.config w q) → Attaches v p c d m m'
-narrows_attaches v p c d m m' after stands narrows others = record {
+pub narrows_attaches : (v p : ℕ) (f : Option Missed) (c d : Inner) (m m' : Meaning) → Lawful m' → InnerStands c m → Narrows c d m m' → ((w q : ℕ) → (w ≡ v → q ≡ p → ⊥) → active d.config w q ≡ active c.config w q) → Attaches v p f c d m m'
+narrows_attaches v p f c d m m' after stands narrows others = record {
   goes = narrows_Goes c d m m' after stands narrows (volume_faults c.faults) (volume_faults d.faults) (λ u. let same = ap (λ (f : List ℕ). volume_faults f u) narrows.faults in omega (arith, same));
-  acts = any_acts Nothing (OnCopy c.config v p) (Sees c.config (Member c.good m) m) m m' narrows.acts (λ u k x none. absurd none);
+  acts = any_acts Nothing (OnMissed c.config v p f) (Sees c.config (Member c.good m) m) m m' narrows.acts (λ u k x none. absurd none);
   shape = narrows.shape;
   others = others;
   faults = narrows.faults;
@@ -67,8 +71,8 @@ narrows_attaches v p c d m m' after stands narrows others = record {
 
 -- ---- the copy
 
-module _ (core : Inner) (v p : ℕ) (there : Present core.config v p) (off : active core.config v p ≡ false) (m m' : Meaning) (before : Lawful m) (after : Lawful m') (stands : InnerStands core m)
-    (goes : Goes (OnCopy (attached v p core.config) v p) m m') where
+module _ (core : Inner) (v p : ℕ) (f : Option Missed) (there : Present core.config v p) (off : active core.config v p ≡ false) (m m' : Meaning) (before : Lawful m) (after : Lawful m') (stands : InnerStands core m)
+    (goes : Goes (OnMissed (attached v p core.config) v p f) m m') where
   abbrev c : Config
   c = core.config
 
@@ -81,35 +85,35 @@ module _ (core : Inner) (v p : ℕ) (there : Present core.config v p) (off : act
   apart_wide : PlacesApart d
   apart_wide = stand_apart d (open_sound c v p there (sound_of core m stands))
 
-  high : (u b : ℕ) (x : List ℕ) → OnCopy d v p u b x → 512 ≤ b
+  high : (u b : ℕ) (x : List ℕ) → OnMissed d v p f u b x → 512 ≤ b
   high u b x put =
-      let far : 512 ≤ (place d v p put.number).1 = apart_wide.above v p put.number put.inside (open_on c v p there) in
-      let is : (place d v p put.number).1 ≡ b = ap (λ (q : ℕ × ℕ). q.1) put.at in
+      let far : 512 ≤ (place d v p put.put.number).1 = apart_wide.above v p put.put.number put.put.inside (open_on c v p there) in
+      let is : (place d v p put.put.number).1 ≡ b = ap (λ (q : ℕ × ℕ). q.1) put.put.at in
       omega (arith, far, is)
 
   pub missed_Stands : InnerStands core m'
-  missed_Stands = low_Stands core (OnCopy d v p) m m' goes high before after stands
+  missed_Stands = low_Stands core (OnMissed d v p f) m m' goes high before after stands
 
   pub copied_Stands : InnerStands (opened v p core) m'
-  copied_Stands = low_Stands (opened v p core) (OnCopy d v p) m m' goes high before after (open_Stands core v p there m stands)
+  copied_Stands = low_Stands (opened v p core) (OnMissed d v p f) m m' goes high before after (open_Stands core v p there m stands)
 
-  low : Acts (OnCopy d v p) (Sees c (Member core.good m) m) m m'
-  low = low_Acts c (Member core.good m) m m' (OnCopy d v p) goes high before after (kept_of core m stands)
+  low : Acts (OnMissed d v p f) (Sees c (Member core.good m) m) m m'
+  low = low_Acts c (Member core.good m) m m' (OnMissed d v p f) goes high before after (kept_of core m stands)
 
-  not_here : (w q b : ℕ) (x : List ℕ) → Inside c w b → IsTrue (active c w q) → OnCopy d v p (place c w q b).0 (place c w q b).1 x → ⊥
+  not_here : (w q b : ℕ) (x : List ℕ) → Inside c w b → IsTrue (active c w q) → OnMissed d v p f (place c w q b).0 (place c w q b).1 x → ⊥
   not_here w q b x in_it is_on put =
-      let one = apart_wide.one w q b v p put.number (inside_back d c shape w b in_it) put.inside (open_wider c v p there w q is_on) (open_on c v p there) (shape.place w q b ∙ sym put.at) in
+      let one = apart_wide.one w q b v p put.put.number (inside_back d c shape w b in_it) put.put.inside (open_wider c v p there w q is_on) (open_on c v p there) (shape.place w q b ∙ sym put.put.at) in
       let at : IsTrue (active c v p) = subst (λ (y : ℕ). IsTrue (active c y p)) one.0 (subst (λ (r : ℕ). IsTrue (active c w r)) one.1 is_on) in
       let clash : false ≡ true = sym off ∙ at in cc
 
   narrow_goes : Goes Nothing (inner_meaning core m) (inner_meaning core m')
-  narrow_goes = group-Goes c c (Member core.good m) (volume_faults core.faults) (volume_faults core.faults) m m' (OnCopy d v p) Nothing low (apart_of_core core m stands) (same_shape c) (λ w q is. is)
+  narrow_goes = group-Goes c c (Member core.good m) (volume_faults core.faults) (volume_faults core.faults) m m' (OnMissed d v p f) Nothing low (apart_of_core core m stands) (same_shape c) (λ w q is. is)
       (λ w q b x in_it is_on put. absurd (not_here w q b x in_it is_on put)) (λ w. omega arith) (λ not t i left. after.never not t i left)
 
-  plex_acts : Acts (OnCopy c v p) AnyImage m m'
-  plex_acts = any_acts (OnCopy d v p) (OnCopy c v p) (Sees c (Member core.good m) m) m m' low (λ u b x put. on_back c d v p shape u b x put)
+  plex_acts : Acts (OnMissed c v p f) AnyImage m m'
+  plex_acts = any_acts (OnMissed d v p f) (OnMissed c v p f) (Sees c (Member core.good m) m) m m' low (λ u b x put. on_back c d v p f shape u b x put)
 
-  pub missed_attaches : Attaches v p core core m m'
+  pub missed_attaches : Attaches v p f core core m m'
   missed_attaches = record { goes = narrow_goes; acts = plex_acts; shape = same_shape c; others = λ w q apart. refl; faults = refl; unsure = refl }
 
   -- ---- done
@@ -182,7 +186,7 @@ module _ (core : Inner) (v p : ℕ) (there : Present core.config v p) (off : act
       safe = narrow_goes.safe;
     }
 
-    pub copied_attaches : Attaches v p core (opened v p core) m m'
+    pub copied_attaches : Attaches v p f core (opened v p core) m m'
     copied_attaches = record { goes = wide_goes; acts = plex_acts; shape = shape; others = λ w q apart. open_others c v p there w q apart; faults = refl; unsure = refl }
 
 -- ---- why
@@ -211,25 +215,25 @@ no_bit q in_it = let clash : false ≡ true = sym (zero_bit 0 q refl) ∙ in_it 
 
 -- ---- the configuration as the code has it
 
-module _ (core : Inner) (v p : ℕ) (may : MayAttach core.config v p) (off : active core.config v p ≡ false) (m m' : Meaning) (before : Lawful m) (after : Lawful m') (stands : InnerStands core m)
-    (e : Config) (is : e ≡ attached v p core.config) (goes : Goes (OnCopy e v p) m m') where
-  goes_by : Goes (OnCopy (attached v p core.config) v p) m m'
-  goes_by = subst (λ (x : Config). Goes (OnCopy x v p) m m') is goes
+module _ (core : Inner) (v p : ℕ) (f : Option Missed) (may : MayAttach core.config v p) (off : active core.config v p ≡ false) (m m' : Meaning) (before : Lawful m) (after : Lawful m') (stands : InnerStands core m)
+    (e : Config) (is : e ≡ attached v p core.config) (goes : Goes (OnMissed e v p f) m m') where
+  goes_by : Goes (OnMissed (attached v p core.config) v p f) m m'
+  goes_by = subst (λ (x : Config). Goes (OnMissed x v p f) m m') is goes
 
   pub to_Stands : InnerStands (with_config e core) m'
-  to_Stands = subst (λ (x : Config). InnerStands (with_config x core) m') (sym is) (copied_Stands core v p (present core.config v p may) off m m' before after stands goes_by)
+  to_Stands = subst (λ (x : Config). InnerStands (with_config x core) m') (sym is) (copied_Stands core v p f (present core.config v p may) off m m' before after stands goes_by)
 
-  pub to_attaches : (source : ℕ) → IsTrue (active core.config v source) → IsCopied e v source p m m' → Attaches v p core (with_config e core) m m'
+  pub to_attaches : (source : ℕ) → IsTrue (active core.config v source) → IsCopied e v source p m m' → Attaches v p f core (with_config e core) m m'
   to_attaches source from copied =
-      subst (λ (x : Config). Attaches v p core (with_config x core) m m') (sym is)
-      (copied_attaches core v p (present core.config v p may) off m m' before after stands goes_by source from (subst (λ (x : Config). IsCopied x v source p m m') is copied))
+      subst (λ (x : Config). Attaches v p f core (with_config x core) m m') (sym is)
+      (copied_attaches core v p f (present core.config v p may) off m m' before after stands goes_by source from (subst (λ (x : Config). IsCopied x v source p m m') is copied))
 
-  module _ (f : Config) (whole : Bool) (flag : whole ≡ whole_of core.config v p) (back : f ≡ stated v p Stale whole e) where
-    pub same_back : f ≡ core.config
+  module _ (g : Config) (whole : Bool) (flag : whole ≡ whole_of core.config v p) (back : g ≡ stated v p Stale whole e) where
+    pub same_back : g ≡ core.config
     same_back = back ∙ ap (stated v p Stale whole) is ∙ closed core.config v p (present core.config v p may) stands.on off whole flag
 
-    pub back_Stands : InnerStands (with_config f core) m'
-    back_Stands = subst (λ (x : Config). InnerStands (with_config x core) m') (sym same_back) (missed_Stands core v p (present core.config v p may) off m m' before after stands goes_by)
+    pub back_Stands : InnerStands (with_config g core) m'
+    back_Stands = subst (λ (x : Config). InnerStands (with_config x core) m') (sym same_back) (missed_Stands core v p f (present core.config v p may) off m m' before after stands goes_by)
 
-    pub back_attaches : Attaches v p core (with_config f core) m m'
-    back_attaches = subst (λ (x : Config). Attaches v p core (with_config x core) m m') (sym same_back) (missed_attaches core v p (present core.config v p may) off m m' before after stands goes_by)
+    pub back_attaches : Attaches v p f core (with_config g core) m m'
+    back_attaches = subst (λ (x : Config). Attaches v p f core (with_config x core) m m') (sym same_back) (missed_attaches core v p f (present core.config v p may) off m m' before after stands goes_by)

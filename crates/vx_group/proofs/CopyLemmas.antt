@@ -1,5 +1,5 @@
--- A run of blocks that is copied from one plex to all that are ACTIVE, and two such runs in a row.
-use Rattle.std.proofs.Common.{◌≡◌, ◌⊎◌, inl, inr, ⊎_elim, ℕ, zero, suc, ◌+◌, ◌*◌, ◌/◌, ◌<◌, ◌≤◌, false, IsTrue, List, [], ◌∷◌, length, take, Result, Ok, Err, OnOk, refl, ap, sym, ◌∙◌, subst, arith}
+-- Blocks that are copied from one plex to all that are ACTIVE, and two such copies in a row.
+use Rattle.std.proofs.Common.{◌≡◌, ◌⊎◌, inl, inr, ⊎_elim, ℕ, ◌+◌, ◌/◌, ◌<◌, ◌≤◌, Bool, true, false, IsTrue, List, [], length, Result, Ok, Err, OnOk, refl, ap, sym, ◌∙◌, subst, arith}
 use Rattle.std.proofs.lemmas.Bool.{cases_lt}
 use Rattle.vx_disk.specs.Counts.{Rose}
 use Rattle.vx_disk.specs.Moves.{Says}
@@ -7,12 +7,12 @@ use Rattle.vx_disk.specs.Shelf.{Fits, Goes, Image, Lawful, Meaning, Nothing, Or,
 use Rattle.vx_disk.specs.declared.shelf.ShelfError.{ShelfError}
 use Rattle.vx_group.specs.Blames.{Blames}
 use Rattle.vx_disk.proofs.Causing.{Rose_after, Rose_before}
-use Rattle.vx_config.specs.Checks.{blocks_of}
 use Rattle.vx_config.specs.declared.config.Config.{Config}
 use Rattle.vx_layout.specs.Places.{place}
 use Rattle.vx_volume.specs.Plexes.{Asked, InRun, Inside, RunFits, active}
 use Rattle.vx_volume.specs.Volumes.{OnPlexes, PlexRead, PlexWrote}
 use Rattle.vx_volume.proofs.PlaceLemmas.{fits_of}
+use Rattle.vx_resync.specs.Picks.{InPicked, InPickedBelow}
 use Rattle.vx_kept.specs.Commits.{Member}
 use Rattle.vx_kept.specs.Keeping.{Acts, Kin, SameShape, Sees}
 use Rattle.vx_kept.proofs.Lasting.{low_Acts, sees_same}
@@ -109,8 +109,8 @@ module _ (core : Inner) (v source : ℕ) (m0 m1 : Meaning) (law0 : Lawful m0) (l
   pub read_acts : Acts Nothing (Sees core.config (Member core.good m0) m0) m0 m1
   read_acts = low_Acts core.config (Member core.good m0) m0 m1 Nothing read (λ u b x none. absurd none) law0 law1 (kept_of core m0 stands)
 
-  pub read_Moved : CopyMoved core v source core m0 m1
-  read_Moved = record {
+  pub read_Moved : (P : ℕ → Type 0) → CopyMoved core v source P core m0 m1
+  read_Moved P = record {
     stands = flushed_Stands core v m0 m1 law0 law1 stands read;
     shape = same_shape core.config;
     on = λ w p is. is;
@@ -118,7 +118,7 @@ module _ (core : Inner) (v source : ℕ) (m0 m1 : Meaning) (law0 : Lawful m0) (l
     faults = refl;
     unsure = refl;
     spent = spent_none core.config m0 m1;
-    acts = wide_Acts Nothing (FromSource core.config v source m0) (Sees core.config NoMember m0) m0 m1
+    acts = wide_Acts Nothing (FromSource core.config v source P m0) (Sees core.config NoMember m0) m0 m1
         (loose_Acts Nothing (Sees core.config (Member core.good m0) m0) (Sees core.config NoMember m0) m0 m1 read_acts (λ i sees. sees_none core.config (Member core.good m0) m0 i sees)) (λ u b x none. absurd none);
   }
 
@@ -168,19 +168,20 @@ module _ (core d : Inner) (v source block : ℕ) (bytes : List ℕ) (m0 m1 m2 m3
   run_acts = both_Acts Nothing W (Sees core.config (Member core.good m0) m0) (Sees core.config (Member core.good m1) m1) m0 m1 m3 (read_acts core v source m0 m1 law0 law1 stands read) put_acts
       (λ i sees. sees_back core.good core.config m0 m1 read.units read.size i sees)
 
-  as_copy : (u b : ℕ) (x : List ℕ) → Or Nothing W u b x → FromSource core.config v source m0 u b x
+  as_copy : (u b : ℕ) (x : List ℕ) → Or Nothing W u b x → FromSource core.config v source (InRun block n) m0 u b x
   as_copy u b x (inl none) = absurd none
   as_copy u b x (inr put) =
       let it = put.put in record {
         number = it.number;
         plex = put.plex;
         inside = in_run it.number it.run;
+        is_one = it.run;
         is_on = put.is_on;
         at = it.at;
         value = λ tells. subst (λ (y : List ℕ). m0.reads (place core.config v source it.number).0 (place core.config v source it.number).1 y) (sym it.value) (was_read.each tells it.number it.run);
       }
 
-  pub run_Moved : CopyMoved core v source d m0 m3
+  pub run_Moved : CopyMoved core v source (InRun block n) d m0 m3
   run_Moved = record {
     stands = stands3;
     shape = narrows.shape;
@@ -189,11 +190,11 @@ module _ (core d : Inner) (v source block : ℕ) (bytes : List ℕ) (m0 m1 m2 m3
     faults = narrows.faults;
     unsure = narrows.unsure;
     spent = spent;
-    acts = wide_Acts (Or Nothing W) (FromSource core.config v source m0) (Sees core.config NoMember m0) m0 m3
+    acts = wide_Acts (Or Nothing W) (FromSource core.config v source (InRun block n) m0) (Sees core.config NoMember m0) m0 m3
         (loose_Acts (Or Nothing W) (Sees core.config (Member core.good m0) m0) (Sees core.config NoMember m0) m0 m3 run_acts (λ i sees. sees_none core.config (Member core.good m0) m0 i sees)) as_copy;
   }
 
-  module _ (settled : d.unsettled ≡ false) (source_on : IsTrue (active d.config v source)) (up : IsTrue m3.down → ⊥)
+  module _ (trust : core.committed ≡ true → d.committed ≡ true) (settled : d.unsettled ≡ false) (source_on : IsTrue (active d.config v source)) (up : IsTrue m3.down → ⊥)
       (wrote : (p : ℕ) → IsTrue (active d.config v p) → PlexWrote core.config v p block n block n bytes m1 m2) where
     before_commit : (w p k : ℕ) (x : List ℕ) → Inside core.config w k → IsTrue (active d.config w p) → m3.reads (place core.config w p k).0 (place core.config w p k).1 x → m2.reads (place core.config w p k).0 (place core.config w p k).1 x
     before_commit w p k x in_it is_on is = elim (narrows.acts.reads (place core.config w p k).0 (place core.config w p k).1 x ((apart_of_core core m0 stands).above w p k in_it (narrows.on w p is_on)) is) [
@@ -223,10 +224,11 @@ module _ (core d : Inner) (v source block : ℕ) (bytes : List ℕ) (m0 m1 m2 m3
       | inr down ↦ absurd (up (narrows.acts.falls down))
     ]
 
-    pub run_Copied : RunCopied core v source block n d m0 m3
+    pub run_Copied : RunCopied core v source (InRun block n) d m0 m3
     run_Copied = record {
       moved = run_Moved;
       settled = settled;
+      trust = trust;
       source_on = source_on;
       up = up;
       value = λ k. piece block bytes k;
@@ -248,22 +250,45 @@ module _ (core : Inner) (v source block len : ℕ) (bytes : List ℕ) (m0 m1 m2 
   put_Stands = wrote_Stands core v block bytes m1 m2 law1 law2 (flushed_Stands core v m0 m1 law0 law1 stands read) (record { exists = fits_len.exists; some = fits_len.some; whole = fits_len.whole; within = fits_len.within }) write
 
   module _ (d : Inner) (m3 : Meaning) (law3 : Lawful m3) (narrows : Narrows core d m2 m3) (stands3 : InnerStands d m3) (spent : SpentBy core.config d.config m0 m3) (others_on : (w p : ℕ) → (w ≡ v → ⊥) → active d.config w p ≡ active core.config w p) where
-    pub put_Moved : CopyMoved core v source d m0 m3
-    put_Moved = run_Moved core d v source block bytes m0 m1 m2 m3 law0 law1 law2 law3 stands fits_len read read_len write narrows stands3 spent others_on
+    pub put_Moved : CopyMoved core v source (InRun block (len / 512)) d m0 m3
+    put_Moved = subst (λ (n : ℕ). CopyMoved core v source (InRun block (n / 512)) d m0 m3) same
+        (run_Moved core d v source block bytes m0 m1 m2 m3 law0 law1 law2 law3 stands fits_len read read_len write narrows stands3 spent others_on)
 
-    pub put_Copied : d.unsettled ≡ false → IsTrue (active d.config v source) → (IsTrue m3.down → ⊥)
-        → ((p : ℕ) → IsTrue (active d.config v p) → PlexWrote core.config v p block (length bytes / 512) block (length bytes / 512) bytes m1 m2) → RunCopied core v source block (len / 512) d m0 m3
-    put_Copied settled source_on up wrote = subst (λ (n : ℕ). RunCopied core v source block (n / 512) d m0 m3) same
-        (run_Copied core d v source block bytes m0 m1 m2 m3 law0 law1 law2 law3 stands fits_len read read_len write narrows stands3 spent others_on settled source_on up wrote)
+    pub put_Copied : (core.committed ≡ true → d.committed ≡ true) → d.unsettled ≡ false → IsTrue (active d.config v source) → (IsTrue m3.down → ⊥)
+        → ((p : ℕ) → IsTrue (active d.config v p) → PlexWrote core.config v p block (length bytes / 512) block (length bytes / 512) bytes m1 m2) → RunCopied core v source (InRun block (len / 512)) d m0 m3
+    put_Copied trust settled source_on up wrote = subst (λ (n : ℕ). RunCopied core v source (InRun block (n / 512)) d m0 m3) same
+        (run_Copied core d v source block bytes m0 m1 m2 m3 law0 law1 law2 law3 stands fits_len read read_len write narrows stands3 spent others_on trust settled source_on up wrote)
 
 pub ok_both : {T E : Type 0} (P Q : Type 0) (r : Result T E) → OnOk r P → OnOk r Q → OnOk r (P × Q)
 ok_both P Q (Ok x) p q = (p, q)
 ok_both P Q (Err e) p q = tt
 
--- ---- no block, and two runs in a row
+-- ---- blocks of picked regions
 
-pub none_Copied : (core : Inner) (v source : ℕ) (m : Meaning) → InnerStands core m → core.unsettled ≡ false → IsTrue (active core.config v source) → (IsTrue m.down → ⊥) → RunCopied core v source 0 0 core m m
-none_Copied core v source m stands settled is_on up = record {
+pub has_picked : (f : ℕ → Bool) (k : ℕ) → InPicked f k ⊎ (InPicked f k → ⊥)
+has_picked f k = by (f (k / 64))
+  where
+    by : (b : Bool) → IsTrue b ⊎ (IsTrue b → ⊥)
+    by true = inl refl
+    by false = inr (λ (is : false ≡ true). let clash : false ≡ true = is in cc)
+
+pub not_picked : (f : ℕ → Bool) (k : ℕ) → (InPicked f k → ⊥) → f (k / 64) ≡ false
+not_picked f k = by (f (k / 64))
+  where
+    by : (b : Bool) → (IsTrue b → ⊥) → b ≡ false
+    by true never = absurd (never refl)
+    by false never = refl
+
+pub has_below : (f : ℕ → Bool) (n k : ℕ) → InPickedBelow f n k ⊎ (InPickedBelow f n k → ⊥)
+has_below f n k = elim (cases_lt (k / 64) n) [
+  | inl lt ↦ ⊎_elim (λ is. inl (record { below = lt; picked = is })) (λ never. inr (λ it. never it.picked)) (has_picked f k)
+  | inr le ↦ inr (λ it. absurd (let lt = it.below in omega (arith, lt, le)))
+]
+
+-- ---- no block, and two sets of blocks in a row
+
+pub none_Copied : (core : Inner) (v source : ℕ) (f : ℕ → Bool) (m : Meaning) → InnerStands core m → core.unsettled ≡ false → IsTrue (active core.config v source) → (IsTrue m.down → ⊥) → RunCopied core v source (InPickedBelow f 0) core m m
+none_Copied core v source f m stands settled is_on up = record {
   moved = record {
     stands = stands;
     shape = same_shape core.config;
@@ -272,32 +297,65 @@ none_Copied core v source m stands settled is_on up = record {
     faults = refl;
     unsure = refl;
     spent = spent_none core.config m m;
-    acts = wide_Acts Nothing (FromSource core.config v source m) (Sees core.config NoMember m) m m (same_Acts (Sees core.config NoMember m) m) (λ u b x none. absurd none);
+    acts = wide_Acts Nothing (FromSource core.config v source (InPickedBelow f 0) m) (Sees core.config NoMember m) m m (same_Acts (Sees core.config NoMember m) m) (λ u b x none. absurd none);
   };
   settled = settled;
+  trust = λ is. is;
   source_on = is_on;
   up = up;
   value = λ k. [];
-  origin = λ k run in_it tells. absurd (let last : k < 0 + 0 = run.last in omega (arith, last));
-  copied = λ p k x run in_it on is. absurd (let last : k < 0 + 0 = run.last in omega (arith, last));
+  origin = λ k is in_it tells. absurd (let lt = is.below in omega (arith, lt));
+  copied = λ p k x is in_it on reads. absurd (let lt = is.below in omega (arith, lt));
   rest = λ w p k x apart in_it on is. is;
 }
 
-module _ (core d e : Inner) (v source first n : ℕ) (m0 m1 m2 : Meaning) (one : CopyMoved core v source d m0 m1)
+-- more blocks of the volume
+pub moved_wider : (core : Inner) (v source : ℕ) (P Q : ℕ → Type 0) (d : Inner) (m m' : Meaning) → ((k : ℕ) → P k → Q k) → CopyMoved core v source P d m m' → CopyMoved core v source Q d m m'
+moved_wider core v source P Q d m m' into moved = record {
+  stands = moved.stands;
+  shape = moved.shape;
+  on = moved.on;
+  others = moved.others;
+  faults = moved.faults;
+  unsure = moved.unsure;
+  spent = moved.spent;
+  acts = wide_Acts (FromSource core.config v source P m) (FromSource core.config v source Q m) (Sees core.config NoMember m) m m' moved.acts
+      (λ u b x it. record { number = it.number; plex = it.plex; inside = it.inside; is_one = into it.number it.is_one; is_on = it.is_on; at = it.at; value = it.value });
+}
+
+-- the same blocks of the volume by another name
+pub copied_as : (core : Inner) (v source : ℕ) (P Q : ℕ → Type 0) (d : Inner) (m m' : Meaning) → ((k : ℕ) → Inside core.config v k → Q k → P k) → ((k : ℕ) → P k → Q k) → RunCopied core v source P d m m' → RunCopied core v source Q d m m'
+copied_as core v source P Q d m m' back into run = record {
+  moved = moved_wider core v source P Q d m m' into run.moved;
+  settled = run.settled;
+  trust = run.trust;
+  source_on = run.source_on;
+  up = run.up;
+  value = run.value;
+  origin = λ k is in_it tells. run.origin k (back k in_it is) in_it tells;
+  copied = λ p k x is in_it on reads. run.copied p k x (back k in_it is) in_it on reads;
+  rest = λ w p k x apart in_it on reads. run.rest w p k x (λ same is. apart same (into k is)) in_it on reads;
+}
+
+module _ (core d e : Inner) (v source : ℕ) (P Q R : ℕ → Type 0) (first : (k : ℕ) → P k → R k) (second : (k : ℕ) → Q k → R k) (m0 m1 m2 : Meaning) (one : CopyMoved core v source P d m0 m1)
     (origin : (k : ℕ) (x : List ℕ) → Inside core.config v k → m1.reads (place core.config v source k).0 (place core.config v source k).1 x → IsTrue m0.tells → m0.reads (place core.config v source k).0 (place core.config v source k).1 x)
-    (two : CopyMoved d v source e m1 m2) where
-  as_first : (u b : ℕ) (x : List ℕ) → FromSource d.config v source m1 u b x → FromSource core.config v source m0 u b x
+    (two : CopyMoved d v source Q e m1 m2) where
+  as_first : (u b : ℕ) (x : List ℕ) → FromSource d.config v source Q m1 u b x → FromSource core.config v source R m0 u b x
   as_first u b x it =
       let in_it = inside_same d.config core.config one.shape v it.number it.inside in record {
         number = it.number;
         plex = it.plex;
         inside = in_it;
+        is_one = second it.number it.is_one;
         is_on = one.on v it.plex it.is_on;
         at = sym (one.shape.place v it.plex it.number) ∙ it.at;
         value = λ tells. origin it.number x in_it (subst (λ (q : ℕ × ℕ). m1.reads q.0 q.1 x) (one.shape.place v source it.number) (it.value (one.acts.tells ∙ tells))) tells;
       }
 
-  pub both_Moved : CopyMoved core v source e m0 m2
+  as_wider : (u b : ℕ) (x : List ℕ) → FromSource core.config v source P m0 u b x → FromSource core.config v source R m0 u b x
+  as_wider u b x it = record { number = it.number; plex = it.plex; inside = it.inside; is_one = first it.number it.is_one; is_on = it.is_on; at = it.at; value = it.value }
+
+  pub both_Moved : CopyMoved core v source R e m0 m2
   both_Moved = record {
     stands = two.stands;
     shape = then_shape e.config d.config core.config two.shape one.shape;
@@ -306,28 +364,25 @@ module _ (core d e : Inner) (v source first n : ℕ) (m0 m1 m2 : Meaning) (one :
     faults = two.faults ∙ one.faults;
     unsure = two.unsure ∙ one.unsure;
     spent = spent_both core.config d.config e.config m0 m1 m2 one.acts.disk_faults two.acts.disk_faults one.acts.faults two.acts.faults one.spent two.spent;
-    acts = wide_Acts (Or (FromSource core.config v source m0) (FromSource d.config v source m1)) (FromSource core.config v source m0) (Sees core.config NoMember m0) m0 m2
-        (both_Acts (FromSource core.config v source m0) (FromSource d.config v source m1) (Sees core.config NoMember m0) (Sees d.config NoMember m1) m0 m1 m2 one.acts two.acts
+    acts = wide_Acts (Or (FromSource core.config v source P m0) (FromSource d.config v source Q m1)) (FromSource core.config v source R m0) (Sees core.config NoMember m0) m0 m2
+        (both_Acts (FromSource core.config v source P m0) (FromSource d.config v source Q m1) (Sees core.config NoMember m0) (Sees d.config NoMember m1) m0 m1 m2 one.acts two.acts
         (λ i sees. sees_wider core.config d.config NoMember m0 m1 one.shape one.on one.acts.units one.acts.size i sees))
-        (λ u b x. ⊎_elim (λ put. put) (λ put. as_first u b x put));
+        (λ u b x. ⊎_elim (λ put. as_wider u b x put) (λ put. as_first u b x put));
   }
 
-module _ (core d e : Inner) (v source first n : ℕ) (m0 m1 m2 : Meaning) (one : RunCopied core v source 0 first d m0 m1) where
-  in_first : (k : ℕ) → k < first → InRun 0 first k
-  in_first k lt = record { first = omega arith; last = omega (arith, lt) }
-
+module _ (core d e : Inner) (v source : ℕ) (P : ℕ → Type 0) (m0 m1 m2 : Meaning) (one : RunCopied core v source P d m0 m1) (has : (k : ℕ) → P k ⊎ (P k → ⊥)) where
   -- the source still has what it read
   pub source_origin : (k : ℕ) (x : List ℕ) → Inside core.config v k → m1.reads (place core.config v source k).0 (place core.config v source k).1 x → IsTrue m0.tells → m0.reads (place core.config v source k).0 (place core.config v source k).1 x
-  source_origin k x in_it is tells = elim (cases_lt k first) [
-    | inl lt ↦
-        let same : x ≡ one.value k = one.copied source k x (in_first k lt) in_it one.source_on is in
-        subst (λ (y : List ℕ). m0.reads (place core.config v source k).0 (place core.config v source k).1 y) (sym same) (one.origin k (in_first k lt) in_it tells)
-    | inr le ↦ one.rest v source k x (λ same run. let last : k < 0 + first = run.last in omega (arith, last, le)) in_it one.source_on is
+  source_origin k x in_it is tells = elim (has k) [
+    | inl put ↦
+        let same : x ≡ one.value k = one.copied source k x put in_it one.source_on is in
+        subst (λ (y : List ℕ). m0.reads (place core.config v source k).0 (place core.config v source k).1 y) (sym same) (one.origin k put in_it tells)
+    | inr none ↦ one.rest v source k x (λ same put. none put) in_it one.source_on is
   ]
 
-  module _ (two : RunCopied d v source first n e m1 m2) where
+  module _ (Q R : ℕ → Type 0) (two : RunCopied d v source Q e m1 m2) (parts : (k : ℕ) → R k → P k ⊎ Q k) (first : (k : ℕ) → P k → R k) (second : (k : ℕ) → Q k → R k) (never : (k : ℕ) → P k → Q k → ⊥) where
     value : ℕ → List ℕ
-    value k = elim (cases_lt k first) [ inl lt ↦ one.value k | inr le ↦ two.value k ]
+    value k = elim (has k) [ inl put ↦ one.value k | inr none ↦ two.value k ]
 
     at_d : (s : Values) (w p k : ℕ) (x : List ℕ) → s (place core.config w p k).0 (place core.config w p k).1 x → s (place d.config w p k).0 (place d.config w p k).1 x
     at_d s w p k x is = subst (λ (q : ℕ × ℕ). s q.0 q.1 x) (sym (one.moved.shape.place w p k)) is
@@ -338,112 +393,95 @@ module _ (core d e : Inner) (v source first n : ℕ) (m0 m1 m2 : Meaning) (one :
     inside_d : (w k : ℕ) → Inside core.config w k → Inside d.config w k
     inside_d w k in_it = inside_back d.config core.config one.moved.shape w k in_it
 
-    -- a block that the second run left alone
-    not_second : (w p k : ℕ) (x : List ℕ) → (w ≡ v → InRun first n k → ⊥) → Inside core.config w k → IsTrue (active e.config w p) → m2.reads (place core.config w p k).0 (place core.config w p k).1 x → m1.reads (place core.config w p k).0 (place core.config w p k).1 x
+    -- a block that the second copy left alone
+    not_second : (w p k : ℕ) (x : List ℕ) → (w ≡ v → Q k → ⊥) → Inside core.config w k → IsTrue (active e.config w p) → m2.reads (place core.config w p k).0 (place core.config w p k).1 x → m1.reads (place core.config w p k).0 (place core.config w p k).1 x
     not_second w p k x apart in_it is_on is = at_core m1.reads w p k x (two.rest w p k x apart (inside_d w k in_it) is_on (at_d m2.reads w p k x is))
 
-    origin_both : (k : ℕ) → InRun 0 (first + n) k → Inside core.config v k → IsTrue m0.tells → m0.reads (place core.config v source k).0 (place core.config v source k).1 (value k)
-    unfolding value
-    origin_both k run in_it tells = by (cases_lt k first)
-      where
-        by : (c : (k < first) ⊎ (first ≤ k)) → m0.reads (place core.config v source k).0 (place core.config v source k).1 (elim c [ inl lt ↦ one.value k | inr le ↦ two.value k ])
-        by (inl lt) = one.origin k (in_first k lt) in_it tells
-        by (inr le) = let last : k < 0 + (first + n) = run.last in
-            source_origin k (two.value k) in_it (at_core m1.reads v source k (two.value k) (two.origin k (record { first = le; last = omega (arith, last) }) (inside_d v k in_it) (one.moved.acts.tells ∙ tells))) tells
+    -- one that the first did not copy is one of the second
+    left_over : (k : ℕ) → (P k → ⊥) → R k → Q k
+    left_over k none is = ⊎_elim (λ put. absurd (none put)) (λ put. put) (parts k is)
 
-    copied_both : (p k : ℕ) (x : List ℕ) → InRun 0 (first + n) k → Inside core.config v k → IsTrue (active e.config v p) → m2.reads (place core.config v p k).0 (place core.config v p k).1 x → x ≡ value k
+    origin_both : (k : ℕ) → R k → Inside core.config v k → IsTrue m0.tells → m0.reads (place core.config v source k).0 (place core.config v source k).1 (value k)
     unfolding value
-    copied_both p k x run in_it is_on is = by (cases_lt k first)
+    origin_both k is in_it tells = by (has k)
       where
-        by : (c : (k < first) ⊎ (first ≤ k)) → x ≡ elim c [ inl lt ↦ one.value k | inr le ↦ two.value k ]
-        by (inl lt) = one.copied p k x (in_first k lt) in_it (two.moved.on v p is_on) (not_second v p k x (λ same second. let low : first ≤ k = second.first in omega (arith, low, lt)) in_it is_on is)
-        by (inr le) = let last : k < 0 + (first + n) = run.last in
-            two.copied p k x (record { first = le; last = omega (arith, last) }) (inside_d v k in_it) is_on (at_d m2.reads v p k x is)
+        by : (c : P k ⊎ (P k → ⊥)) → m0.reads (place core.config v source k).0 (place core.config v source k).1 (elim c [ inl put ↦ one.value k | inr none ↦ two.value k ])
+        by (inl put) = one.origin k put in_it tells
+        by (inr none) = source_origin k (two.value k) in_it (at_core m1.reads v source k (two.value k) (two.origin k (left_over k none is) (inside_d v k in_it) (one.moved.acts.tells ∙ tells))) tells
 
-    pub both_Copied : RunCopied core v source 0 (first + n) e m0 m2
+    copied_both : (p k : ℕ) (x : List ℕ) → R k → Inside core.config v k → IsTrue (active e.config v p) → m2.reads (place core.config v p k).0 (place core.config v p k).1 x → x ≡ value k
+    unfolding value
+    copied_both p k x is in_it is_on reads = by (has k)
+      where
+        by : (c : P k ⊎ (P k → ⊥)) → x ≡ elim c [ inl put ↦ one.value k | inr none ↦ two.value k ]
+        by (inl put) = one.copied p k x put in_it (two.moved.on v p is_on) (not_second v p k x (λ same later. never k put later) in_it is_on reads)
+        by (inr none) = two.copied p k x (left_over k none is) (inside_d v k in_it) is_on (at_d m2.reads v p k x reads)
+
+    pub both_Copied : RunCopied core v source R e m0 m2
     both_Copied = record {
-      moved = both_Moved core d e v source first n m0 m1 m2 one.moved source_origin two.moved;
+      moved = both_Moved core d e v source P Q R first second m0 m1 m2 one.moved source_origin two.moved;
       settled = two.settled;
+      trust = λ is. two.trust (one.trust is);
       source_on = two.source_on;
       up = two.up;
       value = value;
       origin = origin_both;
       copied = copied_both;
       rest = λ w p k x apart in_it is_on is.
-          one.rest w p k x (λ same run. let last : k < 0 + first = run.last in apart same (record { first = omega arith; last = omega (arith, last) })) in_it (two.moved.on w p is_on)
-          (not_second w p k x (λ same run. let last : k < first + n = run.last in apart same (record { first = omega arith; last = omega (arith, last) })) in_it is_on is);
+          one.rest w p k x (λ same put. apart same (first k put)) in_it (two.moved.on w p is_on)
+          (not_second w p k x (λ same put. apart same (second k put)) in_it is_on is);
     }
 
-  -- and a flush behind them
-  module _ (narrows : Narrows d e m1 m2) (spent : SpentBy d.config e.config m1 m2) (others_on : (w p : ℕ) → (w ≡ v → ⊥) → active e.config w p ≡ active d.config w p) (stands : InnerStands e m2) where
-    narrows_Moved : CopyMoved d v source e m1 m2
-    narrows_Moved = record {
-      stands = stands;
-      shape = narrows.shape;
-      on = narrows.on;
-      others = others_on;
-      faults = narrows.faults;
-      unsure = narrows.unsure;
-      spent = spent;
-      acts = wide_Acts Nothing (FromSource d.config v source m1) (Sees d.config NoMember m1) m1 m2
-          (loose_Acts Nothing (Sees d.config (Member d.good m1) m1) (Sees d.config NoMember m1) m1 m2 narrows.acts (λ i sees. sees_none d.config (Member d.good m1) m1 i sees)) (λ u b x none. absurd none);
+-- and a flush behind them
+module _ (core d e : Inner) (v source : ℕ) (f : ℕ → Bool) (m0 m1 m2 : Meaning) (one : RunCopied core v source (InPicked f) d m0 m1) (narrows : Narrows d e m1 m2) (spent : SpentBy d.config e.config m1 m2)
+    (others_on : (w p : ℕ) → (w ≡ v → ⊥) → active e.config w p ≡ active d.config w p) (stands : InnerStands e m2) where
+  narrows_Moved : CopyMoved d v source (InPicked f) e m1 m2
+  narrows_Moved = record {
+    stands = stands;
+    shape = narrows.shape;
+    on = narrows.on;
+    others = others_on;
+    faults = narrows.faults;
+    unsure = narrows.unsure;
+    spent = spent;
+    acts = wide_Acts Nothing (FromSource d.config v source (InPicked f) m1) (Sees d.config NoMember m1) m1 m2
+        (loose_Acts Nothing (Sees d.config (Member d.good m1) m1) (Sees d.config NoMember m1) m1 m2 narrows.acts (λ i sees. sees_none d.config (Member d.good m1) m1 i sees)) (λ u b x none. absurd none);
+  }
+
+  pub flush_Moved : CopyMoved core v source (InPicked f) e m0 m2
+  flush_Moved = both_Moved core d e v source (InPicked f) (InPicked f) (InPicked f) (λ k is. is) (λ k is. is) m0 m1 m2 one.moved (source_origin core d e v source (InPicked f) m0 m1 m2 one (has_picked f)) narrows_Moved
+
+  module _ (settled : e.unsettled ≡ false) (trust : d.committed ≡ true → e.committed ≡ true) (up : IsTrue m2.down → ⊥) (flushed : AllFlushed e.config v m1 m2) where
+    place_e : (w p k : ℕ) → place e.config w p k ≡ place core.config w p k
+    place_e w p k = narrows.shape.place w p k ∙ one.moved.shape.place w p k
+
+    inside_e : (w k : ℕ) → Inside core.config w k → Inside e.config w k
+    inside_e w k in_it = inside_back e.config d.config narrows.shape w k (inside_back d.config core.config one.moved.shape w k in_it)
+
+    was_read : (p k : ℕ) (x : List ℕ) → Inside core.config v k → IsTrue (active e.config v p) → m2.leaves (place core.config v p k).0 (place core.config v p k).1 x → m1.reads (place core.config v p k).0 (place core.config v p k).1 x
+    was_read p k x in_it is_on left =
+        let at : m2.leaves (place e.config v p k).0 (place e.config v p k).1 x = subst (λ (q : ℕ × ℕ). m2.leaves q.0 q.1 x) (sym (place_e v p k)) left in
+        subst (λ (q : ℕ × ℕ). m1.reads q.0 q.1 x) (place_e v p k) ((flushed.each p is_on).each k x (inside_e v k in_it) at)
+
+    pub flush_Mirrored : (above : (w p k : ℕ) → Inside core.config w k → IsTrue (active core.config w p) → 512 ≤ (place core.config w p k).1) → Mirrored core v source f e m0 m2
+    flush_Mirrored above = record {
+      moved = flush_Moved;
+      settled = settled;
+      trust = λ is. trust (one.trust is);
+      up = up;
+      value = one.value;
+      origin = one.origin;
+      one = λ p k x is in_it is_on left. one.copied p k x is in_it (narrows.on v p is_on) (was_read p k x in_it is_on left);
+      kept = λ p k x off in_it is_on left. one.rest v p k x (λ same is. off is) in_it (narrows.on v p is_on) (was_read p k x in_it is_on left);
+      rest = λ w p k x apart in_it is_on is. elim (narrows.acts.reads (place core.config w p k).0 (place core.config w p k).1 x (above w p k in_it (one.moved.on w p (narrows.on w p is_on))) is) [
+        | inl (inl was) ↦ one.rest w p k x (λ same run. apart same) in_it (narrows.on w p is_on) was
+        | inl (inr none) ↦ absurd none
+        | inr down ↦ absurd (up down)
+      ];
     }
-
-    pub flush_Moved : CopyMoved core v source e m0 m2
-    flush_Moved = both_Moved core d e v source first n m0 m1 m2 one.moved source_origin narrows_Moved
-
-    module _ (settled : e.unsettled ≡ false) (up : IsTrue m2.down → ⊥) (flushed : AllFlushed e.config v m1 m2) (whole : first ≡ blocks_of core.config.volumes v) where
-      place_e : (w p k : ℕ) → place e.config w p k ≡ place core.config w p k
-      place_e w p k = narrows.shape.place w p k ∙ one.moved.shape.place w p k
-
-      inside_e : (w k : ℕ) → Inside core.config w k → Inside e.config w k
-      inside_e w k in_it = inside_back e.config d.config narrows.shape w k (inside_back d.config core.config one.moved.shape w k in_it)
-
-      whole_run : (k : ℕ) → Inside core.config v k → InRun 0 first k
-      whole_run k in_it = record { first = omega arith; last = let lt : k < blocks_of core.config.volumes v = in_it.within in omega (arith, lt, whole) }
-
-      left_one : (p k : ℕ) (x : List ℕ) → Inside core.config v k → IsTrue (active e.config v p) → m2.leaves (place core.config v p k).0 (place core.config v p k).1 x → x ≡ one.value k
-      left_one p k x in_it is_on left =
-          let at : m2.leaves (place e.config v p k).0 (place e.config v p k).1 x = subst (λ (q : ℕ × ℕ). m2.leaves q.0 q.1 x) (sym (place_e v p k)) left in
-          let was : m1.reads (place e.config v p k).0 (place e.config v p k).1 x = (flushed.each p is_on).each k x (inside_e v k in_it) at in
-          one.copied p k x (whole_run k in_it) in_it (narrows.on v p is_on) (subst (λ (q : ℕ × ℕ). m1.reads q.0 q.1 x) (place_e v p k) was)
-
-      pub flush_Mirrored : (above : (w p k : ℕ) → Inside core.config w k → IsTrue (active core.config w p) → 512 ≤ (place core.config w p k).1) → Mirrored core v source e m0 m2
-      flush_Mirrored above = record {
-        moved = flush_Moved;
-        settled = settled;
-        up = up;
-        value = one.value;
-        origin = λ k in_it tells. one.origin k (whole_run k in_it) in_it tells;
-        one = left_one;
-        rest = λ w p k x apart in_it is_on is. elim (narrows.acts.reads (place core.config w p k).0 (place core.config w p k).1 x (above w p k in_it (one.moved.on w p (narrows.on w p is_on))) is) [
-          | inl (inl was) ↦ one.rest w p k x (λ same run. apart same) in_it (narrows.on w p is_on) was
-          | inl (inr none) ↦ absurd none
-          | inr down ↦ absurd (up down)
-        ];
-      }
 
 -- ---- answers
 
 pub ok_blamed : {T : Type 0} (Q P : Type 0) (r : Result T ShelfError) (old new : Meaning) → OnOk r Q → Blames old new r → (Q → (IsTrue new.down → ⊥) → P) → OnOk r P
 ok_blamed Q P (Ok x) old new is up made_by = made_by is up
 ok_blamed Q P (Err error) old new is why made_by = tt
-
--- ---- one run of the loop
-
-pub run_fits : (core d : Inner) (v done count len total : ℕ) (m : Meaning) → SameShape d.config core.config → v < length core.config.volumes → len ≡ 512 * count → 0 < count → done + count ≤ total → total ≡ blocks_of core.config.volumes v
-    → Fits (inner_meaning d m) v done len
-run_fits core d v done count len total m shape there long some within is = record {
-  exists = let same : length d.config.volumes ≡ length core.config.volumes = shape.volumes in omega (arith, same, there);
-  some = omega (arith, long, some);
-  whole = omega (arith, long);
-  within = let same : blocks_of d.config.volumes v ≡ blocks_of core.config.volumes v = shape.blocks v in omega (arith, same, long, within, is);
-}
-
-pub run_copied : (core : Inner) (v source first len count : ℕ) (d : Inner) (m m' : Meaning) → len ≡ 512 * count → RunCopied core v source first (len / 512) d m m' → RunCopied core v source first count d m m'
-run_copied core v source first len count d m m' long run = let same : len / 512 ≡ count = omega (arith, long) in subst (λ (n : ℕ). RunCopied core v source first n d m m') same run
-
-pub take_length : (n : ℕ) (xs : List ℕ) → n ≤ length xs → length (take n xs) ≡ n
-take_length zero xs le = refl
-take_length (suc n) [] le = absurd (omega (arith, le))
-take_length (suc n) (x ∷ xs) le = ap suc (take_length n xs (omega (arith, le)))

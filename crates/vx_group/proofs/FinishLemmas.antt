@@ -21,6 +21,7 @@ use Rattle.vx_copies.specs.Bodies.{is_wanted}
 use Rattle.vx_copies.specs.Commits.{CommitStops, Grown, MoreFailed}
 use Rattle.vx_copies.specs.Marks.{NoneGood, blocks_at, failed_at}
 use Rattle.vx_layout.specs.Places.{place}
+use Rattle.vx_logs.specs.declared.logs.Logs.{Logs}
 use Rattle.vx_volume.specs.Plexes.{active}
 use Rattle.vx_volume.proofs.ReadRuns.{still}
 use Rattle.vx_kept.specs.Cleans.{at_serial, is_unsure}
@@ -156,7 +157,7 @@ module _ (core e : Inner) (m m' : Meaning) (after : Lawful m') (stands : InnerSt
 
 -- ---- headers that were settled, and then volumes
 
-module _ (core d e f : Inner) (flags : List Bool) (sources : List ℕ) (m0 m1 m2 m3 : Meaning) (law1 : Lawful m1) (stands : InnerStands core m0) (stands1 : InnerStands d m1) (first : Narrows core d m0 m1) where
+module _ (core d e f : Inner) (flags : List Bool) (sources : List ℕ) (logs : List Logs) (m0 m1 m2 m3 : Meaning) (law1 : Lawful m1) (stands : InnerStands core m0) (stands1 : InnerStands d m1) (first : Narrows core d m0 m1) where
   first_on : GroupGoesOn core d m0 m1
   first_on = narrows_on core d m0 m1 law1 stands stands1 first
 
@@ -164,7 +165,7 @@ module _ (core d e f : Inner) (flags : List Bool) (sources : List ℕ) (m0 m1 m2
   stopped_on two = both_on core d e m0 m1 m2 first_on two
 
   module _ (volumes : d.config.volumes ≡ core.config.volumes) (serial : d.config.serial ≡ core.config.serial) (unmoved : (d.config ≡ core.config) ⊎ AnyFailed m0 m1) (failing : MoreFailed m0 m1 core.config.disks d.config.disks) (up1 : IsTrue m1.down → ⊥)
-      (mending : Mending d flags sources (length d.config.volumes) e m1 m2) where
+      (mending : Mending d flags sources logs (length d.config.volumes) e m1 m2) where
     count_same : length d.config.volumes ≡ length core.config.volumes
     count_same = ap length volumes
 

@@ -88,8 +88,8 @@ module _ (old m1 : Meaning) (plan : Plan) (taken : IsTaken old m1 plan) where
       whole_goes = still (group_meaning opened (λ v. 0) old) (inner_meaning plan.core m1) (inner_meaning d new)
           (taken_Goes old m1 law law1 goes large can taken.config opened taken.up.readable taken.up.image taken.up.read taken.up.is taken.up.opens (λ is. taken.made.sound) (volume_faults plan.core.faults)) on.goes
 
-      half : HalfResumed old new
-      half = record { config = taken.config; core = d; opened = opened; taken = up_to; stands = on.stands; goes = whole_goes }
+      half : d.agreed ≡ true → HalfResumed old new
+      half agreed = record { config = taken.config; core = d; opened = opened; taken = up_to; stands = on.stands; agreed = agreed; goes = whole_goes }
 
     stops_before : (why : No) → StopsLate m1 new why → StopsLate old new why
     stops_before why (inl cause) = inl (cause_before old m1 new goes.disk_faults why cause)
@@ -113,8 +113,8 @@ module _ (old m1 : Meaning) (plan : Plan) (taken : IsTaken old m1 plan) where
             one = was.one;
           })
 
-      resumed : Resumed old d new
-      resumed = record {
+      resumed : (plan.core.committed ≡ true → d.committed ≡ true) → Resumed old d new
+      resumed keeps = record {
         config = taken.config;
         opened = opened;
         taken = up_to fin.made.on;
@@ -129,17 +129,17 @@ module _ (old m1 : Meaning) (plan : Plan) (taken : IsTaken old m1 plan) where
         loses = loses_later opened d.config old m1 new goes.faults fin.made.on.unit_faults fin.made.loses;
         on = fin.made.on.on;
         finds = fin.made.finds;
-        trust = fin.made.trust;
+        committed = keeps taken.made.committed;
         goes = whole_goes fin.made.on;
         mended = mended;
         gives = gives_image old taken.config opened d new taken.up.readable taken.up.image law (group_lawful d new law2 fin.made.on.stands) can taken.up.read taken.up.is taken.up.opens mended;
       }
 
-    pub import_ok : Lawful new → (IsTrue m1.down → ⊥) → Renewed plan.core plan.stopped plan.sources d m1 new → Resumed old d new
-    import_ok law2 up1 fin = resumed law2 up1 fin
+    pub import_ok : Lawful new → (IsTrue m1.down → ⊥) → Renewed plan.core plan.stopped plan.sources d m1 new → (plan.core.committed ≡ true → d.committed ≡ true) → Resumed old d new
+    import_ok law2 up1 fin keeps = resumed law2 up1 fin keeps
 
-    pub import_late : (why : No) → GroupGoesOn plan.core d m1 new × StopsLate m1 new why → ImportStops old new (Refused why)
-    import_late why stops = inr (half stops.0, stops_before why stops.1)
+    pub import_late : (why : No) → GroupGoesOn plan.core d m1 new × StopsLate m1 new why → (plan.core.committed ≡ true → d.agreed ≡ true) → ImportStops old new (Refused why)
+    import_late why stops agrees = inr (half stops.0 (agrees taken.made.committed), stops_before why stops.1)
 
 pub import_early : (old new : Meaning) (stop : Stop) → Goes Nothing old new → TakesPlan old new (Err stop) → ImportStops old new stop
 import_early old new (Refused why) goes (inl imported) = inl (goes, inr (inr (inl imported)))

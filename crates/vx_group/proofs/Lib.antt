@@ -7,10 +7,14 @@ pub mod ReadLemmas
 pub mod FailingLemmas
 pub mod ReadyLemmas
 pub mod RegainLemmas
+pub mod RvgSound
+pub mod RvgLemmas
 pub mod CreateLemmas
 pub mod DetLemmas
 pub mod LoseLemmas
 pub mod CopyLemmas
+pub mod RegionLemmas
+pub mod MissLemmas
 pub mod QuiesceLemmas
 pub mod DeportLemmas
 pub mod FoundLemmas
@@ -31,6 +35,8 @@ pub mod ThroughLemmas
 pub mod BehindLemmas
 pub mod ImportLemmas
 pub mod CrashLemmas
+pub mod LessLemmas
+pub mod AgainLemmas
 pub mod FallenLemmas
 pub mod OpeningLemmas
 pub mod AttachLemmas

@@ -1,9 +1,10 @@
 -- A volume that is made: its plan, and what is added behind headers that were written back.
-use Rattle.std.proofs.Common.{◌≡◌, inl, inr, ℕ, ◌<◌, Bool, true, false, Option, None, List, length, Result, Ok, Err, refl, ap, sym, ◌∙◌, subst, arith}
+use Rattle.std.proofs.Common.{◌≡◌, inl, inr, ⊎_elim, ℕ, ◌<◌, Bool, true, false, Option, None, List, [], ◌∷◌, ◌++◌, length, Result, Ok, Err, refl, ap, sym, ◌∙◌, subst, arith}
 use Rattle.std.specs.Prelude.{IfSome, map, slice_get}
 use Rattle.std.proofs.lemmas.Bool.{and_parts, cases_lt}
 use Rattle.vx_disk.specs.Causes.{refusal_of}
-use Rattle.vx_disk.specs.Shelf.{Goes, Lawful, Meaning, Nothing}
+use Rattle.vx_disk.specs.Moves.{Anything, Says}
+use Rattle.vx_disk.specs.Shelf.{Goes, Lawful, Meaning, Nothing, Or, Values}
 use Rattle.vx_disk.specs.declared.shelf.ShelfError.{ShelfError}
 use Rattle.vx_disk.specs.declared.shelf.ShelfError.TheVariants.{Fault, Down}
 use Rattle.vx_disk.proofs.Runs.{same_Goes}
@@ -31,12 +32,13 @@ use Rattle.vx_volume.proofs.ReadRuns.{still}
 use Rattle.vx_kept.specs.Choice.{live_or}
 use Rattle.vx_kept.specs.Commits.{Member}
 use Rattle.vx_kept.specs.Groups.{PlacesApart, group_meaning}
-use Rattle.vx_kept.specs.Keeping.{Sees}
+use Rattle.vx_kept.specs.Keeping.{Acts, Sees}
 use Rattle.vx_kept.proofs.Chosen.{active_volumes, alike_shape, extends_volumes, same_extends}
+use Rattle.vx_kept.proofs.PlexActing.{wider_Acts}
 use Rattle.vx_kept.proofs.StateLemmas.{same_shape}
-use Rattle.vx_kept.proofs.Steps.{group-Goes, same_Acts}
+use Rattle.vx_kept.proofs.Steps.{both_Acts, group-Goes, same_Acts, wide_Acts}
 use Rattle.vx_group.specs.Blames.{StopsByDevice}
-use Rattle.vx_group.specs.Makes.{AreZero, IsVolume, MakeEnds, MakeStops, StayAsWere, Unmoved, VolumeMade, make_refusal}
+use Rattle.vx_group.specs.Makes.{AreZero, IsVolume, MakeEnds, MakeStops, MakesBeside, StayAsWere, Unmoved, VolumeMade, ZerosOn, make_refusal}
 use Rattle.vx_group.specs.Moves.{Narrows}
 use Rattle.vx_group.specs.Nexts.{Added, Adds, IsNextConfig, IsPlanned, LongerEnds, PlanEnds}
 use Rattle.vx_group.specs.Settled.{SameBut}
@@ -199,3 +201,30 @@ unmoved_stop same OutOfMemory is = is
 pub unmoved_error : (same : Type 0) (e : ShelfError) → Unmoved {T = ℕ} (Err (Refused (refusal_of e))) same
 unmoved_error same (Fault disk) = tt
 unmoved_error same Down = tt
+
+-- ---- what is written beside the configuration areas
+
+pub nothing_beside : (P : Says) (m m1 : Meaning) → Acts Nothing P m m1 → Acts Nothing Anything m m1
+nothing_beside P m m1 acts = wider_Acts Nothing Nothing P m m1 acts (λ u b x none. none)
+
+then_beside : (W : Values) (m m1 m2 : Meaning) → Acts Nothing Anything m m1 → Acts W Anything m1 m2 → Acts W Anything m m2
+then_beside W m m1 m2 one two = wide_Acts (Or Nothing W) W Anything m m2 (both_Acts Nothing W Anything Anything m m1 m2 one two (λ i now. tt)) (λ u b x. ⊎_elim (λ none. absurd none) (λ put. put))
+
+pub begun_behind : (P : Says) (c mid next : Config) (m m1 m2 : Meaning) → mid.volumes ≡ c.volumes → Acts Nothing P m m1 → IsNextConfig mid next → Acts (ZerosOn next (length mid.volumes)) Anything m1 m2 → MakesBeside c m m2
+begun_behind P c mid next m m1 m2 volumes acts is_next begun = inr (record {
+  next = next;
+  volume = is_next.volume;
+  is = ap (λ (x : Config). x.volumes) is_next.is ∙ ap (λ (vs : List VolumeEntry). vs ++ (is_next.volume ∷ [])) volumes;
+  sound = is_next.sound;
+  acts = subst (λ (n : ℕ). Acts (ZerosOn next n) Anything m m2) (ap length volumes) (then_beside (ZerosOn next (length mid.volumes)) m m1 m2 (nothing_beside P m m1 acts) begun);
+})
+
+pub makes_behind : (P : Says) (c mid : Config) (m m1 m2 : Meaning) → mid.volumes ≡ c.volumes → Acts Nothing P m m1 → MakesBeside mid m1 m2 → MakesBeside c m m2
+makes_behind P c mid m m1 m2 volumes acts (inl none) = inl (then_beside Nothing m m1 m2 (nothing_beside P m m1 acts) none)
+makes_behind P c mid m m1 m2 volumes acts (inr begins) = inr (record {
+  next = begins.next;
+  volume = begins.volume;
+  is = begins.is ∙ ap (λ (vs : List VolumeEntry). vs ++ (begins.volume ∷ [])) volumes;
+  sound = begins.sound;
+  acts = subst (λ (n : ℕ). Acts (ZerosOn begins.next n) Anything m m2) (ap length volumes) (then_beside (ZerosOn begins.next (length mid.volumes)) m m1 m2 (nothing_beside P m m1 acts) begins.acts);
+})

@@ -1,5 +1,5 @@
 -- Plexes that are tried as sources of a copy, one after the other.
-use Rattle.std.proofs.Common.{◌≡◌, ◌⊎◌, inl, inr, ⊎_elim, ℕ, ◌+◌, ◌<◌, ◌≤◌, true, false, IsTrue, Result, Ok, Err, length, refl, sym, ◌∙◌, subst, arith}
+use Rattle.std.proofs.Common.{◌≡◌, ◌⊎◌, inl, inr, ⊎_elim, ℕ, ◌+◌, ◌<◌, ◌≤◌, true, false, IsTrue, Option, Result, Ok, Err, length, refl, sym, ◌∙◌, subst, arith}
 use Rattle.std.proofs.lemmas.Bool.{cases_lt}
 use Rattle.vx_disk.specs.Counts.{Rose}
 use Rattle.vx_disk.specs.Shelf.{Lawful, Meaning}
@@ -7,6 +7,7 @@ use Rattle.vx_disk.specs.declared.shelf.ShelfError.{ShelfError}
 use Rattle.vx_disk.specs.declared.shelf.ShelfError.TheVariants.{Fault, Down}
 use Rattle.vx_disk.proofs.Causing.{Rose_after, Rose_before}
 use Rattle.vx_config.specs.declared.config.Config.{Config}
+use Rattle.vx_fmr.specs.Missed.{Missed}
 use Rattle.vx_volume.specs.Copies.{CopyCause}
 use Rattle.vx_volume.specs.Plexes.{active, uses}
 use Rattle.vx_volume.specs.Volumes.{PlexBlamed}
@@ -36,24 +37,24 @@ tried_by c v source p device old new (Err (Fault disk)) why = (inr (why.0, why.1
 tried_by c v source p device old new (Err Down) down = down
 
 -- no call was made
-pub no_attaches : (v p : ℕ) (core : Inner) (m : Meaning) → Lawful m → InnerStands core m → Attaches v p core core m m
-no_attaches v p core m lawful stands = narrows_attaches v p core core m m lawful stands (same_narrows core core m refl refl refl) (λ w q apart. refl)
+pub no_attaches : (v p : ℕ) (f : Option Missed) (core : Inner) (m : Meaning) → Lawful m → InnerStands core m → Attaches v p f core core m m
+no_attaches v p f core m lawful stands = narrows_attaches v p f core core m m lawful stands (same_narrows core core m refl refl refl) (λ w q apart. refl)
 
-pub sources_start : (core : Inner) (v p device : ℕ) (m : Meaning) → Lawful m → InnerStands core m → (IsTrue m.down → ⊥) → SourcesTried core v p 0 device m m
-sources_start core v p device m lawful stands up = record {
+pub sources_start : (core : Inner) (v p : ℕ) (f : Option Missed) (device : ℕ) (m : Meaning) → Lawful m → InnerStands core m → (IsTrue m.down → ⊥) → SourcesTried core v p f 0 device m m
+sources_start core v p f device m lawful stands up = record {
   stands = stands;
-  attaches = no_attaches v p core m lawful stands;
+  attaches = no_attaches v p f core m lawful stands;
   up = up;
   tried = λ q lt is_on. absurd (omega (arith, lt));
 }
 
-module _ (core : Inner) (v p n device : ℕ) (m0 m1 m2 : Meaning) (so_far : SourcesTried core v p n device m0 m1) (l d : Inner) (at : l ≡ core) (same : d ≡ l) where
+module _ (core : Inner) (v p : ℕ) (f : Option Missed) (n device : ℕ) (m0 m1 m2 : Meaning) (so_far : SourcesTried core v p f n device m0 m1) (l d : Inner) (at : l ≡ core) (same : d ≡ l) where
   core_is : d ≡ core
   core_is = same ∙ at
 
-  module _ (attaches : Attaches v p l d m1 m2) where
-    one_more : Attaches v p core core m1 m2
-    one_more = subst (λ (x : Inner). Attaches v p core x m1 m2) core_is (subst (λ (x : Inner). Attaches v p x d m1 m2) at attaches)
+  module _ (attaches : Attaches v p f l d m1 m2) where
+    one_more : Attaches v p f core core m1 m2
+    one_more = subst (λ (x : Inner). Attaches v p f core x m1 m2) core_is (subst (λ (x : Inner). Attaches v p f x d m1 m2) at attaches)
 
     before : (u : ℕ) → m0.faults u ≤ m1.faults u
     before = so_far.attaches.acts.faults
@@ -69,11 +70,11 @@ module _ (core : Inner) (v p n device : ℕ) (m0 m1 m2 : Meaning) (so_far : Sour
     newer q (inl from) = inl (blamed_later core.config v q m0 m1 m2 before from)
     newer q (inr to) = inr (blamed_later core.config v p m0 m1 m2 before to)
 
-    pub all_attaches : Attaches v p core core m0 m2
-    all_attaches = then_attaches v p core core core m0 m1 m2 so_far.attaches one_more
+    pub all_attaches : Attaches v p f core core m0 m2
+    all_attaches = then_attaches v p f core core core m0 m1 m2 so_far.attaches one_more
 
     -- one plex more was tried
-    pub sources_next : (disk : ℕ) (error : ShelfError) → error ≡ Fault disk → InnerStands d m2 → CopyTried {T = Unit {0}} l.config v n p device m1 m2 (Err error) → SourcesTried core v p (n + 1) disk m0 m2
+    pub sources_next : (disk : ℕ) (error : ShelfError) → error ≡ Fault disk → InnerStands d m2 → CopyTried {T = ℕ} l.config v n p device m1 m2 (Err error) → SourcesTried core v p f (n + 1) disk m0 m2
     sources_next disk error fault stands tried = record {
       stands = subst (λ (x : Inner). InnerStands x m2) core_is stands;
       attaches = all_attaches;
@@ -84,8 +85,8 @@ module _ (core : Inner) (v p n device : ℕ) (m0 m1 m2 : Meaning) (so_far : Sour
       ];
     }
       where
-        here : CopyTried {T = Unit {0}} core.config v n p device m1 m2 (Err (Fault disk))
-        here = subst (λ (x : Inner). CopyTried {T = Unit {0}} x.config v n p device m1 m2 (Err (Fault disk))) at (subst (λ (e : ShelfError). CopyTried {T = Unit {0}} l.config v n p device m1 m2 (Err e)) fault tried)
+        here : CopyTried {T = ℕ} core.config v n p device m1 m2 (Err (Fault disk))
+        here = subst (λ (x : Inner). CopyTried {T = ℕ} x.config v n p device m1 m2 (Err (Fault disk))) at (subst (λ (e : ShelfError). CopyTried {T = ℕ} l.config v n p device m1 m2 (Err e)) fault tried)
 
         earlier : (q : ℕ) → q < n → IsTrue (active core.config v q)
             → ((active core.config v n ≡ false) × (disk ≡ device)) ⊎ ((PlexBlamed core.config v n m1 m2 ⊎ PlexBlamed core.config v p m1 m2) × Rose (m1.disk_faults disk) (m2.disk_faults disk))
@@ -106,14 +107,18 @@ module _ (core : Inner) (v p n device : ℕ) (m0 m1 m2 : Meaning) (so_far : Sour
           Rose_before (m0.disk_faults disk) (m1.disk_faults disk) (m2.disk_faults disk) (so_far.attaches.acts.disk_faults disk) failed.1,
         )
 
+-- a copy that failed with a fault leaves the shelf up
+pub tried_up : (c : Config) (v source p device disk : ℕ) (error : ShelfError) (old new : Meaning) → error ≡ Fault disk → CopyTried {T = ℕ} c v source p device old new (Err error) → IsTrue new.down → ⊥
+tried_up c v source p device disk error old new fault tried = (subst (λ (e : ShelfError). CopyTried {T = ℕ} c v source p device old new (Err e)) fault tried).1
+
 -- behind the last one
-pub sources_blame : (core : Inner) (v p n device : ℕ) (m0 m1 : Meaning) → SourcesTried core v p n device m0 m1 → 8 ≤ n → v < length core.config.volumes → Blames {T = Unit {0}} m0 m1 (Err (Fault device))
-sources_blame core v p n device m0 m1 tried le lt =
+pub sources_blame : (core : Inner) (v p : ℕ) (f : Option Missed) (n device : ℕ) (m0 m1 : Meaning) → SourcesTried core v p f n device m0 m1 → 8 ≤ n → v < length core.config.volumes → Blames {T = ℕ} m0 m1 (Err (Fault device))
+sources_blame core v p f n device m0 m1 tried le lt =
     let some = some_active core m1 tried.stands v lt in
     let few : some.plex < 8 = active_few core.config (sound_of core m1 tried.stands) v some.plex some.is_on in
     ((tried.tried some.plex (omega (arith, few, le)) some.is_on).1, tried.up)
 
-pub sources_all : (core : Inner) (v p n device : ℕ) (m0 m1 : Meaning) → SourcesTried core v p n device m0 m1 → 8 ≤ n → (q : ℕ) → IsTrue (active core.config v q) → PlexBlamed core.config v q m0 m1 ⊎ PlexBlamed core.config v p m0 m1
-sources_all core v p n device m0 m1 tried le q is_on =
+pub sources_all : (core : Inner) (v p : ℕ) (f : Option Missed) (n device : ℕ) (m0 m1 : Meaning) → SourcesTried core v p f n device m0 m1 → 8 ≤ n → (q : ℕ) → IsTrue (active core.config v q) → PlexBlamed core.config v q m0 m1 ⊎ PlexBlamed core.config v p m0 m1
+sources_all core v p f n device m0 m1 tried le q is_on =
     let few : q < 8 = active_few core.config (sound_of core m1 tried.stands) v q is_on in
     (tried.tried q (omega (arith, few, le)) is_on).0

@@ -13,7 +13,7 @@ use Rattle.vx_config.specs.declared.entry.DiskEntry.{DiskEntry}
 use Rattle.vx_copies.specs.Commits.{MoreFailed}
 use Rattle.vx_copies.specs.Marks.{failed_at}
 use Rattle.vx_copies.proofs.OneTry.{held_or}
-use Rattle.vx_volume.specs.Copies.{OnCopy}
+use Rattle.vx_fmr.specs.Missed.{Missed}
 use Rattle.vx_volume.specs.Plexes.{SomeActive, active, uses}
 use Rattle.vx_volume.specs.Volumes.{PlexBlamed}
 use Rattle.vx_kept.specs.Commits.{Member}
@@ -22,7 +22,7 @@ use Rattle.vx_kept.specs.States.{whole_of}
 use Rattle.vx_kept.proofs.Chosen.{active_volumes, alike_shape}
 use Rattle.vx_kept.proofs.StateLemmas.{same_shape, then_shape}
 use Rattle.vx_kept.proofs.Steps.{both_Acts, wide_Acts}
-use Rattle.vx_group.specs.Attaches.{AnyImage, Attaches, HasOther}
+use Rattle.vx_group.specs.Attaches.{AnyImage, Attaches, HasOther, OnMissed}
 use Rattle.vx_group.specs.Calls.{GroupAttaches, GroupNarrows, members_by}
 use Rattle.vx_group.specs.Copying.{NoMember}
 use Rattle.vx_group.specs.GivesUp.{EachBlamed, GivesUp}
@@ -248,16 +248,16 @@ holds_first meaning m m1 c mid d v p last volumes failing it = record {
   failing = it.failing;
 }
 
-module _ (c0 mid new : GroupCore) (d : Inner) (v p : ℕ) (m m1 m2 : Meaning) (stands : GroupStands c0 m) (narrows : Narrows (wide c0) (wide mid) m m1) (volumes : mid.inner.config.volumes ≡ c0.inner.config.volumes) (lawful : Lawful m1)
-    (none : mid.held ≡ None) (attaches : Attaches v p mid.inner d m1 m2) (e_is : wide new ≡ d) where
-  pub through_attaches : SameShape new.inner.config d.config → ((w q : ℕ) → (w ≡ v → q ≡ p → ⊥) → active new.inner.config w q ≡ active d.config w q) → GroupAttaches v p c0 new m m2
+module _ (c0 mid new : GroupCore) (d : Inner) (v p : ℕ) (f : Option Missed) (m m1 m2 : Meaning) (stands : GroupStands c0 m) (narrows : Narrows (wide c0) (wide mid) m m1) (volumes : mid.inner.config.volumes ≡ c0.inner.config.volumes) (lawful : Lawful m1)
+    (none : mid.held ≡ None) (attaches : Attaches v p f mid.inner d m1 m2) (e_is : wide new ≡ d) where
+  pub through_attaches : SameShape new.inner.config d.config → ((w q : ℕ) → (w ≡ v → q ≡ p → ⊥) → active new.inner.config w q ≡ active d.config w q) → GroupAttaches v p f c0 new m m2
   through_attaches shape others =
       let to_old : SameShape mid.inner.config c0.inner.config = released_shape c0 mid m m1 stands narrows volumes in
       record {
         goes = through_goes c0 mid new mid.inner d m m1 m2 (sym (wide_none mid none)) e_is Nothing (released_goes c0 mid m m1 stands narrows volumes lawful) attaches.goes;
-        acts = wide_Acts (Or Nothing (OnCopy mid.inner.config v p)) (OnCopy c0.inner.config v p) AnyImage m m2
-            (both_Acts Nothing (OnCopy mid.inner.config v p) AnyImage AnyImage m m1 m2 (loose_Acts Nothing (Sees (wide c0).config (Member c0.inner.good m) m) AnyImage m m1 narrows.acts (λ i sees. tt)) attaches.acts (λ i now. tt))
-            (λ u b x. ⊎_elim (λ none_put. absurd none_put) (λ put. on_back c0.inner.config mid.inner.config v p to_old u b x put));
+        acts = wide_Acts (Or Nothing (OnMissed mid.inner.config v p f)) (OnMissed c0.inner.config v p f) AnyImage m m2
+            (both_Acts Nothing (OnMissed mid.inner.config v p f) AnyImage AnyImage m m1 m2 (loose_Acts Nothing (Sees (wide c0).config (Member c0.inner.good m) m) AnyImage m m1 narrows.acts (λ i sees. tt)) attaches.acts (λ i now. tt))
+            (λ u b x. ⊎_elim (λ none_put. absurd none_put) (λ put. on_back c0.inner.config mid.inner.config v p f to_old u b x put));
         shape = then_shape new.inner.config d.config c0.inner.config shape (then_shape d.config mid.inner.config c0.inner.config attaches.shape to_old);
         others = λ w q apart. others w q apart ∙ attaches.others w q apart ∙ released_active c0 mid m m1 stands narrows volumes w q;
         faults = ap (λ (i : Inner). i.faults) e_is ∙ attaches.faults ∙ narrows.faults;
@@ -268,10 +268,10 @@ module _ (c0 mid new : GroupCore) (d : Inner) (v p : ℕ) (m m1 m2 : Meaning) (s
   through_regains failing regains =
       first_regains m m1 m2 narrows.acts.faults attaches.acts.faults c0.inner.config mid.inner.config d.config new.inner.config v p volumes failing (ap (λ (i : Inner). i.config.disks) e_is) regains
 
-pub released_attaches : (v p : ℕ) (c0 mid : GroupCore) (m m1 : Meaning) → GroupStands c0 m → Narrows (wide c0) (wide mid) m m1 → mid.inner.config.volumes ≡ c0.inner.config.volumes → Lawful m1 → GroupAttaches v p c0 mid m m1
-released_attaches v p c0 mid m m1 stands narrows volumes lawful = record {
+pub released_attaches : (v p : ℕ) (f : Option Missed) (c0 mid : GroupCore) (m m1 : Meaning) → GroupStands c0 m → Narrows (wide c0) (wide mid) m m1 → mid.inner.config.volumes ≡ c0.inner.config.volumes → Lawful m1 → GroupAttaches v p f c0 mid m m1
+released_attaches v p f c0 mid m m1 stands narrows volumes lawful = record {
   goes = released_goes c0 mid m m1 stands narrows volumes lawful;
-  acts = any_acts Nothing (OnCopy c0.inner.config v p) (Sees (wide c0).config (Member c0.inner.good m) m) m m1 narrows.acts (λ u k x none. absurd none);
+  acts = any_acts Nothing (OnMissed c0.inner.config v p f) (Sees (wide c0).config (Member c0.inner.good m) m) m m1 narrows.acts (λ u k x none. absurd none);
   shape = released_shape c0 mid m m1 stands narrows volumes;
   others = λ w q apart. released_active c0 mid m m1 stands narrows volumes w q;
   faults = narrows.faults;
@@ -279,5 +279,5 @@ released_attaches v p c0 mid m m1 stands narrows volumes lawful = record {
 }
 
 -- the plex is STALE in memory, where another one was ACTIVE
-pub held_other : (mid d : Inner) (v p : ℕ) (m1 m2 : Meaning) → Attaches v p mid d m1 m2 → SomeActive mid.config v → active mid.config v p ≡ false → HasOther d.config v p
-held_other mid d v p m1 m2 attaches some off = has_other mid.config d.config v p some off attaches.others
+pub held_other : (mid d : Inner) (v p : ℕ) (f : Option Missed) (m1 m2 : Meaning) → Attaches v p f mid d m1 m2 → SomeActive mid.config v → active mid.config v p ≡ false → HasOther d.config v p
+held_other mid d v p f m1 m2 attaches some off = has_other mid.config d.config v p some off attaches.others

@@ -1,10 +1,11 @@
 -- A plex that is attached.
-use Rattle.std.specs.Prelude.{◌≡◌, ◌≢◌, ◌⊎◌, ℕ, ◌-◌, ◌<◌, false, nat_le, nat_lt, if◌then◌else◌, IsTrue, Option, Some, None, Result, Ok, Err, length}
+use Rattle.std.specs.Prelude.{◌≡◌, ◌≢◌, ◌⊎◌, ℕ, ◌-◌, ◌/◌, ◌<◌, false, nat_le, nat_lt, if◌then◌else◌, IsTrue, Option, Some, None, List, Result, Ok, Err, length}
 use Rattle.vx_disk.specs.Counts.{Rose}
 use Rattle.vx_disk.specs.Shelf.{Goes, Image, Meaning, Nothing}
 use Rattle.vx_disk.specs.declared.shelf.ShelfError.{ShelfError}
 use Rattle.vx_disk.specs.declared.shelf.ShelfError.TheVariants.{Fault, Down}
 use Rattle.vx_model.specs.Sizes.{regions_of}
+use Rattle.vx_model.specs.declared.limits.TheConstants.{REGION}
 use Rattle.vx_model.specs.declared.no.Counted.TheVariants.{Number as Numbers}
 use Rattle.vx_model.specs.declared.no.Named.TheVariants.{Number}
 use Rattle.vx_model.specs.declared.no.No.{No}
@@ -17,6 +18,9 @@ use Rattle.vx_config.specs.declared.config.Config.{Config}
 use Rattle.vx_volume.specs.Copies.{OnCopy}
 use Rattle.vx_volume.specs.Plexes.{active}
 use Rattle.vx_volume.specs.Volumes.{PlexBlamed}
+use Rattle.vx_fmr.specs.Missed.{Missed}
+use Rattle.vx_resync.specs.Gathers.{MissesOnly}
+use Rattle.vx_resync.specs.Picks.{FmrReaches, missed_or, picked_below}
 use Rattle.vx_kept.specs.Commits.{IsCommitted}
 use Rattle.vx_kept.specs.Keeping.{Acts, SameShape}
 use Rattle.vx_group.specs.Dets.{margin}
@@ -41,19 +45,34 @@ pub record MayAttach (c : Config) (v p : ℕ) : Type 0 where
 abbrev pub attached : ℕ → ℕ → Config → Config
 attached v p c = stated v p Active false c
 
--- the regions that an attach copies: all of the volume
+-- the regions of a volume, which an attach copies where there is no map
 abbrev pub copied_regions : Config → ℕ → ℕ
 copied_regions c v = regions_of (blocks_of c.volumes v)
+
+-- how many regions an attach copies: those that the plex has missed by its map, or all where there is none
+abbrev pub missed_regions : Config → ℕ → ℕ → Option Missed → ℕ
+missed_regions c v p f = picked_below (missed_or p f) (copied_regions c v)
+
+-- What a map knows of a plex: it has a bit for each region of the volume, and in each region that it has not the plex reads what each plex that is ACTIVE
+-- reads.
+pub record KnowsMissed (c : Config) (v p : ℕ) (f : Option Missed) (m : Meaning) : Type 0 where
+  pub reach : FmrReaches (copied_regions c v) p f
+  pub each : (q : ℕ) → IsTrue (active c v q) → MissesOnly c v q p (missed_or p f) m
+
+-- any value at a place of this plex in a region that it has missed
+pub record OnMissed (c : Config) (v p : ℕ) (f : Option Missed) (u b : ℕ) (x : List ℕ) : Type 0 where
+  pub put : OnCopy c v p u b x
+  pub missed : IsTrue (missed_or p f (put.number / REGION))
 
 -- whatever an image has
 abbrev pub AnyImage : Image → Type 0
 AnyImage i = Unit {0}
 
--- Each volume reads as before, at every moment and in every image; only blocks of this plex were written beside those of the configuration, and no other
--- plex changed its state.
-pub record Attaches (v p : ℕ) (c d : Inner) (old new : Meaning) : Type 0 where
+-- Each volume reads as before, at every moment and in every image; only blocks of this plex in regions that it has missed were written beside
+-- those of the configuration, and no other plex changed its state.
+pub record Attaches (v p : ℕ) (f : Option Missed) (c d : Inner) (old new : Meaning) : Type 0 where
   pub goes : Goes Nothing (inner_meaning c old) (inner_meaning d new)
-  pub acts : Acts (OnCopy c.config v p) AnyImage old new
+  pub acts : Acts (OnMissed c.config v p f) AnyImage old new
   pub shape : SameShape d.config c.config
   pub others : (w q : ℕ) → (w ≡ v → q ≡ p → ⊥) → active d.config w q ≡ active c.config w q
   pub faults : d.faults ≡ c.faults
@@ -73,9 +92,9 @@ CopyTried c v source p device old new (Err (Fault disk)) =
 CopyTried c v source p device old new (Err Down) = IsTrue new.down
 
 -- Each plex of the volume that is ACTIVE and below n was tried as the source of a copy, and the copy failed.
-pub record SourcesTried (core : Inner) (v p n device : ℕ) (old new : Meaning) : Type 0 where
+pub record SourcesTried (core : Inner) (v p : ℕ) (f : Option Missed) (n device : ℕ) (old new : Meaning) : Type 0 where
   pub stands : InnerStands core new
-  pub attaches : Attaches v p core core old new
+  pub attaches : Attaches v p f core core old new
   pub up : IsTrue new.down → ⊥
   pub tried : (q : ℕ) → q < n → IsTrue (active core.config v q) → (PlexBlamed core.config v q old new ⊎ PlexBlamed core.config v p old new) × Rose (old.disk_faults device) (new.disk_faults device)
 

@@ -8,18 +8,19 @@ use Rattle.vx_model.specs.declared.no.Counted.TheVariants.{Number as Numbers}
 use Rattle.vx_model.specs.declared.no.No.TheVariants.{Limit, Size}
 use Rattle.vx_config.specs.Table.{greatest}
 use Rattle.vx_copyio.specs.Labelling.{HasSmall}
-use Rattle.vx_volume.specs.Copies.{OnCopy}
+use Rattle.vx_fmr.specs.Missed.{Missed}
 use Rattle.vx_volume.specs.Plexes.{active}
 use Rattle.vx_kept.specs.Commits.{Member}
 use Rattle.vx_kept.specs.Groups.{group_meaning}
 use Rattle.vx_kept.specs.Keeping.{Acts, Extends, SameShape, Sees}
-use Rattle.vx_group.specs.Attaches.{AnyImage}
+use Rattle.vx_group.specs.Attaches.{AnyImage, OnMissed}
 use Rattle.vx_group.specs.Copying.{NoMember}
 use Rattle.vx_group.specs.Creates.{IsNewGroup}
 use Rattle.vx_group.specs.Deports.{DeportedBy}
 use Rattle.vx_group.specs.Holding.{GroupStands, config_by, wide}
 use Rattle.vx_group.specs.Imports.{ImportStops, Resumed}
-use Rattle.vx_group.specs.Quiesces.{NoVolume, QuiescesBy}
+use Rattle.vx_group.specs.Quiesces.{NoVolume, QuiescesBy, SameParts}
+use Rattle.vx_group.specs.Resumes.{CanImportBehind}
 use Rattle.vx_group.specs.Stands.{volume_faults, inner_meaning}
 use Rattle.vx_group.specs.declared.group_core.GroupCore.{GroupCore}
 use Rattle.vx_group.specs.declared.group_core.Held.{Held}
@@ -38,11 +39,11 @@ pub record GroupNarrows (c d : GroupCore) (old new : Meaning) : Type 0 where
   pub faults : d.inner.faults ≡ c.inner.faults
   pub unsure : d.inner.unsure ≡ c.inner.unsure
 
--- Each volume reads as before, at every moment and in every image; only blocks of this plex were written beside those of the configuration, and no other
--- plex changed its state.
-pub record GroupAttaches (v p : ℕ) (c d : GroupCore) (old new : Meaning) : Type 0 where
+-- Each volume reads as before, at every moment and in every image; only blocks of this plex in regions that it has missed were written beside
+-- those of the configuration, and no other plex changed its state.
+pub record GroupAttaches (v p : ℕ) (f : Option Missed) (c d : GroupCore) (old new : Meaning) : Type 0 where
   pub goes : Goes Nothing (inner_meaning (wide c) old) (inner_meaning (wide d) new)
-  pub acts : Acts (OnCopy c.inner.config v p) AnyImage old new
+  pub acts : Acts (OnMissed c.inner.config v p f) AnyImage old new
   pub shape : SameShape d.inner.config c.inner.config
   pub others : (w q : ℕ) → (w ≡ v → q ≡ p → ⊥) → active d.inner.config w q ≡ active c.inner.config w q
   pub faults : d.inner.faults ≡ c.inner.faults
@@ -59,6 +60,7 @@ pub record GroupStays (c d : GroupCore) (old new : Meaning) : Type 0 where
 -- The group stands. Plexes were detached, and volumes became unsure, only where a disk failed.
 pub record GroupBack (c d : GroupCore) (old new : Meaning) : Type 0 where
   pub stands : GroupStands d new
+  pub parts : SameParts c.inner.config d.inner.config
   pub quiesces : QuiescesBy (wide c).config c.inner d.inner NoVolume old new
 
 -- how a deport ends, by the parts of the group
@@ -70,6 +72,11 @@ GroupCloses c d old new (Err stop) = GroupBack c d old new
 abbrev pub GroupDeported : {S G : Type 0} → GroupCore → Meaning → (S → Meaning) → (G → GroupCore) → (G → S) → Result S (G × Stop) → Type 0
 GroupDeported c old meaning core shelf (Ok s) = DeportedBy (wide c).config c.inner old (meaning s)
 GroupDeported c old meaning core shelf (Err (g, stop)) = GroupBack c (core g) old (meaning (shelf g))
+
+-- To its volumes the group that a refusal gives back is the one that it was: no image is left that was not, and no read gives another value.
+abbrev pub GivesBack : {S G : Type 0} → GroupCore → Meaning → (S → Meaning) → (G → GroupCore) → (G → S) → Result S (G × Stop) → Type 0
+GivesBack c old meaning core shelf (Ok s) = Unit {0}
+GivesBack c old meaning core shelf (Err (g, stop)) = Goes Nothing (inner_meaning (wide c) old) (inner_meaning (wide (core g)) (meaning (shelf g)))
 
 -- refused for want of serials, and nothing has changed
 abbrev pub IsFull : {S G : Type 0} → GroupCore → S → (G → GroupCore) → (G → S) → Result S (G × Stop) → Type 0
@@ -86,3 +93,8 @@ GroupCreated site old meaning core shelf (Err (s, OutOfMemory)) = Unit {0}
 abbrev pub GroupImported : {S G : Type 0} → Meaning → (S → Meaning) → (G → GroupCore) → (G → S) → Result G (S × Stop) → Type 0
 GroupImported old meaning core shelf (Ok g) = Resumed old (core g).inner (meaning (shelf g)) × ((core g).held ≡ None)
 GroupImported old meaning core shelf (Err (s, stop)) = ImportStops old (meaning s) stop
+
+-- what a refused import hands back may be imported behind any crash
+abbrev pub ImportsAgain : {S G : Type 0} → (S → Meaning) → Result G (S × Stop) → Type 0
+ImportsAgain meaning (Ok g) = Unit {0}
+ImportsAgain meaning (Err e) = CanImportBehind (meaning e.0)

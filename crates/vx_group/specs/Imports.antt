@@ -10,7 +10,6 @@ use Rattle.vx_copies.specs.Answers.{Imported}
 use Rattle.vx_copyio.specs.Labelling.{HasSmall}
 use Rattle.vx_volume.specs.Plexes.{Inside, active}
 use Rattle.vx_kept.specs.Choice.{chosen}
-use Rattle.vx_kept.specs.Trusts.{HasFailed}
 use Rattle.vx_kept.specs.Groups.{Shows, found, group_meaning}
 use Rattle.vx_kept.specs.Keeping.{Extends}
 use Rattle.vx_group.specs.Finishes.{SameOr, StopsLate}
@@ -26,8 +25,8 @@ pub record GivesImage (old : Meaning) (core : Inner) (new : Meaning) : Type 0 wh
       → (inner_meaning core new).reads v b value → value ≡ above v b
 
 -- A group stands on the disks as the one that was found, with each plex that took part ACTIVE, under a later serial; each image has its
--- configuration. Its volumes read as the plexes that took part. A volume that stopped uncleanly reads as the plex by which an image of it
--- goes, and a crash leaves of each block one value.
+-- configuration, which is committed. Its volumes read as the plexes that took part. A volume that stopped uncleanly reads as the plex by
+-- which an image of it goes, and a crash leaves of each block one value.
 pub record Resumed (old : Meaning) (core : Inner) (new : Meaning) : Type 0 where
   pub config : Config
   pub opened : Config
@@ -40,18 +39,19 @@ pub record Resumed (old : Meaning) (core : Inner) (new : Meaning) : Type 0 where
   pub loses : LosesPlexes opened core.config old new
   pub on : (v p : ℕ) → IsTrue (active core.config v p) → IsTrue (active opened v p)
   pub finds : (i : Image) → Each new.leaves i → found new i ≡ Found core.config
-  pub trust : (core.committed ≡ true) ⊎ HasFailed core.config.disks
+  pub committed : core.committed ≡ true
   pub goes : Goes Nothing (group_meaning opened (λ v. 0) old) (inner_meaning core new)
   pub mended : (v : ℕ) → v < length opened.volumes → stopped config v ≡ true → IsMended opened v (chosen config v) core old new
   pub gives : GivesImage old core new
 
--- what stands on the disks is the group that was found, as far as it was settled
+-- what stands on the disks is the group that was found, as far as it was settled, and imports agree
 pub record HalfResumed (old new : Meaning) : Type 0 where
   pub config : Config
   pub core : Inner
   pub opened : Config
   pub taken : TakenUp old new config opened
   pub stands : InnerStands core new
+  pub agreed : core.agreed ≡ true
   pub goes : Goes Nothing (group_meaning opened (λ v. 0) old) (inner_meaning core new)
 
 -- Why nothing is taken up: the shelf is down, or a disk is too small for one of a group, or what the reads gave says so, or what was found is

@@ -3,6 +3,7 @@ use Rattle.std.specs.Prelude.{◌≡◌, ◌⊎◌, ℕ, ◌+◌, ◌-◌, ◌^�
 use Rattle.std.specs.List.{list_all, list_any}
 use Rattle.std.specs.Str.{bytes_eq}
 use Rattle.vx_disk.specs.Causes.{DeviceCause}
+use Rattle.vx_disk.specs.Moves.{Anything}
 use Rattle.vx_disk.specs.Shelf.{Goes, Meaning, Nothing}
 use Rattle.vx_wire.specs.Fields.{zero_bytes}
 use Rattle.vx_model.specs.declared.errors.Stop.{Stop}
@@ -11,6 +12,7 @@ use Rattle.vx_model.specs.declared.limits.TheConstants.{MOST_COLUMNS, MOST_PLEXE
 use Rattle.vx_model.specs.declared.no.Counted.TheVariants.{Number, Plexes, Subdisks, Volumes}
 use Rattle.vx_model.specs.declared.no.No.{No}
 use Rattle.vx_model.specs.declared.no.No.TheVariants as refusal
+use Rattle.vx_config.specs.Checks.{is_sound}
 use Rattle.vx_config.specs.Configs.{subdisk_count}
 use Rattle.vx_config.specs.Table.{greatest}
 use Rattle.vx_config.specs.declared.config.Config.{Config}
@@ -25,7 +27,7 @@ use Rattle.vx_layout.specs.declared.shape.Shape.{Shape}
 use Rattle.vx_volume.specs.Plexes.{Inside, active}
 use Rattle.vx_volume.specs.Volumes.{PlexFlushed}
 use Rattle.vx_kept.specs.Groups.{group_meaning}
-use Rattle.vx_kept.specs.Keeping.{Extends}
+use Rattle.vx_kept.specs.Keeping.{Acts, Extends}
 use Rattle.vx_group.specs.Dets.{margin}
 use Rattle.vx_group.specs.Stands.{volume_faults, inner_meaning}
 use Rattle.vx_group.specs.declared.inner.Inner.{Inner}
@@ -118,6 +120,18 @@ pub record StayAsWere (c d : Inner) (old new : Meaning) : Type 0 where
   pub on : (v p : ℕ) → v < length c.config.volumes → active d.config v p ≡ active c.config v p
   pub faults : d.faults ≡ c.faults
   pub unsure : d.unsure ≡ c.unsure
+
+-- A volume more was begun behind those of a configuration: beside the configuration areas only zeros on its plexes were written.
+pub record BeginsVolume (c : Config) (old new : Meaning) : Type 0 where
+  pub next : Config
+  pub volume : VolumeEntry
+  pub is : next.volumes ≡ c.volumes ++ (volume ∷ [])
+  pub sound : is_sound next ≡ true
+  pub acts : Acts (ZerosOn next (length c.volumes)) Anything old new
+
+-- beside the configuration areas nothing was written, or a volume more was begun
+abbrev pub MakesBeside : Config → Meaning → Meaning → Type 0
+MakesBeside c old new = Acts Nothing Anything old new ⊎ BeginsVolume c old new
 
 -- a volume was made, which begins as zeros
 pub record VolumeMade (name : List ℕ) (want : Shape) (vol : ℕ) (c d : Inner) (new : Meaning) : Type 0 where

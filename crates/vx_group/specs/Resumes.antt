@@ -74,6 +74,28 @@ pub record CanImport (m : Meaning) : Type 0 where
 pub record AtRest (m : Meaning) : Type 0 where
   pub one : (u b : ℕ) (v w : List ℕ) → m.leaves u b v → m.leaves u b w → v ≡ w
 
+-- the disks behind a crash that left this image
+abbrev pub left_at : Meaning → Image → Meaning
+left_at m i = record {
+  units = m.units;
+  size = m.size;
+  tells = m.tells;
+  reads = λ u b v. v ≡ i u b;
+  leaves = λ u b v. v ≡ i u b;
+  now = m.now;
+  moment = m.moment;
+  left_since = m.left_since;
+  faults = m.faults;
+  disk_faults = m.disk_faults;
+  down = m.down;
+  armed = m.armed;
+  disks = m.disks;
+}
+
+-- whatever image a crash leaves may be imported
+pub record CanImportBehind (m : Meaning) : Type 0 where
+  pub each : (i : Image) → Each m.leaves i → CanImport (left_at m i)
+
 -- ---- what is given
 
 -- the configuration that was found, as reads of the disks that could be read gave it; and with each plex that is CLEAN in the state ACTIVE

@@ -1,7 +1,8 @@
 // A plex that is attached by its name.
 ghost use Rattle.std.specs.Prelude.{◌≡◌, ◌+◌, ◌<◌, false, IfOk, IsTrue, OnOk, Some, None, Ok, Err, true};
+ghost use Rattle.std.specs.Option.{option_copied};
 ghost use Rattle.vx_config.specs.Table.{greatest};
-ghost use Rattle.vx_group.specs.Attaches.{AttachEnds, Attaches, GroupAttachEnds, MayAttach, att_refusal, copied_regions};
+ghost use Rattle.vx_group.specs.Attaches.{AttachEnds, Attaches, GroupAttachEnds, KnowsMissed, MayAttach, att_refusal, missed_regions};
 ghost use Rattle.vx_group.specs.Blames.{Blames};
 ghost use Rattle.vx_group.specs.Dets.{DetStops};
 ghost use Rattle.vx_group.specs.Calls.{GroupAttaches};
@@ -20,9 +21,10 @@ use crate::regaining::regain;
 use crate::releasing::release;
 use vx_config::Config;
 use vx_disk::{Shelf, ShelfError, refusal};
-use vx_model::limits::{MOST_NUMBER, REGION};
+use vx_fmr::Fmr;
+use vx_model::limits::MOST_NUMBER;
 use vx_model::{Counted, Named, No, Stop};
-use vx_volume::{blocks_of, is_active, plex_count};
+use vx_volume::{is_active, plex_count};
 
 // So many serials are left at least where a call of its own may commit.
 const MARGIN: u64 = 65_536;
@@ -56,29 +58,32 @@ fn attach_held<S: Shelf>(
     core: &mut Inner,
     vol: u32,
     plex: u32,
-) -> Result<(), ShelfError>
+    fmr: Option<&Fmr>,
+) -> Result<u64, ShelfError>
     requires stands { InnerStands core.old (S.meaning shelf.old) }
     requires may { MayAttach core.old.config vol plex }
     requires more { core.old.config.serial + 9 < greatest }
     requires off { active core.old.config vol plex ≡ false }
+    requires knows { KnowsMissed core.old.config vol plex (option_copied fmr) (S.meaning shelf.old) }
     requires up { IsTrue (S.meaning shelf.old).down → ⊥ }
     ensures stands { InnerStands core.new (S.meaning shelf.new) }
-    ensures attaches { Attaches vol plex core.old core.new (S.meaning shelf.old) (S.meaning shelf.new) }
+    ensures attaches { Attaches vol plex (option_copied fmr.entry) core.old core.new (S.meaning shelf.old) (S.meaning shelf.new) }
     ensures ends { AttachEnds vol plex core.new (S.meaning shelf.new) result }
     ensures regains { Regains core.old.config core.new.config vol plex (S.meaning shelf.old) (S.meaning shelf.new) }
     ensures held { OnOk result (HoldsPlex (λ s. S.meaning s) core.old.config core.new.config vol plex shelf.new) }
     ensures trust { OnOk result (core.old.committed ≡ true → core.new.committed ≡ true) }
     ensures cause { Blames (S.meaning shelf.old) (S.meaning shelf.new) result }
+    ensures count { IfOk result (λ n. n ≡ missed_regions core.old.config vol plex (option_copied fmr.entry)) }
 {
     match regain(shelf, core, vol, plex) {
         Ok(()) => {}
         Err(error) => return Err(error),
     }
-    attach(shelf, core, vol, plex)
+    attach(shelf, core, vol, plex, fmr)
 }
 
-/// Attaches a plex, and answers how many regions were copied: all of the volume, and none where the plex is ACTIVE already; then nothing
-/// changes. Disks of the plex that are held as failed are held as good first, by a commit of their own; where one fails in
+/// Attaches a plex, and answers how many regions were copied: those that it has missed by its map, or all of the volume where there is none, and
+/// none where the plex is ACTIVE already; then nothing changes. It writes blocks of these regions of the plex alone. Disks of the plex that are held as failed are held as good first, by a commit of their own; where one fails in
 /// that, it stays held as failed, and this is refused.
 ///
 /// Answers 1 exactly where there is no such volume or plex, else 19 exactly where fewer than 65,536 serials are left, and then nothing has
@@ -89,13 +94,15 @@ pub fn att_in<S: Shelf>(
     core: &mut GroupCore,
     vol: u32,
     plex: u32,
+    fmr: Option<&Fmr>,
 ) -> Result<u64, Stop>
     requires stands { GroupStands core.old (S.meaning shelf.old) }
+    requires knows { KnowsMissed core.old.inner.config vol plex (option_copied fmr) (S.meaning shelf.old) }
     ensures stands { GroupStands core.new (S.meaning shelf.new) }
     ensures refused { (no : NoValue) → att_refusal core.old.inner.config vol plex ≡ Some no → (result ≡ Err (Refused no)) × (core.new ≡ core.old) × (shelf.new ≡ shelf.old) }
     ensures already { att_refusal core.old.inner.config vol plex ≡ None → IsTrue (active core.old.inner.config vol plex) → (result ≡ Ok 0) × (core.new ≡ core.old) × (shelf.new ≡ shelf.old) }
-    ensures count { active core.old.inner.config vol plex ≡ false → IfOk result (λ n. n ≡ copied_regions core.old.inner.config vol) }
-    ensures attaches { GroupAttaches vol plex core.old core.new (S.meaning shelf.old) (S.meaning shelf.new) }
+    ensures count { active core.old.inner.config vol plex ≡ false → IfOk result (λ n. n ≡ missed_regions core.old.inner.config vol plex (option_copied fmr.entry)) }
+    ensures attaches { GroupAttaches vol plex (option_copied fmr.entry) core.old core.new (S.meaning shelf.old) (S.meaning shelf.new) }
     ensures ends { active core.old.inner.config vol plex ≡ false → GroupAttachEnds vol plex core.new.inner.config (S.meaning shelf.new) result }
     ensures regains { Regains core.old.inner.config core.new.inner.config vol plex (S.meaning shelf.old) (S.meaning shelf.new) }
     ensures held { active core.old.inner.config vol plex ≡ false → OnOk result (HoldsPlex (λ s. S.meaning s) core.old.inner.config core.new.inner.config vol plex shelf.new) }
@@ -111,13 +118,12 @@ pub fn att_in<S: Shelf>(
     if shelf.is_down() {
         return Err(Stop::No(No::Down));
     }
-    let regions = blocks_of(&core.inner.config, vol).div_ceil(REGION);
     match release(shelf, core) {
         Ok(()) => {}
         Err(error) => return Err(Stop::No(refusal(error))),
     }
-    match attach_held(shelf, &mut core.inner, vol, plex) {
-        Ok(()) => Ok(regions),
+    match attach_held(shelf, &mut core.inner, vol, plex, fmr) {
+        Ok(copied) => Ok(copied),
         Err(error) => {
             hold_back(core, vol, plex);
             Err(Stop::No(refusal(error)))

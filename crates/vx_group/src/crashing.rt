@@ -4,7 +4,7 @@ ghost use Rattle.vx_disk.specs.Causes.{OnDisks};
 ghost use Rattle.vx_disk.specs.Disks.{Crashed, Untouched};
 ghost use Rattle.vx_disk.specs.Racks.{Alike, Stopped};
 ghost use Rattle.vx_group.specs.Holding.{wide};
-ghost use Rattle.vx_group.specs.Resumes.{CanImport};
+ghost use Rattle.vx_group.specs.Resumes.{CanImport, CanImportBehind};
 ghost use Rattle.vx_group.specs.Stands.{InnerStands, inner_meaning};
 
 use crate::group_core::GroupCore;
@@ -21,6 +21,15 @@ pub fn crash_in<R: Rack>(rack: &mut R, core: &GroupCore, pick: u64)
     ensures can { core.now.inner.agreed ≡ true → CanImport (R.meaning rack.new) }
 {
     let _memory = core;
+    rack.crash(pick);
+}
+
+/// Crashes disks on which no group stands. Where whatever a crash leaves may be imported, it may be behind this one.
+pub fn fall<R: Rack>(rack: &mut R, pick: u64)
+    ensures stopped { Stopped (R.meaning rack.old) (R.meaning rack.new) }
+    ensures disks { OnDisks (R.meaning rack.old).disks (R.meaning rack.new).disks (Crashed (R.meaning rack.old).size pick) }
+    ensures can { CanImportBehind (R.meaning rack.old) → CanImport (R.meaning rack.new) }
+{
     rack.crash(pick);
 }
 

@@ -33,7 +33,7 @@ pub fn import_in<S: Shelf>(alloc: Global, shelf: &mut S) -> Result<Inner, Stop>
                 sources,
             } = plan;
             let mut core = core;
-            match renew(shelf, &mut core, &stopped, &sources) {
+            match renew(shelf, &mut core, &stopped, &sources, &[]) {
                 Ok(()) => Ok(core),
                 Err(no) => Err(Stop::No(no)),
             }

@@ -1,5 +1,5 @@
 // A volume that is made.
-ghost use Rattle.std.specs.Prelude.{◌≡◌, ◌⊎◌, ◌<◌, ℕ, true, false, IsTrue, IfSome, Some, None, Err, OnOk, IfErr};
+ghost use Rattle.std.specs.Prelude.{◌≡◌, ◌⊎◌, ◌<◌, ℕ, true, false, IsTrue, IfSome, Some, None, Err, OnOk, IfErr, length};
 ghost use Rattle.vx_config.specs.Checks.{is_sound};
 ghost use Rattle.vx_config.specs.Configs.{CanSpell};
 ghost use Rattle.vx_config.specs.Table.{greatest};
@@ -8,8 +8,10 @@ ghost use Rattle.vx_model.specs.declared.no.No.{No as NoValue};
 ghost use Rattle.vx_group.specs.Blames.{StopsByDevice};
 ghost use Rattle.vx_group.specs.Calls.{GroupStays};
 ghost use Rattle.vx_group.specs.Holding.{GroupStands};
-ghost use Rattle.vx_group.specs.Makes.{MakeEnds, StayAsWere, Unmoved, make_refusal};
+ghost use Rattle.vx_group.specs.Makes.{MakeEnds, MakesBeside, StayAsWere, Unmoved, ZerosOn, make_refusal};
 ghost use Rattle.vx_group.specs.Nexts.{Adds, IsNextConfig, PlanEnds};
+ghost use Rattle.vx_disk.specs.Moves.{Anything};
+ghost use Rattle.vx_kept.specs.Keeping.{Acts};
 ghost use Rattle.vx_kept.specs.Trusts.{HasFailed};
 ghost use Rattle.vx_group.specs.Stands.{InnerStands};
 
@@ -73,6 +75,7 @@ fn add_last<S: Shelf>(shelf: &mut S, core: &mut Inner, next: Config) -> Result<(
     ensures stands { InnerStands core.new (S.meaning shelf.new) }
     ensures stays { StayAsWere core.old core.new (S.meaning shelf.old) (S.meaning shelf.new) }
     ensures adds { Adds core.old core.new next (S.meaning shelf.new) result }
+    ensures beside { Acts (ZerosOn next (length core.old.config.volumes)) Anything (S.meaning shelf.old) (S.meaning shelf.new) }
     ensures trust { OnOk result (core.old.committed ≡ true → core.new.committed ≡ true) }
     ensures whole { OnOk result ((core.new.committed ≡ true) ⊎ HasFailed core.new.config.disks) }
     ensures agreed { IfErr result (λ e. core.old.committed ≡ true → core.new.agreed ≡ true) }
@@ -114,6 +117,7 @@ fn add<S: Shelf>(shelf: &mut S, core: &mut Inner, next: Config) -> Result<(), Sh
     ensures stands { InnerStands core.new (S.meaning shelf.new) }
     ensures stays { StayAsWere core.old core.new (S.meaning shelf.old) (S.meaning shelf.new) }
     ensures adds { Adds core.old core.new next (S.meaning shelf.new) result }
+    ensures beside { MakesBeside core.old.config (S.meaning shelf.old) (S.meaning shelf.new) }
     ensures trust { OnOk result (core.old.committed ≡ true → core.new.committed ≡ true) }
     ensures whole { OnOk result ((core.new.committed ≡ true) ⊎ HasFailed core.new.config.disks) }
     ensures agreed { IfErr result (λ e. core.old.committed ≡ true → core.new.agreed ≡ true) }
@@ -128,7 +132,8 @@ fn add<S: Shelf>(shelf: &mut S, core: &mut Inner, next: Config) -> Result<(), Sh
     add_last(shelf, core, next)
 }
 
-/// Makes a volume, which begins as zeros, and answers its number.
+/// Makes a volume, which begins as zeros, and answers its number. Beside the configuration areas it writes zeros on the plexes of the volume
+/// alone.
 ///
 /// Answers 2 exactly where a volume has its name, else 19 exactly where there are 32 volumes, more than 8 plexes are wanted, or fewer than
 /// 65,536 serials are left, else 4 exactly where it is no shape, else 11 with what find_space says, or 19 where its subdisks are too many,
@@ -146,6 +151,7 @@ pub fn make_in<S: Shelf>(
     ensures stands { GroupStands core.new (S.meaning shelf.new) }
     ensures refused { (no : NoValue) → make_refusal core.old.inner.config name.now want.now ≡ Some no → (result ≡ Err (Refused no)) × (core.new ≡ core.old) × (shelf.new ≡ shelf.old) }
     ensures stays { GroupStays core.old core.new (S.meaning shelf.old) (S.meaning shelf.new) }
+    ensures beside { MakesBeside core.old.inner.config (S.meaning shelf.old) (S.meaning shelf.new) }
     ensures ends { make_refusal core.old.inner.config name.now want.now ≡ None → MakeEnds name.now want.now core.old.inner core.new.inner (S.meaning shelf.old) (S.meaning shelf.new) result }
     ensures trust { OnOk result (core.old.inner.committed ≡ true → core.new.inner.committed ≡ true) }
     ensures whole { OnOk result ((core.new.inner.committed ≡ true) ⊎ HasFailed core.new.inner.config.disks) }

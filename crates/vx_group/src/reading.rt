@@ -25,10 +25,12 @@ pub fn read_in<S: Shelf>(
     ensures goes { Goes Nothing (inner_meaning (wide core.old) (S.meaning shelf.old)) (inner_meaning (wide core.new) (S.meaning shelf.new)) }
     ensures shown { OnOk result (Read (inner_meaning core.old.inner (S.meaning shelf.old)) vol block into.new) }
     ensures ok { OnOk result (Read (inner_meaning (wide core.old) (S.meaning shelf.old)) vol block into.new) }
+    ensures below { Goes Nothing (S.meaning shelf.old) (S.meaning shelf.new) }
     ensures down { (S.meaning shelf.new).down ≡ (S.meaning shelf.old).down }
     ensures cause { Cause (inner_meaning (wide core.old) (S.meaning shelf.old)) (inner_meaning (wide core.new) (S.meaning shelf.new)) vol result }
     ensures counts { CountsOnly vol result (inner_meaning (wide core.old) (S.meaning shelf.old)).faults (inner_meaning (wide core.new) (S.meaning shelf.new)).faults }
     ensures held { core.new.held ≡ core.old.held }
+    ensures trusted { (core.new.inner.committed ≡ core.old.inner.committed) × (core.new.inner.agreed ≡ core.old.inner.agreed) }
     ensures same { core.new.inner.config ≡ core.old.inner.config }
     ensures unsure { core.new.inner.unsure ≡ core.old.inner.unsure }
 {

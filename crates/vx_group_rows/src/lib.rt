@@ -6,7 +6,7 @@
 mod crashes;
 mod untold;
 
-pub use crashes::crash_and_import;
+pub use crashes::{crash_and_import, crash_and_import_again, import_again};
 pub use untold::Untold;
 
 #[cfg(test)]
@@ -25,5 +25,7 @@ mod helds;
 mod imports;
 #[cfg(test)]
 mod regains;
+#[cfg(test)]
+mod rvgs;
 #[cfg(test)]
 mod volumes;

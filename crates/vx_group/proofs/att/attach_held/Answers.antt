@@ -1,9 +1,12 @@
--- `attach_held`: clauses attaches, ends, regains, held and cause; what `regain` and `attach` ask.
+-- `attach_held`: clauses attaches, ends, regains, held, cause and count; what `regain` and `attach` ask.
 use Rattle.std.proofs.Common.{inl, ◌∙◌}
+use Rattle.std.specs.Option.{option_copied}
 use Rattle.vx_kept.proofs.Chosen.{active_volumes}
 use Rattle.vx_group.proofs.AttachLemmas.{narrows_attaches, then_attaches}
 use Rattle.vx_group.proofs.CallLemmas.{blames_later}
-use Rattle.vx_group.proofs.OpeningLemmas.{may_behind}
+use Rattle.vx_group.proofs.MissLemmas.{knows_later, missed_volumes, narrows_reads, same_count}
+use Rattle.vx_group.proofs.OpeningLemmas.{may_behind, present}
+use Rattle.vx_group.proofs.Standing.{sound_of}
 use Rattle.vx_group.proofs.RegainLemmas.{all_holds, then_regains}
 use Rattle.vx_group.proofs.att.attach_held.Goals as goal
 
@@ -13,7 +16,7 @@ regain-requires-clause-more g c =
 
 pub returns-in-Err-clause-attaches : goal.returns-in-Err-clause-attaches
 returns-in-Err-clause-attaches g c =
-    (narrows_attaches c.args.vol c.args.plex c.args.core.now c.regain.new.core (g.S.Shelf.meaning c.args.shelf.now) (g.S.Shelf.meaning c.regain.new.shelf) (g.met.S.Shelf.lawful c.regain.new.shelf) c.requires.stands c.regain.ensures.narrows (λ w q apart. active_volumes c.regain.new.core.config c.args.core.now.config c.regain.ensures.volumes w q))
+    (narrows_attaches c.args.vol c.args.plex (option_copied c.args.fmr) c.args.core.now c.regain.new.core (g.S.Shelf.meaning c.args.shelf.now) (g.S.Shelf.meaning c.regain.new.shelf) (g.met.S.Shelf.lawful c.regain.new.shelf) c.requires.stands c.regain.ensures.narrows (λ w q apart. active_volumes c.regain.new.core.config c.args.core.now.config c.regain.ensures.volumes w q))
 
 pub returns-in-Err-clause-ends : goal.returns-in-Err-clause-ends
 returns-in-Err-clause-ends g c =
@@ -29,7 +32,7 @@ attach-requires-clause-off g c =
 
 pub returns-clause-attaches : goal.returns-clause-attaches
 returns-clause-attaches g c =
-    then_attaches c.args.vol c.args.plex c.args.core.now c.regain.new.core c.attach.new.core (g.S.Shelf.meaning c.args.shelf.now) (g.S.Shelf.meaning c.regain.new.shelf) (g.S.Shelf.meaning c.attach.new.shelf) (narrows_attaches c.args.vol c.args.plex c.args.core.now c.regain.new.core (g.S.Shelf.meaning c.args.shelf.now) (g.S.Shelf.meaning c.regain.new.shelf) (g.met.S.Shelf.lawful c.regain.new.shelf) c.requires.stands c.regain.ensures.narrows (λ w q apart. active_volumes c.regain.new.core.config c.args.core.now.config c.regain.ensures.volumes w q)) c.attach.ensures.attaches
+    then_attaches c.args.vol c.args.plex (option_copied c.args.fmr) c.args.core.now c.regain.new.core c.attach.new.core (g.S.Shelf.meaning c.args.shelf.now) (g.S.Shelf.meaning c.regain.new.shelf) (g.S.Shelf.meaning c.attach.new.shelf) (narrows_attaches c.args.vol c.args.plex (option_copied c.args.fmr) c.args.core.now c.regain.new.core (g.S.Shelf.meaning c.args.shelf.now) (g.S.Shelf.meaning c.regain.new.shelf) (g.met.S.Shelf.lawful c.regain.new.shelf) c.requires.stands c.regain.ensures.narrows (λ w q apart. active_volumes c.regain.new.core.config c.args.core.now.config c.regain.ensures.volumes w q)) c.attach.ensures.attaches
 
 pub returns-clause-regains : goal.returns-clause-regains
 returns-clause-regains g c =
@@ -42,3 +45,12 @@ returns-clause-held g c =
 pub returns-clause-cause : goal.returns-clause-cause
 returns-clause-cause g c =
     blames_later c.attach.result (g.S.Shelf.meaning c.args.shelf.now) (g.S.Shelf.meaning c.regain.new.shelf) (g.S.Shelf.meaning c.attach.new.shelf) c.regain.ensures.narrows.acts.disk_faults c.attach.ensures.cause
+
+pub attach-requires-clause-knows : goal.attach-requires-clause-knows
+attach-requires-clause-knows g c =
+    knows_later c.args.core.now.config c.regain.new.core.config c.args.vol c.args.plex (option_copied c.args.fmr) (g.S.Shelf.meaning c.args.shelf.now) (g.S.Shelf.meaning c.regain.new.shelf)
+    (present c.regain.new.core.config c.args.vol c.args.plex (may_behind c.args.core.now.config c.regain.new.core.config c.args.vol c.args.plex c.requires.may c.requires.more c.regain.ensures.volumes c.in-Ok.ensures.few)) (sound_of c.regain.new.core (g.S.Shelf.meaning c.regain.new.shelf) c.regain.ensures.stands)
+    c.regain.ensures.volumes (narrows_reads c.args.core.now c.regain.new.core (g.S.Shelf.meaning c.args.shelf.now) (g.S.Shelf.meaning c.regain.new.shelf) c.regain.ensures.narrows c.in-Ok.ensures.cause) c.requires.knows
+
+pub returns-clause-count : goal.returns-clause-count
+returns-clause-count g c = same_count _ _ c.attach.result c.attach.ensures.count (missed_volumes c.args.core.now.config c.regain.new.core.config c.args.vol c.args.plex (option_copied c.args.fmr) c.regain.ensures.volumes)

@@ -1,17 +1,20 @@
--- `attach`: clauses attaches, ends, cause and failing; what `copy_to` and `commit_open` ask.
-use Rattle.std.proofs.Common.{◌<◌, inl, Err, ◌∙◌, arith}
+-- `attach`: clauses attaches, ends, cause, failing and count; what `copy_to` and `commit_open` ask.
+use Rattle.std.proofs.Common.{◌<◌, ℕ, inl, Err, ◌∙◌, arith}
+use Rattle.std.specs.Prelude.{None}
+use Rattle.std.specs.Option.{option_copied}
 use Rattle.vx_config.specs.Table.{greatest}
 use Rattle.vx_kept.proofs.Chosen.{active_volumes}
 use Rattle.vx_group.proofs.AttachLemmas.{has_other, narrows_attaches, then_attaches}
 use Rattle.vx_group.proofs.CallLemmas.{blames_later}
 use Rattle.vx_group.proofs.FailingLemmas.{no_failing, then_failing}
-use Rattle.vx_group.proofs.OpeningLemmas.{same_may}
-use Rattle.vx_group.proofs.Standing.{some_active}
+use Rattle.vx_group.proofs.MissLemmas.{count_volumes, knows_later, narrows_reads, same_count}
+use Rattle.vx_group.proofs.OpeningLemmas.{present, same_may}
+use Rattle.vx_group.proofs.Standing.{some_active, sound_of}
 use Rattle.vx_group.proofs.attaching.attach.Goals as goal
 
 pub returns-in-Err-clause-attaches : goal.returns-in-Err-clause-attaches
 returns-in-Err-clause-attaches g c =
-    narrows_attaches c.args.vol c.args.plex c.args.core.now c.settle_headers.new.core (g.S.Shelf.meaning c.args.shelf.now) (g.S.Shelf.meaning c.settle_headers.new.shelf) (g.met.S.Shelf.lawful c.settle_headers.new.shelf) c.requires.stands c.settle_headers.ensures.narrows
+    narrows_attaches c.args.vol c.args.plex (option_copied c.args.fmr) c.args.core.now c.settle_headers.new.core (g.S.Shelf.meaning c.args.shelf.now) (g.S.Shelf.meaning c.settle_headers.new.shelf) (g.met.S.Shelf.lawful c.settle_headers.new.shelf) c.requires.stands c.settle_headers.ensures.narrows
     (λ w q apart. active_volumes c.settle_headers.new.core.config c.args.core.now.config c.settle_headers.ensures.volumes w q)
 
 pub returns-in-Err-clause-ends : goal.returns-in-Err-clause-ends
@@ -25,8 +28,8 @@ copy_to-requires-clause-off g c = active_volumes c.settle_headers.new.core.confi
 
 pub returns-in-Err-copy_to-clause-attaches : goal.returns-in-Err-copy_to-clause-attaches
 returns-in-Err-copy_to-clause-attaches g c =
-    then_attaches c.args.vol c.args.plex c.args.core.now c.settle_headers.new.core c.copy_to.new.core (g.S.Shelf.meaning c.args.shelf.now) (g.S.Shelf.meaning c.settle_headers.new.shelf) (g.S.Shelf.meaning c.copy_to.new.shelf)
-    (narrows_attaches c.args.vol c.args.plex c.args.core.now c.settle_headers.new.core (g.S.Shelf.meaning c.args.shelf.now) (g.S.Shelf.meaning c.settle_headers.new.shelf) (g.met.S.Shelf.lawful c.settle_headers.new.shelf) c.requires.stands c.settle_headers.ensures.narrows
+    then_attaches c.args.vol c.args.plex (option_copied c.args.fmr) c.args.core.now c.settle_headers.new.core c.copy_to.new.core (g.S.Shelf.meaning c.args.shelf.now) (g.S.Shelf.meaning c.settle_headers.new.shelf) (g.S.Shelf.meaning c.copy_to.new.shelf)
+    (narrows_attaches c.args.vol c.args.plex (option_copied c.args.fmr) c.args.core.now c.settle_headers.new.core (g.S.Shelf.meaning c.args.shelf.now) (g.S.Shelf.meaning c.settle_headers.new.shelf) (g.met.S.Shelf.lawful c.settle_headers.new.shelf) c.requires.stands c.settle_headers.ensures.narrows
     (λ w q apart. active_volumes c.settle_headers.new.core.config c.args.core.now.config c.settle_headers.ensures.volumes w q))
     c.copy_to.ensures.attaches
 
@@ -35,7 +38,7 @@ returns-in-Err-copy_to-clause-ends g c = inl c.in-Err-copy_to.ensures.opens
 
 pub returns-in-Err-copy_to-clause-cause : goal.returns-in-Err-copy_to-clause-cause
 returns-in-Err-copy_to-clause-cause g c =
-    blames_later {T = Unit {0}} (Err c.in-Err-copy_to.error) (g.S.Shelf.meaning c.args.shelf.now) (g.S.Shelf.meaning c.settle_headers.new.shelf) (g.S.Shelf.meaning c.copy_to.new.shelf) c.settle_headers.ensures.narrows.acts.disk_faults c.in-Err-copy_to.ensures.cause
+    blames_later {T = ℕ} (Err c.in-Err-copy_to.error) (g.S.Shelf.meaning c.args.shelf.now) (g.S.Shelf.meaning c.settle_headers.new.shelf) (g.S.Shelf.meaning c.copy_to.new.shelf) c.settle_headers.ensures.narrows.acts.disk_faults c.in-Err-copy_to.ensures.cause
 
 pub commit_open-requires-clause-settled : goal.commit_open-requires-clause-settled
 commit_open-requires-clause-settled g c = c.copy_to.ensures.settled ∙ c.in-Ok.ensures.settled
@@ -59,10 +62,10 @@ commit_open-requires-clause-other g c =
 
 pub returns-clause-attaches : goal.returns-clause-attaches
 returns-clause-attaches g c =
-    then_attaches c.args.vol c.args.plex c.args.core.now c.settle_headers.new.core c.commit_open.new.core (g.S.Shelf.meaning c.args.shelf.now) (g.S.Shelf.meaning c.settle_headers.new.shelf) (g.S.Shelf.meaning c.commit_open.new.shelf)
-    (narrows_attaches c.args.vol c.args.plex c.args.core.now c.settle_headers.new.core (g.S.Shelf.meaning c.args.shelf.now) (g.S.Shelf.meaning c.settle_headers.new.shelf) (g.met.S.Shelf.lawful c.settle_headers.new.shelf) c.requires.stands c.settle_headers.ensures.narrows
+    then_attaches c.args.vol c.args.plex (option_copied c.args.fmr) c.args.core.now c.settle_headers.new.core c.commit_open.new.core (g.S.Shelf.meaning c.args.shelf.now) (g.S.Shelf.meaning c.settle_headers.new.shelf) (g.S.Shelf.meaning c.commit_open.new.shelf)
+    (narrows_attaches c.args.vol c.args.plex (option_copied c.args.fmr) c.args.core.now c.settle_headers.new.core (g.S.Shelf.meaning c.args.shelf.now) (g.S.Shelf.meaning c.settle_headers.new.shelf) (g.met.S.Shelf.lawful c.settle_headers.new.shelf) c.requires.stands c.settle_headers.ensures.narrows
     (λ w q apart. active_volumes c.settle_headers.new.core.config c.args.core.now.config c.settle_headers.ensures.volumes w q))
-    (then_attaches c.args.vol c.args.plex c.settle_headers.new.core c.copy_to.new.core c.commit_open.new.core (g.S.Shelf.meaning c.settle_headers.new.shelf) (g.S.Shelf.meaning c.copy_to.new.shelf) (g.S.Shelf.meaning c.commit_open.new.shelf) c.copy_to.ensures.attaches c.commit_open.ensures.attaches)
+    (then_attaches c.args.vol c.args.plex (option_copied c.args.fmr) c.settle_headers.new.core c.copy_to.new.core c.commit_open.new.core (g.S.Shelf.meaning c.settle_headers.new.shelf) (g.S.Shelf.meaning c.copy_to.new.shelf) (g.S.Shelf.meaning c.commit_open.new.shelf) c.copy_to.ensures.attaches (c.commit_open.ensures.attaches (option_copied c.args.fmr)))
 
 pub returns-clause-cause : goal.returns-clause-cause
 returns-clause-cause g c =
@@ -78,9 +81,19 @@ returns-in-Err-copy_to-clause-failing g c =
 pub returns-clause-failing : goal.returns-clause-failing
 returns-clause-failing g c =
     then_failing (g.S.Shelf.meaning c.args.shelf.now) (g.S.Shelf.meaning c.copy_to.new.shelf) (g.S.Shelf.meaning c.commit_open.new.shelf)
-    (λ u. let one = c.settle_headers.ensures.narrows.acts.faults u in let two = c.copy_to.ensures.attaches.acts.faults u in omega (arith, one, two)) c.commit_open.ensures.attaches.acts.faults
+    (λ u. let one = c.settle_headers.ensures.narrows.acts.faults u in let two = c.copy_to.ensures.attaches.acts.faults u in omega (arith, one, two)) (c.commit_open.ensures.attaches None).acts.faults
     c.args.core.now.config.disks c.copy_to.new.core.config.disks c.commit_open.new.core.config.disks
     (then_failing (g.S.Shelf.meaning c.args.shelf.now) (g.S.Shelf.meaning c.settle_headers.new.shelf) (g.S.Shelf.meaning c.copy_to.new.shelf) c.settle_headers.ensures.narrows.acts.faults c.copy_to.ensures.attaches.acts.faults
     c.args.core.now.config.disks c.settle_headers.new.core.config.disks c.copy_to.new.core.config.disks c.settle_headers.ensures.failing
     (no_failing (g.S.Shelf.meaning c.settle_headers.new.shelf) (g.S.Shelf.meaning c.copy_to.new.shelf) c.settle_headers.new.core.config.disks c.copy_to.new.core.config.disks c.copy_to.ensures.disks))
     c.commit_open.ensures.failing
+
+pub copy_to-requires-clause-knows : goal.copy_to-requires-clause-knows
+copy_to-requires-clause-knows g c =
+    knows_later c.args.core.now.config c.settle_headers.new.core.config c.args.vol c.args.plex (option_copied c.args.fmr) (g.S.Shelf.meaning c.args.shelf.now) (g.S.Shelf.meaning c.settle_headers.new.shelf)
+    (present c.settle_headers.new.core.config c.args.vol c.args.plex (same_may c.args.core.now.config c.settle_headers.new.core.config c.args.vol c.args.plex c.settle_headers.ensures.volumes c.settle_headers.ensures.serial c.requires.may)) (sound_of c.settle_headers.new.core (g.S.Shelf.meaning c.settle_headers.new.shelf) c.settle_headers.ensures.stands) c.settle_headers.ensures.volumes
+    (narrows_reads c.args.core.now c.settle_headers.new.core (g.S.Shelf.meaning c.args.shelf.now) (g.S.Shelf.meaning c.settle_headers.new.shelf) c.settle_headers.ensures.narrows c.in-Ok.ensures.cause) c.requires.knows
+
+pub returns-clause-count : goal.returns-clause-count
+returns-clause-count g c =
+    same_count _ _ c.commit_open.result c.commit_open.ensures.count (count_volumes c.args.core.now.config c.settle_headers.new.core.config c.args.vol c.args.plex _ (option_copied c.args.fmr) c.settle_headers.ensures.volumes c.in-Ok-copy_to.ensures.count)

@@ -1,7 +1,9 @@
--- `commit_open`: clauses attaches and failing; what `detach` asks.
-use Rattle.std.proofs.Common.{refl}
+-- `commit_open`: clauses attaches, failing and cause; what `detach` asks.
+use Rattle.std.proofs.Common.{ℕ, None, refl}
 use Rattle.vx_group.proofs.AttachLemmas.{narrows_attaches, no_bit, then_attaches}
 use Rattle.vx_group.proofs.DetachLemmas.{zero_bit}
+use Rattle.vx_group.proofs.CallLemmas.{not_down}
+use Rattle.vx_group.proofs.MissLemmas.{blames_then}
 use Rattle.vx_group.proofs.FailingLemmas.{then_failing}
 use Rattle.vx_group.proofs.Standing.{some_active}
 use Rattle.vx_group.proofs.attaching.commit_open.Goals as goal
@@ -12,30 +14,35 @@ detach-requires-clause-left g c = λ lt.
     record { plex = some.plex; is_on = some.is_on; out = zero_bit 0 some.plex refl }
 
 pub returns-in-Ok-clause-attaches : goal.returns-in-Ok-clause-attaches
-returns-in-Ok-clause-attaches g c =
-    narrows_attaches c.args.vol c.args.plex c.args.core.now c.detach.new.core (g.S.Shelf.meaning c.args.shelf.now) (g.S.Shelf.meaning c.detach.new.shelf) (g.met.S.Shelf.lawful c.detach.new.shelf) c.requires.stands c.detach.ensures.narrows
+returns-in-Ok-clause-attaches g c = λ map.
+    narrows_attaches c.args.vol c.args.plex map c.args.core.now c.detach.new.core (g.S.Shelf.meaning c.args.shelf.now) (g.S.Shelf.meaning c.detach.new.shelf) (g.met.S.Shelf.lawful c.detach.new.shelf) c.requires.stands c.detach.ensures.narrows
     (λ w q apart. c.detach.ensures.others w q (λ same bit. no_bit q bit))
 
 pub returns-then-is_down-clause-attaches : goal.returns-then-is_down-clause-attaches
-returns-then-is_down-clause-attaches g c =
-    then_attaches c.args.vol c.args.plex c.args.core.now c.detach.new.core c.take_back.new.core (g.S.Shelf.meaning c.args.shelf.now) (g.S.Shelf.meaning c.detach.new.shelf) (g.S.Shelf.meaning c.take_back.new.shelf)
-    (narrows_attaches c.args.vol c.args.plex c.args.core.now c.detach.new.core (g.S.Shelf.meaning c.args.shelf.now) (g.S.Shelf.meaning c.detach.new.shelf) (g.met.S.Shelf.lawful c.detach.new.shelf) c.requires.stands c.detach.ensures.narrows
+returns-then-is_down-clause-attaches g c = λ map.
+    then_attaches c.args.vol c.args.plex map c.args.core.now c.detach.new.core c.take_back.new.core (g.S.Shelf.meaning c.args.shelf.now) (g.S.Shelf.meaning c.detach.new.shelf) (g.S.Shelf.meaning c.take_back.new.shelf)
+    (narrows_attaches c.args.vol c.args.plex map c.args.core.now c.detach.new.core (g.S.Shelf.meaning c.args.shelf.now) (g.S.Shelf.meaning c.detach.new.shelf) (g.met.S.Shelf.lawful c.detach.new.shelf) c.requires.stands c.detach.ensures.narrows
     (λ w q apart. c.detach.ensures.others w q (λ same bit. no_bit q bit)))
-    c.take_back.ensures.attaches
+    (c.take_back.ensures.attaches map)
 
 pub returns-else-is_down-clause-attaches : goal.returns-else-is_down-clause-attaches
-returns-else-is_down-clause-attaches g c =
-    then_attaches c.args.vol c.args.plex c.args.core.now c.detach.new.core c.take_back.new.core (g.S.Shelf.meaning c.args.shelf.now) (g.S.Shelf.meaning c.detach.new.shelf) (g.S.Shelf.meaning c.take_back.new.shelf)
-    (narrows_attaches c.args.vol c.args.plex c.args.core.now c.detach.new.core (g.S.Shelf.meaning c.args.shelf.now) (g.S.Shelf.meaning c.detach.new.shelf) (g.met.S.Shelf.lawful c.detach.new.shelf) c.requires.stands c.detach.ensures.narrows
+returns-else-is_down-clause-attaches g c = λ map.
+    then_attaches c.args.vol c.args.plex map c.args.core.now c.detach.new.core c.take_back.new.core (g.S.Shelf.meaning c.args.shelf.now) (g.S.Shelf.meaning c.detach.new.shelf) (g.S.Shelf.meaning c.take_back.new.shelf)
+    (narrows_attaches c.args.vol c.args.plex map c.args.core.now c.detach.new.core (g.S.Shelf.meaning c.args.shelf.now) (g.S.Shelf.meaning c.detach.new.shelf) (g.met.S.Shelf.lawful c.detach.new.shelf) c.requires.stands c.detach.ensures.narrows
     (λ w q apart. c.detach.ensures.others w q (λ same bit. no_bit q bit)))
-    c.take_back.ensures.attaches
+    (c.take_back.ensures.attaches map)
 
 pub returns-then-is_down-clause-failing : goal.returns-then-is_down-clause-failing
 returns-then-is_down-clause-failing g c =
-    then_failing (g.S.Shelf.meaning c.args.shelf.now) (g.S.Shelf.meaning c.detach.new.shelf) (g.S.Shelf.meaning c.take_back.new.shelf) c.detach.ensures.narrows.acts.faults c.take_back.ensures.attaches.acts.faults
+    then_failing (g.S.Shelf.meaning c.args.shelf.now) (g.S.Shelf.meaning c.detach.new.shelf) (g.S.Shelf.meaning c.take_back.new.shelf) c.detach.ensures.narrows.acts.faults (c.take_back.ensures.attaches None).acts.faults
     c.args.core.now.config.disks c.detach.new.core.config.disks c.take_back.new.core.config.disks c.detach.ensures.failing c.take_back.ensures.failing
 
 pub returns-else-is_down-clause-failing : goal.returns-else-is_down-clause-failing
 returns-else-is_down-clause-failing g c =
-    then_failing (g.S.Shelf.meaning c.args.shelf.now) (g.S.Shelf.meaning c.detach.new.shelf) (g.S.Shelf.meaning c.take_back.new.shelf) c.detach.ensures.narrows.acts.faults c.take_back.ensures.attaches.acts.faults
+    then_failing (g.S.Shelf.meaning c.args.shelf.now) (g.S.Shelf.meaning c.detach.new.shelf) (g.S.Shelf.meaning c.take_back.new.shelf) c.detach.ensures.narrows.acts.faults (c.take_back.ensures.attaches None).acts.faults
     c.args.core.now.config.disks c.detach.new.core.config.disks c.take_back.new.core.config.disks c.detach.ensures.failing c.take_back.ensures.failing
+
+pub returns-else-is_down-clause-cause : goal.returns-else-is_down-clause-cause
+returns-else-is_down-clause-cause g c =
+    blames_then (Unit {0}) ℕ (g.S.Shelf.meaning c.args.shelf.now) (g.S.Shelf.meaning c.detach.new.shelf) (g.S.Shelf.meaning c.take_back.new.shelf) c.in-Err.error (c.in-Err.ensures.sure c.requires.more) (c.take_back.ensures.attaches None).acts.disk_faults (c.take_back.ensures.attaches None).acts.falls
+    (not_down c.is_down.result (g.S.Shelf.meaning c.take_back.new.shelf).down c.is_down.ensures c.if-is_down.false)

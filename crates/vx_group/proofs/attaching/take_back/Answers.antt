@@ -4,13 +4,14 @@ use Rattle.vx_volume.proofs.PlaceLemmas.{active_few}
 use Rattle.vx_kept.proofs.Chosen.{active_volumes}
 use Rattle.vx_group.proofs.AttachLemmas.{narrows_attaches, other_left, then_attaches}
 use Rattle.vx_group.proofs.DetLemmas.{bit_here, bit_only, left_volumes, on_volumes, one_on}
+use Rattle.vx_group.proofs.SourcesLemmas.{no_attaches}
 use Rattle.vx_group.proofs.FailingLemmas.{no_failing, then_failing}
 use Rattle.vx_group.proofs.Standing.{sound_of}
 use Rattle.vx_group.proofs.attaching.take_back.Goals as goal
 
 pub returns-in-Err-clause-attaches : goal.returns-in-Err-clause-attaches
-returns-in-Err-clause-attaches g c =
-    narrows_attaches c.args.vol c.args.plex c.args.core.now c.settle_headers.new.core (g.S.Shelf.meaning c.args.shelf.now) (g.S.Shelf.meaning c.settle_headers.new.shelf) (g.met.S.Shelf.lawful c.settle_headers.new.shelf) c.requires.stands c.settle_headers.ensures.narrows
+returns-in-Err-clause-attaches g c = λ map.
+    narrows_attaches c.args.vol c.args.plex map c.args.core.now c.settle_headers.new.core (g.S.Shelf.meaning c.args.shelf.now) (g.S.Shelf.meaning c.settle_headers.new.shelf) (g.met.S.Shelf.lawful c.settle_headers.new.shelf) c.requires.stands c.settle_headers.ensures.narrows
     (λ w q apart. active_volumes c.settle_headers.new.core.config c.args.core.now.config c.settle_headers.ensures.volumes w q)
 
 pub bounds-flags-plex : goal.bounds-flags-plex
@@ -27,22 +28,22 @@ detach-requires-clause-those g c =
     (one_on c.args.plex c.set_of-set.result (active_few c.args.core.now.config (sound_of c.args.core.now (g.S.Shelf.meaning c.args.shelf.now) c.requires.stands) c.args.vol c.args.plex c.requires.is_on) c.set_of-set.ensures c.args.core.now.config c.args.vol c.requires.is_on)
 
 pub returns-in-Ok-detach-clause-attaches : goal.returns-in-Ok-detach-clause-attaches
-returns-in-Ok-detach-clause-attaches g c =
-    then_attaches c.args.vol c.args.plex c.args.core.now c.settle_headers.new.core c.detach.new.core (g.S.Shelf.meaning c.args.shelf.now) (g.S.Shelf.meaning c.settle_headers.new.shelf) (g.S.Shelf.meaning c.detach.new.shelf)
-    (narrows_attaches c.args.vol c.args.plex c.args.core.now c.settle_headers.new.core (g.S.Shelf.meaning c.args.shelf.now) (g.S.Shelf.meaning c.settle_headers.new.shelf) (g.met.S.Shelf.lawful c.settle_headers.new.shelf) c.requires.stands c.settle_headers.ensures.narrows
+returns-in-Ok-detach-clause-attaches g c = λ map.
+    then_attaches c.args.vol c.args.plex map c.args.core.now c.settle_headers.new.core c.detach.new.core (g.S.Shelf.meaning c.args.shelf.now) (g.S.Shelf.meaning c.settle_headers.new.shelf) (g.S.Shelf.meaning c.detach.new.shelf)
+    (narrows_attaches c.args.vol c.args.plex map c.args.core.now c.settle_headers.new.core (g.S.Shelf.meaning c.args.shelf.now) (g.S.Shelf.meaning c.settle_headers.new.shelf) (g.met.S.Shelf.lawful c.settle_headers.new.shelf) c.requires.stands c.settle_headers.ensures.narrows
     (λ w q apart. active_volumes c.settle_headers.new.core.config c.args.core.now.config c.settle_headers.ensures.volumes w q))
-    (narrows_attaches c.args.vol c.args.plex c.settle_headers.new.core c.detach.new.core (g.S.Shelf.meaning c.settle_headers.new.shelf) (g.S.Shelf.meaning c.detach.new.shelf) (g.met.S.Shelf.lawful c.detach.new.shelf) c.settle_headers.ensures.stands c.detach.ensures.narrows
+    (narrows_attaches c.args.vol c.args.plex map c.settle_headers.new.core c.detach.new.core (g.S.Shelf.meaning c.settle_headers.new.shelf) (g.S.Shelf.meaning c.detach.new.shelf) (g.met.S.Shelf.lawful c.detach.new.shelf) c.settle_headers.ensures.stands c.detach.ensures.narrows
     (λ w q apart. c.detach.ensures.others w q (λ same bit. apart same (bit_only c.args.plex c.set_of-set.result (active_few c.args.core.now.config (sound_of c.args.core.now (g.S.Shelf.meaning c.args.shelf.now) c.requires.stands) c.args.vol c.args.plex c.requires.is_on) c.set_of-set.ensures q bit))))
 
 pub returns-in-Ok-detach-clause-off : goal.returns-in-Ok-detach-clause-off
 returns-in-Ok-detach-clause-off g c = inl (c.in-Ok-detach.ensures.off.each c.args.plex (bit_here c.args.plex c.set_of-set.result (active_few c.args.core.now.config (sound_of c.args.core.now (g.S.Shelf.meaning c.args.shelf.now) c.requires.stands) c.args.vol c.args.plex c.requires.is_on) c.set_of-set.ensures))
 
 pub returns-in-Err-detach-clause-attaches : goal.returns-in-Err-detach-clause-attaches
-returns-in-Err-detach-clause-attaches g c =
-    then_attaches c.args.vol c.args.plex c.args.core.now c.settle_headers.new.core c.detach.new.core (g.S.Shelf.meaning c.args.shelf.now) (g.S.Shelf.meaning c.settle_headers.new.shelf) (g.S.Shelf.meaning c.detach.new.shelf)
-    (narrows_attaches c.args.vol c.args.plex c.args.core.now c.settle_headers.new.core (g.S.Shelf.meaning c.args.shelf.now) (g.S.Shelf.meaning c.settle_headers.new.shelf) (g.met.S.Shelf.lawful c.settle_headers.new.shelf) c.requires.stands c.settle_headers.ensures.narrows
+returns-in-Err-detach-clause-attaches g c = λ map.
+    then_attaches c.args.vol c.args.plex map c.args.core.now c.settle_headers.new.core c.detach.new.core (g.S.Shelf.meaning c.args.shelf.now) (g.S.Shelf.meaning c.settle_headers.new.shelf) (g.S.Shelf.meaning c.detach.new.shelf)
+    (narrows_attaches c.args.vol c.args.plex map c.args.core.now c.settle_headers.new.core (g.S.Shelf.meaning c.args.shelf.now) (g.S.Shelf.meaning c.settle_headers.new.shelf) (g.met.S.Shelf.lawful c.settle_headers.new.shelf) c.requires.stands c.settle_headers.ensures.narrows
     (λ w q apart. active_volumes c.settle_headers.new.core.config c.args.core.now.config c.settle_headers.ensures.volumes w q))
-    (narrows_attaches c.args.vol c.args.plex c.settle_headers.new.core c.detach.new.core (g.S.Shelf.meaning c.settle_headers.new.shelf) (g.S.Shelf.meaning c.detach.new.shelf) (g.met.S.Shelf.lawful c.detach.new.shelf) c.settle_headers.ensures.stands c.detach.ensures.narrows
+    (narrows_attaches c.args.vol c.args.plex map c.settle_headers.new.core c.detach.new.core (g.S.Shelf.meaning c.settle_headers.new.shelf) (g.S.Shelf.meaning c.detach.new.shelf) (g.met.S.Shelf.lawful c.detach.new.shelf) c.settle_headers.ensures.stands c.detach.ensures.narrows
     (λ w q apart. c.detach.ensures.others w q (λ same bit. apart same (bit_only c.args.plex c.set_of-set.result (active_few c.args.core.now.config (sound_of c.args.core.now (g.S.Shelf.meaning c.args.shelf.now) c.requires.stands) c.args.vol c.args.plex c.requires.is_on) c.set_of-set.ensures q bit))))
 
 pub returns-then-is_down-clause-failing : goal.returns-then-is_down-clause-failing
@@ -57,3 +58,6 @@ pub returns-in-Err-detach-clause-failing : goal.returns-in-Err-detach-clause-fai
 returns-in-Err-detach-clause-failing g c =
     then_failing (g.S.Shelf.meaning c.args.shelf.now) (g.S.Shelf.meaning c.settle_headers.new.shelf) (g.S.Shelf.meaning c.detach.new.shelf) c.settle_headers.ensures.narrows.acts.faults c.detach.ensures.narrows.acts.faults
     c.args.core.now.config.disks c.settle_headers.new.core.config.disks c.detach.new.core.config.disks c.settle_headers.ensures.failing c.detach.ensures.failing
+
+pub returns-then-is_down-clause-attaches : goal.returns-then-is_down-clause-attaches
+returns-then-is_down-clause-attaches g c = λ map. no_attaches c.args.vol c.args.plex map c.args.core.now (g.S.Shelf.meaning c.args.shelf.now) (g.met.S.Shelf.lawful c.args.shelf.now) c.requires.stands

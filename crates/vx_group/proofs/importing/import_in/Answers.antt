@@ -1,7 +1,7 @@
 -- `import_in`: its result; what `renew` asks.
 use Rattle.std.proofs.Common.{inl, inr, refl, sym, ◌∙◌}
 use Rattle.vx_group.proofs.ImportLemmas.{import_early, import_late, import_ok, serial_left, source_active}
-use Rattle.vx_group.proofs.MendLemmas.{same_Goes}
+use Rattle.vx_group.proofs.MendLemmas.{no_marks, same_Goes}
 use Rattle.vx_group.proofs.CallLemmas.{not_down}
 use Rattle.vx_group.proofs.importing.import_in.Goals as goal
 
@@ -23,9 +23,12 @@ returns-in-Err g c = import_early (g.S.Shelf.meaning c.args.shelf.now) (g.S.Shel
 pub returns-in-Ok-renew : goal.returns-in-Ok-renew
 returns-in-Ok-renew g c =
     import_ok (g.S.Shelf.meaning c.args.shelf.now) (g.S.Shelf.meaning c.take_up.new.shelf) c.in-Ok.plan c.in-Ok.ensures.takes (g.S.Shelf.meaning c.renew.new.shelf) (g.met.S.Shelf.lawful c.args.shelf.now) (g.met.S.Shelf.lawful c.take_up.new.shelf) c.take_up.ensures.goes
-    (c.are_large.ensures.large c.if-not-are_large.false) c.requires.can c.renew.new.core (g.met.S.Shelf.lawful c.renew.new.shelf) (λ down. not_down c.is_down.result (g.S.Shelf.meaning c.args.shelf.now).down c.is_down.ensures c.if-is_down.false (sym c.take_up.ensures.down ∙ down)) c.in-Ok-renew.ensures
+    (c.are_large.ensures.large c.if-not-are_large.false) c.requires.can c.renew.new.core (g.met.S.Shelf.lawful c.renew.new.shelf) (λ down. not_down c.is_down.result (g.S.Shelf.meaning c.args.shelf.now).down c.is_down.ensures c.if-is_down.false (sym c.take_up.ensures.down ∙ down)) c.in-Ok-renew.ensures.renews c.in-Ok-renew.ensures.trust
 
 pub returns-in-Err-renew : goal.returns-in-Err-renew
 returns-in-Err-renew g c =
     import_late (g.S.Shelf.meaning c.args.shelf.now) (g.S.Shelf.meaning c.take_up.new.shelf) c.in-Ok.plan c.in-Ok.ensures.takes (g.S.Shelf.meaning c.renew.new.shelf) (g.met.S.Shelf.lawful c.args.shelf.now) (g.met.S.Shelf.lawful c.take_up.new.shelf) c.take_up.ensures.goes
-    (c.are_large.ensures.large c.if-not-are_large.false) c.requires.can c.renew.new.core c.in-Err-renew.no c.in-Err-renew.ensures
+    (c.are_large.ensures.large c.if-not-are_large.false) c.requires.can c.renew.new.core c.in-Err-renew.no c.in-Err-renew.ensures.renews c.in-Err-renew.ensures.agreed
+
+pub renew-requires-clause-tell : goal.renew-requires-clause-tell
+renew-requires-clause-tell g c = no_marks c.in-Ok.plan.core.config c.in-Ok.plan.stopped (g.S.Shelf.meaning c.take_up.new.shelf)

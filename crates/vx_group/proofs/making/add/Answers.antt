@@ -1,9 +1,9 @@
--- `add`: clauses stays, adds and cause; what `add_last` asks.
-use Rattle.std.proofs.Common.{List, refl, sym, subst, arith}
+-- `add`: clauses stays, adds, beside and cause; what `add_last` asks.
+use Rattle.std.proofs.Common.{inl, List, refl, sym, subst, arith}
 use Rattle.vx_config.specs.declared.entry.DiskEntry.{DiskEntry}
 use Rattle.vx_group.specs.Nexts.{IsNextConfig}
 use Rattle.vx_group.proofs.DeportLemmas.{blames_stop, stops_later}
-use Rattle.vx_group.proofs.MakeLemmas.{later_adds, later_next, later_stay, settled_stay}
+use Rattle.vx_group.proofs.MakeLemmas.{begun_behind, later_adds, later_next, later_stay, nothing_beside, settled_stay}
 use Rattle.vx_group.proofs.making.add.Goals as goal
 
 pub returns-in-Err-clause-stays : goal.returns-in-Err-clause-stays
@@ -34,3 +34,13 @@ returns-clause-adds g c = later_adds c.args.core.now c.settle_headers.new.core (
 
 pub returns-clause-cause : goal.returns-clause-cause
 returns-clause-cause g c = stops_later c.add_last.result (g.S.Shelf.meaning c.args.shelf.now) (g.S.Shelf.meaning c.settle_headers.new.shelf) (g.S.Shelf.meaning c.add_last.new.shelf) c.settle_headers.ensures.narrows.acts.disk_faults c.add_last.ensures.cause
+
+pub returns-in-Err-clause-beside : goal.returns-in-Err-clause-beside
+returns-in-Err-clause-beside g c = inl (nothing_beside _ (g.S.Shelf.meaning c.args.shelf.now) (g.S.Shelf.meaning c.settle_headers.new.shelf) c.settle_headers.ensures.narrows.acts)
+
+pub returns-clause-beside : goal.returns-clause-beside
+returns-clause-beside g c =
+    begun_behind _ c.args.core.now.config c.settle_headers.new.core.config _ (g.S.Shelf.meaning c.args.shelf.now) (g.S.Shelf.meaning c.settle_headers.new.shelf) (g.S.Shelf.meaning c.add_last.new.shelf) c.settle_headers.ensures.volumes c.settle_headers.ensures.narrows.acts
+    (subst (λ (ds : List DiskEntry). IsNextConfig c.settle_headers.new.core.config (record { serial = c.args.next.serial; site = c.args.next.site; disks = ds; volumes = c.args.next.volumes; rvg = c.args.next.rvg })) (sym c.copy-next.ensures)
+    (later_next c.args.core.now c.settle_headers.new.core (g.S.Shelf.meaning c.args.shelf.now) (g.S.Shelf.meaning c.settle_headers.new.shelf) (g.met.S.Shelf.lawful c.settle_headers.new.shelf) c.requires.stands c.settle_headers.ensures.stands c.settle_headers.ensures.narrows c.settle_headers.ensures.same c.args.next c.requires.is_next))
+    c.add_last.ensures.beside

@@ -1,11 +1,11 @@
--- `add_last`: clauses stands, stays, adds, cause and whole; what `zero_volume` and `commit_next` ask.
+-- `add_last`: clauses stands, stays, adds, beside, cause and whole; what `zero_volume` and `commit_next` ask.
 use Rattle.std.proofs.Common.{ℕ, length, Err, refl, ap, sym, subst, arith}
 use Rattle.vx_disk.specs.Shelf.{Goes, Meaning}
 use Rattle.vx_disk.specs.declared.shelf.ShelfError.{ShelfError}
 use Rattle.vx_volume.specs.Plexes.{SomeActive}
 use Rattle.vx_group.specs.Blames.{StopsByDevice, fault_of as fault_is}
 use Rattle.vx_group.specs.Makes.{AreZero, ZerosOn}
-use Rattle.vx_group.proofs.AddLemmas.{added, added_Stands, added_stay, missed_Stands, missed_blames, missed_stay, next_can, next_count, next_fit, next_follows, next_on, next_some, next_tidy, next_wanted, zero_Stands, zero_stay}
+use Rattle.vx_group.proofs.AddLemmas.{added, added_Stands, added_stay, missed_Stands, missed_blames, missed_stay, next_can, next_count, next_fit, next_follows, next_on, next_some, next_tidy, next_wanted, whole_beside, zero_Stands, zero_beside, zero_stay}
 use Rattle.vx_group.proofs.CallLemmas.{not_down}
 use Rattle.vx_group.proofs.DeportLemmas.{blames_stop, stops_later}
 use Rattle.vx_group.proofs.Standing.{kept_of, still_large}
@@ -96,3 +96,15 @@ returns-else-is_down-clause-cause g c =
 
 pub returns-in-Ok-commit_next-clause-whole : goal.returns-in-Ok-commit_next-clause-whole
 returns-in-Ok-commit_next-clause-whole g c = committed_or c.is_committed-core.result _ (λ is. (c.is_committed-core.ensures.none is).1)
+
+pub returns-in-Err-clause-beside : goal.returns-in-Err-clause-beside
+returns-in-Err-clause-beside g c = zero_beside c.args.core.now c.args.next (g.S.Shelf.meaning c.args.shelf.now) c.requires.stands c.requires.is_next (g.S.Shelf.meaning c.zero_volume.new.shelf) (g.met.S.Shelf.lawful c.args.shelf.now) (g.met.S.Shelf.lawful c.zero_volume.new.shelf) (subst (λ (k : ℕ). Goes (ZerosOn c.args.next k) (g.S.Shelf.meaning c.args.shelf.now) (g.S.Shelf.meaning c.zero_volume.new.shelf)) (ap length c.as_slice.ensures.volumes) c.zero_volume.ensures.goes)
+
+pub returns-in-Ok-commit_next-clause-beside : goal.returns-in-Ok-commit_next-clause-beside
+returns-in-Ok-commit_next-clause-beside g c = whole_beside c.args.core.now c.args.next (g.S.Shelf.meaning c.args.shelf.now) c.requires.stands c.requires.is_next (g.S.Shelf.meaning c.zero_volume.new.shelf) (g.met.S.Shelf.lawful c.args.shelf.now) (g.met.S.Shelf.lawful c.zero_volume.new.shelf) (subst (λ (k : ℕ). Goes (ZerosOn c.args.next k) (g.S.Shelf.meaning c.args.shelf.now) (g.S.Shelf.meaning c.zero_volume.new.shelf)) (ap length c.as_slice.ensures.volumes) c.zero_volume.ensures.goes) (g.S.Shelf.meaning c.commit_next.new.shelf) (g.met.S.Shelf.lawful c.commit_next.new.shelf) c.commit_next.ensures.acts c.args.core.now refl refl
+
+pub returns-then-is_down-clause-beside : goal.returns-then-is_down-clause-beside
+returns-then-is_down-clause-beside g c = whole_beside c.args.core.now c.args.next (g.S.Shelf.meaning c.args.shelf.now) c.requires.stands c.requires.is_next (g.S.Shelf.meaning c.zero_volume.new.shelf) (g.met.S.Shelf.lawful c.args.shelf.now) (g.met.S.Shelf.lawful c.zero_volume.new.shelf) (subst (λ (k : ℕ). Goes (ZerosOn c.args.next k) (g.S.Shelf.meaning c.args.shelf.now) (g.S.Shelf.meaning c.zero_volume.new.shelf)) (ap length c.as_slice.ensures.volumes) c.zero_volume.ensures.goes) (g.S.Shelf.meaning c.commit_next.new.shelf) (g.met.S.Shelf.lawful c.commit_next.new.shelf) c.commit_next.ensures.acts c.args.core.now refl refl
+
+pub returns-else-is_down-clause-beside : goal.returns-else-is_down-clause-beside
+returns-else-is_down-clause-beside g c = whole_beside c.args.core.now c.args.next (g.S.Shelf.meaning c.args.shelf.now) c.requires.stands c.requires.is_next (g.S.Shelf.meaning c.zero_volume.new.shelf) (g.met.S.Shelf.lawful c.args.shelf.now) (g.met.S.Shelf.lawful c.zero_volume.new.shelf) (subst (λ (k : ℕ). Goes (ZerosOn c.args.next k) (g.S.Shelf.meaning c.args.shelf.now) (g.S.Shelf.meaning c.zero_volume.new.shelf)) (ap length c.as_slice.ensures.volumes) c.zero_volume.ensures.goes) (g.S.Shelf.meaning c.commit_next.new.shelf) (g.met.S.Shelf.lawful c.commit_next.new.shelf) c.commit_next.ensures.acts c.args.core.now refl refl

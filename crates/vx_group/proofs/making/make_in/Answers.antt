@@ -1,10 +1,12 @@
--- `make_in`: clauses stays, unmoved, ends and stands; what `plan` and `add` ask.
-use Rattle.std.proofs.Common.{◌≡◌, ℕ, List, length, Err, refl, ap, sym, ◌∙◌, subst, arith}
+-- `make_in`: clauses stays, beside, unmoved, ends and stands; what `plan` and `add` ask.
+use Rattle.std.proofs.Common.{◌≡◌, inl, ℕ, List, length, Err, refl, ap, sym, ◌∙◌, subst, arith}
 use Rattle.vx_config.specs.declared.entry.DiskEntry.{DiskEntry}
+use Rattle.vx_disk.specs.Moves.{Anything}
+use Rattle.vx_kept.proofs.Steps.{same_Acts}
 use Rattle.vx_model.specs.declared.errors.Stop.TheVariants.{No as Refused}
 use Rattle.vx_model.specs.declared.no.No.{No}
 use Rattle.vx_group.specs.Makes.{MakeStops, Unmoved, VolumeMade}
-use Rattle.vx_group.proofs.MakeLemmas.{made_volume, plan_next, plan_stops, stopped_by, unmoved_error, unmoved_stop}
+use Rattle.vx_group.proofs.MakeLemmas.{made_volume, makes_behind, nothing_beside, plan_next, plan_stops, stopped_by, unmoved_error, unmoved_stop}
 use Rattle.vx_group.proofs.BehindLemmas.{behind_added, behind_next, later_stays, no_stays, released_stays}
 use Rattle.vx_group.proofs.DeportLemmas.{blames_stop, stops_later}
 use Rattle.vx_group.proofs.HoldLemmas.{from_none, narrow_can, narrow_sound, none_Stands}
@@ -60,7 +62,7 @@ add-requires-clause-more g c = let le = c.in-Ok-release.ensures.few in let room 
 
 pub add-requires-clause-is_next : goal.add-requires-clause-is_next
 add-requires-clause-is_next g c =
-    behind_next (g.S.Shelf.meaning c.args.shelf.now) (g.S.Shelf.meaning c.release.new.shelf) c.args.core.now.inner.config c.release.new.core.inner.config c.in-Ok.next _ c.release.ensures.volumes c.in-Ok-release.ensures.parts c.release.ensures.failing
+    behind_next (g.S.Shelf.meaning c.args.shelf.now) (g.S.Shelf.meaning c.release.new.shelf) c.args.core.now.inner.config c.release.new.core.inner.config c.in-Ok.next _ c.release.ensures.volumes c.release.ensures.parts c.release.ensures.failing
     (plan_next c.args.core.now.inner.config c.args.name.now c.args.want.now c.in-Ok.next c.plan.ensures.may c.in-Ok.ensures.ends)
     (ap (λ (ds : List DiskEntry). record { serial = c.release.new.core.inner.config.serial; site = c.in-Ok.next.site; disks = ds; volumes = c.in-Ok.next.volumes; rvg = c.in-Ok.next.rvg }) c.copy-next.ensures)
 
@@ -92,3 +94,23 @@ returns-in-Err-add-clause-ends g c = λ none. (
 pub returns-in-Err-add-clause-unmoved : goal.returns-in-Err-add-clause-unmoved
 returns-in-Err-add-clause-unmoved g c =
     subst (λ (no : No). Unmoved {T = ℕ} (Err (Refused no)) ((record { inner = c.add.new.core; held = c.release.new.core.held } ≡ c.args.core.now) × (c.add.new.shelf ≡ c.args.shelf.now))) (sym c.refusal-in-Err-add.ensures) (unmoved_error _ c.in-Err-add.error)
+
+pub returns-in-Some-clause-beside : goal.returns-in-Some-clause-beside
+returns-in-Some-clause-beside g c = inl (same_Acts Anything (g.S.Shelf.meaning c.args.shelf.now))
+
+pub returns-in-Err-clause-beside : goal.returns-in-Err-clause-beside
+returns-in-Err-clause-beside g c = inl (same_Acts Anything (g.S.Shelf.meaning c.args.shelf.now))
+
+pub returns-then-is_down-clause-beside : goal.returns-then-is_down-clause-beside
+returns-then-is_down-clause-beside g c = inl (same_Acts Anything (g.S.Shelf.meaning c.args.shelf.now))
+
+pub returns-in-Err-release-clause-beside : goal.returns-in-Err-release-clause-beside
+returns-in-Err-release-clause-beside g c = inl (nothing_beside _ (g.S.Shelf.meaning c.args.shelf.now) (g.S.Shelf.meaning c.release.new.shelf) c.release.ensures.narrows.acts)
+
+pub returns-in-Ok-add-clause-beside : goal.returns-in-Ok-add-clause-beside
+returns-in-Ok-add-clause-beside g c =
+    makes_behind _ c.args.core.now.inner.config c.release.new.core.inner.config (g.S.Shelf.meaning c.args.shelf.now) (g.S.Shelf.meaning c.release.new.shelf) (g.S.Shelf.meaning c.add.new.shelf) c.release.ensures.volumes c.release.ensures.narrows.acts c.add.ensures.beside
+
+pub returns-in-Err-add-clause-beside : goal.returns-in-Err-add-clause-beside
+returns-in-Err-add-clause-beside g c =
+    makes_behind _ c.args.core.now.inner.config c.release.new.core.inner.config (g.S.Shelf.meaning c.args.shelf.now) (g.S.Shelf.meaning c.release.new.shelf) (g.S.Shelf.meaning c.add.new.shelf) c.release.ensures.volumes c.release.ensures.narrows.acts c.add.ensures.beside

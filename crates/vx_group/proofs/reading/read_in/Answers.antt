@@ -4,6 +4,7 @@ use Rattle.vx_volume.specs.Volumes.{PlexRead}
 use Rattle.vx_group.specs.Holding.{wide}
 use Rattle.vx_group.specs.Stands.{volume_faults}
 use Rattle.vx_group.proofs.CallLemmas.{with_Stands}
+use Rattle.vx_group.proofs.MendLemmas.{same_Goes}
 use Rattle.vx_group.proofs.HoldLemmas.{narrow_size, narrow_some, narrow_units}
 use Rattle.vx_group.proofs.ReadLemmas.{group_read, narrow_fits, wide_read}
 use Rattle.vx_group.proofs.Standing.{fit_of}
@@ -44,3 +45,6 @@ pub returns-in-Ok-clause-ok : goal.returns-in-Ok-clause-ok
 returns-in-Ok-clause-ok g c =
     wide_read c.args.core.now (g.S.Shelf.meaning c.args.shelf.now) c.requires.stands c.args.vol c.args.block c.read.new.into (g.S.Shelf.meaning c.read.new.shelf)
     (narrow_fits c.args.core.now (g.S.Shelf.meaning c.args.shelf.now) c.requires.stands c.args.vol c.args.block _ _ c.read.auto.into c.requires.fits) c.in-Ok.ensures.reads.0 c.in-Ok.ensures.reads.1.is_on (subst (λ (n : ℕ). PlexRead c.args.core.now.inner.config c.args.vol c.in-Ok.ensures.reads.0 c.args.block c.args.block (n / 512) c.read.new.into (g.S.Shelf.meaning c.args.shelf.now)) (sym c.read.auto.into) c.in-Ok.ensures.reads.1.read)
+
+pub returns-then-is_down-clause-below : goal.returns-then-is_down-clause-below
+returns-then-is_down-clause-below g c = same_Goes (g.S.Shelf.meaning c.args.shelf.now)

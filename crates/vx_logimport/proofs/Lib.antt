@@ -1,0 +1,5 @@
+pub mod ReadLemmas
+pub mod MarkLemmas
+pub mod RenewLemmas
+pub mod ImportedLemmas
+pub mod ToldLemmas

@@ -1,0 +1,11 @@
+//! The import of a group by the dirty region logs of its volumes: of a volume that stopped uncleanly the regions alone are copied that its log
+//! has, and all of them where no log can be read.
+#![tactic(auto)]
+
+mod crashing;
+mod importing;
+mod reading;
+
+pub use crashing::{crash_told, revive_told};
+pub use importing::{Marked, import_marked};
+pub use reading::read_logs;
