@@ -1,6 +1,6 @@
--- A group whose disks are by themselves, as its site notes it: it crashed.
-use Rattle.std.specs.Prelude.{◌≡◌, ℕ, ◌<◌, ◌≤◌, false, IsTrue, length}
-use Rattle.vx_model.specs.declared.site.SiteState.TheVariants.{Down as IsDown}
+-- A group whose disks are by themselves, as its site notes it: it crashed, or was deported.
+use Rattle.std.specs.Prelude.{◌≡◌, ℕ, ◌<◌, ◌≤◌, true, false, if◌then◌else◌, IsTrue, [], length}
+use Rattle.vx_model.specs.declared.site.SiteState.TheVariants.{Deported, Down as IsDown}
 use Rattle.vx_disk.specs.Shelf.{Each, Image, Meaning}
 use Rattle.vx_history.specs.Groups.{GroupNode}
 use Rattle.vx_history.specs.World.{Node}
@@ -12,6 +12,7 @@ use Rattle.vx_kept.specs.Groups.{found}
 use Rattle.vx_layout.specs.Places.{place}
 use Rattle.vx_volume.specs.Plexes.{Inside}
 use Rattle.vx_group.specs.Resumes.{CanImport}
+use Rattle.vx_group.specs.declared.inner.Inner.{Inner}
 use Rattle.vx_grouped.specs.GroupNotes.{noted_config}
 use Rattle.vx_grouped.specs.Plain.{BlockMay}
 
@@ -32,4 +33,17 @@ pub record IsAwayAt (n : Node) (note : GroupNode) (m : Meaning) : Type 0 where
   pub state : n.state ≡ IsDown
   pub last : Config
   pub config : note.config ≡ noted_config last
+  pub lies : AwayLies n note last m
+
+-- the note with the configuration that a deport committed; imports may disagree where the one of before was not committed
+abbrev pub note_deported : Config → Inner → GroupNode → GroupNode
+note_deported x core note = record note { config = noted_config x; begun = []; loose = if core.committed then false else true }
+
+-- the disks of a site that was deported: each image has the configuration that is noted
+pub record IsDeportedAt (n : Node) (note : GroupNode) (m : Meaning) : Type 0 where
+  pub state : n.state ≡ Deported
+  pub last : Config
+  pub newest : Config
+  pub finds : (i : Image) → Each m.leaves i → found m i ≡ Found newest
+  pub config : note.config ≡ noted_config newest
   pub lies : AwayLies n note last m

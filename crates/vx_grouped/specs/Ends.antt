@@ -1,6 +1,7 @@
 -- How calls on a group leave it, as its site notes it.
 use Rattle.std.specs.Prelude.{ℕ, List, Result, Ok, Err}
 use Rattle.vx_model.specs.Content.{Write}
+use Rattle.vx_model.specs.declared.site.SiteState.TheVariants.{Deported}
 use Rattle.vx_model.specs.declared.errors.Stop.{Stop}
 use Rattle.vx_model.specs.declared.errors.Stop.TheVariants.{No as Refused, OutOfMemory}
 use Rattle.vx_model.specs.declared.no.No.{No}
@@ -8,7 +9,9 @@ use Rattle.vx_model.specs.declared.no.No.TheVariants.{Device, Down}
 use Rattle.vx_disk.specs.Shelf.{Meaning}
 use Rattle.vx_history.specs.Groups.{GroupNode}
 use Rattle.vx_history.specs.World.{Node}
+use Rattle.vx_config.specs.declared.config.Config.{Config}
 use Rattle.vx_group.specs.declared.group_core.GroupCore.{GroupCore}
+use Rattle.vx_grouped.specs.Away.{IsDeportedAt, note_deported}
 use Rattle.vx_grouped.specs.GroupNotes.{IsGroupAt, IsGroupCut, note_done, note_refused}
 use Rattle.vx_grouped.specs.Plain.{note_cut, note_doubt, note_write}
 
@@ -31,3 +34,8 @@ CallLeaves n note core m (Err (Refused (Device disk))) = (next : List ℕ) × Is
 CallLeaves n note core m (Err (Refused Down)) = (next : List ℕ) × IsGroupCut n (note_refused next core.inner note) core m
 CallLeaves n note core m (Err (Refused other)) = IsGroupAt n note core m
 CallLeaves n note core m (Err OutOfMemory) = ⊥
+
+-- A deport: done, the disks are by themselves; refused, the group is given back, and each volume has what it had.
+abbrev pub DeportLeaves : {S G : Type 0} → Node → GroupNode → GroupCore → (S → Meaning) → (G → GroupCore) → (G → S) → Result S (G × Stop) → Type 0
+DeportLeaves n note c meaning core shelf (Ok s) = (x : Config) × IsDeportedAt (record n { state = Deported }) (note_deported x c.inner note) (meaning s)
+DeportLeaves n note c meaning core shelf (Err (g, stop)) = CallLeaves {T = Unit {0}} n note (core g) (meaning (shelf g)) (Err stop)

@@ -1,7 +1,7 @@
 -- What a site's note says of the volumes of its group, and what a write makes of it.
-use Rattle.std.specs.Prelude.{◌≡◌, ◌⊎◌, ℕ, ◌-◌, ◌<◌, if◌then◌else◌, List, [], ◌∷◌, Some, Contains}
+use Rattle.std.specs.Prelude.{◌≡◌, ◌⊎◌, ℕ, ◌-◌, ◌<◌, if◌then◌else◌, IsTrue, List, [], ◌∷◌, Some, Contains}
 use Rattle.vx_model.specs.Content.{Write, block_of, put, touches}
-use Rattle.vx_disk.specs.Shelf.{Meaning}
+use Rattle.vx_disk.specs.Shelf.{Covers, Meaning, piece}
 use Rattle.vx_history.specs.Groups.{GroupNode}
 
 -- a value that a block of a volume may have: the one that is noted, or one of the further ones
@@ -25,3 +25,7 @@ note_doubt x note = record note { others = λ v b. if touches x v b then block_o
 -- the same behind a write in which the fuse ran out: it is the one that a recovery looks at
 abbrev pub note_cut : Write → GroupNode → GroupNode
 note_cut x note = record (note_doubt x note) { cut = Some x }
+
+-- what was read of a volume: where contents are told, of each block a value that it may have
+pub record ReadsPlain (note : GroupNode) (m : Meaning) (v block : ℕ) (bytes : List ℕ) : Type 0 where
+  pub each : IsTrue m.tells → (b : ℕ) → Covers v block bytes v b → BlockMay note v b (piece block bytes b)

@@ -1,15 +1,22 @@
-// A group that leaves its site: it crashes.
+// A group that leaves its site: it crashes, or is deported.
+ghost use Rattle.std.specs.Prelude.{◌-◌, ◌<◌, ◌≤◌, IsTrue};
+ghost use Rattle.vx_config.specs.Table.{greatest};
 ghost use Rattle.vx_disk.specs.Causes.{OnDisks};
 ghost use Rattle.vx_disk.specs.Disks.{Crashed};
 ghost use Rattle.vx_disk.specs.Racks.{Stopped};
+ghost use Rattle.vx_group.specs.Calls.{GroupDeported, IsFull};
+ghost use Rattle.vx_group.specs.Deports.{DeportStops};
+ghost use Rattle.vx_group.specs.Dets.{margin};
 ghost use Rattle.vx_grouped.specs.Away.{IsAwayAt};
-ghost use Rattle.vx_grouped.specs.GroupNotes.{GroupLies};
+ghost use Rattle.vx_grouped.specs.Ends.{DeportLeaves};
+ghost use Rattle.vx_grouped.specs.GroupNotes.{GroupLies, IsGroupAt};
 ghost use Rattle.vx_history.specs.Groups.{GroupNode};
 ghost use Rattle.vx_history.specs.World.{Node};
 ghost use Rattle.vx_model.specs.declared.site.SiteState.TheVariants.{Down as DownState};
 
-use vx_disk::Rack;
+use vx_disk::{Rack, Shelf};
 use vx_group::{Group, crash_in};
+use vx_model::{No, Stop};
 
 /// Crashes the disks of a group, up or down, and hands them out.
 pub fn crash_group<R: Rack>(group: Group<R>, pick: u64) -> R
@@ -20,4 +27,26 @@ pub fn crash_group<R: Rack>(group: Group<R>, pick: u64) -> R
     let (mut rack, core) = group.apart();
     crash_in(&mut rack, &core, pick);
     rack
+}
+
+/// Deports a group that is up, and hands its disks out. A refusal gives it back; disks that are down behind it answer so.
+///
+/// Answers 19 as the group does, and then nothing has changed; else 7 only where the count of the disk that it names rose, and 6 only where the
+/// shelf is then down.
+pub fn deport_group<R: Rack>(group: Group<R>) -> Result<R, (Group<R>, Stop)>
+    requires up { IsTrue (R.meaning group.shelf).down → ⊥ }
+    ensures limit { greatest - margin < group.core.inner.config.serial → IsFull group.core group.shelf (λ g. g.core) (λ g. g.shelf) result }
+    ensures ends { GroupDeported group.core (R.meaning group.shelf) (λ s. R.meaning s) (λ g. g.core) (λ g. g.shelf) result }
+    ensures leaves { (n : Node) (note : GroupNode) → IsGroupAt n note group.core (R.meaning group.shelf) → DeportLeaves n note group.core (λ s. R.meaning s) (λ g. g.core) (λ g. g.shelf) result }
+    ensures cause { group.core.inner.config.serial ≤ greatest - margin → DeportStops (R.meaning group.shelf) (λ s. R.meaning s) (λ g. g.shelf) result }
+{
+    match group.deport() {
+        Ok(rack) => Ok(rack),
+        Err((group, stop)) => {
+            if group.is_down() {
+                return Err((group, Stop::No(No::Down)));
+            }
+            Err((group, stop))
+        }
+    }
 }

@@ -1,12 +1,13 @@
-// Writes to a volume of a group.
+// Writes and reads of a volume of a group.
 ghost use Rattle.std.specs.Prelude.{◌≡◌, IfErr, OnOk, length, true};
 ghost use Rattle.vx_disk.specs.Causes.{DeviceCause};
-ghost use Rattle.vx_disk.specs.Shelf.{Fits};
+ghost use Rattle.vx_disk.specs.Shelf.{Fits, Goes, Nothing};
 ghost use Rattle.vx_group.specs.Holding.{wide};
 ghost use Rattle.vx_group.specs.Loses.{LosesPlexes};
 ghost use Rattle.vx_group.specs.Stands.{inner_meaning};
 ghost use Rattle.vx_grouped.specs.Ends.{WriteLeaves, plain_write};
 ghost use Rattle.vx_grouped.specs.GroupNotes.{IsGroupAt};
+ghost use Rattle.vx_grouped.specs.Plain.{HoldsPlain, ReadsPlain};
 ghost use Rattle.vx_history.specs.Groups.{GroupNode};
 ghost use Rattle.vx_history.specs.World.{Node};
 
@@ -38,5 +39,27 @@ pub fn write_plain<R: Rack>(
     match group.flush(vol) {
         Ok(()) => Ok(()),
         Err(error) => Err(refusal(error)),
+    }
+}
+
+/// Reads whole blocks of a volume: of each a value that it may have. What is noted of the group stays.
+///
+/// Answers 7 only where the count of the disk that it names rose, and 6 only where the shelf is down; nothing else.
+pub fn read_plain<R: Rack>(
+    group: &mut Group<R>,
+    vol: u32,
+    block: u64,
+    into: &mut [u8],
+) -> Result<(), No>
+    requires fits { Fits (inner_meaning (wide group.old.core) (R.meaning group.old.shelf)) vol block (length into.old) }
+    ensures reads { (note : GroupNode) → HoldsPlain note (inner_meaning (wide group.old.core) (R.meaning group.old.shelf)) → OnOk result (ReadsPlain note (R.meaning group.old.shelf) vol block into.new) }
+    ensures stays { (n : Node) (note : GroupNode) → IsGroupAt n note group.old.core (R.meaning group.old.shelf) → IsGroupAt n note group.new.core (R.meaning group.new.shelf) }
+    ensures same { group.new.core.inner.config ≡ group.old.core.inner.config }
+    ensures below { Goes Nothing (R.meaning group.old.shelf) (R.meaning group.new.shelf) }
+    ensures cause { IfErr result (DeviceCause (R.meaning group.old.shelf) (R.meaning group.new.shelf)) }
+{
+    match group.read(vol, block, into) {
+        Ok(()) => Ok(()),
+        Err(failed) => Err(refusal(failed)),
     }
 }

@@ -1,0 +1,36 @@
+-- A read of a volume of a group, as its site notes it.
+use Rattle.std.proofs.Common.{◌≡◌, ℕ, ◌<◌, List, length, sym, ◌∙◌, ap, subst, arith, IsTrue}
+use Rattle.vx_disk.specs.Shelf.{Fits, Goes, Lawful, Meaning, Nothing, Read}
+use Rattle.vx_history.specs.Groups.{GroupNode}
+use Rattle.vx_history.specs.World.{Node}
+use Rattle.vx_group.specs.Holding.{wide}
+use Rattle.vx_group.specs.Stands.{inner_meaning}
+use Rattle.vx_group.specs.declared.group_core.GroupCore.{GroupCore}
+use Rattle.vx_grouped.specs.GroupNotes.{IsGroupAt, noted_config}
+use Rattle.vx_grouped.specs.Plain.{HoldsPlain, ReadsPlain}
+use Rattle.vx_grouped.proofs.PlainLemmas.{still_holds}
+
+-- what was read is what a crash may leave
+pub reads_plain : (note : GroupNode) (m below : Meaning) (v block : ℕ) (old bytes : List ℕ) → length bytes ≡ length old → m.tells ≡ below.tells → Lawful m → HoldsPlain note m → Fits m v block (length old) → Read m v block bytes
+    → ReadsPlain note below v block bytes
+reads_plain note m below v block old bytes same tells lawful it room read = record {
+  each = λ told b covers.
+      it.has v b _ room.exists (let end = room.within in let whole = room.whole in let first = covers.first in let last = covers.last in omega (arith, end, whole, first, last, same))
+      (lawful.shown v b _ (read.each (subst IsTrue (sym tells) told) b covers));
+}
+
+-- what is noted stays
+pub read_stays : (n : Node) (note : GroupNode) (c d : GroupCore) (m m' : Meaning) → Goes Nothing m m' → m'.down ≡ m.down → Goes Nothing (inner_meaning (wide c) m) (inner_meaning (wide d) m') → d.inner.config ≡ c.inner.config
+    → (d.inner.committed ≡ c.inner.committed) × (d.inner.agreed ≡ c.inner.agreed) → IsGroupAt n note c m → IsGroupAt n note d m'
+read_stays n note c d m m' below down goes config trusted at = record {
+  state = at.state;
+  up = λ is. at.up (subst IsTrue down is);
+  lies = record {
+    units = below.units ∙ at.lies.units;
+    size = λ u low. below.size u ∙ at.lies.size u low;
+    config = at.lies.config ∙ ap noted_config (sym config);
+    agreed = λ tight. trusted.1 ∙ at.lies.agreed tight;
+    committed = λ tight none. trusted.0 ∙ at.lies.committed tight none;
+    holds = still_holds note (inner_meaning (wide c) m) (inner_meaning (wide d) m') at.lies.holds goes;
+  };
+}

@@ -1,0 +1,21 @@
+-- A read of a volume: what was read, and that what is noted stays.
+use Rattle.std.proofs.Common.{refl}
+use Rattle.vx_group.specs.Holding.{wide}
+use Rattle.vx_group.specs.Laws.{group_lawful}
+use Rattle.vx_group.specs.Stands.{inner_meaning}
+use Rattle.vx_grouped.proofs.ReadLemmas.{read_stays, reads_plain}
+use Rattle.vx_grouped.proofs.plain.read_plain.Goals as goal
+
+pub returns-in-Ok-clause-reads : goal.returns-in-Ok-clause-reads
+returns-in-Ok-clause-reads g c = λ note it.
+    let lawful = (g.met.R.Shelf g.world.𝓛 g.world.𝓜 g.world.𝓡 ((λ s x. x), (λ x. x), (λ x. x), λ x. x)).lawful in
+    reads_plain note (inner_meaning (wide c.args.group.now.core) (g.R.Shelf.meaning c.args.group.now.shelf)) (g.R.Shelf.meaning c.args.group.now.shelf) c.args.vol c.args.block c.args.into.now c.read.new.into c.read.auto.into refl
+    (group_lawful (wide c.args.group.now.core) (g.R.Shelf.meaning c.args.group.now.shelf) (lawful c.args.group.now.shelf) c.args.group.now.stands.stands) it c.requires.fits c.in-Ok.ensures.ok
+
+pub returns-in-Ok-clause-stays : goal.returns-in-Ok-clause-stays
+returns-in-Ok-clause-stays g c = λ n note at.
+    read_stays n note c.args.group.now.core c.read.new.self.core (g.R.Shelf.meaning c.args.group.now.shelf) (g.R.Shelf.meaning c.read.new.self.shelf) c.read.ensures.below c.read.ensures.down c.read.ensures.goes c.read.ensures.same c.read.ensures.trusted at
+
+pub returns-in-Err-clause-stays : goal.returns-in-Err-clause-stays
+returns-in-Err-clause-stays g c = λ n note at.
+    read_stays n note c.args.group.now.core c.read.new.self.core (g.R.Shelf.meaning c.args.group.now.shelf) (g.R.Shelf.meaning c.read.new.self.shelf) c.read.ensures.below c.read.ensures.down c.read.ensures.goes c.read.ensures.same c.read.ensures.trusted at
