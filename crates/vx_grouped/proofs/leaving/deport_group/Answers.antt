@@ -12,16 +12,16 @@ pub returns-in-Ok-clause-leaves : goal.returns-in-Ok-clause-leaves
 returns-in-Ok-clause-leaves g c = λ n note at.
     (c.in-Ok.ensures.ends.config, deported_at n note c.args.group.core (g.R.Shelf.meaning c.args.group.shelf) (g.R.Shelf.meaning c.in-Ok.rack) at.lies c.args.group.stands c.in-Ok.ensures.ends (λ is. c.in-Ok.ensures.can (inl is)))
 
-pub returns-in-Err-then-is_down-clause-limit : goal.returns-in-Err-then-is_down-clause-limit
-returns-in-Err-then-is_down-clause-limit g c = λ lt.
+pub returns-then-is_down-clause-limit : goal.returns-then-is_down-clause-limit
+returns-then-is_down-clause-limit g c = λ lt.
     absurd (never_fell g.R.Shelf.meaning c.args.group.shelf c.in-Err.group.shelf (c.in-Err.ensures.limit lt).2 c.requires.up (sym c.is_down.ensures ∙ c.if-is_down.true))
 
-pub returns-in-Err-then-is_down-clause-leaves : goal.returns-in-Err-then-is_down-clause-leaves
-returns-in-Err-then-is_down-clause-leaves g c = λ n note at.
+pub returns-then-is_down-clause-leaves : goal.returns-then-is_down-clause-leaves
+returns-then-is_down-clause-leaves g c = λ n note at.
     back_cut n note c.args.group.core c.in-Err.group.core (g.R.Shelf.meaning c.args.group.shelf) (g.R.Shelf.meaning c.in-Err.group.shelf) at c.in-Err.ensures.ends c.in-Err.ensures.back (sym c.is_down.ensures ∙ c.if-is_down.true)
 
-pub returns-in-Err-clause-leaves : goal.returns-in-Err-clause-leaves
-returns-in-Err-clause-leaves g c = λ n note at.
+pub returns-else-is_down-clause-leaves : goal.returns-else-is_down-clause-leaves
+returns-else-is_down-clause-leaves g c = λ n note at.
     back_up n note c.args.group.core c.in-Err.group.core (g.R.Shelf.meaning c.args.group.shelf) (g.R.Shelf.meaning c.in-Err.group.shelf) at c.in-Err.ensures.ends c.in-Err.ensures.back c.in-Err.stop
     (greatest - margin < c.args.group.core.inner.config.serial) (c.args.group.core.inner.config.serial ≤ greatest - margin) (cases_lt (greatest - margin) c.args.group.core.inner.config.serial)
     (not_down c.is_down.result (g.R.Shelf.meaning c.in-Err.group.shelf).down c.is_down.ensures c.if-is_down.false)
