@@ -1,6 +1,6 @@
 -- A group that was deported, as its site notes it.
-use Rattle.std.proofs.Common.{◌≡◌, ◌⊎◌, inl, inr, ℕ, ◌<◌, ◌≤◌, Bool, true, false, List, [], length, refl, sym, ◌∙◌, ap, subst, arith, IsTrue}
-use Rattle.std.specs.Prelude.{Result, Ok, Err, if◌then◌else◌}
+use Rattle.std.proofs.Common.{◌≡◌, ◌⊎◌, inl, inr, ℕ, ◌<◌, ◌≤◌, Bool, true, false, List, length, refl, sym, ◌∙◌, subst, arith, IsTrue}
+use Rattle.std.specs.Prelude.{Err, if◌then◌else◌}
 use Rattle.vx_model.specs.declared.errors.Stop.{Stop}
 use Rattle.vx_model.specs.declared.errors.Stop.TheVariants.{No as Refused, OutOfMemory}
 use Rattle.vx_model.specs.declared.no.Counted.TheVariants.{Number as Numbers}
@@ -26,13 +26,13 @@ use Rattle.vx_group.specs.Deports.{DeportStops, DeportedBy}
 use Rattle.vx_group.specs.Dets.{DetStops}
 use Rattle.vx_group.specs.Holding.{GroupStands, wide}
 use Rattle.vx_group.specs.Resumes.{CanImport}
-use Rattle.vx_group.specs.Stands.{InnerStands, inner_meaning}
+use Rattle.vx_group.specs.Stands.{inner_meaning}
 use Rattle.vx_group.specs.declared.group_core.GroupCore.{GroupCore}
 use Rattle.vx_group.proofs.HoldLemmas.{narrow_wider, wide_shape}
 use Rattle.vx_group.proofs.Standing.{sound_of}
-use Rattle.vx_grouped.specs.Away.{AwayLies, IsDeportedAt, note_deported}
+use Rattle.vx_grouped.specs.Away.{IsDeportedAt, note_deported}
 use Rattle.vx_grouped.specs.Ends.{CallLeaves}
-use Rattle.vx_grouped.specs.GroupNotes.{GroupLies, IsGroupAt, IsGroupCut, note_refused, noted_config}
+use Rattle.vx_grouped.specs.GroupNotes.{GroupLies, IsGroupAt, IsGroupCut, note_refused}
 use Rattle.vx_grouped.specs.Plain.{BlockMay}
 use Rattle.vx_grouped.proofs.KeepLemmas.{call_cut, call_up}
 

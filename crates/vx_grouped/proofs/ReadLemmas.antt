@@ -1,5 +1,5 @@
 -- A read of a volume of a group, as its site notes it.
-use Rattle.std.proofs.Common.{◌≡◌, ℕ, ◌<◌, List, length, sym, ◌∙◌, ap, subst, arith, IsTrue}
+use Rattle.std.proofs.Common.{◌≡◌, ℕ, List, length, sym, ◌∙◌, ap, subst, arith, IsTrue}
 use Rattle.vx_disk.specs.Shelf.{Fits, Goes, Lawful, Meaning, Nothing, Read}
 use Rattle.vx_history.specs.Groups.{GroupNode}
 use Rattle.vx_history.specs.World.{Node}

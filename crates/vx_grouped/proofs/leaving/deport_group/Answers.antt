@@ -1,5 +1,5 @@
 -- A deport, as the site notes the group: its disks by themselves, or the group that is given back.
-use Rattle.std.proofs.Common.{◌≡◌, ◌∙◌, ◌-◌, ◌<◌, ◌≤◌, inl, sym}
+use Rattle.std.proofs.Common.{◌∙◌, ◌-◌, ◌<◌, ◌≤◌, inl, sym}
 use Rattle.std.proofs.lemmas.Bool.{cases_lt}
 use Rattle.vx_config.specs.Table.{greatest}
 use Rattle.vx_group.specs.Dets.{margin}
