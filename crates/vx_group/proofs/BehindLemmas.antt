@@ -17,7 +17,7 @@ use Rattle.vx_kept.specs.Keeping.{SameShape, Sees}
 use Rattle.vx_kept.proofs.Chosen.{extends_volumes, same_extends}
 use Rattle.vx_kept.proofs.Narrower.{stand_apart}
 use Rattle.vx_kept.proofs.StateLemmas.{same_shape, then_shape}
-use Rattle.vx_kept.proofs.Steps.{both_Acts, inside_back, same_Acts, wide_Acts}
+use Rattle.vx_kept.proofs.Steps.{both_Acts, group-Goes, inside_back, same_Acts, wide_Acts}
 use Rattle.vx_group.specs.Calls.{GroupBack, GroupStays}
 use Rattle.vx_group.specs.Copying.{NoMember}
 use Rattle.vx_group.specs.Deports.{Deported, DeportedBy, IsVolumeOf}
@@ -26,7 +26,7 @@ use Rattle.vx_group.specs.Makes.{AreZero, StayAsWere}
 use Rattle.vx_group.specs.Moves.{Narrows}
 use Rattle.vx_group.specs.Nexts.{Added, IsNextConfig}
 use Rattle.vx_group.specs.Quiesces.{GivenBack, NoVolume, QuiescesBy, SameParts}
-use Rattle.vx_group.specs.Stands.{volume_faults, inner_meaning}
+use Rattle.vx_group.specs.Stands.{InnerStands, volume_faults, inner_meaning}
 use Rattle.vx_group.specs.declared.group_core.GroupCore.{GroupCore}
 use Rattle.vx_group.specs.declared.group_core.Held.{Held}
 use Rattle.vx_group.specs.declared.inner.Inner.{Inner}
@@ -35,7 +35,7 @@ use Rattle.vx_group.proofs.FailingLemmas.{sound_same, then_failing}
 use Rattle.vx_group.proofs.HoldLemmas.{active_at_volumes, from_none, narrow_sound, none_Stands, wide_none}
 use Rattle.vx_group.proofs.LoseLemmas.{loses_none, loses_same, then_loses}
 use Rattle.vx_group.proofs.MakeLemmas.{config_is, volumes_Goes}
-use Rattle.vx_group.proofs.QuiesceLemmas.{or_failed}
+use Rattle.vx_group.proofs.QuiesceLemmas.{both_parts, or_failed, same_parts}
 use Rattle.vx_group.proofs.Standing.{apart_of_core}
 use Rattle.vx_group.proofs.ThroughLemmas.{released_active, released_goes, released_shape}
 
@@ -109,6 +109,7 @@ behind_added c mid d next last m2 volumes same added = record {
 pub group_still : (c : GroupCore) (m : Meaning) → GroupStands c m → GroupBack c c m m
 group_still c m stands = record {
   stands = stands;
+  parts = same_parts c.inner;
   quiesces = record {
     acts = same_Acts (Sees (wide c).config NoMember m) m;
     shape = same_shape c.inner.config;
@@ -126,9 +127,10 @@ module _ (c0 mid : GroupCore) (m m1 : Meaning) (stands : GroupStands c0 m) (narr
   unmarked : (v : ℕ) → is_unsure mid.inner.unsure v ≡ false → is_unsure c0.inner.unsure v ≡ false
   unmarked v is = ap (λ (u : List Bool). is_unsure u v) (sym narrows.unsure) ∙ is
 
-  pub released_back : GroupStands mid m1 → GroupBack c0 mid m m1
-  released_back it = record {
+  pub released_back : GroupStands mid m1 → SameParts c0.inner.config mid.inner.config → GroupBack c0 mid m m1
+  released_back it parts = record {
     stands = it;
+    parts = parts;
     quiesces = record {
       acts = loose_Acts Nothing (Sees (wide c0).config (Member c0.inner.good m) m) (Sees (wide c0).config NoMember m) m m1 narrows.acts (λ i sees. sees_none (wide c0).config (Member c0.inner.good m) m i sees);
       shape = released_shape c0 mid m m1 stands narrows volumes;
@@ -201,5 +203,11 @@ module _ (c0 mid : GroupCore) (m m1 : Meaning) (stands : GroupStands c0 m) (narr
     pub behind_back : GivenBack mid.inner d m1 m2 → GroupBack c0 (record { inner = d; held = mid.held }) m m2
     behind_back it = record {
       stands = none_Stands (record { inner = d; held = mid.held }) m2 none it.stands;
+      parts = both_parts c0.inner mid.inner d parts it.parts;
       quiesces = behind_quiesces none up d m2 NoVolume NoVolume (λ v no_volume. no_volume) it.quiesces;
     }
+
+-- to the volumes it is no step
+pub back_goes : (c d : Inner) (m m' : Meaning) → Lawful m' → InnerStands c m → GivenBack c d m m' → Goes Nothing (inner_meaning c m) (inner_meaning d m')
+back_goes c d m m' after stands it = group-Goes c.config d.config NoMember (volume_faults c.faults) (volume_faults d.faults) m m' Nothing Nothing it.quiesces.acts (apart_of_core c m stands) it.quiesces.shape it.quiesces.on
+    (λ v p b x in_it is_on none. none) (λ u. let same = ap (λ (f : List ℕ). volume_faults f u) it.quiesces.faults in omega (arith, same)) (λ not t i left. after.never not t i left)

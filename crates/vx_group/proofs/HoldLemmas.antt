@@ -26,6 +26,7 @@ use Rattle.vx_group.specs.Attaches.{HasOther}
 use Rattle.vx_group.specs.Dets.{any_below, det_refusal, is_other}
 use Rattle.vx_group.specs.Holding.{GroupStands, HeldBack, IsHeld, active_at, config_by, wide, with_config}
 use Rattle.vx_group.specs.Moves.{Narrows}
+use Rattle.vx_group.specs.Quiesces.{SameParts}
 use Rattle.vx_group.specs.Stands.{InnerStands}
 use Rattle.vx_group.specs.declared.group_core.GroupCore.{GroupCore}
 use Rattle.vx_group.specs.declared.group_core.Held.{Held}
@@ -225,6 +226,14 @@ module _ (v p : ℕ) (c d : GroupCore) (none : c.held ≡ None) (back : HeldBack
       by : HeldBack v p c d → d.inner.config ≡ with_volumes d.inner.config.volumes c.inner.config
       by (inl same) = subst (λ (x : GroupCore). x.inner.config ≡ with_volumes x.inner.config.volumes c.inner.config) (sym same.0) refl
       by (inr it) = subst (λ (x : GroupCore). x.inner.config ≡ with_volumes x.inner.config.volumes c.inner.config) (sym it.0) refl
+
+-- behind a call on the group as the disks keep it
+pub back_parts : (v p : ℕ) (before : Config) (c d : GroupCore) → c.held ≡ None → HeldBack v p c d → SameParts before c.inner.config → SameParts before d.inner.config
+back_parts v p before c d none back parts = let rest = back_rest v p c d none back in record {
+  site = ap (λ (x : Config). x.site) rest ∙ parts.site;
+  rvg = ap (λ (x : Config). x.rvg) rest ∙ parts.rvg;
+  count = ap (λ (x : Config). length x.disks) rest ∙ parts.count;
+}
 
 -- ---- the plex that is gone
 

@@ -7,6 +7,8 @@ pub mod ReadLemmas
 pub mod FailingLemmas
 pub mod ReadyLemmas
 pub mod RegainLemmas
+pub mod RvgSound
+pub mod RvgLemmas
 pub mod CreateLemmas
 pub mod DetLemmas
 pub mod LoseLemmas
@@ -33,6 +35,7 @@ pub mod ThroughLemmas
 pub mod BehindLemmas
 pub mod ImportLemmas
 pub mod CrashLemmas
+pub mod LessLemmas
 pub mod AgainLemmas
 pub mod FallenLemmas
 pub mod OpeningLemmas

@@ -159,6 +159,7 @@ module _ (core : Inner) (vol : ℕ) (m m' : Meaning) (stands : InnerStands core 
   pub left_back : GivenBack core (with_unsure core unsure) m m'
   left_back = record {
     stands = unsure_Stands core unsure m' stands;
+    parts = same_parts core;
     quiesces = stepped core core (with_unsure core unsure) NoVolume m m' narrows refl refl (inl refl) (or_marked error vol core.unsure unsure m m' marks why) (sure_marked error vol core.unsure unsure marks) (λ v p none. absurd none)
         (loses_same core.config m m');
   }
@@ -206,13 +207,14 @@ module _ (core d : Inner) (vol : ℕ) (m m' : Meaning) (stands : InnerStands d m
     more = more;
   }
 
-  pub one_back : GivenBack core d m m'
-  one_back = record { stands = stands; quiesces = stepped core d d NoVolume m m' narrows refl refl volumes (inl narrows.unsure) sure_as (λ v p none. absurd none) loses }
+  pub one_back : SameParts core.config d.config → GivenBack core d m m'
+  one_back parts = record { stands = stands; parts = parts; quiesces = stepped core d d NoVolume m m' narrows refl refl volumes (inl narrows.unsure) sure_as (λ v p none. absurd none) loses }
 
   -- the commit was refused
-  pub missed_back : (error : ShelfError) (unsure : List Bool) → MarksUnsure error vol d.unsure unsure → AnyFailed m m' → GivenBack core (with_unsure d unsure) m m'
-  missed_back error unsure marks rose = record {
+  pub missed_back : (error : ShelfError) (unsure : List Bool) → MarksUnsure error vol d.unsure unsure → AnyFailed m m' → SameParts core.config d.config → GivenBack core (with_unsure d unsure) m m'
+  missed_back error unsure marks rose parts = record {
     stands = unsure_Stands d unsure m' stands;
+    parts = parts;
     quiesces = stepped core d (with_unsure d unsure) NoVolume m m' narrows refl refl volumes (inr rose) (λ v is. sure_as v (sure_marked error vol d.unsure unsure marks v is)) (λ v p none. absurd none) loses;
   }
 
@@ -247,6 +249,7 @@ module _ (core d e : Inner) (n : ℕ) (m0 m1 m2 : Meaning) (begun : InnerStands 
   pub one_less : GivenBack d e m1 m2 → GivenBack core e m0 m2
   one_less now = record {
     stands = now.stands;
+    parts = both_parts core d e was.parts now.parts;
     quiesces = both_quiesce core d e (λ (v : ℕ). v < n) NoVolume NoVolume m0 m1 m2 (apart_of_core core m0 begun) was.quiesces now.quiesces was.up (λ v none. inr none);
   }
 
@@ -273,4 +276,4 @@ all_quiesced core e n m m' le was = record {
 
 -- no call at all
 pub still_back : (core : Inner) (m : Meaning) → InnerStands core m → GivenBack core core m m
-still_back core m stands = record { stands = stands; quiesces = quiet core core m m (no_commit core m) refl (no_failing m m core.config.disks core.config.disks refl) }
+still_back core m stands = record { stands = stands; parts = same_parts core; quiesces = quiet core core m m (no_commit core m) refl (no_failing m m core.config.disks core.config.disks refl) }

@@ -19,7 +19,7 @@ use Rattle.vx_group.specs.Creates.{IsNewGroup}
 use Rattle.vx_group.specs.Deports.{DeportedBy}
 use Rattle.vx_group.specs.Holding.{GroupStands, config_by, wide}
 use Rattle.vx_group.specs.Imports.{ImportStops, Resumed}
-use Rattle.vx_group.specs.Quiesces.{NoVolume, QuiescesBy}
+use Rattle.vx_group.specs.Quiesces.{NoVolume, QuiescesBy, SameParts}
 use Rattle.vx_group.specs.Resumes.{CanImportBehind}
 use Rattle.vx_group.specs.Stands.{volume_faults, inner_meaning}
 use Rattle.vx_group.specs.declared.group_core.GroupCore.{GroupCore}
@@ -60,6 +60,7 @@ pub record GroupStays (c d : GroupCore) (old new : Meaning) : Type 0 where
 -- The group stands. Plexes were detached, and volumes became unsure, only where a disk failed.
 pub record GroupBack (c d : GroupCore) (old new : Meaning) : Type 0 where
   pub stands : GroupStands d new
+  pub parts : SameParts c.inner.config d.inner.config
   pub quiesces : QuiescesBy (wide c).config c.inner d.inner NoVolume old new
 
 -- how a deport ends, by the parts of the group
@@ -71,6 +72,11 @@ GroupCloses c d old new (Err stop) = GroupBack c d old new
 abbrev pub GroupDeported : {S G : Type 0} → GroupCore → Meaning → (S → Meaning) → (G → GroupCore) → (G → S) → Result S (G × Stop) → Type 0
 GroupDeported c old meaning core shelf (Ok s) = DeportedBy (wide c).config c.inner old (meaning s)
 GroupDeported c old meaning core shelf (Err (g, stop)) = GroupBack c (core g) old (meaning (shelf g))
+
+-- To its volumes the group that a refusal gives back is the one that it was: no image is left that was not, and no read gives another value.
+abbrev pub GivesBack : {S G : Type 0} → GroupCore → Meaning → (S → Meaning) → (G → GroupCore) → (G → S) → Result S (G × Stop) → Type 0
+GivesBack c old meaning core shelf (Ok s) = Unit {0}
+GivesBack c old meaning core shelf (Err (g, stop)) = Goes Nothing (inner_meaning (wide c) old) (inner_meaning (wide (core g)) (meaning (shelf g)))
 
 -- refused for want of serials, and nothing has changed
 abbrev pub IsFull : {S G : Type 0} → GroupCore → S → (G → GroupCore) → (G → S) → Result S (G × Stop) → Type 0

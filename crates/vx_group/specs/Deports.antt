@@ -42,6 +42,7 @@ pub record CleanCommitted (c : Inner) (old new : Meaning) : Type 0 where
 -- the group stands as it was, but for its serial and disks that failed
 pub record CommitMissed (c d : Inner) (old new : Meaning) : Type 0 where
   pub stands : InnerStands d new
+  pub parts : SameParts c.config d.config
   pub narrows : Narrows c d old new
   pub volumes : d.config.volumes ≡ c.config.volumes
   pub disks : d.config.disks ≡ c.config.disks

@@ -17,6 +17,7 @@ pub mod Imports
 pub mod GivesUp
 pub mod Attaches
 pub mod Regains
+pub mod Rvgs
 pub mod Loses
 pub mod Holding
 pub mod Calls

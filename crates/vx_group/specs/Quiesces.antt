@@ -60,6 +60,7 @@ pub record Quiesced (c d : Inner) (which : ℕ → Type 0) (old new : Meaning) :
 -- The group stands. Plexes were detached, and volumes became unsure, only where a disk failed.
 pub record GivenBack (c d : Inner) (old new : Meaning) : Type 0 where
   pub stands : InnerStands d new
+  pub parts : SameParts c.config d.config
   pub quiesces : Quiesces c d NoVolume old new
 
 -- how the flushes end

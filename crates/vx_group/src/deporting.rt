@@ -1,12 +1,13 @@
 // The flushes and the commit by which a group is deported.
-ghost use Rattle.std.specs.Prelude.{◌≡◌, ◌<◌, ◌≤◌, ◌-◌, false, Err, IsTrue};
+ghost use Rattle.std.specs.Prelude.{◌≡◌, ◌<◌, ◌≤◌, ◌-◌, false, Err, IfErr, IsTrue};
+ghost use Rattle.vx_disk.specs.Shelf.{Goes, Nothing};
 ghost use Rattle.vx_config.specs.Table.{greatest};
 ghost use Rattle.vx_group.specs.Blames.{StopsByDevice};
 ghost use Rattle.vx_group.specs.Deports.{Closes, CommitCloses};
 ghost use Rattle.vx_group.specs.Dets.{DetStops, margin};
 ghost use Rattle.vx_group.specs.Calls.{GroupCloses};
-ghost use Rattle.vx_group.specs.Holding.{GroupStands};
-ghost use Rattle.vx_group.specs.Stands.{InnerStands};
+ghost use Rattle.vx_group.specs.Holding.{GroupStands, wide};
+ghost use Rattle.vx_group.specs.Stands.{InnerStands, inner_meaning};
 ghost use Rattle.vx_model.specs.declared.errors.Stop.TheVariants.{No as Refused};
 ghost use Rattle.vx_model.specs.declared.no.Counted.TheVariants.{Number as Numbers};
 ghost use Rattle.vx_model.specs.declared.no.No.TheVariants.{Limit};
@@ -76,12 +77,14 @@ fn close<S: Shelf>(shelf: &mut S, core: &mut Inner) -> Result<(), ShelfError>
 /// volumes of which a write or a flush failed.
 ///
 /// Answers 19 exactly where fewer than 65,536 serials are left, and then nothing has changed; else 7 only where the count of the disk that
-/// it names rose, and 6 only where the shelf is then down. After a refusal the group stands, without the plexes that were detached. It takes no memory.
+/// it names rose, and 6 only where the shelf is then down. After a refusal the group stands, without the plexes that were detached, and to
+/// its volumes nothing was written. It takes no memory.
 #[tactic(auto, using(crate::proofs::BehindLemmas::group_still))]
 pub fn deport_in<S: Shelf>(shelf: &mut S, core: &mut GroupCore) -> Result<(), Stop>
     requires stands { GroupStands core.old (S.meaning shelf.old) }
     ensures limit { greatest - margin < core.old.inner.config.serial → (result ≡ Err (Refused (Limit Numbers greatest))) × (core.new ≡ core.old) × (shelf.new ≡ shelf.old) }
     ensures ends { GroupCloses core.old core.new (S.meaning shelf.old) (S.meaning shelf.new) result }
+    ensures back { IfErr result (λ e. Goes Nothing (inner_meaning (wide core.old) (S.meaning shelf.old)) (inner_meaning (wide core.new) (S.meaning shelf.new))) }
     ensures cause { core.old.inner.config.serial ≤ greatest - margin → DetStops (S.meaning shelf.old) (S.meaning shelf.new) result }
 {
     if MOST_NUMBER - MARGIN < core.inner.config.serial {

@@ -66,7 +66,7 @@ pub fn detach_named<S: Shelf>(
     ensures others { (w p : ℕ) → (w ≡ vol → bit_at failed.set p ≡ true → ⊥) → active core.new.config w p ≡ active core.old.config w p }
     ensures settled { OnOk result (core.new.unsettled ≡ false) }
     ensures lies { (w p u : ℕ) → uses core.new.config w p u ≡ uses core.old.config w p u }
-    ensures parts { OnOk result (SameParts core.old.config core.new.config) }
+    ensures parts { SameParts core.old.config core.new.config }
     ensures failing { MoreFailed (S.meaning shelf.old) (S.meaning shelf.new) core.old.config.disks core.new.config.disks }
     ensures few { OnOk result (core.new.config.serial ≤ core.old.config.serial + 1 + length core.old.config.disks) }
     ensures good { core.new.unsettled ≡ true → core.new.good ≡ core.old.good }
@@ -128,7 +128,7 @@ pub fn detach<S: Shelf>(
     ensures others { (w p : ℕ) → (w ≡ vol → bit_at failed.set p ≡ true → ⊥) → active core.new.config w p ≡ active core.old.config w p }
     ensures settled { OnOk result (core.new.unsettled ≡ false) }
     ensures lies { (w p u : ℕ) → uses core.new.config w p u ≡ uses core.old.config w p u }
-    ensures parts { OnOk result (SameParts core.old.config core.new.config) }
+    ensures parts { SameParts core.old.config core.new.config }
     ensures failing { MoreFailed (S.meaning shelf.old) (S.meaning shelf.new) core.old.config.disks core.new.config.disks }
     ensures few { OnOk result (core.new.config.serial ≤ core.old.config.serial + 1 + length core.old.config.disks) }
     ensures good { core.new.unsettled ≡ true → core.new.good ≡ core.old.good }

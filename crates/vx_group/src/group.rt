@@ -1,10 +1,11 @@
 // A group as a shelf.
-ghost use Rattle.std.specs.Prelude.{◌≡◌, ◌⊎◌, ◌<◌, ◌≤◌, ◌-◌, true, false, IfOk, IfSome, IsTrue, Some, None, Ok, Err, OnOk, length, ℕ, IfErr};
-ghost use Rattle.vx_disk.specs.Causes.{Calls, Cause, CountsOnly, Names, OnDisks, Works};
-ghost use Rattle.vx_disk.specs.Disks.{Crashed, Untouched};
-ghost use Rattle.vx_disk.specs.Racks.{Stopped};
+ghost use Rattle.std.specs.Prelude.{◌≡◌, ◌≢◌, ◌⊎◌, ◌<◌, ◌≤◌, ◌-◌, true, false, IfOk, IfSome, IsTrue, Some, None, Ok, Err, OnOk, length, ℕ, IfErr};
+ghost use Rattle.vx_disk.specs.Causes.{Calls, Cause, CountsOnly, Names, OnDisks, WithDisks, Works};
+ghost use Rattle.vx_disk.specs.Disks.{Crashed, SameBlocks, Untouched};
+ghost use Rattle.vx_disk.specs.Racks.{Alike, Stopped};
 ghost use Rattle.vx_disk.specs.Shelf.{DisksFlushed, DisksWrote, Fits, Flushed, Goes, Nothing, Read, Written, Wrote};
 ghost use Rattle.vx_config.specs.Table.{greatest};
+ghost use Rattle.vx_copies.specs.Commits.{MoreFailed};
 ghost use Rattle.vx_group.specs.Attaches.{GroupAttachEnds, att_refusal, copied_regions};
 ghost use Rattle.vx_group.specs.Deports.{DeportStops, GroupCanImport};
 ghost use Rattle.vx_group.specs.Dets.{DetStops, det_refusal, margin};
@@ -17,12 +18,14 @@ ghost use Rattle.vx_model.specs.declared.errors.Stop.TheVariants.{No as Refused}
 ghost use Rattle.vx_model.specs.declared.limits.TheConstants.{MOST_DISKS};
 ghost use Rattle.vx_model.specs.declared.no.No.TheVariants.{Size};
 ghost use Rattle.vx_group.specs.GivesUp.{GivesUp};
-ghost use Rattle.vx_group.specs.Calls.{GroupAttaches, GroupCreated, GroupDeported, GroupImported, GroupNarrows, GroupStays, ImportsAgain, IsFull};
+ghost use Rattle.vx_group.specs.Calls.{GivesBack, GroupAttaches, GroupCreated, GroupDeported, GroupImported, GroupNarrows, GroupStays, ImportsAgain, IsFull};
 ghost use Rattle.vx_group.specs.Holding.{GroupStands, wide};
 ghost use Rattle.vx_kept.specs.Trusts.{HasFailed};
 ghost use Rattle.vx_group.specs.Laws.{group_lawful};
+ghost use Rattle.vx_group.specs.Quiesces.{SameParts};
 ghost use Rattle.vx_group.specs.Regains.{HoldsPlex, Regains};
 ghost use Rattle.vx_group.specs.Resumes.{AtRest, CanImport};
+ghost use Rattle.vx_group.specs.Rvgs.{RvgEnds, set_rvg_refusal};
 ghost use Rattle.vx_group.specs.Stands.{inner_meaning};
 
 use crate::att::att_in;
@@ -32,15 +35,17 @@ use crate::deporting::deport_in;
 use crate::det::det_in;
 use crate::flushing::flush_group;
 use crate::group_core::GroupCore;
+use crate::grouping::set_rvg_in;
 use crate::importing::import_in;
 use crate::making::make_in;
+use crate::racking::{fail_in, fuse_in};
 use crate::reading::read_in;
 use crate::writing::write_group;
 use std::alloc::Global;
 use vx_config::Config;
 use vx_disk::{Rack, Shelf, ShelfError};
 use vx_layout::Shape;
-use vx_model::{Name, Stop};
+use vx_model::{Name, Stop, Units};
 
 /// A group over a shelf. Its units are its volumes.
 #[derive(Drop)]
@@ -101,6 +106,13 @@ impl<S: Shelf> Group<S> {
         &self.core.inner.config
     }
 
+    /// How many disks it stands on.
+    pub fn disks(&self) -> u32
+        ensures { result ≡ (S.meaning self.now.shelf).units }
+    {
+        self.shelf.units()
+    }
+
     /// Makes a volume of a shape, which begins as zeros, and answers its number. The volumes that stood are left as they were.
     ///
     /// Answers 2 exactly where a volume has its name, else 19 exactly where there are 32 volumes, more than 8 plexes are wanted, or fewer
@@ -121,6 +133,29 @@ impl<S: Shelf> Group<S> {
         make_in(alloc, &mut self.shelf, &mut self.core, name, want)
     }
 
+    /// Names the volumes that are the replicated volume group, by a commit: the log, the maps, and the data volumes. Every volume is left as
+    /// it was.
+    ///
+    /// Answers 19 exactly where fewer than 65,536 serials are left, else 4 exactly where these may not be such a group, and then nothing has
+    /// changed; else 7 only where the count of the disk that it names rose, and 6 only where the shelf is then down. Then memory has the
+    /// group of before, or none; an import behind a crash may find these. It makes no device call but those of a commit, behind a refused
+    /// commit those that write headers back, and takes no memory.
+    pub fn set_rvg(&mut self, units: &Units) -> Result<(), Stop>
+        ensures refused { (no : NoValue) → set_rvg_refusal self.old.core.inner.config units.now ≡ Some no → (result ≡ Err (Refused no)) × (self.new.core ≡ self.old.core) × (self.new.shelf ≡ self.old.shelf) }
+        ensures goes { Goes Nothing (inner_meaning (wide self.old.core) (S.meaning self.old.shelf)) (inner_meaning (wide self.new.core) (S.meaning self.new.shelf)) }
+        ensures narrows { GroupNarrows self.old.core self.new.core (S.meaning self.old.shelf) (S.meaning self.new.shelf) }
+        ensures volumes { self.new.core.inner.config.volumes ≡ self.old.core.inner.config.volumes }
+        ensures site { self.new.core.inner.config.site ≡ self.old.core.inner.config.site }
+        ensures disks { MoreFailed (S.meaning self.old.shelf) (S.meaning self.new.shelf) self.old.core.inner.config.disks self.new.core.inner.config.disks }
+        ensures ends { RvgEnds units.now self.old.core.inner.config self.new.core.inner.config (S.meaning self.new.shelf) result }
+        ensures trust { OnOk result (self.old.core.inner.committed ≡ true → self.new.core.inner.committed ≡ true) }
+        ensures whole { OnOk result ((self.new.core.inner.committed ≡ true) ⊎ HasFailed self.new.core.inner.config.disks) }
+        ensures agreed { IfErr result (λ e. self.old.core.inner.committed ≡ true → self.new.core.inner.agreed ≡ true) }
+        ensures cause { set_rvg_refusal self.old.core.inner.config units.now ≡ None → DetStops (S.meaning self.old.shelf) (S.meaning self.new.shelf) result }
+    {
+        set_rvg_in(&mut self.shelf, &mut self.core, units)
+    }
+
     /// Detaches a plex. Nothing changes where it is not ACTIVE.
     ///
     /// Answers 1 exactly where there is no such volume or plex, else 10 exactly where no other plex of the volume is ACTIVE, else 19
@@ -131,6 +166,7 @@ impl<S: Shelf> Group<S> {
         ensures refused { (no : NoValue) → det_refusal self.old.core.inner.config vol plex ≡ Some no → (result ≡ Err (Refused no)) × (self.new.core ≡ self.old.core) × (self.new.shelf ≡ self.old.shelf) }
         ensures goes { Goes Nothing (inner_meaning (wide self.old.core) (S.meaning self.old.shelf)) (inner_meaning (wide self.new.core) (S.meaning self.new.shelf)) }
         ensures narrows { GroupNarrows self.old.core self.new.core (S.meaning self.old.shelf) (S.meaning self.new.shelf) }
+        ensures parts { SameParts self.old.core.inner.config self.new.core.inner.config }
         ensures off { OnOk result (active self.new.core.inner.config vol plex ≡ false) }
         ensures others { (w p : ℕ) → (w ≡ vol → p ≡ plex → ⊥) → active self.new.core.inner.config w p ≡ active self.old.core.inner.config w p }
         ensures trust { OnOk result (self.old.core.inner.committed ≡ true → self.new.core.inner.committed ≡ true) }
@@ -169,11 +205,12 @@ impl<S: Shelf> Group<S> {
     ///
     /// Answers 19 exactly where fewer than 65,536 serials are left, and then nothing has changed; else 7 only where the count of the disk
     /// that it names rose, and 6 only where the shelf is then down. A refusal gives the group back, without the plexes that were
-    /// detached. It makes no device call but flushes and those of commits, behind a refused commit those that write headers back, and takes
-    /// no memory.
+    /// detached; to its volumes nothing was written. It makes no device call but flushes and those of commits, behind a refused commit
+    /// those that write headers back, and takes no memory.
     pub fn deport(self) -> Result<S, (Group<S>, Stop)>
         ensures limit { greatest - margin < self.core.inner.config.serial → IsFull self.core self.shelf (λ g. g.core) (λ g. g.shelf) result }
         ensures ends { GroupDeported self.core (S.meaning self.shelf) (λ s. S.meaning s) (λ g. g.core) (λ g. g.shelf) result }
+        ensures back { GivesBack self.core (S.meaning self.shelf) (λ s. S.meaning s) (λ g. g.core) (λ g. g.shelf) result }
         ensures can { GroupCanImport self.core.inner (λ s. S.meaning s) result }
         ensures cause { self.core.inner.config.serial ≤ greatest - margin → DeportStops (S.meaning self.shelf) (λ s. S.meaning s) (λ g. g.shelf) result }
     {
@@ -229,6 +266,34 @@ impl<R: Rack> Group<R> {
         let core = self.core;
         crash_in(&mut rack, &core, pick);
         rack
+    }
+
+    /// Makes each later call on a disk fail, or ends that. The group stays as it is, and to its volumes nothing changes.
+    pub fn fail(&mut self, disk: u32, on: bool)
+        requires inside { disk < (R.meaning self.old.shelf).units }
+        ensures core { self.new.core ≡ self.old.core }
+        ensures goes { Goes Nothing (R.meaning self.old.shelf) (R.meaning self.new.shelf) }
+        ensures alike { Alike (R.meaning self.old.shelf) (R.meaning self.new.shelf) }
+        ensures down { (R.meaning self.new.shelf).down ≡ (R.meaning self.old.shelf).down }
+        ensures armed { (R.meaning self.new.shelf).armed ≡ (R.meaning self.old.shelf).armed }
+        ensures disks { WithDisks (R.meaning self.old.shelf).disks (R.meaning self.new.shelf).disks (λ o n. Untouched o n × (n.failing disk ≡ on) × ((u : ℕ) → u ≢ disk → n.failing u ≡ o.failing u)) }
+        ensures volumes { Alike (inner_meaning (wide self.old.core) (R.meaning self.old.shelf)) (inner_meaning (wide self.new.core) (R.meaning self.new.shelf)) }
+        ensures still { Goes Nothing (inner_meaning (wide self.old.core) (R.meaning self.old.shelf)) (inner_meaning (wide self.new.core) (R.meaning self.new.shelf)) }
+    {
+        fail_in(&mut self.shelf, &self.core, disk, on);
+    }
+
+    /// Lets that many writes and flushes of the disks pass; reads do not count. The next changes nothing and is a crash. The group stays
+    /// as it is, and to its volumes nothing changes.
+    pub fn fuse(&mut self, calls: u64, pick: u64)
+        ensures core { self.new.core ≡ self.old.core }
+        ensures alike { Alike (R.meaning self.old.shelf) (R.meaning self.new.shelf) }
+        ensures down { (R.meaning self.new.shelf).down ≡ (R.meaning self.old.shelf).down }
+        ensures armed { IsTrue (R.meaning self.new.shelf).armed }
+        ensures disks { OnDisks (R.meaning self.old.shelf).disks (R.meaning self.new.shelf).disks (λ o n. SameBlocks o n × (n.fuse ≡ Some (calls, pick))) }
+        ensures volumes { Alike (inner_meaning (wide self.old.core) (R.meaning self.old.shelf)) (inner_meaning (wide self.new.core) (R.meaning self.new.shelf)) }
+    {
+        fuse_in(&mut self.shelf, &self.core, calls, pick);
     }
 }
 

@@ -38,7 +38,7 @@ pub fn detach_plex<S: Shelf>(
     ensures off { OnOk result (active core.new.config vol plex ≡ false) }
     ensures others { (w p : ℕ) → (w ≡ vol → p ≡ plex → ⊥) → active core.new.config w p ≡ active core.old.config w p }
     ensures kept { (core.new.config.volumes ≡ core.old.config.volumes) ⊎ (core.new.config.volumes ≡ (stale_at vol plex core.old.config).volumes) }
-    ensures parts { OnOk result (SameParts core.old.config core.new.config) }
+    ensures parts { SameParts core.old.config core.new.config }
     ensures failing { MoreFailed (S.meaning shelf.old) (S.meaning shelf.new) core.old.config.disks core.new.config.disks }
     ensures few { OnOk result (core.new.config.serial ≤ core.old.config.serial + 9) }
     ensures missed { IfErr result (λ e. NoCommit core.new (S.meaning shelf.new)) }
@@ -65,7 +65,7 @@ pub fn release<S: Shelf>(shelf: &mut S, core: &mut GroupCore) -> Result<(), Shel
     ensures stands { GroupStands core.new (S.meaning shelf.new) }
     ensures narrows { Narrows (wide core.old) (wide core.new) (S.meaning shelf.old) (S.meaning shelf.new) }
     ensures volumes { core.new.inner.config.volumes ≡ core.old.inner.config.volumes }
-    ensures parts { OnOk result (SameParts core.old.inner.config core.new.inner.config) }
+    ensures parts { SameParts core.old.inner.config core.new.inner.config }
     ensures failing { MoreFailed (S.meaning shelf.old) (S.meaning shelf.new) core.old.inner.config.disks core.new.inner.config.disks }
     ensures few { OnOk result (core.new.inner.config.serial ≤ core.old.inner.config.serial + 9) }
     ensures done { core.old.inner.config.serial < greatest → OnOk result (core.new.held ≡ None) }

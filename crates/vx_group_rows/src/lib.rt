@@ -26,4 +26,6 @@ mod imports;
 #[cfg(test)]
 mod regains;
 #[cfg(test)]
+mod rvgs;
+#[cfg(test)]
 mod volumes;

@@ -292,6 +292,8 @@ module _ (good : ℕ) (c a d : Config) (old new : Meaning) (lawful : Lawful old)
   take_refused e why refused is = rw is (record {
     kept = fewer _ (Member good old) (Member good new) new (member_same good old new begins.moves.units)
         (refused_Kept c a d (Member good old) old new lawful lawful' kept tidy follows begins fit (record { serial = d.serial; site = c.site; disks = c.disks; volumes = c.volumes; rvg = c.rvg }) refl refl refused.below);
+    site = refl;
+    rvg = refl;
     volumes = refl;
     disks = refl;
     cause = refused.cause;

@@ -35,6 +35,8 @@ pub record Taken (c a d : Config) (old new : Meaning) : Type 0 where
 -- memory has what it had, but for the serial, and the disks keep that
 pub record Left (good : ℕ) (c a d : Config) (old new : Meaning) (why : No) : Type 0 where
   pub kept : Kept d (Member good new) new
+  pub site : d.site ≡ c.site
+  pub rvg : d.rvg ≡ c.rvg
   pub volumes : d.volumes ≡ c.volumes
   pub disks : d.disks ≡ c.disks
   pub cause : CommitStops good a d.serial old new why

@@ -1,19 +1,42 @@
--- `deport_in`: clause ends; what `close` asks.
-use Rattle.std.proofs.Common.{arith}
-use Rattle.vx_group.proofs.BehindLemmas.{behind_back, behind_deported, released_back}
-use Rattle.vx_group.proofs.HoldLemmas.{from_none}
+-- `deport_in`: clauses ends and back; what `close` asks.
+use Rattle.std.proofs.Common.{sym, arith}
+use Rattle.vx_disk.specs.Shelf.{Nothing}
+use Rattle.vx_disk.proofs.Runs.{same_Goes}
+use Rattle.vx_group.specs.Holding.{wide}
+use Rattle.vx_group.specs.Stands.{inner_meaning}
+use Rattle.vx_group.proofs.BehindLemmas.{back_goes, behind_back, behind_deported, released_back}
+use Rattle.vx_group.proofs.HoldLemmas.{from_none, wide_none}
+use Rattle.vx_group.proofs.ThroughLemmas.{released_goes, through_goes}
 use Rattle.vx_group.proofs.deporting.deport_in.Goals as goal
 
 pub returns-in-Err-clause-ends : goal.returns-in-Err-clause-ends
-returns-in-Err-clause-ends g c = released_back c.args.core.now c.release.new.core (g.S.Shelf.meaning c.args.shelf.now) (g.S.Shelf.meaning c.release.new.shelf) c.requires.stands c.release.ensures.narrows c.release.ensures.volumes c.release.ensures.failing c.release.ensures.stands
+returns-in-Err-clause-ends g c = released_back c.args.core.now c.release.new.core (g.S.Shelf.meaning c.args.shelf.now) (g.S.Shelf.meaning c.release.new.shelf) c.requires.stands c.release.ensures.narrows c.release.ensures.volumes c.release.ensures.failing c.release.ensures.stands c.release.ensures.parts
 
 pub close-requires-clause-stands : goal.close-requires-clause-stands
 close-requires-clause-stands g c = from_none c.release.new.core (g.S.Shelf.meaning c.release.new.shelf) (c.in-Ok.ensures.done (let le = c.if-core.false in omega (arith, le))) c.release.ensures.stands
 
 pub returns-in-Ok-close-clause-ends : goal.returns-in-Ok-close-clause-ends
 returns-in-Ok-close-clause-ends g c =
-    behind_deported c.args.core.now c.release.new.core (g.S.Shelf.meaning c.args.shelf.now) (g.S.Shelf.meaning c.release.new.shelf) c.requires.stands c.release.ensures.narrows c.release.ensures.volumes c.release.ensures.failing (c.in-Ok.ensures.done (let le = c.if-core.false in omega (arith, le))) c.in-Ok.ensures.cause c.in-Ok.ensures.parts c.in-Ok.ensures.trust c.close.new.core (g.S.Shelf.meaning c.close.new.shelf) c.in-Ok-close.ensures.ends
+    behind_deported c.args.core.now c.release.new.core (g.S.Shelf.meaning c.args.shelf.now) (g.S.Shelf.meaning c.release.new.shelf) c.requires.stands c.release.ensures.narrows c.release.ensures.volumes c.release.ensures.failing (c.in-Ok.ensures.done (let le = c.if-core.false in omega (arith, le))) c.in-Ok.ensures.cause c.release.ensures.parts c.in-Ok.ensures.trust c.close.new.core (g.S.Shelf.meaning c.close.new.shelf) c.in-Ok-close.ensures.ends
 
 pub returns-in-Err-close-clause-ends : goal.returns-in-Err-close-clause-ends
 returns-in-Err-close-clause-ends g c =
-    behind_back c.args.core.now c.release.new.core (g.S.Shelf.meaning c.args.shelf.now) (g.S.Shelf.meaning c.release.new.shelf) c.requires.stands c.release.ensures.narrows c.release.ensures.volumes c.release.ensures.failing (c.in-Ok.ensures.done (let le = c.if-core.false in omega (arith, le))) c.in-Ok.ensures.cause c.in-Ok.ensures.parts c.in-Ok.ensures.trust c.close.new.core (g.S.Shelf.meaning c.close.new.shelf) c.in-Err-close.ensures.ends
+    behind_back c.args.core.now c.release.new.core (g.S.Shelf.meaning c.args.shelf.now) (g.S.Shelf.meaning c.release.new.shelf) c.requires.stands c.release.ensures.narrows c.release.ensures.volumes c.release.ensures.failing (c.in-Ok.ensures.done (let le = c.if-core.false in omega (arith, le))) c.in-Ok.ensures.cause c.release.ensures.parts c.in-Ok.ensures.trust c.close.new.core (g.S.Shelf.meaning c.close.new.shelf) c.in-Err-close.ensures.ends
+
+pub returns-then-core-clause-back : goal.returns-then-core-clause-back
+returns-then-core-clause-back g c = same_Goes Nothing (inner_meaning (wide c.args.core.now) (g.S.Shelf.meaning c.args.shelf.now))
+
+pub returns-then-is_down-clause-back : goal.returns-then-is_down-clause-back
+returns-then-is_down-clause-back g c = same_Goes Nothing (inner_meaning (wide c.args.core.now) (g.S.Shelf.meaning c.args.shelf.now))
+
+pub returns-in-Err-clause-back : goal.returns-in-Err-clause-back
+returns-in-Err-clause-back g c = released_goes c.args.core.now c.release.new.core (g.S.Shelf.meaning c.args.shelf.now) (g.S.Shelf.meaning c.release.new.shelf) c.requires.stands c.release.ensures.narrows c.release.ensures.volumes (g.met.S.Shelf.lawful c.release.new.shelf)
+
+pub returns-in-Err-close-clause-back : goal.returns-in-Err-close-clause-back
+returns-in-Err-close-clause-back g c =
+    let none = c.in-Ok.ensures.done (let le = c.if-core.false in omega (arith, le)) in
+    through_goes c.args.core.now c.release.new.core (record { inner = c.close.new.core; held = c.release.new.core.held }) c.release.new.core.inner c.close.new.core (g.S.Shelf.meaning c.args.shelf.now) (g.S.Shelf.meaning c.release.new.shelf) (g.S.Shelf.meaning c.close.new.shelf)
+    (sym (wide_none c.release.new.core none)) (wide_none (record { inner = c.close.new.core; held = c.release.new.core.held }) none) Nothing
+    (released_goes c.args.core.now c.release.new.core (g.S.Shelf.meaning c.args.shelf.now) (g.S.Shelf.meaning c.release.new.shelf) c.requires.stands c.release.ensures.narrows c.release.ensures.volumes (g.met.S.Shelf.lawful c.release.new.shelf))
+    (back_goes c.release.new.core.inner c.close.new.core (g.S.Shelf.meaning c.release.new.shelf) (g.S.Shelf.meaning c.close.new.shelf) (g.met.S.Shelf.lawful c.close.new.shelf)
+    (from_none c.release.new.core (g.S.Shelf.meaning c.release.new.shelf) none c.release.ensures.stands) c.in-Err-close.ensures.ends)

@@ -1,10 +1,11 @@
--- `det_in`: clauses goes, narrows, others and stands; what `detach_plex` asks.
+-- `det_in`: clauses goes, narrows, parts, others and stands; what `detach_plex` asks.
 use Rattle.std.proofs.Common.{ℕ, List, ap, sym, ◌∙◌, arith}
 use Rattle.vx_disk.specs.Shelf.{Nothing}
 use Rattle.vx_group.specs.Stands.{volume_faults}
 use Rattle.vx_group.proofs.CallLemmas.{narrows_Goes}
 use Rattle.vx_group.proofs.DetLemmas.{may_room, may_serial}
 use Rattle.vx_group.proofs.HoldLemmas.{det_other, from_none, none_Stands, wide_none}
+use Rattle.vx_group.proofs.QuiesceLemmas.{both_parts}
 use Rattle.vx_group.proofs.ThroughLemmas.{released_active, released_goes, released_narrows, second_narrows, through_goes}
 use Rattle.vx_group.proofs.det.det_in.Goals as goal
 
@@ -47,6 +48,12 @@ returns-in-Ok-detach_plex-clause-narrows g c =
 
 pub returns-in-Ok-detach_plex-clause-others : goal.returns-in-Ok-detach_plex-clause-others
 returns-in-Ok-detach_plex-clause-others g c = λ w p apart. c.detach_plex.ensures.others w p apart ∙ released_active c.args.core.now c.release.new.core (g.S.Shelf.meaning c.args.shelf.now) (g.S.Shelf.meaning c.release.new.shelf) c.requires.stands c.release.ensures.narrows c.release.ensures.volumes w p
+
+pub returns-in-Ok-detach_plex-clause-parts : goal.returns-in-Ok-detach_plex-clause-parts
+returns-in-Ok-detach_plex-clause-parts g c = both_parts c.args.core.now.inner c.release.new.core.inner c.detach_plex.new.core c.release.ensures.parts c.detach_plex.ensures.parts
+
+pub returns-in-Err-detach_plex-clause-parts : goal.returns-in-Err-detach_plex-clause-parts
+returns-in-Err-detach_plex-clause-parts g c = both_parts c.args.core.now.inner c.release.new.core.inner c.detach_plex.new.core c.release.ensures.parts c.detach_plex.ensures.parts
 
 pub returns-in-Err-detach_plex-clause-stands : goal.returns-in-Err-detach_plex-clause-stands
 returns-in-Err-detach_plex-clause-stands g c = none_Stands (record { inner = c.detach_plex.new.core; held = c.release.new.core.held }) (g.S.Shelf.meaning c.detach_plex.new.shelf) (c.in-Ok.ensures.done (may_serial c.args.core.now.inner.config c.args.vol c.args.plex (sym c.refuse.ensures ∙ c.in_default.is))) c.detach_plex.ensures.stands

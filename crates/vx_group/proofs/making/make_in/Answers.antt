@@ -62,7 +62,7 @@ add-requires-clause-more g c = let le = c.in-Ok-release.ensures.few in let room 
 
 pub add-requires-clause-is_next : goal.add-requires-clause-is_next
 add-requires-clause-is_next g c =
-    behind_next (g.S.Shelf.meaning c.args.shelf.now) (g.S.Shelf.meaning c.release.new.shelf) c.args.core.now.inner.config c.release.new.core.inner.config c.in-Ok.next _ c.release.ensures.volumes c.in-Ok-release.ensures.parts c.release.ensures.failing
+    behind_next (g.S.Shelf.meaning c.args.shelf.now) (g.S.Shelf.meaning c.release.new.shelf) c.args.core.now.inner.config c.release.new.core.inner.config c.in-Ok.next _ c.release.ensures.volumes c.release.ensures.parts c.release.ensures.failing
     (plan_next c.args.core.now.inner.config c.args.name.now c.args.want.now c.in-Ok.next c.plan.ensures.may c.in-Ok.ensures.ends)
     (ap (λ (ds : List DiskEntry). record { serial = c.release.new.core.inner.config.serial; site = c.in-Ok.next.site; disks = ds; volumes = c.in-Ok.next.volumes; rvg = c.in-Ok.next.rvg }) c.copy-next.ensures)
 

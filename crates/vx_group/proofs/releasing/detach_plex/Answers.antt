@@ -66,7 +66,11 @@ returns-in-Err-clause-kept g c = inl c.settle_headers.ensures.volumes
 pub returns-clause-parts : goal.returns-clause-parts
 returns-clause-parts g c =
     let same = c.settle_headers.ensures.same in
-    ok_from c.detach.result (λ parts. record { site = parts.site ∙ same.site; rvg = parts.rvg ∙ same.rvg; count = parts.count ∙ same.count }) c.detach.ensures.parts
+    let parts = c.detach.ensures.parts in
+    record { site = parts.site ∙ same.site; rvg = parts.rvg ∙ same.rvg; count = parts.count ∙ same.count }
+
+pub returns-in-Err-clause-parts : goal.returns-in-Err-clause-parts
+returns-in-Err-clause-parts g c = let same = c.settle_headers.ensures.same in record { site = same.site; rvg = same.rvg; count = same.count }
 
 pub returns-clause-failing : goal.returns-clause-failing
 returns-clause-failing g c =

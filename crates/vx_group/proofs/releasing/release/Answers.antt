@@ -1,6 +1,8 @@
--- `release`: clauses stands, narrows and volumes; what `detach_plex-result` asks.
-use Rattle.std.proofs.Common.{◌∙◌, refl, sym}
-use Rattle.vx_group.proofs.HoldLemmas.{e_Stands, e_narrows, e_volumes, x_other}
+-- `release`: clauses stands, narrows, volumes and parts; what `detach_plex-result` asks.
+use Rattle.std.proofs.Common.{◌∙◌, refl, sym, subst}
+use Rattle.vx_group.specs.Quiesces.{SameParts}
+use Rattle.vx_group.specs.declared.inner.Inner.{Inner}
+use Rattle.vx_group.proofs.HoldLemmas.{back_parts, e_Stands, e_narrows, e_volumes, x_other}
 use Rattle.vx_group.proofs.releasing.release.Goals as goal
 
 pub detach_plex-result-requires-clause-other : goal.detach_plex-result-requires-clause-other
@@ -22,3 +24,11 @@ pub returns-in-Some-clause-volumes : goal.returns-in-Some-clause-volumes
 returns-in-Some-clause-volumes g c =
     e_volumes c.args.core.now c.in-Some.held (g.S.Shelf.meaning c.args.shelf.now) c.requires.stands (sym c.open_held.ensures.held ∙ c.in-Some.is) c.open_held.new.core.inner c.open_held.ensures.inner
     c.detach_plex-result.new.core c.detach_plex-result.ensures.others _ c.hold_back.new.core refl c.open_held.ensures.none c.hold_back.ensures c.detach_plex-result.ensures.kept
+
+pub returns-in-Some-clause-parts : goal.returns-in-Some-clause-parts
+returns-in-Some-clause-parts g c =
+    let parts = subst (λ (i : Inner). SameParts i.config c.detach_plex-result.new.core.config) c.open_held.ensures.inner c.detach_plex-result.ensures.parts in
+    back_parts c.in-Some.held.vol c.in-Some.held.plex c.args.core.now.inner.config _ c.hold_back.new.core c.open_held.ensures.none c.hold_back.ensures (record { site = parts.site; rvg = parts.rvg; count = parts.count })
+
+pub returns-in-None-clause-parts : goal.returns-in-None-clause-parts
+returns-in-None-clause-parts g c = subst (λ (i : Inner). SameParts c.args.core.now.inner.config i.config) (sym c.open_held.ensures.inner) (record { site = refl; rvg = refl; count = refl })

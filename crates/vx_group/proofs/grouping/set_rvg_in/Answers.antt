@@ -1,0 +1,92 @@
+-- `set_rvg_in`: what `may_name` and `name_rvg` ask; each clause, over the configuration that the test leaves as it was.
+use Rattle.std.proofs.Common.{refl, ap, sym, ◌∙◌, subst, arith}
+use Rattle.vx_disk.specs.Shelf.{Goes, Nothing}
+use Rattle.vx_disk.proofs.Runs.{same_Goes}
+use Rattle.vx_config.specs.Checks.{is_group}
+use Rattle.vx_config.specs.declared.config.Config.{Config}
+use Rattle.vx_copies.specs.Commits.{MoreFailed}
+use Rattle.vx_group.specs.Calls.{GroupNarrows}
+use Rattle.vx_group.specs.Holding.{GroupStands, wide}
+use Rattle.vx_group.specs.Rvgs.{RvgEnds}
+use Rattle.vx_group.specs.Stands.{inner_meaning}
+use Rattle.vx_group.specs.declared.group_core.GroupCore.{GroupCore}
+use Rattle.vx_group.proofs.FailingLemmas.{no_failing}
+use Rattle.vx_group.proofs.HoldLemmas.{narrow_sound}
+use Rattle.vx_group.proofs.RvgLemmas.{late_refusal, no_narrows, no_refusal, none_some, refused_as, same_core, small_refusal}
+use Rattle.vx_group.proofs.grouping.set_rvg_in.Goals as goal
+
+pub returns-then-core-clause-refused : goal.returns-then-core-clause-refused
+returns-then-core-clause-refused g c = λ why is. (refused_as _ why (sym (late_refusal c.args.core.now.inner.config c.args.units.now (let lt = c.if-core.true in omega (arith, lt))) ∙ is), refl, refl)
+
+pub returns-then-core-clause-goes : goal.returns-then-core-clause-goes
+returns-then-core-clause-goes g c = same_Goes Nothing (inner_meaning (wide c.args.core.now) (g.S.Shelf.meaning c.args.shelf.now))
+
+pub returns-then-core-clause-narrows : goal.returns-then-core-clause-narrows
+returns-then-core-clause-narrows g c = no_narrows c.args.core.now (g.S.Shelf.meaning c.args.shelf.now)
+
+pub returns-then-core-clause-disks : goal.returns-then-core-clause-disks
+returns-then-core-clause-disks g c = no_failing (g.S.Shelf.meaning c.args.shelf.now) (g.S.Shelf.meaning c.args.shelf.now) c.args.core.now.inner.config.disks c.args.core.now.inner.config.disks refl
+
+pub returns-then-core-clause-cause : goal.returns-then-core-clause-cause
+returns-then-core-clause-cause g c = λ none. none_some _ (sym (late_refusal c.args.core.now.inner.config c.args.units.now (let lt = c.if-core.true in omega (arith, lt))) ∙ none)
+
+pub may_name-requires : goal.may_name-requires
+may_name-requires g c = record { sound = narrow_sound c.args.core.now (g.S.Shelf.meaning c.args.shelf.now) c.requires.stands }
+
+pub returns-then-not-may_name-clause-stands : goal.returns-then-not-may_name-clause-stands
+returns-then-not-may_name-clause-stands g c = subst (λ (k : GroupCore). GroupStands k (g.S.Shelf.meaning c.args.shelf.now)) (sym (same_core c.args.core.now c.may_name.new.config c.may_name.ensures.same)) c.requires.stands
+
+pub returns-then-not-may_name-clause-refused : goal.returns-then-not-may_name-clause-refused
+returns-then-not-may_name-clause-refused g c = λ why is. (refused_as _ why (sym (small_refusal c.args.core.now.inner.config c.args.units.now (let le = c.if-core.false in omega (arith, le)) (sym c.may_name.ensures.is ∙ c.if-not-may_name.true)) ∙ is), same_core c.args.core.now c.may_name.new.config c.may_name.ensures.same, refl)
+
+pub returns-then-not-may_name-clause-goes : goal.returns-then-not-may_name-clause-goes
+returns-then-not-may_name-clause-goes g c =
+    subst (λ (k : GroupCore). Goes Nothing (inner_meaning (wide c.args.core.now) (g.S.Shelf.meaning c.args.shelf.now)) (inner_meaning (wide k) (g.S.Shelf.meaning c.args.shelf.now))) (sym (same_core c.args.core.now c.may_name.new.config c.may_name.ensures.same)) (same_Goes Nothing (inner_meaning (wide c.args.core.now) (g.S.Shelf.meaning c.args.shelf.now)))
+
+pub returns-then-not-may_name-clause-narrows : goal.returns-then-not-may_name-clause-narrows
+returns-then-not-may_name-clause-narrows g c = subst (λ (k : GroupCore). GroupNarrows c.args.core.now k (g.S.Shelf.meaning c.args.shelf.now) (g.S.Shelf.meaning c.args.shelf.now)) (sym (same_core c.args.core.now c.may_name.new.config c.may_name.ensures.same)) (no_narrows c.args.core.now (g.S.Shelf.meaning c.args.shelf.now))
+
+pub returns-then-not-may_name-clause-volumes : goal.returns-then-not-may_name-clause-volumes
+returns-then-not-may_name-clause-volumes g c = ap (λ (x : Config). x.volumes) c.may_name.ensures.same
+
+pub returns-then-not-may_name-clause-site : goal.returns-then-not-may_name-clause-site
+returns-then-not-may_name-clause-site g c = ap (λ (x : Config). x.site) c.may_name.ensures.same
+
+pub returns-then-not-may_name-clause-disks : goal.returns-then-not-may_name-clause-disks
+returns-then-not-may_name-clause-disks g c = no_failing (g.S.Shelf.meaning c.args.shelf.now) (g.S.Shelf.meaning c.args.shelf.now) c.args.core.now.inner.config.disks c.may_name.new.config.disks (ap (λ (x : Config). x.disks) c.may_name.ensures.same)
+
+pub returns-then-not-may_name-clause-ends : goal.returns-then-not-may_name-clause-ends
+returns-then-not-may_name-clause-ends g c = ap (λ (x : Config). x.rvg) c.may_name.ensures.same
+
+pub returns-then-not-may_name-clause-cause : goal.returns-then-not-may_name-clause-cause
+returns-then-not-may_name-clause-cause g c = λ none. none_some _ (sym (small_refusal c.args.core.now.inner.config c.args.units.now (let le = c.if-core.false in omega (arith, le)) (sym c.may_name.ensures.is ∙ c.if-not-may_name.true)) ∙ none)
+
+pub name_rvg-requires-clause-stands : goal.name_rvg-requires-clause-stands
+name_rvg-requires-clause-stands g c = subst (λ (k : GroupCore). GroupStands k (g.S.Shelf.meaning c.args.shelf.now)) (sym (same_core c.args.core.now c.may_name.new.config c.may_name.ensures.same)) c.requires.stands
+
+pub name_rvg-requires-clause-may : goal.name_rvg-requires-clause-may
+name_rvg-requires-clause-may g c = ap (λ (x : Config). is_group x.volumes c.args.units.now) c.may_name.ensures.same ∙ sym c.may_name.ensures.is ∙ c.if-not-may_name.false
+
+pub name_rvg-requires-clause-more : goal.name_rvg-requires-clause-more
+name_rvg-requires-clause-more g c = let at = ap (λ (x : Config). x.serial) c.may_name.ensures.same in let le = c.if-core.false in omega (arith, at, le)
+
+pub returns-clause-refused : goal.returns-clause-refused
+returns-clause-refused g c = λ why is. none_some why (sym is ∙ no_refusal c.args.core.now.inner.config c.args.units.now (let le = c.if-core.false in omega (arith, le)) (sym c.may_name.ensures.is ∙ c.if-not-may_name.false))
+
+pub returns-clause-goes : goal.returns-clause-goes
+returns-clause-goes g c = subst (λ (k : GroupCore). Goes Nothing (inner_meaning (wide k) (g.S.Shelf.meaning c.args.shelf.now)) (inner_meaning (wide c.name_rvg.new.core) (g.S.Shelf.meaning c.name_rvg.new.shelf))) (same_core c.args.core.now c.may_name.new.config c.may_name.ensures.same) c.name_rvg.ensures.goes
+
+pub returns-clause-narrows : goal.returns-clause-narrows
+returns-clause-narrows g c = subst (λ (k : GroupCore). GroupNarrows k c.name_rvg.new.core (g.S.Shelf.meaning c.args.shelf.now) (g.S.Shelf.meaning c.name_rvg.new.shelf)) (same_core c.args.core.now c.may_name.new.config c.may_name.ensures.same) c.name_rvg.ensures.narrows
+
+pub returns-clause-volumes : goal.returns-clause-volumes
+returns-clause-volumes g c = c.name_rvg.ensures.volumes ∙ ap (λ (x : Config). x.volumes) c.may_name.ensures.same
+
+pub returns-clause-site : goal.returns-clause-site
+returns-clause-site g c = c.name_rvg.ensures.site ∙ ap (λ (x : Config). x.site) c.may_name.ensures.same
+
+pub returns-clause-disks : goal.returns-clause-disks
+returns-clause-disks g c = subst (λ (k : GroupCore). MoreFailed (g.S.Shelf.meaning c.args.shelf.now) (g.S.Shelf.meaning c.name_rvg.new.shelf) k.inner.config.disks c.name_rvg.new.core.inner.config.disks) (same_core c.args.core.now c.may_name.new.config c.may_name.ensures.same) c.name_rvg.ensures.disks
+
+pub returns-clause-ends : goal.returns-clause-ends
+returns-clause-ends g c = subst (λ (k : GroupCore). RvgEnds c.args.units.now k.inner.config c.name_rvg.new.core.inner.config (g.S.Shelf.meaning c.name_rvg.new.shelf) c.name_rvg.result) (same_core c.args.core.now c.may_name.new.config c.may_name.ensures.same) c.name_rvg.ensures.ends
