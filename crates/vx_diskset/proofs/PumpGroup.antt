@@ -1,6 +1,6 @@
 -- What a pump of a link makes of a site that is up.
 use Rattle.std.proofs.Common.{subst, ◌≡◌, ◌∙◌, ◌+◌, ◌-◌, ◌≤◌, ℕ, Bool, true, false, List, drop, ap, sym, refl, arith, IsTrue}
-use Rattle.std.specs.Prelude.{◌&&◌, None, Some, Result, Ok, Err, OnOk, IfErr, slice_get}
+use Rattle.std.specs.Prelude.{◌≢◌, ◌&&◌, None, Some, Result, Ok, Err, OnOk, OnErr, IfErr, slice_get}
 use Rattle.vx_model.specs.Content.{Write}
 use Rattle.vx_model.specs.declared.errors.Stop.{Stop}
 use Rattle.vx_model.specs.declared.errors.Stop.TheVariants.{No as Refused, OutOfMemory}
@@ -15,6 +15,7 @@ use Rattle.vx_history.specs.LinkForms.{plain_link}
 use Rattle.vx_history.specs.Sending.{by_log}
 use Rattle.vx_history.specs.Doubts.{Doubted}
 use Rattle.vx_history.specs.World.{Link, Node, World}
+use Rattle.vx_history.specs.declared.sender.Action.TheVariants.{Nothing as SendsNothing}
 use Rattle.vx_history.specs.declared.sender.SEvent.TheVariants.{Pump}
 use Rattle.vx_courier.specs.UnderWay.{FlightStands}
 use Rattle.vx_disk.specs.Shelf.{Meaning}
@@ -81,13 +82,14 @@ pumped_is d site c m new link l f f' (Err (Refused (Damaged unit block stored co
 pumped_is d site c m new link l f f' (Err (Refused other)) up none told down is flight moved cause = absurd cause
 
 -- whether contents are told or not
-pub pump_stops : {beside : KeptBeside} (n : Node) (c : Core) (m new : Meaning) (result : Result (Unit {0}) Stop) → IsUpAt beside n c m → new.down ≡ m.down → IfErr result (ReadCause c m new) → IfErr result (PumpStop m.disk_faults new.disk_faults)
-pump_stops n c m new (Ok done) up down cause = tt
-pump_stops n c m new (Err OutOfMemory) up down cause = tt
-pump_stops n c m new (Err (Refused (Device disk))) up down cause = cause
-pump_stops n c m new (Err (Refused IsOff)) up down cause = absurd (never_both new.down cause (down ∙ up.up))
-pump_stops n c m new (Err (Refused (Damaged unit block stored computed))) up down cause = tt
-pump_stops n c m new (Err (Refused other)) up down cause = absurd cause
+pub pump_stops : {beside : KeptBeside} (n : Node) (c : Core) (m new : Meaning) (l : PlainLink) (result : Result (Unit {0}) Stop) → IsUpAt beside n c m → new.down ≡ m.down → IfErr result (ReadCause c m new)
+    → OnErr result (pump_asks l (last_of c) ≢ SendsNothing) → IfErr result (PumpStop (pump_asks l n.safe) m.disk_faults new.disk_faults)
+pump_stops n c m new l (Ok done) up down cause asks = tt
+pump_stops n c m new l (Err OutOfMemory) up down cause asks = tt
+pump_stops n c m new l (Err (Refused (Device disk))) up down cause asks = (cause, subst (λ (k : ℕ). pump_asks l k ≢ SendsNothing) up.head asks)
+pump_stops n c m new l (Err (Refused IsOff)) up down cause asks = absurd (never_both new.down cause (down ∙ up.up))
+pump_stops n c m new l (Err (Refused (Damaged unit block stored computed))) up down cause asks = tt
+pump_stops n c m new l (Err (Refused other)) up down cause asks = absurd cause
 
 pub pump_sends : {beside : KeptBeside} (n : Node) (c : Core) (m : Meaning) (site : ℕ) (l : PlainLink) (f f' : Flying) (result : Result (Unit {0}) Stop) → IsUpAt beside n c m
     → OnOk result (SendsBy (pump_asks l (last_of c)) (way_from site l.site c.log.header.state.line) f f') → OnOk result (SendsBy (pump_asks l n.safe) (way_from site l.site n.line) f f')

@@ -1,10 +1,12 @@
 -- What the disks of a site promise of a link on which it sends.
-use Rattle.std.specs.Prelude.{ℕ, Result, Ok, Err}
+use Rattle.std.specs.Prelude.{◌≢◌, ℕ, Result, Ok, Err}
 use Rattle.vx_model.specs.declared.errors.Stop.{Stop}
 use Rattle.vx_model.specs.declared.errors.Stop.TheVariants.{No as Refused, OutOfMemory}
 use Rattle.vx_model.specs.declared.link.Link.{Link as PlainLink}
 use Rattle.vx_model.specs.declared.no.No.TheVariants.{Device}
 use Rattle.vx_history.specs.World.{World}
+use Rattle.vx_history.specs.declared.sender.Action.{Action}
+use Rattle.vx_history.specs.declared.sender.Action.TheVariants.{Nothing as SendsNothing}
 use Rattle.vx_history.specs.declared.sender.SEvent.TheVariants.{Pump}
 use Rattle.vx_events.specs.LinkFinds.{IsUnreadable}
 use Rattle.vx_disk.specs.Counts.{Rose}
@@ -18,8 +20,9 @@ PumpedIs w site to l f old new (Err OutOfMemory) = Unit {0}
 PumpedIs w site to l f old new (Err (Refused (Device disk))) = Rose (old disk) (new disk)
 PumpedIs w site to l f old new (Err (Refused other)) = ⊥
 
--- why a site that runs sent nothing, whether contents are told or not: memory was wanting; a disk failed, whose count rose; or its log cannot be read
-abbrev pub PumpStop : (old new : ℕ → ℕ) → Stop → Type 0
-PumpStop old new OutOfMemory = Unit {0}
-PumpStop old new (Refused (Device disk)) = Rose (old disk) (new disk)
-PumpStop old new (Refused other) = IsUnreadable other
+-- Why a site that runs sent nothing, whether contents are told or not, where its rule asked this of it: memory was wanting; a disk failed, whose
+-- count rose, as there was something to send; or its log cannot be read.
+abbrev pub PumpStop : (asked : Action) → (old new : ℕ → ℕ) → Stop → Type 0
+PumpStop asked old new OutOfMemory = Unit {0}
+PumpStop asked old new (Refused (Device disk)) = Rose (old disk) (new disk) × (asked ≢ SendsNothing)
+PumpStop asked old new (Refused other) = IsUnreadable other

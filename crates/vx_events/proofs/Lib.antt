@@ -1,4 +1,5 @@
 pub mod Agreeing
+pub mod Bearing
 pub mod Blocks
 pub mod Calm
 pub mod Keeping

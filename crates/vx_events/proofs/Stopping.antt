@@ -25,7 +25,7 @@ use Rattle.vx_events.proofs.StoppingCuts.{cut_like}
 use Rattle.vx_events.specs.Doubts.{run_as}
 use Rattle.vx_events.specs.Ends.{Ends, AllDone, DiskFails, HeaderFails, FuseRunsOut, NoNumber, ShowsReceived, FindsLinks, FindsNone, place_of, LeavesOf, BegunOf, WritesAHeader}
 use Rattle.vx_events.specs.Facts.{site_number, group_fact, group_by}
-use Rattle.vx_events.specs.Fails.{Fails}
+use Rattle.vx_events.specs.Fails.{AreBorne, Fails}
 use Rattle.vx_events.specs.Lines.{LineStep, StepBy, EndsBy, IsRefusedLine, is_of_links}
 use Rattle.vx_events.specs.LinkEnds.{FirstCame}
 use Rattle.vx_events.specs.LinkLists.{link_events}
@@ -255,7 +255,11 @@ module _ (told : Type 0) (is_told : told) (d : Doubted) (files : Bool) (line : S
   s = place_of d.world line
 
   stopping : (fails : Fails) (new : Doubted) (c : Choice) → CameTo d (events_of d.world line c) s c.kept fails new → StopsAs d line s fails new
-  stopping fails new c h = record { choice = c; events = h.events; came = h.came; stops = h.stops }
+  stopping fails new c h = record { choice = c; events = h.events; came = h.came; ending = fails; are = inl refl; stops = h.stops }
+
+  -- it is done in spite of failed calls
+  bearing : (fails : Fails) (new : Doubted) (c : Choice) → AreBorne d.world fails → CameTo d (events_of d.world line c) s c.kept [] new → StopsAs d line s fails new
+  bearing fails new c borne h = record { choice = c; events = h.events; came = h.came; ending = []; are = inr (refl, borne); stops = h.stops }
 
   at_of : (c : Choice) (before : List Event) (e : Event) (rest : List Event) → events_of d.world line c ≡ before ++ e ∷ rest → AllAt s before × IsAt s e
   at_of c before e rest split = split_at s before e rest (subst (λ (es : List Event). AllAt s es) split (all_at d.world line c))
@@ -264,9 +268,9 @@ module _ (told : Type 0) (is_told : told) (d : Doubted) (files : Bool) (line : S
   opens_if c e is begins = open_of d.world files line c free (subst (λ (es : List Event). BeginsWrite es) (sym is) begins)
 
   pub ended : (fails : Fails) (said : Said) (new : Doubted) → Ends told d line s fails said new → StopsAs d line s fails new
-  ended fails said new (AllDone c taken none says leads) =
+  ended fails said new (AllDone c taken borne says leads) =
       let es : List Event = events_of d.world line c in
-      stopping fails new c (record { events = es; came = Whole refl; stops = all_stop taken d es fails new (none ∙ sym (all_none s es (all_at d.world line c))) (left_like s line taken d (run_as taken d es) new leads) })
+      bearing fails new c borne (record { events = es; came = Whole refl; stops = all_stop taken d es [] new (sym (all_none s es (all_at d.world line c))) (left_like s line taken d (run_as taken d es) new leads) })
   ended fails said new (DiskFails c taken before e rest left disk split leaves one says leads) =
       stopping fails new c
       (disk_ended taken d (events_of d.world line c) s c.kept disk before e rest left fails new split (at_of c before e rest split) one
@@ -285,12 +289,12 @@ module _ (told : Type 0) (is_told : told) (d : Doubted) (files : Bool) (line : S
         came = First (e ∷ rest) split;
         stops = all_stop taken d before fails new (none ∙ sym (all_none s before at.0)) (left_like s line taken d (run_as taken d before) new leads);
       })
-  ended fails said new (ShowsReceived site volume start count is role gives none leads) =
+  ended fails said new (ShowsReceived site volume start count is role gives borne leads) =
       let c : Choice = record { kept = 0; reached = 0 } in
-      stopping fails new c (record {
+      bearing fails new c borne (record {
         events = [];
         came = First (events_of d.world line c) refl;
-        stops = all_stop false d [] fails new none (left_like s line false d d new leads);
+        stops = all_stop false d [] [] new refl (left_like s line false d d new leads);
       })
   ended fails said new (FindsLinks untold c taken site mid n k row is from comes none says leads) = absurd (untold is_told)
   ended fails said new (FindsNone untold c taken site mid n why is from other none says leads) = absurd (untold is_told)
@@ -305,6 +309,8 @@ refused : (links : Bool) (d : Doubted) (line : ScriptLine) (why : No) (fails : F
 refused true d line why fails said new is = record {
   events = [];
   came = FirstCame (link_events d.world line) refl;
+  ending = fails;
+  are = inl refl;
   stops = all_stop false d [] fails new is.none (same_like d new is.stays);
 }
 refused false d line why fails said new is =
@@ -313,6 +319,8 @@ refused false d line why fails said new is =
       choice = c;
       events = [];
       came = First (events_of d.world line c) refl;
+      ending = fails;
+      are = inl refl;
       stops = all_stop false d [] fails new is.none (same_like d new is.stays);
     }
 

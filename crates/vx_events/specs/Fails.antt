@@ -1,11 +1,17 @@
 -- The failed calls of a line.
-use Rattle.std.specs.Prelude.{◌≡◌, ℕ, List, []}
+use Rattle.std.specs.Prelude.{◌≡◌, ◌⊎◌, IsSome, ℕ, List, []}
+use Rattle.std.specs.List.{AllByRecursion}
+use Rattle.vx_history.specs.World.{World}
 
 -- for each its site and its disk
 abbrev pub Fails : Type 0
 Fails = List (ℕ × ℕ)
 
--- The failed calls in spite of which a line is done. A site that is built has each volume on one disk, so there are none; of a mirrored one a
--- call may fail on a disk while another has the blocks.
-abbrev pub AreBorne : Fails → Type 0
-AreBorne fails = fails ≡ []
+-- The failed calls in spite of which a line is done: each is one of a disk of a site over a group, where another disk may have the blocks. A raw
+-- set has each volume on one disk, so none of its calls may fail.
+abbrev pub AreBorne : World → Fails → Type 0
+AreBorne w fails = AllByRecursion (λ f. IsSome (w.nodes f.0).group) fails
+
+-- of the failed calls of a line those by which its events ended: all of them, or none where the line is done in spite of them
+abbrev pub AreEnding : World → (all ending : Fails) → Type 0
+AreEnding w all ending = (ending ≡ all) ⊎ ((ending ≡ []) × AreBorne w all)

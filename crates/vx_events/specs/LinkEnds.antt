@@ -1,21 +1,23 @@
 -- How a line of links or packets ends, where sites may be in doubt: all its events are done, or one of them is ended by a failing disk,
 -- by a fuse or by want of a number.
-use Rattle.std.specs.Prelude.{◌≡◌, ℕ, ◌+◌, ◌≤◌, Bool, false, ltb, if◌then◌else◌, List, [], ◌∷◌, ◌++◌, Option, Some, None}
+use Rattle.std.specs.Prelude.{◌≡◌, ◌≢◌, ℕ, ◌+◌, ◌≤◌, Bool, false, ltb, if◌then◌else◌, List, [], ◌∷◌, ◌++◌, Option, Some, None}
 use Rattle.vx_model.specs.declared.limits.TheConstants.{MOST_NUMBER}
 use Rattle.vx_model.specs.declared.no.Counted.TheVariants.{Number}
 use Rattle.vx_model.specs.declared.no.No.TheVariants.{Device, Limit, Down as IsOff}
 use Rattle.vx_history.specs.Doubts.{Doubted, Runs, halved, crashed_as}
-use Rattle.vx_history.specs.Events.{packet_at}
+use Rattle.vx_history.specs.Events.{link_step, packet_at}
 use Rattle.vx_history.specs.Stops.{EventsEnd, IsFused, IsHeardAt, IsOpen, IsPartAt, ComesTo, all_fails}
 use Rattle.vx_history.specs.Steps.{worked_on}
 use Rattle.vx_history.specs.World.{Packet, World}
 use Rattle.vx_history.specs.declared.event.Event.{Event}
 use Rattle.vx_history.specs.declared.event.Event.TheVariants.{Link as LinkAt, Set as SetAt, Pump as PumpAt, Deliver as DeliverAt, Apply as ApplyAt, Fault}
+use Rattle.vx_history.specs.declared.sender.Action.TheVariants.{Nothing as SendsNothing}
+use Rattle.vx_history.specs.declared.sender.SEvent.TheVariants.{Pump as PumpLink}
 use Rattle.vx_script.specs.declared.line.ScriptLine.{ScriptLine}
 use Rattle.vx_script.specs.declared.line.ScriptLine.TheVariants.{Link, Set, Deliver, Settle}
 use Rattle.vx_events.specs.Doubts.{IsAs}
 use Rattle.vx_events.specs.Facts.{head_of, site_number}
-use Rattle.vx_events.specs.Fails.{Fails}
+use Rattle.vx_events.specs.Fails.{AreBorne, AreEnding, Fails}
 use Rattle.vx_events.specs.LinkFinds.{FindsOther}
 use Rattle.vx_events.specs.LinkLists.{link_events}
 use Rattle.vx_events.specs.Sayings.{Replies}
@@ -50,10 +52,10 @@ link_noted w other v = v
 abbrev pub AreLeft : ScriptLine → (before last new : Doubted) → Type 0
 AreLeft line d last new = IsAs last (link_noted d.world line last.world) new
 
--- an event that reads the log of this site before it does anything
-abbrev pub ReadsLog : Event → (site : ℕ) → Type 0
-ReadsLog (PumpAt p s) site = p ≡ site
-ReadsLog other site = ⊥
+-- An event that reads the log of this site before it does anything: a pump of a link by whose rule there is something to send.
+abbrev pub ReadsLog : World → Event → (site : ℕ) → Type 0
+ReadsLog w (PumpAt p s) site = (p ≡ site) × ((link_step w p s PumpLink).action ≢ SendsNothing)
+ReadsLog w other site = ⊥
 
 -- an event that writes a header of this site's log, or records, each of which takes a number
 abbrev pub TakesNumber : World → Event → (site : ℕ) → Type 0
@@ -66,7 +68,7 @@ TakesNumber w other site = ⊥
 -- How a line that no test refuses ends. Of disks that tell no contents it is not known how many numbers are left.
 pub data LinkEnds (told : Type 0) (d : Doubted) (line : ScriptLine) (fails : Fails) (said : Said) (new : Doubted) : Type 0 where
   -- all events are done
-  LinksDone : (last : Doubted) → Runs d (link_events d.world line) last → all_fails (link_events d.world line) ≡ [] → fails ≡ []
+  LinksDone : (last : Doubted) → Runs d (link_events d.world line) last → all_fails (link_events d.world line) ≡ [] → AreBorne d.world fails
       → LinkReplies line d last (link_events d.world line) said → AreLeft line d last new → LinkEnds told d line fails said new
   -- a disk of this site failed in an event, which may be on its disks
   LinksHalt : (e : Event) (site disk : ℕ) (middle : Doubted) → ComesTo d (link_events d.world line) e site middle → fails ≡ (site, disk) ∷ []
@@ -86,7 +88,7 @@ pub data LinkEnds (told : Type 0) (d : Doubted) (line : ScriptLine) (fails : Fai
       → IsFused (d.world.nodes site).fuse → fails ≡ [] → said ≡ Refused IsOff
       → AreLeft line d (crashed_as (halved middle e site 0) site kept taken) new → LinkEnds told d line fails said new
   -- a read of the log failed: the event is not begun
-  LogUnread : (before rest : List Event) (e : Event) (site disk : ℕ) (middle : Doubted) → link_events d.world line ≡ before ++ e ∷ rest → ReadsLog e site
+  LogUnread : (before rest : List Event) (e : Event) (site disk : ℕ) (middle : Doubted) → link_events d.world line ≡ before ++ e ∷ rest → ReadsLog middle.world e site
       → Runs d before middle → all_fails before ≡ [] → fails ≡ (site, disk) ∷ [] → said ≡ Refused (Device disk)
       → AreLeft line d middle new → LinkEnds told d line fails said new
   -- no number is left for a header, or for the records that wait: the events before stand
@@ -107,4 +109,6 @@ pub data CameOfLinks (all events : List Event) : Type 0 where
 pub record LinkStops (d : Doubted) (line : ScriptLine) (fails : Fails) (new : Doubted) : Type 0 where
   pub events : List Event
   pub came : CameOfLinks (link_events d.world line) events
-  pub stops : EventsEnd d events fails new
+  pub ending : Fails
+  pub are : AreEnding d.world fails ending
+  pub stops : EventsEnd d events ending new

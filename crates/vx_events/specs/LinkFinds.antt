@@ -1,6 +1,6 @@
 -- What lines of links and packets may find on disks that tell no contents: the writes that are read for updates, or put together of their parts, may be any.
 -- All else is as the rules of links and of receivers say: who sends to whom, on which line and under which numbers, and what is taken.
-use Rattle.std.specs.Prelude.{◌≡◌, ◌⊎◌, ℕ, ◌+◌, ◌≤◌, Bool, true, false, List, [], ◌∷◌, ◌++◌, length, take, drop, Option, Some, None}
+use Rattle.std.specs.Prelude.{◌≡◌, ◌≢◌, ◌⊎◌, ℕ, ◌+◌, ◌≤◌, Bool, true, false, List, [], ◌∷◌, ◌++◌, length, take, drop, Option, Some, None}
 use Rattle.std.specs.List.{AllByRecursion}
 use Rattle.vx_model.specs.Content.{Write, fold_writes}
 use Rattle.vx_model.specs.Sites.{is_origin}
@@ -25,7 +25,7 @@ use Rattle.vx_history.specs.declared.receiver.RAction.{RAction}
 use Rattle.vx_history.specs.declared.receiver.RAction.TheVariants.{Take}
 use Rattle.vx_history.specs.declared.receiver.REvent.TheVariants.{Update as HearUpdate}
 use Rattle.vx_history.specs.declared.sender.Action.{Action}
-use Rattle.vx_history.specs.declared.sender.Action.TheVariants.{Updates}
+use Rattle.vx_history.specs.declared.sender.Action.TheVariants.{Nothing as SendsNothing, Updates}
 use Rattle.vx_history.specs.declared.sender.SEvent.TheVariants.{Pump as PumpLink}
 use Rattle.vx_script.specs.declared.line.ScriptLine.{ScriptLine}
 use Rattle.vx_script.specs.declared.line.ScriptLine.TheVariants.{Deliver, Pump, Settle}
@@ -150,8 +150,8 @@ pub data EndsBetween (p s : ℕ) (d middle : Doubted) (fails : Fails) (said : Sa
   IsStored : (middle.world.nodes p).safe ≤ (middle.world.links p s).stored → fails ≡ [] → said ≡ Settled (head_of (middle.world.nodes p)) → last ≡ middle
       → EndsBetween p s d middle fails said last
   GivesUp : (why : No) → IsGivenUp why → fails ≡ [] → said ≡ Refused why → last ≡ middle → EndsBetween p s d middle fails said last
-  -- a read of p's log failed
-  IsUnread : (disk : ℕ) → fails ≡ (p, disk) ∷ [] → said ≡ Refused (Device disk) → last ≡ middle → EndsBetween p s d middle fails said last
+  -- a read of p's log failed, as there was something to send
+  IsUnread : (disk : ℕ) → (link_step middle.world p s PumpLink).action ≢ SendsNothing → fails ≡ (p, disk) ∷ [] → said ≡ Refused (Device disk) → last ≡ middle → EndsBetween p s d middle fails said last
   -- a disk failed in a header of p, or as s applied what waits there
   HeaderHalts : (number disk : ℕ) → IsOpen (middle.world.nodes p) → WritesAt middle.world (DeliverAt number) p → fails ≡ (p, disk) ∷ []
       → said ≡ Refused (Device disk) → last ≡ halved middle (DeliverAt number) p disk → EndsBetween p s d middle fails said last

@@ -1,5 +1,5 @@
 -- Worlds that come of the lines that are built: of sites without links.
-use Rattle.std.specs.Prelude.{◌≡◌, ℕ, false, Some, slice_get}
+use Rattle.std.specs.Prelude.{◌≡◌, ℕ, false, Some, slice_get, None}
 use Rattle.vx_history.specs.Sends.{is_linked}
 use Rattle.vx_history.specs.World.{Node, Volume, World}
 use Rattle.vx_model.specs.declared.site.Role.TheVariants.{Primary}
@@ -7,6 +7,10 @@ use Rattle.vx_model.specs.declared.site.Role.TheVariants.{Primary}
 -- no site keeps a link
 pub record IsUnlinked (w : World) : Type 0 where
   pub none : (p s : ℕ) → is_linked (w.links p s) ≡ false
+
+-- no site is over a group of disks
+pub record HasNoGroups (w : World) : Type 0 where
+  pub none : (i : ℕ) → (w.nodes i).group ≡ None
 
 -- each site is a primary
 pub record ArePrimaries (w : World) : Type 0 where

@@ -7,7 +7,7 @@ use Rattle.vx_history.specs.declared.event.Event.{Event}
 use Rattle.vx_history.specs.declared.event.Event.TheVariants.{Crash as CrashAt}
 use Rattle.vx_script.specs.declared.line.ScriptLine.{ScriptLine}
 use Rattle.vx_events.specs.Ends.{LeavesOf, BegunOf, place_of}
-use Rattle.vx_events.specs.Fails.{Fails}
+use Rattle.vx_events.specs.Fails.{AreEnding, Fails}
 use Rattle.vx_events.specs.LinkEnds.{LinkStops}
 use Rattle.vx_events.specs.Lists.{Choice, events_of}
 
@@ -25,7 +25,9 @@ pub record StopsAs (d : Doubted) (line : ScriptLine) (s : ℕ) (fails : Fails) (
   pub choice : Choice
   pub events : List Event
   pub came : CameOf d.world (events_of d.world line choice) s choice.kept events
-  pub stops : EventsEnd d events fails new
+  pub ending : Fails
+  pub are : AreEnding d.world fails ending
+  pub stops : EventsEnd d events ending new
 
 -- the same of a line of any kind: one of links, or another
 abbrev pub StopsBy : Bool → Doubted → ScriptLine → Fails → Doubted → Type 0

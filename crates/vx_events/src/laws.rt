@@ -15,11 +15,11 @@ ghost use Rattle.vx_order.specs.Order.{line_refusal};
 ghost use Rattle.vx_script.specs.declared.line.ScriptLine.{ScriptLine};
 ghost use Rattle.vx_script.specs.declared.line.ScriptLine.TheVariants.{Site, Raw, Crash, Write as WriteLine, Put, Read, Show, Apply};
 ghost use Rattle.vx_events.specs.Facts.{facts_of, site_number, volume_number};
-ghost use Rattle.vx_events.specs.Fails.{Fails};
+ghost use Rattle.vx_events.specs.Fails.{AreBorne, Fails};
 ghost use Rattle.vx_events.specs.Lines.{LineStep, is_of_links};
 ghost use Rattle.vx_events.specs.Lists.{Choice};
 ghost use Rattle.vx_events.specs.Parts.{DonePart, StopsShort, first_part, goes_in_parts};
-ghost use Rattle.vx_events.specs.Plain.{IsUnlinked, IsSizedAs};
+ghost use Rattle.vx_events.specs.Plain.{HasNoGroups, IsUnlinked, IsSizedAs};
 ghost use Rattle.vx_events.specs.Stopping.{StopsBy};
 ghost use Rattle.vx_events.specs.declared.said.Said.{Said};
 
@@ -63,6 +63,11 @@ pub fn tests_agree()
 pub fn lines_are_events()
     ensures { (d : Doubted) (files : Bool) (line : ScriptLine) (fails : Fails) (said : Said) (new : Doubted) → LineStep (Unit {0}) files d line fails said new
         → StopsBy (is_of_links line) d line fails new }
+{}
+
+/// Only of a site over a group may a call fail in a line that is done: where there is none, no call failed in it.
+pub fn only_groups_bear()
+    ensures { (w : World) (fails : Fails) → HasNoGroups w → AreBorne w fails → fails ≡ [] }
 {}
 
 /// Where memory runs out within a line that does not go in parts nothing is done, whether disks tell their contents or not; of one that does, any first

@@ -16,7 +16,7 @@ use Rattle.vx_config.specs.declared.entry.VolumeEntry.{VolumeEntry}
 use Rattle.vx_layout.specs.Space.{AreLogs, IsShape}
 use Rattle.vx_layout.specs.declared.shape.Shape.{Shape}
 use Rattle.vx_group.specs.Dets.{margin}
-use Rattle.vx_group.specs.Makes.{has_name, is_shape, make_refusal, new_log}
+use Rattle.vx_group.specs.Makes.{has_name, is_shape, lost_log, make_refusal}
 
 none_of : (a b d e f : Bool) (n1 n2 n3 n4 n5 : No) → (if a then Some n1 else (if b then Some n2 else (if d then Some n3 else (if e then Some n4 else (if f then Some n5 else None))))) ≡ None
     → (a ≡ false) × (b ≡ false) × (d ≡ false) × (e ≡ false) × (f ≡ false)
@@ -118,27 +118,27 @@ log_long want used disks true false logs is = ap length is.1
 log_long want used disks false true logs is = ap length is.1
 log_long want used disks true true logs is = ap length is.2
 
-abbrev pub drl_is : Bool → Bool → List Subdisk → Option LogEntry
-drl_is lost a logs = if a then new_log lost (slice_get logs 0) else None
+abbrev pub drl_is : Bool → List Subdisk → Option LogEntry
+drl_is a logs = if a then lost_log (slice_get logs 0) else None
 
 abbrev pub fmr_is : Bool → Bool → List Subdisk → Option LogEntry
-fmr_is a b logs = if b then new_log true (slice_get logs (if a then 1 else 0)) else None
+fmr_is a b logs = if b then lost_log (slice_get logs (if a then 1 else 0)) else None
 
-pub logs_are : (lost a b : Bool) (logs : List Subdisk) → length logs ≡ (if a then 1 else 0) + (if b then 1 else 0)
-    → (is_some (drl_is lost a logs) ≡ a) × (is_some (fmr_is a b logs) ≡ b) × (log_runs (drl_is lost a logs) ++ log_runs (fmr_is a b logs) ≡ logs)
-logs_are lost false false [] long = (refl, refl, refl)
-logs_are lost false false (x ∷ xs) long = absurd (omega (arith, long))
-logs_are lost true false [] long = absurd (omega (arith, long))
-logs_are lost true false (x ∷ []) long = (refl, refl, refl)
-logs_are lost true false (x ∷ (y ∷ xs)) long = absurd (omega (arith, long))
-logs_are lost false true [] long = absurd (omega (arith, long))
-logs_are lost false true (x ∷ []) long = (refl, refl, refl)
-logs_are lost false true (x ∷ (y ∷ xs)) long = absurd (omega (arith, long))
-logs_are lost true true [] long = absurd (omega (arith, long))
-logs_are lost true true (x ∷ []) long = absurd (omega (arith, long))
-logs_are lost true true (x ∷ (y ∷ [])) long = (refl, refl, refl)
-logs_are lost true true (x ∷ (y ∷ (z ∷ xs))) long = absurd (omega (arith, long))
+pub logs_are : (a b : Bool) (logs : List Subdisk) → length logs ≡ (if a then 1 else 0) + (if b then 1 else 0)
+    → (is_some (drl_is a logs) ≡ a) × (is_some (fmr_is a b logs) ≡ b) × (log_runs (drl_is a logs) ++ log_runs (fmr_is a b logs) ≡ logs)
+logs_are false false [] long = (refl, refl, refl)
+logs_are false false (x ∷ xs) long = absurd (omega (arith, long))
+logs_are true false [] long = absurd (omega (arith, long))
+logs_are true false (x ∷ []) long = (refl, refl, refl)
+logs_are true false (x ∷ (y ∷ xs)) long = absurd (omega (arith, long))
+logs_are false true [] long = absurd (omega (arith, long))
+logs_are false true (x ∷ []) long = (refl, refl, refl)
+logs_are false true (x ∷ (y ∷ xs)) long = absurd (omega (arith, long))
+logs_are true true [] long = absurd (omega (arith, long))
+logs_are true true (x ∷ []) long = absurd (omega (arith, long))
+logs_are true true (x ∷ (y ∷ [])) long = (refl, refl, refl)
+logs_are true true (x ∷ (y ∷ (z ∷ xs))) long = absurd (omega (arith, long))
 
-pub logs_made : (lost a b : Bool) (logs : List Subdisk) (drl fmr : Option LogEntry) → length logs ≡ (if a then 1 else 0) + (if b then 1 else 0) → drl ≡ drl_is lost a logs → fmr ≡ fmr_is a b logs
+pub logs_made : (a b : Bool) (logs : List Subdisk) (drl fmr : Option LogEntry) → length logs ≡ (if a then 1 else 0) + (if b then 1 else 0) → drl ≡ drl_is a logs → fmr ≡ fmr_is a b logs
     → (is_some drl ≡ a) × (is_some fmr ≡ b) × (log_runs drl ++ log_runs fmr ≡ logs)
-logs_made lost a b logs drl fmr long one two = rw one (rw two (logs_are lost a b logs long))
+logs_made a b logs drl fmr long one two = rw one (rw two (logs_are a b logs long))

@@ -31,8 +31,6 @@ use Rattle.vx_kept.specs.Keeping.{Acts, Extends}
 use Rattle.vx_group.specs.Dets.{margin}
 use Rattle.vx_group.specs.Stands.{volume_faults, inner_meaning}
 use Rattle.vx_group.specs.declared.inner.Inner.{Inner}
-use Rattle.vx_group.specs.declared.shaping.Marks.{Marks}
-use Rattle.vx_group.specs.declared.shaping.Marks.TheVariants.{Lost, Trusted}
 
 -- ---- refusals
 
@@ -58,15 +56,10 @@ make_refusal c name want =
 abbrev pub log_count : Shape → ℕ
 log_count want = (if want.drl then 1 else 0) + (if want.fmr then 1 else 0)
 
--- whether the dirty region log of a new volume is held as lost
-abbrev pub are_lost : Marks → Bool
-are_lost Trusted = false
-are_lost Lost = true
-
--- a log in such a run, held as lost or not
-abbrev pub new_log : Bool → Option Subdisk → Option LogEntry
-new_log lost None = None
-new_log lost (Some s) = Some (record { lost = lost; disk = s.disk; start = s.start; blocks = s.blocks })
+-- a log of which the maps are not kept yet
+abbrev pub lost_log : Option Subdisk → Option LogEntry
+lost_log None = None
+lost_log (Some s) = Some (record { lost = true; disk = s.disk; start = s.start; blocks = s.blocks })
 
 -- a plex of more runs has no spelling
 abbrev pub is_few : List Subdisk → Bool

@@ -40,7 +40,6 @@ use crate::importing::import_in;
 use crate::making::make_in;
 use crate::racking::{fail_in, fuse_in};
 use crate::reading::read_in;
-use crate::shaping::Marks;
 use crate::writing::write_group;
 use std::alloc::Global;
 use vx_config::Config;
@@ -131,14 +130,7 @@ impl<S: Shelf> Group<S> {
         ensures agreed { IfErr result (λ e. self.old.core.inner.committed ≡ true → self.new.core.inner.agreed ≡ true) }
         ensures unmoved { Unmoved result ((self.new.core ≡ self.old.core) × (self.new.shelf ≡ self.old.shelf)) }
     {
-        make_in(
-            alloc,
-            &mut self.shelf,
-            &mut self.core,
-            name,
-            want,
-            Marks::Lost,
-        )
+        make_in(alloc, &mut self.shelf, &mut self.core, name, want)
     }
 
     /// Names the volumes that are the replicated volume group, by a commit: the log, the maps, and the data volumes. Every volume is left as
@@ -329,6 +321,9 @@ impl<S: Shelf> Shelf for Group<S> {
         ensures disks { OnDisks (inner_meaning (wide self.old.core) (S.meaning self.old.shelf)).disks (inner_meaning (wide self.new.core) (S.meaning self.new.shelf)).disks Untouched }
         ensures shown { OnOk result (Read (inner_meaning self.old.core.inner (S.meaning self.old.shelf)) unit block into.new) }
         ensures same { self.new.core.inner.config ≡ self.old.core.inner.config }
+        ensures held { self.new.core.held ≡ self.old.core.held }
+        ensures trusted { (self.new.core.inner.committed ≡ self.old.core.inner.committed) × (self.new.core.inner.agreed ≡ self.old.core.inner.agreed) }
+        ensures below { Goes Nothing (S.meaning self.old.shelf) (S.meaning self.new.shelf) }
     {
         read_in(&mut self.shelf, &mut self.core, unit, block, into)
     }

@@ -56,6 +56,5 @@ pub use making::make_in;
 pub use racking::{fail_in, fuse_in};
 pub use reading::read_in;
 pub use releasing::release;
-pub use shaping::Marks;
 pub use taking::{Plan, take_up};
 pub use writing::write_group;

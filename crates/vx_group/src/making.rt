@@ -22,7 +22,7 @@ use crate::lengthening::longer;
 use crate::marking::is_committed;
 use crate::releasing::release;
 use crate::settling::settle_headers;
-use crate::shaping::{Marks, are_few, refuse_volume, volume_of};
+use crate::shaping::{are_few, refuse_volume, volume_of};
 use crate::zeroing::zero_volume;
 use std::alloc::Global;
 use vx_config::Config;
@@ -40,13 +40,7 @@ fn width_of(want: &Shape) -> u32
 }
 
 // The configuration with the volume, in the space that is found for it.
-fn plan(
-    alloc: Global,
-    config: &Config,
-    name: &Name,
-    want: &Shape,
-    marks: Marks,
-) -> Result<Config, Stop>
+fn plan(alloc: Global, config: &Config, name: &Name, want: &Shape) -> Result<Config, Stop>
     requires can { CanSpell config.now }
     requires checked { is_sound config.now ≡ true }
     requires may { make_refusal config.now name.now want.now ≡ None }
@@ -65,7 +59,7 @@ fn plan(
             most: MOST_SUBDISKS as u64,
         }));
     }
-    match volume_of(alloc, name, want, &found, marks) {
+    match volume_of(alloc, name, want, &found) {
         Ok(volume) => longer(alloc, config, volume),
         Err(_) => Err(Stop::OutOfMemory),
     }
@@ -138,8 +132,8 @@ fn add<S: Shelf>(shelf: &mut S, core: &mut Inner, next: Config) -> Result<(), Sh
     add_last(shelf, core, next)
 }
 
-/// Makes a volume, which begins as zeros, and answers its number. Its dirty region log is trusted, where the caller keeps it, or held as lost;
-/// no block of it is written.
+/// Makes a volume, which begins as zeros, and answers its number. Beside the configuration areas it writes zeros on the plexes of the volume
+/// alone.
 ///
 /// Answers 2 exactly where a volume has its name, else 19 exactly where there are 32 volumes, more than 8 plexes are wanted, or fewer than
 /// 65,536 serials are left, else 4 exactly where it is no shape, else 11 with what find_space says, or 19 where its subdisks are too many,
@@ -151,7 +145,6 @@ pub fn make_in<S: Shelf>(
     core: &mut GroupCore,
     name: &Name,
     want: &Shape,
-    marks: Marks,
 ) -> Result<u32, Stop>
     requires stands { GroupStands core.old (S.meaning shelf.old) }
     requires prefer { IfSome want.now.prefer (λ p. p < want.now.mirrors) }
@@ -168,7 +161,7 @@ pub fn make_in<S: Shelf>(
     if let Some(no) = refuse_volume(&core.inner.config, name, want) {
         return Err(Stop::No(no));
     }
-    let next = match plan(alloc, &core.inner.config, name, want, marks) {
+    let next = match plan(alloc, &core.inner.config, name, want) {
         Ok(next) => next,
         Err(stop) => return Err(stop),
     };

@@ -30,6 +30,7 @@ pub fn read_in<S: Shelf>(
     ensures cause { Cause (inner_meaning (wide core.old) (S.meaning shelf.old)) (inner_meaning (wide core.new) (S.meaning shelf.new)) vol result }
     ensures counts { CountsOnly vol result (inner_meaning (wide core.old) (S.meaning shelf.old)).faults (inner_meaning (wide core.new) (S.meaning shelf.new)).faults }
     ensures held { core.new.held ≡ core.old.held }
+    ensures trusted { (core.new.inner.committed ≡ core.old.inner.committed) × (core.new.inner.agreed ≡ core.old.inner.agreed) }
     ensures same { core.new.inner.config ≡ core.old.inner.config }
     ensures unsure { core.new.inner.unsure ≡ core.old.inner.unsure }
 {

@@ -5,7 +5,7 @@ ghost use Rattle.vx_model.specs.declared.limits.TheConstants.{MOST_PLEXES};
 ghost use Rattle.vx_model.specs.declared.no.No.TheVariants.{Limit};
 ghost use Rattle.vx_layout.specs.Made.{made_plex};
 ghost use Rattle.vx_layout.specs.Space.{IsShape};
-ghost use Rattle.vx_group.specs.Makes.{IsVolume, are_lost, has_name, is_few, is_shape as is_shape_is, log_count, make_refusal, new_log};
+ghost use Rattle.vx_group.specs.Makes.{IsVolume, has_name, is_few, is_shape as is_shape_is, log_count, lost_log, make_refusal};
 
 use std::alloc::Global;
 use vx_config::{Config, LogEntry, PlexEntry, PlexState, Plexes, Subdisk, Subdisks, VolumeEntry};
@@ -18,13 +18,6 @@ const MARGIN: u64 = 65_536;
 
 // The most blocks of a volume.
 const MOST_BLOCKS: u64 = 1_099_511_627_776;
-
-/// Whether the dirty region log of a new volume is trusted, as the caller keeps it, or held as lost.
-#[derive(Clone, Copy, Debug, PartialEq, Eq)]
-pub enum Marks {
-    Trusted,
-    Lost,
-}
 
 fn is_named(volume: &VolumeEntry, name: &Name) -> bool
     ensures { result ≡ has_name name.now volume.now }
@@ -114,13 +107,13 @@ fn plexes_of(alloc: Global, found: &[Runs]) -> Result<Plexes, OutOfMemory>
     Ok(plexes)
 }
 
-// The log in such a run, held as lost or not.
-fn log_at(logs: &[Subdisk], place: usize, lost: bool) -> Option<LogEntry>
-    ensures { result ≡ new_log lost (slice_get logs.now place) }
+// The log in such a run. Its maps are not kept yet, so they are not to be trusted.
+fn log_at(logs: &[Subdisk], place: usize) -> Option<LogEntry>
+    ensures { result ≡ lost_log (slice_get logs.now place) }
 {
     match logs.get(place) {
         Some(run) => Some(LogEntry {
-            lost,
+            lost: true,
             disk: run.disk,
             start: run.start,
             blocks: run.blocks,
@@ -130,26 +123,18 @@ fn log_at(logs: &[Subdisk], place: usize, lost: bool) -> Option<LogEntry>
 }
 
 // The log of the regions of writes, where it is wanted.
-fn drl_of(want: &Shape, logs: &[Subdisk], marks: Marks) -> Option<LogEntry>
-    ensures { result ≡ (if want.now.drl then new_log (are_lost marks) (slice_get logs.now 0) else None) }
+fn drl_of(want: &Shape, logs: &[Subdisk]) -> Option<LogEntry>
+    ensures { result ≡ (if want.now.drl then lost_log (slice_get logs.now 0) else None) }
 {
-    let lost = match marks {
-        Marks::Lost => true,
-        Marks::Trusted => false,
-    };
-    if want.drl {
-        log_at(logs, 0, lost)
-    } else {
-        None
-    }
+    if want.drl { log_at(logs, 0) } else { None }
 }
 
-// The log of missed regions, where it is wanted. Its maps are not kept yet, so they are not to be trusted.
+// The log of missed regions, where it is wanted.
 fn fmr_of(want: &Shape, logs: &[Subdisk]) -> Option<LogEntry>
-    ensures { result ≡ (if want.now.fmr then new_log true (slice_get logs.now (if want.now.drl then 1 else 0)) else None) }
+    ensures { result ≡ (if want.now.fmr then lost_log (slice_get logs.now (if want.now.drl then 1 else 0)) else None) }
 {
     if want.fmr {
-        log_at(logs, usize::from(want.drl), true)
+        log_at(logs, usize::from(want.drl))
     } else {
         None
     }
@@ -166,13 +151,12 @@ fn preferred(want: &Shape) -> Option<u8>
     }
 }
 
-/// The volume of this shape, in the space that was found, whose dirty region log is held as lost or not. It takes memory.
+/// The volume of this shape, in the space that was found. It takes memory.
 pub fn volume_of(
     alloc: Global,
     name: &Name,
     want: &Shape,
     found: &Found,
-    marks: Marks,
 ) -> Result<VolumeEntry, OutOfMemory>
     requires shape { IsShape want.now }
     requires prefer { IfSome want.now.prefer (λ p. p < want.now.mirrors) }
@@ -189,7 +173,7 @@ pub fn volume_of(
         ncol: want.ncol as u8,
         width: want.width,
         prefer: preferred(want),
-        drl: drl_of(want, logs, marks),
+        drl: drl_of(want, logs),
         fmr: fmr_of(want, logs),
         plexes,
     })

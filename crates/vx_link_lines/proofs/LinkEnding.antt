@@ -275,8 +275,8 @@ module _ {R : Type 0} {g : Ghosts R} where
     -- all parts are done
     pub ends_done : (mid new : Yard R g) → Comes three mid → HeadsOpened p s sync states mid new (Ok tt) → Leads d line Done old new
     ends_done mid new before call =
-        leads_by new
-        (LinksDone four (subst (λ (es : List Event). Runs d es four) (sym numbers) (false, (false, (false, (false, refl))))) (ap (λ (es : List Event). all_fails es) numbers) refl
+        leads_by {fails = []} new
+        (LinksDone four (subst (λ (es : List Event). Runs d es four) (sym numbers) (false, (false, (false, (false, refl))))) (ap (λ (es : List Event). all_fails es) numbers) tt
         (subst (λ (es : List Event). LinkReplies line d four es Done) (sym numbers) (subst (λ (o : EventSaid). RepeatsSaid four.world 0 o Done) (sym (chain.said_four d p s sync fit l.said)) refl))
         (record { world = sym (notes four.world); after = λ i. refl }))
         (next_then [] (noted_by note d) (noted_by note three) (noted_by note four) old mid new before (called_four mid new (Ok tt) before call))

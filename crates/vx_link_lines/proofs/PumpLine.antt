@@ -1,6 +1,6 @@
 -- What a line leaves that sends on a link.
 use Rattle.std.proofs.Common.{◌≡◌, ◌∙◌, inl, inr, ◌<◌, ℕ, zero, suc, List, [], ◌∷◌, length, false, true, ap, sym, subst, refl}
-use Rattle.std.specs.Prelude.{Option, Some, None, Result, Err, slice_get}
+use Rattle.std.specs.Prelude.{◌≢◌, Option, Some, None, Result, Err, slice_get}
 use Rattle.vx_disk.specs.Disks.{Untouched}
 use Rattle.vx_disk.specs.declared.shelf.Shelf.{Ghosts}
 use Rattle.vx_diskset.specs.Asked.{LeavesAlone}
@@ -83,7 +83,7 @@ pub pump_done : (told : Type 0) (d : Doubted) (p s : List ℕ) → (step d.world
 pump_done told d p s is =
     let v : World = (step d.world (PumpAt (site_number d.world p) (site_number d.world s))).world in
     record {
-      ends = LinksDone (record d { world = v }) (false, refl) refl refl (subst (λ (x : EventSaid). RepeatsSaid v 0 x Done) (sym is) refl) (record { world = refl; after = λ i. refl });
+      ends = LinksDone (record d { world = v }) (false, refl) refl tt (subst (λ (x : EventSaid). RepeatsSaid v 0 x Done) (sym is) refl) (record { world = refl; after = λ i. refl });
       counts = tt;
       works = tt;
       calls = tt;
@@ -112,11 +112,11 @@ pump_none told d p s why untold other =
     record { ends = LinksFind untold d (ReadsNone p s why refl other refl refl refl) (record { world = refl; after = λ i. refl }); counts = tt; works = tt; calls = tt }
 
 -- one whose log could not be read
-pub pump_unread : (told : Type 0) (d : Doubted) (p s : List ℕ) (disk : ℕ) → IsDone told d (Pump p s) ((site_number d.world p, disk) ∷ []) (Refused (Device disk)) d
-pump_unread told d p s disk =
+pub pump_unread : (told : Type 0) (d : Doubted) (p s : List ℕ) (disk : ℕ) → (link_step d.world (site_number d.world p) (site_number d.world s) PumpLink).action ≢ Nothing → IsDone told d (Pump p s) ((site_number d.world p, disk) ∷ []) (Refused (Device disk)) d
+pump_unread told d p s disk asks =
     let a : ℕ = site_number d.world p in
     record {
-      ends = LogUnread [] [] (PumpAt a (site_number d.world s)) a disk d refl refl refl refl refl refl (record { world = refl; after = λ i. refl });
+      ends = LogUnread [] [] (PumpAt a (site_number d.world s)) a disk d refl (refl, asks) refl refl refl refl (record { world = refl; after = λ i. refl });
       counts = tt;
       works = tt;
       calls = tt;
@@ -186,6 +186,14 @@ module _ {R : Type 0} {g : Ghosts R} where
       let w : World = d.world in
       is ∙ ap (λ (x : PlainLink). pumped_at x (w.nodes here).safe) asks.link_is ∙ ap (λ (k : ℕ). pumped_at (plain_link k (w.links here k)) (w.nodes here).safe) asks.to
       ∙ ap (λ (k : ℕ). pumped_at (plain_link (site_number w s) (w.links k (site_number w s))) (w.nodes k).safe) (sym asks.seat.number)
+
+  -- what its rule asks of the site
+  pub asked_named : (d : Doubted) (y : Yard R g) (p s : List ℕ) (here : ℕ) (link : PlainLink) → Pumping d y p s here link
+      → pump_asks link (d.world.nodes here).safe ≡ (link_step d.world (site_number d.world p) (site_number d.world s) PumpLink).action
+  asked_named d y p s here link asks =
+      let w : World = d.world in
+      ap (λ (x : PlainLink). pump_asks x (w.nodes here).safe) asks.link_is ∙ ap (λ (k : ℕ). pump_asks (plain_link k (w.links here k)) (w.nodes here).safe) asks.to
+      ∙ ap (λ (k : ℕ). pump_asks (plain_link (site_number w s) (w.links k (site_number w s))) (w.nodes k).safe) (sym asks.seat.number)
 
   -- what was sent between the sites that the line names
   pub sent_named : (d : Doubted) (y : Yard R g) (p s : List ℕ) (here : ℕ) (link : PlainLink) (f f' : Flying) → Pumping d y p s here link
@@ -273,7 +281,7 @@ module _ {R : Type 0} {g : Ghosts R} where
     stays : (fs : List SiteFacts) (f : Flying) → new.facts.items ≡ fs → fs ≡ old.facts.items → new.flight ≡ f → f ≡ old.flight → StaysFor d (between old new) new
     stays fs f facts same flight still = stays_as d (between old new) new fs f middle_stands middle_carries (record { disk_sets = refl; racks = refl; assemblies = refl; feeders = refl }) facts same flight still
 
-    pub pump_stops : (p q : List ℕ) (f : Flying) (stop : Stop) (r : Result Said OutOfMemory) → PumpStop (faults_at before) (faults_at after) stop → ((why : No) → stop ≡ RefusedSo why → IsUnreadable why → IsTold new → ⊥) → r ≡ reply_to stop
+    pub pump_stops : (p q : List ℕ) (f : Flying) (stop : Stop) (r : Result Said OutOfMemory) → PumpStop (link_step d.world (site_number d.world p) (site_number d.world q) PumpLink).action (faults_at before) (faults_at after) stop → ((why : No) → stop ≡ RefusedSo why → IsUnreadable why → IsTold new → ⊥) → r ≡ reply_to stop
         → site_number d.world p ≡ s → new.facts.items ≡ old.facts.items → new.flight ≡ f → f ≡ old.flight → LeadsIs d (Pump p q) old new r
     pump_stops p q f MemoryStop r stopped untold is number facts flight still =
         let stay = stays old.facts.items f facts refl flight still in
@@ -283,10 +291,10 @@ module _ {R : Type 0} {g : Ghosts R} where
         subst (λ (x : Result Said OutOfMemory). LeadsIs d (Pump p q) old new x) (sym is) (record {
           next = d;
           fails = (site_number d.world p, disk) ∷ [];
-          done = pump_unread (IsTold new) d p q disk;
+          done = pump_unread (IsTold new) d p q disk stopped.1;
           stands = stay.stands;
           carries = λ _. stay.carries middle_carries;
-          rose = subst (λ (k : ℕ). RoseAll ((k, disk) ∷ []) (count_of old) (count_of new)) (sym number) (rose_at old new s disk before after changed stopped);
+          rose = subst (λ (k : ℕ). RoseAll ((k, disk) ∷ []) (count_of old) (count_of new)) (sym number) (rose_at old new s disk before after changed stopped.0);
         })
     pump_stops p q f (RefusedSo other) r stopped untold is number facts flight still =
         let stay = stays old.facts.items f facts refl flight still in

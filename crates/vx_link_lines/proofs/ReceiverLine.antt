@@ -205,7 +205,7 @@ module _ {R : Type 0} {g : Ghosts R} where
           fails = [];
           done = record {
             ends = subst (λ (i : ℕ). Ends (IsTold new) d (Apply name count) i [] (DoneAt number) e) (sym here.seat.number)
-                (AllDone c false refl
+                (AllDone c false tt
                 (subst (λ (es : List Event). Replies (IsTold new) (Apply name count) s false d es (DoneAt number)) (sym ev)
                 (subst (λ (o : EventSaid). RepeatsSaid (step d.world (ApplyAt s count number)).world s o (DoneAt number)) (sym said) refl))
                 (subst (λ (es : List Event). IsLeft s (Apply name count) false d (run_as false d es) e) (sym ev) (record { world = refl; after = λ i. refl })));

@@ -79,7 +79,7 @@ module _ (old m1 : Meaning) (plan : Plan) (taken : IsTaken old m1 plan) (law : L
   abbrev x : Config
   x = taken.config
 
-  i : Image
+  abbrev i : Image
   i = taken.up.image
 
   pub sound : is_sound opened ≡ true
@@ -98,11 +98,9 @@ module _ (old m1 : Meaning) (plan : Plan) (taken : IsTaken old m1 plan) (law : L
   ]
 
   image_left : IsTrue old.tells → Each old.leaves i
-  unfolding i
   image_left tell = λ u b. law.shown u b (taken.up.image u b) (taken.up.read tell u b)
 
   is_found : IsTrue old.tells → found old i ≡ Found x
-  unfolding i
   is_found tell = can.one taken.up.image taken.up.image taken.up.readable x (image_left tell) (image_left tell) taken.up.is
 
   covers : (v : ℕ) → IsTrue old.tells → ConfigCovers x v old
@@ -141,16 +139,14 @@ module _ (old m1 : Meaning) (plan : Plan) (taken : IsTaken old m1 plan) (law : L
 
   -- ---- a log that was read
   module _ (v : ℕ) (d : Dirty) (m2 : Meaning) (read : LogRead opened v (Some d) old m2) where
-    e : LogEntry
+    abbrev e : LogEntry
     e = read.1.log.entry
 
     e_used : InUse x v Drl e
-    unfolding e
     e_used = in_use v read.1.log.entry read.1.log.is read.0
 
     -- a block of the log as it was read may be left
     block_left : IsTrue old.tells → (k : ℕ) → k < map_block_count d.map → old.leaves e.disk (e.start + k) (block_of d.map.bytes k)
-    unfolding e
     block_left tell k lt =
         subst (λ (u : ℕ). old.leaves u (read.1.log.entry.start + k) (block_of d.map.bytes k)) read.1.log.run.there
         (subst (λ (n : ℕ). old.leaves d.map.unit (n + k) (block_of d.map.bytes k)) read.1.log.run.begins
@@ -169,7 +165,6 @@ module _ (old m1 : Meaning) (plan : Plan) (taken : IsTaken old m1 plan) (law : L
     }
 
     map_of : MapOn d.map m1
-    unfolding e
     map_of = record {
       each = λ k lt. record {
         only = λ y left.

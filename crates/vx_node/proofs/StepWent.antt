@@ -29,7 +29,7 @@ use Rattle.vx_yard.specs.Stands.{AreTold, RoseAll}
 use Rattle.vx_yard.specs.Yards.{IsTold, count_of}
 use Rattle.vx_yard.specs.declared.yard.Yard.{Yard}
 use Rattle.vx_diskset.specs.Asked.{LeavesAlone}
-use Rattle.vx_yard.proofs.ChangeSite.{rose_none}
+use Rattle.vx_yard.proofs.ChangeSite.{rose_less, rose_none}
 use Rattle.vx_yard.proofs.FailsStay.{alone_keeps}
 use Rattle.vx_yard.proofs.OfSites.{all_of_site}
 
@@ -90,7 +90,7 @@ module _ {R : Type 0} {g : Ghosts R} where
             told = told;
             asked = asked;
             called = calls;
-            rose = subst (λ (f : Fails). RoseAll f (count_of old) (count_of new)) on.none leads.rose;
+            rose = rose_less leads.fails (count_of old) (count_of new) leads.rose;
           }
 
       off_by : (why : No) (said : Said) (leads : Leads (noted_as serves.noted.fuses d) line said old new) → EndTo (IsTold new) a b d events leads.fails why leads.next → BothSites (SettleBurns (Refused why)) a b old new → EndedFor a b d events why old new

@@ -1,5 +1,5 @@
 // What a site sends on a link as it is pumped.
-ghost use Rattle.std.specs.Prelude.{◌≡◌, ◌+◌, ◌<◌, ◌≤◌, ℕ, None, OnOk, OnErr, IfErr, IsTrue, true, ◌&&◌};
+ghost use Rattle.std.specs.Prelude.{◌≡◌, ◌≢◌, ◌+◌, ◌<◌, ◌≤◌, ℕ, None, OnOk, OnErr, IfErr, IsTrue, true, ◌&&◌};
 ghost use Rattle.vx_courier.specs.UnderWay.{FlightStands};
 ghost use Rattle.vx_disk.specs.Causes.{OnDisks};
 ghost use Rattle.vx_disk.specs.Disks.{Untouched};
@@ -8,6 +8,7 @@ ghost use Rattle.vx_history.specs.Admission.{is_live_link};
 ghost use Rattle.vx_history.specs.LinkForms.{plain_link};
 ghost use Rattle.vx_history.specs.Sending.{by_log};
 ghost use Rattle.vx_history.specs.World.{World};
+ghost use Rattle.vx_history.specs.declared.sender.Action.TheVariants.{Nothing as SendsNothing};
 ghost use Rattle.vx_history.specs.declared.sender.SEvent.TheVariants.{Pump};
 ghost use Rattle.vx_packet.specs.Messages.{IsCounted};
 ghost use Rattle.vx_peers.specs.Senders.{LinkMoved, ReadCause, SendsBy, SendsFrom, SendsRange, SentRange, pump_asks, pumped_at, way_from};
@@ -66,8 +67,8 @@ fn send_range<S: Shelf, N: Net>(
 /// write cannot be read nothing is sent, and the link stays as it was. `site` is the number of the sending site. Also where contents are not told it
 /// sends the updates of those numbers, of whatever writes were read.
 ///
-/// It takes memory for the updates that it sends. Refusals: 7 where a device call failed, 6 where the shelf is down, 22 for a record with
-/// another digest.
+/// It takes memory for the updates that it sends, and is refused only where there are any. Refusals: 7 where a device call failed, 6 where the
+/// shelf is down, 22 for a record with another digest.
 pub fn pump<S: Shelf, N: Net>(
     alloc: Global,
     rvg: &mut Rvg<S>,
@@ -88,6 +89,7 @@ pub fn pump<S: Shelf, N: Net>(
     ensures link { OnErr result (link.new ≡ link.old) }
     ensures unsent { OnErr result (N.flying flight.new ≡ N.flying flight.old) }
     ensures cause { IfErr result (ReadCause rvg.old.core (S.meaning rvg.old.shelf) (S.meaning rvg.new.shelf)) }
+    ensures asks { OnErr result (pump_asks link.old (last_of rvg.old.core) ≢ SendsNothing) }
     ensures core { rvg.new.core ≡ rvg.old.core }
     ensures goes { Goes Nothing (S.meaning rvg.old.shelf) (S.meaning rvg.new.shelf) }
     ensures down { (S.meaning rvg.new.shelf).down ≡ (S.meaning rvg.old.shelf).down }

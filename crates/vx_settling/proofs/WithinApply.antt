@@ -219,7 +219,7 @@ module _ (told : Type 0) (a b : ℕ) (d : Doubted) (may : MayMove a b d.world) (
           (step (burnt_world fuses d.world) (ApplyAt b count c.reached)).said said (apply_says (burnt_world fuses d.world) b count c.reached below up runs receives) reply
           (record {
             next = happened d (ApplyAt b count 0) false;
-            none = borne;
+            borne = borne;
             works = works_apply told a b d may count 0;
             noted = left_noted (happened d (ApplyAt b count 0) false) fuses (happened (noted_as fuses d) (ApplyAt b count c.reached) taken) new taken
                 (burns_kept a b fuses d.world (step d.world (ApplyAt b count 0)).world (λ i. ap (λ (n : Node). n.fuse) (stays.nodes i)) burns) (applied_noted count c.reached taken) (ap (λ (n : Node). n.failing) (stays.nodes b), ap (λ (n : Node). n.group) (stays.nodes b)) left_so;

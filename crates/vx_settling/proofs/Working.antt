@@ -1,6 +1,6 @@
 -- Parts of a line that settles a link, one after another, and how the line ends by them.
 use Rattle.std.proofs.Common.{◌≡◌, ◌∙◌, ◌⊎◌, inl, inr, ◌++◌, ◌+◌, ◌≤◌, ℕ, List, [], ◌∷◌, Bool, true, false, refl, ap, sym, subst, append_assoc}
-use Rattle.std.specs.Prelude.{Some}
+use Rattle.std.specs.Prelude.{◌≢◌, Some}
 use Rattle.vx_model.specs.Content.{Write}
 use Rattle.vx_model.specs.Sites.{is_origin}
 use Rattle.vx_model.specs.declared.limits.TheConstants.{MOST_NUMBER}
@@ -8,7 +8,9 @@ use Rattle.vx_model.specs.declared.no.Counted.TheVariants.{Number}
 use Rattle.vx_model.specs.declared.no.No.{No}
 use Rattle.vx_model.specs.declared.no.No.TheVariants.{Device, Limit, Down as IsOff}
 use Rattle.vx_history.specs.Doubts.{Doubted, Runs, crashed_as, halved, happened}
-use Rattle.vx_history.specs.Events.{packet_at}
+use Rattle.vx_history.specs.Events.{link_step, packet_at}
+use Rattle.vx_history.specs.declared.sender.Action.TheVariants.{Nothing as SendsNothing}
+use Rattle.vx_history.specs.declared.sender.SEvent.TheVariants.{Pump as PumpLink}
 use Rattle.vx_history.specs.Settling.{is_between}
 use Rattle.vx_history.specs.Stops.{IsFused, IsHeardAt, IsOpen}
 use Rattle.vx_history.specs.World.{Node, Packet}
@@ -72,10 +74,10 @@ module _ (told : Type 0) (p s : ℕ) where
     -- ---- one step that stops
 
     -- a read of the log of p failed
-    pub stops_unread : (disk : ℕ) → SettleStops told p s d (Pump p s ∷ []) ((p, disk) ∷ []) (Refused (Device disk)) d
-    stops_unread disk = record {
-      exact = λ tells. IsUnreadIn [] [] (Pump p s) p disk refl refl refl refl refl refl;
-      other = λ untold. record { middle = d; moves = begins p s d may; ends = IsUnread disk refl refl refl };
+    pub stops_unread : (disk : ℕ) → (link_step d.world p s PumpLink).action ≢ SendsNothing → SettleStops told p s d (Pump p s ∷ []) ((p, disk) ∷ []) (Refused (Device disk)) d
+    stops_unread disk asks = record {
+      exact = λ tells. IsUnreadIn [] [] (Pump p s) p disk refl (refl, asks) refl refl refl refl;
+      other = λ untold. record { middle = d; moves = begins p s d may; ends = IsUnread disk asks refl refl refl };
     }
 
     -- a disk failed in a header of p, or its fuse ran out there
@@ -148,7 +150,7 @@ module _ (told : Type 0) (p s : ℕ) where
     ends_then : (middle : Doubted) (fails : Fails) (said : Said) (last : Doubted) → MovesBetween p s d m → EndsBetween p s m middle fails said last → EndsBetween p s d middle fails said last
     ends_then middle fails said last moved (IsStored stored none is leaves) = IsStored stored none is leaves
     ends_then middle fails said last moved (GivesUp why other none is leaves) = GivesUp why other none is leaves
-    ends_then middle fails said last moved (IsUnread disk one is leaves) = IsUnread disk one is leaves
+    ends_then middle fails said last moved (IsUnread disk asks one is leaves) = IsUnread disk asks one is leaves
     ends_then middle fails said last moved (HeaderHalts number disk opens writes one is leaves) = HeaderHalts number disk opens writes one is leaves
     ends_then middle fails said last moved (ApplyHalts disk opens one is leaves) = ApplyHalts disk opens one is leaves
     ends_then middle fails said last moved (HeaderCut number kept taken opens writes fused none is leaves) =

@@ -1,11 +1,11 @@
 -- A world in which the fuses of two sites may have been noted: they may have let calls pass.
-use Rattle.std.specs.Prelude.{◌≡◌, ◌⊎◌, ℕ, List, []}
+use Rattle.std.specs.Prelude.{◌≡◌, ◌⊎◌, ℕ, List}
 use Rattle.vx_model.specs.declared.no.No.{No}
 use Rattle.vx_history.specs.Doubts.{Doubted}
 use Rattle.vx_history.specs.Steps.{burned}
 use Rattle.vx_history.specs.World.{Fuse, World}
 use Rattle.vx_history.specs.declared.event.Event.{Event}
-use Rattle.vx_events.specs.Fails.{Fails}
+use Rattle.vx_events.specs.Fails.{AreBorne, Fails}
 use Rattle.vx_events.specs.declared.said.Said.{Said}
 use Rattle.vx_events.specs.declared.said.Said.TheVariants.{Refused}
 use Rattle.vx_settling.specs.Works.{SettleStops, SettleWorks}
@@ -30,7 +30,7 @@ pub record NotedAs (a b : ℕ) (d e : Doubted) : Type 0 where
 -- a line within one that settles a link did these events
 pub record OnTo (told : Type 0) (a b : ℕ) (d : Doubted) (events : List Event) (fails : Fails) (e : Doubted) : Type 0 where
   pub next : Doubted
-  pub none : fails ≡ []
+  pub borne : AreBorne d.world fails
   pub works : SettleWorks told a b d events next
   pub noted : NotedAs a b next e
 

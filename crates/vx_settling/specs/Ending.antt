@@ -29,8 +29,8 @@ pub data StopsAmong (told : Type 0) (d : Doubted) (events : List Event) (fails :
   -- the fuse of this site ran out in an event
   CutsIn : (e : Event) (site kept : ℕ) (taken : Bool) (middle : Doubted) → ComesTo d events e site middle → IsFused (d.world.nodes site).fuse → fails ≡ []
       → said ≡ Refused IsOff → last ≡ crashed_as (halved middle e site 0) site kept taken → StopsAmong told d events fails said last
-  -- a read of a log failed
-  IsUnreadIn : (before rest : List Event) (e : Event) (site disk : ℕ) → events ≡ before ++ e ∷ rest → ReadsLog e site → Runs d before last
+  -- a read of a log failed, as there was something to send
+  IsUnreadIn : (before rest : List Event) (e : Event) (site disk : ℕ) → events ≡ before ++ e ∷ rest → ReadsLog last.world e site → Runs d before last
       → all_fails before ≡ [] → fails ≡ (site, disk) ∷ [] → said ≡ Refused (Device disk) → StopsAmong told d events fails said last
   -- no number is left for a header, or for records that wait
   LacksNumber : (before rest : List Event) (e : Event) (site : ℕ) → events ≡ before ++ e ∷ rest → TakesNumber last.world e site → Runs d before last

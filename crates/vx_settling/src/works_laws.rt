@@ -1,5 +1,5 @@
 // What parts of a line that settles a link come to, one after another, and how the line ends by them.
-ghost use Rattle.std.specs.Prelude.{◌≡◌, ◌⊎◌, ℕ, ◌+◌, ◌≤◌, ◌∷◌, ◌++◌, Bool, true, false, List, [], Some};
+ghost use Rattle.std.specs.Prelude.{◌≡◌, ◌≢◌, ◌⊎◌, ℕ, ◌+◌, ◌≤◌, ◌∷◌, ◌++◌, Bool, true, false, List, [], Some};
 ghost use Rattle.vx_model.specs.Content.{Write};
 ghost use Rattle.vx_model.specs.Sites.{is_origin};
 ghost use Rattle.vx_model.specs.declared.limits.TheConstants.{MOST_NUMBER};
@@ -7,12 +7,14 @@ ghost use Rattle.vx_model.specs.declared.no.Counted.TheVariants.{Number};
 ghost use Rattle.vx_model.specs.declared.no.No.{No};
 ghost use Rattle.vx_model.specs.declared.no.No.TheVariants.{Device, Limit, Down as IsOff};
 ghost use Rattle.vx_history.specs.Doubts.{Doubted, crashed_as, halved, happened};
-ghost use Rattle.vx_history.specs.Events.{packet_at};
+ghost use Rattle.vx_history.specs.Events.{link_step, packet_at};
 ghost use Rattle.vx_history.specs.Settling.{is_between};
 ghost use Rattle.vx_history.specs.Stops.{IsFused, IsHeardAt, IsOpen};
 ghost use Rattle.vx_history.specs.World.{Packet};
 ghost use Rattle.vx_history.specs.declared.event.Event.{Event};
 ghost use Rattle.vx_history.specs.declared.event.Event.TheVariants.{Apply, Connect, Deliver, Fault, Pump, Tick};
+ghost use Rattle.vx_history.specs.declared.sender.Action.TheVariants.{Nothing as SendsNothing};
+ghost use Rattle.vx_history.specs.declared.sender.SEvent.TheVariants.{Pump as PumpLink};
 ghost use Rattle.vx_script.specs.declared.line.ScriptLine.TheVariants.{Settle};
 ghost use Rattle.vx_events.specs.Facts.{site_number};
 ghost use Rattle.vx_events.specs.Fails.{Fails};
@@ -43,7 +45,7 @@ pub fn settling_works()
     ensures keep_other { (t : Bool) (p s : ℕ) (d : Doubted) → MayMove p s d.world → (number : ℕ) (q : Packet) → IsSent p s q → (t ≡ true → ⊥) → MayTake d.world number q
         → SettleWorks (t ≡ true) p s d (Deliver number ∷ []) (record d { world = kept_with d.world q }) }
     ensures lose_other { (t : Bool) (p s : ℕ) (d : Doubted) → MayMove p s d.world → (number : ℕ) (q : Packet) → IsSent p s q → (t ≡ true → ⊥) → SettleWorks (t ≡ true) p s d (Deliver number ∷ []) d }
-    ensures unread { (t : Bool) (p s : ℕ) (d : Doubted) → MayMove p s d.world → (disk : ℕ) → SettleStops (t ≡ true) p s d (Pump p s ∷ []) ((p, disk) ∷ []) (Refused (Device disk)) d }
+    ensures unread { (t : Bool) (p s : ℕ) (d : Doubted) → MayMove p s d.world → (disk : ℕ) → (link_step d.world p s PumpLink).action ≢ SendsNothing → SettleStops (t ≡ true) p s d (Pump p s ∷ []) ((p, disk) ∷ []) (Refused (Device disk)) d }
     ensures header { (t : Bool) (p s : ℕ) (d : Doubted) → MayMove p s d.world → (number disk : ℕ) → IsOpen (d.world.nodes p) → IsHeardAt d.world number p
         → SettleStops (t ≡ true) p s d (Deliver number ∷ []) ((p, disk) ∷ []) (Refused (Device disk)) (halved d (Deliver number) p disk) }
     ensures header_cut { (t : Bool) (p s : ℕ) (d : Doubted) → MayMove p s d.world → (number kept : ℕ) (taken : Bool) → IsOpen (d.world.nodes p) → IsHeardAt d.world number p

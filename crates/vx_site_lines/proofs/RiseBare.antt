@@ -303,7 +303,7 @@ module _ {R : Type 0} {g : Ghosts R} where
         next = next;
         fails = [];
         done = recover_done (IsTold new) d next s name [] said number
-            (FindsLinks (never_told old.disk_sets.items new.disk_sets.items s before after there changed_up.disk_sets found.untold) first_choice false name d (raw_set s n) k row refl (FromBare bare refl refl) comes_as refl
+            (FindsLinks (never_told old.disk_sets.items new.disk_sets.items s before after there changed_up.disk_sets found.untold) first_choice false name d (raw_set s n) k row refl (FromBare bare refl refl) comes_as tt
             (rises.says ∙ ap (λ (v : SiteView). Recovered rises.last v) (rises.shows next stands_next below) ∙ ap (λ (x : ℕ). Recovered x (linked_view next.world s)) last_is)
             (record { world = refl; after = λ i. refl }));
         stands = stands_next;

@@ -92,7 +92,7 @@ module _ (T : Type 0) (d h : Doubted) (s : ℕ) (c : Choice) (taken : Bool) (nam
       let said_is : (step h.world (RecoverAt s None)).said ≡ IsRecovered (length (h.world.nodes s).log) = ap (λ (o : Outcome). o.said) (recover_step h.world s None below down free) in
       let repeats : RepeatsSaid v s (step h.world (RecoverAt s None)).said said =
       subst (λ (x : EventSaid). RepeatsSaid v s x said) (sym said_is) (says ∙ ap (λ (k : ℕ). Recovered k (linked_view v s)) last_is) in
-      AllDone c taken refl
+      AllDone c taken tt
       (subst (λ (es : List Event). Replies T line s taken d es said) (sym opens.list) (opens.says T said repeats))
       (subst (λ (es : List Event). IsLeft s line taken d (run_as taken d es) (own_disks taken s d.world (happened h (RecoverAt s None) taken))) (sym opens.list) (left_by (RecoverAt s None ∷ [])))
 
@@ -111,7 +111,7 @@ module _ (T : Type 0) (d h : Doubted) (s : ℕ) (c : Choice) (taken : Bool) (nam
   -- disks that tell nothing came up, or were refused
   pub found_ends : (T → ⊥) → (k : Node) (row : ℕ → Link) (said : Said) → ComesUpAs s h.world.sites (h.world.nodes s) k row → said ≡ Recovered k.safe (linked_view (found_linked h s k row).world s)
       → Ends T d line s [] said (own_disks taken s d.world (found_linked h s k row))
-  found_ends never k row said comes says = FindsLinks never c taken name h (h.world.nodes s) k row refl recovering comes refl says (record { world = refl; after = λ i. refl })
+  found_ends never k row said comes says = FindsLinks never c taken name h (h.world.nodes s) k row refl recovering comes tt says (record { world = refl; after = λ i. refl })
 
   pub refused_ends : (T → ⊥) → (why : No) → IsNoDevice why → Ends T d line s [] (Refused why) (own_disks taken s d.world h)
   refused_ends never why other = FindsNone never c taken name h (h.world.nodes s) why refl recovering other refl refl (record { world = refl; after = λ i. refl })

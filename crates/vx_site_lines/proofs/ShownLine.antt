@@ -107,7 +107,7 @@ module _ {R : Type 0} {g : Ghosts R} where
                   size = gave.size;
                   is = λ told. ap (λ bs. HasGot bs) (shown_are (received_content (d.world.nodes k)) v start count bytes gave.size (λ j inside. (shows (told.each s after there)).each j inside));
                 })
-                refl (record { world = refl; after = λ i. refl });
+                tt (record { world = refl; after = λ i. refl });
             counts = tt;
             works = tt;
             calls = tt;

@@ -141,7 +141,7 @@ module _ {R : Type 0} {g : Ghosts R} where
         next = d;
         fails = [];
         done = record {
-          ends = AllDone first_choice false refl (ap (λ (v : SiteView). Shown v) (is seat.below ∙ ap (λ (i : ℕ). linked_view d.world i) (sym seat.number))) (record { world = refl; after = λ i. refl });
+          ends = AllDone first_choice false tt (ap (λ (v : SiteView). Shown v) (is seat.below ∙ ap (λ (i : ℕ). linked_view d.world i) (sym seat.number))) (record { world = refl; after = λ i. refl });
           counts = tt;
           works = tt;
           calls = tt;

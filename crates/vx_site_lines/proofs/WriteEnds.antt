@@ -64,7 +64,7 @@ module _ (told : Type 0) (d : Doubted) (line : ScriptLine) (s : ℕ) (x : Write)
       let waited : Bool = some_below d.world.sites (λ k. is_waited_for k (d.world.links s k)) in
       let said : Said = said_by waited ((d.world.nodes s).safe + 1) in
       let e : Doubted = written_for d s x None in
-      AllDone c false refl
+      AllDone c false tt
       (subst (λ (es : List Event). Replies told line s false d es said) (sym events)
       (subst (λ (o : EventSaid). RepeatsSaid (step d.world event).world s o said) (sym (write_said d.world s x fit can)) (repeats_by (step d.world event).world s waited ((d.world.nodes s).safe + 1))))
       (subst (λ (es : List Event). IsLeft s line false d (run_as false d es) e) (sym events) (record { world = sym (notes (step d.world event).world); after = λ i. refl }))

@@ -8,6 +8,7 @@ use Rattle.vx_disk.specs.Counts.{Rose}
 use Rattle.vx_disk.specs.declared.shelf.Shelf.{Ghosts}
 use Rattle.vx_diskset.specs.declared.disk_set.DiskSet.{DiskSet}
 use Rattle.vx_diskset.specs.DiskSets.{Later}
+use Rattle.vx_events.specs.Fails.{Fails}
 use Rattle.vx_yard.specs.Stands.{AreTold, RoseAll, RoseBy, site_faults, fault_count, times}
 use Rattle.vx_diskset.specs.Stands.{IsToldAt, faults_at}
 use Rattle.vx_yard.proofs.Lists.{get-set_same, get-set_other}
@@ -15,6 +16,10 @@ use Rattle.vx_yard.proofs.Lists.{get-set_same, get-set_other}
 -- no call failed
 pub rose_none : (old new : ℕ → ℕ → ℕ) → ((s d : ℕ) → old s d ≤ new s d) → RoseAll [] old new
 rose_none old new later = record { each = λ s d. omega (arith, later s d) }
+
+-- counts that rose did not fall
+pub rose_less : (fails : Fails) (old new : ℕ → ℕ → ℕ) → RoseAll fails old new → RoseAll [] old new
+rose_less fails old new rose = record { each = λ s d. omega (arith, rose.each s d) }
 
 one_time : (s d s' d' : ℕ) → times ((s, d) ∷ []) s' d' ≤ 1
 one_time s d s' d' = grind (arith, nat_tests)

@@ -281,7 +281,7 @@ module _ {R : Type 0} {g : Ghosts R} where
         fails = [];
         done = record {
           ends = subst (λ (i : ℕ). Ends (IsTold new) d (Crash name pick) i [] Done e) (sym here.number)
-              (AllDone (keeps_k f.count) f.taken refl
+              (AllDone (keeps_k f.count) f.taken tt
               (subst (λ (es : List Event). Replies (IsTold new) (Crash name pick) s f.taken d es Done) (sym ev)
               (subst (λ (o : EventSaid). RepeatsSaid (step (doubt_chosen f.taken d (CrashAt s f.count)).world (CrashAt s f.count)).world s o Done) (sym f.said) refl))
               (subst (λ (es : List Event). IsLeft s (Crash name pick) f.taken d (run_as f.taken d es) e) (sym ev) (record { world = refl; after = λ i. refl })));

@@ -61,7 +61,7 @@ fits_one d s n noted fits =
 -- a line without events is done
 pub none_left : (told : Type 0) (d : Doubted) (line : ScriptLine) (s : ℕ) (said : Said) (v : World) → events_of d.world line first_choice ≡ [] → Replies told line s false d [] said → v ≡ noted s line d.world
     → Ends told d line s [] said (record d { world = v })
-none_left told d line s said v is says leads = AllDone first_choice false refl
+none_left told d line s said v is says leads = AllDone first_choice false tt
     (subst (λ (es : List Event). Replies told line s false d es said) (sym is) says)
     (record {
       world = leads ∙ ap (λ (es : List Event). noted s line (run d.world es)) (sym is) ∙ ap (λ (u : World). noted s line u) (sym (run_world d (events_of d.world line first_choice)));
@@ -73,7 +73,7 @@ pub one_left : (told : Type 0) (d : Doubted) (line : ScriptLine) (s : ℕ) (c : 
     → RepeatsOf told s e (headers_counted d.world e o) said → v ≡ noted s line (headers_counted d.world e o).world → Ends told d line s [] said (record d { world = v })
 one_left told d line s c e o said v is whole at says leads =
     let here : RepeatsOf told s e (step d.world e) said = subst (λ (p : Outcome). RepeatsOf told s e (headers_counted d.world e p) said) (sym at) says in
-    AllDone c false refl
+    AllDone c false tt
     (subst (λ (es : List Event). Replies told line s false d es said) (sym is) (subst (λ (u : World). RepeatsOf told s e (step u e) said) (sym (chosen_world d e)) here))
     (record {
       world = leads ∙ ap (λ (p : Outcome). noted s line (headers_counted d.world e p).world) (sym at) ∙ ap (λ (es : List Event). noted s line (run d.world es)) (sym is)

@@ -19,7 +19,7 @@ returns-clause-pumped g c = λ d k up none told there is flight.
 
 pub returns-clause-stops : goal.returns-clause-stops
 returns-clause-stops g c = λ beside n up none.
-    pump_stops n c.args.rvg.now.core (g.R.Shelf.meaning c.args.rvg.now.shelf) (g.R.Shelf.meaning c.pump.new.rvg.shelf) c.pump.result up c.pump.ensures.down c.pump.ensures.cause
+    pump_stops n c.args.rvg.now.core (g.R.Shelf.meaning c.args.rvg.now.shelf) (g.R.Shelf.meaning c.pump.new.rvg.shelf) c.args.link.now c.pump.result up c.pump.ensures.down c.pump.ensures.cause c.pump.ensures.asks
 
 pub returns-clause-more : goal.returns-clause-more
 returns-clause-more g c = λ beside n up.
