@@ -1,6 +1,6 @@
 // Groups over disks in memory that crash and are imported again.
-use crate::{crash_and_import, crash_and_import_again};
 use crate::volumes::{Told, det, flush, get, group_of, make, plain, put};
+use crate::{crash_and_import, crash_and_import_again};
 use std::alloc::Global;
 use std::test::*;
 use vx_model::OutOfMemory;
@@ -78,10 +78,7 @@ fn imported(alloc: Global, fails: &[u64], tries: u32) -> Result<Told, OutOfMemor
 fn a_refused_import_is_tried_again(rt: HostRuntime) -> Result<(), Fail> {
     let alloc = rt.alloc();
     // A volume of two plexes is made with call 38, and a block of it written and flushed with call 42.
-    for (first, second, once) in [
-        (43, 44, Told::Other),
-        (43, 0, Told::Other),
-    ] {
+    for (first, second, once) in [(43, 44, Told::Other), (43, 0, Told::Other)] {
         assert_eq!(rt; imported(alloc, &[first, second], 1)?, once);
         assert_eq!(rt; imported(alloc, &[first, second], 2)?, Told::Block(0x11));
     }
