@@ -119,11 +119,7 @@ fn name_rvg<S: Shelf>(shelf: &mut S, core: &mut GroupCore, units: &Units) -> Res
 /// Answers 19 exactly where fewer than 65,536 serials are left, else 4 exactly where these may not be such a group, and then nothing has
 /// changed; else 7 only where the count of the disk that it names rose, and 6 only where the shelf is then down. Then memory has the group of
 /// before, or none. It takes no memory.
-pub fn set_rvg_in<S: Shelf>(
-    shelf: &mut S,
-    core: &mut GroupCore,
-    units: &Units,
-) -> Result<(), Stop>
+pub fn set_rvg_in<S: Shelf>(shelf: &mut S, core: &mut GroupCore, units: &Units) -> Result<(), Stop>
     requires stands { GroupStands core.old (S.meaning shelf.old) }
     ensures stands { GroupStands core.new (S.meaning shelf.new) }
     ensures refused { (no : NoValue) → set_rvg_refusal core.old.inner.config units.now ≡ Some no → (result ≡ Err (Refused no)) × (core.new ≡ core.old) × (shelf.new ≡ shelf.old) }

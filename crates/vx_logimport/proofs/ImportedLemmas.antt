@@ -1,5 +1,7 @@
 -- An import by logs as a whole.
 use Rattle.std.proofs.Common.{◌≡◌, inl, inr, ℕ, ◌<◌, ◌≤◌, Bool, true, IsTrue, Option, Some, List, length, refl, sym, ◌∙◌, subst, arith}
+use Rattle.std.specs.Prelude.{Vec}
+use Rattle.std.specs.declared.alloc.Global.{Global}
 use Rattle.vx_disk.specs.Shelf.{Goes, Lawful, Meaning, Nothing}
 use Rattle.vx_disk.proofs.Causing.{Rose_after}
 use Rattle.vx_disk.proofs.Runs.{weaker}
@@ -64,8 +66,8 @@ module _ (old m1 : Meaning) (plan : Plan) (taken : IsTaken old m1 plan) (law : L
   unread law2 reads (Refused other) none = absurd none
   unread law2 reads OutOfMemory is = inl (still old m1 new goes reads, tt)
 
-  module _ (d : Inner) (logs : List Logs) (m2 : Meaning) (read : LogsRead opened logs old m2) (counts : (disk : ℕ) → m2.disk_faults disk ≤ new.disk_faults disk) (are : AreDirtyLogs (length opened.volumes) logs) (tells : (v : ℕ) → DisksTell v old)
-      (law2 : Lawful new) (up1 : IsTrue m1.down → ⊥) (fin : Renewed plan.core plan.stopped plan.sources d m1 new) (keeps : plan.core.committed ≡ true → d.committed ≡ true) (only : Acts (OnMarked opened plan.stopped logs) AnyImage m1 new) where
+  module _ (d : Inner) (logs : Vec Logs Global) (m2 : Meaning) (read : LogsRead opened logs.items old m2) (counts : (disk : ℕ) → m2.disk_faults disk ≤ new.disk_faults disk) (are : AreDirtyLogs (length opened.volumes) logs.items) (tells : (v : ℕ) → DisksTell v old)
+      (law2 : Lawful new) (up1 : IsTrue m1.down → ⊥) (fin : Renewed plan.core plan.stopped plan.sources d m1 new) (keeps : plan.core.committed ≡ true → d.committed ≡ true) (only : Acts (OnMarked opened plan.stopped logs.items) AnyImage m1 new) where
     in_back : (v : ℕ) → v < length opened.volumes → v < length (returned taken.up.readable taken.config).volumes
     in_back v lt = let same : length opened.volumes ≡ length (returned taken.up.readable taken.config).volumes = taken.up.opens.alike.shape.volumes in omega (arith, same, lt)
 
@@ -92,13 +94,13 @@ module _ (old m1 : Meaning) (plan : Plan) (taken : IsTaken old m1 plan) (law : L
       opened = opened;
       taken = taken_new;
       read = record { each = λ v l is. read_behind opened v l.drl old m2 new counts (read.each v l is) };
-      only = only_stopped taken.config opened plan.stopped logs old m1 new unclean goes only;
+      only = only_stopped taken.config opened plan.stopped logs.items old m1 new unclean goes only;
       logs = record { many = let same : length d.config.volumes ≡ length opened.volumes = fin.made.on.shape.volumes in are.many ∙ sym same; plain = are.plain };
-      stand = λ v lt. on_new plan.core d plan.stopped logs m1 new (sound_of plan.core m1 taken.stands) (fit_of plan.core m1 taken.stands) fin.made.on only v
-          (λ o is. subst (λ (q : Option Dirty). VolumeOn opened v (dirty_logs q) m1) is (on_opened old m1 plan taken law law1 goes can tells logs m2 read v))
-          (λ mark. alike_new plan.core d plan.stopped logs m1 new (sound_of plan.core m1 taken.stands) (fit_of plan.core m1 taken.stands) fin.made.on only v (source_at plan.sources v) m1 (fin.mended v (in_opened v lt) mark));
+      stand = λ v lt. on_new plan.core d plan.stopped logs.items m1 new (sound_of plan.core m1 taken.stands) (fit_of plan.core m1 taken.stands) fin.made.on only v
+          (λ o is. subst (λ (q : Option Dirty). VolumeOn opened v (dirty_logs q) m1) is (on_opened old m1 plan taken law law1 goes can tells logs.items m2 read v))
+          (λ mark. alike_new plan.core d plan.stopped logs.items m1 new (sound_of plan.core m1 taken.stands) (fit_of plan.core m1 taken.stands) fin.made.on only v (source_at plan.sources v) m1 (fin.mended v (in_opened v lt) mark));
       flags = λ v lt. unclean v (in_opened v lt);
-      alike = λ v lt mark. alike_new plan.core d plan.stopped logs m1 new (sound_of plan.core m1 taken.stands) (fit_of plan.core m1 taken.stands) fin.made.on only v (source_at plan.sources v) m1 (fin.mended v (in_opened v lt) mark);
+      alike = λ v lt mark. alike_new plan.core d plan.stopped logs.items m1 new (sound_of plan.core m1 taken.stands) (fit_of plan.core m1 taken.stands) fin.made.on only v (source_at plan.sources v) m1 (fin.mended v (in_opened v lt) mark);
     }
 
 -- ---- behind reads of the logs

@@ -63,10 +63,10 @@ pub record ResumedBy (old : Meaning) (k : Marked) (new : Meaning) : Type 0 where
   pub config : Config
   pub opened : Config
   pub taken : TakenUp old new config opened
-  pub read : LogsRead opened k.logs old new
-  pub only : Acts (OnStopped config opened k.logs) AnyImage old new
-  pub logs : AreDirtyLogs (length k.core.config.volumes) k.logs
-  pub stand : (v : ℕ) → v < length k.core.config.volumes → VolumeOn k.core.config v (dirty_logs (drl_at k.logs v)) new
+  pub read : LogsRead opened k.logs.items old new
+  pub only : Acts (OnStopped config opened k.logs.items) AnyImage old new
+  pub logs : AreDirtyLogs (length k.core.config.volumes) k.logs.items
+  pub stand : (v : ℕ) → v < length k.core.config.volumes → VolumeOn k.core.config v (dirty_logs (drl_at k.logs.items v)) new
   pub flags : (v : ℕ) → v < length k.core.config.volumes → is_unsure k.stopped v ≡ stopped config v
   pub alike : (v : ℕ) → v < length k.core.config.volumes → is_unsure k.stopped v ≡ true → AllAlike k.core.config v new
 

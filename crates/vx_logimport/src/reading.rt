@@ -45,8 +45,8 @@ fn read_log<S: Shelf>(
 pub fn read_logs<S: Shelf>(alloc: Global, shelf: &mut S, config: &Config) -> Result<Vec<Logs>, Stop>
     requires checked { IsTrue (is_sound config.now) }
     requires disks { DisksFit config.now.disks (S.meaning shelf.old) }
-    ensures read { IfOk result (λ logs. LogsRead config.now logs (S.meaning shelf.old) (S.meaning shelf.new)) }
-    ensures logs { IfOk result (λ logs. AreDirtyLogs (length config.now.volumes) logs) }
+    ensures read { IfOk result (λ logs. LogsRead config.now logs.items (S.meaning shelf.old) (S.meaning shelf.new)) }
+    ensures logs { IfOk result (λ logs. AreDirtyLogs (length config.now.volumes) logs.items) }
     ensures up { OnOk result (IsTrue (S.meaning shelf.new).down → ⊥) }
     ensures goes { Goes Nothing (S.meaning shelf.old) (S.meaning shelf.new) }
     ensures cause { IfErr result (LoadIsRefused (S.meaning shelf.new)) }

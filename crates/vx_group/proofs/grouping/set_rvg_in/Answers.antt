@@ -30,8 +30,8 @@ returns-then-core-clause-disks g c = no_failing (g.S.Shelf.meaning c.args.shelf.
 pub returns-then-core-clause-cause : goal.returns-then-core-clause-cause
 returns-then-core-clause-cause g c = λ none. none_some _ (sym (late_refusal c.args.core.now.inner.config c.args.units.now (let lt = c.if-core.true in omega (arith, lt))) ∙ none)
 
-pub may_name-requires-clause-sound : goal.may_name-requires-clause-sound
-may_name-requires-clause-sound g c = narrow_sound c.args.core.now (g.S.Shelf.meaning c.args.shelf.now) c.requires.stands
+pub may_name-requires : goal.may_name-requires
+may_name-requires g c = record { sound = narrow_sound c.args.core.now (g.S.Shelf.meaning c.args.shelf.now) c.requires.stands }
 
 pub returns-then-not-may_name-clause-stands : goal.returns-then-not-may_name-clause-stands
 returns-then-not-may_name-clause-stands g c = subst (λ (k : GroupCore). GroupStands k (g.S.Shelf.meaning c.args.shelf.now)) (sym (same_core c.args.core.now c.may_name.new.config c.may_name.ensures.same)) c.requires.stands
