@@ -47,3 +47,19 @@ pub fn crash_and_import_again<R: Rack>(
     revive(&mut rack);
     import_again(alloc, rack, pick)
 }
+
+/// The same over disks that fall in the first try, behind so many of its writes and flushes.
+pub fn cut_and_import<R: Rack>(
+    alloc: Global,
+    group: Group<R>,
+    calls: u64,
+    pick: u64,
+) -> Option<Group<R>> {
+    if !group.is_agreed() {
+        return None;
+    }
+    let mut rack = group.crash(pick);
+    revive(&mut rack);
+    rack.fuse(calls, pick);
+    import_again(alloc, rack, pick)
+}

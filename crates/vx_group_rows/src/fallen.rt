@@ -1,8 +1,10 @@
 // Groups over disks in memory that crash and are imported again.
 use crate::volumes::{Told, det, flush, get, group_of, make, plain, put};
-use crate::{crash_and_import, crash_and_import_again};
+use crate::{crash_and_import, crash_and_import_again, cut_and_import};
 use std::alloc::Global;
 use std::test::*;
+use vx_disk::MemShelf;
+use vx_group::Group;
 use vx_model::OutOfMemory;
 
 #[test]
@@ -51,8 +53,8 @@ fn imports_agree_again(rt: HostRuntime) -> Result<(), Fail> {
     Ok(())
 }
 
-// Whether a group is imported behind a crash, and what its block then has. These calls of the disks fail.
-fn imported(alloc: Global, fails: &[u64], tries: u32) -> Result<Told, OutOfMemory> {
+// A group whose volume of two plexes has a block written and flushed. These calls of the disks fail.
+fn written(alloc: Global, fails: &[u64]) -> Result<Group<MemShelf>, OutOfMemory> {
     let mut group = group_of(alloc, fails, 2)?;
     if make(alloc, &mut group, b"v", &plain(16, 2)) != Told::Volume(0)
         || put(&mut group, 0, 3, 0x11) != Told::Done
@@ -60,17 +62,17 @@ fn imported(alloc: Global, fails: &[u64], tries: u32) -> Result<Told, OutOfMemor
     {
         return Err(OutOfMemory);
     }
-    let back = if tries == 1 {
-        crash_and_import(alloc, group, 0)
-    } else {
-        crash_and_import_again(alloc, group, 0)
-    };
+    Ok(group)
+}
+
+// The block of the group, where it was imported.
+fn block_of(back: Option<Group<MemShelf>>) -> Told {
     match back {
         Some(group) => {
             let mut group = group;
-            Ok(get(&mut group, 0, 3))
+            get(&mut group, 0, 3)
         }
-        None => Ok(Told::Other),
+        None => Told::Other,
     }
 }
 
@@ -79,8 +81,26 @@ fn a_refused_import_is_tried_again(rt: HostRuntime) -> Result<(), Fail> {
     let alloc = rt.alloc();
     // A volume of two plexes is made with call 38, and a block of it written and flushed with call 42.
     for (first, second, once) in [(43, 44, Told::Other), (43, 0, Told::Other)] {
-        assert_eq!(rt; imported(alloc, &[first, second], 1)?, once);
-        assert_eq!(rt; imported(alloc, &[first, second], 2)?, Told::Block(0x11));
+        let group = written(alloc, &[first, second])?;
+        assert_eq!(rt; block_of(crash_and_import(alloc, group, 0)), once);
+        let group = written(alloc, &[first, second])?;
+        assert_eq!(rt;
+            block_of(crash_and_import_again(alloc, group, 0)),
+            Told::Block(0x11)
+        );
+    }
+    Ok(())
+}
+
+#[test]
+fn an_import_that_is_cut_is_done_by_the_next(rt: HostRuntime) -> Result<(), Fail> {
+    let alloc = rt.alloc();
+    for calls in 0..36 {
+        for pick in [0, u64::MAX] {
+            let group = written(alloc, &[])?;
+            let back = cut_and_import(alloc, group, calls, pick);
+            assert_eq!(rt; block_of(back), Told::Block(0x11));
+        }
     }
     Ok(())
 }

@@ -6,7 +6,7 @@
 mod crashes;
 mod untold;
 
-pub use crashes::{crash_and_import, crash_and_import_again, import_again};
+pub use crashes::{crash_and_import, crash_and_import_again, cut_and_import, import_again};
 pub use untold::Untold;
 
 #[cfg(test)]

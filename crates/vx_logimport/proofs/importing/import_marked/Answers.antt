@@ -1,5 +1,9 @@
 -- `import_marked`: its result; what `read_logs` and `renew` ask.
-use Rattle.std.proofs.Common.{inl, inr, refl, sym, ◌∙◌}
+use Rattle.std.proofs.Common.{inl, inr, List, refl, subst, sym, ◌∙◌}
+use Rattle.vx_kept.specs.Keeping.{Acts}
+use Rattle.vx_logs.specs.declared.logs.Logs.{Logs}
+use Rattle.vx_group.specs.Attaches.{AnyImage}
+use Rattle.vx_group.specs.Mends.{MarksTell, OnMarked}
 use Rattle.vx_group.proofs.CallLemmas.{not_down}
 use Rattle.vx_group.proofs.ImportLemmas.{import_early, import_late, serial_left, source_active}
 use Rattle.vx_group.proofs.MendLemmas.{same_Goes}
@@ -32,7 +36,9 @@ pub renew-requires-clause-more : goal.renew-requires-clause-more
 renew-requires-clause-more g c = serial_left (g.S.Shelf.meaning c.args.shelf.now) (g.S.Shelf.meaning c.take_up.new.shelf) c.in-Ok.plan c.in-Ok.ensures.takes
 
 pub renew-requires-clause-tell : goal.renew-requires-clause-tell
-renew-requires-clause-tell g c = told_by (g.S.Shelf.meaning c.args.shelf.now) (g.S.Shelf.meaning c.take_up.new.shelf) (g.S.Shelf.meaning c.read_logs.new.shelf) c.in-Ok.plan c.in-Ok.ensures.takes (g.met.S.Shelf.lawful c.args.shelf.now) (g.met.S.Shelf.lawful c.take_up.new.shelf) (g.met.S.Shelf.lawful c.read_logs.new.shelf) c.take_up.ensures.goes c.read_logs.ensures.goes c.in-Ok-read_logs.logs.items (λ down. not_down c.is_down.result (g.S.Shelf.meaning c.args.shelf.now).down c.is_down.ensures c.if-is_down.false (sym c.take_up.ensures.down ∙ down)) c.in-Ok-read_logs.ensures.read c.requires.can c.requires.tells
+renew-requires-clause-tell g c =
+    subst (λ (ls : List Logs). MarksTell c.in-Ok.plan.core.config c.in-Ok.plan.stopped ls (g.S.Shelf.meaning c.read_logs.new.shelf)) (sym c.as_slice.ensures.value)
+    (told_by (g.S.Shelf.meaning c.args.shelf.now) (g.S.Shelf.meaning c.take_up.new.shelf) (g.S.Shelf.meaning c.read_logs.new.shelf) c.in-Ok.plan c.in-Ok.ensures.takes (g.met.S.Shelf.lawful c.args.shelf.now) (g.met.S.Shelf.lawful c.take_up.new.shelf) (g.met.S.Shelf.lawful c.read_logs.new.shelf) c.take_up.ensures.goes c.read_logs.ensures.goes c.in-Ok-read_logs.logs.items (λ down. not_down c.is_down.result (g.S.Shelf.meaning c.args.shelf.now).down c.is_down.ensures c.if-is_down.false (sym c.take_up.ensures.down ∙ down)) c.in-Ok-read_logs.ensures.read c.requires.can c.requires.tells)
 
 pub returns-in-Err-read_logs : goal.returns-in-Err-read_logs
 returns-in-Err-read_logs g c = unread (g.S.Shelf.meaning c.args.shelf.now) (g.S.Shelf.meaning c.take_up.new.shelf) c.in-Ok.plan c.in-Ok.ensures.takes (g.met.S.Shelf.lawful c.args.shelf.now) (g.met.S.Shelf.lawful c.take_up.new.shelf) c.take_up.ensures.goes (c.are_large.ensures.large c.if-not-are_large.false) c.requires.can (g.S.Shelf.meaning c.read_logs.new.shelf) (g.met.S.Shelf.lawful c.read_logs.new.shelf) c.read_logs.ensures.goes c.in-Err-read_logs.stop c.in-Err-read_logs.ensures.cause
@@ -40,7 +46,8 @@ returns-in-Err-read_logs g c = unread (g.S.Shelf.meaning c.args.shelf.now) (g.S.
 pub returns-in-Ok-renew : goal.returns-in-Ok-renew
 returns-in-Ok-renew g c =
     resumed_by (g.S.Shelf.meaning c.args.shelf.now) (g.S.Shelf.meaning c.read_logs.new.shelf) c.in-Ok.plan (taken_read (g.S.Shelf.meaning c.args.shelf.now) (g.S.Shelf.meaning c.take_up.new.shelf) (g.S.Shelf.meaning c.read_logs.new.shelf) c.in-Ok.plan c.in-Ok.ensures.takes (g.met.S.Shelf.lawful c.args.shelf.now) (g.met.S.Shelf.lawful c.take_up.new.shelf) (g.met.S.Shelf.lawful c.read_logs.new.shelf) c.take_up.ensures.goes c.read_logs.ensures.goes) (g.met.S.Shelf.lawful c.args.shelf.now) (g.met.S.Shelf.lawful c.read_logs.new.shelf) (whole_goes (g.S.Shelf.meaning c.args.shelf.now) (g.S.Shelf.meaning c.take_up.new.shelf) (g.S.Shelf.meaning c.read_logs.new.shelf) c.in-Ok.plan c.in-Ok.ensures.takes (g.met.S.Shelf.lawful c.args.shelf.now) (g.met.S.Shelf.lawful c.take_up.new.shelf) (g.met.S.Shelf.lawful c.read_logs.new.shelf) c.take_up.ensures.goes c.read_logs.ensures.goes) (c.are_large.ensures.large c.if-not-are_large.false) c.requires.can (g.S.Shelf.meaning c.renew.new.shelf) c.renew.new.core c.in-Ok-read_logs.logs (g.S.Shelf.meaning c.read_logs.new.shelf)
-    (reads_old (g.S.Shelf.meaning c.args.shelf.now) (g.S.Shelf.meaning c.take_up.new.shelf) (g.S.Shelf.meaning c.read_logs.new.shelf) c.in-Ok.plan c.in-Ok.ensures.takes (g.met.S.Shelf.lawful c.args.shelf.now) (g.met.S.Shelf.lawful c.take_up.new.shelf) (g.met.S.Shelf.lawful c.read_logs.new.shelf) c.take_up.ensures.goes c.read_logs.ensures.goes c.in-Ok-read_logs.logs.items (λ down. not_down c.is_down.result (g.S.Shelf.meaning c.args.shelf.now).down c.is_down.ensures c.if-is_down.false (sym c.take_up.ensures.down ∙ down)) c.in-Ok-read_logs.ensures.read) (λ d. c.in-Ok-renew.ensures.renews.made.on.disk_faults d) c.in-Ok-read_logs.ensures.logs c.requires.tells (g.met.S.Shelf.lawful c.renew.new.shelf) c.in-Ok-read_logs.ensures.up c.in-Ok-renew.ensures.renews c.in-Ok-renew.ensures.trust c.renew.ensures.only
+    (reads_old (g.S.Shelf.meaning c.args.shelf.now) (g.S.Shelf.meaning c.take_up.new.shelf) (g.S.Shelf.meaning c.read_logs.new.shelf) c.in-Ok.plan c.in-Ok.ensures.takes (g.met.S.Shelf.lawful c.args.shelf.now) (g.met.S.Shelf.lawful c.take_up.new.shelf) (g.met.S.Shelf.lawful c.read_logs.new.shelf) c.take_up.ensures.goes c.read_logs.ensures.goes c.in-Ok-read_logs.logs.items (λ down. not_down c.is_down.result (g.S.Shelf.meaning c.args.shelf.now).down c.is_down.ensures c.if-is_down.false (sym c.take_up.ensures.down ∙ down)) c.in-Ok-read_logs.ensures.read) (λ d. c.in-Ok-renew.ensures.renews.made.on.disk_faults d) c.in-Ok-read_logs.ensures.logs c.requires.tells (g.met.S.Shelf.lawful c.renew.new.shelf) c.in-Ok-read_logs.ensures.up c.in-Ok-renew.ensures.renews c.in-Ok-renew.ensures.trust
+    (subst (λ (ls : List Logs). Acts (OnMarked c.in-Ok.plan.core.config c.in-Ok.plan.stopped ls) AnyImage (g.S.Shelf.meaning c.read_logs.new.shelf) (g.S.Shelf.meaning c.renew.new.shelf)) c.as_slice.ensures.value c.renew.ensures.only)
 
 pub returns-in-Err-renew : goal.returns-in-Err-renew
 returns-in-Err-renew g c =
