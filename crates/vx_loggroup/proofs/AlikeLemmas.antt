@@ -3,7 +3,6 @@ use Rattle.std.proofs.Common.{◌≡◌, ◌⊎◌, ◌∙◌, inl, inr, ℕ, Bo
 use Rattle.vx_config.specs.declared.config.Config.{Config}
 use Rattle.vx_disk.specs.Shelf.{Covers, Goes, Meaning, Nothing, Values, Written, Wrote}
 use Rattle.vx_kept.specs.Groups.{OnSome, OutsideVolumes}
-use Rattle.vx_logs.specs.declared.logs.Logs.{Logs}
 use Rattle.vx_volume.specs.Plexes.{Inside}
 use Rattle.vx_kept.specs.PlexActs.{PlexActs}
 use Rattle.vx_kept.proofs.PlexActing.{only_PlexActs}
@@ -15,7 +14,7 @@ use Rattle.vx_group.proofs.HoldLemmas.{wide_shape}
 use Rattle.vx_grouplogs.specs.On.{ReadsOne}
 use Rattle.vx_logged.specs.Logged.{EachOn, OthersOn}
 use Rattle.vx_logged.proofs.StandLemmas.{each_on}
-use Rattle.vx_loggroup.specs.LoggedVolumes.{AllStand, LoggedStands, OthersStand, VolumeStands}
+use Rattle.vx_loggroup.specs.LoggedVolumes.{AllStand, LoggedStands, OthersStand}
 use Rattle.vx_loggroup.specs.declared.volumes.LoggedVolume.{LoggedVolume}
 
 module _ (W : Values) (c d : GroupCore) (m m' : Meaning) (goes : Goes W (inner_meaning (wide c) m) (inner_meaning (wide d) m')) where
