@@ -110,6 +110,20 @@ fn each_call_that_names_them_is_cut(rt: HostRuntime) -> Result<(), Fail> {
     Ok(())
 }
 
+// The group that a deport gives back which is refused for the second disk.
+fn given_back(group: Group<MemShelf>) -> Option<Group<MemShelf>> {
+    match group.deport() {
+        Ok(_) => None,
+        Err((group, stop)) => {
+            if told_of(stop) == Told::Device(1) {
+                Some(group)
+            } else {
+                None
+            }
+        }
+    }
+}
+
 #[test]
 fn a_refused_deport_gives_the_group_back(rt: HostRuntime) -> Result<(), Fail> {
     let alloc = rt.alloc();
@@ -118,17 +132,17 @@ fn a_refused_deport_gives_the_group_back(rt: HostRuntime) -> Result<(), Fail> {
     assert_eq!(rt; set(&mut group, 0, 1, 2), Told::Done);
     assert_eq!(rt; put(&mut group, 2, 3, 0x11), Told::Done);
     fail_both(&mut group, true);
-    match group.deport() {
-        Ok(_) => assert!(rt; false),
-        Err((group, stop)) => {
-            let mut group = group;
-            assert_eq!(rt; told_of(stop), Told::Device(1));
-            assert_eq!(rt; named(group.config()), is);
-            fail_both(&mut group, false);
-            assert_eq!(rt; get(&mut group, 2, 3), Told::Block(0x11));
-            assert_eq!(rt; put(&mut group, 2, 3, 0x22), Told::Done);
-            assert_eq!(rt; behind(alloc, group, u64::MAX), (true, is));
+    let mut group = match given_back(group) {
+        Some(group) => group,
+        None => {
+            assert!(rt; false);
+            return Ok(());
         }
-    }
+    };
+    assert_eq!(rt; named(group.config()), is);
+    fail_both(&mut group, false);
+    assert_eq!(rt; get(&mut group, 2, 3), Told::Block(0x11));
+    assert_eq!(rt; put(&mut group, 2, 3, 0x22), Told::Done);
+    assert_eq!(rt; behind(alloc, group, u64::MAX), (true, is));
     Ok(())
 }
