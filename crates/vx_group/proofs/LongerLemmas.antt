@@ -18,10 +18,11 @@ use Rattle.vx_layout.specs.Made.{made_plex, with_volume}
 use Rattle.vx_layout.specs.Places.{place, place_or, plex_in}
 use Rattle.vx_volume.specs.Plexes.{SomeActive, active, active_or}
 use Rattle.vx_kept.specs.Choice.{chosen, live, live_or}
-use Rattle.vx_kept.specs.Keeping.{AllOn, Extends, MayBeNext}
+use Rattle.vx_kept.specs.Keeping.{AllOn, Extends, MayBeNext, name_or, volume_name}
+use Rattle.vx_kept.specs.LogRuns.{log_trusted, trusted_or}
 use Rattle.vx_kept.proofs.Narrower.{sound_chosen}
 use Rattle.vx_kept.proofs.RunLemmas.{run_same, trust_from}
-use Rattle.vx_maplog.specs.Logs.{log_of, log_or}
+use Rattle.vx_maplog.specs.Logs.{log_in, log_of, log_or}
 
 pub get_front : {A : Type 0} (xs ys : List A) (n : ℕ) → n < length xs → slice_get (xs ++ ys) n ≡ slice_get xs n
 get_front [] ys n lt = absurd (omega (arith, lt))
@@ -60,13 +61,29 @@ module _ (c : Config) (v : VolumeEntry) where
   pub logs_more : (w : ℕ) (log : VolumeLog) → w < length c.volumes → log_of more w log ≡ log_of c w log
   logs_more w log lt = ap (log_or log) (get_front c.volumes (v ∷ []) w lt)
 
-  pub longer_extends : Extends more c
-  longer_extends = record {
+  pub names_more : (w : ℕ) → w < length c.volumes → volume_name more w ≡ volume_name c w
+  names_more w lt = ap name_or (get_front c.volumes (v ∷ []) w lt)
+
+  -- no log of the last volume is trusted
+  abbrev LogsLost : Type 0
+  LogsLost = (log : VolumeLog) → trusted_or (log_in log v) ≡ false
+
+  beyond_more : LogsLost → (w : ℕ) (log : VolumeLog) → length c.volumes ≤ w → log_trusted more w log ≡ false
+  unfolding log_trusted
+  beyond_more lost w log past = elim (cases_eq w (length c.volumes)) [
+    | inl at ↦ ap (λ (x : ℕ). trusted_or (log_or log (slice_get more.volumes x))) at ∙ ap (λ (o : Option VolumeEntry). trusted_or (log_or log o)) (get_end c.volumes v) ∙ lost log
+    | inr other ↦ ap (λ (o : Option VolumeEntry). trusted_or (log_or log o)) (slice_get_past more.volumes w (omega (arith, longer_count, past, other)))
+  ]
+
+  pub longer_extends : LogsLost → Extends more c
+  longer_extends lost = record {
     volumes = omega (arith, longer_count);
+    names = names_more;
     blocks = blocks_more;
     place = place_more;
     logs = λ w log lt. run_same more c w w log (logs_more w log lt);
     trusted = λ w log lt is. trust_from more c w w log (logs_more w log lt) is;
+    beyond = beyond_more lost;
   }
 
   module _ (on : AllOn c) (here : (p : ℕ) → IsTrue (live_or (slice_get v.plexes p)) → IsTrue (active_or (slice_get v.plexes p))) where
@@ -94,9 +111,9 @@ module _ (c : Config) (v : VolumeEntry) where
     }
 
     module _ (sound : is_sound more ≡ true) where
-      pub longer_follows : MayBeNext c more
-      longer_follows = record {
-        shape = longer_extends;
+      pub longer_follows : LogsLost → MayBeNext c more
+      longer_follows lost = record {
+        shape = longer_extends lost;
         serial = refl;
         narrows = λ w p lt is. on.each w p (sym (live_more w p lt) ∙ is);
         some = λ w lt. (chosen more w, sound_chosen more sound w lt);

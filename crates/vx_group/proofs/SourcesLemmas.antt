@@ -38,7 +38,7 @@ tried_by c v source p device old new (Err Down) down = down
 
 -- no call was made
 pub no_attaches : (v p : ℕ) (f : Option Missed) (core : Inner) (m : Meaning) → Lawful m → InnerStands core m → Attaches v p f core core m m
-no_attaches v p f core m lawful stands = narrows_attaches v p f core core m m lawful stands (same_narrows core core m refl refl refl) (λ w q apart. refl)
+no_attaches v p f core m lawful stands = narrows_attaches v p f core core m m lawful stands (same_narrows core core m refl refl refl) (none_parts core.config) (λ w q apart. refl)
 
 pub sources_start : (core : Inner) (v p : ℕ) (f : Option Missed) (device : ℕ) (m : Meaning) → Lawful m → InnerStands core m → (IsTrue m.down → ⊥) → SourcesTried core v p f 0 device m m
 sources_start core v p f device m lawful stands up = record {
