@@ -34,6 +34,8 @@ use Rattle.vx_group.proofs.DetLemmas.{bit_other, no_flags}
 use Rattle.vx_group.proofs.DetachLemmas.{zero_bit}
 use Rattle.vx_group.proofs.OpeningLemmas.{Present, closed, open_Stands, open_on, open_others, open_shape, open_sound, open_wider, opened, present}
 use Rattle.vx_group.proofs.Standing.{apart_of_core, kept_of, low_Stands, sound_of}
+use Rattle.vx_group.proofs.LoseLemmas.{none_parts, then_parts}
+use Rattle.vx_group.specs.Loses.{SameParts}
 
 -- ---- two in a row
 

@@ -25,7 +25,7 @@ use Rattle.vx_group.specs.Holding.{GroupStands, config_by, volumes_by, wide}
 use Rattle.vx_group.specs.Makes.{AreZero, StayAsWere}
 use Rattle.vx_group.specs.Moves.{Narrows}
 use Rattle.vx_group.specs.Nexts.{Added, IsNextConfig}
-use Rattle.vx_group.specs.Quiesces.{GivenBack, NoVolume, QuiescesBy, SameParts}
+use Rattle.vx_group.specs.Quiesces.{GivenBack, NoVolume, QuiescesBy}
 use Rattle.vx_group.specs.Stands.{InnerStands, volume_faults, inner_meaning}
 use Rattle.vx_group.specs.declared.group_core.GroupCore.{GroupCore}
 use Rattle.vx_group.specs.declared.group_core.Held.{Held}
@@ -38,6 +38,7 @@ use Rattle.vx_group.proofs.MakeLemmas.{config_is, volumes_Goes}
 use Rattle.vx_group.proofs.QuiesceLemmas.{both_parts, or_failed, same_parts}
 use Rattle.vx_group.proofs.Standing.{apart_of_core}
 use Rattle.vx_group.proofs.ThroughLemmas.{released_active, released_goes, released_shape}
+use Rattle.vx_group.specs.Loses.{SameParts}
 
 -- ---- a volume that is made
 

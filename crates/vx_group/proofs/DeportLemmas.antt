@@ -28,7 +28,7 @@ use Rattle.vx_kept.specs.Trusts.{Trusts}
 use Rattle.vx_group.specs.Blames.{Blames, StopsByDevice}
 use Rattle.vx_group.specs.Deports.{CleanCommitted, Closes, CommitCloses, CommitMissed, Deported, IsVolumeOf}
 use Rattle.vx_group.specs.Moves.{Narrows}
-use Rattle.vx_group.specs.Quiesces.{GivenBack, NoVolume, Quiesced, Quiesces, SameParts}
+use Rattle.vx_group.specs.Quiesces.{GivenBack, NoVolume, Quiesced, Quiesces}
 use Rattle.vx_group.specs.Settled.{SameBut}
 use Rattle.vx_group.specs.Stands.{InnerStands}
 use Rattle.vx_group.specs.declared.inner.Inner.{Inner}
@@ -36,8 +36,10 @@ use Rattle.vx_copies.specs.Commits.{MoreFailed}
 use Rattle.vx_group.proofs.FailingLemmas.{failing_from, no_failing, then_failing}
 use Rattle.vx_group.proofs.CallLemmas.{blames_later}
 use Rattle.vx_group.proofs.DetachLemmas.{left_Narrows, left_Stands}
-use Rattle.vx_group.proofs.QuiesceLemmas.{both_parts, both_quiesce, quiet}
+use Rattle.vx_group.proofs.QuiesceLemmas.{both_parts, both_quiesce, quiet, same_parts}
 use Rattle.vx_group.proofs.Standing.{apart_of_core, sound_of}
+use Rattle.vx_group.specs.Loses.{SameParts}
+use Rattle.vx_group.proofs.LoseLemmas.{but_parts}
 
 clash_of : (b : Bool) → b ≡ true → b ≡ false → ⊥
 clash_of b is off = let clash : true ≡ false = sym is ∙ off in cc

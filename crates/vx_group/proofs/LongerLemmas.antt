@@ -75,8 +75,21 @@ module _ (c : Config) (v : VolumeEntry) where
     | inr other ↦ ap (λ (o : Option VolumeEntry). trusted_or (log_or log o)) (slice_get_past more.volumes w (omega (arith, longer_count, past, other)))
   ]
 
-  pub longer_extends : LogsLost → Extends more c
-  longer_extends lost = record {
+  -- each plex of the last volume that takes part is ACTIVE
+  abbrev PlexesOn : Type 0
+  PlexesOn = (p : ℕ) → IsTrue (live_or (slice_get v.plexes p)) → IsTrue (active_or (slice_get v.plexes p))
+
+  fresh_more : PlexesOn → (w p : ℕ) → length c.volumes ≤ w → IsTrue (live more w p) → IsTrue (active more w p)
+  unfolding live active
+  fresh_more here w p past is = elim (cases_eq w (length c.volumes)) [
+    | inl at ↦ ap (λ (x : ℕ). active_or (plex_in (slice_get more.volumes x) p)) at ∙ ap (λ (o : Option VolumeEntry). active_or (plex_in o p)) (get_end c.volumes v)
+        ∙ here p (sym (ap (λ (x : ℕ). live_or (plex_in (slice_get more.volumes x) p)) at ∙ ap (λ (o : Option VolumeEntry). live_or (plex_in o p)) (get_end c.volumes v)) ∙ is)
+    | inr other ↦ absurd (let none : live_or (plex_in (slice_get more.volumes w) p) ≡ false = ap (λ (o : Option VolumeEntry). live_or (plex_in o p)) (slice_get_past more.volumes w (omega (arith, longer_count, past, other))) in
+        let clash : false ≡ true = sym none ∙ is in cc)
+  ]
+
+  pub longer_extends : LogsLost → PlexesOn → Extends more c
+  longer_extends lost here = record {
     volumes = omega (arith, longer_count);
     names = names_more;
     blocks = blocks_more;
@@ -84,36 +97,22 @@ module _ (c : Config) (v : VolumeEntry) where
     logs = λ w log lt. run_same more c w w log (logs_more w log lt);
     trusted = λ w log lt is. trust_from more c w w log (logs_more w log lt) is;
     beyond = beyond_more lost;
+    fresh = fresh_more here;
   }
 
-  module _ (on : AllOn c) (here : (p : ℕ) → IsTrue (live_or (slice_get v.plexes p)) → IsTrue (active_or (slice_get v.plexes p))) where
-    last_on : (p : ℕ) → IsTrue (live more (length c.volumes) p) → IsTrue (active more (length c.volumes) p)
-    unfolding live active
-    last_on p is =
-        ap (λ (o : Option VolumeEntry). active_or (plex_in o p)) (get_end c.volumes v)
-        ∙ here p (sym (ap (λ (o : Option VolumeEntry). live_or (plex_in o p)) (get_end c.volumes v)) ∙ is)
-
-    none_past : (w p : ℕ) → length more.volumes ≤ w → IsTrue (live more w p) → ⊥
-    unfolding live
-    none_past w p le is =
-        let none : live_or (plex_in (slice_get more.volumes w) p) ≡ false = ap (λ (o : Option VolumeEntry). live_or (plex_in o p)) (slice_get_past more.volumes w le) in
-        let clash : false ≡ true = sym none ∙ is in cc
-
+  module _ (on : AllOn c) (here : PlexesOn) where
     pub longer_on : AllOn more
     longer_on = record {
       each = λ w p is. elim (cases_lt w (length c.volumes)) [
         | inl lt ↦ active_more w p lt ∙ on.each w p (sym (live_more w p lt) ∙ is)
-        | inr le ↦ elim (cases_eq w (length c.volumes)) [
-          | inl at ↦ subst (λ (x : ℕ). IsTrue (active more x p)) (sym at) (last_on p (subst (λ (x : ℕ). IsTrue (live more x p)) at is))
-          | inr other ↦ absurd (none_past w p (omega (arith, longer_count, le, other)) is)
-        ]
+        | inr past ↦ fresh_more here w p past is
       ];
     }
 
     module _ (sound : is_sound more ≡ true) where
       pub longer_follows : LogsLost → MayBeNext c more
       longer_follows lost = record {
-        shape = longer_extends lost;
+        shape = longer_extends lost here;
         serial = refl;
         narrows = λ w p lt is. on.each w p (sym (live_more w p lt) ∙ is);
         some = λ w lt. (chosen more w, sound_chosen more sound w lt);

@@ -48,6 +48,7 @@ use Rattle.vx_group.proofs.CallLemmas.{narrows_Goes}
 use Rattle.vx_group.proofs.LongerLemmas.{longer_count, made_on, sound_disks}
 use Rattle.vx_group.proofs.ShapeLemmas.{MayMake, fresh_name, may_make}
 use Rattle.vx_group.proofs.Standing.{apart_of_core}
+use Rattle.vx_group.specs.Loses.{SameParts}
 
 -- ---- the plan
 

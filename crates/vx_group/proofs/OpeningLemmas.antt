@@ -180,6 +180,7 @@ module _ (c : Config) (v p : ℕ) (there : Present c v p) where
       logs = λ w log lt. kin.shape.logs w log (there_volume w lt) ∙ sym (open_shape.logs w log);
       trusted = λ w log lt is. trust_from c d w w log (sym (stated_logs v p Active false c w log)) (kin.shape.trusted w log (there_volume w lt) is);
       beyond = λ w log past. kin.shape.beyond w log (let same = open_shape.volumes in omega (arith, same, past));
+      fresh = λ w q past is. kin.shape.fresh w q (let same = open_shape.volumes in omega (arith, same, past)) is;
     };
     on = λ w q lt is. open_wider w q (kin.on w q (there_volume w lt) is);
     some = λ w lt. kin.some w (there_volume w lt);

@@ -20,10 +20,10 @@ use Rattle.vx_group.specs.Blames.{Blames, MarksUnsure}
 use Rattle.vx_group.specs.Copying.{NoMember}
 use Rattle.vx_group.specs.Deports.{IsVolumeOf}
 use Rattle.vx_group.specs.Moves.{AllFlushed, Narrows}
-use Rattle.vx_group.specs.Quiesces.{AnyFailed, GivenBack, GoesOnBy, NoVolume, QuiesceEnds, Quiesced, Quiesces, SameParts}
+use Rattle.vx_group.specs.Quiesces.{AnyFailed, GivenBack, GoesOnBy, NoVolume, QuiesceEnds, Quiesced, Quiesces}
 use Rattle.vx_group.specs.Stands.{InnerStands}
 use Rattle.vx_group.specs.declared.inner.Inner.{Inner}
-use Rattle.vx_group.specs.Loses.{LosesPlexes}
+use Rattle.vx_group.specs.Loses.{LosesPlexes, SameParts}
 use Rattle.vx_group.proofs.FailingLemmas.{no_failing}
 use Rattle.vx_group.proofs.LoseLemmas.{loses_none, loses_same, none_parts, then_loses, then_parts}
 use Rattle.vx_group.proofs.CopyLemmas.{loose_Acts, sees_none, sees_wider}

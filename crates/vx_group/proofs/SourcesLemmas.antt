@@ -20,6 +20,7 @@ use Rattle.vx_group.proofs.AttachLemmas.{narrows_attaches, then_attaches}
 use Rattle.vx_group.proofs.RegainLemmas.{same_narrows}
 use Rattle.vx_group.proofs.Standing.{some_active, sound_of}
 use Rattle.vx_group.proofs.UsesLemmas.{blamed_before, blamed_by, blamed_later}
+use Rattle.vx_group.proofs.LoseLemmas.{none_parts}
 
 -- a configuration in which plexes lie on the same disks
 pub copy_by : {T : Type 0} (c e : Config) (v source p : ℕ) (old new : Meaning) → ((x q u : ℕ) → uses e x q u ≡ uses c x q u) → (r : Result T ShelfError) → CopyCause e v source p old new r → CopyCause c v source p old new r

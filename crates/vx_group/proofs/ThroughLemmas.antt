@@ -1,5 +1,5 @@
 -- Calls of a group behind the commit that detaches the plex that is held back.
-use Rattle.std.proofs.Common.{◌≡◌, inl, inr, ⊎_elim, ℕ, ◌≤◌, true, false, IsTrue, Option, Some, None, List, Result, Ok, Err, refl, ap, sym, ◌∙◌, subst, arith}
+use Rattle.std.proofs.Common.{Err, IsTrue, List, None, Ok, Option, Result, Some, ap, arith, false, inl, inr, length, refl, subst, sym, true, ℕ, ⊎_elim, ◌∙◌, ◌≡◌, ◌≤◌}
 use Rattle.vx_disk.specs.Causes.{Cause}
 use Rattle.vx_disk.specs.Counts.{Rose}
 use Rattle.vx_disk.specs.Shelf.{Goes, Lawful, Meaning, Nothing, Or, Values}
@@ -17,17 +17,17 @@ use Rattle.vx_fmr.specs.Missed.{Missed}
 use Rattle.vx_volume.specs.Plexes.{SomeActive, active, uses}
 use Rattle.vx_volume.specs.Volumes.{PlexBlamed}
 use Rattle.vx_kept.specs.Commits.{Member}
-use Rattle.vx_kept.specs.Keeping.{Acts, SameShape, Sees}
+use Rattle.vx_kept.specs.Keeping.{Acts, SameShape, Sees, volume_name}
 use Rattle.vx_kept.specs.States.{whole_of}
-use Rattle.vx_kept.proofs.Chosen.{active_volumes, alike_shape}
-use Rattle.vx_kept.proofs.StateLemmas.{same_shape, then_shape}
+use Rattle.vx_kept.proofs.Chosen.{active_volumes, alike_shape, names_volumes}
+use Rattle.vx_kept.proofs.StateLemmas.{same_shape, stated_shape, then_shape}
 use Rattle.vx_kept.proofs.Steps.{both_Acts, wide_Acts}
 use Rattle.vx_group.specs.Attaches.{AnyImage, Attaches, HasOther, OnMissed}
 use Rattle.vx_group.specs.Calls.{GroupAttaches, GroupNarrows, members_by}
 use Rattle.vx_group.specs.Copying.{NoMember}
 use Rattle.vx_group.specs.GivesUp.{EachBlamed, GivesUp}
 use Rattle.vx_group.specs.Holding.{GroupStands, HeldAgain, HeldBack, config_by, wide}
-use Rattle.vx_group.specs.Loses.{LosesPlexes}
+use Rattle.vx_group.specs.Loses.{LosesPlexes, SameParts}
 use Rattle.vx_group.specs.Moves.{Narrows}
 use Rattle.vx_group.specs.Regains.{HoldsPlex, Regains}
 use Rattle.vx_group.specs.Stands.{InnerStands, volume_faults, inner_meaning}
@@ -41,6 +41,7 @@ use Rattle.vx_group.proofs.FailingLemmas.{then_failing}
 use Rattle.vx_group.proofs.HoldLemmas.{back_Stands, back_others, back_wide, e_volumes, narrow_wider, none_Stands, wide_none}
 use Rattle.vx_group.proofs.OpeningLemmas.{here_or_apart}
 use Rattle.vx_group.proofs.UsesLemmas.{blamed_by, blamed_later, uses_stated, uses_volumes}
+use Rattle.vx_group.proofs.LoseLemmas.{then_parts}
 
 -- ---- the commit itself
 

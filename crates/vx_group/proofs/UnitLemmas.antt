@@ -1,11 +1,11 @@
 -- Calls leave the units of a shelf as they are.
-use Rattle.std.proofs.Common.{◌∙◌, refl}
-use Rattle.vx_disk.specs.Moves.{Says}
-use Rattle.vx_disk.specs.Shelf.{Goes, Meaning, Values}
+use Rattle.std.proofs.Common.{inl, inr, refl, ◌∙◌}
+use Rattle.vx_disk.specs.Moves.{Anything, Says}
+use Rattle.vx_disk.specs.Shelf.{Goes, Meaning, Nothing, Values}
 use Rattle.vx_kept.specs.Keeping.{Acts}
 use Rattle.vx_group.specs.Creates.{SameUnits}
 use Rattle.vx_group.specs.Makes.{MakesBeside}
-use Rattle.vx_group.specs.declared.group_core.GroupCore.{GroupCore}
+use Rattle.vx_config.specs.declared.config.Config.{Config}
 
 pub same_units : (m : Meaning) → SameUnits m m
 same_units m = record { units = refl; size = λ u. refl }

@@ -11,7 +11,7 @@ use Rattle.vx_volume.specs.Volumes.{PlexFlushed}
 use Rattle.vx_kept.specs.Cleans.{is_unsure}
 use Rattle.vx_kept.specs.Keeping.{Acts, SameShape, Sees}
 use Rattle.vx_group.specs.Copying.{NoMember}
-pub use Rattle.vx_group.specs.Loses.{LosesPlexes, SameParts}
+use Rattle.vx_group.specs.Loses.{LosesPlexes, SameParts}
 use Rattle.vx_group.specs.Stands.{InnerStands}
 use Rattle.vx_group.specs.declared.inner.Inner.{Inner}
 

@@ -130,6 +130,7 @@ impl<S: Shelf> Group<S> {
         ensures below { SameUnits (S.meaning self.old.shelf) (S.meaning self.new.shelf) }
         ensures parts { SameParts self.old.core.inner.config self.new.core.inner.config }
         ensures held { OnOk result (self.new.core.held ≡ None) }
+        ensures up { OnOk result (IsTrue (S.meaning self.new.shelf).down → ⊥) }
         ensures newest { OnOk result (IsCommitted self.new.core.inner.config (S.meaning self.new.shelf)) }
         ensures ends { make_refusal self.old.core.inner.config name.now want.now ≡ None → MakeEnds name.now want.now self.old.core.inner self.new.core.inner (S.meaning self.old.shelf) (S.meaning self.new.shelf) result }
         ensures trust { OnOk result (self.old.core.inner.committed ≡ true → self.new.core.inner.committed ≡ true) }
@@ -219,6 +220,7 @@ impl<S: Shelf> Group<S> {
     pub fn deport(self) -> Result<S, (Group<S>, Stop)>
         ensures limit { greatest - margin < self.core.inner.config.serial → IsFull self.core self.shelf (λ g. g.core) (λ g. g.shelf) result }
         ensures ends { GroupDeported self.core (S.meaning self.shelf) (λ s. S.meaning s) (λ g. g.core) (λ g. g.shelf) result }
+        ensures up { IfOk result (λ s. IsTrue (S.meaning s).down → ⊥) }
         ensures back { GivesBack self.core (S.meaning self.shelf) (λ s. S.meaning s) (λ g. g.core) (λ g. g.shelf) result }
         ensures can { GroupCanImport self.core.inner (λ s. S.meaning s) result }
         ensures cause { self.core.inner.config.serial ≤ greatest - margin → DeportStops (S.meaning self.shelf) (λ s. S.meaning s) (λ g. g.shelf) result }

@@ -77,6 +77,7 @@ fn add_last<S: Shelf>(shelf: &mut S, core: &mut Inner, next: Config) -> Result<(
     ensures stands { InnerStands core.new (S.meaning shelf.new) }
     ensures stays { StayAsWere core.old core.new (S.meaning shelf.old) (S.meaning shelf.new) }
     ensures adds { Adds core.old core.new next (S.meaning shelf.new) result }
+    ensures up { OnOk result (IsTrue (S.meaning shelf.new).down → ⊥) }
     ensures parts { SameParts core.old.config core.new.config }
     ensures newest { OnOk result (IsCommitted core.new.config (S.meaning shelf.new)) }
     ensures beside { Acts (ZerosOn next (length core.old.config.volumes)) Anything (S.meaning shelf.old) (S.meaning shelf.new) }
@@ -121,6 +122,7 @@ fn add<S: Shelf>(shelf: &mut S, core: &mut Inner, next: Config) -> Result<(), Sh
     ensures stands { InnerStands core.new (S.meaning shelf.new) }
     ensures stays { StayAsWere core.old core.new (S.meaning shelf.old) (S.meaning shelf.new) }
     ensures adds { Adds core.old core.new next (S.meaning shelf.new) result }
+    ensures up { OnOk result (IsTrue (S.meaning shelf.new).down → ⊥) }
     ensures parts { SameParts core.old.config core.new.config }
     ensures newest { OnOk result (IsCommitted core.new.config (S.meaning shelf.new)) }
     ensures beside { MakesBeside core.old.config (S.meaning shelf.old) (S.meaning shelf.new) }
@@ -161,6 +163,7 @@ pub fn make_in<S: Shelf>(
     ensures ends { make_refusal core.old.inner.config name.now want.now ≡ None → MakeEnds name.now want.now core.old.inner core.new.inner (S.meaning shelf.old) (S.meaning shelf.new) result }
     ensures parts { SameParts core.old.inner.config core.new.inner.config }
     ensures held { OnOk result (core.new.held ≡ None) }
+    ensures up { OnOk result (IsTrue (S.meaning shelf.new).down → ⊥) }
     ensures newest { OnOk result (IsCommitted core.new.inner.config (S.meaning shelf.new)) }
     ensures trust { OnOk result (core.old.inner.committed ≡ true → core.new.inner.committed ≡ true) }
     ensures whole { OnOk result ((core.new.inner.committed ≡ true) ⊎ HasFailed core.new.inner.config.disks) }

@@ -7,11 +7,11 @@ ghost use Rattle.vx_group.specs.Blames.{Blames};
 ghost use Rattle.vx_group.specs.GivesUp.{NoCommit};
 ghost use Rattle.vx_group.specs.Holding.{GroupStands, wide};
 ghost use Rattle.vx_group.specs.Moves.{Narrows};
-ghost use Rattle.vx_group.specs.Quiesces.{SameParts};
 ghost use Rattle.vx_group.specs.Stands.{InnerStands};
 ghost use Rattle.vx_kept.specs.Commits.{IsCommitted};
 ghost use Rattle.vx_kept.specs.States.{stale_at};
 ghost use Rattle.vx_volume.specs.Plexes.{active};
+ghost use Rattle.vx_group.specs.Loses.{SameParts};
 
 use crate::detaching::detach;
 use crate::group_core::GroupCore;

@@ -2,6 +2,7 @@
 use Rattle.std.proofs.Common.{◌≡◌, ◌⊎◌, inl, inr, ℕ, ◌+◌, ◌<◌, ◌≤◌, Bool, true, false, IsTrue, Option, Some, None, List, [], ◌∷◌, ◌++◌, length, eqb, refl, ap, sym, ◌∙◌, subst, arith}
 use Rattle.std.specs.Prelude.{◌==◌, if◌then◌else◌, Contains, Result, Ok, Err, slice_get}
 use Rattle.std.proofs.lemmas.Bool.{cases_eq, cases_lt, eq-eqb, eqb-true}
+use Rattle.std.proofs.lemmas.List.{length-append}
 use Rattle.std.proofs.lemmas.Option.{slice_get_past}
 use Rattle.vx_model.specs.Content.{zero_block}
 use Rattle.vx_model.specs.declared.errors.Stop.{Stop}
@@ -18,7 +19,7 @@ use Rattle.vx_config.specs.declared.entry.VolumeEntry.{VolumeEntry}
 use Rattle.vx_layout.specs.Places.{place}
 use Rattle.vx_layout.specs.declared.shape.Shape.{Shape}
 use Rattle.vx_volume.specs.Plexes.{Inside, active}
-use Rattle.vx_kept.specs.Groups.{OnSome, group_meaning, seen}
+use Rattle.vx_kept.specs.Groups.{OnSome, PlacesApart, group_meaning, seen}
 use Rattle.vx_group.specs.Calls.{GroupStays}
 use Rattle.vx_group.specs.Creates.{SameUnits}
 use Rattle.vx_group.specs.Holding.{GroupStands, config_by, volumes_by, wide}
@@ -35,8 +36,13 @@ use Rattle.vx_grouped.specs.Added.{VolumeLeaves, note_added}
 use Rattle.vx_grouped.specs.Ends.{CallLeaves}
 use Rattle.vx_grouped.specs.GroupNotes.{GroupLies, IsGroupAt, IsGroupCut, note_done, note_refused}
 use Rattle.vx_grouped.specs.Plain.{BlockMay, HoldsPlain}
-use Rattle.vx_grouped.proofs.KeepLemmas.{call_cut, call_up}
+use Rattle.vx_grouped.proofs.KeepLemmas.{call_cut, call_none, call_up}
 use Rattle.vx_grouped.proofs.NoteLemmas.{lies_done}
+use Rattle.vx_grouped.proofs.PlainLemmas.{same_holds}
+use Rattle.vx_kept.specs.Keeping.{SameShape}
+use Rattle.vx_kept.proofs.Chosen.{active_volumes, alike_shape, place_volumes}
+use Rattle.vx_kept.proofs.StateLemmas.{same_shape}
+use Rattle.vx_kept.proofs.Steps.{inside_same}
 
 -- ---- choices by the number of a volume
 
@@ -51,6 +57,16 @@ if_apart : {A : Type 0} (v vol : ℕ) (x y : A) → (v ≡ vol → ⊥) → (if 
 if_apart v vol x y apart = ap (λ (t : Bool). if t then x else y) (not_same v vol (v == vol) refl apart)
 
 -- ---- volumes that are the same read the same
+
+apart_volumes : (c d : Config) → d.volumes ≡ c.volumes → PlacesApart c → PlacesApart d
+apart_volumes c d same it = record {
+  above = λ v p b in_it on. subst (λ (at : ℕ × ℕ). 512 ≤ at.1) (sym (place_volumes d c same v p b)) (it.above v p b (inside_same d c shape v b in_it) (sym (active_volumes d c same v p) ∙ on));
+  one = λ v p b w q e in_v in_w on_v on_w at. it.one v p b w q e (inside_same d c shape v b in_v) (inside_same d c shape w e in_w) (sym (active_volumes d c same v p) ∙ on_v) (sym (active_volumes d c same w q) ∙ on_w)
+      (sym (place_volumes d c same v p b) ∙ at ∙ place_volumes d c same w q e);
+}
+  where
+    shape : SameShape d c
+    shape = alike_shape d c c same (same_shape c)
 
 by_volumes : (o : Option Held) (c d : Config) → d.volumes ≡ c.volumes → volumes_by o d ≡ volumes_by o c
 by_volumes None c d same = same
@@ -67,7 +83,7 @@ module _ (c d : GroupCore) (m m' : Meaning) (two : GroupStands d m') (lawful : L
       back_goes is =
           let alike : volumes_by d.held d.inner.config ≡ volumes_by d.held c.inner.config = by_volumes d.held c.inner.config d.inner.config is in
           volumes_Goes (config_by d.held c.inner.config) (wide d).config (volume_faults d.inner.faults) m' lawful
-          (same_apart (wide d).config (config_by d.held c.inner.config) (sym alike) (apart_of_core (wide d) m' two.stands)) alike
+          (apart_volumes (wide d).config (config_by d.held c.inner.config) (sym alike) (apart_of_core (wide d) m' two.stands)) alike
 
   -- one was made
   module _ (name : List ℕ) (want : Shape) (vol : ℕ) (none : d.held ≡ None) (made : VolumeMade name want vol c.inner d.inner m') where
@@ -151,3 +167,47 @@ make_not_down false false true f h n1 n2 n3 n4 n5 x1 x2 x3 x4 x5 is = x3 (let sa
 make_not_down false false false true h n1 n2 n3 n4 n5 x1 x2 x3 x4 x5 is = x4 (let same : Some n4 ≡ Some refusal.Down = is in cc)
 make_not_down false false false false true n1 n2 n3 n4 n5 x1 x2 x3 x4 x5 is = x5 (let same : Some n5 ≡ Some refusal.Down = is in cc)
 make_not_down false false false false false n1 n2 n3 n4 n5 x1 x2 x3 x4 x5 is = let clash : None ≡ Some refusal.Down = is in cc
+
+pub stop_volumes : (name : List ℕ) (want : Shape) (c d : Inner) (m m' : Meaning) (stop : Stop) → MakeEnds name want c d m m' (Err stop) → d.config.volumes ≡ c.config.volumes
+stop_volumes name want c d m m' (Refused why) ends = ends.0
+stop_volumes name want c d m m' OutOfMemory same = same
+
+pub err_one : (x y : Stop) → Err {T = ℕ} x ≡ Err y → x ≡ y
+err_one x y is = cc
+
+-- a volume was made, so no test refused it
+pub made_by : (P : Type 0) (vol : ℕ) (o : Option No) → (o ≡ None → P) → ((no : No) → o ≡ Some no → Ok {E = Stop} vol ≡ Err (Refused no)) → P
+made_by P vol None ends refused = ends refl
+made_by P vol (Some no) ends refused = absurd (let clash : Ok {E = Stop} vol ≡ Err (Refused no) = refused no refl in cc)
+
+module _ (n : Node) (note : GroupNode) (name : List ℕ) (want : Shape) (c d : GroupCore) (m m' : Meaning) (at : IsGroupAt n note c m) (two : GroupStands d m') (lawful : Lawful m') (units : SameUnits m m') (stays : GroupStays c d m m') where
+  pub made_leaves : (vol : ℕ) → d.held ≡ None → (IsTrue m'.down → ⊥) → (c.inner.committed ≡ true → d.inner.committed ≡ true) → VolumeMade name want vol c.inner d.inner m' → VolumeLeaves n note want d m' (Ok vol)
+  made_leaves vol none up trust made = record {
+    state = at.state;
+    up = up;
+    lies = lies_done n note c d m m' at.lies two units.units (λ u low. units.size u) trust (note_added vol want.blocks (note_done d.inner note)) refl refl refl
+        (added_holds c d m m' two lawful stays name want vol none made (note_done d.inner note)
+        (same_holds note (inner_meaning (wide c) m) (note_done d.inner note).config (note_done d.inner note).begun (note_done d.inner note).loose at.lies.holds));
+  }
+
+  -- the disks are down behind a refusal
+  pub volume_cut : (o : Option No) → (o ≡ None → d.inner.config.volumes ≡ c.inner.config.volumes) → ((no : No) → o ≡ Some no → IsTrue m'.down → ⊥) → IsTrue m'.down → VolumeLeaves n note want d m' (Err (Refused refusal.Down))
+  volume_cut None same never down = call_cut n note c d m m' at two units.units units.size (same_goes c d m m' two lawful stays (same refl)) down
+  volume_cut (Some no) same never down = absurd (never no refl down)
+
+  -- they are not
+  module _ (up : IsTrue m'.down → ⊥) (same : Type 0) (still : same → IsGroupAt n note d m') where
+    by_ends : (stop : Stop) → MakeEnds name want c.inner d.inner m m' (Err stop) → Unmoved {T = ℕ} (Err stop) same → VolumeLeaves n note want d m' (Err stop)
+    by_ends (Refused (refusal.Device disk)) ends unmoved =
+        call_up n note c d m m' at two units.units units.size (same_goes c d m m' two lawful stays ends.0) {T = ℕ} (Err (Refused (refusal.Device disk))) up tt ends.1
+    by_ends (Refused refusal.Down) ends unmoved = absurd (up ends.1)
+    by_ends (Refused other) ends unmoved = still unmoved
+    by_ends OutOfMemory ends unmoved = still unmoved
+
+    pub volume_up : (stop : Stop) (o : Option No) → (o ≡ None → MakeEnds name want c.inner d.inner m m' (Err stop)) → Unmoved {T = ℕ} (Err stop) same
+        → ((no : No) → o ≡ Some no → (stop ≡ Refused no) × IsGroupAt n note d m' × (d.inner.config.volumes ≡ c.inner.config.volumes)) → (o ≡ Some refusal.Down → ⊥) → VolumeLeaves n note want d m' (Err stop)
+    volume_up stop None ends unmoved refused never = by_ends stop (ends refl) unmoved
+    volume_up stop (Some no) ends unmoved refused never =
+        let it = refused no refl in
+        subst (λ (x : Stop). VolumeLeaves n note want d m' (Err x)) (sym it.0)
+        (call_none n note c d m m' at two units.units units.size (same_goes c d m m' two lawful stays it.2) ℕ no it.1 (λ down. never (ap Some down)))

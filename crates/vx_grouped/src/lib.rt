@@ -4,9 +4,11 @@
 #![tactic(auto)]
 
 mod leaving;
+mod making;
 mod plain;
 mod plexes;
 
 pub use leaving::{crash_group, deport_group};
+pub use making::make_volume_of;
 pub use plain::{read_plain, write_plain};
 pub use plexes::{att_plex, det_plex};

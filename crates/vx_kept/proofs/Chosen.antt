@@ -13,7 +13,7 @@ use Rattle.vx_kept.specs.Choice.{chosen, chosen_or, first_plex, first_where, is_
 use Rattle.vx_layout.specs.Places.{place, place_or, plex_in}
 use Rattle.vx_volume.specs.Plexes.{active, active_or}
 use Rattle.vx_kept.specs.Keeping.{Extends, SameShape, name_or, volume_name}
-use Rattle.vx_kept.proofs.RunLemmas.{logs_volumes, none_trusted, run_same, trust_from, trust_same}
+use Rattle.vx_kept.proofs.RunLemmas.{logs_volumes, none_live, none_trusted, run_same, trust_from, trust_same}
 
 -- ---- where every disk can be read, none is missing
 
@@ -71,6 +71,7 @@ alike_extends x a c volumes shape = record {
   logs = λ v log lt. run_same x a v v log (logs_volumes x a volumes v log) ∙ shape.logs v log lt;
   trusted = λ v log lt is. shape.trusted v log lt (trust_from x a v v log (logs_volumes x a volumes v log) is);
   beyond = λ v log past. trust_same x a v v log (logs_volumes x a volumes v log) ∙ shape.beyond v log past;
+  fresh = λ v p past is. active_volumes x a volumes v p ∙ shape.fresh v p past (sym (live_volumes x a volumes v p) ∙ is);
 }
 
 pub same_extends : (x c : Config) → SameShape x c → Extends x c
@@ -82,6 +83,7 @@ same_extends x c same = record {
   logs = λ v log lt. same.logs v log;
   trusted = λ v log lt. same.trusted v log;
   beyond = λ v log past. none_trusted x v log (let is = same.volumes in omega (arith, is, past));
+  fresh = λ v p past is. absurd (let clash : false ≡ true = sym (none_live x v p (let count = same.volumes in omega (arith, count, past))) ∙ is in cc);
 }
 
 -- the volumes of memory are the same
@@ -94,7 +96,24 @@ extends_volumes x c e volumes shape = record {
   logs = λ v log lt. shape.logs v log (omega (arith, ap length volumes, lt)) ∙ sym (run_same e c v v log (logs_volumes e c volumes v log));
   trusted = λ v log lt is. trust_from c e v v log (sym (logs_volumes e c volumes v log)) (shape.trusted v log (omega (arith, ap length volumes, lt)) is);
   beyond = λ v log past. shape.beyond v log (omega (arith, ap length volumes, past));
+  fresh = λ v p past is. shape.fresh v p (omega (arith, ap length volumes, past)) is;
 }
+
+-- so are they by their shape
+pub extends_shape : (x d c : Config) → Extends x d → SameShape d c → Extends x c
+extends_shape x d c more same = record {
+  volumes = let le = more.volumes in let is = same.volumes in omega (arith, le, is);
+  names = λ v lt. more.names v (there v lt) ∙ same.names v;
+  blocks = λ v lt. more.blocks v (there v lt) ∙ same.blocks v;
+  place = λ v p b lt. more.place v p b (there v lt) ∙ same.place v p b;
+  logs = λ v log lt. more.logs v log (there v lt) ∙ same.logs v log;
+  trusted = λ v log lt is. same.trusted v log (more.trusted v log (there v lt) is);
+  beyond = λ v log past. more.beyond v log (let is = same.volumes in omega (arith, is, past));
+  fresh = λ v p past on. more.fresh v p (let is = same.volumes in omega (arith, is, past)) on;
+}
+  where
+    there : (v : ℕ) → v < length c.volumes → v < length d.volumes
+    there v lt = let is = same.volumes in omega (arith, is, lt)
 
 -- ---- the first that passes
 

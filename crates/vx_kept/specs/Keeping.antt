@@ -33,8 +33,8 @@ pub record SameShape (x c : Config) : Type 0 where
   pub logs : (v : ℕ) (log : VolumeLog) → log_place x v log ≡ log_place c v log
   pub trusted : (v : ℕ) (log : VolumeLog) → log_trusted x v log ≡ true → log_trusted c v log ≡ true
 
--- the volumes of c are the first ones of x, with the same names and places of plexes and logs; each log of them that x trusts c trusts, and x trusts
--- none of its other volumes
+-- the volumes of c are the first ones of x, with the same names and places of plexes and logs; each log of them that x trusts c trusts. Of its
+-- other volumes x trusts no log, and each plex that takes part is ACTIVE.
 pub record Extends (x c : Config) : Type 0 where
   pub volumes : length c.volumes ≤ length x.volumes
   pub names : (v : ℕ) → v < length c.volumes → volume_name x v ≡ volume_name c v
@@ -43,9 +43,10 @@ pub record Extends (x c : Config) : Type 0 where
   pub logs : (v : ℕ) (log : VolumeLog) → v < length c.volumes → log_place x v log ≡ log_place c v log
   pub trusted : (v : ℕ) (log : VolumeLog) → v < length c.volumes → log_trusted x v log ≡ true → log_trusted c v log ≡ true
   pub beyond : (v : ℕ) (log : VolumeLog) → length c.volumes ≤ v → log_trusted x v log ≡ false
+  pub fresh : (v p : ℕ) → length c.volumes ≤ v → IsTrue (live x v p) → IsTrue (active x v p)
 
 -- A configuration that an image may have beside one in memory: of the volumes of memory each plex that takes part in it is ACTIVE in memory,
--- and the one that it chooses takes part. It may have volumes more, which a refused commit was to make; it trusts no log of these.
+-- and the one that it chooses takes part. It may have volumes more, which a refused commit was to make.
 pub record Kin (c x : Config) : Type 0 where
   pub shape : Extends x c
   pub on : (v p : ℕ) → v < length c.volumes → IsTrue (live x v p) → IsTrue (active c v p)

@@ -2,13 +2,14 @@
 use Rattle.std.proofs.Common.{length, refl, ap, sym, ◌∙◌, arith}
 use Rattle.std.specs.Option.{option_copied}
 use Rattle.vx_kept.proofs.StateLemmas.{same_shape}
-use Rattle.vx_group.proofs.HoldLemmas.{back_Stands, back_gone, back_others, back_shape, back_wide, from_none, none_Stands, wide_none}
+use Rattle.vx_group.proofs.HoldLemmas.{back_Stands, back_gone, back_others, back_parts, back_shape, back_wide, from_none, none_Stands, wide_none}
 use Rattle.vx_group.specs.Holding.{wide}
 use Rattle.vx_group.proofs.MissLemmas.{count_volumes, knows_later, narrows_reads}
 use Rattle.vx_group.proofs.OpeningLemmas.{later_may, may_less, may_room, may_volume, present}
 use Rattle.vx_group.proofs.Standing.{some_active, sound_of}
 use Rattle.vx_group.proofs.ThroughLemmas.{held_other, holds_first, released_active, released_attaches, through_attaches, through_regains}
 use Rattle.vx_group.proofs.att.att_in.Goals as goal
+use Rattle.vx_group.proofs.LoseLemmas.{none_parts}
 
 pub returns-in-Err-clause-attaches : goal.returns-in-Err-clause-attaches
 returns-in-Err-clause-attaches g c = released_attaches c.args.vol c.args.plex (option_copied c.args.fmr) c.args.core.now c.release.new.core (g.S.Shelf.meaning c.args.shelf.now) (g.S.Shelf.meaning c.release.new.shelf) c.requires.stands c.release.ensures.narrows c.release.ensures.volumes (g.met.S.Shelf.lawful c.release.new.shelf) c.release.ensures.parts

@@ -11,6 +11,7 @@ use Rattle.vx_group.proofs.MissLemmas.{count_volumes, knows_later, narrows_reads
 use Rattle.vx_group.proofs.OpeningLemmas.{present, same_may}
 use Rattle.vx_group.proofs.Standing.{some_active, sound_of}
 use Rattle.vx_group.proofs.attaching.attach.Goals as goal
+use Rattle.vx_group.proofs.LoseLemmas.{but_parts}
 
 pub returns-in-Err-clause-attaches : goal.returns-in-Err-clause-attaches
 returns-in-Err-clause-attaches g c =

@@ -8,6 +8,7 @@ use Rattle.vx_group.proofs.SourcesLemmas.{no_attaches}
 use Rattle.vx_group.proofs.FailingLemmas.{no_failing, then_failing}
 use Rattle.vx_group.proofs.Standing.{sound_of}
 use Rattle.vx_group.proofs.attaching.take_back.Goals as goal
+use Rattle.vx_group.proofs.LoseLemmas.{but_parts}
 
 pub returns-in-Err-clause-attaches : goal.returns-in-Err-clause-attaches
 returns-in-Err-clause-attaches g c = λ map.

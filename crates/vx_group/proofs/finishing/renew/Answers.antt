@@ -15,6 +15,7 @@ use Rattle.vx_group.proofs.MissLemmas.{narrows_reads}
 use Rattle.vx_group.proofs.Standing.{apart_of_core}
 use Rattle.vx_group.proofs.TrustLemmas.{err_from, ok_from}
 use Rattle.vx_group.proofs.finishing.renew.Goals as goal
+use Rattle.vx_group.proofs.LoseLemmas.{but_parts}
 
 pub mend_volumes-requires-clause-on : goal.mend_volumes-requires-clause-on
 mend_volumes-requires-clause-on g c = λ v lt.

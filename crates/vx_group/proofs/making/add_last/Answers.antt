@@ -126,3 +126,6 @@ returns-else-is_down-clause-parts g c = record { site = refl; rvg = refl; count 
 
 pub returns-in-Ok-commit_next-clause-newest : goal.returns-in-Ok-commit_next-clause-newest
 returns-in-Ok-commit_next-clause-newest g c = record { finds = c.in-Ok-commit_next.ensures.ends.finds }
+
+pub returns-in-Ok-commit_next-clause-up : goal.returns-in-Ok-commit_next-clause-up
+returns-in-Ok-commit_next-clause-up g c = c.in-Ok-commit_next.ensures.up c.in-Ok.ensures.cause

@@ -1,10 +1,11 @@
 -- `regain`: clauses stands, narrows, volumes, few, regains and held; what `recommit` asks.
-use Rattle.std.proofs.Common.{true, length, refl, sym, ◌∙◌, subst, arith}
+use Rattle.std.proofs.Common.{ap, arith, length, refl, subst, sym, true, ◌∙◌}
 use Rattle.vx_config.specs.declared.config.Config.{Config}
 use Rattle.vx_group.specs.Stands.{InnerStands}
 use Rattle.vx_group.proofs.CallLemmas.{both_Narrows}
 use Rattle.vx_group.proofs.RegainLemmas.{back_narrows, flags_back, regained_Narrows, regained_Stands, none_holds, regained_held, regained_regains, same_narrows, same_regains, then_regains}
 use Rattle.vx_group.proofs.regaining.regain.Goals as goal
+use Rattle.vx_group.proofs.LoseLemmas.{but_parts, then_parts}
 
 pub returns-then-not-hold_plex-clause-stands : goal.returns-then-not-hold_plex-clause-stands
 returns-then-not-hold_plex-clause-stands g c =
