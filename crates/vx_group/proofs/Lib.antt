@@ -46,3 +46,4 @@ pub mod GiveLemmas
 pub mod ActsLemmas
 pub mod LostLemmas
 pub mod UnitLemmas
+pub mod TrustingLemmas
