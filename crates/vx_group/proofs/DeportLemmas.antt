@@ -38,7 +38,6 @@ use Rattle.vx_group.proofs.CallLemmas.{blames_later}
 use Rattle.vx_group.proofs.DetachLemmas.{left_Narrows, left_Stands}
 use Rattle.vx_group.proofs.QuiesceLemmas.{both_parts, both_quiesce, quiet, same_parts}
 use Rattle.vx_group.proofs.Standing.{apart_of_core, sound_of}
-use Rattle.vx_group.specs.Loses.{SameParts}
 use Rattle.vx_group.proofs.LoseLemmas.{but_parts}
 
 clash_of : (b : Bool) → b ≡ true → b ≡ false → ⊥
