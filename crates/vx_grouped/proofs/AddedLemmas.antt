@@ -1,6 +1,6 @@
 -- A volume that is made in a group, as its site notes it.
-use Rattle.std.proofs.Common.{◌≡◌, ◌⊎◌, inl, inr, ℕ, ◌+◌, ◌<◌, ◌≤◌, Bool, true, false, IsTrue, Option, Some, None, List, [], ◌∷◌, ◌++◌, length, eqb, refl, ap, sym, ◌∙◌, subst, arith}
-use Rattle.std.specs.Prelude.{◌==◌, if◌then◌else◌, Contains, Result, Ok, Err, slice_get}
+use Rattle.std.proofs.Common.{◌≡◌, inl, inr, ℕ, ◌+◌, ◌<◌, ◌≤◌, Bool, true, false, IsTrue, Option, Some, None, List, [], ◌∷◌, ◌++◌, length, refl, ap, sym, ◌∙◌, subst, arith}
+use Rattle.std.specs.Prelude.{◌==◌, if◌then◌else◌, Contains, Result, Ok, Err}
 use Rattle.std.proofs.lemmas.Bool.{cases_eq, cases_lt, eq-eqb, eqb-true}
 use Rattle.std.proofs.lemmas.List.{length-append}
 use Rattle.std.proofs.lemmas.Option.{slice_get_past}
@@ -16,25 +16,22 @@ use Rattle.vx_history.specs.World.{Node}
 use Rattle.vx_config.specs.Checks.{blocks_of, blocks_or_none}
 use Rattle.vx_config.specs.declared.config.Config.{Config}
 use Rattle.vx_config.specs.declared.entry.VolumeEntry.{VolumeEntry}
-use Rattle.vx_layout.specs.Places.{place}
 use Rattle.vx_layout.specs.declared.shape.Shape.{Shape}
-use Rattle.vx_volume.specs.Plexes.{Inside, active}
 use Rattle.vx_kept.specs.Groups.{OnSome, PlacesApart, group_meaning, seen}
 use Rattle.vx_group.specs.Calls.{GroupStays}
 use Rattle.vx_group.specs.Creates.{SameUnits}
 use Rattle.vx_group.specs.Holding.{GroupStands, config_by, volumes_by, wide}
-use Rattle.vx_group.specs.Makes.{MakeEnds, Unmoved, VolumeMade, make_refusal}
+use Rattle.vx_group.specs.Makes.{MakeEnds, Unmoved, VolumeMade}
 use Rattle.vx_group.specs.Stands.{inner_meaning, volume_faults}
 use Rattle.vx_group.specs.declared.group_core.GroupCore.{GroupCore}
 use Rattle.vx_group.specs.declared.group_core.Held.{Held}
 use Rattle.vx_group.specs.declared.inner.Inner.{Inner}
 use Rattle.vx_group.proofs.HoldLemmas.{active_at_volumes, wide_none, wide_shape}
-use Rattle.vx_group.proofs.LongerLemmas.{get_end, get_front}
+use Rattle.vx_group.proofs.LongerLemmas.{get_end}
 use Rattle.vx_group.proofs.MakeLemmas.{volumes_Goes}
 use Rattle.vx_group.proofs.Standing.{apart_of_core}
 use Rattle.vx_grouped.specs.Added.{VolumeLeaves, note_added}
-use Rattle.vx_grouped.specs.Ends.{CallLeaves}
-use Rattle.vx_grouped.specs.GroupNotes.{GroupLies, IsGroupAt, IsGroupCut, note_done, note_refused}
+use Rattle.vx_grouped.specs.GroupNotes.{IsGroupAt, note_done}
 use Rattle.vx_grouped.specs.Plain.{BlockMay, HoldsPlain}
 use Rattle.vx_grouped.proofs.KeepLemmas.{call_cut, call_none, call_up}
 use Rattle.vx_grouped.proofs.NoteLemmas.{lies_done}
@@ -172,13 +169,13 @@ pub stop_volumes : (name : List ℕ) (want : Shape) (c d : Inner) (m m' : Meanin
 stop_volumes name want c d m m' (Refused why) ends = ends.0
 stop_volumes name want c d m m' OutOfMemory same = same
 
-pub err_one : (x y : Stop) → Err {T = ℕ} x ≡ Err y → x ≡ y
-err_one x y is = cc
+pub err_one : (r : Result ℕ Stop) (x y : Stop) → r ≡ Err x → r ≡ Err y → x ≡ y
+err_one r x y one two = cc
 
 -- a volume was made, so no test refused it
-pub made_by : (P : Type 0) (vol : ℕ) (o : Option No) → (o ≡ None → P) → ((no : No) → o ≡ Some no → Ok {E = Stop} vol ≡ Err (Refused no)) → P
-made_by P vol None ends refused = ends refl
-made_by P vol (Some no) ends refused = absurd (let clash : Ok {E = Stop} vol ≡ Err (Refused no) = refused no refl in cc)
+pub made_by : (P : Type 0) (r : Result ℕ Stop) (vol : ℕ) (o : Option No) → r ≡ Ok vol → (o ≡ None → P) → ((why : No) → o ≡ Some why → r ≡ Err (Refused why)) → P
+made_by P r vol None is ends refused = ends refl
+made_by P r vol (Some why) is ends refused = absurd (let clash = refused why refl in cc)
 
 module _ (n : Node) (note : GroupNode) (name : List ℕ) (want : Shape) (c d : GroupCore) (m m' : Meaning) (at : IsGroupAt n note c m) (two : GroupStands d m') (lawful : Lawful m') (units : SameUnits m m') (stays : GroupStays c d m m') where
   pub made_leaves : (vol : ℕ) → d.held ≡ None → (IsTrue m'.down → ⊥) → (c.inner.committed ≡ true → d.inner.committed ≡ true) → VolumeMade name want vol c.inner d.inner m' → VolumeLeaves n note want d m' (Ok vol)
@@ -191,9 +188,9 @@ module _ (n : Node) (note : GroupNode) (name : List ℕ) (want : Shape) (c d : G
   }
 
   -- the disks are down behind a refusal
-  pub volume_cut : (o : Option No) → (o ≡ None → d.inner.config.volumes ≡ c.inner.config.volumes) → ((no : No) → o ≡ Some no → IsTrue m'.down → ⊥) → IsTrue m'.down → VolumeLeaves n note want d m' (Err (Refused refusal.Down))
+  pub volume_cut : (o : Option No) → (o ≡ None → d.inner.config.volumes ≡ c.inner.config.volumes) → ((why : No) → o ≡ Some why → IsTrue m'.down → ⊥) → IsTrue m'.down → VolumeLeaves n note want d m' (Err (Refused refusal.Down))
   volume_cut None same never down = call_cut n note c d m m' at two units.units units.size (same_goes c d m m' two lawful stays (same refl)) down
-  volume_cut (Some no) same never down = absurd (never no refl down)
+  volume_cut (Some why) same never down = absurd (never why refl down)
 
   -- they are not
   module _ (up : IsTrue m'.down → ⊥) (same : Type 0) (still : same → IsGroupAt n note d m') where
@@ -205,9 +202,9 @@ module _ (n : Node) (note : GroupNode) (name : List ℕ) (want : Shape) (c d : G
     by_ends OutOfMemory ends unmoved = still unmoved
 
     pub volume_up : (stop : Stop) (o : Option No) → (o ≡ None → MakeEnds name want c.inner d.inner m m' (Err stop)) → Unmoved {T = ℕ} (Err stop) same
-        → ((no : No) → o ≡ Some no → (stop ≡ Refused no) × IsGroupAt n note d m' × (d.inner.config.volumes ≡ c.inner.config.volumes)) → (o ≡ Some refusal.Down → ⊥) → VolumeLeaves n note want d m' (Err stop)
+        → ((why : No) → o ≡ Some why → (stop ≡ Refused why) × IsGroupAt n note d m' × (d.inner.config.volumes ≡ c.inner.config.volumes)) → (o ≡ Some refusal.Down → ⊥) → VolumeLeaves n note want d m' (Err stop)
     volume_up stop None ends unmoved refused never = by_ends stop (ends refl) unmoved
-    volume_up stop (Some no) ends unmoved refused never =
-        let it = refused no refl in
+    volume_up stop (Some why) ends unmoved refused never =
+        let it = refused why refl in
         subst (λ (x : Stop). VolumeLeaves n note want d m' (Err x)) (sym it.0)
-        (call_none n note c d m m' at two units.units units.size (same_goes c d m m' two lawful stays it.2) ℕ no it.1 (λ down. never (ap Some down)))
+        (call_none n note c d m m' at two units.units units.size (same_goes c d m m' two lawful stays it.2) ℕ why it.1 (λ down. never (ap Some down)))

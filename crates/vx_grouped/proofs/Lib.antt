@@ -6,3 +6,4 @@ pub mod PlainLemmas
 pub mod ReadLemmas
 pub mod WriteLemmas
 pub mod AddedLemmas
+pub mod ReturnLemmas

@@ -1,5 +1,5 @@
 -- A volume that is made in a group, as its site notes it.
-use Rattle.std.specs.Prelude.{◌≡◌, ◌==◌, ℕ, if◌then◌else◌, Result, Ok, Err, []}
+use Rattle.std.specs.Prelude.{◌==◌, ℕ, if◌then◌else◌, Result, Ok, Err, []}
 use Rattle.vx_model.specs.Content.{zero_block}
 use Rattle.vx_model.specs.declared.errors.Stop.{Stop}
 use Rattle.vx_model.specs.declared.errors.Stop.TheVariants.{No as Refused, OutOfMemory}

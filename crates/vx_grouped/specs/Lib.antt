@@ -3,3 +3,4 @@ pub mod Ends
 pub mod GroupNotes
 pub mod Plain
 pub mod Added
+pub mod Returns

@@ -1,15 +1,14 @@
 -- A volume that is made: what it leaves, and refusals of disks that are down behind it.
-use Rattle.std.proofs.Common.{◌∙◌, ap, length, sym}
+use Rattle.std.proofs.Common.{ap, length, refl, sym, ◌-◌, ◌∙◌, ◌≡◌}
 use Rattle.std.specs.Prelude.{nat_le, nat_lt, not}
 use Rattle.std.specs.List.{list_any}
 use Rattle.vx_config.specs.Table.{greatest}
 use Rattle.vx_group.specs.Dets.{margin}
 use Rattle.vx_group.specs.Makes.{VolumeMade, has_name, is_shape, make_refusal}
 use Rattle.vx_group.proofs.CallLemmas.{not_down}
-use Rattle.vx_model.specs.declared.limits.TheConstants.{MOST_PLEXES, MOST_SUBDISKS, MOST_VOLUMES}
+use Rattle.vx_model.specs.declared.limits.TheConstants.{MOST_PLEXES, MOST_VOLUMES}
 use Rattle.vx_model.specs.declared.no.Counted.TheVariants.{Number, Plexes, Volumes}
 use Rattle.vx_model.specs.declared.errors.Stop.TheVariants.{No as Refused}
-use Rattle.vx_model.specs.declared.no.No.{No}
 use Rattle.vx_model.specs.declared.no.No.TheVariants as refusal
 use Rattle.vx_grouped.proofs.AddedLemmas.{err_one, made_by, made_leaves, make_not_down, stop_volumes, volume_cut, volume_up}
 use Rattle.vx_grouped.proofs.KeepLemmas.{never_fell, same_at}
@@ -19,8 +18,8 @@ pub returns-in-Ok-clause-leaves : goal.returns-in-Ok-clause-leaves
 returns-in-Ok-clause-leaves g c = λ n note at.
     made_leaves n note c.args.name.now c.args.want.now c.args.group.now.core c.make_volume.new.self.core (g.S.Shelf.meaning c.args.group.now.shelf) (g.S.Shelf.meaning c.make_volume.new.self.shelf) at c.make_volume.new.self.stands
     (g.met.S.Shelf.lawful c.make_volume.new.self.shelf) c.make_volume.ensures.below c.make_volume.ensures.stays c.in-Ok.vol c.in-Ok.ensures.held c.in-Ok.ensures.up c.in-Ok.ensures.trust
-    (made_by (VolumeMade c.args.name.now c.args.want.now c.in-Ok.vol c.args.group.now.core.inner c.make_volume.new.self.core.inner (g.S.Shelf.meaning c.make_volume.new.self.shelf)) c.in-Ok.vol
-    (make_refusal c.args.group.now.core.inner.config c.args.name.now c.args.want.now) c.in-Ok.ensures.ends (λ no is. (c.in-Ok.ensures.refused no is).0))
+    (made_by (VolumeMade c.args.name.now c.args.want.now c.in-Ok.vol c.args.group.now.core.inner c.make_volume.new.self.core.inner (g.S.Shelf.meaning c.make_volume.new.self.shelf)) _ c.in-Ok.vol
+    (make_refusal c.args.group.now.core.inner.config c.args.name.now c.args.want.now) refl c.in-Ok.ensures.ends (λ why is. (c.in-Ok.ensures.refused why is).0))
 
 pub returns-then-is_down-clause-refused : goal.returns-then-is_down-clause-refused
 returns-then-is_down-clause-refused g c = λ why is.
@@ -31,7 +30,7 @@ returns-then-is_down-clause-leaves g c = λ n note at.
     volume_cut n note c.args.name.now c.args.want.now c.args.group.now.core c.make_volume.new.self.core (g.S.Shelf.meaning c.args.group.now.shelf) (g.S.Shelf.meaning c.make_volume.new.self.shelf) at c.make_volume.new.self.stands
     (g.met.S.Shelf.lawful c.make_volume.new.self.shelf) c.make_volume.ensures.below c.make_volume.ensures.stays (make_refusal c.args.group.now.core.inner.config c.args.name.now c.args.want.now)
     (λ none. stop_volumes c.args.name.now c.args.want.now c.args.group.now.core.inner c.make_volume.new.self.core.inner (g.S.Shelf.meaning c.args.group.now.shelf) (g.S.Shelf.meaning c.make_volume.new.self.shelf) c.in-Err.stop (c.in-Err.ensures.ends none))
-    (λ no is. never_fell g.S.Shelf.meaning c.args.group.now.shelf c.make_volume.new.self.shelf (c.make_volume.ensures.refused no is).2 c.requires.up) (sym c.is_down.ensures ∙ c.if-is_down.true)
+    (λ why is. never_fell g.S.Shelf.meaning c.args.group.now.shelf c.make_volume.new.self.shelf (c.make_volume.ensures.refused why is).2 c.requires.up) (sym c.is_down.ensures ∙ c.if-is_down.true)
 
 pub returns-then-is_down-clause-ends : goal.returns-then-is_down-clause-ends
 returns-then-is_down-clause-ends g c = λ none. (
@@ -47,8 +46,8 @@ returns-else-is_down-clause-leaves g c = λ n note at.
     ((c.make_volume.new.self.core ≡ c.args.group.now.core) × (c.make_volume.new.self.shelf ≡ c.args.group.now.shelf))
     (λ same. same_at g.S.Shelf.meaning n note c.args.group.now.core c.make_volume.new.self.core c.args.group.now.shelf c.make_volume.new.self.shelf same.0 same.1 at)
     c.in-Err.stop (make_refusal c.args.group.now.core.inner.config c.args.name.now c.args.want.now) c.in-Err.ensures.ends c.in-Err.ensures.unmoved
-    (λ no is. let it = c.make_volume.ensures.refused no is in (
-      err_one c.in-Err.stop (Refused no) (c.in-Err.ensures.refused no is).0,
+    (λ why is. let it = c.make_volume.ensures.refused why is in (
+      err_one _ c.in-Err.stop (Refused why) refl (c.in-Err.ensures.refused why is).0,
       same_at g.S.Shelf.meaning n note c.args.group.now.core c.make_volume.new.self.core c.args.group.now.shelf c.make_volume.new.self.shelf it.1 it.2 at,
       ap (λ x. x.inner.config.volumes) it.1,
     ))
