@@ -7,3 +7,5 @@ pub mod ReadLemmas
 pub mod WriteLemmas
 pub mod AddedLemmas
 pub mod ReturnLemmas
+pub mod KeepingLemmas
+pub mod NotedLemmas

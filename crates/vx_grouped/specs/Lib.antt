@@ -4,3 +4,4 @@ pub mod GroupNotes
 pub mod Plain
 pub mod Added
 pub mod Returns
+pub mod Keepings

@@ -5,12 +5,15 @@
 #![tactic(auto)]
 
 mod importing;
+mod keeping;
+pub mod laws;
 mod leaving;
 mod making;
 mod plain;
 mod plexes;
 
 pub use importing::import_group;
+pub use keeping::kept_plain;
 pub use leaving::{crash_group, deport_group};
 pub use making::make_volume_of;
 pub use plain::{read_plain, write_plain};
