@@ -18,7 +18,7 @@ use Rattle.vx_layout.specs.Made.{made_plex, with_volume}
 use Rattle.vx_layout.specs.Places.{place, place_or, plex_in}
 use Rattle.vx_volume.specs.Plexes.{SomeActive, active, active_or}
 use Rattle.vx_kept.specs.Choice.{chosen, live, live_or}
-use Rattle.vx_kept.specs.Keeping.{AllOn, Extends, MayBeNext, name_or, volume_name}
+use Rattle.vx_kept.specs.Keeping.{AllOn, Extends, MayBeNext, frame_or, frame_at}
 use Rattle.vx_kept.specs.LogRuns.{log_trusted, trusted_or}
 use Rattle.vx_kept.proofs.Narrower.{sound_chosen}
 use Rattle.vx_kept.proofs.RunLemmas.{run_same, trust_from}
@@ -61,8 +61,8 @@ module _ (c : Config) (v : VolumeEntry) where
   pub logs_more : (w : ℕ) (log : VolumeLog) → w < length c.volumes → log_of more w log ≡ log_of c w log
   logs_more w log lt = ap (log_or log) (get_front c.volumes (v ∷ []) w lt)
 
-  pub names_more : (w : ℕ) → w < length c.volumes → volume_name more w ≡ volume_name c w
-  names_more w lt = ap name_or (get_front c.volumes (v ∷ []) w lt)
+  pub frames_more : (w : ℕ) → w < length c.volumes → frame_at more w ≡ frame_at c w
+  frames_more w lt = ap frame_or (get_front c.volumes (v ∷ []) w lt)
 
   -- no log of the last volume is trusted
   abbrev LogsLost : Type 0
@@ -91,7 +91,7 @@ module _ (c : Config) (v : VolumeEntry) where
   pub longer_extends : LogsLost → PlexesOn → Extends more c
   longer_extends lost here = record {
     volumes = omega (arith, longer_count);
-    names = names_more;
+    frames = frames_more;
     blocks = blocks_more;
     place = place_more;
     logs = λ w log lt. run_same more c w w log (logs_more w log lt);

@@ -9,7 +9,7 @@ use Rattle.vx_volume.specs.Plexes.{active, uses}
 use Rattle.vx_volume.specs.Volumes.{PlexBlamed}
 use Rattle.vx_kept.specs.States.{staled}
 use Rattle.vx_kept.specs.Keeping.{SameShape}
-use Rattle.vx_kept.proofs.Chosen.{active_volumes, names_volumes}
+use Rattle.vx_kept.proofs.Chosen.{active_volumes, frames_volumes}
 use Rattle.vx_group.specs.Loses.{LosesPlexes, SameParts}
 use Rattle.vx_group.specs.Settled.{SameBut}
 use Rattle.vx_group.proofs.FailingLemmas.{no_failing, then_failing}
@@ -28,7 +28,7 @@ pub grown_parts : (old new : Meaning) (c d : Config) → Grown old new c d → S
 grown_parts old new c d grown = record { site = grown.site; rvg = grown.rvg; count = grown.disks.count }
 
 pub loses_none : (c d : Config) (m m' : Meaning) → d.volumes ≡ c.volumes → MoreFailed m m' c.disks d.disks → SameParts c d → LosesPlexes c d m m'
-loses_none c d m m' volumes more parts = record { parts = parts; names = names_volumes d c volumes; lies = uses_volumes c d volumes; plexes = λ v p is. inl (active_volumes d c volumes v p ∙ is); disks = more }
+loses_none c d m m' volumes more parts = record { parts = parts; frames = frames_volumes d c volumes; lies = uses_volumes c d volumes; on = λ v p is. inl (sym (active_volumes d c volumes v p) ∙ is); plexes = λ v p is. inl (active_volumes d c volumes v p ∙ is); disks = more }
 
 pub loses_same : (c : Config) (m m' : Meaning) → LosesPlexes c c m m'
 loses_same c m m' = loses_none c c m m' refl (no_failing m m' c.disks c.disks refl) (none_parts c)
@@ -40,8 +40,15 @@ module _ (m0 m1 m2 : Meaning) (one : (u : ℕ) → m0.faults u ≤ m1.faults u) 
   pub then_loses : (c d e : Config) → LosesPlexes c d m0 m1 → LosesPlexes d e m1 m2 → LosesPlexes c e m0 m2
   then_loses c d e first second = record {
     parts = then_parts c d e first.parts second.parts;
-    names = λ v. second.names v ∙ first.names v;
+    frames = λ v. second.frames v ∙ first.frames v;
     lies = λ v p u. second.lies v p u ∙ first.lies v p u;
+    on = λ v p is. elim (second.on v p is) [
+      | inl on ↦ elim (first.on v p on) [
+        | inl still ↦ inl still
+        | inr any ↦ inr (any.0, blamed_before c v any.0 m0 m1 m2 two any.1)
+      ]
+      | inr any ↦ inr (any.0, blamed_later c v any.0 m0 m1 m2 one (blamed_by c d v any.0 m1 m2 (first.lies v any.0) any.1))
+    ];
     plexes = λ v p is. elim (first.plexes v p is) [
       | inl on ↦ elim (second.plexes v p on) [
         | inl still ↦ inl still
@@ -54,10 +61,11 @@ module _ (m0 m1 m2 : Meaning) (one : (u : ℕ) → m0.faults u ≤ m1.faults u) 
 
   -- plexes that failed in a first call are detached by a second one
   pub loses_detach : (c d : Config) (v set : ℕ) → ((p : ℕ) → bit_at set p ≡ true → PlexBlamed c v p m0 m1) → ((w p u : ℕ) → uses d w p u ≡ uses c w p u)
-      → ((w p : ℕ) → (w ≡ v → bit_at set p ≡ true → ⊥) → active d w p ≡ active c w p) → MoreFailed m1 m2 c.disks d.disks → SameParts c d → SameShape d c → LosesPlexes c d m0 m2
-  loses_detach c d v set blamed lies others more parts shape = record {
+      → ((w p : ℕ) → (w ≡ v → bit_at set p ≡ true → ⊥) → active d w p ≡ active c w p) → MoreFailed m1 m2 c.disks d.disks → SameParts c d → SameShape d c → ((w p : ℕ) → IsTrue (active d w p) → IsTrue (active c w p)) → LosesPlexes c d m0 m2
+  loses_detach c d v set blamed lies others more parts shape narrower = record {
+    on = λ w p is. inl (narrower w p is);
     parts = parts;
-    names = shape.names;
+    frames = shape.frames;
     lies = lies;
     plexes = λ w p is. elim (cases_eq w v) [
       | inl same ↦ by w p is same (bit_at set p) refl

@@ -92,6 +92,11 @@ plan_next c name want next may is = record {
 pub next_parts : (c next : Config) → IsNextConfig c next → SameParts c next
 next_parts c next is_next = record { site = ap (λ (x : Config). x.site) is_next.is; rvg = ap (λ (x : Config). x.rvg) is_next.is; count = ap (λ (x : Config). length x.disks) is_next.is }
 
+-- no count of a fault falls
+pub beside_counts : (c : Config) (m m' : Meaning) → MakesBeside c m m' → (u : ℕ) → m.faults u ≤ m'.faults u
+beside_counts c m m' (inl acts) u = acts.faults u
+beside_counts c m m' (inr more) u = more.acts.faults u
+
 -- ---- behind headers that were written back
 
 pub config_is : (x y : Config) → x.serial ≡ y.serial → x.site ≡ y.site → x.disks ≡ y.disks → x.volumes ≡ y.volumes → x.rvg ≡ y.rvg → x ≡ y

@@ -174,7 +174,7 @@ module _ (c : Config) (v p : ℕ) (there : Present c v p) where
   kin_wider x kin = record {
     shape = record {
       volumes = let le = kin.shape.volumes in let same = open_shape.volumes in omega (arith, le, same);
-      names = λ w lt. kin.shape.names w (there_volume w lt) ∙ sym (open_shape.names w);
+      frames = λ w lt. kin.shape.frames w (there_volume w lt) ∙ sym (open_shape.frames w);
       blocks = λ w lt. kin.shape.blocks w (there_volume w lt) ∙ sym (open_shape.blocks w);
       place = λ w q b lt. kin.shape.place w q b (there_volume w lt) ∙ sym (open_shape.place w q b);
       logs = λ w log lt. kin.shape.logs w log (there_volume w lt) ∙ sym (open_shape.logs w log);

@@ -1,5 +1,5 @@
 -- Calls of a group behind the commit that detaches the plex that is held back.
-use Rattle.std.proofs.Common.{Err, IsTrue, List, None, Ok, Option, Result, Some, ap, arith, false, inl, inr, length, refl, subst, sym, true, ℕ, ⊎_elim, ◌∙◌, ◌≡◌, ◌≤◌}
+use Rattle.std.proofs.Common.{Err, IsTrue, List, [], ◌∷◌, zero, suc, ◌<◌, None, Ok, Option, Result, Some, ap, arith, false, inl, inr, length, refl, subst, sym, true, ℕ, ⊎_elim, ◌∙◌, ◌⊎◌, ◌≡◌, ◌≤◌}
 use Rattle.vx_disk.specs.Causes.{Cause}
 use Rattle.vx_disk.specs.Counts.{Rose}
 use Rattle.vx_disk.specs.Shelf.{Goes, Lawful, Meaning, Nothing, Or, Values}
@@ -17,17 +17,20 @@ use Rattle.vx_fmr.specs.Missed.{Missed}
 use Rattle.vx_volume.specs.Plexes.{SomeActive, active, uses}
 use Rattle.vx_volume.specs.Volumes.{PlexBlamed}
 use Rattle.vx_kept.specs.Commits.{Member}
-use Rattle.vx_kept.specs.Keeping.{Acts, SameShape, Sees, volume_name}
+use Rattle.vx_kept.specs.Keeping.{Acts, SameShape, Sees, frame_at}
 use Rattle.vx_kept.specs.States.{whole_of}
-use Rattle.vx_kept.proofs.Chosen.{active_volumes, alike_shape, names_volumes}
-use Rattle.vx_kept.proofs.StateLemmas.{same_shape, stated_shape, then_shape}
+use Rattle.vx_kept.proofs.Chosen.{active_volumes, alike_shape, frames_volumes}
+use Rattle.vx_kept.proofs.StateLemmas.{active_apart, active_off, there_of, same_shape, stated_shape, then_shape}
 use Rattle.vx_kept.proofs.Steps.{both_Acts, wide_Acts}
 use Rattle.vx_group.specs.Attaches.{AnyImage, Attaches, HasOther, OnMissed}
 use Rattle.vx_group.specs.Calls.{GroupAttaches, GroupNarrows, members_by}
 use Rattle.vx_group.specs.Copying.{NoMember}
+use Rattle.vx_group.specs.Dets.{any_below, is_other}
+use Rattle.vx_config.specs.Checks.{plexes_of}
+use Rattle.std.specs.Prelude.{slice_get}
 use Rattle.vx_group.specs.GivesUp.{EachBlamed, GivesUp}
-use Rattle.vx_group.specs.Holding.{GroupStands, HeldAgain, HeldBack, config_by, wide}
-use Rattle.vx_group.specs.Loses.{LosesPlexes, SameParts}
+use Rattle.vx_group.specs.Holding.{active_at, GroupStands, HeldAgain, HeldBack, config_by, wide}
+use Rattle.vx_group.specs.Loses.{AnyBlamed, LosesPlexes, SameParts}
 use Rattle.vx_group.specs.Moves.{Narrows}
 use Rattle.vx_group.specs.Regains.{HoldsPlex, Regains}
 use Rattle.vx_group.specs.Stands.{InnerStands, volume_faults, inner_meaning}
@@ -38,10 +41,15 @@ use Rattle.vx_group.proofs.AttachLemmas.{any_acts, has_other, on_back}
 use Rattle.vx_group.proofs.CallLemmas.{narrows_Goes}
 use Rattle.vx_group.proofs.CopyLemmas.{loose_Acts, sees_none, sees_wider}
 use Rattle.vx_group.proofs.FailingLemmas.{then_failing}
-use Rattle.vx_group.proofs.HoldLemmas.{back_Stands, back_others, back_wide, e_volumes, narrow_wider, none_Stands, wide_none}
+use Rattle.vx_group.proofs.HoldLemmas.{any_of, narrow_some, back_Stands, back_others, back_wide, e_volumes, narrow_wider, none_Stands, wide_none}
 use Rattle.vx_group.proofs.OpeningLemmas.{here_or_apart}
 use Rattle.vx_group.proofs.UsesLemmas.{blamed_by, blamed_later, uses_stated, uses_volumes}
 use Rattle.vx_group.proofs.LoseLemmas.{then_parts}
+
+there_less : {A : Type 0} (xs : List A) (k : ℕ) (x : A) → slice_get xs k ≡ Some x → k < length xs
+there_less [] k x is = absurd (let no_one : None ≡ Some x = is in cc)
+there_less (y ∷ xs) zero x is = omega arith
+there_less (y ∷ xs) (suc k) x is = let lt = there_less xs k x is in omega (arith, lt)
 
 -- ---- the commit itself
 
@@ -166,17 +174,17 @@ again_uses : (o : Option Held) (c2 c3 : GroupCore) → HeldAgain o c2 c3 → (w 
 again_uses None c2 c3 same w q u = ap (λ (k : GroupCore). uses k.inner.config w q u) same
 again_uses (Some h) c2 c3 back w q u = back_uses h.vol h.plex c2 c3 back w q u
 
-by_names : (o : Option Held) (c : Config) (w : ℕ) → volume_name (config_by o c) w ≡ volume_name c w
-by_names None c w = refl
-by_names (Some h) c w = (stated_shape h.vol h.plex Active (whole_of c h.vol h.plex) c).names w
+by_frames : (o : Option Held) (c : Config) (w : ℕ) → frame_at (config_by o c) w ≡ frame_at c w
+by_frames None c w = refl
+by_frames (Some h) c w = (stated_shape h.vol h.plex Active (whole_of c h.vol h.plex) c).frames w
 
-back_names : (v p : ℕ) (c2 c3 : GroupCore) → HeldBack v p c2 c3 → (w : ℕ) → volume_name c3.inner.config w ≡ volume_name c2.inner.config w
-back_names v p c2 c3 (inl same) w = ap (λ (k : GroupCore). volume_name k.inner.config w) same.0
-back_names v p c2 c3 (inr it) w = ap (λ (k : GroupCore). volume_name k.inner.config w) it.0 ∙ (stated_shape v p Stale (whole_of c2.inner.config v p) c2.inner.config).names w
+back_frames : (v p : ℕ) (c2 c3 : GroupCore) → HeldBack v p c2 c3 → (w : ℕ) → frame_at c3.inner.config w ≡ frame_at c2.inner.config w
+back_frames v p c2 c3 (inl same) w = ap (λ (k : GroupCore). frame_at k.inner.config w) same.0
+back_frames v p c2 c3 (inr it) w = ap (λ (k : GroupCore). frame_at k.inner.config w) it.0 ∙ (stated_shape v p Stale (whole_of c2.inner.config v p) c2.inner.config).frames w
 
-again_names : (o : Option Held) (c2 c3 : GroupCore) → HeldAgain o c2 c3 → (w : ℕ) → volume_name c3.inner.config w ≡ volume_name c2.inner.config w
-again_names None c2 c3 same w = ap (λ (k : GroupCore). volume_name k.inner.config w) same
-again_names (Some h) c2 c3 back w = back_names h.vol h.plex c2 c3 back w
+again_frames : (o : Option Held) (c2 c3 : GroupCore) → HeldAgain o c2 c3 → (w : ℕ) → frame_at c3.inner.config w ≡ frame_at c2.inner.config w
+again_frames None c2 c3 same w = ap (λ (k : GroupCore). frame_at k.inner.config w) same
+again_frames (Some h) c2 c3 back w = back_frames h.vol h.plex c2 c3 back w
 
 module _ (c0 mid c2 new : GroupCore) (x : Inner) (m m1 m2 : Meaning) (stands : GroupStands c0 m) (mid_stands : GroupStands mid m1) (narrows : Narrows (wide c0) (wide mid) m m1) (volumes : mid.inner.config.volumes ≡ c0.inner.config.volumes)
     (o : Option Held) (held : o ≡ mid.held) (x_is : x ≡ wide mid) (none : c2.held ≡ None) (again : HeldAgain o c2 new) where
@@ -216,6 +224,53 @@ module _ (c0 mid c2 new : GroupCore) (x : Inner) (m m1 m2 : Meaning) (stands : G
   blamed_first : (w q : ℕ) → PlexBlamed x.config w q m1 m2 → PlexBlamed c0.inner.config w q m m2
   blamed_first w q blamed = blamed_later c0.inner.config w q m m1 m2 narrows.acts.faults (blamed_by c0.inner.config x.config w q m1 m2 (x_uses w q) blamed)
 
+  -- a plex that is ACTIVE was so, or it is the one that was held back, and another one of its volume failed
+  held_vol : (h : Held) → mid.held ≡ Some h → h.vol < length mid.inner.config.volumes
+  held_vol h is =
+      let t = there_of (active_at h.vol h.plex mid.inner.config) h.vol h.plex (mid_stands.held h is).is_on in
+      let lt : h.vol < length (active_at h.vol h.plex mid.inner.config).volumes = there_less (active_at h.vol h.plex mid.inner.config).volumes h.vol t.volume t.at_v in
+      let count = (stated_shape h.vol h.plex Active (whole_of mid.inner.config h.vol h.plex) mid.inner.config).volumes in
+      omega (arith, lt, count)
+
+  from_none : o ≡ None → (w q : ℕ) → IsTrue (active x.config w q) → IsTrue (active c0.inner.config w q)
+  from_none is w q on = sym (active_volumes mid.inner.config c0.inner.config volumes w q) ∙ sym (ap (λ (i : Inner). active i.config w q) (x_is ∙ wide_none mid (sym held ∙ is))) ∙ on
+
+  from_some : (h : Held) → o ≡ Some h → (w q : ℕ) → (w ≡ h.vol → q ≡ h.plex → ⊥) → IsTrue (active x.config w q) → IsTrue (active c0.inner.config w q)
+  from_some h is w q apart on =
+      sym (active_volumes mid.inner.config c0.inner.config volumes w q)
+      ∙ sym (active_apart h.vol h.plex Active (whole_of mid.inner.config h.vol h.plex) mid.inner.config w q apart)
+      ∙ sym (ap (λ (i : Inner). active i.config w q) x_is ∙ ap (λ (k : Option Held). active (config_by k mid.inner.config) w q) (sym held ∙ is)) ∙ on
+
+  back_on : (w q : ℕ) → (IsTrue (active x.config w q) → IsTrue (active c0.inner.config w q)) → IsTrue (active x.config w q) ⊎ AnyBlamed x.config w m1 m2 → IsTrue (active c0.inner.config w q) ⊎ AnyBlamed c0.inner.config w m m2
+  back_on w q from (inl on) = inl (from on)
+  back_on w q from (inr any) = inr (any.0, blamed_first w any.0 any.1)
+
+  last_one : (h : Held) → mid.held ≡ Some h → HeldBack h.vol h.plex c2 new → LosesPlexes x.config c2.inner.config m1 m2 → IsTrue (active new.inner.config h.vol h.plex) → AnyBlamed c0.inner.config h.vol m m2
+  last_one h is (inl same) loses on =
+      let alone : any_below (is_other c2.inner.config h.vol h.plex) (plexes_of c2.inner.config h.vol) ≡ false = same.1 (sym (ap (λ (g : GroupCore). active g.inner.config h.vol h.plex) same.0) ∙ on) in
+      let some : SomeActive mid.inner.config h.vol = narrow_some mid m1 mid_stands h.vol (held_vol h is) in
+      elim (loses.plexes h.vol some.plex (ap (λ (i : Inner). active i.config h.vol some.plex) x_is ∙ narrow_wider mid m1 mid_stands h.vol some.plex some.is_on)) [
+        | inl still ↦ absurd (
+            let other : HasOther c2.inner.config h.vol h.plex = record {
+              plex = some.plex;
+              is_on = still;
+              apart = λ e. (let off : active mid.inner.config h.vol h.plex ≡ false = (mid_stands.held h is).off in
+                  let no_one : false ≡ true = sym off ∙ subst (λ (r : ℕ). IsTrue (active mid.inner.config h.vol r)) e some.is_on in absurd cc);
+            } in
+            let no_one : true ≡ false = sym (any_of c2.inner.config h.vol h.plex other) ∙ alone in cc)
+        | inr blamed ↦ (some.plex, blamed_first h.vol some.plex blamed)
+      ]
+  last_one h is (inr it) loses on = absurd (
+      let no_one : false ≡ true = sym (active_off h.vol h.plex c2.inner.config) ∙ sym (ap (λ (g : GroupCore). active g.inner.config h.vol h.plex) it.0) ∙ on in cc)
+
+  last_on : (k : Option Held) → o ≡ k → HeldAgain k c2 new → LosesPlexes x.config c2.inner.config m1 m2 → (w q : ℕ) → IsTrue (active new.inner.config w q) → IsTrue (active c0.inner.config w q) ⊎ AnyBlamed c0.inner.config w m m2
+  last_on None is same loses w q on = back_on w q (from_none is w q) (loses.on w q (sym (ap (λ (g : GroupCore). active g.inner.config w q) same) ∙ on))
+  last_on (Some h) is back loses w q on = elim (here_or_apart w h.vol q h.plex) [
+    | inl here ↦ inr (subst (λ (y : ℕ). AnyBlamed c0.inner.config y m m2) (sym here.0) (last_one h (sym held ∙ is) back loses
+        (subst (λ (y : ℕ). IsTrue (active new.inner.config y h.plex)) here.0 (subst (λ (r : ℕ). IsTrue (active new.inner.config w r)) here.1 on))))
+    | inr apart ↦ back_on w q (from_some h is w q apart) (loses.on w q (sym (back_others h.vol h.plex c2 new none back w q apart) ∙ on))
+  ]
+
   pub through_gives : {T : Type 0} (v : ℕ) (r : Result T ShelfError) → GivesUp v x c2.inner m1 m2 r → GivesUp v c0.inner new.inner m m2 r
   through_gives v (Ok y) gives = tt
   through_gives v (Err (Fault disk)) gives = (
@@ -231,8 +286,9 @@ module _ (c0 mid c2 new : GroupCore) (x : Inner) (m m1 m2 : Meaning) (stands : G
       rvg = ap (λ (i : Inner). i.config.rvg) new_wide ∙ loses.parts.rvg ∙ ap (λ (i : Inner). i.config.rvg) x_is ∙ parts.rvg;
       count = ap (λ (i : Inner). length i.config.disks) new_wide ∙ loses.parts.count ∙ ap (λ (i : Inner). length i.config.disks) x_is ∙ parts.count;
     };
-    names = λ w. again_names o c2 new again w ∙ loses.names w ∙ ap (λ (i : Inner). volume_name i.config w) x_is ∙ by_names mid.held mid.inner.config w ∙ names_volumes mid.inner.config c0.inner.config volumes w;
+    frames = λ w. again_frames o c2 new again w ∙ loses.frames w ∙ ap (λ (i : Inner). frame_at i.config w) x_is ∙ by_frames mid.held mid.inner.config w ∙ frames_volumes mid.inner.config c0.inner.config volumes w;
     lies = λ w q u. again_uses o c2 new again w q u ∙ loses.lies w q u ∙ x_uses w q u;
+    on = last_on o refl again loses;
     plexes = λ w q is. elim (loses.plexes w q (to_x w q is)) [
       | inl on ↦ inl (by_active o refl again w q (mid_on w q is) on)
       | inr blamed ↦ inr (blamed_first w q blamed)

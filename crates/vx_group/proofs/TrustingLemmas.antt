@@ -110,7 +110,7 @@ module _ (v : ℕ) (log : VolumeLog) (c : Config) where
   pub trusting_shape : SameShape c t
   trusting_shape = record {
     volumes = sym ((lost_plexes v log c).shape.volumes) ∙ on_lost.shape.volumes;
-    names = λ w. sym ((lost_plexes v log c).shape.names w) ∙ on_lost.shape.names w;
+    frames = λ w. sym ((lost_plexes v log c).shape.frames w) ∙ on_lost.shape.frames w;
     blocks = λ w. sym ((lost_plexes v log c).shape.blocks w) ∙ on_lost.shape.blocks w;
     place = λ w q b. sym ((lost_plexes v log c).shape.place w q b) ∙ on_lost.shape.place w q b;
     logs = λ w k. sym ((lost_plexes v log c).shape.logs w k) ∙ on_lost.shape.logs w k;

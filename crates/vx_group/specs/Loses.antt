@@ -5,7 +5,7 @@ use Rattle.vx_config.specs.declared.config.Config.{Config}
 use Rattle.vx_copies.specs.Commits.{MoreFailed}
 use Rattle.vx_volume.specs.Plexes.{active, uses}
 use Rattle.vx_volume.specs.Volumes.{PlexBlamed}
-use Rattle.vx_kept.specs.Keeping.{volume_name}
+use Rattle.vx_kept.specs.Keeping.{frame_at}
 
 -- the same but for the serial, the volumes, and disks that are held as failed
 pub record SameParts (c d : Config) : Type 0 where
@@ -13,11 +13,17 @@ pub record SameParts (c d : Config) : Type 0 where
   pub rvg : d.rvg ≡ c.rvg
   pub count : length d.disks ≡ length c.disks
 
--- The same volumes by their names, of which plexes lie on the disks on which they lay. One that was ACTIVE is so, or a call on one of its disks
--- failed; a disk is newly held as failed only where a call on it failed.
+-- a call on a disk of some plex of the volume failed
+abbrev pub AnyBlamed : Config → ℕ → Meaning → Meaning → Type 0
+AnyBlamed c v old new = (q : ℕ) × PlexBlamed c v q old new
+
+-- The same volumes but for the states of their plexes, which lie on the disks on which they lay. One that was ACTIVE is so, or a call on one of its
+-- disks failed; one that was not is not, or a call on another one failed, as one that is held back may be the last one. A disk is newly held as failed
+-- only where a call on it failed.
 pub record LosesPlexes (c d : Config) (old new : Meaning) : Type 0 where
   pub parts : SameParts c d
-  pub names : (v : ℕ) → volume_name d v ≡ volume_name c v
+  pub frames : (v : ℕ) → frame_at d v ≡ frame_at c v
   pub lies : (v p u : ℕ) → uses d v p u ≡ uses c v p u
+  pub on : (v p : ℕ) → IsTrue (active d v p) → IsTrue (active c v p) ⊎ AnyBlamed c v old new
   pub plexes : (v p : ℕ) → IsTrue (active c v p) → IsTrue (active d v p) ⊎ PlexBlamed c v p old new
   pub disks : MoreFailed old new c.disks d.disks

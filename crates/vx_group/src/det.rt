@@ -1,5 +1,6 @@
 // A plex that is detached by its name.
 ghost use Rattle.std.specs.Prelude.{◌≡◌, ℕ, false, true, IsOk, IsTrue, Some, None, Err, OnOk, IfErr};
+ghost use Rattle.vx_copies.specs.Commits.{MoreFailed};
 ghost use Rattle.vx_disk.specs.Shelf.{Goes, Nothing};
 ghost use Rattle.vx_group.specs.Dets.{DetStops, det_refusal};
 ghost use Rattle.vx_group.specs.Calls.{GroupNarrows};
@@ -66,6 +67,7 @@ pub fn det_in<S: Shelf>(
     ensures goes { Goes Nothing (inner_meaning (wide core.old) (S.meaning shelf.old)) (inner_meaning (wide core.new) (S.meaning shelf.new)) }
     ensures narrows { GroupNarrows core.old core.new (S.meaning shelf.old) (S.meaning shelf.new) }
     ensures parts { SameParts core.old.inner.config core.new.inner.config }
+    ensures disks { MoreFailed (S.meaning shelf.old) (S.meaning shelf.new) core.old.inner.config.disks core.new.inner.config.disks }
     ensures already { det_refusal core.old.inner.config vol plex ≡ None → active core.old.inner.config vol plex ≡ false → IsOk result × (core.new ≡ core.old) × (shelf.new ≡ shelf.old) }
     ensures newest { IsTrue (active core.old.inner.config vol plex) → OnOk result (IsCommitted core.new.inner.config (S.meaning shelf.new)) }
     ensures off { OnOk result (active core.new.inner.config vol plex ≡ false) }

@@ -129,6 +129,7 @@ impl<S: Shelf> Group<S> {
         ensures stays { GroupStays self.old.core self.new.core (S.meaning self.old.shelf) (S.meaning self.new.shelf) }
         ensures below { SameUnits (S.meaning self.old.shelf) (S.meaning self.new.shelf) }
         ensures parts { SameParts self.old.core.inner.config self.new.core.inner.config }
+        ensures disks { MoreFailed (S.meaning self.old.shelf) (S.meaning self.new.shelf) self.old.core.inner.config.disks self.new.core.inner.config.disks }
         ensures held { OnOk result (self.new.core.held ≡ None) }
         ensures up { OnOk result (IsTrue (S.meaning self.new.shelf).down → ⊥) }
         ensures newest { OnOk result (IsCommitted self.new.core.inner.config (S.meaning self.new.shelf)) }
@@ -175,6 +176,7 @@ impl<S: Shelf> Group<S> {
         ensures goes { Goes Nothing (inner_meaning (wide self.old.core) (S.meaning self.old.shelf)) (inner_meaning (wide self.new.core) (S.meaning self.new.shelf)) }
         ensures narrows { GroupNarrows self.old.core self.new.core (S.meaning self.old.shelf) (S.meaning self.new.shelf) }
         ensures parts { SameParts self.old.core.inner.config self.new.core.inner.config }
+        ensures disks { MoreFailed (S.meaning self.old.shelf) (S.meaning self.new.shelf) self.old.core.inner.config.disks self.new.core.inner.config.disks }
         ensures already { det_refusal self.old.core.inner.config vol plex ≡ None → active self.old.core.inner.config vol plex ≡ false → IsOk result × (self.new.core ≡ self.old.core) × (self.new.shelf ≡ self.old.shelf) }
         ensures newest { IsTrue (active self.old.core.inner.config vol plex) → OnOk result (IsCommitted self.new.core.inner.config (S.meaning self.new.shelf)) }
         ensures off { OnOk result (active self.new.core.inner.config vol plex ≡ false) }

@@ -11,6 +11,7 @@ ghost use Rattle.vx_group.specs.Holding.{GroupStands};
 ghost use Rattle.vx_group.specs.Loses.{SameParts};
 ghost use Rattle.vx_group.specs.Makes.{MakeEnds, MakesBeside, StayAsWere, Unmoved, ZerosOn, make_refusal};
 ghost use Rattle.vx_group.specs.Nexts.{Adds, IsNextConfig, PlanEnds};
+ghost use Rattle.vx_copies.specs.Commits.{MoreFailed};
 ghost use Rattle.vx_disk.specs.Moves.{Anything};
 ghost use Rattle.vx_kept.specs.Commits.{IsCommitted};
 ghost use Rattle.vx_kept.specs.Keeping.{Acts};
@@ -79,6 +80,7 @@ fn add_last<S: Shelf>(shelf: &mut S, core: &mut Inner, next: Config) -> Result<(
     ensures adds { Adds core.old core.new next (S.meaning shelf.new) result }
     ensures up { OnOk result (IsTrue (S.meaning shelf.new).down → ⊥) }
     ensures parts { SameParts core.old.config core.new.config }
+    ensures disks { MoreFailed (S.meaning shelf.old) (S.meaning shelf.new) core.old.config.disks core.new.config.disks }
     ensures newest { OnOk result (IsCommitted core.new.config (S.meaning shelf.new)) }
     ensures beside { Acts (ZerosOn next (length core.old.config.volumes)) Anything (S.meaning shelf.old) (S.meaning shelf.new) }
     ensures trust { OnOk result (core.old.committed ≡ true → core.new.committed ≡ true) }
@@ -124,6 +126,7 @@ fn add<S: Shelf>(shelf: &mut S, core: &mut Inner, next: Config) -> Result<(), Sh
     ensures adds { Adds core.old core.new next (S.meaning shelf.new) result }
     ensures up { OnOk result (IsTrue (S.meaning shelf.new).down → ⊥) }
     ensures parts { SameParts core.old.config core.new.config }
+    ensures disks { MoreFailed (S.meaning shelf.old) (S.meaning shelf.new) core.old.config.disks core.new.config.disks }
     ensures newest { OnOk result (IsCommitted core.new.config (S.meaning shelf.new)) }
     ensures beside { MakesBeside core.old.config (S.meaning shelf.old) (S.meaning shelf.new) }
     ensures trust { OnOk result (core.old.committed ≡ true → core.new.committed ≡ true) }
@@ -162,6 +165,7 @@ pub fn make_in<S: Shelf>(
     ensures beside { MakesBeside core.old.inner.config (S.meaning shelf.old) (S.meaning shelf.new) }
     ensures ends { make_refusal core.old.inner.config name.now want.now ≡ None → MakeEnds name.now want.now core.old.inner core.new.inner (S.meaning shelf.old) (S.meaning shelf.new) result }
     ensures parts { SameParts core.old.inner.config core.new.inner.config }
+    ensures disks { MoreFailed (S.meaning shelf.old) (S.meaning shelf.new) core.old.inner.config.disks core.new.inner.config.disks }
     ensures held { OnOk result (core.new.held ≡ None) }
     ensures up { OnOk result (IsTrue (S.meaning shelf.new).down → ⊥) }
     ensures newest { OnOk result (IsCommitted core.new.inner.config (S.meaning shelf.new)) }

@@ -19,7 +19,8 @@ use Rattle.vx_layout.specs.Places.{HasBlock, has_plex, place, plex_at, plex_in}
 use Rattle.vx_volume.specs.Plexes.{Inside, active, active_or}
 use Rattle.vx_kept.specs.Choice.{chosen, live, live_or}
 use Rattle.vx_kept.specs.Groups.{OnSome, found, found_by, group_meaning}
-use Rattle.vx_kept.specs.Keeping.{Extends, volume_name}
+use Rattle.vx_kept.specs.Keeping.{Extends, frame_at}
+use Rattle.vx_kept.proofs.Frames.{names_of}
 use Rattle.vx_kept.proofs.Chosen.{extends_shape, extends_volumes, live_volumes, place_volumes}
 use Rattle.vx_kept.proofs.Lasting.{cases_bool}
 use Rattle.vx_kept.proofs.Low.{found_same, import_low}
@@ -113,7 +114,7 @@ not_trusted false none = refl
 then_extends : (z x c : Config) → Extends z x → Extends x c → length x.volumes ≡ length c.volumes → Extends z c
 then_extends z x c one two same = record {
   volumes = let a = one.volumes in omega (arith, a, same);
-  names = λ v lt. one.names v (omega (arith, lt, same)) ∙ two.names v lt;
+  frames = λ v lt. one.frames v (omega (arith, lt, same)) ∙ two.frames v lt;
   blocks = λ v lt. one.blocks v (omega (arith, lt, same)) ∙ two.blocks v lt;
   place = λ v p b lt. one.place v p b (omega (arith, lt, same)) ∙ two.place v p b lt;
   logs = λ v log lt. one.logs v log (omega (arith, lt, same)) ∙ two.logs v log lt;
@@ -282,7 +283,7 @@ module _ (n : Node) (note : GroupNode) (last : Config) (old : Meaning) (law : La
       });
       volumes = λ tells. let a = (extends_x can x opened up.readable up.image up.read up.is up.opens tells).volumes in let count = ap (λ (i : Inner). length i.config.volumes) is in let b = r.goes.units in omega (arith, a, b, count, x_long);
       sizes = λ tells v lt. ap (λ (i : Inner). blocks_of i.config.volumes v) is ∙ r.goes.size v ∙ blocks_x v ∙ (extends_x can x opened up.readable up.image up.read up.is up.opens tells).blocks v lt;
-      names = λ tells v lt. ap (λ (i : Inner). volume_name i.config v) is ∙ r.loses.names v ∙ up.opens.alike.shape.names v ∙ (extends_x can x opened up.readable up.image up.read up.is up.opens tells).names v lt;
+      names = λ tells v lt. names_of core.config last v v (ap (λ (i : Inner). frame_at i.config v) is ∙ r.loses.frames v ∙ up.opens.alike.shape.frames v ∙ (extends_x can x opened up.readable up.image up.read up.is up.opens tells).frames v lt);
       may = λ tells v b inside on. may_by tells v b (cases_lt v (length opened.volumes)) (stopped x v) refl inside on;
     }
 

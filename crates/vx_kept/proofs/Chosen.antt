@@ -12,7 +12,7 @@ use Rattle.vx_copies.specs.Bodies.{failed_in}
 use Rattle.vx_kept.specs.Choice.{chosen, chosen_or, first_plex, first_where, is_whole, live, live_or}
 use Rattle.vx_layout.specs.Places.{place, place_or, plex_in}
 use Rattle.vx_volume.specs.Plexes.{active, active_or}
-use Rattle.vx_kept.specs.Keeping.{Extends, SameShape, name_or, volume_name}
+use Rattle.vx_kept.specs.Keeping.{Extends, SameShape, frame_or, frame_at}
 use Rattle.vx_kept.proofs.RunLemmas.{logs_volumes, none_live, none_trusted, run_same, trust_from, trust_same}
 
 -- ---- where every disk can be read, none is missing
@@ -49,13 +49,13 @@ pub live_volumes : (x a : Config) → x.volumes ≡ a.volumes → (v p : ℕ) �
 unfolding live
 live_volumes x a volumes v p = ap (λ vs. live_or (plex_in (slice_get vs v) p)) volumes
 
-pub names_volumes : (x a : Config) → x.volumes ≡ a.volumes → (v : ℕ) → volume_name x v ≡ volume_name a v
-names_volumes x a volumes v = ap (λ vs. name_or (slice_get vs v)) volumes
+pub frames_volumes : (x a : Config) → x.volumes ≡ a.volumes → (v : ℕ) → frame_at x v ≡ frame_at a v
+frames_volumes x a volumes v = ap (λ vs. frame_or (slice_get vs v)) volumes
 
 pub alike_shape : (x a c : Config) → x.volumes ≡ a.volumes → SameShape a c → SameShape x c
 alike_shape x a c volumes shape = record {
   volumes = ap length volumes ∙ shape.volumes;
-  names = λ v. names_volumes x a volumes v ∙ shape.names v;
+  frames = λ v. frames_volumes x a volumes v ∙ shape.frames v;
   blocks = λ v. ap (λ vs. blocks_of vs v) volumes ∙ shape.blocks v;
   place = λ v p b. place_volumes x a volumes v p b ∙ shape.place v p b;
   logs = λ v log. run_same x a v v log (logs_volumes x a volumes v log) ∙ shape.logs v log;
@@ -65,7 +65,7 @@ alike_shape x a c volumes shape = record {
 pub alike_extends : (x a c : Config) → x.volumes ≡ a.volumes → Extends a c → Extends x c
 alike_extends x a c volumes shape = record {
   volumes = let le = shape.volumes in omega (arith, ap length volumes, le);
-  names = λ v lt. names_volumes x a volumes v ∙ shape.names v lt;
+  frames = λ v lt. frames_volumes x a volumes v ∙ shape.frames v lt;
   blocks = λ v lt. ap (λ vs. blocks_of vs v) volumes ∙ shape.blocks v lt;
   place = λ v p b lt. place_volumes x a volumes v p b ∙ shape.place v p b lt;
   logs = λ v log lt. run_same x a v v log (logs_volumes x a volumes v log) ∙ shape.logs v log lt;
@@ -77,7 +77,7 @@ alike_extends x a c volumes shape = record {
 pub same_extends : (x c : Config) → SameShape x c → Extends x c
 same_extends x c same = record {
   volumes = let is = same.volumes in omega (arith, is);
-  names = λ v lt. same.names v;
+  frames = λ v lt. same.frames v;
   blocks = λ v lt. same.blocks v;
   place = λ v p b lt. same.place v p b;
   logs = λ v log lt. same.logs v log;
@@ -90,7 +90,7 @@ same_extends x c same = record {
 pub extends_volumes : (x c e : Config) → e.volumes ≡ c.volumes → Extends x c → Extends x e
 extends_volumes x c e volumes shape = record {
   volumes = let le = shape.volumes in omega (arith, ap length volumes, le);
-  names = λ v lt. shape.names v (omega (arith, ap length volumes, lt)) ∙ sym (names_volumes e c volumes v);
+  frames = λ v lt. shape.frames v (omega (arith, ap length volumes, lt)) ∙ sym (frames_volumes e c volumes v);
   blocks = λ v lt. shape.blocks v (omega (arith, ap length volumes, lt)) ∙ ap (λ vs. blocks_of vs v) (sym volumes);
   place = λ v p b lt. shape.place v p b (omega (arith, ap length volumes, lt)) ∙ sym (place_volumes e c volumes v p b);
   logs = λ v log lt. shape.logs v log (omega (arith, ap length volumes, lt)) ∙ sym (run_same e c v v log (logs_volumes e c volumes v log));
@@ -103,7 +103,7 @@ extends_volumes x c e volumes shape = record {
 pub extends_shape : (x d c : Config) → Extends x d → SameShape d c → Extends x c
 extends_shape x d c more same = record {
   volumes = let le = more.volumes in let is = same.volumes in omega (arith, le, is);
-  names = λ v lt. more.names v (there v lt) ∙ same.names v;
+  frames = λ v lt. more.frames v (there v lt) ∙ same.frames v;
   blocks = λ v lt. more.blocks v (there v lt) ∙ same.blocks v;
   place = λ v p b lt. more.place v p b (there v lt) ∙ same.place v p b;
   logs = λ v log lt. more.logs v log (there v lt) ∙ same.logs v log;

@@ -19,3 +19,4 @@ pub mod Trusting
 pub mod RunLemmas
 pub mod LosingLemmas
 pub mod PlexActing
+pub mod Frames

@@ -1,11 +1,11 @@
 -- What a change of the states of plexes leaves as it was.
 use Rattle.std.proofs.Common.{◌≡◌, inl, inr, ℕ, zero, suc, ◌<◌, Bool, true, false, IsTrue, Option, Some, None, List, [], ◌∷◌, refl, ap, sym, ◌∙◌, subst, arith}
-use Rattle.std.specs.Prelude.{slice_get, if◌then◌else◌}
+use Rattle.std.specs.Prelude.{map, slice_get, if◌then◌else◌}
 use Rattle.std.proofs.lemmas.Bool.{cases_eq, cases_lt}
 use Rattle.vx_disk.specs.Blocks.{bit_at}
 use Rattle.vx_model.specs.declared.site.PlexState.{PlexState}
 use Rattle.vx_model.specs.declared.site.PlexState.TheVariants.{Active, Clean, Stale}
-use Rattle.vx_config.specs.Changes.{changed_at, stated, with_plex, with_state}
+use Rattle.vx_config.specs.Changes.{changed_at, lost_as, stated, with_plex, with_state}
 use Rattle.vx_config.specs.Checks.{blocks_of, blocks_or_none, column_blocks}
 use Rattle.vx_config.specs.declared.config.Config.{Config}
 use Rattle.vx_config.specs.declared.entry.PlexEntry.{PlexEntry}
@@ -17,7 +17,7 @@ use Rattle.vx_config.proofs.Fewer.{stated_back}
 use Rattle.vx_layout.specs.Places.{linear, located, place, place_in, place_or, plex_at, plex_in}
 use Rattle.vx_volume.specs.Plexes.{active, active_or, is_active}
 use Rattle.vx_kept.specs.Choice.{live, live_or}
-use Rattle.vx_kept.specs.Keeping.{SameShape, name_or}
+use Rattle.vx_kept.specs.Keeping.{SameShape, frame, frame_or}
 use Rattle.vx_kept.specs.States.{staled, stale_at, whole_of, whole_or}
 use Rattle.vx_kept.proofs.RunLemmas.{run_same, trust_from}
 use Rattle.vx_maplog.specs.Logs.{log_of, log_or}
@@ -90,11 +90,17 @@ module _ (v p : ℕ) (s : PlexState) (w : Bool) (c : Config) where
     | inr other ↦ ap (log_or k) (volume_other x other)
   ]
 
-  -- ---- names
+  -- ---- frames
 
-  names_map : (o : Option VolumeEntry) → name_or (map_one (with_plex p s w) o) ≡ name_or o
-  names_map None = refl
-  names_map (Some x) = refl
+  bare_set : (q : ℕ) (ps : List PlexEntry) → map (with_state Stale false) (changed_at (with_state s w) q ps) ≡ map (with_state Stale false) ps
+  bare_set q [] = refl
+  bare_set zero (e ∷ ps) = refl
+  bare_set (suc q) (e ∷ ps) = ap (λ (rest : List PlexEntry). with_state Stale false e ∷ rest) (bare_set q ps)
+
+  frames_map : (o : Option VolumeEntry) → frame_or (map_one (with_plex p s w) o) ≡ frame_or o
+  unfolding frame
+  frames_map None = refl
+  frames_map (Some x) = ap (λ (ps : List PlexEntry). Some (record { name = x.name; blocks = x.blocks; ncol = x.ncol; width = x.width; prefer = x.prefer; drl = lost_as false x.drl; fmr = lost_as false x.fmr; plexes = ps })) (bare_set p x.plexes)
 
   -- ---- places
 
@@ -126,9 +132,9 @@ module _ (v p : ℕ) (s : PlexState) (w : Bool) (c : Config) where
   unfolding place
   stated_shape = record {
     volumes = changed-length (with_plex p s w) v c.volumes;
-    names = λ x. elim (cases_eq x v) [
-      | inl same ↦ subst (λ (y : ℕ). name_or (slice_get d.volumes y) ≡ name_or (slice_get c.volumes y)) (sym same) (ap name_or volume_same ∙ names_map (slice_get c.volumes v))
-      | inr other ↦ ap name_or (volume_other x other)
+    frames = λ x. elim (cases_eq x v) [
+      | inl same ↦ subst (λ (y : ℕ). frame_or (slice_get d.volumes y) ≡ frame_or (slice_get c.volumes y)) (sym same) (ap frame_or volume_same ∙ frames_map (slice_get c.volumes v))
+      | inr other ↦ ap frame_or (volume_other x other)
     ];
     blocks = λ x. elim (cases_eq x v) [
       | inl same ↦ subst (λ (y : ℕ). blocks_of d.volumes y ≡ blocks_of c.volumes y) (sym same) (ap blocks_or_none volume_same ∙ blocks_map (slice_get c.volumes v))
@@ -175,12 +181,12 @@ module _ (v p : ℕ) (c : Config) where
 -- ---- several plexes STALE
 
 pub same_shape : (c : Config) → SameShape c c
-same_shape c = record { volumes = refl; names = λ v. refl; blocks = λ v. refl; place = λ v p b. refl; logs = λ v log. refl; trusted = λ v log is. is }
+same_shape c = record { volumes = refl; frames = λ v. refl; blocks = λ v. refl; place = λ v p b. refl; logs = λ v log. refl; trusted = λ v log is. is }
 
 pub then_shape : (x y z : Config) → SameShape x y → SameShape y z → SameShape x z
 then_shape x y z one two = record {
   volumes = one.volumes ∙ two.volumes;
-  names = λ v. one.names v ∙ two.names v;
+  frames = λ v. one.frames v ∙ two.frames v;
   blocks = λ v. one.blocks v ∙ two.blocks v;
   place = λ v p b. one.place v p b ∙ two.place v p b;
   logs = λ v log. one.logs v log ∙ two.logs v log;

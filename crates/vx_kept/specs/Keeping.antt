@@ -1,10 +1,12 @@
 -- What the disks of a group keep: in each image that a crash may leave, each plex that takes part is ACTIVE in memory.
-use Rattle.std.specs.Prelude.{◌≡◌, ◌⊎◌, ℕ, ◌+◌, ◌<◌, ◌≤◌, Bool, true, false, IsTrue, IsFalse, Option, Some, None, List, [], length, slice_get}
+use Rattle.std.specs.Prelude.{◌≡◌, ◌⊎◌, ℕ, ◌+◌, ◌<◌, ◌≤◌, Bool, true, false, IsTrue, IsFalse, Option, Some, None, List, [], length, map, slice_get}
+use Rattle.vx_model.specs.declared.site.PlexState.TheVariants.{Stale}
 use Rattle.vx_disk.specs.Moves.{Says}
 use Rattle.vx_disk.specs.Shelf.{Each, Image, Meaning, Or, Values}
 use Rattle.vx_copyfmt.specs.Commits.{Counts, Tidy}
 use Rattle.vx_copyfmt.specs.Imports.{Found}
 use Rattle.vx_config.specs.Checks.{blocks_of}
+use Rattle.vx_config.specs.Changes.{lost_as, with_state}
 use Rattle.vx_config.specs.declared.config.Config.{Config}
 use Rattle.vx_config.specs.declared.entry.VolumeEntry.{VolumeEntry}
 use Rattle.vx_config.specs.declared.entry.VolumeLog.{VolumeLog}
@@ -24,20 +26,41 @@ name_or (Some v) = v.name
 abbrev pub volume_name : Config → ℕ → List ℕ
 volume_name c v = name_or (slice_get c.volumes v)
 
--- the same volumes by their names, with the same places of plexes and logs; each log that x trusts c trusts
+-- A volume as no attach, detach or loss changes it: each plex STALE and not whole, and no log lost.
+unfoldable pub frame : VolumeEntry → VolumeEntry
+frame v = record {
+  name = v.name;
+  blocks = v.blocks;
+  ncol = v.ncol;
+  width = v.width;
+  prefer = v.prefer;
+  drl = lost_as false v.drl;
+  fmr = lost_as false v.fmr;
+  plexes = map (with_state Stale false) v.plexes;
+}
+
+abbrev pub frame_or : Option VolumeEntry → Option VolumeEntry
+frame_or None = None
+frame_or (Some v) = Some (frame v)
+
+-- the same of the volume at this place
+abbrev pub frame_at : Config → ℕ → Option VolumeEntry
+frame_at c v = frame_or (slice_get c.volumes v)
+
+-- the same volumes but for the states of their plexes, with the same places of plexes and logs; each log that x trusts c trusts
 pub record SameShape (x c : Config) : Type 0 where
   pub volumes : length x.volumes ≡ length c.volumes
-  pub names : (v : ℕ) → volume_name x v ≡ volume_name c v
+  pub frames : (v : ℕ) → frame_at x v ≡ frame_at c v
   pub blocks : (v : ℕ) → blocks_of x.volumes v ≡ blocks_of c.volumes v
   pub place : (v p b : ℕ) → place x v p b ≡ place c v p b
   pub logs : (v : ℕ) (log : VolumeLog) → log_place x v log ≡ log_place c v log
   pub trusted : (v : ℕ) (log : VolumeLog) → log_trusted x v log ≡ true → log_trusted c v log ≡ true
 
--- the volumes of c are the first ones of x, with the same names and places of plexes and logs; each log of them that x trusts c trusts. Of its
--- other volumes x trusts no log, and each plex that takes part is ACTIVE.
+-- the volumes of c are the first ones of x, the same but for the states of their plexes, with the same places of plexes and logs; each log of them
+-- that x trusts c trusts. Of its other volumes x trusts no log, and each plex that takes part is ACTIVE.
 pub record Extends (x c : Config) : Type 0 where
   pub volumes : length c.volumes ≤ length x.volumes
-  pub names : (v : ℕ) → v < length c.volumes → volume_name x v ≡ volume_name c v
+  pub frames : (v : ℕ) → v < length c.volumes → frame_at x v ≡ frame_at c v
   pub blocks : (v : ℕ) → v < length c.volumes → blocks_of x.volumes v ≡ blocks_of c.volumes v
   pub place : (v p b : ℕ) → v < length c.volumes → place x v p b ≡ place c v p b
   pub logs : (v : ℕ) (log : VolumeLog) → v < length c.volumes → log_place x v log ≡ log_place c v log

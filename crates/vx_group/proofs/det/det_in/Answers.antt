@@ -7,6 +7,7 @@ use Rattle.vx_group.proofs.DetLemmas.{may_room, may_serial}
 use Rattle.vx_group.proofs.HoldLemmas.{det_other, from_none, none_Stands, wide_none}
 use Rattle.vx_group.proofs.QuiesceLemmas.{both_parts}
 use Rattle.vx_group.proofs.ThroughLemmas.{released_active, released_goes, released_narrows, second_narrows, through_goes}
+use Rattle.vx_group.proofs.FailingLemmas.{then_failing}
 use Rattle.vx_group.proofs.det.det_in.Goals as goal
 
 pub returns-in-Err-clause-goes : goal.returns-in-Err-clause-goes
@@ -71,3 +72,13 @@ returns-in-Err-detach_plex-clause-narrows g c =
 
 pub returns-in-Err-detach_plex-clause-others : goal.returns-in-Err-detach_plex-clause-others
 returns-in-Err-detach_plex-clause-others g c = λ w p apart. c.detach_plex.ensures.others w p apart ∙ released_active c.args.core.now c.release.new.core (g.S.Shelf.meaning c.args.shelf.now) (g.S.Shelf.meaning c.release.new.shelf) c.requires.stands c.release.ensures.narrows c.release.ensures.volumes w p
+
+pub returns-in-Ok-detach_plex-clause-disks : goal.returns-in-Ok-detach_plex-clause-disks
+returns-in-Ok-detach_plex-clause-disks g c =
+    then_failing (g.S.Shelf.meaning c.args.shelf.now) (g.S.Shelf.meaning c.release.new.shelf) (g.S.Shelf.meaning c.detach_plex.new.shelf) c.release.ensures.narrows.acts.faults c.detach_plex.ensures.narrows.acts.faults
+    c.args.core.now.inner.config.disks c.release.new.core.inner.config.disks c.detach_plex.new.core.config.disks c.release.ensures.failing c.detach_plex.ensures.failing
+
+pub returns-in-Err-detach_plex-clause-disks : goal.returns-in-Err-detach_plex-clause-disks
+returns-in-Err-detach_plex-clause-disks g c =
+    then_failing (g.S.Shelf.meaning c.args.shelf.now) (g.S.Shelf.meaning c.release.new.shelf) (g.S.Shelf.meaning c.detach_plex.new.shelf) c.release.ensures.narrows.acts.faults c.detach_plex.ensures.narrows.acts.faults
+    c.args.core.now.inner.config.disks c.release.new.core.inner.config.disks c.detach_plex.new.core.config.disks c.release.ensures.failing c.detach_plex.ensures.failing

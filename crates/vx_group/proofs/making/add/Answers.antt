@@ -5,6 +5,7 @@ use Rattle.vx_group.specs.Nexts.{IsNextConfig}
 use Rattle.vx_group.proofs.DeportLemmas.{blames_stop, stops_later}
 use Rattle.vx_group.proofs.LoseLemmas.{but_parts, then_parts}
 use Rattle.vx_group.proofs.MakeLemmas.{begun_behind, later_adds, later_next, later_stay, nothing_beside, settled_stay}
+use Rattle.vx_group.proofs.FailingLemmas.{then_failing}
 use Rattle.vx_group.proofs.making.add.Goals as goal
 
 pub returns-in-Err-clause-stays : goal.returns-in-Err-clause-stays
@@ -52,3 +53,8 @@ returns-in-Err-clause-parts g c = but_parts c.args.core.now.config c.settle_head
 pub returns-clause-parts : goal.returns-clause-parts
 returns-clause-parts g c =
     then_parts c.args.core.now.config c.settle_headers.new.core.config c.add_last.new.core.config (but_parts c.args.core.now.config c.settle_headers.new.core.config c.settle_headers.ensures.same) c.add_last.ensures.parts
+
+pub returns-clause-disks : goal.returns-clause-disks
+returns-clause-disks g c =
+    then_failing (g.S.Shelf.meaning c.args.shelf.now) (g.S.Shelf.meaning c.settle_headers.new.shelf) (g.S.Shelf.meaning c.add_last.new.shelf) c.settle_headers.ensures.narrows.acts.faults c.add_last.ensures.beside.faults
+    c.args.core.now.config.disks c.settle_headers.new.core.config.disks c.add_last.new.core.config.disks c.settle_headers.ensures.failing c.add_last.ensures.disks

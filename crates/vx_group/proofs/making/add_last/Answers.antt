@@ -12,6 +12,8 @@ use Rattle.vx_group.proofs.LoseLemmas.{grown_parts, none_parts, then_parts}
 use Rattle.vx_group.proofs.MakeLemmas.{next_parts}
 use Rattle.vx_group.proofs.Standing.{kept_of, still_large}
 use Rattle.vx_group.proofs.TrustLemmas.{committed_or}
+use Rattle.vx_config.specs.declared.config.Config.{Config}
+use Rattle.vx_group.proofs.FailingLemmas.{no_failing, then_failing}
 use Rattle.vx_group.proofs.making.add_last.Goals as goal
 
 pub zero_volume-requires-clause-checked : goal.zero_volume-requires-clause-checked
@@ -129,3 +131,19 @@ returns-in-Ok-commit_next-clause-newest g c = record { finds = c.in-Ok-commit_ne
 
 pub returns-in-Ok-commit_next-clause-up : goal.returns-in-Ok-commit_next-clause-up
 returns-in-Ok-commit_next-clause-up g c = c.in-Ok-commit_next.ensures.up c.in-Ok.ensures.cause
+
+pub returns-in-Err-clause-disks : goal.returns-in-Err-clause-disks
+returns-in-Err-clause-disks g c = no_failing (g.S.Shelf.meaning c.args.shelf.now) (g.S.Shelf.meaning c.zero_volume.new.shelf) c.args.core.now.config.disks c.args.core.now.config.disks refl
+
+pub returns-in-Ok-commit_next-clause-disks : goal.returns-in-Ok-commit_next-clause-disks
+returns-in-Ok-commit_next-clause-disks g c =
+    then_failing (g.S.Shelf.meaning c.args.shelf.now) (g.S.Shelf.meaning c.zero_volume.new.shelf) (g.S.Shelf.meaning c.commit_next.new.shelf) c.zero_volume.ensures.goes.faults c.commit_next.ensures.acts.faults
+    c.args.core.now.config.disks c.args.next.disks c.commit_next.new.next.disks
+    (no_failing (g.S.Shelf.meaning c.args.shelf.now) (g.S.Shelf.meaning c.zero_volume.new.shelf) c.args.core.now.config.disks c.args.next.disks (ap (λ (x : Config). x.disks) c.requires.is_next.is))
+    c.in-Ok-commit_next.ensures.ends.grown.disks
+
+pub returns-then-is_down-clause-disks : goal.returns-then-is_down-clause-disks
+returns-then-is_down-clause-disks g c = no_failing (g.S.Shelf.meaning c.args.shelf.now) (g.S.Shelf.meaning c.commit_next.new.shelf) c.args.core.now.config.disks c.args.core.now.config.disks refl
+
+pub returns-else-is_down-clause-disks : goal.returns-else-is_down-clause-disks
+returns-else-is_down-clause-disks g c = no_failing (g.S.Shelf.meaning c.args.shelf.now) (g.S.Shelf.meaning c.commit_next.new.shelf) c.args.core.now.config.disks c.args.core.now.config.disks refl

@@ -7,11 +7,12 @@ use Rattle.vx_model.specs.declared.errors.Stop.TheVariants.{No as Refused}
 use Rattle.vx_model.specs.declared.no.No.{No}
 use Rattle.vx_group.specs.Makes.{MakeStops, Unmoved, VolumeMade}
 use Rattle.vx_group.proofs.LoseLemmas.{none_parts, then_parts}
-use Rattle.vx_group.proofs.MakeLemmas.{made_volume, makes_behind, nothing_beside, plan_next, plan_stops, stopped_by, unmoved_error, unmoved_stop}
+use Rattle.vx_group.proofs.MakeLemmas.{beside_counts, made_volume, makes_behind, nothing_beside, plan_next, plan_stops, stopped_by, unmoved_error, unmoved_stop}
 use Rattle.vx_group.proofs.BehindLemmas.{behind_added, behind_next, later_stays, no_stays, released_stays}
 use Rattle.vx_group.proofs.DeportLemmas.{blames_stop, stops_later}
 use Rattle.vx_group.proofs.HoldLemmas.{from_none, narrow_can, narrow_sound, none_Stands}
 use Rattle.vx_group.proofs.ShapeLemmas.{may_make}
+use Rattle.vx_group.proofs.FailingLemmas.{no_failing, then_failing}
 use Rattle.vx_group.proofs.making.make_in.Goals as goal
 
 pub returns-in-Some-clause-stays : goal.returns-in-Some-clause-stays
@@ -133,3 +134,22 @@ returns-in-Err-add-clause-parts g c = then_parts c.args.core.now.inner.config c.
 
 pub returns-in-Ok-add-clause-held : goal.returns-in-Ok-add-clause-held
 returns-in-Ok-add-clause-held g c = c.in-Ok-release.ensures.done (may_make c.args.core.now.inner.config c.args.name.now c.args.want.now c.plan.ensures.may).serial
+
+pub returns-in-Some-clause-disks : goal.returns-in-Some-clause-disks
+returns-in-Some-clause-disks g c = no_failing (g.S.Shelf.meaning c.args.shelf.now) (g.S.Shelf.meaning c.args.shelf.now) c.args.core.now.inner.config.disks c.args.core.now.inner.config.disks refl
+
+pub returns-in-Err-clause-disks : goal.returns-in-Err-clause-disks
+returns-in-Err-clause-disks g c = no_failing (g.S.Shelf.meaning c.args.shelf.now) (g.S.Shelf.meaning c.args.shelf.now) c.args.core.now.inner.config.disks c.args.core.now.inner.config.disks refl
+
+pub returns-then-is_down-clause-disks : goal.returns-then-is_down-clause-disks
+returns-then-is_down-clause-disks g c = no_failing (g.S.Shelf.meaning c.args.shelf.now) (g.S.Shelf.meaning c.args.shelf.now) c.args.core.now.inner.config.disks c.args.core.now.inner.config.disks refl
+
+pub returns-in-Ok-add-clause-disks : goal.returns-in-Ok-add-clause-disks
+returns-in-Ok-add-clause-disks g c =
+    then_failing (g.S.Shelf.meaning c.args.shelf.now) (g.S.Shelf.meaning c.release.new.shelf) (g.S.Shelf.meaning c.add.new.shelf) c.release.ensures.narrows.acts.faults (beside_counts c.release.new.core.inner.config (g.S.Shelf.meaning c.release.new.shelf) (g.S.Shelf.meaning c.add.new.shelf) c.add.ensures.beside)
+    c.args.core.now.inner.config.disks c.release.new.core.inner.config.disks c.add.new.core.config.disks c.release.ensures.failing c.add.ensures.disks
+
+pub returns-in-Err-add-clause-disks : goal.returns-in-Err-add-clause-disks
+returns-in-Err-add-clause-disks g c =
+    then_failing (g.S.Shelf.meaning c.args.shelf.now) (g.S.Shelf.meaning c.release.new.shelf) (g.S.Shelf.meaning c.add.new.shelf) c.release.ensures.narrows.acts.faults (beside_counts c.release.new.core.inner.config (g.S.Shelf.meaning c.release.new.shelf) (g.S.Shelf.meaning c.add.new.shelf) c.add.ensures.beside)
+    c.args.core.now.inner.config.disks c.release.new.core.inner.config.disks c.add.new.core.config.disks c.release.ensures.failing c.add.ensures.disks
