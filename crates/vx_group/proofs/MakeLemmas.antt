@@ -1,5 +1,5 @@
 -- A volume that is made: its plan, and what is added behind headers that were written back.
-use Rattle.std.proofs.Common.{◌≡◌, inl, inr, ⊎_elim, ℕ, ◌<◌, Bool, true, false, Option, None, List, [], ◌∷◌, ◌++◌, length, Result, Ok, Err, refl, ap, sym, ◌∙◌, subst, arith}
+use Rattle.std.proofs.Common.{◌≡◌, ◌≤◌, inl, inr, ⊎_elim, ℕ, ◌<◌, Bool, true, false, Option, None, List, [], ◌∷◌, ◌++◌, length, Result, Ok, Err, refl, ap, sym, ◌∙◌, subst, arith}
 use Rattle.std.specs.Prelude.{IfSome, map, slice_get}
 use Rattle.std.proofs.lemmas.Bool.{and_parts, cases_lt}
 use Rattle.vx_disk.specs.Causes.{refusal_of}
