@@ -1,15 +1,17 @@
 -- What the events of groups of disks change.
 use Rattle.std.proofs.Common.{◌≡◌, ◌∙◌, ℕ, ◌<◌, Bool, true, false, refl, ap}
-use Rattle.std.specs.Prelude.{eqb, None, if◌then◌else◌}
+use Rattle.std.specs.Prelude.{[], eqb, None, if◌then◌else◌}
 use Rattle.vx_model.specs.declared.site.SiteState.TheVariants.{Bare, Up}
 use Rattle.vx_history.proofs.Updates.{at_place}
 use Rattle.vx_history.specs.Doubts.{Doubted, happened}
 use Rattle.vx_history.specs.Events.{crash_at, deport_at, kept_of, lost_touch}
 use Rattle.vx_history.specs.Step.{done}
-use Rattle.vx_history.specs.Steps.{crashed, deported_site, group_made, group_set}
+use Rattle.vx_history.specs.Sound.{is_at_rest}
+use Rattle.vx_history.specs.Steps.{crashed, deported_site, group_back, group_made, group_set, group_up}
 use Rattle.vx_history.specs.World.{Node, World, with_node}
 use Rattle.vx_history.specs.declared.event.Event.TheVariants.{Group, Deport}
-use Rattle.vx_events.proofs.Steps.{deport_step, group_step}
+use Rattle.vx_events.proofs.Steps.{again_step, deport_step, group_step}
+use Rattle.vx_model.specs.declared.site.Role.TheVariants.{Primary}
 use Rattle.vx_events.specs.Effects.{EffectAt}
 use Rattle.vx_effects.proofs.Effects.{Turns, crash_turns, effect_plain, turns_like, turns_node}
 
@@ -25,6 +27,12 @@ module _ (d : Doubted) (s : ℕ) where
   group_effect taken below bare =
       effect_plain d (Group s) (done (group_made w s)) s (group_step w s below bare)
       (turns_like s w (with_node w s (group_set s n)) (group_made w s) w.packets refl (λ i. refl) (λ i k. refl) (λ i. refl) refl (λ i. refl) (turns_node s w (group_set s n))) (λ i. refl)
+
+  pub again_effect : (taken : Bool) → s < w.sites → is_at_rest n.state ≡ true → n.role ≡ Primary → n.volumes ≡ [] → n.log ≡ []
+      → EffectAt s d (happened d (Group s) taken) (group_up n) (w.links s) (w.headers s) (d.after s) w.packets (w.gathering s)
+  again_effect taken below rest role volumes log =
+      effect_plain d (Group s) (done (group_back w s)) s (again_step w s below rest role volumes log)
+      (turns_like s w (with_node w s (group_up n)) (group_back w s) w.packets refl (λ i. refl) (λ i k. refl) (λ i. refl) refl (λ i. refl) (turns_node s w (group_up n))) (λ i. refl)
 
   abbrev k : ℕ
   k = kept_of n 0

@@ -25,7 +25,7 @@ use Rattle.vx_history.specs.Sends.{is_linked, with_links, sending}
 use Rattle.vx_history.specs.Headers.{headers_by}
 use Rattle.vx_history.specs.Step.{step, outcome_of, run, done, joined_blocks}
 use Rattle.vx_history.specs.declared.event.Said.TheVariants.{Got, Refused}
-use Rattle.vx_history.specs.Steps.{site_made, raw_made, raw_set, group_made, group_set, written, logged, half_written, crashed, crash_left, deported_site, deported_world, session_begun, stopped_by, recovered, burned}
+use Rattle.vx_history.specs.Steps.{site_made, raw_made, raw_set, group_back, group_made, group_set, group_up, written, logged, half_written, crashed, crash_left, deported_site, deported_world, session_begun, stopped_by, recovered, burned}
 use Rattle.vx_history.specs.World.{Node, Link as LinkOf, World, bare_site, updated, with_node}
 use Rattle.vx_history.specs.declared.event.Event.{Event}
 use Rattle.vx_history.specs.declared.event.Event.TheVariants.{Site, Raw, Group, Write, Read, Apply, Pump, Tick, Deliver, Connect, Cut, Pause, Resume, Wait, Link, Set, Crash, Deport, Recover, Fault}
@@ -58,6 +58,7 @@ pub record KeptBy (P : World → Type 0) : Type 0 where
   pub site : (w : World) (name : List ℕ) (disks blocks : ℕ) → P w → P (site_made w name disks blocks)
   pub raw : (w : World) (s : ℕ) → P w → P (raw_made w s)
   pub group : (w : World) (s : ℕ) → P w → P (group_made w s)
+  pub back : (w : World) (s : ℕ) → P w → P (group_back w s)
   pub links : (w : World) (s : ℕ) (x : WriteBlocks) → P w → P (links_changed w s x)
   pub write : (w : World) (s : ℕ) (x : WriteBlocks) → P w → P (written w s x)
   pub half : (w : World) (s : ℕ) (x : WriteBlocks) (disk : ℕ) → P w → P (half_written w s x disk)
@@ -138,6 +139,15 @@ module _ (P : World → Type 0) (keeps : KeptBy P) where
   recover_keeps Deported w s fails p = past P (leb MOST_NUMBER (w.nodes s).session) (Limit Number MOST_NUMBER) w (recovery w s fails) p (recovery_keeps w s fails p)
   recover_keeps Down w s fails p = past P (leb MOST_NUMBER (w.nodes s).session) (Limit Number MOST_NUMBER) w (recovery w s fails) p (recovery_keeps w s fails p)
 
+  again_keeps : (w : World) (s : ℕ) → P w → Holds P (group_again w s)
+  again_keeps w s p = past P (not (is_plain_group (w.nodes s))) WrongRole w (done (group_back w s)) p (keeps.back w s p)
+
+  group_keeps : (state : SiteState) (w : World) (s : ℕ) → P w → Holds P (group_from state w s)
+  group_keeps Bare w s p = keeps.group w s p
+  group_keeps Up w s p = p
+  group_keeps Deported w s p = again_keeps w s p
+  group_keeps Down w s p = again_keeps w s p
+
   outcome_keeps : (w : World) (e : Event) → IsSingle e → P w → P (outcome_of w e).world
   outcome_keeps w (Site name disks blocks) one p =
       let o : Outcome = done (site_made w name disks blocks) in
@@ -154,10 +164,7 @@ module _ (P : World → Type 0) (keeps : KeptBy P) where
       past_site P w s (unless (not (is_bare (w.nodes s).state)) WrongRole w sized) p
       (past P (not (is_bare (w.nodes s).state)) WrongRole w sized p
       (past P (not (is_raw_shape (w.nodes s).disks (w.nodes s).blocks)) Size w o p (keeps.raw w s p)))
-  outcome_keeps w (Group s) one p =
-      let o : Outcome = done (group_made w s) in
-      past_site P w s (unless (not (is_bare (w.nodes s).state)) WrongRole w o) p
-      (past P (not (is_bare (w.nodes s).state)) WrongRole w o p (keeps.group w s p))
+  outcome_keeps w (Group s) one p = past_site P w s (group_from (w.nodes s).state w s) p (group_keeps (w.nodes s).state w s p)
   outcome_keeps w (Write s volume start bytes fails) one p =
       let x : WriteBlocks = record { volume = volume; start = start; bytes = bytes } in
       past_volume P w s volume start (blocks_in bytes) (is_too_large (w.nodes s).ring (blocks_in bytes)) (written_if (admitted w s x) w s x fails) p (written_keeps (admitted w s x) w s x fails p)
@@ -217,6 +224,7 @@ unlinked_kept = record {
   site = λ w name disks blocks none. same_links w (site_made w name disks blocks) (λ p s. refl) none;
   raw = λ w s none. same_links w (raw_made w s) (λ p q. refl) none;
   group = λ w s none. same_links w (group_made w s) (λ p q. refl) none;
+  back = λ w s none. same_links w (group_back w s) (λ p q. refl) none;
   links = λ w s x none. row_unlinked w s (λ k. link_after (w.nodes s) x k (w.links s k)) none (λ k. refl);
   write = λ w s x none. same_links w (written w s x) (λ p q. refl) none;
   half = λ w s x disk none. same_links w (half_written w s x disk) (λ p q. refl) none;
@@ -266,6 +274,7 @@ primaries_kept = record {
   site = λ w name disks blocks all. node_primary w (site_made w name disks blocks) w.sites (bare_site name disks blocks) (λ k. refl) refl all;
   raw = λ w s all. node_primary w (raw_made w s) s (raw_set s (w.nodes s)) (λ k. refl) refl all;
   group = λ w s all. node_primary w (group_made w s) s (group_set s (w.nodes s)) (λ k. refl) refl all;
+  back = λ w s all. node_primary w (group_back w s) s (group_up (w.nodes s)) (λ k. refl) (all.each s) all;
   links = λ w s x all. record { each = all.each };
   write = λ w s x all. node_primary w (written w s x) s (logged (w.nodes s) x) (λ k. refl) (all.each s) all;
   half = λ w s x disk all. node_primary w (half_written w s x disk) s (record (w.nodes s) { log = (w.nodes s).log ++ x ∷ []; halted = Some disk; fuse = burned (w.nodes s).fuse }) (λ k. refl) (all.each s) all;

@@ -65,6 +65,13 @@ group_set site n = begun_site site 0 [] no_volumes n
 abbrev pub group_made : World → ℕ → World
 group_made w s = line_begun w s 0 [] no_volumes
 
+-- a group of disks without a replicated volume group that comes up again, in the session that it had
+abbrev pub group_up : Node → Node
+group_up n = record n { state = Up; halted = None }
+
+abbrev pub group_back : World → ℕ → World
+group_back w s = with_node w s (group_up (w.nodes s))
+
 -- a fuse behind a line that may write or flush
 abbrev pub burned : Fuse → Fuse
 burned NoFuse = NoFuse

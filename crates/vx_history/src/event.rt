@@ -27,7 +27,8 @@ pub enum Event {
     Raw {
         site: u32,
     },
-    /// A bare site becomes a group of disks without volumes, and the primary of its first line.
+    /// A bare site becomes a group of disks without volumes, and the primary of its first line. One that is down or deported, and has no
+    /// volumes and no log, comes up again in the session that it had.
     Group {
         site: u32,
     },
