@@ -37,19 +37,19 @@ module _ (d : Doubted) (s : ℕ) where
   abbrev k : ℕ
   k = kept_of n 0
 
-  deport_turns : Turns s w (deport_at w s) (deported_site (crashed n k)) (λ to. lost_touch (w.links s to)) w.packets None
+  pub deport_turns : Turns s w (deport_at w s) (deported_site n.fuse (crashed n k)) (λ to. lost_touch (w.links s to)) w.packets None
   deport_turns =
       let t = crash_turns s w k in
       record { sites = t.sites; nodes = λ i. by i (eqb i s) refl; links = t.links; headers = t.headers; sent = t.sent; gathering = t.gathering }
     where
       by : (i : ℕ) (b : Bool) → eqb i s ≡ b
-          → (if b then deported_site ((crash_at d.world s (kept_of (d.world.nodes s) 0)).nodes s) else (crash_at d.world s (kept_of (d.world.nodes s) 0)).nodes i)
-          ≡ (if b then deported_site (crashed (d.world.nodes s) (kept_of (d.world.nodes s) 0)) else d.world.nodes i)
-      by i true is = ap deported_site ((crash_turns s d.world (kept_of (d.world.nodes s) 0)).nodes s ∙ at_place d.world.nodes s (crashed (d.world.nodes s) (kept_of (d.world.nodes s) 0)))
+          → (if b then deported_site (d.world.nodes s).fuse ((crash_at d.world s (kept_of (d.world.nodes s) 0)).nodes s) else (crash_at d.world s (kept_of (d.world.nodes s) 0)).nodes i)
+          ≡ (if b then deported_site (d.world.nodes s).fuse (crashed (d.world.nodes s) (kept_of (d.world.nodes s) 0)) else d.world.nodes i)
+      by i true is = ap (λ (m : Node). deported_site (d.world.nodes s).fuse m) ((crash_turns s d.world (kept_of (d.world.nodes s) 0)).nodes s ∙ at_place d.world.nodes s (crashed (d.world.nodes s) (kept_of (d.world.nodes s) 0)))
       by i false is =
           (crash_turns s d.world (kept_of (d.world.nodes s) 0)).nodes i
           ∙ ap (λ (b : Bool). if b then crashed (d.world.nodes s) (kept_of (d.world.nodes s) 0) else d.world.nodes i) is
 
   pub deport_effect : (taken : Bool) → s < w.sites → n.state ≡ Up → n.halted ≡ None
-      → EffectAt s d (happened d (Deport s) taken) (deported_site (crashed n k)) (λ to. lost_touch (w.links s to)) (w.headers s) (d.after s) w.packets None
+      → EffectAt s d (happened d (Deport s) taken) (deported_site n.fuse (crashed n k)) (λ to. lost_touch (w.links s to)) (w.headers s) (d.after s) w.packets None
   deport_effect taken below up runs = effect_plain d (Deport s) (done (deport_at w s)) s (deport_step w s below up runs) deport_turns (λ i. refl)

@@ -28,7 +28,7 @@ use Rattle.vx_history.specs.Sends.{is_linked, promising, sending, with_link, wit
 use Rattle.vx_history.specs.Step.{done, joined_blocks, link_part, outcome_of}
 use Rattle.vx_history.specs.Sound.{is_at_rest}
 use Rattle.vx_history.specs.Steps.{burned, crash_left, crashed, deported_site, deported_world, group_back, group_made, group_set, group_up, half_written, logged, raw_made, raw_set, recovered, stopped_by, written}
-use Rattle.vx_history.specs.World.{DataAck, Hello, Link as LinkOf, Message, NetAck, Node, Packet, Update, World, with_node}
+use Rattle.vx_history.specs.World.{DataAck, Fuse, Hello, Link as LinkOf, Message, NetAck, Node, Packet, Update, World, with_node}
 use Rattle.vx_history.specs.declared.event.Event.{Event}
 use Rattle.vx_history.specs.declared.event.Event.TheVariants.{Site, Raw, Group, Write, Read, Apply, Pump, Tick, Deliver, Connect, Cut, Pause, Resume, Wait, Link, Set, Crash, Deport, Recover, Fault}
 use Rattle.vx_history.specs.declared.event.LinkPart.{LinkPart}
@@ -187,9 +187,9 @@ module _ (E : ℕ → Type 0) (w : World) where
       (keeps_role w.sites (w.links s) (w.nodes s) n refl) (awake (w.nodes s) n refl (λ e. e))
 
   -- a site that is down and gives its disks up
-  pub deported_moves : (s : ℕ) → (w.nodes s).state ≡ Down → Moves E w (deported_world w s)
-  deported_moves s down =
-      let n : Node = deported_site (w.nodes s) in
+  pub deported_moves : (s : ℕ) (fuse : Fuse) → (w.nodes s).state ≡ Down → Moves E w (deported_world fuse w s)
+  deported_moves s fuse down =
+      let n : Node = deported_site fuse (w.nodes s) in
       moves_node E w s n (λ b. let f : Deported ≡ Bare = b in absurd (cc)) (λ h b. let f : Down ≡ Bare = sym down ∙ b in absurd (cc))
       (λ e. not_up (w.nodes s) n (λ up. let f : Up ≡ Down = sym up ∙ down in cc))
       (keeps_role w.sites (w.links s) (w.nodes s) n refl) (calm (λ e. e) (λ _ d. let f : Deported ≡ Down = d in absurd (cc)))

@@ -106,7 +106,7 @@ pub fn changes_one_site()
         → (d.world.nodes s).volumes ≡ [] → (d.world.nodes s).log ≡ []
         → EffectAt s d (happened d (Group s) taken) (group_up (d.world.nodes s)) (d.world.links s) (d.world.headers s) (d.after s) d.world.packets (d.world.gathering s) }
     ensures deport { (d : Doubted) (s : ℕ) (taken : Bool) → s < d.world.sites → (d.world.nodes s).state ≡ Up → (d.world.nodes s).halted ≡ None
-        → EffectAt s d (happened d (Deport s) taken) (deported_site (crashed (d.world.nodes s) (kept_of (d.world.nodes s) 0))) (λ k. lost_touch (d.world.links s k)) (d.world.headers s) (d.after s)
+        → EffectAt s d (happened d (Deport s) taken) (deported_site (d.world.nodes s).fuse (crashed (d.world.nodes s) (kept_of (d.world.nodes s) 0))) (λ k. lost_touch (d.world.links s k)) (d.world.headers s) (d.after s)
         d.world.packets None }
     ensures note { (d : Doubted) (s : ℕ) (n : Node) → EffectAt s d (record d { world = with_node d.world s n }) n (d.world.links s) (d.world.headers s) (d.after s) d.world.packets (d.world.gathering s) }
     ensures left { (s : ℕ) (line : ScriptLine) (taken : Bool) (d last new : Doubted) → IsLeft s line taken d last new → ChangesAt s last new }

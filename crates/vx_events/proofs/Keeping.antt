@@ -26,7 +26,7 @@ use Rattle.vx_history.specs.Headers.{headers_by}
 use Rattle.vx_history.specs.Step.{step, outcome_of, run, done, joined_blocks}
 use Rattle.vx_history.specs.declared.event.Said.TheVariants.{Got, Refused}
 use Rattle.vx_history.specs.Steps.{site_made, raw_made, raw_set, group_back, group_made, group_set, group_up, written, logged, half_written, crashed, crash_left, deported_site, deported_world, session_begun, stopped_by, recovered, burned}
-use Rattle.vx_history.specs.World.{Node, Link as LinkOf, World, bare_site, updated, with_node}
+use Rattle.vx_history.specs.World.{Node, Fuse, Link as LinkOf, World, bare_site, updated, with_node}
 use Rattle.vx_history.specs.declared.event.Event.{Event}
 use Rattle.vx_history.specs.declared.event.Event.TheVariants.{Site, Raw, Group, Write, Read, Apply, Pump, Tick, Deliver, Connect, Cut, Pause, Resume, Wait, Link, Set, Crash, Deport, Recover, Fault}
 use Rattle.vx_history.specs.declared.receiver.RAction.{RAction}
@@ -64,7 +64,7 @@ pub record KeptBy (P : World → Type 0) : Type 0 where
   pub half : (w : World) (s : ℕ) (x : WriteBlocks) (disk : ℕ) → P w → P (half_written w s x disk)
   pub apply : (w : World) (s number : ℕ) (mark : Mark) → P w → P (acknowledged w s (applied (w.nodes s) number mark))
   pub crash : (w : World) (s kept : ℕ) → P w → P (crash_at w s kept)
-  pub deport : (w : World) (s : ℕ) → P w → P (deported_world w s)
+  pub deport : (w : World) (s : ℕ) (fuse : Fuse) → P w → P (deported_world fuse w s)
   pub recover : (w : World) (s : ℕ) → P w → P (recovered_at w s)
   pub session : (w : World) (s : ℕ) → P w → P (session_begun w s)
   pub stop : (w : World) (s disk : ℕ) → P w → P (stopped_by w s disk)
@@ -180,7 +180,7 @@ module _ (P : World → Type 0) (keeps : KeptBy P) where
   outcome_keeps w (Deport s) one p =
       let k : ℕ = kept_of (w.nodes s) 0 in
       let o : Outcome = done (deport_at w s) in
-      past_site P w s (at_work w s o) p (past_work P w s o p (keeps.deport (crash_at w s k) s (keeps.crash w s k p)))
+      past_site P w s (at_work w s o) p (past_work P w s o p (keeps.deport (crash_at w s k) s (w.nodes s).fuse (keeps.crash w s k p)))
   outcome_keeps w (Recover s fails) one p = past_site P w s (recover_from (w.nodes s).state w s fails) p (recover_keeps (w.nodes s).state w s fails p)
   outcome_keeps w (Fault s disk) one p =
       let o : Outcome = says (stopped_by w s disk) (Refused (Device disk)) in
@@ -233,7 +233,7 @@ unlinked_kept = record {
       same_links (with_links (crash_world w s kept) s (λ to. lost_touch (w.links s to))) (crash_at w s kept) (λ p q. refl)
       (row_unlinked (crash_world w s kept) s (λ to. lost_touch (w.links s to)) (same_links w (crash_world w s kept) (crash_links (is_origin (w.nodes s).role) w s kept) none)
       (λ k. ap (λ (l : LinkOf). is_linked l) (sym (crash_links (is_origin (w.nodes s).role) w s kept s k))));
-  deport = λ w s none. same_links w (deported_world w s) (λ p q. refl) none;
+  deport = λ w s fuse none. same_links w (deported_world fuse w s) (λ p q. refl) none;
   recover = λ w s none.
       let n : Node = come_back (w.nodes s) in
       let v : World = with_links (with_node w s n) s (λ to. restarted_link n to (w.links s to)) in
@@ -280,7 +280,7 @@ primaries_kept = record {
   half = λ w s x disk all. node_primary w (half_written w s x disk) s (record (w.nodes s) { log = (w.nodes s).log ++ x ∷ []; halted = Some disk; fuse = burned (w.nodes s).fuse }) (λ k. refl) (all.each s) all;
   apply = λ w s number mark all. node_primary w (acknowledged w s (applied (w.nodes s) number mark)) s (applied (w.nodes s) number mark) (λ k. refl) (all.each s) all;
   crash = λ w s kept all. node_primary w (crash_at w s kept) s (crashed (w.nodes s) kept) (crash_nodes_are w s kept) (all.each s) all;
-  deport = λ w s all. node_primary w (deported_world w s) s (deported_site (w.nodes s)) (λ k. refl) (all.each s) all;
+  deport = λ w s fuse all. node_primary w (deported_world fuse w s) s (deported_site fuse (w.nodes s)) (λ k. refl) (all.each s) all;
   recover = λ w s all.
       node_primary w (recovered_at w s) s (come_back (w.nodes s)) (λ k. refl) (ap (λ (n : Node). n.role) (back_primary (w.nodes s) (all.each s)) ∙ all.each s) all;
   session = λ w s all. node_primary w (session_begun w s) s (record (w.nodes s) { session = (w.nodes s).session + 1 }) (λ k. refl) (all.each s) all;

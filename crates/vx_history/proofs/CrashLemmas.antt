@@ -103,10 +103,10 @@ stays_node w i n s made line good is =
     good_stays w i n s good (λ _. inl (subst (λ (l : Line). IsMade (w.nodes l.origin)) (sym line) (s.begun i made))) (λ _. is) (λ past. absurd (made (s.later i past)))
 
 -- a site that is down gives its disks up
-pub good_deported : (w : World) (i : ℕ) → Good w → IsMade (w.nodes i) → length (w.nodes i).log ≤ (w.nodes i).safe → Good (deported_world w i)
-good_deported w i s made whole =
+pub good_deported : (w : World) (i : ℕ) (fuse : Fuse) → Good w → IsMade (w.nodes i) → length (w.nodes i).log ≤ (w.nodes i).safe → Good (deported_world fuse w i)
+good_deported w i fuse s made whole =
     let good = s.nodes i in
-    stays_node w i (deported_site (w.nodes i)) s made refl
+    stays_node w i (deported_site fuse (w.nodes i)) s made refl
     (record {
       safe_fits = good.safe_fits;
       own_line = λ _ is. good.own_line made is;

@@ -282,9 +282,9 @@ crash_world w s k = if is_origin (w.nodes s).role then crash_left w s k else wit
 abbrev pub crash_at : World → ℕ → ℕ → World
 crash_at w s k = emptied (with_links (crash_world w s k) s (λ to. lost_touch (w.links s to))) s
 
--- a deport is a crash that keeps no more than it has to, and the site is then deported
+-- a deport is a crash that keeps no more than it has to, and the site is then deported; the fuse of its disks stays set
 abbrev pub deport_at : World → ℕ → World
-deport_at w s = deported_world (crash_at w s (kept_of (w.nodes s) 0)) s
+deport_at w s = deported_world (w.nodes s).fuse (crash_at w s (kept_of (w.nodes s) 0)) s
 
 -- a site comes up again; a receiver may be consistent then, by the rule of receivers
 abbrev pub come_back : Node → Node

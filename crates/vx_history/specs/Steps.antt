@@ -116,12 +116,12 @@ kept_by h n k = record h { held = take k n.log }
 abbrev pub crash_left : World → ℕ → ℕ → World
 crash_left w s k = let n = w.nodes s in with_history w s (crashed n k) (kept_by (w.lines n.line) n k)
 
--- a site that gave its disks up
-abbrev pub deported_site : Node → Node
-deported_site n = record n { state = Deported }
+-- a site that gave its disks up, whose fuse is this
+abbrev pub deported_site : Fuse → Node → Node
+deported_site fuse n = record n { state = Deported; fuse = fuse }
 
-abbrev pub deported_world : World → ℕ → World
-deported_world w s = with_node w s (deported_site (w.nodes s))
+abbrev pub deported_world : Fuse → World → ℕ → World
+deported_world fuse w s = with_node w s (deported_site fuse (w.nodes s))
 
 -- a site with a write that was begun
 abbrev pub half_begun : Node → Write → Node

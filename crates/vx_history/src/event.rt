@@ -106,7 +106,7 @@ pub enum Event {
         site: u32,
         kept: u64,
     },
-    /// The site gives its disks up, and keeps what a crash keeps for certain.
+    /// The site gives its disks up, and keeps what a crash keeps for certain. The fuse of its disks stays set.
     Deport {
         site: u32,
     },

@@ -15,16 +15,25 @@ pub fn push_kept(out: &mut Vec<u8>, kept: &Kept) -> Result<(), OutOfMemory>
     push_text(out, kept.volume.as_bytes())?;
     push_after(out, b" ", kept.block)?;
     push_text(out, b" ")?;
-    push_bits(out, &kept.bits, kept.count)?;
+    push_bits(out, first_bits(&kept.bits, kept.count))?;
     push_text(out, b"\n")
 }
 
-// The first bits, so many of them.
-fn push_bits(out: &mut Vec<u8>, bits: &[bool], count: u32) -> Result<(), OutOfMemory>
-    ensures { OnOk result (out.new.items ≡ out.old.items ++ flat_map kept_digit (take count bits.now)) }
+fn push_bits(out: &mut Vec<u8>, bits: &[bool]) -> Result<(), OutOfMemory>
+    ensures { OnOk result (out.new.items ≡ out.old.items ++ flat_map kept_digit bits.now) }
 {
-    for bit in bits.iter().take(count as usize) {
+    for bit in bits {
         push_text(out, either(*bit, b"1", b"0"))?;
     }
     Ok(())
+}
+
+// The first of these, so many, or all where they are fewer.
+fn first_bits(bits: &[bool], count: u32) -> &[bool]
+    ensures { result.now ≡ take count bits.now }
+{
+    if count as usize >= bits.len() {
+        return bits;
+    }
+    &bits[..count as usize]
 }

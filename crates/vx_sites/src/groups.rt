@@ -83,7 +83,7 @@ impl World {
     /// The site, which is down, counts as deported.
     pub fn deport(&mut self, site: u32)
         requires { site < length self.old.nodes.items }
-        ensures { world_of self.new ≡ deported_world (world_of self.old) site }
+        ensures { let w = world_of self.old in world_of self.new ≡ deported_world (w.nodes site).fuse w site }
     {
         self.nodes[site as usize].state = SiteState::Deported;
     }

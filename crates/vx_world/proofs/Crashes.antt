@@ -4,7 +4,7 @@ use Rattle.std.specs.Prelude.{Option, Some, None, not}
 use Rattle.std.specs.List.{AllByRecursion}
 use Rattle.std.proofs.lemmas.List.{length-take, take-take}
 use Rattle.vx_model.specs.Content.{IsPrefixOf}
-use Rattle.vx_history.specs.World.{World, Node, with_node}
+use Rattle.vx_history.specs.World.{World, Fuse, Node, with_node}
 use Rattle.vx_model.specs.Sites.{is_origin}
 use Rattle.vx_history.specs.Steps.{burned, crashed, crash_left, deported_site, deported_world, group_back, group_up, stopped_by}
 use Rattle.vx_history.specs.Good.{IsMade}
@@ -92,27 +92,27 @@ crash_keeps w q kept s up =
     (λ r. lost_keeps (with_node w q (crashed n k)) q (receiver_crash_keeps w q k s made r least most)))
 
 -- a site that is down and gives its disks up
-deported_keeps : (w : World) (q : ℕ) → Sound w → (w.nodes q).state ≡ Down → Sound (deported_world w q)
-deported_keeps w q s down =
+deported_keeps : (w : World) (q : ℕ) (fuse : Fuse) → Sound w → (w.nodes q).state ≡ Down → Sound (deported_world fuse w q)
+deported_keeps w q fuse s down =
     let n : Node = w.nodes q in
     let rest : is_at_rest n.state ≡ true = ap is_at_rest down in
     let made : IsMade n = rest_bare n.state rest in
-    sound_with_node w q (deported_site n) s
-    (good_deported w q s.good made (s.whole q rest))
-    (Nodes.later_deported n down)
+    sound_with_node w q (deported_site fuse n) s
+    (good_deported w q fuse s.good made (s.whole q rest))
+    (Nodes.later_deported n fuse down)
     (λ _. s.whole q rest)
     (s.fed q)
     (s.takes q)
     (λ up. absurd (let e : Deported ≡ Up = up in cc))
     (s.newest q)
     (λ _. s.stands q made)
-    (stays_fed w q (deported_site n) (λ m. m) (λ t. t))
+    (stays_fed w q (deported_site fuse n) (λ m. m) (λ t. t))
     (λ _ r g. s.known q made r g)
 
 pub deport_keeps : (w : World) (q : ℕ) → Sound w → (w.nodes q).state ≡ Up → Sound (Events.deport_at w q)
 deport_keeps w q s up =
     let k : ℕ = Events.kept_of (w.nodes q) 0 in
-    deported_keeps (Events.crash_at w q k) q (crash_keeps w q 0 s up) (crash_state w q k)
+    deported_keeps (Events.crash_at w q k) q (w.nodes q).fuse (crash_keeps w q 0 s up) (crash_state w q k)
 
 -- the world of a site that has risen with this mark, with its links and its greeting
 abbrev pub RisenWorld : World → ℕ → Node → World

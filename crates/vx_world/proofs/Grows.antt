@@ -232,7 +232,7 @@ deport_grows w q s up =
     let k : ℕ = Events.kept_of (w.nodes q) 0 in
     let v : World = Events.crash_at w q k in
     grown_trans w v (Events.deport_at w q) (crash_grows w q k s up (Nodes.kept_least (w.nodes q) 0 (s.good.nodes q).safe_fits))
-    (grown_node v q (deported_site (v.nodes q)) (λ _ e. cc) (λ _ _ h. h))
+    (grown_node v q (deported_site (w.nodes q).fuse (v.nodes q)) (λ _ e. cc) (λ _ _ h. h))
 
 recovery_grows : (w : World) (q : ℕ) (fails : Option ℕ) → Leaves w (Events.recovery w q fails)
 recovery_grows w q None =

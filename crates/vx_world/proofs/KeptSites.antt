@@ -69,7 +69,7 @@ deport_leaves w q s up =
     let k : ℕ = Events.kept_of (w.nodes q) 0 in
     let v : World = Events.crash_at w q k in
     let down : (v.nodes q).state ≡ Down = crash_state w q k in
-    let m : Node = deported_site (v.nodes q) in
+    let m : Node = deported_site (w.nodes q).fuse (v.nodes q) in
     keeps_trans w v (Events.deport_at w q) (crash_leaves w q k s up)
     (keeps_node v q m (λ f. like_fitted (v.nodes q) m refl refl refl (λ _ e. let g : Down ≡ Bare = sym down ∙ e in cc) refl refl refl)
     (λ f e. absurd (let g : Deported ≡ Bare = e in cc)) (λ u. absurd (let g : Down ≡ Up = sym down ∙ u in cc)))

@@ -231,8 +231,8 @@ later_begun n rest = record {
 }
 
 -- a site that is down and gives its disks up
-pub later_deported : (n : Node) → n.state ≡ Down → IsLater n (deported_site n)
-later_deported n down = record {
+pub later_deported : (n : Node) (fuse : Fuse) → n.state ≡ Down → IsLater n (deported_site fuse n)
+later_deported n fuse down = record {
   line = refl;
   origin = refl;
   bunker = refl;

@@ -235,7 +235,7 @@ module _ (s : ℕ) (w : World) (up : (w.nodes s).state ≡ Up) (halted : is_runn
       let k : ℕ = Events.kept_of (w.nodes q) 0 in
       let v : World = Events.crash_at w q k in
       let is : Stands s w v = crash_still q k apart in
-      record { node = aside v.nodes q (deported_site (v.nodes q)) s apart ∙ is.node; row = is.row }
+      record { node = aside v.nodes q (deported_site (w.nodes q).fuse (v.nodes q)) s apart ∙ is.node; row = is.row }
 
   recovery_still : (q : ℕ) (fails : Option ℕ) → (s ≡ q → ⊥) → Leaves (Events.recovery w q fails)
   recovery_still q None apart =
