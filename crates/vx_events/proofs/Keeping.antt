@@ -17,7 +17,7 @@ use Rattle.vx_model.specs.declared.site.SiteState.{SiteState}
 use Rattle.vx_model.specs.declared.site.SiteState.TheVariants.{Bare, Up, Deported, Down}
 use Rattle.vx_history.proofs.Updates.{all_updated}
 use Rattle.vx_history.specs.Admission.{Admitted, Held_by, Goes}
-use Rattle.vx_history.specs.Events.{admitted, written_if, put_in, links_changed, link_after, acknowledged, applied, applied_by, apply_at, reached_at, crash_at, deport_at, crash_world, kept_of, lost_touch, recover_from, recovery, recovered_at, restarted_link, come_back, recovery_greeting}
+use Rattle.vx_history.specs.Events.{group_again, group_from, is_plain_group, admitted, written_if, put_in, links_changed, link_after, acknowledged, applied, applied_by, apply_at, reached_at, crash_at, deport_at, crash_world, kept_of, lost_touch, recover_from, recovery, recovered_at, restarted_link, come_back, recovery_greeting}
 use Rattle.vx_history.specs.LinkForms.{plain_receiver}
 use Rattle.vx_history.specs.Receiving.{Received, received_step}
 use Rattle.vx_history.specs.Refusals.{Outcome, says, unless, unless_halted, is_primary, some_below, at_site, at_work, on_volume}

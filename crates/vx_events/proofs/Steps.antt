@@ -9,10 +9,13 @@ use Rattle.vx_model.specs.declared.limits.TheConstants.{MOST_NUMBER, MOST_SITES,
 use Rattle.vx_model.specs.declared.no.No.TheVariants.{Exists, Limit, Size, Role as WrongRole, Down as NotUp, Device, NoConfig}
 use Rattle.vx_model.specs.declared.no.Counted.TheVariants.{Sites, Disks, Number}
 use Rattle.vx_model.specs.declared.site.SiteState.{SiteState}
-use Rattle.vx_model.specs.declared.site.SiteState.TheVariants.{Bare, Up, Down}
+use Rattle.vx_model.specs.declared.site.SiteState.TheVariants.{Bare, Up, Deported, Down}
+use Rattle.vx_history.proofs.GroupLemmas.{group_passes}
 use Rattle.vx_history.proofs.Updates.{at_place}
+use Rattle.vx_history.specs.Sound.{is_at_rest}
+use Rattle.vx_model.specs.declared.site.Role.TheVariants.{Primary}
 use Rattle.vx_history.specs.Admission.{Admitted, Goes, admit}
-use Rattle.vx_history.specs.Events.{admitted, written_if, put_in, links_changed, link_after, said_of_write, is_in_place, link_in_place, put_before, linked_sites, plain_links, log_uses, reached_at, apply_at, crash_at, deport_at, kept_of, recover_from, recovery}
+use Rattle.vx_history.specs.Events.{group_again, group_from, is_plain_group, admitted, written_if, put_in, links_changed, link_after, said_of_write, is_in_place, link_in_place, put_before, linked_sites, plain_links, log_uses, reached_at, apply_at, crash_at, deport_at, kept_of, recover_from, recovery}
 use Rattle.vx_history.specs.Refusals.{Outcome, says, unless, at_work, some_below, is_waited_for, waits, goes, refused}
 use Rattle.vx_history.specs.Sends.{is_made, is_linked}
 use Rattle.vx_history.specs.Step.{outcome_of, done, joined_blocks}
