@@ -1,5 +1,5 @@
 // What events change of a world, and what they keep.
-ghost use Rattle.std.specs.Prelude.{◌≡◌, ℕ, ◌+◌, ◌<◌, ◌≤◌, ◌++◌, ◌∷◌, [], Bool, true, false, List, None, Some, eqb, length, min, slice_set};
+ghost use Rattle.std.specs.Prelude.{◌≡◌, ℕ, ◌+◌, ◌<◌, ◌≤◌, ◌++◌, ◌∷◌, [], Bool, true, false, List, None, Some, eqb, length, min, slice_set, IsTrue};
 ghost use Rattle.vx_model.specs.Content.{Write as LogWrite, blocks_in};
 ghost use Rattle.vx_model.specs.Sites.{is_origin};
 ghost use Rattle.vx_model.specs.Sizes.{is_raw_shape};
@@ -29,16 +29,17 @@ ghost use Rattle.vx_history.specs.declared.event.Said.TheVariants.{Done};
 ghost use Rattle.vx_script.specs.declared.line.ScriptLine.{ScriptLine};
 ghost use Rattle.vx_events.specs.Doubts.{run_as, sure};
 ghost use Rattle.vx_events.specs.Effects.{AddsSite, ChangesAt, ChangesNode, EffectAt};
+ghost use Rattle.vx_events.specs.Fails.{Fails};
+ghost use Rattle.vx_events.specs.GroupEnds.{GroupEnds};
+ghost use Rattle.vx_events.specs.declared.said.Said.{Said};
 ghost use Rattle.vx_events.specs.Ends.{IsLeft, found_linked};
 ghost use Rattle.vx_events.specs.Facts.{site_fact};
-ghost use Rattle.vx_events.specs.Fails.{Fails};
 ghost use Rattle.vx_events.specs.Found.{ComesUpAs};
 ghost use Rattle.vx_events.specs.LinkEnds.{AreLeft};
 ghost use Rattle.vx_events.specs.LinkFinds.{FindsOther};
 ghost use Rattle.vx_events.specs.LinkedFacts.{link_facts, linked_fact, linked_facts};
 ghost use Rattle.vx_events.specs.LinksFit.{LinksFit, RowFits};
 ghost use Rattle.vx_events.specs.Stamps.{waiting_of};
-ghost use Rattle.vx_events.specs.declared.said.Said.{Said};
 ghost use Rattle.vx_effects.specs.Applies.{applied_up_to, behind_apply};
 ghost use Rattle.vx_effects.specs.Facts.{down_fact, fact_of, half_fact, halted_fact, logged_fact, marked_fact, risen_fact};
 ghost use Rattle.vx_effects.specs.Restarts.{IsAgain, are_fine, facts_again, needs_of, row_of_kept};
@@ -112,6 +113,12 @@ pub fn changes_one_site()
     ensures left { (s : ℕ) (line : ScriptLine) (taken : Bool) (d last new : Doubted) → IsLeft s line taken d last new → ChangesAt s last new }
     ensures site { (d : Doubted) (name : List ℕ) (disks blocks : ℕ) (taken : Bool) → outcome_of d.world (Site name disks blocks) ≡ record { world = site_made d.world name disks blocks; said = Done }
         → AddsSite d (happened d (Site name disks blocks) taken) (bare_site name disks blocks) }
+{}
+
+/// However a line over a group of disks ends, each other site is as it was.
+pub fn groups_change_one_site()
+    ensures { (tells : Bool) (d : Doubted) (line : ScriptLine) (s : ℕ) (fails : Fails) (said : Said) (new : Doubted) → GroupEnds (IsTrue tells) d line s fails said new
+        → ChangesNode s d new }
 {}
 
 /// A write writes no header and changes no link, as each link that fits fails what its log has no room for; what is said of it goes by the links before it.

@@ -2,6 +2,7 @@ pub mod Agreeing
 pub mod Bearing
 pub mod Blocks
 pub mod Calm
+pub mod GroupStopping
 pub mod Keeping
 pub mod LinkAgreeing
 pub mod LinkJoining

@@ -1,5 +1,5 @@
 // What the tests of a line and those of its event have to do with each other.
-ghost use Rattle.std.specs.Prelude.{◌≡◌, ◌+◌, ◌*◌, ◌<◌, ◌≤◌, ℕ, List, [], Bool, true, false, None, length, min, replicate};
+ghost use Rattle.std.specs.Prelude.{◌≡◌, ◌+◌, ◌*◌, ◌<◌, ◌≤◌, ℕ, List, [], Bool, true, false, None, length, min, replicate, IsTrue};
 ghost use Rattle.vx_model.specs.Content.{Write, blocks_from};
 ghost use Rattle.vx_model.specs.Sites.{is_origin};
 ghost use Rattle.vx_model.specs.declared.limits.TheConstants.{MOST_NUMBER};
@@ -15,6 +15,7 @@ ghost use Rattle.vx_order.specs.Order.{line_refusal};
 ghost use Rattle.vx_script.specs.declared.line.ScriptLine.{ScriptLine};
 ghost use Rattle.vx_script.specs.declared.line.ScriptLine.TheVariants.{Site, Raw, Crash, Write as WriteLine, Put, Read, Show, Apply};
 ghost use Rattle.vx_events.specs.Facts.{facts_of, site_number, volume_number};
+ghost use Rattle.vx_events.specs.GroupEnds.{GroupEnds, GroupStops};
 ghost use Rattle.vx_events.specs.Fails.{AreBorne, Fails};
 ghost use Rattle.vx_events.specs.Lines.{LineStep, is_of_links};
 ghost use Rattle.vx_events.specs.Lists.{Choice};
@@ -63,6 +64,13 @@ pub fn tests_agree()
 pub fn lines_are_events()
     ensures { (d : Doubted) (files : Bool) (line : ScriptLine) (fails : Fails) (said : Said) (new : Doubted) → LineStep (Unit {0}) files d line fails said new
         → StopsBy (is_of_links line) d line fails new }
+{}
+
+/// However a line over a group of disks without a replicated volume group ends, it ends as events of the world do, in worlds that differ in notes
+/// alone. So the laws of what events keep hold of such lines too.
+pub fn group_lines_are_events()
+    ensures { (tells : Bool) (d : Doubted) (line : ScriptLine) (s : ℕ) (fails : Fails) (said : Said) (new : Doubted) → GroupEnds (IsTrue tells) d line s fails said new
+        → GroupStops d new }
 {}
 
 /// Only of a site over a group may a call fail in a line that is done: where there is none, no call failed in it.
