@@ -87,6 +87,7 @@ pub(crate) fn apply_to<S: Shelf>(shelf: &mut S, core: &mut RvgCore, count: u64) 
     ensures answers { ApplyIs (halted_or core.old.halted None) core.old count (S.meaning shelf.old) (S.meaning shelf.new) core.new result }
     ensures unchanged { IsSome (halted_or core.old.halted None) → shelf.new ≡ shelf.old }
     ensures nothing { count ≤ core.old.applied → shelf.new ≡ shelf.old }
+    ensures idle { count ≤ core.old.applied → IfErr result IsNoFault }
     ensures sound { IsSound core.new (S.meaning shelf.new) }
     ensures stands { OnOk result (Rests core.old core.new (S.meaning shelf.old) (S.meaning shelf.new)) }
     ensures moves { Moves (Waits core.old (S.meaning shelf.old)) (Resting core.old (S.meaning shelf.old)) (S.meaning shelf.old) (S.meaning shelf.new) }

@@ -1,4 +1,7 @@
--- `set_state`: clauses goes and leads.
+-- `set_state`: clauses goes, leads and blames.
+use Rattle.std.proofs.Common.{ap}
+use Rattle.vx_srl.specs.Views.{Log}
+use Rattle.vx_srl.proofs.Blaming.{blames_failed, blames_none}
 use Rattle.vx_srl.proofs.Saving.{state_goes, state_leads}
 use Rattle.vx_srl.proofs.log.Srl.set_state.Goals as goal
 
@@ -10,3 +13,7 @@ returns-clause-goes g c = state_goes _ _ c.self.view_is c.header_with-header.res
 
 pub returns-clause-leads : goal.returns-clause-leads
 returns-clause-leads g c = state_leads _ _ c.self.view_is c.header_with-header.result _ _ c.args.state.now c.header_with-header.ensures.is c.requires.line c.in_default.ensures.arrives
+
+pub returns-in-Err-clause-blames : goal.returns-in-Err-clause-blames
+returns-in-Err-clause-blames g c =
+    blames_failed (Unit {0}) (g.S.Shelf.meaning c.args.shelf.now).disks _ _ c.in-Err.error c.refusal.result (ap (λ (l : Log). l.unit) c.self.view_is) c.refusal.ensures c.in-Err.ensures.names
