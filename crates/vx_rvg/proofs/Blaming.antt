@@ -1,10 +1,13 @@
--- Which disk a refused call of the group names.
+-- Which disk a refused call of the group names, and which one works where it is done.
 use Rattle.std.proofs.Common.{◌≡◌, ℕ, sym, subst}
-use Rattle.std.specs.Prelude.{IfErr, Option, Result, Ok, Err}
+use Rattle.std.specs.Prelude.{IfErr, OnOk, Option, Result, Ok, Err}
 use Rattle.vx_model.specs.declared.no.No.{No}
 use Rattle.vx_model.specs.declared.no.No.TheVariants.{Device}
+use Rattle.vx_disk.specs.Causes.{Works}
 use Rattle.vx_disk.specs.Disks.{Disks}
 use Rattle.vx_disk.specs.Shelf.{Meaning}
+use Rattle.vx_ringio.specs.Spends.{Spends}
+use Rattle.vx_ringio.proofs.Spending.{works_since}
 use Rattle.vx_srl.specs.Causes.{BlamesLog, BlamesUnit}
 use Rattle.vx_srl.specs.Views.{Log}
 use Rattle.vx_srl.specs.declared.errors.SrlNo.{SrlNo}
@@ -32,3 +35,8 @@ pub blames_since : {T : Type 0} (r : Result T No) (old mid : Meaning) (c k : Cor
 blames_since (Ok x) old mid c k same log blames = tt
 blames_since (Err why) old mid c k same log blames =
     subst (λ (l : Log). BlamesUnit old.disks l.unit why) log (subst (λ (m : Meaning). BlamesUnit m.disks k.log.unit why) same blames)
+
+-- a call before kept the place of the log, and made no disk fail or work
+pub works_behind : {T : Type 0} (r : Result T No) (old mid : Meaning) (c k : Core) → Spends old mid → k.log ≡ c.log → OnOk r (Works mid.disks k.log.unit) → OnOk r (Works old.disks c.log.unit)
+works_behind (Ok x) old mid c k spends log works = subst (λ (l : Log). Works old.disks l.unit) log (works_since old mid k.log.unit spends works)
+works_behind (Err why) old mid c k spends log works = tt

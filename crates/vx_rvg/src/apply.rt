@@ -1,10 +1,10 @@
 // The bringing of logged writes into their volumes.
-ghost use Rattle.std.specs.Prelude.{◌≡◌, ◌+◌, ◌<◌, ◌≤◌, ℕ, length, Some, None, IsTrue, IsFalse, IfOk, OnOk, IsSome};
+ghost use Rattle.std.specs.Prelude.{◌≡◌, ◌+◌, ◌<◌, ◌≤◌, ℕ, length, Some, None, IsTrue, IsFalse, IfErr, IfOk, OnOk, IsSome};
 ghost use Rattle.vx_disk.specs.Causes.{Works};
 ghost use Rattle.vx_disk.specs.Moves.{Moves, Anything, Nowhere};
 ghost use Rattle.vx_ringio.specs.Spends.{Spends};
 ghost use Rattle.vx_rvg.specs.Brings.{Brings, BringsOne, VolumesFlushed};
-ghost use Rattle.vx_rvg.specs.Groups.{halted_or, applied_through, ApplyIs};
+ghost use Rattle.vx_rvg.specs.Groups.{halted_or, applied_through, ApplyIs, IsNoFault};
 ghost use Rattle.vx_rvg.specs.Stands.{Resting, Rests};
 ghost use Rattle.vx_srl.specs.Causes.{CallsStopped};
 ghost use Rattle.vx_rvg.specs.Views.{IsSound, UnitsPlaced, Waits, last_of, unit_of};

@@ -1,6 +1,7 @@
 // The change of the state, and the emptying of the log.
 ghost use Rattle.std.specs.Prelude.{◌≡◌, ◌+◌, ◌<◌, ◌≤◌, ℕ, Some, None, Ok, Err, IfErr, OnOk, IsSome, true};
 ghost use Rattle.vx_disk.specs.Burns.{FallsShort, MakesCalls};
+ghost use Rattle.vx_disk.specs.Causes.{Works};
 ghost use Rattle.vx_disk.specs.Moves.{Moves, Run, Union};
 ghost use Rattle.vx_ringio.specs.Spends.{Spends};
 ghost use Rattle.vx_rvg.specs.Groups.{GroupFails};
@@ -34,6 +35,7 @@ fn empty<S: Shelf>(shelf: &mut S, core: &mut RvgCore, state: &State, head: u64) 
     ensures short { FallsShort 2 (S.meaning shelf.old) (S.meaning shelf.new) }
     ensures blames { IfErr result (BlamesUnit (S.meaning shelf.old).disks core.old.log.unit) }
     ensures spends { Spends (S.meaning shelf.old) (S.meaning shelf.new) }
+    ensures works { OnOk result (Works (S.meaning shelf.old).disks core.old.log.unit) }
 {
     // Numbers begin at 1.
     let _low = core.srl.low();
@@ -65,6 +67,7 @@ fn restart<S: Shelf>(shelf: &mut S, core: &mut RvgCore, state: &State, head: u64
     ensures short { last_of core.old ≤ core.old.applied → FallsShort 2 (S.meaning shelf.old) (S.meaning shelf.new) }
     ensures blames { last_of core.old ≤ core.old.applied → IfErr result (BlamesUnit (S.meaning shelf.old).disks core.old.log.unit) }
     ensures spends { Spends (S.meaning shelf.old) (S.meaning shelf.new) }
+    ensures works { OnOk result (Works (S.meaning shelf.old).disks core.old.log.unit) }
 {
     if let Some(disk) = core.halted {
         return Err(No::Halted { disk });
@@ -102,6 +105,7 @@ impl<S: Shelf> Rvg<S> {
         ensures short { AppliesNone restart self.old.core → FallsShort 2 (S.meaning self.old.shelf) (S.meaning self.new.shelf) }
         ensures blames { AppliesNone restart self.old.core → IfErr result (BlamesUnit (S.meaning self.old.shelf).disks self.old.core.log.unit) }
         ensures spends { Spends (S.meaning self.old.shelf) (S.meaning self.new.shelf) }
+        ensures works { OnOk result (Works (S.meaning self.old.shelf).disks self.old.core.log.unit) }
     {
         match restart {
             None => self.set_state(state),

@@ -86,6 +86,7 @@ impl<S: Shelf> Rvg<S> {
         ensures short { FallsShort 2 (S.meaning self.old.shelf) (S.meaning self.new.shelf) }
         ensures blames { IfErr result (BlamesUnit (S.meaning self.old.shelf).disks self.old.core.log.unit) }
         ensures spends { Spends (S.meaning self.old.shelf) (S.meaning self.new.shelf) }
+        ensures works { OnOk result (Works (S.meaning self.old.shelf).disks self.old.core.log.unit) }
     {
         if let Some(disk) = self.core.halted {
             return Err(No::Halted { disk });

@@ -1,6 +1,7 @@
 // The calls that write a header: a new state, a raised low number, an emptied log.
 ghost use Rattle.std.specs.Prelude.{◌≡◌, ◌⊎◌, ◌+◌, ◌-◌, ◌<◌, ◌≤◌, ◌%◌, [], length, take, drop, leb, true, Ok, Err, IfErr, OnOk};
 ghost use Rattle.vx_disk.specs.Burns.{FallsShort, MakesCalls};
+ghost use Rattle.vx_disk.specs.Causes.{Works};
 ghost use Rattle.vx_ringio.specs.Classes.{is_of_ring};
 ghost use Rattle.vx_ringio.specs.Spends.{Spends};
 ghost use Rattle.vx_ringio.specs.Tracks.{RingLies, Follows, Arrives};
@@ -125,6 +126,7 @@ impl Srl {
         ensures short { FallsShort 2 (S.meaning shelf.old) (S.meaning shelf.new) }
         ensures blames { IfErr result (BlamesLog (S.meaning shelf.old).disks self.old.unit) }
         ensures spends { Spends (S.meaning shelf.old) (S.meaning shelf.new) }
+        ensures works { OnOk result (Works (S.meaning shelf.old).disks self.old.unit) }
     {
         if self.header.stamp >= MOST_NUMBER {
             return Err(no_number_left());
@@ -209,6 +211,7 @@ impl Srl {
         ensures short { FallsShort 2 (S.meaning shelf.old) (S.meaning shelf.new) }
         ensures blames { IfErr result (BlamesLog (S.meaning shelf.old).disks self.old.unit) }
         ensures spends { Spends (S.meaning shelf.old) (S.meaning shelf.new) }
+        ensures works { OnOk result (Works (S.meaning shelf.old).disks self.old.unit) }
     {
         if self.header.stamp >= MOST_NUMBER
             || self.header.run >= MOST_NUMBER

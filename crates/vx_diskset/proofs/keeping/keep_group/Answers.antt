@@ -52,3 +52,6 @@ pub returns-clause-waiting : goal.returns-clause-waiting
 returns-clause-waiting g c = λ us.
     wait_kept (change_refusal c.args.rvg.now.core) c.args.rvg.now.core c.set_state-answer.new.self.core c.args.state.now (g.R.Shelf.meaning c.args.rvg.now.shelf) (g.R.Shelf.meaning c.set_state-answer.new.self.shelf) c.set_state-answer.result us (search rules)
     c.set_state-answer.ensures.answers c.set_state-answer.ensures.moves.size
+
+pub returns-clause-works : goal.returns-clause-works
+returns-clause-works g c = c.set_state-answer.ensures.works

@@ -42,3 +42,6 @@ returns-clause-calls g c =
 pub returns-clause-short : goal.returns-clause-short
 returns-clause-short g c = λ beside n up can.
     c.change-answer.ensures.short (none_applied n c.args.rvg.now.core (g.R.Shelf.meaning c.args.rvg.now.shelf) up can)
+
+pub returns-clause-works : goal.returns-clause-works
+returns-clause-works g c = c.change-answer.ensures.works

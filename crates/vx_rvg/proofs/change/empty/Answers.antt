@@ -1,7 +1,7 @@
 -- The group behind the emptying of its log.
 use Rattle.std.proofs.Common.{ap, sym, subst}
 use Rattle.vx_model.specs.declared.no.No.{No}
-use Rattle.vx_disk.specs.Causes.{DeviceCause}
+use Rattle.vx_disk.specs.Causes.{DeviceCause, Works}
 use Rattle.vx_rvg.specs.Views.{Core, IsSound}
 use Rattle.vx_rvg.proofs.Blaming.{blames_of}
 use Rattle.vx_rvg.proofs.EmptyStands.{can_at, emptied_fails, emptied_moves, emptied_rests, emptied_sound}
@@ -41,3 +41,6 @@ returns-in-Ok-clause-sound g c =
 pub returns-in-Err-clause-blames : goal.returns-in-Err-clause-blames
 returns-in-Err-clause-blames g c =
     blames_of (g.S.Shelf.meaning c.args.shelf.now).disks _ _ c.in-Err.why c.refused-no.result (ap (λ (k : Core). k.log.unit) c.core.view_is) c.refused-no.ensures c.in-Err.ensures.blames
+
+pub returns-in-Ok-clause-works : goal.returns-in-Ok-clause-works
+returns-in-Ok-clause-works g c = subst (λ (k : Core). Works (g.S.Shelf.meaning c.args.shelf.now).disks k.log.unit) c.core.view_is c.in-Ok.ensures.works

@@ -1,7 +1,7 @@
 -- The group behind a restart of its log.
 use Rattle.std.proofs.Common.{◌≤◌, ap, arith}
 use Rattle.vx_rvg.specs.Views.{Core, last_of}
-use Rattle.vx_rvg.proofs.Blaming.{blames_idle, blames_since}
+use Rattle.vx_rvg.proofs.Blaming.{blames_idle, blames_since, works_behind}
 use Rattle.vx_rvg.proofs.ChangeCalls.{calls_since, short_same, short_since}
 use Rattle.vx_rvg.proofs.RestartMoves.{applied_by, apply_part, restart_part}
 use Rattle.vx_ringio.proofs.Spending.{then_spends}
@@ -43,3 +43,8 @@ returns-in-Ok-clause-blames g c = λ low.
     let applied = applied_by c.args.core.now.halted c.args.core.now _ (g.S.Shelf.meaning c.args.shelf.now) (g.S.Shelf.meaning c.apply_to.new.shelf) c.apply_to.new.core c.in-Ok.field-0 c.in-Ok.ensures.answers in
     blames_since c.empty.result (g.S.Shelf.meaning c.args.shelf.now) (g.S.Shelf.meaning c.apply_to.new.shelf) c.args.core.now c.apply_to.new.core
     (ap g.S.Shelf.meaning (c.apply_to.ensures.nothing (omega (arith, low, c.head-last.ensures, ap (λ (k : Core). last_of k) c.core.view_is)))) (ap (λ (k : Core). k.log) applied.1) c.empty.ensures.blames
+
+pub returns-in-Ok-clause-works : goal.returns-in-Ok-clause-works
+returns-in-Ok-clause-works g c =
+    let applied = applied_by c.args.core.now.halted c.args.core.now _ (g.S.Shelf.meaning c.args.shelf.now) (g.S.Shelf.meaning c.apply_to.new.shelf) c.apply_to.new.core c.in-Ok.field-0 c.in-Ok.ensures.answers in
+    works_behind c.empty.result (g.S.Shelf.meaning c.args.shelf.now) (g.S.Shelf.meaning c.apply_to.new.shelf) c.args.core.now c.apply_to.new.core c.apply_to.ensures.spends (ap (λ (k : Core). k.log) applied.1) c.empty.ensures.works

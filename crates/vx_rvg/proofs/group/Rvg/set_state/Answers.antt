@@ -1,5 +1,6 @@
 -- The group behind a new state.
 use Rattle.std.proofs.Common.{arith, refl, subst, ◌+◌}
+use Rattle.vx_disk.specs.Causes.{Works}
 use Rattle.vx_disk.specs.Moves.{Moves, Run}
 use Rattle.vx_srl.specs.Causes.{BlamesUnit}
 use Rattle.vx_srl.specs.Headers.{with_header_state}
@@ -41,3 +42,6 @@ pub returns-in-Err-clause-blames : goal.returns-in-Err-clause-blames
 returns-in-Err-clause-blames g c =
     subst (λ (r : Rvg g.row.S.Denot g.S.Shelf). BlamesUnit (g.S.Shelf.meaning r.shelf).disks r.core.log.unit c.refused-no.result) c.self.view_is
     (blames_of (g.S.Shelf.meaning c.self.inside.0.0).disks _ _ c.in-Err.why c.refused-no.result refl c.refused-no.ensures c.in-Err.ensures.blames)
+
+pub returns-clause-works : goal.returns-clause-works
+returns-clause-works g c = subst (λ (r : Rvg g.row.S.Denot g.S.Shelf). Works (g.S.Shelf.meaning r.shelf).disks r.core.log.unit) c.self.view_is c.in_default-set_state.ensures.works

@@ -1,8 +1,9 @@
--- `restart`: clauses goes, leads and blames.
-use Rattle.std.proofs.Common.{take, drop, ap, List}
+-- `restart`: clauses goes, leads, blames and works.
+use Rattle.std.proofs.Common.{take, drop, ap, subst, List}
 use Rattle.vx_srl.specs.declared.kept.Kept.{Kept}
+use Rattle.vx_disk.specs.Causes.{Works}
 use Rattle.vx_srl.specs.Views.{Log}
-use Rattle.vx_srl.proofs.Blaming.{blames_failed, blames_none}
+use Rattle.vx_srl.proofs.Blaming.{blames_failed}
 use Rattle.vx_srl.proofs.Saving.{emptied_goes, emptied_leads}
 use Rattle.vx_srl.proofs.log.Srl.restart.Goals as goal
 
@@ -21,3 +22,6 @@ returns-clause-leads g c =
 pub returns-in-Err-clause-blames : goal.returns-in-Err-clause-blames
 returns-in-Err-clause-blames g c =
     blames_failed (Unit {0}) (g.S.Shelf.meaning c.args.shelf.now).disks _ _ c.in-Err.error c.refusal.result (ap (λ (l : Log). l.unit) c.self.view_is) c.refusal.ensures c.in-Err.ensures.names
+
+pub returns-clause-works : goal.returns-clause-works
+returns-clause-works g c = subst (λ (l : Log). Works (g.S.Shelf.meaning c.args.shelf.now).disks l.unit) c.self.view_is c.in_default.ensures.works
