@@ -124,8 +124,7 @@ module _ {R : Type 0} {g : Ghosts R} where
 
     ready : ((r : R) → IsRack (g.meaning r)) → (i : ℕ) → i < d.world.sites → (before after : DiskSet R g) → slice_get old.disk_sets.items i ≡ Some before → HeadUnder 4 Done before after → IsReady i
     ready racks i below before after at head =
-        let stood : SiteStands (beside_of d i) (d.world.nodes i) before = stands.disk_sets.sites i before below at in
-        (
+        let stood : SiteStands (beside_of d i) (d.world.nodes i) before = stands.disk_sets.sites i before below at in (
           head_works racks 4 (beside_of d i) (d.world.nodes i) before after stood head (omega arith) (stands.failing i before below at),
           head_passes racks 4 (beside_of d i) (d.world.nodes i) before after stood head (stands.fuses i before below at),
         )
@@ -136,20 +135,18 @@ module _ {R : Type 0} {g : Ghosts R} where
       next = e;
       fails = fails;
       done = record {
-          ends = ends;
-          counts = tt;
-          works = λ is.
-              let both = needs is in
-              (
-                subst (λ (k : ℕ). (d.world.nodes k).failing 0 ≡ false) (sym l.number) both.0.0,
-                subst (λ (k : ℕ). (d.world.nodes k).failing 0 ≡ false) (sym l.number_too) both.1.0,
-              );
-          calls = λ is.
-              let both = needs is in
-              (
-                subst (λ (k : ℕ). MayPass (2 * header_calls) (d.world.nodes k).fuse) (sym l.number) both.0.1,
-                subst (λ (k : ℕ). MayPass (2 * header_calls) (d.world.nodes k).fuse) (sym l.number_too) both.1.1,
-              );
+        ends = ends;
+        counts = tt;
+        works = λ is.
+            let both = needs is in (
+              subst (λ (k : ℕ). (d.world.nodes k).failing 0 ≡ false) (sym l.number) both.0.0,
+              subst (λ (k : ℕ). (d.world.nodes k).failing 0 ≡ false) (sym l.number_too) both.1.0,
+            );
+        calls = λ is.
+            let both = needs is in (
+              subst (λ (k : ℕ). MayPass (2 * header_calls) (d.world.nodes k).fuse) (sym l.number) both.0.1,
+              subst (λ (k : ℕ). MayPass (2 * header_calls) (d.world.nodes k).fuse) (sym l.number_too) both.1.1,
+            );
       };
       stands = next.stands;
       carries = λ carries. next.carries (carries_both d old p s carries);

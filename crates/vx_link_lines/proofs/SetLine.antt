@@ -172,10 +172,10 @@ module _ {R : Type 0} {g : Ghosts R} (d : Doubted) (old : Yard R g) (first secon
       next = e;
       fails = fails;
       done = record {
-          ends = ends;
-          counts = tt;
-          works = λ is. subst (λ (k : ℕ). (w.nodes k).failing 0 ≡ false) (sym here.number) (needs is).0;
-          calls = λ is. subst (λ (k : ℕ). MayPass header_calls (w.nodes k).fuse) (sym here.number) (needs is).1;
+        ends = ends;
+        counts = tt;
+        works = λ is. subst (λ (k : ℕ). (w.nodes k).failing 0 ≡ false) (sym here.number) (needs is).0;
+        calls = λ is. subst (λ (k : ℕ). MayPass header_calls (w.nodes k).fuse) (sym here.number) (needs is).1;
       };
       stands = next.stands;
       carries = λ carries. next.carries (carries_noted d old s carries);
@@ -193,11 +193,10 @@ module _ {R : Type 0} {g : Ghosts R} (d : Doubted) (old : Yard R g) (first secon
         (LinksDone (behind d event) (subst (λ (es : List Event). Runs d es (behind d event)) (sym (numbers prot)) (false, refl)) (ap (λ (es : List Event). all_fails es) (numbers prot)) tt
         (subst (λ (es : List Event). LinkReplies line d (behind d event) es Done) (sym (numbers prot)) (subst (λ (o : EventSaid). RepeatsSaid (step w event).world 0 o Done) (sym set_said) refl))
         (record { world = sym (notes (behind d event).world); after = λ i. refl }))
-        (λ is.
-          (
-            head_works racks 2 (beside_of d s) n before after stood head (omega arith) (stands.failing s before here.below at),
-            head_passes racks 2 (beside_of d s) n before after stood head (stands.fuses s before here.below at),
-          ))
+        (λ is. (
+          head_works racks 2 (beside_of d s) n before after stood head (omega arith) (stands.failing s before here.below at),
+          head_passes racks 2 (beside_of d s) n before after stood head (stands.fuses s before here.below at),
+        ))
         (kept_done (note_one s) s (notes_one s) d event state header old before noted here.below at new after changed keeps is calls facts load)
 
     -- it was refused

@@ -23,8 +23,8 @@ returns-in-Receives-clause-headed g c = λ beside n stands.
     head_received 2 (done_by c.keep_group-in-Receives.result) beside n c.args.self.now c.in-Receives.site
     (record { rvg = c.keep_group-in-Receives.new.rvg; waiting = c.in-Receives.site.waiting; waits = c.site-in-Receives-2-1.given.0 }) c.in-Receives.is stands
     (λ at.
-      head_called 2 c.keep_group-in-Receives.result c.in-Receives.site.rvg c.keep_group-in-Receives.new.rvg (log_place c.in-Receives.site.rvg n at.units) at.up (c.keep_group-in-Receives.ensures.off at.up) c.keep_group-in-Receives.ensures.calls
-      c.keep_group-in-Receives.ensures.short c.keep_group-in-Receives.ensures.works c.keep_group-in-Receives.ensures.spends)
+    head_called 2 c.keep_group-in-Receives.result c.in-Receives.site.rvg c.keep_group-in-Receives.new.rvg (log_place c.in-Receives.site.rvg n at.units) at.up (c.keep_group-in-Receives.ensures.off at.up) c.keep_group-in-Receives.ensures.calls
+    c.keep_group-in-Receives.ensures.short c.keep_group-in-Receives.ensures.works c.keep_group-in-Receives.ensures.spends)
 
 pub returns-in-Receives-clause-kept : goal.returns-in-Receives-clause-kept
 returns-in-Receives-clause-kept g c = λ beside n stands can.
