@@ -71,11 +71,11 @@ module _ {T U : Type 0} (f : U → T) where
 
   links_told : (d : Doubted) (line : ScriptLine) (fails : Fails) (said : Said) (new : Doubted) → LinkEnds T d line fails said new → LinkEnds U d line fails said new
   links_told d line fails said new (LinksDone last runs none is says leads) = LinksDone last runs none is says leads
-  links_told d line fails said new (LinksHalt e site disk middle comes is says leads) = LinksHalt e site disk middle comes is says leads
+  links_told d line fails said new (LinksHalt e site disk middle comes here is says leads) = LinksHalt e site disk middle comes here is says leads
   links_told d line fails said new (AppliesPart before rest site count reached disk last split runs none is says leads) = AppliesPart before rest site count reached disk last split runs none is says leads
   links_told d line fails said new (AppliesCut before rest site count reached kept taken middle split runs none opens fused failed says leads) = AppliesCut before rest site count reached kept taken middle split runs none opens fused failed says leads
   links_told d line fails said new (LinksCut e site kept taken middle comes fused none says leads) = LinksCut e site kept taken middle comes fused none says leads
-  links_told d line fails said new (LogUnread before rest e site disk middle split reads runs none is says leads) = LogUnread before rest e site disk middle split reads runs none is says leads
+  links_told d line fails said new (LogUnread before rest e site disk middle split reads runs none here is says leads) = LogUnread before rest e site disk middle split reads runs none here is says leads
   links_told d line fails said new (NoHeader before rest e site middle split takes runs none most is says leads) = NoHeader before rest e site middle split takes runs none (λ u. most (f u)) is says leads
   links_told d line fails said new (LinksFind never last finds leads) = LinksFind (λ u. never (f u)) last finds leads
 

@@ -13,6 +13,7 @@ pub mod KeepsFailing
 pub mod LastWrites
 pub mod Laying
 pub mod LeavesNumbers
+pub mod LogDisks
 pub mod MakeGroup
 pub mod MakeRoom
 pub mod Mores

@@ -48,8 +48,8 @@ unfolding line_refusal first_said_no first_name second_name need_of halt_of line
 links = record {
   ends = LinksDone (run_as false two (link_events two.world link_line)) (runs_as false two (link_events two.world link_line)) refl tt refl (record { world = refl; after = λ s. refl });
   counts = tt;
-  works = tt;
-  calls = tt;
+  works = λ said. (refl, refl);
+  calls = λ said. (tt, tt);
 }
 
 -- a disk that fails as the link is set anew: whether it is, is in doubt
@@ -65,10 +65,10 @@ sets : LineStep (Unit {0}) false (behind two link_line) set_line ((0, 0) ∷ [])
 unfolding line_refusal first_said_no first_name second_name need_of halt_of line_role line_unknown taken over_limit wrong_size span_of ask_of is_raw_shape
 sets = record {
   ends = LinksHalt (SetAt 0 1 FailsIfNotLive) 0 0 (behind two link_line)
-      (record { before = []; rest = []; split = refl; runs = refl; fails = refl; opens = (refl, refl); writes = refl }) refl refl (record { world = refl; after = λ s. refl });
+      (record { before = []; rest = []; split = refl; runs = refl; fails = refl; opens = (refl, refl); writes = refl }) (λ none. refl) refl refl (record { world = refl; after = λ s. refl });
   counts = tt;
-  works = tt;
-  calls = tt;
+  works = λ said. refl;
+  calls = λ said. tt;
 }
 
 -- a crash takes the one or the other

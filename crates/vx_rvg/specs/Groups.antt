@@ -79,6 +79,11 @@ GroupFails c old new c' (Device disk) = Ended c (Some disk) c' × DeviceCause ol
 GroupFails c old new c' Down = Ended c c.halted c' × DeviceCause old new Down
 GroupFails c old new c' other = ⊥
 
+-- a refusal that no failed call gives
+abbrev pub IsNoFault : No → Type 0
+IsNoFault (Device disk) = ⊥
+IsNoFault other = Unit {0}
+
 -- a write that is not refused: its number, or a device call failed
 abbrev pub Writes : Core → ℕ → ℕ → List ℕ → Meaning → Meaning → Core → Result ℕ No → Type 0
 Writes c vol start bytes old new c' (Ok number) = (number ≡ last_of c + 1) × (c' ≡ core_with_write c vol start bytes) × (IsTrue new.down → ⊥)
