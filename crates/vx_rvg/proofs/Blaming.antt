@@ -65,7 +65,7 @@ staged_place None c c' vol start bytes old new number is = ap (λ (k : Core). k.
 
 pub named_volume : (T : Type 0) (disks : Option Disks) (vols : List ℕ) (v unit : ℕ) (error : ShelfError) → v < length vols → unit ≡ unit_of vols v → Names {T = T} disks unit (Err error) → BlamesVolumes disks vols (refusal_of error)
 named_volume T None vols v unit (Fault disk) low here names = λ some. absurd (let e : false ≡ true = some in cc)
-named_volume T (Some disks) vols v unit (Fault disk) low here names = λ some. (v, low, names ∙ here)
+named_volume T (Some disks) vols v unit (Fault disk) low here names = λ some. (v, (low, names ∙ here))
 named_volume T disks vols v unit Down low here names = tt
 
 pub volumes_since : (old mid : Meaning) (vols : List ℕ) (why : No) → Spends old mid → BlamesVolumes mid.disks vols why → BlamesVolumes old.disks vols why
