@@ -1,7 +1,10 @@
 pub mod AwayLemmas
+pub mod CarryLemmas
 pub mod DeportedLemmas
 pub mod KeepLemmas
 pub mod NoteLemmas
 pub mod PlainLemmas
 pub mod ReadLemmas
+pub mod SettleLemmas
+pub mod SiteLemmas
 pub mod WriteLemmas

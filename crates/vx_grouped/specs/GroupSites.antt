@@ -1,8 +1,9 @@
 -- What the disks of a site with a group of disks, and no replicated volume group, stand for.
-use Rattle.std.specs.Prelude.{◌≡◌, ℕ, ◌+◌, ◌/◌, ◌%◌, ◌<◌, ◌≤◌, [], Some, None, IsTrue, IsFalse}
+use Rattle.std.specs.Prelude.{◌≡◌, ℕ, ◌+◌, ◌/◌, ◌%◌, ◌<◌, ◌≤◌, [], Option, Some, None, IsTrue, IsFalse}
 use Rattle.vx_model.specs.declared.site.SiteState.TheVariants.{Bare}
 use Rattle.vx_disk.specs.Shelf.{Meaning}
 use Rattle.vx_disk.specs.declared.shelf.Shelf.{Ghosts}
+use Rattle.vx_config.specs.declared.config.Config.{Config}
 use Rattle.vx_history.specs.Groups.{GroupNode}
 use Rattle.vx_history.specs.Steps.{burned}
 use Rattle.vx_history.specs.World.{Node, NoFuse}
@@ -82,6 +83,11 @@ module _ {R : Type 0} {g : Ghosts R} where
   site_disks (Down rack) = g.meaning rack
   site_disks (Marked rack) = g.meaning rack
   site_disks Gone = no_shelf
+
+  -- the configuration of a group that is up
+  abbrev pub site_config : GroupSite R g → Option Config
+  site_config (Up group) = Some group.core.inner.config
+  site_config other = None
 
   -- the group is up
   abbrev pub UpNoted : Node → GroupNode → GroupSite R g → Type 0

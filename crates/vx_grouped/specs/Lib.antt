@@ -1,4 +1,9 @@
 pub mod Away
 pub mod Ends
 pub mod GroupNotes
+pub mod GroupSites
+pub mod NoteChanges
 pub mod Plain
+pub mod SetFuses
+pub mod SiteEnds
+pub mod Watches

@@ -20,3 +20,9 @@ pub record NoteSettles (old new : GroupNode) : Type 0 where
 pub record NoteUnsettles (old new : GroupNode) : Type 0 where
   pub same : NoteSame old new
   pub begun : ((new.begun ≡ []) × (new.loose ≡ false)) ⊎ ((next : List ℕ) × (new.begun ≡ next ∷ old.begun) × (old.loose ≡ true → new.loose ≡ true))
+
+-- Behind a deport: nothing is begun, and imports agree where they did and nothing was begun.
+pub record NoteDeports (old new : GroupNode) : Type 0 where
+  pub same : NoteSame old new
+  pub begun : new.begun ≡ []
+  pub tight : old.loose ≡ false → old.begun ≡ [] → new.loose ≡ false

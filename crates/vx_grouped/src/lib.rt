@@ -1,12 +1,19 @@
 //! A group of disks as a site without a replicated volume group has it: what its calls make of what the site notes of the group.
 //!
-//! Its volumes are written and read by themselves, its plexes are detached and attached, and it is deported. No line uses it yet.
+//! Its volumes are written and read by themselves, its plexes are detached and attached, and it is deported. `GroupSite` is the disks of such
+//! a site, whatever became of its group. No line uses it yet.
 #![tactic(auto)]
 
+mod group_site;
 mod leaving;
 mod plain;
 mod plexes;
+mod site_plain;
+mod site_plexes;
+mod watching;
 
+pub use group_site::GroupSite;
 pub use leaving::{crash_group, deport_group};
 pub use plain::{read_plain, write_plain};
 pub use plexes::{att_plex, det_plex};
+pub use watching::{att_watched, det_watched, read_watched, write_watched};

@@ -4,6 +4,7 @@ use Rattle.vx_disk.specs.declared.shelf.ShelfError.{ShelfError}
 use Rattle.vx_disk.specs.declared.shelf.ShelfError.TheVariants.{Fault, Down}
 use Rattle.vx_disk.specs.Causes.{Calls, Cause, OnDisks, WithDisks}
 use Rattle.vx_disk.specs.Disks.{Burns, Disks, Untouched, is_set}
+use Rattle.vx_disk.specs.Racks.{Stopped}
 use Rattle.vx_disk.specs.Shelf.{Goes, Meaning, Values}
 use Rattle.vx_watched.specs.Since.{CalledSince, DisksGo, FuseGoes, fuse_calls, fuse_pick, is_rack}
 
@@ -119,3 +120,20 @@ module _ (first m m' : Meaning) (written : Values) (since : CalledSince first m)
   pub since_read : OnDisks m.disks m'.disks Untouched → CalledSince first m'
   since_read on =
       since_step (on_both m.disks m'.disks (λ o n. Untouched o n × ((u : ℕ) → n.failing u ≡ o.failing u)) (DisksGo m'.down) (λ o n it. record { failing = it.1; fuse = λ up. fuse_same o.fuse n.fuse it.0.fuse }) on)
+
+-- a crash of a shelf that was down
+pub since_stop : (first m m' : Meaning) (P : Disks → Disks → Type 0) → CalledSince first m → IsTrue m.down → Stopped m m' → OnDisks m.disks m'.disks P → CalledSince first m'
+since_stop first m m' P since was stopped on =
+    let step : WithDisks m.disks m'.disks (DisksGo m'.down) =
+        on_both m.disks m'.disks (λ o n. P o n × ((u : ℕ) → n.failing u ≡ o.failing u)) (DisksGo m'.down) (λ o n it. record { failing = it.1; fuse = λ up. absurd (not_both m'.down stopped.down up) }) on in
+    record {
+      units = stopped.units ∙ since.units;
+      size = λ u. stopped.size u ∙ since.size u;
+      tells = stopped.tells ∙ since.tells;
+      counts = λ d. let a = since.counts d in let b = stopped.counts.disk_faults d in omega (arith, a, b);
+      falls = λ down. stopped.down;
+      unarmed = λ none. stopped.unarmed;
+      safe = λ none down. since.safe none was;
+      rack = rack_same m.disks m'.disks (DisksGo m'.down) step ∙ since.rack;
+      told = told_then first.disks m.disks m'.disks m.down m'.down (λ down. stopped.down) since.told step;
+    }
