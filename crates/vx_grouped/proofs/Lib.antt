@@ -1,4 +1,6 @@
+pub mod AlikeLemmas
 pub mod AwayLemmas
+pub mod CalledLemmas
 pub mod CarryLemmas
 pub mod DeportedLemmas
 pub mod KeepLemmas
@@ -8,3 +10,4 @@ pub mod ReadLemmas
 pub mod SettleLemmas
 pub mod SiteLemmas
 pub mod WriteLemmas
+pub mod WroteLemmas
