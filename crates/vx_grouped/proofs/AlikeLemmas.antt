@@ -67,7 +67,7 @@ module _ (n : Node) (note : GroupNode) (c d : GroupCore) (m m' : Meaning) (core 
   -- with a fuse that was just set
   pub fused_up : (calls : ℕ) → LetsPass calls m'.disks → GroupUp n note c m → GroupUp (record n { fuse = FuseSet calls }) note d m'
   fused_up calls fuse it = record {
-    noted = record { is = it.noted.is; none = record { volumes = it.noted.none.volumes; log = it.noted.none.log; running = it.noted.none.running } };
+    noted = record { is = it.noted.is; none = record { role = it.noted.none.role; volumes = it.noted.none.volumes; log = it.noted.none.log; safe = it.noted.none.safe; running = it.noted.none.running } };
     fuse = fuse;
     at = record { state = it.at.state; up = λ is. it.at.up (subst IsTrue down is); lies = lies_as n (record n { fuse = FuseSet calls }) note d m' refl refl (alike_lies it.at.lies) };
   }
@@ -108,8 +108,8 @@ module _ (n : Node) (m m' : Meaning) (alike : Alike m m') (down : m'.down ≡ m.
   pub alike_down : (note : GroupNode) → GroupDown n note m → GroupDown n note m'
   alike_down note it = record { noted = it.noted; unfused = it.unfused; stopped = stopped_alike it.stopped; away = less_down n note m m' alike.contents.units alike.contents.size alike.contents.leaves it.away }
 
-  pub alike_away : (note : GroupNode) → GroupAway n note m → GroupAway n note m'
-  alike_away note it = record { noted = it.noted; unfused = it.unfused; stopped = stopped_alike it.stopped; away = less_deported n note m m' alike.contents.units alike.contents.size alike.contents.leaves it.away }
+  pub alike_away : (note : GroupNode) → HasFuse n.fuse m' → GroupAway n note m → GroupAway n note m'
+  alike_away note fuse it = record { noted = it.noted; up = λ is. it.up (subst IsTrue down is); fuse = fuse; away = less_deported n note m m' alike.contents.units alike.contents.size alike.contents.leaves it.away }
 
   pub alike_marked : AreMarked n m → AreMarked n m'
   alike_marked it = record {

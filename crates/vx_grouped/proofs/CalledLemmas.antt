@@ -1,5 +1,5 @@
 -- Calls on a site's group that write to no volume, by its note.
-use Rattle.std.proofs.Common.{◌≡◌, ℕ, true, false, List, IsTrue, refl, sym, ◌∙◌, ap}
+use Rattle.std.proofs.Common.{◌≡◌, ℕ, true, false, IsTrue, refl, sym, ◌∙◌, ap, subst}
 use Rattle.std.specs.Prelude.{Option, Some, None, Result, Ok, Err}
 use Rattle.vx_model.specs.declared.errors.Stop.{Stop}
 use Rattle.vx_model.specs.declared.errors.Stop.TheVariants.{No as Refused, OutOfMemory}
@@ -17,12 +17,16 @@ use Rattle.vx_group.specs.declared.group.Group.{Group}
 use Rattle.vx_watched.specs.Since.{CalledSince}
 use Rattle.vx_grouped.specs.Away.{IsAwayAt}
 use Rattle.vx_grouped.specs.Ends.{CallLeaves}
-use Rattle.vx_grouped.specs.GroupNotes.{GroupLies, IsGroupAt, note_done, note_refused}
+use Rattle.vx_grouped.specs.GroupNotes.{GroupLies, note_done, note_refused}
 use Rattle.vx_grouped.specs.GroupSites.{GroupUp}
 use Rattle.vx_grouped.specs.SiteEnds.{SiteCalled, stops_down}
 use Rattle.vx_grouped.specs.declared.group_site.GroupSite.TheVariants.{Up, Down}
 use Rattle.vx_grouped.proofs.SettleLemmas.{done_settles, fell_fused, fuse_burned, refused_unsettles}
 use Rattle.vx_grouped.proofs.SiteLemmas.{down_with, up_burned, up_with}
+
+err_is : {T : Type 0} (x : Result T Stop) (a b : Stop) → x ≡ Err a → x ≡ Err b → a ≡ b
+err_is (Ok y) a b one two = cc
+err_is (Err s) a b one two = let p : s ≡ a = cc in let q : s ≡ b = cc in sym p ∙ q
 
 -- a refusal of a device is no test's
 pub rose_by : (T : Type 0) (m m' : Meaning) (o : Option No) (disk : ℕ) (r : Result T Stop) → r ≡ Err (Refused (Device disk)) → (o ≡ None → DetStops m m' r) → ((no : No) → o ≡ Some no → r ≡ Err (Refused no)) → (o ≡ Some (Device disk) → ⊥)
@@ -31,10 +35,28 @@ rose_by T m m' None disk r is stops refused never = by_stop r is (stops refl)
   where
     by_stop : (x : Result T Stop) → x ≡ Err (Refused (Device disk)) → DetStops m m' x → Rose (m.disk_faults disk) (m'.disk_faults disk)
     by_stop x same it = subst (λ (y : Result T Stop). DetStops m m' y) same it
-rose_by T m m' (Some no) disk r is stops refused never =
-    let same : Err {T} (Refused no) ≡ Err (Refused (Device disk)) = sym (refused no refl) ∙ is in
-    let one : no ≡ Device disk = cc in
+rose_by T m m' (Some why) disk r is stops refused never =
+    let same : Refused why ≡ Refused (Device disk) = err_is r (Refused why) (Refused (Device disk)) (refused why refl) is in
+    let one : why ≡ Device disk = cc in
     absurd (never (ap (λ (x : No). Some x) one))
+
+-- where it says that they are down they are
+pub down_by_stop : (T : Type 0) (m m' : Meaning) (o : Option No) (stop : Stop) (r : Result T Stop) → r ≡ Err stop → stops_down stop ≡ true → (o ≡ None → DetStops m m' r) → ((no : No) → o ≡ Some no → r ≡ Err (Refused no)) → (o ≡ Some IsOff → ⊥) → IsTrue m'.down
+down_by_stop T m m' None stop r is off stops refused never = by_stop stop off (subst (λ (y : Result T Stop). DetStops m m' y) is (stops refl))
+  where
+    by_stop : (x : Stop) → stops_down x ≡ true → DetStops {T = T} m m' (Err x) → IsTrue m'.down
+    by_stop (Refused (Device disk)) on it = cc
+    by_stop (Refused IsOff) on it = it
+    by_stop (Refused other) on it = cc
+    by_stop OutOfMemory on it = cc
+down_by_stop T m m' (Some why) stop r is off stops refused never =
+    let one : stop ≡ Refused why = err_is r stop (Refused why) is (refused why refl) in
+    absurd (never (ap (λ (x : No). Some x) (only why (subst (λ (x : Stop). stops_down x ≡ true) one off))))
+  where
+    only : (x : No) → stops_down (Refused x) ≡ true → x ≡ IsOff
+    only (Device disk) on = cc
+    only IsOff on = refl
+    only other on = cc
 
 module _ {R : Type 0} {g : Ghosts R} (T : Type 0) (n : Node) (note : GroupNode) (group new : Group R g) (up : GroupUp n note group.core (g.meaning group.shelf)) (since : CalledSince (g.meaning group.shelf) (g.meaning new.shelf)) where
   -- it is done

@@ -12,3 +12,7 @@ carried P c c0 d d0 s s0 t t0 first shelf last new it =
 -- the shelf that a shelf with an account has
 pub shelf_of : {S B : Type 0} {g : Ghosts S} {b : Begins B} (v w : Watched S B g b) → v ≡ w → v.shelf ≡ w.shelf
 shelf_of {S} {B} {g} {b} v w same = ap (λ (x : Watched S B g b). x.shelf) same
+
+-- the same of shelves alone
+pub carried_two : {S : Type 0} (P : S → S → Type 0) (s s0 t t0 : S) → s0 ≡ s → t ≡ t0 → P s0 t0 → P s t
+carried_two P s s0 t t0 shelf new it = subst (λ y. P y t) shelf (subst (λ y. P s0 y) (sym new) it)

@@ -1,5 +1,6 @@
 pub mod AlikeLemmas
 pub mod AwayLemmas
+pub mod BeginLemmas
 pub mod CalledLemmas
 pub mod CarryLemmas
 pub mod DeportedLemmas
@@ -8,6 +9,8 @@ pub mod NoteLemmas
 pub mod PlainLemmas
 pub mod ReadLemmas
 pub mod SettleLemmas
+pub mod SiteAlike
+pub mod SiteCarry
 pub mod SiteLemmas
 pub mod WriteLemmas
 pub mod WroteLemmas

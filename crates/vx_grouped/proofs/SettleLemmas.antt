@@ -1,5 +1,5 @@
 -- Notes behind calls, and the fuse behind them.
-use Rattle.std.proofs.Common.{◌≡◌, ◌⊎◌, inl, inr, ℕ, ◌||◌, Bool, true, false, List, [], ◌∷◌, IsTrue, IsFalse, refl, ap, sym, ◌∙◌, subst}
+use Rattle.std.proofs.Common.{◌≡◌, ◌⊎◌, inl, inr, ℕ, ◌||◌, Bool, true, false, List, [], ◌∷◌, IsTrue, IsFalse, refl, ap}
 use Rattle.std.specs.Prelude.{if◌then◌else◌, not}
 use Rattle.vx_disk.specs.Shelf.{Meaning}
 use Rattle.vx_history.specs.Groups.{GroupNode}
@@ -10,7 +10,7 @@ use Rattle.vx_config.specs.declared.config.Config.{Config}
 use Rattle.vx_group.specs.declared.inner.Inner.{Inner}
 use Rattle.vx_grouped.specs.Away.{note_deported}
 use Rattle.vx_grouped.specs.GroupNotes.{note_done, note_refused}
-use Rattle.vx_grouped.specs.NoteChanges.{NoteDeports, NoteSame, NoteSettles, NoteUnsettles}
+use Rattle.vx_grouped.specs.NoteChanges.{NoteDeports, NoteSettles, NoteUnsettles}
 use Rattle.vx_grouped.specs.SetFuses.{HasFuse}
 
 -- ---- flags: `kept` is committed, `agr` agreed, `l` what was loose

@@ -1,16 +1,15 @@
 -- The disks of a site with a group behind a call, by its note.
-use Rattle.std.proofs.Common.{◌≡◌, ℕ, ◌<◌, true, [], take, IsTrue, IsFalse, refl, sym, ◌∙◌, ap, subst}
-use Rattle.std.specs.Prelude.{None}
+use Rattle.std.proofs.Common.{◌≡◌, ℕ, ◌<◌, IsTrue, refl, sym, ◌∙◌, subst}
 use Rattle.vx_model.specs.declared.site.SiteState.TheVariants.{Down as IsDown, Deported as IsDeported}
 use Rattle.vx_disk.specs.Shelf.{Meaning}
 use Rattle.vx_history.specs.Groups.{GroupNode}
-use Rattle.vx_history.specs.Steps.{burned, crashed, deported_site}
+use Rattle.vx_history.specs.Steps.{burned, crashed}
 use Rattle.vx_history.specs.World.{Node}
 use Rattle.vx_config.specs.declared.config.Config.{Config}
 use Rattle.vx_group.specs.declared.group_core.GroupCore.{GroupCore}
 use Rattle.vx_grouped.specs.Away.{AwayLies, IsAwayAt, IsDeportedAt}
 use Rattle.vx_grouped.specs.GroupNotes.{GroupLies, IsGroupAt}
-use Rattle.vx_grouped.specs.GroupSites.{AreStopped, GroupAway, GroupDown, GroupUp, HasNoRvg, IsNoted, with_note}
+use Rattle.vx_grouped.specs.GroupSites.{AreStopped, GroupAway, GroupDown, GroupUp, IsNoted, deported_with, with_note}
 use Rattle.vx_grouped.specs.SetFuses.{HasFuse}
 
 -- ---- facts of a node hold of one with its disks
@@ -78,17 +77,17 @@ down_with n note next m noted stopped away =
 
 -- ---- one that was deported
 
-pub away_with : (n : Node) (note next : GroupNode) (m : Meaning) → IsNoted n note → AreStopped m → IsDeportedAt (record n { state = IsDeported }) next m → GroupAway (deported_site (crashed (with_note next n) 0)) next m
-away_with n note next m noted stopped away = record {
+pub away_with : (n : Node) (note next : GroupNode) (m : Meaning) → IsNoted n note → (IsTrue m.down → ⊥) → HasFuse (burned n.fuse) m → IsDeportedAt (record n { state = IsDeported }) next m → GroupAway (deported_with next n) next m
+away_with n note next m noted up fuse away = record {
   noted = record { is = refl; none = record { volumes = noted.none.volumes; log = refl; running = refl } };
-  unfused = refl;
-  stopped = stopped;
+  up = up;
+  fuse = fuse;
   away = record {
     state = refl;
     last = away.last;
     newest = away.newest;
     finds = away.finds;
     config = away.config;
-    lies = away_as (record n { state = IsDeported }) (deported_site (crashed (with_note next n) 0)) next away.last m refl refl away.lies;
+    lies = away_as (record n { state = IsDeported }) (deported_with next n) next away.last m refl refl away.lies;
   };
 }

@@ -25,6 +25,12 @@ use Rattle.vx_grouped.specs.declared.group_site.GroupSite.TheVariants.{Up, Down}
 use Rattle.vx_grouped.proofs.SettleLemmas.{done_settles, fell_fused, fuse_burned, refused_unsettles}
 use Rattle.vx_grouped.proofs.SiteLemmas.{down_with, up_burned, up_with}
 
+-- what the answer of a device says of the disks
+pub down_by : (m m' : Meaning) (no : No) → answers_down no ≡ true → DeviceCause m m' no → IsTrue m'.down
+down_by m m' (Device disk) off cause = cc
+down_by m m' IsOff off cause = cause
+down_by m m' other off cause = cc
+
 module _ {R : Type 0} {g : Ghosts R} (n : Node) (note : GroupNode) (v b : ℕ) (bytes : List ℕ) (group new : Group R g) (up : GroupUp n note group.core (g.meaning group.shelf)) (since : CalledSince (g.meaning group.shelf) (g.meaning new.shelf)) where
   abbrev own : Write
   own = plain_write v b bytes
@@ -47,7 +53,7 @@ module _ {R : Type 0} {g : Ghosts R} (n : Node) (note : GroupNode) (v b : ℕ) (
 
   -- one that failed, over disks that are up
   pub wrote_up : (no : No) → answers_down no ≡ false → PlainWrites v b bytes group.core (g.meaning group.shelf) new.core (g.meaning new.shelf) (Err no) → PlainWrote n note own (Up group) (Up new) (Err no)
-  wrote_up no off it = up_by no off (it.leaves n note up.at) it.cause
+  wrote_up why off it = up_by why off (it.leaves n note up.at) it.cause
 
   module _ (rack : R) (stopped : Stopped (g.meaning new.shelf) (g.meaning rack))
       (away : (k : Node) (next : GroupNode) → GroupLies k next new.core (g.meaning new.shelf) → IsAwayAt (record k { state = IsDown }) next (g.meaning rack)) where
@@ -62,7 +68,7 @@ module _ {R : Type 0} {g : Ghosts R} (n : Node) (note : GroupNode) (v b : ℕ) (
 
     -- one in which the fuse ran out
     pub wrote_cut : (no : No) → answers_down no ≡ true → PlainWrites v b bytes group.core (g.meaning group.shelf) new.core (g.meaning new.shelf) (Err no) → PlainWrote n note own (Up group) (Down rack) (Err no)
-    wrote_cut no off it = cut_by no off (it.leaves n note up.at)
+    wrote_cut why off it = cut_by why off (it.leaves n note up.at)
 
   -- ---- reads
 
@@ -78,4 +84,4 @@ module _ {R : Type 0} {g : Ghosts R} (n : Node) (note : GroupNode) (v b : ℕ) (
   read_by other at cause = absurd cause
 
   pub read_failed : (no : No) → PlainReads v b bytes group.core (g.meaning group.shelf) new.core (g.meaning new.shelf) (Err no) → PlainRead n note v b bytes (Up group) (Up new) (Err no)
-  read_failed no it = read_by no (it.stays n note up.at) it.cause
+  read_failed why it = read_by why (it.stays n note up.at) it.cause

@@ -1,11 +1,12 @@
 -- What the disks of a site with a group of disks, and no replicated volume group, stand for.
 use Rattle.std.specs.Prelude.{◌≡◌, ℕ, ◌+◌, ◌/◌, ◌%◌, ◌<◌, ◌≤◌, [], Option, Some, None, IsTrue, IsFalse}
-use Rattle.vx_model.specs.declared.site.SiteState.TheVariants.{Bare}
+use Rattle.vx_model.specs.declared.site.Role.TheVariants.{Primary}
+use Rattle.vx_model.specs.declared.site.SiteState.TheVariants.{Bare, Deported as IsDeported}
 use Rattle.vx_disk.specs.Shelf.{Meaning}
 use Rattle.vx_disk.specs.declared.shelf.Shelf.{Ghosts}
 use Rattle.vx_config.specs.declared.config.Config.{Config}
 use Rattle.vx_history.specs.Groups.{GroupNode}
-use Rattle.vx_history.specs.Steps.{burned}
+use Rattle.vx_history.specs.Steps.{burned, crashed}
 use Rattle.vx_history.specs.World.{Node, NoFuse}
 use Rattle.vx_group.specs.declared.group_core.GroupCore.{GroupCore}
 use Rattle.vx_watched.specs.Empty.{no_shelf}
@@ -15,10 +16,12 @@ use Rattle.vx_grouped.specs.SetFuses.{HasFuse}
 use Rattle.vx_grouped.specs.declared.group_site.GroupSite.{GroupSite}
 use Rattle.vx_grouped.specs.declared.group_site.GroupSite.TheVariants.{Up, Deported, Down, Marked, Gone}
 
--- a site without a replicated volume group: it has no volume of one and no write, and nothing halts it
+-- a site without a replicated volume group: a primary with no volume of one and no write, which nothing halts
 pub record HasNoRvg (n : Node) : Type 0 where
+  pub role : n.role ≡ Primary
   pub volumes : n.volumes ≡ []
   pub log : n.log ≡ []
+  pub safe : n.safe ≡ 0
   pub running : n.halted ≡ None
 
 -- a site that notes this of its group
@@ -29,6 +32,10 @@ pub record IsNoted (n : Node) (note : GroupNode) : Type 0 where
 -- a site with this note, behind calls on its disks
 abbrev pub with_note : GroupNode → Node → Node
 with_note note n = record n { group = Some note; fuse = burned n.fuse }
+
+-- a site with this note whose group was just deported
+abbrev pub deported_with : GroupNode → Node → Node
+deported_with note n = record (crashed (with_note note n) 0) { state = IsDeported; fuse = burned n.fuse }
 
 -- a site whose group is up
 pub record GroupUp (n : Node) (note : GroupNode) (core : GroupCore) (m : Meaning) : Type 0 where
@@ -48,11 +55,11 @@ pub record GroupDown (n : Node) (note : GroupNode) (m : Meaning) : Type 0 where
   pub stopped : AreStopped m
   pub away : IsAwayAt n note m
 
--- a site whose group was deported
+-- a site whose group was deported: its disks are up, and keep their fuse
 pub record GroupAway (n : Node) (note : GroupNode) (m : Meaning) : Type 0 where
   pub noted : IsNoted n note
-  pub unfused : n.fuse ≡ NoFuse
-  pub stopped : AreStopped m
+  pub up : IsTrue m.down → ⊥
+  pub fuse : HasFuse n.fuse m
   pub away : IsDeportedAt n note m
 
 -- the disks of a bare site, on which labels and headers of a group may stand

@@ -1,4 +1,5 @@
 pub mod Away
+pub mod Begins
 pub mod Ends
 pub mod GroupNotes
 pub mod GroupSites

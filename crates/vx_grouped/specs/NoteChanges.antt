@@ -1,5 +1,5 @@
 -- What calls make of what a site notes of its group.
-use Rattle.std.specs.Prelude.{◌≡◌, ◌⊎◌, Bool, true, false, List, [], ◌∷◌, ℕ}
+use Rattle.std.specs.Prelude.{◌≡◌, ◌⊎◌, true, false, List, [], ◌∷◌, ℕ}
 use Rattle.vx_history.specs.Groups.{GroupNode}
 
 -- What is noted of the volumes, and of the regions that plexes missed, is the same.

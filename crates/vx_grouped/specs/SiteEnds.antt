@@ -1,5 +1,5 @@
 -- How calls leave the disks of a site with a group.
-use Rattle.std.specs.Prelude.{◌≡◌, ◌⊎◌, ℕ, true, false, List, Bool, IsTrue, Option, Some, None, Result, Ok, Err, OnOk}
+use Rattle.std.specs.Prelude.{◌≡◌, ℕ, true, false, List, Bool, Option, None, Result, Ok, Err}
 use Rattle.vx_model.specs.Content.{Write}
 use Rattle.vx_model.specs.declared.errors.Stop.{Stop}
 use Rattle.vx_model.specs.declared.errors.Stop.TheVariants.{No as Refused, OutOfMemory}
@@ -9,20 +9,19 @@ use Rattle.vx_disk.specs.Causes.{OnDisks}
 use Rattle.vx_disk.specs.Counts.{Rose}
 use Rattle.vx_disk.specs.Disks.{Crashed}
 use Rattle.vx_disk.specs.Racks.{Stopped}
-use Rattle.vx_disk.specs.Shelf.{Meaning}
 use Rattle.vx_disk.specs.declared.shelf.Shelf.{Ghosts}
 use Rattle.vx_history.specs.Groups.{GroupNode}
-use Rattle.vx_history.specs.Steps.{burned, crashed, deported_site}
+use Rattle.vx_history.specs.Steps.{burned, crashed}
 use Rattle.vx_history.specs.Stops.{IsFused}
 use Rattle.vx_history.specs.World.{Node}
 use Rattle.vx_volume.specs.Plexes.{active}
 use Rattle.vx_group.specs.Attaches.{att_refusal, copied_regions}
 use Rattle.vx_group.specs.Dets.{det_refusal}
-use Rattle.vx_grouped.specs.GroupSites.{AreMarked, AwayNoted, CutNoted, DownNoted, GroupSiteStands, UpNoted, site_disks, with_note}
+use Rattle.vx_grouped.specs.GroupSites.{AwayNoted, CutNoted, DownNoted, GroupSiteStands, UpNoted, deported_with, site_disks, with_note}
 use Rattle.vx_grouped.specs.NoteChanges.{NoteDeports, NoteSettles, NoteUnsettles}
 use Rattle.vx_grouped.specs.Plain.{ReadsPlain, note_cut, note_doubt, note_write}
 use Rattle.vx_grouped.specs.declared.group_site.GroupSite.{GroupSite}
-use Rattle.vx_grouped.specs.declared.group_site.GroupSite.TheVariants.{Up, Deported, Down, Marked, Gone}
+use Rattle.vx_grouped.specs.declared.group_site.GroupSite.TheVariants.{Up}
 
 -- a site whose disks may have been written and flushed
 abbrev pub burned_site : Node → Node
@@ -72,9 +71,9 @@ module _ {R : Type 0} {g : Ghosts R} where
   SiteCalled n note old new (Err (Refused other)) = UpNoted (burned_site n) note new
   SiteCalled n note old new (Err OutOfMemory) = ⊥
 
-  -- a deport: done, the disks are by themselves, behind a crash that leaves what was flushed
+  -- a deport: done, the disks are by themselves, and each volume has on them what it had
   abbrev pub SiteDeported : Node → GroupNode → GroupSite R g → GroupSite R g → Result (Unit {0}) Stop → Type 0
-  SiteDeported n note old new (Ok done) = (next : GroupNode) × NoteDeports note next × AwayNoted (deported_site (crashed (with_note next n) 0)) next new
+  SiteDeported n note old new (Ok done) = (next : GroupNode) × NoteDeports note next × AwayNoted (deported_with next n) next new
   SiteDeported n note old new (Err stop) = SiteCalled {T = Unit {0}} n note old new (Err stop)
 
   -- the first test of a detach, and of an attach, that refuses it

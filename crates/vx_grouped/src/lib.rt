@@ -4,6 +4,7 @@
 //! a site, whatever became of its group. No line uses it yet.
 #![tactic(auto)]
 
+mod beginning;
 mod group_site;
 mod leaving;
 mod plain;
@@ -12,6 +13,7 @@ mod site_plain;
 mod site_plexes;
 mod watching;
 
+pub use beginning::begin_group;
 pub use group_site::GroupSite;
 pub use leaving::{crash_group, deport_group};
 pub use plain::{read_plain, write_plain};
