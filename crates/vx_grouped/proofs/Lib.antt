@@ -1,3 +1,4 @@
+pub mod AddedLemmas
 pub mod AlikeLemmas
 pub mod AwayLemmas
 pub mod BeginLemmas
@@ -5,9 +6,11 @@ pub mod CalledLemmas
 pub mod CarryLemmas
 pub mod DeportedLemmas
 pub mod KeepLemmas
+pub mod LeavingLemmas
 pub mod NoteLemmas
 pub mod PlainLemmas
 pub mod ReadLemmas
+pub mod ReturnLemmas
 pub mod SettleLemmas
 pub mod SiteAlike
 pub mod SiteCarry

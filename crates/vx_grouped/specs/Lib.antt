@@ -1,3 +1,4 @@
+pub mod Added
 pub mod Away
 pub mod Begins
 pub mod Ends
@@ -5,6 +6,7 @@ pub mod GroupNotes
 pub mod GroupSites
 pub mod NoteChanges
 pub mod Plain
+pub mod Returns
 pub mod SetFuses
 pub mod SiteEnds
 pub mod Watches

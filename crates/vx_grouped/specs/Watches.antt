@@ -1,12 +1,15 @@
 -- What calls of a group do, by the parts of the group before and behind them.
-use Rattle.std.specs.Prelude.{◌≡◌, ℕ, true, false, List, Some, None, Result, Ok, Err, IfErr, IfOk, OnOk, IsTrue}
+use Rattle.std.specs.Prelude.{◌≡◌, ◌⊎◌, ℕ, true, false, List, Some, None, Result, Ok, Err, IfErr, IfOk, OnOk, IsTrue}
 use Rattle.vx_disk.specs.Causes.{DeviceCause}
 use Rattle.vx_disk.specs.Shelf.{Meaning}
 use Rattle.vx_model.specs.declared.errors.Stop.{Stop}
 use Rattle.vx_model.specs.declared.errors.Stop.TheVariants.{No as Refused}
+use Rattle.vx_model.specs.declared.no.Counted.TheVariants.{Number as Numbers}
 use Rattle.vx_model.specs.declared.no.No.{No}
+use Rattle.vx_model.specs.declared.no.No.TheVariants.{Limit}
 use Rattle.vx_history.specs.Groups.{GroupNode}
 use Rattle.vx_history.specs.World.{Node}
+use Rattle.vx_config.specs.Table.{greatest}
 use Rattle.vx_volume.specs.Plexes.{active}
 use Rattle.vx_group.specs.Attaches.{IsAttached, att_refusal, copied_regions}
 use Rattle.vx_group.specs.Dets.{DetStops, det_refusal}
@@ -14,6 +17,7 @@ use Rattle.vx_group.specs.Holding.{wide}
 use Rattle.vx_group.specs.Loses.{LosesPlexes}
 use Rattle.vx_group.specs.Stands.{inner_meaning}
 use Rattle.vx_group.specs.declared.group_core.GroupCore.{GroupCore}
+use Rattle.vx_watched.specs.Since.{CalledSince}
 use Rattle.vx_grouped.specs.Ends.{CallLeaves, WriteLeaves, plain_write}
 use Rattle.vx_grouped.specs.GroupNotes.{IsGroupAt}
 use Rattle.vx_grouped.specs.Plain.{HoldsPlain, ReadsPlain}
@@ -52,3 +56,13 @@ pub record PlexAtts (vol plex : ℕ) (c : GroupCore) (m : Meaning) (d : GroupCor
   pub others : (w p : ℕ) → (w ≡ vol → p ≡ plex → ⊥) → active d.inner.config w p ≡ active c.inner.config w p
   pub trust : OnOk r (c.inner.committed ≡ true → d.inner.committed ≡ true)
   pub cause : att_refusal c.inner.config vol plex ≡ None → DetStops m m' r
+
+-- what is known of the disks of a group that was deported, or that is given back
+abbrev pub DeportSince : {S G : Type 0} → Meaning → (S → Meaning) → (G → S) → Result S (G × Stop) → Type 0
+DeportSince old meaning shelf (Ok s) = CalledSince old (meaning s)
+DeportSince old meaning shelf (Err (g, stop)) = CalledSince old (meaning (shelf g))
+
+-- a deport is refused for want of serials, or for a device
+abbrev pub DeportRefuses : {S G : Type 0} → Meaning → (S → Meaning) → (G → S) → Result S (G × Stop) → Type 0
+DeportRefuses old meaning shelf (Ok s) = Unit {0}
+DeportRefuses old meaning shelf (Err (g, stop)) = (stop ≡ Refused (Limit Numbers greatest)) ⊎ DetStops {T = Unit {0}} old (meaning (shelf g)) (Err stop)

@@ -1,5 +1,5 @@
 // A group that leaves its site: it crashes, or is deported.
-ghost use Rattle.std.specs.Prelude.{◌-◌, ◌<◌, ◌≤◌, IsTrue};
+ghost use Rattle.std.specs.Prelude.{◌-◌, ◌<◌, ◌≤◌, IfOk, IsTrue};
 ghost use Rattle.vx_config.specs.Table.{greatest};
 ghost use Rattle.vx_disk.specs.Causes.{OnDisks};
 ghost use Rattle.vx_disk.specs.Disks.{Crashed};
@@ -37,6 +37,7 @@ pub fn deport_group<S: Shelf>(group: Group<S>) -> Result<S, (Group<S>, Stop)>
     requires up { IsTrue (S.meaning group.shelf).down → ⊥ }
     ensures limit { greatest - margin < group.core.inner.config.serial → IsFull group.core group.shelf (λ g. g.core) (λ g. g.shelf) result }
     ensures ends { GroupDeported group.core (S.meaning group.shelf) (λ s. S.meaning s) (λ g. g.core) (λ g. g.shelf) result }
+    ensures up { IfOk result (λ s. IsTrue (S.meaning s).down → ⊥) }
     ensures leaves { (n : Node) (note : GroupNode) → IsGroupAt n note group.core (S.meaning group.shelf) → DeportLeaves n note group.core (λ s. S.meaning s) (λ g. g.core) (λ g. g.shelf) result }
     ensures cause { group.core.inner.config.serial ≤ greatest - margin → DeportStops (S.meaning group.shelf) (λ s. S.meaning s) (λ g. g.shelf) result }
 {
