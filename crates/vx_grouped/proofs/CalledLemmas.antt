@@ -24,7 +24,7 @@ use Rattle.vx_grouped.specs.declared.group_site.GroupSite.TheVariants.{Up, Down}
 use Rattle.vx_grouped.proofs.SettleLemmas.{done_settles, fell_fused, fuse_burned, refused_unsettles}
 use Rattle.vx_grouped.proofs.SiteLemmas.{down_with, up_burned, up_with}
 
-err_is : {T : Type 0} (x : Result T Stop) (a b : Stop) → x ≡ Err a → x ≡ Err b → a ≡ b
+pub err_is : {T : Type 0} (x : Result T Stop) (a b : Stop) → x ≡ Err a → x ≡ Err b → a ≡ b
 err_is (Ok y) a b one two = cc
 err_is (Err s) a b one two = let p : s ≡ a = cc in let q : s ≡ b = cc in sym p ∙ q
 

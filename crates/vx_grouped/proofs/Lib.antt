@@ -12,6 +12,7 @@ pub mod PlainLemmas
 pub mod ReadLemmas
 pub mod ReturnLemmas
 pub mod SettleLemmas
+pub mod SiteAddLemmas
 pub mod SiteAlike
 pub mod SiteCarry
 pub mod SiteLemmas

@@ -37,10 +37,10 @@ away_as n k note last m disks blocks it = record {
 -- ---- notes
 
 pub noted_with : (n : Node) (note next : GroupNode) → IsNoted n note → IsNoted (with_note next n) next
-noted_with n note next it = record { is = refl; none = record { volumes = it.none.volumes; log = it.none.log; running = it.none.running } }
+noted_with n note next it = record { is = refl; none = record { role = it.none.role; volumes = it.none.volumes; log = it.none.log; safe = it.none.safe; running = it.none.running } }
 
 pub noted_crashed : (n : Node) (note : GroupNode) → IsNoted n note → IsNoted (crashed n 0) note
-noted_crashed n note it = record { is = it.is; none = record { volumes = it.none.volumes; log = refl; running = refl } }
+noted_crashed n note it = record { is = it.is; none = record { role = it.none.role; volumes = it.none.volumes; log = refl; safe = refl; running = refl } }
 
 -- ---- a group that is up
 
@@ -54,7 +54,7 @@ up_with n note next d m' noted fuse at = record {
 -- and its note is the same
 pub up_burned : (n : Node) (note : GroupNode) (d : GroupCore) (m' : Meaning) → IsNoted n note → HasFuse (burned n.fuse) m' → IsGroupAt n note d m' → GroupUp (record n { fuse = burned n.fuse }) note d m'
 up_burned n note d m' noted fuse at = record {
-  noted = record { is = noted.is; none = record { volumes = noted.none.volumes; log = noted.none.log; running = noted.none.running } };
+  noted = record { is = noted.is; none = record { role = noted.none.role; volumes = noted.none.volumes; log = noted.none.log; safe = noted.none.safe; running = noted.none.running } };
   fuse = fuse;
   at = record { state = at.state; up = at.up; lies = lies_as n (record n { fuse = burned n.fuse }) note d m' refl refl at.lies };
 }
@@ -79,7 +79,7 @@ down_with n note next m noted stopped away =
 
 pub away_with : (n : Node) (note next : GroupNode) (m : Meaning) → IsNoted n note → (IsTrue m.down → ⊥) → HasFuse (burned n.fuse) m → IsDeportedAt (record n { state = IsDeported }) next m → GroupAway (deported_with next n) next m
 away_with n note next m noted up fuse away = record {
-  noted = record { is = refl; none = record { volumes = noted.none.volumes; log = refl; running = refl } };
+  noted = record { is = refl; none = record { role = noted.none.role; volumes = noted.none.volumes; log = refl; safe = refl; running = refl } };
   up = up;
   fuse = fuse;
   away = record {

@@ -8,5 +8,6 @@ pub mod NoteChanges
 pub mod Plain
 pub mod Returns
 pub mod SetFuses
+pub mod SiteAdds
 pub mod SiteEnds
 pub mod Watches

@@ -12,6 +12,7 @@ mod making;
 mod plain;
 mod plexes;
 mod site_leaving;
+mod site_making;
 mod site_plain;
 mod site_plexes;
 mod watching;

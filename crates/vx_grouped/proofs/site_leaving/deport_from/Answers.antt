@@ -1,5 +1,5 @@
 -- A deport over disks with an account.
-use Rattle.std.proofs.Common.{◌∙◌, ◌-◌, inl, inr, refl, sym}
+use Rattle.std.proofs.Common.{◌∙◌, ◌-◌, inl, inr, refl}
 use Rattle.std.proofs.lemmas.Bool.{cases_lt}
 use Rattle.std.specs.Prelude.{Err}
 use Rattle.vx_model.specs.declared.site.SiteState.TheVariants.{Deported as IsDeported}
