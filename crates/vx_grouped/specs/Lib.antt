@@ -4,7 +4,6 @@ pub mod Begins
 pub mod Ends
 pub mod GroupNotes
 pub mod GroupSites
-pub mod NoteChanges
 pub mod Plain
 pub mod Returns
 pub mod SetFuses
