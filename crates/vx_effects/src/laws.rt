@@ -8,6 +8,8 @@ ghost use Rattle.vx_model.specs.declared.link.Prot.TheVariants.{Fail as FailsWhe
 ghost use Rattle.vx_model.specs.declared.link.SyncMode.{SyncMode};
 ghost use Rattle.vx_model.specs.declared.site.Mark.{Mark};
 ghost use Rattle.vx_model.specs.declared.site.SiteState.TheVariants.{Bare, Up, Down};
+ghost use Rattle.vx_model.specs.declared.site.Role.TheVariants.{Primary};
+ghost use Rattle.vx_history.specs.Sound.{is_at_rest};
 ghost use Rattle.vx_model.specs.declared.state.KeptLink.{KeptLink};
 ghost use Rattle.vx_history.specs.Doubts.{Doubted, Runs, crashed_as, halved, happened, resolved_at};
 ghost use Rattle.vx_history.specs.Events.{admitted, applied, come_back, kept_of, linked_sites, lost_touch, recovery_greeting, restarted_link, said_of_write, used_above};
@@ -18,7 +20,7 @@ ghost use Rattle.vx_history.specs.LinkForms.{plain_link};
 ghost use Rattle.vx_history.specs.declared.admission.Change.{Change};
 ghost use Rattle.vx_history.specs.Sends.{is_linked, packets_of};
 ghost use Rattle.vx_history.specs.Step.{outcome_of, step};
-ghost use Rattle.vx_history.specs.Steps.{burned, crashed, deported_site, group_set, half_begun, logged, raw_set, recovered, site_made, worked_on};
+ghost use Rattle.vx_history.specs.Steps.{burned, crashed, deported_site, group_set, group_up, half_begun, logged, raw_set, recovered, site_made, worked_on};
 ghost use Rattle.vx_history.specs.Stops.{IsOpen, WritesAt};
 ghost use Rattle.vx_history.specs.World.{DataAck, Link, Node, World, bare_site, empty_world, updated, with_node};
 ghost use Rattle.vx_history.specs.declared.event.Event.{Event};
@@ -100,8 +102,11 @@ pub fn changes_one_site()
         → EffectAt s d (happened d (Raw s) taken) (raw_set s (d.world.nodes s)) (d.world.links s) (d.world.headers s) (d.after s) d.world.packets (d.world.gathering s) }
     ensures group { (d : Doubted) (s : ℕ) (taken : Bool) → s < d.world.sites → (d.world.nodes s).state ≡ Bare
         → EffectAt s d (happened d (Group s) taken) (group_set s (d.world.nodes s)) (d.world.links s) (d.world.headers s) (d.after s) d.world.packets (d.world.gathering s) }
+    ensures again { (d : Doubted) (s : ℕ) (taken : Bool) → s < d.world.sites → is_at_rest (d.world.nodes s).state ≡ true → (d.world.nodes s).role ≡ Primary
+        → (d.world.nodes s).volumes ≡ [] → (d.world.nodes s).log ≡ []
+        → EffectAt s d (happened d (Group s) taken) (group_up (d.world.nodes s)) (d.world.links s) (d.world.headers s) (d.after s) d.world.packets (d.world.gathering s) }
     ensures deport { (d : Doubted) (s : ℕ) (taken : Bool) → s < d.world.sites → (d.world.nodes s).state ≡ Up → (d.world.nodes s).halted ≡ None
-        → EffectAt s d (happened d (Deport s) taken) (deported_site (crashed (d.world.nodes s) (kept_of (d.world.nodes s) 0))) (λ k. lost_touch (d.world.links s k)) (d.world.headers s) (d.after s)
+        → EffectAt s d (happened d (Deport s) taken) (deported_site (d.world.nodes s).fuse (crashed (d.world.nodes s) (kept_of (d.world.nodes s) 0))) (λ k. lost_touch (d.world.links s k)) (d.world.headers s) (d.after s)
         d.world.packets None }
     ensures note { (d : Doubted) (s : ℕ) (n : Node) → EffectAt s d (record d { world = with_node d.world s n }) n (d.world.links s) (d.world.headers s) (d.after s) d.world.packets (d.world.gathering s) }
     ensures left { (s : ℕ) (line : ScriptLine) (taken : Bool) (d last new : Doubted) → IsLeft s line taken d last new → ChangesAt s last new }

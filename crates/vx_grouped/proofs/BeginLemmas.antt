@@ -130,6 +130,7 @@ module _ {R : Type 0} (g : Ghosts R) (rack : R) (n : Node) (site : ℕ) (can : C
       ( first_note group.core.inner,
         first (g.meaning rack) (g.meaning group.shelf) n can since site group.core it.0 it.1,
         begun_up (g.meaning rack) (g.meaning group.shelf) n can since site group.core it.0 it.1,
+        (it.0.site_is, it.0.volumes, it.0.rvg),
         trusted (g.meaning rack) (g.meaning group.shelf) n can since site group.core it.0 it.1 (HasFailed group.core.inner.config.disks) (λ some. some) )
 
   begun_failed : (s : R) (why : No) → (HasSmall (g.meaning rack) × (why ≡ Size)) ⊎ DeviceCause (g.meaning rack) (g.meaning s) why → CalledSince (g.meaning rack) (g.meaning s) → BeginsGroup {g = g} site n (g.meaning rack) (Marked s) (Err (Refused why))

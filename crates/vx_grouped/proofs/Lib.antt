@@ -16,5 +16,6 @@ pub mod SiteAddLemmas
 pub mod SiteAlike
 pub mod SiteCarry
 pub mod SiteLemmas
+pub mod SiteReturnLemmas
 pub mod WriteLemmas
 pub mod WroteLemmas

@@ -1,12 +1,12 @@
 -- What the disks of a site with a group of disks, and no replicated volume group, stand for.
 use Rattle.std.specs.Prelude.{◌≡◌, ℕ, ◌+◌, ◌/◌, ◌%◌, ◌<◌, ◌≤◌, [], Option, Some, None, IsTrue, IsFalse}
 use Rattle.vx_model.specs.declared.site.Role.TheVariants.{Primary}
-use Rattle.vx_model.specs.declared.site.SiteState.TheVariants.{Bare, Deported as IsDeported}
+use Rattle.vx_model.specs.declared.site.SiteState.TheVariants.{Bare}
 use Rattle.vx_disk.specs.Shelf.{Meaning}
 use Rattle.vx_disk.specs.declared.shelf.Shelf.{Ghosts}
 use Rattle.vx_config.specs.declared.config.Config.{Config}
 use Rattle.vx_history.specs.Groups.{GroupNode}
-use Rattle.vx_history.specs.Steps.{burned, crashed}
+use Rattle.vx_history.specs.Steps.{burned, crashed, deported_site}
 use Rattle.vx_history.specs.World.{Node, NoFuse}
 use Rattle.vx_group.specs.declared.group_core.GroupCore.{GroupCore}
 use Rattle.vx_watched.specs.Empty.{no_shelf}
@@ -35,7 +35,7 @@ with_note note n = record n { group = Some note; fuse = burned n.fuse }
 
 -- a site with this note whose group was just deported
 abbrev pub deported_with : GroupNode → Node → Node
-deported_with note n = record (crashed (with_note note n) 0) { state = IsDeported; fuse = burned n.fuse }
+deported_with note n = deported_site (burned n.fuse) (crashed (with_note note n) 0)
 
 -- a site whose group is up
 pub record GroupUp (n : Node) (note : GroupNode) (core : GroupCore) (m : Meaning) : Type 0 where

@@ -15,6 +15,7 @@ mod site_leaving;
 mod site_making;
 mod site_plain;
 mod site_plexes;
+mod site_returning;
 mod watching;
 
 pub use beginning::begin_group;
