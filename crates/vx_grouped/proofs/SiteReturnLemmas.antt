@@ -21,7 +21,7 @@ use Rattle.vx_group.specs.declared.group_core.GroupCore.{GroupCore}
 use Rattle.vx_watched.specs.Since.{CalledSince}
 use Rattle.vx_grouped.specs.Away.{AwayLies}
 use Rattle.vx_grouped.specs.GroupNotes.{IsGroupAt}
-use Rattle.vx_grouped.specs.GroupSites.{GroupDown, GroupUp, IsNoted}
+use Rattle.vx_grouped.specs.GroupSites.{GroupDown, GroupUp, NotesGroup}
 use Rattle.vx_grouped.specs.Returns.{GroupReturns, HasNoMore, ImportLeft, note_imported, note_loose}
 use Rattle.vx_grouped.specs.SetFuses.{HasFuse}
 use Rattle.vx_grouped.specs.SiteReturns.{LeftAgain, NoteReturns, SiteRecovers, returned_with}
@@ -67,7 +67,7 @@ module _ (n : Node) (note : GroupNode) (last : Config) (m0 m : Meaning) (told : 
     size = λ tells v low. back.sizes (subst IsTrue (sym told) tells) v (inside v 0 low).volume ∙ sym (lies.sizes v);
   }
 
-  pub returns_up : IsNoted n note → HasFuse (burned n.fuse) m' → GroupUp (returned_with next n) next core m'
+  pub returns_up : NotesGroup n note → HasFuse (burned n.fuse) m' → GroupUp (returned_with next n) next core m'
   returns_up noted fuse = record {
     noted = record { is = refl; none = record { role = noted.none.role; volumes = noted.none.volumes; log = noted.none.log; safe = noted.none.safe; running = refl } };
     fuse = fuse;

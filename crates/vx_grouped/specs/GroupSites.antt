@@ -25,7 +25,7 @@ pub record HasNoRvg (n : Node) : Type 0 where
   pub running : n.halted ≡ None
 
 -- a site that notes this of its group
-pub record IsNoted (n : Node) (note : GroupNode) : Type 0 where
+pub record NotesGroup (n : Node) (note : GroupNode) : Type 0 where
   pub is : n.group ≡ Some note
   pub none : HasNoRvg n
 
@@ -39,7 +39,7 @@ deported_with note n = deported_site (burned n.fuse) (crashed (with_note note n)
 
 -- a site whose group is up
 pub record GroupUp (n : Node) (note : GroupNode) (core : GroupCore) (m : Meaning) : Type 0 where
-  pub noted : IsNoted n note
+  pub noted : NotesGroup n note
   pub fuse : HasFuse n.fuse m
   pub at : IsGroupAt n note core m
 
@@ -50,20 +50,20 @@ pub record AreStopped (m : Meaning) : Type 0 where
 
 -- a site whose group crashed
 pub record GroupDown (n : Node) (note : GroupNode) (m : Meaning) : Type 0 where
-  pub noted : IsNoted n note
+  pub noted : NotesGroup n note
   pub unfused : n.fuse ≡ NoFuse
   pub stopped : AreStopped m
   pub away : IsAwayAt n note m
 
 -- a site whose group was deported: its disks are up, and keep their fuse
 pub record GroupAway (n : Node) (note : GroupNode) (m : Meaning) : Type 0 where
-  pub noted : IsNoted n note
+  pub noted : NotesGroup n note
   pub up : IsTrue m.down → ⊥
   pub fuse : HasFuse n.fuse m
   pub away : IsDeportedAt n note m
 
 -- the disks of a bare site, on which labels and headers of a group may stand
-pub record AreMarked (n : Node) (m : Meaning) : Type 0 where
+pub record IsMarkedSite (n : Node) (m : Meaning) : Type 0 where
   pub state : n.state ≡ Bare
   pub units : m.units ≡ n.disks
   pub size : (u : ℕ) → u < n.disks → m.size u ≡ n.blocks
@@ -73,7 +73,7 @@ pub record AreMarked (n : Node) (m : Meaning) : Type 0 where
 
 -- a site whose fuse ran out: its disks are down, and the group over them is not yet let go
 pub record GroupFallen (n : Node) (note : GroupNode) (core : GroupCore) (m : Meaning) : Type 0 where
-  pub noted : IsNoted n note
+  pub noted : NotesGroup n note
   pub cut : IsGroupCut n note core m
 
 -- so many bytes from this block of a volume on: whole blocks, which lie in the volume that is noted
@@ -119,5 +119,5 @@ module _ {R : Type 0} {g : Ghosts R} where
   GroupSiteStands n (Up group) = (note : GroupNode) × GroupUp n note group.core (g.meaning group.shelf)
   GroupSiteStands n (Deported rack) = (note : GroupNode) × GroupAway n note (g.meaning rack)
   GroupSiteStands n (Down rack) = (note : GroupNode) × GroupDown n note (g.meaning rack)
-  GroupSiteStands n (Marked rack) = AreMarked n (g.meaning rack)
+  GroupSiteStands n (Marked rack) = IsMarkedSite n (g.meaning rack)
   GroupSiteStands n Gone = ⊥

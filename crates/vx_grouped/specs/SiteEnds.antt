@@ -43,9 +43,9 @@ module _ {R : Type 0} {g : Ghosts R} where
     pub stands : (n : Node) → GroupSiteStands n old → GroupSiteStands n new
 
   -- the disks crashed with this pick, or nothing was done to them
-  abbrev pub MayStop : ℕ → GroupSite R g → GroupSite R g → Type 0
-  MayStop pick (Up group) new = Stopped (g.meaning group.shelf) (site_disks new) × OnDisks (g.meaning group.shelf).disks (site_disks new).disks (Crashed (g.meaning group.shelf).size pick)
-  MayStop pick old new = new ≡ old
+  abbrev pub MayCrashSite : ℕ → GroupSite R g → GroupSite R g → Type 0
+  MayCrashSite pick (Up group) new = Stopped (g.meaning group.shelf) (site_disks new) × OnDisks (g.meaning group.shelf).disks (site_disks new).disks (Crashed (g.meaning group.shelf).size pick)
+  MayCrashSite pick old new = new ≡ old
 
   -- A write to a volume: done, its blocks have what was written. Else a disk failed, and each of them has that or what it had; or the fuse ran
   -- out, and so it is behind the crash. No other refusal comes.
