@@ -1,11 +1,15 @@
 -- How a recovery or an import of a group leaves the disks of its site.
-use Rattle.std.specs.Prelude.{◌≡◌, ◌⊎◌, ℕ, ◌<◌, false, [], None, IsTrue, Result, Ok, Err}
+use Rattle.std.specs.Prelude.{◌≡◌, ◌⊎◌, ℕ, ◌<◌, Bool, true, false, [], None, IsTrue, Result, Ok, Err}
 use Rattle.vx_model.specs.declared.errors.Stop.{Stop}
+use Rattle.vx_model.specs.declared.errors.Stop.TheVariants.{No as Refused}
+use Rattle.vx_model.specs.declared.no.No.TheVariants.{Device, Down as IsOff, Limit}
+use Rattle.vx_disk.specs.Counts.{Rose}
 use Rattle.vx_disk.specs.Racks.{Alike, Stopped}
 use Rattle.vx_disk.specs.Shelf.{Meaning}
 use Rattle.vx_disk.specs.declared.shelf.Shelf.{Ghosts}
 use Rattle.vx_history.specs.Groups.{BlockMay, GroupNode}
-use Rattle.vx_history.specs.Steps.{group_up}
+use Rattle.vx_history.specs.Steps.{burned, group_up}
+use Rattle.vx_history.specs.Stops.{IsFused}
 use Rattle.vx_history.specs.World.{Node}
 use Rattle.vx_config.specs.declared.config.Config.{Config}
 use Rattle.vx_group.specs.Imports.{ImportStops}
@@ -13,6 +17,8 @@ use Rattle.vx_group.specs.Resumes.{CanImport}
 use Rattle.vx_grouped.specs.Away.{AwayLies}
 use Rattle.vx_grouped.specs.GroupSites.{AreStopped, UpNoted, site_disks, with_note}
 use Rattle.vx_grouped.specs.Returns.{HasNoMore}
+use Rattle.vx_grouped.specs.SetFuses.{HasFuse}
+use Rattle.vx_grouped.specs.SiteEnds.{stops_down}
 use Rattle.vx_grouped.specs.declared.group_site.GroupSite.{GroupSite}
 use Rattle.vx_grouped.specs.declared.group_site.GroupSite.TheVariants.{Deported, Down}
 
@@ -37,6 +43,24 @@ pub record LeftAgain (n : Node) (note : GroupNode) (old m : Meaning) : Type 0 wh
   pub can : CanImport m
   pub away : (last : Config) → AwayLies n note last old → HasNoMore last old → AwayLies n note last m
 
+-- the disks of a site that was deported, behind an import that was refused: they are up, with what is left of their fuse, or none
+pub record StaysAway (n : Node) (note : GroupNode) (old m : Meaning) : Type 0 where
+  pub up : IsTrue m.down → ⊥
+  pub fuse : HasFuse (burned n.fuse) m
+  pub again : LeftAgain n note old m
+
+-- the count of the disk rose that is named
+abbrev pub BlamesDisk : Stop → Meaning → Meaning → Type 0
+BlamesDisk (Refused (Device disk)) old new = Rose (old.disk_faults disk) (new.disk_faults disk)
+BlamesDisk other old new = Unit {0}
+
+-- whether an import that was refused so had written nothing
+abbrev pub stops_early : Stop → Bool
+stops_early (Refused (Device disk)) = false
+stops_early (Refused IsOff) = false
+stops_early (Refused (Limit what most)) = false
+stops_early other = true
+
 module _ {R : Type 0} {g : Ghosts R} where
   -- whatever image a crash leaves, imports of the disks by themselves agree
   abbrev pub ImportsAgree : GroupSite R g → Type 0
@@ -60,4 +84,20 @@ module _ {R : Type 0} {g : Ghosts R} where
   -- A recovery of a site that crashed: its group is up. Refused, its disks are down again, and may be imported once more.
   abbrev pub SiteRecovers : Node → GroupNode → GroupSite R g → GroupSite R g → Result (Unit {0}) Stop → Type 0
   SiteRecovers n note old new (Ok done) = (next : GroupNode) × NoteReturns (IsTrue (site_disks old).tells) note next × UpNoted (returned_with next n) next new
-  SiteRecovers n note old new (Err stop) = IsStopped new × LeftAgain n note (site_disks old) (site_disks new) × RefusedBetween old new stop
+  SiteRecovers n note old new (Err stop) = IsStopped new × LeftAgain n note (site_disks old) (site_disks new) × RefusedBetween old new stop × BlamesDisk stop (site_disks old) (site_disks new)
+
+  -- the disks are by themselves, and up
+  abbrev pub IsAwayStill : Node → GroupNode → Meaning → GroupSite R g → Type 0
+  IsAwayStill n note old (Deported rack) = StaysAway n note old (g.meaning rack)
+  IsAwayStill n note old other = ⊥
+
+  -- what a refused import leaves, whether the disks are down or not
+  abbrev pub ImportRefused : Bool → Node → GroupNode → GroupSite R g → GroupSite R g → Stop → Type 0
+  ImportRefused true n note old new stop = IsStopped new × LeftAgain n note (site_disks old) (site_disks new) × IsFused n.fuse
+  ImportRefused false n note old new stop = IsAwayStill n note (site_disks old) new × BlamesDisk stop (site_disks old) (site_disks new)
+
+  -- An import of a site that was deported: its group is up. Refused, its disks are by themselves still; or its fuse ran out, and they are down. Each
+  -- block has what it had.
+  abbrev pub SiteImports : Node → GroupNode → GroupSite R g → GroupSite R g → Result (Unit {0}) Stop → Type 0
+  SiteImports n note old new (Ok done) = (next : GroupNode) × NoteReturns (IsTrue (site_disks old).tells) note next × UpNoted (returned_with next n) next new
+  SiteImports n note old new (Err stop) = ImportRefused (stops_down stop) n note old new stop

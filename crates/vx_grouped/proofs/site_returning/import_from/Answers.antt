@@ -26,4 +26,4 @@ pub returns-in-Err-clause-again : goal.returns-in-Err-clause-again
 returns-in-Err-clause-again g c = carried_two (λ s t. CanImportBehind (g.R.Shelf.meaning t)) c.args.rack c.over-watched.result.shelf c.into_shelf.result c.in-Err.watched.shelf c.over-watched.ensures c.into_shelf.ensures.shelf c.in-Err.ensures.again
 
 pub import_group-came-requires : goal.import_group-came-requires
-import_group-came-requires g c = subst (λ s. CanImport (g.R.Shelf.meaning s)) (sym c.over-watched.ensures) c.requires.can
+import_group-came-requires g c = record { can = subst (λ s. CanImport (g.R.Shelf.meaning s)) (sym c.over-watched.ensures) c.requires.can }
