@@ -7,6 +7,8 @@
 mod beginning;
 mod group_site;
 mod importing;
+mod keeping;
+pub mod laws;
 mod leaving;
 mod making;
 mod plain;
@@ -21,6 +23,7 @@ mod watching;
 pub use beginning::begin_group;
 pub use group_site::GroupSite;
 pub use importing::import_group;
+pub use keeping::kept_plain;
 pub use leaving::{crash_group, deport_group};
 pub use making::make_volume_of;
 pub use plain::{read_plain, write_plain};
