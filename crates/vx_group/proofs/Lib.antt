@@ -45,4 +45,3 @@ pub mod SourcesLemmas
 pub mod GiveLemmas
 pub mod ActsLemmas
 pub mod LostLemmas
-pub mod TrustingLemmas

@@ -35,7 +35,6 @@ mod releasing;
 mod settling;
 mod shaping;
 mod taking;
-mod trusting;
 mod writing;
 mod zeroing;
 
@@ -58,5 +57,4 @@ pub use racking::{fail_in, fuse_in};
 pub use reading::read_in;
 pub use releasing::release;
 pub use taking::{Plan, take_up};
-pub use trusting::trust_group;
 pub use writing::write_group;
