@@ -4,3 +4,5 @@ pub mod GroupLemmas
 pub mod LoadedLemmas
 pub mod OnLemmas
 pub mod OnCalls
+pub mod DirtyLemmas
+pub mod SeenLemmas

@@ -1,2 +1,6 @@
-pub mod AlikeLemmas
 pub mod SetLemmas
+pub mod AlikeLemmas
+pub mod StayLemmas
+pub mod ClearLemmas
+pub mod OpenLemmas
+pub mod DeportedLogs

@@ -1,1 +1,3 @@
 pub mod LoggedVolumes
+pub mod Marks
+pub mod Opens

@@ -47,7 +47,7 @@ settled_less x v m m' less settled = record {
 
 -- an image of a group, by its own configuration
 module _ (c x : Config) (v : ℕ) (l : Logs) (m : Meaning) (lt : v < length c.volumes) (on : VolumeOn c v l m) (kin : Kin c x) where
-  covers_of : ConfigCovers x v m
+  pub covers_of : ConfigCovers x v m
   covers_of = record {
     so = λ e p q b y z w in_use inside live_p live_q left off at_p at_q.
         let trusted = kin.shape.trusted v Drl lt (in_use_trusted x v e in_use) in
@@ -72,7 +72,7 @@ module _ (c x : Config) (v : ℕ) (l : Logs) (m : Meaning) (lt : v < length c.vo
         ((on.stands.drl d at).each k (omega (arith, low_c, long))).only y
         (subst (λ (n : ℕ). m.leaves d.map.unit (n + k) y) start (subst (λ (u : ℕ). m.leaves u (e.start + k) y) unit left))
 
-    settled_of : LogSettled x v m
+    pub settled_of : LogSettled x v m
     settled_of = record {
       one = λ e k y z in_use low left_y left_z. by e k y z in_use low left_y left_z l.drl refl;
     }
@@ -89,7 +89,7 @@ tells_less v m m' units size less tells = record {
 }
 
 -- where a crash leaves one value of each block
-rest_settled : (x : Config) (v : ℕ) (m : Meaning) → AtRest m → LogSettled x v m
+pub rest_settled : (x : Config) (v : ℕ) (m : Meaning) → AtRest m → LogSettled x v m
 rest_settled x v m rest = record { one = λ e k y z in_use low left_y left_z. rest.one e.disk (e.start + k) y z left_y left_z }
 
 -- behind a crash, by the log in memory before it
