@@ -1,5 +1,5 @@
 -- Volumes whose plexes read alike, and what is kept of them, beside calls of a group.
-use Rattle.std.proofs.Common.{◌≡◌, ◌⊎◌, ◌∙◌, inl, inr, ℕ, Bool, true, false, IsTrue, Option, Some, List, length, refl, sym, ap, subst, arith}
+use Rattle.std.proofs.Common.{◌≡◌, ◌⊎◌, ◌∙◌, inl, inr, ℕ, ◌<◌, Bool, true, false, IsTrue, Option, Some, List, length, refl, sym, ap, subst, arith}
 use Rattle.std.proofs.Math.ListN.{set}
 use Rattle.std.proofs.lemmas.List.{length-set}
 use Rattle.std.specs.Prelude.{slice_get}
@@ -24,7 +24,7 @@ use Rattle.vx_loggroup.specs.Marks.{ClearsVolume, MarksVolume, region_count}
 use Rattle.vx_loggroup.proofs.SetLemmas.{set_each, set_here, set_other}
 
 module _ (W : Values) (c d : GroupCore) (m m' : Meaning) (goes : Goes W (inner_meaning (wide c) m) (inner_meaning (wide d) m')) where
-  inside_back : (v b : ℕ) → Inside (wide d).config v b → Inside (wide c).config v b
+  pub inside_back : (v b : ℕ) → Inside (wide d).config v b → Inside (wide c).config v b
   inside_back v b is = record { volume = omega (arith, is.volume, goes.units); within = omega (arith, is.within, goes.size v) }
 
   -- a volume of which nothing was written reads alike still
@@ -83,7 +83,7 @@ all_whole c d ls a s m m' stands group goes each = record {
       let was = stands.each w l is in
       record {
         on = λ going. each.each w l (was.on going);
-        alike = λ yes up. reads_goes Nothing c d m m' goes w (λ b x none. none) up (was.alike yes (λ down. up (goes.falls down)));
+        alike = λ same_at up. reads_goes Nothing c d m m' goes w (λ b x none. none) up (was.alike same_at (λ down. up (goes.falls down)));
       };
 }
 
@@ -96,6 +96,9 @@ each_below c d m m' stands config held goes =
     same = ap (λ (o : Option Held). config_by o d.inner.config) held ∙ ap (λ (x : Config). config_by c.held x) config
 
 -- ---- one log that is changed
+
+pub index_low : (c : GroupCore) (ls : List Logs) (a : List Bool) (s : Bool) (m : Meaning) (v : ℕ) → LoggedStands c ls a s m → v < length (wide c).config.volumes → v < length ls
+index_low c ls a s m v stands lt = let many = stands.many in let same = (wide_shape c).volumes in omega (arith, lt, many, same)
 
 -- a call on one volume, beside what is known of the plexes of the others
 pub set_stands : (W : Values) (c d : GroupCore) (ls : List Logs) (a a' : List Bool) (s t : Bool) (v : ℕ) (l : Logs) (m m' : Meaning) → LoggedStands c ls a s m → GroupStands d m' → Goes W (inner_meaning (wide c) m) (inner_meaning (wide d) m')
@@ -124,7 +127,7 @@ stop_stands c ls a t m stands = record {
 
 -- ---- the regions that logs have
 
-same_item : (o : Option Logs) (l k : Logs) → o ≡ Some l → o ≡ Some k → l ≡ k
+pub same_item : (o : Option Logs) (l k : Logs) → o ≡ Some l → o ≡ Some k → l ≡ k
 same_item o l k one two = let both : Some l ≡ Some k = sym one ∙ two in cc
 
 pub marks_none : (c : Config) (v first last : ℕ) (ls : List Logs) → MarksVolume c v first last ls ls

@@ -1,6 +1,6 @@
 -- Marks that are taken off the logs of all volumes, one after the other.
-use Rattle.std.proofs.Common.{◌≡◌, ◌∙◌, inl, inr, ℕ, ◌+◌, ◌<◌, ◌≤◌, Bool, true, false, IsTrue, Some, List, length, refl, sym, ap, subst, arith}
-use Rattle.std.specs.Prelude.{Result, Ok, Err, slice_get}
+use Rattle.std.proofs.Common.{◌≡◌, ◌∙◌, inl, inr, ℕ, ◌+◌, ◌<◌, ◌≤◌, Bool, true, false, Some, List, length, refl, sym, ap, subst, arith}
+use Rattle.std.specs.Prelude.{Err, slice_get}
 use Rattle.std.proofs.lemmas.Bool.{cases_eq}
 use Rattle.std.proofs.lemmas.Option.{slice_get_within}
 use Rattle.vx_disk.specs.Causes.{Cause}
@@ -32,20 +32,22 @@ pub record ClearedSoFar (c0 : GroupCore) (ls0 : List Logs) (a : List Bool) (m0 :
   pub off : MarksAreOff (wide c0).config a n ls
   pub rest : (v : ℕ) → n ≤ v → slice_get ls v ≡ slice_get ls0 v
   pub trust : c0.inner.committed ≡ true → core.inner.committed ≡ true
+  pub long : length ls ≡ length ls0
 
 pub none_cleared : (c0 : GroupCore) (ls0 : List Logs) (a : List Bool) (m0 : Meaning) → LoggedStands c0 ls0 a false m0 → ClearedSoFar c0 ls0 a m0 0 c0 ls0 m0
 none_cleared c0 ls0 a m0 stands = record {
   stands = stands;
   goes = same_Goes (inner_meaning (wide c0) m0);
-  off = record { each = λ v l lt yes is. absurd (omega (arith, lt)) };
+  off = record { each = λ v l lt same_at is. absurd (omega (arith, lt)) };
   rest = λ v le. refl;
   trust = λ is. is;
+  long = refl;
 }
 
 module _ (c0 : GroupCore) (ls0 : List Logs) (a : List Bool) (m0 : Meaning) (n : ℕ) (core : GroupCore) (ls : List Logs) (m : Meaning) (was : ClearedSoFar c0 ls0 a m0 n core ls m) where
   -- what is asked of the next one
   pub next_same : ((v : ℕ) → v < length ls0 → is_alike a v ≡ true → AllAlike (wide c0).config v m0) → n < length ls0 → is_alike a n ≡ true → AllAlike (wide core).config n m
-  next_same same lt yes = alike_goes c0 core n m0 m was.goes (same n lt yes)
+  next_same same lt same_at = alike_goes c0 core n m0 m was.goes (same n lt same_at)
 
   pub next_there : n < length ls → n < (inner_meaning (wide core) m).units
   next_there lt = let many = was.stands.many in let same = (wide_shape core).volumes in omega (arith, lt, many, same)
@@ -59,26 +61,27 @@ module _ (c0 : GroupCore) (ls0 : List Logs) (a : List Bool) (m0 : Meaning) (n : 
     one_cleared off trust full = record {
       stands = stands;
       goes = goes_on;
-      off = record { each = λ v l lt yes is. elim (cases_eq v n) [
-        | inl same ↦ here v l same yes is
-        | inr apart ↦ was.off.each v l (omega (arith, lt, apart)) yes (sym (marks.others v apart) ∙ is)
+      off = record { each = λ v l lt same_at is. elim (cases_eq v n) [
+        | inl same ↦ here v l same same_at is
+        | inr apart ↦ was.off.each v l (omega (arith, lt, apart)) same_at (sym (marks.others v apart) ∙ is)
       ] };
       rest = λ v le. marks.others v (λ same. omega (arith, le, same)) ∙ was.rest v (omega (arith, le));
       trust = λ is. trust (was.trust is);
+      long = let before = was.long in let many = was.stands.many in let more = stands.many in let one = (wide_shape core).volumes in let two = (wide_shape next).volumes in let units = goes.units in omega (arith, before, many, more, one, two, units);
     }
       where
         at_n : (k : Logs) → is_alike a n ≡ true → slice_get ls' n ≡ Some k → NoMarks (region_count (wide c0).config n) k
-        at_n k yes is =
+        at_n k same_at is =
             let low = slice_get_within ls' n k is in
             let many = was.stands.many in let more = stands.many in let one = (wide_shape core).volumes in let two = (wide_shape next).volumes in let units = goes.units in
             let old = item_at ls n (omega (arith, low, many, more, one, two, units)) in
-            subst (λ (r : ℕ). NoMarks r k) (ap regions_of (was.goes.size n)) (off yes old.0 k old.1 (full n old.0 (sym (was.rest n (omega arith)) ∙ old.1)) is)
+            subst (λ (r : ℕ). NoMarks r k) (ap regions_of (was.goes.size n)) (off same_at old.0 k old.1 (full n old.0 (sym (was.rest n (omega arith)) ∙ old.1)) is)
 
         here : (v : ℕ) (l : Logs) → v ≡ n → is_alike a v ≡ true → slice_get ls' v ≡ Some l → NoMarks (region_count (wide c0).config v) l
-        here v l same yes is = subst (λ (w : ℕ). NoMarks (region_count (wide c0).config w) l) (sym same) (at_n l (sym (ap (is_alike a) same) ∙ yes) (sym (ap (λ (w : ℕ). slice_get ls' w) same) ∙ is))
+        here v l same same_at is = subst (λ (w : ℕ). NoMarks (region_count (wide c0).config w) l) (sym same) (at_n l (sym (ap (is_alike a) same) ∙ same_at) (sym (ap (λ (w : ℕ). slice_get ls' w) same) ∙ is))
 
   pub all_cleared : length ls ≤ n → MarksAreOff (wide c0).config a (length ls) ls
-  all_cleared le = record { each = λ v l lt yes is. was.off.each v l (omega (arith, lt, le)) yes is }
+  all_cleared le = record { each = λ v l lt same_at is. was.off.each v l (omega (arith, lt, le)) same_at is }
 
   -- why it stops
   pub stops_by : (T U : Type 0) (next : Inner) (m' : Meaning) (v : ℕ) (e : ShelfError) → Cause {T = T} (inner_meaning (wide core) m) (inner_meaning next m') v (Err e) → StopsByDevice {T = U} m0 m' (Err e)

@@ -1,5 +1,5 @@
 -- What the disks of a group with logs tell behind a deport, and what a refused one leaves.
-use Rattle.std.proofs.Common.{◌≡◌, ◌⊎◌, ◌∙◌, inl, inr, ℕ, ◌<◌, Bool, true, false, IsTrue, None, Some, List, length, refl, sym, ap, subst, arith}
+use Rattle.std.proofs.Common.{◌≡◌, ◌⊎◌, ◌∙◌, inl, inr, ℕ, ◌<◌, Bool, false, Some, List, length, refl, sym, arith}
 use Rattle.std.specs.Prelude.{Result, Ok, Err, IfErr, OnOk, slice_get}
 use Rattle.std.proofs.lemmas.Option.{slice_get_within}
 use Rattle.vx_config.specs.declared.config.Config.{Config}
@@ -9,7 +9,6 @@ use Rattle.vx_disk.specs.Shelf.{Each, Goes, Image, Meaning, Nothing}
 use Rattle.vx_kept.specs.Cleans.{at_serial}
 use Rattle.vx_kept.specs.Groups.{found}
 use Rattle.vx_kept.specs.Keeping.{SameShape}
-use Rattle.vx_kept.specs.LogRuns.{log_trusted}
 use Rattle.vx_kept.specs.PlexActs.{PlexActs}
 use Rattle.vx_kept.proofs.Chosen.{active_volumes, alike_shape}
 use Rattle.vx_kept.proofs.PlexActing.{wider_Acts}

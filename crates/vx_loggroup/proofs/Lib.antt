@@ -4,3 +4,4 @@ pub mod StayLemmas
 pub mod ClearLemmas
 pub mod OpenLemmas
 pub mod DeportedLogs
+pub mod FactLemmas

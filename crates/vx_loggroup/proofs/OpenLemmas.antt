@@ -1,6 +1,6 @@
 -- A group with logs as an import gives it.
-use Rattle.std.proofs.Common.{◌≡◌, ◌∙◌, inl, inr, ℕ, ◌<◌, Bool, true, false, IsTrue, Option, Some, None, List, length, refl, sym, ap, subst, arith}
-use Rattle.std.specs.Prelude.{Result, Ok, Err, slice_get}
+use Rattle.std.proofs.Common.{◌≡◌, ◌∙◌, inl, inr, ℕ, ◌<◌, true, false, Option, Some, None, List, length, refl, sym, ap, subst, arith}
+use Rattle.std.specs.Prelude.{Err, slice_get}
 use Rattle.std.proofs.lemmas.Option.{slice_get_within}
 use Rattle.vx_config.specs.declared.config.Config.{Config}
 use Rattle.vx_disk.specs.Shelf.{Lawful, Meaning}
@@ -9,7 +9,6 @@ use Rattle.vx_disk.specs.declared.shelf.ShelfError.TheVariants.{Fault, Down}
 use Rattle.vx_drl.specs.Dirty.{Dirty}
 use Rattle.vx_group.specs.Blames.{StopsByDevice}
 use Rattle.vx_group.specs.Mends.{drl_at, drl_or}
-use Rattle.vx_group.specs.declared.group_core.GroupCore.{GroupCore}
 use Rattle.vx_group.proofs.HoldLemmas.{whole_Stands}
 use Rattle.vx_grouplogs.specs.Covering.{AllAlike}
 use Rattle.vx_grouplogs.specs.Marking.{HoldsMany}
@@ -37,7 +36,7 @@ module _ (old m1 : Meaning) (k : Marked) (law : Lawful m1) (it : ResumedBy old k
   low_of v lt = let many = it.logs.many in omega (arith, lt, many)
 
   pub opened_same : (v : ℕ) → v < length k.logs.items → is_alike k.stopped v ≡ true → AllAlike k.core.config v m1
-  opened_same v lt yes = it.alike v (low_of v lt) yes
+  opened_same v lt same_at = it.alike v (low_of v lt) same_at
 
   pub opened_full : (v : ℕ) (l : Logs) → slice_get k.logs.items v ≡ Some l → HoldsMany l.drl
   opened_full v l is = by l.drl (it.read.each v l is)
@@ -54,7 +53,7 @@ module _ (old m1 : Meaning) (k : Marked) (law : Lawful m1) (it : ResumedBy old k
         let lt = slice_get_within k.logs.items v l is in
         record {
           on = λ going. subst (λ (x : Logs). VolumeOn k.core.config v x m1) (logs_at k.logs.items v l is (it.logs.plain v l is)) (it.stand v (low_of v lt));
-          alike = λ yes up. alike_reads k.core.config v m1 law (opened_same v lt yes);
+          alike = λ same_at up. alike_reads k.core.config v m1 law (opened_same v lt same_at);
         };
   }
 

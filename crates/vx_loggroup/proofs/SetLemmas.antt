@@ -1,7 +1,8 @@
 -- A list with one item changed.
-use Rattle.std.proofs.Common.{◌≡◌, ℕ, zero, suc, ◌<◌, Some, None, List, [], ◌∷◌, length, refl, subst, arith}
+use Rattle.std.proofs.Common.{◌≡◌, ◌∙◌, ℕ, zero, suc, ◌<◌, Some, None, List, [], ◌∷◌, length, refl, sym, ap, subst, arith}
+use Rattle.std.proofs.lemmas.Option.{slice_get-get_or}
 use Rattle.std.proofs.Math.ListN.{set}
-use Rattle.std.specs.Prelude.{slice_get}
+use Rattle.std.specs.Prelude.{get_or, slice_get}
 
 pub set_each : {X : Type 0} (xs : List X) (k : ℕ) (y : X) (Q : ℕ → X → Type 0) → ((w : ℕ) (x : X) → (w ≡ k → ⊥) → slice_get xs w ≡ Some x → Q w x) → Q k y → (w : ℕ) (x : X) → slice_get (set xs k y) w ≡ Some x → Q w x
 set_each [] k y Q others new w x is = absurd (let clash : None ≡ Some x = is in cc)
@@ -29,3 +30,7 @@ pub item_at : {X : Type 0} (xs : List X) (k : ℕ) → k < length xs → (x : X)
 item_at [] k lt = absurd (omega (arith, lt))
 item_at (z ∷ zs) zero lt = (z, refl)
 item_at (z ∷ zs) (suc k) lt = item_at zs k (omega (arith, lt))
+
+-- an item that was lent
+pub item_of : {X : Type 0} (xs : List X) (k : ℕ) (x : X) → x ≡ get_or xs k x → k < length xs → slice_get xs k ≡ Some x
+item_of xs k x is lt = slice_get-get_or xs k x lt ∙ ap Some (sym is)

@@ -1,5 +1,5 @@
 -- A group with logs beside calls that show nothing new of its volumes.
-use Rattle.std.proofs.Common.{◌≡◌, ◌⊎◌, ◌∙◌, inl, inr, ℕ, ◌<◌, ◌≤◌, Bool, true, false, IsTrue, Option, Some, None, List, length, refl, sym, ap, subst, arith}
+use Rattle.std.proofs.Common.{◌≡◌, ◌∙◌, inl, inr, ℕ, Bool, true, Option, Some, None, List, refl, sym, ap, subst, arith}
 use Rattle.std.specs.Prelude.{is_some}
 use Rattle.vx_config.specs.Checks.{is_sound}
 use Rattle.vx_config.specs.declared.config.Config.{Config}
@@ -10,21 +10,21 @@ use Rattle.vx_disk.specs.Shelf.{Goes, Meaning, Nothing}
 use Rattle.vx_fmr.specs.Missed.{Missed}
 use Rattle.vx_kept.specs.Groups.{OnSome}
 use Rattle.vx_kept.specs.Keeping.{Acts, SameShape}
-use Rattle.vx_layout.specs.Places.{HasBlock, has_plex, place, plex_in}
+use Rattle.vx_layout.specs.Places.{HasBlock, has_plex, plex_in}
 use Rattle.vx_logs.specs.declared.logs.Logs.{Logs}
 use Rattle.vx_model.specs.declared.no.No.{No}
 use Rattle.vx_logs.proofs.LogLemmas.{log_off_plex}
 use Rattle.vx_volume.specs.Plexes.{Inside}
-use Rattle.vx_group.specs.Attaches.{OnMissed, att_refusal}
+use Rattle.vx_group.specs.Attaches.{att_refusal}
 use Rattle.vx_group.specs.Calls.{GroupAttaches}
 use Rattle.vx_group.specs.Holding.{GroupStands, wide}
 use Rattle.vx_group.specs.Stands.{inner_meaning}
 use Rattle.vx_group.specs.declared.group_core.GroupCore.{GroupCore}
-use Rattle.vx_group.proofs.HoldLemmas.{narrow_sound, wide_shape}
+use Rattle.vx_group.proofs.HoldLemmas.{narrow_sound}
 use Rattle.vx_group.proofs.OpeningLemmas.{Present, may_attach, present}
 use Rattle.vx_group.proofs.Standing.{fit_of, sound_of}
 use Rattle.vx_grouplogs.proofs.LogPlaces.{log_public}
-use Rattle.vx_grouplogs.proofs.SeenLemmas.{KeepsVolume, OnDrl, ShowsNone, drl_same, on_seen}
+use Rattle.vx_grouplogs.proofs.SeenLemmas.{KeepsVolume, OnDrl, drl_same, on_seen}
 use Rattle.vx_logged.specs.Logged.{EachOn}
 use Rattle.vx_logged.proofs.StandLemmas.{inner_wide, wide_both}
 use Rattle.vx_loggroup.specs.LoggedVolumes.{LoggedStands}
@@ -100,4 +100,4 @@ att_any v p f c d ls a s m m' stands group it refused = by (att_refusal c.inner.
   where
     by : (o : Option No) → att_refusal c.inner.config v p ≡ o → LoggedStands d ls a s m'
     by None may = att_stands v p f c d ls a s m m' stands group may it
-    by (Some no) is = let same = refused no is in same_stands c d ls a s m m' same.0 same.1 stands
+    by (Some why) is = let same = refused why is in same_stands c d ls a s m m' same.0 same.1 stands

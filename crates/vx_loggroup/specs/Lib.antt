@@ -1,3 +1,4 @@
 pub mod LoggedVolumes
+pub mod Facts
 pub mod Marks
 pub mod Opens

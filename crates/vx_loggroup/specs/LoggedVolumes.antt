@@ -12,9 +12,9 @@ abbrev pub is_alike : List Bool → ℕ → Bool
 is_alike alike v = slice_index_or alike v false
 
 -- The log of a volume stands, until logs are stopped for want of a serial; and where its plexes are said to be alike each block of it reads as one value.
-pub record VolumeStands (core : GroupCore) (v : ℕ) (l : Logs) (alike stopped : Bool) (m : Meaning) : Type 0 where
+pub record VolumeStands (core : GroupCore) (v : ℕ) (l : Logs) (same stopped : Bool) (m : Meaning) : Type 0 where
   pub on : stopped ≡ false → LogOn core v l m
-  pub alike : alike ≡ true → (IsTrue m.down → ⊥) → ReadsOne (wide core).config v m
+  pub alike : same ≡ true → (IsTrue m.down → ⊥) → ReadsOne (wide core).config v m
 
 -- So it is of each volume of a group that stands.
 pub record LoggedStands (core : GroupCore) (logs : List Logs) (alike : List Bool) (stopped : Bool) (m : Meaning) : Type 0 where

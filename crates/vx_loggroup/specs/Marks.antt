@@ -1,5 +1,5 @@
 -- Which regions the dirty region logs of a group have, call by call.
-use Rattle.std.specs.Prelude.{◌≡◌, ℕ, ◌<◌, true, Some, List, slice_get}
+use Rattle.std.specs.Prelude.{◌≡◌, ℕ, ◌<◌, Bool, true, Some, List, slice_get}
 use Rattle.vx_config.specs.Checks.{blocks_of}
 use Rattle.vx_config.specs.declared.config.Config.{Config}
 use Rattle.vx_grouplogs.specs.Marking.{MarksFewer, MarksOnly, NoMarks}

@@ -23,14 +23,14 @@ SomeFailed old new = ((disk : ℕ) × Rose (old.disk_faults disk) (new.disk_faul
 
 -- There was a moment at which the group was one that was imported by its logs; since then only marks were taken off, and its volumes read as then.
 -- Of the volumes that stopped uncleanly no log has a region, unless logs are stopped, or a call on a disk failed in this.
-pub record IsOpened {S : Type 0} (meaning : S → Meaning) (old : Meaning) (core : GroupCore) (logs : List Logs) (alike : List Bool) (stopped : Bool) (new : Meaning) : Type 0 where
+pub record IsOpened {S : Type 0} (meaning : S → Meaning) (old : Meaning) (core : GroupCore) (logs : List Logs) (flags : List Bool) (stopped : Bool) (new : Meaning) : Type 0 where
   pub moment : S
   pub marked : Marked
   pub resumed : ResumedBy old marked (meaning moment)
   pub goes : Goes Nothing (inner_meaning marked.core (meaning moment)) (inner_meaning (wide core) new)
   pub agreed : core.inner.agreed ≡ true
-  pub alike : alike ≡ marked.stopped
-  pub off : stopped ≡ false → MarksAreOff marked.core.config alike (length logs) logs ⊎ SomeFailed (meaning moment) new
+  pub alike : flags ≡ marked.stopped
+  pub off : stopped ≡ false → MarksAreOff marked.core.config flags (length logs) logs ⊎ SomeFailed (meaning moment) new
 
 -- how it ends, with each log standing
 abbrev pub OpensLogged : {S : Type 0} → (S → Meaning) → Meaning → Meaning → Result Opened Stop → Type 0

@@ -19,14 +19,14 @@ use vx_model::limits::MOST_VOLUMES;
 pub fn att_whole<S: Shelf>(
     shelf: &mut S,
     core: &mut GroupCore,
-    logs: &[Logs],
+    logs: &Vec<Logs>,
     alike: &[bool; MOST_VOLUMES],
     stopped: bool,
     vol: u32,
     plex: u32,
 ) -> Result<u64, Stop>
-    requires stands { LoggedStands core.old logs.now alike.now stopped (S.meaning shelf.old) }
-    ensures stands { LoggedStands core.new logs.now alike.now stopped (S.meaning shelf.new) }
+    requires stands { LoggedStands core.old logs.now.items alike.now stopped (S.meaning shelf.old) }
+    ensures stands { LoggedStands core.new logs.now.items alike.now stopped (S.meaning shelf.new) }
     ensures refused { (no : NoValue) → att_refusal core.old.inner.config vol plex ≡ Some no → (result ≡ Err (Refused no)) × (core.new ≡ core.old) × (shelf.new ≡ shelf.old) }
     ensures already { att_refusal core.old.inner.config vol plex ≡ None → IsTrue (active core.old.inner.config vol plex) → (result ≡ Ok 0) × (core.new ≡ core.old) × (shelf.new ≡ shelf.old) }
     ensures count { active core.old.inner.config vol plex ≡ false → IfOk result (λ n. n ≡ copied_regions core.old.inner.config vol) }

@@ -21,16 +21,16 @@ use vx_model::limits::MOST_VOLUMES;
 pub fn crash_whole<R: Rack>(
     rack: &mut R,
     core: &GroupCore,
-    logs: &[Logs],
+    logs: &Vec<Logs>,
     alike: &[bool; MOST_VOLUMES],
     stopped: bool,
     pick: u64,
 )
-    requires stands { LoggedStands core.now logs.now alike.now stopped (R.meaning rack.old) }
+    requires stands { LoggedStands core.now logs.now.items alike.now stopped (R.meaning rack.old) }
     ensures fell { Stopped (R.meaning rack.old) (R.meaning rack.new) }
     ensures volumes { Stopped (inner_meaning (wide core.now) (R.meaning rack.old)) (inner_meaning (wide core.now) (R.meaning rack.new)) }
     ensures can { core.now.inner.agreed ≡ true → CanImport (R.meaning rack.new) }
-    ensures tells { (v : ℕ) (l : LogsValue) → stopped ≡ false → slice_get logs.now v ≡ Some l → LogKept core.now v l ⊎ AtRest (R.meaning rack.new) → DisksTell v (R.meaning rack.new) }
+    ensures tells { (v : ℕ) (l : LogsValue) → stopped ≡ false → slice_get logs.now.items v ≡ Some l → LogKept core.now v l ⊎ AtRest (R.meaning rack.new) → DisksTell v (R.meaning rack.new) }
 {
     // What is kept of the volumes is gone with the group.
     let _kept = (logs.len(), alike.len(), stopped);

@@ -26,16 +26,16 @@ use vx_model::limits::MOST_VOLUMES;
 pub fn deport_whole<S: Shelf>(
     shelf: &mut S,
     core: &mut GroupCore,
-    logs: &[Logs],
+    logs: &Vec<Logs>,
     alike: &[bool; MOST_VOLUMES],
     stopped: bool,
 ) -> Result<(), Stop>
-    requires stands { LoggedStands core.old logs.now alike.now stopped (S.meaning shelf.old) }
-    ensures stands { IfErr result (λ e. LoggedStands core.new logs.now alike.now stopped (S.meaning shelf.new)) }
+    requires stands { LoggedStands core.old logs.now.items alike.now stopped (S.meaning shelf.old) }
+    ensures stands { IfErr result (λ e. LoggedStands core.new logs.now.items alike.now stopped (S.meaning shelf.new)) }
     ensures limit { greatest - margin < core.old.inner.config.serial → (result ≡ Err (Refused (Limit Numbers greatest))) × (core.new ≡ core.old) × (shelf.new ≡ shelf.old) }
     ensures ends { GroupCloses core.old core.new (S.meaning shelf.old) (S.meaning shelf.new) result }
     ensures back { IfErr result (λ e. Goes Nothing (inner_meaning (wide core.old) (S.meaning shelf.old)) (inner_meaning (wide core.new) (S.meaning shelf.new))) }
-    ensures tells { OnOk result ((v : ℕ) (l : LogsValue) → stopped ≡ false → slice_get logs.now v ≡ Some l → LogKept core.old v l ⊎ AtRest (S.meaning shelf.new) → DisksTell v (S.meaning shelf.new)) }
+    ensures tells { OnOk result ((v : ℕ) (l : LogsValue) → stopped ≡ false → slice_get logs.now.items v ≡ Some l → LogKept core.old v l ⊎ AtRest (S.meaning shelf.new) → DisksTell v (S.meaning shelf.new)) }
     ensures cause { core.old.inner.config.serial ≤ greatest - margin → DetStops (S.meaning shelf.old) (S.meaning shelf.new) result }
 {
     // What is kept of the volumes stays as it is.

@@ -14,6 +14,7 @@ ghost use Rattle.vx_group.specs.Regains.{HoldsPlex, Regains};
 ghost use Rattle.vx_group.specs.Resumes.{AtRest, CanImport};
 ghost use Rattle.vx_group.specs.Stands.{inner_meaning};
 ghost use Rattle.vx_logged.specs.Logged.{LogKept};
+ghost use Rattle.vx_loggroup.specs.Facts.{LoggedFact};
 ghost use Rattle.vx_loggroup.specs.LoggedVolumes.{LoggedStands};
 ghost use Rattle.vx_loggroup.specs.Marks.{ClearsVolume, MarksVolume};
 ghost use Rattle.vx_loggroup.specs.Opens.{DeportTells, LoggedImported};
@@ -51,7 +52,7 @@ pub struct LoggedGroup<S: Shelf> {
     alike: [bool; MOST_VOLUMES],
     /// Logs are stopped, as no serial is left to commit that one is lost.
     stopped: bool,
-    ghost stands: { LoggedStands core logs.items alike stopped (S.meaning shelf) },
+    ghost stands: { LoggedFact core logs.items alike stopped (S.meaning shelf) },
 }
 
 impl<S: Shelf> LoggedGroup<S> {

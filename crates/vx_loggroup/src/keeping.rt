@@ -22,14 +22,14 @@ use vx_model::limits::MOST_VOLUMES;
 pub fn det_whole<S: Shelf>(
     shelf: &mut S,
     core: &mut GroupCore,
-    logs: &[Logs],
+    logs: &Vec<Logs>,
     alike: &[bool; MOST_VOLUMES],
     stopped: bool,
     vol: u32,
     plex: u32,
 ) -> Result<(), Stop>
-    requires stands { LoggedStands core.old logs.now alike.now stopped (S.meaning shelf.old) }
-    ensures stands { LoggedStands core.new logs.now alike.now stopped (S.meaning shelf.new) }
+    requires stands { LoggedStands core.old logs.now.items alike.now stopped (S.meaning shelf.old) }
+    ensures stands { LoggedStands core.new logs.now.items alike.now stopped (S.meaning shelf.new) }
     ensures refused { (no : NoValue) → det_refusal core.old.inner.config vol plex ≡ Some no → (result ≡ Err (Refused no)) × (core.new ≡ core.old) × (shelf.new ≡ shelf.old) }
     ensures goes { Goes Nothing (inner_meaning (wide core.old) (S.meaning shelf.old)) (inner_meaning (wide core.new) (S.meaning shelf.new)) }
     ensures narrows { GroupNarrows core.old core.new (S.meaning shelf.old) (S.meaning shelf.new) }
@@ -48,16 +48,16 @@ pub fn det_whole<S: Shelf>(
 pub fn read_whole<S: Shelf>(
     shelf: &mut S,
     core: &mut GroupCore,
-    logs: &[Logs],
+    logs: &Vec<Logs>,
     alike: &[bool; MOST_VOLUMES],
     stopped: bool,
     vol: u32,
     block: u64,
     into: &mut [u8],
 ) -> Result<(), ShelfError>
-    requires stands { LoggedStands core.old logs.now alike.now stopped (S.meaning shelf.old) }
+    requires stands { LoggedStands core.old logs.now.items alike.now stopped (S.meaning shelf.old) }
     requires fits { Fits (inner_meaning (wide core.old) (S.meaning shelf.old)) vol block (length into.old) }
-    ensures stands { LoggedStands core.new logs.now alike.now stopped (S.meaning shelf.new) }
+    ensures stands { LoggedStands core.new logs.now.items alike.now stopped (S.meaning shelf.new) }
     ensures goes { Goes Nothing (inner_meaning (wide core.old) (S.meaning shelf.old)) (inner_meaning (wide core.new) (S.meaning shelf.new)) }
     ensures ok { OnOk result (Read (inner_meaning (wide core.old) (S.meaning shelf.old)) vol block into.new) }
     ensures down { (S.meaning shelf.new).down ≡ (S.meaning shelf.old).down }

@@ -13,7 +13,7 @@ att_in-requires-clause-knows g c = none_knows c.args.core.now.inner.config c.arg
 
 pub returns-clause-stands : goal.returns-clause-stands
 returns-clause-stands g c =
-    att_any c.args.vol c.args.plex None c.args.core.now c.att_in.new.core c.args.logs.now c.args.alike.now c.args.stopped (g.S.Shelf.meaning c.args.shelf.now) (g.S.Shelf.meaning c.att_in.new.shelf) c.requires.stands c.att_in.ensures.stands c.att_in.ensures.attaches
+    att_any c.args.vol c.args.plex None c.args.core.now c.att_in.new.core c.args.logs.now.items c.args.alike.now c.args.stopped (g.S.Shelf.meaning c.args.shelf.now) (g.S.Shelf.meaning c.att_in.new.shelf) c.requires.stands c.att_in.ensures.stands c.att_in.ensures.attaches
     (λ (no : No) is. let r = c.att_in.ensures.refused no is in (r.1, ap g.S.Shelf.meaning r.2))
 
 pub returns-clause-count : goal.returns-clause-count

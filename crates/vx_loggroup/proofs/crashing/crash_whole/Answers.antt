@@ -9,6 +9,6 @@ crash_told-requires-clause-stands g c = λ κs within. c.requires.stands.group
 
 pub returns-clause-tells : goal.returns-clause-tells
 returns-clause-tells g c = λ v (l : Logs) going is why.
-    let low = slice_get_within c.args.logs.now v l is in
+    let low = slice_get_within c.args.logs.now.items v l is in
     let many = c.requires.stands.many in
     c.crash_told.ensures.tells v l (omega (arith, low, many)) ((c.requires.stands.each v l is).on going) why
