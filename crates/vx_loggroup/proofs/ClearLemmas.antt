@@ -61,10 +61,12 @@ module _ (c0 : GroupCore) (ls0 : List Logs) (a : List Bool) (m0 : Meaning) (n : 
     one_cleared off trust full = record {
       stands = stands;
       goes = goes_on;
-      off = record { each = λ v l lt same_at is. elim (cases_eq v n) [
-        | inl same ↦ here v l same same_at is
-        | inr apart ↦ was.off.each v l (omega (arith, lt, apart)) same_at (sym (marks.others v apart) ∙ is)
-      ] };
+      off = record {
+        each = λ v l lt same_at is. elim (cases_eq v n) [
+          | inl same ↦ here v l same same_at is
+          | inr apart ↦ was.off.each v l (omega (arith, lt, apart)) same_at (sym (marks.others v apart) ∙ is)
+        ];
+      };
       rest = λ v le. marks.others v (λ same. omega (arith, le, same)) ∙ was.rest v (omega (arith, le));
       trust = λ is. trust (was.trust is);
       long = let before = was.long in let many = was.stands.many in let more = stands.many in let one = (wide_shape core).volumes in let two = (wide_shape next).volumes in let units = goes.units in omega (arith, before, many, more, one, two, units);
