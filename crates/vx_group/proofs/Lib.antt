@@ -45,3 +45,4 @@ pub mod SourcesLemmas
 pub mod GiveLemmas
 pub mod ActsLemmas
 pub mod LostLemmas
+pub mod TrustingLemmas
