@@ -22,7 +22,7 @@ use Rattle.vx_kept.specs.Keeping.{AllOn, Kept, Kin, SameShape}
 use Rattle.vx_kept.specs.LogRuns.{log_trusted, trusted_or}
 use Rattle.vx_kept.specs.Losses.{SamePlexes}
 use Rattle.vx_kept.specs.PlexActs.{PlexActs}
-use Rattle.vx_kept.proofs.Chosen.{active_volumes, alike_shape}
+use Rattle.vx_kept.proofs.Chosen.{active_volumes, alike_shape, extends_shape}
 use Rattle.vx_kept.proofs.LosingLemmas.{loses, lost_plexes}
 use Rattle.vx_kept.proofs.PlexActing.{both_PlexActs, wider_Acts}
 use Rattle.vx_disk.specs.Moves.{Anything}
@@ -110,6 +110,7 @@ module _ (v : ℕ) (log : VolumeLog) (c : Config) where
   pub trusting_shape : SameShape c t
   trusting_shape = record {
     volumes = sym ((lost_plexes v log c).shape.volumes) ∙ on_lost.shape.volumes;
+    names = λ w. sym ((lost_plexes v log c).shape.names w) ∙ on_lost.shape.names w;
     blocks = λ w. sym ((lost_plexes v log c).shape.blocks w) ∙ on_lost.shape.blocks w;
     place = λ w q b. sym ((lost_plexes v log c).shape.place w q b) ∙ on_lost.shape.place w q b;
     logs = λ w k. sym ((lost_plexes v log c).shape.logs w k) ∙ on_lost.shape.logs w k;
@@ -132,13 +133,7 @@ module _ (v : ℕ) (log : VolumeLog) (c : Config) where
 
   kin_trusting : (x : Config) → Kin c x → Kin t x
   kin_trusting x kin = record {
-    shape = record {
-      volumes = let le = kin.shape.volumes in let same : length c.volumes ≡ length t.volumes = trusting_shape.volumes in omega (arith, le, same);
-      blocks = λ w lt. kin.shape.blocks w (there w lt) ∙ trusting_shape.blocks w;
-      place = λ w q b lt. kin.shape.place w q b (there w lt) ∙ trusting_shape.place w q b;
-      logs = λ w k lt. kin.shape.logs w k (there w lt) ∙ trusting_shape.logs w k;
-      trusted = λ w k lt is. trusting_more w k (kin.shape.trusted w k (there w lt) is);
-    };
+    shape = extends_shape x c t kin.shape trusting_shape;
     on = λ w q lt is. trusting_active w q ∙ kin.on w q (there w lt) is;
     some = λ w lt. kin.some w (there w lt);
   }
