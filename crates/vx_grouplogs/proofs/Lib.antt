@@ -6,3 +6,5 @@ pub mod OnLemmas
 pub mod OnCalls
 pub mod DirtyLemmas
 pub mod SeenLemmas
+pub mod ZeroRuns
+pub mod BeginLemmas

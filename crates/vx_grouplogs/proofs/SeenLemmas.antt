@@ -22,12 +22,11 @@ use Rattle.vx_grouplogs.proofs.CoverLemmas.{region_inside, some_of}
 use Rattle.vx_grouplogs.proofs.LogPlaces.{entry_blocks}
 use Rattle.vx_grouplogs.proofs.OnLemmas.{run_back, run_in}
 
--- a volume lies where it lay, and so does its log, which is trusted only where it was
+-- a volume lies where it lay, and so does its log
 pub record KeepsVolume (v : ℕ) (c d : Config) : Type 0 where
   pub inside : (b : ℕ) → Inside d v b → Inside c v b
   pub blocks : blocks_in d.volumes v ≡ blocks_in c.volumes v
   pub logs : log_place d v DrlLog ≡ log_place c v DrlLog
-  pub trusted : log_trusted d v DrlLog ≡ true → log_trusted c v DrlLog ≡ true
 
 -- a block of its dirty region log
 pub record OnDrl (c : Config) (v u b : ℕ) : Type 0 where
@@ -83,9 +82,9 @@ module _ (v : ℕ) (c d : Config) (sound : is_sound c ≡ true) (l : Logs) (m m'
     };
   }
 
-  -- the log on its disk
-  disk_seen : log_trusted d v DrlLog ≡ true → DiskCovers d v m'
-  disk_seen told = record {
+  -- the log on its disk, where it is trusted only where it was
+  disk_seen : (log_trusted d v DrlLog ≡ true → log_trusted c v DrlLog ≡ true) → log_trusted d v DrlLog ≡ true → DiskCovers d v m'
+  disk_seen trusted told = record {
     so = λ e b p q x y z is in_d on_p on_q left off at_p at_q.
         let run = run_back c d v keeps.logs e is in
         let inside = keeps.inside b in_d in
@@ -95,17 +94,21 @@ module _ (v : ℕ) (c d : Config) (sound : is_sound c ≡ true) (l : Logs) (m m'
         let at : OnDrl c v run.entry.disk (run.entry.start + (b / 64) / 4096) = record { entry = run.entry; is = run.is; run = record { there = refl; first = omega arith; last = omega (arith, blocks, low) } } in
         let one = shows.some b x (record { inside = in_d; plex = p; is_on = on_p; value = at_p }) in
         let two = shows.some b y (record { inside = in_d; plex = q; is_on = on_q; value = at_q }) in
-        (on.disk (keeps.trusted told)).so run.entry b one.plex two.plex x y z run.is inside one.is_on two.is_on (shows.logs run.entry.disk (run.entry.start + (b / 64) / 4096) z at left') off one.value two.value;
+        (on.disk (trusted told)).so run.entry b one.plex two.plex x y z run.is inside one.is_on two.is_on (shows.logs run.entry.disk (run.entry.start + (b / 64) / 4096) z at left') off one.value two.value;
   }
 
-  pub on_seen : VolumeOn d v l m'
-  on_seen = record {
+  -- where it is known what the log on its disk covers
+  pub on_given : (log_trusted d v DrlLog ≡ true → DiskCovers d v m') → VolumeOn d v l m'
+  on_given disk = record {
     fits = record { drl = fits_seen; fmr = λ f is. absurd (let clash : None ≡ Some f = sym on.plain ∙ is in cc) };
     plain = on.plain;
     stands = record { drl = λ e is. map_seen e is (on.stands.drl e is); fmr = λ f is. absurd (let clash : None ≡ Some f = sym on.plain ∙ is in cc) };
     memory = record { so = λ e is. record { one = λ b x y off one two. (on.memory.so e is).one b x y off (shows.some b x one) (shows.some b y two) } };
-    disk = disk_seen;
+    disk = disk;
   }
+
+  pub on_seen : (log_trusted d v DrlLog ≡ true → log_trusted c v DrlLog ≡ true) → VolumeOn d v l m'
+  on_seen trusted = on_given (disk_seen trusted)
 
 -- where all plexes are alike, any log covers them
 pub alike_covers : (c : Config) (v : ℕ) (m : Meaning) → AllAlike c v m → DiskCovers c v m

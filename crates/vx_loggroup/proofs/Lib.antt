@@ -5,3 +5,6 @@ pub mod ClearLemmas
 pub mod OpenLemmas
 pub mod DeportedLogs
 pub mod FactLemmas
+pub mod CrashedLogs
+pub mod TrustedLogs
+pub mod MadeLogs

@@ -37,7 +37,6 @@ keeps_of c d shape v = record {
   inside = λ b is. record { volume = let same = shape.volumes in omega (arith, is.volume, same); within = let same = shape.blocks v in omega (arith, is.within, same) };
   blocks = shape.blocks v;
   logs = shape.logs v Drl;
-  trusted = shape.trusted v Drl;
 }
 
 module _ (c d : GroupCore) (m m' : Meaning) (goes : Goes Nothing (inner_meaning (wide c) m) (inner_meaning (wide d) m')) where
@@ -57,7 +56,7 @@ each_seen c d m m' stands shape goes logs = record {
       (record {
         logs = λ u b x at left. logs v u b x (drl_same (wide c).config c.inner.config v u b ((inner_wide c m stands).logs v Drl) at) left;
         some = λ b x is. some_shown c d m m' goes v b x is;
-      }) on;
+      }) on ((wide_both c d m stands shape).trusted v Drl);
 }
 
 -- commits alone

@@ -2,3 +2,4 @@ pub mod LoggedVolumes
 pub mod Facts
 pub mod Marks
 pub mod Opens
+pub mod Made

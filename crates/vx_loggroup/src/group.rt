@@ -1,27 +1,29 @@
 // A group that keeps the dirty region logs of its volumes.
-ghost use Rattle.std.specs.Prelude.{◌≡◌, ◌⊎◌, ◌+◌, ◌-◌, ◌/◌, ◌<◌, ◌≤◌, ℕ, Err, IfErr, IfOk, IsTrue, None, Ok, OnOk, Some, true, false, length, slice_get};
+ghost use Rattle.std.specs.Prelude.{◌≡◌, ◌⊎◌, ◌+◌, ◌-◌, ◌/◌, ◌<◌, ◌≤◌, ℕ, Err, IfErr, IfOk, IfSome, IsTrue, None, Ok, OnOk, Some, true, false, length};
 ghost use Rattle.vx_config.specs.Table.{greatest};
 ghost use Rattle.vx_copyio.specs.Labelling.{HasSmall};
-ghost use Rattle.vx_disk.specs.Causes.{Cause};
+ghost use Rattle.vx_disk.specs.Causes.{Calls, Cause, CountsOnly, Names, OnDisks, Works};
+ghost use Rattle.vx_disk.specs.Disks.{Untouched};
 ghost use Rattle.vx_disk.specs.Racks.{Stopped};
-ghost use Rattle.vx_disk.specs.Shelf.{Fits, Flushed, Goes, Nothing, Read, Written, Wrote};
+ghost use Rattle.vx_disk.specs.Shelf.{DisksFlushed, DisksWrote, Fits, Flushed, Goes, Nothing, Read, Written, Wrote};
 ghost use Rattle.vx_group.specs.Attaches.{GroupAttachEnds, att_refusal, copied_regions};
 ghost use Rattle.vx_group.specs.Calls.{GivesBack, GroupAttaches, GroupCreated, GroupDeported, GroupNarrows, IsFull};
 ghost use Rattle.vx_group.specs.Deports.{DeportStops, GroupCanImport};
 ghost use Rattle.vx_group.specs.Dets.{DetStops, det_refusal, margin};
 ghost use Rattle.vx_group.specs.Holding.{wide};
+ghost use Rattle.vx_group.specs.Laws.{group_lawful};
+ghost use Rattle.vx_group.specs.Makes.{make_refusal};
 ghost use Rattle.vx_group.specs.Regains.{HoldsPlex, Regains};
-ghost use Rattle.vx_group.specs.Resumes.{AtRest, CanImport};
+ghost use Rattle.vx_group.specs.Resumes.{CanImport};
 ghost use Rattle.vx_group.specs.Stands.{inner_meaning};
-ghost use Rattle.vx_logged.specs.Logged.{LogKept};
 ghost use Rattle.vx_loggroup.specs.Facts.{LoggedFact};
 ghost use Rattle.vx_loggroup.specs.LoggedVolumes.{LoggedStands};
+ghost use Rattle.vx_loggroup.specs.Made.{LoggedMakes};
 ghost use Rattle.vx_loggroup.specs.Marks.{ClearsVolume, MarksVolume};
 ghost use Rattle.vx_loggroup.specs.Opens.{DeportTells, LoggedImported};
 ghost use Rattle.vx_logimport.specs.Covers.{DisksTell};
 ghost use Rattle.vx_logs.specs.Writes.{first_region, last_region};
-ghost use Rattle.vx_logs.specs.declared.logs.Logs.{Logs as LogsValue};
-ghost use Rattle.vx_model.specs.declared.errors.Stop.TheVariants.{No as Refused};
+ghost use Rattle.vx_model.specs.declared.errors.Stop.TheVariants.{No as Refused, OutOfMemory};
 ghost use Rattle.vx_model.specs.declared.limits.TheConstants.{MOST_DISKS};
 ghost use Rattle.vx_model.specs.declared.no.No.{No as NoValue};
 ghost use Rattle.vx_model.specs.declared.no.No.TheVariants.{Size};
@@ -31,17 +33,19 @@ use crate::attaching::att_whole;
 use crate::crashing::crash_whole;
 use crate::deporting::deport_whole;
 use crate::keeping::{det_whole, read_whole};
+use crate::making::make_whole;
 use crate::opening::{Opened, open_logged};
 use crate::whole::{flush_whole, write_whole};
 use std::alloc::Global;
 use vx_config::Config;
 use vx_disk::{Rack, Shelf, ShelfError};
 use vx_group::{GroupCore, start};
+use vx_layout::Shape;
 use vx_logs::Logs;
-use vx_model::Stop;
 use vx_model::limits::MOST_VOLUMES;
+use vx_model::{Name, Stop};
 
-/// A group over a shelf, with the dirty region logs of its volumes.
+/// A group over a shelf, with the dirty region logs of its volumes. Its units are its volumes.
 #[derive(Drop)]
 pub struct LoggedGroup<S: Shelf> {
     shelf: S,
@@ -121,67 +125,25 @@ impl<S: Shelf> LoggedGroup<S> {
         self.stopped
     }
 
-    /// Writes a run of blocks of a volume to each plex that is ACTIVE, of which the regions are durably marked first, and no others. A log of
-    /// which the disk fails is lost by a commit before a plex is written.
-    pub fn write(&mut self, vol: u32, block: u64, bytes: &[u8]) -> Result<(), ShelfError>
-        requires { Fits (inner_meaning (wide self.old.core) (S.meaning self.old.shelf)) vol block (length bytes.now) }
-        ensures goes { Goes (Written vol block bytes.now) (inner_meaning (wide self.old.core) (S.meaning self.old.shelf)) (inner_meaning (wide self.new.core) (S.meaning self.new.shelf)) }
-        ensures ok { OnOk result (Wrote vol block bytes.now (inner_meaning (wide self.old.core) (S.meaning self.old.shelf)) (inner_meaning (wide self.new.core) (S.meaning self.new.shelf))) }
-        ensures marks { MarksVolume (wide self.old.core).config vol (first_region block) (last_region block (length bytes.now / 512)) self.old.logs.items self.new.logs.items }
-        ensures full { self.old.stopped ≡ false → self.new.stopped ≡ true → greatest ≤ self.old.core.inner.config.serial + 18 }
-        ensures trust { OnOk result (self.old.core.inner.committed ≡ true → self.new.core.inner.committed ≡ true) }
-        ensures agreed { IfErr result (λ e. self.old.core.inner.committed ≡ true → self.new.core.inner.agreed ≡ true) }
-        ensures cause { Cause (inner_meaning (wide self.old.core) (S.meaning self.old.shelf)) (inner_meaning (wide self.new.core) (S.meaning self.new.shelf)) vol result }
+    /// Makes a volume, as a group does without logs, and answers its number. Where it has a dirty region log, this begins without marks, and a
+    /// commit of its own says then that it is trusted; where it cannot begin, it stays lost.
+    ///
+    /// Answers what the making of a volume of a group answers, and that memory ran out before any other refusal. It takes memory.
+    pub fn make_volume(&mut self, alloc: Global, name: &Name, want: &Shape) -> Result<u32, Stop>
+        requires prefer { IfSome want.now.prefer (λ p. p < want.now.mirrors) }
+        ensures refused { (no : NoValue) → make_refusal self.old.core.inner.config name.now want.now ≡ Some no → ((result ≡ Err (Refused no)) ⊎ (result ≡ Err OutOfMemory)) × (self.new.core ≡ self.old.core) × (self.new.shelf ≡ self.old.shelf) }
+        ensures makes { make_refusal self.old.core.inner.config name.now want.now ≡ None → LoggedMakes (λ s. S.meaning s) name.now want.now self.old.core self.new.core self.new.logs.items (S.meaning self.old.shelf) (S.meaning self.new.shelf) result }
+        ensures agreed { self.old.core.inner.committed ≡ true → self.new.core.inner.agreed ≡ true }
     {
-        write_whole(
+        make_whole(
+            alloc,
             &mut self.shelf,
             &mut self.core,
             &mut self.logs,
             &mut self.alike,
-            &mut self.stopped,
-            vol,
-            block,
-            bytes,
-        )
-    }
-
-    /// Flushes each plex of a volume that is ACTIVE, and takes all marks off its log where more than 64 regions were marked since.
-    pub fn flush(&mut self, vol: u32) -> Result<(), ShelfError>
-        requires { vol < (inner_meaning (wide self.old.core) (S.meaning self.old.shelf)).units }
-        ensures goes { Goes Nothing (inner_meaning (wide self.old.core) (S.meaning self.old.shelf)) (inner_meaning (wide self.new.core) (S.meaning self.new.shelf)) }
-        ensures ok { OnOk result (Flushed vol (inner_meaning (wide self.old.core) (S.meaning self.old.shelf)) (inner_meaning (wide self.new.core) (S.meaning self.new.shelf))) }
-        ensures marks { ClearsVolume (wide self.old.core).config vol self.old.logs.items self.new.logs.items }
-        ensures trust { OnOk result (self.old.core.inner.committed ≡ true → self.new.core.inner.committed ≡ true) }
-        ensures agreed { IfErr result (λ e. self.old.core.inner.committed ≡ true → self.new.core.inner.agreed ≡ true) }
-        ensures cause { Cause (inner_meaning (wide self.old.core) (S.meaning self.old.shelf)) (inner_meaning (wide self.new.core) (S.meaning self.new.shelf)) vol result }
-    {
-        flush_whole(
-            &mut self.shelf,
-            &mut self.core,
-            &mut self.logs,
-            &self.alike,
             self.stopped,
-            vol,
-        )
-    }
-
-    /// Reads a run of blocks of a volume, from one plex that is ACTIVE.
-    pub fn read(&mut self, vol: u32, block: u64, into: &mut [u8]) -> Result<(), ShelfError>
-        requires { Fits (inner_meaning (wide self.old.core) (S.meaning self.old.shelf)) vol block (length into.old) }
-        ensures goes { Goes Nothing (inner_meaning (wide self.old.core) (S.meaning self.old.shelf)) (inner_meaning (wide self.new.core) (S.meaning self.new.shelf)) }
-        ensures ok { OnOk result (Read (inner_meaning (wide self.old.core) (S.meaning self.old.shelf)) vol block into.new) }
-        ensures logs { self.new.logs.items ≡ self.old.logs.items }
-        ensures cause { Cause (inner_meaning (wide self.old.core) (S.meaning self.old.shelf)) (inner_meaning (wide self.new.core) (S.meaning self.new.shelf)) vol result }
-    {
-        read_whole(
-            &mut self.shelf,
-            &mut self.core,
-            &self.logs,
-            &self.alike,
-            self.stopped,
-            vol,
-            block,
-            into,
+            name,
+            want,
         )
     }
 
@@ -307,13 +269,13 @@ impl<S: Shelf> LoggedGroup<S> {
 }
 
 impl<R: Rack> LoggedGroup<R> {
-    /// Crashes the disks, and hands them out, down. To the volumes this is a crash too. Where imports agree the disks may be imported again once
-    /// they are revived; of each volume whose log is in memory or held as lost, while logs are not stopped, they tell what an import by logs asks.
+    /// Crashes the disks, and hands them out, down. To the volumes this is a crash too. Where imports agree, and logs are not stopped, the disks
+    /// may be imported again by their logs once they are revived.
     pub fn crash(self, pick: u64) -> R
         ensures stopped { Stopped (R.meaning self.shelf) (R.meaning result) }
         ensures volumes { Stopped (inner_meaning (wide self.core) (R.meaning self.shelf)) (inner_meaning (wide self.core) (R.meaning result)) }
         ensures can { self.core.inner.agreed ≡ true → CanImport (R.meaning result) }
-        ensures tells { (v : ℕ) (l : LogsValue) → self.stopped ≡ false → slice_get self.logs.items v ≡ Some l → LogKept self.core v l ⊎ AtRest (R.meaning result) → DisksTell v (R.meaning result) }
+        ensures tells { self.stopped ≡ false → (v : ℕ) → DisksTell v (R.meaning result) }
     {
         let mut rack = self.shelf;
         let core = self.core;
@@ -322,4 +284,101 @@ impl<R: Rack> LoggedGroup<R> {
         crash_whole(&mut rack, &core, &logs, &alike, self.stopped, pick);
         rack
     }
+}
+
+impl<S: Shelf> Shelf for LoggedGroup<S> {
+    ghost meaning = { λ g. inner_meaning (wide g.core) (S.meaning g.shelf) };
+
+    fn units(&self) -> u32 {
+        self.core.inner.config.volumes.as_slice().len() as u32
+    }
+
+    fn size(&self, unit: u32) -> u64 {
+        self.core.inner.config.volumes.as_slice()[unit as usize].blocks
+    }
+
+    /// Reads from one plex that is ACTIVE in the configuration. All logs are as they were.
+    fn read(&mut self, unit: u32, block: u64, into: &mut [u8]) -> Result<(), ShelfError>
+        requires { Fits (inner_meaning (wide self.old.core) (S.meaning self.old.shelf)) unit block (length into.old) }
+        ensures goes { Goes Nothing (inner_meaning (wide self.old.core) (S.meaning self.old.shelf)) (inner_meaning (wide self.new.core) (S.meaning self.new.shelf)) }
+        ensures ok { OnOk result (Read (inner_meaning (wide self.old.core) (S.meaning self.old.shelf)) unit block into.new) }
+        ensures down { (inner_meaning (wide self.new.core) (S.meaning self.new.shelf)).down ≡ (inner_meaning (wide self.old.core) (S.meaning self.old.shelf)).down }
+        ensures cause { Cause (inner_meaning (wide self.old.core) (S.meaning self.old.shelf)) (inner_meaning (wide self.new.core) (S.meaning self.new.shelf)) unit result }
+        ensures counts { CountsOnly unit result (inner_meaning (wide self.old.core) (S.meaning self.old.shelf)).faults (inner_meaning (wide self.new.core) (S.meaning self.new.shelf)).faults }
+        ensures names { Names (inner_meaning (wide self.old.core) (S.meaning self.old.shelf)).disks unit result }
+        ensures works { OnOk result (Works (inner_meaning (wide self.old.core) (S.meaning self.old.shelf)).disks unit) }
+        ensures disks { OnDisks (inner_meaning (wide self.old.core) (S.meaning self.old.shelf)).disks (inner_meaning (wide self.new.core) (S.meaning self.new.shelf)).disks Untouched }
+        ensures logs { self.new.logs.items ≡ self.old.logs.items }
+    {
+        read_whole(
+            &mut self.shelf,
+            &mut self.core,
+            &self.logs,
+            &self.alike,
+            self.stopped,
+            unit,
+            block,
+            into,
+        )
+    }
+
+    /// Writes to each plex that is ACTIVE. The regions of the run are durably marked first, and no others: a log of which the disk fails is lost by
+    /// a commit before a plex is written.
+    fn write(&mut self, unit: u32, block: u64, bytes: &[u8]) -> Result<(), ShelfError>
+        requires { Fits (inner_meaning (wide self.old.core) (S.meaning self.old.shelf)) unit block (length bytes.now) }
+        ensures goes { Goes (Written unit block bytes.now) (inner_meaning (wide self.old.core) (S.meaning self.old.shelf)) (inner_meaning (wide self.new.core) (S.meaning self.new.shelf)) }
+        ensures ok { OnOk result (Wrote unit block bytes.now (inner_meaning (wide self.old.core) (S.meaning self.old.shelf)) (inner_meaning (wide self.new.core) (S.meaning self.new.shelf))) }
+        ensures cause { Cause (inner_meaning (wide self.old.core) (S.meaning self.old.shelf)) (inner_meaning (wide self.new.core) (S.meaning self.new.shelf)) unit result }
+        ensures names { Names (inner_meaning (wide self.old.core) (S.meaning self.old.shelf)).disks unit result }
+        ensures works { OnOk result (Works (inner_meaning (wide self.old.core) (S.meaning self.old.shelf)).disks unit) }
+        ensures disks { OnDisks (inner_meaning (wide self.old.core) (S.meaning self.old.shelf)).disks (inner_meaning (wide self.new.core) (S.meaning self.new.shelf)).disks (λ o n. Calls (inner_meaning (wide self.old.core) (S.meaning self.old.shelf)) (DisksWrote unit block bytes.now) o n result) }
+        ensures marks { MarksVolume (wide self.old.core).config unit (first_region block) (last_region block (length bytes.now / 512)) self.old.logs.items self.new.logs.items }
+        ensures full { self.old.stopped ≡ false → self.new.stopped ≡ true → greatest ≤ self.old.core.inner.config.serial + 18 }
+        ensures trust { OnOk result (self.old.core.inner.committed ≡ true → self.new.core.inner.committed ≡ true) }
+        ensures agreed { IfErr result (λ e. self.old.core.inner.committed ≡ true → self.new.core.inner.agreed ≡ true) }
+    {
+        write_whole(
+            &mut self.shelf,
+            &mut self.core,
+            &mut self.logs,
+            &mut self.alike,
+            &mut self.stopped,
+            unit,
+            block,
+            bytes,
+        )
+    }
+
+    /// Flushes each plex that is ACTIVE, and takes all marks off the log of the volume where more than 64 regions were marked since.
+    fn flush(&mut self, unit: u32) -> Result<(), ShelfError>
+        requires { unit < (inner_meaning (wide self.old.core) (S.meaning self.old.shelf)).units }
+        ensures goes { Goes Nothing (inner_meaning (wide self.old.core) (S.meaning self.old.shelf)) (inner_meaning (wide self.new.core) (S.meaning self.new.shelf)) }
+        ensures ok { OnOk result (Flushed unit (inner_meaning (wide self.old.core) (S.meaning self.old.shelf)) (inner_meaning (wide self.new.core) (S.meaning self.new.shelf))) }
+        ensures cause { Cause (inner_meaning (wide self.old.core) (S.meaning self.old.shelf)) (inner_meaning (wide self.new.core) (S.meaning self.new.shelf)) unit result }
+        ensures names { Names (inner_meaning (wide self.old.core) (S.meaning self.old.shelf)).disks unit result }
+        ensures works { OnOk result (Works (inner_meaning (wide self.old.core) (S.meaning self.old.shelf)).disks unit) }
+        ensures disks { OnDisks (inner_meaning (wide self.old.core) (S.meaning self.old.shelf)).disks (inner_meaning (wide self.new.core) (S.meaning self.new.shelf)).disks (λ o n. Calls (inner_meaning (wide self.old.core) (S.meaning self.old.shelf)) (DisksFlushed unit) o n result) }
+        ensures marks { ClearsVolume (wide self.old.core).config unit self.old.logs.items self.new.logs.items }
+        ensures trust { OnOk result (self.old.core.inner.committed ≡ true → self.new.core.inner.committed ≡ true) }
+        ensures agreed { IfErr result (λ e. self.old.core.inner.committed ≡ true → self.new.core.inner.agreed ≡ true) }
+    {
+        flush_whole(
+            &mut self.shelf,
+            &mut self.core,
+            &mut self.logs,
+            &self.alike,
+            self.stopped,
+            unit,
+        )
+    }
+
+    fn faults(&self, unit: u32) -> u64 {
+        self.core.inner.faults[unit as usize]
+    }
+
+    fn is_down(&self) -> bool {
+        self.shelf.is_down()
+    }
+
+    ghost lawful = { λ g. group_lawful (wide g.core) (S.meaning g.shelf) (S.lawful g.shelf) g.stands.group.stands };
 }

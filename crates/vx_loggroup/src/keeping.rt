@@ -1,6 +1,6 @@
 // Calls of a group with logs that write no block of a volume or a log.
 ghost use Rattle.std.specs.Prelude.{◌≡◌, ℕ, Err, IfErr, None, OnOk, Some, false, length, true};
-ghost use Rattle.vx_disk.specs.Causes.{Cause};
+ghost use Rattle.vx_disk.specs.Causes.{Cause, CountsOnly};
 ghost use Rattle.vx_disk.specs.Shelf.{Fits, Goes, Nothing, Read};
 ghost use Rattle.vx_group.specs.Calls.{GroupNarrows};
 ghost use Rattle.vx_group.specs.Dets.{DetStops, det_refusal};
@@ -61,6 +61,7 @@ pub fn read_whole<S: Shelf>(
     ensures goes { Goes Nothing (inner_meaning (wide core.old) (S.meaning shelf.old)) (inner_meaning (wide core.new) (S.meaning shelf.new)) }
     ensures ok { OnOk result (Read (inner_meaning (wide core.old) (S.meaning shelf.old)) vol block into.new) }
     ensures down { (S.meaning shelf.new).down ≡ (S.meaning shelf.old).down }
+    ensures counts { CountsOnly vol result (inner_meaning (wide core.old) (S.meaning shelf.old)).faults (inner_meaning (wide core.new) (S.meaning shelf.new)).faults }
     ensures cause { Cause (inner_meaning (wide core.old) (S.meaning shelf.old)) (inner_meaning (wide core.new) (S.meaning shelf.new)) vol result }
 {
     // What is kept of the volumes stays as it is.

@@ -7,11 +7,13 @@
 
 mod alike;
 mod attaching;
+mod beginning;
 mod clearing;
 mod crashing;
 mod deporting;
 mod group;
 mod keeping;
+mod making;
 mod opening;
 mod whole;
 
@@ -20,5 +22,6 @@ pub use crashing::crash_whole;
 pub use deporting::deport_whole;
 pub use group::LoggedGroup;
 pub use keeping::{det_whole, read_whole};
+pub use making::make_whole;
 pub use opening::{Opened, open_logged};
 pub use whole::{flush_whole, write_whole};
