@@ -53,7 +53,7 @@ get_end : {A : Type 0} (xs : List A) (y : A) → slice_get (xs ++ (y ∷ [])) (l
 get_end [] y = refl
 get_end (x ∷ xs) y = get_end xs y
 
-long_one : {A : Type 0} (xs : List A) (y : A) → length (xs ++ (y ∷ [])) ≡ length xs + 1
+pub long_one : {A : Type 0} (xs : List A) (y : A) → length (xs ++ (y ∷ [])) ≡ length xs + 1
 long_one [] y = refl
 long_one (x ∷ xs) y = let more = long_one xs y in omega (arith, more)
 

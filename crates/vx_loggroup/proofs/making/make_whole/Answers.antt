@@ -49,11 +49,11 @@ begin_at-requires-clause-there g c =
 pub begin_at-requires-clause-same : goal.begin_at-requires-clause-same
 begin_at-requires-clause-same g c = made_alike c.args.core.now c.make_in.new.core (g.S.Shelf.meaning c.args.shelf.now) (g.S.Shelf.meaning c.make_in.new.shelf) c.requires.stands.group c.make_in.ensures.stays c.in-Ok-make_in.ensures.held c.in-Ok-make_in.vol (c.in-Ok-make_in.ensures.ends (no_refusal (make_refusal c.args.core.now.inner.config c.args.name.now c.args.want.now) (λ why is. ok_clash c.in-Ok-make_in.vol (Refused why) (sym c.in-Ok-make_in.is ∙ (c.make_in.ensures.refused why is).0)))).begins
 
-pub returns-in-Ok-clause-refused : goal.returns-in-Ok-clause-refused
-returns-in-Ok-clause-refused g c = λ why is. absurd (ok_clash c.in-Ok-make_in.vol (Refused why) (sym c.in-Ok-make_in.is ∙ (c.make_in.ensures.refused why is).0))
+pub returns-in-Ok-make_in-clause-refused : goal.returns-in-Ok-make_in-clause-refused
+returns-in-Ok-make_in-clause-refused g c = λ why is. absurd (ok_clash c.in-Ok-make_in.vol (Refused why) (sym c.in-Ok-make_in.is ∙ (c.make_in.ensures.refused why is).0))
 
-pub returns-in-Ok-clause-makes : goal.returns-in-Ok-clause-makes
-returns-in-Ok-clause-makes g c = λ may. record {
+pub returns-in-Ok-make_in-clause-makes : goal.returns-in-Ok-make_in-clause-makes
+returns-in-Ok-make_in-clause-makes g c = λ may. record {
   moment = c.make_in.new.shelf;
   core = c.make_in.new.core;
   made = c.in-Ok-make_in.ensures.ends may;
@@ -61,8 +61,8 @@ returns-in-Ok-clause-makes g c = λ may. record {
   begins = c.begin_at.ensures.begins;
 }
 
-pub returns-in-Ok-clause-agreed : goal.returns-in-Ok-clause-agreed
-returns-in-Ok-clause-agreed g c = λ is. c.begin_at.ensures.begins.agreed (c.in-Ok-make_in.ensures.trust is)
+pub returns-in-Ok-make_in-clause-agreed : goal.returns-in-Ok-make_in-clause-agreed
+returns-in-Ok-make_in-clause-agreed g c = λ is. c.begin_at.ensures.begins.agreed (c.in-Ok-make_in.ensures.trust is)
 
 pub returns-in-Err-make_in-clause-stands : goal.returns-in-Err-make_in-clause-stands
 returns-in-Err-make_in-clause-stands g c =
