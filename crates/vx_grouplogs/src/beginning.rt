@@ -24,13 +24,7 @@ use vx_maplog::log_of;
 /// memory; whatever is on its disk covers the plexes all the same.
 ///
 /// It writes blocks of the logs alone, also where the configuration holds the log as lost. It takes the memory of the map's blocks.
-pub fn begin_run<S: Shelf>(
-    alloc: Global,
-    logs: &mut Logs,
-    config: &Config,
-    vol: u32,
-    shelf: &mut S,
-)
+pub fn begin_run<S: Shelf>(alloc: Global, logs: &mut Logs, config: &Config, vol: u32, shelf: &mut S)
     requires checked { IsTrue (is_sound config.now) }
     requires some { 0 < blocks_of_is config.now.volumes vol }
     requires disks { DisksFit config.now.disks (S.meaning shelf.old) }

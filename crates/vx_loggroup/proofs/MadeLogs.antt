@@ -1,8 +1,7 @@
 -- What is kept of the volumes of a group with logs, behind a volume that is made, or not.
-use Rattle.std.proofs.Common.{◌≡◌, ◌⊎◌, ◌∙◌, inl, inr, ℕ, zero, suc, ◌+◌, ◌<◌, ◌≤◌, Bool, true, false, IsTrue, Option, Some, None, List, [], ◌∷◌, ◌++◌, length, refl, sym, ap, subst, arith}
+use Rattle.std.proofs.Common.{◌≡◌, ◌∙◌, inl, inr, ℕ, zero, suc, ◌+◌, ◌<◌, Bool, true, false, IsTrue, Option, Some, None, List, [], ◌∷◌, ◌++◌, length, refl, sym, ap, subst, arith}
 use Rattle.std.specs.Prelude.{Err, Ok, slice_get, take}
 use Rattle.std.proofs.lemmas.Option.{slice_get_within}
-use Rattle.vx_config.specs.Checks.{is_sound}
 use Rattle.vx_config.specs.declared.config.Config.{Config}
 use Rattle.vx_config.specs.declared.entry.VolumeEntry.{VolumeEntry}
 use Rattle.vx_config.specs.declared.entry.VolumeLog.TheVariants.{Drl}
@@ -27,7 +26,7 @@ use Rattle.vx_group.specs.Stands.{inner_meaning, volume_faults}
 use Rattle.vx_group.specs.declared.group_core.GroupCore.{GroupCore}
 use Rattle.vx_group.specs.declared.group_core.Held.{Held}
 use Rattle.vx_group.specs.declared.inner.Inner.{Inner}
-use Rattle.vx_group.proofs.HoldLemmas.{active_at_volumes, narrow_sound, wide_none, wide_shape}
+use Rattle.vx_group.proofs.HoldLemmas.{active_at_volumes, narrow_sound, wide_none}
 use Rattle.vx_group.proofs.Standing.{fit_of, sound_of}
 use Rattle.vx_group.proofs.TrustingLemmas.{places_Goes}
 use Rattle.vx_grouplogs.specs.Covering.{AllAlike}
@@ -35,7 +34,6 @@ use Rattle.vx_grouplogs.specs.On.{ReadsOne, VolumeOn}
 use Rattle.vx_grouplogs.proofs.LogPlaces.{log_public, logs_beside}
 use Rattle.vx_grouplogs.proofs.OnCalls.{on_gone}
 use Rattle.vx_grouplogs.proofs.SeenLemmas.{KeepsVolume, OnDrl, drl_logs, drl_same, on_seen}
-use Rattle.vx_logged.specs.Logged.{EachOn}
 use Rattle.vx_logged.proofs.StandLemmas.{inner_wide}
 use Rattle.vx_logimport.proofs.ReadLemmas.{each_more}
 use Rattle.vx_loggroup.specs.LoggedVolumes.{LoggedStands, VolumeStands, is_alike}

@@ -1,19 +1,17 @@
 -- A log that is trusted by a commit, beside what stands of the logs of all volumes.
 use Rattle.std.proofs.Common.{◌≡◌, ◌∙◌, ℕ, true, false, List, refl, sym, ap, subst, arith}
 use Rattle.vx_config.specs.Changes.{lost}
-use Rattle.vx_config.specs.Checks.{blocks_of, is_sound}
+use Rattle.vx_config.specs.Checks.{is_sound}
 use Rattle.vx_config.specs.declared.config.Config.{Config}
 use Rattle.vx_config.specs.declared.entry.VolumeLog.TheVariants.{Drl}
-use Rattle.vx_disk.specs.Shelf.{Goes, Meaning, Nothing}
+use Rattle.vx_disk.specs.Shelf.{Meaning, Nothing}
 use Rattle.vx_kept.specs.Groups.{OnSome}
 use Rattle.vx_kept.specs.LogRuns.{log_trusted, trusted_or}
 use Rattle.vx_kept.specs.PlexActs.{PlexActs}
 use Rattle.vx_logs.specs.declared.logs.Logs.{Logs}
 use Rattle.vx_volume.specs.Plexes.{DisksFit}
 use Rattle.vx_group.specs.Holding.{GroupStands, wide}
-use Rattle.vx_group.specs.Stands.{InnerStands, inner_meaning}
 use Rattle.vx_group.specs.declared.group_core.GroupCore.{GroupCore}
-use Rattle.vx_group.specs.declared.inner.Inner.{Inner}
 use Rattle.vx_group.proofs.Standing.{fit_of, sound_of}
 use Rattle.vx_group.proofs.TrustingLemmas.{trusting_active, trusting_others, trusting_shape}
 use Rattle.vx_grouplogs.specs.Covering.{AllAlike}

@@ -87,7 +87,11 @@ fn run_of(config: &Config, plex: usize) -> Option<Subdisk> {
 fn mark(disks: &mut MemShelf, run: Option<Subdisk>, block: u64, byte: u8) {
     if let Some(run) = run {
         let unit = u32::from(run.disk);
-        if unit < disks.units() && block < 256 && run.start < 700 && run.start + block < disks.size(unit) {
+        if unit < disks.units()
+            && block < 256
+            && run.start < 700
+            && run.start + block < disks.size(unit)
+        {
             match disks.write(unit, run.start + block, &[byte; 512]) {
                 Ok(()) => {}
                 Err(_) => {}
@@ -101,7 +105,11 @@ fn look(disks: &mut MemShelf, run: Option<Subdisk>, block: u64) -> Option<u8> {
     let mut bytes = [0; 512];
     if let Some(run) = run {
         let unit = u32::from(run.disk);
-        if unit < disks.units() && block < 256 && run.start < 700 && run.start + block < disks.size(unit) {
+        if unit < disks.units()
+            && block < 256
+            && run.start < 700
+            && run.start + block < disks.size(unit)
+        {
             return match disks.read(unit, run.start + block, &mut bytes) {
                 Ok(()) => Some(bytes[0]),
                 Err(_) => None,
@@ -159,6 +167,7 @@ fn again(alloc: Global, disks: MemShelf, run: Option<Subdisk>) -> ([Option<u8>; 
 
 // The bytes that were put there, and those of the first plex.
 const KEPT: Option<u8> = Some(0xee);
+
 const COPIED: Option<u8> = Some(0);
 
 #[test]

@@ -1,5 +1,5 @@
 -- `begin_at`: its clauses; what `begin_log` asks.
-use Rattle.std.proofs.Common.{refl, subst, sym, arith, length}
+use Rattle.std.proofs.Common.{refl, subst, arith}
 use Rattle.vx_disk.specs.Shelf.{Nothing}
 use Rattle.vx_group.specs.Holding.{wide}
 use Rattle.vx_group.specs.Stands.{inner_meaning}

@@ -27,12 +27,14 @@ pub returns-in-Err-clause-agreed : goal.returns-in-Err-clause-agreed
 returns-in-Err-clause-agreed g c = c.requires.stands.group.stands.trusts.both
 
 pub set_alike-requires : goal.set_alike-requires
-set_alike-requires g c = record { inside =
-    let few = c.make_in.ensures.stands.stands.few in
-    let same = (wide_shape c.make_in.new.core).volumes in
-    let long = ap length (c.in-Ok-make_in.ensures.ends (no_refusal (make_refusal c.args.core.now.inner.config c.args.name.now c.args.want.now) (λ why is. ok_clash c.in-Ok-make_in.vol (Refused why) (sym c.in-Ok-make_in.is ∙ (c.make_in.ensures.refused why is).0)))).volumes ∙ long_one c.args.core.now.inner.config.volumes (c.in-Ok-make_in.ensures.ends (no_refusal (make_refusal c.args.core.now.inner.config c.args.name.now c.args.want.now) (λ why is. ok_clash c.in-Ok-make_in.vol (Refused why) (sym c.in-Ok-make_in.is ∙ (c.make_in.ensures.refused why is).0)))).volume in
-    let number = (c.in-Ok-make_in.ensures.ends (no_refusal (make_refusal c.args.core.now.inner.config c.args.name.now c.args.want.now) (λ why is. ok_clash c.in-Ok-make_in.vol (Refused why) (sym c.in-Ok-make_in.is ∙ (c.make_in.ensures.refused why is).0)))).number in
-    omega (arith, few, same, long, number) }
+set_alike-requires g c = record {
+  inside =
+      let few = c.make_in.ensures.stands.stands.few in
+      let same = (wide_shape c.make_in.new.core).volumes in
+      let long = ap length (c.in-Ok-make_in.ensures.ends (no_refusal (make_refusal c.args.core.now.inner.config c.args.name.now c.args.want.now) (λ why is. ok_clash c.in-Ok-make_in.vol (Refused why) (sym c.in-Ok-make_in.is ∙ (c.make_in.ensures.refused why is).0)))).volumes ∙ long_one c.args.core.now.inner.config.volumes (c.in-Ok-make_in.ensures.ends (no_refusal (make_refusal c.args.core.now.inner.config c.args.name.now c.args.want.now) (λ why is. ok_clash c.in-Ok-make_in.vol (Refused why) (sym c.in-Ok-make_in.is ∙ (c.make_in.ensures.refused why is).0)))).volume in
+      let number = (c.in-Ok-make_in.ensures.ends (no_refusal (make_refusal c.args.core.now.inner.config c.args.name.now c.args.want.now) (λ why is. ok_clash c.in-Ok-make_in.vol (Refused why) (sym c.in-Ok-make_in.is ∙ (c.make_in.ensures.refused why is).0)))).number in
+      omega (arith, few, same, long, number);
+}
 
 pub begin_at-requires-clause-stands : goal.begin_at-requires-clause-stands
 begin_at-requires-clause-stands g c = subst (λ (ls : List Logs). LoggedStands c.make_in.new.core ls c.set_alike.new.alike c.args.stopped (g.S.Shelf.meaning c.make_in.new.shelf)) (sym c.in-Ok.ensures.items) (one_made c.args.core.now c.make_in.new.core c.args.logs.now.items c.args.alike.now c.set_alike.new.alike c.args.stopped (g.S.Shelf.meaning c.args.shelf.now) (g.S.Shelf.meaning c.make_in.new.shelf) (c.in-Ok-make_in.ensures.ends (no_refusal (make_refusal c.args.core.now.inner.config c.args.name.now c.args.want.now) (λ why is. ok_clash c.in-Ok-make_in.vol (Refused why) (sym c.in-Ok-make_in.is ∙ (c.make_in.ensures.refused why is).0)))).volume c.requires.stands c.make_in.ensures.stands c.make_in.ensures.stays c.make_in.ensures.beside c.in-Ok-make_in.ensures.held (c.in-Ok-make_in.ensures.ends (no_refusal (make_refusal c.args.core.now.inner.config c.args.name.now c.args.want.now) (λ why is. ok_clash c.in-Ok-make_in.vol (Refused why) (sym c.in-Ok-make_in.is ∙ (c.make_in.ensures.refused why is).0)))).volumes ((c.in-Ok-make_in.ensures.ends (no_refusal (make_refusal c.args.core.now.inner.config c.args.name.now c.args.want.now) (λ why is. ok_clash c.in-Ok-make_in.vol (Refused why) (sym c.in-Ok-make_in.is ∙ (c.make_in.ensures.refused why is).0)))).is_volume.lost Drl) (subst (λ (n : ℕ). AreZero c.make_in.new.core.inner.config n (g.S.Shelf.meaning c.make_in.new.shelf)) (c.in-Ok-make_in.ensures.ends (no_refusal (make_refusal c.args.core.now.inner.config c.args.name.now c.args.want.now) (λ why is. ok_clash c.in-Ok-make_in.vol (Refused why) (sym c.in-Ok-make_in.is ∙ (c.make_in.ensures.refused why is).0)))).number (c.in-Ok-make_in.ensures.ends (no_refusal (make_refusal c.args.core.now.inner.config c.args.name.now c.args.want.now) (λ why is. ok_clash c.in-Ok-make_in.vol (Refused why) (sym c.in-Ok-make_in.is ∙ (c.make_in.ensures.refused why is).0)))).begins) (g.met.S.Shelf.lawful c.make_in.new.shelf) (subst (λ (n : ℕ). is_alike c.set_alike.new.alike n ≡ true) (c.in-Ok-make_in.ensures.ends (no_refusal (make_refusal c.args.core.now.inner.config c.args.name.now c.args.want.now) (λ why is. ok_clash c.in-Ok-make_in.vol (Refused why) (sym c.in-Ok-make_in.is ∙ (c.make_in.ensures.refused why is).0)))).number c.set_alike.ensures.here) (subst (λ (n : ℕ). (w : ℕ) → (w ≡ n → ⊥) → is_alike c.set_alike.new.alike w ≡ is_alike c.args.alike.now w) (c.in-Ok-make_in.ensures.ends (no_refusal (make_refusal c.args.core.now.inner.config c.args.name.now c.args.want.now) (λ why is. ok_clash c.in-Ok-make_in.vol (Refused why) (sym c.in-Ok-make_in.is ∙ (c.make_in.ensures.refused why is).0)))).number c.set_alike.ensures.others))
