@@ -126,12 +126,13 @@ module _ (m m' : Meaning) (n : Node) (can : CanBegin n m) (since : CalledSince m
 
 module _ {R : Type 0} (g : Ghosts R) (rack : R) (n : Node) (site : ℕ) (can : CanBegin n (g.meaning rack)) where
   pub begun_done : (group : Group R g) → IsNewGroup site group.core.inner (g.meaning group.shelf) × (group.core.held ≡ None) → CalledSince (g.meaning rack) (g.meaning group.shelf) → BeginsGroup site n (g.meaning rack) (Up group) (Ok tt)
-  begun_done group it since =
-      ( first_note group.core.inner,
-        first (g.meaning rack) (g.meaning group.shelf) n can since site group.core it.0 it.1,
-        begun_up (g.meaning rack) (g.meaning group.shelf) n can since site group.core it.0 it.1,
-        (it.0.site_is, it.0.volumes, it.0.rvg),
-        trusted (g.meaning rack) (g.meaning group.shelf) n can since site group.core it.0 it.1 (HasFailed group.core.inner.config.disks) (λ some. some) )
+  begun_done group it since = (
+    first_note group.core.inner,
+    first (g.meaning rack) (g.meaning group.shelf) n can since site group.core it.0 it.1,
+    begun_up (g.meaning rack) (g.meaning group.shelf) n can since site group.core it.0 it.1,
+    (it.0.site_is, it.0.volumes, it.0.rvg),
+    trusted (g.meaning rack) (g.meaning group.shelf) n can since site group.core it.0 it.1 (HasFailed group.core.inner.config.disks) (λ some. some),
+  )
 
   begun_failed : (s : R) (why : No) → (HasSmall (g.meaning rack) × (why ≡ Size)) ⊎ DeviceCause (g.meaning rack) (g.meaning s) why → CalledSince (g.meaning rack) (g.meaning s) → BeginsGroup {g = g} site n (g.meaning rack) (Marked s) (Err (Refused why))
   begun_failed s why (inl small) since = absurd (never_small (g.meaning rack) (g.meaning s) n can since small.0)

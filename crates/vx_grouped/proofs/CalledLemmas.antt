@@ -61,19 +61,21 @@ down_by_stop T m m' (Some why) stop r is off stops refused never =
 module _ {R : Type 0} {g : Ghosts R} (T : Type 0) (n : Node) (note : GroupNode) (group new : Group R g) (up : GroupUp n note group.core (g.meaning group.shelf)) (since : CalledSince (g.meaning group.shelf) (g.meaning new.shelf)) where
   -- it is done
   pub called_done : (done : T) → (group.core.inner.committed ≡ true → new.core.inner.committed ≡ true) → CallLeaves n note new.core (g.meaning new.shelf) (Ok done) → SiteCalled n note (Up group) (Up new) (Ok done)
-  called_done done trust at =
-      ( note_done new.core.inner note,
-        done_settles new.core.inner note (λ tight none. trust (up.at.lies.committed tight none)),
-        up_with n note (note_done new.core.inner note) new.core (g.meaning new.shelf) up.noted (fuse_burned n.fuse (g.meaning group.shelf) (g.meaning new.shelf) since.unarmed up.fuse) at )
+  called_done done trust at = (
+    note_done new.core.inner note,
+    done_settles new.core.inner note (λ tight none. trust (up.at.lies.committed tight none)),
+    up_with n note (note_done new.core.inner note) new.core (g.meaning new.shelf) up.noted (fuse_burned n.fuse (g.meaning group.shelf) (g.meaning new.shelf) since.unarmed up.fuse) at,
+  )
 
   -- it was refused, over disks that are up
   pub called_up : (stop : Stop) → stops_down stop ≡ false → CallLeaves {T = T} n note new.core (g.meaning new.shelf) (Err stop)
       → ((disk : ℕ) → stop ≡ Refused (Device disk) → Rose ((g.meaning group.shelf).disk_faults disk) ((g.meaning new.shelf).disk_faults disk)) → SiteCalled {T = T} n note (Up group) (Up new) (Err stop)
-  called_up (Refused (Device disk)) off leaves rose =
-      ( note_refused leaves.0 new.core.inner note,
-        refused_unsettles new.core.inner note leaves.0,
-        up_with n note (note_refused leaves.0 new.core.inner note) new.core (g.meaning new.shelf) up.noted (fuse_burned n.fuse (g.meaning group.shelf) (g.meaning new.shelf) since.unarmed up.fuse) leaves.1,
-        rose disk refl )
+  called_up (Refused (Device disk)) off leaves rose = (
+    note_refused leaves.0 new.core.inner note,
+    refused_unsettles new.core.inner note leaves.0,
+    up_with n note (note_refused leaves.0 new.core.inner note) new.core (g.meaning new.shelf) up.noted (fuse_burned n.fuse (g.meaning group.shelf) (g.meaning new.shelf) since.unarmed up.fuse) leaves.1,
+    rose disk refl,
+  )
   called_up (Refused IsOff) off leaves rose = cc
   called_up (Refused other) off leaves rose = up_burned n note new.core (g.meaning new.shelf) up.noted (fuse_burned n.fuse (g.meaning group.shelf) (g.meaning new.shelf) since.unarmed up.fuse) leaves
   called_up OutOfMemory off leaves rose = absurd leaves
@@ -83,10 +85,11 @@ module _ {R : Type 0} {g : Ghosts R} (T : Type 0) (n : Node) (note : GroupNode) 
     -- the fuse ran out in it
     pub called_cut : (stop : Stop) → stops_down stop ≡ true → CallLeaves {T = T} n note new.core (g.meaning new.shelf) (Err stop) → SiteCalled {T = T} n note (Up group) (Down rack) (Err stop)
     called_cut (Refused (Device disk)) off leaves = cc
-    called_cut (Refused IsOff) off leaves =
-        ( note_refused leaves.0 new.core.inner note,
-          refused_unsettles new.core.inner note leaves.0,
-          down_with n note (note_refused leaves.0 new.core.inner note) (g.meaning rack) up.noted (record { down = stopped.down; unarmed = stopped.unarmed }) (away n (note_refused leaves.0 new.core.inner note) leaves.1.lies),
-          fell_fused n.fuse (g.meaning group.shelf) (g.meaning new.shelf) up.fuse up.at.up since.safe leaves.1.down )
+    called_cut (Refused IsOff) off leaves = (
+      note_refused leaves.0 new.core.inner note,
+      refused_unsettles new.core.inner note leaves.0,
+      down_with n note (note_refused leaves.0 new.core.inner note) (g.meaning rack) up.noted (record { down = stopped.down; unarmed = stopped.unarmed }) (away n (note_refused leaves.0 new.core.inner note) leaves.1.lies),
+      fell_fused n.fuse (g.meaning group.shelf) (g.meaning new.shelf) up.fuse up.at.up since.safe leaves.1.down,
+    )
     called_cut (Refused other) off leaves = cc
     called_cut OutOfMemory off leaves = cc

@@ -43,7 +43,8 @@ deport_rose m m' stop (inr it) disk is = subst (λ (x : Stop). DetStops {T = Uni
 
 module _ {R : Type 0} {g : Ghosts R} (n : Node) (note : GroupNode) (group : Group R g) (rack : R) (up : GroupUp n note group.core (g.meaning group.shelf)) (since : CalledSince (g.meaning group.shelf) (g.meaning rack)) where
   pub deported_done : (IsTrue (g.meaning rack).down → ⊥) → (x : Config) × IsDeportedAt (record n { state = IsDeported }) (note_deported x group.core.inner note) (g.meaning rack) → SiteDeported n note (Up group) (Deported rack) (Ok tt)
-  deported_done still leaves =
-      ( note_deported leaves.0 group.core.inner note,
-        deport_settles leaves.0 group.core.inner note up.at.lies.committed,
-        away_with n note (note_deported leaves.0 group.core.inner note) (g.meaning rack) up.noted still (fuse_burned n.fuse (g.meaning group.shelf) (g.meaning rack) since.unarmed up.fuse) leaves.1 )
+  deported_done still leaves = (
+    note_deported leaves.0 group.core.inner note,
+    deport_settles leaves.0 group.core.inner note up.at.lies.committed,
+    away_with n note (note_deported leaves.0 group.core.inner note) (g.meaning rack) up.noted still (fuse_burned n.fuse (g.meaning group.shelf) (g.meaning rack) since.unarmed up.fuse) leaves.1,
+  )

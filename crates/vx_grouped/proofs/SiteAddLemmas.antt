@@ -110,10 +110,11 @@ module _ {R : Type 0} {g : Ghosts R} (n : Node) (note : GroupNode) (name : List 
   fuse = fuse_burned n.fuse (g.meaning group.shelf) (g.meaning new.shelf) since.unarmed up.fuse
 
   pub made_done : (vol : ℕ) → MakesVolume name want group.core (g.meaning group.shelf) new.core (g.meaning new.shelf) (Ok vol) → SiteAdded n note want (Up group) (Up new) (Ok vol)
-  made_done vol works =
-      ( note_done new.core.inner note,
-        done_settles new.core.inner note (λ tight none. works.trust (up.at.lies.committed tight none)),
-        up_with n note (note_added vol want.blocks (note_done new.core.inner note)) new.core (g.meaning new.shelf) up.noted fuse (works.leaves n note up.at) )
+  made_done vol works = (
+    note_done new.core.inner note,
+    done_settles new.core.inner note (λ tight none. works.trust (up.at.lies.committed tight none)),
+    up_with n note (note_added vol want.blocks (note_done new.core.inner note)) new.core (g.meaning new.shelf) up.noted fuse (works.leaves n note up.at),
+  )
 
   pub made_up : (stop : Stop) → stops_down stop ≡ false → MakesVolume name want group.core (g.meaning group.shelf) new.core (g.meaning new.shelf) (Err stop) → SiteAdded n note want (Up group) (Up new) (Err stop)
   made_up (Refused why) off works =

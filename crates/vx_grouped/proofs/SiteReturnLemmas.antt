@@ -207,18 +207,20 @@ module _ {R : Type 0} (g : Ghosts R) (n : Node) (note : GroupNode) (rack first :
   pub recovered_up : (g.meaning first).armed ≡ (g.meaning rack).armed → (group : Group R g) → CalledSince (g.meaning first) (g.meaning group.shelf)
       → ((last : Config) → AwayLies n note last (g.meaning first) → GroupReturns n note last (g.meaning first) group.core (g.meaning group.shelf)) → SiteRecovers {g = g} n note (Down rack) (Up group) (Ok tt)
   recovered_up armed group since back =
-      let it = back down.away.last lies in
-      ( next n note down.away.last (g.meaning rack) (g.meaning first) revived.contents.tells lies group.core (g.meaning group.shelf) it,
+      let it = back down.away.last lies in (
+        next n note down.away.last (g.meaning rack) (g.meaning first) revived.contents.tells lies group.core (g.meaning group.shelf) it,
         returns_note n note down.away.last (g.meaning rack) (g.meaning first) revived.contents.tells lies group.core (g.meaning group.shelf) it,
-        returns_up n note down.away.last (g.meaning rack) (g.meaning first) revived.contents.tells lies group.core (g.meaning group.shelf) it down.noted (no_fuse n.fuse (g.meaning group.shelf) down.unfused (since.unarmed (armed ∙ down.stopped.unarmed))) )
+        returns_up n note down.away.last (g.meaning rack) (g.meaning first) revived.contents.tells lies group.core (g.meaning group.shelf) it down.noted (no_fuse n.fuse (g.meaning group.shelf) down.unfused (since.unarmed (armed ∙ down.stopped.unarmed))),
+      )
 
   pub recovered_not : (middle new : R) (stop : Stop) → Stopped (g.meaning middle) (g.meaning new) → CanImport (g.meaning new) → ImportStops (g.meaning first) (g.meaning middle) stop
       → ((last : Config) → AwayLies n note last (g.meaning first) → ImportLeft n note last (g.meaning first) (g.meaning middle)) → SiteRecovers {g = g} n note (Down rack) (Down new) (Err stop)
-  recovered_not middle new stop fell can stops left =
-      ( record { down = fell.down; unarmed = fell.unarmed },
-        left_again n note (g.meaning first) (g.meaning middle) (g.meaning new) fell.units fell.size fell.leaves can left (g.meaning rack) revived,
-        record { first = first; middle = middle; revived = revived; stops = stops; crashed = fell },
-        blames_disk (g.meaning rack) (g.meaning first) (g.meaning middle) (g.meaning new) revived.counts.disk_faults fell.counts.disk_faults stop stops )
+  recovered_not middle new stop fell can stops left = (
+    record { down = fell.down; unarmed = fell.unarmed },
+    left_again n note (g.meaning first) (g.meaning middle) (g.meaning new) fell.units fell.size fell.leaves can left (g.meaning rack) revived,
+    record { first = first; middle = middle; revived = revived; stops = stops; crashed = fell },
+    blames_disk (g.meaning rack) (g.meaning first) (g.meaning middle) (g.meaning new) revived.counts.disk_faults fell.counts.disk_faults stop stops,
+  )
 
 -- ---- a site that was deported
 
@@ -235,11 +237,12 @@ module _ {R : Type 0} (g : Ghosts R) (n : Node) (note : GroupNode) (rack : R) (a
   pub imported_up : (group : Group R g) → CalledSince (g.meaning rack) (g.meaning group.shelf)
       → ((last : Config) → AwayLies n note last (g.meaning rack) → GroupReturns n note last (g.meaning rack) group.core (g.meaning group.shelf)) → SiteImports {g = g} n note (Deported rack) (Up group) (Ok tt)
   imported_up group since back =
-      let it = back away.away.last away.away.lies in
-      ( next n note away.away.last (g.meaning rack) (g.meaning rack) refl away.away.lies group.core (g.meaning group.shelf) it,
+      let it = back away.away.last away.away.lies in (
+        next n note away.away.last (g.meaning rack) (g.meaning rack) refl away.away.lies group.core (g.meaning group.shelf) it,
         returns_note n note away.away.last (g.meaning rack) (g.meaning rack) refl away.away.lies group.core (g.meaning group.shelf) it,
         returns_up n note away.away.last (g.meaning rack) (g.meaning rack) refl away.away.lies group.core (g.meaning group.shelf) it away.noted
-        (fuse_burned n.fuse (g.meaning rack) (g.meaning group.shelf) since.unarmed away.fuse) )
+            (fuse_burned n.fuse (g.meaning rack) (g.meaning group.shelf) since.unarmed away.fuse),
+      )
 
   away_by : (new : R) (stop : Stop) → stops_down stop ≡ false → StaysAway n note (g.meaning rack) (g.meaning new) → BlamesDisk stop (g.meaning rack) (g.meaning new) → SiteImports {g = g} n note (Deported rack) (Deported new) (Err stop)
   away_by new stop off stays blame = subst (λ (b : Bool). ImportRefused {g = g} b n note (Deported rack) (Deported new) stop) (sym off) (stays, blame)
@@ -280,7 +283,8 @@ module _ {R : Type 0} (g : Ghosts R) (n : Node) (note : GroupNode) (rack : R) (a
     -- the fuse ran out in it
     pub imported_down : stops_down stop ≡ true → CalledSince (g.meaning rack) (g.meaning middle) → SiteImports {g = g} n note (Deported rack) (Down fallen) (Err stop)
     imported_down off since =
-        subst (λ (b : Bool). ImportRefused {g = g} b n note (Deported rack) (Down fallen) stop) (sym off)
-        ( record { down = fell.down; unarmed = fell.unarmed },
+        subst (λ (b : Bool). ImportRefused {g = g} b n note (Deported rack) (Down fallen) stop) (sym off) (
+          record { down = fell.down; unarmed = fell.unarmed },
           left_now n note (g.meaning rack) (g.meaning middle) (g.meaning fallen) fell.units fell.size fell.leaves can left,
-          fell_fused n.fuse (g.meaning rack) (g.meaning middle) away.fuse away.up since.safe (down_of (g.meaning rack) (g.meaning middle) stop off stops) )
+          fell_fused n.fuse (g.meaning rack) (g.meaning middle) away.fuse away.up since.safe (down_of (g.meaning rack) (g.meaning middle) stop off stops),
+        )

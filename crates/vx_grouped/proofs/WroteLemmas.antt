@@ -36,17 +36,19 @@ module _ {R : Type 0} {g : Ghosts R} (n : Node) (note : GroupNode) (v b : ℕ) (
 
   -- a write that is done
   pub wrote_done : PlainWrites v b bytes group.core (g.meaning group.shelf) new.core (g.meaning new.shelf) (Ok tt) → PlainWrote n note own (Up group) (Up new) (Ok tt)
-  wrote_done it =
-      ( note_done new.core.inner note,
-        done_settles new.core.inner note (λ tight none. it.trust (up.at.lies.committed tight none)),
-        up_with n note (note_write own (note_done new.core.inner note)) new.core (g.meaning new.shelf) up.noted (fuse_burned n.fuse (g.meaning group.shelf) (g.meaning new.shelf) since.unarmed up.fuse) (it.leaves n note up.at) )
+  wrote_done it = (
+    note_done new.core.inner note,
+    done_settles new.core.inner note (λ tight none. it.trust (up.at.lies.committed tight none)),
+    up_with n note (note_write own (note_done new.core.inner note)) new.core (g.meaning new.shelf) up.noted (fuse_burned n.fuse (g.meaning group.shelf) (g.meaning new.shelf) since.unarmed up.fuse) (it.leaves n note up.at),
+  )
 
   up_by : (no : No) → answers_down no ≡ false → WriteLeaves {T = Unit {0}} n note own new.core (g.meaning new.shelf) (Err no) → DeviceCause (g.meaning group.shelf) (g.meaning new.shelf) no → PlainWrote n note own (Up group) (Up new) (Err no)
-  up_by (Device disk) off leaves cause =
-      ( note_refused leaves.0 new.core.inner note,
-        refused_unsettles new.core.inner note leaves.0,
-        up_with n note (note_doubt own (note_refused leaves.0 new.core.inner note)) new.core (g.meaning new.shelf) up.noted (fuse_burned n.fuse (g.meaning group.shelf) (g.meaning new.shelf) since.unarmed up.fuse) leaves.1,
-        cause )
+  up_by (Device disk) off leaves cause = (
+    note_refused leaves.0 new.core.inner note,
+    refused_unsettles new.core.inner note leaves.0,
+    up_with n note (note_doubt own (note_refused leaves.0 new.core.inner note)) new.core (g.meaning new.shelf) up.noted (fuse_burned n.fuse (g.meaning group.shelf) (g.meaning new.shelf) since.unarmed up.fuse) leaves.1,
+    cause,
+  )
   up_by IsOff off leaves cause = cc
   up_by other off leaves cause = absurd leaves
 
@@ -58,11 +60,12 @@ module _ {R : Type 0} {g : Ghosts R} (n : Node) (note : GroupNode) (v b : ℕ) (
       (away : (k : Node) (next : GroupNode) → GroupLies k next new.core (g.meaning new.shelf) → IsAwayAt (record k { state = IsDown }) next (g.meaning rack)) where
     cut_by : (no : No) → answers_down no ≡ true → WriteLeaves {T = Unit {0}} n note own new.core (g.meaning new.shelf) (Err no) → PlainWrote n note own (Up group) (Down rack) (Err no)
     cut_by (Device disk) off leaves = cc
-    cut_by IsOff off leaves =
-        ( note_refused leaves.0 new.core.inner note,
-          refused_unsettles new.core.inner note leaves.0,
-          down_with n note (note_cut own (note_refused leaves.0 new.core.inner note)) (g.meaning rack) up.noted (record { down = stopped.down; unarmed = stopped.unarmed }) (away n (note_cut own (note_refused leaves.0 new.core.inner note)) leaves.1.lies),
-          fell_fused n.fuse (g.meaning group.shelf) (g.meaning new.shelf) up.fuse up.at.up since.safe leaves.1.down )
+    cut_by IsOff off leaves = (
+      note_refused leaves.0 new.core.inner note,
+      refused_unsettles new.core.inner note leaves.0,
+      down_with n note (note_cut own (note_refused leaves.0 new.core.inner note)) (g.meaning rack) up.noted (record { down = stopped.down; unarmed = stopped.unarmed }) (away n (note_cut own (note_refused leaves.0 new.core.inner note)) leaves.1.lies),
+      fell_fused n.fuse (g.meaning group.shelf) (g.meaning new.shelf) up.fuse up.at.up since.safe leaves.1.down,
+    )
     cut_by other off leaves = cc
 
     -- one in which the fuse ran out

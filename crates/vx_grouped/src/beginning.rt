@@ -16,11 +16,7 @@ use vx_model::limits::MOST_DISKS;
 use vx_model::{No, Stop};
 use vx_watched::{Begun, Watched};
 
-fn create_from<B: Begun, R: Rack>(
-    alloc: Global,
-    rack: R,
-    site: u32,
-) -> Result<Group<R>, (R, Stop)>
+fn create_from<B: Begun, R: Rack>(alloc: Global, rack: R, site: u32) -> Result<Group<R>, (R, Stop)>
     requires some { 0 < (R.meaning rack).units }
     requires few { (R.meaning rack).units ≤ MOST_DISKS }
     requires since { CalledSince B.first (R.meaning rack) }
@@ -55,11 +51,7 @@ fn create_watched<R: Rack>(alloc: Global, rack: R, site: u32) -> Result<Group<R>
 ///
 /// Answers 7 only where the count of the disk that it names rose, and may run out of memory. Nothing else is answered of 1 to 8 disks of 1,024
 /// blocks and more.
-pub fn begin_group<R: Rack>(
-    alloc: Global,
-    rack: R,
-    site: u32,
-) -> (GroupSite<R>, Result<(), Stop>)
+pub fn begin_group<R: Rack>(alloc: Global, rack: R, site: u32) -> (GroupSite<R>, Result<(), Stop>)
     ensures begun { (n : Node) → CanBegin n (R.meaning rack) → BeginsGroup site n (R.meaning rack) result.0 result.1 }
     ensures since { CalledSince (R.meaning rack) (site_disks result.0) }
 {

@@ -48,10 +48,8 @@ impl<R: Rack> GroupSite<R> {
     {
         match self {
             GroupSite::Up(group) => Some(group.config()),
-            GroupSite::Deported(_)
-            | GroupSite::Down(_)
-            | GroupSite::Marked(_)
-            | GroupSite::Gone => None,
+            GroupSite::Deported(_) | GroupSite::Down(_) | GroupSite::Marked(_) | GroupSite::Gone =>
+                None,
         }
     }
 

@@ -13,6 +13,7 @@ mod leaving;
 mod making;
 mod plain;
 mod plexes;
+mod site_keeping;
 mod site_leaving;
 mod site_making;
 mod site_plain;

@@ -82,11 +82,7 @@ pub fn read_watched<R: Rack>(
     read_from::<Brand, R>(group, vol, block, into)
 }
 
-fn det_from<B: Begun, R: Rack>(
-    group: Group<R>,
-    vol: u32,
-    plex: u32,
-) -> (Group<R>, Result<(), Stop>)
+fn det_from<B: Begun, R: Rack>(group: Group<R>, vol: u32, plex: u32) -> (Group<R>, Result<(), Stop>)
     requires up { IsTrue (R.meaning group.shelf).down → ⊥ }
     requires since { CalledSince B.first (R.meaning group.shelf) }
     ensures works { PlexDets vol plex group.core (R.meaning group.shelf) result.0.core (R.meaning result.0.shelf) result.1 }

@@ -15,7 +15,7 @@ returns-then-is_down_no-clause-wrote g c = λ n note up fits.
 pub returns-then-is_down_no-clause-since : goal.returns-then-is_down_no-clause-since
 returns-then-is_down_no-clause-since g c =
     let works = subst (λ r. PlainWrites c.args.vol c.args.block c.args.bytes.now c.args.group.core (g.R.Shelf.meaning c.args.group.shelf) c.write_watched-group.result.0.core (g.R.Shelf.meaning c.write_watched-group.result.0.shelf) r) c.in-Err.is
-        c.write_watched-group.ensures.works in
+    c.write_watched-group.ensures.works in
     since_stop (g.R.Shelf.meaning c.args.group.shelf) (g.R.Shelf.meaning c.write_watched-group.result.0.shelf) (g.R.Shelf.meaning c.crash_group.result) (Crashed (g.R.Shelf.meaning c.write_watched-group.result.0.shelf).size 0xffff_ffff_ffff_ffff)
     c.write_watched-group.ensures.since
     (down_by (g.R.Shelf.meaning c.args.group.shelf) (g.R.Shelf.meaning c.write_watched-group.result.0.shelf) c.in-Err.no (sym c.is_down_no.ensures ∙ c.if-is_down_no.true) works.cause) c.crash_group.ensures.stopped c.crash_group.ensures.disks
