@@ -217,7 +217,7 @@ fn an_import_takes_marks_off(rt: HostRuntime) -> Result<(), Fail> {
     Ok(())
 }
 
-// A group whose log was lost in a write, as one of these calls failed.
+// A group with a block written, where its log is lost then, as one of these calls failed.
 fn lost_by(alloc: Global, fails: &[u64]) -> Result<Option<LoggedGroup<Disks>>, OutOfMemory> {
     let mut group = group_on(alloc, fails)?;
     if put(&mut group, 70, 0x11) && is_lost(group.config()) == Some(true) {
@@ -227,16 +227,33 @@ fn lost_by(alloc: Global, fails: &[u64]) -> Result<Option<LoggedGroup<Disks>>, O
 }
 
 #[test]
-fn a_lost_log_is_not_used_again(rt: HostRuntime) -> Result<(), Fail> {
+fn a_log_that_does_not_begin_stays_lost(rt: HostRuntime) -> Result<(), Fail> {
     let alloc = rt.alloc();
-    let mut lost = 0;
-    for call in 0..120 {
-        if let Ok(Some(group)) = lost_by(alloc, &[call]) {
-            let (disks, run) = crashed(group);
-            assert_eq!(rt; again(alloc, disks, run), ([COPIED; 6], Some(true)));
-            lost += 1;
+    // The writing of its blocks, the flush behind it, and their reading.
+    for call in 86..89 {
+        match lost_by(alloc, &[call])? {
+            Some(group) => {
+                let (disks, run) = crashed(group);
+                assert_eq!(rt; again(alloc, disks, run), ([COPIED; 6], Some(true)));
+            }
+            None => assert!(rt; false),
         }
     }
-    assert_eq!(rt; lost, 0);
+    Ok(())
+}
+
+#[test]
+fn a_log_that_a_write_loses_is_not_used(rt: HostRuntime) -> Result<(), Fail> {
+    let alloc = rt.alloc();
+    // The writing of the mark, and the flush behind it.
+    for call in 107..109 {
+        match lost_by(alloc, &[call])? {
+            Some(group) => {
+                let (disks, run) = crashed(group);
+                assert_eq!(rt; again(alloc, disks, run), ([COPIED; 6], Some(true)));
+            }
+            None => assert!(rt; false),
+        }
+    }
     Ok(())
 }
