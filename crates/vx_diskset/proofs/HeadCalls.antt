@@ -1,10 +1,11 @@
 -- The calls of a header on the disks of a site: how many, and what they leave of the fuse.
-use Rattle.std.proofs.Common.{◌≡◌, ◌∙◌, ℕ, sym, subst, refl, true, false, IsTrue}
+use Rattle.std.proofs.Common.{◌≡◌, ◌∙◌, ◌<◌, ℕ, ap, arith, sym, subst, refl, true, false, IsTrue}
 use Rattle.std.specs.Prelude.{Option, Some, None, Result, Ok, Err, OnOk, IsFalse}
 use Rattle.vx_model.specs.declared.no.No.{No}
 use Rattle.vx_model.specs.declared.no.No.TheVariants.{Down as IsDown}
+use Rattle.vx_model.specs.declared.units.Units.{Units}
 use Rattle.vx_disk.specs.Burns.{FallsShort, FewerLeft, MakesCalls}
-use Rattle.vx_disk.specs.Causes.{OnDisks, WithDisks}
+use Rattle.vx_disk.specs.Causes.{OnDisks, WithDisks, Works}
 use Rattle.vx_disk.specs.Disks.{Disks}
 use Rattle.vx_disk.specs.Shelf.{Meaning}
 use Rattle.vx_disk.specs.declared.shelf.Shelf.{Ghosts}
@@ -15,11 +16,12 @@ use Rattle.vx_secondary.specs.declared.secondary.Secondary.{Secondary}
 use Rattle.vx_events.specs.declared.said.Said.{Said}
 use Rattle.vx_events.specs.declared.said.Said.TheVariants.{Done, Refused}
 use Rattle.vx_history.specs.World.{Node}
-use Rattle.vx_diskset.specs.Asked.{HeadUnder, LeavesFuse, MayCrash, ShortBy, TakesBy, disks_told, size_in}
+use Rattle.vx_diskset.specs.Asked.{HeadUnder, LeavesFuse, MayCrash, ShortBy, TakesBy, WorksBy, disks_told, size_in}
 use Rattle.vx_diskset.specs.Burning.{NoMore, OffIf}
 use Rattle.vx_diskset.specs.DiskSets.{is_off}
 use Rattle.vx_diskset.specs.Holds.{KeptBeside}
 use Rattle.vx_diskset.specs.Keeps.{done_by}
+use Rattle.vx_diskset.specs.Layouts.{units_of}
 use Rattle.vx_diskset.specs.Received.{reached_by}
 use Rattle.vx_diskset.specs.Stands.{IsReceiverAt, IsUpAt, SiteStands}
 use Rattle.vx_diskset.specs.declared.receivers.Reached.{Reached}
@@ -44,15 +46,24 @@ short_none : (k : ℕ) (why : No) (o : Option Disks) → is_off why ≡ false �
 short_none k IsDown o on = absurd (let e : true ≡ false = on in cc)
 short_none k other o on = tt
 
+works_by : (k : ℕ) (r : Result (Unit {0}) No) (o : Option Disks) (unit : ℕ) → unit ≡ 0 → OnOk r (Works o unit) → WorksBy k (done_by r) o
+works_by k (Ok done) o unit is works = λ some. subst (λ (u : ℕ). Works o u) is works
+works_by k (Err why) o unit is works = tt
+
 module _ {R : Type 0} {g : Ghosts R} where
+  -- the log of a raw set lies on its first disk
+  pub log_place : (rvg : Rvg R g) (n : Node) → rvg.core.units ≡ units_of n → rvg.core.log.unit ≡ 0
+  log_place rvg n units = rvg.sound.log_unit ∙ ap (λ (u : Units). u.srl) units
+
   -- a call on a group that is up
-  pub head_called : (k : ℕ) (r : Result (Unit {0}) No) (old new : Rvg R g) → IsFalse (g.meaning old.shelf).down → OffIf r (g.meaning new.shelf).down → OnOk r (MakesCalls k (g.meaning old.shelf) (g.meaning new.shelf))
-      → FallsShort k (g.meaning old.shelf) (g.meaning new.shelf) → Spends (g.meaning old.shelf) (g.meaning new.shelf) → HeadUnder k (done_by r) (Up old) (Up new)
-  head_called k r old new up off calls short spends =
+  pub head_called : (k : ℕ) (r : Result (Unit {0}) No) (old new : Rvg R g) → old.core.log.unit ≡ 0 → IsFalse (g.meaning old.shelf).down → OffIf r (g.meaning new.shelf).down → OnOk r (MakesCalls k (g.meaning old.shelf) (g.meaning new.shelf))
+      → FallsShort k (g.meaning old.shelf) (g.meaning new.shelf) → OnOk r (Works (g.meaning old.shelf).disks old.core.log.unit) → Spends (g.meaning old.shelf) (g.meaning new.shelf) → HeadUnder k (done_by r) (Up old) (Up new)
+  head_called k r old new place up off calls short works spends =
       record {
         burns = done_called r old new up off spends;
         takes = takes_by k r (g.meaning old.shelf) (g.meaning new.shelf) calls;
         short = short_by k r (g.meaning old.shelf) (g.meaning new.shelf) up off short;
+        works = works_by k r (g.meaning old.shelf).disks old.core.log.unit place works;
       }
 
   -- of a site that is up
@@ -64,11 +75,11 @@ module _ {R : Type 0} {g : Ghosts R} where
 
   -- of a site that receives
   pub head_received : (k : ℕ) (said : Said) (beside : KeptBeside) (n : Node) (e : DiskSet R g) (s s' : Secondary R g) → e ≡ Receives s → SiteStands beside n e
-      → (IsFalse (g.meaning s.rvg.shelf).down → HeadUnder k said (Up s.rvg) (Up s'.rvg)) → HeadUnder k said e (Receives s')
+      → (IsReceiverAt beside n s.rvg.core s.waiting (g.meaning s.rvg.shelf) → HeadUnder k said (Up s.rvg) (Up s'.rvg)) → HeadUnder k said e (Receives s')
   head_received k said beside n e s s' is stands headed =
       let at : IsReceiverAt beside n s.rvg.core s.waiting (g.meaning s.rvg.shelf) = subst (λ (x : DiskSet R g). SiteStands beside n x) is stands in
-      let here = headed at.up in
-      subst (λ (x : DiskSet R g). HeadUnder k said x (Receives s')) (sym is) (record { burns = record { told = here.burns.told; sizes = here.burns.sizes }; takes = here.takes; short = here.short })
+      let here = headed at in
+      subst (λ (x : DiskSet R g). HeadUnder k said x (Receives s')) (sym is) (record { burns = record { told = here.burns.told; sizes = here.burns.sizes }; takes = here.takes; short = here.short; works = here.works })
 
   -- one in which the fuse ran out, and behind which the disks crashed
   pub head_cut : (k : ℕ) (why : No) (pick : ℕ) (a b c : DiskSet R g) → is_off why ≡ true → HeadUnder k (Refused why) a b → MayCrash pick b c → HeadUnder k (Refused why) a c
@@ -76,11 +87,12 @@ module _ {R : Type 0} {g : Ghosts R} where
     burns = called_cut NoMore why pick a b c off one.burns two;
     takes = tt;
     short = one.short;
+    works = tt;
   }
 
   -- one that did nothing, and was not answered 6
   pub head_still : (k : ℕ) (why : No) (e : DiskSet R g) → is_off why ≡ false → HeadUnder k (Refused why) e e
-  head_still k why e on = record { burns = called_still NoMore why e on; takes = tt; short = short_none k why (disks_told e) on }
+  head_still k why e on = record { burns = called_still NoMore why e on; takes = tt; short = short_none k why (disks_told e) on; works = tt }
 
   none_taken : (e : DiskSet R g) → WithDisks (disks_told e) (disks_told e) (λ o n. FewerLeft 0 o.fuse n.fuse)
   none_taken (Bare rack) = (no_calls (g.meaning rack) 0 refl).fuses
@@ -92,7 +104,7 @@ module _ {R : Type 0} {g : Ghosts R} where
 
   -- no call
   pub head_none : (e : DiskSet R g) → HeadUnder 0 Done e e
-  head_none e = record { burns = record { told = still_on (disks_told e); sizes = λ u. refl }; takes = none_taken e; short = tt }
+  head_none e = record { burns = record { told = still_on (disks_told e); sizes = λ u. refl }; takes = none_taken e; short = tt; works = λ some. absurd (omega (arith, some)) }
 
   -- an apply of what waits
   pub reached_called : (r : Result Reached No) (old new : Rvg R g) → IsFalse (g.meaning old.shelf).down → OffIf r (g.meaning new.shelf).down → Spends (g.meaning old.shelf) (g.meaning new.shelf) → LeavesFuse NoMore (reached_by r) (Up old) (Up new)

@@ -1,6 +1,6 @@
 -- What a state that is made durable leaves of a site that is up.
 use Rattle.std.proofs.Common.{◌≡◌, ◌∙◌, ◌⊎◌, inl, inr, ⊎_elim, ◌+◌, ◌-◌, ◌≤◌, ℕ, Bool, true, false, List, length, ap, sym, subst, refl, arith, IsTrue}
-use Rattle.std.specs.Prelude.{IsFalse, Option, Some, None, Result, Ok, Err, OnOk, IsSome, leb, slice_get, if◌then◌else◌}
+use Rattle.std.specs.Prelude.{IsFalse, Option, Some, None, Result, Ok, Err, IfErr, OnOk, IsSome, leb, slice_get, if◌then◌else◌}
 use Rattle.std.proofs.lemmas.Bool.Decides.{nat_tests}
 use Rattle.vx_model.specs.declared.no.No.{No}
 use Rattle.vx_model.specs.declared.no.No.TheVariants.{Device, Limit, Down as IsOff}
@@ -10,10 +10,12 @@ use Rattle.vx_history.specs.Steps.{burned}
 use Rattle.vx_history.specs.Stops.{IsFused}
 use Rattle.vx_history.specs.World.{Node}
 use Rattle.vx_srlfmt.specs.declared.header.Header.{Header}
+use Rattle.vx_srl.specs.Causes.{BlamesUnit}
 use Rattle.vx_srl.specs.Views.{most_number}
 use Rattle.vx_srl.specs.declared.kept.Kept.{Kept as KeptRecord}
 use Rattle.vx_disk.specs.Counts.{Rose}
 use Rattle.vx_disk.specs.Moves.{Moves, Run}
+use Rattle.vx_disk.specs.Racks.{IsRack}
 use Rattle.vx_disk.specs.Shelf.{Image, Lawful, Meaning}
 use Rattle.vx_rvg.specs.Groups.{Ended, halted_or}
 use Rattle.vx_rvg.specs.Holdings.{Holding}
@@ -22,12 +24,13 @@ use Rattle.vx_rvg.specs.Stands.{FoundAs, Retains, Saving, Stands}
 use Rattle.vx_rvg.specs.Views.{Core}
 use Rattle.vx_rvg.proofs.ContentFacts.{kept_all}
 use Rattle.vx_events.proofs.Places.{some_same}
+use Rattle.vx_events.specs.Fails.{IsLogDisk}
 use Rattle.vx_disk.specs.declared.shelf.Shelf.{Ghosts}
 use Rattle.vx_rvg.specs.declared.group.Rvg.{Rvg}
 use Rattle.vx_diskset.specs.declared.disk_set.DiskSet.{DiskSet}
 use Rattle.vx_diskset.specs.declared.disk_set.DiskSet.TheVariants.{Up}
 use Rattle.vx_diskset.specs.DiskSets.{CrashedAt, halted_at, is_off, no_number, worked}
-use Rattle.vx_diskset.specs.Fuses.{HasFuse}
+use Rattle.vx_grouped.specs.SetFuses.{HasFuse}
 use Rattle.vx_diskset.specs.Holds.{KeptBeside, HasSite, HasWrites, KeptSite, MayBe, most_header, most_with, state_with, sure_of}
 use Rattle.vx_diskset.specs.Keeps.{CanKeep, KeptAt, KeptUp, doubting, kept_anew, restated}
 use Rattle.vx_diskset.specs.Lasts.{StandsHolding}
@@ -36,6 +39,7 @@ use Rattle.vx_diskset.specs.Needs.{NoneNeeds, hold_of, is_needing}
 use Rattle.vx_diskset.specs.Stands.{CutAt, IsHeldAt, IsUpAt}
 use Rattle.vx_diskset.proofs.BesideLemmas.{never_besides, site_sure}
 use Rattle.vx_diskset.proofs.Laying.{lies_moved}
+use Rattle.vx_diskset.proofs.LogDisks.{log_disk}
 use Rattle.vx_diskset.proofs.LastWrites.{stands_with}
 use Rattle.vx_diskset.proofs.NeedLemmas.{takes_same}
 use Rattle.vx_diskset.proofs.StaysUp.{found_below, fuse_moved, fused_by, kept_whole, left_moved, never_both, told_now, up_found, writes_found}
@@ -43,7 +47,7 @@ use Rattle.vx_diskset.proofs.StaysUp.{found_below, fuse_moved, fused_by, kept_wh
 -- what a state that is kept answers of a group
 abbrev pub KeptAs : KeptBeside → Node → State → Meaning → Core → Meaning → Result (Unit {0}) No → Type 0
 KeptAs beside n s m c' new (Ok done) = IsUpAt (sure_of (kept_anew beside n s)) (worked (restated n s)) c' new
-KeptAs beside n s m c' new (Err (Device disk)) = IsUpAt (doubting beside n s disk) (halted_at n disk) c' new × Rose (m.disk_faults disk) (new.disk_faults disk)
+KeptAs beside n s m c' new (Err (Device disk)) = IsUpAt (doubting beside n s disk) (halted_at n disk) c' new × Rose (m.disk_faults disk) (new.disk_faults disk) × IsLogDisk n disk
 KeptAs beside n s m c' new (Err (Limit what most)) = (Limit what most ≡ no_number) × (IsTrue new.tells → most_number ≤ most_header beside n) × IsUpAt beside n c' new
 KeptAs beside n s m c' new (Err IsOff) = IsFused n.fuse × IsHeldAt (doubting beside n s 0) (halted_at n 0) new
 KeptAs beside n s m c' new (Err other) = ⊥
@@ -128,7 +132,7 @@ module _ {beside : KeptBeside} (n : Node) (c c' : Core) (m new : Meaning) (s : S
     record { lies = lies_here; low = up.low; logged = up.logged; begun = λ told. up.begun (sym moves.tells ∙ told); left = either_left 0; may = may_be 0 },
   )
 
-  module _ (still : IsFalse new.down) (unit_is : c'.log.unit ≡ c'.units.srl) where
+  module _ (still : IsFalse new.down) (unit_is : c'.log.unit ≡ c'.units.srl) (place : c.log.unit ≡ c.units.srl) (rack : IsRack m) where
     -- the state is durable
     kept_up : c' ≡ with_new_state c s → Retains c c' m new → IsUpAt (sure_of (kept_anew beside n s)) (worked (restated n s)) c' new
     kept_up is retains = subst (λ (k : Core). Retains c k m new → k.log.unit ≡ k.units.srl → IsUpAt (sure_of (kept_anew beside n s)) (worked (restated n s)) k new) (sym is) (λ rests unit. by rests unit) retains unit_is
@@ -210,9 +214,9 @@ module _ {beside : KeptBeside} (n : Node) (c c' : Core) (m new : Meaning) (s : S
         never e = cc
 
     by_refusal : (b : Bool) → leb most_number c.log.header.stamp ≡ b → (result : Result (Unit {0}) No) → SaveIs (if b then Some no_number else None) c (with_new_state c s) m new c' result
-        → (IsSome (if b then Some no_number else None) → new ≡ m) → OnOk result (Retains c c' m new) → KeptAs beside n s m c' new result
-    by_refusal true full (Ok done) is unchanged rests = absurd (let e : Ok done ≡ Err no_number = is.0 in cc)
-    by_refusal true full (Err why) is unchanged rests =
+        → (IsSome (if b then Some no_number else None) → new ≡ m) → OnOk result (Retains c c' m new) → IfErr result (BlamesUnit m.disks c.log.unit) → KeptAs beside n s m c' new result
+    by_refusal true full (Ok done) is unchanged rests blames = absurd (let e : Ok done ≡ Err no_number = is.0 in cc)
+    by_refusal true full (Err why) is unchanged rests blames =
         let same : why ≡ no_number = (let e : Err why ≡ Err no_number = is.0 in cc) in
         let stays : new ≡ m = unchanged refl in
         let past : most_number ≤ c.log.header.stamp = grind (arith, nat_tests) in
@@ -221,19 +225,20 @@ module _ {beside : KeptBeside} (n : Node) (c c' : Core) (m new : Meaning) (s : S
           (λ told. let t = up.stamp (sym moves.tells ∙ told) can.running in omega (arith, t, past)),
           subst (λ (k : Core). IsUpAt beside n k new) (sym is.1) (subst (λ (k : Meaning). IsUpAt beside n c k) (sym stays) up),
         )
-    by_refusal false some (Ok done) is unchanged rests = kept_up is rests
-    by_refusal false some (Err (Device disk)) is unchanged rests = (kept_halted disk is.0, is.1)
-    by_refusal false some (Err IsOff) is unchanged rests = absurd (never_both new.down is.1 still)
-    by_refusal false some (Err (Limit what most)) is unchanged rests = absurd is
-    by_refusal false some (Err other) is unchanged rests = is
+    by_refusal false some (Ok done) is unchanged rests blames = kept_up is rests
+    by_refusal false some (Err (Device disk)) is unchanged rests blames = (kept_halted disk is.0, is.1, log_disk n c m disk up.units place rack blames)
+    by_refusal false some (Err IsOff) is unchanged rests blames = absurd (never_both new.down is.1 still)
+    by_refusal false some (Err (Limit what most)) is unchanged rests blames = absurd is
+    by_refusal false some (Err other) is unchanged rests blames = is
 
     -- what a state that is set answers
-    pub kept_as : (result : Result (Unit {0}) No) → SaveIs (change_refusal c) c (with_new_state c s) m new c' result → (IsSome (change_refusal c) → new ≡ m) → OnOk result (Retains c c' m new) → KeptAs beside n s m c' new result
-    kept_as result is unchanged rests =
+    pub kept_as : (result : Result (Unit {0}) No) → SaveIs (change_refusal c) c (with_new_state c s) m new c' result → (IsSome (change_refusal c) → new ≡ m) → OnOk result (Retains c c' m new)
+        → IfErr result (BlamesUnit m.disks c.log.unit) → KeptAs beside n s m c' new result
+    kept_as result is unchanged rests blames =
         let runs : c.halted ≡ None = up.halted ∙ can.running in
         by_refusal (leb most_number c.log.header.stamp) refl result
         (subst (λ (h : Option ℕ). SaveIs (halted_or h (if leb most_number c.log.header.stamp then Some no_number else None)) c (with_new_state c s) m new c' result) runs is)
-        (subst (λ (h : Option ℕ). IsSome (halted_or h (if leb most_number c.log.header.stamp then Some no_number else None)) → new ≡ m) runs unchanged) rests
+        (subst (λ (h : Option ℕ). IsSome (halted_or h (if leb most_number c.log.header.stamp then Some no_number else None)) → new ≡ m) runs unchanged) rests blames
 
 module _ {R : Type 0} {g : Ghosts R} where
   pub kept_at : (beside : KeptBeside) (n : Node) (s : State) (old new : Rvg R g) (result : Result (Unit {0}) No) → KeptAs beside n s (g.meaning old.shelf) new.core (g.meaning new.shelf) result → KeptUp beside n s (Up old) (Up new) result

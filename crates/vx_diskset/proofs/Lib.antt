@@ -2,6 +2,7 @@ pub mod AloneCalls
 pub mod ApplyGroup
 pub mod Asking
 pub mod BesideLemmas
+pub mod Blamed
 pub mod CallsBurn
 pub mod CrashGroup
 pub mod ExactWrite
@@ -13,6 +14,7 @@ pub mod KeepsFailing
 pub mod LastWrites
 pub mod Laying
 pub mod LeavesNumbers
+pub mod LogDisks
 pub mod MakeGroup
 pub mod MakeRoom
 pub mod Mores

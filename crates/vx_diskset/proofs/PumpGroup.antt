@@ -18,6 +18,7 @@ use Rattle.vx_history.specs.World.{Link, Node, World}
 use Rattle.vx_history.specs.declared.sender.Action.TheVariants.{Nothing as SendsNothing}
 use Rattle.vx_history.specs.declared.sender.SEvent.TheVariants.{Pump}
 use Rattle.vx_courier.specs.UnderWay.{FlightStands}
+use Rattle.vx_disk.specs.Racks.{IsRack}
 use Rattle.vx_disk.specs.Shelf.{Meaning}
 use Rattle.vx_disk.specs.declared.shelf.Shelf.{Ghosts}
 use Rattle.vx_net.specs.Flights.{Flying}
@@ -27,9 +28,10 @@ use Rattle.vx_rvg.specs.declared.group.Rvg.{Rvg}
 use Rattle.vx_diskset.specs.Holds.{beside_of, header_links}
 use Rattle.vx_diskset.specs.Needs.{hold_of, is_needing, kept_mode_hold, mode_needs}
 use Rattle.vx_diskset.specs.Pumps.{PumpStop, PumpedIs}
-use Rattle.vx_peers.specs.Senders.{SendsBy, pump_asks, way_from}
+use Rattle.vx_peers.specs.Senders.{BlamesStop, SendsBy, pump_asks, way_from}
 use Rattle.vx_model.specs.declared.history.Line.{Line}
 use Rattle.vx_diskset.specs.Stands.{IsUpAt}
+use Rattle.vx_diskset.proofs.LogDisks.{log_disk}
 use Rattle.vx_diskset.proofs.NeedLemmas.{low_needed}
 use Rattle.vx_diskset.proofs.StaysUp.{all_taken, never_both}
 
@@ -82,14 +84,15 @@ pumped_is d site c m new link l f f' (Err (Refused (Damaged unit block stored co
 pumped_is d site c m new link l f f' (Err (Refused other)) up none told down is flight moved cause = absurd cause
 
 -- whether contents are told or not
-pub pump_stops : {beside : KeptBeside} (n : Node) (c : Core) (m new : Meaning) (l : PlainLink) (result : Result (Unit {0}) Stop) → IsUpAt beside n c m → new.down ≡ m.down → IfErr result (ReadCause c m new)
-    → OnErr result (pump_asks l (last_of c) ≢ SendsNothing) → IfErr result (PumpStop (pump_asks l n.safe) m.disk_faults new.disk_faults)
-pump_stops n c m new l (Ok done) up down cause asks = tt
-pump_stops n c m new l (Err OutOfMemory) up down cause asks = tt
-pump_stops n c m new l (Err (Refused (Device disk))) up down cause asks = (cause, subst (λ (k : ℕ). pump_asks l k ≢ SendsNothing) up.head asks)
-pump_stops n c m new l (Err (Refused IsOff)) up down cause asks = absurd (never_both new.down cause (down ∙ up.up))
-pump_stops n c m new l (Err (Refused (Damaged unit block stored computed))) up down cause asks = tt
-pump_stops n c m new l (Err (Refused other)) up down cause asks = absurd cause
+pub pump_stops : {beside : KeptBeside} (n : Node) (c : Core) (m new : Meaning) (l : PlainLink) (result : Result (Unit {0}) Stop) → IsUpAt beside n c m → c.log.unit ≡ c.units.srl → IsRack m → new.down ≡ m.down → IfErr result (ReadCause c m new)
+    → OnErr result (pump_asks l (last_of c) ≢ SendsNothing) → IfErr result (BlamesStop m.disks c.log.unit) → IfErr result (PumpStop n (pump_asks l n.safe) m.disk_faults new.disk_faults)
+pump_stops n c m new l (Ok done) up place rack down cause asks blames = tt
+pump_stops n c m new l (Err OutOfMemory) up place rack down cause asks blames = tt
+pump_stops n c m new l (Err (Refused (Device disk))) up place rack down cause asks blames =
+    (cause, subst (λ (k : ℕ). pump_asks l k ≢ SendsNothing) up.head asks, log_disk n c m disk up.units place rack blames)
+pump_stops n c m new l (Err (Refused IsOff)) up place rack down cause asks blames = absurd (never_both new.down cause (down ∙ up.up))
+pump_stops n c m new l (Err (Refused (Damaged unit block stored computed))) up place rack down cause asks blames = tt
+pump_stops n c m new l (Err (Refused other)) up place rack down cause asks blames = absurd cause
 
 pub pump_sends : {beside : KeptBeside} (n : Node) (c : Core) (m : Meaning) (site : ℕ) (l : PlainLink) (f f' : Flying) (result : Result (Unit {0}) Stop) → IsUpAt beside n c m
     → OnOk result (SendsBy (pump_asks l (last_of c)) (way_from site l.site c.log.header.state.line) f f') → OnOk result (SendsBy (pump_asks l n.safe) (way_from site l.site n.line) f f')

@@ -31,7 +31,7 @@ use Rattle.vx_diskset.proofs.MakeGroup.{fuse_untouched}
 use Rattle.vx_diskset.proofs.ReadGroup.{ReadAs, read_as, reads_up}
 use Rattle.vx_events.specs.Sayings.{received_content}
 use Rattle.vx_diskset.specs.Received.{ShowedAt}
-use Rattle.vx_diskset.specs.Fuses.{HasFuse}
+use Rattle.vx_grouped.specs.SetFuses.{HasFuse}
 use Rattle.vx_diskset.specs.Holds.{KeptBeside, HasDoubted, HasWrites, KeptSite, MayBe, site_alone, most_with, state_with}
 use Rattle.vx_diskset.specs.Lasts.{FoundWith, StandsHolding}
 use Rattle.vx_diskset.specs.Layouts.{units_of}
@@ -366,6 +366,7 @@ module _ {R : Type 0} {g : Ghosts R} where
         up_receiver (Some (doubted disk)) (halted_at (durable_of n) disk) n.log new.rvg.core new.waiting (g.meaning new.rvg.shelf) here.role refl long waits_new (has_doubted disk) (may_doubted disk (g.meaning new.rvg.shelf) h.0.may)
             (λ none. absurd (never_some none)) h.0,
         h.1,
+        h.2,
       )
       by_keep (Err (Limit what most)) h = (h.0, h.1, receives n.halted n.fuse h.2)
       by_keep (Err IsOff) h = (h.0, held_receiver (Some (doubted 0)) (halted_at (durable_of n) 0) n.log (g.meaning new.rvg.shelf) refl long (has_doubted 0) (may_doubted 0 (g.meaning new.rvg.shelf) h.1.may) h.1)

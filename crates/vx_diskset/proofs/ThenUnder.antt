@@ -1,10 +1,10 @@
 -- Headers on the disks of a site one after another: their calls in all, and what they leave of the fuse.
-use Rattle.std.proofs.Common.{◌≡◌, ◌∙◌, ℕ, ◌+◌, inl, inr, true, false, Bool, refl}
+use Rattle.std.proofs.Common.{◌≡◌, ◌∙◌, ◌<◌, ℕ, zero, suc, ◌+◌, inl, inr, true, false, arith, sym, Bool, refl}
 use Rattle.std.specs.Prelude.{Option, Some, None}
 use Rattle.vx_model.specs.declared.no.No.{No}
 use Rattle.vx_model.specs.declared.no.No.TheVariants.{Down as IsDown}
 use Rattle.vx_disk.specs.Burns.{FallsShort, FewerLeft, MakesCalls, RackIsShort}
-use Rattle.vx_disk.specs.Causes.{OnDisks, WithDisks}
+use Rattle.vx_disk.specs.Causes.{OnDisks, WithDisks, Works}
 use Rattle.vx_disk.specs.Disks.{Disks}
 use Rattle.vx_disk.specs.Shelf.{Meaning}
 use Rattle.vx_disk.specs.declared.shelf.Shelf.{Ghosts}
@@ -13,7 +13,7 @@ use Rattle.vx_ringio.specs.Spends.{BurntOut, Passed, Spent}
 use Rattle.vx_ringio.proofs.Spending.{spent_both}
 use Rattle.vx_events.specs.declared.said.Said.{Said}
 use Rattle.vx_events.specs.declared.said.Said.TheVariants.{Done, DoneAt, Logged, Refused}
-use Rattle.vx_diskset.specs.Asked.{HeadUnder, LeavesFuse, ShortBy, TakesBy, disks_told, size_in}
+use Rattle.vx_diskset.specs.Asked.{HeadUnder, LeavesFuse, ShortBy, TakesBy, WorksBy, disks_told, size_in}
 use Rattle.vx_diskset.specs.Burning.{Burnt, NoMore}
 use Rattle.vx_diskset.specs.declared.disk_set.DiskSet.{DiskSet}
 
@@ -109,6 +109,20 @@ short_said : (j k : ℕ) (said : Said) (a b : Option Disks) → WithDisks a b (�
 short_said j k (Refused why) a b one two = short_why j k why a b one two
 short_said j k other a b one two = tt
 
+-- no disk was made to fail or work between
+works_same : (P : Disks → Disks → Type 0) (a b : Option Disks) → OnDisks a b P → Works b 0 → Works a 0
+works_same P None b on works = tt
+works_same P (Some x) None on works = absurd on
+works_same P (Some x) (Some y) on works = sym (on.1 0) ∙ works
+
+works_both : (P : Disks → Disks → Type 0) (j k : ℕ) (a b : Option Disks) → OnDisks a b P → (0 < j → Works a 0) → (0 < k → Works b 0) → 0 < j + k → Works a 0
+works_both P zero k a b on one two some = works_same P a b on (two (omega (arith, some)))
+works_both P (suc j) k a b on one two some = one (omega arith)
+
+works_then : (P : Disks → Disks → Type 0) (j k : ℕ) (said : Said) (a b : Option Disks) → OnDisks a b P → (0 < j → Works a 0) → WorksBy k said b → WorksBy (j + k) said a
+works_then P j k (Refused why) a b on one two = tt
+works_then P j k other a b on one two = works_both P j k a b on one two
+
 module _ {R : Type 0} {g : Ghosts R} where
   -- calls that passed, and then others
   pub then_leaves : (said : Said) (a b c : DiskSet R g) → LeavesFuse NoMore Done a b → LeavesFuse NoMore said b c → LeavesFuse NoMore said a c
@@ -123,4 +137,5 @@ module _ {R : Type 0} {g : Ghosts R} where
     burns = then_leaves said a b c one.burns two.burns;
     takes = takes_then j k said (disks_told a) (disks_told b) (disks_told c) one.takes two.takes;
     short = short_said j k said (disks_told a) (disks_told b) one.takes two.short;
+    works = works_then Passed j k said (disks_told a) (disks_told b) one.burns.told one.works two.works;
   }

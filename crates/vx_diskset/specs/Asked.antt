@@ -5,7 +5,7 @@ use Rattle.vx_model.specs.Content.{blocks_in}
 use Rattle.vx_model.specs.declared.no.No.TheVariants.{Down as IsOff}
 use Rattle.vx_history.specs.World.{Node}
 use Rattle.vx_disk.specs.Burns.{FewerLeft, RackIsShort}
-use Rattle.vx_disk.specs.Causes.{OnDisks, WithDisks}
+use Rattle.vx_disk.specs.Causes.{OnDisks, WithDisks, Works}
 use Rattle.vx_disk.specs.Disks.{Disks, Crashed, SameBlocks, Untouched}
 use Rattle.vx_disk.specs.declared.shelf.Shelf.{Ghosts}
 use Rattle.vx_rvg.specs.declared.group.Rvg.{Rvg}
@@ -30,6 +30,11 @@ TakesBy calls other old new = WithDisks old new (λ o n. FewerLeft calls o.fuse 
 abbrev pub ShortBy : ℕ → Said → Option Disks → Type 0
 ShortBy calls (Refused IsOff) old = RackIsShort calls old
 ShortBy calls other old = Unit {0}
+
+-- a line that was not refused and wrote a header came where the disk of the log is not made to fail
+abbrev pub WorksBy : ℕ → Said → Option Disks → Type 0
+WorksBy calls (Refused why) old = Unit {0}
+WorksBy calls other old = 0 < calls → Works old 0
 
 module _ {R : Type 0} {g : Ghosts R} where
   -- what is told of the disks of a disk set
@@ -98,11 +103,13 @@ module _ {R : Type 0} {g : Ghosts R} where
     pub told : OnDisks (disks_told old) (disks_told new) (Burnt P said (size_in old))
     pub sizes : (u : ℕ) → size_in new u ≡ size_in old u
 
-  -- The calls of a line that writes headers, so many calls in all where it is done. One that is answered 6 came under a fuse that had fewer left.
+  -- The calls of a line that writes headers, so many calls in all where it is done, and then the disk of the log works. One that is answered 6 came
+  -- under a fuse that had fewer left.
   pub record HeadUnder (calls : ℕ) (said : Said) (old new : DiskSet R g) : Type 0 where
     pub burns : LeavesFuse NoMore said old new
     pub takes : TakesBy calls said (disks_told old) (disks_told new)
     pub short : ShortBy calls said (disks_told old)
+    pub works : WorksBy calls said (disks_told old)
 
   -- A write of these bytes that is answered 6 where there is room at hand, and where its blocks do not pass the end of the ring, came under a
   -- fuse that had fewer than four calls left. It may be in any session, wherever the log begins.

@@ -10,6 +10,7 @@ use Rattle.vx_history.specs.Stops.{IsFused}
 use Rattle.vx_history.specs.World.{Node}
 use Rattle.vx_disk.specs.declared.shelf.Shelf.{Ghosts}
 use Rattle.vx_srl.specs.Views.{most_number}
+use Rattle.vx_events.specs.Fails.{IsLogDisk}
 use Rattle.vx_events.specs.declared.said.Said.{Said}
 use Rattle.vx_events.specs.declared.said.Said.TheVariants.{Done, Refused}
 use Rattle.vx_diskset.specs.declared.disk_set.DiskSet.{DiskSet}
@@ -63,11 +64,11 @@ done_by (Ok done) = Done
 done_by (Err why) = Refused why
 
 module _ {R : Type 0} {g : Ghosts R} where
-  -- the state is durable; or a disk failed, and the site may have it or not; or no number is left; or its fuse ran out, and then this holds of
+  -- the state is durable; or the disk of the log failed, and the site may have it or not; or no number is left; or its fuse ran out, and then this holds of
   -- the site that may have it or not
   abbrev pub KeptWith : (KeptBeside → Node → DiskSet R g → Type 0) → KeptBeside → Node → State → DiskSet R g → DiskSet R g → Result (Unit {0}) No → Type 0
   KeptWith Off beside n s old new (Ok done) = SiteStands (sure_of (kept_anew beside n s)) (worked (restated n s)) new
-  KeptWith Off beside n s old new (Err (Device disk)) = SiteStands (doubting beside n s disk) (halted_at n disk) new × RoseAt old new disk
+  KeptWith Off beside n s old new (Err (Device disk)) = SiteStands (doubting beside n s disk) (halted_at n disk) new × RoseAt old new disk × IsLogDisk n disk
   KeptWith Off beside n s old new (Err (Limit what most)) = (Limit what most ≡ no_number) × (IsToldAt new → most_number ≤ most_header beside n) × SiteStands beside n new
   KeptWith Off beside n s old new (Err IsDown) = IsFused n.fuse × Off (doubting beside n s 0) (halted_at n 0) new
   KeptWith Off beside n s old new (Err other) = ⊥

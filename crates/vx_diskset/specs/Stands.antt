@@ -14,7 +14,8 @@ use Rattle.vx_rvg.specs.Views.{Core, last_of}
 use Rattle.vx_secondary.specs.Receivers.{writes_of_updates}
 use Rattle.vx_diskset.specs.declared.disk_set.DiskSet.{DiskSet}
 use Rattle.vx_diskset.specs.declared.disk_set.DiskSet.TheVariants.{Bare, Spoiled, Up, Receives, Down, Gone}
-use Rattle.vx_diskset.specs.Fuses.{HasFuse, IsFirstLog}
+use Rattle.vx_diskset.specs.Fuses.{IsFirstLog}
+use Rattle.vx_grouped.specs.SetFuses.{HasFuse}
 use Rattle.vx_events.specs.Fuses.{ring_taken}
 use Rattle.vx_diskset.specs.Holds.{HasSite, KeptSite, MayBe, site_alone, state_with}
 use Rattle.vx_diskset.specs.Holds.{most_header}

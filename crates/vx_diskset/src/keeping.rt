@@ -3,6 +3,7 @@ ghost use Rattle.std.specs.Prelude.{◌≡◌, ℕ, IsFalse, List, OnOk};
 ghost use Rattle.vx_model.specs.declared.call.Update.{Update};
 ghost use Rattle.vx_model.specs.declared.state.State.{State};
 ghost use Rattle.vx_disk.specs.Burns.{FallsShort, MakesCalls};
+ghost use Rattle.vx_disk.specs.Causes.{Works};
 ghost use Rattle.vx_history.specs.World.{Node};
 ghost use Rattle.vx_ringio.specs.Spends.{Spends};
 ghost use Rattle.vx_srlfmt.specs.Headers.{CanSpellState};
@@ -28,6 +29,7 @@ fn keep_group<R: Rack>(rvg: &mut Rvg<R>, state: &State) -> Result<(), No>
     ensures calls { OnOk result (MakesCalls 2 (R.meaning rvg.old.shelf) (R.meaning rvg.new.shelf)) }
     ensures short { FallsShort 2 (R.meaning rvg.old.shelf) (R.meaning rvg.new.shelf) }
     ensures spends { Spends (R.meaning rvg.old.shelf) (R.meaning rvg.new.shelf) }
+    ensures works { OnOk result (Works (R.meaning rvg.old.shelf).disks rvg.old.core.log.unit) }
     ensures off { IsFalse (R.meaning rvg.old.shelf).down → OffIf result (R.meaning rvg.new.shelf).down }
     ensures later { Later (DiskSet.Up rvg.old) (DiskSet.Up rvg.new) }
 {

@@ -54,7 +54,7 @@ fn pump_group<R: Rack, N: Net>(
     ensures pumped { (d : Doubted) (k : ℕ) → IsUpAt (beside_of d site) (d.world.nodes site) rvg.old.core (R.meaning rvg.old.shelf) → (d.world.nodes site).halted ≡ None → IsTrue (R.meaning rvg.old.shelf).tells
         → slice_get (header_links d.world site) k ≡ Some (kept_link link.old.site (d.world.links site link.old.site)) → link.old ≡ plain_link link.old.site (d.world.links site link.old.site) → FlightStands d.world.packets (N.flying flight.old)
         → PumpedIs d.world site link.old.site link.new (N.flying flight.new) (R.meaning rvg.old.shelf).disk_faults (R.meaning rvg.new.shelf).disk_faults result }
-    ensures stops { (beside : KeptBeside) (n : Node) → IsUpAt beside n rvg.old.core (R.meaning rvg.old.shelf) → n.halted ≡ None → IfErr result (PumpStop (pump_asks link.old n.safe) (R.meaning rvg.old.shelf).disk_faults (R.meaning rvg.new.shelf).disk_faults) }
+    ensures stops { (beside : KeptBeside) (n : Node) → IsUpAt beside n rvg.old.core (R.meaning rvg.old.shelf) → n.halted ≡ None → IfErr result (PumpStop n (pump_asks link.old n.safe) (R.meaning rvg.old.shelf).disk_faults (R.meaning rvg.new.shelf).disk_faults) }
     ensures stands { (beside : KeptBeside) (n : Node) → IsUpAt beside n rvg.old.core (R.meaning rvg.old.shelf) → IsUpAt beside n rvg.new.core (R.meaning rvg.new.shelf) }
     ensures more { (beside : KeptBeside) (n : Node) → IsUpAt beside n rvg.old.core (R.meaning rvg.old.shelf)
         → OnOk result (SendsBy (pump_asks link.old n.safe) (way_from site link.old.site n.line) (N.flying flight.old) (N.flying flight.new)) }
@@ -89,7 +89,7 @@ impl<R: Rack> DiskSet<R> {
     /// Also where contents are not told the link is as the rule leaves it, and it sends the updates that the rule asks for, of whatever writes were read.
     ///
     /// It takes memory for what it sends, and answers so too where a generation is past those that packets carry. Refusals: 20 where the
-    /// site is halted, 7 where there was something to send and a read failed. Where contents are not told also 21, of a log that lacks what the link needs, and 22.
+    /// site is halted, 7 where there was something to send and a read of the log failed. Where contents are not told also 21, of a log that lacks what the link needs, and 22.
     pub fn pump<N: Net>(
         &mut self,
         alloc: Global,
@@ -100,7 +100,7 @@ impl<R: Rack> DiskSet<R> {
         ensures pumped { (d : Doubted) (k : ℕ) → SiteStands (beside_of d site) (d.world.nodes site) self.old → is_origin (d.world.nodes site).role ≡ true → (d.world.nodes site).state ≡ UpState → (d.world.nodes site).halted ≡ None → IsToldAt self.old
             → slice_get (header_links d.world site) k ≡ Some (kept_link link.old.site (d.world.links site link.old.site)) → link.old ≡ plain_link link.old.site (d.world.links site link.old.site) → FlightStands d.world.packets (N.flying flight.old)
             → PumpedIs d.world site link.old.site link.new (N.flying flight.new) (faults_at self.old) (faults_at self.new) result }
-        ensures stops { (beside : KeptBeside) (n : Node) → SiteStands beside n self.old → is_origin n.role ≡ true → n.state ≡ UpState → n.halted ≡ None → IfErr result (PumpStop (pump_asks link.old n.safe) (faults_at self.old) (faults_at self.new)) }
+        ensures stops { (beside : KeptBeside) (n : Node) → SiteStands beside n self.old → is_origin n.role ≡ true → n.state ≡ UpState → n.halted ≡ None → IfErr result (PumpStop n (pump_asks link.old n.safe) (faults_at self.old) (faults_at self.new)) }
         ensures stands { (beside : KeptBeside) (n : Node) → SiteStands beside n self.old → SiteStands beside n self.new }
         ensures more { (beside : KeptBeside) (n : Node) → SiteStands beside n self.old
             → OnOk result (SendsBy (pump_asks link.old n.safe) (way_from site link.old.site n.line) (N.flying flight.old) (N.flying flight.new)) }

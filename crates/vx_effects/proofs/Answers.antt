@@ -11,7 +11,7 @@ use Rattle.vx_history.specs.Gatherings.{left_by}
 use Rattle.vx_history.specs.Headers.{count_at, heard_headers}
 use Rattle.vx_history.specs.Refusals.{Outcome, is_running, keeps_links, says}
 use Rattle.vx_history.specs.Sends.{is_linked, with_link}
-use Rattle.vx_history.specs.World.{DataAck, Hello, Link, Message, NetAck, Node, Packet, Update, World, updated}
+use Rattle.vx_history.specs.World.{DataAck, Hello, Link, Message, NetAck, Packet, Update, World, updated}
 use Rattle.vx_history.specs.declared.event.Event.TheVariants.{Deliver}
 use Rattle.vx_history.specs.declared.event.Said.{Said}
 use Rattle.vx_history.specs.declared.event.Said.TheVariants.{Ignored as IsIgnored}

@@ -111,10 +111,10 @@ halved_up d e s disk up = ap (λ (n : Node). n.state) (at_place d.world.nodes s 
 fit_ends : (p s : ℕ) (d middle : Doubted) (fails : Fails) (said : Said) (last : Doubted) → EndsBetween p s d middle fails said last → LinksFit middle → LinksFit last
 fit_ends p s d middle fails said last (IsStored stored none is leaves) fit = subst LinksFit (sym leaves) fit
 fit_ends p s d middle fails said last (GivesUp why other none is leaves) fit = subst LinksFit (sym leaves) fit
-fit_ends p s d middle fails said last (IsUnread disk asks one is leaves) fit = subst LinksFit (sym leaves) fit
-fit_ends p s d middle fails said last (HeaderHalts number disk opens writes one is leaves) fit =
+fit_ends p s d middle fails said last (IsUnread disk asks here one is leaves) fit = subst LinksFit (sym leaves) fit
+fit_ends p s d middle fails said last (HeaderHalts number disk opens writes here one is leaves) fit =
     subst LinksFit (sym leaves) (fit_halved middle (DeliverAt number) p disk opens writes fit)
-fit_ends p s d middle fails said last (ApplyHalts disk opens one is leaves) fit = subst LinksFit (sym leaves) (fit_happened middle (Fault s disk) false fit)
+fit_ends p s d middle fails said last (ApplyHalts disk opens here one is leaves) fit = subst LinksFit (sym leaves) (fit_happened middle (Fault s disk) false fit)
 fit_ends p s d middle fails said last (HeaderCut number kept taken opens writes fused none is leaves) fit =
     subst LinksFit (sym leaves)
     (fit_crashed_as (halved middle (DeliverAt number) p 0) p kept taken (halved_up middle (DeliverAt number) p 0 opens.0) (fit_halved middle (DeliverAt number) p 0 opens writes fit))

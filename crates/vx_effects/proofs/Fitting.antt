@@ -306,7 +306,7 @@ fit_deported : (d : Doubted) (s : ℕ) → (d.world.nodes s).state ≡ Up → (d
 fit_deported d s up runs fit =
     let k : ℕ = kept_of (d.world.nodes s) 0 in
     let mid : Doubted = record d { world = crash_at d.world s k } in
-    fit_moves mid (record d { world = deport_at d.world s }) (deported_moves All mid.world s (crash_state d.world s k)) (λ p _. refl) (λ p a is. (is, tt))
+    fit_moves mid (record d { world = deport_at d.world s }) (deported_moves All mid.world s (d.world.nodes s).fuse (crash_state d.world s k)) (λ p _. refl) (λ p a is. (is, tt))
     (fit_crashed d s k (sure (d.after s) refl) up fit)
   where
     sure : (o : Option After) → d.after s ≡ o → d.after s ≡ None

@@ -1,9 +1,9 @@
 -- What an event that writes one header leaves where a disk failed in it, and where a fuse cut it.
-use Rattle.std.proofs.Common.{◌≡◌, ◌∙◌, ℕ, ◌+◌, List, Bool, refl, ap, sym}
+use Rattle.std.proofs.Common.{◌≡◌, ◌∙◌, ℕ, ◌+◌, List, Bool, refl, ap}
 use Rattle.std.specs.Prelude.{Option, Some, None}
 use Rattle.vx_history.proofs.Updates.{at_place}
 use Rattle.vx_history.specs.Doubts.{After, Doubted, crashed_as, halved, resolved_at}
-use Rattle.vx_history.specs.Events.{crash_at, kept_of, lost_touch}
+use Rattle.vx_history.specs.Events.{kept_of, lost_touch}
 use Rattle.vx_history.specs.Step.{step}
 use Rattle.vx_history.specs.Steps.{burned, crashed, stopped_by}
 use Rattle.vx_history.specs.World.{Gathering, Link, Node, Packet, World}

@@ -6,6 +6,7 @@ pub mod Outcomes
 pub mod Headers
 pub mod Fitting
 pub mod Groups
+pub mod GroupAside
 pub mod Leaving
 pub mod Finding
 pub mod Effects

@@ -19,7 +19,7 @@ use Rattle.vx_model.specs.declared.site.SiteState.{SiteState}
 use Rattle.vx_model.specs.declared.site.SiteState.TheVariants.{Bare, Up, Deported, Down}
 use Rattle.vx_history.proofs.Updates.{and_left, and_right, by_test, eqb_equal}
 use Rattle.vx_history.specs.Admission.{Admitted, Goes, Held_by}
-use Rattle.vx_history.specs.Events.{acknowledged, admitted, applied, applied_by, apply_at, come_back, crash_at, delivered, receiver_facts, from_memory, gathered_if, greeting_back, handed, heard, is_taken, joined, link_after, link_event, link_heard, link_step, links_changed, lost_touch, opened, packet_at, promises_of, put_in, reached_at, recover_from, recovered_at, recovery, restarted_link, taken_if, ticked_at, ticked_link, update_taken, waited, with_write, written_if}
+use Rattle.vx_history.specs.Events.{acknowledged, admitted, applied, applied_by, apply_at, come_back, crash_at, delivered, receiver_facts, from_memory, gathered_if, greeting_back, group_again, group_from, handed, heard, is_plain_group, is_taken, joined, link_after, link_event, link_heard, link_step, links_changed, lost_touch, opened, packet_at, promises_of, put_in, reached_at, recover_from, recovered_at, recovery, restarted_link, taken_if, ticked_at, ticked_link, update_taken, waited, with_write, written_if}
 use Rattle.vx_history.specs.Gatherings.{completes, emptied, gathered}
 use Rattle.vx_history.specs.LinkForms.{plain_receiver, with_plain}
 use Rattle.vx_history.specs.Receiving.{Received, phase_takes, received_step}
@@ -27,8 +27,8 @@ use Rattle.vx_history.specs.Refusals.{Outcome, agree, at_site, at_work, both_at_
 use Rattle.vx_history.specs.Sends.{is_linked, promising, sending, with_link, with_links}
 use Rattle.vx_history.specs.Step.{done, joined_blocks, link_part, outcome_of}
 use Rattle.vx_history.specs.Sound.{is_at_rest}
-use Rattle.vx_history.specs.Steps.{burned, crash_left, crashed, deported_site, deported_world, group_made, group_set, half_written, logged, raw_made, raw_set, recovered, stopped_by, written}
-use Rattle.vx_history.specs.World.{DataAck, Hello, Link as LinkOf, Message, NetAck, Node, Packet, Update, World, with_node}
+use Rattle.vx_history.specs.Steps.{burned, crash_left, crashed, deported_site, deported_world, group_back, group_made, group_set, group_up, half_written, logged, raw_made, raw_set, recovered, stopped_by, written}
+use Rattle.vx_history.specs.World.{DataAck, Fuse, Hello, Link as LinkOf, Message, NetAck, Node, Packet, Update, World, with_node}
 use Rattle.vx_history.specs.declared.event.Event.{Event}
 use Rattle.vx_history.specs.declared.event.Event.TheVariants.{Site, Raw, Group, Write, Read, Apply, Pump, Tick, Deliver, Connect, Cut, Pause, Resume, Wait, Link, Set, Crash, Deport, Recover, Fault}
 use Rattle.vx_history.specs.declared.event.LinkPart.{LinkPart}
@@ -178,10 +178,18 @@ module _ (E : ℕ → Type 0) (w : World) where
       (moves_node E w s n (λ b. bare) (λ h b. absurd (omega (arith, below, h))) (λ e. not_up (w.nodes s) n (λ up. let f : Up ≡ Bare = sym up ∙ bare in cc))
       (λ k _ _ _. refl) (awake (w.nodes s) n refl (λ e. e)))
 
+  -- a group that is at rest and comes up again
+  pub back_moves : (s : ℕ) → is_at_rest (w.nodes s).state ≡ true → Moves E w (group_back w s)
+  back_moves s rest =
+      let n : Node = group_up (w.nodes s) in
+      moves_node E w s n (λ b. let f : Up ≡ Bare = b in absurd (cc)) (λ h b. let f : false ≡ true = sym (ap is_at_rest b) ∙ rest in absurd (cc))
+      (λ e. not_up (w.nodes s) n (λ up. let f : false ≡ true = sym (ap is_at_rest up) ∙ rest in cc))
+      (keeps_role w.sites (w.links s) (w.nodes s) n refl) (awake (w.nodes s) n refl (λ e. e))
+
   -- a site that is down and gives its disks up
-  pub deported_moves : (s : ℕ) → (w.nodes s).state ≡ Down → Moves E w (deported_world w s)
-  deported_moves s down =
-      let n : Node = deported_site (w.nodes s) in
+  pub deported_moves : (s : ℕ) (fuse : Fuse) → (w.nodes s).state ≡ Down → Moves E w (deported_world fuse w s)
+  deported_moves s fuse down =
+      let n : Node = deported_site fuse (w.nodes s) in
       moves_node E w s n (λ b. let f : Deported ≡ Bare = b in absurd (cc)) (λ h b. let f : Down ≡ Bare = sym down ∙ b in absurd (cc))
       (λ e. not_up (w.nodes s) n (λ up. let f : Up ≡ Down = sym up ∙ down in cc))
       (keeps_role w.sites (w.links s) (w.nodes s) n refl) (calm (λ e. e) (λ _ d. let f : Deported ≡ Down = d in absurd (cc)))
@@ -274,6 +282,16 @@ module _ (w : World) where
   recovery_moves : (s : ℕ) (fails : Option ℕ) → is_at_rest (w.nodes s).state ≡ true → Leaves (recovery w s fails)
   recovery_moves s None rest = recovered_moves All w s rest
   recovery_moves s (Some disk) rest = moves_alike All w s (record (w.nodes s) { session = (w.nodes s).session + 1 }) refl refl refl (calm (λ e. e) (λ e. e))
+
+  again_moves : (s : ℕ) → is_at_rest (w.nodes s).state ≡ true → Leaves (group_again w s)
+  again_moves s rest =
+      Tests.unless_ends Leaves w refusals (not (is_plain_group (w.nodes s))) WrongRole (done (group_back w s)) (λ _. back_moves All w s rest)
+
+  group_from_moves : (state : SiteState) (s : ℕ) → s < w.sites → (w.nodes s).state ≡ state → Leaves (group_from state w s)
+  group_from_moves Bare s below e = group_moves All w s below e
+  group_from_moves Up s below e = moves_same All w
+  group_from_moves Deported s below e = again_moves s (ap is_at_rest e)
+  group_from_moves Down s below e = again_moves s (ap is_at_rest e)
 
   recover_moves : (state : SiteState) (s : ℕ) (fails : Option ℕ) → (w.nodes s).state ≡ state → Leaves (recover_from state w s fails)
   recover_moves Bare s fails e = moves_same All w
@@ -377,10 +395,7 @@ module _ (w : World) where
       (λ bare. Tests.unless_ends Leaves w refusals (not (is_raw_shape (w.nodes s).disks (w.nodes s).blocks)) Size o
       (λ _. raw_moves All w s below (Tests.bare_is (w.nodes s).state (Tests.not_false (is_bare (w.nodes s).state) bare)))))
   outcome_moves (Group s) one =
-      let o : Outcome = done (group_made w s) in
-      Tests.site_ends Leaves w refusals s (unless (not (is_bare (w.nodes s).state)) WrongRole w o)
-      (λ below. Tests.unless_ends Leaves w refusals (not (is_bare (w.nodes s).state)) WrongRole o
-      (λ bare. group_moves All w s below (Tests.bare_is (w.nodes s).state (Tests.not_false (is_bare (w.nodes s).state) bare))))
+      Tests.site_ends Leaves w refusals s (group_from (w.nodes s).state w s) (λ below. group_from_moves (w.nodes s).state s below refl)
   outcome_moves (Write s volume start bytes fails) one =
       let x : WriteBlocks = record { volume = volume; start = start; bytes = bytes } in
       Tests.volume_ends Leaves w refusals s volume start (blocks_in bytes) (is_too_large (w.nodes s).ring (blocks_in bytes)) (written_if (admitted w s x) w s x fails)

@@ -1,5 +1,5 @@
 // What events change of a world, and what they keep.
-ghost use Rattle.std.specs.Prelude.{◌≡◌, ℕ, ◌+◌, ◌<◌, ◌≤◌, ◌++◌, ◌∷◌, [], Bool, true, false, List, None, Some, eqb, length, min, slice_set};
+ghost use Rattle.std.specs.Prelude.{◌≡◌, ℕ, ◌+◌, ◌<◌, ◌≤◌, ◌++◌, ◌∷◌, [], Bool, true, false, List, None, Some, eqb, length, min, slice_set, IsTrue};
 ghost use Rattle.vx_model.specs.Content.{Write as LogWrite, blocks_in};
 ghost use Rattle.vx_model.specs.Sites.{is_origin};
 ghost use Rattle.vx_model.specs.Sizes.{is_raw_shape};
@@ -8,6 +8,8 @@ ghost use Rattle.vx_model.specs.declared.link.Prot.TheVariants.{Fail as FailsWhe
 ghost use Rattle.vx_model.specs.declared.link.SyncMode.{SyncMode};
 ghost use Rattle.vx_model.specs.declared.site.Mark.{Mark};
 ghost use Rattle.vx_model.specs.declared.site.SiteState.TheVariants.{Bare, Up, Down};
+ghost use Rattle.vx_model.specs.declared.site.Role.TheVariants.{Primary};
+ghost use Rattle.vx_history.specs.Sound.{is_at_rest};
 ghost use Rattle.vx_model.specs.declared.state.KeptLink.{KeptLink};
 ghost use Rattle.vx_history.specs.Doubts.{Doubted, Runs, crashed_as, halved, happened, resolved_at};
 ghost use Rattle.vx_history.specs.Events.{admitted, applied, come_back, kept_of, linked_sites, lost_touch, recovery_greeting, restarted_link, said_of_write, used_above};
@@ -18,7 +20,7 @@ ghost use Rattle.vx_history.specs.LinkForms.{plain_link};
 ghost use Rattle.vx_history.specs.declared.admission.Change.{Change};
 ghost use Rattle.vx_history.specs.Sends.{is_linked, packets_of};
 ghost use Rattle.vx_history.specs.Step.{outcome_of, step};
-ghost use Rattle.vx_history.specs.Steps.{burned, crashed, deported_site, group_set, half_begun, logged, raw_set, recovered, site_made, worked_on};
+ghost use Rattle.vx_history.specs.Steps.{burned, crashed, deported_site, group_set, group_up, half_begun, logged, raw_set, recovered, site_made, worked_on};
 ghost use Rattle.vx_history.specs.Stops.{IsOpen, WritesAt};
 ghost use Rattle.vx_history.specs.World.{DataAck, Link, Node, World, bare_site, empty_world, updated, with_node};
 ghost use Rattle.vx_history.specs.declared.event.Event.{Event};
@@ -27,16 +29,17 @@ ghost use Rattle.vx_history.specs.declared.event.Said.TheVariants.{Done};
 ghost use Rattle.vx_script.specs.declared.line.ScriptLine.{ScriptLine};
 ghost use Rattle.vx_events.specs.Doubts.{run_as, sure};
 ghost use Rattle.vx_events.specs.Effects.{AddsSite, ChangesAt, ChangesNode, EffectAt};
+ghost use Rattle.vx_events.specs.Fails.{Fails};
+ghost use Rattle.vx_events.specs.GroupEnds.{GroupEnds};
+ghost use Rattle.vx_events.specs.declared.said.Said.{Said};
 ghost use Rattle.vx_events.specs.Ends.{IsLeft, found_linked};
 ghost use Rattle.vx_events.specs.Facts.{site_fact};
-ghost use Rattle.vx_events.specs.Fails.{Fails};
 ghost use Rattle.vx_events.specs.Found.{ComesUpAs};
 ghost use Rattle.vx_events.specs.LinkEnds.{AreLeft};
 ghost use Rattle.vx_events.specs.LinkFinds.{FindsOther};
 ghost use Rattle.vx_events.specs.LinkedFacts.{link_facts, linked_fact, linked_facts};
 ghost use Rattle.vx_events.specs.LinksFit.{LinksFit, RowFits};
 ghost use Rattle.vx_events.specs.Stamps.{waiting_of};
-ghost use Rattle.vx_events.specs.declared.said.Said.{Said};
 ghost use Rattle.vx_effects.specs.Applies.{applied_up_to, behind_apply};
 ghost use Rattle.vx_effects.specs.Facts.{down_fact, fact_of, half_fact, halted_fact, logged_fact, marked_fact, risen_fact};
 ghost use Rattle.vx_effects.specs.Restarts.{IsAgain, are_fine, facts_again, needs_of, row_of_kept};
@@ -100,13 +103,22 @@ pub fn changes_one_site()
         → EffectAt s d (happened d (Raw s) taken) (raw_set s (d.world.nodes s)) (d.world.links s) (d.world.headers s) (d.after s) d.world.packets (d.world.gathering s) }
     ensures group { (d : Doubted) (s : ℕ) (taken : Bool) → s < d.world.sites → (d.world.nodes s).state ≡ Bare
         → EffectAt s d (happened d (Group s) taken) (group_set s (d.world.nodes s)) (d.world.links s) (d.world.headers s) (d.after s) d.world.packets (d.world.gathering s) }
+    ensures again { (d : Doubted) (s : ℕ) (taken : Bool) → s < d.world.sites → is_at_rest (d.world.nodes s).state ≡ true → (d.world.nodes s).role ≡ Primary
+        → (d.world.nodes s).volumes ≡ [] → (d.world.nodes s).log ≡ []
+        → EffectAt s d (happened d (Group s) taken) (group_up (d.world.nodes s)) (d.world.links s) (d.world.headers s) (d.after s) d.world.packets (d.world.gathering s) }
     ensures deport { (d : Doubted) (s : ℕ) (taken : Bool) → s < d.world.sites → (d.world.nodes s).state ≡ Up → (d.world.nodes s).halted ≡ None
-        → EffectAt s d (happened d (Deport s) taken) (deported_site (crashed (d.world.nodes s) (kept_of (d.world.nodes s) 0))) (λ k. lost_touch (d.world.links s k)) (d.world.headers s) (d.after s)
+        → EffectAt s d (happened d (Deport s) taken) (deported_site (d.world.nodes s).fuse (crashed (d.world.nodes s) (kept_of (d.world.nodes s) 0))) (λ k. lost_touch (d.world.links s k)) (d.world.headers s) (d.after s)
         d.world.packets None }
     ensures note { (d : Doubted) (s : ℕ) (n : Node) → EffectAt s d (record d { world = with_node d.world s n }) n (d.world.links s) (d.world.headers s) (d.after s) d.world.packets (d.world.gathering s) }
     ensures left { (s : ℕ) (line : ScriptLine) (taken : Bool) (d last new : Doubted) → IsLeft s line taken d last new → ChangesAt s last new }
     ensures site { (d : Doubted) (name : List ℕ) (disks blocks : ℕ) (taken : Bool) → outcome_of d.world (Site name disks blocks) ≡ record { world = site_made d.world name disks blocks; said = Done }
         → AddsSite d (happened d (Site name disks blocks) taken) (bare_site name disks blocks) }
+{}
+
+/// However a line over a group of disks ends, each other site is as it was.
+pub fn groups_change_one_site()
+    ensures { (tells : Bool) (d : Doubted) (line : ScriptLine) (s : ℕ) (fails : Fails) (said : Said) (new : Doubted) → GroupEnds (IsTrue tells) d line s fails said new
+        → ChangesNode s d new }
 {}
 
 /// A write writes no header and changes no link, as each link that fits fails what its log has no room for; what is said of it goes by the links before it.

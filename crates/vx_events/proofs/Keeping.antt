@@ -17,7 +17,7 @@ use Rattle.vx_model.specs.declared.site.SiteState.{SiteState}
 use Rattle.vx_model.specs.declared.site.SiteState.TheVariants.{Bare, Up, Deported, Down}
 use Rattle.vx_history.proofs.Updates.{all_updated}
 use Rattle.vx_history.specs.Admission.{Admitted, Held_by, Goes}
-use Rattle.vx_history.specs.Events.{admitted, written_if, put_in, links_changed, link_after, acknowledged, applied, applied_by, apply_at, reached_at, crash_at, deport_at, crash_world, kept_of, lost_touch, recover_from, recovery, recovered_at, restarted_link, come_back, recovery_greeting}
+use Rattle.vx_history.specs.Events.{group_again, group_from, is_plain_group, admitted, written_if, put_in, links_changed, link_after, acknowledged, applied, applied_by, apply_at, reached_at, crash_at, deport_at, crash_world, kept_of, lost_touch, recover_from, recovery, recovered_at, restarted_link, come_back, recovery_greeting}
 use Rattle.vx_history.specs.LinkForms.{plain_receiver}
 use Rattle.vx_history.specs.Receiving.{Received, received_step}
 use Rattle.vx_history.specs.Refusals.{Outcome, says, unless, unless_halted, is_primary, some_below, at_site, at_work, on_volume}
@@ -25,8 +25,8 @@ use Rattle.vx_history.specs.Sends.{is_linked, with_links, sending}
 use Rattle.vx_history.specs.Headers.{headers_by}
 use Rattle.vx_history.specs.Step.{step, outcome_of, run, done, joined_blocks}
 use Rattle.vx_history.specs.declared.event.Said.TheVariants.{Got, Refused}
-use Rattle.vx_history.specs.Steps.{site_made, raw_made, raw_set, group_made, group_set, written, logged, half_written, crashed, crash_left, deported_site, deported_world, session_begun, stopped_by, recovered, burned}
-use Rattle.vx_history.specs.World.{Node, Link as LinkOf, World, bare_site, updated, with_node}
+use Rattle.vx_history.specs.Steps.{site_made, raw_made, raw_set, group_back, group_made, group_set, group_up, written, logged, half_written, crashed, crash_left, deported_site, deported_world, session_begun, stopped_by, recovered, burned}
+use Rattle.vx_history.specs.World.{Node, Fuse, Link as LinkOf, World, bare_site, updated, with_node}
 use Rattle.vx_history.specs.declared.event.Event.{Event}
 use Rattle.vx_history.specs.declared.event.Event.TheVariants.{Site, Raw, Group, Write, Read, Apply, Pump, Tick, Deliver, Connect, Cut, Pause, Resume, Wait, Link, Set, Crash, Deport, Recover, Fault}
 use Rattle.vx_history.specs.declared.receiver.RAction.{RAction}
@@ -58,12 +58,13 @@ pub record KeptBy (P : World → Type 0) : Type 0 where
   pub site : (w : World) (name : List ℕ) (disks blocks : ℕ) → P w → P (site_made w name disks blocks)
   pub raw : (w : World) (s : ℕ) → P w → P (raw_made w s)
   pub group : (w : World) (s : ℕ) → P w → P (group_made w s)
+  pub back : (w : World) (s : ℕ) → P w → P (group_back w s)
   pub links : (w : World) (s : ℕ) (x : WriteBlocks) → P w → P (links_changed w s x)
   pub write : (w : World) (s : ℕ) (x : WriteBlocks) → P w → P (written w s x)
   pub half : (w : World) (s : ℕ) (x : WriteBlocks) (disk : ℕ) → P w → P (half_written w s x disk)
   pub apply : (w : World) (s number : ℕ) (mark : Mark) → P w → P (acknowledged w s (applied (w.nodes s) number mark))
   pub crash : (w : World) (s kept : ℕ) → P w → P (crash_at w s kept)
-  pub deport : (w : World) (s : ℕ) → P w → P (deported_world w s)
+  pub deport : (w : World) (s : ℕ) (fuse : Fuse) → P w → P (deported_world fuse w s)
   pub recover : (w : World) (s : ℕ) → P w → P (recovered_at w s)
   pub session : (w : World) (s : ℕ) → P w → P (session_begun w s)
   pub stop : (w : World) (s disk : ℕ) → P w → P (stopped_by w s disk)
@@ -138,6 +139,15 @@ module _ (P : World → Type 0) (keeps : KeptBy P) where
   recover_keeps Deported w s fails p = past P (leb MOST_NUMBER (w.nodes s).session) (Limit Number MOST_NUMBER) w (recovery w s fails) p (recovery_keeps w s fails p)
   recover_keeps Down w s fails p = past P (leb MOST_NUMBER (w.nodes s).session) (Limit Number MOST_NUMBER) w (recovery w s fails) p (recovery_keeps w s fails p)
 
+  again_keeps : (w : World) (s : ℕ) → P w → Holds P (group_again w s)
+  again_keeps w s p = past P (not (is_plain_group (w.nodes s))) WrongRole w (done (group_back w s)) p (keeps.back w s p)
+
+  group_keeps : (state : SiteState) (w : World) (s : ℕ) → P w → Holds P (group_from state w s)
+  group_keeps Bare w s p = keeps.group w s p
+  group_keeps Up w s p = p
+  group_keeps Deported w s p = again_keeps w s p
+  group_keeps Down w s p = again_keeps w s p
+
   outcome_keeps : (w : World) (e : Event) → IsSingle e → P w → P (outcome_of w e).world
   outcome_keeps w (Site name disks blocks) one p =
       let o : Outcome = done (site_made w name disks blocks) in
@@ -154,10 +164,7 @@ module _ (P : World → Type 0) (keeps : KeptBy P) where
       past_site P w s (unless (not (is_bare (w.nodes s).state)) WrongRole w sized) p
       (past P (not (is_bare (w.nodes s).state)) WrongRole w sized p
       (past P (not (is_raw_shape (w.nodes s).disks (w.nodes s).blocks)) Size w o p (keeps.raw w s p)))
-  outcome_keeps w (Group s) one p =
-      let o : Outcome = done (group_made w s) in
-      past_site P w s (unless (not (is_bare (w.nodes s).state)) WrongRole w o) p
-      (past P (not (is_bare (w.nodes s).state)) WrongRole w o p (keeps.group w s p))
+  outcome_keeps w (Group s) one p = past_site P w s (group_from (w.nodes s).state w s) p (group_keeps (w.nodes s).state w s p)
   outcome_keeps w (Write s volume start bytes fails) one p =
       let x : WriteBlocks = record { volume = volume; start = start; bytes = bytes } in
       past_volume P w s volume start (blocks_in bytes) (is_too_large (w.nodes s).ring (blocks_in bytes)) (written_if (admitted w s x) w s x fails) p (written_keeps (admitted w s x) w s x fails p)
@@ -173,7 +180,7 @@ module _ (P : World → Type 0) (keeps : KeptBy P) where
   outcome_keeps w (Deport s) one p =
       let k : ℕ = kept_of (w.nodes s) 0 in
       let o : Outcome = done (deport_at w s) in
-      past_site P w s (at_work w s o) p (past_work P w s o p (keeps.deport (crash_at w s k) s (keeps.crash w s k p)))
+      past_site P w s (at_work w s o) p (past_work P w s o p (keeps.deport (crash_at w s k) s (w.nodes s).fuse (keeps.crash w s k p)))
   outcome_keeps w (Recover s fails) one p = past_site P w s (recover_from (w.nodes s).state w s fails) p (recover_keeps (w.nodes s).state w s fails p)
   outcome_keeps w (Fault s disk) one p =
       let o : Outcome = says (stopped_by w s disk) (Refused (Device disk)) in
@@ -217,6 +224,7 @@ unlinked_kept = record {
   site = λ w name disks blocks none. same_links w (site_made w name disks blocks) (λ p s. refl) none;
   raw = λ w s none. same_links w (raw_made w s) (λ p q. refl) none;
   group = λ w s none. same_links w (group_made w s) (λ p q. refl) none;
+  back = λ w s none. same_links w (group_back w s) (λ p q. refl) none;
   links = λ w s x none. row_unlinked w s (λ k. link_after (w.nodes s) x k (w.links s k)) none (λ k. refl);
   write = λ w s x none. same_links w (written w s x) (λ p q. refl) none;
   half = λ w s x disk none. same_links w (half_written w s x disk) (λ p q. refl) none;
@@ -225,7 +233,7 @@ unlinked_kept = record {
       same_links (with_links (crash_world w s kept) s (λ to. lost_touch (w.links s to))) (crash_at w s kept) (λ p q. refl)
       (row_unlinked (crash_world w s kept) s (λ to. lost_touch (w.links s to)) (same_links w (crash_world w s kept) (crash_links (is_origin (w.nodes s).role) w s kept) none)
       (λ k. ap (λ (l : LinkOf). is_linked l) (sym (crash_links (is_origin (w.nodes s).role) w s kept s k))));
-  deport = λ w s none. same_links w (deported_world w s) (λ p q. refl) none;
+  deport = λ w s fuse none. same_links w (deported_world fuse w s) (λ p q. refl) none;
   recover = λ w s none.
       let n : Node = come_back (w.nodes s) in
       let v : World = with_links (with_node w s n) s (λ to. restarted_link n to (w.links s to)) in
@@ -266,12 +274,13 @@ primaries_kept = record {
   site = λ w name disks blocks all. node_primary w (site_made w name disks blocks) w.sites (bare_site name disks blocks) (λ k. refl) refl all;
   raw = λ w s all. node_primary w (raw_made w s) s (raw_set s (w.nodes s)) (λ k. refl) refl all;
   group = λ w s all. node_primary w (group_made w s) s (group_set s (w.nodes s)) (λ k. refl) refl all;
+  back = λ w s all. node_primary w (group_back w s) s (group_up (w.nodes s)) (λ k. refl) (all.each s) all;
   links = λ w s x all. record { each = all.each };
   write = λ w s x all. node_primary w (written w s x) s (logged (w.nodes s) x) (λ k. refl) (all.each s) all;
   half = λ w s x disk all. node_primary w (half_written w s x disk) s (record (w.nodes s) { log = (w.nodes s).log ++ x ∷ []; halted = Some disk; fuse = burned (w.nodes s).fuse }) (λ k. refl) (all.each s) all;
   apply = λ w s number mark all. node_primary w (acknowledged w s (applied (w.nodes s) number mark)) s (applied (w.nodes s) number mark) (λ k. refl) (all.each s) all;
   crash = λ w s kept all. node_primary w (crash_at w s kept) s (crashed (w.nodes s) kept) (crash_nodes_are w s kept) (all.each s) all;
-  deport = λ w s all. node_primary w (deported_world w s) s (deported_site (w.nodes s)) (λ k. refl) (all.each s) all;
+  deport = λ w s fuse all. node_primary w (deported_world fuse w s) s (deported_site fuse (w.nodes s)) (λ k. refl) (all.each s) all;
   recover = λ w s all.
       node_primary w (recovered_at w s) s (come_back (w.nodes s)) (λ k. refl) (ap (λ (n : Node). n.role) (back_primary (w.nodes s) (all.each s)) ∙ all.each s) all;
   session = λ w s all. node_primary w (session_begun w s) s (record (w.nodes s) { session = (w.nodes s).session + 1 }) (λ k. refl) (all.each s) all;

@@ -2,6 +2,7 @@ pub mod Agreeing
 pub mod Bearing
 pub mod Blocks
 pub mod Calm
+pub mod GroupStopping
 pub mod Keeping
 pub mod LinkAgreeing
 pub mod LinkJoining
@@ -12,6 +13,7 @@ pub mod LinkTesting
 pub mod LinkWaiting
 pub mod LinkWrites
 pub mod Noting
+pub mod Over
 pub mod Parts
 pub mod Passing
 pub mod Places

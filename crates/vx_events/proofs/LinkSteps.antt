@@ -7,7 +7,7 @@ use Rattle.vx_model.specs.declared.link.SyncMode.TheVariants.{Off as NeverWaits,
 use Rattle.vx_model.specs.declared.no.No.TheVariants.{Device}
 use Rattle.vx_history.specs.Doubts.{Doubted, halved}
 use Rattle.vx_history.specs.Step.{run}
-use Rattle.vx_history.specs.World.{World, empty_world}
+use Rattle.vx_history.specs.World.{empty_world}
 use Rattle.vx_history.specs.declared.event.Event.TheVariants.{Site as MakeSite, Raw as MakeRaw, Set as SetAt, Crash as CrashAt}
 use Rattle.vx_script.specs.declared.line.ScriptLine.{ScriptLine}
 use Rattle.vx_script.specs.declared.line.ScriptLine.TheVariants.{Link, Set, Crash}
@@ -48,8 +48,8 @@ unfolding line_refusal first_said_no first_name second_name need_of halt_of line
 links = record {
   ends = LinksDone (run_as false two (link_events two.world link_line)) (runs_as false two (link_events two.world link_line)) refl tt refl (record { world = refl; after = λ s. refl });
   counts = tt;
-  works = tt;
-  calls = tt;
+  works = λ said. (refl, refl);
+  calls = λ said. (tt, tt);
 }
 
 -- a disk that fails as the link is set anew: whether it is, is in doubt
@@ -65,10 +65,10 @@ sets : LineStep (Unit {0}) false (behind two link_line) set_line ((0, 0) ∷ [])
 unfolding line_refusal first_said_no first_name second_name need_of halt_of line_role line_unknown taken over_limit wrong_size span_of ask_of is_raw_shape
 sets = record {
   ends = LinksHalt (SetAt 0 1 FailsIfNotLive) 0 0 (behind two link_line)
-      (record { before = []; rest = []; split = refl; runs = refl; fails = refl; opens = (refl, refl); writes = refl }) refl refl (record { world = refl; after = λ s. refl });
+      (record { before = []; rest = []; split = refl; runs = refl; fails = refl; opens = (refl, refl); writes = refl }) (λ none. refl) refl refl (record { world = refl; after = λ s. refl });
   counts = tt;
-  works = tt;
-  calls = tt;
+  works = λ said. refl;
+  calls = λ said. tt;
 }
 
 -- a crash takes the one or the other

@@ -24,14 +24,14 @@ link_stops told is_told d line fails said new (LinksDone last runs none borne sa
   are = inr (refl, borne);
   stops = AllDone last runs (sym none) (links_like line d last new leads);
 }
-link_stops told is_told d line fails said new (LinksHalt e site disk middle comes is says leads) = record {
+link_stops told is_told d line fails said new (LinksHalt e site disk middle comes here is says leads) = record {
   events = link_events d.world line;
   came = AllCame refl;
   ending = fails;
   are = inl refl;
   stops = Halts e site disk middle comes is (links_like line d (halved middle e site disk) new leads);
 }
-link_stops told is_told d line fails said new (AppliesPart before rest site count reached disk last split runs none is says leads) = record {
+link_stops told is_told d line fails said new (AppliesPart before rest site count reached disk last split runs none here is says leads) = record {
   events = before ++ Fault site disk ∷ [];
   came = AppliedPart before rest site count reached disk split refl;
   ending = fails;
@@ -53,7 +53,7 @@ link_stops told is_told d line fails said new (LinksCut e site kept taken middle
   are = inl refl;
   stops = Cuts e site kept taken middle comes fused none (links_like line d (crashed_as (halved middle e site 0) site kept taken) new leads);
 }
-link_stops told is_told d line fails said new (LogUnread before rest e site disk middle split reads runs none is says leads) = record {
+link_stops told is_told d line fails said new (LogUnread before rest e site disk middle split reads runs none here is says leads) = record {
   events = link_events d.world line;
   came = AllCame refl;
   ending = fails;

@@ -28,7 +28,7 @@ like_self w = record {
   gathering = λ i. refl;
 }
 
-like_noted : (v : World) (s : ℕ) (f : Fuse) → IsLike v (with_node v s (record (v.nodes s) { fuse = f }))
+pub like_noted : (v : World) (s : ℕ) (f : Fuse) → IsLike v (with_node v s (record (v.nodes s) { fuse = f }))
 like_noted v s f = record {
   sites = refl;
   nodes = all_updated (λ i (n : Node). n ≡ record (v.nodes i) { fuse = n.fuse; failing = n.failing; group = n.group }) v.nodes s (record (v.nodes s) { fuse = f }) refl (λ k _. refl);
@@ -39,7 +39,7 @@ like_noted v s f = record {
   gathering = λ i. refl;
 }
 
-like_disks : (v : World) (s : ℕ) (failing : ℕ → Bool) (group : Option GroupNode) → IsLike v (with_node v s (record (v.nodes s) { failing = failing; group = group }))
+pub like_disks : (v : World) (s : ℕ) (failing : ℕ → Bool) (group : Option GroupNode) → IsLike v (with_node v s (record (v.nodes s) { failing = failing; group = group }))
 like_disks v s failing group = record {
   sites = refl;
   nodes = all_updated (λ i (n : Node). n ≡ record (v.nodes i) { fuse = n.fuse; failing = n.failing; group = n.group }) v.nodes s (record (v.nodes s) { failing = failing; group = group }) refl (λ k _. refl);

@@ -9,14 +9,17 @@ use Rattle.vx_model.specs.declared.limits.TheConstants.{MOST_NUMBER, MOST_SITES,
 use Rattle.vx_model.specs.declared.no.No.TheVariants.{Exists, Limit, Size, Role as WrongRole, Down as NotUp, Device, NoConfig}
 use Rattle.vx_model.specs.declared.no.Counted.TheVariants.{Sites, Disks, Number}
 use Rattle.vx_model.specs.declared.site.SiteState.{SiteState}
-use Rattle.vx_model.specs.declared.site.SiteState.TheVariants.{Bare, Up, Down}
+use Rattle.vx_model.specs.declared.site.SiteState.TheVariants.{Bare, Up, Deported, Down}
+use Rattle.vx_history.proofs.GroupLemmas.{group_passes}
 use Rattle.vx_history.proofs.Updates.{at_place}
+use Rattle.vx_history.specs.Sound.{is_at_rest}
+use Rattle.vx_model.specs.declared.site.Role.TheVariants.{Primary}
 use Rattle.vx_history.specs.Admission.{Admitted, Goes, admit}
-use Rattle.vx_history.specs.Events.{admitted, written_if, put_in, links_changed, link_after, said_of_write, is_in_place, link_in_place, put_before, linked_sites, plain_links, log_uses, reached_at, apply_at, crash_at, deport_at, kept_of, recover_from, recovery}
+use Rattle.vx_history.specs.Events.{group_again, group_from, is_plain_group, admitted, written_if, put_in, links_changed, link_after, said_of_write, is_in_place, link_in_place, put_before, linked_sites, plain_links, log_uses, reached_at, apply_at, crash_at, deport_at, kept_of, recover_from, recovery}
 use Rattle.vx_history.specs.Refusals.{Outcome, says, unless, at_work, some_below, is_waited_for, waits, goes, refused}
 use Rattle.vx_history.specs.Sends.{is_made, is_linked}
 use Rattle.vx_history.specs.Step.{outcome_of, done, joined_blocks}
-use Rattle.vx_history.specs.Steps.{site_made, raw_made, group_made, written, half_written, stopped_by}
+use Rattle.vx_history.specs.Steps.{site_made, raw_made, group_back, group_made, written, half_written, stopped_by}
 use Rattle.vx_history.specs.World.{Node, Link as LinkOf, World}
 use Rattle.vx_history.specs.declared.event.Event.TheVariants.{Site, Raw, Group, Write, Read, Apply, Crash, Deport, Recover, Fault}
 use Rattle.vx_history.specs.declared.event.Said.{Said}
@@ -47,10 +50,21 @@ raw_step w s below bare shape =
     ∙ off (not (is_raw_shape (w.nodes s).disks (w.nodes s).blocks)) Size w o (ap (λ (b : Bool). not b) shape)
 
 pub group_step : (w : World) (s : ℕ) → s < w.sites → (w.nodes s).state ≡ Bare → outcome_of w (Group s) ≡ done (group_made w s)
-group_step w s below bare =
-    let o : Outcome = done (group_made w s) in
-    is_site w s (unless (not (is_bare (w.nodes s).state)) WrongRole w o) below
-    ∙ off (not (is_bare (w.nodes s).state)) WrongRole w o (ap (λ (t : SiteState). not (is_bare t)) bare)
+group_step w s below bare = is_site w s (group_from (w.nodes s).state w s) below ∙ ap (λ (t : SiteState). group_from t w s) bare
+
+-- and a group that is at rest comes up again
+pub again_step : (w : World) (s : ℕ) → s < w.sites → is_at_rest (w.nodes s).state ≡ true → (w.nodes s).role ≡ Primary → (w.nodes s).volumes ≡ []
+    → (w.nodes s).log ≡ [] → outcome_of w (Group s) ≡ done (group_back w s)
+again_step w s below rest role volumes log =
+    is_site w s (group_from (w.nodes s).state w s) below
+    ∙ by_state (w.nodes s).state rest
+    ∙ off (not (is_plain_group (w.nodes s))) WrongRole w (done (group_back w s)) (ap (λ (b : Bool). not b) (group_passes (w.nodes s) role volumes log))
+  where
+    by_state : (t : SiteState) → is_at_rest t ≡ true → group_from t w s ≡ group_again w s
+    by_state Bare e = absurd (cc)
+    by_state Up e = absurd (cc)
+    by_state Deported e = refl
+    by_state Down e = refl
 
 -- ---- crashes, deports, recoveries and failing disks
 

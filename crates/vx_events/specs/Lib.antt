@@ -7,6 +7,12 @@ pub mod Failing
 pub mod Fails
 pub mod Found
 pub mod Fuses
+pub mod GroupConfigs
+pub mod GroupEnds
+pub mod GroupLines
+pub mod GroupNotes
+pub mod GroupReplies
+pub mod GroupViews
 pub mod Lines
 pub mod LinkEnds
 pub mod LinkFinds
@@ -21,5 +27,6 @@ pub mod Sayings
 pub mod Sent
 pub mod Settles
 pub mod Stamps
+pub mod StepsOver
 pub mod Stopping
 pub mod Views

@@ -17,7 +17,7 @@ use Rattle.vx_script.specs.declared.line.ScriptLine.{ScriptLine}
 use Rattle.vx_script.specs.declared.line.ScriptLine.TheVariants.{Link, Set, Deliver, Settle}
 use Rattle.vx_events.specs.Doubts.{IsAs}
 use Rattle.vx_events.specs.Facts.{head_of, site_number}
-use Rattle.vx_events.specs.Fails.{AreBorne, AreEnding, Fails}
+use Rattle.vx_events.specs.Fails.{AreBorne, AreEnding, Fails, IsLogDisk, IsSiteDisk}
 use Rattle.vx_events.specs.LinkFinds.{FindsOther}
 use Rattle.vx_events.specs.LinkLists.{link_events}
 use Rattle.vx_events.specs.Sayings.{Replies}
@@ -70,13 +70,13 @@ pub data LinkEnds (told : Type 0) (d : Doubted) (line : ScriptLine) (fails : Fai
   -- all events are done
   LinksDone : (last : Doubted) → Runs d (link_events d.world line) last → all_fails (link_events d.world line) ≡ [] → AreBorne d.world fails
       → LinkReplies line d last (link_events d.world line) said → AreLeft line d last new → LinkEnds told d line fails said new
-  -- a disk of this site failed in an event, which may be on its disks
-  LinksHalt : (e : Event) (site disk : ℕ) (middle : Doubted) → ComesTo d (link_events d.world line) e site middle → fails ≡ (site, disk) ∷ []
-      → said ≡ Refused (Device disk) → AreLeft line d (halved middle e site disk) new → LinkEnds told d line fails said new
+  -- the disk of this site's log failed in an event, which may be on its disks
+  LinksHalt : (e : Event) (site disk : ℕ) (middle : Doubted) → ComesTo d (link_events d.world line) e site middle → IsLogDisk (middle.world.nodes site) disk
+      → fails ≡ (site, disk) ∷ [] → said ≡ Refused (Device disk) → AreLeft line d (halved middle e site disk) new → LinkEnds told d line fails said new
   -- a disk of this site failed as waiting records were applied, behind the events before that
   AppliesPart : (before rest : List Event) (site count reached disk : ℕ) (last : Doubted)
       → link_events d.world line ≡ before ++ ApplyAt site count reached ∷ rest → Runs d (before ++ Fault site disk ∷ []) last → all_fails before ≡ []
-      → fails ≡ (site, disk) ∷ [] → said ≡ Refused (Device disk) → AreLeft line d last new
+      → IsSiteDisk (last.world.nodes site) disk → fails ≡ (site, disk) ∷ [] → said ≡ Refused (Device disk) → AreLeft line d last new
       → LinkEnds told d line fails said new
   -- the fuse of this site ran out as waiting records were applied, behind the events before that: it is down, with some of them
   AppliesCut : (before rest : List Event) (site count reached kept : ℕ) (taken : Bool) (middle : Doubted)
@@ -89,7 +89,7 @@ pub data LinkEnds (told : Type 0) (d : Doubted) (line : ScriptLine) (fails : Fai
       → AreLeft line d (crashed_as (halved middle e site 0) site kept taken) new → LinkEnds told d line fails said new
   -- a read of the log failed: the event is not begun
   LogUnread : (before rest : List Event) (e : Event) (site disk : ℕ) (middle : Doubted) → link_events d.world line ≡ before ++ e ∷ rest → ReadsLog middle.world e site
-      → Runs d before middle → all_fails before ≡ [] → fails ≡ (site, disk) ∷ [] → said ≡ Refused (Device disk)
+      → Runs d before middle → all_fails before ≡ [] → IsLogDisk (middle.world.nodes site) disk → fails ≡ (site, disk) ∷ [] → said ≡ Refused (Device disk)
       → AreLeft line d middle new → LinkEnds told d line fails said new
   -- no number is left for a header, or for the records that wait: the events before stand
   NoHeader : (before rest : List Event) (e : Event) (site : ℕ) (middle : Doubted) → link_events d.world line ≡ before ++ e ∷ rest

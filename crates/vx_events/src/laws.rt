@@ -1,5 +1,5 @@
 // What the tests of a line and those of its event have to do with each other.
-ghost use Rattle.std.specs.Prelude.{◌≡◌, ◌+◌, ◌*◌, ◌<◌, ◌≤◌, ℕ, List, [], Bool, true, false, None, length, min, replicate};
+ghost use Rattle.std.specs.Prelude.{◌≡◌, ◌+◌, ◌*◌, ◌<◌, ◌≤◌, ℕ, List, [], Bool, true, false, None, length, min, replicate, IsTrue};
 ghost use Rattle.vx_model.specs.Content.{Write, blocks_from};
 ghost use Rattle.vx_model.specs.Sites.{is_origin};
 ghost use Rattle.vx_model.specs.declared.limits.TheConstants.{MOST_NUMBER};
@@ -15,11 +15,13 @@ ghost use Rattle.vx_order.specs.Order.{line_refusal};
 ghost use Rattle.vx_script.specs.declared.line.ScriptLine.{ScriptLine};
 ghost use Rattle.vx_script.specs.declared.line.ScriptLine.TheVariants.{Site, Raw, Crash, Write as WriteLine, Put, Read, Show, Apply};
 ghost use Rattle.vx_events.specs.Facts.{facts_of, site_number, volume_number};
+ghost use Rattle.vx_events.specs.GroupEnds.{GroupEnds, GroupStops};
 ghost use Rattle.vx_events.specs.Fails.{AreBorne, Fails};
 ghost use Rattle.vx_events.specs.Lines.{LineStep, is_of_links};
 ghost use Rattle.vx_events.specs.Lists.{Choice};
 ghost use Rattle.vx_events.specs.Parts.{DonePart, StopsShort, first_part, goes_in_parts};
 ghost use Rattle.vx_events.specs.Plain.{HasNoGroups, IsUnlinked, IsSizedAs};
+ghost use Rattle.vx_events.specs.StepsOver.{MakesNoGroup, StepOver, is_for_group};
 ghost use Rattle.vx_events.specs.Stopping.{StopsBy};
 ghost use Rattle.vx_events.specs.declared.said.Said.{Said};
 
@@ -63,6 +65,24 @@ pub fn tests_agree()
 pub fn lines_are_events()
     ensures { (d : Doubted) (files : Bool) (line : ScriptLine) (fails : Fails) (said : Said) (new : Doubted) → LineStep (Unit {0}) files d line fails said new
         → StopsBy (is_of_links line) d line fails new }
+{}
+
+/// However a line over a group of disks without a replicated volume group ends, it ends as events of the world do, in worlds that differ in notes
+/// alone. So the laws of what events keep hold of such lines too.
+pub fn group_lines_are_events()
+    ensures { (tells : Bool) (d : Doubted) (line : ScriptLine) (s : ℕ) (fails : Fails) (said : Said) (new : Doubted) → GroupEnds (IsTrue tells) d line s fails said new
+        → GroupStops d new }
+{}
+
+/// In a world without groups of disks a line that makes none does what it does there. A line that works on a group, and is refused or not, ends as
+/// events of the world do.
+pub fn steps_over_groups()
+    ensures over { (tells files : Bool) (d : Doubted) (line : ScriptLine) (fails : Fails) (said : Said) (new : Doubted) → HasNoGroups d.world → MakesNoGroup line
+        → LineStep (IsTrue tells) files d line fails said new → StepOver (IsTrue tells) files d line fails said new }
+    ensures plain { (tells files : Bool) (d : Doubted) (line : ScriptLine) (fails : Fails) (said : Said) (new : Doubted) → HasNoGroups d.world → MakesNoGroup line
+        → StepOver (IsTrue tells) files d line fails said new → LineStep (IsTrue tells) files d line fails said new }
+    ensures stops { (tells files : Bool) (d : Doubted) (line : ScriptLine) (fails : Fails) (said : Said) (new : Doubted) → is_for_group d.world line ≡ true
+        → StepOver (IsTrue tells) files d line fails said new → GroupStops d new }
 {}
 
 /// Only of a site over a group may a call fail in a line that is done: where there is none, no call failed in it.

@@ -1,6 +1,6 @@
 // What a line is answered, before it is text.
 use vx_model::{Bytes, No};
-use vx_report::SiteView;
+use vx_report::{Kept, SiteView};
 
 /// The reply of a line.
 #[derive(Drop)]
@@ -13,6 +13,8 @@ pub enum Said {
     Shown(SiteView),
     /// The last number of the log that a site came up with, and how the site stands.
     Recovered(u64, SiteView),
+    /// How a site without a replicated volume group stands that came up, and what is kept of a write that its crash cut.
+    Resumed(SiteView, Option<Kept>),
     /// The number of a write that some link has to confirm.
     Logged(u64),
     /// The number of a write that some link has still to confirm.

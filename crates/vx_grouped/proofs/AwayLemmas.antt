@@ -3,7 +3,7 @@ use Rattle.std.proofs.Common.{◌≡◌, inl, ℕ, true, refl, sym, ◌∙◌, s
 use Rattle.vx_model.specs.declared.site.SiteState.TheVariants.{Down as IsDown}
 use Rattle.vx_disk.specs.Racks.{Stopped}
 use Rattle.vx_disk.specs.Shelf.{Each, Image, Meaning}
-use Rattle.vx_history.specs.Groups.{GroupNode}
+use Rattle.vx_history.specs.Groups.{GroupNode, BlockMay}
 use Rattle.vx_history.specs.World.{Node}
 use Rattle.vx_config.specs.declared.config.Config.{Config}
 use Rattle.vx_copyfmt.specs.Imports.{Found}
@@ -20,7 +20,6 @@ use Rattle.vx_group.specs.declared.group_core.GroupCore.{GroupCore}
 use Rattle.vx_group.proofs.HoldLemmas.{wide_shape}
 use Rattle.vx_grouped.specs.Away.{AwayLies, IsAwayAt}
 use Rattle.vx_grouped.specs.GroupNotes.{GroupLies}
-use Rattle.vx_grouped.specs.Plain.{BlockMay}
 use Rattle.vx_kept.proofs.Chosen.{extends_shape}
 
 module _ (n : Node) (note : GroupNode) (c : GroupCore) (m m' : Meaning) (lies : GroupLies n note c m) (stopped : Stopped m m') (stands : InnerStands (wide c) m') where

@@ -7,7 +7,7 @@ use Rattle.vx_model.specs.declared.no.Counted.TheVariants.{Number as Numbers}
 use Rattle.vx_model.specs.declared.no.No.TheVariants.{Limit}
 use Rattle.vx_model.specs.declared.site.SiteState.TheVariants.{Deported as IsDeported}
 use Rattle.vx_disk.specs.Shelf.{Each, Goes, Image, Meaning, Nothing}
-use Rattle.vx_history.specs.Groups.{GroupNode}
+use Rattle.vx_history.specs.Groups.{GroupNode, BlockMay}
 use Rattle.vx_history.specs.World.{Node}
 use Rattle.vx_config.specs.declared.config.Config.{Config}
 use Rattle.vx_copyfmt.specs.Imports.{Found}
@@ -33,7 +33,6 @@ use Rattle.vx_group.proofs.Standing.{sound_of}
 use Rattle.vx_grouped.specs.Away.{IsDeportedAt, note_deported}
 use Rattle.vx_grouped.specs.Ends.{CallLeaves}
 use Rattle.vx_grouped.specs.GroupNotes.{GroupLies, IsGroupAt, IsGroupCut, note_refused}
-use Rattle.vx_grouped.specs.Plain.{BlockMay}
 use Rattle.vx_grouped.proofs.KeepLemmas.{call_cut, call_up}
 
 place_serial : (s : ℕ) (c : Config) (v p b : ℕ) → place (at_serial s c) v p b ≡ place c v p b

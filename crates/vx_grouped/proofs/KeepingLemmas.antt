@@ -3,9 +3,9 @@ use Rattle.std.proofs.Common.{◌≡◌, ◌⊎◌, ◌∙◌, ℕ, zero, suc, �
 use Rattle.std.proofs.lemmas.List.{take_at}
 use Rattle.vx_model.specs.Content.{block_of}
 use Rattle.vx_disk.specs.Shelf.{Meaning}
-use Rattle.vx_history.specs.Groups.{GroupNode}
+use Rattle.vx_history.specs.Groups.{BlockMay, GroupNode}
 use Rattle.vx_grouped.specs.Keepings.{AreKept, KeepsPlain}
-use Rattle.vx_grouped.specs.Plain.{BlockMay, ReadsPlain}
+use Rattle.vx_grouped.specs.Plain.{ReadsPlain}
 
 pub set_here : {A : Type 0} (xs : List A) (i : ℕ) (x : A) → i < length xs → slice_get (slice_set xs i x) i ≡ Some x
 set_here [] i x h = absurd (omega arith)

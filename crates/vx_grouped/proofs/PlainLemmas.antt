@@ -5,9 +5,9 @@ use Rattle.std.proofs.lemmas.Bool.Decides.{nat_tests}
 use Rattle.std.proofs.lemmas.Bool.{cases_eq}
 use Rattle.vx_model.specs.Content.{Write, put, block_of, blocks_in, touches}
 use Rattle.vx_disk.specs.Shelf.{Covers, Fits, Flushed, Goes, Lawful, Meaning, Nothing, Written, Wrote}
-use Rattle.vx_history.specs.Groups.{GroupNode}
+use Rattle.vx_history.specs.Groups.{GroupNode, BlockMay, note_cut, note_doubt, note_write}
 use Rattle.vx_grouped.specs.Ends.{plain_write}
-use Rattle.vx_grouped.specs.Plain.{HoldsPlain, BlockMay, note_cut, note_doubt, note_write}
+use Rattle.vx_grouped.specs.Plain.{HoldsPlain}
 
 -- ---- which blocks a write has
 

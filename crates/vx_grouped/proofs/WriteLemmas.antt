@@ -8,7 +8,7 @@ use Rattle.vx_disk.specs.Racks.{IsRack}
 use Rattle.vx_disk.specs.Shelf.{Fits, Flushed, Goes, Lawful, Meaning, Nothing, Written, Wrote}
 use Rattle.vx_disk.specs.declared.shelf.ShelfError.{ShelfError}
 use Rattle.vx_disk.specs.declared.shelf.ShelfError.TheVariants.{Down, Fault}
-use Rattle.vx_history.specs.Groups.{GroupNode}
+use Rattle.vx_history.specs.Groups.{GroupNode, note_cut, note_doubt, note_write}
 use Rattle.vx_history.specs.World.{Node}
 use Rattle.vx_group.specs.Holding.{GroupStands, wide}
 use Rattle.vx_group.specs.Loses.{LosesPlexes}
@@ -17,7 +17,6 @@ use Rattle.vx_group.specs.declared.group_core.GroupCore.{GroupCore}
 use Rattle.vx_group.proofs.LoseLemmas.{then_loses}
 use Rattle.vx_grouped.specs.Ends.{WriteLeaves, plain_write}
 use Rattle.vx_grouped.specs.GroupNotes.{GroupLies, IsGroupAt, note_done, note_refused}
-use Rattle.vx_grouped.specs.Plain.{note_cut, note_doubt, note_write}
 use Rattle.vx_grouped.proofs.NoteLemmas.{lies_done, lies_refused, rack_size, rack_units}
 use Rattle.vx_grouped.proofs.PlainLemmas.{cut_holds, doubt_holds, same_holds, write_holds}
 

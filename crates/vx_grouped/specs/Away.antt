@@ -2,7 +2,7 @@
 use Rattle.std.specs.Prelude.{◌≡◌, ℕ, ◌<◌, true, false, if◌then◌else◌, IsTrue, []}
 use Rattle.vx_model.specs.declared.site.SiteState.TheVariants.{Deported, Down as IsDown}
 use Rattle.vx_disk.specs.Shelf.{Each, Image, Meaning}
-use Rattle.vx_history.specs.Groups.{GroupNode}
+use Rattle.vx_history.specs.Groups.{GroupNode, BlockMay}
 use Rattle.vx_history.specs.World.{Node}
 use Rattle.vx_config.specs.Checks.{blocks_of}
 use Rattle.vx_config.specs.declared.config.Config.{Config}
@@ -15,7 +15,6 @@ use Rattle.vx_volume.specs.Plexes.{Inside}
 use Rattle.vx_group.specs.Resumes.{CanImport}
 use Rattle.vx_group.specs.declared.inner.Inner.{Inner}
 use Rattle.vx_grouped.specs.GroupNotes.{noted_config}
-use Rattle.vx_grouped.specs.Plain.{BlockMay}
 
 -- The disks of the site, on which the group was last up with a configuration. An import may go over them, unless imports may disagree. Each image that
 -- they keep has a configuration with the volumes of that one, and perhaps more, and in it each plex that is ACTIVE or CLEAN has of each of their blocks a value
@@ -38,7 +37,7 @@ pub record IsAwayAt (n : Node) (note : GroupNode) (m : Meaning) : Type 0 where
 
 -- the note with the configuration that a deport committed; imports may disagree where the one of before was not committed
 abbrev pub note_deported : Config → Inner → GroupNode → GroupNode
-note_deported x core note = record note { config = noted_config x; begun = []; loose = if core.committed then false else true }
+note_deported x core note = record note { config = noted_config x; begun = if core.committed then [] else note.begun; loose = if core.committed then false else true }
 
 -- the disks of a site that was deported: each image has the configuration that is noted
 pub record IsDeportedAt (n : Node) (note : GroupNode) (m : Meaning) : Type 0 where

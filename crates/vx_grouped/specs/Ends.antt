@@ -7,13 +7,12 @@ use Rattle.vx_model.specs.declared.errors.Stop.TheVariants.{No as Refused, OutOf
 use Rattle.vx_model.specs.declared.no.No.{No}
 use Rattle.vx_model.specs.declared.no.No.TheVariants.{Device, Down}
 use Rattle.vx_disk.specs.Shelf.{Meaning}
-use Rattle.vx_history.specs.Groups.{GroupNode}
+use Rattle.vx_history.specs.Groups.{GroupNode, note_cut, note_doubt, note_write}
 use Rattle.vx_history.specs.World.{Node}
 use Rattle.vx_config.specs.declared.config.Config.{Config}
 use Rattle.vx_group.specs.declared.group_core.GroupCore.{GroupCore}
 use Rattle.vx_grouped.specs.Away.{IsDeportedAt, note_deported}
 use Rattle.vx_grouped.specs.GroupNotes.{IsGroupAt, IsGroupCut, note_done, note_refused}
-use Rattle.vx_grouped.specs.Plain.{note_cut, note_doubt, note_write}
 
 -- a write of these bytes
 abbrev pub plain_write : ℕ → ℕ → List ℕ → Write

@@ -2,8 +2,7 @@
 use Rattle.std.specs.Prelude.{◌≡◌, ℕ, ◌+◌, ◌*◌, ◌<◌, ◌≤◌, Bool, false, IsTrue, Some, List, length, slice_get, bytes_eq}
 use Rattle.vx_model.specs.Content.{block_of}
 use Rattle.vx_disk.specs.Shelf.{Meaning}
-use Rattle.vx_history.specs.Groups.{GroupNode}
-use Rattle.vx_grouped.specs.Plain.{BlockMay}
+use Rattle.vx_history.specs.Groups.{BlockMay, GroupNode}
 
 -- block by block whether what was found is what was to be written; false behind that
 pub record AreKept (seen bytes : List ℕ) (bits : List Bool) : Type 0 where

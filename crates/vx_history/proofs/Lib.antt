@@ -1,4 +1,5 @@
 pub mod CrashLemmas
 pub mod GoodLemmas
+pub mod GroupLemmas
 pub mod Places
 pub mod Updates

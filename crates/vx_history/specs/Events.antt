@@ -3,7 +3,7 @@ use Rattle.std.specs.Prelude.{ℕ, zero, suc, ◌+◌, min, max, Bool, true, fal
 use Rattle.vx_model.specs.Content.{Write, fold_writes, blocks_in}
 use Rattle.vx_history.specs.World.{Node, Link, Message, Packet, Promise, World, Hello, Update, NetAck, DataAck, Durable, InSession, no_regions, with_node}
 use Rattle.vx_model.specs.Sites.{is_origin, same_line}
-use Rattle.vx_history.specs.Steps.{crashed, crash_left, deported_world, recovered, session_begun, written, half_written}
+use Rattle.vx_history.specs.Steps.{crashed, crash_left, deported_world, group_back, group_made, recovered, session_begun, written, half_written}
 use Rattle.vx_history.specs.Admission.{is_fail, hold, change, changed_mode, admit, Admitted, Held_by, Goes}
 use Rattle.vx_history.specs.Sending.{Sent, sent_step}
 use Rattle.vx_history.specs.Receiving.{received_step}
@@ -35,7 +35,7 @@ use Rattle.vx_model.specs.declared.no.Named.TheVariants.{Number as ByNumber}
 use Rattle.vx_history.specs.declared.event.Said.{Said}
 use Rattle.vx_history.specs.declared.event.Said.TheVariants.{Done, DoneAt, Logged, Pending, Got, Taken as IsTaken, Ignored as IsIgnored, Recovered, Refused}
 use Rattle.vx_history.specs.Sends.{is_linked, with_link, with_links, sending, promising, packets_of, sent_by, greeting}
-use Rattle.vx_history.specs.Refusals.{Outcome, says, refused, unless, unless_at_most, is_running, keeps_links, some_below, why_held, holds_back, is_unconfirmed, is_waited_for}
+use Rattle.vx_history.specs.Refusals.{Outcome, says, refused, unless, unless_at_most, is_empty, is_primary, is_running, keeps_links, some_below, why_held, holds_back, is_unconfirmed, is_waited_for}
 use Rattle.vx_model.specs.Sites.{is_up}
 
 -- ## Writes
@@ -282,9 +282,9 @@ crash_world w s k = if is_origin (w.nodes s).role then crash_left w s k else wit
 abbrev pub crash_at : World → ℕ → ℕ → World
 crash_at w s k = emptied (with_links (crash_world w s k) s (λ to. lost_touch (w.links s to))) s
 
--- a deport is a crash that keeps no more than it has to, and the site is then deported
+-- a deport is a crash that keeps no more than it has to, and the site is then deported; the fuse of its disks stays set
 abbrev pub deport_at : World → ℕ → World
-deport_at w s = deported_world (crash_at w s (kept_of (w.nodes s) 0)) s
+deport_at w s = deported_world (w.nodes s).fuse (crash_at w s (kept_of (w.nodes s) 0)) s
 
 -- a site comes up again; a receiver may be consistent then, by the rule of receivers
 abbrev pub come_back : Node → Node
@@ -314,6 +314,23 @@ recover_from Bare w s fails = refused w NoConfig
 recover_from Up w s fails = refused w WrongRole
 recover_from Deported w s fails = unless_at_most (w.nodes s).session w (recovery w s fails)
 recover_from Down w s fails = unless_at_most (w.nodes s).session w (recovery w s fails)
+
+-- ## Groups of disks
+
+-- a primary that has no volumes and no log: where it is more than bare, it is a group of disks without a replicated volume group
+abbrev pub is_plain_group : Node → Bool
+is_plain_group n = is_primary n.role && (eqb (length n.volumes) 0 && is_empty n.log)
+
+-- such a group comes up again
+abbrev pub group_again : World → ℕ → Outcome
+group_again w s = unless (not (is_plain_group (w.nodes s))) WrongRole w (says (group_back w s) Done)
+
+-- a bare site becomes a group of disks, and one that is down or deported comes up again
+abbrev pub group_from : SiteState → World → ℕ → Outcome
+group_from Bare w s = says (group_made w s) Done
+group_from Up w s = refused w WrongRole
+group_from Deported w s = group_again w s
+group_from Down w s = group_again w s
 
 -- ## The events of a link
 

@@ -1,6 +1,6 @@
--- What a site notes of its group of disks. Events of sites and links do not look at it.
-use Rattle.std.specs.Prelude.{ℕ, Bool, List, Option}
-use Rattle.vx_model.specs.Content.{Write, Content}
+-- What a site notes of its group of disks, and what calls of the group make of it. Events of sites and links do not look at it.
+use Rattle.std.specs.Prelude.{◌≡◌, ◌⊎◌, ℕ, ◌-◌, if◌then◌else◌, Bool, true, false, List, [], ◌∷◌, Option, Some, Contains}
+use Rattle.vx_model.specs.Content.{Write, Content, block_of, put, touches}
 
 -- a site whose disks are a group
 pub record GroupNode : Type 0 where
@@ -20,3 +20,38 @@ pub record GroupNode : Type 0 where
   pub missed : ℕ → ℕ → Option (ℕ → Bool)
   -- the regions that it may have missed beside these
   pub perhaps : ℕ → ℕ → ℕ → Bool
+
+-- a value that a block of a volume may have: the one that is noted, or one of the further ones
+abbrev pub BlockMay : GroupNode → ℕ → ℕ → List ℕ → Type 0
+BlockMay note v b x = (x ≡ note.bytes.block v b) ⊎ Contains (note.others v b) x
+
+-- the note behind a write that was done: each of its blocks has one value
+abbrev pub note_write : Write → GroupNode → GroupNode
+note_write x note = record note { bytes = put note.bytes x; others = λ v b. if touches x v b then [] else note.others v b }
+
+-- the note behind a write that failed: each of its blocks has what it had, or what was to be written
+abbrev pub note_doubt : Write → GroupNode → GroupNode
+note_doubt x note = record note { others = λ v b. if touches x v b then block_of x.bytes (b - x.start) ∷ note.others v b else note.others v b }
+
+-- the same behind a write in which the fuse ran out: it is the one that a recovery looks at
+abbrev pub note_cut : Write → GroupNode → GroupNode
+note_cut x note = record (note_doubt x note) { cut = Some x }
+
+-- what is noted of the volumes, and of the regions that plexes missed, is the same
+pub record NoteSame (old new : GroupNode) : Type 0 where
+  pub bytes : new.bytes ≡ old.bytes
+  pub others : new.others ≡ old.others
+  pub cut : new.cut ≡ old.cut
+  pub missed : new.missed ≡ old.missed
+  pub perhaps : new.perhaps ≡ old.perhaps
+
+-- behind a call in which no commit was refused: nothing is begun, or what was; imports agree where they did and nothing was begun
+pub record NoteSettles (old new : GroupNode) : Type 0 where
+  pub same : NoteSame old new
+  pub begun : ((new.begun ≡ []) × (new.loose ≡ false)) ⊎ ((new.begun ≡ old.begun) × (old.loose ≡ true → new.loose ≡ true))
+  pub tight : old.loose ≡ false → old.begun ≡ [] → new.loose ≡ false
+
+-- behind a call in which a commit may have been refused: nothing is begun, or one configuration more
+pub record NoteUnsettles (old new : GroupNode) : Type 0 where
+  pub same : NoteSame old new
+  pub begun : ((new.begun ≡ []) × (new.loose ≡ false)) ⊎ ((next : List ℕ) × (new.begun ≡ next ∷ old.begun) × (old.loose ≡ true → new.loose ≡ true))

@@ -7,7 +7,7 @@ use Rattle.vx_history.specs.Gatherings.{emptied}
 use Rattle.vx_model.specs.Sites.{is_origin}
 use Rattle.vx_model.specs.Answer.{is_too_large}
 use Rattle.vx_history.specs.Receiving.{phase_takes}
-use Rattle.vx_history.specs.Steps.{site_made, raw_made, group_made, stopped_by}
+use Rattle.vx_history.specs.Steps.{site_made, raw_made, stopped_by}
 use Rattle.vx_model.specs.declared.site.Mark.TheVariants.{Consistent}
 use Rattle.vx_model.specs.declared.link.SyncMode.{SyncMode}
 use Rattle.vx_model.specs.declared.link.Prot.TheVariants.{Fail as FailsWhenFull}
@@ -22,7 +22,7 @@ use Rattle.vx_history.specs.Sends.{is_linked, with_link, sending}
 use Rattle.vx_history.specs.Refusals.{Outcome, says, unless, at_site, at_work, both_at_work, on_link, on_link_if, when_live, on_volume, may_be_site, may_join, is_primary, is_consistent, is_stale_mode, is_empty, follows, count_links_of}
 use Rattle.vx_model.specs.Sizes.{is_raw_shape}
 use Rattle.vx_model.specs.Sites.{is_up, is_bare}
-use Rattle.vx_history.specs.Events.{admitted, written_if, apply_at, reached_at, link_event, ticked_at, greeting_back, delivered, packet_at, waited, kept_of, crash_at, deport_at, recover_from, joined, new_link, opened}
+use Rattle.vx_history.specs.Events.{admitted, written_if, apply_at, reached_at, link_event, ticked_at, greeting_back, delivered, packet_at, waited, kept_of, crash_at, deport_at, group_from, recover_from, joined, new_link, opened}
 
 abbrev pub done : World → Outcome
 done w = says w Done
@@ -61,7 +61,7 @@ outcome_of w (Raw s) =
     at_site w s
     (unless (not (is_bare (w.nodes s).state)) WrongRole w
     (unless (not (is_raw_shape (w.nodes s).disks (w.nodes s).blocks)) Size w (done (raw_made w s))))
-outcome_of w (Group s) = at_site w s (unless (not (is_bare (w.nodes s).state)) WrongRole w (done (group_made w s)))
+outcome_of w (Group s) = at_site w s (group_from (w.nodes s).state w s)
 outcome_of w (WriteAt p volume start bytes fails) = write_at w p (record { volume = volume; start = start; bytes = bytes }) fails
 outcome_of w (Read p volume start count) = read_at w p volume start count
 outcome_of w (Apply s count reached) =

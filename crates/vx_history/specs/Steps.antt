@@ -65,6 +65,13 @@ group_set site n = begun_site site 0 [] no_volumes n
 abbrev pub group_made : World → ℕ → World
 group_made w s = line_begun w s 0 [] no_volumes
 
+-- a group of disks without a replicated volume group that comes up again, in the session that it had
+abbrev pub group_up : Node → Node
+group_up n = record n { state = Up; halted = None }
+
+abbrev pub group_back : World → ℕ → World
+group_back w s = with_node w s (group_up (w.nodes s))
+
 -- a fuse behind a line that may write or flush
 abbrev pub burned : Fuse → Fuse
 burned NoFuse = NoFuse
@@ -109,12 +116,12 @@ kept_by h n k = record h { held = take k n.log }
 abbrev pub crash_left : World → ℕ → ℕ → World
 crash_left w s k = let n = w.nodes s in with_history w s (crashed n k) (kept_by (w.lines n.line) n k)
 
--- a site that gave its disks up
-abbrev pub deported_site : Node → Node
-deported_site n = record n { state = Deported }
+-- a site that gave its disks up, whose fuse is this
+abbrev pub deported_site : Fuse → Node → Node
+deported_site fuse n = record n { state = Deported; fuse = fuse }
 
-abbrev pub deported_world : World → ℕ → World
-deported_world w s = with_node w s (deported_site (w.nodes s))
+abbrev pub deported_world : Fuse → World → ℕ → World
+deported_world fuse w s = with_node w s (deported_site fuse (w.nodes s))
 
 -- a site with a write that was begun
 abbrev pub half_begun : Node → Write → Node

@@ -27,7 +27,8 @@ pub enum Event {
     Raw {
         site: u32,
     },
-    /// A bare site becomes a group of disks without volumes, and the primary of its first line.
+    /// A bare site becomes a group of disks without volumes, and the primary of its first line. One that is down or deported, and has no
+    /// volumes and no log, comes up again in the session that it had.
     Group {
         site: u32,
     },
@@ -105,7 +106,7 @@ pub enum Event {
         site: u32,
         kept: u64,
     },
-    /// The site gives its disks up, and keeps what a crash keeps for certain.
+    /// The site gives its disks up, and keeps what a crash keeps for certain. The fuse of its disks stays set.
     Deport {
         site: u32,
     },

@@ -51,7 +51,7 @@ module _ {R : Type 0} {g : Ghosts R} where
   pub head_group : (old mid : Rvg R g) (s : Secondary R g) → s.rvg ≡ mid → HeadUnder 2 Done (Up old) (Up mid) → HeadUnder 2 Done (Up old) (Receives s)
   head_group old mid s same head =
       let here : HeadUnder 2 Done (Up old) (Up s.rvg) = subst (λ (v : Rvg R g). HeadUnder 2 Done (Up old) (Up v)) (sym same) head in
-      record { burns = record { told = here.burns.told; sizes = here.burns.sizes }; takes = here.takes; short = here.short }
+      record { burns = record { told = here.burns.told; sizes = here.burns.sizes }; takes = here.takes; short = here.short; works = here.works }
 
   pub later_receives : (old mid : Rvg R g) (s : Secondary R g) → s.rvg ≡ mid → Later (Up old) (Up mid) → Later (Up old) (Receives s)
   later_receives old mid s same later = record {

@@ -1,6 +1,6 @@
 -- What a change of its line leaves of a site that is up, with nothing logged and no links.
 use Rattle.std.proofs.Common.{◌≡◌, ◌∙◌, ◌⊎◌, inl, inr, ⊎_elim, ◌+◌, ◌-◌, ◌<◌, ◌≤◌, ◌&&◌, ℕ, zero, suc, Bool, true, false, List, [], length, drop, ap, sym, subst, refl, arith, IsTrue}
-use Rattle.std.specs.Prelude.{IsFalse, Option, Some, None, Result, Ok, Err, OnOk, IsSome, ltb, if◌then◌else◌}
+use Rattle.std.specs.Prelude.{IsFalse, Option, Some, None, Result, Ok, Err, IfErr, OnOk, IsSome, ltb, if◌then◌else◌}
 use Rattle.std.proofs.lemmas.Bool.Decides.{nat_tests}
 use Rattle.std.proofs.lemmas.List.{drop_all}
 use Rattle.vx_model.specs.Content.{Write}
@@ -14,10 +14,12 @@ use Rattle.vx_history.specs.Stops.{IsFused}
 use Rattle.vx_history.specs.World.{Node}
 use Rattle.vx_srlfmt.specs.declared.header.Header.{Header}
 use Rattle.vx_srl.specs.Calls.{can_restart}
+use Rattle.vx_srl.specs.Causes.{BlamesUnit}
 use Rattle.vx_srl.specs.Views.{Log, most_number, widths}
 use Rattle.vx_srl.specs.declared.kept.Kept.{Kept as KeptRecord}
 use Rattle.vx_disk.specs.Burns.{MakesCalls}
 use Rattle.vx_disk.specs.Moves.{Blocks, Moves}
+use Rattle.vx_disk.specs.Racks.{IsRack}
 use Rattle.vx_disk.specs.Shelf.{Image, Lawful, Meaning}
 use Rattle.vx_rvg.specs.Groups.{GroupFails, halted_or}
 use Rattle.vx_rvg.specs.Holdings.{Holding, kept_in, with_last}
@@ -28,7 +30,7 @@ use Rattle.vx_events.specs.Fuses.{ring_taken}
 use Rattle.vx_events.proofs.Places.{some_same}
 use Rattle.vx_secondary.specs.Receivers.{Wait}
 use Rattle.vx_diskset.specs.DiskSets.{halted_at, no_number, worked}
-use Rattle.vx_diskset.specs.Fuses.{HasFuse}
+use Rattle.vx_grouped.specs.SetFuses.{HasFuse}
 use Rattle.vx_diskset.specs.Holds.{KeptBeside, HasSite, HasWrites, KeptSite, MayBe, most_with, state_with, sure_of}
 use Rattle.vx_diskset.specs.Lasts.{HasLast, StandsHolding}
 use Rattle.vx_diskset.specs.Layouts.{LiesOn}
@@ -37,6 +39,7 @@ use Rattle.vx_diskset.specs.Stands.{IsHeldAt, IsReceiverAt, IsUpAt}
 use Rattle.vx_diskset.proofs.BesideLemmas.{never_besides, site_sure}
 use Rattle.vx_diskset.proofs.Laying.{lies_moved}
 use Rattle.vx_diskset.proofs.LastWrites.{stands_with}
+use Rattle.vx_diskset.proofs.LogDisks.{log_disk}
 use Rattle.vx_diskset.proofs.NeedLemmas.{none_of}
 use Rattle.vx_diskset.proofs.StaysUp.{found_below, fuse_moved, fused_by, left_moved, never_both, told_now, up_found, writes_found}
 use Rattle.vx_joins.specs.Joins.{CanJoin, JoinedAs, joined_anew, joins_in_doubt}
@@ -167,7 +170,7 @@ module _ {beside : KeptBeside} (a : Node) (p : ℕ) (n : Node) (c c' : Core) (m 
     record { lies = lies_here; low = up.low; logged = up.logged; begun = λ told. up.begun (sym moves.tells ∙ told); left = either_left 0; may = may_be 0 },
   )
 
-  module _ (still : IsFalse new.down) (unit_is : c'.log.unit ≡ c'.units.srl) (runs : c.log.header.run ≤ c.log.header.stamp) where
+  module _ (still : IsFalse new.down) (unit_is : c'.log.unit ≡ c'.units.srl) (place : c.log.unit ≡ c.units.srl) (rack : IsRack m) (runs : c.log.header.run ≤ c.log.header.stamp) where
     -- it stands on the other line
     joined_up : c' ≡ emptied_core c a p n → Retains c c' m new → IsReceiverAt (sure_of (joined_anew beside a p n)) (worked (joined a p n)) c' [] new
     joined_up is retains = subst (λ (k : Core). Retains c k m new → k.log.unit ≡ k.units.srl → IsReceiverAt (sure_of (joined_anew beside a p n)) (worked (joined a p n)) k [] new) (sym is) (λ rests unit. by rests unit) retains unit_is
@@ -244,22 +247,23 @@ module _ {beside : KeptBeside} (a : Node) (p : ℕ) (n : Node) (c c' : Core) (m 
         never : {k : ℕ} → Some k ≡ None → ⊥
         never e = cc
 
-    by_fault : (d : Core) (why : No) → d.units ≡ c.units → d.log ≡ c.log → GroupFails d m new c' why → JoinedAs beside a p n m c' new (Err why)
-    by_fault d (Device disk) units log fails = (
+    by_fault : (d : Core) (why : No) → d.units ≡ c.units → d.log ≡ c.log → BlamesUnit m.disks c.log.unit why → GroupFails d m new c' why → JoinedAs beside a p n m c' new (Err why)
+    by_fault d (Device disk) units log blames fails = (
       join_halted disk (fails.0.units ∙ units) (fails.0.ring ∙ ap (λ (l : Log). l.ring) log) (fails.0.header ∙ ap (λ (l : Log). l.header) log) (fails.0.held ∙ ap (λ (l : Log). l.held) log) fails.0.halted_is,
       fails.1,
+      log_disk n c m disk up.units place rack blames,
     )
-    by_fault d IsOff units log fails = absurd (never_both new.down fails.1 still)
-    by_fault d (Limit what most) units log fails = absurd fails
-    by_fault d other units log fails = fails
+    by_fault d IsOff units log blames fails = absurd (never_both new.down fails.1 still)
+    by_fault d (Limit what most) units log blames fails = absurd fails
+    by_fault d other units log blames fails = fails
 
     full_stamp : (stamp run most : ℕ) → 0 < most → (ltb stamp most && (ltb run most && ltb 0 most)) ≡ false → run ≤ stamp → most ≤ stamp
     full_stamp stamp run most some full le = grind (arith, nat_tests)
 
     by_refusal : (b : Bool) → can_restart c.log 0 ≡ b → (result : Result (Unit {0}) No) → RestartIs (if b then None else Some no_number) c (emptied_core c a p n) m new c' result
-        → (IsSome (if b then None else Some no_number) → new ≡ m) → OnOk result (Retains c c' m new) → JoinedAs beside a p n m c' new result
-    by_refusal false full (Ok done) is unchanged rests = absurd (let e : Ok done ≡ Err no_number = is.0 in cc)
-    by_refusal false full (Err why) is unchanged rests =
+        → (IsSome (if b then None else Some no_number) → new ≡ m) → OnOk result (Retains c c' m new) → IfErr result (BlamesUnit m.disks c.log.unit) → JoinedAs beside a p n m c' new result
+    by_refusal false full (Ok done) is unchanged rests blames = absurd (let e : Ok done ≡ Err no_number = is.0 in cc)
+    by_refusal false full (Err why) is unchanged rests blames =
         let same : why ≡ no_number = (let e : Err why ≡ Err no_number = is.0 in cc) in
         let stays : new ≡ m = unchanged refl in
         let past : most_number ≤ c.log.header.stamp = full_stamp c.log.header.stamp c.log.header.run most_number (omega arith) full runs in
@@ -268,13 +272,14 @@ module _ {beside : KeptBeside} (a : Node) (p : ℕ) (n : Node) (c c' : Core) (m 
           (λ told. let t = up.stamp (sym moves.tells ∙ told) can.running in omega (arith, t, past)),
           subst (λ (k : Core). IsUpAt beside n k new) (sym is.1) (subst (λ (k : Meaning). IsUpAt beside n c k) (sym stays) up),
         )
-    by_refusal true some (Ok done) is unchanged rests = joined_up is.0 rests
-    by_refusal true some (Err why) is unchanged rests = ⊎_elim (λ one. by_fault c why refl refl one) (λ other. by_fault _ why refl refl other.1) is
+    by_refusal true some (Ok done) is unchanged rests blames = joined_up is.0 rests
+    by_refusal true some (Err why) is unchanged rests blames = ⊎_elim (λ one. by_fault c why refl refl blames one) (λ other. by_fault _ why refl refl blames other.1) is
 
     -- what a change of the line answers
-    pub joined_as : (result : Result (Unit {0}) No) → RestartIs (restart_refusal c 0) c (emptied_core c a p n) m new c' result → (IsSome (restart_refusal c 0) → new ≡ m) → OnOk result (Retains c c' m new) → JoinedAs beside a p n m c' new result
-    joined_as result is unchanged rests =
+    pub joined_as : (result : Result (Unit {0}) No) → RestartIs (restart_refusal c 0) c (emptied_core c a p n) m new c' result → (IsSome (restart_refusal c 0) → new ≡ m) → OnOk result (Retains c c' m new)
+        → IfErr result (BlamesUnit m.disks c.log.unit) → JoinedAs beside a p n m c' new result
+    joined_as result is unchanged rests blames =
         let runs_on : c.halted ≡ None = up.halted ∙ can.running in
         by_refusal (can_restart c.log 0) refl result
         (subst (λ (h : Option ℕ). RestartIs (halted_or h (if can_restart c.log 0 then None else Some no_number)) c (emptied_core c a p n) m new c' result) runs_on is)
-        (subst (λ (h : Option ℕ). IsSome (halted_or h (if can_restart c.log 0 then None else Some no_number)) → new ≡ m) runs_on unchanged) rests
+        (subst (λ (h : Option ℕ). IsSome (halted_or h (if can_restart c.log 0 then None else Some no_number)) → new ≡ m) runs_on unchanged) rests blames

@@ -12,6 +12,7 @@ use Rattle.vx_disk.specs.Shelf.{Meaning}
 use Rattle.vx_disk.specs.declared.shelf.Shelf.{Ghosts}
 use Rattle.vx_rvg.specs.Views.{Core}
 use Rattle.vx_srl.specs.Views.{most_number}
+use Rattle.vx_events.specs.Fails.{IsLogDisk}
 use Rattle.vx_diskset.specs.declared.disk_set.DiskSet.{DiskSet}
 use Rattle.vx_diskset.specs.DiskSets.{CrashedAt, RoseAt, halted_at, no_number, worked}
 use Rattle.vx_diskset.specs.Holds.{KeptBeside, KeptSite, most_header, sure_of}
@@ -40,17 +41,17 @@ joins_in_doubt beside a p n disk = record {
 -- what a change of its line makes of the group of a site
 abbrev pub JoinedAs : KeptBeside → (a : Node) → ℕ → Node → Meaning → Core → Meaning → Result (Unit {0}) No → Type 0
 JoinedAs beside a p n m c' new (Ok done) = IsReceiverAt (sure_of (joined_anew beside a p n)) (worked (joined a p n)) c' [] new
-JoinedAs beside a p n m c' new (Err (Device disk)) = IsUpAt (joins_in_doubt beside a p n disk) (halted_at n disk) c' new × Rose (m.disk_faults disk) (new.disk_faults disk)
+JoinedAs beside a p n m c' new (Err (Device disk)) = IsUpAt (joins_in_doubt beside a p n disk) (halted_at n disk) c' new × Rose (m.disk_faults disk) (new.disk_faults disk) × IsLogDisk n disk
 JoinedAs beside a p n m c' new (Err (Limit what most)) = (Limit what most ≡ no_number) × (IsTrue new.tells → most_number ≤ most_header beside n) × IsUpAt beside n c' new
 JoinedAs beside a p n m c' new (Err IsOff) = IsFused n.fuse × IsHeldAt (joins_in_doubt beside a p n 0) (halted_at n 0) new
 JoinedAs beside a p n m c' new (Err other) = ⊥
 
 module _ {R : Type 0} {g : Ghosts R} where
-  -- it stands on the line, and receives; or a disk failed, and it may or not; or no number is left; or its fuse ran out, and then this holds of the site that
+  -- it stands on the line, and receives; or the disk of its log failed, and it may or not; or no number is left; or its fuse ran out, and then this holds of the site that
   -- may have come to it or not
   abbrev pub JoinedWith : (KeptBeside → Node → DiskSet R g → Type 0) → KeptBeside → (a : Node) → ℕ → Node → DiskSet R g → DiskSet R g → Result (Unit {0}) No → Type 0
   JoinedWith Off beside a p n old new (Ok done) = SiteStands (sure_of (joined_anew beside a p n)) (worked (joined a p n)) new × RoleIs (joined a p n) new
-  JoinedWith Off beside a p n old new (Err (Device disk)) = SiteStands (joins_in_doubt beside a p n disk) (halted_at n disk) new × RoseAt old new disk
+  JoinedWith Off beside a p n old new (Err (Device disk)) = SiteStands (joins_in_doubt beside a p n disk) (halted_at n disk) new × RoseAt old new disk × IsLogDisk n disk
   JoinedWith Off beside a p n old new (Err (Limit what most)) = (Limit what most ≡ no_number) × (IsToldAt new → most_number ≤ most_header beside n) × SiteStands beside n new
   JoinedWith Off beside a p n old new (Err IsOff) = IsFused n.fuse × Off (joins_in_doubt beside a p n 0) (halted_at n 0) new
   JoinedWith Off beside a p n old new (Err other) = ⊥

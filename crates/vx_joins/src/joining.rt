@@ -1,6 +1,7 @@
 // The disks of a site that come to the line of another one.
 ghost use Rattle.std.specs.Prelude.{◌≡◌, [], ℕ, IsFalse, OnOk};
 ghost use Rattle.vx_disk.specs.Burns.{FallsShort, MakesCalls};
+ghost use Rattle.vx_disk.specs.Causes.{Works};
 ghost use Rattle.vx_history.specs.Events.{joined};
 ghost use Rattle.vx_history.specs.World.{Node};
 ghost use Rattle.vx_ringio.specs.Spends.{Spends};
@@ -36,6 +37,7 @@ fn join_group<R: Rack>(rvg: &mut Rvg<R>, state: &State) -> Result<(), No>
     ensures calls { OnOk result ((beside : KeptBeside) (n : Node) → IsUpAt beside n rvg.old.core (R.meaning rvg.old.shelf) → CanJoin beside n → MakesCalls 2 (R.meaning rvg.old.shelf) (R.meaning rvg.new.shelf)) }
     ensures short { (beside : KeptBeside) (n : Node) → IsUpAt beside n rvg.old.core (R.meaning rvg.old.shelf) → CanJoin beside n → FallsShort 2 (R.meaning rvg.old.shelf) (R.meaning rvg.new.shelf) }
     ensures spends { Spends (R.meaning rvg.old.shelf) (R.meaning rvg.new.shelf) }
+    ensures works { OnOk result (Works (R.meaning rvg.old.shelf).disks rvg.old.core.log.unit) }
     ensures off { IsFalse (R.meaning rvg.old.shelf).down → OffIf result (R.meaning rvg.new.shelf).down }
     ensures later { Later (DiskSet.Up rvg.old) (DiskSet.Up rvg.new) }
 {

@@ -57,13 +57,13 @@ module _ {R : Type 0} {g : Ghosts R} where
   pub deaf_head : (k : ℕ) (e : DiskSet R g) → k ≡ 0 → HeadUnder k Ignored e e
   deaf_head k e none =
       let head = head_none e in
-      subst (λ (n : ℕ). HeadUnder n Ignored e e) (sym none) (record { burns = record { told = head.burns.told; sizes = head.burns.sizes }; takes = head.takes; short = tt })
+      subst (λ (n : ℕ). HeadUnder n Ignored e e) (sym none) (record { burns = record { told = head.burns.told; sizes = head.burns.sizes }; takes = head.takes; short = tt; works = head.works })
 
   -- its reply is that it was taken, or ignored
   as_reply : (k : ℕ) (x : EventSaid) (before after : DiskSet R g) → (x ≡ IsTaken) ⊎ (x ≡ IsIgnored) → HeadUnder k Done before after → HeadUnder k (reply_of x) before after
   as_reply k x before after one head = ⊎_elim
-      (λ (is : x ≡ IsTaken). subst (λ (y : EventSaid). HeadUnder k (reply_of y) before after) (sym is) (record { burns = record { told = head.burns.told; sizes = head.burns.sizes }; takes = head.takes; short = tt }))
-      (λ (is : x ≡ IsIgnored). subst (λ (y : EventSaid). HeadUnder k (reply_of y) before after) (sym is) (record { burns = record { told = head.burns.told; sizes = head.burns.sizes }; takes = head.takes; short = tt })) one
+      (λ (is : x ≡ IsTaken). subst (λ (y : EventSaid). HeadUnder k (reply_of y) before after) (sym is) (record { burns = record { told = head.burns.told; sizes = head.burns.sizes }; takes = head.takes; short = tt; works = head.works }))
+      (λ (is : x ≡ IsIgnored). subst (λ (y : EventSaid). HeadUnder k (reply_of y) before after) (sym is) (record { burns = record { told = head.burns.told; sizes = head.burns.sizes }; takes = head.takes; short = tt; works = head.works })) one
 
   pub heard_head : (k : ℕ) (x : EventSaid) (said : Said) (before after : DiskSet R g) → said ≡ reply_of x → (x ≡ IsTaken) ⊎ (x ≡ IsIgnored) → HeadUnder k Done before after → HeadUnder k said before after
   heard_head k x said before after is one head = subst (λ (s : Said). HeadUnder k s before after) (sym is) (as_reply k x before after one head)

@@ -269,7 +269,7 @@ module _ {R : Type 0} {g : Ghosts R} (note : (ℕ → Node) → ℕ → Node) (s
   pub headed_refused : RoleIs n after → (why : No) (x x' : SiteFacts) → Answered CrashedAt (beside_of d s) (worked n) (worked m) ls before after (Err why) → LeavesFuse NoMore (Refused why) before after → slice_get old.facts.items s ≡ Some x
       → x' ≡ noted_facts why x → new.facts.items ≡ slice_set old.facts.items s x' → LetsGoBy why old new s → HeadedIs note d e s old new (Err why)
   headed_refused kind (Device disk) x x' is calls at noted facts lets =
-      headed_halts kind disk x x' is calls at noted facts (record { flight = lets.flight; assemblies = lets.assemblies; feeders = lets.feeders })
+      (is.2, headed_halts kind disk x x' is calls at noted facts (record { flight = lets.flight; assemblies = lets.assemblies; feeders = lets.feeders }))
   headed_refused kind (Limit what most) x x' is calls at noted facts lets =
       headed_full kind what most x x' is calls at noted facts (record { flight = lets.flight; assemblies = lets.assemblies; feeders = lets.feeders })
   headed_refused kind Off x x' is calls at noted facts lets = headed_cut x x' is calls at noted facts (record { flight = lets.flight; assemblies = lets.assemblies; feeders = lets.feeders })

@@ -49,7 +49,7 @@ module _ {R : Type 0} {g : Ghosts R} where
     comes = record { before = b.before; rest = b.rest; split = b.split; runs = b.runs; fails = b.none; opens = b.opens; writes = b.writes }
 
     pub headed_ends : (why : No) → HeadedIs note middle e s old new (Err why) → PartEnds d line (Refused why) (noted_by note middle) old new
-    headed_ends (Device disk) h = record { next = _; fails = (s, disk) ∷ []; ends = LinksHalt e s disk middle comes refl refl (left _); goes = h }
+    headed_ends (Device disk) h = record { next = _; fails = (s, disk) ∷ []; ends = LinksHalt e s disk middle comes h.0 refl refl (left _); goes = h.1 }
     headed_ends (Limit what most) h = record {
       next = _;
       fails = [];

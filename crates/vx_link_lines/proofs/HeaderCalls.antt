@@ -16,6 +16,7 @@ use Rattle.vx_diskset.specs.Keeps.{KeptWith, restated}
 use Rattle.vx_diskset.specs.Stands.{IsToldAt, SiteStands}
 use Rattle.vx_diskset.specs.declared.disk_set.DiskSet.{DiskSet}
 use Rattle.vx_events.specs.Effects.{EffectAt}
+use Rattle.vx_events.specs.Fails.{IsLogDisk}
 use Rattle.vx_events.specs.LinksFit.{LinksFit}
 use Rattle.vx_link_lines.specs.Headed.{behind}
 use Rattle.vx_srl.specs.Views.{most_number}
@@ -54,7 +55,7 @@ module _ {R : Type 0} {g : Ghosts R} where
   -- a site n is this node m with these links; or a disk failed, and it may be that or not; or no number is left; or its fuse ran out
   abbrev pub Answered : (KeptBeside → Node → DiskSet R g → Type 0) → KeptBeside → (n m : Node) → List KeptLink → (old new : DiskSet R g) → Result (Unit {0}) No → Type 0
   Answered Off beside n m ls old new (Ok done) = SiteStands (sure_of (record { node = m; links = ls; headers = beside.headers + 1 })) (worked m) new
-  Answered Off beside n m ls old new (Err (Device disk)) = SiteStands (in_doubt beside m ls disk) (halted_at n disk) new × RoseAt old new disk
+  Answered Off beside n m ls old new (Err (Device disk)) = SiteStands (in_doubt beside m ls disk) (halted_at n disk) new × RoseAt old new disk × IsLogDisk n disk
   Answered Off beside n m ls old new (Err (Limit what most)) = (Limit what most ≡ no_number) × (IsToldAt new → most_number ≤ most_header beside n) × SiteStands beside n new
   Answered Off beside n m ls old new (Err IsOff) = IsFused n.fuse × Off (in_doubt beside m ls 0) (halted_at n 0) new
   Answered Off beside n m ls old new (Err other) = ⊥

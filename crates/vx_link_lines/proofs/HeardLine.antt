@@ -148,7 +148,7 @@ module _ {R : Type 0} {g : Ghosts R} where
       subst (λ (k : Node). P (record { links = beside.links; headers = beside.headers + 1; doubt = Some (record { node = k; links = ls; headers = beside.headers + 1 }) }) k e) (sym (halted_noted n disk)) is
 
   pub refused_noted : (beside : KeptBeside) (n : Node) (ls : List KeptLink) (old new : DiskSet R g) (why : No) → Answered CrashedAt beside n n ls old new (Err why) → Answered CrashedAt beside (worked n) (worked n) ls old new (Err why)
-  refused_noted beside n ls old new (Device disk) is = (doubted (λ b k e. SiteStands b k e) beside n ls disk new is.0, is.1)
+  refused_noted beside n ls old new (Device disk) is = (doubted (λ b k e. SiteStands b k e) beside n ls disk new is.0, is.1, is.2)
   refused_noted beside n ls old new (Limit what most) is = (is.0, is.1, stands_worked beside n new is.2)
   refused_noted beside n ls old new IsOff is = (burns_too n.fuse is.0, doubted (λ b k e. CrashedAt b k e) beside n ls 0 new is.1)
   refused_noted beside n ls old new other is = absurd is

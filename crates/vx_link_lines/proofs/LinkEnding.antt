@@ -1,6 +1,6 @@
 -- What a line that makes a link leads a yard to, by how far its parts came.
-use Rattle.std.proofs.Common.{◌≡◌, ◌∙◌, inl, inr, ◌<◌, ℕ, false, List, [], ◌∷◌, ap, sym, subst, refl, arith}
-use Rattle.std.specs.Prelude.{Result, Ok, Err}
+use Rattle.std.proofs.Common.{◌≡◌, ◌∙◌, inl, inr, ◌<◌, ◌*◌, ℕ, false, List, [], ◌∷◌, ap, sym, subst, refl, arith}
+use Rattle.std.specs.Prelude.{Result, Ok, Err, Some, slice_get}
 use Rattle.vx_history.specs.Doubts.{Doubted, Runs}
 use Rattle.vx_history.specs.Step.{step}
 use Rattle.vx_history.specs.Steps.{worked_on}
@@ -16,19 +16,23 @@ use Rattle.vx_model.specs.declared.link.Prot.{Prot}
 use Rattle.vx_model.specs.declared.link.SyncMode.{SyncMode}
 use Rattle.vx_script.specs.declared.line.ScriptLine.{ScriptLine}
 use Rattle.vx_script.specs.declared.line.ScriptLine.TheVariants.{Link}
+use Rattle.vx_disk.specs.Racks.{IsRack}
 use Rattle.vx_disk.specs.declared.shelf.Shelf.{Ghosts}
 use Rattle.vx_model.specs.declared.site.Mark.TheVariants.{Consistent}
 use Rattle.vx_model.specs.declared.state.State.{State}
 use Rattle.vx_diskset.specs.Asked.{HeadUnder}
-use Rattle.vx_diskset.specs.Holds.{header_links, state_with}
+use Rattle.vx_diskset.specs.Holds.{beside_of, header_links, state_with}
+use Rattle.vx_diskset.specs.Stands.{SiteStands}
+use Rattle.vx_diskset.specs.declared.disk_set.DiskSet.{DiskSet}
 use Rattle.vx_events.specs.Fails.{Fails}
 use Rattle.vx_events.specs.Facts.{site_number}
+use Rattle.vx_events.specs.Fuses.{MayPass, header_calls}
 use Rattle.vx_events.specs.LinkEnds.{LinkEnds, LinkReplies, LinksDone, link_noted}
 use Rattle.vx_events.specs.LinkLists.{link_events, link_parts}
 use Rattle.vx_events.specs.LinksFit.{LinksFit}
 use Rattle.vx_events.specs.Sayings.{RepeatsSaid}
 use Rattle.vx_events.specs.declared.said.Said.{Said}
-use Rattle.vx_events.specs.declared.said.Said.TheVariants.{Done}
+use Rattle.vx_events.specs.declared.said.Said.TheVariants.{Done, Refused}
 use Rattle.vx_link_lines.specs.Headed.{HeadedSo, NextFor, NotesAt, behind, noted_by, part_said}
 use Rattle.vx_link_lines.specs.Linking.{IsLinking}
 use Rattle.vx_yard.specs.BothSites.{BothSites, LinkBurns}
@@ -42,6 +46,7 @@ use Rattle.vx_link_lines.proofs.HeadedEnds.{IsBehind, headed_ends}
 use Rattle.vx_link_lines.proofs.LinkChain as chain
 use Rattle.vx_link_lines.proofs.NotedBoth.{carries_both, note_both, notes_both, stands_both}
 use Rattle.vx_yard.proofs.BothSites.{UnderJoined, UnderMade, UnderMarked, UnderOpened, link_burns, stops_joined, stops_made, stops_marked, stops_opened, under_joined, under_made, under_marked, under_opened}
+use Rattle.vx_yard.proofs.HeadNeeds.{head_passes, head_works, refused_undone}
 use Rattle.vx_yard.proofs.WriteLine.{get_there}
 
 -- counts that rose by nothing, and then by so much
@@ -113,11 +118,36 @@ module _ {R : Type 0} {g : Ghosts R} where
     notes : (v : World) → link_noted d.world line v ≡ record v { nodes = note v.nodes }
     notes v = ap (λ (k : ℕ). worked_on (worked_on v k) (site_number d.world second)) l.number ∙ ap (λ (k : ℕ). worked_on (worked_on v p) k) l.number_too
 
-    leads_by : {e : Doubted} {fails : Fails} {said : Said} (new : Yard R g) → LinkEnds (IsTold new) d line fails said e → NextFor fails (noted_by note d) e old new → Leads d line said old new
-    leads_by {e} {fails} new ends next = record {
+    -- the disk of the log of this site works, and its fuse may let the calls of two headers pass
+    abbrev IsReady : ℕ → Type 0
+    IsReady i = ((d.world.nodes i).failing 0 ≡ false) × MayPass (2 * header_calls) (d.world.nodes i).fuse
+
+    ready : ((r : R) → IsRack (g.meaning r)) → (i : ℕ) → i < d.world.sites → (before after : DiskSet R g) → slice_get old.disk_sets.items i ≡ Some before → HeadUnder 4 Done before after → IsReady i
+    ready racks i below before after at head =
+        let stood : SiteStands (beside_of d i) (d.world.nodes i) before = stands.disk_sets.sites i before below at in (
+          head_works racks 4 (beside_of d i) (d.world.nodes i) before after stood head (omega arith) (stands.failing i before below at),
+          head_passes racks 4 (beside_of d i) (d.world.nodes i) before after stood head (stands.fuses i before below at),
+        )
+
+    leads_by : {e : Doubted} {fails : Fails} {said : Said} (new : Yard R g) → LinkEnds (IsTold new) d line fails said e → (said ≡ Done → IsReady p × IsReady s)
+        → NextFor fails (noted_by note d) e old new → Leads d line said old new
+    leads_by {e} {fails} new ends needs next = record {
       next = e;
       fails = fails;
-      done = record { ends = ends; counts = tt; works = tt; calls = tt };
+      done = record {
+        ends = ends;
+        counts = tt;
+        works = λ is.
+            let both = needs is in (
+              subst (λ (k : ℕ). (d.world.nodes k).failing 0 ≡ false) (sym l.number) both.0.0,
+              subst (λ (k : ℕ). (d.world.nodes k).failing 0 ≡ false) (sym l.number_too) both.1.0,
+            );
+        calls = λ is.
+            let both = needs is in (
+              subst (λ (k : ℕ). MayPass (2 * header_calls) (d.world.nodes k).fuse) (sym l.number) both.0.1,
+              subst (λ (k : ℕ). MayPass (2 * header_calls) (d.world.nodes k).fuse) (sym l.number_too) both.1.1,
+            );
+      };
       stands = next.stands;
       carries = λ carries. next.carries (carries_both d old p s carries);
       rose = next.rose;
@@ -128,7 +158,7 @@ module _ {R : Type 0} {g : Ghosts R} where
         → HeadedSo note middle e i mid new (Err said) → Leads d line said old new
     ends_by e i middle b mid new before said h =
         let r = headed_ends d line note e i middle b mid new h.0 h.2 in
-        subst (λ (x : Said). Leads d line x old new) (sym h.1) (leads_by new r.ends (next_then r.fails (noted_by note d) (noted_by note middle) r.next old mid new before r.goes))
+        subst (λ (x : Said). Leads d line x old new) (sym h.1) (leads_by new r.ends (λ (is : Refused h.0 ≡ Done). absurd (refused_undone h.0 is)) (next_then r.fails (noted_by note d) (noted_by note middle) r.next old mid new before r.goes))
 
     abbrev joins : Event
     joins = LinkAt p s sync Joins
@@ -273,12 +303,13 @@ module _ {R : Type 0} {g : Ghosts R} where
         mid new before said (called_four mid new (Err said) before call)
 
     -- all parts are done
-    pub ends_done : (mid new : Yard R g) → Comes three mid → HeadsOpened p s sync states mid new (Ok tt) → Leads d line Done old new
-    ends_done mid new before call =
+    pub ends_done : ((r : R) → IsRack (g.meaning r)) → (mid new : Yard R g) → Comes three mid → HeadsOpened p s sync states mid new (Ok tt) → BothSites (LinkBurns Done) p s old new → Leads d line Done old new
+    ends_done racks mid new before call both =
         leads_by {fails = []} new
         (LinksDone four (subst (λ (es : List Event). Runs d es four) (sym numbers) (false, (false, (false, (false, refl))))) (ap (λ (es : List Event). all_fails es) numbers) tt
         (subst (λ (es : List Event). LinkReplies line d four es Done) (sym numbers) (subst (λ (o : EventSaid). RepeatsSaid four.world 0 o Done) (sym (chain.said_four d p s sync fit l.said)) refl))
         (record { world = sym (notes four.world); after = λ i. refl }))
+        (λ is. (ready racks p l.below both.first both.first_new both.there both.did.0, ready racks s l.below_too both.second both.second_new both.there_too both.did.1))
         (next_then [] (noted_by note d) (noted_by note three) (noted_by note four) old mid new before (called_four mid new (Ok tt) before call))
 
     -- ---- the calls on the disks

@@ -12,6 +12,7 @@ use Rattle.vx_diskset.specs.declared.disk_set.DiskSet.{DiskSet}
 use Rattle.vx_effects.proofs.Finding.{fit_finds}
 use Rattle.vx_effects.proofs.Fitting.{fit_happened}
 use Rattle.vx_events.specs.Facts.{seat_of, site_number}
+use Rattle.vx_events.specs.Fails.{IsLogDisk}
 use Rattle.vx_events.specs.LinkEnds.{LinksDone, LinksFind, LogUnread}
 use Rattle.vx_events.specs.LinkFinds.{FindsOther, IsUnreadable, PumpSends, ReadsNone, SendsOther, SentBy, pumped_with}
 use Rattle.vx_events.specs.LinkedFacts.{link_fact, linked_facts}
@@ -112,11 +113,11 @@ pump_none told d p s why untold other =
     record { ends = LinksFind untold d (ReadsNone p s why refl other refl refl refl) (record { world = refl; after = λ i. refl }); counts = tt; works = tt; calls = tt }
 
 -- one whose log could not be read
-pub pump_unread : (told : Type 0) (d : Doubted) (p s : List ℕ) (disk : ℕ) → (link_step d.world (site_number d.world p) (site_number d.world s) PumpLink).action ≢ Nothing → IsDone told d (Pump p s) ((site_number d.world p, disk) ∷ []) (Refused (Device disk)) d
-pump_unread told d p s disk asks =
+pub pump_unread : (told : Type 0) (d : Doubted) (p s : List ℕ) (disk : ℕ) → (link_step d.world (site_number d.world p) (site_number d.world s) PumpLink).action ≢ Nothing → IsLogDisk (d.world.nodes (site_number d.world p)) disk → IsDone told d (Pump p s) ((site_number d.world p, disk) ∷ []) (Refused (Device disk)) d
+pump_unread told d p s disk asks here =
     let a : ℕ = site_number d.world p in
     record {
-      ends = LogUnread [] [] (PumpAt a (site_number d.world s)) a disk d refl (refl, asks) refl refl refl refl (record { world = refl; after = λ i. refl });
+      ends = LogUnread [] [] (PumpAt a (site_number d.world s)) a disk d refl (refl, asks) refl refl here refl refl (record { world = refl; after = λ i. refl });
       counts = tt;
       works = tt;
       calls = tt;
@@ -281,7 +282,7 @@ module _ {R : Type 0} {g : Ghosts R} where
     stays : (fs : List SiteFacts) (f : Flying) → new.facts.items ≡ fs → fs ≡ old.facts.items → new.flight ≡ f → f ≡ old.flight → StaysFor d (between old new) new
     stays fs f facts same flight still = stays_as d (between old new) new fs f middle_stands middle_carries (record { disk_sets = refl; racks = refl; assemblies = refl; feeders = refl }) facts same flight still
 
-    pub pump_stops : (p q : List ℕ) (f : Flying) (stop : Stop) (r : Result Said OutOfMemory) → PumpStop (link_step d.world (site_number d.world p) (site_number d.world q) PumpLink).action (faults_at before) (faults_at after) stop → ((why : No) → stop ≡ RefusedSo why → IsUnreadable why → IsTold new → ⊥) → r ≡ reply_to stop
+    pub pump_stops : (p q : List ℕ) (f : Flying) (stop : Stop) (r : Result Said OutOfMemory) → PumpStop (d.world.nodes s) (link_step d.world (site_number d.world p) (site_number d.world q) PumpLink).action (faults_at before) (faults_at after) stop → ((why : No) → stop ≡ RefusedSo why → IsUnreadable why → IsTold new → ⊥) → r ≡ reply_to stop
         → site_number d.world p ≡ s → new.facts.items ≡ old.facts.items → new.flight ≡ f → f ≡ old.flight → LeadsIs d (Pump p q) old new r
     pump_stops p q f MemoryStop r stopped untold is number facts flight still =
         let stay = stays old.facts.items f facts refl flight still in
@@ -291,7 +292,7 @@ module _ {R : Type 0} {g : Ghosts R} where
         subst (λ (x : Result Said OutOfMemory). LeadsIs d (Pump p q) old new x) (sym is) (record {
           next = d;
           fails = (site_number d.world p, disk) ∷ [];
-          done = pump_unread (IsTold new) d p q disk stopped.1;
+          done = pump_unread (IsTold new) d p q disk stopped.1 (subst (λ (k : ℕ). IsLogDisk (d.world.nodes k) disk) (sym number) stopped.2);
           stands = stay.stands;
           carries = λ _. stay.carries middle_carries;
           rose = subst (λ (k : ℕ). RoseAll ((k, disk) ∷ []) (count_of old) (count_of new)) (sym number) (rose_at old new s disk before after changed stopped.0);

@@ -1,5 +1,5 @@
 -- A line that gives a link another setting leads a yard to what its event makes of the world.
-use Rattle.std.proofs.Common.{◌≡◌, ◌∙◌, ◌+◌, ℕ, false, List, [], ◌∷◌, ap, sym, subst, refl}
+use Rattle.std.proofs.Common.{◌≡◌, ◌∙◌, ◌+◌, ℕ, false, List, [], ◌∷◌, ap, arith, sym, subst, refl}
 use Rattle.std.specs.Prelude.{Some, None, not, slice_get, slice_set, Result, Ok, Err}
 use Rattle.vx_history.specs.Doubts.{Doubted, Runs}
 use Rattle.vx_history.specs.Listed.{HasPlaces}
@@ -25,8 +25,9 @@ use Rattle.vx_order.specs.Order.{line_refusal}
 use Rattle.vx_order.specs.declared.facts.SiteFacts.{SiteFacts}
 use Rattle.vx_script.specs.declared.line.ScriptLine.{ScriptLine}
 use Rattle.vx_script.specs.declared.line.ScriptLine.TheVariants.{Set}
+use Rattle.vx_disk.specs.Racks.{IsRack}
 use Rattle.vx_disk.specs.declared.shelf.Shelf.{Ghosts}
-use Rattle.vx_diskset.specs.Asked.{LeavesFuse}
+use Rattle.vx_diskset.specs.Asked.{HeadUnder, LeavesFuse}
 use Rattle.vx_diskset.specs.Burning.{NoMore}
 use Rattle.vx_diskset.specs.DiskSets.{worked}
 use Rattle.vx_diskset.proofs.Worked.{stands_worked}
@@ -40,6 +41,7 @@ use Rattle.vx_effects.proofs.Tests
 use Rattle.vx_events.proofs.LinkAgreeing.{set_agrees}
 use Rattle.vx_events.specs.Effects.{EffectAt}
 use Rattle.vx_events.specs.Facts.{seat_of, site_number}
+use Rattle.vx_events.specs.Fuses.{MayPass, header_calls}
 use Rattle.vx_events.specs.LinkEnds.{LinkEnds, LinkReplies, LinksDone, link_noted}
 use Rattle.vx_events.specs.LinkedFacts.{linked_facts, refused_by}
 use Rattle.vx_events.specs.LinkLists.{link_events}
@@ -55,6 +57,7 @@ use Rattle.vx_yard.specs.Yards.{IsTold, in_files}
 use Rattle.vx_yard.specs.declared.yard.Yard.{Yard}
 use Rattle.vx_yard.proofs.Carrying.{LetsGoBy, SameLoad}
 use Rattle.vx_link_lines.proofs.HeadedEnds.{IsBehind, headed_ends}
+use Rattle.vx_yard.proofs.HeadNeeds.{head_passes, head_works, refused_undone}
 use Rattle.vx_yard.proofs.NamedSite.{SiteAt, site_at}
 use Rattle.vx_link_lines.proofs.NotedYard.{carries_noted, note_one, notes_one, stands_noted, sure_open}
 use Rattle.vx_yard.proofs.OneSite.{Changed}
@@ -163,11 +166,17 @@ module _ {R : Type 0} {g : Ghosts R} (d : Doubted) (old : Yard R g) (first secon
     abbrev line : ScriptLine
     line = Set first second sync prot
 
-    leads_by : {e : Doubted} {fails : List (ℕ × ℕ)} {said : Said} → LinkEnds (IsTold new) d line fails said e → NextFor fails (noted_by (note_one s) d) e old new → Leads d line said old new
-    leads_by {e} {fails} ends next = record {
+    leads_by : {e : Doubted} {fails : List (ℕ × ℕ)} {said : Said} → LinkEnds (IsTold new) d line fails said e → (said ≡ Done → (n.failing 0 ≡ false) × MayPass header_calls n.fuse)
+        → NextFor fails (noted_by (note_one s) d) e old new → Leads d line said old new
+    leads_by {e} {fails} ends needs next = record {
       next = e;
       fails = fails;
-      done = record { ends = ends; counts = tt; works = tt; calls = tt };
+      done = record {
+        ends = ends;
+        counts = tt;
+        works = λ is. subst (λ (k : ℕ). (w.nodes k).failing 0 ≡ false) (sym here.number) (needs is).0;
+        calls = λ is. subst (λ (k : ℕ). MayPass header_calls (w.nodes k).fuse) (sym here.number) (needs is).1;
+      };
       stands = next.stands;
       carries = λ carries. next.carries (carries_noted d old s carries);
       rose = next.rose;
@@ -177,12 +186,17 @@ module _ {R : Type 0} {g : Ghosts R} (d : Doubted) (old : Yard R g) (first secon
     notes v = ap (λ (k : ℕ). worked_on v k) here.number
 
     -- it is done
-    pub set_leads : KeptAt (beside_of d s) (worked n) state before after (Ok tt) → LeavesFuse NoMore Done before after → new.facts.items ≡ linked_facts (step w event).world → SameLoad old new → Leads d line Done old new
-    set_leads is calls facts load =
+    pub set_leads : ((r : R) → IsRack (g.meaning r)) → HeadUnder 2 Done before after → KeptAt (beside_of d s) (worked n) state before after (Ok tt) → LeavesFuse NoMore Done before after → new.facts.items ≡ linked_facts (step w event).world → SameLoad old new → Leads d line Done old new
+    set_leads racks head is calls facts load =
+        let stood : SiteStands (beside_of d s) n before = stands.disk_sets.sites s before here.below at in
         leads_by {fails = []}
         (LinksDone (behind d event) (subst (λ (es : List Event). Runs d es (behind d event)) (sym (numbers prot)) (false, refl)) (ap (λ (es : List Event). all_fails es) (numbers prot)) tt
         (subst (λ (es : List Event). LinkReplies line d (behind d event) es Done) (sym (numbers prot)) (subst (λ (o : EventSaid). RepeatsSaid (step w event).world 0 o Done) (sym set_said) refl))
         (record { world = sym (notes (behind d event).world); after = λ i. refl }))
+        (λ is. (
+          head_works racks 2 (beside_of d s) n before after stood head (omega arith) (stands.failing s before here.below at),
+          head_passes racks 2 (beside_of d s) n before after stood head (stands.fuses s before here.below at),
+        ))
         (kept_done (note_one s) s (notes_one s) d event state header old before noted here.below at new after changed keeps is calls facts load)
 
     -- it was refused
@@ -203,4 +217,4 @@ module _ {R : Type 0} {g : Ghosts R} (d : Doubted) (old : Yard R g) (first secon
           fused = λ f. f;
         } in
         let e = headed_ends d line (note_one s) event s d b old new h.0 h.2 in
-        subst (λ (r : Said). Leads d line r old new) (sym h.1) (leads_by e.ends e.goes)
+        subst (λ (r : Said). Leads d line r old new) (sym h.1) (leads_by e.ends (λ (is : Refused h.0 ≡ Done). absurd (refused_undone h.0 is)) e.goes)

@@ -1,4 +1,4 @@
--- What an event leads a yard to that writes one header of a site's log: it is done; or a disk failed in it, no number is left for it, or the
+-- What an event leads a yard to that writes one header of a site's log: it is done; or the disk of the log failed in it, no number is left for it, or the
 -- fuse of the site ran out in it.
 use Rattle.std.specs.Prelude.{◌≡◌, ℕ, ◌≤◌, Bool, [], ◌∷◌, Result, Ok, Err}
 use Rattle.vx_model.specs.declared.limits.TheConstants.{MOST_NUMBER}
@@ -12,7 +12,7 @@ use Rattle.vx_history.specs.World.{Node, World}
 use Rattle.vx_history.specs.declared.event.Event.{Event}
 use Rattle.vx_disk.specs.declared.shelf.Shelf.{Ghosts}
 use Rattle.vx_diskset.specs.DiskSets.{worked}
-use Rattle.vx_events.specs.Fails.{Fails}
+use Rattle.vx_events.specs.Fails.{Fails, IsLogDisk}
 use Rattle.vx_events.specs.LinkedFacts.{linked_facts}
 use Rattle.vx_events.specs.LinksFit.{LinksFit}
 use Rattle.vx_events.specs.Stamps.{most_stamp_at}
@@ -66,7 +66,7 @@ module _ {R : Type 0} {g : Ghosts R} where
 
   abbrev pub HeadedIs : (note : (ℕ → Node) → ℕ → Node) → (d : Doubted) → Event → (s : ℕ) → (old new : Yard R g) → Result (Unit {0}) No → Type 0
   HeadedIs note d e s old new (Ok done) = NextFor [] (noted_by note d) (noted_by note (behind d e)) old new
-  HeadedIs note d e s old new (Err (Device disk)) = NextFor ((s, disk) ∷ []) (noted_by note d) (noted_by note (halved d e s disk)) old new
+  HeadedIs note d e s old new (Err (Device disk)) = IsLogDisk (d.world.nodes s) disk × NextFor ((s, disk) ∷ []) (noted_by note d) (noted_by note (halved d e s disk)) old new
   HeadedIs note d e s old new (Err (Limit what most)) = FullFor note d s (Limit what most) old new
   HeadedIs note d e s old new (Err IsOff) = CutFor note d e s old new
   HeadedIs note d e s old new (Err other) = ⊥

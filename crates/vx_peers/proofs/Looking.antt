@@ -1,8 +1,9 @@
 -- Reads of a group one after another.
 use Rattle.std.proofs.Common.{◌≡◌, ◌∙◌, ◌-◌, ◌≤◌, ℕ, Bool, true, false, IsTrue, IsFalse, ap, sym, subst, refl}
-use Rattle.std.specs.Prelude.{Option, Some, None, slice_get}
+use Rattle.std.specs.Prelude.{IsSome, Option, Some, None, slice_get}
 use Rattle.vx_model.specs.Content.{Write}
 use Rattle.vx_model.specs.declared.call.Update.{Update}
+use Rattle.vx_model.specs.declared.no.No.{No}
 use Rattle.vx_model.specs.declared.no.No.TheVariants as no
 use Rattle.vx_disk.specs.Causes.{OnDisks}
 use Rattle.vx_disk.specs.Disks.{Disks, Untouched}
@@ -15,9 +16,10 @@ use Rattle.vx_rvg.specs.Stands.{GivesWrite, Stands}
 use Rattle.vx_rvg.specs.Views.{Core}
 use Rattle.vx_rvg.proofs.WriteLog.{cause_from}
 use Rattle.vx_srl.specs.Calls.{FetchCause}
+use Rattle.vx_srl.specs.Causes.{BlamesLog, BlamesUnit}
 use Rattle.vx_srl.specs.declared.errors.SrlNo.{SrlNo}
 use Rattle.vx_srl.specs.declared.errors.SrlNo.TheVariants.{NoRoom, Other, Overrun}
-use Rattle.vx_peers.specs.Senders.{IsOther, ReadCause, stop_with}
+use Rattle.vx_peers.specs.Senders.{BlamesStop, IsOther, ReadCause, stop_with}
 
 -- nothing of a group and its shelf was changed
 pub record Looked (c c' : Core) (m m' : Meaning) : Type 0 where
@@ -80,6 +82,20 @@ read_stops c m0 m m' (Other (no.Damaged unit block stored computed)) faults tell
 read_stops c m0 m m' (Other (no.Device disk)) faults tells stands cause = cause_from m0 m m' (no.Device disk) faults cause
 read_stops c m0 m m' (Other no.Down) faults tells stands cause = cause
 read_stops c m0 m m' (Other other) faults tells stands cause = absurd cause
+
+has_disks : (old new : Option Disks) (P : Disks → Disks → Type 0) → OnDisks old new P → IsSome old → IsSome new
+has_disks None new P on some = absurd (let e : false ≡ true = some in cc)
+has_disks (Some o) None P on some = absurd on
+has_disks (Some o) (Some n) P on some = refl
+
+blames_unit : (m0 m : Meaning) (unit : ℕ) (why : No) → OnDisks m0.disks m.disks Untouched → BlamesUnit m.disks unit why → BlamesUnit m0.disks unit why
+blames_unit m0 m unit (no.Device disk) on blames = λ some. blames (has_disks m0.disks m.disks Untouched on some)
+blames_unit m0 m unit other on blames = tt
+
+pub read_blames : (c k : Core) (m0 m : Meaning) (why : SrlNo) → OnDisks m0.disks m.disks Untouched → k ≡ c → BlamesLog m.disks k.log.unit why → BlamesStop m0.disks c.log.unit (stop_with why)
+read_blames c k m0 m (NoRoom need free) on same blames = tt
+read_blames c k m0 m (Overrun low) on same blames = tt
+read_blames c k m0 m (Other why) on same blames = blames_unit m0 m c.log.unit why on (subst (λ (x : Core). BlamesUnit m.disks x.log.unit why) same blames)
 
 -- ---- one more read
 

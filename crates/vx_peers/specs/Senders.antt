@@ -1,5 +1,5 @@
 -- The sending end of a link, over the group of its site.
-use Rattle.std.specs.Prelude.{◌≡◌, ℕ, ◌+◌, ◌-◌, ◌<◌, List, ◌++◌, map, take, drop, length, true, Some, slice_get, IsTrue}
+use Rattle.std.specs.Prelude.{◌≡◌, ℕ, ◌+◌, ◌-◌, ◌<◌, List, ◌++◌, map, take, drop, length, true, Option, Some, slice_get, IsTrue}
 use Rattle.vx_model.specs.Content.{Write}
 use Rattle.vx_model.specs.declared.call.Update.{Update}
 use Rattle.vx_model.specs.declared.errors.Stop.{Stop}
@@ -19,6 +19,7 @@ use Rattle.vx_history.specs.declared.sender.SEvent.{SEvent}
 use Rattle.vx_history.specs.declared.sender.SEvent.TheVariants.{Pump}
 use Rattle.vx_courier.specs.UnderWay.{FlightStands}
 use Rattle.vx_disk.specs.Causes.{DeviceCause}
+use Rattle.vx_disk.specs.Disks.{Disks}
 use Rattle.vx_disk.specs.Shelf.{Meaning}
 use Rattle.vx_net.specs.Flights.{Flying}
 use Rattle.vx_packet.specs.declared.message.Envelope.{Envelope}
@@ -26,6 +27,7 @@ use Rattle.vx_rvg.specs.Holdings.{Holding, update_of}
 use Rattle.vx_rvg.specs.Stands.{Stands}
 use Rattle.vx_rvg.specs.Views.{Core, last_of}
 use Rattle.vx_secondary.specs.Receivers.{write_of_update}
+use Rattle.vx_srl.specs.Causes.{BlamesUnit}
 use Rattle.vx_srl.specs.declared.errors.SrlNo.{SrlNo}
 use Rattle.vx_srl.specs.declared.errors.SrlNo.TheVariants.{NoRoom, Other, Overrun}
 
@@ -101,3 +103,8 @@ ReadStop c old new why = DeviceCause old new why
 abbrev pub ReadCause : Core → Meaning → Meaning → Stop → Type 0
 ReadCause c old new (Refused why) = ReadStop c old new why
 ReadCause c old new OutOfMemory = Unit {0}
+
+-- where the shelf is a rack, a refusal 7 names the disk that is this unit
+abbrev pub BlamesStop : Option Disks → (unit : ℕ) → Stop → Type 0
+BlamesStop disks unit (Refused why) = BlamesUnit disks unit why
+BlamesStop disks unit OutOfMemory = Unit {0}

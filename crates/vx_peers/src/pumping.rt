@@ -11,7 +11,7 @@ ghost use Rattle.vx_history.specs.World.{World};
 ghost use Rattle.vx_history.specs.declared.sender.Action.TheVariants.{Nothing as SendsNothing};
 ghost use Rattle.vx_history.specs.declared.sender.SEvent.TheVariants.{Pump};
 ghost use Rattle.vx_packet.specs.Messages.{IsCounted};
-ghost use Rattle.vx_peers.specs.Senders.{LinkMoved, ReadCause, SendsBy, SendsFrom, SendsRange, SentRange, pump_asks, pumped_at, way_from};
+ghost use Rattle.vx_peers.specs.Senders.{BlamesStop, LinkMoved, ReadCause, SendsBy, SendsFrom, SendsRange, SentRange, pump_asks, pumped_at, way_from};
 ghost use Rattle.vx_ringio.specs.Spends.{Spends};
 ghost use Rattle.vx_rvg.specs.Holdings.{Holding};
 ghost use Rattle.vx_rvg.specs.Stands.{Stands};
@@ -47,6 +47,7 @@ fn send_range<S: Shelf, N: Net>(
     ensures more { OnOk result (SendsRange envelope.now from to (N.flying flight.old) (N.flying flight.new)) }
     ensures unsent { OnErr result (N.flying flight.new ≡ N.flying flight.old) }
     ensures cause { IfErr result (ReadCause rvg.old.core (S.meaning rvg.old.shelf) (S.meaning rvg.new.shelf)) }
+    ensures blames { IfErr result (BlamesStop (S.meaning rvg.old.shelf).disks rvg.old.core.log.unit) }
     ensures core { rvg.new.core ≡ rvg.old.core }
     ensures goes { Goes Nothing (S.meaning rvg.old.shelf) (S.meaning rvg.new.shelf) }
     ensures down { (S.meaning rvg.new.shelf).down ≡ (S.meaning rvg.old.shelf).down }
@@ -90,6 +91,7 @@ pub fn pump<S: Shelf, N: Net>(
     ensures unsent { OnErr result (N.flying flight.new ≡ N.flying flight.old) }
     ensures cause { IfErr result (ReadCause rvg.old.core (S.meaning rvg.old.shelf) (S.meaning rvg.new.shelf)) }
     ensures asks { OnErr result (pump_asks link.old (last_of rvg.old.core) ≢ SendsNothing) }
+    ensures blames { IfErr result (BlamesStop (S.meaning rvg.old.shelf).disks rvg.old.core.log.unit) }
     ensures core { rvg.new.core ≡ rvg.old.core }
     ensures goes { Goes Nothing (S.meaning rvg.old.shelf) (S.meaning rvg.new.shelf) }
     ensures down { (S.meaning rvg.new.shelf).down ≡ (S.meaning rvg.old.shelf).down }

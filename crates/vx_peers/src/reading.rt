@@ -3,7 +3,7 @@ ghost use Rattle.std.specs.Prelude.{◌≡◌, ◌+◌, ◌<◌, ◌≤◌, ℕ,
 ghost use Rattle.vx_disk.specs.Causes.{OnDisks};
 ghost use Rattle.vx_disk.specs.Disks.{Untouched};
 ghost use Rattle.vx_disk.specs.Shelf.{Goes, Nothing};
-ghost use Rattle.vx_peers.specs.Senders.{AreRead, IsOther, ReadCause, stop_with};
+ghost use Rattle.vx_peers.specs.Senders.{AreRead, BlamesStop, IsOther, ReadCause, stop_with};
 ghost use Rattle.vx_ringio.specs.Spends.{Spends};
 ghost use Rattle.vx_rvg.specs.Holdings.{Holding};
 ghost use Rattle.vx_rvg.specs.Stands.{Stands};
@@ -54,6 +54,7 @@ pub(crate) fn read_updates<S: Shelf>(
     ensures read { IfOk result (λ us. (length us.items ≡ count) × ((h : Holding) → Stands rvg.old.core h (S.meaning rvg.old.shelf) → IsTrue (S.meaning rvg.old.shelf).tells
         → AreRead h rvg.old.core.log.header.state.line first us.items × Stands rvg.old.core h (S.meaning rvg.new.shelf))) }
     ensures cause { IfErr result (ReadCause rvg.old.core (S.meaning rvg.old.shelf) (S.meaning rvg.new.shelf)) }
+    ensures blames { IfErr result (BlamesStop (S.meaning rvg.old.shelf).disks rvg.old.core.log.unit) }
     ensures core { rvg.new.core ≡ rvg.old.core }
     ensures goes { Goes Nothing (S.meaning rvg.old.shelf) (S.meaning rvg.new.shelf) }
     ensures down { (S.meaning rvg.new.shelf).down ≡ (S.meaning rvg.old.shelf).down }

@@ -1,4 +1,5 @@
 pub mod BlockText
+pub mod KeptText
 pub mod Refusals
 pub mod StatusWords
 pub mod Statuses

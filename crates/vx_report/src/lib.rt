@@ -4,6 +4,7 @@
 #![tactic(auto)]
 
 mod blocks;
+mod kept;
 mod links;
 mod refusals;
 mod statuses;
@@ -11,11 +12,12 @@ mod view;
 mod words;
 
 pub use blocks::{block, push_block};
+pub use kept::push_kept;
 pub use links::push_links;
 pub use refusals::{push_refusal, refusal};
 pub use statuses::{push_status, status};
 pub use view::{
-    DiskViews, LinkView, LinkViewRoom, LinkViews, PlexViews, RvgView, SiteView, VolumeView,
+    DiskViews, Kept, LinkView, LinkViewRoom, LinkViews, PlexViews, RvgView, SiteView, VolumeView,
     VolumeViews,
 };
 pub use vx_model::{SiteName, SiteState};

@@ -182,6 +182,18 @@ impl VolumeViews {
     }
 }
 
+/// What a recovery found of a write to a volume in which the fuse ran out.
+#[derive(Clone, Copy)]
+pub struct Kept {
+    pub volume: Name,
+    /// Its first block.
+    pub block: u64,
+    /// How many blocks it has, 1 to 16.
+    pub count: u32,
+    /// Of each of them whether it now has what was to be written.
+    pub bits: [bool; 16],
+}
+
 /// The links of a site in the order of their making. Contracts see their list.
 #[derive(Drop)]
 pub struct LinkViews {

@@ -1,6 +1,6 @@
 // The reads of a log.
 ghost use Rattle.std.specs.Prelude.{◌≡◌, ◌+◌, ◌*◌, ◌/◌, ◌%◌, ◌<◌, ◌≤◌, ℕ, length, IsTrue, OnOk, IfOk};
-ghost use Rattle.vx_disk.specs.Causes.{Cause, OnDisks, Works};
+ghost use Rattle.vx_disk.specs.Causes.{Cause, Names, OnDisks, Works};
 ghost use Rattle.vx_disk.specs.Disks.{Untouched};
 ghost use Rattle.vx_disk.specs.Shelf.{Goes, Nothing};
 ghost use Rattle.vx_ringio.specs.Bodies.{IsBlocks, all_blocks};
@@ -104,6 +104,7 @@ fn read_part<S: Shelf>(
     ensures disks { OnDisks (S.meaning shelf.old).disks (S.meaning shelf.new).disks Untouched }
     ensures spends { Spends (S.meaning shelf.old) (S.meaning shelf.new) }
     ensures cause { Cause (S.meaning shelf.old) (S.meaning shelf.new) unit result }
+    ensures names { Names (S.meaning shelf.old).disks unit result }
     ensures works { OnOk result (Works (S.meaning shelf.old).disks unit) }
 {
     shelf.read(unit, 2 + first, into)
@@ -129,6 +130,7 @@ pub fn read_body<S: Shelf>(
     ensures disks { OnDisks (S.meaning shelf.old).disks (S.meaning shelf.new).disks Untouched }
     ensures spends { Spends (S.meaning shelf.old) (S.meaning shelf.new) }
     ensures cause { Cause (S.meaning shelf.old) (S.meaning shelf.new) unit result }
+    ensures names { Names (S.meaning shelf.old).disks unit result }
     ensures works { OnOk result (Works (S.meaning shelf.old).disks unit) }
 {
     let first = place % ring;

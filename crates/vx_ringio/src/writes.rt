@@ -1,6 +1,6 @@
 // The writes of a log.
 ghost use Rattle.std.specs.Prelude.{◌≡◌, ◌+◌, ◌*◌, ◌/◌, ◌%◌, ◌<◌, ◌≤◌, ◌^◌, ℕ, [], ◌∷◌, ◌++◌, length, true, All, OnOk};
-ghost use Rattle.vx_disk.specs.Causes.{Cause, Works};
+ghost use Rattle.vx_disk.specs.Causes.{Cause, Names, Works};
 ghost use Rattle.vx_disk.specs.Moves.{Anything, Moves, Run};
 ghost use Rattle.vx_disk.specs.Shelf.{Goes, Nothing};
 ghost use Rattle.vx_ringio.specs.Bodies.{IsBlocks, all_blocks};
@@ -27,6 +27,7 @@ pub fn flush_ring<S: Shelf>(shelf: &mut S, unit: u32) -> Result<(), ShelfError>
     ensures cause { Cause (S.meaning shelf.old) (S.meaning shelf.new) unit result }
     ensures calls { OnOk result (MakesCalls 1 (S.meaning shelf.old) (S.meaning shelf.new)) }
     ensures short { FallsShort 1 (S.meaning shelf.old) (S.meaning shelf.new) }
+    ensures names { Names (S.meaning shelf.old).disks unit result }
     ensures spends { Spends (S.meaning shelf.old) (S.meaning shelf.new) }
 {
     shelf.flush(unit)
@@ -49,6 +50,7 @@ pub fn write_front<S: Shelf>(
     ensures cause { Cause (S.meaning shelf.old) (S.meaning shelf.new) unit result }
     ensures calls { OnOk result (MakesCalls 1 (S.meaning shelf.old) (S.meaning shelf.new)) }
     ensures short { FallsShort 1 (S.meaning shelf.old) (S.meaning shelf.new) }
+    ensures names { Names (S.meaning shelf.old).disks unit result }
     ensures spends { Spends (S.meaning shelf.old) (S.meaning shelf.new) }
 {
     let mut bytes = [0; 512];
@@ -72,6 +74,7 @@ pub fn write_header<S: Shelf>(
     ensures cause { Cause (S.meaning shelf.old) (S.meaning shelf.new) unit result }
     ensures calls { OnOk result (MakesCalls 2 (S.meaning shelf.old) (S.meaning shelf.new)) }
     ensures short { FallsShort 2 (S.meaning shelf.old) (S.meaning shelf.new) }
+    ensures names { Names (S.meaning shelf.old).disks unit result }
     ensures spends { Spends (S.meaning shelf.old) (S.meaning shelf.new) }
     ensures works { OnOk result (Works (S.meaning shelf.old).disks unit) }
 {
@@ -99,6 +102,7 @@ fn write_part<S: Shelf>(
     ensures cause { Cause (S.meaning shelf.old) (S.meaning shelf.new) unit result }
     ensures calls { OnOk result (MakesCalls 1 (S.meaning shelf.old) (S.meaning shelf.new)) }
     ensures short { FallsShort 1 (S.meaning shelf.old) (S.meaning shelf.new) }
+    ensures names { Names (S.meaning shelf.old).disks unit result }
     ensures spends { Spends (S.meaning shelf.old) (S.meaning shelf.new) }
     ensures works { OnOk result (Works (S.meaning shelf.old).disks unit) }
 {
@@ -124,6 +128,7 @@ pub fn write_body<S: Shelf>(
     ensures calls { OnOk result (place % ring + length bytes.now / 512 ≤ ring → MakesCalls 1 (S.meaning shelf.old) (S.meaning shelf.new)) }
     ensures short { place % ring + length bytes.now / 512 ≤ ring → FallsShort 1 (S.meaning shelf.old) (S.meaning shelf.new) }
     ensures least { OnOk result (MakesAtLeast 1 (S.meaning shelf.old) (S.meaning shelf.new)) }
+    ensures names { Names (S.meaning shelf.old).disks unit result }
     ensures spends { Spends (S.meaning shelf.old) (S.meaning shelf.new) }
     ensures works { OnOk result (Works (S.meaning shelf.old).disks unit) }
 {

@@ -3,6 +3,7 @@ pub mod ApplyFlush
 pub mod ApplyOne
 pub mod ApplyPuts
 pub mod ApplyStands
+pub mod Blaming
 pub mod ChangeCalls
 pub mod CommitCalls
 pub mod ContentFacts

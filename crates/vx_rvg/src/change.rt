@@ -1,6 +1,7 @@
 // The change of the state, and the emptying of the log.
-ghost use Rattle.std.specs.Prelude.{◌≡◌, ◌+◌, ◌<◌, ◌≤◌, ℕ, Some, None, Ok, Err, OnOk, IsSome, true};
+ghost use Rattle.std.specs.Prelude.{◌≡◌, ◌+◌, ◌<◌, ◌≤◌, ℕ, Some, None, Ok, Err, IfErr, OnOk, IsSome, true};
 ghost use Rattle.vx_disk.specs.Burns.{FallsShort, MakesCalls};
+ghost use Rattle.vx_disk.specs.Causes.{Works};
 ghost use Rattle.vx_disk.specs.Moves.{Moves, Run, Union};
 ghost use Rattle.vx_ringio.specs.Spends.{Spends};
 ghost use Rattle.vx_rvg.specs.Groups.{GroupFails};
@@ -8,6 +9,7 @@ ghost use Rattle.vx_rvg.specs.Saves.{restart_refusal, with_restart, Empties, Res
 ghost use Rattle.vx_rvg.specs.Stands.{Saving, Retains};
 ghost use Rattle.vx_rvg.specs.Views.{IsSound, Waits, last_of};
 ghost use Rattle.vx_srl.specs.Calls.{can_restart};
+ghost use Rattle.vx_srl.specs.Causes.{BlamesUnit};
 ghost use Rattle.vx_srl.specs.Views.{most_number};
 ghost use Rattle.vx_srlfmt.specs.Headers.{CanSpellState};
 
@@ -31,7 +33,9 @@ fn empty<S: Shelf>(shelf: &mut S, core: &mut RvgCore, state: &State, head: u64) 
     ensures moves { Moves (Run core.old.units.srl 0 (core.old.log.ring + 2)) (Saving core.old (with_restart core.old state.now head) (S.meaning shelf.old)) (S.meaning shelf.old) (S.meaning shelf.new) }
     ensures calls { OnOk result (MakesCalls 2 (S.meaning shelf.old) (S.meaning shelf.new)) }
     ensures short { FallsShort 2 (S.meaning shelf.old) (S.meaning shelf.new) }
+    ensures blames { IfErr result (BlamesUnit (S.meaning shelf.old).disks core.old.log.unit) }
     ensures spends { Spends (S.meaning shelf.old) (S.meaning shelf.new) }
+    ensures works { OnOk result (Works (S.meaning shelf.old).disks core.old.log.unit) }
 {
     // Numbers begin at 1.
     let _low = core.srl.low();
@@ -61,7 +65,9 @@ fn restart<S: Shelf>(shelf: &mut S, core: &mut RvgCore, state: &State, head: u64
         (Saving core.old (with_restart core.old state.now head) (S.meaning shelf.old)) (S.meaning shelf.old) (S.meaning shelf.new) }
     ensures calls { OnOk result (last_of core.old ≤ core.old.applied → MakesCalls 2 (S.meaning shelf.old) (S.meaning shelf.new)) }
     ensures short { last_of core.old ≤ core.old.applied → FallsShort 2 (S.meaning shelf.old) (S.meaning shelf.new) }
+    ensures blames { last_of core.old ≤ core.old.applied → IfErr result (BlamesUnit (S.meaning shelf.old).disks core.old.log.unit) }
     ensures spends { Spends (S.meaning shelf.old) (S.meaning shelf.new) }
+    ensures works { OnOk result (Works (S.meaning shelf.old).disks core.old.log.unit) }
 {
     if let Some(disk) = core.halted {
         return Err(No::Halted { disk });
@@ -97,7 +103,9 @@ impl<S: Shelf> Rvg<S> {
             (Saving self.old.core (core_changed self.old.core state.now restart) (S.meaning self.old.shelf)) (S.meaning self.old.shelf) (S.meaning self.new.shelf) }
         ensures calls { OnOk result (AppliesNone restart self.old.core → MakesCalls 2 (S.meaning self.old.shelf) (S.meaning self.new.shelf)) }
         ensures short { AppliesNone restart self.old.core → FallsShort 2 (S.meaning self.old.shelf) (S.meaning self.new.shelf) }
+        ensures blames { AppliesNone restart self.old.core → IfErr result (BlamesUnit (S.meaning self.old.shelf).disks self.old.core.log.unit) }
         ensures spends { Spends (S.meaning self.old.shelf) (S.meaning self.new.shelf) }
+        ensures works { OnOk result (Works (S.meaning self.old.shelf).disks self.old.core.log.unit) }
     {
         match restart {
             None => self.set_state(state),

@@ -12,6 +12,7 @@ ghost use Rattle.vx_rvg.specs.Holdings.{Holding};
 ghost use Rattle.vx_rvg.specs.Stands.{GivesWrite, Stands, Saving, Retains};
 ghost use Rattle.vx_rvg.specs.Views.{IsSound, last_of};
 ghost use Rattle.vx_srl.specs.Calls.{AgreesWithFront, FetchCause, NamesBody};
+ghost use Rattle.vx_srl.specs.Causes.{BlamesLog, BlamesUnit};
 ghost use Rattle.vx_srlfmt.specs.Headers.{CanSpellState};
 
 use crate::write::refused;
@@ -33,6 +34,7 @@ pub(crate) fn give_up<S: Shelf>(shelf: &mut S, core: &mut RvgCore, to: u64) -> R
         (Saving core.old (reclaimed core.old to) (S.meaning shelf.old)) (S.meaning shelf.old) (S.meaning shelf.new) }
     ensures calls { OnOk result (core.old.log.header.low ≤ to → MakesCalls 2 (S.meaning shelf.old) (S.meaning shelf.new)) }
     ensures short { FallsShort 2 (S.meaning shelf.old) (S.meaning shelf.new) }
+    ensures blames { IfErr result (BlamesUnit (S.meaning shelf.old).disks core.old.log.unit) }
     ensures spends { Spends (S.meaning shelf.old) (S.meaning shelf.new) }
 {
     if let Some(disk) = core.halted {
@@ -64,6 +66,7 @@ impl<S: Shelf> Rvg<S> {
             (Saving self.old.core (reclaimed self.old.core to) (S.meaning self.old.shelf)) (S.meaning self.old.shelf) (S.meaning self.new.shelf) }
         ensures calls { OnOk result (self.old.core.log.header.low ≤ to → MakesCalls 2 (S.meaning self.old.shelf) (S.meaning self.new.shelf)) }
         ensures short { FallsShort 2 (S.meaning self.old.shelf) (S.meaning self.new.shelf) }
+        ensures blames { IfErr result (BlamesUnit (S.meaning self.old.shelf).disks self.old.core.log.unit) }
         ensures spends { Spends (S.meaning self.old.shelf) (S.meaning self.new.shelf) }
     {
         give_up(&mut self.shelf, &mut self.core, to)
@@ -83,7 +86,9 @@ impl<S: Shelf> Rvg<S> {
             (Saving self.old.core (with_new_state self.old.core state.now) (S.meaning self.old.shelf)) (S.meaning self.old.shelf) (S.meaning self.new.shelf) }
         ensures calls { OnOk result (MakesCalls 2 (S.meaning self.old.shelf) (S.meaning self.new.shelf)) }
         ensures short { FallsShort 2 (S.meaning self.old.shelf) (S.meaning self.new.shelf) }
+        ensures blames { IfErr result (BlamesUnit (S.meaning self.old.shelf).disks self.old.core.log.unit) }
         ensures spends { Spends (S.meaning self.old.shelf) (S.meaning self.new.shelf) }
+        ensures works { OnOk result (Works (S.meaning self.old.shelf).disks self.old.core.log.unit) }
     {
         if let Some(disk) = self.core.halted {
             return Err(No::Halted { disk });
@@ -111,6 +116,7 @@ impl<S: Shelf> Rvg<S> {
         ensures up { OnOk result (IsTrue (S.meaning self.new.shelf).down → ⊥) }
         ensures cause { self.old.core.halted ≡ None → self.old.core.log.header.low ≤ n → IfErr result (λ why. FetchCause self.old.core.log (S.meaning self.old.shelf) (S.meaning self.new.shelf) why) }
         ensures names { self.old.core.halted ≡ None → self.old.core.log.header.low ≤ n → IfErr result (NamesBody self.old.core.log n (S.meaning self.old.shelf)) }
+        ensures blames { IfErr result (BlamesLog (S.meaning self.old.shelf).disks self.old.core.log.unit) }
         ensures unchanged { OnErr result (into.new ≡ into.old) }
         ensures stands { (h : Holding) → Stands self.old.core h (S.meaning self.old.shelf) → IsFalse (S.meaning self.new.shelf).down → Stands self.new.core h (S.meaning self.new.shelf) }
         ensures core { self.new.core ≡ self.old.core }

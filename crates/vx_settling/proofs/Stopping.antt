@@ -52,14 +52,14 @@ module _ (told : Type 0) (d : Doubted) (xs ys : List Event) (fails : Fails) (sai
   }
 
   pub stops_more : StopsAmong told d xs fails said last → StopsAmong told d (xs ++ ys) fails said last
-  stops_more (HaltsIn e site disk middle came one is leaves) = HaltsIn e site disk middle (comes_more e site middle came) one is leaves
-  stops_more (HaltsApplying before rest site count reached disk split runs none one is) =
-      HaltsApplying before (rest ++ ys) site count reached disk (longer xs before rest ys (ApplyAt site count reached) split) runs none one is
+  stops_more (HaltsIn e site disk middle came here one is leaves) = HaltsIn e site disk middle (comes_more e site middle came) here one is leaves
+  stops_more (HaltsApplying before rest site count reached disk split runs none here one is) =
+      HaltsApplying before (rest ++ ys) site count reached disk (longer xs before rest ys (ApplyAt site count reached) split) runs none here one is
   stops_more (CutsApplying before rest site count reached kept taken middle split runs none opens fused one is leaves) =
       CutsApplying before (rest ++ ys) site count reached kept taken middle (longer xs before rest ys (ApplyAt site count reached) split) runs none opens fused one is leaves
   stops_more (CutsIn e site kept taken middle came fused one is leaves) = CutsIn e site kept taken middle (comes_more e site middle came) fused one is leaves
-  stops_more (IsUnreadIn before rest e site disk split reads runs none one is) =
-      IsUnreadIn before (rest ++ ys) e site disk (longer xs before rest ys e split) reads runs none one is
+  stops_more (IsUnreadIn before rest e site disk split reads runs none here one is) =
+      IsUnreadIn before (rest ++ ys) e site disk (longer xs before rest ys e split) reads runs none here one is
   stops_more (LacksNumber before rest e site split takes runs none lacks one is) =
       LacksNumber before (rest ++ ys) e site (longer xs before rest ys e split) takes runs none lacks one is
 
@@ -79,17 +79,17 @@ module _ (told : Type 0) (d m : Doubted) (xs ys : List Event) (fails : Fails) (s
   }
 
   pub stops_behind : StopsAmong told m ys fails said last → StopsAmong told d (xs ++ ys) fails said last
-  stops_behind (HaltsIn e site disk middle came one is leaves) = HaltsIn e site disk middle (comes_behind e site middle came) one is leaves
-  stops_behind (HaltsApplying before rest site count reached disk split runs none one is) =
+  stops_behind (HaltsIn e site disk middle came here one is leaves) = HaltsIn e site disk middle (comes_behind e site middle came) here one is leaves
+  stops_behind (HaltsApplying before rest site count reached disk split runs none here one is) =
       HaltsApplying (xs ++ before) rest site count reached disk (later xs ys before rest (ApplyAt site count reached) split)
       (subst (λ (es : List Event). Runs d es last) (sym (append_assoc xs before (Fault site disk ∷ []))) (runs_then d m last xs (before ++ Fault site disk ∷ []) done runs))
-      (fails_both xs before calm none) one is
+      (fails_both xs before calm none) here one is
   stops_behind (CutsApplying before rest site count reached kept taken middle split runs none opens fused one is leaves) =
       CutsApplying (xs ++ before) rest site count reached kept taken middle (later xs ys before rest (ApplyAt site count reached) split) (runs_then d m middle xs before done runs)
       (fails_both xs before calm none) opens (fuses site fused) one is leaves
   stops_behind (CutsIn e site kept taken middle came fused one is leaves) = CutsIn e site kept taken middle (comes_behind e site middle came) (fuses site fused) one is leaves
-  stops_behind (IsUnreadIn before rest e site disk split reads runs none one is) =
-      IsUnreadIn (xs ++ before) rest e site disk (later xs ys before rest e split) reads (runs_then d m last xs before done runs) (fails_both xs before calm none) one is
+  stops_behind (IsUnreadIn before rest e site disk split reads runs none here one is) =
+      IsUnreadIn (xs ++ before) rest e site disk (later xs ys before rest e split) reads (runs_then d m last xs before done runs) (fails_both xs before calm none) here one is
   stops_behind (LacksNumber before rest e site split takes runs none lacks one is) =
       LacksNumber (xs ++ before) rest e site (later xs ys before rest e split) takes (runs_then d m last xs before done runs) (fails_both xs before calm none) lacks one is
 
@@ -97,16 +97,16 @@ module _ (told : Type 0) (d m : Doubted) (xs ys : List Event) (fails : Fails) (s
 
 pub line_stops : (told : Type 0) (d : Doubted) (line : ScriptLine) (fails : Fails) (said : Said) (last new : Doubted) → StopsAmong told d (link_events d.world line) fails said last
     → AreLeft line d last new → LinkEnds told d line fails said new
-line_stops told d line fails said last new (HaltsIn e site disk middle came one is leaves) left =
-    LinksHalt e site disk middle came one is (subst (λ (x : Doubted). AreLeft line d x new) leaves left)
-line_stops told d line fails said last new (HaltsApplying before rest site count reached disk split runs none one is) left =
-    AppliesPart before rest site count reached disk last split runs none one is left
+line_stops told d line fails said last new (HaltsIn e site disk middle came here one is leaves) left =
+    LinksHalt e site disk middle came here one is (subst (λ (x : Doubted). AreLeft line d x new) leaves left)
+line_stops told d line fails said last new (HaltsApplying before rest site count reached disk split runs none here one is) left =
+    AppliesPart before rest site count reached disk last split runs none here one is left
 line_stops told d line fails said last new (CutsApplying before rest site count reached kept taken middle split runs none opens fused one is leaves) left =
     AppliesCut before rest site count reached kept taken middle split runs none opens fused one is (subst (λ (x : Doubted). AreLeft line d x new) leaves left)
 line_stops told d line fails said last new (CutsIn e site kept taken middle came fused one is leaves) left =
     LinksCut e site kept taken middle came fused one is (subst (λ (x : Doubted). AreLeft line d x new) leaves left)
-line_stops told d line fails said last new (IsUnreadIn before rest e site disk split reads runs none one is) left =
-    LogUnread before rest e site disk last split reads runs none one is left
+line_stops told d line fails said last new (IsUnreadIn before rest e site disk split reads runs none here one is) left =
+    LogUnread before rest e site disk last split reads runs none here one is left
 line_stops told d line fails said last new (LacksNumber before rest e site split takes runs none lacks one is) left =
     NoHeader before rest e site last split takes runs none lacks one is left
 

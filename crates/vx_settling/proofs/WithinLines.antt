@@ -22,7 +22,7 @@ use Rattle.vx_script.specs.declared.line.ScriptLine.TheVariants.{Connect, Delive
 use Rattle.vx_events.specs.Doubts.{IsAs}
 use Rattle.vx_events.proofs.Bearing.{borne_none}
 use Rattle.vx_events.specs.Facts.{site_number}
-use Rattle.vx_events.specs.Fails.{Fails}
+use Rattle.vx_events.specs.Fails.{Fails, IsLogDisk}
 use Rattle.vx_events.specs.LinkEnds.{AreLeft, LinkEnds, link_noted, target_noted}
 use Rattle.vx_events.specs.LinkFinds.{FindsOther, KeepsOther, LosesOther, MayTake, PumpSends, ReadsNone, SendsOther, SettlesOther, TakesOther, kept_with, pumped_with, taken_with, target_with}
 use Rattle.vx_events.specs.LinksFit.{LinksFit}
@@ -84,9 +84,9 @@ module _ (told : Type 0) (a b : ℕ) (d : Doubted) (may : MayMove a b d.world) (
           reply_on (OnTo told a b d (ConnectAt a b ∷ []) fails new) (λ why. EndTo told a b d (ConnectAt a b ∷ []) fails why new) (step (burnt_world fuses d.world) (ConnectAt a b)).world 0 (step (burnt_world fuses d.world) (ConnectAt a b)).said said
           (ap (λ (x : EventSaid). is_refused x) (said_same (ConnectAt a b) ∙ connect_done d.world a b may.can)) reply
           (record { next = happened d (ConnectAt a b) false; borne = borne; works = works_connect told a b d may; noted = plain_done (ConnectAt a b) new refl left })
-      by (OneHalts site disk opens writes one says left) = absurd writes
+      by (OneHalts site disk opens writes place one says left) = absurd writes
       by (OneCut site kept taken opens writes fused one says left) = absurd writes
-      by (OneUnread site disk reads one says left) = absurd reads
+      by (OneUnread site disk reads place one says left) = absurd reads
       by (OneFull site takes lacks one says left) = absurd takes
       by (OneFinds untold last (SendsOther q r more is sends none says leaves) left) = absurd (cc)
       by (OneFinds untold last (ReadsNone q r why is other none says leaves) left) = absurd (cc)
@@ -105,9 +105,9 @@ module _ (told : Type 0) (a b : ℕ) (d : Doubted) (may : MayMove a b d.world) (
           reply_on (OnTo told a b d (TickAt a b ∷ []) fails new) (λ why. EndTo told a b d (TickAt a b ∷ []) fails why new) (step (burnt_world fuses d.world) (TickAt a b)).world 0 (step (burnt_world fuses d.world) (TickAt a b)).said said
           (ap (λ (x : EventSaid). is_refused x) (said_same (TickAt a b) ∙ tick_done d.world a b may.can)) reply
           (record { next = happened d (TickAt a b) false; borne = borne; works = works_tick told a b d may; noted = plain_done (TickAt a b) new refl left })
-      by (OneHalts site disk opens writes one says left) = absurd writes
+      by (OneHalts site disk opens writes place one says left) = absurd writes
       by (OneCut site kept taken opens writes fused one says left) = absurd writes
-      by (OneUnread site disk reads one says left) = absurd reads
+      by (OneUnread site disk reads place one says left) = absurd reads
       by (OneFull site takes lacks one says left) = absurd takes
       by (OneFinds untold last (SendsOther q r more is sends none says leaves) left) = absurd (cc)
       by (OneFinds untold last (ReadsNone q r why is other none says leaves) left) = absurd (cc)
@@ -165,14 +165,14 @@ module _ (told : Type 0) (a b : ℕ) (d : Doubted) (may : MayMove a b d.world) (
           reply_on (OnTo told a b d (PumpAt a b ∷ []) fails new) (λ why. EndTo told a b d (PumpAt a b ∷ []) fails why new) (step (burnt_world fuses d.world) (PumpAt a b)).world 0 (step (burnt_world fuses d.world) (PumpAt a b)).said said
           (ap (λ (x : EventSaid). is_refused x) (said_same (PumpAt a b) ∙ pump_done d.world a b may.can)) reply
           (record { next = happened d (PumpAt a b) false; borne = borne; works = works_pump told a b d may; noted = plain_done (PumpAt a b) new refl left })
-      by (OneHalts site disk opens writes one says left) = absurd writes
+      by (OneHalts site disk opens writes place one says left) = absurd writes
       by (OneCut site kept taken opens writes fused one says left) = absurd writes
-      by (OneUnread site disk reads one says left) =
+      by (OneUnread site disk reads place one says left) =
           subst (λ (x : Said). GoesTo told a b d (PumpAt a b ∷ []) fails new x) (sym says)
           (record {
             last = d;
             sites = refl;
-            stops = subst (λ (f : Fails). SettleStops told a b d (PumpAt a b ∷ []) f (Refused (Device disk)) d) (ap (λ (i : ℕ). (i, disk) ∷ []) reads.0 ∙ sym one) (stops_unread told a b d may disk reads.1);
+            stops = subst (λ (f : Fails). SettleStops told a b d (PumpAt a b ∷ []) f (Refused (Device disk)) d) (ap (λ (i : ℕ). (i, disk) ∷ []) reads.0 ∙ sym one) (stops_unread told a b d may disk reads.1 (subst (λ (i : ℕ). IsLogDisk (d.world.nodes i) disk) (sym reads.0) place));
             noted = plain_same new left;
           })
       by (OneFull site takes lacks one says left) = absurd takes
@@ -273,7 +273,7 @@ module _ (told : Type 0) (a b : ℕ) (d : Doubted) (may : MayMove a b d.world) (
             works = works_deliver told a b d may number q sent at between;
             noted = left_noted (happened d (DeliverAt number) false) fuses (happened (noted_as fuses d) (DeliverAt number) false) (burns_done (DeliverAt number) refl) (done_noted (DeliverAt number) refl) left;
           })
-      by (OneHalts site disk opens writes one says left) =
+      by (OneHalts site disk opens writes place one says left) =
           let here : site ≡ a = site_is site writes in
           subst (λ (x : Said). GoesTo told a b d (DeliverAt number ∷ []) fails new x) (sym says)
           (record {
@@ -281,7 +281,7 @@ module _ (told : Type 0) (a b : ℕ) (d : Doubted) (may : MayMove a b d.world) (
             sites = refl;
             stops = subst (λ (f : Fails). SettleStops told a b d (DeliverAt number ∷ []) f (Refused (Device disk)) (halved d (DeliverAt number) site disk)) (sym one)
                 (subst (λ (i : ℕ). SettleStops told a b d (DeliverAt number ∷ []) ((i, disk) ∷ []) (Refused (Device disk)) (halved d (DeliverAt number) i disk)) (sym here)
-                (stops_header told a b d may number disk (subst (λ (i : ℕ). IsOpen (d.world.nodes i)) here opens) (subst (λ (i : ℕ). WritesAt d.world (DeliverAt number) i) here writes)));
+                (stops_header told a b d may number disk (subst (λ (i : ℕ). IsOpen (d.world.nodes i)) here opens) (subst (λ (i : ℕ). WritesAt d.world (DeliverAt number) i) here writes) (subst (λ (i : ℕ). IsLogDisk (d.world.nodes i) disk) here place)));
             noted = left_noted (halved d (DeliverAt number) site disk) (noted_at fuses site) (halved (noted_as fuses d) (DeliverAt number) site disk) (burns_halved a b fuses d (DeliverAt number) site disk burns)
                 (halved_burnt fuses d fit a b burns (DeliverAt number) refl site disk) left;
           })
@@ -300,7 +300,7 @@ module _ (told : Type 0) (a b : ℕ) (d : Doubted) (may : MayMove a b d.world) (
                 (burns_crashed a b (noted_at fuses site) half site kept taken (burns_halved a b fuses d (DeliverAt number) site 0 burns))
                 (ap (λ (x : Doubted). crashed_as x site kept taken) (halved_burnt fuses d fit a b burns (DeliverAt number) refl site 0) ∙ crashed_burnt (noted_at fuses site) half site kept taken) left;
           })
-      by (OneUnread site disk reads one says left) = absurd reads
+      by (OneUnread site disk reads place one says left) = absurd reads
       by (OneFull site takes lacks one says left) =
           let here : site ≡ a = site_is site takes in
           subst (λ (x : Said). GoesTo told a b d (DeliverAt number ∷ []) fails new x) (sym says)
@@ -323,9 +323,9 @@ module _ (told : Type 0) (a b : ℕ) (d : Doubted) (may : MayMove a b d.world) (
       by : OneEnds told (noted_as fuses d) (Connect p s) (ConnectAt a b) fails said new → said ≡ Done
       by (OneDone borne reply left) =
           subst (λ (x : EventSaid). RepeatsSaid (step (burnt_world fuses d.world) (ConnectAt a b)).world 0 x said) (said_same (ConnectAt a b) ∙ connect_done d.world a b may.can) reply
-      by (OneHalts site disk opens writes one says left) = absurd writes
+      by (OneHalts site disk opens writes place one says left) = absurd writes
       by (OneCut site kept taken opens writes fused one says left) = absurd writes
-      by (OneUnread site disk reads one says left) = absurd reads
+      by (OneUnread site disk reads place one says left) = absurd reads
       by (OneFull site takes lacks one says left) = absurd takes
       by (OneFinds untold last (SendsOther q r more is sends none says leaves) left) = absurd (cc)
       by (OneFinds untold last (ReadsNone q r why is other none says leaves) left) = absurd (cc)

@@ -1,5 +1,5 @@
 -- A world in memory with one part in place of another.
-use Rattle.std.proofs.Common.{◌≡◌, ℕ, ◌+◌, ◌-◌, ◌<◌, ◌≤◌, max, List, [], ◌∷◌, ◌++◌, length, get_or, take, drop, replicate, refl, sym, subst, ap, ◌∙◌}
+use Rattle.std.proofs.Common.{◌≡◌, ℕ, ◌+◌, ◌-◌, ◌<◌, ◌≤◌, max, List, [], ◌∷◌, ◌++◌, length, get_or, take, drop, replicate, refl, sym, subst, ap, ◌∙◌, zero, suc}
 use Rattle.std.specs.Prelude.{None, eqb, if◌then◌else◌}
 use Rattle.std.proofs.Math.ListN.{set}
 use Rattle.std.proofs.lemmas.List.{length-set, length-append}
@@ -155,3 +155,10 @@ pub group_made_is : (w : PlainWorld) (i : ℕ) (lines : Line → PlainHistory) (
 group_made_is w i lines start made told =
     ap (λ (f : Line → PlainHistory). with_node (record w { lines = f }) i (group_set i (w.nodes i)))
     (told ∙ ap (λ (c : Content). line_updated w.lines (first_line i) (record no_history { start = c })) made)
+
+-- no site of a world in memory has a fuse
+pub no_fuses : (nodes : List Node) (i : ℕ) → (nodes_of nodes i).fuse ≡ NoFuse
+no_fuses [] zero = refl
+no_fuses [] (suc i) = refl
+no_fuses (n ∷ nodes) zero = refl
+no_fuses (n ∷ nodes) (suc i) = no_fuses nodes i

@@ -1,11 +1,40 @@
-// What the events of groups of disks make of their sites.
-ghost use Rattle.std.specs.Prelude.{◌≡◌, ◌<◌, length, OnOk};
-ghost use Rattle.vx_history.specs.Steps.{group_made, deported_world};
-ghost use Rattle.vx_sites.specs.Shapes.{world_of};
+// What the events of groups of disks ask and make of their sites.
+ghost use Rattle.std.specs.Prelude.{◌≡◌, ◌<◌, eqb, length, not, OnOk};
+ghost use Rattle.vx_history.specs.Events.{is_plain_group as plain_group};
+ghost use Rattle.vx_history.specs.Refusals.{unless};
+ghost use Rattle.vx_history.specs.Steps.{group_back, group_made, deported_world};
+ghost use Rattle.vx_model.specs.declared.no.No.TheVariants.{Role as WrongRole};
+ghost use Rattle.vx_sites.specs.Refusing.{Refuses};
+ghost use Rattle.vx_sites.specs.Shapes.{node_of, world_of};
 
+use crate::bounds::is_primary;
 use crate::history::begin_line;
-use crate::{Content, World};
-use vx_model::{Line, Mark, OutOfMemory, Role, SiteState};
+use crate::{Content, Node, World};
+use vx_model::{Line, Mark, No, OutOfMemory, Role, SiteState};
+
+/// 5 where the site is no primary, or has volumes or a log.
+pub fn refuse_no_group(world: &World, site: u32) -> Option<No>
+    requires { site < length world.now.nodes.items }
+    ensures { let w = world_of world.now in Refuses result w (unless (not (plain_group (w.nodes site))) WrongRole w) }
+{
+    if is_plain_group(world.node(site)) {
+        None
+    } else {
+        Some(No::Role)
+    }
+}
+
+fn is_plain_group(node: &Node) -> bool
+    ensures { result ≡ plain_group (node_of node.now) }
+{
+    is_primary(node) && has_no_volumes(node) && node.log.is_empty()
+}
+
+fn has_no_volumes(node: &Node) -> bool
+    ensures { result ≡ eqb (length (node_of node.now).volumes) 0 }
+{
+    node.volumes.is_empty()
+}
 
 impl World {
     /// A bare site becomes a group of disks without volumes, and the primary of its first line.
@@ -41,10 +70,20 @@ impl World {
         Ok(())
     }
 
+    /// A group of disks comes up again, in the session that it had.
+    pub fn bring_group_up(&mut self, site: u32)
+        requires { site < length self.old.nodes.items }
+        ensures { world_of self.new ≡ group_back (world_of self.old) site }
+    {
+        let node = &mut self.nodes[site as usize];
+        node.state = SiteState::Up;
+        node.halted = None;
+    }
+
     /// The site, which is down, counts as deported.
     pub fn deport(&mut self, site: u32)
         requires { site < length self.old.nodes.items }
-        ensures { world_of self.new ≡ deported_world (world_of self.old) site }
+        ensures { let w = world_of self.old in world_of self.new ≡ deported_world (w.nodes site).fuse w site }
     {
         self.nodes[site as usize].state = SiteState::Deported;
     }

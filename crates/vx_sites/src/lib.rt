@@ -10,7 +10,7 @@ mod confirming;
 mod content;
 mod dispatches;
 mod gathering;
-mod groups;
+pub mod groups;
 mod history;
 mod link;
 mod maps;

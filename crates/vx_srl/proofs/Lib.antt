@@ -1,3 +1,4 @@
+pub mod Blaming
 pub mod Calling
 pub mod FetchKept
 pub mod FetchRecord

@@ -6,6 +6,7 @@ ghost use Rattle.vx_disk.specs.Shelf.{Goes, Nothing};
 ghost use Rattle.vx_ringio.specs.Spends.{Spends};
 ghost use Rattle.vx_ringio.specs.Tracks.{RingLies};
 ghost use Rattle.vx_srl.specs.Calls.{Fetches, FetchCause, AgreesWithFront, NamesBody};
+ghost use Rattle.vx_srl.specs.Causes.{BlamesLog};
 ghost use Rattle.vx_srl.specs.Views.{head_number};
 
 use crate::{Srl, SrlNo};
@@ -27,6 +28,7 @@ impl Srl {
         ensures up { OnOk result (IsTrue (S.meaning shelf.new).down → ⊥) }
         ensures cause { self.now.header.low ≤ n → IfErr result (λ why. FetchCause self.now (S.meaning shelf.old) (S.meaning shelf.new) why) }
         ensures names { self.now.header.low ≤ n → IfErr result (NamesBody self.now n (S.meaning shelf.old)) }
+        ensures blames { IfErr result (BlamesLog (S.meaning shelf.old).disks self.now.unit) }
         ensures unchanged { OnErr result (into.new ≡ into.old) }
         ensures goes { Goes Nothing (S.meaning shelf.old) (S.meaning shelf.new) }
         ensures down { (S.meaning shelf.new).down ≡ (S.meaning shelf.old).down }

@@ -1,11 +1,13 @@
 // The calls that write a header: a new state, a raised low number, an emptied log.
-ghost use Rattle.std.specs.Prelude.{◌≡◌, ◌⊎◌, ◌+◌, ◌-◌, ◌<◌, ◌≤◌, ◌%◌, [], length, take, drop, leb, true, Ok, Err, OnOk};
+ghost use Rattle.std.specs.Prelude.{◌≡◌, ◌⊎◌, ◌+◌, ◌-◌, ◌<◌, ◌≤◌, ◌%◌, [], length, take, drop, leb, true, Ok, Err, IfErr, OnOk};
 ghost use Rattle.vx_disk.specs.Burns.{FallsShort, MakesCalls};
+ghost use Rattle.vx_disk.specs.Causes.{Works};
 ghost use Rattle.vx_ringio.specs.Classes.{is_of_ring};
 ghost use Rattle.vx_ringio.specs.Spends.{Spends};
 ghost use Rattle.vx_ringio.specs.Tracks.{RingLies, Follows, Arrives};
 ghost use Rattle.vx_ringlog.specs.Acts.{head_acts};
 ghost use Rattle.vx_srl.specs.Calls.{SavesHeader, can_restart, saving, restarting, saved, restarted_log, log_no_number};
+ghost use Rattle.vx_srl.specs.Causes.{BlamesLog};
 ghost use Rattle.vx_srl.specs.Headers.{with_header_state, without, emptied_header};
 ghost use Rattle.vx_srl.specs.Rings.{RingGoes, LeadsTo};
 ghost use Rattle.vx_srl.specs.Views.{head_number, count_to, most_number};
@@ -122,7 +124,9 @@ impl Srl {
         ensures leads { OnOk result (LeadsTo self.old (saving (with_header_state self.old state.now) 0) self.new (S.meaning shelf.old) (S.meaning shelf.new)) }
         ensures calls { OnOk result (MakesCalls 2 (S.meaning shelf.old) (S.meaning shelf.new)) }
         ensures short { FallsShort 2 (S.meaning shelf.old) (S.meaning shelf.new) }
+        ensures blames { IfErr result (BlamesLog (S.meaning shelf.old).disks self.old.unit) }
         ensures spends { Spends (S.meaning shelf.old) (S.meaning shelf.new) }
+        ensures works { OnOk result (Works (S.meaning shelf.old).disks self.old.unit) }
     {
         if self.header.stamp >= MOST_NUMBER {
             return Err(no_number_left());
@@ -152,6 +156,7 @@ impl Srl {
             → LeadsTo self.old (saving (without self.old to) (count_to self.old to)) self.new (S.meaning shelf.old) (S.meaning shelf.new)) }
         ensures calls { OnOk result (self.old.header.low ≤ to → MakesCalls 2 (S.meaning shelf.old) (S.meaning shelf.new)) }
         ensures short { FallsShort 2 (S.meaning shelf.old) (S.meaning shelf.new) }
+        ensures blames { IfErr result (BlamesLog (S.meaning shelf.old).disks self.old.unit) }
         ensures spends { Spends (S.meaning shelf.old) (S.meaning shelf.new) }
     {
         if to < self.header.low {
@@ -204,7 +209,9 @@ impl Srl {
         ensures leads { OnOk result (LeadsTo self.old (restarting (emptied_header self.old state.now head)) self.new (S.meaning shelf.old) (S.meaning shelf.new)) }
         ensures calls { OnOk result (MakesCalls 2 (S.meaning shelf.old) (S.meaning shelf.new)) }
         ensures short { FallsShort 2 (S.meaning shelf.old) (S.meaning shelf.new) }
+        ensures blames { IfErr result (BlamesLog (S.meaning shelf.old).disks self.old.unit) }
         ensures spends { Spends (S.meaning shelf.old) (S.meaning shelf.new) }
+        ensures works { OnOk result (Works (S.meaning shelf.old).disks self.old.unit) }
     {
         if self.header.stamp >= MOST_NUMBER
             || self.header.run >= MOST_NUMBER

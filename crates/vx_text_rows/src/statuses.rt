@@ -3,7 +3,8 @@ use std::alloc::Global;
 use std::test::Fail;
 use vx_model::{Mark, Mode, Name, OutOfMemory, Phase, PlexState, Role, SiteName, SiteState};
 use vx_report::{
-    DiskViews, LinkViews, PlexViews, RvgView, SiteView, VolumeView, VolumeViews, status,
+    DiskViews, Kept, LinkViews, PlexViews, RvgView, SiteView, VolumeView, VolumeViews, push_kept,
+    status,
 };
 
 fn site(alloc: Global, state: SiteState) -> SiteView {
@@ -106,5 +107,22 @@ fn prints_each_role(rt: HostRuntime) -> Result<(), Fail> {
         let text = status(rt.alloc(), &view)?;
         assert_eq!(rt; text.as_slice(), wanted.as_bytes());
     }
+    Ok(())
+}
+
+#[test]
+fn prints_what_is_kept_of_a_write(rt: HostRuntime) -> Result<(), Fail> {
+    let mut kept = Kept {
+        volume: Name::new(b"v"),
+        block: 70,
+        count: 3,
+        bits: [false; 16],
+    };
+    kept.bits[0] = true;
+    kept.bits[2] = true;
+    kept.bits[3] = true;
+    let mut out = Vec::new(rt.alloc());
+    push_kept(&mut out, &kept)?;
+    assert_eq!(rt; out.as_slice(), b"kept v 70 101\n".as_slice());
     Ok(())
 }

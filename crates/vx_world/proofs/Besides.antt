@@ -283,7 +283,8 @@ module _ (s : ℕ) (w v : World) (twin : Twin s w v) where
       let u : World = crash_at w p (kept_of (w.nodes p) 0) in
       let x : World = crash_at v p (kept_of (v.nodes p) 0) in
       let fallen : Twin s u x = fall_both p 0 apart in
-      twin_node s u x fallen p (deported_site (u.nodes p)) (deported_site (x.nodes p)) apart (ap deported_site (fallen.nodes p apart))))
+      twin_node s u x fallen p (deported_site (w.nodes p).fuse (u.nodes p)) (deported_site (v.nodes p).fuse (x.nodes p)) apart
+      (ap (λ (n : Node). deported_site n.fuse (x.nodes p)) (twin.nodes p apart) ∙ ap (λ (n : Node). deported_site (w.nodes p).fuse n) (fallen.nodes p apart))))
 
   pub recovery_both : (p : ℕ) (fails : Option ℕ) → (p ≡ s → ⊥) → Twin s (recovery w p fails).world (recovery v p fails).world
   recovery_both p None apart =

@@ -5,12 +5,12 @@ use Rattle.vx_model.specs.declared.limits.TheConstants.{MOST_DISKS, MOST_LINKS, 
 use Rattle.std.proofs.Common.{◌≡◌, ◌∙◌, inl, inr, ℕ, ◌+◌, List, ap, sym, subst, refl, arith, Bool, true, false}
 use Rattle.std.specs.Prelude.{Option, Some, None, not, ◌&&◌, ◌||◌, eqb, ltb, leb, bytes_eq}
 use Rattle.std.proofs.lemmas.Bool.{cases_eq}
-use Rattle.vx_history.specs.Events.{joined, new_link, opened}
+use Rattle.vx_history.specs.Events.{group_again, group_from, is_plain_group, joined, new_link, opened}
 use Rattle.vx_history.specs.Receiving.{phase_takes}
 use Rattle.vx_history.specs.Refusals.{Outcome, unless, unless_halted, at_site, both_at_work, may_link, follows, count_links_of, is_fresh, is_running, is_primary, is_consistent, is_stale_mode, is_empty, agree, rings_fit, some_below, how_many_below}
 use Rattle.vx_history.specs.Sends.{is_linked, with_link}
 use Rattle.vx_history.specs.Step.{outcome_of, done, link_part}
-use Rattle.vx_history.specs.Steps.{site_made, raw_made, raw_set, raw_history, group_made, group_set, begun_line}
+use Rattle.vx_history.specs.Steps.{site_made, raw_made, raw_set, raw_history, group_back, group_set, group_up, begun_line}
 use Rattle.vx_history.specs.World.{Node, Link, World, bare_site, no_volumes, updated, with_node}
 use Rattle.vx_history.specs.declared.event.Event.TheVariants.{Site, Raw, Group, Link as LinkAt}
 use Rattle.vx_history.specs.declared.event.LinkPart.{LinkPart}
@@ -20,7 +20,7 @@ use Rattle.vx_model.specs.declared.no.No.TheVariants.{Exists, Size, Role as Wron
 use Rattle.vx_model.specs.declared.no.Counted.TheVariants.{Sites, Disks, Links}
 use Rattle.vx_model.specs.declared.site.Mark.TheVariants.{Consistent}
 use Rattle.vx_model.specs.declared.site.SiteState.{SiteState}
-use Rattle.vx_model.specs.declared.site.SiteState.TheVariants.{Up}
+use Rattle.vx_model.specs.declared.site.SiteState.TheVariants.{Bare, Up, Deported, Down}
 use Rattle.vx_history.specs.Gatherings.{emptied}
 use Rattle.vx_world.specs.Twins.{Twin}
 use Rattle.vx_world.proofs.TwinTests.{not_both, both, there, stuck}
@@ -49,18 +49,33 @@ module _ (s : ℕ) (w v : World) (twin : Twin s w v) where
             (ap (λ (n : Node). raw_set p n) node) (ap raw_history node))
       ]))
 
+  again_both : (p : ℕ) → (p ≡ s → ⊥) → Twin s (group_again w p).world (group_again v p).world
+  again_both p apart =
+      both s (not (is_plain_group (w.nodes p))) (not (is_plain_group (v.nodes p))) WrongRole WrongRole w v (done (group_back w p)) (done (group_back v p))
+      (ap (λ (n : Node). not (is_plain_group n)) (twin.nodes p apart)) twin
+      (λ _. twin_node s w v twin p (group_up (w.nodes p)) (group_up (v.nodes p)) apart (ap group_up (twin.nodes p apart)))
+
+  groups_both : (t : SiteState) (p : ℕ) → (p ≡ s → ⊥) → Twin s (group_from t w p).world (group_from t v p).world
+  groups_both Bare p apart =
+      twin_history s w v twin p (group_set p (w.nodes p)) (group_set p (v.nodes p)) (begun_line no_volumes) (begun_line no_volumes) apart
+      (ap (λ (n : Node). group_set p n) (twin.nodes p apart)) refl
+  groups_both Up p apart = twin
+  groups_both Deported p apart = again_both p apart
+  groups_both Down p apart = again_both p apart
+
   pub twin_group : (p : ℕ) → Twin s (outcome_of w (Group p)).world (outcome_of v (Group p)).world
   twin_group p =
-      there s w v p (unless (not (is_bare (w.nodes p).state)) WrongRole w (done (group_made w p)))
-      (unless (not (is_bare (v.nodes p).state)) WrongRole v (done (group_made v p))) twin
-      (both s (not (is_bare (w.nodes p).state)) (not (is_bare (v.nodes p).state)) WrongRole WrongRole w v (done (group_made w p)) (done (group_made v p))
-      (ap not ((bare_both s w v twin) p)) twin
-      (λ bare. elim (cases_eq p s) [
-        | inl same ↦ absurd (not_both (not (is_bare (w.nodes p).state))
-            (subst (λ (i : ℕ). not (is_bare (w.nodes i).state) ≡ true) (sym same) (ap (λ (t : SiteState). not (is_bare t)) twin.up)) bare)
-        | inr apart ↦ twin_history s w v twin p (group_set p (w.nodes p)) (group_set p (v.nodes p)) (begun_line no_volumes) (begun_line no_volumes) apart
-            (ap (λ (n : Node). group_set p n) (twin.nodes p apart)) refl
-      ]))
+      there s w v p (group_from (w.nodes p).state w p) (group_from (v.nodes p).state v p) twin
+      (elim (cases_eq p s) [
+        | inl same ↦
+            let up : (w.nodes p).state ≡ Up = subst (λ (i : ℕ). (w.nodes i).state ≡ Up) (sym same) twin.up in
+            let up_too : (v.nodes p).state ≡ Up = subst (λ (i : ℕ). (v.nodes i).state ≡ Up) (sym same) twin.up_too in
+            subst (λ (t : SiteState). Twin s (group_from t w p).world (group_from (v.nodes p).state v p).world) (sym up)
+            (subst (λ (t : SiteState). Twin s w (group_from t v p).world) (sym up_too) twin)
+        | inr apart ↦
+            subst (λ (t : SiteState). Twin s (group_from (w.nodes p).state w p).world (group_from t v p).world)
+            (sym (ap (λ (n : Node). n.state) (twin.nodes p apart))) (groups_both (w.nodes p).state p apart)
+      ])
 
   pub made_both : (name : List ℕ) (disks blocks : ℕ) → Twin s (site_made w name disks blocks) (site_made v name disks blocks)
   made_both name disks blocks =

@@ -1,5 +1,5 @@
 -- What was said of sites before stays true of later states of them.
-use Rattle.std.proofs.Common.{◌≡◌, ℕ, ◌≤◌, List, length, arith, refl, sym, ap, subst, ◌∙◌, Bool, true}
+use Rattle.std.proofs.Common.{◌≡◌, ℕ, ◌≤◌, List, length, arith, refl, sym, ap, subst, ◌∙◌, Bool, true, false}
 use Rattle.std.specs.Prelude.{◌||◌}
 use Rattle.std.specs.List.{AllByRecursion}
 use Rattle.vx_model.specs.Content.{Write, IsPrefixOf}
@@ -27,7 +27,8 @@ pub record IsLater (a b : Node) : Type 0 where
   pub session : a.session ≤ b.session
   pub safe : a.safe ≤ b.safe
   pub stored : (k : ℕ) → HasStored a k → HasStored b k
-  pub present : b.state ≡ Up → b.session ≡ a.session → (a.state ≡ Up) × (length a.log ≤ length b.log)
+  -- of an origin nothing is said that is in its memory alone
+  pub present : is_origin b.role ≡ false → b.state ≡ Up → b.session ≡ a.session → (a.state ≡ Up) × (length a.log ≤ length b.log)
   pub made : IsMade a → IsMade b
   pub top : a.top ≤ b.top
   pub stood : b.stood ≡ a.stood
@@ -45,7 +46,7 @@ later_same a = record {
   session = omega arith;
   safe = omega arith;
   stored = λ k h. h;
-  present = λ up _.
+  present = λ _ up _.
       (up, omega arith);
   made = λ m. m;
   top = omega arith;
@@ -78,25 +79,36 @@ mode_later f g b d (Replay id phase left start end) mark takes says = tt
 mode_later f g b d (Fork maps) mark takes says = tt
 mode_later f g b d Stale mark takes says = tt
 
--- a number that was in memory in some session is in memory while that session lasts
+-- a site that is up is an origin, and stands on the line
+abbrev pub OriginHere : Node → Line → Type 0
+OriginHere b line = (b.state ≡ Up) × (b.line ≡ line) × (is_origin b.role ≡ true)
+
+-- a number that was in memory in some session is in memory while that session lasts; and of an origin there is none
 module _ (a b : Node) (later : IsLater a b) where
-  present_later : (line : Line) (session number : ℕ) → session ≤ a.session → (a.line ≡ line → IsPresent a session → number ≤ length a.log) → b.line ≡ line
-      → IsPresent b session → number ≤ length b.log
-  present_later line session number old h e (up, is) =
-      let same : b.session ≡ a.session = omega (arith, is, old, later.session) in
-      let still = later.present up same in
-      omega (arith, still.1, h (sym later.line ∙ e) (still.0, sym same ∙ is))
+  present_later : (line : Line) (session number : ℕ) → session ≤ a.session → (OriginHere b line → number ≤ 0)
+      → (a.line ≡ line → IsPresent a session → number ≤ length a.log) → b.line ≡ line → IsPresent b session → number ≤ length b.log
+  present_later line session number old none h e (up, is) = by_role (is_origin b.role) refl
+    where
+      by_role : (o : Bool) → is_origin b.role ≡ o → number ≤ length b.log
+      by_role true o = omega (arith, none (up, e, o))
+      by_role false r =
+          let same : b.session ≡ a.session = omega (arith, is, old, later.session) in
+          let still = later.present r up same in
+          omega (arith, still.1, h (sym later.line ∙ e) (still.0, sym same ∙ is))
 
-  pub message_later : (f g : List Write) (line : Line) → IsPrefixOf f g → (m : Message) → GoodMessage f a line m → GoodMessage g b line m
-  message_later f g line grow (Update number x) h = prefix_number f g number x grow h
-  message_later f g line grow (NetAck session number) (old, h) = (omega (arith, old, later.session), present_later line session number old h)
-  message_later f g line grow (Hello session number stored) (old, h, k) =
-      (omega (arith, old, later.session), present_later line session number old h, λ e. later.stored stored (k (sym later.line ∙ e)))
-  message_later f g line grow (DataAck number) h = λ e. later.stored number (h (sym later.line ∙ e))
+  pub message_later : (f g : List Write) (line : Line) (to from : Type 0) → IsPrefixOf f g → (OriginHere b line → from) → (m : Message)
+      → StrangerSays to from m → GoodMessage f a line m → GoodMessage g b line m
+  message_later f g line to from grow strange (Update number x) known h = prefix_number f g number x grow h
+  message_later f g line to from grow strange (NetAck session number) known (old, h) =
+      (omega (arith, old, later.session), present_later line session number old (λ o. known (strange o)) h)
+  message_later f g line to from grow strange (Hello session number stored) known (old, h, k) =
+      (omega (arith, old, later.session), present_later line session number old (λ o. (known (strange o)).0) h, λ e. later.stored stored (k (sym later.line ∙ e)))
+  message_later f g line to from grow strange (DataAck number) known h = λ e. later.stored number (h (sym later.line ∙ e))
 
-  pub kept_later : (line : Line) (number : ℕ) (s : Surety) → IsKept a line number s → IsKept b line number s
-  kept_later line number Durable h = λ e. omega (arith, h (sym later.line ∙ e), later.safe)
-  kept_later line number (InSession session) (old, h) = (omega (arith, old, later.session), present_later line session number old h)
+  pub kept_later : (line : Line) (number : ℕ) (s : Surety) → (OriginHere b line → ⊥) → IsKept a line number s → IsKept b line number s
+  kept_later line number Durable none h = λ e. omega (arith, h (sym later.line ∙ e), later.safe)
+  kept_later line number (InSession session) none (old, h) =
+      (omega (arith, old, later.session), present_later line session number old (λ o. absurd (none o)) h)
 
 pub link_later : (f g : List Write) (p s : ℕ) (a b c d : Node) (l : Link) → IsLater a c → IsLater b d
     → (is_origin c.role ≡ true → IsFollowed c d l → ModeSays f b l.mode → ModeSays g d l.mode) → GoodLink f p s a b l → GoodLink g p s c d l
@@ -111,7 +123,7 @@ link_later f g p s a b c d l later_a later_b modes good =
       stored = λ v. later_b.stored l.stored (good.stored (was v));
       net = λ v (up, same).
           let old : d.session ≡ b.session = omega (arith, same, good.session v.0, later_b.session) in
-          let still = later_b.present up old in
+          let still = later_b.present v.1 up old in
           omega (arith, still.1, good.net (was v) (still.0, sym old ∙ same));
       says = λ o v. modes o v (good.says (sym later_a.origin ∙ o) (was v));
     }
@@ -135,13 +147,15 @@ come_later f g later i line h = record {
 
 -- worlds of which one is later: its sites, their links and the lines
 module _ (f g : ℕ → Node) (links more : ℕ → ℕ → Link) (later : (i : ℕ) → IsLater (f i) (g i))
-    (before : (l : Line) (i : ℕ) → IsStranger g more l i → IsStranger f links l i) where
+    (before : (l : Line) (i : ℕ) → IsStranger g more l i → IsStranger f links l i)
+    (origins : (i : ℕ) (l : Line) → OriginHere (g i) l → IsStranger g more l i) where
   pub packets_later : (h k : Line → History) → ((l : Line) → IsPrefixOf (h l).held (k l).held) → (ps : List Packet)
       → AllByRecursion (GoodPacket f links h) ps → AllByRecursion (GoodPacket g more k) ps
   packets_later h k grow ps good =
       each_weaker (GoodPacket f links h) (GoodPacket g more k)
       (λ p q. record {
-        said = message_later (f p.source) (g p.source) (later p.source) (h p.line).held (k p.line).held p.line (grow p.line) p.message q.said;
+        said = message_later (f p.source) (g p.source) (later p.source) (h p.line).held (k p.line).held p.line (IsStranger f links p.line p.target)
+            (IsStranger f links p.line p.source) (grow p.line) (λ o. before p.line p.source (origins p.source p.line o)) p.message q.known q.said;
         known = says_later (IsStranger f links p.line p.target) (IsStranger f links p.line p.source) (IsStranger g more p.line p.target)
             (IsStranger g more p.line p.source) (before p.line p.target) (before p.line p.source) p.message q.known;
         came = ap (λ (ls : List Line). has_line ls p.line) (later p.source).stood ∙ q.came;
@@ -152,7 +166,8 @@ module _ (f g : ℕ → Node) (links more : ℕ → ℕ → Link) (later : (i : 
   promises_later es good =
       each_weaker (GoodPromise f links) (GoodPromise g more)
       (λ e q. record {
-        kept = kept_later (f e.site) (g e.site) (later e.site) e.line e.number e.surety q.kept;
+        kept = kept_later (f e.site) (g e.site) (later e.site) e.line e.number e.surety
+            (λ o. q.known (before e.line e.site (origins e.site e.line o))) q.kept;
         known = λ r. q.known (before e.line e.site r);
         came = ap (λ (ls : List Line). has_line ls e.line) (later e.site).stood ∙ q.came;
       })

@@ -1,12 +1,12 @@
 -- Crashes, recoveries and halts keep what holds of the world.
 use Rattle.std.proofs.Common.{◌≡◌, ℕ, ◌+◌, ◌≤◌, [], length, take, refl, ap, sym, ◌∙◌, subst, arith, Bool, true, false}
-use Rattle.std.specs.Prelude.{Option, Some, None}
+use Rattle.std.specs.Prelude.{Option, Some, None, not}
 use Rattle.std.specs.List.{AllByRecursion}
 use Rattle.std.proofs.lemmas.List.{length-take, take-take}
 use Rattle.vx_model.specs.Content.{IsPrefixOf}
-use Rattle.vx_history.specs.World.{World, Node, with_node}
+use Rattle.vx_history.specs.World.{World, Fuse, Node, with_node}
 use Rattle.vx_model.specs.Sites.{is_origin}
-use Rattle.vx_history.specs.Steps.{burned, crashed, crash_left, deported_site, deported_world, stopped_by}
+use Rattle.vx_history.specs.Steps.{burned, crashed, crash_left, deported_site, deported_world, group_back, group_up, stopped_by}
 use Rattle.vx_history.specs.Good.{IsMade}
 use Rattle.vx_model.specs.declared.site.Mark.{Mark}
 use Rattle.vx_model.specs.declared.site.Mark.TheVariants.{Consistent}
@@ -15,11 +15,16 @@ use Rattle.vx_model.specs.declared.site.SiteState.{SiteState}
 use Rattle.vx_model.specs.declared.site.SiteState.TheVariants.{Bare, Up, Deported, Down}
 use Rattle.vx_history.proofs.Updates.{by_test, at_place}
 use Rattle.vx_history.proofs.GoodLemmas.{up_is_made}
-use Rattle.vx_history.proofs.CrashLemmas.{good_crashed, good_deported, good_session_begun, good_stopped, kept_length, crash_state}
+use Rattle.vx_history.proofs.CrashLemmas.{good_crashed, good_back, good_deported, good_session_begun, good_stopped, kept_length, crash_state}
 use Rattle.vx_history.specs.Sends.{with_links, sending, greeting}
+use Rattle.vx_history.proofs.GroupLemmas.{group_facts}
 use Rattle.vx_history.specs.Events
+use Rattle.vx_history.specs.Events.{is_plain_group}
+use Rattle.vx_history.specs.Refusals.{says}
+use Rattle.vx_history.specs.declared.event.Said.TheVariants.{Done}
+use Rattle.vx_model.specs.declared.no.No.TheVariants.{Role as WrongRole}
 use Rattle.vx_history.specs.Sound.{GoodPacket, LosesNothing, is_at_rest, Sound}
-use Rattle.vx_world.proofs.Lists.{prefix_take}
+use Rattle.vx_world.proofs.Lists.{not_false, prefix_take}
 use Rattle.vx_world.proofs.Carry.{IsLater}
 use Rattle.vx_world.proofs.Moves.{sound_gathering, sound_sending, sound_with_links, sound_with_node, sound_with_history, good_later, stays_fed}
 use Rattle.vx_world.proofs.Tests.{Keeps, unless_keeps}
@@ -87,27 +92,27 @@ crash_keeps w q kept s up =
     (λ r. lost_keeps (with_node w q (crashed n k)) q (receiver_crash_keeps w q k s made r least most)))
 
 -- a site that is down and gives its disks up
-deported_keeps : (w : World) (q : ℕ) → Sound w → (w.nodes q).state ≡ Down → Sound (deported_world w q)
-deported_keeps w q s down =
+deported_keeps : (w : World) (q : ℕ) (fuse : Fuse) → Sound w → (w.nodes q).state ≡ Down → Sound (deported_world fuse w q)
+deported_keeps w q fuse s down =
     let n : Node = w.nodes q in
     let rest : is_at_rest n.state ≡ true = ap is_at_rest down in
     let made : IsMade n = rest_bare n.state rest in
-    sound_with_node w q (deported_site n) s
-    (good_deported w q s.good made (s.whole q rest))
-    (Nodes.later_deported n down)
+    sound_with_node w q (deported_site fuse n) s
+    (good_deported w q fuse s.good made (s.whole q rest))
+    (Nodes.later_deported n fuse down)
     (λ _. s.whole q rest)
     (s.fed q)
     (s.takes q)
     (λ up. absurd (let e : Deported ≡ Up = up in cc))
     (s.newest q)
     (λ _. s.stands q made)
-    (stays_fed w q (deported_site n) (λ m. m) (λ t. t))
+    (stays_fed w q (deported_site fuse n) (λ m. m) (λ t. t))
     (λ _ r g. s.known q made r g)
 
 pub deport_keeps : (w : World) (q : ℕ) → Sound w → (w.nodes q).state ≡ Up → Sound (Events.deport_at w q)
 deport_keeps w q s up =
     let k : ℕ = Events.kept_of (w.nodes q) 0 in
-    deported_keeps (Events.crash_at w q k) q (crash_keeps w q 0 s up) (crash_state w q k)
+    deported_keeps (Events.crash_at w q k) q (w.nodes q).fuse (crash_keeps w q 0 s up) (crash_state w q k)
 
 -- the world of a site that has risen with this mark, with its links and its greeting
 abbrev pub RisenWorld : World → ℕ → Node → World
@@ -174,6 +179,29 @@ recover_keeps w q Bare fails s e = s
 recover_keeps w q Up fails s e = s
 recover_keeps w q Deported fails s e = unless_keeps _ _ w (Events.recovery w q fails) s (λ _. recovery_keeps w q fails s (ap is_at_rest e))
 recover_keeps w q Down fails s e = unless_keeps _ _ w (Events.recovery w q fails) s (λ _. recovery_keeps w q fails s (ap is_at_rest e))
+
+-- a group of disks that comes up again in its session
+back_keeps : (w : World) (q : ℕ) → Sound w → is_at_rest (w.nodes q).state ≡ true → is_plain_group (w.nodes q) ≡ true → Sound (group_back w q)
+back_keeps w q s rest plain =
+    let n : Node = w.nodes q in
+    let origin : is_origin n.role ≡ true = ap is_origin (group_facts n plain).0 in
+    let made : IsMade n = rest_bare n.state rest in
+    sound_with_node w q (group_up n) s
+    (good_back w q s.good made (s.whole q rest))
+    (Nodes.later_back n origin)
+    (up_whole (group_up n) refl)
+    (s.fed q)
+    (s.takes q)
+    (λ _ _ _ _. (s.good.nodes q).origin_mark origin)
+    (s.newest q)
+    (λ _. s.stands q made)
+    (stays_fed w q (group_up n) (λ m. m) (λ t. t))
+    (origin_known w q (group_up n) origin)
+
+pub again_keeps : (w : World) (q : ℕ) → Sound w → is_at_rest (w.nodes q).state ≡ true → Keeps (Events.group_again w q)
+again_keeps w q s rest =
+    unless_keeps (not (is_plain_group (w.nodes q))) WrongRole w (says (group_back w q) Done) s
+    (λ plain. back_keeps w q s rest (not_false (is_plain_group (w.nodes q)) plain))
 
 pub fault_keeps : (w : World) (q disk : ℕ) → Sound w → (w.nodes q).state ≡ Up → Sound (stopped_by w q disk)
 fault_keeps w q disk s up =

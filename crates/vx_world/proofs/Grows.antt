@@ -9,7 +9,7 @@ use Rattle.vx_history.specs.Receiving.{Received, received_step}
 use Rattle.vx_history.specs.LinkForms.{plain_receiver, with_plain}
 use Rattle.vx_history.specs.World.{World, Node, Volume, Link as LinkRecord, History, Gathering, Packet, Promise, Message, Hello, Update, NetAck, DataAck, with_node, with_history, bare_site, no_volumes}
 use Rattle.vx_model.specs.Sites.{is_origin}
-use Rattle.vx_history.specs.Steps.{burned, logged, told_of, written, half_written, crashed, crash_left, deported_site, site_made, begun_site, begun_line, line_begun, raw_made, raw_volumes, raw_content, group_made, stopped_by}
+use Rattle.vx_history.specs.Steps.{burned, logged, told_of, written, half_written, crashed, crash_left, deported_site, site_made, begun_site, begun_line, line_begun, raw_made, raw_volumes, raw_content, group_back, group_up, stopped_by}
 use Rattle.vx_history.specs.Good.{IsMade}
 use Rattle.vx_model.specs.declared.history.Line.{Line}
 use Rattle.vx_model.specs.declared.link.SyncMode.{SyncMode}
@@ -32,7 +32,7 @@ use Rattle.vx_history.specs.declared.event.LinkPart.{LinkPart}
 use Rattle.vx_history.specs.declared.event.LinkPart.TheVariants.{Joins, Made, Marked, Opened}
 use Rattle.vx_history.specs.declared.event.Event.{Event}
 use Rattle.vx_history.specs.declared.event.Event.TheVariants.{Site, Raw, Group, Write as WriteAt, Read, Apply, Pump, Tick, Deliver, Connect, Cut, Pause, Resume, Wait, Link, Set, Crash, Deport, Recover, Fault}
-use Rattle.vx_history.specs.declared.event.Said.TheVariants.{Ignored as IsIgnored, Pending, DoneAt}
+use Rattle.vx_history.specs.declared.event.Said.TheVariants.{Done, Ignored as IsIgnored, Pending, DoneAt}
 use Rattle.vx_history.specs.Refusals.{Outcome, says, unless, at_work, on_link, keeps_links, is_primary, is_running, follows, some_below, is_unconfirmed, holds_back, may_link, agree, rings_fit, count_links_of}
 use Rattle.vx_model.specs.Sites.{is_up, is_bare}
 use Rattle.vx_model.specs.Sizes.{is_raw_shape, ring_of}
@@ -232,7 +232,7 @@ deport_grows w q s up =
     let k : ℕ = Events.kept_of (w.nodes q) 0 in
     let v : World = Events.crash_at w q k in
     grown_trans w v (Events.deport_at w q) (crash_grows w q k s up (Nodes.kept_least (w.nodes q) 0 (s.good.nodes q).safe_fits))
-    (grown_node v q (deported_site (v.nodes q)) (λ _ e. cc) (λ _ _ h. h))
+    (grown_node v q (deported_site (w.nodes q).fuse (v.nodes q)) (λ _ e. cc) (λ _ _ h. h))
 
 recovery_grows : (w : World) (q : ℕ) (fails : Option ℕ) → Leaves w (Events.recovery w q fails)
 recovery_grows w q None =
@@ -292,6 +292,17 @@ link_part_grows Opened w p q sync up =
 on_link_grows : (w : World) (p q : ℕ) (e : SEvent) → Leaves w (on_link w p q (done (Events.link_event w p q e)))
 on_link_grows w p q e = Guards.on_link_holds (GrownWorld w) keeps_links w p q (done (Events.link_event w p q e)) (grown_same w) (λ _ _ _. moved_grows w p q e)
 
+again_grows : (w : World) (q : ℕ) → Leaves w (Events.group_again w q)
+again_grows w q =
+    Guards.unless_holds (GrownWorld w) (not (Events.is_plain_group (w.nodes q))) WrongRole w (says (group_back w q) Done) (grown_same w)
+    (λ _. grown_node w q (group_up (w.nodes q)) (λ _ e. cc) (λ _ _ h. h))
+
+group_grows : (w : World) (q : ℕ) (state : SiteState) → (w.nodes q).state ≡ state → Leaves w (Events.group_from state w q)
+group_grows w q Bare e = begun_grows w q 0 [] no_volumes e
+group_grows w q Up e = grown_same w
+group_grows w q Deported e = again_grows w q
+group_grows w q Down e = again_grows w q
+
 outcome_grows : (w : World) (e : Event) → Sound w → Leaves w (outcome_of w e)
 outcome_grows w (Site name disks blocks) s =
     let o : Outcome = done (site_made w name disks blocks) in
@@ -309,11 +320,7 @@ outcome_grows w (Raw q) s =
     (λ _. Guards.unless_holds (GrownWorld w) (not (is_bare (w.nodes q).state)) WrongRole w shaped (grown_same w)
     (λ bare. Guards.unless_holds (GrownWorld w) (not (is_raw_shape (w.nodes q).disks (w.nodes q).blocks)) Size w o (grown_same w)
     (λ _. raw_grows w q (Guards.bare_is (w.nodes q).state (not_false (is_bare (w.nodes q).state) bare)))))
-outcome_grows w (Group q) s =
-    let o : Outcome = done (group_made w q) in
-    Guards.at_site_holds (GrownWorld w) w q (unless (not (is_bare (w.nodes q).state)) WrongRole w o) (grown_same w)
-    (λ _. Guards.unless_holds (GrownWorld w) (not (is_bare (w.nodes q).state)) WrongRole w o (grown_same w)
-    (λ bare. begun_grows w q 0 [] no_volumes (Guards.bare_is (w.nodes q).state (not_false (is_bare (w.nodes q).state) bare))))
+outcome_grows w (Group q) s = Guards.at_site_holds (GrownWorld w) w q _ (grown_same w) (λ _. group_grows w q (w.nodes q).state refl)
 outcome_grows w (WriteAt p volume start bytes fails) s =
     let x : Write = record { volume = volume; start = start; bytes = bytes } in
     Guards.on_volume_holds (GrownWorld w) w p volume start (blocks_in bytes) (is_too_large (w.nodes p).ring (blocks_in bytes))

@@ -19,11 +19,12 @@ use Rattle.vx_history.proofs.CrashLemmas.{crash_state}
 use Rattle.vx_history.proofs.GoodLemmas.{up_is_made, made_is_given}
 use Rattle.vx_history.proofs.Places.{places_further, places_made}
 use Rattle.vx_history.specs.World.{World, Node, Link as LinkRecord, Volume, History, Gathering, Hello, with_node, bare_site, no_volumes, updated, line_updated}
-use Rattle.vx_history.specs.Steps.{raw_volumes, raw_content, burned, crashed, crash_left, kept_by, deported_site, site_made, begun_site, begun_line, line_begun, raw_made, group_made, stopped_by}
+use Rattle.vx_history.specs.Steps.{raw_volumes, raw_content, burned, crashed, crash_left, kept_by, deported_site, site_made, begun_site, begun_line, line_begun, raw_made, group_back, group_up, stopped_by}
 use Rattle.vx_history.specs.Good.{IsMade}
 use Rattle.vx_history.specs.Listed.{HasPlaces}
 use Rattle.vx_history.specs.Sends.{is_linked, with_link, with_links, sending, greeting}
-use Rattle.vx_history.specs.Refusals.{Outcome, unless, is_primary, follows, may_link, agree, rings_fit, count_links_of}
+use Rattle.vx_history.specs.declared.event.Said.TheVariants.{Done}
+use Rattle.vx_history.specs.Refusals.{Outcome, says, unless, is_primary, follows, may_link, agree, rings_fit, count_links_of}
 use Rattle.vx_history.specs.Gatherings.{emptied}
 use Rattle.vx_history.specs.Events
 use Rattle.vx_history.specs.Step.{done, link_part}
@@ -68,7 +69,7 @@ deport_leaves w q s up =
     let k : ℕ = Events.kept_of (w.nodes q) 0 in
     let v : World = Events.crash_at w q k in
     let down : (v.nodes q).state ≡ Down = crash_state w q k in
-    let m : Node = deported_site (v.nodes q) in
+    let m : Node = deported_site (w.nodes q).fuse (v.nodes q) in
     keeps_trans w v (Events.deport_at w q) (crash_leaves w q k s up)
     (keeps_node v q m (λ f. like_fitted (v.nodes q) m refl refl refl (λ _ e. let g : Down ≡ Bare = sym down ∙ e in cc) refl refl refl)
     (λ f e. absurd (let g : Deported ≡ Bare = e in cc)) (λ u. absurd (let g : Down ≡ Up = sym down ∙ u in cc)))
@@ -99,6 +100,15 @@ recover_leaves w q Bare fails e = keeps_same w
 recover_leaves w q Up fails e = keeps_same w
 recover_leaves w q Deported fails e = Guards.unless_holds (Keeps w) _ _ w (Events.recovery w q fails) (keeps_same w) (λ _. recovery_leaves w q fails (ap is_at_rest e))
 recover_leaves w q Down fails e = Guards.unless_holds (Keeps w) _ _ w (Events.recovery w q fails) (keeps_same w) (λ _. recovery_leaves w q fails (ap is_at_rest e))
+
+-- a group of disks that comes up again in its session
+pub again_leaves : (w : World) (q : ℕ) → is_at_rest (w.nodes q).state ≡ true → Leaves w (Events.group_again w q)
+again_leaves w q rest =
+    let n : Node = w.nodes q in
+    let m : Node = group_up n in
+    Guards.unless_holds (Keeps w) (not (Events.is_plain_group n)) WrongRole w (says (group_back w q) Done) (keeps_same w)
+    (λ _. keeps_node w q m (λ f. like_fitted n m refl refl refl (λ _. rest_bare n.state rest) refl refl refl)
+    (λ f e. absurd (let g : Up ≡ Bare = e in cc)) (λ _. refl))
 
 -- ## Sites that are made, and that join
 
@@ -193,8 +203,11 @@ raw_leaves w q =
     let n : Node = w.nodes q in
     begun_leaves w q (ring_of n.blocks) (raw_volumes 1 (n.disks - 2) n.blocks) (raw_content n.disks n.blocks) (λ v. raw_sizes 1 (n.disks - 2) n.blocks v)
 
-pub group_leaves : (w : World) (q : ℕ) → Sound w → (w.nodes q).state ≡ Bare → Keeps w (group_made w q)
-group_leaves w q = begun_leaves w q 0 [] no_volumes (λ v. refl)
+pub group_from_leaves : (w : World) (q : ℕ) (state : SiteState) → Sound w → (w.nodes q).state ≡ state → Leaves w (Events.group_from state w q)
+group_from_leaves w q Bare s e = begun_leaves w q 0 [] no_volumes (λ v. refl) s e
+group_from_leaves w q Up s e = keeps_same w
+group_from_leaves w q Deported s e = again_leaves w q (ap is_at_rest e)
+group_from_leaves w q Down s e = again_leaves w q (ap is_at_rest e)
 
 -- a site that joins has the sizes of its primary
 pub join_leaves : (w : World) (p q : ℕ) → (w.nodes p).line.origin ≡ p → IsAlike (w.nodes p) (w.nodes q)

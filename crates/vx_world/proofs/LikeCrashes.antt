@@ -123,7 +123,8 @@ module _ (w v : World) (like : IsLike w v) where
   deport_same q =
       let u : World = Events.crash_at w q (Events.kept_of (w.nodes q) 0) in
       let x : World = Events.crash_at v q (Events.kept_of (v.nodes q) 0) in
-      like_node u x (crash_like q 0) q (deported_site (u.nodes q)) (deported_site (x.nodes q)) (ap deported_site ((crash_like q 0).nodes q))
+      like_node u x (crash_like q 0) q (deported_site (w.nodes q).fuse (u.nodes q)) (deported_site (v.nodes q).fuse (x.nodes q))
+      (ap (λ (n : Node). deported_site (v.nodes q).fuse n) ((crash_like q 0).nodes q))
 
   pub come_back_same : (a k : Node) → k ≡ noted a k → Events.come_back k ≡ noted (Events.come_back a) (Events.come_back k)
   come_back_same a k e = ap Events.come_back e ∙ by_origin (is_origin a.role) ∙ ap (λ (n : Node). noted (Events.come_back a) n) (sym (ap Events.come_back e))

@@ -8,16 +8,18 @@ use Rattle.vx_model.specs.declared.link.Prot.TheVariants.{Fail as FailsWhenFull}
 use Rattle.vx_model.specs.declared.no.No.TheVariants.{Size, Role as WrongRole, Down as NotUp, Exists, Limit}
 use Rattle.vx_model.specs.declared.no.Counted.TheVariants.{Sites, Disks}
 use Rattle.vx_model.specs.declared.site.SiteState.{SiteState}
+use Rattle.vx_model.specs.declared.site.SiteState.TheVariants.{Bare, Up, Deported, Down}
 use Rattle.vx_history.specs.World.{World, Node, Link as LinkState, bare_site, no_volumes, updated}
 use Rattle.vx_history.specs.Likes.{IsLike}
-use Rattle.vx_history.specs.Steps.{burned, site_made, raw_set, raw_history, group_set, begun_line}
+use Rattle.vx_history.specs.Steps.{burned, site_made, raw_set, raw_history, group_set, group_up, begun_line}
 use Rattle.vx_history.specs.Refusals.{keeps_links, some_below}
+use Rattle.vx_history.specs.declared.event.Said.TheVariants.{Refused}
 use Rattle.vx_history.specs.Events
 use Rattle.vx_history.specs.Step.{outcome_of, step, run}
 use Rattle.vx_history.specs.declared.event.Event.{Event}
 use Rattle.vx_history.specs.declared.event.Event.TheVariants.{Site, Raw, Group, Write as WriteAt, Read, Apply, Pump, Tick, Deliver, Connect, Cut, Pause, Resume, Wait, Link, Set, Crash, Deport, Recover, Fault}
 use Rattle.vx_history.specs.declared.sender.SEvent.TheVariants.{Connect as ConnectLink, Pump as PumpLink, Cut as CutLink, Pause as PauseLink, Resume as ResumeLink}
-use Rattle.vx_world.proofs.Likely.{noted, Same, tests, some_same, link_changed, pair_updated, like_node, like_history, like_link, like_sending, like_headers, at_site_same, at_work_same, both_same, on_link_same, when_live_same}
+use Rattle.vx_world.proofs.Likely.{noted, Same, same_of, tests, some_same, link_changed, pair_updated, like_node, like_history, like_link, like_sending, like_headers, at_site_same, at_work_same, both_same, on_link_same, when_live_same}
 use Rattle.vx_world.proofs.LikeChanges.{write_same, read_same, apply_same, moved_same, event_same, tick_same, greeting_same}
 use Rattle.vx_world.proofs.LikeCrashes.{deliver_same, wait_same, crash_like, deport_same, recover_same, part_same}
 
@@ -37,6 +39,22 @@ site_same w v like name disks blocks =
       promised = like.promised;
       gathering = like.gathering;
     })
+
+again_same : (w v : World) → IsLike w v → (q : ℕ) → Same (Events.group_again w q) (Events.group_again v q)
+again_same w v like q =
+    tests (not (Events.is_plain_group (w.nodes q))) (not (Events.is_plain_group (v.nodes q))) WrongRole WrongRole w v _ _
+    (ap (λ (n : Node). not (Events.is_plain_group n)) (like.nodes q)) refl like
+    (λ _. record { world = like_node w v like q (group_up (w.nodes q)) (group_up (v.nodes q)) (ap group_up (like.nodes q)); said = refl })
+
+group_same : (w v : World) → IsLike w v → (q : ℕ) (state : SiteState) → Same (Events.group_from state w q) (Events.group_from state v q)
+group_same w v like q Bare = record {
+  world = like_history w v like q (group_set q (w.nodes q)) (group_set q (v.nodes q)) (begun_line no_volumes) (begun_line no_volumes)
+      (ap (λ (n : Node). group_set q n) (like.nodes q)) refl;
+  said = refl;
+}
+group_same w v like q Up = same_of w v (Refused WrongRole) (Refused WrongRole) like refl
+group_same w v like q Deported = again_same w v like q
+group_same w v like q Down = again_same w v like q
 
 pub outcome_same : (w v : World) → IsLike w v → (e : Event) → Same (outcome_of w e) (outcome_of v e)
 outcome_same w v like (Site name disks blocks) =
@@ -61,13 +79,8 @@ outcome_same w v like (Raw q) =
     })))
 outcome_same w v like (Group q) =
     at_site_same w v like q _ _
-    (tests (not (is_bare (w.nodes q).state)) (not (is_bare (v.nodes q).state)) WrongRole WrongRole w v _ _
-    (ap (λ (n : Node). not (is_bare n.state)) (like.nodes q)) refl like
-    (λ _. record {
-      world = like_history w v like q (group_set q (w.nodes q)) (group_set q (v.nodes q)) (begun_line no_volumes) (begun_line no_volumes)
-          (ap (λ (n : Node). group_set q n) (like.nodes q)) refl;
-      said = refl;
-    }))
+    (subst (λ (s : SiteState). Same (Events.group_from (w.nodes q).state w q) (Events.group_from s v q))
+    (sym (ap (λ (n : Node). n.state) (like.nodes q))) (group_same w v like q (w.nodes q).state))
 outcome_same w v like (WriteAt p volume start bytes fails) = write_same w v like p (record { volume = volume; start = start; bytes = bytes }) fails
 outcome_same w v like (Read p volume start count) = read_same w v like p volume start count
 outcome_same w v like (Apply q count reached) = at_site_same w v like q _ _ (at_work_same w v like q _ _ (apply_same w v like q count reached))

@@ -14,8 +14,8 @@ use Rattle.vx_model.specs.declared.site.SiteState.TheVariants.{Bare}
 use Rattle.vx_history.specs.Receiving.{phase_takes}
 use Rattle.vx_history.specs.Sound.{Sound, LosesNothing, IsFed, TakesUpdates, IsMarked, IsNewest, StoodHere, HasCome, GoodLink, GoodPacket, GoodPromise, IsStranger, KnownNode}
 use Rattle.vx_world.proofs.Lists.{prefix_refl}
-use Rattle.vx_world.proofs.Carry.{IsLater, come_later, mode_later, link_later, packets_later, promises_later}
-use Rattle.vx_world.proofs.Moves.{unlinked_good}
+use Rattle.vx_world.proofs.Carry.{IsLater, OriginHere, come_later, mode_later, link_later, packets_later, promises_later}
+use Rattle.vx_world.proofs.Moves.{origin_strange, unlinked_good}
 use Rattle.vx_history.specs.Likes.{IsLike, SameLink}
 use Rattle.vx_history.specs.Fits.{WriteFits, Fitting, IsSized, IsAlike}
 use Rattle.vx_history.specs.GoodGatherings.{IsPart, Gathers, MayGather}
@@ -34,7 +34,7 @@ later_note a b = record {
   session = omega arith;
   safe = omega arith;
   stored = λ k h. h;
-  present = λ up _.
+  present = λ _ up _.
       (up, omega arith);
   made = λ m. m;
   top = omega arith;
@@ -102,6 +102,9 @@ module _ (w v : World) (s : Sound w) (like : IsLike w v) where
     | inr none ↦ unlinked_good (held_by v p) p q (v.nodes p) (v.nodes q) (v.links p q) (λ is. let e : true ≡ false = sym is ∙ (like.links p q).linked ∙ none in absurd (cc))
   ]
 
+  strange : (i : ℕ) (l : Line) → OriginHere (v.nodes i) l → IsStranger v.nodes v.links l i
+  strange i l o = origin_strange v i l sites_like (link_good i i).apart o
+
   held_grow : (l : Line) → IsPrefixOf (w.lines l).held (v.lines l).held
   held_grow l = subst (λ (h : History). IsPrefixOf (w.lines l).held h.held) (sym (like.lines l)) (prefix_refl (w.lines l).held)
 
@@ -120,9 +123,9 @@ module _ (w v : World) (s : Sound w) (like : IsLike w v) where
     bunkers = λ p q is r g. s.bunkers p q (sym (like.links p q).linked ∙ is) (sym (later p).origin ∙ r)
         (subst (λ (l : Line). IsStranger w.nodes w.links l q) (later p).line (before (v.nodes p).line q g));
     packets = subst (λ (ps : List Packet). AllByRecursion (GoodPacket v.nodes v.links v.lines) ps) (sym like.packets)
-        (packets_later w.nodes v.nodes w.links v.links later before w.lines v.lines held_grow w.packets s.packets);
+        (packets_later w.nodes v.nodes w.links v.links later before strange w.lines v.lines held_grow w.packets s.packets);
     promised = subst (λ (es : List Promise). AllByRecursion (GoodPromise v.nodes v.links) es) (sym like.promised)
-        (promises_later w.nodes v.nodes w.links v.links later before w.promised s.promised);
+        (promises_later w.nodes v.nodes w.links v.links later before strange w.promised s.promised);
     known = λ i. at (λ b. KnownNode v.nodes v.links i b) i (λ is r q. s.known i is r (before (w.nodes i).line i q));
   }
 

@@ -1,5 +1,5 @@
 -- The few ways in which an event changes the world, each with what it has to show.
-use Rattle.std.proofs.Common.{◌≡◌, ℕ, ◌≤◌, List, ◌++◌, sym, ◌∙◌, subst, true, false, inl}
+use Rattle.std.proofs.Common.{◌≡◌, ℕ, ◌≤◌, List, ◌++◌, sym, ◌∙◌, ap, refl, subst, true, false, inl}
 use Rattle.std.specs.Prelude.{Option}
 use Rattle.std.specs.List.{AllByRecursion}
 use Rattle.vx_model.specs.Content.{Write, IsPrefixOf}
@@ -11,11 +11,14 @@ use Rattle.vx_model.specs.declared.site.Mark.TheVariants.{Consistent}
 use Rattle.vx_model.specs.declared.site.SiteState.TheVariants.{Bare}
 use Rattle.vx_history.specs.Receiving.{phase_takes}
 use Rattle.vx_history.proofs.Updates.{all_updated, all_lines, at_place}
-use Rattle.vx_history.proofs.GoodLemmas.{good_stays}
+use Rattle.vx_history.proofs.GoodLemmas.{good_stays, up_is_made}
+use Rattle.vx_history.specs.Refusals.{is_bunker}
+use Rattle.vx_model.specs.declared.site.Role.{Role}
+use Rattle.vx_model.specs.declared.site.Role.TheVariants.{Primary, Secondary, Handing, Bunker}
 use Rattle.vx_history.specs.Sends.{is_linked, with_links, with_link, sending, promising}
-use Rattle.vx_history.specs.Sound.{LosesNothing, IsFed, TakesUpdates, IsMarked, IsNewest, StoodHere, HasCome, IsFollowed, ModeSays, GoodLink, GoodPacket, GoodPromise, IsStranger, KnownNode, Sound}
+use Rattle.vx_history.specs.Sound.{LosesNothing, IsFed, TakesUpdates, IsMarked, IsNewest, StoodHere, HasCome, GoesElsewhere, IsFollowed, ModeSays, GoodLink, GoodPacket, GoodPromise, IsStranger, KnownNode, Sound}
 use Rattle.vx_world.proofs.Lists.{each_append, each_weaker, prefix_refl, refuted, not_both}
-use Rattle.vx_world.proofs.Carry.{IsLater, later_same, come_later, mode_later, link_later, packets_later, promises_later}
+use Rattle.vx_world.proofs.Carry.{IsLater, OriginHere, later_same, come_later, mode_later, link_later, packets_later, promises_later}
 
 -- what is said of sites by themselves rests on no link
 pub good_of : (w : World) (links : ℕ → ℕ → Link) (packets : List Packet) (promised : List Promise) → Good w
@@ -99,6 +102,21 @@ pub stranger_of_links : (nodes : ℕ → Node) (links more : ℕ → ℕ → Lin
 stranger_of_links nodes links more made l i
     (e, none, plain) = (e, refuted (is_linked (links l.origin i)) (λ is. not_both (is_linked (more l.origin i)) (made l.origin i is) none), plain)
 
+-- an origin is a stranger on its own line
+pub origin_strange : (w : World) (i : ℕ) (l : Line) → Good w → GoesElsewhere i i (w.links i i) → OriginHere (w.nodes i) l → IsStranger w.nodes w.links l i
+origin_strange w i l good apart (up, e, o) =
+    let own : l.origin ≡ i = ap (λ (k : Line). k.origin) (sym e) ∙ (good.nodes i).own_line (up_is_made (w.nodes i) up) o in (
+      ap (λ (k : ℕ). (w.nodes k).line) own ∙ e,
+      refuted (is_linked (w.links l.origin i)) (λ is. apart (subst (λ (k : ℕ). is_linked (w.links k i) ≡ true) own is) refl),
+      plain (w.nodes i).role o,
+    )
+  where
+    plain : (r : Role) → is_origin r ≡ true → is_bunker r ≡ false
+    plain Primary o = refl
+    plain Secondary o = refl
+    plain (Handing to) o = refl
+    plain Bunker o = absurd (cc)
+
 -- links of origins alone may be new
 sound_links : (w : World) (f : ℕ → ℕ → Link) → Sound w
     → ((p s : ℕ) → GoodLink (w.lines (w.nodes p).line).held p s (w.nodes p) (w.nodes s) (f p s))
@@ -106,6 +124,8 @@ sound_links : (w : World) (f : ℕ → ℕ → Link) → Sound w
     → ((p s : ℕ) → is_linked (f p s) ≡ true → is_origin (w.nodes p).role ≡ false → is_linked (w.links p s) ≡ true) → Sound (record w { links = f })
 sound_links w f s h made old =
     let before : (l : Line) (i : ℕ) → IsStranger w.nodes f l i → IsStranger w.nodes w.links l i = stranger_of_links w.nodes w.links f made in
+    let strange : (i : ℕ) (l : Line) → OriginHere (w.nodes i) l → IsStranger w.nodes f l i =
+    λ i l o. origin_strange (record w { links = f }) i l (good_of w f w.packets w.promised s.good) (h i i).apart o in
     record {
       good = good_of w f w.packets w.promised s.good;
       whole = s.whole;
@@ -117,9 +137,9 @@ sound_links w f s h made old =
       come = s.come;
       links = h;
       bunkers = λ p q is r g. s.bunkers p q (old p q is r) r (before (w.nodes p).line q g);
-      packets = packets_later w.nodes w.nodes w.links f (λ i. later_same (w.nodes i)) before w.lines w.lines
+      packets = packets_later w.nodes w.nodes w.links f (λ i. later_same (w.nodes i)) before strange w.lines w.lines
           (λ l. prefix_refl (w.lines l).held) w.packets s.packets;
-      promised = promises_later w.nodes w.nodes w.links f (λ i. later_same (w.nodes i)) before w.promised s.promised;
+      promised = promises_later w.nodes w.nodes w.links f (λ i. later_same (w.nodes i)) before strange w.promised s.promised;
       known = λ i is r q. s.known i is r (before (w.nodes i).line i q);
     }
 
@@ -168,6 +188,8 @@ pub sound_later : (w : World) (f : ℕ → Node) (h : Line → History) → Soun
 sound_later w f h s later grow good whole fed takes marked newest stands modes known =
     let before : (l : Line) (i : ℕ) → IsStranger f w.links l i → IsStranger w.nodes w.links l i = λ l i q.
     (sym (later l.origin).line ∙ q.0, q.1, sym (later i).bunker ∙ q.2) in
+    let strange : (i : ℕ) (l : Line) → OriginHere (f i) l → IsStranger f w.links l i =
+    λ i l o. origin_strange (record w { nodes = f; lines = h }) i l good (s.links i i).apart o in
     record {
       good = good;
       whole = whole;
@@ -182,8 +204,8 @@ sound_later w f h s later grow good whole fed takes marked newest stands modes k
           (modes p q) (s.links p q);
       bunkers = λ p q is r g. s.bunkers p q is (sym (later p).origin ∙ r)
           (subst (λ (l : Line). IsStranger w.nodes w.links l q) (later p).line (before (f p).line q g));
-      packets = packets_later w.nodes f w.links w.links later before w.lines h grow w.packets s.packets;
-      promised = promises_later w.nodes f w.links w.links later before w.promised s.promised;
+      packets = packets_later w.nodes f w.links w.links later before strange w.lines h grow w.packets s.packets;
+      promised = promises_later w.nodes f w.links w.links later before strange w.promised s.promised;
       known = λ i is r q. known i is r (before (f i).line i q);
     }
 

@@ -6,7 +6,7 @@ use Rattle.std.proofs.lemmas.List.{take-take, take-append-le, take-append-drop}
 use Rattle.vx_model.specs.Content.{Content, Write, fold_writes, IsNumber}
 use Rattle.vx_history.specs.World.{Node, History, Fuse}
 use Rattle.vx_model.specs.Sites.{is_origin}
-use Rattle.vx_history.specs.Steps.{burned, logged, crashed, deported_site, recovered}
+use Rattle.vx_history.specs.Steps.{burned, logged, crashed, deported_site, group_up, recovered}
 use Rattle.vx_history.specs.Good.{GoodNode, IsMade}
 use Rattle.vx_history.specs.Receiving.{marked_by, is_log_phase, phase_takes}
 use Rattle.vx_history.specs.LinkForms.{plain_receiver}
@@ -32,7 +32,7 @@ later_logged n x = record {
   session = omega arith;
   safe = omega arith;
   stored = stored_still n (logged n x) (omega arith) refl refl (λ m. m);
-  present = λ up _. (up, omega (arith, length-append n.log (x ∷ [])));
+  present = λ _ up _. (up, omega (arith, length-append n.log (x ∷ [])));
   made = λ m. m;
   top = omega arith;
   stood = refl;
@@ -47,7 +47,7 @@ later_longer n x halted fuse = record {
   session = omega arith;
   safe = omega arith;
   stored = λ k h. h;
-  present = λ up _. (up, omega (arith, length-append n.log (x ∷ [])));
+  present = λ _ up _. (up, omega (arith, length-append n.log (x ∷ [])));
   made = λ m. m;
   top = omega arith;
   stood = refl;
@@ -62,7 +62,7 @@ later_taken n source x = record {
   session = omega arith;
   safe = omega arith;
   stored = λ k h. h;
-  present = λ up _. (up, omega (arith, length-append n.log (x ∷ [])));
+  present = λ _ up _. (up, omega (arith, length-append n.log (x ∷ [])));
   made = λ m. m;
   top = omega arith;
   stood = refl;
@@ -112,7 +112,7 @@ later_applied n k mark least marks =
       session = omega arith;
       safe = least;
       stored = stored_still n (applied n k mark) least refl refl marks;
-      present = λ up _.
+      present = λ _ up _.
           (up, omega arith);
       made = λ m. m;
       top = omega arith;
@@ -142,7 +142,7 @@ later_crashed n k least made =
       session = omega arith;
       safe = least;
       stored = stored_still n (crashed n k) least refl refl (λ m. m);
-      present = λ up _. absurd
+      present = λ _ up _. absurd
           (cc);
       made = λ _ e. cc;
       top = omega arith;
@@ -209,7 +209,7 @@ later_risen n mark marks = record {
   session = omega arith;
   safe = omega arith;
   stored = stored_still n (risen n mark) (omega arith) refl refl marks;
-  present = λ _ e. absurd (omega (arith, e));
+  present = λ _ _ e. absurd (omega (arith, e));
   made = λ _ e. cc;
   top = omega arith;
   stood = refl;
@@ -224,22 +224,37 @@ later_begun n rest = record {
   session = omega arith;
   safe = omega arith;
   stored = λ k h. h;
-  present = λ up _. absurd (rest_up n.state rest up);
+  present = λ _ up _. absurd (rest_up n.state rest up);
   made = λ m. m;
   top = omega arith;
   stood = refl;
 }
 
 -- a site that is down and gives its disks up
-pub later_deported : (n : Node) → n.state ≡ Down → IsLater n (deported_site n)
-later_deported n down = record {
+pub later_deported : (n : Node) (fuse : Fuse) → n.state ≡ Down → IsLater n (deported_site fuse n)
+later_deported n fuse down = record {
   line = refl;
   origin = refl;
   bunker = refl;
   session = omega arith;
   safe = omega arith;
   stored = λ k h. h;
-  present = λ up _. absurd (let e : Deported ≡ Up = up in cc);
+  present = λ _ up _. absurd (let e : Deported ≡ Up = up in cc);
+  made = λ _ e. cc;
+  top = omega arith;
+  stood = refl;
+}
+
+-- a group of disks that comes up again in its session
+pub later_back : (n : Node) → is_origin n.role ≡ true → IsLater n (group_up n)
+later_back n origin = record {
+  line = refl;
+  origin = refl;
+  bunker = refl;
+  session = omega arith;
+  safe = omega arith;
+  stored = λ k h. h;
+  present = λ r _ _. absurd (let e : true ≡ false = sym origin ∙ r in cc);
   made = λ _ e. cc;
   top = omega arith;
   stood = refl;
@@ -253,7 +268,7 @@ later_halted n disk = record {
   session = omega arith;
   safe = omega arith;
   stored = λ k h. h;
-  present = λ up _.
+  present = λ _ up _.
       (up, omega arith);
   made = λ m. m;
   top = omega arith;
@@ -280,7 +295,7 @@ later_marked n = record {
   session = omega arith;
   safe = omega arith;
   stored = stored_still n (record n { mark = Consistent }) (omega arith) refl refl (λ _. refl);
-  present = λ up _.
+  present = λ _ up _.
       (up, omega arith);
   made = λ m. m;
   top = omega arith;

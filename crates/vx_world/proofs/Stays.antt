@@ -1,14 +1,15 @@
 -- Every event keeps what holds of the world, and so does every list of events.
-use Rattle.std.proofs.Common.{◌≡◌, ℕ, ◌<◌, List, [], ◌∷◌, refl, arith, true, false}
+use Rattle.std.proofs.Common.{◌≡◌, ℕ, ◌<◌, List, [], ◌∷◌, refl, ap, arith, true, false}
 use Rattle.std.specs.Prelude.{leb, not, if◌then◌else◌, Option}
 use Rattle.std.proofs.lemmas.Bool.Decides.{nat_tests}
 use Rattle.vx_model.specs.Content.{Write, blocks_in}
 use Rattle.vx_model.specs.Answer.{is_too_large}
 use Rattle.vx_history.specs.World.{World, Link as LinkRecord, empty_world}
 use Rattle.vx_model.specs.Sites.{is_origin}
-use Rattle.vx_history.specs.Steps.{raw_made, group_made}
+use Rattle.vx_history.specs.Steps.{raw_made}
 use Rattle.vx_model.specs.declared.link.Prot.TheVariants.{Fail as FailsWhenFull}
-use Rattle.vx_model.specs.declared.site.SiteState.TheVariants.{Bare, Up}
+use Rattle.vx_model.specs.declared.site.SiteState.{SiteState}
+use Rattle.vx_model.specs.declared.site.SiteState.TheVariants.{Bare, Up, Deported, Down}
 use Rattle.vx_model.specs.declared.no.No.TheVariants.{Size, Role as WrongRole, Down as NotUp}
 use Rattle.vx_history.specs.LinkForms.{plain_link}
 use Rattle.vx_model.specs.declared.link.Link.{Link as PlainLink}
@@ -22,14 +23,14 @@ use Rattle.vx_model.specs.Sizes.{is_raw_shape}
 use Rattle.vx_history.specs.Events
 use Rattle.vx_history.specs.Step.{done, outcome_of, step, run, link_part, write_at}
 use Rattle.vx_history.specs.Sends.{with_link}
-use Rattle.vx_history.specs.Sound.{Sound}
+use Rattle.vx_history.specs.Sound.{Sound, is_at_rest}
 use Rattle.vx_world.proofs.Lists.{not_false}
 use Rattle.vx_world.proofs.Moves.{sound_headers, sound_with_link, unlinked_good}
 use Rattle.vx_world.proofs.Tests.{Keeps, unless_keeps, at_site_keeps, at_work_keeps, both_keeps, on_link_keeps, when_live_keeps, on_volume_keeps}
 use Rattle.vx_world.proofs.Guards.{primary_origin, up_is, bare_is}
 use Rattle.vx_world.proofs.Changes.{written_if_keeps, apply_keeps}
 use Rattle.vx_world.proofs.Feeds.{quiet_keeps, pump_keeps, connect_keeps, deliver_keeps, wait_keeps}
-use Rattle.vx_world.proofs.Crashes.{crash_keeps, deport_keeps, recover_keeps, fault_keeps}
+use Rattle.vx_world.proofs.Crashes.{again_keeps, crash_keeps, deport_keeps, recover_keeps, fault_keeps}
 use Rattle.vx_world.proofs.Joins.{may_be_site_keeps, raw_keeps, group_keeps, link_part_keeps}
 use Rattle.vx_world.proofs.Links
 
@@ -42,6 +43,12 @@ write_keeps w p x fails s =
     (Events.written_if (Events.admitted w p x) w p x fails) s
     (λ up runs r. written_if_keeps (Events.admitted w p x) w p x fails s (record { up = up; origin = primary_origin (w.nodes p).role r; running = runs }))
 
+group_from_keeps : (w : World) (q : ℕ) (state : SiteState) → Sound w → q < w.sites → (w.nodes q).state ≡ state → Keeps (Events.group_from state w q)
+group_from_keeps w q Bare s there e = group_keeps w q s there e
+group_from_keeps w q Up s there e = s
+group_from_keeps w q Deported s there e = again_keeps w q s (ap is_at_rest e)
+group_from_keeps w q Down s there e = again_keeps w q s (ap is_at_rest e)
+
 -- every event keeps it
 outcome_keeps : (w : World) (e : Event) → Sound w → Sound (outcome_of w e).world
 outcome_keeps w (Site name disks blocks) s = may_be_site_keeps w name disks blocks s
@@ -52,11 +59,7 @@ outcome_keeps w (Raw q) s =
     (λ there. unless_keeps (not (is_bare (w.nodes q).state)) WrongRole w shaped s
     (λ bare. unless_keeps (not (is_raw_shape (w.nodes q).disks (w.nodes q).blocks)) Size w o s
     (λ _. raw_keeps w q s (less w.sites q there) (bare_is (w.nodes q).state (not_false (is_bare (w.nodes q).state) bare)))))
-outcome_keeps w (Group q) s =
-    let o : Outcome = done (group_made w q) in
-    at_site_keeps w q (unless (not (is_bare (w.nodes q).state)) WrongRole w o) s
-    (λ there. unless_keeps (not (is_bare (w.nodes q).state)) WrongRole w o s
-    (λ bare. group_keeps w q s (less w.sites q there) (bare_is (w.nodes q).state (not_false (is_bare (w.nodes q).state) bare))))
+outcome_keeps w (Group q) s = at_site_keeps w q _ s (λ there. group_from_keeps w q (w.nodes q).state s (less w.sites q there) refl)
 outcome_keeps w (WriteAt p volume start bytes fails) s = write_keeps w p (record { volume = volume; start = start; bytes = bytes }) fails s
 outcome_keeps w (Read p volume start count) s = on_volume_keeps w p volume start count false _ s (λ _ _ _. s)
 outcome_keeps w (Apply q count reached) s =

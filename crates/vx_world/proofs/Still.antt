@@ -25,7 +25,7 @@ use Rattle.vx_history.specs.Refusals.{Outcome, says, unless, unless_halted, at_s
 use Rattle.vx_history.specs.Sending.{Sent}
 use Rattle.vx_history.specs.Sends.{is_linked, with_links, with_link, sending, sent_by}
 use Rattle.vx_history.specs.Step.{outcome_of, step, link_part}
-use Rattle.vx_history.specs.Steps.{raw_set, group_set, logged, crashed, crash_left, deported_site}
+use Rattle.vx_history.specs.Steps.{raw_set, group_set, group_up, logged, crashed, crash_left, deported_site}
 use Rattle.vx_history.specs.World.{World, Node, Link as LinkRecord, History, Gathering, Packet, Message, Hello, Update, NetAck, DataAck, with_node, with_history, bare_site, updated}
 use Rattle.vx_history.specs.declared.event.Event.{Event}
 use Rattle.vx_history.specs.declared.event.Event.TheVariants.{Site, Raw, Group, Write as WriteAt, Read, Apply, Pump, Tick, Deliver, Connect, Cut, Pause, Resume, Wait, Link, Set, Crash, Deport, Recover, Fault}
@@ -235,7 +235,7 @@ module _ (s : ℕ) (w : World) (up : (w.nodes s).state ≡ Up) (halted : is_runn
       let k : ℕ = Events.kept_of (w.nodes q) 0 in
       let v : World = Events.crash_at w q k in
       let is : Stands s w v = crash_still q k apart in
-      record { node = aside v.nodes q (deported_site (v.nodes q)) s apart ∙ is.node; row = is.row }
+      record { node = aside v.nodes q (deported_site (w.nodes q).fuse (v.nodes q)) s apart ∙ is.node; row = is.row }
 
   recovery_still : (q : ℕ) (fails : Option ℕ) → (s ≡ q → ⊥) → Leaves (Events.recovery w q fails)
   recovery_still q None apart =
@@ -252,6 +252,16 @@ module _ (s : ℕ) (w : World) (up : (w.nodes s).state ≡ Up) (halted : is_runn
   recover_still q Down fails e = tested (leb MOST_NUMBER (w.nodes q).session) _ _ (λ _. recovery_still q fails
       (λ here. let g : Up ≡ Down = sym up ∙ ap (λ (i : ℕ). (w.nodes i).state) here ∙ e in absurd (cc)))
 
+  group_still : (q : ℕ) (state : SiteState) → (w.nodes q).state ≡ state → Leaves (Events.group_from state w q)
+  group_still q Bare e =
+      history_still q (group_set q (w.nodes q)) _
+      (λ here. let g : Up ≡ Bare = sym up ∙ ap (λ (i : ℕ). (w.nodes i).state) here ∙ e in absurd (cc))
+  group_still q Up e = same
+  group_still q Deported e = tested (not (Events.is_plain_group (w.nodes q))) _ _ (λ _. node_still q (group_up (w.nodes q))
+      (λ here. let g : Up ≡ Deported = sym up ∙ ap (λ (i : ℕ). (w.nodes i).state) here ∙ e in absurd (cc)))
+  group_still q Down e = tested (not (Events.is_plain_group (w.nodes q))) _ _ (λ _. node_still q (group_up (w.nodes q))
+      (λ here. let g : Up ≡ Down = sym up ∙ ap (λ (i : ℕ). (w.nodes i).state) here ∙ e in absurd (cc)))
+
   outcome_still : (e : Event) → s < w.sites → IsElsewhere s e → Leaves (outcome_of w e)
   outcome_still (Site name disks blocks) there calm =
       tested (some_below w.sites (λ k. bytes_eq (w.nodes k).name name)) _ _
@@ -266,12 +276,7 @@ module _ (s : ℕ) (w : World) (up : (w.nodes s).state ≡ Up) (halted : is_runn
       (λ _. history_still q (raw_set q (w.nodes q)) _
       (λ here. let g : Up ≡ Bare = sym up ∙ ap (λ (i : ℕ). (w.nodes i).state) here ∙ bare_is (w.nodes q).state
       (not_false (is_bare (w.nodes q).state) bare) in absurd (cc)))))
-  outcome_still (Group q) there calm =
-      site_still q _
-      (tested (not (is_bare (w.nodes q).state)) _ _
-      (λ bare. history_still q (group_set q (w.nodes q)) _
-      (λ here. let g : Up ≡ Bare = sym up ∙ ap (λ (i : ℕ). (w.nodes i).state) here ∙ bare_is (w.nodes q).state
-      (not_false (is_bare (w.nodes q).state) bare) in absurd (cc))))
+  outcome_still (Group q) there calm = site_still q _ (group_still q (w.nodes q).state refl)
   outcome_still (WriteAt p volume start bytes fails) there calm =
       let x : LogWrite = record { volume = volume; start = start; bytes = bytes } in
       volume_still p volume start (blocks_in bytes) (is_too_large (w.nodes p).ring (blocks_in bytes))

@@ -13,7 +13,7 @@ use Rattle.vx_history.specs.Receiving.{Received, received_step}
 use Rattle.vx_history.specs.LinkForms.{plain_receiver}
 use Rattle.vx_history.specs.World.{World, Link as LinkRecord, empty_world, no_link}
 use Rattle.vx_history.specs.Listed.{HasPlaces}
-use Rattle.vx_history.specs.Steps.{site_made, raw_made, group_made, stopped_by}
+use Rattle.vx_history.specs.Steps.{site_made, raw_made, stopped_by}
 use Rattle.vx_history.specs.Sends.{with_link, sending, promising}
 use Rattle.vx_history.specs.Refusals.{Outcome, says, unless, at_work, on_link, keeps_links as has_links, some_below, is_unconfirmed, holds_back}
 use Rattle.vx_history.specs.Events
@@ -32,7 +32,7 @@ use Rattle.vx_world.proofs.Keeping.{Keeps, keeps_same, keeps_links, made_link, k
 use Rattle.vx_world.proofs.Stays.{step_keeps, empty_sound}
 use Rattle.vx_world.proofs.KeptWrites.{Leaves, write_leaves, moved_leaves, greeting_parts, applied_leaves}
 use Rattle.vx_world.proofs.KeptPackets.{deliver_leaves}
-use Rattle.vx_world.proofs.KeptSites.{crash_leaves, deport_leaves, recover_leaves, site_leaves, raw_leaves, group_leaves, link_part_leaves, stopped_leaves}
+use Rattle.vx_world.proofs.KeptSites.{crash_leaves, deport_leaves, recover_leaves, site_leaves, raw_leaves, group_from_leaves, link_part_leaves, stopped_leaves}
 
 -- ## Events
 
@@ -57,10 +57,7 @@ outcome_leaves w (Raw q) s =
     (λ bare. Guards.unless_holds (Keeps w) (not (is_raw_shape (w.nodes q).disks (w.nodes q).blocks)) Size w o (keeps_same w)
     (λ _. raw_leaves w q s (Guards.bare_is (w.nodes q).state (not_false (is_bare (w.nodes q).state) bare)))))
 outcome_leaves w (Group q) s =
-    let o : Outcome = done (group_made w q) in
-    Guards.at_site_holds (Keeps w) w q (unless (not (is_bare (w.nodes q).state)) WrongRole w o) (keeps_same w)
-    (λ _. Guards.unless_holds (Keeps w) (not (is_bare (w.nodes q).state)) WrongRole w o (keeps_same w)
-    (λ bare. group_leaves w q s (Guards.bare_is (w.nodes q).state (not_false (is_bare (w.nodes q).state) bare))))
+    Guards.at_site_holds (Keeps w) w q _ (keeps_same w) (λ _. group_from_leaves w q (w.nodes q).state s refl)
 outcome_leaves w (WriteAt p volume start bytes fails) s = write_leaves w p (record { volume = volume; start = start; bytes = bytes }) fails s
 outcome_leaves w (Read p volume start count) s = Guards.on_volume_holds (Keeps w) w p volume start count false _ (keeps_same w) (λ _ _ _. keeps_same w)
 outcome_leaves w (Apply q count reached) s =

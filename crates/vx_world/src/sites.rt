@@ -1,13 +1,17 @@
-// Sites that are made.
-ghost use Rattle.std.specs.Prelude.{◌≡◌, IfOk};
+// Sites that are made, and groups of disks that come up again.
+ghost use Rattle.std.specs.Prelude.{◌≡◌, ◌<◌, length, IfOk};
 ghost use Rattle.vx_history.specs.Refusals.{says};
+ghost use Rattle.vx_history.specs.Events.{group_again};
 ghost use Rattle.vx_history.specs.Step.{outcome_of};
+ghost use Rattle.vx_history.specs.Steps.{group_made};
 ghost use Rattle.vx_history.specs.declared.event.Event.TheVariants.{Site, Raw, Group};
+ghost use Rattle.vx_history.specs.declared.event.Said.TheVariants.{Done};
 ghost use Rattle.vx_sites.specs.Shapes.{world_of};
 
 use vx_history::Said;
-use vx_model::{Name, OutOfMemory};
-use vx_sites::bounds::{refuse_new_site, refuse_not_bare, refuse_raw};
+use vx_model::{Name, No, OutOfMemory, SiteState};
+use vx_sites::bounds::{refuse_new_site, refuse_raw};
+use vx_sites::groups::refuse_no_group;
 use vx_sites::refusals::refuse_site;
 use vx_sites::{Node, World};
 
@@ -41,16 +45,37 @@ pub fn make_raw(world: &mut World, site: u32) -> Result<Said, OutOfMemory>
     Ok(Said::Done)
 }
 
-/// A bare site becomes a group of disks without volumes. Refused with 1 and 5.
+/// A bare site becomes a group of disks without volumes, and a group without volumes and log that is down or deported comes up again.
+/// Refused with 1 and 5.
 pub fn make_group(world: &mut World, site: u32) -> Result<Said, OutOfMemory>
     ensures { IfOk result (λ said. says (world_of world.new) said ≡ outcome_of (world_of world.old) (Group site)) }
 {
     if let Some(no) = refuse_site(world, site) {
         return Ok(Said::Refused(no));
     }
-    if let Some(no) = refuse_not_bare(world, site) {
-        return Ok(Said::Refused(no));
+    match world.node(site).state {
+        SiteState::Bare => begin_group(world, site),
+        SiteState::Up => Ok(Said::Refused(No::Role)),
+        SiteState::Deported => Ok(bring_group_up(world, site)),
+        SiteState::Down => Ok(bring_group_up(world, site)),
     }
+}
+
+fn begin_group(world: &mut World, site: u32) -> Result<Said, OutOfMemory>
+    requires { site < length world.old.nodes.items }
+    ensures { IfOk result (λ said. says (world_of world.new) said ≡ says (group_made (world_of world.old) site) Done) }
+{
     world.make_group(site)?;
     Ok(Said::Done)
+}
+
+fn bring_group_up(world: &mut World, site: u32) -> Said
+    requires { site < length world.old.nodes.items }
+    ensures { says (world_of world.new) result ≡ group_again (world_of world.old) site }
+{
+    if let Some(no) = refuse_no_group(world, site) {
+        return Said::Refused(no);
+    }
+    world.bring_group_up(site);
+    Said::Done
 }

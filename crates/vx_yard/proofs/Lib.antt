@@ -7,6 +7,7 @@ pub mod CrashLine
 pub mod CrashSite
 pub mod FailsStay
 pub mod FuseStays
+pub mod HeadNeeds
 pub mod HoldsRoom
 pub mod IntoRacks
 pub mod Kept

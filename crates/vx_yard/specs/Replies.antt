@@ -3,15 +3,17 @@ use Rattle.std.specs.Prelude.{ℕ, zero, suc, ◌+◌, eqb, List, [], ◌∷◌,
 use Rattle.std.specs.Fmt.{decimal}
 use Rattle.vx_model.specs.Content.{block_of, blocks_in}
 use Rattle.vx_events.specs.declared.said.Said.{Said}
-use Rattle.vx_events.specs.declared.said.Said.TheVariants.{Done, DoneAt, Got, Shown, Recovered, Logged, Pending, Taken, Ignored, Settled, Refused}
+use Rattle.vx_events.specs.declared.said.Said.TheVariants.{Done, DoneAt, Got, Shown, Recovered, Resumed, Logged, Pending, Taken, Ignored, Settled, Refused}
 use Rattle.vx_model.specs.declared.errors.Stop.{Stop}
 use Rattle.vx_model.specs.declared.no.No.{No as Refusal}
 use Rattle.vx_model.specs.declared.errors.Stop.TheVariants.{No, OutOfMemory as MemoryStop}
 use Rattle.vx_model.specs.declared.errors.OutOfMemory.{OutOfMemory}
 use Rattle.std.specs.Prelude.{Result, Ok, Err}
 use Rattle.vx_report.specs.BlockText.{block_text}
+use Rattle.vx_report.specs.KeptText.{kept_line}
 use Rattle.vx_report.specs.Refusals.{refusal_text}
 use Rattle.vx_report.specs.Statuses.{status_text}
+use Rattle.vx_report.specs.declared.view.Kept.{Kept}
 use Rattle.vx_report.specs.declared.view.SiteView.{SiteView}
 
 -- a line for each of so many blocks of these bytes, from block k on
@@ -23,6 +25,15 @@ blocks_text bytes k (suc n) = block_text (block_of bytes k) ++ blocks_text bytes
 abbrev pub recovered_text : ℕ → SiteView → List ℕ
 recovered_text last view = codes "recovered " ++ decimal last ++ 10 ∷ [] ++ status_text view
 
+-- the line on a write that was cut, where one was
+abbrev pub kept_lines : Option Kept → List ℕ
+kept_lines None = []
+kept_lines (Some kept) = kept_line kept
+
+-- that a site without a replicated volume group came up, the lines of its status, and what is kept of a write that its crash cut
+abbrev pub resumed_text : SiteView → Option Kept → List ℕ
+resumed_text view kept = codes "recovered\n" ++ status_text view ++ kept_lines kept
+
 -- a reply by itself
 abbrev pub reply_text : Said → List ℕ
 reply_text Done = codes "done" ++ 10 ∷ []
@@ -30,6 +41,7 @@ reply_text (DoneAt number) = codes "done " ++ decimal number ++ 10 ∷ []
 reply_text (Got bytes) = blocks_text bytes 0 (blocks_in bytes)
 reply_text (Shown view) = status_text view
 reply_text (Recovered last view) = recovered_text last view
+reply_text (Resumed view kept) = resumed_text view kept
 reply_text (Logged number) = codes "logged " ++ decimal number ++ 10 ∷ []
 reply_text (Pending number) = codes "pending " ++ decimal number ++ 10 ∷ []
 reply_text Taken = codes "taken" ++ 10 ∷ []

@@ -15,10 +15,12 @@ returns-then-is_down-clause-kept g c = λ beside n up can.
 pub returns-clause-kept : goal.returns-clause-kept
 returns-clause-kept g c = λ beside n up can.
     let lawful = (g.met.R.Shelf g.world.𝓛 g.world.𝓜 g.world.𝓡 ((λ s x. x), (λ x. x), (λ x. x), λ x. x)).lawful in
+    let is_rack = (g.met.R.Rack g.world.𝓛 g.world.𝓜 g.world.𝓡 ((λ s x. x), (λ x. x), (λ x. x), λ x. x)).rack in
     kept_at beside n c.args.state.now c.args.rvg.now c.set_state-answer.new.self c.set_state-answer.result
     (kept_as n c.args.rvg.now.core c.set_state-answer.new.self.core (g.R.Shelf.meaning c.args.rvg.now.shelf) (g.R.Shelf.meaning c.set_state-answer.new.self.shelf) c.args.state.now up can
     (lawful c.args.rvg.now.shelf) (lawful c.set_state-answer.new.self.shelf) c.set_state-answer.ensures.moves (sym c.is_down.ensures ∙ c.if-is_down.false) c.set_state-answer.new.self.sound.log_unit
-    c.set_state-answer.result c.set_state-answer.ensures.answers (λ some. ap g.R.Shelf.meaning (c.set_state-answer.ensures.unchanged some)) c.set_state-answer.ensures.stands)
+    c.args.rvg.now.sound.log_unit (is_rack c.args.rvg.now.shelf)
+    c.set_state-answer.result c.set_state-answer.ensures.answers (λ some. ap g.R.Shelf.meaning (c.set_state-answer.ensures.unchanged some)) c.set_state-answer.ensures.stands c.set_state-answer.ensures.blames)
 
 pub returns-then-is_down-clause-off : goal.returns-then-is_down-clause-off
 returns-then-is_down-clause-off g c = λ up. sym c.is_down.ensures ∙ c.if-is_down.true
@@ -50,3 +52,6 @@ pub returns-clause-waiting : goal.returns-clause-waiting
 returns-clause-waiting g c = λ us.
     wait_kept (change_refusal c.args.rvg.now.core) c.args.rvg.now.core c.set_state-answer.new.self.core c.args.state.now (g.R.Shelf.meaning c.args.rvg.now.shelf) (g.R.Shelf.meaning c.set_state-answer.new.self.shelf) c.set_state-answer.result us (search rules)
     c.set_state-answer.ensures.answers c.set_state-answer.ensures.moves.size
+
+pub returns-clause-works : goal.returns-clause-works
+returns-clause-works g c = c.set_state-answer.ensures.works

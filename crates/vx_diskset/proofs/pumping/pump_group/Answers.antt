@@ -19,7 +19,8 @@ returns-clause-pumped g c = λ d k up none told there is flight.
 
 pub returns-clause-stops : goal.returns-clause-stops
 returns-clause-stops g c = λ beside n up none.
-    pump_stops n c.args.rvg.now.core (g.R.Shelf.meaning c.args.rvg.now.shelf) (g.R.Shelf.meaning c.pump.new.rvg.shelf) c.args.link.now c.pump.result up c.pump.ensures.down c.pump.ensures.cause c.pump.ensures.asks
+    pump_stops n c.args.rvg.now.core (g.R.Shelf.meaning c.args.rvg.now.shelf) (g.R.Shelf.meaning c.pump.new.rvg.shelf) c.args.link.now c.pump.result up c.args.rvg.now.sound.log_unit
+    ((g.met.R.Rack g.world.𝓛 g.world.𝓜 g.world.𝓡 ((λ s x. x), (λ x. x), (λ x. x), λ x. x)).rack c.args.rvg.now.shelf) c.pump.ensures.down c.pump.ensures.cause c.pump.ensures.asks c.pump.ensures.blames
 
 pub returns-clause-more : goal.returns-clause-more
 returns-clause-more g c = λ beside n up.

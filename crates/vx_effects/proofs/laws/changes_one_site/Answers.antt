@@ -1,6 +1,6 @@
 -- Each clause is part of its theorem.
 use Rattle.vx_effects.proofs.Effects.{crash_effect, resolved_changes}
-use Rattle.vx_effects.proofs.Groups.{deport_effect, group_effect}
+use Rattle.vx_effects.proofs.Groups.{again_effect, deport_effect, group_effect}
 use Rattle.vx_effects.proofs.Origins.{origin_effect}
 use Rattle.vx_effects.proofs.Rises.{applied_effect, fault_effect, idle_effect, left_quiet, note_effect, raw_effect, reached_effect, read_effect, recover_effect, session_effect, set_effect, site_adds}
 use Rattle.vx_effects.proofs.Writes.{half_effect, write_effect}
@@ -23,6 +23,7 @@ returns c = record {
   set = set_effect;
   raw = raw_effect;
   group = group_effect;
+  again = again_effect;
   deport = deport_effect;
   note = note_effect;
   left = left_quiet;

@@ -8,7 +8,7 @@ use Rattle.vx_events.specs.declared.said.Said.TheVariants.{Done}
 use Rattle.vx_history.specs.Events.{joined}
 use Rattle.vx_diskset.specs.DiskSets.{worked}
 use Rattle.vx_diskset.proofs.CallsBurn.{called_cut, done_called}
-use Rattle.vx_diskset.proofs.HeadCalls.{head_called, head_cut}
+use Rattle.vx_diskset.proofs.HeadCalls.{head_called, head_cut, log_place}
 use Rattle.vx_joins.specs.Joins.{joins_in_doubt}
 use Rattle.vx_joins.proofs.JoinCall.{called_group, head_group, joined_off, joined_on, later_receives, receives_group}
 use Rattle.vx_joins.proofs.JoinGroup.{none_wait}
@@ -49,13 +49,13 @@ returns-else-is_off-clause-called g c = λ beside n up.
 pub returns-in-Ok-clause-headed : goal.returns-in-Ok-clause-headed
 returns-in-Ok-clause-headed g c = λ beside n up can.
     head_group c.args.rvg c.join_group.new.rvg c.together.result c.together.ensures.group
-    (head_called 2 (Ok tt) c.args.rvg c.join_group.new.rvg up.up (c.in-Ok.ensures.off up.up) (c.in-Ok.ensures.calls beside n up can) (c.join_group.ensures.short beside n up can) c.join_group.ensures.spends)
+    (head_called 2 (Ok tt) c.args.rvg c.join_group.new.rvg (log_place c.args.rvg n up.units) up.up (c.in-Ok.ensures.off up.up) (c.in-Ok.ensures.calls beside n up can) (c.join_group.ensures.short beside n up can) c.in-Ok.ensures.works c.join_group.ensures.spends)
 
 pub returns-then-is_off-clause-headed : goal.returns-then-is_off-clause-headed
 returns-then-is_off-clause-headed g c = λ beside n up can.
     head_cut 2 c.in-Err.no 0xffff_ffff_ffff_ffff (Up c.args.rvg) (Up c.join_group.new.rvg) c.crash.result (sym c.is_off.ensures ∙ c.if-is_off.true)
-    (head_called 2 (Err c.in-Err.no) c.args.rvg c.join_group.new.rvg up.up (c.in-Err.ensures.off up.up) tt (c.join_group.ensures.short beside n up can) c.join_group.ensures.spends) c.crash.ensures.stopped
+    (head_called 2 (Err c.in-Err.no) c.args.rvg c.join_group.new.rvg (log_place c.args.rvg n up.units) up.up (c.in-Err.ensures.off up.up) tt (c.join_group.ensures.short beside n up can) tt c.join_group.ensures.spends) c.crash.ensures.stopped
 
 pub returns-else-is_off-clause-headed : goal.returns-else-is_off-clause-headed
 returns-else-is_off-clause-headed g c = λ beside n up can.
-    head_called 2 (Err c.in-Err.no) c.args.rvg c.join_group.new.rvg up.up (c.in-Err.ensures.off up.up) tt (c.join_group.ensures.short beside n up can) c.join_group.ensures.spends
+    head_called 2 (Err c.in-Err.no) c.args.rvg c.join_group.new.rvg (log_place c.args.rvg n up.units) up.up (c.in-Err.ensures.off up.up) tt (c.join_group.ensures.short beside n up can) tt c.join_group.ensures.spends

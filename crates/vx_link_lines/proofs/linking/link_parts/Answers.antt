@@ -135,7 +135,12 @@ returns-in-Ok-open_link-clause-leads g c = λ d first second prot stands l.
     let one = comes_one d first second prot c.args.here c.args.there c.args.sync c.args.states.now l c.args.yard.now stands c.join_site.new.yard (λ e note notes stood fit below said is. c.in-Ok.ensures.heads e note c.args.sync notes stood fit below said is) in
     let two = comes_two d first second prot c.args.here c.args.there c.args.sync c.args.states.now l c.args.yard.now stands c.join_site.new.yard c.make_link.new.yard one (λ e note notes stood fit below session said is. c.in-Ok-make_link.ensures.heads e note notes stood fit below session said is) in
     let three = comes_three d first second prot c.args.here c.args.there c.args.sync c.args.states.now l c.args.yard.now stands c.make_link.new.yard c.mark_site.new.yard two (λ e note notes stood fit below said is. c.in-Ok-mark_site.ensures.heads e note c.args.here c.args.sync notes stood fit below said is) in
-    ends_done d first second prot c.args.here c.args.there c.args.sync c.args.states.now l c.args.yard.now stands c.mark_site.new.yard c.open_link.new.yard three (λ e note notes stood fit below last said is. c.in-Ok-open_link.ensures.heads e note c.args.sync notes stood fit below last said is)
+    let racks = (g.met.R.Rack g.world.𝓛 g.world.𝓜 g.world.𝓡 ((λ s x. x), (λ x. x), (λ x. x), λ x. x)).rack in
+    let first_part = under_one d first second prot c.args.here c.args.there c.args.sync c.args.states.now l c.args.yard.now stands c.join_site.new.yard (Ok tt) (λ e note notes stood fit below said. c.in-Ok.ensures.called e note c.args.sync notes stood fit below said) in
+    let second_part = under_two d first second prot c.args.here c.args.there c.args.sync c.args.states.now l c.args.yard.now stands c.join_site.new.yard c.make_link.new.yard Done first_part (c.in-Ok-make_link.ensures.called _ one.stands (below_one d first second prot c.args.here c.args.there c.args.sync c.args.states.now l c.args.yard.now stands c.args.here l.below)) in
+    let third_part = under_three d first second prot c.args.here c.args.there c.args.sync c.args.states.now l c.args.yard.now stands c.make_link.new.yard c.mark_site.new.yard Done second_part (c.in-Ok-mark_site.ensures.called _ two.stands (below_two d first second prot c.args.here c.args.there c.args.sync c.args.states.now l c.args.yard.now stands c.args.there l.below_too)) in
+    let both = burns_done d first second prot c.args.here c.args.there c.args.sync c.args.states.now l c.args.yard.now stands c.mark_site.new.yard c.open_link.new.yard third_part (c.in-Ok-open_link.ensures.called _ three.stands (below_three d first second prot c.args.here c.args.there c.args.sync c.args.states.now l c.args.yard.now stands c.args.here l.below)) in
+    ends_done d first second prot c.args.here c.args.there c.args.sync c.args.states.now l c.args.yard.now stands racks c.mark_site.new.yard c.open_link.new.yard three (λ e note notes stood fit below last said is. c.in-Ok-open_link.ensures.heads e note c.args.sync notes stood fit below last said is) both
 
 pub returns-in-Ok-open_link-clause-asked : goal.returns-in-Ok-open_link-clause-asked
 returns-in-Ok-open_link-clause-asked g c = λ d first second prot stands l.

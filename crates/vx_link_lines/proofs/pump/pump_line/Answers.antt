@@ -97,7 +97,7 @@ returns-in-Err-clause-leads g c = λ d stands carries.
     let stood = stands.disk_sets.sites s before asks.seat.below at in
     let was = told_before es s before after at c.in-Err.ensures.later in
     pump_stops d old _ s before after stands carries asks.seat.below (record { there = at; later = c.in-Err.ensures.later; disk_sets = refl; racks = refl }) c.in-Err.ensures.still c.in-Err.ensures.stands c.in-Err.ensures.role
-    (record { assemblies = refl; feeders = refl }) was p q c.pump.new.flight c.in-Err.stop c.stopped.result (subst (λ (a : Action). PumpStop a (faults_at before) (faults_at after) c.in-Err.stop) (asked_named d old p q s c.link_named.result.link asks) (c.in-Err.ensures.stops (beside_of d s) (d.world.nodes s) stood asks.origin asks.up asks.running))
+    (record { assemblies = refl; feeders = refl }) was p q c.pump.new.flight c.in-Err.stop c.stopped.result (subst (λ (a : Action). PumpStop (d.world.nodes s) a (faults_at before) (faults_at after) c.in-Err.stop) (asked_named d old p q s c.link_named.result.link asks) (c.in-Err.ensures.stops (beside_of d s) (d.world.nodes s) stood asks.origin asks.up asks.running))
     (λ why same other tells.
     pump_told d.world s c.link_named.result.link.site c.pump.new.link c.pump.new.flight (faults_at before) (faults_at after) c.in-Err.stop
     (c.in-Err.ensures.pumped d asks.place stood asks.origin asks.up asks.running ((was tells).each s before at) asks.kept asks.link_is carries.flight) why same other)
@@ -140,5 +140,5 @@ returns-in-Err-clause-called g c = λ d stands.
     let asks = pumping d old p q s c.deref.result.now c.link_named.result stands c.requires.free c.site_of-here.ensures.seat c.deref.ensures.value c.link_named.ensures.link
     (subst (λ fs. FoundLink fs p q) (sym c.deref.ensures.value) there) in
     let stood = stands.disk_sets.sites s before asks.seat.below at in
-    pump_stopped s old _ before after at refl c.in-Err.ensures.still (pump_asks c.link_named.result.link (d.world.nodes s).safe) (faults_at before) (faults_at after) (site_number d.world p) c.in-Err.stop c.stopped.result asks.seat.number
+    pump_stopped s old _ before after at refl c.in-Err.ensures.still (d.world.nodes s) (pump_asks c.link_named.result.link (d.world.nodes s).safe) (faults_at before) (faults_at after) (site_number d.world p) c.in-Err.stop c.stopped.result asks.seat.number
     (c.in-Err.ensures.stops (beside_of d s) (d.world.nodes s) stood asks.origin asks.up asks.running) c.stopped.ensures

@@ -57,7 +57,10 @@ returns-in-Ok-clause-leads g c = λ d prot stands.
     let kept = set_kept d old p r c.args.sync c.requires.free.0 s q before stands c.requires.free.1 seat seat_too at after c.in-Some.state (Ok tt) is (λ beside m stood can. c.in-Ok.ensures.kept beside m stood can) in
     let stood = set_stood d old p r c.args.sync c.requires.free.0 s q before stands c.requires.free.1 seat seat_too at in
     let said = set_said d old p r c.args.sync c.requires.free.0 s q before stands c.requires.free.1 seat seat_too at in
-    set_leads d old p r c.args.sync c.requires.free.0 s q before stands c.requires.free.1 seat seat_too at _ after (record { there = at; later = c.in-Ok.ensures.later; disk_sets = refl; racks = refl }) c.in-Ok.ensures.role prot kept (c.in-Ok.ensures.called (beside_of d s) (worked (d.world.nodes s)) stood)
+    let racks = (g.met.R.Rack g.world.𝓛 g.world.𝓜 g.world.𝓡 ((λ s x. x), (λ x. x), (λ x. x), λ x. x)).rack in
+    let here = site_at d old p s stands seat in
+    let head = c.in-Ok.ensures.headed (beside_of d s) (d.world.nodes s) (stands.disk_sets.sites s before here.below at) in
+    set_leads d old p r c.args.sync c.requires.free.0 s q before stands c.requires.free.1 seat seat_too at _ after (record { there = at; later = c.in-Ok.ensures.later; disk_sets = refl; racks = refl }) c.in-Ok.ensures.role prot racks head kept (c.in-Ok.ensures.called (beside_of d s) (worked (d.world.nodes s)) stood)
     (with_items_is old.facts c.keep_set.new.sites (c.keep_set.auto.sites ∙ c.deref_mut.ensures.len)
     ∙ c.keep_set.ensures.world d.world (c.deref_mut.ensures.value ∙ stands.facts) (stands.links.rows s).places said)
     (record { flight = refl; assemblies = refl; feeders = refl })

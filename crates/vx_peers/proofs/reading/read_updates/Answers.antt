@@ -1,11 +1,11 @@
--- `read_updates`: clauses cause, core, goes, down, disks, spends and read; what `fetch` and `stop_of` ask; what stays true in its loop over `past`.
+-- `read_updates`: clauses cause, blames, core, goes, down, disks, spends and read; what `fetch` and `stop_of` ask; what stays true in its loop over `past`.
 use Rattle.std.proofs.Common.{◌∙◌, ◌+◌, length, ap, sym, subst, arith, List, [], ◌∷◌, length-append}
 use Rattle.vx_model.specs.declared.call.Update.{Update}
 use Rattle.vx_model.specs.declared.errors.Stop.{Stop}
 use Rattle.vx_rvg.specs.Views.{Core, last_of}
 use Rattle.vx_srl.specs.Calls.{FetchCause}
-use Rattle.vx_peers.specs.Senders.{AreRead, ReadCause}
-use Rattle.vx_peers.proofs.Looking.{fetched_more, is_other, not_looked, read_stops, stands_on}
+use Rattle.vx_peers.specs.Senders.{AreRead, BlamesStop, ReadCause}
+use Rattle.vx_peers.proofs.Looking.{fetched_more, is_other, not_looked, read_blames, read_stops, stands_on}
 use Rattle.vx_peers.proofs.Updates.{none_read, read_more}
 use Rattle.vx_peers.proofs.reading.read_updates.Goals as goal
 
@@ -34,6 +34,13 @@ returns-in-Err-clause-cause g c =
     = c.in-Err.ensures.cause (ap (λ (x : Core). x.halted) was.0.core ∙ c.requires.running) (omega (arith, c.requires.low, ap (λ (x : Core). x.log.header.low) was.0.core)) in
     subst (λ (s : Stop). ReadCause c.args.rvg.now.core m0 m2 s) (sym c.stop_of.ensures)
     (read_stops c.args.rvg.now.core m0 m1 m2 c.in-Err.why was.0.goes.disk_faults was.0.goes.tells (λ h stands tells. (was.2 h stands tells).1) (subst (λ (x : Core). FetchCause x.log m1 m2 c.in-Err.why) was.0.core cause))
+
+pub returns-in-Err-clause-blames : goal.returns-in-Err-clause-blames
+returns-in-Err-clause-blames g c =
+    let was = c.loop-past.invariant in
+    let m0 = g.S.Shelf.meaning c.args.rvg.now.shelf in
+    subst (λ (s : Stop). BlamesStop m0.disks c.args.rvg.now.core.log.unit s) (sym c.stop_of.ensures)
+    (read_blames c.args.rvg.now.core c.loop-past.rvg.core m0 (g.S.Shelf.meaning c.loop-past.rvg.shelf) c.in-Err.why was.0.disks was.0.core c.in-Err.ensures.blames)
 
 pub returns-in-Err-clause-core : goal.returns-in-Err-clause-core
 returns-in-Err-clause-core g c = c.fetch.ensures.core ∙ c.loop-past.invariant.0.core

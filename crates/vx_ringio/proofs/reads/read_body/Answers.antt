@@ -1,8 +1,9 @@
--- `read_body`: clauses shows, gave, spends and works.
+-- `read_body`: clauses shows, gave, spends, works and names.
 use Rattle.std.proofs.Common.{arith, ◌≡◌, ◌∙◌, eqb-true, sym, length}
 use Rattle.std.proofs.lemmas.Result.{on_ok_weaker}
 use Rattle.vx_ringio.specs.Classes.{class_of}
 use Rattle.vx_ringio.proofs.Following.{reads_stay}
+use Rattle.vx_ringio.proofs.Naming.{names_before}
 use Rattle.vx_ringio.proofs.Parts.{gave_parts, in_parts, places_first, places_parts}
 use Rattle.vx_ringio.proofs.Spending.{on_always, then_spends}
 use Rattle.vx_ringio.proofs.reads.read_body.Goals as goal
@@ -41,3 +42,6 @@ returns-else-is_empty-clause-spends g c = then_spends _ _ _ c.read_part.ensures.
 
 pub returns-else-is_empty-clause-works : goal.returns-else-is_empty-clause-works
 returns-else-is_empty-clause-works g c = on_always c.read_part-else-is_empty.result c.in_ok-read_part.ensures.works
+
+pub returns-else-is_empty-clause-names : goal.returns-else-is_empty-clause-names
+returns-else-is_empty-clause-names g c = names_before (Unit {0}) _ _ _ _ c.read_part-else-is_empty.result c.read_part.ensures.disks c.read_part-else-is_empty.ensures.names

@@ -3,6 +3,7 @@ use Rattle.std.proofs.Common.{arith, ◌∙◌, eqb-true, sym}
 use Rattle.std.proofs.lemmas.Result.{on_ok_weaker}
 use Rattle.vx_ringio.proofs.Parts.{body_parts, in_parts, first_follows, first_arrives, both_follow, both_arrive}
 use Rattle.vx_disk.proofs.Burning.{then_calls}
+use Rattle.vx_ringio.proofs.Naming.{names_before}
 use Rattle.vx_ringio.proofs.Spending.{on_always, at_least, at_least_fewer, then_spends}
 use Rattle.vx_ringio.proofs.writes.write_body.Goals as goal
 
@@ -52,3 +53,6 @@ returns-else-is_empty-clause-least g c = on_ok_weaker c.write_part-else-is_empty
 
 pub returns-else-is_empty-clause-works : goal.returns-else-is_empty-clause-works
 returns-else-is_empty-clause-works g c = on_always c.write_part-else-is_empty.result c.in_ok-write_part.ensures.works
+
+pub returns-else-is_empty-clause-names : goal.returns-else-is_empty-clause-names
+returns-else-is_empty-clause-names g c = names_before (Unit {0}) _ _ _ _ c.write_part-else-is_empty.result c.write_part.ensures.spends.told c.write_part-else-is_empty.ensures.names

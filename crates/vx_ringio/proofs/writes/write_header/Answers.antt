@@ -1,8 +1,9 @@
--- `write_header`: clauses follows, arrives, spends, aside and works.
+-- `write_header`: clauses follows, arrives, spends, aside, works and names.
 use Rattle.std.proofs.Common.{arith}
 use Rattle.std.proofs.lemmas.Result.{on_ok_weaker}
 use Rattle.vx_ringio.proofs.Classing.{class_top, one_follows, flushed_follows, flushed_arrives}
 use Rattle.vx_ringio.proofs.Following.{sooner}
+use Rattle.vx_ringio.proofs.Naming.{names_before}
 use Rattle.vx_ringio.proofs.Spending.{on_always, spends_write, then_spends}
 use Rattle.vx_ringio.proofs.Aside.{aside_flushed, header_aside}
 use Rattle.vx_ringio.proofs.writes.write_header.Goals as goal
@@ -37,3 +38,6 @@ returns-clause-aside g c = aside_flushed _ _ _ _ (header_aside _ _ _ _ _ c.put_h
 
 pub returns-clause-works : goal.returns-clause-works
 returns-clause-works g c = on_always c.flush_ring.result c.in_ok-write.ensures.works
+
+pub returns-clause-names : goal.returns-clause-names
+returns-clause-names g c = names_before (Unit {0}) _ _ _ _ c.flush_ring.result c.write.ensures.disks c.flush_ring.ensures.names

@@ -1,8 +1,9 @@
 -- The group behind the emptying of its log.
-use Rattle.std.proofs.Common.{sym, subst}
+use Rattle.std.proofs.Common.{ap, sym, subst}
 use Rattle.vx_model.specs.declared.no.No.{No}
-use Rattle.vx_disk.specs.Causes.{DeviceCause}
+use Rattle.vx_disk.specs.Causes.{DeviceCause, Works}
 use Rattle.vx_rvg.specs.Views.{Core, IsSound}
+use Rattle.vx_rvg.proofs.Blaming.{blames_of}
 use Rattle.vx_rvg.proofs.EmptyStands.{can_at, emptied_fails, emptied_moves, emptied_rests, emptied_sound}
 use Rattle.vx_rvg.proofs.WriteLog.{no_cause}
 use Rattle.vx_rvg.proofs.change.empty.Goals as goal
@@ -36,3 +37,10 @@ returns-in-Ok-clause-sound g c =
     let can = can_at _ c.args.core.now c.core.view_is c.args.head c.requires.can in
     emptied_sound _ c.args.core.now c.core.view_is c.args.state.now c.args.head c.requires.all c.low-low.ensures.some (g.S.Shelf.meaning c.args.shelf.now) c.requires.sound (g.S.Shelf.meaning c.restart.new.shelf) c.in-Ok.ensures.goes
     c.restart.new.self (c.in-Ok.ensures.saves can.0 can.1 can.2).0
+
+pub returns-in-Err-clause-blames : goal.returns-in-Err-clause-blames
+returns-in-Err-clause-blames g c =
+    blames_of (g.S.Shelf.meaning c.args.shelf.now).disks _ _ c.in-Err.why c.refused-no.result (ap (λ (k : Core). k.log.unit) c.core.view_is) c.refused-no.ensures c.in-Err.ensures.blames
+
+pub returns-in-Ok-clause-works : goal.returns-in-Ok-clause-works
+returns-in-Ok-clause-works g c = subst (λ (k : Core). Works (g.S.Shelf.meaning c.args.shelf.now).disks k.log.unit) c.core.view_is c.in-Ok.ensures.works

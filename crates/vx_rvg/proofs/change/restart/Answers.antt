@@ -1,6 +1,7 @@
 -- The group behind a restart of its log.
 use Rattle.std.proofs.Common.{◌≤◌, ap, arith}
 use Rattle.vx_rvg.specs.Views.{Core, last_of}
+use Rattle.vx_rvg.proofs.Blaming.{blames_idle, blames_since, works_behind}
 use Rattle.vx_rvg.proofs.ChangeCalls.{calls_since, short_same, short_since}
 use Rattle.vx_rvg.proofs.RestartMoves.{applied_by, apply_part, restart_part}
 use Rattle.vx_ringio.proofs.Spending.{then_spends}
@@ -32,3 +33,18 @@ pub returns-in-Err-clause-short : goal.returns-in-Err-clause-short
 returns-in-Err-clause-short g c = λ low.
     short_same 2 (g.S.Shelf.meaning c.args.shelf.now) (g.S.Shelf.meaning c.apply_to.new.shelf)
     (ap g.S.Shelf.meaning (c.apply_to.ensures.nothing (omega (arith, low, c.head-last.ensures, ap (λ (k : Core). last_of k) c.core.view_is))))
+
+pub returns-in-Err-clause-blames : goal.returns-in-Err-clause-blames
+returns-in-Err-clause-blames g c = λ low.
+    blames_idle (g.S.Shelf.meaning c.args.shelf.now).disks c.args.core.now.log.unit c.in-Err.no (c.in-Err.ensures.idle (omega (arith, low, c.head-last.ensures, ap (λ (k : Core). last_of k) c.core.view_is)))
+
+pub returns-in-Ok-clause-blames : goal.returns-in-Ok-clause-blames
+returns-in-Ok-clause-blames g c = λ low.
+    let applied = applied_by c.args.core.now.halted c.args.core.now _ (g.S.Shelf.meaning c.args.shelf.now) (g.S.Shelf.meaning c.apply_to.new.shelf) c.apply_to.new.core c.in-Ok.field-0 c.in-Ok.ensures.answers in
+    blames_since c.empty.result (g.S.Shelf.meaning c.args.shelf.now) (g.S.Shelf.meaning c.apply_to.new.shelf) c.args.core.now c.apply_to.new.core
+    (ap g.S.Shelf.meaning (c.apply_to.ensures.nothing (omega (arith, low, c.head-last.ensures, ap (λ (k : Core). last_of k) c.core.view_is)))) (ap (λ (k : Core). k.log) applied.1) c.empty.ensures.blames
+
+pub returns-in-Ok-clause-works : goal.returns-in-Ok-clause-works
+returns-in-Ok-clause-works g c =
+    let applied = applied_by c.args.core.now.halted c.args.core.now _ (g.S.Shelf.meaning c.args.shelf.now) (g.S.Shelf.meaning c.apply_to.new.shelf) c.apply_to.new.core c.in-Ok.field-0 c.in-Ok.ensures.answers in
+    works_behind c.empty.result (g.S.Shelf.meaning c.args.shelf.now) (g.S.Shelf.meaning c.apply_to.new.shelf) c.args.core.now c.apply_to.new.core c.apply_to.ensures.spends (ap (λ (k : Core). k.log) applied.1) c.empty.ensures.works

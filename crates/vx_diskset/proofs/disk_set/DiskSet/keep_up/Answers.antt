@@ -3,7 +3,7 @@ use Rattle.vx_diskset.specs.Burning.{NoMore}
 use Rattle.vx_diskset.specs.Keeps.{done_by}
 use Rattle.vx_diskset.specs.declared.disk_set.DiskSet.TheVariants.{Up}
 use Rattle.vx_diskset.proofs.CallsBurn.{called_up, done_called}
-use Rattle.vx_diskset.proofs.HeadCalls.{head_called, head_received, head_up}
+use Rattle.vx_diskset.proofs.HeadCalls.{head_called, head_received, head_up, log_place}
 use Rattle.std.proofs.Common.{refl}
 use Rattle.vx_diskset.proofs.Receiving.{durable_of, kept_received, receiver_as}
 use Rattle.vx_diskset.proofs.disk_set.DiskSet.keep_up.Goals as goal
@@ -16,13 +16,15 @@ returns-in-Up-clause-called g c = λ beside n stands.
 pub returns-in-Up-clause-headed : goal.returns-in-Up-clause-headed
 returns-in-Up-clause-headed g c = λ beside n stands.
     head_up 2 (done_by c.keep_group.result) beside n c.args.self.now (Up c.keep_group.new.rvg) c.in-Up.rvg c.in-Up.is stands
-    (λ up. head_called 2 c.keep_group.result c.in-Up.rvg c.keep_group.new.rvg up.up (c.keep_group.ensures.off up.up) c.keep_group.ensures.calls c.keep_group.ensures.short c.keep_group.ensures.spends)
+    (λ up. head_called 2 c.keep_group.result c.in-Up.rvg c.keep_group.new.rvg (log_place c.in-Up.rvg n up.units) up.up (c.keep_group.ensures.off up.up) c.keep_group.ensures.calls c.keep_group.ensures.short c.keep_group.ensures.works c.keep_group.ensures.spends)
 
 pub returns-in-Receives-clause-headed : goal.returns-in-Receives-clause-headed
 returns-in-Receives-clause-headed g c = λ beside n stands.
     head_received 2 (done_by c.keep_group-in-Receives.result) beside n c.args.self.now c.in-Receives.site
     (record { rvg = c.keep_group-in-Receives.new.rvg; waiting = c.in-Receives.site.waiting; waits = c.site-in-Receives-2-1.given.0 }) c.in-Receives.is stands
-    (λ up. head_called 2 c.keep_group-in-Receives.result c.in-Receives.site.rvg c.keep_group-in-Receives.new.rvg up (c.keep_group-in-Receives.ensures.off up) c.keep_group-in-Receives.ensures.calls c.keep_group-in-Receives.ensures.short c.keep_group-in-Receives.ensures.spends)
+    (λ at.
+    head_called 2 c.keep_group-in-Receives.result c.in-Receives.site.rvg c.keep_group-in-Receives.new.rvg (log_place c.in-Receives.site.rvg n at.units) at.up (c.keep_group-in-Receives.ensures.off at.up) c.keep_group-in-Receives.ensures.calls
+    c.keep_group-in-Receives.ensures.short c.keep_group-in-Receives.ensures.works c.keep_group-in-Receives.ensures.spends)
 
 pub returns-in-Receives-clause-kept : goal.returns-in-Receives-clause-kept
 returns-in-Receives-clause-kept g c = λ beside n stands can.

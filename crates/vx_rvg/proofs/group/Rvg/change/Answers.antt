@@ -1,4 +1,4 @@
--- The calls of a change, with a restart of the log or without.
+-- The calls of a change, with a restart of the log or without, and which disk its refusal names.
 use Rattle.std.proofs.Common.{ℕ, subst, sym}
 use Rattle.std.specs.Prelude.{OnOk, Option}
 use Rattle.vx_disk.specs.Burns.{MakesCalls}
@@ -19,3 +19,9 @@ returns-in-Some-clause-calls g c =
 
 pub returns-in-Some-clause-short : goal.returns-in-Some-clause-short
 returns-in-Some-clause-short g c = λ none. c.restart.ensures.short (subst (λ (o : Option ℕ). AppliesNone o c.args.self.now.core) c.in-Some.is none)
+
+pub returns-in-None-clause-blames : goal.returns-in-None-clause-blames
+returns-in-None-clause-blames g c = λ none. c.set_state.ensures.blames
+
+pub returns-in-Some-clause-blames : goal.returns-in-Some-clause-blames
+returns-in-Some-clause-blames g c = λ none. c.restart.ensures.blames (subst (λ (o : Option ℕ). AppliesNone o c.args.self.now.core) c.in-Some.is none)

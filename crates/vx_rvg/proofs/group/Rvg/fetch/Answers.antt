@@ -1,5 +1,7 @@
 -- The group behind a fetch, and what it gives.
 use Rattle.std.proofs.Common.{subst, OnOk, IsFalse}
+use Rattle.std.specs.Prelude.{IfErr}
+use Rattle.vx_srl.specs.Causes.{BlamesLog}
 use Rattle.vx_rvg.specs.Holdings.{Holding}
 use Rattle.vx_rvg.specs.Stands.{GivesWrite, Stands}
 use Rattle.vx_rvg.specs.contracts.rvg_core.RvgCore.{the_view}
@@ -24,3 +26,6 @@ returns-clause-stands g c =
 
 pub returns-clause-works : goal.returns-clause-works
 returns-clause-works g c = subst (λ (r : Rvg g.row.S.Denot g.S.Shelf). OnOk c.fetch.result (Works (g.S.Shelf.meaning r.shelf).disks r.core.log.unit)) c.self.view_is c.fetch.ensures.works
+
+pub returns-clause-blames : goal.returns-clause-blames
+returns-clause-blames g c = subst (λ (r : Rvg g.row.S.Denot g.S.Shelf). IfErr c.fetch.result (BlamesLog (g.S.Shelf.meaning r.shelf).disks r.core.log.unit)) c.self.view_is c.fetch.ensures.blames

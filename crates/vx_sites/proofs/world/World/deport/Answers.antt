@@ -10,5 +10,5 @@ use Rattle.vx_sites.proofs.world.World.deport.Goals as goal
 pub returns : goal.returns
 returns c =
     node_changed (world_of c.args.self.now) c.args.self.now.nodes.items c.args.site c.index_mut.result.now (record c.index_mut.result.now { state = Deported })
-    (λ (n : Node). deported_site n) refl refl c.requires c.index_mut.ensures.value
+    (λ (n : Node). deported_site n.fuse n) refl refl c.requires c.index_mut.ensures.value
     refl

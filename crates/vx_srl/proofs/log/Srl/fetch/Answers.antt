@@ -1,7 +1,8 @@
--- `fetch`: clauses cause, gives, agrees, names and works; what `read_body` asks.
+-- `fetch`: clauses cause, gives, agrees, names, blames and works; what `read_body` asks.
 use Rattle.std.proofs.Common.{ℕ, ◌*◌, ◌/◌, ◌≤◌, ◌∙◌, List, ap, sym, subst, arith, length, take, length-take}
 use Rattle.vx_wire.specs.Seals.{digest_of}
 use Rattle.vx_srl.specs.Views.{Log}
+use Rattle.vx_srl.proofs.Blaming.{blames_failed}
 use Rattle.vx_srl.proofs.ScanBodies.{body_shown}
 use Rattle.vx_srl.proofs.FetchKept.{count_within, count_few, never_differ, fetched, agrees, names}
 use Rattle.vx_disk.specs.Causes.{Works}
@@ -51,3 +52,7 @@ returns-in-Differs-clause-names g c =
 
 pub returns-clause-works : goal.returns-clause-works
 returns-clause-works g c = subst (λ (l : Log). Works (g.S.Shelf.meaning c.args.shelf.now).disks l.unit) c.self.view_is c.in_default.ensures.works
+
+pub returns-in-Err-clause-blames : goal.returns-in-Err-clause-blames
+returns-in-Err-clause-blames g c =
+    blames_failed (Unit {0}) (g.S.Shelf.meaning c.args.shelf.now).disks _ _ c.in-Err.error c.refusal.result (ap (λ (l : Log). l.unit) c.self.view_is) c.refusal.ensures c.in-Err.ensures.names

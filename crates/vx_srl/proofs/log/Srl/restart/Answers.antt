@@ -1,6 +1,9 @@
--- `restart`: clauses goes and leads.
-use Rattle.std.proofs.Common.{take, drop, ap, List}
+-- `restart`: clauses goes, leads, blames and works.
+use Rattle.std.proofs.Common.{take, drop, ap, subst, List}
 use Rattle.vx_srl.specs.declared.kept.Kept.{Kept}
+use Rattle.vx_disk.specs.Causes.{Works}
+use Rattle.vx_srl.specs.Views.{Log}
+use Rattle.vx_srl.proofs.Blaming.{blames_failed}
 use Rattle.vx_srl.proofs.Saving.{emptied_goes, emptied_leads}
 use Rattle.vx_srl.proofs.log.Srl.restart.Goals as goal
 
@@ -15,3 +18,10 @@ returns-clause-leads g c =
     emptied_leads _ _ c.self.view_is c.header_emptied-header.result _ _ c.args.state.now c.args.head _ c.header_emptied-header.ensures.is
     (ap (λ (x : List Kept). record { unit = c.self.inside.unit; ring = c.self.inside.ring; header = c.header_emptied-header.result; held = take 0 x; staged = drop 0 x }) c.clear.ensures.items)
     c.in_default.ensures.arrives
+
+pub returns-in-Err-clause-blames : goal.returns-in-Err-clause-blames
+returns-in-Err-clause-blames g c =
+    blames_failed (Unit {0}) (g.S.Shelf.meaning c.args.shelf.now).disks _ _ c.in-Err.error c.refusal.result (ap (λ (l : Log). l.unit) c.self.view_is) c.refusal.ensures c.in-Err.ensures.names
+
+pub returns-clause-works : goal.returns-clause-works
+returns-clause-works g c = subst (λ (l : Log). Works (g.S.Shelf.meaning c.args.shelf.now).disks l.unit) c.self.view_is c.in_default.ensures.works

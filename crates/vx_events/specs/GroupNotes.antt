@@ -1,0 +1,120 @@
+-- How a line changes what a site notes of its group of disks.
+use Rattle.std.specs.Prelude.{◌≡◌, ◌≢◌, ◌⊎◌, ◌==◌, ◌<◌, ℕ, false, List, [], length, Some, None, unwrap_or, Contains, if◌then◌else◌}
+use Rattle.vx_model.specs.Content.{Write, zero_block}
+use Rattle.vx_history.specs.Groups.{BlockMay, GroupNode, NoteSettles, NoteUnsettles, note_cut, note_doubt, note_write}
+use Rattle.vx_history.specs.World.{Node, no_volumes}
+use Rattle.vx_config.specs.Checks.{blocks_of}
+use Rattle.vx_config.specs.declared.config.Config.{Config}
+use Rattle.vx_layout.specs.declared.shape.Shape.{Shape}
+use Rattle.vx_events.specs.Fails.{Fails}
+use Rattle.vx_events.specs.GroupConfigs.{AddsVolume, ConfigLoses, IsFirstConfig, taken_again}
+use Rattle.vx_events.specs.GroupViews.{config_of}
+
+-- nothing is noted of a group yet
+abbrev pub no_note : GroupNode
+no_note = record {
+  config = [];
+  begun = [];
+  loose = false;
+  bytes = no_volumes;
+  others = λ v b. [];
+  cut = None;
+  missed = λ v p. None;
+  perhaps = λ v p r. false;
+}
+
+abbrev pub note_at : Node → GroupNode
+note_at n = unwrap_or n.group no_note
+
+-- ---- configurations
+
+-- The configuration in memory comes of the one before so, and what is noted besides is kept so: what the disks may hold beside it, and whether they may
+-- disagree.
+pub record Reconfigures (Change : Config → Config → Type 0) (Keeps : GroupNode → GroupNode → Type 0) (note new : GroupNode) : Type 0 where
+  pub old : Config
+  pub now : Config
+  pub was : config_of note.config ≡ Some old
+  pub is : config_of new.config ≡ Some now
+  pub change : Change old now
+  pub keeps : Keeps note new
+
+-- the first note of a group, whose volumes are still to be made; imports agree but where a call failed
+pub record FirstNote (s disks blocks : ℕ) (fails : Fails) (new : GroupNode) : Type 0 where
+  pub first : Config
+  pub now : Config
+  pub begins : IsFirstConfig s disks blocks first
+  pub loses : ConfigLoses s fails first now
+  pub is : config_of new.config ≡ Some now
+  pub begun : new.begun ≡ []
+  pub loose : (new.loose ≡ false) ⊎ (fails ≢ [])
+  pub size : (v : ℕ) → new.bytes.size v ≡ 0
+  pub others : (v b : ℕ) → new.others v b ≡ []
+  pub cut : new.cut ≡ None
+  pub perhaps : (v p r : ℕ) → new.perhaps v p r ≡ false
+
+-- ---- volumes
+
+-- a further volume begins as zeros, and all others have what they had
+pub record AddsZeros (volume blocks : ℕ) (note new : GroupNode) : Type 0 where
+  pub size : (v : ℕ) → new.bytes.size v ≡ (if v == volume then blocks else note.bytes.size v)
+  pub block : (v b : ℕ) → new.bytes.block v b ≡ (if v == volume then zero_block else note.bytes.block v b)
+  pub others : (v b : ℕ) → new.others v b ≡ (if v == volume then [] else note.others v b)
+  pub same : new ≡ record note { bytes = new.bytes; others = new.others }
+
+-- a volume was made, in the space that the rule gives to it
+pub record NotesVolume (s : ℕ) (fails : Fails) (name : List ℕ) (want : Shape) (note new : GroupNode) : Type 0 where
+  pub old : Config
+  pub made : Config
+  pub now : Config
+  pub was : config_of note.config ≡ Some old
+  pub adds : AddsVolume name want old made
+  pub loses : ConfigLoses s fails made now
+  pub is : config_of new.config ≡ Some now
+  pub middle : GroupNode
+  pub settles : NoteSettles note middle
+  pub zeros : AddsZeros (length old.volumes) want.blocks middle new
+
+-- a write was done
+pub record NotesWrite (s : ℕ) (fails : Fails) (x : Write) (note new : GroupNode) : Type 0 where
+  pub middle : GroupNode
+  pub moves : Reconfigures (ConfigLoses s fails) NoteSettles note middle
+  pub is : new ≡ note_write x middle
+
+-- a write failed: each of its blocks has what it had, or what was to be written
+pub record NotesDoubt (s : ℕ) (fails : Fails) (x : Write) (note new : GroupNode) : Type 0 where
+  pub middle : GroupNode
+  pub moves : Reconfigures (ConfigLoses s fails) NoteUnsettles note middle
+  pub is : new ≡ note_doubt x middle
+
+-- the fuse ran out in a write
+pub record NotesCut (s : ℕ) (fails : Fails) (x : Write) (note new : GroupNode) : Type 0 where
+  pub middle : GroupNode
+  pub moves : Reconfigures (ConfigLoses s fails) NoteUnsettles note middle
+  pub is : new ≡ note_cut x middle
+
+-- ---- recoveries
+
+-- A group came up from its disks, with the configuration that was noted or one that may have been there beside it: its disks are held as good but
+-- for those on which a call failed, and each block has what it had and might have, or one of these values.
+pub record NotesBack (told : Type 0) (s : ℕ) (fails : Fails) (note new : GroupNode) : Type 0 where
+  pub found : List ℕ
+  pub one : (found ≡ note.config) ⊎ Contains note.begun found
+  pub old : Config
+  pub now : Config
+  pub was : config_of found ≡ Some old
+  pub is : config_of new.config ≡ Some now
+  pub loses : ConfigLoses s fails (taken_again old) now
+  pub begun : new.begun ≡ []
+  pub loose : new.loose ≡ false
+  pub size : (v : ℕ) → new.bytes.size v ≡ blocks_of now.volumes v
+  pub block : (v b : ℕ) → ((new.bytes.block v b ≡ note.bytes.block v b) × (new.others v b ≡ note.others v b)) ⊎ (new.others v b ≡ [])
+  pub may : told → (v b : ℕ) → b < note.bytes.size v → BlockMay note v b (new.bytes.block v b)
+  pub cut : new.cut ≡ None
+  pub missed : new.missed ≡ note.missed
+  pub perhaps : new.perhaps ≡ note.perhaps
+
+-- the same where what is kept of a write that was cut is still to be read
+pub record NotesUnread (told : Type 0) (s : ℕ) (fails : Fails) (note new : GroupNode) : Type 0 where
+  pub middle : GroupNode
+  pub back : NotesBack told s fails note middle
+  pub is : new ≡ record middle { cut = note.cut }

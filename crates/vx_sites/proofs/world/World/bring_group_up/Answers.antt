@@ -1,0 +1,14 @@
+-- `bring_group_up`: its result.
+use Rattle.std.proofs.Common.{refl, None}
+use Rattle.vx_history.specs.World.{Node}
+use Rattle.vx_history.specs.Steps.{group_up}
+use Rattle.vx_model.specs.declared.site.SiteState.TheVariants.{Up}
+use Rattle.vx_sites.specs.Shapes.{world_of}
+use Rattle.vx_sites.proofs.Worlds.{node_changed}
+use Rattle.vx_sites.proofs.world.World.bring_group_up.Goals as goal
+
+pub returns : goal.returns
+returns c =
+    node_changed (world_of c.args.self.now) c.args.self.now.nodes.items c.args.site c.index_mut-node.result.now (record c.index_mut-node.result.now { state = Up; halted = None })
+    (λ (n : Node). group_up n) refl refl c.requires c.index_mut-node.ensures.value
+    refl
