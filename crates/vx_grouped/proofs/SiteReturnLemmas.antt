@@ -198,6 +198,10 @@ early_goes m m' (Refused why) early (inr it) = elim it.1 [
 ]
 early_goes m m' OutOfMemory early (inr it) = absurd it.1
 
+-- the disks may be imported still
+pub still_can : (m m' : Meaning) (stop : Stop) → stops_early stop ≡ true → CanImport m → ImportStops m m' stop → CanImport m'
+still_can m m' stop early can stops = goes_can m m' (early_goes m m' stop early stops) can
+
 -- ---- a site that crashed
 
 module _ {R : Type 0} (g : Ghosts R) (n : Node) (note : GroupNode) (rack first : R) (down : GroupDown n note (g.meaning rack)) (revived : Alike (g.meaning rack) (g.meaning first)) where
