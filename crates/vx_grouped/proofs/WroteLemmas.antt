@@ -1,5 +1,5 @@
 -- Writes and reads of a site's group, by its note.
-use Rattle.std.proofs.Common.{refl, ◌≡◌, ℕ, true, false, List, IsTrue, arith, ◌≤◌}
+use Rattle.std.proofs.Common.{refl, ◌≡◌, ℕ, true, false, List, IsTrue, arith}
 use Rattle.std.specs.Prelude.{Ok, Err}
 use Rattle.vx_model.specs.Content.{Write}
 use Rattle.vx_model.specs.declared.no.No.{No}

@@ -60,10 +60,8 @@ impl<R: Rack> GroupSite<R> {
     {
         match self {
             GroupSite::Up(group) => group.is_agreed(),
-            GroupSite::Deported(_)
-            | GroupSite::Down(_)
-            | GroupSite::Marked(_)
-            | GroupSite::Gone => false,
+            GroupSite::Deported(_) | GroupSite::Down(_) | GroupSite::Marked(_) | GroupSite::Gone =>
+                false,
         }
     }
 
