@@ -1,5 +1,5 @@
 -- What is noted of a configuration is read back.
-use Rattle.std.proofs.Common.{◌≡◌, Ok, List, [], ◌++◌, arith, sym, append-nil}
+use Rattle.std.proofs.Common.{◌≡◌, Ok, [], arith, sym, append-nil}
 use Rattle.vx_config.specs.Configs.{HasSpelling, spelled_config}
 use Rattle.vx_config.specs.Table.{config, format_1}
 use Rattle.vx_config.specs.declared.config.Config.{Config}

@@ -10,10 +10,10 @@ use Rattle.vx_model.specs.declared.site.SiteState.TheVariants.{Up as IsUp}
 use Rattle.vx_disk.specs.Causes.{DeviceCause}
 use Rattle.vx_disk.specs.Counts.{Rose}
 use Rattle.vx_disk.specs.Racks.{Alike, Stopped}
-use Rattle.vx_disk.specs.Shelf.{Each, Goes, Image, Meaning, Nothing}
+use Rattle.vx_disk.specs.Shelf.{Goes, Meaning, Nothing}
 use Rattle.vx_disk.specs.declared.shelf.Shelf.{Ghosts}
 use Rattle.vx_history.specs.Groups.{BlockMay, GroupNode}
-use Rattle.vx_history.specs.Steps.{burned, group_up}
+use Rattle.vx_history.specs.Steps.{burned}
 use Rattle.vx_history.specs.World.{Fuse, Node, NoFuse, FuseSet, FuseLit}
 use Rattle.vx_config.specs.Checks.{blocks_of}
 use Rattle.vx_config.specs.declared.config.Config.{Config}
@@ -26,13 +26,12 @@ use Rattle.vx_copies.specs.Looking.{on_shelf}
 use Rattle.vx_volume.specs.Plexes.{Inside}
 use Rattle.vx_kept.proofs.Low.{found_same}
 use Rattle.vx_group.specs.Imports.{ImportStops, StopsEarly}
-use Rattle.vx_group.specs.Resumes.{CanImport, CanImportBehind}
+use Rattle.vx_group.specs.Resumes.{CanImport}
 use Rattle.vx_group.proofs.AgainLemmas.{goes_can}
 use Rattle.vx_group.specs.declared.group.Group.{Group}
 use Rattle.vx_group.specs.declared.group_core.GroupCore.{GroupCore}
 use Rattle.vx_watched.specs.Since.{CalledSince}
 use Rattle.vx_grouped.specs.Away.{AwayLies}
-use Rattle.vx_grouped.specs.GroupNotes.{IsGroupAt}
 use Rattle.vx_grouped.specs.GroupSites.{GroupAway, GroupDown, GroupUp, NotesGroup}
 use Rattle.vx_grouped.specs.Returns.{GroupReturns, HasNoMore, ImportLeft, note_imported, note_loose}
 use Rattle.vx_grouped.specs.SetFuses.{HasFuse}
@@ -197,6 +196,10 @@ early_goes m m' (Refused why) early (inr it) = elim it.1 [
   | inr full ↦ absurd (not_limit why early full.0)
 ]
 early_goes m m' OutOfMemory early (inr it) = absurd it.1
+
+-- the disks may be imported still
+pub still_can : (m m' : Meaning) (stop : Stop) → stops_early stop ≡ true → CanImport m → ImportStops m m' stop → CanImport m'
+still_can m m' stop early can stops = goes_can m m' (early_goes m m' stop early stops) can
 
 -- ---- a site that crashed
 

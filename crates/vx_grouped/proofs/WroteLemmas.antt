@@ -1,26 +1,29 @@
 -- Writes and reads of a site's group, by its note.
-use Rattle.std.proofs.Common.{◌≡◌, ℕ, true, false, List, IsTrue}
+use Rattle.std.proofs.Common.{refl, ◌≡◌, ℕ, true, false, List, IsTrue, arith}
 use Rattle.std.specs.Prelude.{Ok, Err}
 use Rattle.vx_model.specs.Content.{Write}
 use Rattle.vx_model.specs.declared.no.No.{No}
 use Rattle.vx_model.specs.declared.no.No.TheVariants.{Device, Down as IsOff}
 use Rattle.vx_model.specs.declared.site.SiteState.TheVariants.{Down as IsDown}
 use Rattle.vx_disk.specs.Causes.{DeviceCause}
-use Rattle.vx_disk.specs.Racks.{Stopped}
+use Rattle.vx_disk.specs.Racks.{IsRack, Stopped}
 use Rattle.vx_disk.specs.Shelf.{Meaning}
 use Rattle.vx_disk.specs.declared.shelf.Shelf.{Ghosts}
 use Rattle.vx_history.specs.Groups.{GroupNode, note_cut, note_doubt, note_write}
 use Rattle.vx_history.specs.Steps.{burned}
 use Rattle.vx_history.specs.World.{Node}
+use Rattle.vx_group.specs.Loses.{LosesPlexes}
 use Rattle.vx_group.specs.declared.group.Group.{Group}
+use Rattle.vx_group.proofs.LoseLemmas.{loses_same}
 use Rattle.vx_watched.specs.Since.{CalledSince}
 use Rattle.vx_grouped.specs.Away.{IsAwayAt}
 use Rattle.vx_grouped.specs.Ends.{WriteLeaves, plain_write}
-use Rattle.vx_grouped.specs.GroupNotes.{GroupLies, IsGroupAt, note_done, note_refused}
+use Rattle.vx_grouped.specs.GroupNotes.{GroupLies, IsGroupAt, note_done, note_refused, noted_config}
 use Rattle.vx_grouped.specs.GroupSites.{GroupUp}
-use Rattle.vx_grouped.specs.SiteEnds.{PlainRead, PlainWrote, answers_down}
+use Rattle.vx_grouped.specs.SiteEnds.{ConfigGoes, PlainRead, PlainWrote, answers_down}
 use Rattle.vx_grouped.specs.Watches.{PlainReads, PlainWrites}
 use Rattle.vx_grouped.specs.declared.group_site.GroupSite.TheVariants.{Up, Down}
+use Rattle.vx_grouped.proofs.WriteLemmas.{both_lose}
 use Rattle.vx_grouped.proofs.SettleLemmas.{done_settles, fell_fused, fuse_burned, refused_unsettles}
 use Rattle.vx_grouped.proofs.SiteLemmas.{down_with, up_burned, up_with}
 
@@ -34,43 +37,56 @@ module _ {R : Type 0} {g : Ghosts R} (n : Node) (note : GroupNode) (v b : ℕ) (
   abbrev own : Write
   own = plain_write v b bytes
 
+  -- the configuration that is noted behind a call, whatever crashed since
+  goes : (next : GroupNode) → next.config ≡ noted_config new.core.inner.config → (m : Meaning) → LosesPlexes group.core.inner.config new.core.inner.config (g.meaning group.shelf) m → ConfigGoes note next (g.meaning group.shelf) m
+  goes next is m loses = record { was = group.core.inner.config; now = new.core.inner.config; noted = up.at.lies.config; noted_now = is; loses = loses }
+
   -- a write that is done
   pub wrote_done : PlainWrites v b bytes group.core (g.meaning group.shelf) new.core (g.meaning new.shelf) (Ok tt) → PlainWrote n note own (Up group) (Up new) (Ok tt)
   wrote_done it = (
     note_done new.core.inner note,
     done_settles new.core.inner note (λ tight none. it.trust (up.at.lies.committed tight none)),
     up_with n note (note_write own (note_done new.core.inner note)) new.core (g.meaning new.shelf) up.noted (fuse_burned n.fuse (g.meaning group.shelf) (g.meaning new.shelf) since.unarmed up.fuse) (it.leaves n note up.at),
+    goes (note_done new.core.inner note) refl (g.meaning new.shelf) it.loses,
   )
 
-  up_by : (no : No) → answers_down no ≡ false → WriteLeaves {T = Unit {0}} n note own new.core (g.meaning new.shelf) (Err no) → DeviceCause (g.meaning group.shelf) (g.meaning new.shelf) no → PlainWrote n note own (Up group) (Up new) (Err no)
-  up_by (Device disk) off leaves cause = (
+  up_by : (no : No) → answers_down no ≡ false → WriteLeaves {T = Unit {0}} n note own new.core (g.meaning new.shelf) (Err no) → DeviceCause (g.meaning group.shelf) (g.meaning new.shelf) no
+      → LosesPlexes group.core.inner.config new.core.inner.config (g.meaning group.shelf) (g.meaning new.shelf) → PlainWrote n note own (Up group) (Up new) (Err no)
+  up_by (Device disk) off leaves cause loses = (
     note_refused leaves.0 new.core.inner note,
     refused_unsettles new.core.inner note leaves.0,
     up_with n note (note_doubt own (note_refused leaves.0 new.core.inner note)) new.core (g.meaning new.shelf) up.noted (fuse_burned n.fuse (g.meaning group.shelf) (g.meaning new.shelf) since.unarmed up.fuse) leaves.1,
     cause,
+    goes (note_refused leaves.0 new.core.inner note) refl (g.meaning new.shelf) loses,
   )
-  up_by IsOff off leaves cause = cc
-  up_by other off leaves cause = absurd leaves
+  up_by IsOff off leaves cause loses = cc
+  up_by other off leaves cause loses = absurd leaves
 
   -- one that failed, over disks that are up
   pub wrote_up : (no : No) → answers_down no ≡ false → PlainWrites v b bytes group.core (g.meaning group.shelf) new.core (g.meaning new.shelf) (Err no) → PlainWrote n note own (Up group) (Up new) (Err no)
-  wrote_up why off it = up_by why off (it.leaves n note up.at) it.cause
+  wrote_up why off it = up_by why off (it.leaves n note up.at) it.cause it.loses
 
   module _ (rack : R) (stopped : Stopped (g.meaning new.shelf) (g.meaning rack))
       (away : (k : Node) (next : GroupNode) → GroupLies k next new.core (g.meaning new.shelf) → IsAwayAt (record k { state = IsDown }) next (g.meaning rack)) where
-    cut_by : (no : No) → answers_down no ≡ true → WriteLeaves {T = Unit {0}} n note own new.core (g.meaning new.shelf) (Err no) → PlainWrote n note own (Up group) (Down rack) (Err no)
-    cut_by (Device disk) off leaves = cc
-    cut_by IsOff off leaves = (
+    cut_by : (no : No) → answers_down no ≡ true → WriteLeaves {T = Unit {0}} n note own new.core (g.meaning new.shelf) (Err no) → LosesPlexes group.core.inner.config new.core.inner.config (g.meaning group.shelf) (g.meaning rack)
+        → PlainWrote n note own (Up group) (Down rack) (Err no)
+    cut_by (Device disk) off leaves loses = cc
+    cut_by IsOff off leaves loses = (
       note_refused leaves.0 new.core.inner note,
       refused_unsettles new.core.inner note leaves.0,
       down_with n note (note_cut own (note_refused leaves.0 new.core.inner note)) (g.meaning rack) up.noted (record { down = stopped.down; unarmed = stopped.unarmed }) (away n (note_cut own (note_refused leaves.0 new.core.inner note)) leaves.1.lies),
       fell_fused n.fuse (g.meaning group.shelf) (g.meaning new.shelf) up.fuse up.at.up since.safe leaves.1.down,
+      goes (note_refused leaves.0 new.core.inner note) refl (g.meaning rack) loses,
     )
-    cut_by other off leaves = cc
+    cut_by other off leaves loses = cc
 
     -- one in which the fuse ran out
-    pub wrote_cut : (no : No) → answers_down no ≡ true → PlainWrites v b bytes group.core (g.meaning group.shelf) new.core (g.meaning new.shelf) (Err no) → PlainWrote n note own (Up group) (Down rack) (Err no)
-    wrote_cut why off it = cut_by why off (it.leaves n note up.at)
+    pub wrote_cut : (no : No) → answers_down no ≡ true → PlainWrites v b bytes group.core (g.meaning group.shelf) new.core (g.meaning new.shelf) (Err no)
+        → IsRack (g.meaning group.shelf) → IsRack (g.meaning new.shelf) → IsRack (g.meaning rack) → PlainWrote n note own (Up group) (Down rack) (Err no)
+    wrote_cut why off it one two three =
+        cut_by why off (it.leaves n note up.at)
+        (both_lose (g.meaning group.shelf) (g.meaning new.shelf) (g.meaning rack) one two three since.counts (λ d. let same = stopped.counts.disk_faults d in omega (arith, same)) group.core.inner.config new.core.inner.config new.core.inner.config
+        it.loses (loses_same new.core.inner.config (g.meaning new.shelf) (g.meaning rack)))
 
   -- ---- reads
 

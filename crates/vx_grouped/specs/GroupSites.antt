@@ -1,5 +1,5 @@
 -- What the disks of a site with a group of disks, and no replicated volume group, stand for.
-use Rattle.std.specs.Prelude.{◌≡◌, ℕ, ◌+◌, ◌/◌, ◌%◌, ◌<◌, ◌≤◌, [], Option, Some, None, IsTrue, IsFalse}
+use Rattle.std.specs.Prelude.{◌≡◌, ℕ, ◌+◌, ◌/◌, ◌%◌, ◌<◌, ◌≤◌, [], Bool, false, Option, Some, None, IsTrue, IsFalse}
 use Rattle.vx_model.specs.declared.site.Role.TheVariants.{Primary}
 use Rattle.vx_model.specs.declared.site.SiteState.TheVariants.{Bare}
 use Rattle.vx_disk.specs.Shelf.{Meaning}
@@ -95,6 +95,11 @@ module _ {R : Type 0} {g : Ghosts R} where
   abbrev pub site_config : GroupSite R g → Option Config
   site_config (Up group) = Some group.core.inner.config
   site_config other = None
+
+  -- whether imports agree of a group that is up
+  abbrev pub site_agrees : GroupSite R g → Bool
+  site_agrees (Up group) = group.core.inner.agreed
+  site_agrees other = false
 
   -- the group is up
   abbrev pub UpNoted : Node → GroupNode → GroupSite R g → Type 0

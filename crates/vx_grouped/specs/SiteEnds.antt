@@ -9,14 +9,18 @@ use Rattle.vx_disk.specs.Causes.{OnDisks}
 use Rattle.vx_disk.specs.Counts.{Rose}
 use Rattle.vx_disk.specs.Disks.{Crashed}
 use Rattle.vx_disk.specs.Racks.{Stopped}
+use Rattle.vx_disk.specs.Shelf.{Meaning}
 use Rattle.vx_disk.specs.declared.shelf.Shelf.{Ghosts}
 use Rattle.vx_history.specs.Groups.{GroupNode, NoteSettles, NoteUnsettles, note_cut, note_doubt, note_write}
 use Rattle.vx_history.specs.Steps.{burned, crashed}
 use Rattle.vx_history.specs.Stops.{IsFused}
 use Rattle.vx_history.specs.World.{Node}
+use Rattle.vx_config.specs.declared.config.Config.{Config}
 use Rattle.vx_volume.specs.Plexes.{active}
 use Rattle.vx_group.specs.Attaches.{att_refusal, copied_regions}
 use Rattle.vx_group.specs.Dets.{det_refusal}
+use Rattle.vx_group.specs.Loses.{LosesPlexes}
+use Rattle.vx_grouped.specs.GroupNotes.{noted_config}
 use Rattle.vx_grouped.specs.GroupSites.{AwayNoted, CutNoted, DownNoted, GroupSiteStands, UpNoted, deported_with, site_disks, with_note}
 use Rattle.vx_grouped.specs.Plain.{ReadsPlain}
 use Rattle.vx_grouped.specs.declared.group_site.GroupSite.{GroupSite}
@@ -35,6 +39,15 @@ abbrev pub stops_down : Stop → Bool
 stops_down (Refused IsOff) = true
 stops_down other = false
 
+-- The configuration that is noted behind a call on these disks comes of the one before so: plexes were detached of which a call failed, and disks are
+-- held as failed of which one failed.
+pub record ConfigGoes (note next : GroupNode) (old new : Meaning) : Type 0 where
+  pub was : Config
+  pub now : Config
+  pub noted : note.config ≡ noted_config was
+  pub noted_now : next.config ≡ noted_config now
+  pub loses : LosesPlexes was now old new
+
 module _ {R : Type 0} {g : Ghosts R} where
   -- whatever the site is noted as, it still is
   pub record StaysAlike (old new : GroupSite R g) : Type 0 where
@@ -50,10 +63,12 @@ module _ {R : Type 0} {g : Ghosts R} where
   -- A write to a volume: done, its blocks have what was written. Else a disk failed, and each of them has that or what it had; or the fuse ran
   -- out, and so it is behind the crash. No other refusal comes.
   abbrev pub PlainWrote : Node → GroupNode → Write → GroupSite R g → GroupSite R g → Result (Unit {0}) No → Type 0
-  PlainWrote n note x old new (Ok done) = (next : GroupNode) × NoteSettles note next × UpNoted (with_note (note_write x next) n) (note_write x next) new
+  PlainWrote n note x old new (Ok done) = (next : GroupNode) × NoteSettles note next × UpNoted (with_note (note_write x next) n) (note_write x next) new × ConfigGoes note next (site_disks old) (site_disks new)
   PlainWrote n note x old new (Err (Device disk)) =
       (next : GroupNode) × NoteUnsettles note next × UpNoted (with_note (note_doubt x next) n) (note_doubt x next) new × Rose ((site_disks old).disk_faults disk) ((site_disks new).disk_faults disk)
-  PlainWrote n note x old new (Err IsOff) = (next : GroupNode) × NoteUnsettles note next × DownNoted (crashed (with_note (note_cut x next) n) 0) (note_cut x next) new × IsFused n.fuse
+      × ConfigGoes note next (site_disks old) (site_disks new)
+  PlainWrote n note x old new (Err IsOff) =
+      (next : GroupNode) × NoteUnsettles note next × DownNoted (crashed (with_note (note_cut x next) n) 0) (note_cut x next) new × IsFused n.fuse × ConfigGoes note next (site_disks old) (site_disks new)
   PlainWrote n note x old new (Err other) = ⊥
 
   -- a read of a volume: of each block a value that it may have, or a disk failed

@@ -1,5 +1,5 @@
 // The disks of a site that has a group of disks, and no replicated volume group.
-ghost use Rattle.std.specs.Prelude.{◌≡◌, ◌≢◌, ◌<◌, ℕ, Some, option_copied};
+ghost use Rattle.std.specs.Prelude.{◌≡◌, ◌≢◌, ◌<◌, ℕ, Some, option_copied, true};
 ghost use Rattle.vx_disk.specs.Causes.{OnDisks, WithDisks};
 ghost use Rattle.vx_disk.specs.Disks.{Crashed, SameBlocks, Untouched};
 ghost use Rattle.vx_history.specs.Groups.{GroupNode};
@@ -26,8 +26,9 @@ pub enum GroupSite<R: Rack> {
 }
 
 impl<R: Rack> GroupSite<R> {
-    ghost use Rattle.vx_grouped.specs.GroupSites.{CutNoted, DownNoted, GroupSiteStands, UpNoted, site_config, site_disks};
+    ghost use Rattle.vx_grouped.specs.GroupSites.{CutNoted, DownNoted, GroupSiteStands, UpNoted, site_agrees, site_config, site_disks};
     ghost use Rattle.vx_grouped.specs.SiteEnds.{MayCrashSite, StaysAlike};
+    ghost use Rattle.vx_grouped.specs.SiteReturns.{ImportsAgree};
 
     /// How many disks it has.
     pub fn disks(&self) -> u32
@@ -50,6 +51,17 @@ impl<R: Rack> GroupSite<R> {
             GroupSite::Up(group) => Some(group.config()),
             GroupSite::Deported(_) | GroupSite::Down(_) | GroupSite::Marked(_) | GroupSite::Gone =>
                 None,
+        }
+    }
+
+    /// Whether imports of the disks of a group that is up agree, whatever a crash leaves of them.
+    pub fn is_agreed(&self) -> bool
+        ensures { result ≡ site_agrees self.now }
+    {
+        match self {
+            GroupSite::Up(group) => group.is_agreed(),
+            GroupSite::Deported(_) | GroupSite::Down(_) | GroupSite::Marked(_) | GroupSite::Gone =>
+                false,
         }
     }
 
@@ -83,6 +95,7 @@ impl<R: Rack> GroupSite<R> {
         ensures crashed { (n : Node) (note : GroupNode) → UpNoted n note self → DownNoted (crashed n 0) note result }
         ensures cut { (n : Node) (note : GroupNode) → CutNoted n note self → DownNoted (crashed n 0) note result }
         ensures asked { (n : Node) (note : GroupNode) → UpNoted n note self → OnDisks (site_disks self).disks (site_disks result).disks (Crashed (site_disks self).size pick) }
+        ensures can { site_agrees self ≡ true → ImportsAgree result }
         ensures stopped { MayCrashSite pick self result }
     {
         match self {

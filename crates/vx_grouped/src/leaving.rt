@@ -1,5 +1,5 @@
 // A group that leaves its site: it crashes, or is deported.
-ghost use Rattle.std.specs.Prelude.{◌-◌, ◌<◌, ◌≤◌, IfOk, IsTrue};
+ghost use Rattle.std.specs.Prelude.{◌≡◌, ◌-◌, ◌<◌, ◌≤◌, IfOk, IsTrue, true};
 ghost use Rattle.vx_config.specs.Table.{greatest};
 ghost use Rattle.vx_disk.specs.Causes.{OnDisks};
 ghost use Rattle.vx_disk.specs.Disks.{Crashed};
@@ -7,6 +7,7 @@ ghost use Rattle.vx_disk.specs.Racks.{Stopped};
 ghost use Rattle.vx_group.specs.Calls.{GroupDeported, IsFull};
 ghost use Rattle.vx_group.specs.Deports.{DeportStops};
 ghost use Rattle.vx_group.specs.Dets.{margin};
+ghost use Rattle.vx_group.specs.Resumes.{CanImport};
 ghost use Rattle.vx_grouped.specs.Away.{IsAwayAt};
 ghost use Rattle.vx_grouped.specs.Ends.{DeportLeaves};
 ghost use Rattle.vx_grouped.specs.GroupNotes.{GroupLies, IsGroupAt};
@@ -18,9 +19,10 @@ use vx_disk::{Rack, Shelf};
 use vx_group::{Group, crash_in};
 use vx_model::{No, Stop};
 
-/// Crashes the disks of a group, up or down, and hands them out.
+/// Crashes the disks of a group, up or down, and hands them out. Where imports agree, they may be imported.
 pub fn crash_group<R: Rack>(group: Group<R>, pick: u64) -> R
     ensures away { (n : Node) (note : GroupNode) → GroupLies n note group.core (R.meaning group.shelf) → IsAwayAt (record n { state = DownState }) note (R.meaning result) }
+    ensures can { group.core.inner.agreed ≡ true → CanImport (R.meaning result) }
     ensures stopped { Stopped (R.meaning group.shelf) (R.meaning result) }
     ensures disks { OnDisks (R.meaning group.shelf).disks (R.meaning result).disks (Crashed (R.meaning group.shelf).size pick) }
 {

@@ -56,7 +56,8 @@ fn import_watched<R: Rack>(alloc: Global, rack: R) -> Result<Group<R>, (R, Stop)
 // Ends the down state of the disks of a group that crashed, and imports it. Refused, they crash again.
 fn recover_site<R: Rack>(alloc: Global, rack: R) -> (GroupSite<R>, Result<(), Stop>)
     requires { CanImport (R.meaning rack) }
-    ensures { (n : Node) (note : GroupNode) → GroupDown n note (R.meaning rack) → SiteRecovers n note (GroupSite.Down rack) result.0 result.1 }
+    ensures recovered { (n : Node) (note : GroupNode) → GroupDown n note (R.meaning rack) → SiteRecovers n note (GroupSite.Down rack) result.0 result.1 }
+    ensures again { ImportsAgree result.0 }
 {
     if !rack.is_down() {
         return (GroupSite::Down(rack), Err(Stop::No(No::Role)));
@@ -87,7 +88,8 @@ fn is_early(stop: &Stop) -> bool
 // or they are down, as the fuse ran out.
 fn import_site<R: Rack>(alloc: Global, rack: R) -> (GroupSite<R>, Result<(), Stop>)
     requires { CanImport (R.meaning rack) }
-    ensures { (n : Node) (note : GroupNode) → GroupAway n note (R.meaning rack) → SiteImports n note (GroupSite.Deported rack) result.0 result.1 }
+    ensures imported { (n : Node) (note : GroupNode) → GroupAway n note (R.meaning rack) → SiteImports n note (GroupSite.Deported rack) result.0 result.1 }
+    ensures again { ImportsAgree result.0 }
 {
     if rack.is_down() {
         return (GroupSite::Deported(rack), Err(Stop::No(No::Role)));
@@ -117,6 +119,7 @@ impl<R: Rack> GroupSite<R> {
         requires can { ImportsAgree self }
         ensures recovered { (n : Node) (note : GroupNode) → DownNoted n note self → SiteRecovers n note self result.0 result.1 }
         ensures imported { (n : Node) (note : GroupNode) → AwayNoted n note self → SiteImports n note self result.0 result.1 }
+        ensures again { ImportsAgree result.0 }
     {
         match self {
             GroupSite::Down(rack) => recover_site(alloc, rack),

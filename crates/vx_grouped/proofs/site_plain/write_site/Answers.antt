@@ -8,9 +8,11 @@ use Rattle.vx_grouped.proofs.site_plain.write_site.Goals as goal
 
 pub returns-then-is_down_no-clause-wrote : goal.returns-then-is_down_no-clause-wrote
 returns-then-is_down_no-clause-wrote g c = λ n note up fits.
+    let is_rack = (g.met.R.Rack g.world.𝓛 g.world.𝓜 g.world.𝓡 ((λ s x. x), (λ x. x), (λ x. x), λ x. x)).rack in
     wrote_cut n note c.args.vol c.args.block c.args.bytes.now c.args.group c.write_watched-group.result.0 up c.write_watched-group.ensures.since c.crash_group.result c.crash_group.ensures.stopped c.crash_group.ensures.away c.in-Err.no
     (sym c.is_down_no.ensures ∙ c.if-is_down_no.true)
     (subst (λ r. PlainWrites c.args.vol c.args.block c.args.bytes.now c.args.group.core (g.R.Shelf.meaning c.args.group.shelf) c.write_watched-group.result.0.core (g.R.Shelf.meaning c.write_watched-group.result.0.shelf) r) c.in-Err.is c.write_watched-group.ensures.works)
+    (is_rack c.args.group.shelf) (is_rack c.write_watched-group.result.0.shelf) (is_rack c.crash_group.result)
 
 pub returns-then-is_down_no-clause-since : goal.returns-then-is_down_no-clause-since
 returns-then-is_down_no-clause-since g c =
