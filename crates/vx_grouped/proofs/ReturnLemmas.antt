@@ -283,7 +283,8 @@ module _ (n : Node) (note : GroupNode) (last : Config) (old : Meaning) (law : La
       });
       volumes = λ tells. let a = (extends_x can x opened up.readable up.image up.read up.is up.opens tells).volumes in let count = ap (λ (i : Inner). length i.config.volumes) is in let b = r.goes.units in omega (arith, a, b, count, x_long);
       sizes = λ tells v lt. ap (λ (i : Inner). blocks_of i.config.volumes v) is ∙ r.goes.size v ∙ blocks_x v ∙ (extends_x can x opened up.readable up.image up.read up.is up.opens tells).blocks v lt;
-      names = λ tells v lt. names_of core.config last v v (ap (λ (i : Inner). frame_at i.config v) is ∙ r.loses.frames v ∙ up.opens.alike.shape.frames v ∙ (extends_x can x opened up.readable up.image up.read up.is up.opens tells).frames v lt);
+      frames = λ tells v lt. ap (λ (i : Inner). frame_at i.config v) is ∙ r.loses.frames v ∙ up.opens.alike.shape.frames v ∙ (extends_x can x opened up.readable up.image up.read up.is up.opens tells).frames v lt;
+      names = λ tells v lt. names_of group.inner.config last v v (ap (λ (i : Inner). frame_at i.config v) is ∙ r.loses.frames v ∙ up.opens.alike.shape.frames v ∙ (extends_x can x opened up.readable up.image up.read up.is up.opens tells).frames v lt);
       may = λ tells v b inside on. may_by tells v b (cases_lt v (length opened.volumes)) (stopped x v) refl inside on;
     }
 

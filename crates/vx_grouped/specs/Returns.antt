@@ -10,7 +10,7 @@ use Rattle.vx_config.specs.declared.config.Config.{Config}
 use Rattle.vx_copyfmt.specs.Imports.{Found}
 use Rattle.vx_volume.specs.Plexes.{Inside}
 use Rattle.vx_kept.specs.Groups.{found}
-use Rattle.vx_kept.specs.Keeping.{volume_name}
+use Rattle.vx_kept.specs.Keeping.{frame_at, volume_name}
 use Rattle.vx_group.specs.Resumes.{CanImportBehind}
 use Rattle.vx_group.specs.declared.group_core.GroupCore.{GroupCore}
 use Rattle.vx_group.specs.declared.inner.Inner.{Inner}
@@ -36,6 +36,7 @@ pub record GroupReturns (n : Node) (note : GroupNode) (last : Config) (old : Mea
   pub at : IsGroupAt (record n { state = IsUp }) (note_imported core.inner renewed value note) core m
   pub volumes : IsTrue old.tells → length last.volumes ≤ length core.inner.config.volumes
   pub sizes : IsTrue old.tells → (v : ℕ) → v < length last.volumes → blocks_of core.inner.config.volumes v ≡ blocks_of last.volumes v
+  pub frames : IsTrue old.tells → (v : ℕ) → v < length last.volumes → frame_at core.inner.config v ≡ frame_at last v
   pub names : IsTrue old.tells → (v : ℕ) → v < length last.volumes → volume_name core.inner.config v ≡ volume_name last v
   pub may : IsTrue old.tells → (v b : ℕ) → Inside last v b → renewed v ≡ true → BlockMay note v b (value v b)
 
