@@ -22,3 +22,4 @@ pub mod SiteLemmas
 pub mod SiteReturnLemmas
 pub mod WriteLemmas
 pub mod WroteLemmas
+pub mod StateChangeLemmas

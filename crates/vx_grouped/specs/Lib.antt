@@ -13,3 +13,4 @@ pub mod SiteEnds
 pub mod SiteKeeps
 pub mod SiteReturns
 pub mod Watches
+pub mod StateChanges
