@@ -29,18 +29,23 @@ values_same f g same k zero = refl
 values_same {A} f g same k (suc n) =
     ap (λ (x : A). x ∷ values_from f (k + 1) n) (same k) ∙ ap (λ (xs : List A). g k ∷ xs) (values_same f g same (k + 1) n)
 
+-- a site that is over no group is seen as it is beside no group
+pub fact_apart : (w : World) (i : ℕ) → is_over_group (w.nodes i) ≡ false → fact_over w i ≡ linked_fact w i
+fact_apart w i none = ap (λ (b : Bool). if b then fact_of_group (w.nodes i) (note_at (w.nodes i)) else linked_fact w i) none
+
+-- and one over a group by what is noted of it
+pub fact_grouped : (w : World) (i : ℕ) → is_over_group (w.nodes i) ≡ true → fact_over w i ≡ fact_of_group (w.nodes i) (note_at (w.nodes i))
+fact_grouped w i over = ap (λ (b : Bool). if b then fact_of_group (w.nodes i) (note_at (w.nodes i)) else linked_fact w i) over
+
 module _ (w : World) (groups : HasNoGroups w) where
   -- no site is over a group
   no_group : (i : ℕ) → is_over_group (w.nodes i) ≡ false
   no_group i = ap (λ (o : Option GroupNode). is_some o && eqb (length (w.nodes i).volumes) 0) (groups.none i)
 
-  fact_same : (i : ℕ) → fact_over w i ≡ linked_fact w i
-  fact_same i = ap (λ (b : Bool). if b then fact_of_group (w.nodes i) (note_at (w.nodes i)) else linked_fact w i) (no_group i)
+  pub facts_same : facts_over w ≡ linked_facts w
+  facts_same = values_same (λ i. fact_over w i) (λ i. linked_fact w i) (λ i. fact_apart w i (no_group i)) 0 w.sites
 
-  facts_same : facts_over w ≡ linked_facts w
-  facts_same = values_same (λ i. fact_over w i) (λ i. linked_fact w i) fact_same 0 w.sites
-
-  refused_same : (files : Bool) (line : ScriptLine) → refused_over w files line ≡ refused_by w files line
+  pub refused_same : (files : Bool) (line : ScriptLine) → refused_over w files line ≡ refused_by w files line
   refused_same files (Deliver number) = refl
   refused_same files other = ap (λ (sites : List SiteFacts). line_refusal sites files other) facts_same
 
