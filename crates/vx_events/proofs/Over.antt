@@ -1,5 +1,5 @@
 -- In a world without groups of disks a line does what it does there; and a line that works on a group ends as events do.
-use Rattle.std.proofs.Common.{◌≡◌, ◌∙◌, ℕ, zero, suc, ◌+◌, Bool, true, false, List, [], ◌∷◌, length, refl, ap, sym, subst}
+use Rattle.std.proofs.Common.{◌≡◌, ◌∙◌, ℕ, zero, suc, ◌+◌, Bool, true, false, List, [], ◌∷◌, length, refl, ap, sym, subst, inl, inr}
 use Rattle.std.specs.Prelude.{◌&&◌, eqb, is_some, Option, Some, None, if◌then◌else◌}
 use Rattle.vx_model.specs.declared.no.No.{No}
 use Rattle.vx_history.specs.Doubts.{Doubted}
@@ -69,13 +69,14 @@ module _ (w : World) (groups : HasNoGroups w) where
 
 by_refusal : (o : Option No) (told : Type 0) (d : Doubted) (line : ScriptLine) (fails : Fails) (said : Said) (new : Doubted) → StepBy o told d line fails said new
     → OverBy o false told d line fails said new
-by_refusal None told d line fails said new step = step
+by_refusal None told d line fails said new step = inl step
 by_refusal (Some why) told d line fails said new step = step
 
-back_refusal : (o : Option No) (told : Type 0) (d : Doubted) (line : ScriptLine) (fails : Fails) (said : Said) (new : Doubted) → OverBy o false told d line fails said new
-    → StepBy o told d line fails said new
-back_refusal None told d line fails said new step = step
-back_refusal (Some why) told d line fails said new step = step
+back_refusal : (o : Option No) (told : Type 0) (d : Doubted) (line : ScriptLine) (fails : Fails) (said : Said) (new : Doubted) → told
+    → OverBy o false told d line fails said new → StepBy o told d line fails said new
+back_refusal None told d line fails said new tells (inl step) = step
+back_refusal None told d line fails said new tells (inr kept) = absurd (kept.untold tells)
+back_refusal (Some why) told d line fails said new tells step = step
 
 pub over_plain : (told : Type 0) (files : Bool) (d : Doubted) (line : ScriptLine) (fails : Fails) (said : Said) (new : Doubted) → HasNoGroups d.world → MakesNoGroup line
     → LineStep told files d line fails said new → StepOver told files d line fails said new
@@ -84,10 +85,10 @@ over_plain told files d line fails said new groups makes step =
     (subst (λ (b : Bool). OverBy (refused_by d.world files line) b told d line fails said new) (sym (not_for_group d.world groups line makes))
     (by_refusal (refused_by d.world files line) told d line fails said new step))
 
-pub plain_over : (told : Type 0) (files : Bool) (d : Doubted) (line : ScriptLine) (fails : Fails) (said : Said) (new : Doubted) → HasNoGroups d.world → MakesNoGroup line
-    → StepOver told files d line fails said new → LineStep told files d line fails said new
-plain_over told files d line fails said new groups makes step =
-    back_refusal (refused_by d.world files line) told d line fails said new
+pub plain_over : (told : Type 0) (files : Bool) (d : Doubted) (line : ScriptLine) (fails : Fails) (said : Said) (new : Doubted) → told → HasNoGroups d.world
+    → MakesNoGroup line → StepOver told files d line fails said new → LineStep told files d line fails said new
+plain_over told files d line fails said new tells groups makes step =
+    back_refusal (refused_by d.world files line) told d line fails said new tells
     (subst (λ (b : Bool). OverBy (refused_by d.world files line) b told d line fails said new) (not_for_group d.world groups line makes)
     (subst (λ (o : Option No). OverBy o (is_for_group d.world line) told d line fails said new) (refused_same d.world groups files line) step))
 
