@@ -5,6 +5,7 @@ pub mod BeginLemmas
 pub mod CalledLemmas
 pub mod CarryLemmas
 pub mod DeportedLemmas
+pub mod ImportFactLemmas
 pub mod KeepLemmas
 pub mod KeepingLemmas
 pub mod LeavingLemmas

@@ -4,6 +4,7 @@ pub mod Begins
 pub mod Ends
 pub mod GroupNotes
 pub mod GroupSites
+pub mod ImportFacts
 pub mod Keepings
 pub mod Plain
 pub mod Returns

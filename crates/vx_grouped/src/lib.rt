@@ -6,6 +6,7 @@
 
 mod beginning;
 mod group_site;
+mod idle;
 mod importing;
 mod keeping;
 pub mod laws;
@@ -23,6 +24,7 @@ mod watching;
 
 pub use beginning::begin_group;
 pub use group_site::GroupSite;
+pub use idle::Idle;
 pub use importing::import_group;
 pub use keeping::kept_plain;
 pub use leaving::{crash_group, deport_group};
