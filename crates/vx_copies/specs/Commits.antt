@@ -143,10 +143,10 @@ pub record OneMarked (c d : Config) (old new : Meaning) (disk : ℕ) : Type 0 wh
 abbrev pub IsFew : ℕ → Config → Config → Type 0
 IsFew more c d = d.serial + good_count d.disks ≤ c.serial + more + good_count c.disks
 
--- how a try ends: as it began; or with one good disk less and a fault; or with the shelf down
+-- how a try ends: as it began; or with one good disk less and a fault, and the shelf up; or with the shelf down
 abbrev pub TryEnds : {T : Type 0} → Config → Config → Meaning → Meaning → Result T ShelfError → Type 0
 TryEnds c d old new (Ok x) = (d.disks ≡ c.disks) × AreTidy c d old new × CopiesStand c d old new
-TryEnds c d old new (Err (Fault disk)) = OneMarked c d old new disk × Remain c d old new
+TryEnds c d old new (Err (Fault disk)) = OneMarked c d old new disk × Remain c d old new × (IsTrue new.down → ⊥)
 TryEnds c d old new (Err IsDown) = IsTrue new.down
 
 -- a set of disks as its lowest member, and 8 where it has none

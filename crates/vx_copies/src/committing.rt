@@ -2,6 +2,7 @@
 ghost use Rattle.std.specs.Prelude.{◌≡◌, ◌⊎◌, ◌+◌, ◌*◌, ◌<◌, ◌≤◌, length, true, OnOk, IfErr, IfOk, IsTrue, IsFalse};
 ghost use Rattle.vx_config.specs.Configs.{CanSpell, subdisk_count};
 ghost use Rattle.vx_config.specs.Table.{greatest};
+ghost use Rattle.vx_copyio.specs.Putting.{KeepsUp};
 ghost use Rattle.vx_copyio.specs.Labelling.{AreLarge};
 ghost use Rattle.vx_copies.specs.Bodies.{is_wanted};
 ghost use Rattle.vx_copies.specs.Commits.{NamesFailed, NamesLast, TriesEnd, TryEnds, Underway, lowest_member};
@@ -35,6 +36,7 @@ fn try_next<S: Shelf>(
     ensures serial { config.new.serial ≡ config.old.serial + 1 }
     ensures underway { Underway good config.old config.new (S.meaning shelf.old) (S.meaning shelf.new) }
     ensures ends { TryEnds config.old config.new (S.meaning shelf.old) (S.meaning shelf.new) result }
+    ensures up { OnOk result (KeepsUp (S.meaning shelf.old) (S.meaning shelf.new)) }
     ensures calls { OnOk result (MakesCalls (4 * good_count config.new.disks) (S.meaning shelf.old) (S.meaning shelf.new)) }
 {
     config.serial += 1;
@@ -85,6 +87,7 @@ pub fn try_all<S: Shelf>(
     ensures wanted { is_wanted (S.meaning shelf.new).units (S.meaning shelf.new).size config.new ≡ true }
     ensures underway { Underway good config.old config.new (S.meaning shelf.old) (S.meaning shelf.new) }
     ensures ends { TriesEnd good config.old config.new (S.meaning shelf.old) (S.meaning shelf.new) result }
+    ensures up { OnOk result (KeepsUp (S.meaning shelf.old) (S.meaning shelf.new)) }
     ensures calls { OnOk result (config.new.serial ≡ config.old.serial + 1 → MakesCalls (4 * good_count config.new.disks) (S.meaning shelf.old) (S.meaning shelf.new)) }
     ensures named { IfOk result (NamesFailed config.old config.new (S.meaning shelf.old) (S.meaning shelf.new)) }
     ensures last { IfErr result (NamesLast (λ s. S.meaning s) good config.old config.new.serial shelf.old shelf.new) }

@@ -2,7 +2,7 @@
 ghost use Rattle.std.specs.Prelude.{◌≡◌, ◌*◌, ◌≤◌, false, length, true, OnOk, IfErr};
 ghost use Rattle.vx_config.specs.Configs.{CanSpell, subdisk_count};
 ghost use Rattle.vx_copyio.specs.Labelling.{AreLarge};
-ghost use Rattle.vx_copyio.specs.Putting.{IsMember, part_of};
+ghost use Rattle.vx_copyio.specs.Putting.{IsMember, KeepsUp, part_of};
 ghost use Rattle.vx_copies.specs.Answers.{good_set};
 ghost use Rattle.vx_copies.specs.Bodies.{body_bytes, is_wanted};
 ghost use Rattle.vx_copies.specs.Orders.{OrderedThis};
@@ -36,6 +36,7 @@ pub fn put_config<S: Shelf>(
     ensures first { IfErr result (GoodBefore good config.now (S.meaning shelf.old) (S.meaning shelf.new)) }
     ensures stops { IfErr result (TryStops (IsMember (bit_at (good_set config.now.disks)) (S.meaning shelf.old).units) config.now (S.meaning shelf.old) (S.meaning shelf.new)) }
     ensures order { OrderedThis (IsMember (part_of (good_set config.now.disks) good true) (S.meaning shelf.old).units) (IsMember (part_of (good_set config.now.disks) good false) (S.meaning shelf.old).units) config.now (S.meaning shelf.old) (S.meaning shelf.new) }
+    ensures up { OnOk result (KeepsUp (S.meaning shelf.old) (S.meaning shelf.new)) }
     ensures calls { OnOk result (MakesCalls (4 * good_count config.now.disks) (S.meaning shelf.old) (S.meaning shelf.new)) }
     ensures kept { length room.new ≡ length room.old }
 {

@@ -86,6 +86,10 @@ abbrev pub part_of : ℕ → ℕ → Bool → ℕ → Bool
 part_of set good true u = bit_at set u && bit_at good u
 part_of set good false u = bit_at set u && not (bit_at good u)
 
+-- where the shelf was up it is
+abbrev pub KeepsUp : Meaning → Meaning → Type 0
+KeepsUp old new = (IsTrue old.down → ⊥) → IsTrue new.down → ⊥
+
 -- a fault of this disk, or the shelf is down
 abbrev pub FailedOn : Meaning → Meaning → ℕ → ShelfError → Type 0
 FailedOn old new u (Fault disk) = Rose (old.faults u) (new.faults u) × Rose (old.disk_faults disk) (new.disk_faults disk) × (IsTrue new.down → ⊥)

@@ -3,7 +3,7 @@ ghost use Rattle.std.specs.Prelude.{◌≡◌, ◌*◌, ◌%◌, ◌≤◌, fals
 ghost use Rattle.vx_copyfmt.specs.Areas.{CanSpellArea};
 ghost use Rattle.vx_copyio.specs.Labelling.{AreLarge};
 ghost use Rattle.vx_copyio.specs.Orders.{Ordered};
-ghost use Rattle.vx_copyio.specs.Putting.{AllNew, Copied, CopyStops, GoodFirst, IsMember, part_of};
+ghost use Rattle.vx_copyio.specs.Putting.{AllNew, Copied, CopyStops, GoodFirst, IsMember, KeepsUp, part_of};
 ghost use Rattle.vx_disk.specs.Blocks.{bit_at};
 ghost use Rattle.vx_disk.specs.Burns.{MakesCalls};
 ghost use Rattle.vx_disk.specs.Disks.{count_below};
@@ -56,6 +56,7 @@ fn put_part<S: Shelf>(
     ensures copied { Copied (IsMember (part_of set good which) (S.meaning shelf.old).units) header.now body.now (S.meaning shelf.old) (S.meaning shelf.new) }
     ensures ok { OnOk result (AllNew (IsMember (part_of set good which) (S.meaning shelf.old).units) header.now body.now (S.meaning shelf.old) (S.meaning shelf.new)) }
     ensures stops { IfErr result (CopyStops (part_of set good which) (S.meaning shelf.old).units header.now body.now (S.meaning shelf.old) (S.meaning shelf.new)) }
+    ensures up { OnOk result (KeepsUp (S.meaning shelf.old) (S.meaning shelf.new)) }
     ensures calls { OnOk result (MakesCalls (4 * count_below (part_of set good which) (S.meaning shelf.old).units) (S.meaning shelf.old) (S.meaning shelf.new)) }
 {
     for disk in 0..shelf.units() {
@@ -89,6 +90,7 @@ pub fn put_copies<S: Shelf>(
     ensures first { IfErr result (GoodFirst set good (S.meaning shelf.old).units header.now body.now (S.meaning shelf.old) (S.meaning shelf.new)) }
     ensures stops { IfErr result (CopyStops (bit_at set) (S.meaning shelf.old).units header.now body.now (S.meaning shelf.old) (S.meaning shelf.new)) }
     ensures order { Ordered (IsMember (part_of set good true) (S.meaning shelf.old).units) (IsMember (part_of set good false) (S.meaning shelf.old).units) header.now body.now (S.meaning shelf.old) (S.meaning shelf.new) }
+    ensures up { OnOk result (KeepsUp (S.meaning shelf.old) (S.meaning shelf.new)) }
     ensures calls { OnOk result (MakesCalls (4 * count_below (bit_at set) (S.meaning shelf.old).units) (S.meaning shelf.old) (S.meaning shelf.new)) }
 {
     match put_part(shelf, set, good, true, header, body) {

@@ -63,7 +63,7 @@ module _ (core : Inner) (next : Config) (m : Meaning) (stands : InnerStands core
   sound_more = subst (λ (x : Config). is_sound x ≡ true) is_next.is is_next.sound
 
   pub next_follows : MayBeNext core.config next
-  next_follows = subst (MayBeNext core.config) (sym is_next.is) (longer_follows core.config is_next.volume stands.on is_next.on sound_more)
+  next_follows = subst (MayBeNext core.config) (sym is_next.is) (longer_follows core.config is_next.volume stands.on is_next.on sound_more is_next.lost)
 
   pub next_some : SomeActive next n
   next_some = subst (λ (x : Config). SomeActive x n) (sym is_next.is) (last_some core.config is_next.volume stands.on is_next.on sound_more)

@@ -34,6 +34,8 @@ use Rattle.vx_group.proofs.DetLemmas.{bit_other, no_flags}
 use Rattle.vx_group.proofs.DetachLemmas.{zero_bit}
 use Rattle.vx_group.proofs.OpeningLemmas.{Present, closed, open_Stands, open_on, open_others, open_shape, open_sound, open_wider, opened, present}
 use Rattle.vx_group.proofs.Standing.{apart_of_core, kept_of, low_Stands, sound_of}
+use Rattle.vx_group.proofs.LoseLemmas.{none_parts, then_parts}
+use Rattle.vx_group.specs.Loses.{SameParts}
 
 -- ---- two in a row
 
@@ -54,17 +56,19 @@ then_attaches v p f c d e m0 m1 m2 one two = record {
       (λ u b x. ⊎_elim (λ put. put) (λ put. on_back c.config d.config v p f one.shape u b x put));
   shape = then_shape e.config d.config c.config two.shape one.shape;
   others = λ w q apart. two.others w q apart ∙ one.others w q apart;
+  parts = then_parts c.config d.config e.config one.parts two.parts;
   faults = two.faults ∙ one.faults;
   unsure = two.unsure ∙ one.unsure;
 }
 
 -- a commit that changes no other plex
-pub narrows_attaches : (v p : ℕ) (f : Option Missed) (c d : Inner) (m m' : Meaning) → Lawful m' → InnerStands c m → Narrows c d m m' → ((w q : ℕ) → (w ≡ v → q ≡ p → ⊥) → active d.config w q ≡ active c.config w q) → Attaches v p f c d m m'
-narrows_attaches v p f c d m m' after stands narrows others = record {
+pub narrows_attaches : (v p : ℕ) (f : Option Missed) (c d : Inner) (m m' : Meaning) → Lawful m' → InnerStands c m → Narrows c d m m' → SameParts c.config d.config → ((w q : ℕ) → (w ≡ v → q ≡ p → ⊥) → active d.config w q ≡ active c.config w q) → Attaches v p f c d m m'
+narrows_attaches v p f c d m m' after stands narrows parts others = record {
   goes = narrows_Goes c d m m' after stands narrows (volume_faults c.faults) (volume_faults d.faults) (λ u. let same = ap (λ (f : List ℕ). volume_faults f u) narrows.faults in omega (arith, same));
   acts = any_acts Nothing (OnMissed c.config v p f) (Sees c.config (Member c.good m) m) m m' narrows.acts (λ u k x none. absurd none);
   shape = narrows.shape;
   others = others;
+  parts = parts;
   faults = narrows.faults;
   unsure = narrows.unsure;
 }
@@ -114,7 +118,7 @@ module _ (core : Inner) (v p : ℕ) (f : Option Missed) (there : Present core.co
   plex_acts = any_acts (OnMissed d v p f) (OnMissed c v p f) (Sees c (Member core.good m) m) m m' low (λ u b x put. on_back c d v p f shape u b x put)
 
   pub missed_attaches : Attaches v p f core core m m'
-  missed_attaches = record { goes = narrow_goes; acts = plex_acts; shape = same_shape c; others = λ w q apart. refl; faults = refl; unsure = refl }
+  missed_attaches = record { goes = narrow_goes; acts = plex_acts; shape = same_shape c; others = λ w q apart. refl; parts = none_parts c; faults = refl; unsure = refl }
 
   -- ---- done
 
@@ -187,7 +191,7 @@ module _ (core : Inner) (v p : ℕ) (f : Option Missed) (there : Present core.co
     }
 
     pub copied_attaches : Attaches v p f core (opened v p core) m m'
-    copied_attaches = record { goes = wide_goes; acts = plex_acts; shape = shape; others = λ w q apart. open_others c v p there w q apart; faults = refl; unsure = refl }
+    copied_attaches = record { goes = wide_goes; acts = plex_acts; shape = shape; others = λ w q apart. open_others c v p there w q apart; parts = record { site = refl; rvg = refl; count = refl }; faults = refl; unsure = refl }
 
 -- ---- why
 

@@ -25,7 +25,7 @@ use Rattle.vx_group.specs.Holding.{GroupStands, config_by, volumes_by, wide}
 use Rattle.vx_group.specs.Makes.{AreZero, StayAsWere}
 use Rattle.vx_group.specs.Moves.{Narrows}
 use Rattle.vx_group.specs.Nexts.{Added, IsNextConfig}
-use Rattle.vx_group.specs.Quiesces.{GivenBack, NoVolume, QuiescesBy, SameParts}
+use Rattle.vx_group.specs.Quiesces.{GivenBack, NoVolume, QuiescesBy}
 use Rattle.vx_group.specs.Stands.{InnerStands, volume_faults, inner_meaning}
 use Rattle.vx_group.specs.declared.group_core.GroupCore.{GroupCore}
 use Rattle.vx_group.specs.declared.group_core.Held.{Held}
@@ -38,6 +38,7 @@ use Rattle.vx_group.proofs.MakeLemmas.{config_is, volumes_Goes}
 use Rattle.vx_group.proofs.QuiesceLemmas.{both_parts, or_failed, same_parts}
 use Rattle.vx_group.proofs.Standing.{apart_of_core}
 use Rattle.vx_group.proofs.ThroughLemmas.{released_active, released_goes, released_shape}
+use Rattle.vx_group.specs.Loses.{SameParts}
 
 -- ---- a volume that is made
 
@@ -96,6 +97,7 @@ behind_next m m1 c mid next last volumes parts failing is_next is = subst (λ (x
   few = is_next.few;
   small = is_next.small;
   on = is_next.on;
+  lost = is_next.lost;
 })
 
 pub behind_added : (c mid d : Inner) (next last : Config) (m2 : Meaning) → mid.config.volumes ≡ c.config.volumes → last.volumes ≡ next.volumes → Added mid d last m2 → Added c d next m2
@@ -137,14 +139,14 @@ module _ (c0 mid : GroupCore) (m m1 : Meaning) (stands : GroupStands c0 m) (narr
       on = λ v p is. sym (released_active c0 mid m m1 stands narrows volumes v p) ∙ is;
       volumes = inl volumes;
       unsure = inl narrows.unsure;
-      loses = loses_none c0.inner.config mid.inner.config m m1 volumes failing;
+      loses = loses_none c0.inner.config mid.inner.config m m1 volumes failing parts;
       sure = unmarked;
       faults = narrows.faults;
       flushed = λ v p none. absurd none;
     };
   }
 
-  module _ (none : mid.held ≡ None) (up : IsTrue m1.down → ⊥) (d : Inner) (m2 : Meaning) (P Q : ℕ → Type 0) (part : (v : ℕ) → Q v → P v) (two : QuiescesBy mid.inner.config mid.inner d P m1 m2) where
+  module _ (parts : SameParts c0.inner.config mid.inner.config) (none : mid.held ≡ None) (up : IsTrue m1.down → ⊥) (d : Inner) (m2 : Meaning) (P Q : ℕ → Type 0) (part : (v : ℕ) → Q v → P v) (two : QuiescesBy mid.inner.config mid.inner d P m1 m2) where
     to_wide : SameShape mid.inner.config (wide c0).config
     to_wide = subst (λ (i : Inner). SameShape i.config (wide c0).config) (wide_none mid none) narrows.shape
 
@@ -178,7 +180,7 @@ module _ (c0 mid : GroupCore) (m m1 : Meaning) (stands : GroupStands c0 m) (narr
       on = λ v p is. sym (released_active c0 mid m m1 stands narrows volumes v p) ∙ two.on v p is;
       volumes = or_failed c0.inner.config.volumes mid.inner.config.volumes d.config.volumes m m1 m2 narrows.acts.disk_faults two.acts.disk_faults (inl volumes) two.volumes;
       unsure = or_failed c0.inner.unsure mid.inner.unsure d.unsure m m1 m2 narrows.acts.disk_faults two.acts.disk_faults (inl narrows.unsure) two.unsure;
-      loses = then_loses m m1 m2 narrows.acts.faults two.acts.faults c0.inner.config mid.inner.config d.config (loses_none c0.inner.config mid.inner.config m m1 volumes failing) two.loses;
+      loses = then_loses m m1 m2 narrows.acts.faults two.acts.faults c0.inner.config mid.inner.config d.config (loses_none c0.inner.config mid.inner.config m m1 volumes failing parts) two.loses;
       sure = λ v is. unmarked v (two.sure v is);
       faults = two.faults ∙ narrows.faults;
       flushed = λ v p it sure is_on. from_second v p (two.flushed v p (part v it) sure is_on) (sym (released_active c0 mid m m1 stands narrows volumes v p) ∙ two.on v p is_on);
@@ -188,7 +190,7 @@ module _ (c0 mid : GroupCore) (m m1 : Meaning) (stands : GroupStands c0 m) (narr
     pub behind_deported : Deported mid.inner m1 m2 → DeportedBy (wide c0).config c0.inner m m2
     behind_deported it = record {
       behind = it.behind;
-      quiesces = behind_quiesces none up it.behind m2 (IsVolumeOf mid.inner) (IsVolumeOf c0.inner) (λ v lt. let count : length mid.inner.config.volumes ≡ length c0.inner.config.volumes = ap length volumes in omega (arith, lt, count)) it.quiesces;
+      quiesces = behind_quiesces parts none up it.behind m2 (IsVolumeOf mid.inner) (IsVolumeOf c0.inner) (λ v lt. let count : length mid.inner.config.volumes ≡ length c0.inner.config.volumes = ap length volumes in omega (arith, lt, count)) it.quiesces;
       config = it.config;
       finds = it.finds;
       reads = it.reads;
@@ -204,7 +206,7 @@ module _ (c0 mid : GroupCore) (m m1 : Meaning) (stands : GroupStands c0 m) (narr
     behind_back it = record {
       stands = none_Stands (record { inner = d; held = mid.held }) m2 none it.stands;
       parts = both_parts c0.inner mid.inner d parts it.parts;
-      quiesces = behind_quiesces none up d m2 NoVolume NoVolume (λ v no_volume. no_volume) it.quiesces;
+      quiesces = behind_quiesces parts none up d m2 NoVolume NoVolume (λ v no_volume. no_volume) it.quiesces;
     }
 
 -- to the volumes it is no step

@@ -27,6 +27,7 @@ use Rattle.vx_group.specs.Loses.{LosesPlexes}
 use Rattle.vx_group.proofs.LoseLemmas.{loses_same, then_loses}
 use Rattle.vx_group.proofs.Standing.{apart_of_core, fit_of, kept_of, sound_of}
 use Rattle.vx_group.proofs.WriteLemmas.{flushed_Stands, run_inside, wrote_Stands}
+use Rattle.vx_kept.proofs.Chosen.{extends_shape}
 
 -- ---- what is said of each image may be less
 
@@ -63,13 +64,7 @@ sees_wider c d G m m' shape on units size i sees =
 
     kin_wider : (x : Config) → Kin d x → Kin c x
     kin_wider x kin = record {
-      shape = record {
-        volumes = let le = kin.shape.volumes in let same = shape.volumes in omega (arith, le, same);
-        blocks = λ w lt. kin.shape.blocks w (there w lt) ∙ shape.blocks w;
-        place = λ w p b lt. kin.shape.place w p b (there w lt) ∙ shape.place w p b;
-        logs = λ w log lt. kin.shape.logs w log (there w lt) ∙ shape.logs w log;
-        trusted = λ w log lt is. shape.trusted w log (kin.shape.trusted w log (there w lt) is);
-      };
+      shape = extends_shape x d c kin.shape shape;
       on = λ w p lt is. on w p (kin.on w p (there w lt) is);
       some = λ w lt. kin.some w (there w lt);
     }

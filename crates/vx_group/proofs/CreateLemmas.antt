@@ -138,5 +138,7 @@ new_Stands site disks core old new large can wanted taken on good trusts trust =
       (subst (λ (g : ℕ). Kept core.config (Member g new) new) (sym good) taken.kept) (λ is. taken.tidy) (subst (λ (g : ℕ). Trusts core.committed core.agreed g new) (sym good) trusts);
   site_is = taken.grown.site;
   volumes = taken.grown.volumes;
+  rvg = taken.grown.rvg;
+  newest = record { finds = taken.finds };
   trust = trust;
 }

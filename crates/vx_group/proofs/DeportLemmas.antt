@@ -28,7 +28,7 @@ use Rattle.vx_kept.specs.Trusts.{Trusts}
 use Rattle.vx_group.specs.Blames.{Blames, StopsByDevice}
 use Rattle.vx_group.specs.Deports.{CleanCommitted, Closes, CommitCloses, CommitMissed, Deported, IsVolumeOf}
 use Rattle.vx_group.specs.Moves.{Narrows}
-use Rattle.vx_group.specs.Quiesces.{GivenBack, NoVolume, Quiesced, Quiesces, SameParts}
+use Rattle.vx_group.specs.Quiesces.{GivenBack, NoVolume, Quiesced, Quiesces}
 use Rattle.vx_group.specs.Settled.{SameBut}
 use Rattle.vx_group.specs.Stands.{InnerStands}
 use Rattle.vx_group.specs.declared.inner.Inner.{Inner}
@@ -36,8 +36,9 @@ use Rattle.vx_copies.specs.Commits.{MoreFailed}
 use Rattle.vx_group.proofs.FailingLemmas.{failing_from, no_failing, then_failing}
 use Rattle.vx_group.proofs.CallLemmas.{blames_later}
 use Rattle.vx_group.proofs.DetachLemmas.{left_Narrows, left_Stands}
-use Rattle.vx_group.proofs.QuiesceLemmas.{both_parts, both_quiesce, quiet}
+use Rattle.vx_group.proofs.QuiesceLemmas.{both_parts, both_quiesce, quiet, same_parts}
 use Rattle.vx_group.proofs.Standing.{apart_of_core, sound_of}
+use Rattle.vx_group.proofs.LoseLemmas.{but_parts}
 
 clash_of : (b : Bool) → b ≡ true → b ≡ false → ⊥
 clash_of b is off = let clash : true ≡ false = sym is ∙ off in cc
@@ -104,18 +105,15 @@ module _ (core e : Inner) (m m' : Meaning) (stands : InnerStands core m) (acts :
 
 -- a commit, as flushes of no volume
 committed_quiet : (c : Inner) (m m' : Meaning) → CleanCommitted c m m' → Quiesces c c NoVolume m m'
-committed_quiet c m m' it = quiet c c m m' (record { acts = it.acts; shape = same_shape c.config; on = λ v p is. is; faults = refl; unsure = refl }) refl (no_failing m m' c.config.disks c.config.disks refl)
-
-but_parts : (c d : Config) → SameBut c d → SameParts c d
-but_parts c d same = record { site = same.site; rvg = same.rvg; count = same.count }
+committed_quiet c m m' it = quiet c c m m' (record { acts = it.acts; shape = same_shape c.config; on = λ v p is. is; faults = refl; unsure = refl }) refl (no_failing m m' c.config.disks c.config.disks refl) (same_parts c)
 
 -- headers that were written back
 pub settled_back : (core mid : Inner) (m m1 : Meaning) → InnerStands mid m1 → Narrows core mid m m1 → SameBut core.config mid.config → MoreFailed m m1 core.config.disks mid.config.disks → GivenBack core mid m m1
-settled_back core mid m m1 stands narrows same failing = record { stands = stands; parts = but_parts core.config mid.config same; quiesces = quiet core mid m m1 narrows same.volumes failing }
+settled_back core mid m m1 stands narrows same failing = record { stands = stands; parts = but_parts core.config mid.config same; quiesces = quiet core mid m m1 narrows same.volumes failing (but_parts core.config mid.config same) }
 
 module _ (core mid fl d : Inner) (m m1 m2 last : Meaning) (begun : InnerStands core m) (narrows : Narrows core mid m m1) (same : SameBut core.config mid.config) (failing : MoreFailed m m1 core.config.disks mid.config.disks) (up1 : IsTrue m1.down → ⊥) (flag : mid.committed ≡ core.committed) where
   readied : Quiesces core mid NoVolume m m1
-  readied = quiet core mid m m1 narrows same.volumes failing
+  readied = quiet core mid m m1 narrows same.volumes failing (but_parts core.config mid.config same)
 
   as_mid : (v : ℕ) → IsVolumeOf core v → IsVolumeOf mid v
   as_mid v lt = let n : length mid.config.volumes ≡ length core.config.volumes = ap length same.volumes in omega (arith, n, lt)
@@ -136,7 +134,7 @@ module _ (core mid fl d : Inner) (m m1 m2 last : Meaning) (begun : InnerStands c
     back_later it = record {
       stands = it.stands;
       parts = both_parts core fl d (both_parts core mid fl (but_parts core.config mid.config same) flushed.parts) it.parts;
-      quiesces = both_quiesce core fl d (IsVolumeOf core) NoVolume NoVolume m m2 last (apart_of_core core m begun) drained (quiet fl d m2 last it.narrows it.volumes (no_failing m2 last fl.config.disks d.config.disks it.disks)) flushed.up (λ v none. absurd none);
+      quiesces = both_quiesce core fl d (IsVolumeOf core) NoVolume NoVolume m m2 last (apart_of_core core m begun) drained (quiet fl d m2 last it.narrows it.volumes (no_failing m2 last fl.config.disks d.config.disks it.disks) it.parts) flushed.up (λ v none. absurd none);
     }
 
     deported_later : CleanCommitted fl m2 last → Deported core m last

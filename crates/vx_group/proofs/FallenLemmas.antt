@@ -1,5 +1,5 @@
 -- What a crash of its disks leaves of a group, and what may be imported behind it.
-use Rattle.std.proofs.Common.{◌≡◌, ℕ, true, refl, sym}
+use Rattle.std.proofs.Common.{◌≡◌, true, refl, sym}
 use Rattle.vx_disk.specs.Racks.{Alike, IsRack, Stopped}
 use Rattle.vx_disk.specs.Shelf.{Lawful, Meaning}
 use Rattle.vx_group.specs.Resumes.{CanImport}

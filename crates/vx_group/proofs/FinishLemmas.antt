@@ -32,7 +32,7 @@ use Rattle.vx_kept.proofs.StateLemmas.{then_shape}
 use Rattle.vx_kept.proofs.Steps.{inside_back}
 use Rattle.vx_group.specs.Blames.{Blames}
 use Rattle.vx_group.specs.Finishes.{CommitMade, CommitsAs, Renews, SameOr}
-use Rattle.vx_group.specs.Loses.{LosesPlexes}
+use Rattle.vx_group.specs.Loses.{LosesPlexes, SameParts}
 use Rattle.vx_group.specs.Mends.{GroupGoesOn, Mending}
 use Rattle.vx_group.specs.Moves.{Narrows}
 use Rattle.vx_group.specs.Quiesces.{AnyFailed}
@@ -41,7 +41,7 @@ use Rattle.vx_kept.specs.Trusts.{HasFailed, Trusts}
 use Rattle.vx_group.specs.Stands.{InnerStands, volume_faults, inner_meaning}
 use Rattle.vx_group.specs.declared.inner.Inner.{Inner}
 use Rattle.vx_group.proofs.CallLemmas.{narrows_Goes}
-use Rattle.vx_group.proofs.LoseLemmas.{loses_none, then_loses}
+use Rattle.vx_group.proofs.LoseLemmas.{grown_parts, loses_none, then_loses}
 use Rattle.vx_group.proofs.CreateLemmas.{cause_before}
 use Rattle.vx_group.proofs.DetachLemmas.{left_Narrows, left_Stands, staled_some, taken_Narrows, taken_Stands, zero_bit}
 use Rattle.vx_group.proofs.Standing.{apart_of_core}
@@ -143,7 +143,7 @@ module _ (core e : Inner) (m m' : Meaning) (after : Lawful m') (stands : InnerSt
       settled = settled;
       up = up;
       same = subst (λ (c : Config). SameOr c e.config m m') (none_staled 0 core.config 8) (grown_same (staled 0 0 core.config 8) e.config m m' taken.later taken.grown);
-      loses = subst (λ (c : Config). LosesPlexes c e.config m m') (none_staled 0 core.config 8) (loses_none (staled 0 0 core.config 8) e.config m m' taken.grown.volumes taken.grown.disks);
+      loses = subst (λ (c : Config). LosesPlexes c e.config m m') (none_staled 0 core.config 8) (loses_none (staled 0 0 core.config 8) e.config m m' taken.grown.volumes taken.grown.disks (grown_parts m m' (staled 0 0 core.config 8) e.config taken.grown));
       finds = taken.finds;
       trust = trust;
     }
@@ -164,7 +164,7 @@ module _ (core d e f : Inner) (flags : List Bool) (sources : List ℕ) (logs : L
   pub stopped_on : GroupGoesOn d e m1 m2 → GroupGoesOn core e m0 m2
   stopped_on two = both_on core d e m0 m1 m2 first_on two
 
-  module _ (volumes : d.config.volumes ≡ core.config.volumes) (serial : d.config.serial ≡ core.config.serial) (unmoved : (d.config ≡ core.config) ⊎ AnyFailed m0 m1) (failing : MoreFailed m0 m1 core.config.disks d.config.disks) (up1 : IsTrue m1.down → ⊥)
+  module _ (volumes : d.config.volumes ≡ core.config.volumes) (serial : d.config.serial ≡ core.config.serial) (unmoved : (d.config ≡ core.config) ⊎ AnyFailed m0 m1) (failing : MoreFailed m0 m1 core.config.disks d.config.disks) (parts : SameParts core.config d.config) (up1 : IsTrue m1.down → ⊥)
       (mending : Mending d flags sources logs (length d.config.volumes) e m1 m2) where
     count_same : length d.config.volumes ≡ length core.config.volumes
     count_same = ap length volumes
@@ -209,7 +209,7 @@ module _ (core d e f : Inner) (flags : List Bool) (sources : List ℕ) (logs : L
 
       all_loses : LosesPlexes e.config f.config m2 m3 → LosesPlexes core.config f.config m0 m3
       all_loses end = then_loses m0 m2 m3 mend_goes.unit_faults last.unit_faults core.config e.config f.config
-          (then_loses m0 m1 m2 first.acts.faults mending.on.unit_faults core.config d.config e.config (loses_none core.config d.config m0 m1 volumes failing) mending.spent.loses) end
+          (then_loses m0 m1 m2 first.acts.faults mending.on.unit_faults core.config d.config e.config (loses_none core.config d.config m0 m1 volumes failing parts) mending.spent.loses) end
 
       -- what was read of a volume that was made alike was so before the headers were settled
       all_mended : ((v : ℕ) → v < length core.config.volumes → IsTrue (active core.config v (source_at sources v))) → (v : ℕ) → v < length core.config.volumes → is_unsure flags v ≡ true → IsMended core.config v (source_at sources v) f m0 m3

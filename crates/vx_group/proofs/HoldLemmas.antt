@@ -26,7 +26,6 @@ use Rattle.vx_group.specs.Attaches.{HasOther}
 use Rattle.vx_group.specs.Dets.{any_below, det_refusal, is_other}
 use Rattle.vx_group.specs.Holding.{GroupStands, HeldBack, IsHeld, active_at, config_by, wide, with_config}
 use Rattle.vx_group.specs.Moves.{Narrows}
-use Rattle.vx_group.specs.Quiesces.{SameParts}
 use Rattle.vx_group.specs.Stands.{InnerStands}
 use Rattle.vx_group.specs.declared.group_core.GroupCore.{GroupCore}
 use Rattle.vx_group.specs.declared.group_core.Held.{Held}
@@ -34,6 +33,7 @@ use Rattle.vx_group.specs.declared.inner.Inner.{Inner}
 use Rattle.vx_group.proofs.DetLemmas.{find_below, may_other}
 use Rattle.vx_group.proofs.OpeningLemmas.{here_or_apart}
 use Rattle.vx_group.proofs.Standing.{can_of, sound_of}
+use Rattle.vx_group.specs.Loses.{SameParts}
 
 -- ---- one plex
 

@@ -89,7 +89,7 @@ module _ (old m1 : Meaning) (plan : Plan) (taken : IsTaken old m1 plan) where
           (taken_Goes old m1 law law1 goes large can taken.config opened taken.up.readable taken.up.image taken.up.read taken.up.is taken.up.opens (λ is. taken.made.sound) (volume_faults plan.core.faults)) on.goes
 
       half : d.agreed ≡ true → HalfResumed old new
-      half agreed = record { config = taken.config; core = d; opened = opened; taken = up_to; stands = on.stands; agreed = agreed; goes = whole_goes }
+      half agreed = record { config = taken.config; core = d; opened = opened; taken = up_to; stands = on.stands; shape = on.shape; agreed = agreed; goes = whole_goes }
 
     stops_before : (why : No) → StopsLate m1 new why → StopsLate old new why
     stops_before why (inl cause) = inl (cause_before old m1 new goes.disk_faults why cause)

@@ -1,5 +1,5 @@
 -- What stands of a group where its disks have no other values than before, as behind the own calls of a rack.
-use Rattle.std.proofs.Common.{◌≡◌, inl, inr, ℕ, ◌<◌, ◌≤◌, Bool, true, IsTrue, Option, List, refl, sym, ◌∙◌, subst, arith}
+use Rattle.std.proofs.Common.{◌≡◌, inl, inr, ℕ, ◌<◌, Bool, true, Option, List, refl, sym, ◌∙◌, subst, arith}
 use Rattle.vx_disk.specs.Racks.{Alike}
 use Rattle.vx_disk.specs.Shelf.{Image, Lawful, Meaning, Values}
 use Rattle.vx_copyfmt.specs.Commits.{Counts}

@@ -45,3 +45,5 @@ pub mod SourcesLemmas
 pub mod GiveLemmas
 pub mod ActsLemmas
 pub mod LostLemmas
+pub mod UnitLemmas
+pub mod TrustingLemmas

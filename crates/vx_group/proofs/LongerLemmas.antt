@@ -1,5 +1,5 @@
 -- A configuration with a volume more.
-use Rattle.std.proofs.Common.{◌≡◌, inl, inr, ℕ, zero, suc, ◌+◌, ◌<◌, ◌≤◌, Bool, true, false, IsTrue, Option, Some, List, [], ◌∷◌, ◌++◌, length, refl, ap, sym, ◌∙◌, subst, arith}
+use Rattle.std.proofs.Common.{◌≡◌, inl, inr, ℕ, zero, suc, ◌+◌, ◌<◌, ◌≤◌, Bool, true, false, IsTrue, Option, Some, List, [], ◌∷◌, ◌++◌, length, refl, ap, sym, ◌∙◌, arith}
 use Rattle.std.specs.Prelude.{◌&&◌, ◌==◌, map, nat_le, slice_get}
 use Rattle.std.specs.List.{list_all}
 use Rattle.std.proofs.lemmas.Bool.{and_parts, cases_eq, cases_lt, eqb-true}
@@ -18,10 +18,11 @@ use Rattle.vx_layout.specs.Made.{made_plex, with_volume}
 use Rattle.vx_layout.specs.Places.{place, place_or, plex_in}
 use Rattle.vx_volume.specs.Plexes.{SomeActive, active, active_or}
 use Rattle.vx_kept.specs.Choice.{chosen, live, live_or}
-use Rattle.vx_kept.specs.Keeping.{AllOn, Extends, MayBeNext}
+use Rattle.vx_kept.specs.Keeping.{AllOn, Extends, MayBeNext, name_or, volume_name}
+use Rattle.vx_kept.specs.LogRuns.{log_trusted, trusted_or}
 use Rattle.vx_kept.proofs.Narrower.{sound_chosen}
 use Rattle.vx_kept.proofs.RunLemmas.{run_same, trust_from}
-use Rattle.vx_maplog.specs.Logs.{log_of, log_or}
+use Rattle.vx_maplog.specs.Logs.{log_in, log_of, log_or}
 
 pub get_front : {A : Type 0} (xs ys : List A) (n : ℕ) → n < length xs → slice_get (xs ++ ys) n ≡ slice_get xs n
 get_front [] ys n lt = absurd (omega (arith, lt))
@@ -60,43 +61,58 @@ module _ (c : Config) (v : VolumeEntry) where
   pub logs_more : (w : ℕ) (log : VolumeLog) → w < length c.volumes → log_of more w log ≡ log_of c w log
   logs_more w log lt = ap (log_or log) (get_front c.volumes (v ∷ []) w lt)
 
-  pub longer_extends : Extends more c
-  longer_extends = record {
+  pub names_more : (w : ℕ) → w < length c.volumes → volume_name more w ≡ volume_name c w
+  names_more w lt = ap name_or (get_front c.volumes (v ∷ []) w lt)
+
+  -- no log of the last volume is trusted
+  abbrev LogsLost : Type 0
+  LogsLost = (log : VolumeLog) → trusted_or (log_in log v) ≡ false
+
+  beyond_more : LogsLost → (w : ℕ) (log : VolumeLog) → length c.volumes ≤ w → log_trusted more w log ≡ false
+  unfolding log_trusted
+  beyond_more lost w log past = elim (cases_eq w (length c.volumes)) [
+    | inl at ↦ ap (λ (x : ℕ). trusted_or (log_or log (slice_get more.volumes x))) at ∙ ap (λ (o : Option VolumeEntry). trusted_or (log_or log o)) (get_end c.volumes v) ∙ lost log
+    | inr other ↦ ap (λ (o : Option VolumeEntry). trusted_or (log_or log o)) (slice_get_past more.volumes w (omega (arith, longer_count, past, other)))
+  ]
+
+  -- each plex of the last volume that takes part is ACTIVE
+  abbrev PlexesOn : Type 0
+  PlexesOn = (p : ℕ) → IsTrue (live_or (slice_get v.plexes p)) → IsTrue (active_or (slice_get v.plexes p))
+
+  fresh_more : PlexesOn → (w p : ℕ) → length c.volumes ≤ w → IsTrue (live more w p) → IsTrue (active more w p)
+  unfolding live active
+  fresh_more here w p past is = elim (cases_eq w (length c.volumes)) [
+    | inl at ↦ ap (λ (x : ℕ). active_or (plex_in (slice_get more.volumes x) p)) at ∙ ap (λ (o : Option VolumeEntry). active_or (plex_in o p)) (get_end c.volumes v)
+        ∙ here p (sym (ap (λ (x : ℕ). live_or (plex_in (slice_get more.volumes x) p)) at ∙ ap (λ (o : Option VolumeEntry). live_or (plex_in o p)) (get_end c.volumes v)) ∙ is)
+    | inr other ↦ absurd (let none : live_or (plex_in (slice_get more.volumes w) p) ≡ false = ap (λ (o : Option VolumeEntry). live_or (plex_in o p)) (slice_get_past more.volumes w (omega (arith, longer_count, past, other))) in
+        let clash : false ≡ true = sym none ∙ is in cc)
+  ]
+
+  pub longer_extends : LogsLost → PlexesOn → Extends more c
+  longer_extends lost here = record {
     volumes = omega (arith, longer_count);
+    names = names_more;
     blocks = blocks_more;
     place = place_more;
     logs = λ w log lt. run_same more c w w log (logs_more w log lt);
     trusted = λ w log lt is. trust_from more c w w log (logs_more w log lt) is;
+    beyond = beyond_more lost;
+    fresh = fresh_more here;
   }
 
-  module _ (on : AllOn c) (here : (p : ℕ) → IsTrue (live_or (slice_get v.plexes p)) → IsTrue (active_or (slice_get v.plexes p))) where
-    last_on : (p : ℕ) → IsTrue (live more (length c.volumes) p) → IsTrue (active more (length c.volumes) p)
-    unfolding live active
-    last_on p is =
-        ap (λ (o : Option VolumeEntry). active_or (plex_in o p)) (get_end c.volumes v)
-        ∙ here p (sym (ap (λ (o : Option VolumeEntry). live_or (plex_in o p)) (get_end c.volumes v)) ∙ is)
-
-    none_past : (w p : ℕ) → length more.volumes ≤ w → IsTrue (live more w p) → ⊥
-    unfolding live
-    none_past w p le is =
-        let none : live_or (plex_in (slice_get more.volumes w) p) ≡ false = ap (λ (o : Option VolumeEntry). live_or (plex_in o p)) (slice_get_past more.volumes w le) in
-        let clash : false ≡ true = sym none ∙ is in cc
-
+  module _ (on : AllOn c) (here : PlexesOn) where
     pub longer_on : AllOn more
     longer_on = record {
       each = λ w p is. elim (cases_lt w (length c.volumes)) [
         | inl lt ↦ active_more w p lt ∙ on.each w p (sym (live_more w p lt) ∙ is)
-        | inr le ↦ elim (cases_eq w (length c.volumes)) [
-          | inl at ↦ subst (λ (x : ℕ). IsTrue (active more x p)) (sym at) (last_on p (subst (λ (x : ℕ). IsTrue (live more x p)) at is))
-          | inr other ↦ absurd (none_past w p (omega (arith, longer_count, le, other)) is)
-        ]
+        | inr past ↦ fresh_more here w p past is
       ];
     }
 
     module _ (sound : is_sound more ≡ true) where
-      pub longer_follows : MayBeNext c more
-      longer_follows = record {
-        shape = longer_extends;
+      pub longer_follows : LogsLost → MayBeNext c more
+      longer_follows lost = record {
+        shape = longer_extends lost here;
         serial = refl;
         narrows = λ w p lt is. on.each w p (sym (live_more w p lt) ∙ is);
         some = λ w lt. (chosen more w, sound_chosen more sound w lt);

@@ -4,20 +4,34 @@ use Rattle.std.proofs.lemmas.Bool.{cases_eq}
 use Rattle.vx_disk.specs.Blocks.{bit_at}
 use Rattle.vx_disk.specs.Shelf.{Meaning}
 use Rattle.vx_config.specs.declared.config.Config.{Config}
-use Rattle.vx_copies.specs.Commits.{MoreFailed}
+use Rattle.vx_copies.specs.Commits.{Grown, MoreFailed}
 use Rattle.vx_volume.specs.Plexes.{active, uses}
 use Rattle.vx_volume.specs.Volumes.{PlexBlamed}
 use Rattle.vx_kept.specs.States.{staled}
-use Rattle.vx_kept.proofs.Chosen.{active_volumes}
-use Rattle.vx_group.specs.Loses.{LosesPlexes}
+use Rattle.vx_kept.specs.Keeping.{SameShape}
+use Rattle.vx_kept.proofs.Chosen.{active_volumes, names_volumes}
+use Rattle.vx_group.specs.Loses.{LosesPlexes, SameParts}
+use Rattle.vx_group.specs.Settled.{SameBut}
 use Rattle.vx_group.proofs.FailingLemmas.{no_failing, then_failing}
 use Rattle.vx_group.proofs.UsesLemmas.{blamed_before, blamed_by, blamed_later, uses_staled, uses_volumes}
 
-pub loses_none : (c d : Config) (m m' : Meaning) → d.volumes ≡ c.volumes → MoreFailed m m' c.disks d.disks → LosesPlexes c d m m'
-loses_none c d m m' volumes more = record { lies = uses_volumes c d volumes; plexes = λ v p is. inl (active_volumes d c volumes v p ∙ is); disks = more }
+pub then_parts : (c d e : Config) → SameParts c d → SameParts d e → SameParts c e
+then_parts c d e one two = record { site = two.site ∙ one.site; rvg = two.rvg ∙ one.rvg; count = two.count ∙ one.count }
+
+pub none_parts : (c : Config) → SameParts c c
+none_parts c = record { site = refl; rvg = refl; count = refl }
+
+pub but_parts : (c d : Config) → SameBut c d → SameParts c d
+but_parts c d same = record { site = same.site; rvg = same.rvg; count = same.count }
+
+pub grown_parts : (old new : Meaning) (c d : Config) → Grown old new c d → SameParts c d
+grown_parts old new c d grown = record { site = grown.site; rvg = grown.rvg; count = grown.disks.count }
+
+pub loses_none : (c d : Config) (m m' : Meaning) → d.volumes ≡ c.volumes → MoreFailed m m' c.disks d.disks → SameParts c d → LosesPlexes c d m m'
+loses_none c d m m' volumes more parts = record { parts = parts; names = names_volumes d c volumes; lies = uses_volumes c d volumes; plexes = λ v p is. inl (active_volumes d c volumes v p ∙ is); disks = more }
 
 pub loses_same : (c : Config) (m m' : Meaning) → LosesPlexes c c m m'
-loses_same c m m' = loses_none c c m m' refl (no_failing m m' c.disks c.disks refl)
+loses_same c m m' = loses_none c c m m' refl (no_failing m m' c.disks c.disks refl) (none_parts c)
 
 pub staled_lies : (v set : ℕ) (c d : Config) → d.volumes ≡ (staled v set c 8).volumes → (w p u : ℕ) → uses d w p u ≡ uses c w p u
 staled_lies v set c d volumes w p u = uses_volumes (staled v set c 8) d volumes w p u ∙ uses_staled v set c 8 w p u
@@ -25,6 +39,8 @@ staled_lies v set c d volumes w p u = uses_volumes (staled v set c 8) d volumes 
 module _ (m0 m1 m2 : Meaning) (one : (u : ℕ) → m0.faults u ≤ m1.faults u) (two : (u : ℕ) → m1.faults u ≤ m2.faults u) where
   pub then_loses : (c d e : Config) → LosesPlexes c d m0 m1 → LosesPlexes d e m1 m2 → LosesPlexes c e m0 m2
   then_loses c d e first second = record {
+    parts = then_parts c d e first.parts second.parts;
+    names = λ v. second.names v ∙ first.names v;
     lies = λ v p u. second.lies v p u ∙ first.lies v p u;
     plexes = λ v p is. elim (first.plexes v p is) [
       | inl on ↦ elim (second.plexes v p on) [
@@ -38,8 +54,10 @@ module _ (m0 m1 m2 : Meaning) (one : (u : ℕ) → m0.faults u ≤ m1.faults u) 
 
   -- plexes that failed in a first call are detached by a second one
   pub loses_detach : (c d : Config) (v set : ℕ) → ((p : ℕ) → bit_at set p ≡ true → PlexBlamed c v p m0 m1) → ((w p u : ℕ) → uses d w p u ≡ uses c w p u)
-      → ((w p : ℕ) → (w ≡ v → bit_at set p ≡ true → ⊥) → active d w p ≡ active c w p) → MoreFailed m1 m2 c.disks d.disks → LosesPlexes c d m0 m2
-  loses_detach c d v set blamed lies others more = record {
+      → ((w p : ℕ) → (w ≡ v → bit_at set p ≡ true → ⊥) → active d w p ≡ active c w p) → MoreFailed m1 m2 c.disks d.disks → SameParts c d → SameShape d c → LosesPlexes c d m0 m2
+  loses_detach c d v set blamed lies others more parts shape = record {
+    parts = parts;
+    names = shape.names;
     lies = lies;
     plexes = λ w p is. elim (cases_eq w v) [
       | inl same ↦ by w p is same (bit_at set p) refl

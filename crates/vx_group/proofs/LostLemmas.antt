@@ -1,15 +1,12 @@
 -- A commit that loses a log, over the core of a group.
-use Rattle.std.proofs.Common.{◌≡◌, ℕ, ◌<◌, true, false, Bool, Option, Some, None, List, length, refl, ap, sym, ◌∙◌, subst, arith}
+use Rattle.std.proofs.Common.{◌≡◌, ℕ, true, false, Option, Some, None, List, length, refl, ap, sym, ◌∙◌, subst, arith}
 use Rattle.std.specs.Prelude.{IfOk, Result, Ok, Err, slice_get}
 use Rattle.vx_disk.specs.Shelf.{Meaning, Nothing}
 use Rattle.vx_disk.specs.declared.shelf.ShelfError.{ShelfError}
 use Rattle.vx_disk.specs.declared.shelf.ShelfError.TheVariants.{Fault, Down}
 use Rattle.vx_config.specs.Changes.{lost, lost_as}
-use Rattle.vx_config.specs.Checks.{blocks_of}
 use Rattle.vx_config.specs.Configs.{CanSpell}
-use Rattle.vx_config.specs.Table.{greatest}
 use Rattle.vx_config.specs.declared.config.Config.{Config}
-use Rattle.vx_config.specs.declared.entry.DiskEntry.{DiskEntry}
 use Rattle.vx_config.specs.declared.entry.LogEntry.{LogEntry}
 use Rattle.vx_config.specs.declared.entry.VolumeEntry.{VolumeEntry}
 use Rattle.vx_config.specs.declared.entry.VolumeLog.{VolumeLog}
@@ -19,7 +16,7 @@ use Rattle.vx_copies.specs.Marks.{NoneGood}
 use Rattle.vx_kept.specs.Commits.{Member, Taken}
 use Rattle.vx_kept.specs.Keeping.{Acts, AllOn, Kept, SameShape, Sees}
 use Rattle.vx_kept.specs.LogRuns.{log_trusted, trusted_or}
-use Rattle.vx_kept.specs.Losses.{LosesLog, SamePlexes}
+use Rattle.vx_kept.specs.Losses.{SamePlexes}
 use Rattle.vx_kept.specs.Trusts.{Trusts}
 use Rattle.vx_kept.proofs.Chosen.{active_volumes, alike_shape}
 use Rattle.vx_kept.proofs.LosingLemmas.{active_same, loses, lost_plexes}

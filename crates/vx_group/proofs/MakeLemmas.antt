@@ -48,6 +48,7 @@ use Rattle.vx_group.proofs.CallLemmas.{narrows_Goes}
 use Rattle.vx_group.proofs.LongerLemmas.{longer_count, made_on, sound_disks}
 use Rattle.vx_group.proofs.ShapeLemmas.{MayMake, fresh_name, may_make}
 use Rattle.vx_group.proofs.Standing.{apart_of_core}
+use Rattle.vx_group.specs.Loses.{SameParts}
 
 -- ---- the plan
 
@@ -85,7 +86,11 @@ plan_next c name want next may is = record {
   on = λ p live.
       let plexes : is.volume.plexes ≡ map made_plex is.found.plexes.items = is.is_volume.made.plexes in
       ap (λ ps. active_or (slice_get ps p)) plexes ∙ made_on is.found.plexes.items p (sym (ap (λ ps. live_or (slice_get ps p)) plexes) ∙ live);
+  lost = is.is_volume.lost;
 }
+
+pub next_parts : (c next : Config) → IsNextConfig c next → SameParts c next
+next_parts c next is_next = record { site = ap (λ (x : Config). x.site) is_next.is; rvg = ap (λ (x : Config). x.rvg) is_next.is; count = ap (λ (x : Config). length x.disks) is_next.is }
 
 -- ---- behind headers that were written back
 
@@ -119,6 +124,7 @@ module _ (core mid : Inner) (m m1 : Meaning) (lawful : Lawful m1) (stands : Inne
     few = is_next.few;
     small = is_next.small;
     on = is_next.on;
+    lost = is_next.lost;
   }
     where
       next_blocks : have_blocks m.size 0 next.disks ≡ true

@@ -174,10 +174,13 @@ module _ (c : Config) (v p : ℕ) (there : Present c v p) where
   kin_wider x kin = record {
     shape = record {
       volumes = let le = kin.shape.volumes in let same = open_shape.volumes in omega (arith, le, same);
+      names = λ w lt. kin.shape.names w (there_volume w lt) ∙ sym (open_shape.names w);
       blocks = λ w lt. kin.shape.blocks w (there_volume w lt) ∙ sym (open_shape.blocks w);
       place = λ w q b lt. kin.shape.place w q b (there_volume w lt) ∙ sym (open_shape.place w q b);
       logs = λ w log lt. kin.shape.logs w log (there_volume w lt) ∙ sym (open_shape.logs w log);
       trusted = λ w log lt is. trust_from c d w w log (sym (stated_logs v p Active false c w log)) (kin.shape.trusted w log (there_volume w lt) is);
+      beyond = λ w log past. kin.shape.beyond w log (let same = open_shape.volumes in omega (arith, same, past));
+      fresh = λ w q past is. kin.shape.fresh w q (let same = open_shape.volumes in omega (arith, same, past)) is;
     };
     on = λ w q lt is. open_wider w q (kin.on w q (there_volume w lt) is);
     some = λ w lt. kin.some w (there_volume w lt);

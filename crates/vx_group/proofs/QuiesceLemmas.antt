@@ -20,12 +20,12 @@ use Rattle.vx_group.specs.Blames.{Blames, MarksUnsure}
 use Rattle.vx_group.specs.Copying.{NoMember}
 use Rattle.vx_group.specs.Deports.{IsVolumeOf}
 use Rattle.vx_group.specs.Moves.{AllFlushed, Narrows}
-use Rattle.vx_group.specs.Quiesces.{AnyFailed, GivenBack, GoesOnBy, NoVolume, QuiesceEnds, Quiesced, Quiesces, SameParts}
+use Rattle.vx_group.specs.Quiesces.{AnyFailed, GivenBack, GoesOnBy, NoVolume, QuiesceEnds, Quiesced, Quiesces}
 use Rattle.vx_group.specs.Stands.{InnerStands}
 use Rattle.vx_group.specs.declared.inner.Inner.{Inner}
-use Rattle.vx_group.specs.Loses.{LosesPlexes}
+use Rattle.vx_group.specs.Loses.{LosesPlexes, SameParts}
 use Rattle.vx_group.proofs.FailingLemmas.{no_failing}
-use Rattle.vx_group.proofs.LoseLemmas.{loses_none, loses_same, then_loses}
+use Rattle.vx_group.proofs.LoseLemmas.{loses_none, loses_same, none_parts, then_loses, then_parts}
 use Rattle.vx_group.proofs.CopyLemmas.{loose_Acts, sees_none, sees_wider}
 use Rattle.vx_group.proofs.Standing.{apart_of_core}
 use Rattle.vx_group.proofs.WriteLemmas.{no_commit}
@@ -76,7 +76,7 @@ module _ (c d e : Inner) (P Q R : ℕ → Type 0) (m0 m1 m2 : Meaning) (apart : 
   }
 
 pub both_parts : (c d e : Inner) → SameParts c.config d.config → SameParts d.config e.config → SameParts c.config e.config
-both_parts c d e one two = record { site = two.site ∙ one.site; rvg = two.rvg ∙ one.rvg; count = two.count ∙ one.count }
+both_parts c d e one two = then_parts c.config d.config e.config one two
 
 -- ---- one step
 
@@ -97,9 +97,9 @@ module _ (c d e : Inner) (which : ℕ → Type 0) (m m' : Meaning) (narrows : Na
   }
 
 -- no volume was flushed
-pub quiet : (c d : Inner) (m m' : Meaning) → Narrows c d m m' → d.config.volumes ≡ c.config.volumes → MoreFailed m m' c.config.disks d.config.disks → Quiesces c d NoVolume m m'
-quiet c d m m' narrows volumes failing = stepped c d d NoVolume m m' narrows refl refl (inl volumes) (inl narrows.unsure) (λ v is. ap (λ (u : List Bool). is_unsure u v) (sym narrows.unsure) ∙ is) (λ v p none. absurd none)
-    (loses_none c.config d.config m m' volumes failing)
+pub quiet : (c d : Inner) (m m' : Meaning) → Narrows c d m m' → d.config.volumes ≡ c.config.volumes → MoreFailed m m' c.config.disks d.config.disks → SameParts c.config d.config → Quiesces c d NoVolume m m'
+quiet c d m m' narrows volumes failing parts = stepped c d d NoVolume m m' narrows refl refl (inl volumes) (inl narrows.unsure) (λ v is. ap (λ (u : List Bool). is_unsure u v) (sym narrows.unsure) ∙ is) (λ v p none. absurd none)
+    (loses_none c.config d.config m m' volumes failing parts)
 
 -- the plexes of one volume, as all its plexes were flushed
 pub flushed_one : (c d e : Inner) (vol : ℕ) (m m' : Meaning) → Narrows c d m m' → AllFlushed d.config vol m m' → (v p : ℕ) → v ≡ vol → is_unsure e.unsure v ≡ false → IsTrue (active d.config v p) → PlexFlushed c.config v p m m'
@@ -140,7 +140,7 @@ unsure_Stands core unsure m s = record {
 }
 
 pub same_parts : (c : Inner) → SameParts c.config c.config
-same_parts c = record { site = refl; rvg = refl; count = refl }
+same_parts c = none_parts c.config
 
 -- ---- how a flush of one volume ends
 
@@ -276,4 +276,4 @@ all_quiesced core e n m m' le was = record {
 
 -- no call at all
 pub still_back : (core : Inner) (m : Meaning) → InnerStands core m → GivenBack core core m m
-still_back core m stands = record { stands = stands; parts = same_parts core; quiesces = quiet core core m m (no_commit core m) refl (no_failing m m core.config.disks core.config.disks refl) }
+still_back core m stands = record { stands = stands; parts = same_parts core; quiesces = quiet core core m m (no_commit core m) refl (no_failing m m core.config.disks core.config.disks refl) (same_parts core) }

@@ -145,6 +145,7 @@ module _ (old new : Meaning) (law : Lawful old) (law' : Lawful new) (goes : Goes
   c_shape : SameShape x c
   c_shape = record {
     volumes = sym opens.alike.shape.volumes;
+    names = λ v. sym (opens.alike.shape.names v);
     blocks = λ v. sym (opens.alike.shape.blocks v);
     place = λ v p b. place_volumes x (returned R x) refl v p b ∙ sym (opens.alike.shape.place v p b);
     logs = λ v log. run_same x (returned R x) v v log refl ∙ sym (opens.alike.shape.logs v log);

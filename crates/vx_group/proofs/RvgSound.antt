@@ -1,5 +1,5 @@
 -- A configuration with another replicated volume group: it is sound exactly where its volumes may be one.
-use Rattle.std.proofs.Common.{◌≡◌, Bool, true, false, List, Option, refl, sym, ◌∙◌}
+use Rattle.std.proofs.Common.{◌≡◌, Bool, true, false, Option, refl, sym, ◌∙◌}
 use Rattle.std.specs.Prelude.{◌&&◌, nat_le}
 use Rattle.std.specs.List.{list_all}
 use Rattle.std.proofs.lemmas.Bool.{and_parts}

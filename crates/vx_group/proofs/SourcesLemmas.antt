@@ -20,6 +20,7 @@ use Rattle.vx_group.proofs.AttachLemmas.{narrows_attaches, then_attaches}
 use Rattle.vx_group.proofs.RegainLemmas.{same_narrows}
 use Rattle.vx_group.proofs.Standing.{some_active, sound_of}
 use Rattle.vx_group.proofs.UsesLemmas.{blamed_before, blamed_by, blamed_later}
+use Rattle.vx_group.proofs.LoseLemmas.{none_parts}
 
 -- a configuration in which plexes lie on the same disks
 pub copy_by : {T : Type 0} (c e : Config) (v source p : ℕ) (old new : Meaning) → ((x q u : ℕ) → uses e x q u ≡ uses c x q u) → (r : Result T ShelfError) → CopyCause e v source p old new r → CopyCause c v source p old new r
@@ -38,7 +39,7 @@ tried_by c v source p device old new (Err Down) down = down
 
 -- no call was made
 pub no_attaches : (v p : ℕ) (f : Option Missed) (core : Inner) (m : Meaning) → Lawful m → InnerStands core m → Attaches v p f core core m m
-no_attaches v p f core m lawful stands = narrows_attaches v p f core core m m lawful stands (same_narrows core core m refl refl refl) (λ w q apart. refl)
+no_attaches v p f core m lawful stands = narrows_attaches v p f core core m m lawful stands (same_narrows core core m refl refl refl) (none_parts core.config) (λ w q apart. refl)
 
 pub sources_start : (core : Inner) (v p : ℕ) (f : Option Missed) (device : ℕ) (m : Meaning) → Lawful m → InnerStands core m → (IsTrue m.down → ⊥) → SourcesTried core v p f 0 device m m
 sources_start core v p f device m lawful stands up = record {

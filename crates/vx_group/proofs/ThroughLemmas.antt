@@ -1,5 +1,5 @@
 -- Calls of a group behind the commit that detaches the plex that is held back.
-use Rattle.std.proofs.Common.{◌≡◌, inl, inr, ⊎_elim, ℕ, ◌≤◌, true, false, IsTrue, Option, Some, None, List, Result, Ok, Err, refl, ap, sym, ◌∙◌, subst, arith}
+use Rattle.std.proofs.Common.{Err, IsTrue, List, None, Ok, Option, Result, Some, ap, arith, false, inl, inr, length, refl, subst, sym, true, ℕ, ⊎_elim, ◌∙◌, ◌≡◌, ◌≤◌}
 use Rattle.vx_disk.specs.Causes.{Cause}
 use Rattle.vx_disk.specs.Counts.{Rose}
 use Rattle.vx_disk.specs.Shelf.{Goes, Lawful, Meaning, Nothing, Or, Values}
@@ -17,17 +17,17 @@ use Rattle.vx_fmr.specs.Missed.{Missed}
 use Rattle.vx_volume.specs.Plexes.{SomeActive, active, uses}
 use Rattle.vx_volume.specs.Volumes.{PlexBlamed}
 use Rattle.vx_kept.specs.Commits.{Member}
-use Rattle.vx_kept.specs.Keeping.{Acts, SameShape, Sees}
+use Rattle.vx_kept.specs.Keeping.{Acts, SameShape, Sees, volume_name}
 use Rattle.vx_kept.specs.States.{whole_of}
-use Rattle.vx_kept.proofs.Chosen.{active_volumes, alike_shape}
-use Rattle.vx_kept.proofs.StateLemmas.{same_shape, then_shape}
+use Rattle.vx_kept.proofs.Chosen.{active_volumes, alike_shape, names_volumes}
+use Rattle.vx_kept.proofs.StateLemmas.{same_shape, stated_shape, then_shape}
 use Rattle.vx_kept.proofs.Steps.{both_Acts, wide_Acts}
 use Rattle.vx_group.specs.Attaches.{AnyImage, Attaches, HasOther, OnMissed}
 use Rattle.vx_group.specs.Calls.{GroupAttaches, GroupNarrows, members_by}
 use Rattle.vx_group.specs.Copying.{NoMember}
 use Rattle.vx_group.specs.GivesUp.{EachBlamed, GivesUp}
 use Rattle.vx_group.specs.Holding.{GroupStands, HeldAgain, HeldBack, config_by, wide}
-use Rattle.vx_group.specs.Loses.{LosesPlexes}
+use Rattle.vx_group.specs.Loses.{LosesPlexes, SameParts}
 use Rattle.vx_group.specs.Moves.{Narrows}
 use Rattle.vx_group.specs.Regains.{HoldsPlex, Regains}
 use Rattle.vx_group.specs.Stands.{InnerStands, volume_faults, inner_meaning}
@@ -41,6 +41,7 @@ use Rattle.vx_group.proofs.FailingLemmas.{then_failing}
 use Rattle.vx_group.proofs.HoldLemmas.{back_Stands, back_others, back_wide, e_volumes, narrow_wider, none_Stands, wide_none}
 use Rattle.vx_group.proofs.OpeningLemmas.{here_or_apart}
 use Rattle.vx_group.proofs.UsesLemmas.{blamed_by, blamed_later, uses_stated, uses_volumes}
+use Rattle.vx_group.proofs.LoseLemmas.{then_parts}
 
 -- ---- the commit itself
 
@@ -165,6 +166,18 @@ again_uses : (o : Option Held) (c2 c3 : GroupCore) → HeldAgain o c2 c3 → (w 
 again_uses None c2 c3 same w q u = ap (λ (k : GroupCore). uses k.inner.config w q u) same
 again_uses (Some h) c2 c3 back w q u = back_uses h.vol h.plex c2 c3 back w q u
 
+by_names : (o : Option Held) (c : Config) (w : ℕ) → volume_name (config_by o c) w ≡ volume_name c w
+by_names None c w = refl
+by_names (Some h) c w = (stated_shape h.vol h.plex Active (whole_of c h.vol h.plex) c).names w
+
+back_names : (v p : ℕ) (c2 c3 : GroupCore) → HeldBack v p c2 c3 → (w : ℕ) → volume_name c3.inner.config w ≡ volume_name c2.inner.config w
+back_names v p c2 c3 (inl same) w = ap (λ (k : GroupCore). volume_name k.inner.config w) same.0
+back_names v p c2 c3 (inr it) w = ap (λ (k : GroupCore). volume_name k.inner.config w) it.0 ∙ (stated_shape v p Stale (whole_of c2.inner.config v p) c2.inner.config).names w
+
+again_names : (o : Option Held) (c2 c3 : GroupCore) → HeldAgain o c2 c3 → (w : ℕ) → volume_name c3.inner.config w ≡ volume_name c2.inner.config w
+again_names None c2 c3 same w = ap (λ (k : GroupCore). volume_name k.inner.config w) same
+again_names (Some h) c2 c3 back w = back_names h.vol h.plex c2 c3 back w
+
 module _ (c0 mid c2 new : GroupCore) (x : Inner) (m m1 m2 : Meaning) (stands : GroupStands c0 m) (mid_stands : GroupStands mid m1) (narrows : Narrows (wide c0) (wide mid) m m1) (volumes : mid.inner.config.volumes ≡ c0.inner.config.volumes)
     (o : Option Held) (held : o ≡ mid.held) (x_is : x ≡ wide mid) (none : c2.held ≡ None) (again : HeldAgain o c2 new) where
   pub new_wide : wide new ≡ c2.inner
@@ -211,8 +224,14 @@ module _ (c0 mid c2 new : GroupCore) (x : Inner) (m m1 m2 : Meaning) (stands : G
   )
   through_gives v (Err Down) gives = tt
 
-  pub through_loses : ((u : ℕ) → m1.faults u ≤ m2.faults u) → MoreFailed m m1 c0.inner.config.disks mid.inner.config.disks → LosesPlexes x.config c2.inner.config m1 m2 → LosesPlexes c0.inner.config new.inner.config m m2
-  through_loses later failing loses = record {
+  pub through_loses : ((u : ℕ) → m1.faults u ≤ m2.faults u) → MoreFailed m m1 c0.inner.config.disks mid.inner.config.disks → SameParts c0.inner.config mid.inner.config → LosesPlexes x.config c2.inner.config m1 m2 → LosesPlexes c0.inner.config new.inner.config m m2
+  through_loses later failing parts loses = record {
+    parts = record {
+      site = ap (λ (i : Inner). i.config.site) new_wide ∙ loses.parts.site ∙ ap (λ (i : Inner). i.config.site) x_is ∙ parts.site;
+      rvg = ap (λ (i : Inner). i.config.rvg) new_wide ∙ loses.parts.rvg ∙ ap (λ (i : Inner). i.config.rvg) x_is ∙ parts.rvg;
+      count = ap (λ (i : Inner). length i.config.disks) new_wide ∙ loses.parts.count ∙ ap (λ (i : Inner). length i.config.disks) x_is ∙ parts.count;
+    };
+    names = λ w. again_names o c2 new again w ∙ loses.names w ∙ ap (λ (i : Inner). volume_name i.config w) x_is ∙ by_names mid.held mid.inner.config w ∙ names_volumes mid.inner.config c0.inner.config volumes w;
     lies = λ w q u. again_uses o c2 new again w q u ∙ loses.lies w q u ∙ x_uses w q u;
     plexes = λ w q is. elim (loses.plexes w q (to_x w q is)) [
       | inl on ↦ inl (by_active o refl again w q (mid_on w q is) on)
@@ -250,8 +269,8 @@ holds_first meaning m m1 c mid d v p last volumes failing it = record {
 
 module _ (c0 mid new : GroupCore) (d : Inner) (v p : ℕ) (f : Option Missed) (m m1 m2 : Meaning) (stands : GroupStands c0 m) (narrows : Narrows (wide c0) (wide mid) m m1) (volumes : mid.inner.config.volumes ≡ c0.inner.config.volumes) (lawful : Lawful m1)
     (none : mid.held ≡ None) (attaches : Attaches v p f mid.inner d m1 m2) (e_is : wide new ≡ d) where
-  pub through_attaches : SameShape new.inner.config d.config → ((w q : ℕ) → (w ≡ v → q ≡ p → ⊥) → active new.inner.config w q ≡ active d.config w q) → GroupAttaches v p f c0 new m m2
-  through_attaches shape others =
+  pub through_attaches : SameShape new.inner.config d.config → ((w q : ℕ) → (w ≡ v → q ≡ p → ⊥) → active new.inner.config w q ≡ active d.config w q) → SameParts c0.inner.config mid.inner.config → SameParts d.config new.inner.config → GroupAttaches v p f c0 new m m2
+  through_attaches shape others parts last =
       let to_old : SameShape mid.inner.config c0.inner.config = released_shape c0 mid m m1 stands narrows volumes in
       record {
         goes = through_goes c0 mid new mid.inner d m m1 m2 (sym (wide_none mid none)) e_is Nothing (released_goes c0 mid m m1 stands narrows volumes lawful) attaches.goes;
@@ -260,6 +279,7 @@ module _ (c0 mid new : GroupCore) (d : Inner) (v p : ℕ) (f : Option Missed) (m
             (λ u b x. ⊎_elim (λ none_put. absurd none_put) (λ put. on_back c0.inner.config mid.inner.config v p f to_old u b x put));
         shape = then_shape new.inner.config d.config c0.inner.config shape (then_shape d.config mid.inner.config c0.inner.config attaches.shape to_old);
         others = λ w q apart. others w q apart ∙ attaches.others w q apart ∙ released_active c0 mid m m1 stands narrows volumes w q;
+        parts = then_parts c0.inner.config mid.inner.config new.inner.config parts (then_parts mid.inner.config d.config new.inner.config attaches.parts last);
         faults = ap (λ (i : Inner). i.faults) e_is ∙ attaches.faults ∙ narrows.faults;
         unsure = ap (λ (i : Inner). i.unsure) e_is ∙ attaches.unsure ∙ narrows.unsure;
       }
@@ -268,12 +288,13 @@ module _ (c0 mid new : GroupCore) (d : Inner) (v p : ℕ) (f : Option Missed) (m
   through_regains failing regains =
       first_regains m m1 m2 narrows.acts.faults attaches.acts.faults c0.inner.config mid.inner.config d.config new.inner.config v p volumes failing (ap (λ (i : Inner). i.config.disks) e_is) regains
 
-pub released_attaches : (v p : ℕ) (f : Option Missed) (c0 mid : GroupCore) (m m1 : Meaning) → GroupStands c0 m → Narrows (wide c0) (wide mid) m m1 → mid.inner.config.volumes ≡ c0.inner.config.volumes → Lawful m1 → GroupAttaches v p f c0 mid m m1
-released_attaches v p f c0 mid m m1 stands narrows volumes lawful = record {
+pub released_attaches : (v p : ℕ) (f : Option Missed) (c0 mid : GroupCore) (m m1 : Meaning) → GroupStands c0 m → Narrows (wide c0) (wide mid) m m1 → mid.inner.config.volumes ≡ c0.inner.config.volumes → Lawful m1 → SameParts c0.inner.config mid.inner.config → GroupAttaches v p f c0 mid m m1
+released_attaches v p f c0 mid m m1 stands narrows volumes lawful parts = record {
   goes = released_goes c0 mid m m1 stands narrows volumes lawful;
   acts = any_acts Nothing (OnMissed c0.inner.config v p f) (Sees (wide c0).config (Member c0.inner.good m) m) m m1 narrows.acts (λ u k x none. absurd none);
   shape = released_shape c0 mid m m1 stands narrows volumes;
   others = λ w q apart. released_active c0 mid m m1 stands narrows volumes w q;
+  parts = parts;
   faults = narrows.faults;
   unsure = narrows.unsure;
 }

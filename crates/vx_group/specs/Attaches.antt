@@ -25,6 +25,7 @@ use Rattle.vx_kept.specs.Commits.{IsCommitted}
 use Rattle.vx_kept.specs.Keeping.{Acts, SameShape}
 use Rattle.vx_group.specs.Dets.{margin}
 use Rattle.vx_group.specs.GivesUp.{NoCommit}
+use Rattle.vx_group.specs.Loses.{SameParts}
 use Rattle.vx_group.specs.Stands.{InnerStands, inner_meaning}
 use Rattle.vx_group.specs.declared.inner.Inner.{Inner}
 
@@ -75,6 +76,7 @@ pub record Attaches (v p : ℕ) (f : Option Missed) (c d : Inner) (old new : Mea
   pub acts : Acts (OnMissed c.config v p f) AnyImage old new
   pub shape : SameShape d.config c.config
   pub others : (w q : ℕ) → (w ≡ v → q ≡ p → ⊥) → active d.config w q ≡ active c.config w q
+  pub parts : SameParts c.config d.config
   pub faults : d.faults ≡ c.faults
   pub unsure : d.unsure ≡ c.unsure
 

@@ -15,11 +15,12 @@ use Rattle.vx_kept.specs.Groups.{group_meaning}
 use Rattle.vx_kept.specs.Keeping.{Acts, Extends, SameShape, Sees}
 use Rattle.vx_group.specs.Attaches.{AnyImage, OnMissed}
 use Rattle.vx_group.specs.Copying.{NoMember}
-use Rattle.vx_group.specs.Creates.{IsNewGroup}
+use Rattle.vx_group.specs.Creates.{IsNewGroup, SameUnits}
 use Rattle.vx_group.specs.Deports.{DeportedBy}
 use Rattle.vx_group.specs.Holding.{GroupStands, config_by, wide}
 use Rattle.vx_group.specs.Imports.{ImportStops, Resumed}
-use Rattle.vx_group.specs.Quiesces.{NoVolume, QuiescesBy, SameParts}
+use Rattle.vx_group.specs.Loses.{SameParts}
+use Rattle.vx_group.specs.Quiesces.{NoVolume, QuiescesBy}
 use Rattle.vx_group.specs.Resumes.{CanImportBehind}
 use Rattle.vx_group.specs.Stands.{volume_faults, inner_meaning}
 use Rattle.vx_group.specs.declared.group_core.GroupCore.{GroupCore}
@@ -46,6 +47,7 @@ pub record GroupAttaches (v p : ℕ) (f : Option Missed) (c d : GroupCore) (old 
   pub acts : Acts (OnMissed c.inner.config v p f) AnyImage old new
   pub shape : SameShape d.inner.config c.inner.config
   pub others : (w q : ℕ) → (w ≡ v → q ≡ p → ⊥) → active d.inner.config w q ≡ active c.inner.config w q
+  pub parts : SameParts c.inner.config d.inner.config
   pub faults : d.inner.faults ≡ c.inner.faults
   pub unsure : d.inner.unsure ≡ c.inner.unsure
 
@@ -88,6 +90,11 @@ abbrev pub GroupCreated : {S G : Type 0} → ℕ → Meaning → (S → Meaning)
 GroupCreated site old meaning core shelf (Ok g) = IsNewGroup site (core g).inner (meaning (shelf g)) × ((core g).held ≡ None)
 GroupCreated site old meaning core shelf (Err (s, Refused why)) = (HasSmall old × (why ≡ Size)) ⊎ DeviceCause old (meaning s) why
 GroupCreated site old meaning core shelf (Err (s, OutOfMemory)) = Unit {0}
+
+-- whatever is answered, the shelf has the units that it had
+abbrev pub KeepsUnits : {S G : Type 0} → Meaning → (S → Meaning) → (G → S) → Result G (S × Stop) → Type 0
+KeepsUnits old meaning shelf (Ok g) = SameUnits old (meaning (shelf g))
+KeepsUnits old meaning shelf (Err (s, stop)) = SameUnits old (meaning s)
 
 -- how an import ends: with a group of which no plex is held back; else the shelf is handed back
 abbrev pub GroupImported : {S G : Type 0} → Meaning → (S → Meaning) → (G → GroupCore) → (G → S) → Result G (S × Stop) → Type 0

@@ -1,5 +1,5 @@
 -- A new group.
-use Rattle.std.specs.Prelude.{◌≡◌, ◌⊎◌, ℕ, true, Err, Ok, Result, []}
+use Rattle.std.specs.Prelude.{◌≡◌, ◌⊎◌, ℕ, true, None, Err, Ok, Result, []}
 use Rattle.vx_disk.specs.Causes.{DeviceCause}
 use Rattle.vx_disk.specs.Shelf.{Meaning}
 use Rattle.vx_model.specs.declared.errors.Stop.{Stop}
@@ -8,6 +8,7 @@ use Rattle.vx_model.specs.declared.no.No.TheVariants.{Size}
 use Rattle.vx_copies.specs.Commits.{HaveLabels}
 use Rattle.vx_copyio.specs.Labelling.{HasSmall}
 use Rattle.vx_copyio.specs.Settling.{AllCleared}
+use Rattle.vx_kept.specs.Commits.{IsCommitted}
 use Rattle.vx_kept.specs.Trusts.{HasFailed}
 use Rattle.vx_group.specs.Stands.{InnerStands}
 use Rattle.vx_group.specs.declared.inner.Inner.{Inner}
@@ -29,11 +30,13 @@ IsReady old new (Ok x) = PreparedDisks old new
 IsReady old new (Err (Refused why)) = DeviceCause old new why
 IsReady old new (Err OutOfMemory) = Unit {0}
 
--- a group without volumes stands on the disks, and imports agree unless a disk is held as failed
+-- a group without volumes stands on the disks, and each image has its configuration; imports agree unless a disk is held as failed
 pub record IsNewGroup (site : ℕ) (core : Inner) (m : Meaning) : Type 0 where
   pub stands : InnerStands core m
   pub site_is : core.config.site ≡ site
   pub volumes : core.config.volumes ≡ []
+  pub rvg : core.config.rvg ≡ None
+  pub newest : IsCommitted core.config m
   pub trust : (core.committed ≡ true) ⊎ HasFailed core.config.disks
 
 -- what is answered where a group is made

@@ -17,10 +17,11 @@ use Rattle.vx_kept.specs.Trusts.{Trusts}
 use Rattle.vx_copies.specs.Answers.{good_set}
 use Rattle.vx_volume.specs.Plexes.{active}
 use Rattle.vx_group.specs.Moves.{Narrows}
-use Rattle.vx_group.specs.Quiesces.{GivenBack, QuiescesBy, SameParts}
+use Rattle.vx_group.specs.Quiesces.{GivenBack, QuiescesBy}
 use Rattle.vx_group.specs.Resumes.{CanImport}
 use Rattle.vx_group.specs.Stands.{InnerStands}
 use Rattle.vx_group.specs.declared.inner.Inner.{Inner}
+use Rattle.vx_group.specs.Loses.{SameParts}
 
 -- Whatever a crash leaves, an import that can read all disks finds one configuration: that of the group, with each plex that was ACTIVE
 -- CLEAN, but for those of the volumes that are unsure. No block of a plex was touched. A group in which the plexes are ACTIVE may stand on

@@ -11,7 +11,7 @@ use Rattle.vx_copyio.specs.Labelling.{HasSmall}
 use Rattle.vx_volume.specs.Plexes.{Inside, active}
 use Rattle.vx_kept.specs.Choice.{chosen}
 use Rattle.vx_kept.specs.Groups.{Shows, found, group_meaning}
-use Rattle.vx_kept.specs.Keeping.{Extends}
+use Rattle.vx_kept.specs.Keeping.{Extends, SameShape}
 use Rattle.vx_group.specs.Finishes.{SameOr, StopsLate}
 use Rattle.vx_group.specs.Loses.{LosesPlexes}
 use Rattle.vx_group.specs.Resumes.{AtRest, IsFresh, IsMended, NotTaken, TakenUp, stopped}
@@ -44,13 +44,14 @@ pub record Resumed (old : Meaning) (core : Inner) (new : Meaning) : Type 0 where
   pub mended : (v : ℕ) → v < length opened.volumes → stopped config v ≡ true → IsMended opened v (chosen config v) core old new
   pub gives : GivesImage old core new
 
--- what stands on the disks is the group that was found, as far as it was settled, and imports agree
+-- what stands on the disks is the group that was found, with its volumes, as far as it was settled, and imports agree
 pub record HalfResumed (old new : Meaning) : Type 0 where
   pub config : Config
   pub core : Inner
   pub opened : Config
   pub taken : TakenUp old new config opened
   pub stands : InnerStands core new
+  pub shape : SameShape core.config opened
   pub agreed : core.agreed ≡ true
   pub goes : Goes Nothing (group_meaning opened (λ v. 0) old) (inner_meaning core new)
 

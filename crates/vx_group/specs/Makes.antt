@@ -19,6 +19,7 @@ use Rattle.vx_config.specs.declared.config.Config.{Config}
 use Rattle.vx_config.specs.declared.entry.LogEntry.{LogEntry}
 use Rattle.vx_config.specs.declared.entry.Subdisk.{Subdisk}
 use Rattle.vx_config.specs.declared.entry.VolumeEntry.{VolumeEntry}
+use Rattle.vx_config.specs.declared.entry.VolumeLog.{VolumeLog}
 use Rattle.vx_layout.specs.Made.{IsVolumeMade, with_volume}
 use Rattle.vx_layout.specs.Places.{place}
 use Rattle.vx_layout.specs.Space.{IsFound, IsSpaceShort}
@@ -28,6 +29,8 @@ use Rattle.vx_volume.specs.Plexes.{Inside, active}
 use Rattle.vx_volume.specs.Volumes.{PlexFlushed}
 use Rattle.vx_kept.specs.Groups.{group_meaning}
 use Rattle.vx_kept.specs.Keeping.{Acts, Extends}
+use Rattle.vx_kept.specs.LogRuns.{trusted_or}
+use Rattle.vx_maplog.specs.Logs.{log_in}
 use Rattle.vx_group.specs.Dets.{margin}
 use Rattle.vx_group.specs.Stands.{volume_faults, inner_meaning}
 use Rattle.vx_group.specs.declared.inner.Inner.{Inner}
@@ -65,10 +68,11 @@ lost_log (Some s) = Some (record { lost = true; disk = s.disk; start = s.start; 
 abbrev pub is_few : List Subdisk → Bool
 is_few ss = nat_le (length ss) 255
 
--- this volume has the space that was found, and its name
+-- this volume has the space that was found, and its name; its logs are held as lost
 pub record IsVolume (name : List ℕ) (want : Shape) (found : Found) (v : VolumeEntry) : Type 0 where
   pub made : IsVolumeMade want found v
   pub named : v.name ≡ name
+  pub lost : (log : VolumeLog) → trusted_or (log_in log v) ≡ false
 
 -- the space that was found has too many runs
 pub record HasMany (c : Config) (name : List ℕ) (want : Shape) : Type 0 where

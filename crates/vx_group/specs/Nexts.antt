@@ -9,12 +9,15 @@ use Rattle.vx_model.specs.declared.no.No.TheVariants as refusal
 use Rattle.vx_config.specs.Checks.{is_sound}
 use Rattle.vx_config.specs.declared.config.Config.{Config}
 use Rattle.vx_config.specs.declared.entry.VolumeEntry.{VolumeEntry}
+use Rattle.vx_config.specs.declared.entry.VolumeLog.{VolumeLog}
 use Rattle.vx_layout.specs.Made.{with_volume}
 use Rattle.vx_layout.specs.Space.{IsFound, IsSpaceShort}
 use Rattle.vx_layout.specs.declared.shape.Found.{Found}
 use Rattle.vx_layout.specs.declared.shape.Shape.{Shape}
 use Rattle.vx_volume.specs.Plexes.{active_or}
 use Rattle.vx_kept.specs.Choice.{live_or}
+use Rattle.vx_kept.specs.LogRuns.{trusted_or}
+use Rattle.vx_maplog.specs.Logs.{log_in}
 use Rattle.vx_group.specs.Makes.{AreZero, HasMany, IsVolume}
 use Rattle.vx_group.specs.declared.inner.Inner.{Inner}
 
@@ -40,7 +43,7 @@ PlanEnds c name want (Err (Refused (refusal.Limit Subdisks most))) = HasMany c n
 PlanEnds c name want (Err (Refused other)) = ⊥
 PlanEnds c name want (Err OutOfMemory) = Unit {0}
 
--- a checked configuration with a volume more, of which each plex that takes part is ACTIVE
+-- a checked configuration with a volume more, of which each plex that takes part is ACTIVE and each log is held as lost
 pub record IsNextConfig (c next : Config) : Type 0 where
   pub volume : VolumeEntry
   pub is : next ≡ with_volume c volume
@@ -48,6 +51,7 @@ pub record IsNextConfig (c next : Config) : Type 0 where
   pub few : length next.volumes ≤ MOST_VOLUMES
   pub small : volume.blocks < 2 ^ 64
   pub on : (p : ℕ) → IsTrue (live_or (slice_get volume.plexes p)) → IsTrue (active_or (slice_get volume.plexes p))
+  pub lost : (log : VolumeLog) → trusted_or (log_in log volume) ≡ false
 
 -- the volume was added, and begins as zeros
 pub record Added (c d : Inner) (next : Config) (new : Meaning) : Type 0 where

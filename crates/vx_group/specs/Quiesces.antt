@@ -1,5 +1,5 @@
 -- Volumes that are flushed before a group is deported.
-use Rattle.std.specs.Prelude.{◌≡◌, ◌⊎◌, ℕ, ◌<◌, true, false, IsTrue, length, Result, Ok, Err}
+use Rattle.std.specs.Prelude.{◌≡◌, ◌⊎◌, ℕ, ◌<◌, true, false, IsTrue, Result, Ok, Err}
 use Rattle.vx_disk.specs.Counts.{Rose}
 use Rattle.vx_disk.specs.Shelf.{Meaning, Nothing}
 use Rattle.vx_disk.specs.declared.shelf.ShelfError.{ShelfError}
@@ -11,19 +11,13 @@ use Rattle.vx_volume.specs.Volumes.{PlexFlushed}
 use Rattle.vx_kept.specs.Cleans.{is_unsure}
 use Rattle.vx_kept.specs.Keeping.{Acts, SameShape, Sees}
 use Rattle.vx_group.specs.Copying.{NoMember}
-use Rattle.vx_group.specs.Loses.{LosesPlexes}
+use Rattle.vx_group.specs.Loses.{LosesPlexes, SameParts}
 use Rattle.vx_group.specs.Stands.{InnerStands}
 use Rattle.vx_group.specs.declared.inner.Inner.{Inner}
 
 -- the count of some disk rose
 abbrev pub AnyFailed : Meaning → Meaning → Type 0
 AnyFailed old new = (disk : ℕ) × Rose (old.disk_faults disk) (new.disk_faults disk)
-
--- the same but for the serial, the volumes, and disks that are held as failed
-pub record SameParts (c d : Config) : Type 0 where
-  pub site : d.site ≡ c.site
-  pub rvg : d.rvg ≡ c.rvg
-  pub count : length d.disks ≡ length c.disks
 
 -- Such volumes were flushed: of each that is not unsure a crash leaves in each plex that is ACTIVE what this plex read. No block of a plex was
 -- written, and no plex is ACTIVE that was not. Plexes were detached, and volumes became unsure, only where a disk failed. At each moment an image has

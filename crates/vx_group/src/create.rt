@@ -3,7 +3,7 @@ ghost use Rattle.std.specs.Prelude.{◌≡◌, ◌<◌, ◌≤◌, ℕ, true, fa
 ghost use Rattle.vx_copies.specs.Bodies.{have_blocks};
 ghost use Rattle.vx_copies.specs.Marks.{failed_at};
 ghost use Rattle.vx_copyio.specs.Labelling.{AreLarge, HasSmall};
-ghost use Rattle.vx_group.specs.Creates.{Created, IsReady};
+ghost use Rattle.vx_group.specs.Creates.{Created, IsReady, SameUnits};
 ghost use Rattle.vx_model.specs.declared.errors.Stop.TheVariants.{No as Refused};
 ghost use Rattle.vx_model.specs.declared.limits.TheConstants.{MOST_DISKS};
 ghost use Rattle.vx_model.specs.declared.no.No.TheVariants.{Size};
@@ -41,6 +41,7 @@ fn disks_of<S: Shelf>(shelf: &S) -> Disks
 fn prepare<S: Shelf>(shelf: &mut S, site: u32) -> Result<(), Stop>
     requires large { AreLarge (S.meaning shelf.old) }
     ensures counts { (d : ℕ) → (S.meaning shelf.old).disk_faults d ≤ (S.meaning shelf.new).disk_faults d }
+    ensures same { SameUnits (S.meaning shelf.old) (S.meaning shelf.new) }
     ensures ready { IsReady (S.meaning shelf.old) (S.meaning shelf.new) result }
 {
     match clear(shelf) {
@@ -59,6 +60,7 @@ pub fn start<S: Shelf>(alloc: Global, shelf: &mut S, site: u32) -> Result<Inner,
     requires few { (S.meaning shelf.old).units ≤ MOST_DISKS }
     ensures small { HasSmall (S.meaning shelf.old) → result ≡ Err (Refused Size) }
     ensures unchanged { HasSmall (S.meaning shelf.old) → shelf.new ≡ shelf.old }
+    ensures same { SameUnits (S.meaning shelf.old) (S.meaning shelf.new) }
     ensures created { Created site (S.meaning shelf.old) (S.meaning shelf.new) result }
 {
     if !are_large(shelf) {

@@ -1,5 +1,5 @@
 // The flushes and the commit by which a group is deported.
-ghost use Rattle.std.specs.Prelude.{◌≡◌, ◌<◌, ◌≤◌, ◌-◌, false, Err, IfErr, IsTrue};
+ghost use Rattle.std.specs.Prelude.{Err, IfErr, IsTrue, OnOk, false, ◌-◌, ◌<◌, ◌≡◌, ◌≤◌};
 ghost use Rattle.vx_disk.specs.Shelf.{Goes, Nothing};
 ghost use Rattle.vx_config.specs.Table.{greatest};
 ghost use Rattle.vx_group.specs.Blames.{StopsByDevice};
@@ -11,6 +11,7 @@ ghost use Rattle.vx_group.specs.Stands.{InnerStands, inner_meaning};
 ghost use Rattle.vx_model.specs.declared.errors.Stop.TheVariants.{No as Refused};
 ghost use Rattle.vx_model.specs.declared.no.Counted.TheVariants.{Number as Numbers};
 ghost use Rattle.vx_model.specs.declared.no.No.TheVariants.{Limit};
+ghost use Rattle.vx_copyio.specs.Putting.{KeepsUp};
 
 use crate::detaching::fault_of;
 use crate::group_core::GroupCore;
@@ -32,6 +33,7 @@ fn commit_closed<S: Shelf>(shelf: &mut S, core: &mut Inner) -> Result<(), ShelfE
     requires settled { core.old.unsettled ≡ false }
     requires more { core.old.config.serial < greatest }
     ensures ends { CommitCloses core.old core.new (S.meaning shelf.old) (S.meaning shelf.new) result }
+    ensures up { OnOk result (KeepsUp (S.meaning shelf.old) (S.meaning shelf.new)) }
     ensures cause { StopsByDevice (S.meaning shelf.old) (S.meaning shelf.new) result }
 {
     match commit_clean(
@@ -60,6 +62,7 @@ fn close<S: Shelf>(shelf: &mut S, core: &mut Inner) -> Result<(), ShelfError>
     requires more { core.old.config.serial < greatest }
     requires up { IsTrue (S.meaning shelf.old).down → ⊥ }
     ensures ends { Closes core.old core.new (S.meaning shelf.old) (S.meaning shelf.new) result }
+    ensures up { OnOk result (IsTrue (S.meaning shelf.new).down → ⊥) }
     ensures cause { StopsByDevice (S.meaning shelf.old) (S.meaning shelf.new) result }
 {
     match settle_headers(shelf, core) {
@@ -84,6 +87,7 @@ pub fn deport_in<S: Shelf>(shelf: &mut S, core: &mut GroupCore) -> Result<(), St
     requires stands { GroupStands core.old (S.meaning shelf.old) }
     ensures limit { greatest - margin < core.old.inner.config.serial → (result ≡ Err (Refused (Limit Numbers greatest))) × (core.new ≡ core.old) × (shelf.new ≡ shelf.old) }
     ensures ends { GroupCloses core.old core.new (S.meaning shelf.old) (S.meaning shelf.new) result }
+    ensures up { OnOk result (IsTrue (S.meaning shelf.new).down → ⊥) }
     ensures back { IfErr result (λ e. Goes Nothing (inner_meaning (wide core.old) (S.meaning shelf.old)) (inner_meaning (wide core.new) (S.meaning shelf.new))) }
     ensures cause { core.old.inner.config.serial ≤ greatest - margin → DetStops (S.meaning shelf.old) (S.meaning shelf.new) result }
 {

@@ -1,14 +1,15 @@
 // A plex that is detached by its name.
-ghost use Rattle.std.specs.Prelude.{◌≡◌, ℕ, false, true, Some, None, Err, OnOk, IfErr};
+ghost use Rattle.std.specs.Prelude.{◌≡◌, ℕ, false, true, IsOk, IsTrue, Some, None, Err, OnOk, IfErr};
 ghost use Rattle.vx_disk.specs.Shelf.{Goes, Nothing};
 ghost use Rattle.vx_group.specs.Dets.{DetStops, det_refusal};
 ghost use Rattle.vx_group.specs.Calls.{GroupNarrows};
 ghost use Rattle.vx_group.specs.Holding.{GroupStands, wide};
-ghost use Rattle.vx_group.specs.Quiesces.{SameParts};
 ghost use Rattle.vx_group.specs.Stands.{inner_meaning};
+ghost use Rattle.vx_kept.specs.Commits.{IsCommitted};
 ghost use Rattle.vx_model.specs.declared.errors.Stop.TheVariants.{No as Refused};
 ghost use Rattle.vx_model.specs.declared.no.No.{No as NoValue};
 ghost use Rattle.vx_volume.specs.Plexes.{active};
+ghost use Rattle.vx_group.specs.Loses.{SameParts};
 
 use crate::group_core::GroupCore;
 use crate::holding::has_other;
@@ -65,6 +66,8 @@ pub fn det_in<S: Shelf>(
     ensures goes { Goes Nothing (inner_meaning (wide core.old) (S.meaning shelf.old)) (inner_meaning (wide core.new) (S.meaning shelf.new)) }
     ensures narrows { GroupNarrows core.old core.new (S.meaning shelf.old) (S.meaning shelf.new) }
     ensures parts { SameParts core.old.inner.config core.new.inner.config }
+    ensures already { det_refusal core.old.inner.config vol plex ≡ None → active core.old.inner.config vol plex ≡ false → IsOk result × (core.new ≡ core.old) × (shelf.new ≡ shelf.old) }
+    ensures newest { IsTrue (active core.old.inner.config vol plex) → OnOk result (IsCommitted core.new.inner.config (S.meaning shelf.new)) }
     ensures off { OnOk result (active core.new.inner.config vol plex ≡ false) }
     ensures others { (w p : ℕ) → (w ≡ vol → p ≡ plex → ⊥) → active core.new.inner.config w p ≡ active core.old.inner.config w p }
     ensures trust { OnOk result (core.old.inner.committed ≡ true → core.new.inner.committed ≡ true) }

@@ -6,13 +6,13 @@ ghost use Rattle.vx_copies.specs.Commits.{MoreFailed, NamesFailed};
 ghost use Rattle.vx_group.specs.GivesUp.{KeepsVolumes, NoCommit};
 ghost use Rattle.vx_group.specs.Blames.{Blames, BlamesOr, fault_of as fault_is};
 ghost use Rattle.vx_group.specs.Moves.{AreOff, Narrows};
-ghost use Rattle.vx_group.specs.Quiesces.{SameParts};
 ghost use Rattle.vx_group.specs.Stands.{InnerStands};
 ghost use Rattle.vx_disk.specs.Blocks.{bit_at};
 ghost use Rattle.vx_kept.specs.Commits.{IsCommitted};
 ghost use Rattle.vx_kept.specs.Trusts.{HasFailed};
 ghost use Rattle.vx_kept.specs.States.{AreOn, SomeLeft, staled};
 ghost use Rattle.vx_volume.specs.Plexes.{active, uses};
+ghost use Rattle.vx_group.specs.Loses.{SameParts};
 
 use crate::inner::Inner;
 use crate::marking::is_committed;

@@ -1,4 +1,5 @@
 // A group that is imported.
+ghost use Rattle.vx_group.specs.Creates.{SameUnits};
 ghost use Rattle.vx_group.specs.Imports.{ImportEnds};
 ghost use Rattle.vx_group.specs.Resumes.{CanImport};
 
@@ -17,7 +18,8 @@ use vx_model::{No, Stop};
 /// A refusal changes no block of a volume but as a crash might have left it. It takes memory.
 pub fn import_in<S: Shelf>(alloc: Global, shelf: &mut S) -> Result<Inner, Stop>
     requires can { CanImport (S.meaning shelf.old) }
-    ensures { ImportEnds (S.meaning shelf.old) (S.meaning shelf.new) result }
+    ensures ends { ImportEnds (S.meaning shelf.old) (S.meaning shelf.new) result }
+    ensures same { SameUnits (S.meaning shelf.old) (S.meaning shelf.new) }
 {
     if shelf.is_down() {
         return Err(Stop::No(No::Down));

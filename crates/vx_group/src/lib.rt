@@ -35,6 +35,7 @@ mod releasing;
 mod settling;
 mod shaping;
 mod taking;
+mod trusting;
 mod writing;
 mod zeroing;
 
@@ -57,4 +58,5 @@ pub use racking::{fail_in, fuse_in};
 pub use reading::read_in;
 pub use releasing::release;
 pub use taking::{Plan, take_up};
+pub use trusting::trust_group;
 pub use writing::write_group;

@@ -8,9 +8,11 @@ ghost use Rattle.vx_model.specs.declared.no.No.{No as NoValue};
 ghost use Rattle.vx_group.specs.Blames.{StopsByDevice};
 ghost use Rattle.vx_group.specs.Calls.{GroupStays};
 ghost use Rattle.vx_group.specs.Holding.{GroupStands};
+ghost use Rattle.vx_group.specs.Loses.{SameParts};
 ghost use Rattle.vx_group.specs.Makes.{MakeEnds, MakesBeside, StayAsWere, Unmoved, ZerosOn, make_refusal};
 ghost use Rattle.vx_group.specs.Nexts.{Adds, IsNextConfig, PlanEnds};
 ghost use Rattle.vx_disk.specs.Moves.{Anything};
+ghost use Rattle.vx_kept.specs.Commits.{IsCommitted};
 ghost use Rattle.vx_kept.specs.Keeping.{Acts};
 ghost use Rattle.vx_kept.specs.Trusts.{HasFailed};
 ghost use Rattle.vx_group.specs.Stands.{InnerStands};
@@ -75,6 +77,9 @@ fn add_last<S: Shelf>(shelf: &mut S, core: &mut Inner, next: Config) -> Result<(
     ensures stands { InnerStands core.new (S.meaning shelf.new) }
     ensures stays { StayAsWere core.old core.new (S.meaning shelf.old) (S.meaning shelf.new) }
     ensures adds { Adds core.old core.new next (S.meaning shelf.new) result }
+    ensures up { OnOk result (IsTrue (S.meaning shelf.new).down → ⊥) }
+    ensures parts { SameParts core.old.config core.new.config }
+    ensures newest { OnOk result (IsCommitted core.new.config (S.meaning shelf.new)) }
     ensures beside { Acts (ZerosOn next (length core.old.config.volumes)) Anything (S.meaning shelf.old) (S.meaning shelf.new) }
     ensures trust { OnOk result (core.old.committed ≡ true → core.new.committed ≡ true) }
     ensures whole { OnOk result ((core.new.committed ≡ true) ⊎ HasFailed core.new.config.disks) }
@@ -117,6 +122,9 @@ fn add<S: Shelf>(shelf: &mut S, core: &mut Inner, next: Config) -> Result<(), Sh
     ensures stands { InnerStands core.new (S.meaning shelf.new) }
     ensures stays { StayAsWere core.old core.new (S.meaning shelf.old) (S.meaning shelf.new) }
     ensures adds { Adds core.old core.new next (S.meaning shelf.new) result }
+    ensures up { OnOk result (IsTrue (S.meaning shelf.new).down → ⊥) }
+    ensures parts { SameParts core.old.config core.new.config }
+    ensures newest { OnOk result (IsCommitted core.new.config (S.meaning shelf.new)) }
     ensures beside { MakesBeside core.old.config (S.meaning shelf.old) (S.meaning shelf.new) }
     ensures trust { OnOk result (core.old.committed ≡ true → core.new.committed ≡ true) }
     ensures whole { OnOk result ((core.new.committed ≡ true) ⊎ HasFailed core.new.config.disks) }
@@ -153,6 +161,10 @@ pub fn make_in<S: Shelf>(
     ensures stays { GroupStays core.old core.new (S.meaning shelf.old) (S.meaning shelf.new) }
     ensures beside { MakesBeside core.old.inner.config (S.meaning shelf.old) (S.meaning shelf.new) }
     ensures ends { make_refusal core.old.inner.config name.now want.now ≡ None → MakeEnds name.now want.now core.old.inner core.new.inner (S.meaning shelf.old) (S.meaning shelf.new) result }
+    ensures parts { SameParts core.old.inner.config core.new.inner.config }
+    ensures held { OnOk result (core.new.held ≡ None) }
+    ensures up { OnOk result (IsTrue (S.meaning shelf.new).down → ⊥) }
+    ensures newest { OnOk result (IsCommitted core.new.inner.config (S.meaning shelf.new)) }
     ensures trust { OnOk result (core.old.inner.committed ≡ true → core.new.inner.committed ≡ true) }
     ensures whole { OnOk result ((core.new.inner.committed ≡ true) ⊎ HasFailed core.new.inner.config.disks) }
     ensures agreed { IfErr result (λ e. core.old.inner.committed ≡ true → core.new.inner.agreed ≡ true) }

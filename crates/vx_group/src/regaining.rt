@@ -6,6 +6,7 @@ ghost use Rattle.vx_copies.specs.Marks.{failed_at};
 ghost use Rattle.vx_group.specs.Blames.{Blames};
 ghost use Rattle.vx_kept.specs.Commits.{IsCommitted};
 ghost use Rattle.vx_volume.specs.Plexes.{uses as uses_is};
+ghost use Rattle.vx_group.specs.Loses.{SameParts};
 ghost use Rattle.vx_group.specs.Moves.{Narrows};
 ghost use Rattle.vx_group.specs.Regains.{AreHeld, HeldOne, HoldsNow, LiesOnFailed, Regained, Regains};
 ghost use Rattle.vx_group.specs.Stands.{InnerStands};
@@ -82,6 +83,7 @@ fn recommit<S: Shelf>(
     ensures stands { InnerStands core.new (S.meaning shelf.new) }
     ensures narrows { Narrows core.old core.new (S.meaning shelf.old) (S.meaning shelf.new) }
     ensures volumes { core.new.config.volumes ≡ core.old.config.volumes }
+    ensures parts { SameParts core.old.config core.new.config }
     ensures failing { MoreFailed (S.meaning shelf.old) (S.meaning shelf.new) core.old.config.disks core.new.config.disks }
     ensures few { OnOk result (core.new.config.serial ≤ core.old.config.serial + 1 + length core.old.config.disks) }
     ensures good { core.new.unsettled ≡ true → core.new.good ≡ core.old.good }
@@ -122,6 +124,7 @@ pub fn regain<S: Shelf>(
     ensures stands { InnerStands core.new (S.meaning shelf.new) }
     ensures narrows { Narrows core.old core.new (S.meaning shelf.old) (S.meaning shelf.new) }
     ensures volumes { core.new.config.volumes ≡ core.old.config.volumes }
+    ensures parts { SameParts core.old.config core.new.config }
     ensures few { OnOk result (core.new.config.serial ≤ core.old.config.serial + 9) }
     ensures regains { Regains core.old.config core.new.config vol plex (S.meaning shelf.old) (S.meaning shelf.new) }
     ensures held { OnOk result (HoldsNow core.old.config core.new.config vol plex (S.meaning shelf.new)) }

@@ -3,6 +3,7 @@ ghost use Rattle.std.specs.Prelude.{◌≡◌, ◌⊎◌, ◌+◌, ◌<◌, ◌�
 ghost use Rattle.vx_copies.specs.Commits.{MoreFailed, NamesFailed};
 ghost use Rattle.vx_group.specs.Blames.{Blames};
 ghost use Rattle.vx_group.specs.GivesUp.{NoCommit};
+ghost use Rattle.vx_group.specs.Loses.{SameParts};
 ghost use Rattle.vx_group.specs.Moves.{Narrows};
 ghost use Rattle.vx_group.specs.Quiesces.{AnyFailed};
 ghost use Rattle.vx_group.specs.Settled.{SameBut};
@@ -100,6 +101,7 @@ pub fn make_ready<S: Shelf>(shelf: &mut S, core: &mut Inner) -> Result<(), Shelf
     ensures stands { InnerStands core.new (S.meaning shelf.new) }
     ensures narrows { Narrows core.old core.new (S.meaning shelf.old) (S.meaning shelf.new) }
     ensures volumes { core.new.config.volumes ≡ core.old.config.volumes }
+    ensures parts { SameParts core.old.config core.new.config }
     ensures failing { MoreFailed (S.meaning shelf.old) (S.meaning shelf.new) core.old.config.disks core.new.config.disks }
     ensures few { OnOk result (core.new.config.serial ≤ core.old.config.serial + 1 + length core.old.config.disks) }
     ensures good { core.new.unsettled ≡ true → core.new.good ≡ core.old.good }

@@ -1,5 +1,5 @@
 -- A group that crashed, as its site notes it.
-use Rattle.std.proofs.Common.{◌≡◌, inl, ℕ, true, refl, sym, ◌∙◌, subst, arith, IsTrue}
+use Rattle.std.proofs.Common.{◌≡◌, inl, ℕ, true, refl, sym, ◌∙◌, subst, IsTrue}
 use Rattle.vx_model.specs.declared.site.SiteState.TheVariants.{Down as IsDown}
 use Rattle.vx_disk.specs.Racks.{Stopped}
 use Rattle.vx_disk.specs.Shelf.{Each, Image, Meaning}
@@ -20,6 +20,7 @@ use Rattle.vx_group.specs.declared.group_core.GroupCore.{GroupCore}
 use Rattle.vx_group.proofs.HoldLemmas.{wide_shape}
 use Rattle.vx_grouped.specs.Away.{AwayLies, IsAwayAt}
 use Rattle.vx_grouped.specs.GroupNotes.{GroupLies}
+use Rattle.vx_kept.proofs.Chosen.{extends_shape}
 
 module _ (n : Node) (note : GroupNode) (c : GroupCore) (m m' : Meaning) (lies : GroupLies n note c m) (stopped : Stopped m m') (stands : InnerStands (wide c) m') where
   kin : (i : Image) (x : Config) → Each m'.leaves i → found m' i ≡ Found x → Kin (wide c).config x
@@ -40,7 +41,7 @@ module _ (n : Node) (note : GroupNode) (c : GroupCore) (m m' : Meaning) (lies : 
     size = λ u low. stopped.size u ∙ lies.size u low;
     can = λ tight. can (lies.agreed tight);
     sizes = λ v. lies.holds.size v ∙ (wide_shape c).blocks v;
-    volumes = λ i x each is. let count = (kin i x each is).shape.volumes in let same = (wide_shape c).volumes in omega (arith, count, same);
+    volumes = λ i x each is. extends_shape x (wide c).config c.inner.config (kin i x each is).shape (wide_shape c);
     has = has;
   }
 

@@ -15,7 +15,7 @@ use Rattle.vx_kept.specs.Choice.{live}
 use Rattle.vx_kept.specs.Cleans.{at_serial}
 use Rattle.vx_kept.specs.Groups.{found}
 use Rattle.vx_kept.specs.Keeping.{Kin}
-use Rattle.vx_kept.proofs.Chosen.{active_volumes}
+use Rattle.vx_kept.proofs.Chosen.{active_volumes, extends_shape, extends_volumes}
 use Rattle.vx_kept.proofs.Narrower.{stand_apart}
 use Rattle.vx_kept.proofs.Steps.{inside_back}
 use Rattle.vx_layout.specs.Places.{place}
@@ -91,7 +91,8 @@ module _ (n : Node) (note : GroupNode) (c : GroupCore) (m m' : Meaning) (lies : 
       size = λ u low. it.quiesces.acts.size u ∙ lies.size u low;
       can = λ tight. can (deported_tight c.inner.committed tight);
       sizes = λ v. lies.holds.size v ∙ (wide_shape c).blocks v;
-      volumes = λ i x each is. let more = (kin i x each is).shape.volumes in let same = count in omega (arith, more, same);
+      volumes = λ i x each is. extends_shape x it.behind.config c.inner.config
+          (extends_volumes x (at_serial it.config.serial it.behind.config) it.behind.config refl (kin i x each is).shape) it.quiesces.shape;
       has = λ i x each is v p b inside on. elim (has i x each is v p b inside on) [
         | inl same ↦ inl same
         | inr among ↦ inr among

@@ -5,3 +5,5 @@ pub mod NoteLemmas
 pub mod PlainLemmas
 pub mod ReadLemmas
 pub mod WriteLemmas
+pub mod AddedLemmas
+pub mod ReturnLemmas

@@ -1,5 +1,5 @@
 -- A group whose disks are by themselves, as its site notes it: it crashed, or was deported.
-use Rattle.std.specs.Prelude.{◌≡◌, ℕ, ◌<◌, ◌≤◌, true, false, if◌then◌else◌, IsTrue, [], length}
+use Rattle.std.specs.Prelude.{◌≡◌, ℕ, ◌<◌, true, false, if◌then◌else◌, IsTrue, []}
 use Rattle.vx_model.specs.declared.site.SiteState.TheVariants.{Deported, Down as IsDown}
 use Rattle.vx_disk.specs.Shelf.{Each, Image, Meaning}
 use Rattle.vx_history.specs.Groups.{GroupNode, BlockMay}
@@ -9,6 +9,7 @@ use Rattle.vx_config.specs.declared.config.Config.{Config}
 use Rattle.vx_copyfmt.specs.Imports.{Found}
 use Rattle.vx_kept.specs.Choice.{live}
 use Rattle.vx_kept.specs.Groups.{found}
+use Rattle.vx_kept.specs.Keeping.{Extends}
 use Rattle.vx_layout.specs.Places.{place}
 use Rattle.vx_volume.specs.Plexes.{Inside}
 use Rattle.vx_group.specs.Resumes.{CanImport}
@@ -16,14 +17,14 @@ use Rattle.vx_group.specs.declared.inner.Inner.{Inner}
 use Rattle.vx_grouped.specs.GroupNotes.{noted_config}
 
 -- The disks of the site, on which the group was last up with a configuration. An import may go over them, unless imports may disagree. Each image that
--- they keep has a configuration with the volumes of that one, and in it each plex that is ACTIVE or CLEAN has of each of their blocks a value
+-- they keep has a configuration with the volumes of that one, and perhaps more, and in it each plex that is ACTIVE or CLEAN has of each of their blocks a value
 -- that the block may have.
 pub record AwayLies (n : Node) (note : GroupNode) (last : Config) (m : Meaning) : Type 0 where
   pub units : m.units ≡ n.disks
   pub size : (u : ℕ) → u < n.disks → m.size u ≡ n.blocks
   pub can : note.loose ≡ false → CanImport m
   pub sizes : (v : ℕ) → note.bytes.size v ≡ blocks_of last.volumes v
-  pub volumes : (i : Image) (x : Config) → Each m.leaves i → found m i ≡ Found x → length last.volumes ≤ length x.volumes
+  pub volumes : (i : Image) (x : Config) → Each m.leaves i → found m i ≡ Found x → Extends x last
   pub has : (i : Image) (x : Config) → Each m.leaves i → found m i ≡ Found x → (v p b : ℕ) → Inside last v b → IsTrue (live x v p)
       → BlockMay note v b (i (place x v p b).0 (place x v p b).1)
 

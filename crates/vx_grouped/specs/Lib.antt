@@ -2,3 +2,5 @@ pub mod Away
 pub mod Ends
 pub mod GroupNotes
 pub mod Plain
+pub mod Added
+pub mod Returns

@@ -1,12 +1,17 @@
 //! A group of disks as a site without a replicated volume group has it: what its calls make of what the site notes of the group.
 //!
-//! Its volumes are written and read by themselves, its plexes are detached and attached, and it is deported. No line uses it yet.
+//! Its volumes are made, written and read by themselves, its plexes are detached and attached, and it is deported and imported. No line uses it
+//! yet.
 #![tactic(auto)]
 
+mod importing;
 mod leaving;
+mod making;
 mod plain;
 mod plexes;
 
+pub use importing::import_group;
 pub use leaving::{crash_group, deport_group};
+pub use making::make_volume_of;
 pub use plain::{read_plain, write_plain};
 pub use plexes::{att_plex, det_plex};

@@ -1,5 +1,5 @@
 -- The plex that an image goes by takes part.
-use Rattle.std.proofs.Common.{◌≡◌, ℕ, zero, suc, Bool, true, false, IsTrue, Option, Some, None, List, [], ◌∷◌, length, refl, ap, sym, ◌∙◌, arith}
+use Rattle.std.proofs.Common.{Bool, IsTrue, List, None, Option, Some, [], ap, arith, false, length, refl, suc, sym, true, zero, ℕ, ◌<◌, ◌∙◌, ◌∷◌, ◌≡◌}
 use Rattle.std.specs.Prelude.{◌&&◌, ◌||◌, slice_get, if◌then◌else◌}
 use Rattle.std.specs.List.{list_any}
 use Rattle.vx_copyfmt.specs.Imports.{Found, first_of, missing, or_missing, settle}
@@ -12,8 +12,8 @@ use Rattle.vx_copies.specs.Bodies.{failed_in}
 use Rattle.vx_kept.specs.Choice.{chosen, chosen_or, first_plex, first_where, is_whole, live, live_or}
 use Rattle.vx_layout.specs.Places.{place, place_or, plex_in}
 use Rattle.vx_volume.specs.Plexes.{active, active_or}
-use Rattle.vx_kept.specs.Keeping.{Extends, SameShape}
-use Rattle.vx_kept.proofs.RunLemmas.{logs_volumes, run_same, trust_from}
+use Rattle.vx_kept.specs.Keeping.{Extends, SameShape, name_or, volume_name}
+use Rattle.vx_kept.proofs.RunLemmas.{logs_volumes, none_live, none_trusted, run_same, trust_from, trust_same}
 
 -- ---- where every disk can be read, none is missing
 
@@ -49,9 +49,13 @@ pub live_volumes : (x a : Config) → x.volumes ≡ a.volumes → (v p : ℕ) �
 unfolding live
 live_volumes x a volumes v p = ap (λ vs. live_or (plex_in (slice_get vs v) p)) volumes
 
+pub names_volumes : (x a : Config) → x.volumes ≡ a.volumes → (v : ℕ) → volume_name x v ≡ volume_name a v
+names_volumes x a volumes v = ap (λ vs. name_or (slice_get vs v)) volumes
+
 pub alike_shape : (x a c : Config) → x.volumes ≡ a.volumes → SameShape a c → SameShape x c
 alike_shape x a c volumes shape = record {
   volumes = ap length volumes ∙ shape.volumes;
+  names = λ v. names_volumes x a volumes v ∙ shape.names v;
   blocks = λ v. ap (λ vs. blocks_of vs v) volumes ∙ shape.blocks v;
   place = λ v p b. place_volumes x a volumes v p b ∙ shape.place v p b;
   logs = λ v log. run_same x a v v log (logs_volumes x a volumes v log) ∙ shape.logs v log;
@@ -61,30 +65,55 @@ alike_shape x a c volumes shape = record {
 pub alike_extends : (x a c : Config) → x.volumes ≡ a.volumes → Extends a c → Extends x c
 alike_extends x a c volumes shape = record {
   volumes = let le = shape.volumes in omega (arith, ap length volumes, le);
+  names = λ v lt. names_volumes x a volumes v ∙ shape.names v lt;
   blocks = λ v lt. ap (λ vs. blocks_of vs v) volumes ∙ shape.blocks v lt;
   place = λ v p b lt. place_volumes x a volumes v p b ∙ shape.place v p b lt;
   logs = λ v log lt. run_same x a v v log (logs_volumes x a volumes v log) ∙ shape.logs v log lt;
   trusted = λ v log lt is. shape.trusted v log lt (trust_from x a v v log (logs_volumes x a volumes v log) is);
+  beyond = λ v log past. trust_same x a v v log (logs_volumes x a volumes v log) ∙ shape.beyond v log past;
+  fresh = λ v p past is. active_volumes x a volumes v p ∙ shape.fresh v p past (sym (live_volumes x a volumes v p) ∙ is);
 }
 
 pub same_extends : (x c : Config) → SameShape x c → Extends x c
 same_extends x c same = record {
   volumes = let is = same.volumes in omega (arith, is);
+  names = λ v lt. same.names v;
   blocks = λ v lt. same.blocks v;
   place = λ v p b lt. same.place v p b;
   logs = λ v log lt. same.logs v log;
   trusted = λ v log lt. same.trusted v log;
+  beyond = λ v log past. none_trusted x v log (let is = same.volumes in omega (arith, is, past));
+  fresh = λ v p past is. absurd (let clash : false ≡ true = sym (none_live x v p (let count = same.volumes in omega (arith, count, past))) ∙ is in cc);
 }
 
 -- the volumes of memory are the same
 pub extends_volumes : (x c e : Config) → e.volumes ≡ c.volumes → Extends x c → Extends x e
 extends_volumes x c e volumes shape = record {
   volumes = let le = shape.volumes in omega (arith, ap length volumes, le);
+  names = λ v lt. shape.names v (omega (arith, ap length volumes, lt)) ∙ sym (names_volumes e c volumes v);
   blocks = λ v lt. shape.blocks v (omega (arith, ap length volumes, lt)) ∙ ap (λ vs. blocks_of vs v) (sym volumes);
   place = λ v p b lt. shape.place v p b (omega (arith, ap length volumes, lt)) ∙ sym (place_volumes e c volumes v p b);
   logs = λ v log lt. shape.logs v log (omega (arith, ap length volumes, lt)) ∙ sym (run_same e c v v log (logs_volumes e c volumes v log));
   trusted = λ v log lt is. trust_from c e v v log (sym (logs_volumes e c volumes v log)) (shape.trusted v log (omega (arith, ap length volumes, lt)) is);
+  beyond = λ v log past. shape.beyond v log (omega (arith, ap length volumes, past));
+  fresh = λ v p past is. shape.fresh v p (omega (arith, ap length volumes, past)) is;
 }
+
+-- so are they by their shape
+pub extends_shape : (x d c : Config) → Extends x d → SameShape d c → Extends x c
+extends_shape x d c more same = record {
+  volumes = let le = more.volumes in let is = same.volumes in omega (arith, le, is);
+  names = λ v lt. more.names v (there v lt) ∙ same.names v;
+  blocks = λ v lt. more.blocks v (there v lt) ∙ same.blocks v;
+  place = λ v p b lt. more.place v p b (there v lt) ∙ same.place v p b;
+  logs = λ v log lt. more.logs v log (there v lt) ∙ same.logs v log;
+  trusted = λ v log lt is. same.trusted v log (more.trusted v log (there v lt) is);
+  beyond = λ v log past. more.beyond v log (let is = same.volumes in omega (arith, is, past));
+  fresh = λ v p past on. more.fresh v p (let is = same.volumes in omega (arith, is, past)) on;
+}
+  where
+    there : (v : ℕ) → v < length c.volumes → v < length d.volumes
+    there v lt = let is = same.volumes in omega (arith, is, lt)
 
 -- ---- the first that passes
 

@@ -1,6 +1,6 @@
 -- What a log that is lost leaves of a configuration, and that the loss can be taken back.
-use Rattle.std.proofs.Common.{◌≡◌, inl, inr, ℕ, zero, suc, ◌+◌, ◌<◌, Bool, true, false, Option, Some, None, List, [], ◌∷◌, length, refl, ap, sym, ◌∙◌, subst, arith}
-use Rattle.std.specs.Prelude.{◌&&◌, ◌==◌, not, slice_get}
+use Rattle.std.proofs.Common.{◌≡◌, inl, inr, ℕ, zero, suc, ◌+◌, Bool, true, false, Option, Some, None, List, [], ◌∷◌, length, refl, ap, sym, ◌∙◌, subst, arith}
+use Rattle.std.specs.Prelude.{◌&&◌, ◌==◌, slice_get}
 use Rattle.std.proofs.lemmas.Bool.{and_from, and_parts, cases_eq}
 use Rattle.vx_disk.specs.Shelf.{Meaning}
 use Rattle.vx_model.specs.declared.no.No.{No}
@@ -20,7 +20,7 @@ use Rattle.vx_copies.specs.Commits.{Refused}
 use Rattle.vx_copies.specs.Looking.{on_shelf}
 use Rattle.vx_copies.specs.Marks.{failed_at}
 use Rattle.vx_kept.specs.Choice.{chosen, live, live_or}
-use Rattle.vx_kept.specs.Keeping.{AllOn, IsTidy, MayBeNext, SameShape}
+use Rattle.vx_kept.specs.Keeping.{AllOn, IsTidy, MayBeNext, SameShape, name_or}
 use Rattle.vx_kept.specs.LogRuns.{log_lost, log_place, log_trusted, lost_or, run_or, trusted_or}
 use Rattle.vx_kept.specs.Losses.{LosesLog, SamePlexes}
 use Rattle.vx_kept.proofs.Chosen.{same_extends}
@@ -51,6 +51,11 @@ blocks_lost : (log : VolumeLog) (o : Option VolumeEntry) → blocks_or_none (map
 blocks_lost log None = refl
 blocks_lost Drl (Some x) = refl
 blocks_lost Fmr (Some x) = refl
+
+names_lost : (log : VolumeLog) (o : Option VolumeEntry) → name_or (map_one (with_lost log true) o) ≡ name_or o
+names_lost log None = refl
+names_lost Drl (Some x) = refl
+names_lost Fmr (Some x) = refl
 
 plexes_lost : (log : VolumeLog) (q : ℕ) (o : Option VolumeEntry) → plex_in (map_one (with_lost log true) o) q ≡ plex_in o q
 plexes_lost log q None = refl
@@ -129,6 +134,7 @@ module _ (v : ℕ) (log : VolumeLog) (c : Config) where
   unfolding place log_place log_trusted
   lost_shape = record {
     volumes = changed-length (with_lost log true) v c.volumes;
+    names = λ x. each name_or (names_lost log) x;
     blocks = λ x. each blocks_or_none (blocks_lost log) x;
     place = λ x q b. each (λ (o : Option VolumeEntry). place_or o q b) (place_lost log q b) x;
     logs = λ x k. each (λ (o : Option VolumeEntry). run_or (log_or k o)) (runs_lost log k) x;

@@ -1,13 +1,26 @@
 -- The logs of configurations with the same volumes.
-use Rattle.std.proofs.Common.{◌≡◌, ℕ, true, ap, sym, ◌∙◌}
+use Rattle.std.proofs.Common.{◌≡◌, ℕ, ◌≤◌, true, false, Option, length, ap, sym, ◌∙◌}
 use Rattle.std.specs.Prelude.{slice_get}
+use Rattle.std.proofs.lemmas.Option.{slice_get_past}
 use Rattle.vx_config.specs.declared.config.Config.{Config}
+use Rattle.vx_config.specs.declared.entry.VolumeEntry.{VolumeEntry}
 use Rattle.vx_config.specs.declared.entry.VolumeLog.{VolumeLog}
 use Rattle.vx_kept.specs.LogRuns.{log_lost, log_place, log_trusted, lost_or, run_or, trusted_or}
 use Rattle.vx_maplog.specs.Logs.{log_of, log_or}
+use Rattle.vx_kept.specs.Choice.{live, live_or}
+use Rattle.vx_layout.specs.Places.{plex_in}
 
 pub logs_volumes : (x a : Config) → x.volumes ≡ a.volumes → (v : ℕ) (log : VolumeLog) → log_of x v log ≡ log_of a v log
 logs_volumes x a volumes v log = ap (λ vs. log_or log (slice_get vs v)) volumes
+
+-- no volume, no log
+pub none_trusted : (x : Config) (v : ℕ) (log : VolumeLog) → length x.volumes ≤ v → log_trusted x v log ≡ false
+unfolding log_trusted
+none_trusted x v log past = ap (λ (o : Option VolumeEntry). trusted_or (log_or log o)) (slice_get_past x.volumes v past)
+
+pub none_live : (x : Config) (v p : ℕ) → length x.volumes ≤ v → live x v p ≡ false
+unfolding live
+none_live x v p past = ap (λ (o : Option VolumeEntry). live_or (plex_in o p)) (slice_get_past x.volumes v past)
 
 -- one log that is the same
 module _ (d c : Config) (x v : ℕ) (log : VolumeLog) (same : log_of d x log ≡ log_of c v log) where

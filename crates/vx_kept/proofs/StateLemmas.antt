@@ -17,7 +17,7 @@ use Rattle.vx_config.proofs.Fewer.{stated_back}
 use Rattle.vx_layout.specs.Places.{linear, located, place, place_in, place_or, plex_at, plex_in}
 use Rattle.vx_volume.specs.Plexes.{active, active_or, is_active}
 use Rattle.vx_kept.specs.Choice.{live, live_or}
-use Rattle.vx_kept.specs.Keeping.{SameShape}
+use Rattle.vx_kept.specs.Keeping.{SameShape, name_or}
 use Rattle.vx_kept.specs.States.{staled, stale_at, whole_of, whole_or}
 use Rattle.vx_kept.proofs.RunLemmas.{run_same, trust_from}
 use Rattle.vx_maplog.specs.Logs.{log_of, log_or}
@@ -90,6 +90,12 @@ module _ (v p : ℕ) (s : PlexState) (w : Bool) (c : Config) where
     | inr other ↦ ap (log_or k) (volume_other x other)
   ]
 
+  -- ---- names
+
+  names_map : (o : Option VolumeEntry) → name_or (map_one (with_plex p s w) o) ≡ name_or o
+  names_map None = refl
+  names_map (Some x) = refl
+
   -- ---- places
 
   blocks_map : (o : Option VolumeEntry) → blocks_or_none (map_one (with_plex p s w) o) ≡ blocks_or_none o
@@ -120,6 +126,10 @@ module _ (v p : ℕ) (s : PlexState) (w : Bool) (c : Config) where
   unfolding place
   stated_shape = record {
     volumes = changed-length (with_plex p s w) v c.volumes;
+    names = λ x. elim (cases_eq x v) [
+      | inl same ↦ subst (λ (y : ℕ). name_or (slice_get d.volumes y) ≡ name_or (slice_get c.volumes y)) (sym same) (ap name_or volume_same ∙ names_map (slice_get c.volumes v))
+      | inr other ↦ ap name_or (volume_other x other)
+    ];
     blocks = λ x. elim (cases_eq x v) [
       | inl same ↦ subst (λ (y : ℕ). blocks_of d.volumes y ≡ blocks_of c.volumes y) (sym same) (ap blocks_or_none volume_same ∙ blocks_map (slice_get c.volumes v))
       | inr other ↦ ap blocks_or_none (volume_other x other)
@@ -165,11 +175,12 @@ module _ (v p : ℕ) (c : Config) where
 -- ---- several plexes STALE
 
 pub same_shape : (c : Config) → SameShape c c
-same_shape c = record { volumes = refl; blocks = λ v. refl; place = λ v p b. refl; logs = λ v log. refl; trusted = λ v log is. is }
+same_shape c = record { volumes = refl; names = λ v. refl; blocks = λ v. refl; place = λ v p b. refl; logs = λ v log. refl; trusted = λ v log is. is }
 
 pub then_shape : (x y z : Config) → SameShape x y → SameShape y z → SameShape x z
 then_shape x y z one two = record {
   volumes = one.volumes ∙ two.volumes;
+  names = λ v. one.names v ∙ two.names v;
   blocks = λ v. one.blocks v ∙ two.blocks v;
   place = λ v p b. one.place v p b ∙ two.place v p b;
   logs = λ v log. one.logs v log ∙ two.logs v log;

@@ -1,11 +1,12 @@
 -- What the disks of a group keep: in each image that a crash may leave, each plex that takes part is ACTIVE in memory.
-use Rattle.std.specs.Prelude.{◌≡◌, ◌⊎◌, ℕ, ◌+◌, ◌<◌, ◌≤◌, Bool, true, IsTrue, IsFalse, List, length}
+use Rattle.std.specs.Prelude.{◌≡◌, ◌⊎◌, ℕ, ◌+◌, ◌<◌, ◌≤◌, Bool, true, false, IsTrue, IsFalse, Option, Some, None, List, [], length, slice_get}
 use Rattle.vx_disk.specs.Moves.{Says}
 use Rattle.vx_disk.specs.Shelf.{Each, Image, Meaning, Or, Values}
 use Rattle.vx_copyfmt.specs.Commits.{Counts, Tidy}
 use Rattle.vx_copyfmt.specs.Imports.{Found}
 use Rattle.vx_config.specs.Checks.{blocks_of}
 use Rattle.vx_config.specs.declared.config.Config.{Config}
+use Rattle.vx_config.specs.declared.entry.VolumeEntry.{VolumeEntry}
 use Rattle.vx_config.specs.declared.entry.VolumeLog.{VolumeLog}
 use Rattle.vx_copies.specs.Commits.{Below, HaveLabels, HeldGood}
 use Rattle.vx_copies.specs.Looking.{on_shelf}
@@ -15,21 +16,34 @@ use Rattle.vx_kept.specs.LogRuns.{log_place, log_trusted}
 use Rattle.vx_layout.specs.Places.{place}
 use Rattle.vx_volume.specs.Plexes.{active}
 
--- the same volumes, with the same places of plexes and logs; each log that x trusts c trusts
+abbrev pub name_or : Option VolumeEntry → List ℕ
+name_or None = []
+name_or (Some v) = v.name
+
+-- the name of a volume
+abbrev pub volume_name : Config → ℕ → List ℕ
+volume_name c v = name_or (slice_get c.volumes v)
+
+-- the same volumes by their names, with the same places of plexes and logs; each log that x trusts c trusts
 pub record SameShape (x c : Config) : Type 0 where
   pub volumes : length x.volumes ≡ length c.volumes
+  pub names : (v : ℕ) → volume_name x v ≡ volume_name c v
   pub blocks : (v : ℕ) → blocks_of x.volumes v ≡ blocks_of c.volumes v
   pub place : (v p b : ℕ) → place x v p b ≡ place c v p b
   pub logs : (v : ℕ) (log : VolumeLog) → log_place x v log ≡ log_place c v log
   pub trusted : (v : ℕ) (log : VolumeLog) → log_trusted x v log ≡ true → log_trusted c v log ≡ true
 
--- the volumes of c are the first ones of x, with the same places of plexes and logs; each log of them that x trusts c trusts
+-- the volumes of c are the first ones of x, with the same names and places of plexes and logs; each log of them that x trusts c trusts. Of its
+-- other volumes x trusts no log, and each plex that takes part is ACTIVE.
 pub record Extends (x c : Config) : Type 0 where
   pub volumes : length c.volumes ≤ length x.volumes
+  pub names : (v : ℕ) → v < length c.volumes → volume_name x v ≡ volume_name c v
   pub blocks : (v : ℕ) → v < length c.volumes → blocks_of x.volumes v ≡ blocks_of c.volumes v
   pub place : (v p b : ℕ) → v < length c.volumes → place x v p b ≡ place c v p b
   pub logs : (v : ℕ) (log : VolumeLog) → v < length c.volumes → log_place x v log ≡ log_place c v log
   pub trusted : (v : ℕ) (log : VolumeLog) → v < length c.volumes → log_trusted x v log ≡ true → log_trusted c v log ≡ true
+  pub beyond : (v : ℕ) (log : VolumeLog) → length c.volumes ≤ v → log_trusted x v log ≡ false
+  pub fresh : (v p : ℕ) → length c.volumes ≤ v → IsTrue (live x v p) → IsTrue (active x v p)
 
 -- A configuration that an image may have beside one in memory: of the volumes of memory each plex that takes part in it is ACTIVE in memory,
 -- and the one that it chooses takes part. It may have volumes more, which a refused commit was to make.

@@ -1,7 +1,8 @@
 // The commit of a group.
-ghost use Rattle.std.specs.Prelude.{◌≡◌, ◌<◌, ◌≤◌, Bool, length, true, IfOk};
+ghost use Rattle.std.specs.Prelude.{◌≡◌, ◌<◌, ◌≤◌, Bool, length, true, IfOk, OnOk};
 ghost use Rattle.vx_config.specs.Configs.{CanSpell};
 ghost use Rattle.vx_copyio.specs.Labelling.{AreLarge};
+ghost use Rattle.vx_copyio.specs.Putting.{KeepsUp};
 ghost use Rattle.vx_copies.specs.Bodies.{is_wanted};
 ghost use Rattle.vx_copies.specs.Commits.{NamesFailed};
 ghost use Rattle.vx_disk.specs.Shelf.{Nothing};
@@ -79,6 +80,7 @@ pub fn commit_clean<S: Shelf>(
     ensures wanted { is_wanted (S.meaning shelf.new).units (S.meaning shelf.new).size config.new ≡ true }
     ensures acts { Acts Nothing (Sees config.old (Member good (S.meaning shelf.old)) (S.meaning shelf.old)) (S.meaning shelf.old) (S.meaning shelf.new) }
     ensures ends { CleanEnds good config.old (cleaned unsure.now config.old (length config.old.volumes)) config.new (S.meaning shelf.old) (S.meaning shelf.new) result }
+    ensures up { OnOk result (KeepsUp (S.meaning shelf.old) (S.meaning shelf.new)) }
     ensures trusts { (committed agreed : Bool) → Trusts committed agreed good (S.meaning shelf.old) → TrustEnds committed good config.new (S.meaning shelf.new) result }
 {
     make_clean(config, unsure);

@@ -1,8 +1,9 @@
 // The commit of a configuration beside the one in memory.
-ghost use Rattle.std.specs.Prelude.{◌≡◌, true, Bool};
+ghost use Rattle.std.specs.Prelude.{◌≡◌, true, Bool, OnOk};
 ghost use Rattle.vx_config.specs.Configs.{CanSpell};
 ghost use Rattle.vx_copies.specs.Bodies.{is_wanted};
 ghost use Rattle.vx_copyio.specs.Labelling.{AreLarge};
+ghost use Rattle.vx_copyio.specs.Putting.{KeepsUp};
 ghost use Rattle.vx_disk.specs.Shelf.{Nothing};
 ghost use Rattle.vx_kept.specs.Commits.{Member, NextEnds};
 ghost use Rattle.vx_kept.specs.Keeping.{Acts, AllOn, MayBeNext, IsTidy, Kept, Sees};
@@ -36,6 +37,7 @@ pub fn commit_next<S: Shelf>(
     ensures on { AllOn next.new }
     ensures acts { Acts Nothing (Sees before.now (Member good (S.meaning shelf.old)) (S.meaning shelf.old)) (S.meaning shelf.old) (S.meaning shelf.new) }
     ensures ends { NextEnds good before.now next.old next.new (S.meaning shelf.old) (S.meaning shelf.new) result }
+    ensures up { OnOk result (KeepsUp (S.meaning shelf.old) (S.meaning shelf.new)) }
     ensures trusts { (committed agreed : Bool) → Trusts committed agreed good (S.meaning shelf.old) → TrustEnds committed good next.new (S.meaning shelf.new) result }
 {
     let _memory = before;

@@ -6,6 +6,7 @@ use Rattle.vx_model.specs.declared.no.No.{No}
 use Rattle.vx_config.specs.Table.{greatest}
 use Rattle.vx_config.specs.declared.config.Config.{Config}
 use Rattle.vx_config.specs.declared.entry.DiskEntry.{DiskEntry}
+use Rattle.vx_copyio.specs.Putting.{KeepsUp}
 use Rattle.vx_copies.specs.Bodies.{is_wanted}
 use Rattle.vx_copies.specs.Commits.{Begins, CommitEnds, Finds, IsTry, NamesFailed, NamesLast, StayFit}
 use Rattle.vx_copies.specs.Marks.{good_count}
@@ -134,4 +135,13 @@ returns-clause-named g c =
           subst (λ (e : Config). IfOk c.match-try_all.result (NamesFailed c.args.config.now e old new)) (sym w.config-is)
           (subst (λ (r : Result ℕ No). IfOk r (NamesFailed c.args.config.now c.try_all.new.config old new)) (sym w.result-is) w.in-Ok.ensures.named)
       | in-Err w ↦ subst (λ (r : Result ℕ No). IfOk r (NamesFailed c.args.config.now c.match-try_all.config old new)) (sym w.result-is) tt
+    ]
+
+pub returns-clause-up : goal.returns-clause-up
+returns-clause-up g c =
+    let old : Meaning = g.S.Shelf.meaning c.args.shelf.now in
+    let new : Meaning = g.S.Shelf.meaning c.try_all.new.shelf in
+    elim c.match-try_all.branch [
+      | in-Ok w ↦ subst (λ (r : Result ℕ No). OnOk r (KeepsUp old new)) (sym w.result-is) w.in-Ok.ensures.up
+      | in-Err w ↦ subst (λ (r : Result ℕ No). OnOk r (KeepsUp old new)) (sym w.result-is) tt
     ]

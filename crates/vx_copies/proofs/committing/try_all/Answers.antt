@@ -24,6 +24,7 @@ loop-shelf-init g c = record {
   remain = record { each = λ u held. inl (record { each = λ b v left. left }) };
   few = omega arith;
   calls = λ same. no_calls (g.S.Shelf.meaning c.args.shelf.now) 0 refl;
+  up = λ was. was;
   last = inr (refl, c.lowest-device.ensures);
   device = inr (refl, c.lowest-device.ensures);
 }
@@ -67,6 +68,7 @@ loop-shelf-preserved g c =
           c.loop-shelf.invariant.underway c.loop-shelf.invariant.remain c.try_next.ensures.underway ends.1;
       few = omega (arith, c.loop-shelf.invariant.few, c.try_next.ensures.serial, ends.0.fewer);
       calls = λ same. absurd (omega (arith, same, c.try_next.ensures.serial, c.loop-shelf.invariant.underway.serial));
+      up = λ was. ends.2;
       last = inl (one_last g.S.Shelf.meaning c.args.config.now c.loop-shelf.config c.try_next.new.config c.args.shelf.now c.loop-shelf.shelf c.try_next.new.shelf c.in-Err-Fault.disk
           c.loop-shelf.invariant.underway.grown ends.0);
       device = inl (Rose_before _ _ _ (c.loop-shelf.invariant.underway.moves.disk_faults c.in-Err-Fault.disk) ends.0.failed.1);
@@ -94,3 +96,6 @@ pub returns-in-Ok-clause-named : goal.returns-in-Ok-clause-named
 returns-in-Ok-clause-named g c =
     names_failed c.args.good c.args.config.now c.loop-shelf.config c.try_next.new.config (g.S.Shelf.meaning c.args.shelf.now) (g.S.Shelf.meaning c.loop-shelf.shelf) (g.S.Shelf.meaning c.try_next.new.shelf) c.loop-shelf.device
     c.loop-shelf.invariant.device c.in-Ok.ensures.ends.0 c.try_next.ensures.underway.moves.disk_faults
+
+pub returns-in-Ok-clause-up : goal.returns-in-Ok-clause-up
+returns-in-Ok-clause-up g c was = c.in-Ok.ensures.up (c.loop-shelf.invariant.up was)

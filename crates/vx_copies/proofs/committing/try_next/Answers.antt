@@ -98,4 +98,5 @@ returns-in-Fault-clause-ends g c =
           c.in-Err.ensures.stops.others u
           (held_member (next c.args.config.now) old count u (record { below = held.below; good = kept_good (marks g c) u held.good }))
           (mark_other c.args.config.now (c.args.config.now.serial + 1) c.in-Err.failed.disk u c.mark.new.config (omega (arith, count, was.below)) c.mark.ensures.marked held.good)),
+      (fault g c).2,
     )

@@ -1,10 +1,10 @@
--- `put_copies`: clauses copied, ok, stops, first, order and calls.
+-- `put_copies`: clauses copied, ok, stops, first, order, calls and up.
 use Rattle.std.proofs.Common.{◌≡◌, ◌*◌, ℕ, IfErr, OnOk, true, false, sym, subst, ◌∙◌}
 use Rattle.vx_disk.specs.Blocks.{bit_at}
 use Rattle.vx_disk.specs.Burns.{MakesCalls}
 use Rattle.vx_disk.specs.Disks.{count_below}
 use Rattle.vx_disk.specs.Shelf.{Meaning}
-use Rattle.vx_copyio.specs.Putting.{AllNew, Copied, CopyStops, GoodFirst, IsMember, part_of}
+use Rattle.vx_copyio.specs.Putting.{AllNew, Copied, CopyStops, GoodFirst, IsMember, KeepsUp, part_of}
 use Rattle.vx_copyio.proofs.Counted.{both_parts}
 use Rattle.vx_copyio.proofs.Ordering.{first_ordered, second_ordered}
 use Rattle.vx_copyio.proofs.Spreading.{both_copied, both_new, first_copied, first_new, first_stops, part_good, second_stops, on_err, on_ok, part_cover, part_in, part_out}
@@ -112,3 +112,10 @@ returns-clause-calls g c =
     (λ last. both_parts c.args.set c.args.good old.units old mid new c.in-Ok.ensures.calls
     (subst (λ n. MakesCalls (4 * count_below (part_of c.args.set c.args.good false) n) mid new) c.put_part.ensures.copied.moves.units last))
     c.put_part-2.ensures.calls
+
+pub returns-clause-up : goal.returns-clause-up
+returns-clause-up g c =
+    let old : Meaning = g.S.Shelf.meaning c.args.shelf.now in
+    let mid : Meaning = g.S.Shelf.meaning c.put_part.new.shelf in
+    let new : Meaning = g.S.Shelf.meaning c.put_part-2.new.shelf in
+    on_ok c.put_part-2.result (KeepsUp mid new) (KeepsUp old new) (λ last was. last (c.in-Ok.ensures.up was)) c.put_part-2.ensures.up

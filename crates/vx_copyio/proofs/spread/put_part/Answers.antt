@@ -3,7 +3,7 @@ use Rattle.std.proofs.Common.{arith, ℕ, Bool, ◌+◌, ◌*◌, sym, subst}
 use Rattle.vx_disk.specs.Burns.{MakesCalls}
 use Rattle.vx_disk.specs.Disks.{count_below}
 use Rattle.vx_disk.specs.Shelf.{Meaning}
-use Rattle.vx_copyio.specs.Putting.{AllNew, Copied, IsMember, part_of}
+use Rattle.vx_copyio.specs.Putting.{AllNew, Copied, IsMember, KeepsUp, part_of}
 use Rattle.vx_copyio.proofs.Counted.{none_more, one_more}
 use Rattle.vx_copyio.proofs.Spreading.{failed_from, failed_here, stopped_others, one_copied, one_new, reaches, skips_new}
 use Rattle.vx_copyio.proofs.spread.put_part.Goals.{then-is_part+in-Ok, else-is_part}
@@ -48,6 +48,10 @@ loop-disk-preserved g c = record {
     | else-is_part w ↦
         subst (λ s. MakesCalls (4 * count_below (part_of c.args.set c.args.good c.args.which) (c.loop-disk.disk + 1)) (g.S.Shelf.meaning c.args.shelf.now) (g.S.Shelf.meaning s)) (sym w.shelf-is)
         (none_more (part_of c.args.set c.args.good c.args.which) c.loop-disk.disk (g.S.Shelf.meaning c.args.shelf.now) (g.S.Shelf.meaning c.loop-disk.shelf) (sym w.if-is_part.ensures) c.loop-disk.invariant.calls)
+  ];
+  up = elim c.if-is_part.branch [
+    | then-is_part+in-Ok w ↦ subst (λ s. KeepsUp (g.S.Shelf.meaning c.args.shelf.now) (g.S.Shelf.meaning s)) (sym w.shelf-is) (λ was. w.in-Ok.ensures.cause.after)
+    | else-is_part w ↦ subst (λ s. KeepsUp (g.S.Shelf.meaning c.args.shelf.now) (g.S.Shelf.meaning s)) (sym w.shelf-is) c.loop-disk.invariant.up
   ];
   all = elim c.if-is_part.branch [
     | then-is_part+in-Ok w ↦

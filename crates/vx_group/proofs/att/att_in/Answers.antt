@@ -2,16 +2,17 @@
 use Rattle.std.proofs.Common.{length, refl, ap, sym, ◌∙◌, arith}
 use Rattle.std.specs.Option.{option_copied}
 use Rattle.vx_kept.proofs.StateLemmas.{same_shape}
-use Rattle.vx_group.proofs.HoldLemmas.{back_Stands, back_gone, back_others, back_shape, back_wide, from_none, none_Stands, wide_none}
+use Rattle.vx_group.proofs.HoldLemmas.{back_Stands, back_gone, back_others, back_parts, back_shape, back_wide, from_none, none_Stands, wide_none}
 use Rattle.vx_group.specs.Holding.{wide}
 use Rattle.vx_group.proofs.MissLemmas.{count_volumes, knows_later, narrows_reads}
 use Rattle.vx_group.proofs.OpeningLemmas.{later_may, may_less, may_room, may_volume, present}
 use Rattle.vx_group.proofs.Standing.{some_active, sound_of}
 use Rattle.vx_group.proofs.ThroughLemmas.{held_other, holds_first, released_active, released_attaches, through_attaches, through_regains}
 use Rattle.vx_group.proofs.att.att_in.Goals as goal
+use Rattle.vx_group.proofs.LoseLemmas.{none_parts}
 
 pub returns-in-Err-clause-attaches : goal.returns-in-Err-clause-attaches
-returns-in-Err-clause-attaches g c = released_attaches c.args.vol c.args.plex (option_copied c.args.fmr) c.args.core.now c.release.new.core (g.S.Shelf.meaning c.args.shelf.now) (g.S.Shelf.meaning c.release.new.shelf) c.requires.stands c.release.ensures.narrows c.release.ensures.volumes (g.met.S.Shelf.lawful c.release.new.shelf)
+returns-in-Err-clause-attaches g c = released_attaches c.args.vol c.args.plex (option_copied c.args.fmr) c.args.core.now c.release.new.core (g.S.Shelf.meaning c.args.shelf.now) (g.S.Shelf.meaning c.release.new.shelf) c.requires.stands c.release.ensures.narrows c.release.ensures.volumes (g.met.S.Shelf.lawful c.release.new.shelf) c.release.ensures.parts
 
 pub returns-in-Err-clause-ends : goal.returns-in-Err-clause-ends
 returns-in-Err-clause-ends g c = λ off. released_active c.args.core.now c.release.new.core (g.S.Shelf.meaning c.args.shelf.now) (g.S.Shelf.meaning c.release.new.shelf) c.requires.stands c.release.ensures.narrows c.release.ensures.volumes c.args.vol c.args.plex ∙ off
@@ -37,7 +38,7 @@ pub returns-in-Ok-attach_held-clause-attaches : goal.returns-in-Ok-attach_held-c
 returns-in-Ok-attach_held-clause-attaches g c =
     through_attaches c.args.core.now c.release.new.core (record { inner = c.attach_held.new.core; held = c.release.new.core.held }) c.attach_held.new.core c.args.vol c.args.plex (option_copied c.args.fmr) (g.S.Shelf.meaning c.args.shelf.now) (g.S.Shelf.meaning c.release.new.shelf) (g.S.Shelf.meaning c.attach_held.new.shelf) c.requires.stands c.release.ensures.narrows c.release.ensures.volumes (g.met.S.Shelf.lawful c.release.new.shelf)
     (c.in-Ok.ensures.done (may_less c.args.core.now.inner.config c.args.vol c.args.plex (sym c.refuse.ensures ∙ c.in_default.is))) c.attach_held.ensures.attaches (wide_none (record { inner = c.attach_held.new.core; held = c.release.new.core.held }) (c.in-Ok.ensures.done (may_less c.args.core.now.inner.config c.args.vol c.args.plex (sym c.refuse.ensures ∙ c.in_default.is))))
-    (same_shape c.attach_held.new.core.config) (λ w q apart. refl)
+    (same_shape c.attach_held.new.core.config) (λ w q apart. refl) c.release.ensures.parts (none_parts c.attach_held.new.core.config)
 
 pub returns-in-Ok-attach_held-clause-regains : goal.returns-in-Ok-attach_held-clause-regains
 returns-in-Ok-attach_held-clause-regains g c =
@@ -56,7 +57,8 @@ pub returns-in-Err-attach_held-clause-attaches : goal.returns-in-Err-attach_held
 returns-in-Err-attach_held-clause-attaches g c =
     through_attaches c.args.core.now c.release.new.core c.hold_back.new.core c.attach_held.new.core c.args.vol c.args.plex (option_copied c.args.fmr) (g.S.Shelf.meaning c.args.shelf.now) (g.S.Shelf.meaning c.release.new.shelf) (g.S.Shelf.meaning c.attach_held.new.shelf) c.requires.stands c.release.ensures.narrows c.release.ensures.volumes (g.met.S.Shelf.lawful c.release.new.shelf)
     (c.in-Ok.ensures.done (may_less c.args.core.now.inner.config c.args.vol c.args.plex (sym c.refuse.ensures ∙ c.in_default.is))) c.attach_held.ensures.attaches (back_wide c.args.vol c.args.plex (record { inner = c.attach_held.new.core; held = c.release.new.core.held }) c.hold_back.new.core (c.in-Ok.ensures.done (may_less c.args.core.now.inner.config c.args.vol c.args.plex (sym c.refuse.ensures ∙ c.in_default.is))) c.hold_back.ensures)
-    (back_shape c.args.vol c.args.plex (record { inner = c.attach_held.new.core; held = c.release.new.core.held }) c.hold_back.new.core (c.in-Ok.ensures.done (may_less c.args.core.now.inner.config c.args.vol c.args.plex (sym c.refuse.ensures ∙ c.in_default.is))) c.hold_back.ensures) (back_others c.args.vol c.args.plex (record { inner = c.attach_held.new.core; held = c.release.new.core.held }) c.hold_back.new.core (c.in-Ok.ensures.done (may_less c.args.core.now.inner.config c.args.vol c.args.plex (sym c.refuse.ensures ∙ c.in_default.is))) c.hold_back.ensures)
+    (back_shape c.args.vol c.args.plex (record { inner = c.attach_held.new.core; held = c.release.new.core.held }) c.hold_back.new.core (c.in-Ok.ensures.done (may_less c.args.core.now.inner.config c.args.vol c.args.plex (sym c.refuse.ensures ∙ c.in_default.is))) c.hold_back.ensures) (back_others c.args.vol c.args.plex (record { inner = c.attach_held.new.core; held = c.release.new.core.held }) c.hold_back.new.core (c.in-Ok.ensures.done (may_less c.args.core.now.inner.config c.args.vol c.args.plex (sym c.refuse.ensures ∙ c.in_default.is))) c.hold_back.ensures) c.release.ensures.parts
+    (back_parts c.args.vol c.args.plex c.attach_held.new.core.config (record { inner = c.attach_held.new.core; held = c.release.new.core.held }) c.hold_back.new.core (c.in-Ok.ensures.done (may_less c.args.core.now.inner.config c.args.vol c.args.plex (sym c.refuse.ensures ∙ c.in_default.is))) c.hold_back.ensures (none_parts c.attach_held.new.core.config))
 
 pub returns-in-Err-attach_held-clause-ends : goal.returns-in-Err-attach_held-clause-ends
 returns-in-Err-attach_held-clause-ends g c = λ off. back_gone c.args.vol c.args.plex (record { inner = c.attach_held.new.core; held = c.release.new.core.held }) c.hold_back.new.core (held_other c.release.new.core.inner c.attach_held.new.core c.args.vol c.args.plex (option_copied c.args.fmr) (g.S.Shelf.meaning c.release.new.shelf) (g.S.Shelf.meaning c.attach_held.new.shelf) c.attach_held.ensures.attaches (some_active c.release.new.core.inner (g.S.Shelf.meaning c.release.new.shelf) (from_none c.release.new.core (g.S.Shelf.meaning c.release.new.shelf) (c.in-Ok.ensures.done (may_less c.args.core.now.inner.config c.args.vol c.args.plex (sym c.refuse.ensures ∙ c.in_default.is))) c.release.ensures.stands) c.args.vol (let lt = may_volume c.args.core.now.inner.config c.args.vol c.args.plex (sym c.refuse.ensures ∙ c.in_default.is) in let same = ap length c.release.ensures.volumes in omega (arith, lt, same))) (released_active c.args.core.now c.release.new.core (g.S.Shelf.meaning c.args.shelf.now) (g.S.Shelf.meaning c.release.new.shelf) c.requires.stands c.release.ensures.narrows c.release.ensures.volumes c.args.vol c.args.plex ∙ (sym c.is_active.ensures ∙ c.if-is_active.false))) c.hold_back.ensures

@@ -16,7 +16,7 @@ regain-requires-clause-more g c =
 
 pub returns-in-Err-clause-attaches : goal.returns-in-Err-clause-attaches
 returns-in-Err-clause-attaches g c =
-    (narrows_attaches c.args.vol c.args.plex (option_copied c.args.fmr) c.args.core.now c.regain.new.core (g.S.Shelf.meaning c.args.shelf.now) (g.S.Shelf.meaning c.regain.new.shelf) (g.met.S.Shelf.lawful c.regain.new.shelf) c.requires.stands c.regain.ensures.narrows (λ w q apart. active_volumes c.regain.new.core.config c.args.core.now.config c.regain.ensures.volumes w q))
+    (narrows_attaches c.args.vol c.args.plex (option_copied c.args.fmr) c.args.core.now c.regain.new.core (g.S.Shelf.meaning c.args.shelf.now) (g.S.Shelf.meaning c.regain.new.shelf) (g.met.S.Shelf.lawful c.regain.new.shelf) c.requires.stands c.regain.ensures.narrows c.regain.ensures.parts (λ w q apart. active_volumes c.regain.new.core.config c.args.core.now.config c.regain.ensures.volumes w q))
 
 pub returns-in-Err-clause-ends : goal.returns-in-Err-clause-ends
 returns-in-Err-clause-ends g c =
@@ -32,7 +32,7 @@ attach-requires-clause-off g c =
 
 pub returns-clause-attaches : goal.returns-clause-attaches
 returns-clause-attaches g c =
-    then_attaches c.args.vol c.args.plex (option_copied c.args.fmr) c.args.core.now c.regain.new.core c.attach.new.core (g.S.Shelf.meaning c.args.shelf.now) (g.S.Shelf.meaning c.regain.new.shelf) (g.S.Shelf.meaning c.attach.new.shelf) (narrows_attaches c.args.vol c.args.plex (option_copied c.args.fmr) c.args.core.now c.regain.new.core (g.S.Shelf.meaning c.args.shelf.now) (g.S.Shelf.meaning c.regain.new.shelf) (g.met.S.Shelf.lawful c.regain.new.shelf) c.requires.stands c.regain.ensures.narrows (λ w q apart. active_volumes c.regain.new.core.config c.args.core.now.config c.regain.ensures.volumes w q)) c.attach.ensures.attaches
+    then_attaches c.args.vol c.args.plex (option_copied c.args.fmr) c.args.core.now c.regain.new.core c.attach.new.core (g.S.Shelf.meaning c.args.shelf.now) (g.S.Shelf.meaning c.regain.new.shelf) (g.S.Shelf.meaning c.attach.new.shelf) (narrows_attaches c.args.vol c.args.plex (option_copied c.args.fmr) c.args.core.now c.regain.new.core (g.S.Shelf.meaning c.args.shelf.now) (g.S.Shelf.meaning c.regain.new.shelf) (g.met.S.Shelf.lawful c.regain.new.shelf) c.requires.stands c.regain.ensures.narrows c.regain.ensures.parts (λ w q apart. active_volumes c.regain.new.core.config c.args.core.now.config c.regain.ensures.volumes w q)) c.attach.ensures.attaches
 
 pub returns-clause-regains : goal.returns-clause-regains
 returns-clause-regains g c =

@@ -11,10 +11,11 @@ use Rattle.vx_group.proofs.MissLemmas.{count_volumes, knows_later, narrows_reads
 use Rattle.vx_group.proofs.OpeningLemmas.{present, same_may}
 use Rattle.vx_group.proofs.Standing.{some_active, sound_of}
 use Rattle.vx_group.proofs.attaching.attach.Goals as goal
+use Rattle.vx_group.proofs.LoseLemmas.{but_parts}
 
 pub returns-in-Err-clause-attaches : goal.returns-in-Err-clause-attaches
 returns-in-Err-clause-attaches g c =
-    narrows_attaches c.args.vol c.args.plex (option_copied c.args.fmr) c.args.core.now c.settle_headers.new.core (g.S.Shelf.meaning c.args.shelf.now) (g.S.Shelf.meaning c.settle_headers.new.shelf) (g.met.S.Shelf.lawful c.settle_headers.new.shelf) c.requires.stands c.settle_headers.ensures.narrows
+    narrows_attaches c.args.vol c.args.plex (option_copied c.args.fmr) c.args.core.now c.settle_headers.new.core (g.S.Shelf.meaning c.args.shelf.now) (g.S.Shelf.meaning c.settle_headers.new.shelf) (g.met.S.Shelf.lawful c.settle_headers.new.shelf) c.requires.stands c.settle_headers.ensures.narrows (but_parts c.args.core.now.config c.settle_headers.new.core.config c.settle_headers.ensures.same)
     (λ w q apart. active_volumes c.settle_headers.new.core.config c.args.core.now.config c.settle_headers.ensures.volumes w q)
 
 pub returns-in-Err-clause-ends : goal.returns-in-Err-clause-ends
@@ -29,7 +30,7 @@ copy_to-requires-clause-off g c = active_volumes c.settle_headers.new.core.confi
 pub returns-in-Err-copy_to-clause-attaches : goal.returns-in-Err-copy_to-clause-attaches
 returns-in-Err-copy_to-clause-attaches g c =
     then_attaches c.args.vol c.args.plex (option_copied c.args.fmr) c.args.core.now c.settle_headers.new.core c.copy_to.new.core (g.S.Shelf.meaning c.args.shelf.now) (g.S.Shelf.meaning c.settle_headers.new.shelf) (g.S.Shelf.meaning c.copy_to.new.shelf)
-    (narrows_attaches c.args.vol c.args.plex (option_copied c.args.fmr) c.args.core.now c.settle_headers.new.core (g.S.Shelf.meaning c.args.shelf.now) (g.S.Shelf.meaning c.settle_headers.new.shelf) (g.met.S.Shelf.lawful c.settle_headers.new.shelf) c.requires.stands c.settle_headers.ensures.narrows
+    (narrows_attaches c.args.vol c.args.plex (option_copied c.args.fmr) c.args.core.now c.settle_headers.new.core (g.S.Shelf.meaning c.args.shelf.now) (g.S.Shelf.meaning c.settle_headers.new.shelf) (g.met.S.Shelf.lawful c.settle_headers.new.shelf) c.requires.stands c.settle_headers.ensures.narrows (but_parts c.args.core.now.config c.settle_headers.new.core.config c.settle_headers.ensures.same)
     (λ w q apart. active_volumes c.settle_headers.new.core.config c.args.core.now.config c.settle_headers.ensures.volumes w q))
     c.copy_to.ensures.attaches
 
@@ -63,7 +64,7 @@ commit_open-requires-clause-other g c =
 pub returns-clause-attaches : goal.returns-clause-attaches
 returns-clause-attaches g c =
     then_attaches c.args.vol c.args.plex (option_copied c.args.fmr) c.args.core.now c.settle_headers.new.core c.commit_open.new.core (g.S.Shelf.meaning c.args.shelf.now) (g.S.Shelf.meaning c.settle_headers.new.shelf) (g.S.Shelf.meaning c.commit_open.new.shelf)
-    (narrows_attaches c.args.vol c.args.plex (option_copied c.args.fmr) c.args.core.now c.settle_headers.new.core (g.S.Shelf.meaning c.args.shelf.now) (g.S.Shelf.meaning c.settle_headers.new.shelf) (g.met.S.Shelf.lawful c.settle_headers.new.shelf) c.requires.stands c.settle_headers.ensures.narrows
+    (narrows_attaches c.args.vol c.args.plex (option_copied c.args.fmr) c.args.core.now c.settle_headers.new.core (g.S.Shelf.meaning c.args.shelf.now) (g.S.Shelf.meaning c.settle_headers.new.shelf) (g.met.S.Shelf.lawful c.settle_headers.new.shelf) c.requires.stands c.settle_headers.ensures.narrows (but_parts c.args.core.now.config c.settle_headers.new.core.config c.settle_headers.ensures.same)
     (λ w q apart. active_volumes c.settle_headers.new.core.config c.args.core.now.config c.settle_headers.ensures.volumes w q))
     (then_attaches c.args.vol c.args.plex (option_copied c.args.fmr) c.settle_headers.new.core c.copy_to.new.core c.commit_open.new.core (g.S.Shelf.meaning c.settle_headers.new.shelf) (g.S.Shelf.meaning c.copy_to.new.shelf) (g.S.Shelf.meaning c.commit_open.new.shelf) c.copy_to.ensures.attaches (c.commit_open.ensures.attaches (option_copied c.args.fmr)))
 

@@ -15,20 +15,20 @@ detach-requires-clause-left g c = λ lt.
 
 pub returns-in-Ok-clause-attaches : goal.returns-in-Ok-clause-attaches
 returns-in-Ok-clause-attaches g c = λ map.
-    narrows_attaches c.args.vol c.args.plex map c.args.core.now c.detach.new.core (g.S.Shelf.meaning c.args.shelf.now) (g.S.Shelf.meaning c.detach.new.shelf) (g.met.S.Shelf.lawful c.detach.new.shelf) c.requires.stands c.detach.ensures.narrows
+    narrows_attaches c.args.vol c.args.plex map c.args.core.now c.detach.new.core (g.S.Shelf.meaning c.args.shelf.now) (g.S.Shelf.meaning c.detach.new.shelf) (g.met.S.Shelf.lawful c.detach.new.shelf) c.requires.stands c.detach.ensures.narrows c.detach.ensures.parts
     (λ w q apart. c.detach.ensures.others w q (λ same bit. no_bit q bit))
 
 pub returns-then-is_down-clause-attaches : goal.returns-then-is_down-clause-attaches
 returns-then-is_down-clause-attaches g c = λ map.
     then_attaches c.args.vol c.args.plex map c.args.core.now c.detach.new.core c.take_back.new.core (g.S.Shelf.meaning c.args.shelf.now) (g.S.Shelf.meaning c.detach.new.shelf) (g.S.Shelf.meaning c.take_back.new.shelf)
-    (narrows_attaches c.args.vol c.args.plex map c.args.core.now c.detach.new.core (g.S.Shelf.meaning c.args.shelf.now) (g.S.Shelf.meaning c.detach.new.shelf) (g.met.S.Shelf.lawful c.detach.new.shelf) c.requires.stands c.detach.ensures.narrows
+    (narrows_attaches c.args.vol c.args.plex map c.args.core.now c.detach.new.core (g.S.Shelf.meaning c.args.shelf.now) (g.S.Shelf.meaning c.detach.new.shelf) (g.met.S.Shelf.lawful c.detach.new.shelf) c.requires.stands c.detach.ensures.narrows c.detach.ensures.parts
     (λ w q apart. c.detach.ensures.others w q (λ same bit. no_bit q bit)))
     (c.take_back.ensures.attaches map)
 
 pub returns-else-is_down-clause-attaches : goal.returns-else-is_down-clause-attaches
 returns-else-is_down-clause-attaches g c = λ map.
     then_attaches c.args.vol c.args.plex map c.args.core.now c.detach.new.core c.take_back.new.core (g.S.Shelf.meaning c.args.shelf.now) (g.S.Shelf.meaning c.detach.new.shelf) (g.S.Shelf.meaning c.take_back.new.shelf)
-    (narrows_attaches c.args.vol c.args.plex map c.args.core.now c.detach.new.core (g.S.Shelf.meaning c.args.shelf.now) (g.S.Shelf.meaning c.detach.new.shelf) (g.met.S.Shelf.lawful c.detach.new.shelf) c.requires.stands c.detach.ensures.narrows
+    (narrows_attaches c.args.vol c.args.plex map c.args.core.now c.detach.new.core (g.S.Shelf.meaning c.args.shelf.now) (g.S.Shelf.meaning c.detach.new.shelf) (g.met.S.Shelf.lawful c.detach.new.shelf) c.requires.stands c.detach.ensures.narrows c.detach.ensures.parts
     (λ w q apart. c.detach.ensures.others w q (λ same bit. no_bit q bit)))
     (c.take_back.ensures.attaches map)
 

@@ -8,10 +8,11 @@ use Rattle.vx_group.proofs.SourcesLemmas.{no_attaches}
 use Rattle.vx_group.proofs.FailingLemmas.{no_failing, then_failing}
 use Rattle.vx_group.proofs.Standing.{sound_of}
 use Rattle.vx_group.proofs.attaching.take_back.Goals as goal
+use Rattle.vx_group.proofs.LoseLemmas.{but_parts}
 
 pub returns-in-Err-clause-attaches : goal.returns-in-Err-clause-attaches
 returns-in-Err-clause-attaches g c = λ map.
-    narrows_attaches c.args.vol c.args.plex map c.args.core.now c.settle_headers.new.core (g.S.Shelf.meaning c.args.shelf.now) (g.S.Shelf.meaning c.settle_headers.new.shelf) (g.met.S.Shelf.lawful c.settle_headers.new.shelf) c.requires.stands c.settle_headers.ensures.narrows
+    narrows_attaches c.args.vol c.args.plex map c.args.core.now c.settle_headers.new.core (g.S.Shelf.meaning c.args.shelf.now) (g.S.Shelf.meaning c.settle_headers.new.shelf) (g.met.S.Shelf.lawful c.settle_headers.new.shelf) c.requires.stands c.settle_headers.ensures.narrows (but_parts c.args.core.now.config c.settle_headers.new.core.config c.settle_headers.ensures.same)
     (λ w q apart. active_volumes c.settle_headers.new.core.config c.args.core.now.config c.settle_headers.ensures.volumes w q)
 
 pub bounds-flags-plex : goal.bounds-flags-plex
@@ -30,9 +31,9 @@ detach-requires-clause-those g c =
 pub returns-in-Ok-detach-clause-attaches : goal.returns-in-Ok-detach-clause-attaches
 returns-in-Ok-detach-clause-attaches g c = λ map.
     then_attaches c.args.vol c.args.plex map c.args.core.now c.settle_headers.new.core c.detach.new.core (g.S.Shelf.meaning c.args.shelf.now) (g.S.Shelf.meaning c.settle_headers.new.shelf) (g.S.Shelf.meaning c.detach.new.shelf)
-    (narrows_attaches c.args.vol c.args.plex map c.args.core.now c.settle_headers.new.core (g.S.Shelf.meaning c.args.shelf.now) (g.S.Shelf.meaning c.settle_headers.new.shelf) (g.met.S.Shelf.lawful c.settle_headers.new.shelf) c.requires.stands c.settle_headers.ensures.narrows
+    (narrows_attaches c.args.vol c.args.plex map c.args.core.now c.settle_headers.new.core (g.S.Shelf.meaning c.args.shelf.now) (g.S.Shelf.meaning c.settle_headers.new.shelf) (g.met.S.Shelf.lawful c.settle_headers.new.shelf) c.requires.stands c.settle_headers.ensures.narrows (but_parts c.args.core.now.config c.settle_headers.new.core.config c.settle_headers.ensures.same)
     (λ w q apart. active_volumes c.settle_headers.new.core.config c.args.core.now.config c.settle_headers.ensures.volumes w q))
-    (narrows_attaches c.args.vol c.args.plex map c.settle_headers.new.core c.detach.new.core (g.S.Shelf.meaning c.settle_headers.new.shelf) (g.S.Shelf.meaning c.detach.new.shelf) (g.met.S.Shelf.lawful c.detach.new.shelf) c.settle_headers.ensures.stands c.detach.ensures.narrows
+    (narrows_attaches c.args.vol c.args.plex map c.settle_headers.new.core c.detach.new.core (g.S.Shelf.meaning c.settle_headers.new.shelf) (g.S.Shelf.meaning c.detach.new.shelf) (g.met.S.Shelf.lawful c.detach.new.shelf) c.settle_headers.ensures.stands c.detach.ensures.narrows c.detach.ensures.parts
     (λ w q apart. c.detach.ensures.others w q (λ same bit. apart same (bit_only c.args.plex c.set_of-set.result (active_few c.args.core.now.config (sound_of c.args.core.now (g.S.Shelf.meaning c.args.shelf.now) c.requires.stands) c.args.vol c.args.plex c.requires.is_on) c.set_of-set.ensures q bit))))
 
 pub returns-in-Ok-detach-clause-off : goal.returns-in-Ok-detach-clause-off
@@ -41,9 +42,9 @@ returns-in-Ok-detach-clause-off g c = inl (c.in-Ok-detach.ensures.off.each c.arg
 pub returns-in-Err-detach-clause-attaches : goal.returns-in-Err-detach-clause-attaches
 returns-in-Err-detach-clause-attaches g c = λ map.
     then_attaches c.args.vol c.args.plex map c.args.core.now c.settle_headers.new.core c.detach.new.core (g.S.Shelf.meaning c.args.shelf.now) (g.S.Shelf.meaning c.settle_headers.new.shelf) (g.S.Shelf.meaning c.detach.new.shelf)
-    (narrows_attaches c.args.vol c.args.plex map c.args.core.now c.settle_headers.new.core (g.S.Shelf.meaning c.args.shelf.now) (g.S.Shelf.meaning c.settle_headers.new.shelf) (g.met.S.Shelf.lawful c.settle_headers.new.shelf) c.requires.stands c.settle_headers.ensures.narrows
+    (narrows_attaches c.args.vol c.args.plex map c.args.core.now c.settle_headers.new.core (g.S.Shelf.meaning c.args.shelf.now) (g.S.Shelf.meaning c.settle_headers.new.shelf) (g.met.S.Shelf.lawful c.settle_headers.new.shelf) c.requires.stands c.settle_headers.ensures.narrows (but_parts c.args.core.now.config c.settle_headers.new.core.config c.settle_headers.ensures.same)
     (λ w q apart. active_volumes c.settle_headers.new.core.config c.args.core.now.config c.settle_headers.ensures.volumes w q))
-    (narrows_attaches c.args.vol c.args.plex map c.settle_headers.new.core c.detach.new.core (g.S.Shelf.meaning c.settle_headers.new.shelf) (g.S.Shelf.meaning c.detach.new.shelf) (g.met.S.Shelf.lawful c.detach.new.shelf) c.settle_headers.ensures.stands c.detach.ensures.narrows
+    (narrows_attaches c.args.vol c.args.plex map c.settle_headers.new.core c.detach.new.core (g.S.Shelf.meaning c.settle_headers.new.shelf) (g.S.Shelf.meaning c.detach.new.shelf) (g.met.S.Shelf.lawful c.detach.new.shelf) c.settle_headers.ensures.stands c.detach.ensures.narrows c.detach.ensures.parts
     (λ w q apart. c.detach.ensures.others w q (λ same bit. apart same (bit_only c.args.plex c.set_of-set.result (active_few c.args.core.now.config (sound_of c.args.core.now (g.S.Shelf.meaning c.args.shelf.now) c.requires.stands) c.args.vol c.args.plex c.requires.is_on) c.set_of-set.ensures q bit))))
 
 pub returns-then-is_down-clause-failing : goal.returns-then-is_down-clause-failing

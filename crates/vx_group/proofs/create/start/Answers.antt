@@ -10,6 +10,7 @@ use Rattle.vx_kept.specs.Keeping.{AllOn}
 use Rattle.vx_group.proofs.CreateLemmas.{all_good, cause_before, empty_on, empty_wanted, empty_with, first_cause, new_Stands}
 use Rattle.vx_group.proofs.Standing.{still_large}
 use Rattle.vx_group.proofs.TrustLemmas.{committed_or}
+use Rattle.vx_group.proofs.UnitLemmas.{same_units, then_units}
 use Rattle.vx_group.proofs.create.start.Goals as goal
 
 pub commit_first-requires-clause-wanted : goal.commit_first-requires-clause-wanted
@@ -38,3 +39,15 @@ returns-clause-created g c =
     (subst (λ (x : Config). Taken x x c.commit_first.new.config (g.S.Shelf.meaning c.prepare.new.shelf) (g.S.Shelf.meaning c.commit_first.new.shelf)) (ap (λ (vs : List VolumeEntry). empty_with c.args.site c.disks_of.result vs) c.new.ensures) c.in-Ok-commit_first.ensures.ends.0) c.in-Ok-commit_first.ensures.ends.1 c.good_of-good-2.ensures
     (c.in-Ok-commit_first.ensures.trusts c.is_committed-committed.result (λ is. ⊎_elim (λ was. absurd (let clash : false ≡ true = was in cc)) (λ all. all) (c.is_committed-committed.ensures.some is)))
     (committed_or c.is_committed-committed.result c.commit_first.new.config.disks (λ off. (c.is_committed-committed.ensures.none off).1))
+
+pub returns-then-not-are_large-clause-same : goal.returns-then-not-are_large-clause-same
+returns-then-not-are_large-clause-same g c = same_units (g.S.Shelf.meaning c.args.shelf.now)
+
+pub returns-in-Err-clause-same : goal.returns-in-Err-clause-same
+returns-in-Err-clause-same g c = same_units (g.S.Shelf.meaning c.args.shelf.now)
+
+pub returns-in-Err-commit_first-clause-same : goal.returns-in-Err-commit_first-clause-same
+returns-in-Err-commit_first-clause-same g c = then_units (g.S.Shelf.meaning c.args.shelf.now) (g.S.Shelf.meaning c.prepare.new.shelf) (g.S.Shelf.meaning c.commit_first.new.shelf) c.prepare.ensures.same (record { units = c.commit_first.ensures.units; size = c.commit_first.ensures.size })
+
+pub returns-clause-same : goal.returns-clause-same
+returns-clause-same g c = then_units (g.S.Shelf.meaning c.args.shelf.now) (g.S.Shelf.meaning c.prepare.new.shelf) (g.S.Shelf.meaning c.commit_first.new.shelf) c.prepare.ensures.same (record { units = c.commit_first.ensures.units; size = c.commit_first.ensures.size })

@@ -1,7 +1,8 @@
--- `close`: clauses ends and cause; what `flush_volumes` and `commit_closed` ask.
+-- `close`: clauses ends, cause and up; what `flush_volumes` and `commit_closed` ask.
 use Rattle.std.proofs.Common.{Err, arith}
 use Rattle.vx_group.proofs.DeportLemmas.{back_flushed, blames_stop, closes_later, settled_back, stops_later}
 use Rattle.vx_group.proofs.deporting.close.Goals as goal
+use Rattle.vx_group.proofs.TrustLemmas.{ok_from}
 
 pub flush_volumes-requires-clause-more : goal.flush_volumes-requires-clause-more
 flush_volumes-requires-clause-more g c = let same = c.settle_headers.ensures.serial in let less = c.requires.more in omega (arith, same, less)
@@ -32,3 +33,6 @@ returns-clause-ends g c = closes_later c.args.core.now c.settle_headers.new.core
 
 pub returns-clause-cause : goal.returns-clause-cause
 returns-clause-cause g c = stops_later c.commit_closed.result (g.S.Shelf.meaning c.args.shelf.now) (g.S.Shelf.meaning c.flush_volumes.new.shelf) (g.S.Shelf.meaning c.commit_closed.new.shelf) (λ u. let one = c.settle_headers.ensures.narrows.acts.disk_faults u in let two = c.in-Ok-flush_volumes.ensures.ends.quiesces.acts.disk_faults u in omega (arith, one, two)) c.commit_closed.ensures.cause
+
+pub returns-clause-up : goal.returns-clause-up
+returns-clause-up g c = ok_from c.commit_closed.result (λ keeps. keeps c.in-Ok-flush_volumes.ensures.ends.up) c.commit_closed.ensures.up

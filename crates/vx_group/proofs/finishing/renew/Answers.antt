@@ -15,6 +15,7 @@ use Rattle.vx_group.proofs.MissLemmas.{narrows_reads}
 use Rattle.vx_group.proofs.Standing.{apart_of_core}
 use Rattle.vx_group.proofs.TrustLemmas.{err_from, ok_from}
 use Rattle.vx_group.proofs.finishing.renew.Goals as goal
+use Rattle.vx_group.proofs.LoseLemmas.{but_parts}
 
 pub mend_volumes-requires-clause-on : goal.mend_volumes-requires-clause-on
 mend_volumes-requires-clause-on g c = λ v lt.
@@ -39,7 +40,7 @@ returns-in-Err-mend_volumes-clause-renews g c = (
 pub returns-clause-renews : goal.returns-clause-renews
 returns-clause-renews g c =
     renew_all c.args.core.now c.settle_headers.new.core c.mend_volumes.new.core c.commit_whole.new.core c.args.stopped.now c.args.sources.now c.args.logs.now (g.S.Shelf.meaning c.args.shelf.now) (g.S.Shelf.meaning c.settle_headers.new.shelf) (g.S.Shelf.meaning c.mend_volumes.new.shelf) (g.S.Shelf.meaning c.commit_whole.new.shelf)
-    (g.met.S.Shelf.lawful c.settle_headers.new.shelf) c.requires.stands c.settle_headers.ensures.stands c.settle_headers.ensures.narrows c.settle_headers.ensures.volumes c.settle_headers.ensures.serial c.in-Ok.ensures.still c.settle_headers.ensures.failing c.in-Ok.ensures.cause c.in-Ok-mend_volumes.ensures.mended
+    (g.met.S.Shelf.lawful c.settle_headers.new.shelf) c.requires.stands c.settle_headers.ensures.stands c.settle_headers.ensures.narrows c.settle_headers.ensures.volumes c.settle_headers.ensures.serial c.in-Ok.ensures.still c.settle_headers.ensures.failing (but_parts c.args.core.now.config c.settle_headers.new.core.config c.settle_headers.ensures.same) c.in-Ok.ensures.cause c.in-Ok-mend_volumes.ensures.mended
     c.commit_whole.result c.requires.more c.requires.on c.commit_whole.ensures.commits
 
 pub mend_volumes-requires-clause-tell : goal.mend_volumes-requires-clause-tell

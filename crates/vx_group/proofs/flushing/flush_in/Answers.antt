@@ -51,15 +51,15 @@ returns-then-is_down-clause-loses g c =
 
 pub returns-in-Err-clause-loses : goal.returns-in-Err-clause-loses
 returns-in-Err-clause-loses g c =
-    loses_none c.args.core.now.config c.make_ready.new.core.config (g.S.Shelf.meaning c.args.shelf.now) (g.S.Shelf.meaning c.make_ready.new.shelf) c.make_ready.ensures.volumes c.make_ready.ensures.failing
+    loses_none c.args.core.now.config c.make_ready.new.core.config (g.S.Shelf.meaning c.args.shelf.now) (g.S.Shelf.meaning c.make_ready.new.shelf) c.make_ready.ensures.volumes c.make_ready.ensures.failing c.make_ready.ensures.parts
 
 pub returns-in-Ok-flush_plexes-clause-loses : goal.returns-in-Ok-flush_plexes-clause-loses
 returns-in-Ok-flush_plexes-clause-loses g c =
-    then_loses (g.S.Shelf.meaning c.args.shelf.now) (g.S.Shelf.meaning c.make_ready.new.shelf) (g.S.Shelf.meaning c.flush_plexes.new.shelf) c.make_ready.ensures.narrows.acts.faults c.flush_plexes.ensures.narrows.acts.faults c.args.core.now.config c.make_ready.new.core.config c.flush_plexes.new.core.config (loses_none c.args.core.now.config c.make_ready.new.core.config (g.S.Shelf.meaning c.args.shelf.now) (g.S.Shelf.meaning c.make_ready.new.shelf) c.make_ready.ensures.volumes c.make_ready.ensures.failing) c.flush_plexes.ensures.spent.loses
+    then_loses (g.S.Shelf.meaning c.args.shelf.now) (g.S.Shelf.meaning c.make_ready.new.shelf) (g.S.Shelf.meaning c.flush_plexes.new.shelf) c.make_ready.ensures.narrows.acts.faults c.flush_plexes.ensures.narrows.acts.faults c.args.core.now.config c.make_ready.new.core.config c.flush_plexes.new.core.config (loses_none c.args.core.now.config c.make_ready.new.core.config (g.S.Shelf.meaning c.args.shelf.now) (g.S.Shelf.meaning c.make_ready.new.shelf) c.make_ready.ensures.volumes c.make_ready.ensures.failing c.make_ready.ensures.parts) c.flush_plexes.ensures.spent.loses
 
 pub returns-in-Err-flush_plexes-clause-loses : goal.returns-in-Err-flush_plexes-clause-loses
 returns-in-Err-flush_plexes-clause-loses g c =
-    then_loses (g.S.Shelf.meaning c.args.shelf.now) (g.S.Shelf.meaning c.make_ready.new.shelf) (g.S.Shelf.meaning c.flush_plexes.new.shelf) c.make_ready.ensures.narrows.acts.faults c.flush_plexes.ensures.narrows.acts.faults c.args.core.now.config c.make_ready.new.core.config c.flush_plexes.new.core.config (loses_none c.args.core.now.config c.make_ready.new.core.config (g.S.Shelf.meaning c.args.shelf.now) (g.S.Shelf.meaning c.make_ready.new.shelf) c.make_ready.ensures.volumes c.make_ready.ensures.failing) c.flush_plexes.ensures.spent.loses
+    then_loses (g.S.Shelf.meaning c.args.shelf.now) (g.S.Shelf.meaning c.make_ready.new.shelf) (g.S.Shelf.meaning c.flush_plexes.new.shelf) c.make_ready.ensures.narrows.acts.faults c.flush_plexes.ensures.narrows.acts.faults c.args.core.now.config c.make_ready.new.core.config c.flush_plexes.new.core.config (loses_none c.args.core.now.config c.make_ready.new.core.config (g.S.Shelf.meaning c.args.shelf.now) (g.S.Shelf.meaning c.make_ready.new.shelf) c.make_ready.ensures.volumes c.make_ready.ensures.failing c.make_ready.ensures.parts) c.flush_plexes.ensures.spent.loses
 
 pub returns-in-Ok-flush_plexes-clause-trust : goal.returns-in-Ok-flush_plexes-clause-trust
 returns-in-Ok-flush_plexes-clause-trust g c = λ is. c.in-Ok-flush_plexes.ensures.trust (c.in-Ok.ensures.trust is)

@@ -90,7 +90,7 @@ returns-else-core-clause-spent g c =
     let old = g.S.Shelf.meaning c.args.shelf.now in
     spent_by c.args.core.now.config c.detach.new.core.config old old (g.S.Shelf.meaning c.flush_all.new.shelf) (g.S.Shelf.meaning c.detach.new.shelf) c.in-Ok.failed.disk (λ u. omega arith) c.detach.ensures.narrows.acts.disk_faults
     (c.in-Ok.ensures.ends.1.rose (omega (arith, c.if-failed-eq0.false)))
-    (loses_detach (g.S.Shelf.meaning c.args.shelf.now) (g.S.Shelf.meaning c.flush_all.new.shelf) (g.S.Shelf.meaning c.detach.new.shelf) c.flush_all.ensures.goes.faults c.detach.ensures.narrows.acts.faults c.args.core.now.config c.detach.new.core.config c.args.vol c.in-Ok.failed.set (λ p bit. (c.in-Ok.ensures.ends.0.blamed p bit).1) c.detach.ensures.lies c.detach.ensures.others c.detach.ensures.failing)
+    (loses_detach (g.S.Shelf.meaning c.args.shelf.now) (g.S.Shelf.meaning c.flush_all.new.shelf) (g.S.Shelf.meaning c.detach.new.shelf) c.flush_all.ensures.goes.faults c.detach.ensures.narrows.acts.faults c.args.core.now.config c.detach.new.core.config c.args.vol c.in-Ok.failed.set (λ p bit. (c.in-Ok.ensures.ends.0.blamed p bit).1) c.detach.ensures.lies c.detach.ensures.others c.detach.ensures.failing c.detach.ensures.parts c.detach.ensures.narrows.shape)
 
 pub returns-then-failed-eq0-clause-others : goal.returns-then-failed-eq0-clause-others
 returns-then-failed-eq0-clause-others g c = λ w p apart. refl

@@ -1,5 +1,5 @@
 -- `commit_rvg`: what `detach` asks; clauses narrows, volumes, site, failing, ends, trust, agreed, cause and stands.
-use Rattle.std.proofs.Common.{◌≡◌, Some, List, Err, refl, ap, ◌∙◌, arith}
+use Rattle.std.proofs.Common.{Some, List, Err, refl, ap, ◌∙◌, arith}
 use Rattle.vx_model.specs.declared.units.Units.{Units}
 use Rattle.vx_config.specs.Checks.{is_group}
 use Rattle.vx_config.specs.declared.entry.VolumeEntry.{VolumeEntry}

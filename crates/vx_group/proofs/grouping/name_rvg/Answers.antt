@@ -1,5 +1,5 @@
 -- `name_rvg`: what `commit_rvg` asks; clauses goes, narrows, volumes, site, disks, ends and stands.
-use Rattle.std.proofs.Common.{◌≡◌, ℕ, List, ap, sym, ◌∙◌, arith}
+use Rattle.std.proofs.Common.{ℕ, List, ap, sym, ◌∙◌, arith}
 use Rattle.vx_disk.specs.Shelf.{Nothing}
 use Rattle.vx_config.specs.Checks.{is_group}
 use Rattle.vx_config.specs.declared.entry.VolumeEntry.{VolumeEntry}

@@ -1,8 +1,7 @@
 -- The commit of a log that is lost.
-use Rattle.std.proofs.Common.{◌≡◌, ◌∙◌, Bool, List, Err, ap, refl, subst, sym, true}
+use Rattle.std.proofs.Common.{Err, refl, subst, sym, true}
 use Rattle.vx_disk.specs.declared.shelf.ShelfError.{ShelfError}
 use Rattle.vx_config.specs.Changes.{lost}
-use Rattle.vx_config.specs.declared.entry.DiskEntry.{DiskEntry}
 use Rattle.vx_kept.proofs.RunLemmas.{logs_volumes}
 use Rattle.vx_group.specs.Blames.{Blames}
 use Rattle.vx_group.proofs.CallLemmas.{not_down}

@@ -1,5 +1,5 @@
 -- A log that is lost in a call on its volume.
-use Rattle.std.proofs.Common.{◌∙◌, ℕ, Bool, List, ap, subst, arith}
+use Rattle.std.proofs.Common.{ℕ, Bool, List, ap, subst, arith}
 use Rattle.vx_disk.specs.Shelf.{Nothing}
 use Rattle.vx_group.specs.Blames.{CountsRise}
 use Rattle.vx_group.specs.Stands.{volume_faults}

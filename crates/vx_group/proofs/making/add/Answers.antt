@@ -3,6 +3,7 @@ use Rattle.std.proofs.Common.{inl, List, refl, sym, subst, arith}
 use Rattle.vx_config.specs.declared.entry.DiskEntry.{DiskEntry}
 use Rattle.vx_group.specs.Nexts.{IsNextConfig}
 use Rattle.vx_group.proofs.DeportLemmas.{blames_stop, stops_later}
+use Rattle.vx_group.proofs.LoseLemmas.{but_parts, then_parts}
 use Rattle.vx_group.proofs.MakeLemmas.{begun_behind, later_adds, later_next, later_stay, nothing_beside, settled_stay}
 use Rattle.vx_group.proofs.making.add.Goals as goal
 
@@ -44,3 +45,10 @@ returns-clause-beside g c =
     (subst (λ (ds : List DiskEntry). IsNextConfig c.settle_headers.new.core.config (record { serial = c.args.next.serial; site = c.args.next.site; disks = ds; volumes = c.args.next.volumes; rvg = c.args.next.rvg })) (sym c.copy-next.ensures)
     (later_next c.args.core.now c.settle_headers.new.core (g.S.Shelf.meaning c.args.shelf.now) (g.S.Shelf.meaning c.settle_headers.new.shelf) (g.met.S.Shelf.lawful c.settle_headers.new.shelf) c.requires.stands c.settle_headers.ensures.stands c.settle_headers.ensures.narrows c.settle_headers.ensures.same c.args.next c.requires.is_next))
     c.add_last.ensures.beside
+
+pub returns-in-Err-clause-parts : goal.returns-in-Err-clause-parts
+returns-in-Err-clause-parts g c = but_parts c.args.core.now.config c.settle_headers.new.core.config c.settle_headers.ensures.same
+
+pub returns-clause-parts : goal.returns-clause-parts
+returns-clause-parts g c =
+    then_parts c.args.core.now.config c.settle_headers.new.core.config c.add_last.new.core.config (but_parts c.args.core.now.config c.settle_headers.new.core.config c.settle_headers.ensures.same) c.add_last.ensures.parts

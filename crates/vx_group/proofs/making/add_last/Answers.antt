@@ -8,6 +8,8 @@ use Rattle.vx_group.specs.Makes.{AreZero, ZerosOn}
 use Rattle.vx_group.proofs.AddLemmas.{added, added_Stands, added_stay, missed_Stands, missed_blames, missed_stay, next_can, next_count, next_fit, next_follows, next_on, next_some, next_tidy, next_wanted, whole_beside, zero_Stands, zero_beside, zero_stay}
 use Rattle.vx_group.proofs.CallLemmas.{not_down}
 use Rattle.vx_group.proofs.DeportLemmas.{blames_stop, stops_later}
+use Rattle.vx_group.proofs.LoseLemmas.{grown_parts, none_parts, then_parts}
+use Rattle.vx_group.proofs.MakeLemmas.{next_parts}
 use Rattle.vx_group.proofs.Standing.{kept_of, still_large}
 use Rattle.vx_group.proofs.TrustLemmas.{committed_or}
 use Rattle.vx_group.proofs.making.add_last.Goals as goal
@@ -108,3 +110,22 @@ returns-then-is_down-clause-beside g c = whole_beside c.args.core.now c.args.nex
 
 pub returns-else-is_down-clause-beside : goal.returns-else-is_down-clause-beside
 returns-else-is_down-clause-beside g c = whole_beside c.args.core.now c.args.next (g.S.Shelf.meaning c.args.shelf.now) c.requires.stands c.requires.is_next (g.S.Shelf.meaning c.zero_volume.new.shelf) (g.met.S.Shelf.lawful c.args.shelf.now) (g.met.S.Shelf.lawful c.zero_volume.new.shelf) (subst (λ (k : ℕ). Goes (ZerosOn c.args.next k) (g.S.Shelf.meaning c.args.shelf.now) (g.S.Shelf.meaning c.zero_volume.new.shelf)) (ap length c.as_slice.ensures.volumes) c.zero_volume.ensures.goes) (g.S.Shelf.meaning c.commit_next.new.shelf) (g.met.S.Shelf.lawful c.commit_next.new.shelf) c.commit_next.ensures.acts c.args.core.now refl refl
+
+pub returns-in-Err-clause-parts : goal.returns-in-Err-clause-parts
+returns-in-Err-clause-parts g c = none_parts c.args.core.now.config
+
+pub returns-in-Ok-commit_next-clause-parts : goal.returns-in-Ok-commit_next-clause-parts
+returns-in-Ok-commit_next-clause-parts g c =
+    then_parts c.args.core.now.config c.args.next c.commit_next.new.next (next_parts c.args.core.now.config c.args.next c.requires.is_next) (grown_parts (g.S.Shelf.meaning c.zero_volume.new.shelf) (g.S.Shelf.meaning c.commit_next.new.shelf) c.args.next c.commit_next.new.next c.in-Ok-commit_next.ensures.ends.grown)
+
+pub returns-then-is_down-clause-parts : goal.returns-then-is_down-clause-parts
+returns-then-is_down-clause-parts g c = record { site = refl; rvg = refl; count = refl }
+
+pub returns-else-is_down-clause-parts : goal.returns-else-is_down-clause-parts
+returns-else-is_down-clause-parts g c = record { site = refl; rvg = refl; count = refl }
+
+pub returns-in-Ok-commit_next-clause-newest : goal.returns-in-Ok-commit_next-clause-newest
+returns-in-Ok-commit_next-clause-newest g c = record { finds = c.in-Ok-commit_next.ensures.ends.finds }
+
+pub returns-in-Ok-commit_next-clause-up : goal.returns-in-Ok-commit_next-clause-up
+returns-in-Ok-commit_next-clause-up g c = c.in-Ok-commit_next.ensures.up c.in-Ok.ensures.cause

@@ -6,6 +6,7 @@ use Rattle.vx_kept.proofs.Steps.{same_Acts}
 use Rattle.vx_model.specs.declared.errors.Stop.TheVariants.{No as Refused}
 use Rattle.vx_model.specs.declared.no.No.{No}
 use Rattle.vx_group.specs.Makes.{MakeStops, Unmoved, VolumeMade}
+use Rattle.vx_group.proofs.LoseLemmas.{none_parts, then_parts}
 use Rattle.vx_group.proofs.MakeLemmas.{made_volume, makes_behind, nothing_beside, plan_next, plan_stops, stopped_by, unmoved_error, unmoved_stop}
 use Rattle.vx_group.proofs.BehindLemmas.{behind_added, behind_next, later_stays, no_stays, released_stays}
 use Rattle.vx_group.proofs.DeportLemmas.{blames_stop, stops_later}
@@ -114,3 +115,21 @@ returns-in-Ok-add-clause-beside g c =
 pub returns-in-Err-add-clause-beside : goal.returns-in-Err-add-clause-beside
 returns-in-Err-add-clause-beside g c =
     makes_behind _ c.args.core.now.inner.config c.release.new.core.inner.config (g.S.Shelf.meaning c.args.shelf.now) (g.S.Shelf.meaning c.release.new.shelf) (g.S.Shelf.meaning c.add.new.shelf) c.release.ensures.volumes c.release.ensures.narrows.acts c.add.ensures.beside
+
+pub returns-in-Some-clause-parts : goal.returns-in-Some-clause-parts
+returns-in-Some-clause-parts g c = none_parts c.args.core.now.inner.config
+
+pub returns-in-Err-clause-parts : goal.returns-in-Err-clause-parts
+returns-in-Err-clause-parts g c = none_parts c.args.core.now.inner.config
+
+pub returns-then-is_down-clause-parts : goal.returns-then-is_down-clause-parts
+returns-then-is_down-clause-parts g c = none_parts c.args.core.now.inner.config
+
+pub returns-in-Ok-add-clause-parts : goal.returns-in-Ok-add-clause-parts
+returns-in-Ok-add-clause-parts g c = then_parts c.args.core.now.inner.config c.release.new.core.inner.config c.add.new.core.config c.release.ensures.parts c.add.ensures.parts
+
+pub returns-in-Err-add-clause-parts : goal.returns-in-Err-add-clause-parts
+returns-in-Err-add-clause-parts g c = then_parts c.args.core.now.inner.config c.release.new.core.inner.config c.add.new.core.config c.release.ensures.parts c.add.ensures.parts
+
+pub returns-in-Ok-add-clause-held : goal.returns-in-Ok-add-clause-held
+returns-in-Ok-add-clause-held g c = c.in-Ok-release.ensures.done (may_make c.args.core.now.inner.config c.args.name.now c.args.want.now c.plan.ensures.may).serial

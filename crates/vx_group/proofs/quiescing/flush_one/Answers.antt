@@ -31,19 +31,19 @@ pub returns-then-failed-eq0-clause-cause : goal.returns-then-failed-eq0-clause-c
 returns-then-failed-eq0-clause-cause g c = c.in-Ok.ensures.ends.0.up
 
 pub returns-then-core-ge-MOST_NUMBER-clause-ends : goal.returns-then-core-ge-MOST_NUMBER-clause-ends
-returns-then-core-ge-MOST_NUMBER-clause-ends g c = one_back c.args.core.now c.detach.new.core c.args.vol (g.S.Shelf.meaning c.args.shelf.now) (g.S.Shelf.meaning c.detach.new.shelf) c.detach.ensures.stands (flushed_Narrows c.args.core.now c.args.vol (g.S.Shelf.meaning c.args.shelf.now) (g.S.Shelf.meaning c.flush_all.new.shelf) (g.met.S.Shelf.lawful c.args.shelf.now) (g.met.S.Shelf.lawful c.flush_all.new.shelf) c.requires.stands c.flush_all.ensures.goes c.detach.new.core (g.S.Shelf.meaning c.detach.new.shelf) (g.met.S.Shelf.lawful c.detach.new.shelf) c.detach.ensures.narrows) (inr (c.in-Ok.failed.disk, (Rose_after ((g.S.Shelf.meaning c.args.shelf.now).disk_faults c.in-Ok.failed.disk) ((g.S.Shelf.meaning c.flush_all.new.shelf).disk_faults c.in-Ok.failed.disk) ((g.S.Shelf.meaning c.detach.new.shelf).disk_faults c.in-Ok.failed.disk) (c.in-Ok.ensures.ends.1.rose (omega (arith, c.if-failed-eq0.false))) (c.detach.ensures.narrows.acts.disk_faults c.in-Ok.failed.disk)))) (loses_detach (g.S.Shelf.meaning c.args.shelf.now) (g.S.Shelf.meaning c.flush_all.new.shelf) (g.S.Shelf.meaning c.detach.new.shelf) c.flush_all.ensures.goes.faults c.detach.ensures.narrows.acts.faults c.args.core.now.config c.detach.new.core.config c.args.vol c.in-Ok.failed.set (λ p bit. (c.in-Ok.ensures.ends.0.blamed p bit).1) c.detach.ensures.lies c.detach.ensures.others c.detach.ensures.failing) c.detach.ensures.parts
+returns-then-core-ge-MOST_NUMBER-clause-ends g c = one_back c.args.core.now c.detach.new.core c.args.vol (g.S.Shelf.meaning c.args.shelf.now) (g.S.Shelf.meaning c.detach.new.shelf) c.detach.ensures.stands (flushed_Narrows c.args.core.now c.args.vol (g.S.Shelf.meaning c.args.shelf.now) (g.S.Shelf.meaning c.flush_all.new.shelf) (g.met.S.Shelf.lawful c.args.shelf.now) (g.met.S.Shelf.lawful c.flush_all.new.shelf) c.requires.stands c.flush_all.ensures.goes c.detach.new.core (g.S.Shelf.meaning c.detach.new.shelf) (g.met.S.Shelf.lawful c.detach.new.shelf) c.detach.ensures.narrows) (inr (c.in-Ok.failed.disk, (Rose_after ((g.S.Shelf.meaning c.args.shelf.now).disk_faults c.in-Ok.failed.disk) ((g.S.Shelf.meaning c.flush_all.new.shelf).disk_faults c.in-Ok.failed.disk) ((g.S.Shelf.meaning c.detach.new.shelf).disk_faults c.in-Ok.failed.disk) (c.in-Ok.ensures.ends.1.rose (omega (arith, c.if-failed-eq0.false))) (c.detach.ensures.narrows.acts.disk_faults c.in-Ok.failed.disk)))) (loses_detach (g.S.Shelf.meaning c.args.shelf.now) (g.S.Shelf.meaning c.flush_all.new.shelf) (g.S.Shelf.meaning c.detach.new.shelf) c.flush_all.ensures.goes.faults c.detach.ensures.narrows.acts.faults c.args.core.now.config c.detach.new.core.config c.args.vol c.in-Ok.failed.set (λ p bit. (c.in-Ok.ensures.ends.0.blamed p bit).1) c.detach.ensures.lies c.detach.ensures.others c.detach.ensures.failing c.detach.ensures.parts c.detach.ensures.narrows.shape) c.detach.ensures.parts
 
 pub returns-then-core-ge-MOST_NUMBER-clause-cause : goal.returns-then-core-ge-MOST_NUMBER-clause-cause
 returns-then-core-ge-MOST_NUMBER-clause-cause g c = ((Rose_after ((g.S.Shelf.meaning c.args.shelf.now).disk_faults c.in-Ok.failed.disk) ((g.S.Shelf.meaning c.flush_all.new.shelf).disk_faults c.in-Ok.failed.disk) ((g.S.Shelf.meaning c.detach.new.shelf).disk_faults c.in-Ok.failed.disk) (c.in-Ok.ensures.ends.1.rose (omega (arith, c.if-failed-eq0.false))) (c.detach.ensures.narrows.acts.disk_faults c.in-Ok.failed.disk)), c.in-Ok-detach.ensures.cause)
 
 pub returns-else-core-ge-MOST_NUMBER-clause-ends : goal.returns-else-core-ge-MOST_NUMBER-clause-ends
-returns-else-core-ge-MOST_NUMBER-clause-ends g c = one_on c.args.core.now c.detach.new.core c.args.vol (g.S.Shelf.meaning c.args.shelf.now) (g.S.Shelf.meaning c.detach.new.shelf) c.detach.ensures.stands (flushed_Narrows c.args.core.now c.args.vol (g.S.Shelf.meaning c.args.shelf.now) (g.S.Shelf.meaning c.flush_all.new.shelf) (g.met.S.Shelf.lawful c.args.shelf.now) (g.met.S.Shelf.lawful c.flush_all.new.shelf) c.requires.stands c.flush_all.ensures.goes c.detach.new.core (g.S.Shelf.meaning c.detach.new.shelf) (g.met.S.Shelf.lawful c.detach.new.shelf) c.detach.ensures.narrows) (inr (c.in-Ok.failed.disk, (Rose_after ((g.S.Shelf.meaning c.args.shelf.now).disk_faults c.in-Ok.failed.disk) ((g.S.Shelf.meaning c.flush_all.new.shelf).disk_faults c.in-Ok.failed.disk) ((g.S.Shelf.meaning c.detach.new.shelf).disk_faults c.in-Ok.failed.disk) (c.in-Ok.ensures.ends.1.rose (omega (arith, c.if-failed-eq0.false))) (c.detach.ensures.narrows.acts.disk_faults c.in-Ok.failed.disk)))) (loses_detach (g.S.Shelf.meaning c.args.shelf.now) (g.S.Shelf.meaning c.flush_all.new.shelf) (g.S.Shelf.meaning c.detach.new.shelf) c.flush_all.ensures.goes.faults c.detach.ensures.narrows.acts.faults c.args.core.now.config c.detach.new.core.config c.args.vol c.in-Ok.failed.set (λ p bit. (c.in-Ok.ensures.ends.0.blamed p bit).1) c.detach.ensures.lies c.detach.ensures.others c.detach.ensures.failing) (flushed_all c.args.core.now c.args.vol (g.S.Shelf.meaning c.args.shelf.now) (g.S.Shelf.meaning c.flush_all.new.shelf) (g.met.S.Shelf.lawful c.args.shelf.now) (g.met.S.Shelf.lawful c.flush_all.new.shelf) c.requires.stands c.flush_all.ensures.goes c.detach.new.core (g.S.Shelf.meaning c.detach.new.shelf) (g.met.S.Shelf.lawful c.detach.new.shelf) c.detach.ensures.narrows (left_done c.args.core.now.config c.detach.new.core.config c.args.vol c.in-Ok.failed.set _ (g.S.Shelf.meaning c.args.shelf.now) (g.S.Shelf.meaning c.flush_all.new.shelf) (c.detach.ensures.narrows.on c.args.vol) c.in-Ok.ensures.ends.0 c.in-Ok-detach.ensures.off)) c.detach.ensures.parts c.in-Ok-detach.ensures.trust c.in-Ok-detach.ensures.settled c.in-Ok-detach.ensures.cause (omega (arith, c.if-core-ge-MOST_NUMBER.false))
+returns-else-core-ge-MOST_NUMBER-clause-ends g c = one_on c.args.core.now c.detach.new.core c.args.vol (g.S.Shelf.meaning c.args.shelf.now) (g.S.Shelf.meaning c.detach.new.shelf) c.detach.ensures.stands (flushed_Narrows c.args.core.now c.args.vol (g.S.Shelf.meaning c.args.shelf.now) (g.S.Shelf.meaning c.flush_all.new.shelf) (g.met.S.Shelf.lawful c.args.shelf.now) (g.met.S.Shelf.lawful c.flush_all.new.shelf) c.requires.stands c.flush_all.ensures.goes c.detach.new.core (g.S.Shelf.meaning c.detach.new.shelf) (g.met.S.Shelf.lawful c.detach.new.shelf) c.detach.ensures.narrows) (inr (c.in-Ok.failed.disk, (Rose_after ((g.S.Shelf.meaning c.args.shelf.now).disk_faults c.in-Ok.failed.disk) ((g.S.Shelf.meaning c.flush_all.new.shelf).disk_faults c.in-Ok.failed.disk) ((g.S.Shelf.meaning c.detach.new.shelf).disk_faults c.in-Ok.failed.disk) (c.in-Ok.ensures.ends.1.rose (omega (arith, c.if-failed-eq0.false))) (c.detach.ensures.narrows.acts.disk_faults c.in-Ok.failed.disk)))) (loses_detach (g.S.Shelf.meaning c.args.shelf.now) (g.S.Shelf.meaning c.flush_all.new.shelf) (g.S.Shelf.meaning c.detach.new.shelf) c.flush_all.ensures.goes.faults c.detach.ensures.narrows.acts.faults c.args.core.now.config c.detach.new.core.config c.args.vol c.in-Ok.failed.set (λ p bit. (c.in-Ok.ensures.ends.0.blamed p bit).1) c.detach.ensures.lies c.detach.ensures.others c.detach.ensures.failing c.detach.ensures.parts c.detach.ensures.narrows.shape) (flushed_all c.args.core.now c.args.vol (g.S.Shelf.meaning c.args.shelf.now) (g.S.Shelf.meaning c.flush_all.new.shelf) (g.met.S.Shelf.lawful c.args.shelf.now) (g.met.S.Shelf.lawful c.flush_all.new.shelf) c.requires.stands c.flush_all.ensures.goes c.detach.new.core (g.S.Shelf.meaning c.detach.new.shelf) (g.met.S.Shelf.lawful c.detach.new.shelf) c.detach.ensures.narrows (left_done c.args.core.now.config c.detach.new.core.config c.args.vol c.in-Ok.failed.set _ (g.S.Shelf.meaning c.args.shelf.now) (g.S.Shelf.meaning c.flush_all.new.shelf) (c.detach.ensures.narrows.on c.args.vol) c.in-Ok.ensures.ends.0 c.in-Ok-detach.ensures.off)) c.detach.ensures.parts c.in-Ok-detach.ensures.trust c.in-Ok-detach.ensures.settled c.in-Ok-detach.ensures.cause (omega (arith, c.if-core-ge-MOST_NUMBER.false))
 
 pub returns-else-core-ge-MOST_NUMBER-clause-cause : goal.returns-else-core-ge-MOST_NUMBER-clause-cause
 returns-else-core-ge-MOST_NUMBER-clause-cause g c = c.in-Ok-detach.ensures.cause
 
 pub returns-in-Err-detach-clause-ends : goal.returns-in-Err-detach-clause-ends
-returns-in-Err-detach-clause-ends g c = missed_back c.args.core.now c.detach.new.core c.args.vol (g.S.Shelf.meaning c.args.shelf.now) (g.S.Shelf.meaning c.detach.new.shelf) c.detach.ensures.stands (flushed_Narrows c.args.core.now c.args.vol (g.S.Shelf.meaning c.args.shelf.now) (g.S.Shelf.meaning c.flush_all.new.shelf) (g.met.S.Shelf.lawful c.args.shelf.now) (g.met.S.Shelf.lawful c.flush_all.new.shelf) c.requires.stands c.flush_all.ensures.goes c.detach.new.core (g.S.Shelf.meaning c.detach.new.shelf) (g.met.S.Shelf.lawful c.detach.new.shelf) c.detach.ensures.narrows) (inr (c.in-Ok.failed.disk, (Rose_after ((g.S.Shelf.meaning c.args.shelf.now).disk_faults c.in-Ok.failed.disk) ((g.S.Shelf.meaning c.flush_all.new.shelf).disk_faults c.in-Ok.failed.disk) ((g.S.Shelf.meaning c.detach.new.shelf).disk_faults c.in-Ok.failed.disk) (c.in-Ok.ensures.ends.1.rose (omega (arith, c.if-failed-eq0.false))) (c.detach.ensures.narrows.acts.disk_faults c.in-Ok.failed.disk)))) (loses_detach (g.S.Shelf.meaning c.args.shelf.now) (g.S.Shelf.meaning c.flush_all.new.shelf) (g.S.Shelf.meaning c.detach.new.shelf) c.flush_all.ensures.goes.faults c.detach.ensures.narrows.acts.faults c.args.core.now.config c.detach.new.core.config c.args.vol c.in-Ok.failed.set (λ p bit. (c.in-Ok.ensures.ends.0.blamed p bit).1) c.detach.ensures.lies c.detach.ensures.others c.detach.ensures.failing) c.in-Err-detach.error c.mark_failed.new.unsure c.mark_failed.ensures (c.in-Ok.failed.disk, (Rose_after ((g.S.Shelf.meaning c.args.shelf.now).disk_faults c.in-Ok.failed.disk) ((g.S.Shelf.meaning c.flush_all.new.shelf).disk_faults c.in-Ok.failed.disk) ((g.S.Shelf.meaning c.detach.new.shelf).disk_faults c.in-Ok.failed.disk) (c.in-Ok.ensures.ends.1.rose (omega (arith, c.if-failed-eq0.false))) (c.detach.ensures.narrows.acts.disk_faults c.in-Ok.failed.disk))) c.detach.ensures.parts
+returns-in-Err-detach-clause-ends g c = missed_back c.args.core.now c.detach.new.core c.args.vol (g.S.Shelf.meaning c.args.shelf.now) (g.S.Shelf.meaning c.detach.new.shelf) c.detach.ensures.stands (flushed_Narrows c.args.core.now c.args.vol (g.S.Shelf.meaning c.args.shelf.now) (g.S.Shelf.meaning c.flush_all.new.shelf) (g.met.S.Shelf.lawful c.args.shelf.now) (g.met.S.Shelf.lawful c.flush_all.new.shelf) c.requires.stands c.flush_all.ensures.goes c.detach.new.core (g.S.Shelf.meaning c.detach.new.shelf) (g.met.S.Shelf.lawful c.detach.new.shelf) c.detach.ensures.narrows) (inr (c.in-Ok.failed.disk, (Rose_after ((g.S.Shelf.meaning c.args.shelf.now).disk_faults c.in-Ok.failed.disk) ((g.S.Shelf.meaning c.flush_all.new.shelf).disk_faults c.in-Ok.failed.disk) ((g.S.Shelf.meaning c.detach.new.shelf).disk_faults c.in-Ok.failed.disk) (c.in-Ok.ensures.ends.1.rose (omega (arith, c.if-failed-eq0.false))) (c.detach.ensures.narrows.acts.disk_faults c.in-Ok.failed.disk)))) (loses_detach (g.S.Shelf.meaning c.args.shelf.now) (g.S.Shelf.meaning c.flush_all.new.shelf) (g.S.Shelf.meaning c.detach.new.shelf) c.flush_all.ensures.goes.faults c.detach.ensures.narrows.acts.faults c.args.core.now.config c.detach.new.core.config c.args.vol c.in-Ok.failed.set (λ p bit. (c.in-Ok.ensures.ends.0.blamed p bit).1) c.detach.ensures.lies c.detach.ensures.others c.detach.ensures.failing c.detach.ensures.parts c.detach.ensures.narrows.shape) c.in-Err-detach.error c.mark_failed.new.unsure c.mark_failed.ensures (c.in-Ok.failed.disk, (Rose_after ((g.S.Shelf.meaning c.args.shelf.now).disk_faults c.in-Ok.failed.disk) ((g.S.Shelf.meaning c.flush_all.new.shelf).disk_faults c.in-Ok.failed.disk) ((g.S.Shelf.meaning c.detach.new.shelf).disk_faults c.in-Ok.failed.disk) (c.in-Ok.ensures.ends.1.rose (omega (arith, c.if-failed-eq0.false))) (c.detach.ensures.narrows.acts.disk_faults c.in-Ok.failed.disk))) c.detach.ensures.parts
 
 pub returns-in-Err-detach-clause-cause : goal.returns-in-Err-detach-clause-cause
 returns-in-Err-detach-clause-cause g c = blames_by {T = Unit {0}} (Err c.in-Err-detach.error) c.in-Ok.failed.disk (g.S.Shelf.meaning c.args.shelf.now) (g.S.Shelf.meaning c.flush_all.new.shelf) (g.S.Shelf.meaning c.detach.new.shelf) (c.in-Ok.ensures.ends.1.rose (omega (arith, c.if-failed-eq0.false))) c.flush_all.ensures.goes.disk_faults c.detach.ensures.narrows.acts.disk_faults c.in-Err-detach.ensures.cause

@@ -2,6 +2,7 @@
 use Rattle.std.proofs.Common.{refl}
 use Rattle.vx_group.proofs.CallLemmas.{both_Narrows}
 use Rattle.vx_group.proofs.DetachLemmas.{zero_bit}
+use Rattle.vx_group.proofs.LoseLemmas.{but_parts, then_parts}
 use Rattle.vx_group.proofs.Standing.{some_active}
 use Rattle.vx_group.proofs.regaining.recommit.Goals as goal
 
@@ -25,3 +26,22 @@ returns-then-lies_on_failed-clause-narrows g c =
 pub returns-clause-narrows : goal.returns-clause-narrows
 returns-clause-narrows g c =
     both_Narrows c.args.core.now c.settle_named.new.core c.detach_named.new.core (g.S.Shelf.meaning c.args.shelf.now) (g.S.Shelf.meaning c.settle_named.new.shelf) (g.S.Shelf.meaning c.detach_named.new.shelf) c.settle_named.ensures.volumes c.settle_named.ensures.good c.settle_named.ensures.narrows c.detach_named.ensures.narrows
+
+pub returns-in-Err-clause-parts : goal.returns-in-Err-clause-parts
+returns-in-Err-clause-parts g c = but_parts c.args.core.now.config c.settle_named.new.core.config c.settle_named.ensures.same
+
+pub returns-in-Err-detach_named-clause-parts : goal.returns-in-Err-detach_named-clause-parts
+returns-in-Err-detach_named-clause-parts g c =
+    then_parts c.args.core.now.config c.settle_named.new.core.config c.detach_named.new.core.config (but_parts c.args.core.now.config c.settle_named.new.core.config c.settle_named.ensures.same) c.detach_named.ensures.parts
+
+pub returns-then-missed-clause-parts : goal.returns-then-missed-clause-parts
+returns-then-missed-clause-parts g c =
+    then_parts c.args.core.now.config c.settle_named.new.core.config c.detach_named.new.core.config (but_parts c.args.core.now.config c.settle_named.new.core.config c.settle_named.ensures.same) c.detach_named.ensures.parts
+
+pub returns-then-lies_on_failed-clause-parts : goal.returns-then-lies_on_failed-clause-parts
+returns-then-lies_on_failed-clause-parts g c =
+    then_parts c.args.core.now.config c.settle_named.new.core.config c.detach_named.new.core.config (but_parts c.args.core.now.config c.settle_named.new.core.config c.settle_named.ensures.same) c.detach_named.ensures.parts
+
+pub returns-clause-parts : goal.returns-clause-parts
+returns-clause-parts g c =
+    then_parts c.args.core.now.config c.settle_named.new.core.config c.detach_named.new.core.config (but_parts c.args.core.now.config c.settle_named.new.core.config c.settle_named.ensures.same) c.detach_named.ensures.parts

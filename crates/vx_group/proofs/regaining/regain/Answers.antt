@@ -1,10 +1,11 @@
 -- `regain`: clauses stands, narrows, volumes, few, regains and held; what `recommit` asks.
-use Rattle.std.proofs.Common.{true, length, refl, sym, ◌∙◌, subst, arith}
+use Rattle.std.proofs.Common.{ap, arith, length, refl, subst, sym, true, ◌∙◌}
 use Rattle.vx_config.specs.declared.config.Config.{Config}
 use Rattle.vx_group.specs.Stands.{InnerStands}
 use Rattle.vx_group.proofs.CallLemmas.{both_Narrows}
 use Rattle.vx_group.proofs.RegainLemmas.{back_narrows, flags_back, regained_Narrows, regained_Stands, none_holds, regained_held, regained_regains, same_narrows, same_regains, then_regains}
 use Rattle.vx_group.proofs.regaining.regain.Goals as goal
+use Rattle.vx_group.proofs.LoseLemmas.{but_parts, then_parts}
 
 pub returns-then-not-hold_plex-clause-stands : goal.returns-then-not-hold_plex-clause-stands
 returns-then-not-hold_plex-clause-stands g c =
@@ -89,3 +90,17 @@ pub returns-else-not-core-clause-regains : goal.returns-else-not-core-clause-reg
 returns-else-not-core-clause-regains g c =
     let back : Config = record { serial = c.recommit.new.core.config.serial; site = c.recommit.new.core.config.site; disks = c.copy-kept.result; volumes = c.recommit.new.core.config.volumes; rvg = c.recommit.new.core.config.rvg } in
     same_regains c.args.core.now.config back c.args.vol c.args.plex (g.S.Shelf.meaning c.args.shelf.now) (g.S.Shelf.meaning c.recommit.new.shelf) c.copy-kept.ensures
+
+pub returns-then-not-hold_plex-clause-parts : goal.returns-then-not-hold_plex-clause-parts
+returns-then-not-hold_plex-clause-parts g c = but_parts c.args.core.now.config c.hold_plex.new.config c.hold_plex.ensures.regained.same
+
+pub returns-in-Ok-clause-parts : goal.returns-in-Ok-clause-parts
+returns-in-Ok-clause-parts g c = then_parts c.args.core.now.config c.hold_plex.new.config c.recommit.new.core.config (but_parts c.args.core.now.config c.hold_plex.new.config c.hold_plex.ensures.regained.same) c.recommit.ensures.parts
+
+pub returns-then-not-core-clause-parts : goal.returns-then-not-core-clause-parts
+returns-then-not-core-clause-parts g c = then_parts c.args.core.now.config c.hold_plex.new.config c.recommit.new.core.config (but_parts c.args.core.now.config c.hold_plex.new.config c.hold_plex.ensures.regained.same) c.recommit.ensures.parts
+
+pub returns-else-not-core-clause-parts : goal.returns-else-not-core-clause-parts
+returns-else-not-core-clause-parts g c =
+    let parts = then_parts c.args.core.now.config c.hold_plex.new.config c.recommit.new.core.config (but_parts c.args.core.now.config c.hold_plex.new.config c.hold_plex.ensures.regained.same) c.recommit.ensures.parts in
+    record { site = parts.site; rvg = parts.rvg; count = ap length c.copy-kept.ensures }

@@ -1,9 +1,9 @@
 -- `release`: clauses stands, narrows, volumes and parts; what `detach_plex-result` asks.
 use Rattle.std.proofs.Common.{◌∙◌, refl, sym, subst}
-use Rattle.vx_group.specs.Quiesces.{SameParts}
 use Rattle.vx_group.specs.declared.inner.Inner.{Inner}
 use Rattle.vx_group.proofs.HoldLemmas.{back_parts, e_Stands, e_narrows, e_volumes, x_other}
 use Rattle.vx_group.proofs.releasing.release.Goals as goal
+use Rattle.vx_group.specs.Loses.{SameParts}
 
 pub detach_plex-result-requires-clause-other : goal.detach_plex-result-requires-clause-other
 detach_plex-result-requires-clause-other g c = x_other c.args.core.now c.in-Some.held (g.S.Shelf.meaning c.args.shelf.now) c.requires.stands (sym c.open_held.ensures.held ∙ c.in-Some.is) c.open_held.new.core.inner c.open_held.ensures.inner

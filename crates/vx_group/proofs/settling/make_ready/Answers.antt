@@ -3,6 +3,7 @@ use Rattle.std.proofs.Common.{◌∙◌, length, refl, arith}
 use Rattle.vx_group.proofs.CallLemmas.{blames_later, both_Narrows}
 use Rattle.vx_group.proofs.DetachLemmas.{zero_bit}
 use Rattle.vx_group.proofs.FailingLemmas.{few_ok, then_failing}
+use Rattle.vx_group.proofs.LoseLemmas.{but_parts, then_parts}
 use Rattle.vx_group.proofs.Standing.{some_active}
 use Rattle.vx_group.proofs.TrustLemmas.{err_from, ok_from}
 use Rattle.vx_group.proofs.settling.make_ready.Goals as goal
@@ -23,6 +24,13 @@ returns-clause-cause g c =
 
 pub returns-clause-volumes : goal.returns-clause-volumes
 returns-clause-volumes g c = c.detach.ensures.none refl ∙ c.settle_headers.ensures.volumes
+
+pub returns-in-Err-clause-parts : goal.returns-in-Err-clause-parts
+returns-in-Err-clause-parts g c = but_parts c.args.core.now.config c.settle_headers.new.core.config c.settle_headers.ensures.same
+
+pub returns-clause-parts : goal.returns-clause-parts
+returns-clause-parts g c =
+    then_parts c.args.core.now.config c.settle_headers.new.core.config c.detach.new.core.config (but_parts c.args.core.now.config c.settle_headers.new.core.config c.settle_headers.ensures.same) c.detach.ensures.parts
 
 pub returns-clause-failing : goal.returns-clause-failing
 returns-clause-failing g c =

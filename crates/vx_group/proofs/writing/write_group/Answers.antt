@@ -21,7 +21,7 @@ returns-in-Err-clause-goes g c = none_written (Written c.args.vol c.args.block c
 
 pub returns-in-Err-clause-loses : goal.returns-in-Err-clause-loses
 returns-in-Err-clause-loses g c =
-    loses_none c.args.core.now.inner.config c.release.new.core.inner.config (g.S.Shelf.meaning c.args.shelf.now) (g.S.Shelf.meaning c.release.new.shelf) c.release.ensures.volumes c.release.ensures.failing
+    loses_none c.args.core.now.inner.config c.release.new.core.inner.config (g.S.Shelf.meaning c.args.shelf.now) (g.S.Shelf.meaning c.release.new.shelf) c.release.ensures.volumes c.release.ensures.failing c.release.ensures.parts
 
 pub returns-in-Err-clause-cause : goal.returns-in-Err-clause-cause
 returns-in-Err-clause-cause g c =
@@ -54,7 +54,7 @@ returns-clause-gave_up g c =
 pub returns-clause-loses : goal.returns-clause-loses
 returns-clause-loses g c =
     through_loses c.args.core.now c.release.new.core (record { inner = c.write_in-result.new.core; held = c.open_held-held.new.core.held }) c.close_held.new.core c.open_held-held.new.core.inner (g.S.Shelf.meaning c.args.shelf.now) (g.S.Shelf.meaning c.release.new.shelf) (g.S.Shelf.meaning c.write_in-result.new.shelf) c.requires.stands c.release.ensures.stands c.release.ensures.narrows c.release.ensures.volumes c.open_held-held.result c.open_held-held.ensures.held c.open_held-held.ensures.inner c.open_held-held.ensures.none c.close_held.ensures
-    c.write_in-result.ensures.unit_faults c.release.ensures.failing c.write_in-result.ensures.loses
+    c.write_in-result.ensures.unit_faults c.release.ensures.failing c.release.ensures.parts c.write_in-result.ensures.loses
 
 pub returns-clause-cause : goal.returns-clause-cause
 returns-clause-cause g c =

@@ -52,15 +52,15 @@ returns-then-is_down-clause-loses g c =
 
 pub returns-in-Err-clause-loses : goal.returns-in-Err-clause-loses
 returns-in-Err-clause-loses g c =
-    loses_none c.args.core.now.config c.make_ready.new.core.config (g.S.Shelf.meaning c.args.shelf.now) (g.S.Shelf.meaning c.make_ready.new.shelf) c.make_ready.ensures.volumes c.make_ready.ensures.failing
+    loses_none c.args.core.now.config c.make_ready.new.core.config (g.S.Shelf.meaning c.args.shelf.now) (g.S.Shelf.meaning c.make_ready.new.shelf) c.make_ready.ensures.volumes c.make_ready.ensures.failing c.make_ready.ensures.parts
 
 pub returns-in-Ok-write_plexes-clause-loses : goal.returns-in-Ok-write_plexes-clause-loses
 returns-in-Ok-write_plexes-clause-loses g c =
-    then_loses (g.S.Shelf.meaning c.args.shelf.now) (g.S.Shelf.meaning c.make_ready.new.shelf) (g.S.Shelf.meaning c.write_plexes.new.shelf) c.make_ready.ensures.narrows.acts.faults c.write_plexes.ensures.unit_faults c.args.core.now.config c.make_ready.new.core.config c.write_plexes.new.core.config (loses_none c.args.core.now.config c.make_ready.new.core.config (g.S.Shelf.meaning c.args.shelf.now) (g.S.Shelf.meaning c.make_ready.new.shelf) c.make_ready.ensures.volumes c.make_ready.ensures.failing) c.write_plexes.ensures.loses
+    then_loses (g.S.Shelf.meaning c.args.shelf.now) (g.S.Shelf.meaning c.make_ready.new.shelf) (g.S.Shelf.meaning c.write_plexes.new.shelf) c.make_ready.ensures.narrows.acts.faults c.write_plexes.ensures.unit_faults c.args.core.now.config c.make_ready.new.core.config c.write_plexes.new.core.config (loses_none c.args.core.now.config c.make_ready.new.core.config (g.S.Shelf.meaning c.args.shelf.now) (g.S.Shelf.meaning c.make_ready.new.shelf) c.make_ready.ensures.volumes c.make_ready.ensures.failing c.make_ready.ensures.parts) c.write_plexes.ensures.loses
 
 pub returns-in-Err-write_plexes-clause-loses : goal.returns-in-Err-write_plexes-clause-loses
 returns-in-Err-write_plexes-clause-loses g c =
-    then_loses (g.S.Shelf.meaning c.args.shelf.now) (g.S.Shelf.meaning c.make_ready.new.shelf) (g.S.Shelf.meaning c.write_plexes.new.shelf) c.make_ready.ensures.narrows.acts.faults c.write_plexes.ensures.unit_faults c.args.core.now.config c.make_ready.new.core.config c.write_plexes.new.core.config (loses_none c.args.core.now.config c.make_ready.new.core.config (g.S.Shelf.meaning c.args.shelf.now) (g.S.Shelf.meaning c.make_ready.new.shelf) c.make_ready.ensures.volumes c.make_ready.ensures.failing) c.write_plexes.ensures.loses
+    then_loses (g.S.Shelf.meaning c.args.shelf.now) (g.S.Shelf.meaning c.make_ready.new.shelf) (g.S.Shelf.meaning c.write_plexes.new.shelf) c.make_ready.ensures.narrows.acts.faults c.write_plexes.ensures.unit_faults c.args.core.now.config c.make_ready.new.core.config c.write_plexes.new.core.config (loses_none c.args.core.now.config c.make_ready.new.core.config (g.S.Shelf.meaning c.args.shelf.now) (g.S.Shelf.meaning c.make_ready.new.shelf) c.make_ready.ensures.volumes c.make_ready.ensures.failing c.make_ready.ensures.parts) c.write_plexes.ensures.loses
 
 pub returns-in-Ok-write_plexes-clause-trust : goal.returns-in-Ok-write_plexes-clause-trust
 returns-in-Ok-write_plexes-clause-trust g c = λ is. c.in-Ok-write_plexes.ensures.trust (c.in-Ok.ensures.trust is)

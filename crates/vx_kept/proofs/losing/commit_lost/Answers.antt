@@ -1,9 +1,8 @@
 -- The commit of a log that is lost.
-use Rattle.std.proofs.Common.{◌≡◌, ◌∙◌, inl, inr, ⊎_elim, ap, refl, subst, sym, true}
+use Rattle.std.proofs.Common.{◌≡◌, ◌∙◌, inl, inr, ⊎_elim, refl, subst, sym, true}
 use Rattle.vx_config.specs.Configs.{CanSpell}
 use Rattle.vx_config.specs.declared.config.Config.{Config}
 use Rattle.vx_copies.specs.Bodies.{is_wanted}
-use Rattle.vx_disk.specs.Shelf.{Meaning}
 use Rattle.vx_kept.specs.Commits.{Left, Member, Taken}
 use Rattle.vx_kept.specs.Keeping.{AllOn}
 use Rattle.vx_kept.proofs.Committed.{base_of, take_acts, take_done, take_on, take_refused}

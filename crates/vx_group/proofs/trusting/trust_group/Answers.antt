@@ -1,0 +1,56 @@
+-- `trust_group`: its clauses, over a group of which no plex is held back; what `trust_log` asks.
+use Rattle.std.proofs.Common.{false, sym, subst}
+use Rattle.vx_config.specs.Changes.{lost}
+use Rattle.vx_disk.specs.Shelf.{Goes, Nothing}
+use Rattle.vx_kept.specs.PlexActs.{PlexActs}
+use Rattle.vx_group.specs.Holding.{wide}
+use Rattle.vx_group.specs.Stands.{inner_meaning}
+use Rattle.vx_group.specs.declared.inner.Inner.{Inner}
+use Rattle.vx_group.proofs.HoldLemmas.{from_none, none_Stands, wide_none}
+use Rattle.vx_group.proofs.MendLemmas.{same_Goes}
+use Rattle.vx_group.proofs.TrustingLemmas.{still_PlexActs}
+use Rattle.vx_group.proofs.trusting.trust_group.Goals as goal
+
+pub trust_log-requires-clause-stands : goal.trust_log-requires-clause-stands
+trust_log-requires-clause-stands g c = from_none c.args.core.now (g.S.Shelf.meaning c.args.shelf.now) c.requires.none c.requires.stands
+
+pub returns-then-is_down-clause-goes : goal.returns-then-is_down-clause-goes
+returns-then-is_down-clause-goes g c = same_Goes (inner_meaning (wide c.args.core.now) (g.S.Shelf.meaning c.args.shelf.now))
+
+pub returns-then-is_down-clause-acts : goal.returns-then-is_down-clause-acts
+returns-then-is_down-clause-acts g c = still_PlexActs c.args.vol c.args.log (wide c.args.core.now).config (g.S.Shelf.meaning c.args.shelf.now)
+
+pub returns-then-is_down-clause-agreed : goal.returns-then-is_down-clause-agreed
+returns-then-is_down-clause-agreed g c = λ is. c.requires.stands.stands.trusts.both is
+
+pub returns-then-core-ge-MOST_NUMBER-clause-goes : goal.returns-then-core-ge-MOST_NUMBER-clause-goes
+returns-then-core-ge-MOST_NUMBER-clause-goes g c = same_Goes (inner_meaning (wide c.args.core.now) (g.S.Shelf.meaning c.args.shelf.now))
+
+pub returns-then-core-ge-MOST_NUMBER-clause-acts : goal.returns-then-core-ge-MOST_NUMBER-clause-acts
+returns-then-core-ge-MOST_NUMBER-clause-acts g c = still_PlexActs c.args.vol c.args.log (wide c.args.core.now).config (g.S.Shelf.meaning c.args.shelf.now)
+
+pub returns-in-Ok-clause-stands : goal.returns-in-Ok-clause-stands
+returns-in-Ok-clause-stands g c = none_Stands (record { inner = c.trust_log.new.core; held = c.args.core.now.held }) (g.S.Shelf.meaning c.trust_log.new.shelf) c.requires.none c.trust_log.ensures.stands
+
+pub returns-in-Err-clause-stands : goal.returns-in-Err-clause-stands
+returns-in-Err-clause-stands g c = none_Stands (record { inner = c.trust_log.new.core; held = c.args.core.now.held }) (g.S.Shelf.meaning c.trust_log.new.shelf) c.requires.none c.trust_log.ensures.stands
+
+pub returns-in-Ok-clause-goes : goal.returns-in-Ok-clause-goes
+returns-in-Ok-clause-goes g c =
+    subst (λ (i : Inner). Goes Nothing (inner_meaning i (g.S.Shelf.meaning c.args.shelf.now)) (inner_meaning (wide (record { inner = c.trust_log.new.core; held = c.args.core.now.held })) (g.S.Shelf.meaning c.trust_log.new.shelf))) (sym (wide_none c.args.core.now c.requires.none))
+    (subst (λ (i : Inner). Goes Nothing (inner_meaning c.args.core.now.inner (g.S.Shelf.meaning c.args.shelf.now)) (inner_meaning i (g.S.Shelf.meaning c.trust_log.new.shelf))) (sym (wide_none (record { inner = c.trust_log.new.core; held = c.args.core.now.held }) c.requires.none)) c.trust_log.ensures.goes)
+
+pub returns-in-Err-clause-goes : goal.returns-in-Err-clause-goes
+returns-in-Err-clause-goes g c =
+    subst (λ (i : Inner). Goes Nothing (inner_meaning i (g.S.Shelf.meaning c.args.shelf.now)) (inner_meaning (wide (record { inner = c.trust_log.new.core; held = c.args.core.now.held })) (g.S.Shelf.meaning c.trust_log.new.shelf))) (sym (wide_none c.args.core.now c.requires.none))
+    (subst (λ (i : Inner). Goes Nothing (inner_meaning c.args.core.now.inner (g.S.Shelf.meaning c.args.shelf.now)) (inner_meaning i (g.S.Shelf.meaning c.trust_log.new.shelf))) (sym (wide_none (record { inner = c.trust_log.new.core; held = c.args.core.now.held }) c.requires.none)) c.trust_log.ensures.goes)
+
+pub returns-in-Ok-clause-acts : goal.returns-in-Ok-clause-acts
+returns-in-Ok-clause-acts g c =
+    subst (λ (i : Inner). PlexActs Nothing (lost c.args.vol c.args.log false i.config) (wide (record { inner = c.trust_log.new.core; held = c.args.core.now.held })).config (g.S.Shelf.meaning c.args.shelf.now) (g.S.Shelf.meaning c.trust_log.new.shelf)) (sym (wide_none c.args.core.now c.requires.none))
+    (subst (λ (i : Inner). PlexActs Nothing (lost c.args.vol c.args.log false c.args.core.now.inner.config) i.config (g.S.Shelf.meaning c.args.shelf.now) (g.S.Shelf.meaning c.trust_log.new.shelf)) (sym (wide_none (record { inner = c.trust_log.new.core; held = c.args.core.now.held }) c.requires.none)) c.trust_log.ensures.acts)
+
+pub returns-in-Err-clause-acts : goal.returns-in-Err-clause-acts
+returns-in-Err-clause-acts g c =
+    subst (λ (i : Inner). PlexActs Nothing (lost c.args.vol c.args.log false i.config) (wide (record { inner = c.trust_log.new.core; held = c.args.core.now.held })).config (g.S.Shelf.meaning c.args.shelf.now) (g.S.Shelf.meaning c.trust_log.new.shelf)) (sym (wide_none c.args.core.now c.requires.none))
+    (subst (λ (i : Inner). PlexActs Nothing (lost c.args.vol c.args.log false c.args.core.now.inner.config) i.config (g.S.Shelf.meaning c.args.shelf.now) (g.S.Shelf.meaning c.trust_log.new.shelf)) (sym (wide_none (record { inner = c.trust_log.new.core; held = c.args.core.now.held }) c.requires.none)) c.trust_log.ensures.acts)

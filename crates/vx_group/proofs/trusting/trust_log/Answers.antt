@@ -1,0 +1,39 @@
+-- `trust_log`: clauses goes and acts; what `detach` asks.
+use Rattle.vx_group.proofs.DetachLemmas.{zero_bit}
+use Rattle.std.proofs.Common.{ℕ, refl, arith, List, ap}
+use Rattle.vx_group.specs.Stands.{volume_faults}
+use Rattle.vx_group.proofs.CallLemmas.{narrows_Goes}
+use Rattle.vx_group.specs.Holding.{with_config}
+use Rattle.vx_group.proofs.Standing.{some_active}
+use Rattle.vx_group.proofs.TrustingLemmas.{both_acts, both_goes, early_PlexActs, now_Stands}
+use Rattle.vx_group.proofs.trusting.trust_log.Goals as goal
+
+pub returns-in-Err-clause-goes : goal.returns-in-Err-clause-goes
+returns-in-Err-clause-goes g c =
+    narrows_Goes c.args.core.now c.settle_headers.new.core (g.S.Shelf.meaning c.args.shelf.now) (g.S.Shelf.meaning c.settle_headers.new.shelf) (g.met.S.Shelf.lawful c.settle_headers.new.shelf) c.requires.stands c.settle_headers.ensures.narrows
+    (volume_faults c.args.core.now.faults) (volume_faults c.settle_headers.new.core.faults) (λ u. let same = ap (λ (x : List ℕ). volume_faults x u) c.settle_headers.ensures.narrows.faults in omega (arith, same))
+
+pub returns-in-Err-clause-acts : goal.returns-in-Err-clause-acts
+returns-in-Err-clause-acts g c =
+    early_PlexActs c.args.vol c.args.log c.args.core.now c.settle_headers.new.core c.settle_headers.new.core.config c.settle_headers.new.core (g.S.Shelf.meaning c.args.shelf.now) (g.S.Shelf.meaning c.settle_headers.new.shelf) (g.S.Shelf.meaning c.settle_headers.new.shelf)
+    (g.met.S.Shelf.lawful c.settle_headers.new.shelf) (g.met.S.Shelf.lawful c.settle_headers.new.shelf) c.requires.stands c.settle_headers.ensures.narrows c.settle_headers.ensures.volumes
+
+pub detach-requires-clause-stands : goal.detach-requires-clause-stands
+detach-requires-clause-stands g c = now_Stands c.args.vol c.args.log c.settle_headers.new.core c.trust.new.config (g.S.Shelf.meaning c.settle_headers.new.shelf) c.trust.ensures.changed c.trust.ensures.sound c.settle_headers.ensures.stands
+
+pub detach-requires-clause-left : goal.detach-requires-clause-left
+detach-requires-clause-left g c = λ lt.
+    let some = some_active (with_config c.trust.new.config c.settle_headers.new.core) (g.S.Shelf.meaning c.settle_headers.new.shelf) (now_Stands c.args.vol c.args.log c.settle_headers.new.core c.trust.new.config (g.S.Shelf.meaning c.settle_headers.new.shelf) c.trust.ensures.changed c.trust.ensures.sound c.settle_headers.ensures.stands) 0 lt in
+    record { plex = some.plex; is_on = some.is_on; out = zero_bit 0 some.plex refl }
+
+pub returns-clause-goes : goal.returns-clause-goes
+returns-clause-goes g c =
+    both_goes c.args.vol c.args.log c.args.core.now c.settle_headers.new.core c.trust.new.config c.detach.new.core (g.S.Shelf.meaning c.args.shelf.now) (g.S.Shelf.meaning c.settle_headers.new.shelf) (g.S.Shelf.meaning c.detach.new.shelf)
+    (g.met.S.Shelf.lawful c.settle_headers.new.shelf) (g.met.S.Shelf.lawful c.detach.new.shelf) c.requires.stands c.settle_headers.ensures.narrows c.settle_headers.ensures.volumes
+    c.trust.ensures.changed c.trust.ensures.sound c.settle_headers.ensures.stands c.detach.ensures.narrows
+
+pub returns-clause-acts : goal.returns-clause-acts
+returns-clause-acts g c =
+    both_acts c.args.vol c.args.log c.args.core.now c.settle_headers.new.core c.trust.new.config c.detach.new.core (g.S.Shelf.meaning c.args.shelf.now) (g.S.Shelf.meaning c.settle_headers.new.shelf) (g.S.Shelf.meaning c.detach.new.shelf)
+    (g.met.S.Shelf.lawful c.settle_headers.new.shelf) (g.met.S.Shelf.lawful c.detach.new.shelf) c.requires.stands c.settle_headers.ensures.narrows c.settle_headers.ensures.volumes
+    c.trust.ensures.changed c.trust.ensures.sound c.settle_headers.ensures.stands c.detach.ensures.narrows

@@ -1,0 +1,57 @@
+-- A volume that is made: what it leaves, and refusals of disks that are down behind it.
+use Rattle.std.proofs.Common.{ap, length, refl, sym, ◌-◌, ◌∙◌, ◌≡◌}
+use Rattle.std.specs.Prelude.{nat_le, nat_lt, not}
+use Rattle.std.specs.List.{list_any}
+use Rattle.vx_config.specs.Table.{greatest}
+use Rattle.vx_group.specs.Dets.{margin}
+use Rattle.vx_group.specs.Makes.{VolumeMade, has_name, is_shape, make_refusal}
+use Rattle.vx_group.proofs.CallLemmas.{not_down}
+use Rattle.vx_model.specs.declared.limits.TheConstants.{MOST_PLEXES, MOST_VOLUMES}
+use Rattle.vx_model.specs.declared.no.Counted.TheVariants.{Number, Plexes, Volumes}
+use Rattle.vx_model.specs.declared.errors.Stop.TheVariants.{No as Refused}
+use Rattle.vx_model.specs.declared.no.No.TheVariants as refusal
+use Rattle.vx_grouped.proofs.AddedLemmas.{err_one, made_by, made_leaves, make_not_down, stop_volumes, volume_cut, volume_up}
+use Rattle.vx_grouped.proofs.KeepLemmas.{never_fell, same_at}
+use Rattle.vx_grouped.proofs.making.make_volume_of.Goals as goal
+
+pub returns-in-Ok-clause-leaves : goal.returns-in-Ok-clause-leaves
+returns-in-Ok-clause-leaves g c = λ n note at.
+    made_leaves n note c.args.name.now c.args.want.now c.args.group.now.core c.make_volume.new.self.core (g.S.Shelf.meaning c.args.group.now.shelf) (g.S.Shelf.meaning c.make_volume.new.self.shelf) at c.make_volume.new.self.stands
+    (g.met.S.Shelf.lawful c.make_volume.new.self.shelf) c.make_volume.ensures.below c.make_volume.ensures.stays c.in-Ok.vol c.in-Ok.ensures.held c.in-Ok.ensures.up c.in-Ok.ensures.trust
+    (made_by (VolumeMade c.args.name.now c.args.want.now c.in-Ok.vol c.args.group.now.core.inner c.make_volume.new.self.core.inner (g.S.Shelf.meaning c.make_volume.new.self.shelf)) _ c.in-Ok.vol
+    (make_refusal c.args.group.now.core.inner.config c.args.name.now c.args.want.now) refl c.in-Ok.ensures.ends (λ why is. (c.in-Ok.ensures.refused why is).0))
+
+pub returns-then-is_down-clause-refused : goal.returns-then-is_down-clause-refused
+returns-then-is_down-clause-refused g c = λ why is.
+    absurd (never_fell g.S.Shelf.meaning c.args.group.now.shelf c.make_volume.new.self.shelf (c.make_volume.ensures.refused why is).2 c.requires.up (sym c.is_down.ensures ∙ c.if-is_down.true))
+
+pub returns-then-is_down-clause-leaves : goal.returns-then-is_down-clause-leaves
+returns-then-is_down-clause-leaves g c = λ n note at.
+    volume_cut n note c.args.name.now c.args.want.now c.args.group.now.core c.make_volume.new.self.core (g.S.Shelf.meaning c.args.group.now.shelf) (g.S.Shelf.meaning c.make_volume.new.self.shelf) at c.make_volume.new.self.stands
+    (g.met.S.Shelf.lawful c.make_volume.new.self.shelf) c.make_volume.ensures.below c.make_volume.ensures.stays (make_refusal c.args.group.now.core.inner.config c.args.name.now c.args.want.now)
+    (λ none. stop_volumes c.args.name.now c.args.want.now c.args.group.now.core.inner c.make_volume.new.self.core.inner (g.S.Shelf.meaning c.args.group.now.shelf) (g.S.Shelf.meaning c.make_volume.new.self.shelf) c.in-Err.stop (c.in-Err.ensures.ends none))
+    (λ why is. never_fell g.S.Shelf.meaning c.args.group.now.shelf c.make_volume.new.self.shelf (c.make_volume.ensures.refused why is).2 c.requires.up) (sym c.is_down.ensures ∙ c.if-is_down.true)
+
+pub returns-then-is_down-clause-ends : goal.returns-then-is_down-clause-ends
+returns-then-is_down-clause-ends g c = λ none. (
+  stop_volumes c.args.name.now c.args.want.now c.args.group.now.core.inner c.make_volume.new.self.core.inner (g.S.Shelf.meaning c.args.group.now.shelf) (g.S.Shelf.meaning c.make_volume.new.self.shelf) c.in-Err.stop (c.in-Err.ensures.ends none),
+  sym c.is_down.ensures ∙ c.if-is_down.true,
+)
+
+pub returns-else-is_down-clause-leaves : goal.returns-else-is_down-clause-leaves
+returns-else-is_down-clause-leaves g c = λ n note at.
+    volume_up n note c.args.name.now c.args.want.now c.args.group.now.core c.make_volume.new.self.core (g.S.Shelf.meaning c.args.group.now.shelf) (g.S.Shelf.meaning c.make_volume.new.self.shelf) at c.make_volume.new.self.stands
+    (g.met.S.Shelf.lawful c.make_volume.new.self.shelf) c.make_volume.ensures.below c.make_volume.ensures.stays
+    (not_down c.is_down.result (g.S.Shelf.meaning c.make_volume.new.self.shelf).down c.is_down.ensures c.if-is_down.false)
+    ((c.make_volume.new.self.core ≡ c.args.group.now.core) × (c.make_volume.new.self.shelf ≡ c.args.group.now.shelf))
+    (λ same. same_at g.S.Shelf.meaning n note c.args.group.now.core c.make_volume.new.self.core c.args.group.now.shelf c.make_volume.new.self.shelf same.0 same.1 at)
+    c.in-Err.stop (make_refusal c.args.group.now.core.inner.config c.args.name.now c.args.want.now) c.in-Err.ensures.ends c.in-Err.ensures.unmoved
+    (λ why is. let it = c.make_volume.ensures.refused why is in (
+      err_one _ c.in-Err.stop (Refused why) refl (c.in-Err.ensures.refused why is).0,
+      same_at g.S.Shelf.meaning n note c.args.group.now.core c.make_volume.new.self.core c.args.group.now.shelf c.make_volume.new.self.shelf it.1 it.2 at,
+      ap (λ x. x.inner.config.volumes) it.1,
+    ))
+    (make_not_down (list_any (has_name c.args.name.now) c.args.group.now.core.inner.config.volumes) (nat_le MOST_VOLUMES (length c.args.group.now.core.inner.config.volumes)) (nat_lt MOST_PLEXES c.args.want.now.mirrors)
+    (nat_lt (greatest - margin) c.args.group.now.core.inner.config.serial) (not (is_shape c.args.want.now)) _ _ _ _ _
+    (λ is. let clash : refusal.Exists c.args.name.now ≡ refusal.Down = is in cc) (λ is. let clash : refusal.Limit Volumes MOST_VOLUMES ≡ refusal.Down = is in cc) (λ is. let clash : refusal.Limit Plexes MOST_PLEXES ≡ refusal.Down = is in cc)
+    (λ is. let clash : refusal.Limit Number greatest ≡ refusal.Down = is in cc) (λ is. let clash : refusal.Size ≡ refusal.Down = is in cc))

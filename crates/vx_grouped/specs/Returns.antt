@@ -1,0 +1,57 @@
+-- A group that comes back by an import, as its site notes it.
+use Rattle.std.specs.Prelude.{◌≡◌, ◌⊎◌, ℕ, ◌<◌, ◌≤◌, Bool, true, false, if◌then◌else◌, IsTrue, None, List, [], length, Result, Ok, Err}
+use Rattle.vx_model.specs.declared.errors.Stop.{Stop}
+use Rattle.vx_model.specs.declared.site.SiteState.TheVariants.{Up as IsUp}
+use Rattle.vx_disk.specs.Shelf.{Each, Image, Meaning}
+use Rattle.vx_history.specs.Groups.{GroupNode}
+use Rattle.vx_history.specs.World.{Node}
+use Rattle.vx_config.specs.Checks.{blocks_of}
+use Rattle.vx_config.specs.declared.config.Config.{Config}
+use Rattle.vx_copyfmt.specs.Imports.{Found}
+use Rattle.vx_volume.specs.Plexes.{Inside}
+use Rattle.vx_kept.specs.Groups.{found}
+use Rattle.vx_kept.specs.Keeping.{volume_name}
+use Rattle.vx_group.specs.Resumes.{CanImportBehind}
+use Rattle.vx_group.specs.declared.group_core.GroupCore.{GroupCore}
+use Rattle.vx_group.specs.declared.inner.Inner.{Inner}
+use Rattle.vx_grouped.specs.Away.{AwayLies}
+use Rattle.vx_grouped.specs.GroupNotes.{IsGroupAt, noted_config}
+use Rattle.vx_grouped.specs.Plain.{BlockMay}
+
+-- the note behind an import: the configuration in memory, which is committed; of the volumes that were renewed each block has one value
+abbrev pub note_imported : Inner → (ℕ → Bool) → (ℕ → ℕ → List ℕ) → GroupNode → GroupNode
+note_imported core renewed value note = record note {
+  config = noted_config core.config;
+  begun = [];
+  loose = false;
+  bytes = record { size = λ v. blocks_of core.config.volumes v; block = λ v b. if renewed v then value v b else note.bytes.block v b };
+  others = λ v b. if renewed v then [] else note.others v b;
+  cut = None;
+}
+
+-- The group is up. Where contents are told its first volumes are those of the configuration of before, and each block of them that was renewed has
+-- a value that it might have.
+pub record GroupReturns (n : Node) (note : GroupNode) (last : Config) (old : Meaning) (core : GroupCore) (m : Meaning) : Type 0 where
+  pub renewed : ℕ → Bool
+  pub value : ℕ → ℕ → List ℕ
+  pub at : IsGroupAt (record n { state = IsUp }) (note_imported core.inner renewed value note) core m
+  pub volumes : IsTrue old.tells → length last.volumes ≤ length core.inner.config.volumes
+  pub sizes : IsTrue old.tells → (v : ℕ) → v < length last.volumes → blocks_of core.inner.config.volumes v ≡ blocks_of last.volumes v
+  pub names : IsTrue old.tells → (v : ℕ) → v < length last.volumes → volume_name core.inner.config v ≡ volume_name last v
+  pub may : IsTrue old.tells → (v b : ℕ) → Inside last v b → renewed v ≡ true → BlockMay note v b (value v b)
+
+-- no image has a volume more than this configuration, as one might behind a refused commit
+pub record HasNoMore (last : Config) (m : Meaning) : Type 0 where
+  pub each : (i : Image) (x : Config) → Each m.leaves i → found m i ≡ Found x → length x.volumes ≡ length last.volumes
+
+-- the note of disks that hold configurations which may not agree
+abbrev pub note_loose : GroupNode → GroupNode
+note_loose note = record note { loose = true }
+
+-- What a refused import leaves: the disks as they were; or the group as far as it was taken up, and behind any crash it may be imported.
+abbrev pub ImportLeft : Node → GroupNode → Config → Meaning → Meaning → Type 0
+ImportLeft n note last old m = AwayLies n note last m ⊎ (CanImportBehind m × (HasNoMore last old → AwayLies n (note_loose note) last m))
+
+abbrev pub ImportLeaves : {S G : Type 0} → Node → GroupNode → Config → Meaning → (S → Meaning) → (G → GroupCore) → (G → S) → Result G (S × Stop) → Type 0
+ImportLeaves n note last old meaning core shelf (Ok g) = GroupReturns n note last old (core g) (meaning (shelf g))
+ImportLeaves n note last old meaning core shelf (Err (s, stop)) = ImportLeft n note last old (meaning s)
