@@ -19,6 +19,7 @@ use crate::DiskSet;
 use crate::units::raw_units;
 use std::alloc::Global;
 use vx_disk::{Rack, refusal};
+use vx_grouped::GroupSite;
 use vx_model::limits::{LEAST_BLOCKS, LEAST_RAW_DISKS, LINK_PLACES, MOST_DISKS};
 use vx_model::{No, Role, State, Stop, map_blocks, ring_blocks};
 use vx_ringio::{TopSeen, read_top};
@@ -161,6 +162,7 @@ impl<R: Rack> DiskSet<R> {
         match self {
             DiskSet::Bare(rack) => make_group(alloc, rack, site),
             DiskSet::Spoiled(rack) => make_group(alloc, rack, site),
+            DiskSet::OfGroup(GroupSite::Marked(rack)) => make_group(alloc, rack, site),
             other => (other, Err(Stop::No(No::Role))),
         }
     }

@@ -7,4 +7,4 @@ pub mod laws;
 pub mod link_laws;
 mod said;
 
-pub use said::Said;
+pub use said::{Kept, Said};

@@ -3,10 +3,18 @@
 //! Its volumes are written and read by themselves, its plexes are detached and attached, and it is deported. No line uses it yet.
 #![tactic(auto)]
 
+mod labels;
 mod leaving;
+mod looking;
+mod making;
 mod plain;
 mod plexes;
+mod site;
 
+pub use labels::has_label;
 pub use leaving::{crash_group, deport_group};
+pub use looking::kept;
+pub use making::make_plain;
 pub use plain::{read_plain, write_plain};
 pub use plexes::{att_plex, det_plex};
+pub use site::GroupSite;

@@ -2,9 +2,9 @@
 ghost use Rattle.std.specs.Prelude.{◌≡◌, ◌≤◌, ◌+◌, ◌*◌, ◌++◌, ◌∷◌, [], OnOk, codes, length};
 ghost use Rattle.std.specs.Fmt.{decimal};
 ghost use Rattle.vx_model.specs.Content.{block_of, blocks_in};
-ghost use Rattle.vx_yard.specs.Replies.{reply_text, blocks_text, recovered_text};
+ghost use Rattle.vx_yard.specs.Replies.{reply_text, blocks_text, kept_digits, kept_text, recovered_text, resumed_text};
 
-use vx_events::Said;
+use vx_events::{Kept, Said};
 use vx_model::OutOfMemory;
 use vx_report::{SiteView, push_block, push_number, push_refusal, push_status, push_text};
 
@@ -18,6 +18,7 @@ pub fn push_said(out: &mut Vec<u8>, said: &Said) -> Result<(), OutOfMemory>
         Said::Got(blocks) => push_blocks(out, blocks.as_slice()),
         Said::Shown(view) => push_status(out, view),
         Said::Recovered(last, view) => push_recovered(out, *last, view),
+        Said::Resumed(view, kept) => push_resumed(out, view, kept),
         Said::Logged(number) => push_numbered(out, b"logged ", *number),
         Said::Pending(number) => push_numbered(out, b"pending ", *number),
         Said::Taken => push_text(out, b"taken\n"),
@@ -44,6 +45,40 @@ fn push_recovered(out: &mut Vec<u8>, last: u64, view: &SiteView) -> Result<(), O
     push_number(out, last)?;
     push_text(out, b"\n")?;
     push_status(out, view)
+}
+
+// The lines of the status, and then what is kept of a write that was cut off.
+fn push_resumed(out: &mut Vec<u8>, view: &SiteView, kept: &Option<Kept>) -> Result<(), OutOfMemory>
+    ensures { OnOk result (out.new.items ≡ out.old.items ++ resumed_text view.now kept.now) }
+{
+    push_text(out, b"recovered\n")?;
+    push_status(out, view)?;
+    push_kept(out, kept)
+}
+
+fn push_kept(out: &mut Vec<u8>, kept: &Option<Kept>) -> Result<(), OutOfMemory>
+    ensures { OnOk result (out.new.items ≡ out.old.items ++ kept_text kept.now) }
+{
+    let Some(kept) = kept else {
+        return Ok(());
+    };
+    push_text(out, b"kept ")?;
+    push_text(out, kept.volume.as_bytes())?;
+    push_text(out, b" ")?;
+    push_number(out, kept.block)?;
+    push_text(out, b" ")?;
+    push_digits(out, &kept.bits, kept.count)?;
+    push_text(out, b"\n")
+}
+
+// A digit for each of so many blocks.
+fn push_digits(out: &mut Vec<u8>, bits: &[bool], count: u32) -> Result<(), OutOfMemory>
+    ensures { OnOk result (out.new.items ≡ out.old.items ++ kept_digits count bits.now) }
+{
+    for k in 0..bits.len().min(count as usize) {
+        push_text(out, if bits[k] { b"1" } else { b"0" })?;
+    }
+    Ok(())
 }
 
 // A line for each whole block.

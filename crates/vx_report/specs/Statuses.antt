@@ -8,7 +8,7 @@ use Rattle.vx_report.specs.StatusWords.{state_text, role_text, mark_text, mode_t
 use Rattle.vx_model.specs.declared.site.SiteState.{SiteState}
 use Rattle.vx_model.specs.declared.site.SiteState.TheVariants.{Bare, Up, Deported, Down}
 use Rattle.vx_report.specs.declared.view.SiteView.{SiteView}
-use Rattle.vx_report.specs.declared.view.VolumeView.{VolumeView}
+use Rattle.vx_report.specs.declared.group_views.VolumeView.{VolumeView}
 use Rattle.vx_report.specs.declared.view.RvgView.{RvgView}
 use Rattle.vx_report.specs.declared.view.LinkView.{LinkView}
 

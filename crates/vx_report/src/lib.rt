@@ -4,6 +4,8 @@
 #![tactic(auto)]
 
 mod blocks;
+mod group_room;
+mod group_views;
 mod links;
 mod refusals;
 mod statuses;
@@ -11,12 +13,11 @@ mod view;
 mod words;
 
 pub use blocks::{block, push_block};
+pub use group_room::{GroupViewRoom, VolumeHead};
+pub use group_views::{DiskViews, PlexViews, VolumeView, VolumeViews};
 pub use links::push_links;
 pub use refusals::{push_refusal, refusal};
 pub use statuses::{push_status, status};
-pub use view::{
-    DiskViews, LinkView, LinkViewRoom, LinkViews, PlexViews, RvgView, SiteView, VolumeView,
-    VolumeViews,
-};
+pub use view::{LinkView, LinkViewRoom, LinkViews, RvgView, SiteView};
 pub use vx_model::{SiteName, SiteState};
 pub use words::{push_number, push_text};

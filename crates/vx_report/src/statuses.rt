@@ -5,8 +5,9 @@ ghost use Rattle.vx_report.specs.Words.{numbered};
 ghost use Rattle.vx_report.specs.StatusWords.{state_text, role_text, mark_text, plex_state_text};
 ghost use Rattle.vx_report.specs.Statuses.{text_of_site, disk_line, text_of_plex, volume_line, volume_lines, halted_text, rvg_text, rvg_line, rvg_lines, up_lines, status_text};
 
+use crate::group_views::VolumeView;
 use crate::links::push_links;
-use crate::view::{RvgView, SiteView, VolumeView};
+use crate::view::{RvgView, SiteView};
 use crate::words::{either, push_after, push_site_after, push_text};
 use std::alloc::Global;
 use vx_model::{Bytes, Mark, Name, OutOfMemory, PlexState, Role, SiteState};

@@ -1,9 +1,10 @@
 -- The text of each reply.
-use Rattle.std.specs.Prelude.{ℕ, zero, suc, ◌+◌, eqb, List, [], ◌∷◌, ◌++◌, codes, Option, Some, None, if◌then◌else◌}
+use Rattle.std.specs.Prelude.{ℕ, zero, suc, ◌+◌, eqb, Bool, List, [], ◌∷◌, ◌++◌, codes, Option, Some, None, if◌then◌else◌}
 use Rattle.std.specs.Fmt.{decimal}
 use Rattle.vx_model.specs.Content.{block_of, blocks_in}
+use Rattle.vx_events.specs.declared.said.Kept.{Kept}
 use Rattle.vx_events.specs.declared.said.Said.{Said}
-use Rattle.vx_events.specs.declared.said.Said.TheVariants.{Done, DoneAt, Got, Shown, Recovered, Logged, Pending, Taken, Ignored, Settled, Refused}
+use Rattle.vx_events.specs.declared.said.Said.TheVariants.{Done, DoneAt, Got, Shown, Recovered, Resumed, Logged, Pending, Taken, Ignored, Settled, Refused}
 use Rattle.vx_model.specs.declared.errors.Stop.{Stop}
 use Rattle.vx_model.specs.declared.no.No.{No as Refusal}
 use Rattle.vx_model.specs.declared.errors.Stop.TheVariants.{No, OutOfMemory as MemoryStop}
@@ -23,6 +24,21 @@ blocks_text bytes k (suc n) = block_text (block_of bytes k) ++ blocks_text bytes
 abbrev pub recovered_text : ℕ → SiteView → List ℕ
 recovered_text last view = codes "recovered " ++ decimal last ++ 10 ∷ [] ++ status_text view
 
+-- a digit for each of so many blocks: 1 where the block has what was to be written
+abbrev pub kept_digits : ℕ → List Bool → List ℕ
+kept_digits zero bits = []
+kept_digits (suc n) [] = []
+kept_digits (suc n) (bit ∷ bits) = (if bit then 49 else 48) ∷ kept_digits n bits
+
+-- what is kept of a write that a crash cut off
+abbrev pub kept_text : Option Kept → List ℕ
+kept_text None = []
+kept_text (Some k) = codes "kept " ++ k.volume ++ 32 ∷ decimal k.block ++ 32 ∷ kept_digits k.count k.bits ++ 10 ∷ []
+
+-- that a site came up without a log, the lines of its status, and what is kept of a write
+abbrev pub resumed_text : SiteView → Option Kept → List ℕ
+resumed_text view kept = codes "recovered" ++ 10 ∷ [] ++ status_text view ++ kept_text kept
+
 -- a reply by itself
 abbrev pub reply_text : Said → List ℕ
 reply_text Done = codes "done" ++ 10 ∷ []
@@ -30,6 +46,7 @@ reply_text (DoneAt number) = codes "done " ++ decimal number ++ 10 ∷ []
 reply_text (Got bytes) = blocks_text bytes 0 (blocks_in bytes)
 reply_text (Shown view) = status_text view
 reply_text (Recovered last view) = recovered_text last view
+reply_text (Resumed view kept) = resumed_text view kept
 reply_text (Logged number) = codes "logged " ++ decimal number ++ 10 ∷ []
 reply_text (Pending number) = codes "pending " ++ decimal number ++ 10 ∷ []
 reply_text Taken = codes "taken" ++ 10 ∷ []
