@@ -51,35 +51,16 @@ impl<R: Rack> GroupSite<R> {
         }
     }
 
-    /// Imports the group of a site that crashed or was deported. Where it is refused, the disks crash; those of a site that was deported are up
-    /// again behind it.
+    /// Imports the group of a site that crashed or was deported. Where it is refused, the disks crash again.
     pub fn import(self, alloc: Global) -> (GroupSite<R>, Result<(), Stop>) {
         match self {
-            GroupSite::Down(rack) => {
-                let mut rack = rack;
-                if !rack.is_down() {
-                    return (GroupSite::Down(rack), Err(Stop::No(No::Role)));
-                }
-                rack.revive();
-                match Group::import(alloc, rack) {
-                    Ok(group) => (GroupSite::Up(group), Ok(())),
-                    Err((rack, stop)) => {
-                        let mut rack = rack;
-                        rack.crash(u64::MAX);
-                        (GroupSite::Down(rack), Err(stop))
-                    }
-                }
-            }
-            GroupSite::Deported(rack) => match Group::import(alloc, rack) {
+            GroupSite::Down(rack) => match import_on(alloc, rack) {
                 Ok(group) => (GroupSite::Up(group), Ok(())),
-                Err((rack, stop)) => {
-                    if is_off_stop(&stop) {
-                        let mut rack = rack;
-                        rack.crash(u64::MAX);
-                        return (GroupSite::Down(rack), Err(stop));
-                    }
-                    (GroupSite::Deported(revived(rack)), Err(stop))
-                }
+                Err((rack, stop)) => (GroupSite::Down(rack), Err(stop)),
+            },
+            GroupSite::Deported(rack) => match import_on(alloc, rack) {
+                Ok(group) => (GroupSite::Up(group), Ok(())),
+                Err((rack, stop)) => (GroupSite::Deported(rack), Err(stop)),
             },
             other => (other, Err(Stop::No(No::Role))),
         }
@@ -220,7 +201,7 @@ impl<R: Rack> GroupSite<R> {
     pub fn deport(self) -> (GroupSite<R>, Result<(), Stop>) {
         match self {
             GroupSite::Up(group) => match deport_group(group) {
-                Ok(rack) => (GroupSite::Deported(rack), Ok(())),
+                Ok(rack) => (GroupSite::Deported(crashed(rack)), Ok(())),
                 Err((group, stop)) => {
                     if is_off_stop(&stop) {
                         return (GroupSite::Down(crash_group(group, u64::MAX)), Err(stop));
@@ -247,10 +228,29 @@ impl<R: Rack> GroupSite<R> {
     }
 }
 
-// The disks crash, and are up again.
-fn revived<R: Rack>(rack: R) -> R {
+// The disks crash.
+fn crashed<R: Rack>(rack: R) -> R {
     let mut rack = rack;
     rack.crash(u64::MAX);
+    rack
+}
+
+// Imports the group of disks that are down. Where it is refused, they crash again.
+fn import_on<R: Rack>(alloc: Global, rack: R) -> Result<Group<R>, (R, Stop)> {
+    let mut rack = rack;
+    if !rack.is_down() {
+        return Err((rack, Stop::No(No::Role)));
+    }
+    rack.revive();
+    match Group::import(alloc, rack) {
+        Ok(group) => Ok(group),
+        Err((rack, stop)) => Err((crashed(rack), stop)),
+    }
+}
+
+// The disks crash, and are up again.
+fn revived<R: Rack>(rack: R) -> R {
+    let mut rack = crashed(rack);
     rack.revive();
     rack
 }
