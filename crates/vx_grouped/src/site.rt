@@ -51,16 +51,24 @@ impl<R: Rack> GroupSite<R> {
         }
     }
 
-    /// Imports the group of a site that crashed or was deported. Where it is refused, the disks crash again.
+    /// Imports the group of a site that crashed or was deported. Where it is refused, disks that had crashed crash again; those of a group that
+    /// was deported crash only behind a write, and are up again, but where their fuse ran out.
     pub fn import(self, alloc: Global) -> (GroupSite<R>, Result<(), Stop>) {
         match self {
-            GroupSite::Down(rack) => match import_on(alloc, rack) {
+            GroupSite::Down(rack) => {
+                let mut rack = rack;
+                if !rack.is_down() {
+                    return (GroupSite::Down(rack), Err(Stop::No(No::Role)));
+                }
+                rack.revive();
+                match Group::import(alloc, rack) {
+                    Ok(group) => (GroupSite::Up(group), Ok(())),
+                    Err((rack, stop)) => (GroupSite::Down(crashed(rack)), Err(stop)),
+                }
+            }
+            GroupSite::Deported(rack) => match Group::import(alloc, rack) {
                 Ok(group) => (GroupSite::Up(group), Ok(())),
-                Err((rack, stop)) => (GroupSite::Down(rack), Err(stop)),
-            },
-            GroupSite::Deported(rack) => match import_on(alloc, rack) {
-                Ok(group) => (GroupSite::Up(group), Ok(())),
-                Err((rack, stop)) => (GroupSite::Deported(rack), Err(stop)),
+                Err((rack, stop)) => (back_deported(rack, &stop), Err(stop)),
             },
             other => (other, Err(Stop::No(No::Role))),
         }
@@ -201,7 +209,7 @@ impl<R: Rack> GroupSite<R> {
     pub fn deport(self) -> (GroupSite<R>, Result<(), Stop>) {
         match self {
             GroupSite::Up(group) => match deport_group(group) {
-                Ok(rack) => (GroupSite::Deported(crashed(rack)), Ok(())),
+                Ok(rack) => (GroupSite::Deported(rack), Ok(())),
                 Err((group, stop)) => {
                     if is_off_stop(&stop) {
                         return (GroupSite::Down(crash_group(group, u64::MAX)), Err(stop));
@@ -235,16 +243,12 @@ fn crashed<R: Rack>(rack: R) -> R {
     rack
 }
 
-// Imports the group of disks that are down. Where it is refused, they crash again.
-fn import_on<R: Rack>(alloc: Global, rack: R) -> Result<Group<R>, (R, Stop)> {
-    let mut rack = rack;
-    if !rack.is_down() {
-        return Err((rack, Stop::No(No::Role)));
-    }
-    rack.revive();
-    match Group::import(alloc, rack) {
-        Ok(group) => Ok(group),
-        Err((rack, stop)) => Err((crashed(rack), stop)),
+// The disks of a site that was deported behind an import that was refused.
+fn back_deported<R: Rack>(rack: R, stop: &Stop) -> GroupSite<R> {
+    match stop {
+        Stop::No(No::Down) => GroupSite::Down(crashed(rack)),
+        Stop::No(No::Device { disk: _ }) => GroupSite::Deported(revived(rack)),
+        Stop::No(_) | Stop::OutOfMemory => GroupSite::Deported(rack),
     }
 }
 
