@@ -11,7 +11,7 @@ mod plain;
 mod plexes;
 mod site;
 
-pub use labels::has_label;
+pub use labels::{has_label, unlabel_all};
 pub use leaving::{crash_group, deport_group};
 pub use looking::kept;
 pub use making::make_plain;
