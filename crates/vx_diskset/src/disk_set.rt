@@ -10,6 +10,7 @@ ghost use Rattle.vx_srlfmt.specs.Headers.{CanSpellState};
 
 use std::alloc::Global;
 use vx_disk::Rack;
+use vx_grouped::GroupSite;
 use vx_model::limits::{LEAST_BLOCKS, MOST_DISKS};
 use vx_model::{No, State, Stop};
 use vx_rvg::Rvg;
@@ -27,6 +28,8 @@ pub enum DiskSet<R: Rack> {
     Receives(Secondary<R>),
     /// The disks of a raw set that crashed.
     Down(R),
+    /// The disks of a group without a replicated volume group, up or not.
+    OfGroup(GroupSite<R>),
     /// It was taken out, and comes back within the same line.
     Gone,
 }
@@ -88,6 +91,7 @@ impl<R: Rack> DiskSet<R> {
                 site.rvg.shelf.fail(disk as u32, on)
             }
             DiskSet::Down(rack) if disk < rack.units() as u64 => rack.fail(disk as u32, on),
+            DiskSet::OfGroup(group) => group.fail(disk, on),
             _ => {}
         }
     }
@@ -102,6 +106,7 @@ impl<R: Rack> DiskSet<R> {
         match self {
             DiskSet::Up(rvg) => rvg.shelf.fuse(calls, pick),
             DiskSet::Receives(site) => site.rvg.shelf.fuse(calls, pick),
+            DiskSet::OfGroup(group) => group.fuse(calls, pick),
             _ => {}
         }
     }
@@ -126,6 +131,7 @@ impl<R: Rack> DiskSet<R> {
                 rack.crash(pick);
                 DiskSet::Down(rack)
             }
+            DiskSet::OfGroup(group) => DiskSet::OfGroup(group.crash(pick)),
             other => other,
         }
     }

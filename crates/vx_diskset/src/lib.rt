@@ -2,6 +2,7 @@
 #![tactic(auto)]
 
 mod disk_set;
+mod grouping;
 mod keeping;
 mod pumping;
 mod reading;

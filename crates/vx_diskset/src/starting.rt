@@ -19,6 +19,7 @@ use crate::DiskSet;
 use crate::units::raw_units;
 use std::alloc::Global;
 use vx_disk::{Rack, refusal};
+use vx_grouped::{GroupSite, unlabel_all};
 use vx_model::limits::{LEAST_BLOCKS, LEAST_RAW_DISKS, LINK_PLACES, MOST_DISKS};
 use vx_model::{No, Role, State, Stop, map_blocks, ring_blocks};
 use vx_ringio::{TopSeen, read_top};
@@ -53,6 +54,15 @@ fn make_group<R: Rack>(alloc: Global, rack: R, site: u32) -> (DiskSet<R>, Result
     match Rvg::create(alloc, rack, &raw_units(disks), &State::first(site)) {
         Ok(rvg) => (DiskSet::Up(rvg), Ok(())),
         Err((rack, stop)) => (DiskSet::Spoiled(rack), Err(stop)),
+    }
+}
+
+// The same of disks on which a group may have been made, by an earlier run or in part: their labels are taken off first.
+fn make_unlabelled<R: Rack>(alloc: Global, rack: R, site: u32) -> (DiskSet<R>, Result<(), Stop>) {
+    let mut rack = rack;
+    match unlabel_all(&mut rack) {
+        Ok(()) => make_group(alloc, rack, site),
+        Err(error) => (DiskSet::Spoiled(rack), Err(Stop::No(refusal(error)))),
     }
 }
 
@@ -159,8 +169,9 @@ impl<R: Rack> DiskSet<R> {
         ensures later { Later self result.0 }
     {
         match self {
-            DiskSet::Bare(rack) => make_group(alloc, rack, site),
+            DiskSet::Bare(rack) => make_unlabelled(alloc, rack, site),
             DiskSet::Spoiled(rack) => make_group(alloc, rack, site),
+            DiskSet::OfGroup(GroupSite::Marked(rack)) => make_unlabelled(alloc, rack, site),
             other => (other, Err(Stop::No(No::Role))),
         }
     }

@@ -225,6 +225,7 @@ impl<R: Rack> DiskSet<R> {
             | DiskSet::Spoiled(_)
             | DiskSet::Receives(_)
             | DiskSet::Down(_)
+            | DiskSet::OfGroup(_)
             | DiskSet::Gone => Err(No::Role),
         }
     }
@@ -256,9 +257,11 @@ impl<R: Rack> DiskSet<R> {
                     Err(No::Role)
                 }
             }
-            DiskSet::Bare(_) | DiskSet::Spoiled(_) | DiskSet::Down(_) | DiskSet::Gone => Err(
-                No::Role,
-            ),
+            DiskSet::Bare(_)
+            | DiskSet::Spoiled(_)
+            | DiskSet::Down(_)
+            | DiskSet::OfGroup(_)
+            | DiskSet::Gone => Err(No::Role),
         }
     }
 
@@ -294,9 +297,11 @@ impl<R: Rack> DiskSet<R> {
         match self {
             DiskSet::Up(rvg) => apply_group(rvg, to),
             DiskSet::Receives(site) => apply_group(&mut site.rvg, to),
-            DiskSet::Bare(_) | DiskSet::Spoiled(_) | DiskSet::Down(_) | DiskSet::Gone => Err(
-                No::Role,
-            ),
+            DiskSet::Bare(_)
+            | DiskSet::Spoiled(_)
+            | DiskSet::Down(_)
+            | DiskSet::OfGroup(_)
+            | DiskSet::Gone => Err(No::Role),
         }
     }
 }

@@ -11,7 +11,7 @@ use Rattle.vx_model.specs.declared.no.No.{No}
 use Rattle.vx_model.specs.declared.no.No.TheVariants as refusal
 use Rattle.vx_disk.specs.Shelf.{Goes, Lawful, Meaning, Nothing}
 use Rattle.vx_disk.proofs.Runs.{then_nothing}
-use Rattle.vx_history.specs.Groups.{GroupNode}
+use Rattle.vx_history.specs.Groups.{BlockMay, GroupNode}
 use Rattle.vx_history.specs.World.{Node}
 use Rattle.vx_config.specs.Checks.{blocks_of, blocks_or_none}
 use Rattle.vx_config.specs.declared.config.Config.{Config}
@@ -32,7 +32,7 @@ use Rattle.vx_group.proofs.MakeLemmas.{volumes_Goes}
 use Rattle.vx_group.proofs.Standing.{apart_of_core}
 use Rattle.vx_grouped.specs.Added.{VolumeLeaves, note_added}
 use Rattle.vx_grouped.specs.GroupNotes.{IsGroupAt, note_done}
-use Rattle.vx_grouped.specs.Plain.{BlockMay, HoldsPlain}
+use Rattle.vx_grouped.specs.Plain.{HoldsPlain}
 use Rattle.vx_grouped.proofs.KeepLemmas.{call_cut, call_none, call_up}
 use Rattle.vx_grouped.proofs.NoteLemmas.{lies_done}
 use Rattle.vx_grouped.proofs.PlainLemmas.{same_holds}

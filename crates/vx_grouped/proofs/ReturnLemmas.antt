@@ -4,7 +4,7 @@ use Rattle.std.specs.Prelude.{◌==◌, if◌then◌else◌, is_some, slice_get,
 use Rattle.std.proofs.lemmas.Bool.{and_from, and_parts, cases_lt, eq-eqb, eqb-true}
 use Rattle.vx_model.specs.declared.site.SiteState.TheVariants.{Up as IsUp}
 use Rattle.vx_disk.specs.Shelf.{Each, Goes, Image, Lawful, Meaning, Nothing}
-use Rattle.vx_history.specs.Groups.{GroupNode}
+use Rattle.vx_history.specs.Groups.{BlockMay, GroupNode}
 use Rattle.vx_history.specs.World.{Node}
 use Rattle.vx_config.specs.Checks.{blocks_of, is_sound, plexes_of, plexes_or}
 use Rattle.vx_config.specs.declared.config.Config.{Config}
@@ -35,7 +35,7 @@ use Rattle.vx_group.proofs.AgainLemmas.{goes_can}
 use Rattle.vx_group.proofs.FoundLemmas.{found_wanted}
 use Rattle.vx_group.proofs.HoldLemmas.{wide_none}
 use Rattle.vx_grouped.specs.Away.{AwayLies}
-use Rattle.vx_grouped.specs.Plain.{BlockMay, HoldsPlain}
+use Rattle.vx_grouped.specs.Plain.{HoldsPlain}
 use Rattle.vx_grouped.specs.Returns.{GroupReturns, HasNoMore, ImportLeft, note_imported, note_loose}
 use Rattle.vx_model.specs.declared.errors.Stop.{Stop}
 use Rattle.vx_kept.proofs.Steps.{inside_back}

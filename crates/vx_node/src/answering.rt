@@ -13,6 +13,7 @@ use crate::settled::settle_line;
 use std::alloc::Global;
 use vx_disk::Rack;
 use vx_events::Said;
+use vx_group_lines::{is_of_group, work_group};
 use vx_link_lines::{apply_line, deliver_line, work_link};
 use vx_model::limits::{BLOCK, MOST_CALL_BLOCKS};
 use vx_model::{No, OutOfMemory};
@@ -47,6 +48,9 @@ fn work<R: Rack>(yard: &mut Yard<R>, alloc: Global, words: &ScriptLine) -> Resul
     ensures told { IsTold yard.new → IsTold yard.old }
     ensures files { in_files yard.new ≡ in_files yard.old }
 {
+    if is_of_group(yard, words) {
+        return work_group(yard, alloc, words);
+    }
     match words {
         ScriptLine::Site {
             site,

@@ -4,9 +4,12 @@
 //! work in the crates above.
 #![tactic(auto)]
 
+pub mod cuts;
 mod errors;
 pub mod facts;
+pub mod falling;
 pub mod folder;
+pub mod group_facts;
 pub mod load;
 pub mod place;
 mod racks;

@@ -21,6 +21,11 @@ fn give_back<R: Rack>(racks: &mut Vec<R>, disk_set: DiskSet<R>)
         DiskSet::Receives(site) => {
             let _ = racks.push(site.into_rvg().into_shelf());
         }
+        DiskSet::OfGroup(group) => {
+            if let Some(rack) = group.into_rack() {
+                let _ = racks.push(rack);
+            }
+        }
         DiskSet::Gone => {}
     }
 }
