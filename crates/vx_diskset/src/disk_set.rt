@@ -8,9 +8,9 @@ ghost use Rattle.vx_rvg.specs.Views.{last_of};
 ghost use Rattle.vx_model.specs.declared.limits.TheConstants.{MOST_NUMBER};
 ghost use Rattle.vx_srlfmt.specs.Headers.{CanSpellState};
 
+use crate::GroupSet;
 use std::alloc::Global;
 use vx_disk::Rack;
-use vx_grouped::GroupSite;
 use vx_model::limits::{LEAST_BLOCKS, MOST_DISKS};
 use vx_model::{No, State, Stop};
 use vx_rvg::Rvg;
@@ -29,7 +29,7 @@ pub enum DiskSet<R: Rack> {
     /// The disks of a raw set that crashed.
     Down(R),
     /// The disks of a group without a replicated volume group, up or not.
-    OfGroup(GroupSite<R>),
+    OfGroup(GroupSet<R>),
     /// It was taken out, and comes back within the same line.
     Gone,
 }
@@ -91,7 +91,7 @@ impl<R: Rack> DiskSet<R> {
                 site.rvg.shelf.fail(disk as u32, on)
             }
             DiskSet::Down(rack) if disk < rack.units() as u64 => rack.fail(disk as u32, on),
-            DiskSet::OfGroup(group) => group.fail(disk, on),
+            DiskSet::OfGroup(group) => group.site.fail(disk, on),
             _ => {}
         }
     }
@@ -106,7 +106,7 @@ impl<R: Rack> DiskSet<R> {
         match self {
             DiskSet::Up(rvg) => rvg.shelf.fuse(calls, pick),
             DiskSet::Receives(site) => site.rvg.shelf.fuse(calls, pick),
-            DiskSet::OfGroup(group) => group.fuse(calls, pick),
+            DiskSet::OfGroup(group) => group.site.fuse(calls, pick),
             _ => {}
         }
     }
@@ -131,7 +131,10 @@ impl<R: Rack> DiskSet<R> {
                 rack.crash(pick);
                 DiskSet::Down(rack)
             }
-            DiskSet::OfGroup(group) => DiskSet::OfGroup(group.crash(pick)),
+            DiskSet::OfGroup(group) => DiskSet::OfGroup(GroupSet {
+                site: group.site.crash(pick),
+                cut: group.cut,
+            }),
             other => other,
         }
     }

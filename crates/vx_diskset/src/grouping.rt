@@ -1,83 +1,54 @@
-// The disks of a site that are a group without a replicated volume group.
+// The calls on the group of a site that is up.
 use crate::DiskSet;
+use crate::group_set::{CutWrite, GroupSet};
+use crate::writing::is_off;
 use std::alloc::Global;
 use std::mem;
 use vx_config::Config;
 use vx_disk::Rack;
-use vx_grouped::{GroupSite, has_label, kept};
 use vx_layout::Shape;
-use vx_model::limits::MOST_CALL_BLOCKS;
-use vx_model::{Name, No, Stop};
+use vx_model::{Blocks, Name, No, Stop};
 
-// The disks of a bare site on which a group was begun: labels may stand on them.
-fn marked<R: Rack>(rack: R) -> DiskSet<R> {
-    DiskSet::OfGroup(GroupSite::Marked(rack))
+// Writes to a volume of a group. The write in which the fuse runs out is cut.
+fn write_set<R: Rack>(
+    group: &mut GroupSet<R>,
+    volume: u32,
+    block: u64,
+    bytes: &[u8],
+) -> Result<(), No> {
+    match group.site.write(volume, block, bytes) {
+        Ok(()) => Ok(()),
+        Err(no) => {
+            if is_off(&no) {
+                group.cut = Some(CutWrite {
+                    volume,
+                    block,
+                    bytes: Blocks::new(bytes),
+                });
+            }
+            Err(no)
+        }
+    }
 }
 
 impl<R: Rack> DiskSet<R> {
-    /// Makes a bare site's disks a group without volumes. For want of memory nothing is done; behind another refusal labels may stand on them.
-    pub fn init_group(self, alloc: Global, site: u32) -> (DiskSet<R>, Result<(), Stop>) {
+    /// The configuration of the group of a site that is up.
+    pub fn config(&self) -> Option<&Config> {
         match self {
-            DiskSet::Bare(rack) => match GroupSite::init(alloc, rack, site) {
-                Ok(group) => (DiskSet::OfGroup(group), Ok(())),
-                Err((rack, Stop::OutOfMemory)) => (DiskSet::Bare(rack), Err(Stop::OutOfMemory)),
-                Err((rack, stop)) => (marked(rack), Err(stop)),
-            },
-            DiskSet::Spoiled(rack) => match GroupSite::init(alloc, rack, site) {
-                Ok(group) => (DiskSet::OfGroup(group), Ok(())),
-                Err((rack, Stop::OutOfMemory)) => (DiskSet::Spoiled(rack), Err(Stop::OutOfMemory)),
-                Err((rack, stop)) => (marked(rack), Err(stop)),
-            },
-            DiskSet::OfGroup(GroupSite::Marked(rack)) => match GroupSite::init(alloc, rack, site) {
-                Ok(group) => (DiskSet::OfGroup(group), Ok(())),
-                Err((rack, stop)) => (marked(rack), Err(stop)),
-            },
-            other => (other, Err(Stop::No(No::Role))),
+            DiskSet::OfGroup(group) => group.site.config(),
+            _ => None,
         }
     }
 
-    /// Whether a group was made of the disks of a bare site, by an earlier run or in part.
-    pub fn has_label(&mut self) -> bool {
-        match self {
-            DiskSet::Bare(rack) => has_label(rack),
-            DiskSet::OfGroup(GroupSite::Marked(rack)) => has_label(rack),
-            _ => false,
-        }
-    }
-
-    /// Imports the group that an earlier run left on the disks of a bare site. Where it is refused, the site stays bare.
-    pub fn recover_bare_group(self, alloc: Global) -> (DiskSet<R>, Result<(), Stop>) {
-        match self {
-            DiskSet::Bare(rack) => match GroupSite::start_bare(alloc, rack) {
-                Ok(group) => (DiskSet::OfGroup(group), Ok(())),
-                Err((rack, stop)) => (DiskSet::Bare(rack), Err(stop)),
-            },
-            DiskSet::OfGroup(GroupSite::Marked(rack)) => match GroupSite::start_bare(alloc, rack) {
-                Ok(group) => (DiskSet::OfGroup(group), Ok(())),
-                Err((rack, stop)) => (marked(rack), Err(stop)),
-            },
-            other => (other, Err(Stop::No(No::NoConfig))),
-        }
-    }
-
-    /// Imports the group of a site that crashed or was deported. Where it is refused, the site stays as it was, or is down where its fuse ran
-    /// out.
-    pub fn import_group(self, alloc: Global) -> (DiskSet<R>, Result<(), Stop>) {
-        match self {
-            DiskSet::OfGroup(group) => {
-                let (group, answer) = group.import(alloc);
-                (DiskSet::OfGroup(group), answer)
-            }
-            other => (other, Err(Stop::No(No::Role))),
-        }
-    }
-
-    /// Deports the group of a site that is up.
+    /// Deports the group of a site that is up. A site whose fuse runs out crashes.
     pub fn deport_group(&mut self) -> Result<(), Stop> {
         match mem::replace(self, DiskSet::Gone) {
             DiskSet::OfGroup(group) => {
-                let (group, answer) = group.deport();
-                *self = DiskSet::OfGroup(group);
+                let (site, answer) = group.site.deport();
+                *self = DiskSet::OfGroup(GroupSet {
+                    site,
+                    cut: group.cut,
+                });
                 answer
             }
             other => {
@@ -87,42 +58,34 @@ impl<R: Rack> DiskSet<R> {
         }
     }
 
-    /// The configuration of the group of a site that is up.
-    pub fn config(&self) -> Option<&Config> {
-        match self {
-            DiskSet::OfGroup(group) => group.config(),
-            _ => None,
-        }
-    }
-
-    /// Makes a volume of the group of a site that is up, and answers its number.
+    /// Makes a volume of the group of a site that is up, and answers its number. A site whose fuse runs out crashes.
     pub fn make_volume(&mut self, alloc: Global, name: &Name, want: &Shape) -> Result<u32, Stop> {
         match self {
-            DiskSet::OfGroup(group) => group.make_volume(alloc, name, want),
+            DiskSet::OfGroup(group) => group.site.make_volume(alloc, name, want),
             _ => Err(Stop::No(No::Role)),
         }
     }
 
-    /// Detaches a plex.
+    /// Detaches a plex. A site whose fuse runs out crashes.
     pub fn detach_plex(&mut self, volume: u32, plex: u32) -> Result<(), Stop> {
         match self {
-            DiskSet::OfGroup(group) => group.det(volume, plex),
+            DiskSet::OfGroup(group) => group.site.det(volume, plex),
             _ => Err(Stop::No(No::Role)),
         }
     }
 
-    /// Attaches a plex, and answers how many regions were copied.
+    /// Attaches a plex, and answers how many regions were copied. A site whose fuse runs out crashes.
     pub fn attach_plex(&mut self, volume: u32, plex: u32) -> Result<u64, Stop> {
         match self {
-            DiskSet::OfGroup(group) => group.att(volume, plex),
+            DiskSet::OfGroup(group) => group.site.att(volume, plex),
             _ => Err(Stop::No(No::Role)),
         }
     }
 
-    /// Writes whole blocks to a volume of a group, by its number, and makes them durable.
+    /// Writes whole blocks to a volume of a group, by its number, and makes them durable. A site whose fuse runs out crashes.
     pub fn write_plain(&mut self, volume: u32, start: u64, bytes: &[u8]) -> Result<(), No> {
         match self {
-            DiskSet::OfGroup(group) => group.write(volume, start, bytes),
+            DiskSet::OfGroup(group) => write_set(group, volume, start, bytes),
             _ => Err(No::Role),
         }
     }
@@ -130,20 +93,7 @@ impl<R: Rack> DiskSet<R> {
     /// Reads whole blocks of a volume of a group, by its number.
     pub fn read_plain(&mut self, volume: u32, start: u64, into: &mut [u8]) -> Result<(), No> {
         match self {
-            DiskSet::OfGroup(group) => group.read(volume, start, into),
-            _ => Err(No::Role),
-        }
-    }
-
-    /// Of each block of a write to a volume of a group, whether it has what was to be written.
-    pub fn kept_of(
-        &mut self,
-        volume: u32,
-        start: u64,
-        bytes: &[u8],
-    ) -> Result<[bool; MOST_CALL_BLOCKS as usize], No> {
-        match self {
-            DiskSet::OfGroup(group) => kept(group, volume, start, bytes),
+            DiskSet::OfGroup(group) => group.site.read(volume, start, into),
             _ => Err(No::Role),
         }
     }

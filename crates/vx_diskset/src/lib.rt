@@ -2,6 +2,8 @@
 #![tactic(auto)]
 
 mod disk_set;
+mod group_set;
+mod group_starts;
 mod grouping;
 mod keeping;
 mod pumping;
@@ -14,6 +16,7 @@ mod withdrawing;
 mod writing;
 
 pub use disk_set::DiskSet;
+pub use group_set::{CutWrite, GroupSet, KeptWrite};
 pub use reading::blocks_of;
 pub use receivers::Reached;
 pub use units::can_be_raw;

@@ -15,8 +15,8 @@ ghost use Rattle.vx_diskset.specs.DiskSets.{Later, CanHold, CanStart, MadeIs, Ba
 ghost use Rattle.vx_diskset.specs.Layouts.{CanBeRaw, raw_units as units_of};
 ghost use Rattle.vx_diskset.specs.Stands.{IsBareAt, IsCleanAt};
 
-use crate::DiskSet;
 use crate::units::raw_units;
+use crate::{DiskSet, GroupSet};
 use std::alloc::Global;
 use vx_disk::{Rack, refusal};
 use vx_grouped::{GroupSite, unlabel_all};
@@ -171,7 +171,13 @@ impl<R: Rack> DiskSet<R> {
         match self {
             DiskSet::Bare(rack) => make_unlabelled(alloc, rack, site),
             DiskSet::Spoiled(rack) => make_group(alloc, rack, site),
-            DiskSet::OfGroup(GroupSite::Marked(rack)) => make_unlabelled(alloc, rack, site),
+            DiskSet::OfGroup(group) => match group.site {
+                GroupSite::Marked(rack) => make_unlabelled(alloc, rack, site),
+                other => (
+                    DiskSet::OfGroup(GroupSet::of(other)),
+                    Err(Stop::No(No::Role)),
+                ),
+            },
             other => (other, Err(Stop::No(No::Role))),
         }
     }

@@ -4,14 +4,13 @@ use crate::views::view_at;
 use std::alloc::Global;
 use std::mem;
 use vx_disk::Rack;
-use vx_diskset::DiskSet;
+use vx_diskset::{DiskSet, KeptWrite};
 use vx_events::Said;
 use vx_model::limits::BLOCK;
-use vx_model::{Name, No, OutOfMemory, SiteState, Stop};
-use vx_order::VolumeRoom;
+use vx_model::{Name, OutOfMemory, SiteState, Stop};
+use vx_order::{SiteFacts, VolumeRoom};
 use vx_report::{GroupViewRoom, Kept};
 use vx_yard::Yard;
-use vx_yard::cuts::{CutWrite, cut_of, set_cut};
 use vx_yard::falling::go_down;
 
 // What a recovery needs of memory beside its import.
@@ -30,43 +29,37 @@ impl RiseRoom {
     }
 }
 
-// What is kept of a write that was cut off, at a group that is up again. Nothing is said of a volume that it has not.
-fn kept_of<R: Rack>(yard: &mut Yard<R>, site: usize, cut: &CutWrite) -> Result<Option<Kept>, No> {
-    let Some(volume) = yard.facts[site].volumes.as_slice().get(cut.volume as usize) else {
-        return Ok(None);
-    };
-    let name = volume.name;
-    let bytes = cut.bytes.as_bytes();
-    let bits = yard.disk_sets[site].kept_of(cut.volume, cut.block, bytes)?;
-    Ok(Some(Kept {
-        volume: name,
-        block: cut.block,
-        count: (bytes.len() / BLOCK) as u32,
-        bits,
-    }))
-}
-
-// The same of the write that is noted, if one is.
-fn look_kept<R: Rack>(yard: &mut Yard<R>, site: usize) -> Result<Option<Kept>, No> {
-    match cut_of(&yard.cuts, site) {
-        Some(cut) => kept_of(yard, site, &cut),
-        None => Ok(None),
+// What is kept of a write, with the name of its volume. Nothing is said of a volume that the group has not.
+fn shown(facts: &SiteFacts, kept: &KeptWrite) -> Option<Kept> {
+    match facts.volumes.as_slice().get(kept.write.volume as usize) {
+        Some(volume) => Some(Kept {
+            volume: volume.name,
+            block: kept.write.block,
+            count: (kept.write.bytes.as_bytes().len() / BLOCK) as u32,
+            bits: kept.bits,
+        }),
+        None => None,
     }
 }
 
-// A group that came up says how it stands, and what is kept. Where that cannot be read, it is down again.
-fn stand_up<R: Rack>(yard: &mut Yard<R>, alloc: Global, site: usize, room: RiseRoom) -> Said {
+fn shown_if(facts: &SiteFacts, kept: Option<KeptWrite>) -> Option<Kept> {
+    match kept {
+        Some(kept) => shown(facts, &kept),
+        None => None,
+    }
+}
+
+// A group that came up says how it stands, and what is kept.
+fn stand_up<R: Rack>(
+    yard: &mut Yard<R>,
+    alloc: Global,
+    site: usize,
+    room: RiseRoom,
+    kept: Option<KeptWrite>,
+) -> Said {
     note_up(yard, site, room.volumes);
-    match look_kept(yard, site) {
-        Ok(kept) => {
-            set_cut(&mut yard.cuts, site, None);
-            Said::Resumed(view_at(yard, alloc, site, room.views), kept)
-        }
-        Err(no) => {
-            go_down(yard, alloc, site, u64::MAX);
-            Said::Refused(no)
-        }
-    }
+    let kept = shown_if(&yard.facts[site], kept);
+    Said::Resumed(view_at(yard, alloc, site, room.views), kept)
 }
 
 // Imports the group of a site that is down, and says how it stands.
@@ -77,10 +70,10 @@ fn rise<R: Rack>(
     room: RiseRoom,
 ) -> Result<Said, OutOfMemory> {
     let disk_set = mem::replace(&mut yard.disk_sets[site], DiskSet::Gone);
-    let (disk_set, came) = disk_set.import_group(alloc);
+    let (disk_set, came) = disk_set.recover_group(alloc);
     yard.disk_sets[site] = disk_set;
     match came {
-        Ok(()) => Ok(stand_up(yard, alloc, site, room)),
+        Ok(kept) => Ok(stand_up(yard, alloc, site, room, kept)),
         Err(stop) => group_stopped(yard, alloc, site, stop),
     }
 }
@@ -96,7 +89,7 @@ fn rise_bare<R: Rack>(
     let (disk_set, came) = disk_set.recover_bare_group(alloc);
     yard.disk_sets[site] = disk_set;
     match came {
-        Ok(()) => Ok(stand_up(yard, alloc, site, room)),
+        Ok(()) => Ok(stand_up(yard, alloc, site, room, None)),
         Err(Stop::No(no)) => Ok(Said::Refused(no)),
         Err(Stop::OutOfMemory) => Err(OutOfMemory),
     }

@@ -3,16 +3,8 @@ use crate::noting::group_refused;
 use std::alloc::Global;
 use vx_disk::Rack;
 use vx_events::Said;
-use vx_model::{Blocks, Name, No};
+use vx_model::Name;
 use vx_yard::Yard;
-use vx_yard::cuts::{CutWrite, set_cut};
-
-// A write that was refused: the one in which the fuse of its site ran out is kept for the next recovery.
-fn note_unwritten<R: Rack>(yard: &mut Yard<R>, site: usize, cut: CutWrite, no: &No) {
-    if let No::Down = no {
-        set_cut(&mut yard.cuts, site, Some(cut));
-    }
-}
 
 /// Writes whole blocks to a volume of a site, and makes them durable.
 pub fn write_plain<R: Rack>(
@@ -24,17 +16,9 @@ pub fn write_plain<R: Rack>(
     bytes: &[u8],
 ) -> Said {
     let site = yard.site_of(name);
-    let place = yard.volume_of(site, volume) as u32;
-    match yard.disk_sets[site].write_plain(place, start, bytes) {
+    let place = yard.volume_of(site, volume);
+    match yard.disk_sets[site].write_plain(place as u32, start, bytes) {
         Ok(()) => Said::Done,
-        Err(no) => {
-            let cut = CutWrite {
-                volume: place,
-                block: start,
-                bytes: Blocks::new(bytes),
-            };
-            note_unwritten(yard, site, cut, &no);
-            group_refused(yard, alloc, site, no)
-        }
+        Err(no) => group_refused(yard, alloc, site, no),
     }
 }

@@ -27,12 +27,10 @@ module _ {R : Type 0} {g : Ghosts R} where
   abbrev pub IsTold : Yard R g → Type 0
   IsTold y = AreTold y.disk_sets.items
 
-  -- eight disk sets, and no more sites, each of a shape that a site may have; and for each number a message in assembly, the site that feeds it, and
-  -- a place for a write that was cut off
+  -- eight disk sets, and no more sites, each of a shape that a site may have; and for each number a message in assembly and the site that feeds it
   pub record IsYardKept (y : Yard R g) : Type 0 where
     pub eight : length y.disk_sets.items ≡ MOST_SITES
     pub few : length y.facts.items ≤ MOST_SITES
     pub each : (s : ℕ) (f : SiteFacts) → slice_get y.facts.items s ≡ Some f → IsShaped f
     pub places : length y.assemblies.items ≡ MOST_SITES
     pub numbers : length y.feeders.items ≡ MOST_SITES
-    pub rooms : length y.cuts.items ≡ MOST_SITES

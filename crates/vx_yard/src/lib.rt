@@ -4,7 +4,6 @@
 //! work in the crates above.
 #![tactic(auto)]
 
-pub mod cuts;
 mod errors;
 pub mod facts;
 pub mod falling;

@@ -22,7 +22,7 @@ fn give_back<R: Rack>(racks: &mut Vec<R>, disk_set: DiskSet<R>)
             let _ = racks.push(site.into_rvg().into_shelf());
         }
         DiskSet::OfGroup(group) => {
-            if let Some(rack) = group.into_rack() {
+            if let Some(rack) = group.site.into_rack() {
                 let _ = racks.push(rack);
             }
         }

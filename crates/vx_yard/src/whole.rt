@@ -44,9 +44,6 @@ impl<R: Rack> Yard<R> {
         if self.assemblies.len() != MOST_SITES || self.feeders.len() != MOST_SITES {
             return false;
         }
-        if self.cuts.len() != MOST_SITES {
-            return false;
-        }
         are_shaped(&self.facts)
     }
 }

@@ -9,7 +9,6 @@ ghost use Rattle.vx_yard.specs.Standing.{StandsFor};
 ghost use Rattle.vx_yard.specs.Yards.{IsTold, count_of, in_files};
 
 use crate::DiskSet;
-use crate::cuts::{CutWrite, no_cuts};
 use crate::folder::copied;
 use crate::load::{empty_assemblies, no_feeders};
 use crate::racks::{put_racks, take_racks};
@@ -32,8 +31,6 @@ pub struct Yard<R: Rack> {
     // For each site number the message that it puts together, and the site that feeds it.
     pub assemblies: Vec<Assembly>,
     pub feeders: Vec<u32>,
-    // And the write that a crash cut off.
-    pub cuts: Vec<Option<CutWrite>>,
     // Empty, with room for all racks as they come back.
     pub racks: Vec<R>,
 }
@@ -67,9 +64,6 @@ impl<R: Rack> Yard<R> {
         let Ok(feeders) = no_feeders(alloc) else {
             return Err((racks, OutOfMemory));
         };
-        let Ok(cuts) = no_cuts(alloc) else {
-            return Err((racks, OutOfMemory));
-        };
         let (racks, disk_sets) = put_racks(racks, disk_sets);
         Ok(Yard {
             dir,
@@ -78,7 +72,6 @@ impl<R: Rack> Yard<R> {
             flight,
             assemblies,
             feeders,
-            cuts,
             racks,
         })
     }
