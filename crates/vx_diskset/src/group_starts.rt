@@ -3,7 +3,7 @@ use crate::group_set::{CutWrite, KeptWrite};
 use crate::{DiskSet, GroupSet};
 use std::alloc::Global;
 use vx_disk::Rack;
-use vx_grouped::{GroupSite, has_label, kept};
+use vx_grouped::{GroupSite, begin_group, has_label, kept, start_bare};
 use vx_model::{No, Stop};
 
 // The disks of a bare site on which a group was begun: labels may stand on them.
@@ -14,6 +14,12 @@ fn marked<R: Rack>(rack: R) -> DiskSet<R> {
 // The group on the disks of a site.
 fn group_of<R: Rack>(site: GroupSite<R>) -> DiskSet<R> {
     DiskSet::OfGroup(GroupSet::of(site))
+}
+
+// The disks on which a group was begun.
+fn begun<R: Rack>(made: (GroupSite<R>, Result<(), Stop>)) -> (DiskSet<R>, Result<(), Stop>) {
+    let (site, answer) = made;
+    (group_of(site), answer)
 }
 
 // What is kept of the write that is cut, if one is, at a group that came up.
@@ -52,24 +58,13 @@ fn stand_up<R: Rack>(
 }
 
 impl<R: Rack> DiskSet<R> {
-    /// Makes a bare site's disks a group without volumes. For want of memory nothing is done; behind another refusal labels may stand on them.
+    /// Makes a bare site's disks a group without volumes. Where it is not made, labels of it may stand on them.
     pub fn init_group(self, alloc: Global, site: u32) -> (DiskSet<R>, Result<(), Stop>) {
         match self {
-            DiskSet::Bare(rack) => match GroupSite::init(alloc, rack, site) {
-                Ok(group) => (group_of(group), Ok(())),
-                Err((rack, Stop::OutOfMemory)) => (DiskSet::Bare(rack), Err(Stop::OutOfMemory)),
-                Err((rack, stop)) => (marked(rack), Err(stop)),
-            },
-            DiskSet::Spoiled(rack) => match GroupSite::init(alloc, rack, site) {
-                Ok(group) => (group_of(group), Ok(())),
-                Err((rack, Stop::OutOfMemory)) => (DiskSet::Spoiled(rack), Err(Stop::OutOfMemory)),
-                Err((rack, stop)) => (marked(rack), Err(stop)),
-            },
+            DiskSet::Bare(rack) => begun(begin_group(alloc, rack, site)),
+            DiskSet::Spoiled(rack) => begun(begin_group(alloc, rack, site)),
             DiskSet::OfGroup(group) => match group.site {
-                GroupSite::Marked(rack) => match GroupSite::init(alloc, rack, site) {
-                    Ok(group) => (group_of(group), Ok(())),
-                    Err((rack, stop)) => (marked(rack), Err(stop)),
-                },
+                GroupSite::Marked(rack) => begun(begin_group(alloc, rack, site)),
                 other => (group_of(other), Err(Stop::No(No::Role))),
             },
             other => (other, Err(Stop::No(No::Role))),
@@ -91,12 +86,12 @@ impl<R: Rack> DiskSet<R> {
     /// Imports the group that an earlier run left on the disks of a bare site. Where it is refused, the site stays bare.
     pub fn recover_bare_group(self, alloc: Global) -> (DiskSet<R>, Result<(), Stop>) {
         match self {
-            DiskSet::Bare(rack) => match GroupSite::start_bare(alloc, rack) {
+            DiskSet::Bare(rack) => match start_bare(alloc, rack) {
                 Ok(group) => (group_of(group), Ok(())),
                 Err((rack, stop)) => (DiskSet::Bare(rack), Err(stop)),
             },
             DiskSet::OfGroup(group) => match group.site {
-                GroupSite::Marked(rack) => match GroupSite::start_bare(alloc, rack) {
+                GroupSite::Marked(rack) => match start_bare(alloc, rack) {
                     Ok(group) => (group_of(group), Ok(())),
                     Err((rack, stop)) => (marked(rack), Err(stop)),
                 },

@@ -10,6 +10,8 @@ use Rattle.vx_model.specs.declared.no.No.TheVariants.{Device, Down, LastPlex, Li
 use Rattle.vx_disk.specs.Shelf.{Goes, Meaning, Nothing}
 use Rattle.vx_history.specs.Groups.{GroupNode}
 use Rattle.vx_history.specs.World.{Node}
+use Rattle.vx_config.specs.declared.config.Config.{Config}
+use Rattle.vx_group.specs.Attaches.{GroupAttachEnds, IsAttached}
 use Rattle.vx_group.specs.Dets.{DetStops}
 use Rattle.vx_group.specs.Holding.{GroupStands, wide}
 use Rattle.vx_group.specs.Stands.{inner_meaning}
@@ -83,3 +85,22 @@ never_fell meaning s t same up down = up (subst (λ y. IsTrue (meaning y).down) 
 pub agreed_either : {T : Type 0} (r : Result T Stop) (was kept agr : Bool) → OnOk r (was ≡ true → kept ≡ true) → (kept ≡ true → agr ≡ true) → IfErr r (λ stop. was ≡ true → agr ≡ true) → was ≡ true → agr ≡ true
 agreed_either (Ok done) was kept agr trust both refused is = both (trust is)
 agreed_either (Err stop) was kept agr trust both refused is = refused is
+
+-- an attach that is done
+pub attached_by : {T : Type 0} (r : Result T Stop) (v p : ℕ) (d : Config) (m : Meaning) → GroupAttachEnds v p d m r → OnOk r (IsAttached v p d m)
+attached_by (Ok done) v p d m it = it
+attached_by (Err stop) v p d m it = tt
+
+-- tests of names and counts blame no disk
+pub det_not_device : (t u w x : Bool) (v p most disk : ℕ) → (if t then Some (Unknown (Number v)) else (if u then Some (Unknown (Number p)) else (if w then Some LastPlex else (if x then Some (Limit Numbers most) else None)))) ≡ Some (Device disk) → ⊥
+det_not_device true u w x v p most disk is = let clash : Some (Unknown (Number v)) ≡ Some (Device disk) = is in cc
+det_not_device false true w x v p most disk is = let clash : Some (Unknown (Number p)) ≡ Some (Device disk) = is in cc
+det_not_device false false true x v p most disk is = let clash : Some LastPlex ≡ Some (Device disk) = is in cc
+det_not_device false false false true v p most disk is = let clash : Some (Limit Numbers most) ≡ Some (Device disk) = is in cc
+det_not_device false false false false v p most disk is = let clash : None ≡ Some (Device disk) = is in cc
+
+pub att_not_device : (t u x : Bool) (v p most disk : ℕ) → (if t then Some (Unknown (Number v)) else (if u then Some (Unknown (Number p)) else (if x then Some (Limit Numbers most) else None))) ≡ Some (Device disk) → ⊥
+att_not_device true u x v p most disk is = let clash : Some (Unknown (Number v)) ≡ Some (Device disk) = is in cc
+att_not_device false true x v p most disk is = let clash : Some (Unknown (Number p)) ≡ Some (Device disk) = is in cc
+att_not_device false false true v p most disk is = let clash : Some (Limit Numbers most) ≡ Some (Device disk) = is in cc
+att_not_device false false false v p most disk is = let clash : None ≡ Some (Device disk) = is in cc

@@ -1,6 +1,13 @@
+pub mod Added
 pub mod Away
+pub mod Begins
 pub mod Ends
 pub mod GroupNotes
+pub mod GroupSites
+pub mod NoteChanges
 pub mod Plain
-pub mod Added
 pub mod Returns
+pub mod SetFuses
+pub mod SiteAdds
+pub mod SiteEnds
+pub mod Watches

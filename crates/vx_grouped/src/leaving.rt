@@ -1,5 +1,5 @@
 // A group that leaves its site: it crashes, or is deported.
-ghost use Rattle.std.specs.Prelude.{◌-◌, ◌<◌, ◌≤◌, IsTrue};
+ghost use Rattle.std.specs.Prelude.{◌-◌, ◌<◌, ◌≤◌, IfOk, IsTrue};
 ghost use Rattle.vx_config.specs.Table.{greatest};
 ghost use Rattle.vx_disk.specs.Causes.{OnDisks};
 ghost use Rattle.vx_disk.specs.Disks.{Crashed};
@@ -33,12 +33,13 @@ pub fn crash_group<R: Rack>(group: Group<R>, pick: u64) -> R
 ///
 /// Answers 19 as the group does, and then nothing has changed; else 7 only where the count of the disk that it names rose, and 6 only where the
 /// shelf is then down.
-pub fn deport_group<R: Rack>(group: Group<R>) -> Result<R, (Group<R>, Stop)>
-    requires up { IsTrue (R.meaning group.shelf).down → ⊥ }
+pub fn deport_group<S: Shelf>(group: Group<S>) -> Result<S, (Group<S>, Stop)>
+    requires up { IsTrue (S.meaning group.shelf).down → ⊥ }
     ensures limit { greatest - margin < group.core.inner.config.serial → IsFull group.core group.shelf (λ g. g.core) (λ g. g.shelf) result }
-    ensures ends { GroupDeported group.core (R.meaning group.shelf) (λ s. R.meaning s) (λ g. g.core) (λ g. g.shelf) result }
-    ensures leaves { (n : Node) (note : GroupNode) → IsGroupAt n note group.core (R.meaning group.shelf) → DeportLeaves n note group.core (λ s. R.meaning s) (λ g. g.core) (λ g. g.shelf) result }
-    ensures cause { group.core.inner.config.serial ≤ greatest - margin → DeportStops (R.meaning group.shelf) (λ s. R.meaning s) (λ g. g.shelf) result }
+    ensures ends { GroupDeported group.core (S.meaning group.shelf) (λ s. S.meaning s) (λ g. g.core) (λ g. g.shelf) result }
+    ensures up { IfOk result (λ s. IsTrue (S.meaning s).down → ⊥) }
+    ensures leaves { (n : Node) (note : GroupNode) → IsGroupAt n note group.core (S.meaning group.shelf) → DeportLeaves n note group.core (λ s. S.meaning s) (λ g. g.core) (λ g. g.shelf) result }
+    ensures cause { group.core.inner.config.serial ≤ greatest - margin → DeportStops (S.meaning group.shelf) (λ s. S.meaning s) (λ g. g.shelf) result }
 {
     match group.deport() {
         Ok(rack) => Ok(rack),

@@ -1,9 +1,11 @@
 //! A group of disks as a site without a replicated volume group has it: what its calls make of what the site notes of the group.
 //!
-//! Its volumes are made, written and read by themselves, its plexes are detached and attached, and it is deported and imported. No line uses it
-//! yet.
+//! Its volumes are made, written and read by themselves, its plexes are detached and attached, and it is deported and imported. `GroupSite` is
+//! the disks of such a site, whatever became of its group. No line uses it yet.
 #![tactic(auto)]
 
+mod beginning;
+mod group_site;
 mod importing;
 mod labels;
 mod leaving;
@@ -11,8 +13,15 @@ mod looking;
 mod making;
 mod plain;
 mod plexes;
-mod site;
+mod site_import;
+mod site_leaving;
+mod site_making;
+mod site_plain;
+mod site_plexes;
+mod watching;
 
+pub use beginning::begin_group;
+pub use group_site::GroupSite;
 pub use importing::import_group;
 pub use labels::{has_label, unlabel_all};
 pub use leaving::{crash_group, deport_group};
@@ -20,4 +29,5 @@ pub use looking::kept;
 pub use making::make_volume_of;
 pub use plain::{read_plain, write_plain};
 pub use plexes::{att_plex, det_plex};
-pub use site::GroupSite;
+pub use site_import::start_bare;
+pub use watching::{att_watched, det_watched, read_watched, write_watched};

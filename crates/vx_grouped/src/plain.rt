@@ -1,6 +1,7 @@
 // Writes and reads of a volume of a group.
 ghost use Rattle.std.specs.Prelude.{◌≡◌, IfErr, OnOk, length, true};
 ghost use Rattle.vx_disk.specs.Causes.{DeviceCause};
+ghost use Rattle.vx_disk.specs.Racks.{IsRack};
 ghost use Rattle.vx_disk.specs.Shelf.{Fits, Goes, Nothing};
 ghost use Rattle.vx_group.specs.Holding.{wide};
 ghost use Rattle.vx_group.specs.Loses.{LosesPlexes};
@@ -11,26 +12,27 @@ ghost use Rattle.vx_grouped.specs.Plain.{HoldsPlain, ReadsPlain};
 ghost use Rattle.vx_history.specs.Groups.{GroupNode};
 ghost use Rattle.vx_history.specs.World.{Node};
 
-use vx_disk::{Rack, Shelf, refusal};
+use vx_disk::{Shelf, refusal};
 use vx_group::Group;
 use vx_model::No;
 
-/// Writes whole blocks to a volume, and makes them durable.
+/// Writes whole blocks to a volume of a group over a rack, and makes them durable.
 ///
 /// Answers 7 only where the count of the disk that it names rose, and 6 only where the shelf is then down: each block of the write is then as it
 /// was or as it was to be. Nothing else is answered. Plexes may be detached, of which a disk failed.
-pub fn write_plain<R: Rack>(
-    group: &mut Group<R>,
+pub fn write_plain<S: Shelf>(
+    group: &mut Group<S>,
     vol: u32,
     block: u64,
     bytes: &[u8],
 ) -> Result<(), No>
-    requires fits { Fits (inner_meaning (wide group.old.core) (R.meaning group.old.shelf)) vol block (length bytes.now) }
-    ensures leaves { (n : Node) (note : GroupNode) → IsGroupAt n note group.old.core (R.meaning group.old.shelf) → WriteLeaves n note (plain_write vol block bytes.now) group.new.core (R.meaning group.new.shelf) result }
-    ensures loses { LosesPlexes group.old.core.inner.config group.new.core.inner.config (R.meaning group.old.shelf) (R.meaning group.new.shelf) }
+    requires rack { (s : S) → IsRack (S.meaning s) }
+    requires fits { Fits (inner_meaning (wide group.old.core) (S.meaning group.old.shelf)) vol block (length bytes.now) }
+    ensures leaves { (n : Node) (note : GroupNode) → IsGroupAt n note group.old.core (S.meaning group.old.shelf) → WriteLeaves n note (plain_write vol block bytes.now) group.new.core (S.meaning group.new.shelf) result }
+    ensures loses { LosesPlexes group.old.core.inner.config group.new.core.inner.config (S.meaning group.old.shelf) (S.meaning group.new.shelf) }
     ensures trust { OnOk result (group.old.core.inner.committed ≡ true → group.new.core.inner.committed ≡ true) }
     ensures agreed { IfErr result (λ no. group.old.core.inner.committed ≡ true → group.new.core.inner.agreed ≡ true) }
-    ensures cause { IfErr result (DeviceCause (R.meaning group.old.shelf) (R.meaning group.new.shelf)) }
+    ensures cause { IfErr result (DeviceCause (S.meaning group.old.shelf) (S.meaning group.new.shelf)) }
 {
     match group.write(vol, block, bytes) {
         Ok(()) => {}
@@ -45,18 +47,18 @@ pub fn write_plain<R: Rack>(
 /// Reads whole blocks of a volume: of each a value that it may have. What is noted of the group stays.
 ///
 /// Answers 7 only where the count of the disk that it names rose, and 6 only where the shelf is down; nothing else.
-pub fn read_plain<R: Rack>(
-    group: &mut Group<R>,
+pub fn read_plain<S: Shelf>(
+    group: &mut Group<S>,
     vol: u32,
     block: u64,
     into: &mut [u8],
 ) -> Result<(), No>
-    requires fits { Fits (inner_meaning (wide group.old.core) (R.meaning group.old.shelf)) vol block (length into.old) }
-    ensures reads { (note : GroupNode) → HoldsPlain note (inner_meaning (wide group.old.core) (R.meaning group.old.shelf)) → OnOk result (ReadsPlain note (R.meaning group.old.shelf) vol block into.new) }
-    ensures stays { (n : Node) (note : GroupNode) → IsGroupAt n note group.old.core (R.meaning group.old.shelf) → IsGroupAt n note group.new.core (R.meaning group.new.shelf) }
+    requires fits { Fits (inner_meaning (wide group.old.core) (S.meaning group.old.shelf)) vol block (length into.old) }
+    ensures reads { (note : GroupNode) → HoldsPlain note (inner_meaning (wide group.old.core) (S.meaning group.old.shelf)) → OnOk result (ReadsPlain note (S.meaning group.old.shelf) vol block into.new) }
+    ensures stays { (n : Node) (note : GroupNode) → IsGroupAt n note group.old.core (S.meaning group.old.shelf) → IsGroupAt n note group.new.core (S.meaning group.new.shelf) }
     ensures same { group.new.core.inner.config ≡ group.old.core.inner.config }
-    ensures below { Goes Nothing (R.meaning group.old.shelf) (R.meaning group.new.shelf) }
-    ensures cause { IfErr result (DeviceCause (R.meaning group.old.shelf) (R.meaning group.new.shelf)) }
+    ensures below { Goes Nothing (S.meaning group.old.shelf) (S.meaning group.new.shelf) }
+    ensures cause { IfErr result (DeviceCause (S.meaning group.old.shelf) (S.meaning group.new.shelf)) }
 {
     match group.read(vol, block, into) {
         Ok(()) => Ok(()),

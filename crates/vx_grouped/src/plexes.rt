@@ -1,7 +1,7 @@
 // Plexes of a group that are detached and attached.
 ghost use Rattle.std.specs.Prelude.{◌≡◌, Err, IfErr, IfOk, IsTrue, Ok, OnOk, Some, None, false, true, ℕ};
 ghost use Rattle.vx_disk.specs.Shelf.{Goes, Nothing};
-ghost use Rattle.vx_group.specs.Attaches.{att_refusal, copied_regions};
+ghost use Rattle.vx_group.specs.Attaches.{IsAttached, att_refusal, copied_regions};
 ghost use Rattle.vx_group.specs.Dets.{DetStops, det_refusal};
 ghost use Rattle.vx_group.specs.Holding.{wide};
 ghost use Rattle.vx_group.specs.Regains.{Regains};
@@ -14,7 +14,7 @@ ghost use Rattle.vx_model.specs.declared.errors.Stop.TheVariants.{No as Refused}
 ghost use Rattle.vx_model.specs.declared.no.No.{No as NoValue};
 ghost use Rattle.vx_volume.specs.Plexes.{active};
 
-use vx_disk::{Rack, Shelf};
+use vx_disk::Shelf;
 use vx_group::Group;
 use vx_model::{No, Stop};
 
@@ -22,16 +22,16 @@ use vx_model::{No, Stop};
 ///
 /// Answers 1, 10 and 19 as the group does, and then nothing has changed; else 7 only where the count of the disk that it names rose, and 6 only
 /// where the shelf is then down.
-pub fn det_plex<R: Rack>(group: &mut Group<R>, vol: u32, plex: u32) -> Result<(), Stop>
-    requires up { IsTrue (R.meaning group.old.shelf).down → ⊥ }
+pub fn det_plex<S: Shelf>(group: &mut Group<S>, vol: u32, plex: u32) -> Result<(), Stop>
+    requires up { IsTrue (S.meaning group.old.shelf).down → ⊥ }
     ensures refused { (no : NoValue) → det_refusal group.old.core.inner.config vol plex ≡ Some no → (result ≡ Err (Refused no)) × (group.new.core ≡ group.old.core) × (group.new.shelf ≡ group.old.shelf) }
-    ensures leaves { (n : Node) (note : GroupNode) → IsGroupAt n note group.old.core (R.meaning group.old.shelf) → CallLeaves n note group.new.core (R.meaning group.new.shelf) result }
-    ensures goes { Goes Nothing (inner_meaning (wide group.old.core) (R.meaning group.old.shelf)) (inner_meaning (wide group.new.core) (R.meaning group.new.shelf)) }
+    ensures leaves { (n : Node) (note : GroupNode) → IsGroupAt n note group.old.core (S.meaning group.old.shelf) → CallLeaves n note group.new.core (S.meaning group.new.shelf) result }
+    ensures goes { Goes Nothing (inner_meaning (wide group.old.core) (S.meaning group.old.shelf)) (inner_meaning (wide group.new.core) (S.meaning group.new.shelf)) }
     ensures off { OnOk result (active group.new.core.inner.config vol plex ≡ false) }
     ensures others { (w p : ℕ) → (w ≡ vol → p ≡ plex → ⊥) → active group.new.core.inner.config w p ≡ active group.old.core.inner.config w p }
     ensures trust { OnOk result (group.old.core.inner.committed ≡ true → group.new.core.inner.committed ≡ true) }
     ensures agreed { IfErr result (λ stop. group.old.core.inner.committed ≡ true → group.new.core.inner.agreed ≡ true) }
-    ensures cause { det_refusal group.old.core.inner.config vol plex ≡ None → DetStops (R.meaning group.old.shelf) (R.meaning group.new.shelf) result }
+    ensures cause { det_refusal group.old.core.inner.config vol plex ≡ None → DetStops (S.meaning group.old.shelf) (S.meaning group.new.shelf) result }
 {
     let answer = group.det(vol, plex);
     if group.is_down() {
@@ -45,17 +45,18 @@ pub fn det_plex<R: Rack>(group: &mut Group<R>, vol: u32, plex: u32) -> Result<()
 ///
 /// Answers 1 and 19 as the group does, and then nothing has changed; else 7 only where the count of the disk that it names rose, and 6 only
 /// where the shelf is then down.
-pub fn att_plex<R: Rack>(group: &mut Group<R>, vol: u32, plex: u32) -> Result<u64, Stop>
-    requires up { IsTrue (R.meaning group.old.shelf).down → ⊥ }
+pub fn att_plex<S: Shelf>(group: &mut Group<S>, vol: u32, plex: u32) -> Result<u64, Stop>
+    requires up { IsTrue (S.meaning group.old.shelf).down → ⊥ }
     ensures refused { (no : NoValue) → att_refusal group.old.core.inner.config vol plex ≡ Some no → (result ≡ Err (Refused no)) × (group.new.core ≡ group.old.core) × (group.new.shelf ≡ group.old.shelf) }
     ensures already { att_refusal group.old.core.inner.config vol plex ≡ None → IsTrue (active group.old.core.inner.config vol plex) → (result ≡ Ok 0) × (group.new.core ≡ group.old.core) × (group.new.shelf ≡ group.old.shelf) }
     ensures count { active group.old.core.inner.config vol plex ≡ false → IfOk result (λ n. n ≡ copied_regions group.old.core.inner.config vol) }
-    ensures leaves { (n : Node) (note : GroupNode) → IsGroupAt n note group.old.core (R.meaning group.old.shelf) → CallLeaves n note group.new.core (R.meaning group.new.shelf) result }
-    ensures goes { Goes Nothing (inner_meaning (wide group.old.core) (R.meaning group.old.shelf)) (inner_meaning (wide group.new.core) (R.meaning group.new.shelf)) }
-    ensures regains { Regains group.old.core.inner.config group.new.core.inner.config vol plex (R.meaning group.old.shelf) (R.meaning group.new.shelf) }
+    ensures attached { active group.old.core.inner.config vol plex ≡ false → OnOk result (IsAttached vol plex group.new.core.inner.config (S.meaning group.new.shelf)) }
+    ensures leaves { (n : Node) (note : GroupNode) → IsGroupAt n note group.old.core (S.meaning group.old.shelf) → CallLeaves n note group.new.core (S.meaning group.new.shelf) result }
+    ensures goes { Goes Nothing (inner_meaning (wide group.old.core) (S.meaning group.old.shelf)) (inner_meaning (wide group.new.core) (S.meaning group.new.shelf)) }
+    ensures regains { Regains group.old.core.inner.config group.new.core.inner.config vol plex (S.meaning group.old.shelf) (S.meaning group.new.shelf) }
     ensures others { (w p : ℕ) → (w ≡ vol → p ≡ plex → ⊥) → active group.new.core.inner.config w p ≡ active group.old.core.inner.config w p }
     ensures trust { OnOk result (group.old.core.inner.committed ≡ true → group.new.core.inner.committed ≡ true) }
-    ensures cause { att_refusal group.old.core.inner.config vol plex ≡ None → DetStops (R.meaning group.old.shelf) (R.meaning group.new.shelf) result }
+    ensures cause { att_refusal group.old.core.inner.config vol plex ≡ None → DetStops (S.meaning group.old.shelf) (S.meaning group.new.shelf) result }
 {
     let answer = group.att(vol, plex);
     if group.is_down() {

@@ -5,6 +5,21 @@ ghost use Rattle.vx_yard.specs.Racks.{rack_in, racks_in};
 
 use crate::DiskSet;
 use vx_disk::Rack;
+use vx_grouped::GroupSite;
+
+// Adds the rack of a site whose disks are a group.
+fn give_site<R: Rack>(racks: &mut Vec<R>, site: GroupSite<R>) {
+    match site {
+        GroupSite::Up(group) => {
+            let (rack, _) = group.apart();
+            let _ = racks.push(rack);
+        }
+        GroupSite::Deported(rack) | GroupSite::Down(rack) | GroupSite::Marked(rack) => {
+            let _ = racks.push(rack);
+        }
+        GroupSite::Gone => {}
+    }
+}
 
 // Adds the rack of an disk set.
 fn give_back<R: Rack>(racks: &mut Vec<R>, disk_set: DiskSet<R>)
@@ -22,9 +37,7 @@ fn give_back<R: Rack>(racks: &mut Vec<R>, disk_set: DiskSet<R>)
             let _ = racks.push(site.into_rvg().into_shelf());
         }
         DiskSet::OfGroup(group) => {
-            if let Some(rack) = group.site.into_rack() {
-                let _ = racks.push(rack);
-            }
+            give_site(racks, group.site);
         }
         DiskSet::Gone => {}
     }

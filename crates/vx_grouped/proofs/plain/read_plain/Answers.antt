@@ -8,14 +8,14 @@ use Rattle.vx_grouped.proofs.plain.read_plain.Goals as goal
 
 pub returns-in-Ok-clause-reads : goal.returns-in-Ok-clause-reads
 returns-in-Ok-clause-reads g c = λ note it.
-    let lawful = (g.met.R.Shelf g.world.𝓛 g.world.𝓜 g.world.𝓡 ((λ s x. x), (λ x. x), (λ x. x), λ x. x)).lawful in
-    reads_plain note (inner_meaning (wide c.args.group.now.core) (g.R.Shelf.meaning c.args.group.now.shelf)) (g.R.Shelf.meaning c.args.group.now.shelf) c.args.vol c.args.block c.args.into.now c.read.new.into c.read.auto.into refl
-    (group_lawful (wide c.args.group.now.core) (g.R.Shelf.meaning c.args.group.now.shelf) (lawful c.args.group.now.shelf) c.args.group.now.stands.stands) it c.requires.fits c.in-Ok.ensures.ok
+    let lawful = g.met.S.Shelf.lawful in
+    reads_plain note (inner_meaning (wide c.args.group.now.core) (g.S.Shelf.meaning c.args.group.now.shelf)) (g.S.Shelf.meaning c.args.group.now.shelf) c.args.vol c.args.block c.args.into.now c.read.new.into c.read.auto.into refl
+    (group_lawful (wide c.args.group.now.core) (g.S.Shelf.meaning c.args.group.now.shelf) (lawful c.args.group.now.shelf) c.args.group.now.stands.stands) it c.requires.fits c.in-Ok.ensures.ok
 
 pub returns-in-Ok-clause-stays : goal.returns-in-Ok-clause-stays
 returns-in-Ok-clause-stays g c = λ n note at.
-    read_stays n note c.args.group.now.core c.read.new.self.core (g.R.Shelf.meaning c.args.group.now.shelf) (g.R.Shelf.meaning c.read.new.self.shelf) c.read.ensures.below c.read.ensures.down c.read.ensures.goes c.read.ensures.same c.read.ensures.trusted at
+    read_stays n note c.args.group.now.core c.read.new.self.core (g.S.Shelf.meaning c.args.group.now.shelf) (g.S.Shelf.meaning c.read.new.self.shelf) c.read.ensures.below c.read.ensures.down c.read.ensures.goes c.read.ensures.same c.read.ensures.trusted at
 
 pub returns-in-Err-clause-stays : goal.returns-in-Err-clause-stays
 returns-in-Err-clause-stays g c = λ n note at.
-    read_stays n note c.args.group.now.core c.read.new.self.core (g.R.Shelf.meaning c.args.group.now.shelf) (g.R.Shelf.meaning c.read.new.self.shelf) c.read.ensures.below c.read.ensures.down c.read.ensures.goes c.read.ensures.same c.read.ensures.trusted at
+    read_stays n note c.args.group.now.core c.read.new.self.core (g.S.Shelf.meaning c.args.group.now.shelf) (g.S.Shelf.meaning c.read.new.self.shelf) c.read.ensures.below c.read.ensures.down c.read.ensures.goes c.read.ensures.same c.read.ensures.trusted at

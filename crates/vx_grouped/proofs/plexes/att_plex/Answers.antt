@@ -6,31 +6,34 @@ use Rattle.vx_config.specs.Table.{greatest}
 use Rattle.vx_group.specs.Attaches.{att_refusal}
 use Rattle.vx_group.specs.Dets.{margin}
 use Rattle.vx_group.proofs.CallLemmas.{not_down}
-use Rattle.vx_grouped.proofs.KeepLemmas.{att_not_down, call_cut, call_leaves, never_fell, same_at}
+use Rattle.vx_grouped.proofs.KeepLemmas.{att_not_down, attached_by, call_cut, call_leaves, never_fell, same_at}
 use Rattle.vx_grouped.proofs.plexes.att_plex.Goals as goal
 
 pub returns-then-is_down-clause-refused : goal.returns-then-is_down-clause-refused
 returns-then-is_down-clause-refused g c = λ why is.
-    absurd (never_fell g.R.Shelf.meaning c.args.group.now.shelf c.att-answer.new.self.shelf (c.att-answer.ensures.refused why is).2 c.requires.up (sym c.is_down.ensures ∙ c.if-is_down.true))
+    absurd (never_fell g.S.Shelf.meaning c.args.group.now.shelf c.att-answer.new.self.shelf (c.att-answer.ensures.refused why is).2 c.requires.up (sym c.is_down.ensures ∙ c.if-is_down.true))
 
 pub returns-then-is_down-clause-already : goal.returns-then-is_down-clause-already
 returns-then-is_down-clause-already g c = λ may on.
-    absurd (never_fell g.R.Shelf.meaning c.args.group.now.shelf c.att-answer.new.self.shelf (c.att-answer.ensures.already may on).2 c.requires.up (sym c.is_down.ensures ∙ c.if-is_down.true))
+    absurd (never_fell g.S.Shelf.meaning c.args.group.now.shelf c.att-answer.new.self.shelf (c.att-answer.ensures.already may on).2 c.requires.up (sym c.is_down.ensures ∙ c.if-is_down.true))
 
 pub returns-then-is_down-clause-leaves : goal.returns-then-is_down-clause-leaves
 returns-then-is_down-clause-leaves g c = λ n note at.
-    call_cut n note c.args.group.now.core c.att-answer.new.self.core (g.R.Shelf.meaning c.args.group.now.shelf) (g.R.Shelf.meaning c.att-answer.new.self.shelf) at c.att-answer.new.self.stands
+    call_cut n note c.args.group.now.core c.att-answer.new.self.core (g.S.Shelf.meaning c.args.group.now.shelf) (g.S.Shelf.meaning c.att-answer.new.self.shelf) at c.att-answer.new.self.stands
     c.att-answer.ensures.attaches.acts.units c.att-answer.ensures.attaches.acts.size c.att-answer.ensures.attaches.goes (sym c.is_down.ensures ∙ c.if-is_down.true)
 
 pub returns-then-is_down-clause-cause : goal.returns-then-is_down-clause-cause
 returns-then-is_down-clause-cause g c = λ is. sym c.is_down.ensures ∙ c.if-is_down.true
 
+pub returns-clause-attached : goal.returns-clause-attached
+returns-clause-attached g c = λ off. attached_by c.att-answer.result c.args.vol c.args.plex c.att-answer.new.self.core.inner.config (g.S.Shelf.meaning c.att-answer.new.self.shelf) (c.att-answer.ensures.ends off)
+
 pub returns-clause-leaves : goal.returns-clause-leaves
 returns-clause-leaves g c = λ n note at.
-    call_leaves n note c.args.group.now.core c.att-answer.new.self.core (g.R.Shelf.meaning c.args.group.now.shelf) (g.R.Shelf.meaning c.att-answer.new.self.shelf) at c.att-answer.new.self.stands
+    call_leaves n note c.args.group.now.core c.att-answer.new.self.core (g.S.Shelf.meaning c.args.group.now.shelf) (g.S.Shelf.meaning c.att-answer.new.self.shelf) at c.att-answer.new.self.stands
     c.att-answer.ensures.attaches.acts.units c.att-answer.ensures.attaches.acts.size c.att-answer.ensures.attaches.goes
-    c.att-answer.result (att_refusal c.args.group.now.core.inner.config c.args.vol c.args.plex) (not_down c.is_down.result (g.R.Shelf.meaning c.att-answer.new.self.shelf).down c.is_down.ensures c.if-is_down.false)
+    c.att-answer.result (att_refusal c.args.group.now.core.inner.config c.args.vol c.args.plex) (not_down c.is_down.result (g.S.Shelf.meaning c.att-answer.new.self.shelf).down c.is_down.ensures c.if-is_down.false)
     c.att-answer.ensures.trust c.att-answer.ensures.cause
-    (λ why is. ((c.att-answer.ensures.refused why is).0, same_at g.R.Shelf.meaning n note c.args.group.now.core c.att-answer.new.self.core c.args.group.now.shelf c.att-answer.new.self.shelf (c.att-answer.ensures.refused why is).1 (c.att-answer.ensures.refused why is).2 at))
+    (λ why is. ((c.att-answer.ensures.refused why is).0, same_at g.S.Shelf.meaning n note c.args.group.now.core c.att-answer.new.self.core c.args.group.now.shelf c.att-answer.new.self.shelf (c.att-answer.ensures.refused why is).1 (c.att-answer.ensures.refused why is).2 at))
     (att_not_down (nat_le (length c.args.group.now.core.inner.config.volumes) c.args.vol) (nat_le (plexes_of c.args.group.now.core.inner.config c.args.vol) c.args.plex)
     (nat_lt (greatest - margin) c.args.group.now.core.inner.config.serial) c.args.vol c.args.plex greatest)

@@ -11,11 +11,11 @@ use Rattle.vx_grouped.proofs.plexes.det_plex.Goals as goal
 
 pub returns-then-is_down-clause-refused : goal.returns-then-is_down-clause-refused
 returns-then-is_down-clause-refused g c = λ why is.
-    absurd (never_fell g.R.Shelf.meaning c.args.group.now.shelf c.det-answer.new.self.shelf (c.det-answer.ensures.refused why is).2 c.requires.up (sym c.is_down.ensures ∙ c.if-is_down.true))
+    absurd (never_fell g.S.Shelf.meaning c.args.group.now.shelf c.det-answer.new.self.shelf (c.det-answer.ensures.refused why is).2 c.requires.up (sym c.is_down.ensures ∙ c.if-is_down.true))
 
 pub returns-then-is_down-clause-leaves : goal.returns-then-is_down-clause-leaves
 returns-then-is_down-clause-leaves g c = λ n note at.
-    call_cut n note c.args.group.now.core c.det-answer.new.self.core (g.R.Shelf.meaning c.args.group.now.shelf) (g.R.Shelf.meaning c.det-answer.new.self.shelf) at c.det-answer.new.self.stands
+    call_cut n note c.args.group.now.core c.det-answer.new.self.core (g.S.Shelf.meaning c.args.group.now.shelf) (g.S.Shelf.meaning c.det-answer.new.self.shelf) at c.det-answer.new.self.stands
     c.det-answer.ensures.narrows.acts.units c.det-answer.ensures.narrows.acts.size c.det-answer.ensures.goes (sym c.is_down.ensures ∙ c.if-is_down.true)
 
 pub returns-then-is_down-clause-agreed : goal.returns-then-is_down-clause-agreed
@@ -27,11 +27,11 @@ returns-then-is_down-clause-cause g c = λ is. sym c.is_down.ensures ∙ c.if-is
 
 pub returns-clause-leaves : goal.returns-clause-leaves
 returns-clause-leaves g c = λ n note at.
-    call_leaves n note c.args.group.now.core c.det-answer.new.self.core (g.R.Shelf.meaning c.args.group.now.shelf) (g.R.Shelf.meaning c.det-answer.new.self.shelf) at c.det-answer.new.self.stands
+    call_leaves n note c.args.group.now.core c.det-answer.new.self.core (g.S.Shelf.meaning c.args.group.now.shelf) (g.S.Shelf.meaning c.det-answer.new.self.shelf) at c.det-answer.new.self.stands
     c.det-answer.ensures.narrows.acts.units c.det-answer.ensures.narrows.acts.size c.det-answer.ensures.goes
-    c.det-answer.result (det_refusal c.args.group.now.core.inner.config c.args.vol c.args.plex) (not_down c.is_down.result (g.R.Shelf.meaning c.det-answer.new.self.shelf).down c.is_down.ensures c.if-is_down.false)
+    c.det-answer.result (det_refusal c.args.group.now.core.inner.config c.args.vol c.args.plex) (not_down c.is_down.result (g.S.Shelf.meaning c.det-answer.new.self.shelf).down c.is_down.ensures c.if-is_down.false)
     c.det-answer.ensures.trust c.det-answer.ensures.cause
-    (λ why is. ((c.det-answer.ensures.refused why is).0, same_at g.R.Shelf.meaning n note c.args.group.now.core c.det-answer.new.self.core c.args.group.now.shelf c.det-answer.new.self.shelf (c.det-answer.ensures.refused why is).1 (c.det-answer.ensures.refused why is).2 at))
+    (λ why is. ((c.det-answer.ensures.refused why is).0, same_at g.S.Shelf.meaning n note c.args.group.now.core c.det-answer.new.self.core c.args.group.now.shelf c.det-answer.new.self.shelf (c.det-answer.ensures.refused why is).1 (c.det-answer.ensures.refused why is).2 at))
     (det_not_down (nat_le (length c.args.group.now.core.inner.config.volumes) c.args.vol) (nat_le (plexes_of c.args.group.now.core.inner.config c.args.vol) c.args.plex)
     (active c.args.group.now.core.inner.config c.args.vol c.args.plex && not (any_below (is_other c.args.group.now.core.inner.config c.args.vol c.args.plex) (plexes_of c.args.group.now.core.inner.config c.args.vol)))
     (nat_lt (greatest - margin) c.args.group.now.core.inner.config.serial) c.args.vol c.args.plex greatest)

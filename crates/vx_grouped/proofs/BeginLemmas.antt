@@ -1,0 +1,153 @@
+-- A group that is begun on the disks of a bare site, by its note.
+use Rattle.std.proofs.Common.{◌≡◌, ◌⊎◌, inl, inr, ℕ, ◌<◌, Bool, true, false, List, [], length, IsTrue, IsFalse, refl, sym, ◌∙◌, ap, subst, arith}
+use Rattle.std.specs.Prelude.{Option, None, Result, Ok, Err, IfErr, not}
+use Rattle.vx_model.specs.declared.errors.Stop.{Stop}
+use Rattle.vx_model.specs.declared.errors.Stop.TheVariants.{No as Refused, OutOfMemory}
+use Rattle.vx_model.specs.declared.no.No.{No}
+use Rattle.vx_model.specs.declared.no.No.TheVariants.{Device, Down as IsOff, Size}
+use Rattle.vx_disk.specs.Causes.{DeviceCause}
+use Rattle.vx_disk.specs.Shelf.{Meaning}
+use Rattle.vx_disk.specs.declared.shelf.Shelf.{Ghosts}
+use Rattle.vx_history.specs.Groups.{GroupNode}
+use Rattle.vx_history.specs.World.{Fuse, Node, NoFuse, no_volumes}
+use Rattle.vx_config.specs.Checks.{blocks_of}
+use Rattle.vx_config.specs.declared.entry.VolumeEntry.{VolumeEntry}
+use Rattle.vx_copyio.specs.Labelling.{HasSmall}
+use Rattle.vx_kept.specs.Trusts.{HasFailed}
+use Rattle.vx_group.specs.Calls.{GroupCreated}
+use Rattle.vx_group.specs.Creates.{IsNewGroup}
+use Rattle.vx_group.specs.Holding.{volumes_by, wide}
+use Rattle.vx_group.specs.Stands.{inner_meaning}
+use Rattle.vx_group.specs.declared.group.Group.{Group}
+use Rattle.vx_group.specs.declared.group_core.GroupCore.{GroupCore}
+use Rattle.vx_group.specs.declared.group_core.Held.{Held}
+use Rattle.vx_group.specs.declared.inner.Inner.{Inner}
+use Rattle.vx_watched.specs.Since.{CalledSince}
+use Rattle.vx_grouped.specs.Begins.{BeginRefuses, BeginsGroup, CanBegin, IsFirstNote, group_begun}
+use Rattle.vx_grouped.specs.GroupNotes.{noted_config}
+use Rattle.vx_grouped.specs.GroupSites.{AreMarked, GroupUp}
+use Rattle.vx_grouped.specs.Plain.{HoldsPlain}
+use Rattle.vx_grouped.specs.SetFuses.{HasFuse}
+use Rattle.vx_grouped.specs.declared.group_site.GroupSite.TheVariants.{Up, Marked}
+
+-- the note of a group that was just made
+abbrev first_note : Inner → GroupNode
+first_note core = record {
+  config = noted_config core.config;
+  begun = [];
+  loose = not core.committed;
+  bytes = no_volumes;
+  others = λ v b. [];
+  cut = None;
+  missed = λ v p. None;
+  perhaps = λ v p r. false;
+}
+
+was_kept : (kept : Bool) → not kept ≡ false → kept ≡ true
+was_kept true is = refl
+was_kept false is = cc
+
+kept_tight : (kept : Bool) → kept ≡ true → not kept ≡ false
+kept_tight true is = refl
+kept_tight false is = cc
+
+is_up : (down : Bool) → (IsTrue down → ⊥) → IsFalse down
+is_up true never = absurd (never refl)
+is_up false never = refl
+
+not_down : (down : Bool) → IsFalse down → IsTrue down → ⊥
+not_down true up is = let clash : true ≡ false = up in cc
+not_down false up is = let clash : false ≡ true = is in cc
+
+none_blocks : (v : ℕ) → blocks_of [] v ≡ 0
+none_blocks v = refl
+
+unarmed_fuse : (f : Fuse) (m : Meaning) → f ≡ NoFuse → IsFalse m.armed → HasFuse f m
+unarmed_fuse f m is none = subst (λ (x : Fuse). HasFuse x m) (sym is) none
+
+module _ (m m' : Meaning) (n : Node) (can : CanBegin n m) (since : CalledSince m m') where
+  stays_up : IsTrue m'.down → ⊥
+  stays_up down = not_down m.down can.up (since.safe can.unarmed down)
+
+  marked : AreMarked n m'
+  marked = record {
+    state = can.state;
+    units = since.units ∙ can.units;
+    size = λ u low. since.size u ∙ can.size u low;
+    unfused = can.unfused;
+    up = is_up m'.down stays_up;
+    unarmed = since.unarmed can.unarmed;
+  }
+
+  never_small : HasSmall m → ⊥
+  never_small it =
+      let low : it.unit < n.disks = (let there = it.there in let same = can.units in omega (arith, there, same)) in
+      let size = can.size it.unit low in
+      let large = can.large in
+      let small = it.small in
+      omega (arith, size, large, small)
+
+  module _ (site : ℕ) (core : GroupCore) (new : IsNewGroup site core.inner m') (held : core.held ≡ None) where
+    volumes : (wide core).config.volumes ≡ []
+    volumes = ap (λ (h : Option Held). volumes_by h core.inner.config) held ∙ new.volumes
+
+    holds : HoldsPlain (first_note core.inner) (inner_meaning (wide core) m')
+    holds = record {
+      size = λ v. sym (ap (λ (vs : List VolumeEntry). blocks_of vs v) volumes ∙ none_blocks v);
+      has = λ v b x there within left. absurd (let none : length (wide core).config.volumes ≡ 0 = ap (λ (vs : List VolumeEntry). length vs) volumes in omega (arith, there, none));
+    }
+
+    begun_up : GroupUp (group_begun (first_note core.inner) site n) (first_note core.inner) core m'
+    begun_up = record {
+      noted = record { is = refl; none = record { role = refl; volumes = refl; log = refl; safe = refl; running = refl } };
+      fuse = unarmed_fuse n.fuse m' can.unfused (since.unarmed can.unarmed);
+      at = record {
+        state = refl;
+        up = stays_up;
+        lies = record {
+          units = since.units ∙ can.units;
+          size = λ u low. since.size u ∙ can.size u low;
+          config = refl;
+          agreed = λ tight. new.stands.trusts.both (was_kept core.inner.committed tight);
+          committed = λ tight none. was_kept core.inner.committed tight;
+          holds = holds;
+        };
+      };
+    }
+
+    first : IsFirstNote (first_note core.inner)
+    first = record { begun = refl; size = λ v. refl; others = λ v b. refl; cut = refl; perhaps = λ v p r. refl }
+
+    trusted : (P : Type 0) → (HasFailed core.inner.config.disks → P) → ((first_note core.inner).loose ≡ false) ⊎ P
+    trusted P failed = elim new.trust [
+      | inl kept ↦ inl (kept_tight core.inner.committed kept)
+      | inr some ↦ inr (failed some)
+    ]
+
+module _ {R : Type 0} (g : Ghosts R) (rack : R) (n : Node) (site : ℕ) (can : CanBegin n (g.meaning rack)) where
+  pub begun_done : (group : Group R g) → IsNewGroup site group.core.inner (g.meaning group.shelf) × (group.core.held ≡ None) → CalledSince (g.meaning rack) (g.meaning group.shelf) → BeginsGroup site n (g.meaning rack) (Up group) (Ok tt)
+  begun_done group it since = (
+    first_note group.core.inner,
+    first (g.meaning rack) (g.meaning group.shelf) n can since site group.core it.0 it.1,
+    begun_up (g.meaning rack) (g.meaning group.shelf) n can since site group.core it.0 it.1,
+    trusted (g.meaning rack) (g.meaning group.shelf) n can since site group.core it.0 it.1 (HasFailed group.core.inner.config.disks) (λ some. some),
+  )
+
+  begun_failed : (s : R) (why : No) → (HasSmall (g.meaning rack) × (why ≡ Size)) ⊎ DeviceCause (g.meaning rack) (g.meaning s) why → CalledSince (g.meaning rack) (g.meaning s) → BeginsGroup {g = g} site n (g.meaning rack) (Marked s) (Err (Refused why))
+  begun_failed s why (inl small) since = absurd (never_small (g.meaning rack) (g.meaning s) n can since small.0)
+  begun_failed s (Device disk) (inr cause) since = (marked (g.meaning rack) (g.meaning s) n can since, cause)
+  begun_failed s IsOff (inr cause) since = absurd (stays_up (g.meaning rack) (g.meaning s) n can since cause)
+  begun_failed s other (inr cause) since = absurd cause
+
+  pub begun_refused : (s : R) (stop : Stop) → BeginRefuses (g.meaning rack) (g.meaning s) stop → CalledSince (g.meaning rack) (g.meaning s) → BeginsGroup {g = g} site n (g.meaning rack) (Marked s) (Err stop)
+  begun_refused s (Refused why) it since = begun_failed s why it since
+  begun_refused s OutOfMemory it since = marked (g.meaning rack) (g.meaning s) n can since
+
+-- a refusal, as the group answers it
+refuses_as : {S G : Type 0} (site : ℕ) (old : Meaning) (meaning : S → Meaning) (core : G → GroupCore) (shelf : G → S) (s : S) (stop : Stop) → GroupCreated {S = S} {G = G} site old meaning core shelf (Err (s, stop)) → BeginRefuses old (meaning s) stop
+refuses_as site old meaning core shelf s (Refused why) it = it
+refuses_as site old meaning core shelf s OutOfMemory it = tt
+
+pub refuses_by : {S G : Type 0} (r : Result G (S × Stop)) (site : ℕ) (old : Meaning) (meaning : S → Meaning) (core : G → GroupCore) (shelf : G → S) → GroupCreated {S = S} {G = G} site old meaning core shelf r → IfErr r (λ e. BeginRefuses old (meaning e.0) e.1)
+refuses_by (Ok made) site old meaning core shelf it = tt
+refuses_by {S} {G} (Err e) site old meaning core shelf it = refuses_as {S = S} {G = G} site old meaning core shelf e.0 e.1 it

@@ -1,0 +1,13 @@
+-- `att`: its refusals, and that the other plexes stay as they were.
+use Rattle.std.proofs.Common.{◌∙◌, sym, ◌≡◌, subst}
+use Rattle.std.specs.Prelude.{OnOk, Some}
+use Rattle.vx_grouped.specs.GroupSites.{UpNoted}
+use Rattle.vx_grouped.specs.SiteEnds.{is_plex_on, refuses_att}
+use Rattle.vx_grouped.proofs.SiteCarry.{others_as}
+use Rattle.vx_grouped.proofs.group_site.GroupSite.att.Goals as goal
+
+pub returns-in-Up-clause-refused : goal.returns-in-Up-clause-refused
+returns-in-Up-clause-refused g c = λ n note why it is. c.att_site-site.ensures.refused n note why (subst (λ e. UpNoted n note e) (sym c.replace.ensures.value ∙ c.in-Up.is) it) (subst (λ e. refuses_att e c.args.vol c.args.plex ≡ Some why) (sym c.replace.ensures.value ∙ c.in-Up.is) is)
+
+pub returns-in-Up-clause-others : goal.returns-in-Up-clause-others
+returns-in-Up-clause-others g c = others_as c.args.self.now c.in-Up.group c.att_site-site.result.0 c.att_site-site.result.1 c.args.vol c.args.plex (sym c.replace.ensures.value ∙ c.in-Up.is) c.att_site-site.ensures.others

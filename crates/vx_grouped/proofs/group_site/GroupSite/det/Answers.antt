@@ -1,0 +1,13 @@
+-- `det`: its refusals, and that the other plexes stay as they were.
+use Rattle.std.proofs.Common.{◌∙◌, sym, ◌≡◌, subst}
+use Rattle.std.specs.Prelude.{Some}
+use Rattle.vx_grouped.specs.GroupSites.{UpNoted}
+use Rattle.vx_grouped.specs.SiteEnds.{refuses_det}
+use Rattle.vx_grouped.proofs.SiteCarry.{others_as}
+use Rattle.vx_grouped.proofs.group_site.GroupSite.det.Goals as goal
+
+pub returns-in-Up-clause-refused : goal.returns-in-Up-clause-refused
+returns-in-Up-clause-refused g c = λ n note why it is. c.det_site-site.ensures.refused n note why (subst (λ e. UpNoted n note e) (sym c.replace.ensures.value ∙ c.in-Up.is) it) (subst (λ e. refuses_det e c.args.vol c.args.plex ≡ Some why) (sym c.replace.ensures.value ∙ c.in-Up.is) is)
+
+pub returns-in-Up-clause-others : goal.returns-in-Up-clause-others
+returns-in-Up-clause-others g c = others_as c.args.self.now c.in-Up.group c.det_site-site.result.0 c.det_site-site.result.1 c.args.vol c.args.plex (sym c.replace.ensures.value ∙ c.in-Up.is) c.det_site-site.ensures.others

@@ -1,0 +1,15 @@
+-- `fail`: whatever the site is noted as, it still is.
+use Rattle.vx_grouped.proofs.SiteAlike.{away_stays, down_stays, up_stays}
+use Rattle.vx_grouped.proofs.group_site.GroupSite.fail.Goals as goal
+
+pub returns-in-Up-clause-stands : goal.returns-in-Up-clause-stands
+returns-in-Up-clause-stands g c =
+    up_stays c.args.self.now c.args.disk c.args.on c.in-Up.group c.fail.new.self c.in-Up.is c.fail.ensures.core c.fail.ensures.alike c.fail.ensures.down c.fail.ensures.armed c.fail.ensures.volumes c.fail.ensures.disks
+
+pub returns-in-Deported-clause-stands : goal.returns-in-Deported-clause-stands
+returns-in-Deported-clause-stands g c =
+    away_stays c.args.self.now c.args.disk c.args.on c.in-Deported.rack c.fail-in-Deported.new.self c.fail-in-Deported.ensures.alike c.fail-in-Deported.ensures.down c.fail-in-Deported.ensures.armed c.fail-in-Deported.ensures.disks c.in-Deported.is
+
+pub returns-in-Down-clause-stands : goal.returns-in-Down-clause-stands
+returns-in-Down-clause-stands g c =
+    down_stays c.args.self.now c.args.disk c.args.on c.in-Down.rack c.fail-in-Down.new.self c.fail-in-Down.ensures.alike c.fail-in-Down.ensures.down c.fail-in-Down.ensures.armed c.fail-in-Down.ensures.disks c.in-Down.is

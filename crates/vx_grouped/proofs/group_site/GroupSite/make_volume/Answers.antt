@@ -1,0 +1,15 @@
+-- `make_volume`: its refusals, and the volume that it makes.
+use Rattle.std.proofs.Common.{◌≡◌, ◌∙◌, sym, subst}
+use Rattle.std.specs.Prelude.{IfOk, Some}
+use Rattle.vx_grouped.specs.GroupSites.{UpNoted}
+use Rattle.vx_grouped.specs.SiteAdds.{VolumeIn, refuses_volume}
+use Rattle.vx_grouped.proofs.group_site.GroupSite.make_volume.Goals as goal
+
+pub returns-in-Up-clause-refused : goal.returns-in-Up-clause-refused
+returns-in-Up-clause-refused g c = λ n note why it is.
+    c.make_site-site.ensures.refused n note why (subst (λ e. UpNoted n note e) (sym c.replace.ensures.value ∙ c.in-Up.is) it) (subst (λ e. refuses_volume e c.args.name.now c.args.want.now ≡ Some why) (sym c.replace.ensures.value ∙ c.in-Up.is) is)
+
+pub returns-in-Up-clause-volume : goal.returns-in-Up-clause-volume
+returns-in-Up-clause-volume g c = λ n note it.
+    subst (λ e. IfOk c.make_site-site.result.1 (λ vol. VolumeIn c.args.name.now c.args.want.now vol e c.make_site-site.result.0)) (sym (sym c.replace.ensures.value ∙ c.in-Up.is))
+    (c.make_site-site.ensures.volume n note (subst (λ e. UpNoted n note e) (sym c.replace.ensures.value ∙ c.in-Up.is) it))

@@ -1,0 +1,5 @@
+-- The disks with which the account begins.
+use Rattle.vx_grouped.proofs.site_leaving.deport_watched.Given as goal
+
+abbrev pub ghosts-deport_from : goal.ghosts-deport_from
+ghosts-deport_from g a = record { first = g.R.Shelf.meaning a.group.shelf }

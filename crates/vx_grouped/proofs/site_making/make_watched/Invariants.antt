@@ -1,0 +1,5 @@
+-- The disks with which the account begins.
+use Rattle.vx_grouped.proofs.site_making.make_watched.Given as goal
+
+abbrev pub ghosts-make_from : goal.ghosts-make_from
+ghosts-make_from g a = record { first = g.R.Shelf.meaning a.group.shelf }

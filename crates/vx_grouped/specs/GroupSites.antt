@@ -1,0 +1,123 @@
+-- What the disks of a site with a group of disks, and no replicated volume group, stand for.
+use Rattle.std.specs.Prelude.{◌≡◌, ℕ, ◌+◌, ◌/◌, ◌%◌, ◌<◌, ◌≤◌, [], Option, Some, None, IsTrue, IsFalse}
+use Rattle.vx_model.specs.declared.site.Role.TheVariants.{Primary}
+use Rattle.vx_model.specs.declared.site.SiteState.TheVariants.{Bare, Deported as IsDeported}
+use Rattle.vx_disk.specs.Shelf.{Meaning}
+use Rattle.vx_disk.specs.declared.shelf.Shelf.{Ghosts}
+use Rattle.vx_config.specs.declared.config.Config.{Config}
+use Rattle.vx_history.specs.Groups.{GroupNode}
+use Rattle.vx_history.specs.Steps.{burned, crashed}
+use Rattle.vx_history.specs.World.{Node, NoFuse}
+use Rattle.vx_group.specs.declared.group_core.GroupCore.{GroupCore}
+use Rattle.vx_watched.specs.Empty.{no_shelf}
+use Rattle.vx_grouped.specs.Away.{IsAwayAt, IsDeportedAt}
+use Rattle.vx_grouped.specs.GroupNotes.{IsGroupAt, IsGroupCut}
+use Rattle.vx_grouped.specs.SetFuses.{HasFuse}
+use Rattle.vx_grouped.specs.declared.group_site.GroupSite.{GroupSite}
+use Rattle.vx_grouped.specs.declared.group_site.GroupSite.TheVariants.{Up, Deported, Down, Marked, Gone}
+
+-- a site without a replicated volume group: a primary with no volume of one and no write, which nothing halts
+pub record HasNoRvg (n : Node) : Type 0 where
+  pub role : n.role ≡ Primary
+  pub volumes : n.volumes ≡ []
+  pub log : n.log ≡ []
+  pub safe : n.safe ≡ 0
+  pub running : n.halted ≡ None
+
+-- a site that notes this of its group
+pub record IsNoted (n : Node) (note : GroupNode) : Type 0 where
+  pub is : n.group ≡ Some note
+  pub none : HasNoRvg n
+
+-- a site with this note, behind calls on its disks
+abbrev pub with_note : GroupNode → Node → Node
+with_note note n = record n { group = Some note; fuse = burned n.fuse }
+
+-- a site with this note whose group was just deported
+abbrev pub deported_with : GroupNode → Node → Node
+deported_with note n = record (crashed (with_note note n) 0) { state = IsDeported; fuse = burned n.fuse }
+
+-- a site whose group is up
+pub record GroupUp (n : Node) (note : GroupNode) (core : GroupCore) (m : Meaning) : Type 0 where
+  pub noted : IsNoted n note
+  pub fuse : HasFuse n.fuse m
+  pub at : IsGroupAt n note core m
+
+-- disks that are down and have no fuse
+pub record AreStopped (m : Meaning) : Type 0 where
+  pub down : IsTrue m.down
+  pub unarmed : IsFalse m.armed
+
+-- a site whose group crashed
+pub record GroupDown (n : Node) (note : GroupNode) (m : Meaning) : Type 0 where
+  pub noted : IsNoted n note
+  pub unfused : n.fuse ≡ NoFuse
+  pub stopped : AreStopped m
+  pub away : IsAwayAt n note m
+
+-- a site whose group was deported: its disks are up, and keep their fuse
+pub record GroupAway (n : Node) (note : GroupNode) (m : Meaning) : Type 0 where
+  pub noted : IsNoted n note
+  pub up : IsTrue m.down → ⊥
+  pub fuse : HasFuse n.fuse m
+  pub away : IsDeportedAt n note m
+
+-- the disks of a bare site, on which labels and headers of a group may stand
+pub record AreMarked (n : Node) (m : Meaning) : Type 0 where
+  pub state : n.state ≡ Bare
+  pub units : m.units ≡ n.disks
+  pub size : (u : ℕ) → u < n.disks → m.size u ≡ n.blocks
+  pub unfused : n.fuse ≡ NoFuse
+  pub up : IsFalse m.down
+  pub unarmed : IsFalse m.armed
+
+-- a site whose fuse ran out: its disks are down, and the group over them is not yet let go
+pub record GroupFallen (n : Node) (note : GroupNode) (core : GroupCore) (m : Meaning) : Type 0 where
+  pub noted : IsNoted n note
+  pub cut : IsGroupCut n note core m
+
+-- so many bytes from this block of a volume on: whole blocks, which lie in the volume that is noted
+pub record FitsPlain (note : GroupNode) (vol block count : ℕ) : Type 0 where
+  pub some : 0 < count
+  pub whole : count % 512 ≡ 0
+  pub within : block + count / 512 ≤ note.bytes.size vol
+
+module _ {R : Type 0} {g : Ghosts R} where
+  -- its disks
+  abbrev pub site_disks : GroupSite R g → Meaning
+  site_disks (Up group) = g.meaning group.shelf
+  site_disks (Deported rack) = g.meaning rack
+  site_disks (Down rack) = g.meaning rack
+  site_disks (Marked rack) = g.meaning rack
+  site_disks Gone = no_shelf
+
+  -- the configuration of a group that is up
+  abbrev pub site_config : GroupSite R g → Option Config
+  site_config (Up group) = Some group.core.inner.config
+  site_config other = None
+
+  -- the group is up
+  abbrev pub UpNoted : Node → GroupNode → GroupSite R g → Type 0
+  UpNoted n note (Up group) = GroupUp n note group.core (g.meaning group.shelf)
+  UpNoted n note other = ⊥
+
+  -- it is up, and its disks are down
+  abbrev pub CutNoted : Node → GroupNode → GroupSite R g → Type 0
+  CutNoted n note (Up group) = GroupFallen n note group.core (g.meaning group.shelf)
+  CutNoted n note other = ⊥
+
+  abbrev pub DownNoted : Node → GroupNode → GroupSite R g → Type 0
+  DownNoted n note (Down rack) = GroupDown n note (g.meaning rack)
+  DownNoted n note other = ⊥
+
+  abbrev pub AwayNoted : Node → GroupNode → GroupSite R g → Type 0
+  AwayNoted n note (Deported rack) = GroupAway n note (g.meaning rack)
+  AwayNoted n note other = ⊥
+
+  -- the disks of a site that has a group, or on which one was begun
+  abbrev pub GroupSiteStands : Node → GroupSite R g → Type 0
+  GroupSiteStands n (Up group) = (note : GroupNode) × GroupUp n note group.core (g.meaning group.shelf)
+  GroupSiteStands n (Deported rack) = (note : GroupNode) × GroupAway n note (g.meaning rack)
+  GroupSiteStands n (Down rack) = (note : GroupNode) × GroupDown n note (g.meaning rack)
+  GroupSiteStands n (Marked rack) = AreMarked n (g.meaning rack)
+  GroupSiteStands n Gone = ⊥

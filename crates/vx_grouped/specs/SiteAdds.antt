@@ -1,0 +1,43 @@
+-- How a volume that is made leaves the disks of a site with a group.
+use Rattle.std.specs.Prelude.{◌≡◌, ℕ, true, List, Option, Some, None, Result, Ok, Err, OnOk}
+use Rattle.vx_model.specs.declared.errors.Stop.{Stop}
+use Rattle.vx_model.specs.declared.errors.Stop.TheVariants.{No as Refused, OutOfMemory}
+use Rattle.vx_model.specs.declared.no.No.{No}
+use Rattle.vx_disk.specs.Shelf.{Meaning}
+use Rattle.vx_disk.specs.declared.shelf.Shelf.{Ghosts}
+use Rattle.vx_history.specs.Groups.{GroupNode}
+use Rattle.vx_history.specs.World.{Node}
+use Rattle.vx_layout.specs.declared.shape.Shape.{Shape}
+use Rattle.vx_group.specs.Makes.{MakeEnds, VolumeMade, make_refusal}
+use Rattle.vx_group.specs.declared.group_core.GroupCore.{GroupCore}
+use Rattle.vx_grouped.specs.Added.{VolumeLeaves, note_added}
+use Rattle.vx_grouped.specs.GroupNotes.{IsGroupAt}
+use Rattle.vx_grouped.specs.GroupSites.{UpNoted, with_note}
+use Rattle.vx_grouped.specs.NoteChanges.{NoteSettles}
+use Rattle.vx_grouped.specs.SiteEnds.{SiteCalled, burned_site}
+use Rattle.vx_grouped.specs.declared.group_site.GroupSite.{GroupSite}
+use Rattle.vx_grouped.specs.declared.group_site.GroupSite.TheVariants.{Up}
+
+-- a volume that is made, by the parts of the group
+pub record MakesVolume (name : List ℕ) (want : Shape) (c : GroupCore) (m : Meaning) (d : GroupCore) (m' : Meaning) (r : Result ℕ Stop) : Type 0 where
+  pub refused : (no : No) → make_refusal c.inner.config name want ≡ Some no → r ≡ Err (Refused no)
+  pub leaves : (n : Node) (note : GroupNode) → IsGroupAt n note c m → VolumeLeaves n note want d m' r
+  pub ends : make_refusal c.inner.config name want ≡ None → MakeEnds name want c.inner d.inner m m' r
+  pub trust : OnOk r (c.inner.committed ≡ true → d.inner.committed ≡ true)
+
+module _ {R : Type 0} {g : Ghosts R} where
+  -- A volume is made, which begins as zeros; else each volume has what it had. A refusal but 6 and 7 has changed nothing, nor has want of memory.
+  abbrev pub SiteAdded : Node → GroupNode → Shape → GroupSite R g → GroupSite R g → Result ℕ Stop → Type 0
+  SiteAdded n note want old new (Ok vol) = (next : GroupNode) × NoteSettles note next × UpNoted (with_note (note_added vol want.blocks next) n) (note_added vol want.blocks next) new
+  SiteAdded n note want old new (Err (Refused why)) = SiteCalled {T = ℕ} n note old new (Err (Refused why))
+  SiteAdded n note want old new (Err OutOfMemory) = UpNoted (burned_site n) note new
+
+  -- the first test of a volume that refuses it
+  abbrev pub refuses_volume : GroupSite R g → List ℕ → Shape → Option No
+  refuses_volume (Up group) name want = make_refusal group.core.inner.config name want
+  refuses_volume other name want = None
+
+  -- the volume stands behind those of before, in the place that was found for it
+  abbrev pub VolumeIn : List ℕ → Shape → ℕ → GroupSite R g → GroupSite R g → Type 0
+  VolumeIn name want vol (Up group) (Up new) = VolumeMade name want vol group.core.inner new.core.inner (g.meaning new.shelf)
+  VolumeIn name want vol old new = ⊥

@@ -1,0 +1,96 @@
+-- How calls leave the disks of a site with a group.
+use Rattle.std.specs.Prelude.{◌≡◌, ℕ, true, false, List, Bool, Option, None, Result, Ok, Err}
+use Rattle.vx_model.specs.Content.{Write}
+use Rattle.vx_model.specs.declared.errors.Stop.{Stop}
+use Rattle.vx_model.specs.declared.errors.Stop.TheVariants.{No as Refused, OutOfMemory}
+use Rattle.vx_model.specs.declared.no.No.{No}
+use Rattle.vx_model.specs.declared.no.No.TheVariants.{Device, Down as IsOff}
+use Rattle.vx_disk.specs.Causes.{OnDisks}
+use Rattle.vx_disk.specs.Counts.{Rose}
+use Rattle.vx_disk.specs.Disks.{Crashed}
+use Rattle.vx_disk.specs.Racks.{Stopped}
+use Rattle.vx_disk.specs.declared.shelf.Shelf.{Ghosts}
+use Rattle.vx_history.specs.Groups.{GroupNode}
+use Rattle.vx_history.specs.Steps.{burned, crashed}
+use Rattle.vx_history.specs.Stops.{IsFused}
+use Rattle.vx_history.specs.World.{Node}
+use Rattle.vx_volume.specs.Plexes.{active}
+use Rattle.vx_group.specs.Attaches.{att_refusal, copied_regions}
+use Rattle.vx_group.specs.Dets.{det_refusal}
+use Rattle.vx_grouped.specs.GroupSites.{AwayNoted, CutNoted, DownNoted, GroupSiteStands, UpNoted, deported_with, site_disks, with_note}
+use Rattle.vx_grouped.specs.NoteChanges.{NoteDeports, NoteSettles, NoteUnsettles}
+use Rattle.vx_grouped.specs.Plain.{ReadsPlain, note_cut, note_doubt, note_write}
+use Rattle.vx_grouped.specs.declared.group_site.GroupSite.{GroupSite}
+use Rattle.vx_grouped.specs.declared.group_site.GroupSite.TheVariants.{Up}
+
+-- a site whose disks may have been written and flushed
+abbrev pub burned_site : Node → Node
+burned_site n = record n { fuse = burned n.fuse }
+
+-- whether it says that the disks are down
+abbrev pub answers_down : No → Bool
+answers_down IsOff = true
+answers_down other = false
+
+abbrev pub stops_down : Stop → Bool
+stops_down (Refused IsOff) = true
+stops_down other = false
+
+module _ {R : Type 0} {g : Ghosts R} where
+  -- whatever the site is noted as, it still is
+  pub record StaysAlike (old new : GroupSite R g) : Type 0 where
+    pub up : (n : Node) (note : GroupNode) → UpNoted n note old → UpNoted n note new
+    pub cut : (n : Node) (note : GroupNode) → CutNoted n note old → CutNoted n note new
+    pub stands : (n : Node) → GroupSiteStands n old → GroupSiteStands n new
+
+  -- the disks crashed with this pick, or nothing was done to them
+  abbrev pub MayStop : ℕ → GroupSite R g → GroupSite R g → Type 0
+  MayStop pick (Up group) new = Stopped (g.meaning group.shelf) (site_disks new) × OnDisks (g.meaning group.shelf).disks (site_disks new).disks (Crashed (g.meaning group.shelf).size pick)
+  MayStop pick old new = new ≡ old
+
+  -- A write to a volume: done, its blocks have what was written. Else a disk failed, and each of them has that or what it had; or the fuse ran
+  -- out, and so it is behind the crash. No other refusal comes.
+  abbrev pub PlainWrote : Node → GroupNode → Write → GroupSite R g → GroupSite R g → Result (Unit {0}) No → Type 0
+  PlainWrote n note x old new (Ok done) = (next : GroupNode) × NoteSettles note next × UpNoted (with_note (note_write x next) n) (note_write x next) new
+  PlainWrote n note x old new (Err (Device disk)) =
+      (next : GroupNode) × NoteUnsettles note next × UpNoted (with_note (note_doubt x next) n) (note_doubt x next) new × Rose ((site_disks old).disk_faults disk) ((site_disks new).disk_faults disk)
+  PlainWrote n note x old new (Err IsOff) = (next : GroupNode) × NoteUnsettles note next × DownNoted (crashed (with_note (note_cut x next) n) 0) (note_cut x next) new × IsFused n.fuse
+  PlainWrote n note x old new (Err other) = ⊥
+
+  -- a read of a volume: of each block a value that it may have, or a disk failed
+  abbrev pub PlainRead : Node → GroupNode → ℕ → ℕ → List ℕ → GroupSite R g → GroupSite R g → Result (Unit {0}) No → Type 0
+  PlainRead n note vol block bytes old new (Ok done) = ReadsPlain note (site_disks old) vol block bytes × UpNoted (burned_site n) note new
+  PlainRead n note vol block bytes old new (Err (Device disk)) = UpNoted (burned_site n) note new × Rose ((site_disks old).disk_faults disk) ((site_disks new).disk_faults disk)
+  PlainRead n note vol block bytes old new (Err other) = ⊥
+
+  -- A call that writes to no volume: each has what it had. A refusal but 6 and 7 has changed nothing, and memory suffices.
+  abbrev pub SiteCalled : {T : Type 0} → Node → GroupNode → GroupSite R g → GroupSite R g → Result T Stop → Type 0
+  SiteCalled n note old new (Ok done) = (next : GroupNode) × NoteSettles note next × UpNoted (with_note next n) next new
+  SiteCalled n note old new (Err (Refused (Device disk))) = (next : GroupNode) × NoteUnsettles note next × UpNoted (with_note next n) next new × Rose ((site_disks old).disk_faults disk) ((site_disks new).disk_faults disk)
+  SiteCalled n note old new (Err (Refused IsOff)) = (next : GroupNode) × NoteUnsettles note next × DownNoted (crashed (with_note next n) 0) next new × IsFused n.fuse
+  SiteCalled n note old new (Err (Refused other)) = UpNoted (burned_site n) note new
+  SiteCalled n note old new (Err OutOfMemory) = ⊥
+
+  -- a deport: done, the disks are by themselves, and each volume has on them what it had
+  abbrev pub SiteDeported : Node → GroupNode → GroupSite R g → GroupSite R g → Result (Unit {0}) Stop → Type 0
+  SiteDeported n note old new (Ok done) = (next : GroupNode) × NoteDeports note next × AwayNoted (deported_with next n) next new
+  SiteDeported n note old new (Err stop) = SiteCalled {T = Unit {0}} n note old new (Err stop)
+
+  -- the first test of a detach, and of an attach, that refuses it
+  abbrev pub refuses_det : GroupSite R g → ℕ → ℕ → Option No
+  refuses_det (Up group) vol plex = det_refusal group.core.inner.config vol plex
+  refuses_det other vol plex = None
+
+  abbrev pub refuses_att : GroupSite R g → ℕ → ℕ → Option No
+  refuses_att (Up group) vol plex = att_refusal group.core.inner.config vol plex
+  refuses_att other vol plex = None
+
+  -- whether a plex of a group that is up is ACTIVE
+  abbrev pub is_plex_on : GroupSite R g → ℕ → ℕ → Bool
+  is_plex_on (Up group) vol plex = active group.core.inner.config vol plex
+  is_plex_on other vol plex = false
+
+  -- as many regions as are copied to a plex of the volume
+  abbrev pub RegionsOf : GroupSite R g → ℕ → ℕ → Type 0
+  RegionsOf (Up group) vol count = count ≡ copied_regions group.core.inner.config vol
+  RegionsOf other vol count = ⊥

@@ -1,0 +1,93 @@
+// The disks of a site that has a group of disks, and no replicated volume group.
+ghost use Rattle.std.specs.Prelude.{◌≡◌, ◌≢◌, ◌<◌, ℕ, Some, option_copied};
+ghost use Rattle.vx_disk.specs.Causes.{OnDisks, WithDisks};
+ghost use Rattle.vx_disk.specs.Disks.{Crashed, SameBlocks, Untouched};
+ghost use Rattle.vx_history.specs.Groups.{GroupNode};
+ghost use Rattle.vx_history.specs.Steps.{crashed};
+ghost use Rattle.vx_history.specs.World.{FuseSet, Node};
+
+use crate::leaving::crash_group;
+use vx_config::Config;
+use vx_disk::Rack;
+use vx_group::Group;
+
+/// The rack of a site number, under a group of its disks or by itself.
+#[derive(Drop)]
+pub enum GroupSite<R: Rack> {
+    Up(Group<R>),
+    /// The disks of a group that was deported.
+    Deported(R),
+    /// The disks of a group that crashed.
+    Down(R),
+    /// The disks of a bare site on which a group was begun, and not finished.
+    Marked(R),
+    /// It was taken out, and comes back within the same call.
+    Gone,
+}
+
+impl<R: Rack> GroupSite<R> {
+    ghost use Rattle.vx_grouped.specs.GroupSites.{CutNoted, DownNoted, GroupSiteStands, UpNoted, site_config, site_disks};
+    ghost use Rattle.vx_grouped.specs.SiteEnds.{MayStop, StaysAlike};
+
+    /// How many disks it has.
+    pub fn disks(&self) -> u32
+        ensures { result ≡ (site_disks self.now).units }
+    {
+        match self {
+            GroupSite::Up(group) => group.disks(),
+            GroupSite::Deported(rack) | GroupSite::Down(rack) | GroupSite::Marked(rack) => {
+                rack.units()
+            }
+            GroupSite::Gone => 0,
+        }
+    }
+
+    /// The configuration of a group that is up.
+    pub fn config(&self) -> Option<&Config>
+        ensures { option_copied result ≡ site_config self.now }
+    {
+        match self {
+            GroupSite::Up(group) => Some(group.config()),
+            GroupSite::Deported(_) | GroupSite::Down(_) | GroupSite::Marked(_) | GroupSite::Gone =>
+                None,
+        }
+    }
+
+    /// Makes each later call on a disk fail, or ends that. Nothing else changes.
+    pub fn fail(&mut self, disk: u64, on: bool)
+        ensures stands { StaysAlike self.old self.new }
+        ensures asked { disk < (site_disks self.old).units → WithDisks (site_disks self.old).disks (site_disks self.new).disks (λ o n. Untouched o n × (n.failing disk ≡ on) × ((u : ℕ) → u ≢ disk → n.failing u ≡ o.failing u)) }
+    {
+        match self {
+            GroupSite::Up(group) if disk < group.disks() as u64 => group.fail(disk as u32, on),
+            GroupSite::Deported(rack) if disk < rack.units() as u64 => rack.fail(disk as u32, on),
+            GroupSite::Down(rack) if disk < rack.units() as u64 => rack.fail(disk as u32, on),
+            GroupSite::Marked(rack) if disk < rack.units() as u64 => rack.fail(disk as u32, on),
+            _ => {}
+        }
+    }
+
+    /// Sets the fuse of a site that is up: so many writes and flushes pass, and the next is a crash.
+    pub fn fuse(&mut self, calls: u64, pick: u64)
+        ensures fused { (n : Node) (note : GroupNode) → UpNoted n note self.old → UpNoted (record n { fuse = FuseSet calls }) note self.new }
+        ensures asked { (n : Node) (note : GroupNode) → UpNoted n note self.old → OnDisks (site_disks self.old).disks (site_disks self.new).disks (λ o n. SameBlocks o n × (n.fuse ≡ Some (calls, pick))) }
+    {
+        match self {
+            GroupSite::Up(group) => group.fuse(calls, pick),
+            _ => {}
+        }
+    }
+
+    /// Crashes a site that is up: of the loose blocks each takes its latest value where its bit in `pick` is 1.
+    pub fn crash(self, pick: u64) -> GroupSite<R>
+        ensures crashed { (n : Node) (note : GroupNode) → UpNoted n note self → DownNoted (crashed n 0) note result }
+        ensures cut { (n : Node) (note : GroupNode) → CutNoted n note self → DownNoted (crashed n 0) note result }
+        ensures asked { (n : Node) (note : GroupNode) → UpNoted n note self → OnDisks (site_disks self).disks (site_disks result).disks (Crashed (site_disks self).size pick) }
+        ensures stopped { MayStop pick self result }
+    {
+        match self {
+            GroupSite::Up(group) => GroupSite::Down(crash_group(group, pick)),
+            other => other,
+        }
+    }
+}

@@ -1,0 +1,113 @@
+// A volume that is made in a site's group.
+ghost use Rattle.std.specs.Prelude.{◌≡◌, ◌<◌, Err, IfOk, IfSome, IsTrue, Some};
+ghost use Rattle.vx_history.specs.Groups.{GroupNode};
+ghost use Rattle.vx_history.specs.World.{Node};
+ghost use Rattle.vx_model.specs.declared.errors.Stop.TheVariants.{No as Refused};
+ghost use Rattle.vx_model.specs.declared.no.No.{No as NoValue};
+ghost use Rattle.vx_grouped.specs.GroupSites.{GroupUp, UpNoted, site_disks};
+ghost use Rattle.vx_grouped.specs.SiteAdds.{MakesVolume, SiteAdded, VolumeIn, refuses_volume};
+ghost use Rattle.vx_watched.specs.Since.{CalledSince};
+
+use crate::GroupSite;
+use crate::leaving::crash_group;
+use crate::making::make_volume_of;
+use crate::site_plexes::is_down_stop;
+use std::alloc::Global;
+use std::marker::Brand;
+use std::mem;
+use vx_disk::{Rack, Shelf};
+use vx_group::Group;
+use vx_layout::Shape;
+use vx_model::{Name, No, Stop};
+use vx_watched::{Begun, Watched};
+
+fn make_from<B: Begun, R: Rack>(
+    alloc: Global,
+    group: Group<R>,
+    name: &Name,
+    want: &Shape,
+) -> (Group<R>, Result<u32, Stop>)
+    requires up { IsTrue (R.meaning group.shelf).down → ⊥ }
+    requires prefer { IfSome want.now.prefer (λ p. p < want.now.mirrors) }
+    requires since { CalledSince B.first (R.meaning group.shelf) }
+    ensures works { MakesVolume name.now want.now group.core (R.meaning group.shelf) result.0.core (R.meaning result.0.shelf) result.1 }
+    ensures since { CalledSince B.first (R.meaning result.0.shelf) }
+{
+    let (rack, core) = group.apart();
+    let watched = Watched::<R, B>::over(rack);
+    let mut group = Group::together(watched, core);
+    let answer = make_volume_of(alloc, &mut group, name, want);
+    let (watched, core) = group.apart();
+    let rack = watched.into_shelf();
+    (Group::together(rack, core), answer)
+}
+
+// Makes a volume in a group that is up.
+fn make_watched<R: Rack>(
+    alloc: Global,
+    group: Group<R>,
+    name: &Name,
+    want: &Shape,
+) -> (Group<R>, Result<u32, Stop>)
+    requires up { IsTrue (R.meaning group.shelf).down → ⊥ }
+    requires prefer { IfSome want.now.prefer (λ p. p < want.now.mirrors) }
+    ensures works { MakesVolume name.now want.now group.core (R.meaning group.shelf) result.0.core (R.meaning result.0.shelf) result.1 }
+    ensures since { CalledSince (R.meaning group.shelf) (R.meaning result.0.shelf) }
+{
+    make_from::<Brand, R>(alloc, group, name, want)
+}
+
+// Makes a volume. A site whose fuse runs out crashes.
+fn make_site<R: Rack>(
+    alloc: Global,
+    group: Group<R>,
+    name: &Name,
+    want: &Shape,
+) -> (GroupSite<R>, Result<u32, Stop>)
+    requires prefer { IfSome want.now.prefer (λ p. p < want.now.mirrors) }
+    ensures made { (n : Node) (note : GroupNode) → GroupUp n note group.core (R.meaning group.shelf) → SiteAdded n note want.now (GroupSite.Up group) result.0 result.1 }
+    ensures refused { (n : Node) (note : GroupNode) (no : NoValue) → GroupUp n note group.core (R.meaning group.shelf) → refuses_volume (GroupSite.Up group) name.now want.now ≡ Some no → result.1 ≡ Err (Refused no) }
+    ensures volume { (n : Node) (note : GroupNode) → GroupUp n note group.core (R.meaning group.shelf) → IfOk result.1 (λ vol. VolumeIn name.now want.now vol (GroupSite.Up group) result.0) }
+    ensures since { CalledSince (R.meaning group.shelf) (site_disks result.0) }
+{
+    if group.is_down() {
+        return (GroupSite::Up(group), Err(Stop::No(No::Role)));
+    }
+    let (group, answer) = make_watched(alloc, group, name, want);
+    match answer {
+        Ok(vol) => (GroupSite::Up(group), Ok(vol)),
+        Err(stop) => {
+            if is_down_stop(&stop) {
+                return (GroupSite::Down(crash_group(group, u64::MAX)), Err(stop));
+            }
+            (GroupSite::Up(group), Err(stop))
+        }
+    }
+}
+
+impl<R: Rack> GroupSite<R> {
+    /// Makes a volume of a shape in the group, which begins as zeros, and answers its number. Each other volume has what it had. A site whose
+    /// fuse runs out crashes.
+    ///
+    /// Answers 2, 19, 4 and 11 as the group does, and then nothing has changed, nor has it where memory runs out; else 7 only where the count of
+    /// the disk that it names rose, and 6 only where the fuse ran out.
+    pub fn make_volume(&mut self, alloc: Global, name: &Name, want: &Shape) -> Result<u32, Stop>
+        requires prefer { IfSome want.now.prefer (λ p. p < want.now.mirrors) }
+        ensures made { (n : Node) (note : GroupNode) → UpNoted n note self.old → SiteAdded n note want.now self.old self.new result }
+        ensures refused { (n : Node) (note : GroupNode) (no : NoValue) → UpNoted n note self.old → refuses_volume self.old name.now want.now ≡ Some no → result ≡ Err (Refused no) }
+        ensures volume { (n : Node) (note : GroupNode) → UpNoted n note self.old → IfOk result (λ vol. VolumeIn name.now want.now vol self.old self.new) }
+        ensures since { CalledSince (site_disks self.old) (site_disks self.new) }
+    {
+        match mem::replace(self, GroupSite::Gone) {
+            GroupSite::Up(group) => {
+                let (site, answer) = make_site(alloc, group, name, want);
+                *self = site;
+                answer
+            }
+            other => {
+                *self = other;
+                Err(Stop::No(No::Role))
+            }
+        }
+    }
+}
