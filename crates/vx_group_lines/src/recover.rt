@@ -1,6 +1,6 @@
 // The line that recovers a site whose disks are a group.
 use crate::noting::{group_stopped, note_up};
-use crate::views::view_at;
+use crate::views::{ViewRoom, view_at};
 use std::alloc::Global;
 use std::mem;
 use vx_disk::Rack;
@@ -9,7 +9,7 @@ use vx_events::Said;
 use vx_model::limits::BLOCK;
 use vx_model::{Name, OutOfMemory, SiteState, Stop};
 use vx_order::{SiteFacts, VolumeRoom};
-use vx_report::{GroupViewRoom, Kept};
+use vx_report::Kept;
 use vx_yard::Yard;
 use vx_yard::falling::go_down;
 
@@ -17,14 +17,14 @@ use vx_yard::falling::go_down;
 #[derive(Drop)]
 struct RiseRoom {
     volumes: VolumeRoom,
-    views: GroupViewRoom,
+    views: ViewRoom,
 }
 
 impl RiseRoom {
     fn new(alloc: Global) -> Result<RiseRoom, OutOfMemory> {
         Ok(RiseRoom {
             volumes: VolumeRoom::new(alloc)?,
-            views: GroupViewRoom::new(alloc)?,
+            views: ViewRoom::new(alloc)?,
         })
     }
 }

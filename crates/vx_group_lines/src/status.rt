@@ -1,10 +1,9 @@
 // The line that shows the status of a disk group.
-use crate::views::view_at;
+use crate::views::{ViewRoom, view_at};
 use std::alloc::Global;
 use vx_disk::Rack;
 use vx_events::Said;
 use vx_model::{Name, OutOfMemory};
-use vx_report::GroupViewRoom;
 use vx_yard::Yard;
 
 /// The status of a site whose disks are a group.
@@ -13,7 +12,7 @@ pub fn status_line<R: Rack>(
     alloc: Global,
     name: &Name,
 ) -> Result<Said, OutOfMemory> {
-    let room = GroupViewRoom::new(alloc)?;
+    let room = ViewRoom::new(alloc)?;
     let site = yard.site_of(name);
     Ok(Said::Shown(view_at(yard, alloc, site, room)))
 }

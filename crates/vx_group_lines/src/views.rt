@@ -2,9 +2,11 @@
 use std::alloc::Global;
 use vx_config::{Config, DiskEntry, VolumeEntry};
 use vx_disk::Rack;
-use vx_model::PlexState;
 use vx_model::limits::MOST_PLEXES;
-use vx_report::{DiskViews, GroupViewRoom, LinkViews, SiteView, VolumeHead, VolumeViews};
+use vx_model::{OutOfMemory, PlexState};
+use vx_report::{
+    DiskViewRoom, DiskViews, LinkViews, SiteView, VolumeHead, VolumeViewRoom, VolumeViews,
+};
 use vx_yard::Yard;
 
 fn head_of(entry: &VolumeEntry) -> VolumeHead {
@@ -27,32 +29,55 @@ fn states_of(entry: &VolumeEntry) -> [PlexState; MOST_PLEXES] {
     states
 }
 
-fn push_volume(room: &mut GroupViewRoom, entry: &VolumeEntry) {
+/// What a status needs of memory.
+#[derive(Drop)]
+pub(crate) struct ViewRoom {
+    disks: DiskViewRoom,
+    volumes: VolumeViewRoom,
+}
+
+impl ViewRoom {
+    pub(crate) fn new(alloc: Global) -> Result<ViewRoom, OutOfMemory> {
+        Ok(ViewRoom {
+            disks: DiskViewRoom::new(alloc)?,
+            volumes: VolumeViewRoom::new(alloc)?,
+        })
+    }
+}
+
+fn push_volume(room: &mut VolumeViewRoom, entry: &VolumeEntry) {
     let states = states_of(entry);
     let count = entry.plexes.as_slice().len().min(MOST_PLEXES);
-    room.push_volume(head_of(entry), &states[..count]);
+    room.push(head_of(entry), &states[..count]);
 }
 
-fn push_disks(room: &mut GroupViewRoom, disks: &[DiskEntry]) {
+// The disks of a group, each true where it is held as good.
+fn disks_shown(room: DiskViewRoom, disks: &[DiskEntry]) -> DiskViews {
+    let mut room = room;
     for disk in disks {
-        room.push_disk(!disk.failed);
+        room.push(!disk.failed);
     }
+    room.into_views()
 }
 
-fn push_volumes(room: &mut GroupViewRoom, volumes: &[VolumeEntry]) {
+// The volumes of a group.
+fn volumes_shown(room: VolumeViewRoom, volumes: &[VolumeEntry]) -> VolumeViews {
+    let mut room = room;
     for entry in volumes {
-        push_volume(room, entry);
+        push_volume(&mut room, entry);
     }
+    room.into_views()
 }
 
 // The disks and volumes of a configuration; none where there is no configuration.
-fn views_of(config: Option<&Config>, room: GroupViewRoom) -> (DiskViews, VolumeViews) {
-    let mut room = room;
-    if let Some(config) = config {
-        push_disks(&mut room, config.disks.as_slice());
-        push_volumes(&mut room, config.volumes.as_slice());
+fn views_of(config: Option<&Config>, room: ViewRoom) -> (DiskViews, VolumeViews) {
+    match config {
+        Some(config) => (
+            disks_shown(room.disks, config.disks.as_slice()),
+            volumes_shown(room.volumes, config.volumes.as_slice()),
+        ),
+        None => (room.disks.into_views(), room.volumes.into_views()),
     }
-    room.into_views()
 }
 
 /// How a site whose disks are a group stands. Only one that is up shows disks and volumes.
@@ -60,7 +85,7 @@ pub(crate) fn view_at<R: Rack>(
     yard: &Yard<R>,
     alloc: Global,
     site: usize,
-    room: GroupViewRoom,
+    room: ViewRoom,
 ) -> SiteView {
     let (disks, volumes) = views_of(yard.disk_sets[site].config(), room);
     SiteView {
