@@ -1,14 +1,17 @@
 // The racks of the disk sets, as they come back.
 ghost use Rattle.std.specs.Prelude.{◌≡◌, ◌≤◌, ◌<◌, ◌++◌, [], map, vec_len};
 ghost use Rattle.std.specs.Vec.{vec_capacity};
-ghost use Rattle.vx_yard.specs.Racks.{rack_in, racks_in};
+ghost use Rattle.vx_yard.specs.Racks.{rack_in, racks_in, site_rack};
 
 use crate::DiskSet;
 use vx_disk::Rack;
 use vx_grouped::GroupSite;
 
 // Adds the rack of a site whose disks are a group.
-fn give_site<R: Rack>(racks: &mut Vec<R>, site: GroupSite<R>) {
+fn give_site<R: Rack>(racks: &mut Vec<R>, site: GroupSite<R>)
+    ensures items { vec_len racks.old < vec_capacity racks.old → racks.new.items ≡ racks.old.items ++ site_rack site }
+    ensures room { vec_capacity racks.old ≤ vec_capacity racks.new }
+{
     match site {
         GroupSite::Up(group) => {
             let (rack, _) = group.apart();
