@@ -13,6 +13,7 @@ pub mod LinkTesting
 pub mod LinkWaiting
 pub mod LinkWrites
 pub mod Noting
+pub mod Over
 pub mod Parts
 pub mod Passing
 pub mod Places

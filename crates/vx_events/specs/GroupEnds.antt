@@ -135,8 +135,8 @@ NotFound s note fails NoConfig = (fails ≢ []) ⊎ ((note.config ≡ []) × (co
 NotFound s note fails why = ⊥
 
 -- nothing is known of what the disks hold
-abbrev pub IsUnknown : Type 0 → GroupNode → Type 0
-IsUnknown told note = (told → ⊥) ⊎ (note.loose ≡ true)
+abbrev pub KnowsNothing : Type 0 → GroupNode → Type 0
+KnowsNothing told note = (told → ⊥) ⊎ (note.loose ≡ true)
 
 -- what a line says that found a group of which nothing was known
 abbrev pub SaysFound : Node → ScriptLine → GroupNode → Said → Type 0
@@ -176,9 +176,9 @@ pub data GroupEnds (told : Type 0) (d : Doubted) (line : ScriptLine) (s : ℕ) (
   GroupNotFound : (why : No) → AreOf s fails → BringsUp line → NotFound s (note_at (d.world.nodes s)) fails why → said ≡ Refused why
       → IsLeftOver s line (note_at (d.world.nodes s)) (run_as false d (refused_events (d.world.nodes s) s line)) new → GroupEnds told d line s fails said new
   -- on disks of which nothing is known a group was found, or none
-  FindsGroup : (next : GroupNode) → AreOf s fails → BringsUp line → IsUnknown told (note_at (d.world.nodes s)) → SaysFound (d.world.nodes s) line next said
+  FindsGroup : (next : GroupNode) → AreOf s fails → BringsUp line → KnowsNothing told (note_at (d.world.nodes s)) → SaysFound (d.world.nodes s) line next said
       → IsLeftOver s line next (run_as false d (group_events (d.world.nodes s) s line)) new → GroupEnds told d line s fails said new
-  FindsNoGroup : (next : GroupNode) (why : No) → AreOf s fails → BringsUp line → IsUnknown told (note_at (d.world.nodes s)) → IsNoDevice why
+  FindsNoGroup : (next : GroupNode) (why : No) → AreOf s fails → BringsUp line → KnowsNothing told (note_at (d.world.nodes s)) → IsNoDevice why
       → said ≡ Refused why → IsLeftOver s line next (run_as false d (refused_events (d.world.nodes s) s line)) new → GroupEnds told d line s fails said new
 
 -- the line ended as these events do, in worlds that differ in notes alone

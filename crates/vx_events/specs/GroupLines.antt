@@ -20,7 +20,7 @@ use Rattle.vx_script.specs.declared.line.VolumeMap.{VolumeMap}
 use Rattle.vx_script.specs.declared.line.VolumeMap.TheVariants.{NoMap, Fmr}
 use Rattle.vx_events.specs.Facts.{place_of}
 use Rattle.vx_events.specs.Failing.{is_failing, made_fail}
-use Rattle.vx_events.specs.GroupViews.{noted_facts}
+use Rattle.vx_events.specs.GroupViews.{noted_table}
 
 -- a site whose disks are a group, and that has no replicated volume group
 abbrev pub is_over_group : Node → Bool
@@ -28,13 +28,13 @@ is_over_group n = is_some n.group && eqb (length n.volumes) 0
 
 -- ---- the words of a line
 
-abbrev pub columns_of : Layout → ℕ
-columns_of Concat = 1
-columns_of (Stripe columns width) = columns
+abbrev pub layout_columns : Layout → ℕ
+layout_columns Concat = 1
+layout_columns (Stripe columns width) = columns
 
-abbrev pub width_of : Layout → ℕ
-width_of Concat = 0
-width_of (Stripe columns width) = width
+abbrev pub layout_width : Layout → ℕ
+layout_width Concat = 0
+layout_width (Stripe columns width) = width
 
 abbrev pub has_drl : VolumeLog → Bool
 has_drl NoLog = false
@@ -44,25 +44,25 @@ abbrev pub has_fmr : VolumeMap → Bool
 has_fmr NoMap = false
 has_fmr Fmr = true
 
-abbrev pub first_plex : ReadPolicy → Option ℕ
-first_plex Round = None
-first_plex (Prefer plex) = Some plex
+abbrev pub preferred_plex : ReadPolicy → Option ℕ
+preferred_plex Round = None
+preferred_plex (Prefer plex) = Some plex
 
 -- the volume that a line asks for
 abbrev pub shape_of : (blocks mirrors : ℕ) → Layout → VolumeLog → VolumeMap → ReadPolicy → Shape
 shape_of blocks mirrors layout log map policy = record {
   blocks = blocks;
   mirrors = mirrors;
-  ncol = columns_of layout;
-  width = width_of layout;
+  ncol = layout_columns layout;
+  width = layout_width layout;
   drl = has_drl log;
   fmr = has_fmr map;
-  prefer = first_plex policy;
+  prefer = preferred_plex policy;
 }
 
 -- the number of the volume of this name in the group
 abbrev pub plain_number : GroupNode → List ℕ → ℕ
-plain_number note name = unwrap_or (place_of (noted_facts note) name) 0
+plain_number note name = unwrap_or (place_of (noted_table note) name) 0
 
 -- ---- events
 

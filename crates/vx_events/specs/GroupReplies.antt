@@ -27,17 +27,17 @@ pub record GivesPlain (told : Type 0) (note : GroupNode) (volume start count : �
 
 -- ---- plexes
 
-abbrev pub state_of : Option PlexEntry → Option PlexState
-state_of None = None
-state_of (Some plex) = Some (state_of_plex plex)
+abbrev pub entry_state : Option PlexEntry → Option PlexState
+entry_state None = None
+entry_state (Some plex) = Some (state_of_plex plex)
 
-abbrev pub plex_in : Option VolumeEntry → ℕ → Option PlexState
-plex_in None p = None
-plex_in (Some volume) p = state_of (slice_get volume.plexes p)
+abbrev pub plex_entry_state : Option VolumeEntry → ℕ → Option PlexState
+plex_entry_state None p = None
+plex_entry_state (Some volume) p = entry_state (slice_get volume.plexes p)
 
 -- the state of a plex of a volume, by the note
 abbrev pub plex_state : GroupNode → (volume plex : ℕ) → Option PlexState
-plex_state note v p = plex_in (slice_get (volumes_of (config_of note.config)) v) p
+plex_state note v p = plex_entry_state (slice_get (volumes_of (config_of note.config)) v) p
 
 -- how many regions a volume has
 abbrev pub volume_regions : GroupNode → (volume : ℕ) → ℕ

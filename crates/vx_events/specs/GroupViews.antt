@@ -40,9 +40,9 @@ volume_view v = record { name = v.name; blocks = v.blocks; drl = is_some v.drl; 
 abbrev pub plain_fact : VolumeEntry → VolumeFacts
 plain_fact v = record { name = v.name; blocks = v.blocks; kind = Plain; plexes = length v.plexes }
 
-abbrev pub disks_of : Option Config → List Bool
-disks_of None = []
-disks_of (Some c) = map is_ok c.disks
+abbrev pub config_disks : Option Config → List Bool
+config_disks None = []
+config_disks (Some c) = map is_ok c.disks
 
 abbrev pub volumes_of : Option Config → List VolumeEntry
 volumes_of None = []
@@ -50,15 +50,15 @@ volumes_of (Some c) = c.volumes
 
 -- the disks of a group in order, each true where it is held as good
 abbrev pub noted_disks : GroupNode → List Bool
-noted_disks note = disks_of (config_of note.config)
+noted_disks note = config_disks (config_of note.config)
 
 -- the volumes of a group in order
 abbrev pub noted_volumes : GroupNode → List VolumeView
 noted_volumes note = map volume_view (volumes_of (config_of note.config))
 
 -- and what the tests of a line see of them
-abbrev pub noted_facts : GroupNode → List VolumeFacts
-noted_facts note = map plain_fact (volumes_of (config_of note.config))
+abbrev pub noted_table : GroupNode → List VolumeFacts
+noted_table note = map plain_fact (volumes_of (config_of note.config))
 
 -- only a site that is up shows its disks and its volumes
 abbrev pub shown_up : {A : Type 0} → SiteState → List A → List A

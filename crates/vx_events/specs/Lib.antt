@@ -27,5 +27,6 @@ pub mod Sayings
 pub mod Sent
 pub mod Settles
 pub mod Stamps
+pub mod StepsOver
 pub mod Stopping
 pub mod Views

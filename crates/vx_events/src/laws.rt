@@ -21,6 +21,7 @@ ghost use Rattle.vx_events.specs.Lines.{LineStep, is_of_links};
 ghost use Rattle.vx_events.specs.Lists.{Choice};
 ghost use Rattle.vx_events.specs.Parts.{DonePart, StopsShort, first_part, goes_in_parts};
 ghost use Rattle.vx_events.specs.Plain.{HasNoGroups, IsUnlinked, IsSizedAs};
+ghost use Rattle.vx_events.specs.StepsOver.{MakesNoGroup, StepOver, is_for_group};
 ghost use Rattle.vx_events.specs.Stopping.{StopsBy};
 ghost use Rattle.vx_events.specs.declared.said.Said.{Said};
 
@@ -71,6 +72,17 @@ pub fn lines_are_events()
 pub fn group_lines_are_events()
     ensures { (tells : Bool) (d : Doubted) (line : ScriptLine) (s : ℕ) (fails : Fails) (said : Said) (new : Doubted) → GroupEnds (IsTrue tells) d line s fails said new
         → GroupStops d new }
+{}
+
+/// In a world without groups of disks a line that makes none does what it does there. A line that works on a group, and is refused or not, ends as
+/// events of the world do.
+pub fn steps_over_groups()
+    ensures over { (tells files : Bool) (d : Doubted) (line : ScriptLine) (fails : Fails) (said : Said) (new : Doubted) → HasNoGroups d.world → MakesNoGroup line
+        → LineStep (IsTrue tells) files d line fails said new → StepOver (IsTrue tells) files d line fails said new }
+    ensures plain { (tells files : Bool) (d : Doubted) (line : ScriptLine) (fails : Fails) (said : Said) (new : Doubted) → HasNoGroups d.world → MakesNoGroup line
+        → StepOver (IsTrue tells) files d line fails said new → LineStep (IsTrue tells) files d line fails said new }
+    ensures stops { (tells files : Bool) (d : Doubted) (line : ScriptLine) (fails : Fails) (said : Said) (new : Doubted) → is_for_group d.world line ≡ true
+        → StepOver (IsTrue tells) files d line fails said new → GroupStops d new }
 {}
 
 /// Only of a site over a group may a call fail in a line that is done: where there is none, no call failed in it.
