@@ -1,5 +1,5 @@
 -- Disks of which only the fuse changed, or which of them are made to fail: what stands on them stays.
-use Rattle.std.proofs.Common.{◌≡◌, ◌⊎◌, inl, inr, ℕ, ◌<◌, ◌≤◌, Bool, true, false, IsTrue, IsFalse, List, Option, Some, None, refl, sym, ◌∙◌, ap, subst, arith}
+use Rattle.std.proofs.Common.{◌≡◌, ℕ, true, IsTrue, List, Option, Some, None, refl, sym, ◌∙◌, ap, subst, arith}
 use Rattle.vx_disk.specs.Causes.{OnDisks, WithDisks}
 use Rattle.vx_disk.specs.Disks.{Disks, SameBlocks}
 use Rattle.vx_disk.specs.Racks.{Alike, IsRack}
@@ -13,8 +13,8 @@ use Rattle.vx_group.specs.Stands.{inner_meaning}
 use Rattle.vx_group.specs.declared.group_core.GroupCore.{GroupCore}
 use Rattle.vx_group.proofs.AgainLemmas.{less_can}
 use Rattle.vx_grouped.specs.Away.{AwayLies, IsAwayAt, IsDeportedAt}
-use Rattle.vx_grouped.specs.GroupNotes.{GroupLies, IsGroupAt, noted_config}
-use Rattle.vx_grouped.specs.GroupSites.{AreMarked, AreStopped, GroupAway, GroupDown, GroupFallen, GroupUp, IsNoted}
+use Rattle.vx_grouped.specs.GroupNotes.{GroupLies, noted_config}
+use Rattle.vx_grouped.specs.GroupSites.{AreMarked, AreStopped, GroupAway, GroupDown, GroupFallen, GroupUp}
 use Rattle.vx_grouped.specs.Plain.{HoldsPlain}
 use Rattle.vx_grouped.specs.SetFuses.{HasFuse, LetsPass}
 use Rattle.vx_grouped.proofs.SiteLemmas.{lies_as}

@@ -1,5 +1,5 @@
 -- A volume that is made in a site's group, by its note.
-use Rattle.std.proofs.Common.{◌-◌, length, ◌≡◌, ◌⊎◌, inl, inr, ℕ, Bool, true, false, List, IsTrue, refl, sym, ◌∙◌, ap, subst}
+use Rattle.std.proofs.Common.{◌-◌, length, ◌≡◌, ℕ, Bool, true, false, List, IsTrue, refl, sym, ◌∙◌, ap, subst}
 use Rattle.std.specs.Prelude.{Option, Some, None, Result, Ok, Err, nat_le, nat_lt, not, if◌then◌else◌}
 use Rattle.std.specs.List.{list_any}
 use Rattle.vx_model.specs.declared.errors.Stop.{Stop}
@@ -25,7 +25,7 @@ use Rattle.vx_group.specs.declared.group_core.GroupCore.{GroupCore}
 use Rattle.vx_group.specs.declared.inner.Inner.{Inner}
 use Rattle.vx_group.specs.declared.group.Group.{Group}
 use Rattle.vx_watched.specs.Since.{CalledSince}
-use Rattle.vx_grouped.specs.Added.{VolumeLeaves, note_added}
+use Rattle.vx_grouped.specs.Added.{note_added}
 use Rattle.vx_grouped.specs.Away.{IsAwayAt}
 use Rattle.vx_grouped.specs.GroupNotes.{GroupLies, note_done}
 use Rattle.vx_grouped.specs.GroupSites.{GroupUp}

@@ -1,10 +1,9 @@
 -- Disks of a site's group of which some are made to fail: whatever the site is noted as, it still is.
-use Rattle.std.proofs.Common.{◌≡◌, ◌≢◌, ℕ, ◌<◌, Bool, IsTrue, sym, ◌∙◌, subst}
+use Rattle.std.proofs.Common.{◌≡◌, ◌≢◌, ℕ, Bool, subst}
 use Rattle.vx_disk.specs.Causes.{WithDisks}
 use Rattle.vx_disk.specs.Disks.{Disks, Untouched}
 use Rattle.vx_disk.specs.Racks.{Alike}
 use Rattle.vx_disk.specs.declared.shelf.Shelf.{Ghosts}
-use Rattle.vx_history.specs.Groups.{GroupNode}
 use Rattle.vx_history.specs.World.{Node}
 use Rattle.vx_group.specs.Holding.{wide}
 use Rattle.vx_group.specs.Stands.{inner_meaning}

@@ -1,6 +1,6 @@
 -- Writes and reads of a site's group, by its note.
-use Rattle.std.proofs.Common.{◌≡◌, ℕ, ◌/◌, ◌%◌, ◌<◌, ◌≤◌, true, false, List, length, IsTrue, refl, sym, ◌∙◌, arith}
-use Rattle.std.specs.Prelude.{Result, Ok, Err}
+use Rattle.std.proofs.Common.{◌≡◌, ℕ, true, false, List, IsTrue}
+use Rattle.std.specs.Prelude.{Ok, Err}
 use Rattle.vx_model.specs.Content.{Write}
 use Rattle.vx_model.specs.declared.no.No.{No}
 use Rattle.vx_model.specs.declared.no.No.TheVariants.{Device, Down as IsOff}
@@ -18,7 +18,7 @@ use Rattle.vx_grouped.specs.Away.{IsAwayAt}
 use Rattle.vx_grouped.specs.Ends.{WriteLeaves, plain_write}
 use Rattle.vx_grouped.specs.GroupNotes.{GroupLies, IsGroupAt, note_done, note_refused}
 use Rattle.vx_grouped.specs.GroupSites.{GroupUp}
-use Rattle.vx_grouped.specs.Plain.{ReadsPlain, note_cut, note_doubt, note_write}
+use Rattle.vx_grouped.specs.Plain.{note_cut, note_doubt, note_write}
 use Rattle.vx_grouped.specs.SiteEnds.{PlainRead, PlainWrote, answers_down}
 use Rattle.vx_grouped.specs.Watches.{PlainReads, PlainWrites}
 use Rattle.vx_grouped.specs.declared.group_site.GroupSite.TheVariants.{Up, Down}

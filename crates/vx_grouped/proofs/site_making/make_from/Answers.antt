@@ -1,5 +1,5 @@
 -- A volume that is made over disks with an account.
-use Rattle.std.proofs.Common.{sym, ◌∙◌}
+use Rattle.std.proofs.Common.{◌∙◌}
 use Rattle.vx_grouped.specs.SiteAdds.{MakesVolume}
 use Rattle.vx_grouped.proofs.CarryLemmas.{carried, shelf_of}
 use Rattle.vx_grouped.proofs.site_making.make_from.Goals as goal

@@ -1,16 +1,15 @@
 -- A plex of a site's group that is attached.
-use Rattle.std.proofs.Common.{◌∙◌, ◌-◌, ◌&&◌, ℕ, length, subst, sym}
-use Rattle.std.specs.Prelude.{◌≡◌, Err, nat_le, nat_lt, not}
+use Rattle.std.proofs.Common.{◌∙◌, ◌-◌, ℕ, length, subst, sym}
+use Rattle.std.specs.Prelude.{◌≡◌, Err, nat_le, nat_lt}
 use Rattle.vx_config.specs.Checks.{plexes_of}
 use Rattle.vx_config.specs.Table.{greatest}
 use Rattle.vx_disk.specs.Disks.{Crashed}
 use Rattle.vx_group.specs.Attaches.{att_refusal}
-use Rattle.vx_group.specs.Dets.{any_below, det_refusal, is_other, margin}
-use Rattle.vx_volume.specs.Plexes.{active}
+use Rattle.vx_group.specs.Dets.{margin}
 use Rattle.vx_watched.proofs.SinceLemmas.{since_stop}
 use Rattle.vx_grouped.specs.Watches.{PlexAtts}
 use Rattle.vx_grouped.proofs.CalledLemmas.{called_cut, called_done, called_up, down_by_stop, rose_by}
-use Rattle.vx_grouped.proofs.KeepLemmas.{att_not_device, att_not_down, det_not_device, det_not_down}
+use Rattle.vx_grouped.proofs.KeepLemmas.{att_not_device, att_not_down}
 use Rattle.vx_grouped.proofs.site_plexes.att_site.Goals as goal
 
 pub returns-then-is_down_stop-clause-called : goal.returns-then-is_down_stop-clause-called

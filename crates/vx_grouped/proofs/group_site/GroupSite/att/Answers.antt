@@ -1,8 +1,8 @@
 -- `att`: its refusals, and that the other plexes stay as they were.
 use Rattle.std.proofs.Common.{◌∙◌, sym, ◌≡◌, subst}
-use Rattle.std.specs.Prelude.{OnOk, Some}
+use Rattle.std.specs.Prelude.{Some}
 use Rattle.vx_grouped.specs.GroupSites.{UpNoted}
-use Rattle.vx_grouped.specs.SiteEnds.{is_plex_on, refuses_att}
+use Rattle.vx_grouped.specs.SiteEnds.{refuses_att}
 use Rattle.vx_grouped.proofs.SiteCarry.{others_as}
 use Rattle.vx_grouped.proofs.group_site.GroupSite.att.Goals as goal
 
