@@ -3,6 +3,7 @@ pub mod Burning
 pub mod DiskSets
 pub mod Fetching
 pub mod Fuses
+pub mod GroupSets
 pub mod Holds
 pub mod Keeps
 pub mod Lasts

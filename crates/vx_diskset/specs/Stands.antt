@@ -13,7 +13,9 @@ use Rattle.vx_disk.specs.declared.shelf.Shelf.{Ghosts}
 use Rattle.vx_rvg.specs.Views.{Core, last_of}
 use Rattle.vx_secondary.specs.Receivers.{writes_of_updates}
 use Rattle.vx_diskset.specs.declared.disk_set.DiskSet.{DiskSet}
-use Rattle.vx_diskset.specs.declared.disk_set.DiskSet.TheVariants.{Bare, Spoiled, Up, Receives, Down, Gone}
+use Rattle.vx_diskset.specs.declared.disk_set.DiskSet.TheVariants.{Bare, Spoiled, Up, Receives, Down, OfGroup, Gone}
+use Rattle.vx_grouped.specs.GroupSites.{site_disks}
+use Rattle.vx_diskset.specs.GroupSets.{IsGroupSet}
 use Rattle.vx_diskset.specs.Fuses.{HasFuse, IsFirstLog}
 use Rattle.vx_events.specs.Fuses.{ring_taken}
 use Rattle.vx_diskset.specs.Holds.{HasSite, KeptSite, MayBe, site_alone, state_with}
@@ -144,6 +146,7 @@ module _ {R : Type 0} {g : Ghosts R} where
   SiteStands beside n (Up rvg) = IsUpAt beside n rvg.core (g.meaning rvg.shelf)
   SiteStands beside n (Receives s) = IsReceiverAt beside n s.rvg.core s.waiting (g.meaning s.rvg.shelf)
   SiteStands beside n (Down rack) = IsDownAt beside n (g.meaning rack)
+  SiteStands beside n (OfGroup s) = IsGroupSet beside n s
   SiteStands beside n Gone = ⊥
 
   -- the same of a site without links, as each is that the lines which are built make
@@ -157,6 +160,7 @@ module _ {R : Type 0} {g : Ghosts R} where
   RoleIs n (Up rvg) = is_origin n.role ≡ true
   RoleIs n (Receives s) = Unit {0}
   RoleIs n (Down rack) = Unit {0}
+  RoleIs n (OfGroup s) = Unit {0}
   RoleIs n Gone = Unit {0}
 
   -- a call that leaves the group of a site with the room in which updates wait, or without it
@@ -170,6 +174,7 @@ module _ {R : Type 0} {g : Ghosts R} where
   CutAt beside n (Up rvg) = IsHeldAt beside n (g.meaning rvg.shelf)
   CutAt beside n (Receives s) = IsHeldAt beside n (g.meaning s.rvg.shelf)
   CutAt beside n (Down rack) = ⊥
+  CutAt beside n (OfGroup s) = ⊥
   CutAt beside n Gone = ⊥
 
   -- the disk set of a number that no site has
@@ -179,6 +184,7 @@ module _ {R : Type 0} {g : Ghosts R} where
   IsUnused (Up rvg) = ⊥
   IsUnused (Receives s) = ⊥
   IsUnused (Down rack) = ⊥
+  IsUnused (OfGroup s) = ⊥
   IsUnused Gone = ⊥
 
   -- whether the contents of its disks are told
@@ -188,6 +194,7 @@ module _ {R : Type 0} {g : Ghosts R} where
   IsToldAt (Up rvg) = IsTrue (g.meaning rvg.shelf).tells
   IsToldAt (Receives s) = IsTrue (g.meaning s.rvg.shelf).tells
   IsToldAt (Down rack) = IsTrue (g.meaning rack).tells
+  IsToldAt (OfGroup s) = IsTrue (site_disks s.site).tells
   IsToldAt Gone = ⊥
 
   -- the count of the faults of a disk
@@ -197,6 +204,7 @@ module _ {R : Type 0} {g : Ghosts R} where
   faults_at (Up rvg) d = (g.meaning rvg.shelf).disk_faults d
   faults_at (Receives s) d = (g.meaning s.rvg.shelf).disk_faults d
   faults_at (Down rack) d = (g.meaning rack).disk_faults d
+  faults_at (OfGroup s) d = (site_disks s.site).disk_faults d
   faults_at Gone d = 0
 
   -- all writes up to this number are in the volumes of its group, and none behind it
@@ -206,4 +214,5 @@ module _ {R : Type 0} {g : Ghosts R} where
   InVolumes number (Up rvg) = rvg.core.applied ≡ number
   InVolumes number (Receives s) = s.rvg.core.applied ≡ number
   InVolumes number (Down rack) = ⊥
+  InVolumes number (OfGroup s) = ⊥
   InVolumes number Gone = ⊥

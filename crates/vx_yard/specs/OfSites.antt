@@ -12,9 +12,8 @@ use Rattle.vx_events.specs.GroupLines.{is_over_group}
 use Rattle.vx_diskset.specs.declared.disk_set.DiskSet.{DiskSet}
 use Rattle.vx_yard.specs.declared.yard.Yard.{Yard}
 use Rattle.vx_yard.specs.BothSites.{BothSites, LinkBurns, SettleBurns}
-use Rattle.vx_diskset.specs.Asked.{SetsDisk, SetsFuse, CrashesBy, SameFailing, HeadUnder, LeavesAlone, LeavesFuse, WritesUnder, stored_calls}
+use Rattle.vx_diskset.specs.Asked.{SetsDisk, SetsFuse, CrashesBy, FuseGoesOn, SameFailing, HeadUnder, LeavesAlone, LeavesFuse, WritesUnder, stored_calls}
 use Rattle.vx_diskset.specs.Burning.{NoMore}
-use Rattle.vx_diskset.specs.GroupSets.{FuseGoesOn}
 
 -- the calls of a packet that a site hears of another one: those of a header where its link comes to count more as stored
 abbrev pub heard_calls : World → (number site source : ℕ) → ℕ
