@@ -14,7 +14,7 @@ use Rattle.vx_rvg.specs.Views.{Core, IsSound, Waits, last_of}
 use Rattle.vx_diskset.specs.DiskSets.{CanApply, halted_at, worked}
 use Rattle.vx_diskset.specs.Holds.{HasSite}
 use Rattle.vx_diskset.specs.Rooms.{AppliedAs}
-use Rattle.vx_diskset.specs.Fuses.{HasFuse}
+use Rattle.vx_grouped.specs.SetFuses.{HasFuse}
 use Rattle.vx_history.specs.Stops.{IsFused}
 use Rattle.vx_diskset.specs.Stands.{IsUpAt, IsHeldAt}
 use Rattle.vx_diskset.proofs.LastWrites.{rests_with, resting_found}

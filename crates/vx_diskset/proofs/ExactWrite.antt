@@ -24,7 +24,8 @@ use Rattle.vx_rvg.specs.Views.{Core, IsSound}
 use Rattle.vx_rvg.proofs.FetchGives.{widths_beside}
 use Rattle.vx_diskset.specs.Lasts.{StandsHolding}
 use Rattle.vx_rvg.specs.Groups.{core_with_write}
-use Rattle.vx_diskset.specs.Fuses.{HasFuse, IsFirstLog, LetsPass}
+use Rattle.vx_diskset.specs.Fuses.{IsFirstLog}
+use Rattle.vx_grouped.specs.SetFuses.{HasFuse, LetsPass}
 use Rattle.vx_events.specs.Fuses.{IsExact, KeepsAllWrites, ring_taken}
 use Rattle.vx_diskset.specs.Stands.{IsUpAt}
 

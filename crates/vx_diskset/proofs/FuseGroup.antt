@@ -13,7 +13,7 @@ use Rattle.vx_rvg.specs.Holdings.{Holding}
 use Rattle.vx_rvg.specs.Stands.{Stands}
 use Rattle.vx_rvg.specs.Views.{Core, IsSound, unit_of}
 use Rattle.vx_rvg.proofs.WriteSound.{ended_sound}
-use Rattle.vx_diskset.specs.Fuses.{LetsPass}
+use Rattle.vx_grouped.specs.SetFuses.{LetsPass}
 use Rattle.vx_diskset.specs.Stands.{IsUpAt}
 use Rattle.vx_diskset.proofs.Laying.{lies_as}
 use Rattle.vx_diskset.proofs.BesideLemmas.{may_same, site_map}

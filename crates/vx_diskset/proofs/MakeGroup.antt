@@ -45,7 +45,7 @@ use Rattle.vx_diskset.proofs.StaysUp.{never_both, told_now, fitted_moved, stays_
 use Rattle.vx_diskset.specs.Holds.{site_alone, state_with}
 use Rattle.vx_diskset.specs.Layouts.{raw_units, CanBeRaw}
 use Rattle.vx_diskset.proofs.Laying.{lies_as, raw_lies, raw_size, raw_none}
-use Rattle.vx_diskset.specs.Fuses.{HasFuse, LetsPass}
+use Rattle.vx_grouped.specs.SetFuses.{HasFuse, LetsPass}
 use Rattle.vx_diskset.specs.Stands.{IsFitted, IsBareAt, bare_with, IsUpAt, faults_at}
 use Rattle.vx_events.proofs.Values.{length-values_from, slice_index-values_from}
 

@@ -31,7 +31,7 @@ use Rattle.vx_rvg.specs.Views.{Core, IsSound}
 use Rattle.vx_diskset.specs.DiskSets.{no_number, halted_at, worked}
 use Rattle.vx_diskset.specs.Holds.{HasSite, HasWrites}
 use Rattle.vx_diskset.specs.Rooms.{AppliedAs, IsRoomy, RoomIs}
-use Rattle.vx_diskset.specs.Fuses.{HasFuse}
+use Rattle.vx_grouped.specs.SetFuses.{HasFuse}
 use Rattle.vx_history.specs.Stops.{IsFused}
 use Rattle.vx_diskset.specs.Stands.{IsUpAt, IsHeldAt}
 use Rattle.vx_diskset.proofs.ApplyGroup.{ended_log}

@@ -29,7 +29,7 @@ use Rattle.vx_diskset.specs.declared.disk_set.DiskSet.TheVariants.{Up}
 use Rattle.vx_diskset.specs.DiskSets.{CanRead, ReadAt}
 use Rattle.vx_diskset.specs.Fetching.{Gave, GaveAt}
 use Rattle.vx_diskset.specs.Holds.{HasSite}
-use Rattle.vx_diskset.specs.Fuses.{HasFuse}
+use Rattle.vx_grouped.specs.SetFuses.{HasFuse}
 use Rattle.vx_diskset.specs.Stands.{IsUpAt, SiteStands}
 use Rattle.vx_diskset.specs.Lasts.{StandsHolding}
 use Rattle.vx_diskset.proofs.LastWrites.{stands_with, still_with}

@@ -35,7 +35,7 @@ use Rattle.vx_diskset.specs.declared.disk_set.DiskSet.{DiskSet}
 use Rattle.vx_diskset.specs.declared.disk_set.DiskSet.TheVariants.{Bare, Spoiled, Up}
 use Rattle.vx_diskset.specs.DiskSets.{BareUp, BareUpIs, MadeIs}
 use Rattle.vx_events.specs.Found.{SameDisks}
-use Rattle.vx_diskset.specs.Fuses.{HasFuse}
+use Rattle.vx_grouped.specs.SetFuses.{HasFuse}
 use Rattle.vx_diskset.specs.Layouts.{raw_units, CanBeRaw}
 use Rattle.vx_diskset.proofs.Laying.{raw_lies}
 use Rattle.vx_diskset.specs.Stands.{IsCleanAt, IsUpAt, faults_at}

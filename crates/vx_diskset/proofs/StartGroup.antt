@@ -39,7 +39,7 @@ use Rattle.vx_diskset.specs.Holds.{HasWrites, state_with}
 use Rattle.vx_diskset.specs.Layouts.{LiesOn, raw_units, units_of}
 use Rattle.vx_diskset.proofs.Laying.{lies_as, maps_fit, sizes_of}
 use Rattle.vx_diskset.specs.Holds.{most_header}
-use Rattle.vx_diskset.specs.Fuses.{HasFuse}
+use Rattle.vx_grouped.specs.SetFuses.{HasFuse}
 use Rattle.vx_diskset.specs.Stands.{IsUpAt, IsDownAt, SiteStands, faults_at}
 use Rattle.vx_diskset.specs.Lasts.{FoundWith, HasLast, LeftWith, StandsHolding}
 use Rattle.vx_diskset.proofs.CrashGroup.{one_value, found_left_with, left_with}

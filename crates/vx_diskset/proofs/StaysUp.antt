@@ -21,7 +21,7 @@ use Rattle.vx_diskset.specs.Layouts.{units_of}
 use Rattle.vx_diskset.proofs.Laying.{lies_moved}
 use Rattle.vx_diskset.specs.Holds.{most_header}
 use Rattle.vx_diskset.specs.DiskSets.{worked}
-use Rattle.vx_diskset.specs.Fuses.{HasFuse}
+use Rattle.vx_grouped.specs.SetFuses.{HasFuse}
 use Rattle.vx_history.specs.Stops.{IsFused}
 use Rattle.vx_diskset.specs.Lasts.{FoundWith, StandsHolding}
 use Rattle.vx_diskset.proofs.LastWrites.{FoundOf}

@@ -18,7 +18,8 @@ use Rattle.vx_diskset.specs.Holds.{most_header, most_with}
 use Rattle.vx_diskset.specs.Lasts.{FoundWith, StandsHolding}
 use Rattle.vx_diskset.specs.Needs.{TakesAs}
 use Rattle.vx_diskset.specs.Rooms.{IsRoomy}
-use Rattle.vx_diskset.specs.Fuses.{HasFuse, IsFirstLog}
+use Rattle.vx_diskset.specs.Fuses.{IsFirstLog}
+use Rattle.vx_grouped.specs.SetFuses.{HasFuse}
 use Rattle.vx_events.specs.Fuses.{ring_taken}
 use Rattle.vx_diskset.specs.Stands.{IsUpAt}
 use Rattle.vx_diskset.proofs.BesideLemmas.{never_besides, site_map}

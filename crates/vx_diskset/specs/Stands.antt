@@ -16,7 +16,8 @@ use Rattle.vx_diskset.specs.declared.disk_set.DiskSet.{DiskSet}
 use Rattle.vx_diskset.specs.declared.disk_set.DiskSet.TheVariants.{Bare, Spoiled, Up, Receives, Down, OfGroup, Gone}
 use Rattle.vx_grouped.specs.GroupSites.{site_disks}
 use Rattle.vx_diskset.specs.GroupSets.{IsGroupSet}
-use Rattle.vx_diskset.specs.Fuses.{HasFuse, IsFirstLog}
+use Rattle.vx_diskset.specs.Fuses.{IsFirstLog}
+use Rattle.vx_grouped.specs.SetFuses.{HasFuse}
 use Rattle.vx_events.specs.Fuses.{ring_taken}
 use Rattle.vx_diskset.specs.Holds.{HasSite, KeptSite, MayBe, site_alone, state_with}
 use Rattle.vx_diskset.specs.Holds.{most_header}

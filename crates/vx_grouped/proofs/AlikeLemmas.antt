@@ -14,7 +14,7 @@ use Rattle.vx_group.specs.declared.group_core.GroupCore.{GroupCore}
 use Rattle.vx_group.proofs.AgainLemmas.{less_can}
 use Rattle.vx_grouped.specs.Away.{AwayLies, IsAwayAt, IsDeportedAt}
 use Rattle.vx_grouped.specs.GroupNotes.{GroupLies, noted_config}
-use Rattle.vx_grouped.specs.GroupSites.{AreMarked, AreStopped, GroupAway, GroupDown, GroupFallen, GroupUp}
+use Rattle.vx_grouped.specs.GroupSites.{IsMarkedSite, AreStopped, GroupAway, GroupDown, GroupFallen, GroupUp}
 use Rattle.vx_grouped.specs.Plain.{HoldsPlain}
 use Rattle.vx_grouped.specs.SetFuses.{HasFuse, LetsPass}
 use Rattle.vx_grouped.proofs.SiteLemmas.{lies_as}
@@ -111,7 +111,7 @@ module _ (n : Node) (m m' : Meaning) (alike : Alike m m') (down : m'.down ≡ m.
   pub alike_away : (note : GroupNode) → HasFuse n.fuse m' → GroupAway n note m → GroupAway n note m'
   alike_away note fuse it = record { noted = it.noted; up = λ is. it.up (subst IsTrue down is); fuse = fuse; away = less_deported n note m m' alike.contents.units alike.contents.size alike.contents.leaves it.away }
 
-  pub alike_marked : AreMarked n m → AreMarked n m'
+  pub alike_marked : IsMarkedSite n m → IsMarkedSite n m'
   alike_marked it = record {
     state = it.state;
     units = alike.contents.units ∙ it.units;

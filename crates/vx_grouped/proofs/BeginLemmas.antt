@@ -25,7 +25,7 @@ use Rattle.vx_group.specs.declared.inner.Inner.{Inner}
 use Rattle.vx_watched.specs.Since.{CalledSince}
 use Rattle.vx_grouped.specs.Begins.{BeginRefuses, BeginsGroup, CanBegin, IsFirstNote, group_begun}
 use Rattle.vx_grouped.specs.GroupNotes.{noted_config}
-use Rattle.vx_grouped.specs.GroupSites.{AreMarked, GroupUp}
+use Rattle.vx_grouped.specs.GroupSites.{IsMarkedSite, GroupUp}
 use Rattle.vx_grouped.specs.Plain.{HoldsPlain}
 use Rattle.vx_grouped.specs.SetFuses.{HasFuse}
 use Rattle.vx_grouped.specs.declared.group_site.GroupSite.TheVariants.{Up, Marked}
@@ -69,7 +69,7 @@ module _ (m m' : Meaning) (n : Node) (can : CanBegin n m) (since : CalledSince m
   stays_up : IsTrue m'.down → ⊥
   stays_up down = not_down m.down can.up (since.safe can.unarmed down)
 
-  marked : AreMarked n m'
+  marked : IsMarkedSite n m'
   marked = record {
     state = can.state;
     units = since.units ∙ can.units;
@@ -130,6 +130,7 @@ module _ {R : Type 0} (g : Ghosts R) (rack : R) (n : Node) (site : ℕ) (can : C
     first_note group.core.inner,
     first (g.meaning rack) (g.meaning group.shelf) n can since site group.core it.0 it.1,
     begun_up (g.meaning rack) (g.meaning group.shelf) n can since site group.core it.0 it.1,
+    (it.0.site_is, it.0.volumes, it.0.rvg),
     trusted (g.meaning rack) (g.meaning group.shelf) n can since site group.core it.0 it.1 (HasFailed group.core.inner.config.disks) (λ some. some),
   )
 

@@ -20,7 +20,7 @@ use Rattle.vx_grouped.specs.Away.{IsDeportedAt, note_deported}
 use Rattle.vx_grouped.specs.GroupSites.{GroupUp}
 use Rattle.vx_grouped.specs.SiteEnds.{SiteDeported, stops_down}
 use Rattle.vx_grouped.specs.declared.group_site.GroupSite.TheVariants.{Up, Deported}
-use Rattle.vx_grouped.proofs.SettleLemmas.{deport_tight, fuse_burned}
+use Rattle.vx_grouped.proofs.SettleLemmas.{deport_settles, fuse_burned}
 use Rattle.vx_grouped.proofs.SiteLemmas.{away_with}
 
 -- why it was refused: for want of serials, or for a device
@@ -45,6 +45,6 @@ module _ {R : Type 0} {g : Ghosts R} (n : Node) (note : GroupNode) (group : Grou
   pub deported_done : (IsTrue (g.meaning rack).down → ⊥) → (x : Config) × IsDeportedAt (record n { state = IsDeported }) (note_deported x group.core.inner note) (g.meaning rack) → SiteDeported n note (Up group) (Deported rack) (Ok tt)
   deported_done still leaves = (
     note_deported leaves.0 group.core.inner note,
-    deport_tight leaves.0 group.core.inner note up.at.lies.committed,
+    deport_settles leaves.0 group.core.inner note up.at.lies.committed,
     away_with n note (note_deported leaves.0 group.core.inner note) (g.meaning rack) up.noted still (fuse_burned n.fuse (g.meaning group.shelf) (g.meaning rack) since.unarmed up.fuse) leaves.1,
   )

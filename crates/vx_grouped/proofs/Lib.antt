@@ -6,8 +6,10 @@ pub mod CalledLemmas
 pub mod CarryLemmas
 pub mod DeportedLemmas
 pub mod KeepLemmas
+pub mod KeepingLemmas
 pub mod LeavingLemmas
 pub mod NoteLemmas
+pub mod NotedLemmas
 pub mod PlainLemmas
 pub mod ReadLemmas
 pub mod ReturnLemmas
@@ -16,5 +18,6 @@ pub mod SiteAddLemmas
 pub mod SiteAlike
 pub mod SiteCarry
 pub mod SiteLemmas
+pub mod SiteReturnLemmas
 pub mod WriteLemmas
 pub mod WroteLemmas

@@ -2,7 +2,7 @@
 use Rattle.std.proofs.Common.{◌≡◌, ◌⊎◌, inl, inr, ℕ, ◌||◌, Bool, true, false, List, [], ◌∷◌, IsTrue, IsFalse, refl, ap}
 use Rattle.std.specs.Prelude.{if◌then◌else◌, not}
 use Rattle.vx_disk.specs.Shelf.{Meaning}
-use Rattle.vx_history.specs.Groups.{GroupNode}
+use Rattle.vx_history.specs.Groups.{GroupNode, NoteSettles, NoteUnsettles}
 use Rattle.vx_history.specs.Steps.{burned}
 use Rattle.vx_history.specs.Stops.{IsFused}
 use Rattle.vx_history.specs.World.{Fuse, NoFuse, FuseSet, FuseLit}
@@ -10,7 +10,6 @@ use Rattle.vx_config.specs.declared.config.Config.{Config}
 use Rattle.vx_group.specs.declared.inner.Inner.{Inner}
 use Rattle.vx_grouped.specs.Away.{note_deported}
 use Rattle.vx_grouped.specs.GroupNotes.{note_done, note_refused}
-use Rattle.vx_grouped.specs.NoteChanges.{NoteDeports, NoteSettles, NoteUnsettles}
 use Rattle.vx_grouped.specs.SetFuses.{HasFuse}
 
 -- ---- flags: `kept` is committed, `agr` agreed, `l` what was loose
@@ -52,10 +51,15 @@ refused_unsettles core note next = record {
   begun = begun_refused core.committed core.agreed note.loose next note.begun;
 }
 
-pub deport_tight : (x : Config) (core : Inner) (note : GroupNode) → (note.loose ≡ false → note.begun ≡ [] → core.committed ≡ true) → NoteDeports note (note_deported x core note)
-deport_tight x core note tight = record {
+begun_deported : (kept l : Bool) (begun : List (List ℕ))
+    → (((if kept then [] else begun) ≡ []) × ((if kept then false else true) ≡ false)) ⊎ (((if kept then [] else begun) ≡ begun) × (l ≡ true → (if kept then false else true) ≡ true))
+begun_deported true l begun = inl (refl, refl)
+begun_deported false l begun = inr (refl, λ is. refl)
+
+pub deport_settles : (x : Config) (core : Inner) (note : GroupNode) → (note.loose ≡ false → note.begun ≡ [] → core.committed ≡ true) → NoteSettles note (note_deported x core note)
+deport_settles x core note tight = record {
   same = record { bytes = refl; others = refl; cut = refl; missed = refl; perhaps = refl };
-  begun = refl;
+  begun = begun_deported core.committed note.loose note.begun;
   tight = λ was none. tight_deported core.committed (tight was none);
 }
 

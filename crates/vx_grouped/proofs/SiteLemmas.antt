@@ -9,7 +9,7 @@ use Rattle.vx_config.specs.declared.config.Config.{Config}
 use Rattle.vx_group.specs.declared.group_core.GroupCore.{GroupCore}
 use Rattle.vx_grouped.specs.Away.{AwayLies, IsAwayAt, IsDeportedAt}
 use Rattle.vx_grouped.specs.GroupNotes.{GroupLies, IsGroupAt}
-use Rattle.vx_grouped.specs.GroupSites.{AreStopped, GroupAway, GroupDown, GroupUp, IsNoted, deported_with, with_note}
+use Rattle.vx_grouped.specs.GroupSites.{AreStopped, GroupAway, GroupDown, GroupUp, NotesGroup, deported_with, with_note}
 use Rattle.vx_grouped.specs.SetFuses.{HasFuse}
 
 -- ---- facts of a node hold of one with its disks
@@ -36,15 +36,15 @@ away_as n k note last m disks blocks it = record {
 
 -- ---- notes
 
-pub noted_with : (n : Node) (note next : GroupNode) → IsNoted n note → IsNoted (with_note next n) next
+pub noted_with : (n : Node) (note next : GroupNode) → NotesGroup n note → NotesGroup (with_note next n) next
 noted_with n note next it = record { is = refl; none = record { role = it.none.role; volumes = it.none.volumes; log = it.none.log; safe = it.none.safe; running = it.none.running } }
 
-pub noted_crashed : (n : Node) (note : GroupNode) → IsNoted n note → IsNoted (crashed n 0) note
+pub noted_crashed : (n : Node) (note : GroupNode) → NotesGroup n note → NotesGroup (crashed n 0) note
 noted_crashed n note it = record { is = it.is; none = record { role = it.none.role; volumes = it.none.volumes; log = refl; safe = refl; running = refl } }
 
 -- ---- a group that is up
 
-pub up_with : (n : Node) (note next : GroupNode) (d : GroupCore) (m' : Meaning) → IsNoted n note → HasFuse (burned n.fuse) m' → IsGroupAt n next d m' → GroupUp (with_note next n) next d m'
+pub up_with : (n : Node) (note next : GroupNode) (d : GroupCore) (m' : Meaning) → NotesGroup n note → HasFuse (burned n.fuse) m' → IsGroupAt n next d m' → GroupUp (with_note next n) next d m'
 up_with n note next d m' noted fuse at = record {
   noted = noted_with n note next noted;
   fuse = fuse;
@@ -52,7 +52,7 @@ up_with n note next d m' noted fuse at = record {
 }
 
 -- and its note is the same
-pub up_burned : (n : Node) (note : GroupNode) (d : GroupCore) (m' : Meaning) → IsNoted n note → HasFuse (burned n.fuse) m' → IsGroupAt n note d m' → GroupUp (record n { fuse = burned n.fuse }) note d m'
+pub up_burned : (n : Node) (note : GroupNode) (d : GroupCore) (m' : Meaning) → NotesGroup n note → HasFuse (burned n.fuse) m' → IsGroupAt n note d m' → GroupUp (record n { fuse = burned n.fuse }) note d m'
 up_burned n note d m' noted fuse at = record {
   noted = record { is = noted.is; none = record { role = noted.none.role; volumes = noted.none.volumes; log = noted.none.log; safe = noted.none.safe; running = noted.none.running } };
   fuse = fuse;
@@ -61,7 +61,7 @@ up_burned n note d m' noted fuse at = record {
 
 -- ---- one that crashed
 
-pub down_noted : (n : Node) (note : GroupNode) (m : Meaning) → IsNoted n note → AreStopped m → IsAwayAt (record n { state = IsDown }) note m → GroupDown (crashed n 0) note m
+pub down_noted : (n : Node) (note : GroupNode) (m : Meaning) → NotesGroup n note → AreStopped m → IsAwayAt (record n { state = IsDown }) note m → GroupDown (crashed n 0) note m
 down_noted n note m noted stopped away = record {
   noted = noted_crashed n note noted;
   unfused = refl;
@@ -70,14 +70,14 @@ down_noted n note m noted stopped away = record {
 }
 
 -- behind a call that changed the note
-pub down_with : (n : Node) (note next : GroupNode) (m : Meaning) → IsNoted n note → AreStopped m → IsAwayAt (record n { state = IsDown }) next m → GroupDown (crashed (with_note next n) 0) next m
+pub down_with : (n : Node) (note next : GroupNode) (m : Meaning) → NotesGroup n note → AreStopped m → IsAwayAt (record n { state = IsDown }) next m → GroupDown (crashed (with_note next n) 0) next m
 down_with n note next m noted stopped away =
     down_noted (with_note next n) next m (noted_with n note next noted) stopped
     (record { state = refl; last = away.last; config = away.config; lies = away_as (record n { state = IsDown }) (record (with_note next n) { state = IsDown }) next away.last m refl refl away.lies })
 
 -- ---- one that was deported
 
-pub away_with : (n : Node) (note next : GroupNode) (m : Meaning) → IsNoted n note → (IsTrue m.down → ⊥) → HasFuse (burned n.fuse) m → IsDeportedAt (record n { state = IsDeported }) next m → GroupAway (deported_with next n) next m
+pub away_with : (n : Node) (note next : GroupNode) (m : Meaning) → NotesGroup n note → (IsTrue m.down → ⊥) → HasFuse (burned n.fuse) m → IsDeportedAt (record n { state = IsDeported }) next m → GroupAway (deported_with next n) next m
 away_with n note next m noted up fuse away = record {
   noted = record { is = refl; none = record { role = noted.none.role; volumes = noted.none.volumes; log = refl; safe = refl; running = refl } };
   up = up;

@@ -9,7 +9,7 @@ use Rattle.vx_disk.specs.Causes.{DeviceCause}
 use Rattle.vx_disk.specs.Racks.{Stopped}
 use Rattle.vx_disk.specs.Shelf.{Meaning}
 use Rattle.vx_disk.specs.declared.shelf.Shelf.{Ghosts}
-use Rattle.vx_history.specs.Groups.{GroupNode}
+use Rattle.vx_history.specs.Groups.{GroupNode, note_cut, note_doubt, note_write}
 use Rattle.vx_history.specs.Steps.{burned}
 use Rattle.vx_history.specs.World.{Node}
 use Rattle.vx_group.specs.declared.group.Group.{Group}
@@ -18,7 +18,6 @@ use Rattle.vx_grouped.specs.Away.{IsAwayAt}
 use Rattle.vx_grouped.specs.Ends.{WriteLeaves, plain_write}
 use Rattle.vx_grouped.specs.GroupNotes.{GroupLies, IsGroupAt, note_done, note_refused}
 use Rattle.vx_grouped.specs.GroupSites.{GroupUp}
-use Rattle.vx_grouped.specs.Plain.{note_cut, note_doubt, note_write}
 use Rattle.vx_grouped.specs.SiteEnds.{PlainRead, PlainWrote, answers_down}
 use Rattle.vx_grouped.specs.Watches.{PlainReads, PlainWrites}
 use Rattle.vx_grouped.specs.declared.group_site.GroupSite.TheVariants.{Up, Down}

@@ -37,7 +37,7 @@ pub record IsAwayAt (n : Node) (note : GroupNode) (m : Meaning) : Type 0 where
 
 -- the note with the configuration that a deport committed; imports may disagree where the one of before was not committed
 abbrev pub note_deported : Config → Inner → GroupNode → GroupNode
-note_deported x core note = record note { config = noted_config x; begun = []; loose = if core.committed then false else true }
+note_deported x core note = record note { config = noted_config x; begun = if core.committed then [] else note.begun; loose = if core.committed then false else true }
 
 -- the disks of a site that was deported: each image has the configuration that is noted
 pub record IsDeportedAt (n : Node) (note : GroupNode) (m : Meaning) : Type 0 where

@@ -59,9 +59,14 @@ module _ {R : Type 0} {g : Ghosts R} where
   HoldsFailed (Up group) = HasFailed group.core.inner.config.disks
   HoldsFailed other = ⊥
 
+  -- its group has the number of the site, no volumes, and no replicated volume group
+  abbrev pub IsEmptyGroup : ℕ → GroupSite R g → Type 0
+  IsEmptyGroup site (Up group) = (group.core.inner.config.site ≡ site) × (group.core.inner.config.volumes ≡ []) × (group.core.inner.config.rvg ≡ None)
+  IsEmptyGroup site other = ⊥
+
   -- the site with a group whose imports agree unless a disk is held as failed; or bare, where a disk failed, or memory was wanted
   abbrev pub BeginsGroup : ℕ → Node → Meaning → GroupSite R g → Result (Unit {0}) Stop → Type 0
-  BeginsGroup site n old new (Ok done) = (note : GroupNode) × IsFirstNote note × UpNoted (group_begun note site n) note new × ((note.loose ≡ false) ⊎ HoldsFailed new)
+  BeginsGroup site n old new (Ok done) = (note : GroupNode) × IsFirstNote note × UpNoted (group_begun note site n) note new × IsEmptyGroup site new × ((note.loose ≡ false) ⊎ HoldsFailed new)
   BeginsGroup site n old new (Err (Refused (Device disk))) = GroupSiteStands n new × Rose (old.disk_faults disk) ((site_disks new).disk_faults disk)
   BeginsGroup site n old new (Err OutOfMemory) = GroupSiteStands n new
   BeginsGroup site n old new (Err (Refused other)) = ⊥

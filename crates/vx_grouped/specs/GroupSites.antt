@@ -1,12 +1,12 @@
 -- What the disks of a site with a group of disks, and no replicated volume group, stand for.
 use Rattle.std.specs.Prelude.{◌≡◌, ℕ, ◌+◌, ◌/◌, ◌%◌, ◌<◌, ◌≤◌, [], Option, Some, None, IsTrue, IsFalse}
 use Rattle.vx_model.specs.declared.site.Role.TheVariants.{Primary}
-use Rattle.vx_model.specs.declared.site.SiteState.TheVariants.{Bare, Deported as IsDeported}
+use Rattle.vx_model.specs.declared.site.SiteState.TheVariants.{Bare}
 use Rattle.vx_disk.specs.Shelf.{Meaning}
 use Rattle.vx_disk.specs.declared.shelf.Shelf.{Ghosts}
 use Rattle.vx_config.specs.declared.config.Config.{Config}
 use Rattle.vx_history.specs.Groups.{GroupNode}
-use Rattle.vx_history.specs.Steps.{burned, crashed}
+use Rattle.vx_history.specs.Steps.{burned, crashed, deported_site}
 use Rattle.vx_history.specs.World.{Node, NoFuse}
 use Rattle.vx_group.specs.declared.group_core.GroupCore.{GroupCore}
 use Rattle.vx_watched.specs.Empty.{no_shelf}
@@ -25,7 +25,7 @@ pub record HasNoRvg (n : Node) : Type 0 where
   pub running : n.halted ≡ None
 
 -- a site that notes this of its group
-pub record IsNoted (n : Node) (note : GroupNode) : Type 0 where
+pub record NotesGroup (n : Node) (note : GroupNode) : Type 0 where
   pub is : n.group ≡ Some note
   pub none : HasNoRvg n
 
@@ -35,11 +35,11 @@ with_note note n = record n { group = Some note; fuse = burned n.fuse }
 
 -- a site with this note whose group was just deported
 abbrev pub deported_with : GroupNode → Node → Node
-deported_with note n = record (crashed (with_note note n) 0) { state = IsDeported; fuse = burned n.fuse }
+deported_with note n = deported_site (burned n.fuse) (crashed (with_note note n) 0)
 
 -- a site whose group is up
 pub record GroupUp (n : Node) (note : GroupNode) (core : GroupCore) (m : Meaning) : Type 0 where
-  pub noted : IsNoted n note
+  pub noted : NotesGroup n note
   pub fuse : HasFuse n.fuse m
   pub at : IsGroupAt n note core m
 
@@ -50,20 +50,20 @@ pub record AreStopped (m : Meaning) : Type 0 where
 
 -- a site whose group crashed
 pub record GroupDown (n : Node) (note : GroupNode) (m : Meaning) : Type 0 where
-  pub noted : IsNoted n note
+  pub noted : NotesGroup n note
   pub unfused : n.fuse ≡ NoFuse
   pub stopped : AreStopped m
   pub away : IsAwayAt n note m
 
 -- a site whose group was deported: its disks are up, and keep their fuse
 pub record GroupAway (n : Node) (note : GroupNode) (m : Meaning) : Type 0 where
-  pub noted : IsNoted n note
+  pub noted : NotesGroup n note
   pub up : IsTrue m.down → ⊥
   pub fuse : HasFuse n.fuse m
   pub away : IsDeportedAt n note m
 
 -- the disks of a bare site, on which labels and headers of a group may stand
-pub record AreMarked (n : Node) (m : Meaning) : Type 0 where
+pub record IsMarkedSite (n : Node) (m : Meaning) : Type 0 where
   pub state : n.state ≡ Bare
   pub units : m.units ≡ n.disks
   pub size : (u : ℕ) → u < n.disks → m.size u ≡ n.blocks
@@ -73,7 +73,7 @@ pub record AreMarked (n : Node) (m : Meaning) : Type 0 where
 
 -- a site whose fuse ran out: its disks are down, and the group over them is not yet let go
 pub record GroupFallen (n : Node) (note : GroupNode) (core : GroupCore) (m : Meaning) : Type 0 where
-  pub noted : IsNoted n note
+  pub noted : NotesGroup n note
   pub cut : IsGroupCut n note core m
 
 -- so many bytes from this block of a volume on: whole blocks, which lie in the volume that is noted
@@ -119,5 +119,5 @@ module _ {R : Type 0} {g : Ghosts R} where
   GroupSiteStands n (Up group) = (note : GroupNode) × GroupUp n note group.core (g.meaning group.shelf)
   GroupSiteStands n (Deported rack) = (note : GroupNode) × GroupAway n note (g.meaning rack)
   GroupSiteStands n (Down rack) = (note : GroupNode) × GroupDown n note (g.meaning rack)
-  GroupSiteStands n (Marked rack) = AreMarked n (g.meaning rack)
+  GroupSiteStands n (Marked rack) = IsMarkedSite n (g.meaning rack)
   GroupSiteStands n Gone = ⊥

@@ -4,10 +4,11 @@ pub mod Begins
 pub mod Ends
 pub mod GroupNotes
 pub mod GroupSites
-pub mod NoteChanges
+pub mod Keepings
 pub mod Plain
 pub mod Returns
 pub mod SetFuses
 pub mod SiteAdds
 pub mod SiteEnds
+pub mod SiteReturns
 pub mod Watches

@@ -5,7 +5,7 @@ use Rattle.vx_model.specs.declared.errors.Stop.TheVariants.{No as Refused, OutOf
 use Rattle.vx_model.specs.declared.no.No.{No}
 use Rattle.vx_disk.specs.Shelf.{Meaning}
 use Rattle.vx_disk.specs.declared.shelf.Shelf.{Ghosts}
-use Rattle.vx_history.specs.Groups.{GroupNode}
+use Rattle.vx_history.specs.Groups.{GroupNode, NoteSettles}
 use Rattle.vx_history.specs.World.{Node}
 use Rattle.vx_layout.specs.declared.shape.Shape.{Shape}
 use Rattle.vx_group.specs.Makes.{MakeEnds, VolumeMade, make_refusal}
@@ -13,7 +13,6 @@ use Rattle.vx_group.specs.declared.group_core.GroupCore.{GroupCore}
 use Rattle.vx_grouped.specs.Added.{VolumeLeaves, note_added}
 use Rattle.vx_grouped.specs.GroupNotes.{IsGroupAt}
 use Rattle.vx_grouped.specs.GroupSites.{UpNoted, with_note}
-use Rattle.vx_grouped.specs.NoteChanges.{NoteSettles}
 use Rattle.vx_grouped.specs.SiteEnds.{SiteCalled, burned_site}
 use Rattle.vx_grouped.specs.declared.group_site.GroupSite.{GroupSite}
 use Rattle.vx_grouped.specs.declared.group_site.GroupSite.TheVariants.{Up}

@@ -10,7 +10,7 @@ use Rattle.vx_disk.specs.Counts.{Rose}
 use Rattle.vx_disk.specs.Disks.{Crashed}
 use Rattle.vx_disk.specs.Racks.{Stopped}
 use Rattle.vx_disk.specs.declared.shelf.Shelf.{Ghosts}
-use Rattle.vx_history.specs.Groups.{GroupNode}
+use Rattle.vx_history.specs.Groups.{GroupNode, NoteSettles, NoteUnsettles, note_cut, note_doubt, note_write}
 use Rattle.vx_history.specs.Steps.{burned, crashed}
 use Rattle.vx_history.specs.Stops.{IsFused}
 use Rattle.vx_history.specs.World.{Node}
@@ -18,8 +18,7 @@ use Rattle.vx_volume.specs.Plexes.{active}
 use Rattle.vx_group.specs.Attaches.{att_refusal, copied_regions}
 use Rattle.vx_group.specs.Dets.{det_refusal}
 use Rattle.vx_grouped.specs.GroupSites.{AwayNoted, CutNoted, DownNoted, GroupSiteStands, UpNoted, deported_with, site_disks, with_note}
-use Rattle.vx_grouped.specs.NoteChanges.{NoteDeports, NoteSettles, NoteUnsettles}
-use Rattle.vx_grouped.specs.Plain.{ReadsPlain, note_cut, note_doubt, note_write}
+use Rattle.vx_grouped.specs.Plain.{ReadsPlain}
 use Rattle.vx_grouped.specs.declared.group_site.GroupSite.{GroupSite}
 use Rattle.vx_grouped.specs.declared.group_site.GroupSite.TheVariants.{Up}
 
@@ -44,9 +43,9 @@ module _ {R : Type 0} {g : Ghosts R} where
     pub stands : (n : Node) → GroupSiteStands n old → GroupSiteStands n new
 
   -- the disks crashed with this pick, or nothing was done to them
-  abbrev pub MayStop : ℕ → GroupSite R g → GroupSite R g → Type 0
-  MayStop pick (Up group) new = Stopped (g.meaning group.shelf) (site_disks new) × OnDisks (g.meaning group.shelf).disks (site_disks new).disks (Crashed (g.meaning group.shelf).size pick)
-  MayStop pick old new = new ≡ old
+  abbrev pub MayCrashSite : ℕ → GroupSite R g → GroupSite R g → Type 0
+  MayCrashSite pick (Up group) new = Stopped (g.meaning group.shelf) (site_disks new) × OnDisks (g.meaning group.shelf).disks (site_disks new).disks (Crashed (g.meaning group.shelf).size pick)
+  MayCrashSite pick old new = new ≡ old
 
   -- A write to a volume: done, its blocks have what was written. Else a disk failed, and each of them has that or what it had; or the fuse ran
   -- out, and so it is behind the crash. No other refusal comes.
@@ -73,7 +72,7 @@ module _ {R : Type 0} {g : Ghosts R} where
 
   -- a deport: done, the disks are by themselves, and each volume has on them what it had
   abbrev pub SiteDeported : Node → GroupNode → GroupSite R g → GroupSite R g → Result (Unit {0}) Stop → Type 0
-  SiteDeported n note old new (Ok done) = (next : GroupNode) × NoteDeports note next × AwayNoted (deported_with next n) next new
+  SiteDeported n note old new (Ok done) = (next : GroupNode) × NoteSettles note next × AwayNoted (deported_with next n) next new
   SiteDeported n note old new (Err stop) = SiteCalled {T = Unit {0}} n note old new (Err stop)
 
   -- the first test of a detach, and of an attach, that refuses it

@@ -27,7 +27,7 @@ pub enum GroupSite<R: Rack> {
 
 impl<R: Rack> GroupSite<R> {
     ghost use Rattle.vx_grouped.specs.GroupSites.{CutNoted, DownNoted, GroupSiteStands, UpNoted, site_config, site_disks};
-    ghost use Rattle.vx_grouped.specs.SiteEnds.{MayStop, StaysAlike};
+    ghost use Rattle.vx_grouped.specs.SiteEnds.{MayCrashSite, StaysAlike};
 
     /// How many disks it has.
     pub fn disks(&self) -> u32
@@ -83,7 +83,7 @@ impl<R: Rack> GroupSite<R> {
         ensures crashed { (n : Node) (note : GroupNode) → UpNoted n note self → DownNoted (crashed n 0) note result }
         ensures cut { (n : Node) (note : GroupNode) → CutNoted n note self → DownNoted (crashed n 0) note result }
         ensures asked { (n : Node) (note : GroupNode) → UpNoted n note self → OnDisks (site_disks self).disks (site_disks result).disks (Crashed (site_disks self).size pick) }
-        ensures stopped { MayStop pick self result }
+        ensures stopped { MayCrashSite pick self result }
     {
         match self {
             GroupSite::Up(group) => GroupSite::Down(crash_group(group, pick)),

@@ -30,7 +30,7 @@ use Rattle.vx_events.specs.Fuses.{ring_taken}
 use Rattle.vx_events.proofs.Places.{some_same}
 use Rattle.vx_secondary.specs.Receivers.{Wait}
 use Rattle.vx_diskset.specs.DiskSets.{halted_at, no_number, worked}
-use Rattle.vx_diskset.specs.Fuses.{HasFuse}
+use Rattle.vx_grouped.specs.SetFuses.{HasFuse}
 use Rattle.vx_diskset.specs.Holds.{KeptBeside, HasSite, HasWrites, KeptSite, MayBe, most_with, state_with, sure_of}
 use Rattle.vx_diskset.specs.Lasts.{HasLast, StandsHolding}
 use Rattle.vx_diskset.specs.Layouts.{LiesOn}

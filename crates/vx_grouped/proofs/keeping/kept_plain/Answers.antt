@@ -1,0 +1,29 @@
+-- `kept_plain`: what it tells of each block, and that what is noted stays.
+use Rattle.std.proofs.Common.{◌≡◌, ◌≤◌, ◌∙◌, ℕ, List, length, take, drop, replicate, length-take-le, arith, refl}
+use Rattle.vx_group.specs.Holding.{wide}
+use Rattle.vx_group.specs.Laws.{group_lawful}
+use Rattle.vx_group.specs.Stands.{inner_meaning}
+use Rattle.vx_grouped.proofs.KeepingLemmas.{keeps_front}
+use Rattle.vx_grouped.proofs.ReadLemmas.{read_stays, reads_plain}
+use Rattle.vx_grouped.proofs.keeping.kept_plain.Goals as goal
+
+pub returns-in-Ok-clause-kept : goal.returns-in-Ok-clause-kept
+returns-in-Ok-clause-kept g c = λ note it.
+    let bytes : List ℕ = c.args.bytes.now in
+    let none : List ℕ = replicate 8192 0 in
+    let auto : length c.read.new.into ≡ length (take (length bytes) none) = c.read.auto.into in
+    let zeros : length none ≡ 8192 = refl in
+    let few : length bytes ≤ 8192 = c.requires.few in
+    let long : length c.read.new.into ≡ length bytes = auto ∙ length-take-le (length bytes) none (omega (arith, few, zeros)) in
+    keeps_front note (g.S.Shelf.meaning c.args.group.now.shelf) c.args.vol c.args.block c.read.new.into c.args.bytes.now c.compared.result (drop (length bytes) none) long
+    (reads_plain note (inner_meaning (wide c.args.group.now.core) (g.S.Shelf.meaning c.args.group.now.shelf)) (g.S.Shelf.meaning c.args.group.now.shelf) c.args.vol c.args.block c.args.bytes.now c.read.new.into long refl
+    (group_lawful (wide c.args.group.now.core) (g.S.Shelf.meaning c.args.group.now.shelf) (g.met.S.Shelf.lawful c.args.group.now.shelf) c.args.group.now.stands.stands) it c.requires.fits c.in-Ok.ensures.ok)
+    c.compared.ensures
+
+pub returns-in-Ok-clause-stays : goal.returns-in-Ok-clause-stays
+returns-in-Ok-clause-stays g c = λ n note at.
+    read_stays n note c.args.group.now.core c.read.new.self.core (g.S.Shelf.meaning c.args.group.now.shelf) (g.S.Shelf.meaning c.read.new.self.shelf) c.read.ensures.below c.read.ensures.down c.read.ensures.goes c.read.ensures.same c.read.ensures.trusted at
+
+pub returns-in-Err-clause-stays : goal.returns-in-Err-clause-stays
+returns-in-Err-clause-stays g c = λ n note at.
+    read_stays n note c.args.group.now.core c.read.new.self.core (g.S.Shelf.meaning c.args.group.now.shelf) (g.S.Shelf.meaning c.read.new.self.shelf) c.read.ensures.below c.read.ensures.down c.read.ensures.goes c.read.ensures.same c.read.ensures.trusted at

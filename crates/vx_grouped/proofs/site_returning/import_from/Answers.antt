@@ -1,0 +1,29 @@
+-- An import over disks with an account.
+use Rattle.std.proofs.Common.{◌∙◌, refl, sym, subst}
+use Rattle.vx_group.specs.Imports.{ImportStops}
+use Rattle.vx_group.specs.Resumes.{CanImport, CanImportBehind}
+use Rattle.vx_grouped.specs.Away.{AwayLies}
+use Rattle.vx_grouped.specs.Returns.{GroupReturns, ImportLeft}
+use Rattle.vx_grouped.proofs.CarryLemmas.{carried, carried_two, shelf_of}
+use Rattle.vx_grouped.proofs.site_returning.import_from.Goals as goal
+
+pub returns-in-Ok-clause-leaves : goal.returns-in-Ok-clause-leaves
+returns-in-Ok-clause-leaves g c = λ n note last lies.
+    carried (λ x s y t. AwayLies n note last (g.R.Shelf.meaning s) → GroupReturns n note last (g.R.Shelf.meaning s) y (g.R.Shelf.meaning t))
+    c.in-Ok.group.core c.in-Ok.group.core c.together.result.core c.in-Ok.group.core c.args.rack c.over-watched.result.shelf c.together.result.shelf c.in-Ok.group.shelf.shelf refl c.over-watched.ensures
+    (c.together.ensures.core ∙ c.apart-watched.ensures.core) (c.together.ensures.shelf ∙ c.into_shelf-rack.ensures.shelf ∙ shelf_of _ _ c.apart-watched.ensures.shelf) (λ it. c.in-Ok.ensures.leaves n note last it) lies
+
+pub returns-in-Err-clause-leaves : goal.returns-in-Err-clause-leaves
+returns-in-Err-clause-leaves g c = λ n note last lies.
+    carried_two (λ s t. AwayLies n note last (g.R.Shelf.meaning s) → ImportLeft n note last (g.R.Shelf.meaning s) (g.R.Shelf.meaning t)) c.args.rack c.over-watched.result.shelf c.into_shelf.result c.in-Err.watched.shelf c.over-watched.ensures c.into_shelf.ensures.shelf
+    (λ it. c.in-Err.ensures.leaves n note last it) lies
+
+pub returns-in-Err-clause-stops : goal.returns-in-Err-clause-stops
+returns-in-Err-clause-stops g c =
+    carried_two (λ s t. ImportStops (g.R.Shelf.meaning s) (g.R.Shelf.meaning t) c.in-Err.stop) c.args.rack c.over-watched.result.shelf c.into_shelf.result c.in-Err.watched.shelf c.over-watched.ensures c.into_shelf.ensures.shelf c.in-Err.ensures.imported
+
+pub returns-in-Err-clause-again : goal.returns-in-Err-clause-again
+returns-in-Err-clause-again g c = carried_two (λ s t. CanImportBehind (g.R.Shelf.meaning t)) c.args.rack c.over-watched.result.shelf c.into_shelf.result c.in-Err.watched.shelf c.over-watched.ensures c.into_shelf.ensures.shelf c.in-Err.ensures.again
+
+pub import_group-came-requires : goal.import_group-came-requires
+import_group-came-requires g c = record { can = subst (λ s. CanImport (g.R.Shelf.meaning s)) (sym c.over-watched.ensures) c.requires.can }
