@@ -2,10 +2,11 @@
 use std::alloc::Global;
 use vx_disk::Rack;
 use vx_events::Said;
+use vx_group_facts::volumes_seen;
 use vx_model::{No, OutOfMemory, Stop};
 use vx_order::VolumeRoom;
 use vx_yard::Yard;
-use vx_yard::group_facts::{come_up_group, volumes_of};
+use vx_yard::group_facts::come_up_group;
 use vx_yard::load::let_go_if_down;
 use vx_yard::refusing::refused;
 
@@ -36,7 +37,7 @@ pub(crate) fn group_stopped<R: Rack>(
 /// The tests see the volumes of a group that is up.
 pub(crate) fn note_up<R: Rack>(yard: &mut Yard<R>, site: usize, room: VolumeRoom) {
     let volumes = match yard.disk_sets[site].config() {
-        Some(config) => volumes_of(config, room),
+        Some(config) => volumes_seen(room, config.volumes.as_slice()),
         None => room.into_table(),
     };
     come_up_group(&mut yard.facts[site], volumes);
