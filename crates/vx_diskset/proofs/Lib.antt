@@ -2,6 +2,7 @@ pub mod AloneCalls
 pub mod ApplyGroup
 pub mod Asking
 pub mod BesideLemmas
+pub mod Blamed
 pub mod CallsBurn
 pub mod CrashGroup
 pub mod ExactWrite

@@ -1,4 +1,5 @@
 pub mod Asked
+pub mod Blames
 pub mod Burning
 pub mod DiskSets
 pub mod Fetching

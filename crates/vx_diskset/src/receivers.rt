@@ -7,6 +7,7 @@ ghost use Rattle.vx_history.specs.World.{Node};
 ghost use Rattle.vx_ringio.specs.Spends.{Spends};
 ghost use Rattle.vx_secondary.specs.Receivers.{Wait};
 ghost use Rattle.vx_diskset.specs.Asked.{LeavesAlone, LeavesFuse};
+ghost use Rattle.vx_diskset.specs.Blames.{BlamesGroup, BlamesSite};
 ghost use Rattle.vx_diskset.specs.Burning.{NoMore, OffIf};
 ghost use Rattle.vx_diskset.specs.DiskSets.{CanRead, Later};
 ghost use Rattle.vx_diskset.specs.Holds.{KeptBeside};
@@ -41,6 +42,7 @@ fn log_next<R: Rack>(rvg: &mut Rvg<R>, waiting: &mut Waiting) -> Result<(), No>
     ensures group { IsMore (logged_count result) rvg.old.core rvg.new.core }
     ensures spends { Spends (R.meaning rvg.old.shelf) (R.meaning rvg.new.shelf) }
     ensures off { IsFalse (R.meaning rvg.old.shelf).down → OffIf result (R.meaning rvg.new.shelf).down }
+    ensures blames { IfErr result (BlamesGroup rvg.old.core.units) }
     ensures later { Later (DiskSet.Up rvg.old) (DiskSet.Up rvg.new) }
 {
     let Some(update) = waiting.get(0) else {
@@ -63,6 +65,8 @@ fn log_waiting<R: Rack>(rvg: &mut Rvg<R>, waiting: &mut Waiting, count: u32) -> 
     ensures waits { Wait rvg.new.core (R.meaning rvg.new.shelf).size waiting.new }
     ensures spends { Spends (R.meaning rvg.old.shelf) (R.meaning rvg.new.shelf) }
     ensures off { IsFalse (R.meaning rvg.old.shelf).down → OffIf result (R.meaning rvg.new.shelf).down }
+    ensures blames { IfErr result (BlamesGroup rvg.old.core.units) }
+    ensures units { rvg.new.core.units ≡ rvg.old.core.units }
     ensures later { Later (DiskSet.Up rvg.old) (DiskSet.Up rvg.new) }
 {
     for _ in 0..count {
@@ -82,6 +86,7 @@ fn apply_oldest<R: Rack>(rvg: &mut Rvg<R>, waiting: &mut Waiting, count: u32) ->
     ensures waits { Wait rvg.new.core (R.meaning rvg.new.shelf).size waiting.new }
     ensures spends { Spends (R.meaning rvg.old.shelf) (R.meaning rvg.new.shelf) }
     ensures off { IsFalse (R.meaning rvg.old.shelf).down → OffIf result (R.meaning rvg.new.shelf).down }
+    ensures blames { IfErr result (BlamesGroup rvg.old.core.units) }
     ensures later { Later (DiskSet.Up rvg.old) (DiskSet.Up rvg.new) }
 {
     log_waiting(rvg, waiting, count)?;
@@ -156,6 +161,7 @@ impl<R: Rack> DiskSet<R> {
         ensures brought { (beside : KeptBeside) (n : Node) → SiteStands beside n self.old → CanReceive beside n → IfOk result (λ r. r.acks ≡ true → InVolumes r.number self.new) }
         ensures called { (beside : KeptBeside) (n : Node) → SiteStands beside n self.old → LeavesFuse NoMore (reached_by result) self.old self.new }
         ensures role { KeepsRole self.old self.new }
+        ensures blames { (beside : KeptBeside) (n : Node) → SiteStands beside n self.old → IfErr result (BlamesSite n) }
         ensures later { Later self.old self.new }
     {
         match self.apply_received(count) {
@@ -176,6 +182,7 @@ impl<R: Rack> DiskSet<R> {
         ensures brought { (beside : KeptBeside) (n : Node) → SiteStands beside n self.old → CanReceive beside n → IfOk result (λ r. r.acks ≡ true → InVolumes r.number self.new) }
         ensures called { (beside : KeptBeside) (n : Node) → SiteStands beside n self.old → LeavesFuse NoMore (reached_by result) self.old self.new }
         ensures role { KeepsRole self.old self.new }
+        ensures blames { (beside : KeptBeside) (n : Node) → SiteStands beside n self.old → IfErr result (BlamesSite n) }
         ensures later { Later self.old self.new }
     {
         match self {

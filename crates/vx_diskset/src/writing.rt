@@ -12,6 +12,7 @@ ghost use Rattle.vx_model.specs.declared.no.No.TheVariants.{Down as IsOff};
 ghost use Rattle.vx_events.specs.Fuses.{ring_taken};
 ghost use Rattle.vx_srl.specs.Views.{BodyFits, free_of};
 ghost use Rattle.vx_diskset.specs.Asked.{LeavesFuse, WritesUnder};
+ghost use Rattle.vx_diskset.specs.Blames.{BlamesGroup, BlamesSite};
 ghost use Rattle.vx_diskset.specs.Burning.{NoMore, IsLogged, OffIf, said_by};
 ghost use Rattle.vx_diskset.specs.DiskSets.{Later, CanLog, CanWrite, LoggedUp, WroteUp, is_off};
 ghost use Rattle.vx_diskset.specs.Needs.{HasRoom, NoneNeeds};
@@ -44,6 +45,7 @@ pub(crate) fn apply_group<R: Rack>(rvg: &mut Rvg<R>, to: u64) -> Result<u64, No>
     ensures group { IsMore 0 rvg.old.core rvg.new.core }
     ensures spends { Spends (R.meaning rvg.old.shelf) (R.meaning rvg.new.shelf) }
     ensures off { OffIf result (R.meaning rvg.new.shelf).down }
+    ensures blames { IfErr result (BlamesGroup rvg.old.core.units) }
     ensures later { Later (DiskSet.Up rvg.old) (DiskSet.Up rvg.new) }
 {
     let answer = rvg.apply(to);
@@ -65,6 +67,7 @@ fn reclaim_group<R: Rack>(rvg: &mut Rvg<R>, to: u64) -> Result<(), No>
     ensures group { IsMore 0 rvg.old.core rvg.new.core }
     ensures spends { Spends (R.meaning rvg.old.shelf) (R.meaning rvg.new.shelf) }
     ensures off { OffIf result (R.meaning rvg.new.shelf).down }
+    ensures blames { IfErr result (BlamesGroup rvg.old.core.units) }
     ensures later { Later (DiskSet.Up rvg.old) (DiskSet.Up rvg.new) }
 {
     // Numbers are above 0.
@@ -87,6 +90,7 @@ fn make_room<R: Rack>(rvg: &mut Rvg<R>, count: u64, hold: u64) -> Result<(), No>
     ensures group { IsMore 0 rvg.old.core rvg.new.core }
     ensures spends { Spends (R.meaning rvg.old.shelf) (R.meaning rvg.new.shelf) }
     ensures off { IsFalse (R.meaning rvg.old.shelf).down → OffIf result (R.meaning rvg.new.shelf).down }
+    ensures blames { IfErr result (BlamesGroup rvg.old.core.units) }
     ensures later { Later (DiskSet.Up rvg.old) (DiskSet.Up rvg.new) }
 {
     if rvg.free() > count {
@@ -122,6 +126,7 @@ pub(crate) fn write_group<R: Rack>(
     ensures off { IsFalse (R.meaning rvg.old.shelf).down → OffIf result (R.meaning rvg.new.shelf).down }
     ensures called { (beside : KeptBeside) (n : Node) → IsUpAt beside n rvg.old.core (R.meaning rvg.old.shelf) → LeavesFuse IsLogged (said_by result) (DiskSet.Up rvg.old) (DiskSet.Up rvg.new) }
     ensures cuts { IsFalse (R.meaning rvg.old.shelf).down → blocks_in bytes.now < free_of rvg.old.core.log → BodyFits rvg.old.core.log bytes.now → result ≡ Err IsOff → RackIsShort 4 (R.meaning rvg.old.shelf).disks }
+    ensures blames { IfErr result (BlamesGroup rvg.old.core.units) }
     ensures later { Later (DiskSet.Up rvg.old) (DiskSet.Up rvg.new) }
 {
     if rvg.head() >= MOST_NUMBER {
@@ -164,6 +169,7 @@ impl<R: Rack> DiskSet<R> {
         ensures wrote { (n : Node) → StandsAlone n self.old → CanWrite n volume start (blocks_in bytes.now)
             → WroteAt site_alone n (record { volume = volume; start = start; bytes = bytes.now }) self.old self.new result }
         ensures called { (beside : KeptBeside) (n : Node) → SiteStands beside n self.old → WritesUnder bytes.now (said_by result) self.old self.new }
+        ensures blames { (beside : KeptBeside) (n : Node) → SiteStands beside n self.old → IfErr result (BlamesSite n) }
         ensures later { Later self.old self.new }
     {
         let hold = self.last();
@@ -187,6 +193,7 @@ impl<R: Rack> DiskSet<R> {
             → WroteAt beside n (record { volume = volume; start = start; bytes = bytes.now }) self.old self.new result }
         ensures called { (beside : KeptBeside) (n : Node) → SiteStands beside n self.old → WritesUnder bytes.now (said_by result) self.old self.new }
         ensures role { KeepsRole self.old self.new }
+        ensures blames { (beside : KeptBeside) (n : Node) → SiteStands beside n self.old → IfErr result (BlamesSite n) }
         ensures later { Later self.old self.new }
     {
         match self.write_up(volume, start, bytes, hold) {
@@ -211,6 +218,7 @@ impl<R: Rack> DiskSet<R> {
             → WroteUp beside n (record { volume = volume; start = start; bytes = bytes.now }) self.old self.new result }
         ensures called { (beside : KeptBeside) (n : Node) → SiteStands beside n self.old → WritesUnder bytes.now (said_by result) self.old self.new }
         ensures role { KeepsRole self.old self.new }
+        ensures blames { (beside : KeptBeside) (n : Node) → SiteStands beside n self.old → IfErr result (BlamesSite n) }
         ensures later { Later self.old self.new }
     {
         match self {
@@ -272,6 +280,7 @@ impl<R: Rack> DiskSet<R> {
         ensures brought { IfOk result (λ number. InVolumes number self.new) }
         ensures called { (beside : KeptBeside) (n : Node) → SiteStands beside n self.old → LeavesFuse NoMore (said_by result) self.old self.new }
         ensures role { KeepsRole self.old self.new }
+        ensures blames { (beside : KeptBeside) (n : Node) → SiteStands beside n self.old → IfErr result (BlamesSite n) }
         ensures later { Later self.old self.new }
     {
         match self.apply_up(to) {
@@ -292,6 +301,7 @@ impl<R: Rack> DiskSet<R> {
         ensures brought { IfOk result (λ number. InVolumes number self.new) }
         ensures called { (beside : KeptBeside) (n : Node) → SiteStands beside n self.old → LeavesFuse NoMore (said_by result) self.old self.new }
         ensures role { KeepsRole self.old self.new }
+        ensures blames { (beside : KeptBeside) (n : Node) → SiteStands beside n self.old → IfErr result (BlamesSite n) }
         ensures later { Later self.old self.new }
     {
         match self {

@@ -114,7 +114,7 @@ fit_ends p s d middle fails said last (GivesUp why other none is leaves) fit = s
 fit_ends p s d middle fails said last (IsUnread disk asks here one is leaves) fit = subst LinksFit (sym leaves) fit
 fit_ends p s d middle fails said last (HeaderHalts number disk opens writes here one is leaves) fit =
     subst LinksFit (sym leaves) (fit_halved middle (DeliverAt number) p disk opens writes fit)
-fit_ends p s d middle fails said last (ApplyHalts disk opens one is leaves) fit = subst LinksFit (sym leaves) (fit_happened middle (Fault s disk) false fit)
+fit_ends p s d middle fails said last (ApplyHalts disk opens here one is leaves) fit = subst LinksFit (sym leaves) (fit_happened middle (Fault s disk) false fit)
 fit_ends p s d middle fails said last (HeaderCut number kept taken opens writes fused none is leaves) fit =
     subst LinksFit (sym leaves)
     (fit_crashed_as (halved middle (DeliverAt number) p 0) p kept taken (halved_up middle (DeliverAt number) p 0 opens.0) (fit_halved middle (DeliverAt number) p 0 opens writes fit))

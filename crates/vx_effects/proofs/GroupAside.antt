@@ -1,5 +1,5 @@
 -- How a line over a group of disks ends changes its own site alone.
-use Rattle.std.proofs.Common.{◌≡◌, ◌∙◌, ◌+◌, ℕ, List, false, refl, ap, sym, subst, arith, ◌++◌, ◌∷◌, []}
+use Rattle.std.proofs.Common.{◌≡◌, ◌∙◌, ◌+◌, ℕ, List, false, refl, ap, arith, ◌++◌, ◌∷◌, []}
 use Rattle.std.specs.Prelude.{not, Option, None}
 use Rattle.vx_model.specs.declared.no.No.TheVariants.{Role as WrongRole, Down as NotUp}
 use Rattle.vx_model.specs.declared.site.SiteState.{SiteState}
@@ -207,7 +207,7 @@ pub group_ends_change : (told : Type 0) (d : Doubted) (line : ScriptLine) (s : �
     → ChangesNode s d new
 group_ends_change told d line s fails said new (GroupDone next are does left) =
     ends_by s line next d _ new (events_change (d.world.nodes s) s line d) left
-group_ends_change told d line s fails said new (GroupLacks why wants none says same) = subst (λ (e : Doubted). ChangesNode s d e) (sym same) (changes_same s d)
+group_ends_change told d line s fails said new (GroupLacks why wants none says left) = ends_by s line _ d d new (changes_same s d) left
 group_ends_change told d line s fails said new (GroupFails disk next are has spoils says left) =
     ends_by s line next d _ new (refused_change (d.world.nodes s) s line d) left
 group_ends_change told d line s fails said new (KeptUnread disk next site is are has back says left) =

@@ -1,6 +1,6 @@
 -- The failed calls in spite of which a line is done.
-use Rattle.std.proofs.Common.{◌≡◌, List, ◌∷◌, [], false, true, refl, subst, sym}
-use Rattle.std.specs.Prelude.{IsSome, None, Option}
+use Rattle.std.proofs.Common.{◌≡◌, ◌∷◌, [], false, true, refl, subst, sym}
+use Rattle.std.specs.Prelude.{IsSome, Option}
 use Rattle.vx_history.specs.Groups.{GroupNode}
 use Rattle.vx_history.specs.World.{World}
 use Rattle.vx_events.specs.Fails.{AreBorne, Fails}

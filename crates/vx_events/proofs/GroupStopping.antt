@@ -13,7 +13,7 @@ use Rattle.vx_model.specs.declared.site.SiteState.{SiteState}
 use Rattle.vx_model.specs.declared.site.SiteState.TheVariants.{Bare, Up, Deported, Down}
 use Rattle.vx_script.specs.declared.line.ScriptLine.{ScriptLine}
 use Rattle.vx_script.specs.declared.line.ScriptLine.TheVariants.{GroupInit, GroupDeport, GroupImport, Volume, PlexDetach, PlexAttach, Disk, Crash, Fuse, Recover, Write, Put, Read, Show}
-use Rattle.vx_events.proofs.Noting.{as_like, like_disks, like_noted, like_self, like_then, same_like}
+use Rattle.vx_events.proofs.Noting.{as_like, like_disks, like_noted, like_self, like_then}
 use Rattle.vx_events.proofs.Stopping.{runs_as}
 use Rattle.vx_events.specs.Doubts.{run_as}
 use Rattle.vx_events.specs.Failing.{is_failing}
@@ -88,7 +88,7 @@ pub group_stops : (told : Type 0) (d : Doubted) (line : ScriptLine) (s : ℕ) (f
     → GroupStops d new
 group_stops told d line s fails said new (GroupDone next are does left) =
     stop_by d new s line next (group_events (d.world.nodes s) s line) (events_tell (d.world.nodes s) s line) left
-group_stops told d line s fails said new (GroupLacks why wants none says same) = record { events = []; stops = EventsDone d refl refl (same_like d new same) }
+group_stops told d line s fails said new (GroupLacks why wants none says left) = stop_by d new s line _ [] refl left
 group_stops told d line s fails said new (GroupFails disk next are has spoils says left) =
     stop_by d new s line next (refused_events (d.world.nodes s) s line) (refused_tell (d.world.nodes s) s line) left
 group_stops told d line s fails said new (KeptUnread disk next site is are has back says left) =

@@ -7,7 +7,7 @@ use Rattle.vx_model.specs.declared.link.SyncMode.TheVariants.{Off as NeverWaits,
 use Rattle.vx_model.specs.declared.no.No.TheVariants.{Device}
 use Rattle.vx_history.specs.Doubts.{Doubted, halved}
 use Rattle.vx_history.specs.Step.{run}
-use Rattle.vx_history.specs.World.{World, empty_world}
+use Rattle.vx_history.specs.World.{empty_world}
 use Rattle.vx_history.specs.declared.event.Event.TheVariants.{Site as MakeSite, Raw as MakeRaw, Set as SetAt, Crash as CrashAt}
 use Rattle.vx_script.specs.declared.line.ScriptLine.{ScriptLine}
 use Rattle.vx_script.specs.declared.line.ScriptLine.TheVariants.{Link, Set, Crash}

@@ -31,7 +31,7 @@ link_stops told is_told d line fails said new (LinksHalt e site disk middle come
   are = inl refl;
   stops = Halts e site disk middle comes is (links_like line d (halved middle e site disk) new leads);
 }
-link_stops told is_told d line fails said new (AppliesPart before rest site count reached disk last split runs none is says leads) = record {
+link_stops told is_told d line fails said new (AppliesPart before rest site count reached disk last split runs none here is says leads) = record {
   events = before ++ Fault site disk ∷ [];
   came = AppliedPart before rest site count reached disk split refl;
   ending = fails;

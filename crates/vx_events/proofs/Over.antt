@@ -5,7 +5,7 @@ use Rattle.vx_model.specs.declared.no.No.{No}
 use Rattle.vx_history.specs.Doubts.{Doubted}
 use Rattle.vx_history.specs.Groups.{GroupNode}
 use Rattle.vx_history.specs.Stops.{AllDone as EventsDone}
-use Rattle.vx_history.specs.World.{Node, World}
+use Rattle.vx_history.specs.World.{World}
 use Rattle.vx_order.specs.Order.{line_refusal}
 use Rattle.vx_order.specs.declared.facts.SiteFacts.{SiteFacts}
 use Rattle.vx_script.specs.declared.line.ScriptLine.{ScriptLine}
@@ -20,7 +20,7 @@ use Rattle.vx_events.specs.GroupNotes.{note_at}
 use Rattle.vx_events.specs.LinkedFacts.{linked_fact, linked_facts, refused_by}
 use Rattle.vx_events.specs.Lines.{LineStep, StepBy}
 use Rattle.vx_events.specs.Plain.{HasNoGroups}
-use Rattle.vx_events.specs.StepsOver.{MakesNoGroup, OverBy, StepOver, fact_of_group, fact_over, facts_over, is_for_group, over_group_at, refused_over}
+use Rattle.vx_events.specs.StepsOver.{MakesNoGroup, OverBy, StepOver, fact_of_group, fact_over, facts_over, is_for_group, refused_over}
 use Rattle.vx_events.specs.declared.said.Said.{Said}
 
 -- functions with the same values

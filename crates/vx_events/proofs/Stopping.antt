@@ -271,7 +271,7 @@ module _ (told : Type 0) (is_told : told) (d : Doubted) (files : Bool) (line : S
   ended fails said new (AllDone c taken borne says leads) =
       let es : List Event = events_of d.world line c in
       bearing fails new c borne (record { events = es; came = Whole refl; stops = all_stop taken d es [] new (sym (all_none s es (all_at d.world line c))) (left_like s line taken d (run_as taken d es) new leads) })
-  ended fails said new (DiskFails c taken before e rest left disk split leaves one says leads) =
+  ended fails said new (DiskFails c taken before e rest left disk split leaves names one says leads) =
       stopping fails new c
       (disk_ended taken d (events_of d.world line c) s c.kept disk before e rest left fails new split (at_of c before e rest split) one
       (left_like s line taken d (run_as taken d (before ++ left)) new leads) leaves)

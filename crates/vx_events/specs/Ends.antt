@@ -24,7 +24,7 @@ use Rattle.vx_script.specs.declared.line.ScriptLine.TheVariants.{Site, Raw, Disk
 use Rattle.vx_events.specs.Doubts.{IsAs, run_as, with_disks}
 use Rattle.vx_events.specs.Facts.{site_number, volume_number}
 use Rattle.vx_events.specs.Failing.{is_failing, made_fail}
-use Rattle.vx_events.specs.Fails.{Fails, AreBorne}
+use Rattle.vx_events.specs.Fails.{Fails, AreBorne, IsSiteDisk}
 use Rattle.vx_events.specs.Found.{ComesUpAs}
 use Rattle.vx_history.specs.Stops.{IsFused}
 use Rattle.vx_events.specs.Lists.{Choice, events_of}
@@ -74,6 +74,12 @@ LeavesOf (ReadAt s volume start count) d left = left ≡ []
 LeavesOf (ApplyAt s count reached) d left = left ≡ Fault s d ∷ []
 LeavesOf (RecoverAt s fails) d left = (left ≡ []) ⊎ (left ≡ RecoverAt s (Some d) ∷ [])
 LeavesOf other d left = ⊥
+
+-- the disk that a failed call of an event at this site names: of a write and of an apply it is one of the site's log and volumes
+abbrev pub MayName : Node → Event → (disk : ℕ) → Type 0
+MayName n (WriteAt s volume start bytes fails) disk = IsSiteDisk n disk
+MayName n (ApplyAt s count reached) disk = IsSiteDisk n disk
+MayName n other disk = Unit {0}
 
 -- the write gives links of its site up, which a header says before the write is logged
 abbrev pub WritesAHeader : World → Event → (site : ℕ) → Type 0
@@ -128,7 +134,7 @@ pub data Ends (told : Type 0) (d : Doubted) (line : ScriptLine) (s : ℕ) (fails
       → IsLeft s line taken d (run_as taken d (events_of d.world line c)) new → Ends told d line s fails said new
   -- a disk failed in an event, behind those before it
   DiskFails : (c : Choice) (taken : Bool) (before : List Event) (e : Event) (rest left : List Event) (disk : ℕ) → events_of d.world line c ≡ before ++ e ∷ rest
-      → LeavesOf e disk left → fails ≡ (s, disk) ∷ [] → said ≡ Refused (Device disk) → IsLeft s line taken d (run_as taken d (before ++ left)) new
+      → LeavesOf e disk left → MayName (d.world.nodes s) e disk → fails ≡ (s, disk) ∷ [] → said ≡ Refused (Device disk) → IsLeft s line taken d (run_as taken d (before ++ left)) new
       → Ends told d line s fails said new
   -- a disk failed in the header that a write begins with: that header and the write may be on the disks of the site, which is in doubt
   HeaderFails : (c : Choice) (e f : Event) (disk : ℕ) → events_of d.world line c ≡ e ∷ [] → LeavesOf e disk (f ∷ []) → WritesAHeader d.world f s

@@ -44,7 +44,7 @@ abbrev pub GroupDoes : (told : Type 0) (s : ℕ) → Node → GroupNode → Scri
 GroupDoes told s n note (GroupInit site) fails said next = FirstNote s n.disks n.blocks fails next × (said ≡ Done)
 GroupDoes told s n note (GroupDeport site) fails said next =
     Reconfigures (λ c d. ConfigLoses s fails (opened_again c) (opened_again d)) NoteSettles note next × (said ≡ Done)
-GroupDoes told s n note (GroupImport site) fails said next = NotesBack s fails note next × (said ≡ Done)
+GroupDoes told s n note (GroupImport site) fails said next = NotesBack told s fails note next × (said ≡ Done)
 GroupDoes told s n note (Volume site volume blocks mirrors layout log map policy) fails said next =
     NotesVolume s fails volume (shape_of blocks mirrors layout log map policy) note next × (said ≡ Done)
 GroupDoes told s n note (PlexDetach site volume plex) fails said next =
@@ -57,7 +57,7 @@ GroupDoes told s n note (WriteLine site volume start count fill) fails said next
 GroupDoes told s n note (Put site volume start bytes) fails said next = NotesWrite s fails (write_to note volume start bytes) note next × (said ≡ Done)
 GroupDoes told s n note (Read site volume start count) fails said next = (next ≡ note) × GivesPlain told note (plain_number note volume) start count said
 GroupDoes told s n note (Show site volume start count) fails said next = (next ≡ note) × GivesPlain told note (plain_number note volume) start count said
-GroupDoes told s n note (Recover site) fails said next = NotesBack s fails note next × SaysBack told (record n { state = Up }) note next said
+GroupDoes told s n note (Recover site) fails said next = NotesBack told s fails note next × SaysBack told (record n { state = Up }) note next said
 GroupDoes told s n note (Disk site disk state) fails said next = (next ≡ note) × (fails ≡ []) × (said ≡ Done)
 GroupDoes told s n note (Crash site pick) fails said next = (next ≡ note) × (fails ≡ []) × (said ≡ Done)
 GroupDoes told s n note (Fuse site calls pick) fails said next = (next ≡ note) × (fails ≡ []) × (said ≡ Done)
@@ -88,10 +88,10 @@ GroupWants note (PlexDetach site volume plex) LastPlex = IsLastPlex note (plain_
 GroupWants note line (Limit Number most) = Commits line
 GroupWants note line why = ⊥
 
--- the configuration in memory stays, and a further one may be on the disks beside it
+-- nothing changes, or a further configuration may be on the disks beside the one in memory
 pub record NotesBegun (note next : GroupNode) : Type 0 where
   pub config : next.config ≡ note.config
-  pub keeps : NoteUnsettles note next
+  pub keeps : (next ≡ note) ⊎ NoteUnsettles note next
 
 -- what a failed call of a line that ends it leaves of the note
 abbrev pub GroupSpoils : (s : ℕ) → GroupNode → ScriptLine → Fails → GroupNode → Type 0
@@ -155,8 +155,9 @@ pub data GroupEnds (told : Type 0) (d : Doubted) (line : ScriptLine) (s : ℕ) (
   -- it is done, in spite of the calls that failed
   GroupDone : (next : GroupNode) → AreOf s fails → GroupDoes told s (d.world.nodes s) (note_at (d.world.nodes s)) line fails said next
       → IsLeftOver s line next (run_as false d (group_events (d.world.nodes s) s line)) new → GroupEnds told d line s fails said new
-  -- it wants something, and has worked on nothing
-  GroupLacks : (why : No) → GroupWants (note_at (d.world.nodes s)) line why → fails ≡ [] → said ≡ Refused why → new ≡ d → GroupEnds told d line s fails said new
+  -- it wants something, and has changed nothing
+  GroupLacks : (why : No) → GroupWants (note_at (d.world.nodes s)) line why → fails ≡ [] → said ≡ Refused why
+      → IsLeftOver s line (note_at (d.world.nodes s)) d new → GroupEnds told d line s fails said new
   -- calls on disks failed, and by the last of them the line
   GroupFails : (disk : ℕ) (next : GroupNode) → AreOf s fails → Contains fails (s, disk) → GroupSpoils s (note_at (d.world.nodes s)) line fails next
       → said ≡ Refused (Device disk) → IsLeftOver s line next (run_as false d (refused_events (d.world.nodes s) s line)) new
@@ -167,7 +168,7 @@ pub data GroupEnds (told : Type 0) (d : Doubted) (line : ScriptLine) (s : ℕ) (
       → GroupEnds told d line s fails said new
   -- a recovery came up, and what is kept of a write that was cut could not be read: the site is down
   KeptUnread : (disk : ℕ) (next : GroupNode) (site : List ℕ) → line ≡ Recover site → AreOf s fails → Contains fails (s, disk)
-      → NotesUnread s fails (note_at (d.world.nodes s)) next → said ≡ Refused (Device disk)
+      → NotesUnread told s fails (note_at (d.world.nodes s)) next → said ≡ Refused (Device disk)
       → IsLeftOver s line next (run_as false d (unread_events (d.world.nodes s) s)) new → GroupEnds told d line s fails said new
   -- the fuse of the disks ran out
   GroupCut : (next : GroupNode) → AreOf s fails → IsFused (d.world.nodes s).fuse → GroupCuts s (note_at (d.world.nodes s)) line fails next

@@ -1,7 +1,7 @@
 -- How a line changes what a site notes of its group of disks.
-use Rattle.std.specs.Prelude.{◌≡◌, ◌⊎◌, ℕ, false, List, [], length, Some, None, unwrap_or, Contains, eqb, if◌then◌else◌}
+use Rattle.std.specs.Prelude.{◌≡◌, ◌≢◌, ◌⊎◌, ◌==◌, ◌<◌, ℕ, false, List, [], length, Some, None, unwrap_or, Contains, if◌then◌else◌}
 use Rattle.vx_model.specs.Content.{Write, zero_block}
-use Rattle.vx_history.specs.Groups.{BlockMay, GroupNode, NoteSame, NoteSettles, NoteUnsettles, note_cut, note_doubt, note_write}
+use Rattle.vx_history.specs.Groups.{BlockMay, GroupNode, NoteSettles, NoteUnsettles, note_cut, note_doubt, note_write}
 use Rattle.vx_history.specs.World.{Node, no_volumes}
 use Rattle.vx_config.specs.Checks.{blocks_of}
 use Rattle.vx_config.specs.declared.config.Config.{Config}
@@ -38,7 +38,7 @@ pub record Reconfigures (Change : Config → Config → Type 0) (Keeps : GroupNo
   pub change : Change old now
   pub keeps : Keeps note new
 
--- the first note of a group, whose volumes are still to be made
+-- the first note of a group, whose volumes are still to be made; imports agree but where a call failed
 pub record FirstNote (s disks blocks : ℕ) (fails : Fails) (new : GroupNode) : Type 0 where
   pub first : Config
   pub now : Config
@@ -46,16 +46,19 @@ pub record FirstNote (s disks blocks : ℕ) (fails : Fails) (new : GroupNode) : 
   pub loses : ConfigLoses s fails first now
   pub is : config_of new.config ≡ Some now
   pub begun : new.begun ≡ []
-  pub loose : new.loose ≡ false
-  pub same : NoteSame no_note new
+  pub loose : (new.loose ≡ false) ⊎ (fails ≢ [])
+  pub size : (v : ℕ) → new.bytes.size v ≡ 0
+  pub others : (v b : ℕ) → new.others v b ≡ []
+  pub cut : new.cut ≡ None
+  pub perhaps : (v p r : ℕ) → new.perhaps v p r ≡ false
 
 -- ---- volumes
 
 -- a further volume begins as zeros, and all others have what they had
 pub record AddsZeros (volume blocks : ℕ) (note new : GroupNode) : Type 0 where
-  pub size : (v : ℕ) → new.bytes.size v ≡ (if eqb v volume then blocks else note.bytes.size v)
-  pub block : (v b : ℕ) → new.bytes.block v b ≡ (if eqb v volume then zero_block else note.bytes.block v b)
-  pub others : (v b : ℕ) → new.others v b ≡ (if eqb v volume then [] else note.others v b)
+  pub size : (v : ℕ) → new.bytes.size v ≡ (if v == volume then blocks else note.bytes.size v)
+  pub block : (v b : ℕ) → new.bytes.block v b ≡ (if v == volume then zero_block else note.bytes.block v b)
+  pub others : (v b : ℕ) → new.others v b ≡ (if v == volume then [] else note.others v b)
   pub same : new ≡ record note { bytes = new.bytes; others = new.others }
 
 -- a volume was made, in the space that the rule gives to it
@@ -92,8 +95,8 @@ pub record NotesCut (s : ℕ) (fails : Fails) (x : Write) (note new : GroupNode)
 -- ---- recoveries
 
 -- A group came up from its disks, with the configuration that was noted or one that may have been there beside it: its disks are held as good but
--- for those on which a call failed, and each block has one of the values that it might have.
-pub record NotesBack (s : ℕ) (fails : Fails) (note new : GroupNode) : Type 0 where
+-- for those on which a call failed, and each block has what it had and might have, or one of these values.
+pub record NotesBack (told : Type 0) (s : ℕ) (fails : Fails) (note new : GroupNode) : Type 0 where
   pub found : List ℕ
   pub one : (found ≡ note.config) ⊎ Contains note.begun found
   pub old : Config
@@ -104,14 +107,14 @@ pub record NotesBack (s : ℕ) (fails : Fails) (note new : GroupNode) : Type 0 w
   pub begun : new.begun ≡ []
   pub loose : new.loose ≡ false
   pub size : (v : ℕ) → new.bytes.size v ≡ blocks_of now.volumes v
-  pub block : (v b : ℕ) → BlockMay note v b (new.bytes.block v b)
-  pub others : (v b : ℕ) → new.others v b ≡ []
+  pub block : (v b : ℕ) → ((new.bytes.block v b ≡ note.bytes.block v b) × (new.others v b ≡ note.others v b)) ⊎ (new.others v b ≡ [])
+  pub may : told → (v b : ℕ) → b < note.bytes.size v → BlockMay note v b (new.bytes.block v b)
   pub cut : new.cut ≡ None
   pub missed : new.missed ≡ note.missed
   pub perhaps : new.perhaps ≡ note.perhaps
 
 -- the same where what is kept of a write that was cut is still to be read
-pub record NotesUnread (s : ℕ) (fails : Fails) (note new : GroupNode) : Type 0 where
+pub record NotesUnread (told : Type 0) (s : ℕ) (fails : Fails) (note new : GroupNode) : Type 0 where
   pub middle : GroupNode
-  pub back : NotesBack s fails note middle
+  pub back : NotesBack told s fails note middle
   pub is : new ≡ record middle { cut = note.cut }

@@ -17,7 +17,7 @@ use Rattle.vx_script.specs.declared.line.ScriptLine.{ScriptLine}
 use Rattle.vx_script.specs.declared.line.ScriptLine.TheVariants.{Link, Set, Deliver, Settle}
 use Rattle.vx_events.specs.Doubts.{IsAs}
 use Rattle.vx_events.specs.Facts.{head_of, site_number}
-use Rattle.vx_events.specs.Fails.{AreBorne, AreEnding, Fails, IsLogDisk}
+use Rattle.vx_events.specs.Fails.{AreBorne, AreEnding, Fails, IsLogDisk, IsSiteDisk}
 use Rattle.vx_events.specs.LinkFinds.{FindsOther}
 use Rattle.vx_events.specs.LinkLists.{link_events}
 use Rattle.vx_events.specs.Sayings.{Replies}
@@ -76,7 +76,7 @@ pub data LinkEnds (told : Type 0) (d : Doubted) (line : ScriptLine) (fails : Fai
   -- a disk of this site failed as waiting records were applied, behind the events before that
   AppliesPart : (before rest : List Event) (site count reached disk : ℕ) (last : Doubted)
       → link_events d.world line ≡ before ++ ApplyAt site count reached ∷ rest → Runs d (before ++ Fault site disk ∷ []) last → all_fails before ≡ []
-      → fails ≡ (site, disk) ∷ [] → said ≡ Refused (Device disk) → AreLeft line d last new
+      → IsSiteDisk (last.world.nodes site) disk → fails ≡ (site, disk) ∷ [] → said ≡ Refused (Device disk) → AreLeft line d last new
       → LinkEnds told d line fails said new
   -- the fuse of this site ran out as waiting records were applied, behind the events before that: it is down, with some of them
   AppliesCut : (before rest : List Event) (site count reached kept : ℕ) (taken : Bool) (middle : Doubted)

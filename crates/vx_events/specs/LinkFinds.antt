@@ -30,7 +30,7 @@ use Rattle.vx_history.specs.declared.sender.SEvent.TheVariants.{Pump as PumpLink
 use Rattle.vx_script.specs.declared.line.ScriptLine.{ScriptLine}
 use Rattle.vx_script.specs.declared.line.ScriptLine.TheVariants.{Deliver, Pump, Settle}
 use Rattle.vx_events.specs.Facts.{head_of, site_number}
-use Rattle.vx_events.specs.Fails.{Fails, IsLogDisk}
+use Rattle.vx_events.specs.Fails.{Fails, IsLogDisk, IsSiteDisk}
 use Rattle.vx_events.specs.declared.said.Said.{Said}
 use Rattle.vx_events.specs.declared.said.Said.TheVariants.{Done, Ignored, Refused, Settled, Taken}
 
@@ -155,7 +155,7 @@ pub data EndsBetween (p s : ℕ) (d middle : Doubted) (fails : Fails) (said : Sa
   -- the disk of p's log failed in a header of it, or a disk as s applied what waits there
   HeaderHalts : (number disk : ℕ) → IsOpen (middle.world.nodes p) → WritesAt middle.world (DeliverAt number) p → IsLogDisk (middle.world.nodes p) disk → fails ≡ (p, disk) ∷ []
       → said ≡ Refused (Device disk) → last ≡ halved middle (DeliverAt number) p disk → EndsBetween p s d middle fails said last
-  ApplyHalts : (disk : ℕ) → IsOpen (middle.world.nodes s) → fails ≡ (s, disk) ∷ [] → said ≡ Refused (Device disk)
+  ApplyHalts : (disk : ℕ) → IsOpen (middle.world.nodes s) → IsSiteDisk (last.world.nodes s) disk → fails ≡ (s, disk) ∷ [] → said ≡ Refused (Device disk)
       → last ≡ happened middle (Fault s disk) false → EndsBetween p s d middle fails said last
   -- the fuse of p ran out in a header, or that of s as it applied what waits there
   HeaderCut : (number kept : ℕ) (taken : Bool) → IsOpen (middle.world.nodes p) → WritesAt middle.world (DeliverAt number) p → IsFused (d.world.nodes p).fuse

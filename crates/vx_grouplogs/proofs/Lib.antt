@@ -4,3 +4,7 @@ pub mod GroupLemmas
 pub mod LoadedLemmas
 pub mod OnLemmas
 pub mod OnCalls
+pub mod DirtyLemmas
+pub mod SeenLemmas
+pub mod ZeroRuns
+pub mod BeginLemmas

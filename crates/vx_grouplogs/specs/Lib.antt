@@ -4,3 +4,4 @@ pub mod Marking
 pub mod Clearing
 pub mod Loading
 pub mod On
+pub mod Zeroing

@@ -5,11 +5,12 @@ ghost use Rattle.vx_disk.specs.Shelf.{Goes};
 ghost use Rattle.vx_grouplogs.specs.Clearing.{DrlFew};
 ghost use Rattle.vx_grouplogs.specs.Covering.{AllAlike, OnLogs};
 ghost use Rattle.vx_grouplogs.specs.Keeps.{KeepsGroup};
-ghost use Rattle.vx_grouplogs.specs.Marking.{HoldRegions};
+ghost use Rattle.vx_grouplogs.specs.Marking.{HoldRegions, HoldsMany, MarksFewer, MarksOnly, NoMarks};
 ghost use Rattle.vx_grouplogs.specs.On.{VolumeOn};
 ghost use Rattle.vx_logs.specs.Dirtying.{DrlHolds};
 ghost use Rattle.vx_logs.specs.Writes.{first_region, last_region};
 ghost use Rattle.vx_logs.specs.declared.logs.Logs.{Logs as LogsValue};
+ghost use Rattle.vx_model.specs.Sizes.{regions_of as regions_in};
 ghost use Rattle.vx_volume.specs.Plexes.{DisksFit};
 
 use crate::clearing::clear_marks;
@@ -44,6 +45,7 @@ pub fn guard_run<S: Shelf>(
     ensures held { OnOk result (HoldRegions (first_region block) (last_region block count) logs.new) }
     ensures up { OnOk result (IsTrue (S.meaning shelf.new).down → IsTrue (S.meaning shelf.old).down) }
     ensures down { IfErr result (λ no. IsTrue (S.meaning shelf.new).down) }
+    ensures adds { MarksOnly (regions_in (blocks_of_is config.now.volumes vol)) (first_region block) (last_region block count) logs.old logs.new }
     ensures nothing { DrlHolds (first_region block) (last_region block count) logs.old.drl → shelf.new ≡ shelf.old }
 {
     match mark_run(logs, config, vol, shelf, block, count) {
@@ -77,6 +79,8 @@ pub fn clear_run<S: Shelf>(
     ensures others { (w : ℕ) (l : LogsValue) → (w ≡ vol → ⊥) → VolumeOn config.now w l (S.meaning shelf.old) → VolumeOn config.now w l (S.meaning shelf.new) }
     ensures up { OnOk result (IsTrue (S.meaning shelf.new).down → IsTrue (S.meaning shelf.old).down) }
     ensures down { IfErr result (λ no. IsTrue (S.meaning shelf.new).down) }
+    ensures fewer { MarksFewer (regions_in (blocks_of_is config.now.volumes vol)) logs.old logs.new }
+    ensures off { OnOk result (HoldsMany logs.old.drl → NoMarks (regions_in (blocks_of_is config.now.volumes vol)) logs.new) }
     ensures nothing { DrlFew logs.old.drl → shelf.new ≡ shelf.old }
 {
     match clear_marks(logs, config, vol, shelf) {

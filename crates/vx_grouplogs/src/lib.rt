@@ -3,13 +3,16 @@
 //! Of a block of which the dirty region log has not the region, each plex that is ACTIVE has the same, whatever a crash leaves.
 #![tactic(auto)]
 
+mod beginning;
 mod clearing;
 mod guarding;
 mod loading;
 mod running;
 #[cfg(test)]
 mod tests;
+mod zeroing;
 
+pub use beginning::begin_run;
 pub use clearing::clear_marks;
 pub use guarding::{clear_run, guard_run};
 pub use loading::{Loaded, load_marks};

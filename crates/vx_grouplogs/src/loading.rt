@@ -1,9 +1,10 @@
 // The dirty region log of a volume as an import takes it up.
-ghost use Rattle.std.specs.Prelude.{◌≡◌, ◌<◌, IfErr, IfOk, IsFalse, IsTrue, Some};
+ghost use Rattle.std.specs.Prelude.{◌≡◌, ◌+◌, ◌<◌, IfErr, IfOk, IsFalse, IsTrue, Some};
 ghost use Rattle.vx_config.specs.Checks.{blocks_of as blocks_of_is, is_sound};
 ghost use Rattle.vx_config.specs.declared.entry.VolumeLog.TheVariants.{Drl as DrlLog};
 ghost use Rattle.vx_disk.specs.Shelf.{Goes, Nothing};
 ghost use Rattle.vx_drl.specs.Dirty.{Dirty};
+ghost use Rattle.vx_drl.specs.declared.marks.TheConstants.{MOST_HELD};
 ghost use Rattle.vx_grouplogs.specs.Loading.{LoadIsRefused, TakesUp, on_failed as on_failed_is};
 ghost use Rattle.vx_logs.specs.Held.{DrlFits, is_used as is_used_is};
 ghost use Rattle.vx_volume.specs.Plexes.{DisksFit};
@@ -12,7 +13,6 @@ use std::alloc::Global;
 use vx_config::{Config, VolumeLog};
 use vx_disk::Shelf;
 use vx_drl::Drl;
-use vx_logs::load_drl;
 use vx_maplog::log_of;
 use vx_model::{No, Stop};
 
@@ -64,6 +64,7 @@ pub fn load_marks<S: Shelf>(
     requires up { IsFalse (S.meaning shelf.old).down }
     ensures takes { IfOk result (λ loaded. TakesUp config.now vol loaded.drl loaded.gone (S.meaning shelf.old) (S.meaning shelf.new)) }
     ensures fits { IfOk result (λ loaded. (d : Dirty) → loaded.drl ≡ Some d → DrlFits config.now vol d) }
+    ensures full { IfOk result (λ loaded. (d : Dirty) → loaded.drl ≡ Some d → d.held ≡ MOST_HELD + 1) }
     ensures goes { Goes Nothing (S.meaning shelf.old) (S.meaning shelf.new) }
     ensures cause { IfErr result (LoadIsRefused (S.meaning shelf.new)) }
 {
@@ -79,8 +80,11 @@ pub fn load_marks<S: Shelf>(
             gone: true,
         });
     }
-    match load_drl(alloc, shelf, config, vol) {
-        Ok(drl) => Ok(Loaded { drl, gone: false }),
+    match Drl::load(alloc, shelf, config, vol) {
+        Ok(drl) => Ok(Loaded {
+            drl: Some(drl),
+            gone: false,
+        }),
         Err(Stop::No(No::Device { .. })) => Ok(Loaded {
             drl: None,
             gone: true,

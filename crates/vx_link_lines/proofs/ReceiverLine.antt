@@ -56,6 +56,7 @@ use Rattle.vx_order.specs.declared.facts.SiteFacts.{SiteFacts}
 use Rattle.vx_packet.specs.Assemblies.{Assembled}
 use Rattle.vx_script.specs.declared.line.ScriptLine.TheVariants.{Apply}
 use Rattle.vx_diskset.proofs.Worked.{stands_worked}
+use Rattle.vx_diskset.specs.Blames.{BlamesSite}
 use Rattle.vx_diskset.specs.Asked.{FusedAs, LeavesFuse, size_in}
 use Rattle.vx_diskset.specs.Burning.{Burnt, NoMore}
 use Rattle.vx_diskset.specs.DiskSets.{worked}
@@ -282,12 +283,12 @@ module _ {R : Type 0} {g : Ghosts R} where
         }
 
     -- it was refused
-    pub received_refused : (why : No) (said : Said) (f f' : SiteFacts) → said ≡ Refused why → ReachedAt (beside_of d s) n count before after (Err why) → LeavesFuse NoMore (Refused why) before after → slice_get old.facts.items s ≡ Some f
+    pub received_refused : (why : No) (said : Said) (f f' : SiteFacts) → said ≡ Refused why → BlamesSite n why → ReachedAt (beside_of d s) n count before after (Err why) → LeavesFuse NoMore (Refused why) before after → slice_get old.facts.items s ≡ Some f
         → f' ≡ noted_facts why f → new.facts.items ≡ slice_set old.facts.items s f' → LetsGoBy why old new s → Leads d (Apply name count) said old new
-    received_refused why said f f' says is calls at noted facts lets = subst (λ (r : Said). Leads d (Apply name count) r old new) (sym says) (by_why why is calls noted lets)
+    received_refused why said f f' says blames is calls at noted facts lets = subst (λ (r : Said). Leads d (Apply name count) r old new) (sym says) (by_why why blames is calls noted lets)
       where
-        by_why : (why : No) → ReachedAt (beside_of d s) n count before after (Err why) → LeavesFuse NoMore (Refused why) before after → f' ≡ noted_facts why f → LetsGoBy why old new s → Leads d (Apply name count) (Refused why) old new
-        by_why (Device disk) is calls noted lets = apply_refused d old new name count s before after stands here changed keeps (Device disk) (Refused (Device disk)) f f' refl is calls at noted facts lets
-        by_why (Limit what most) is calls noted lets = none_left what most f f' is calls at noted facts lets
-        by_why Off is calls noted lets = apply_refused d old new name count s before after stands here changed keeps Off (Refused Off) f f' refl is calls at noted facts lets
-        by_why other is calls noted lets = absurd is
+        by_why : (why : No) → BlamesSite n why → ReachedAt (beside_of d s) n count before after (Err why) → LeavesFuse NoMore (Refused why) before after → f' ≡ noted_facts why f → LetsGoBy why old new s → Leads d (Apply name count) (Refused why) old new
+        by_why (Device disk) blames is calls noted lets = apply_refused d old new name count s before after stands here changed keeps (Device disk) (Refused (Device disk)) f f' refl blames is calls at noted facts lets
+        by_why (Limit what most) blames is calls noted lets = none_left what most f f' is calls at noted facts lets
+        by_why Off blames is calls noted lets = apply_refused d old new name count s before after stands here changed keeps Off (Refused Off) f f' refl blames is calls at noted facts lets
+        by_why other blames is calls noted lets = absurd is

@@ -1,9 +1,9 @@
 -- The logs of a group beside its calls, and the group beside calls on a log.
 use Rattle.std.proofs.Common.{◌≡◌, ◌∙◌, inl, inr, ⊎_elim, ℕ, ◌/◌, ◌≤◌, Bool, true, false, IsTrue, Option, Some, None, List, length, refl, sym, ap, subst, arith}
-use Rattle.vx_config.specs.Checks.{is_sound}
+use Rattle.vx_config.specs.Checks.{blocks_of, is_sound}
 use Rattle.vx_config.specs.declared.config.Config.{Config}
 use Rattle.vx_model.specs.declared.site.PlexState.TheVariants.{Stale}
-use Rattle.std.specs.Prelude.{Result, Ok, Err, not}
+use Rattle.std.specs.Prelude.{IfOk, Result, Ok, Err, not}
 use Rattle.vx_disk.specs.Causes.{Cause}
 use Rattle.vx_disk.specs.declared.shelf.ShelfError.{ShelfError}
 use Rattle.vx_disk.specs.declared.shelf.ShelfError.TheVariants.{Fault, Down}
@@ -31,7 +31,8 @@ use Rattle.vx_group.proofs.HoldLemmas.{wide_none, wide_shape}
 use Rattle.vx_group.proofs.Standing.{fit_of, kept_of, low_Stands, sound_of}
 use Rattle.vx_grouplogs.specs.Covering.{AllAlike, OnLogs}
 use Rattle.vx_grouplogs.specs.Keeps.{KeepsGroup}
-use Rattle.vx_grouplogs.specs.Marking.{HoldRegions}
+use Rattle.vx_grouplogs.specs.Marking.{HoldRegions, MarksFewer, MarksOnly, NoMarks}
+use Rattle.vx_model.specs.Sizes.{regions_of as regions_in}
 use Rattle.vx_grouplogs.specs.On.{ReadsOne, SparesVolume, VolumeOn}
 use Rattle.vx_grouplogs.proofs.LogPlaces.{logs_above}
 use Rattle.vx_grouplogs.proofs.OnLemmas.{on_acts, spares_marked, spares_none, spares_other}
@@ -50,21 +51,28 @@ each_on c d m m' stands acts = record {
   each = λ w l on. on_acts Nothing (wide c).config (wide d).config (sound_of (wide c) m stands.stands) w l m m' (fit_of (wide c) m stands.stands) acts (spares_none Nothing (wide c).config w l (λ u b x none. none)) on;
 }
 
+-- the configuration in memory has the places of that with the plex that is held back
+pub inner_wide : (c : GroupCore) (m : Meaning) → GroupStands c m → SameShape c.inner.config (wide c).config
+inner_wide c m stands = by c.held refl
+  where
+    by : (o : Option Held) → c.held ≡ o → SameShape c.inner.config (wide c).config
+    by None is = subst (λ (x : Config). SameShape c.inner.config x) (sym (ap (λ (i : Inner). i.config) (wide_none c is))) (same_shape c.inner.config)
+    by (Some h) is =
+        let kept = stands.held h is in
+        let on : Config = active_at h.vol h.plex c.inner.config in
+        subst (λ (o : Option Held). SameShape c.inner.config (config_by o c.inner.config)) (sym is)
+        (subst (λ (x : Config). SameShape x on) kept.back (stated_shape h.vol h.plex Stale (whole_of on h.vol h.plex) on))
+
+-- so it is of two groups in a row, as the disks may keep them
+pub wide_both : (c d : GroupCore) (m : Meaning) → GroupStands c m → SameShape d.inner.config c.inner.config → SameShape (wide d).config (wide c).config
+wide_both c d m stands shape = then_shape (wide d).config d.inner.config (wide c).config (wide_shape d) (then_shape d.inner.config c.inner.config (wide c).config shape (inner_wide c m stands))
+
 -- commits that touch no block of a plex
 module _ (c d : GroupCore) (m m' : Meaning) (stands : GroupStands c m) (narrows : GroupNarrows c d m m') where
-  -- the configuration in memory has the places of that with the plex that is held back
-  inner_wide : (o : Option Held) → c.held ≡ o → SameShape c.inner.config (wide c).config
-  inner_wide None is = subst (λ (x : Config). SameShape c.inner.config x) (sym (ap (λ (i : Inner). i.config) (wide_none c is))) (same_shape c.inner.config)
-  inner_wide (Some h) is =
-      let kept = stands.held h is in
-      let on : Config = active_at h.vol h.plex c.inner.config in
-      subst (λ (o : Option Held). SameShape c.inner.config (config_by o c.inner.config)) (sym is)
-      (subst (λ (x : Config). SameShape x on) kept.back (stated_shape h.vol h.plex Stale (whole_of on h.vol h.plex) on))
-
   pub narrows_acts : PlexActs Nothing (wide c).config (wide d).config m m'
   narrows_acts = record {
     acts = wider_Acts Nothing Nothing _ m m' narrows.acts (λ u b x none. none);
-    shape = then_shape (wide d).config d.inner.config (wide c).config (wide_shape d) (then_shape d.inner.config c.inner.config (wide c).config narrows.shape (inner_wide c.held refl));
+    shape = wide_both c d m stands narrows.shape;
     on = narrows.wide_on;
   }
 
@@ -177,3 +185,27 @@ not_false false is = absurd (let clash : true ≡ false = is in cc)
 pub not_true : (b : Bool) → not b ≡ true → b ≡ false
 not_true true is = absurd (let clash : false ≡ true = is in cc)
 not_true false is = refl
+
+-- ---- the regions that a log has
+
+pub same_only : (n first last : ℕ) (l : Logs) → MarksOnly n first last l l
+same_only n first last l = record { each = λ r lt is. inl is }
+
+pub same_fewer : (n : ℕ) (l : Logs) → MarksFewer n l l
+same_fewer n l = record { each = λ r lt is. is }
+
+-- a volume has as many regions behind calls that change nothing, by the configuration in memory where no plex is held back
+pub same_regions : (c d : GroupCore) (v : ℕ) (m m' : Meaning) → d.held ≡ None → Goes Nothing (inner_meaning (wide c) m) (inner_meaning (wide d) m') → regions_in (blocks_of d.inner.config.volumes v) ≡ regions_in (blocks_of (wide c).config.volumes v)
+same_regions c d v m m' none goes = ap (λ (i : Inner). regions_in (blocks_of i.config.volumes v)) (sym (wide_none d none)) ∙ ap regions_in (goes.size v)
+
+-- a volume without blocks has none
+pub no_regions : (c d : GroupCore) (v blocks : ℕ) (l : Logs) (m m' : Meaning) → d.held ≡ None → Goes Nothing (inner_meaning (wide c) m) (inner_meaning (wide d) m') → blocks ≡ blocks_of d.inner.config.volumes v → blocks ≡ 0 → NoMarks (regions_in (blocks_of (wide c).config.volumes v)) l
+no_regions c d v blocks l m m' none goes is zero = record {
+  each = λ r lt.
+      let same : blocks_of d.inner.config.volumes v ≡ blocks_of (wide c).config.volumes v = ap (λ (i : Inner). blocks_of i.config.volumes v) (sym (wide_none d none)) ∙ goes.size v in
+      absurd (omega (arith, lt, same, is, zero));
+}
+
+pub if_ok_any : {T E : Type 0} {P : T → Type 0} (r : Result T E) → ((x : T) → P x) → IfOk r P
+if_ok_any (Ok x) f = f x
+if_ok_any (Err error) f = tt

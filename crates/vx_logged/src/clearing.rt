@@ -5,8 +5,11 @@ ghost use Rattle.vx_disk.specs.Causes.{Cause};
 ghost use Rattle.vx_disk.specs.Shelf.{Goes, Nothing};
 ghost use Rattle.vx_group.specs.Holding.{GroupStands, wide};
 ghost use Rattle.vx_group.specs.Stands.{inner_meaning};
+ghost use Rattle.vx_config.specs.Checks.{blocks_of as blocks_of_is};
 ghost use Rattle.vx_grouplogs.specs.Covering.{AllAlike};
-ghost use Rattle.vx_logged.specs.Logged.{LogOn, OthersOn};
+ghost use Rattle.vx_grouplogs.specs.Marking.{HoldsMany, MarksFewer, NoMarks};
+ghost use Rattle.vx_logged.specs.Logged.{LogKept, LogOn, OthersOn};
+ghost use Rattle.vx_model.specs.Sizes.{regions_of as regions_in};
 
 use crate::keeping::keep_log;
 use crate::readying::ready_group;
@@ -33,6 +36,8 @@ pub fn clear_group<S: Shelf>(
     ensures goes { Goes Nothing (inner_meaning (wide core.old) (S.meaning shelf.old)) (inner_meaning (wide core.new) (S.meaning shelf.new)) }
     ensures log { LogOn core.new vol logs.new (S.meaning shelf.new) }
     ensures others { OthersOn vol core.old core.new (S.meaning shelf.old) (S.meaning shelf.new) }
+    ensures fewer { MarksFewer (regions_in (blocks_of_is (wide core.old).config.volumes vol)) logs.old logs.new }
+    ensures off { IfOk result (λ done. done ≡ true → HoldsMany logs.old.drl → NoMarks (regions_in (blocks_of_is (wide core.old).config.volumes vol)) logs.new) }
     ensures full { IfOk result (λ done. done ≡ false → greatest ≤ core.old.inner.config.serial + 18) }
     ensures trust { OnOk result (core.old.inner.committed ≡ true → core.new.inner.committed ≡ true) }
     ensures agreed { IfErr result (λ e. core.old.inner.committed ≡ true → core.new.inner.agreed ≡ true) }

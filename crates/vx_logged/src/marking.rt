@@ -6,8 +6,10 @@ ghost use Rattle.vx_disk.specs.Causes.{Cause};
 ghost use Rattle.vx_disk.specs.Shelf.{Goes, Nothing};
 ghost use Rattle.vx_group.specs.Holding.{GroupStands, wide};
 ghost use Rattle.vx_group.specs.Stands.{inner_meaning};
+ghost use Rattle.vx_grouplogs.specs.Marking.{MarksOnly};
 ghost use Rattle.vx_logged.specs.Logged.{LogOn, MayWrite, OthersOn};
 ghost use Rattle.vx_logs.specs.Writes.{first_region, last_region};
+ghost use Rattle.vx_model.specs.Sizes.{regions_of as regions_in};
 
 use crate::keeping::keep_log;
 use crate::readying::ready_group;
@@ -17,8 +19,8 @@ use vx_grouplogs::guard_run;
 use vx_logs::Logs;
 
 /// Marks the regions of a run of blocks of a volume durably before a write, and answers whether they may be written so. A log of which the
-/// disk fails is committed as lost. All volumes read as before; whatever is answered, each log stands. The answer is false only where no
-/// serial is left.
+/// disk fails is committed as lost. All volumes read as before; whatever is answered, each log stands, and no other region was marked. The
+/// answer is false only where no serial is left.
 pub fn mark_group<S: Shelf>(
     shelf: &mut S,
     core: &mut GroupCore,
@@ -36,6 +38,7 @@ pub fn mark_group<S: Shelf>(
     ensures goes { Goes Nothing (inner_meaning (wide core.old) (S.meaning shelf.old)) (inner_meaning (wide core.new) (S.meaning shelf.new)) }
     ensures log { LogOn core.new vol logs.new (S.meaning shelf.new) }
     ensures others { OthersOn vol core.old core.new (S.meaning shelf.old) (S.meaning shelf.new) }
+    ensures adds { MarksOnly (regions_in (blocks_of_is (wide core.old).config.volumes vol)) (first_region block) (last_region block count) logs.old logs.new }
     ensures may { IfOk result (λ done. done ≡ true → MayWrite core.new vol (first_region block) (last_region block count) logs.new) }
     ensures full { IfOk result (λ done. done ≡ false → greatest ≤ core.old.inner.config.serial + 18) }
     ensures trust { OnOk result (core.old.inner.committed ≡ true → core.new.inner.committed ≡ true) }

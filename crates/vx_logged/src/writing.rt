@@ -1,11 +1,15 @@
 // A write of a group that is marked first.
-ghost use Rattle.std.specs.Prelude.{◌≡◌, ◌+◌, ◌≤◌, false, length, true, IfErr, OnOk};
+ghost use Rattle.std.specs.Prelude.{◌≡◌, ◌+◌, ◌/◌, ◌≤◌, false, length, true, IfErr, OnOk};
 ghost use Rattle.vx_config.specs.Table.{greatest};
 ghost use Rattle.vx_disk.specs.Causes.{Cause};
 ghost use Rattle.vx_disk.specs.Shelf.{Fits, Goes, Written, Wrote};
 ghost use Rattle.vx_group.specs.Holding.{GroupStands, wide};
 ghost use Rattle.vx_group.specs.Stands.{inner_meaning};
+ghost use Rattle.vx_config.specs.Checks.{blocks_of as blocks_of_is};
+ghost use Rattle.vx_grouplogs.specs.Marking.{MarksOnly};
 ghost use Rattle.vx_logged.specs.Logged.{LogOn, OthersOn};
+ghost use Rattle.vx_logs.specs.Writes.{first_region, last_region};
+ghost use Rattle.vx_model.specs.Sizes.{regions_of as regions_in};
 
 use crate::marking::mark_group;
 use vx_disk::{Shelf, ShelfError};
@@ -32,6 +36,7 @@ pub fn write_marked<S: Shelf>(
     ensures ok { OnOk result (Wrote vol block bytes.now (inner_meaning (wide core.old) (S.meaning shelf.old)) (inner_meaning (wide core.new) (S.meaning shelf.new))) }
     ensures log { stopped.new ≡ false → LogOn core.new vol logs.new (S.meaning shelf.new) }
     ensures others { OthersOn vol core.old core.new (S.meaning shelf.old) (S.meaning shelf.new) }
+    ensures adds { MarksOnly (regions_in (blocks_of_is (wide core.old).config.volumes vol)) (first_region block) (last_region block (length bytes.now / 512)) logs.old logs.new }
     ensures stays { stopped.old ≡ true → stopped.new ≡ true }
     ensures full { stopped.old ≡ false → stopped.new ≡ true → greatest ≤ core.old.inner.config.serial + 18 }
     ensures trust { OnOk result (core.old.inner.committed ≡ true → core.new.inner.committed ≡ true) }

@@ -1,5 +1,8 @@
--- Volumes whose plexes read alike, beside calls of a group.
-use Rattle.std.proofs.Common.{◌≡◌, ◌⊎◌, ◌∙◌, inl, inr, ℕ, Bool, true, false, IsTrue, Option, List, length, refl, sym, ap, subst, arith}
+-- Volumes whose plexes read alike, and what is kept of them, beside calls of a group.
+use Rattle.std.proofs.Common.{◌≡◌, ◌⊎◌, ◌∙◌, inl, inr, ℕ, ◌<◌, Bool, true, false, IsTrue, Option, Some, List, length, refl, sym, ap, subst, arith}
+use Rattle.std.proofs.Math.ListN.{set}
+use Rattle.std.proofs.lemmas.List.{length-set}
+use Rattle.std.specs.Prelude.{slice_get}
 use Rattle.vx_config.specs.declared.config.Config.{Config}
 use Rattle.vx_disk.specs.Shelf.{Covers, Goes, Meaning, Nothing, Values, Written, Wrote}
 use Rattle.vx_kept.specs.Groups.{OnSome, OutsideVolumes}
@@ -11,14 +14,17 @@ use Rattle.vx_group.specs.Stands.{inner_meaning}
 use Rattle.vx_group.specs.declared.group_core.GroupCore.{GroupCore}
 use Rattle.vx_group.specs.declared.group_core.Held.{Held}
 use Rattle.vx_group.proofs.HoldLemmas.{wide_shape}
+use Rattle.vx_grouplogs.specs.Marking.{MarksFewer, MarksOnly}
 use Rattle.vx_grouplogs.specs.On.{ReadsOne}
-use Rattle.vx_logged.specs.Logged.{EachOn, OthersOn}
-use Rattle.vx_logged.proofs.StandLemmas.{each_on}
-use Rattle.vx_loggroup.specs.LoggedVolumes.{AllStand, LoggedStands, OthersStand}
-use Rattle.vx_loggroup.specs.declared.volumes.LoggedVolume.{LoggedVolume}
+use Rattle.vx_logged.specs.Logged.{EachOn, LogOn, OthersOn}
+use Rattle.vx_logged.proofs.StandLemmas.{each_on, same_fewer, same_only}
+use Rattle.vx_logs.specs.declared.logs.Logs.{Logs}
+use Rattle.vx_loggroup.specs.LoggedVolumes.{LoggedStands, OthersStand, VolumeStands, is_alike}
+use Rattle.vx_loggroup.specs.Marks.{ClearsVolume, MarksVolume, region_count}
+use Rattle.vx_loggroup.proofs.SetLemmas.{set_each, set_here, set_other}
 
 module _ (W : Values) (c d : GroupCore) (m m' : Meaning) (goes : Goes W (inner_meaning (wide c) m) (inner_meaning (wide d) m')) where
-  inside_back : (v b : ℕ) → Inside (wide d).config v b → Inside (wide c).config v b
+  pub inside_back : (v b : ℕ) → Inside (wide d).config v b → Inside (wide c).config v b
   inside_back v b is = record { volume = omega (arith, is.volume, goes.units); within = omega (arith, is.within, goes.size v) }
 
   -- a volume of which nothing was written reads alike still
@@ -53,18 +59,9 @@ module _ (W : Values) (c d : GroupCore) (m m' : Meaning) (goes : Goes W (inner_m
 pub others_stand : (W : Values) (v : ℕ) (c : GroupCore) (s : Bool) (d : GroupCore) (t : Bool) (m m' : Meaning) → Goes W (inner_meaning (wide c) m) (inner_meaning (wide d) m') → ((w b : ℕ) (x : List ℕ) → (w ≡ v → ⊥) → W w b x → ⊥)
     → (t ≡ false → s ≡ false) → OthersOn v c d m m' → OthersStand v c s d t m m'
 others_stand W v c s d t m m' goes off stays others = record {
-  each = λ w l apart was. record {
-    on = λ going. others.each w l.logs apart (was.on (stays going));
+  each = λ w l a apart was. record {
+    on = λ going. others.each w l apart (was.on (stays going));
     alike = λ is up. reads_goes W c d m m' goes w (λ b x put. off w b x apart put) up (was.alike is (λ down. up (goes.falls down)));
-  };
-}
-
--- a call that writes no block of a volume
-pub all_stand : (c : GroupCore) (s : Bool) (d : GroupCore) (m m' : Meaning) → Goes Nothing (inner_meaning (wide c) m) (inner_meaning (wide d) m') → EachOn c d m m' → AllStand c s d s m m'
-all_stand c s d m m' goes each = record {
-  each = λ w l was. record {
-    on = λ going. each.each w l.logs (was.on going);
-    alike = λ is up. reads_goes Nothing c d m m' goes w (λ b x none. none) up (was.alike is (λ down. up (goes.falls down)));
   };
 }
 
@@ -73,12 +70,21 @@ pub going_back : (s t : Bool) → (s ≡ true → t ≡ true) → t ≡ false �
 going_back true t stays off = absurd (let clash : true ≡ false = sym (stays refl) ∙ off in cc)
 going_back false t stays off = refl
 
--- such a call leaves what is kept of all volumes
-pub all_whole : (c d : GroupCore) (vs : List LoggedVolume) (s : Bool) (m m' : Meaning) → LoggedStands c vs s m → GroupStands d m' → Goes Nothing (inner_meaning (wide c) m) (inner_meaning (wide d) m') → EachOn c d m m' → LoggedStands d vs s m'
-all_whole c d vs s m m' stands group goes each = record {
+-- as many logs as volumes
+pub many_later : (c d : GroupCore) (n : ℕ) → length (wide d).config.volumes ≡ length (wide c).config.volumes → n ≡ length c.inner.config.volumes → n ≡ length d.inner.config.volumes
+many_later c d n units many = let same = (wide_shape c).volumes in let new = (wide_shape d).volumes in omega (arith, units, many, same, new)
+
+-- a call that writes no block of a volume leaves what is kept of each
+pub all_whole : (c d : GroupCore) (ls : List Logs) (a : List Bool) (s : Bool) (m m' : Meaning) → LoggedStands c ls a s m → GroupStands d m' → Goes Nothing (inner_meaning (wide c) m) (inner_meaning (wide d) m') → EachOn c d m m' → LoggedStands d ls a s m'
+all_whole c d ls a s m m' stands group goes each = record {
   group = group;
-  many = let units : length (wide d).config.volumes ≡ length (wide c).config.volumes = goes.units in let many = stands.many in let same = (wide_shape c).volumes in let new = (wide_shape d).volumes in omega (arith, units, many, same, new);
-  each = λ w l is. (all_stand c s d m m' goes each).each w l (stands.each w l is);
+  many = many_later c d (length ls) goes.units stands.many;
+  each = λ w l is.
+      let was = stands.each w l is in
+      record {
+        on = λ going. each.each w l (was.on going);
+        alike = λ same_at up. reads_goes Nothing c d m m' goes w (λ b x none. none) up (was.alike same_at (λ down. up (goes.falls down)));
+      };
 }
 
 -- where the configuration is as it was, and nothing was written below
@@ -88,3 +94,66 @@ each_below c d m m' stands config held goes =
   where
     same : (wide d).config ≡ (wide c).config
     same = ap (λ (o : Option Held). config_by o d.inner.config) held ∙ ap (λ (x : Config). config_by c.held x) config
+
+-- ---- one log that is changed
+
+pub index_low : (c : GroupCore) (ls : List Logs) (a : List Bool) (s : Bool) (m : Meaning) (v : ℕ) → LoggedStands c ls a s m → v < length (wide c).config.volumes → v < length ls
+index_low c ls a s m v stands lt = let many = stands.many in let same = (wide_shape c).volumes in omega (arith, lt, many, same)
+
+-- a call on one volume, beside what is known of the plexes of the others
+pub set_stands : (W : Values) (c d : GroupCore) (ls : List Logs) (a a' : List Bool) (s t : Bool) (v : ℕ) (l : Logs) (m m' : Meaning) → LoggedStands c ls a s m → GroupStands d m' → Goes W (inner_meaning (wide c) m) (inner_meaning (wide d) m')
+    → ((w b : ℕ) (x : List ℕ) → (w ≡ v → ⊥) → W w b x → ⊥) → (t ≡ false → s ≡ false) → OthersOn v c d m m' → ((w : ℕ) → (w ≡ v → ⊥) → is_alike a' w ≡ is_alike a w) → VolumeStands d v l (is_alike a' v) t m' → LoggedStands d (set ls v l) a' t m'
+set_stands W c d ls a a' s t v l m m' stands group goes off stays others same here = record {
+  group = group;
+  many = many_later c d (length (set ls v l)) goes.units (length-set ls v l ∙ stands.many);
+  each = set_each ls v l (λ w (k : Logs). VolumeStands d w k (is_alike a' w) t m')
+      (λ w k apart is. subst (λ (b : Bool). VolumeStands d w k b t m') (sym (same w apart)) ((others_stand W v c s d t m m' goes off stays others).each w k (is_alike a w) apart (stands.each w k is))) here;
+}
+
+-- a call that writes no block of a volume, on the volume itself
+pub here_stands : (c d : GroupCore) (v : ℕ) (l k : Logs) (a s : Bool) (m m' : Meaning) → VolumeStands c v l a s m → Goes Nothing (inner_meaning (wide c) m) (inner_meaning (wide d) m') → (LogOn c v l m → LogOn d v k m') → VolumeStands d v k a s m'
+here_stands c d v l k a s m m' was goes on = record {
+  on = λ going. on (was.on going);
+  alike = λ is up. reads_goes Nothing c d m m' goes v (λ b x none. none) up (was.alike is (λ down. up (goes.falls down)));
+}
+
+-- where logs are stopped less is kept
+pub stop_stands : (c : GroupCore) (ls : List Logs) (a : List Bool) (t : Bool) (m : Meaning) → LoggedStands c ls a false m → LoggedStands c ls a t m
+stop_stands c ls a t m stands = record {
+  group = stands.group;
+  many = stands.many;
+  each = λ v l is. let was = stands.each v l is in record { on = λ going. was.on refl; alike = was.alike };
+}
+
+-- ---- the regions that logs have
+
+pub same_item : (o : Option Logs) (l k : Logs) → o ≡ Some l → o ≡ Some k → l ≡ k
+same_item o l k one two = let both : Some l ≡ Some k = sym one ∙ two in cc
+
+pub marks_none : (c : Config) (v first last : ℕ) (ls : List Logs) → MarksVolume c v first last ls ls
+marks_none c v first last ls = record {
+  here = λ l k was now. let same : l ≡ k = same_item (slice_get ls v) l k was now in subst (MarksOnly (region_count c v) first last l) same (same_only (region_count c v) first last l);
+  others = λ w apart. refl;
+}
+
+pub marks_set : (c : Config) (v first last : ℕ) (ls : List Logs) (l k : Logs) → slice_get ls v ≡ Some l → MarksOnly (region_count c v) first last l k → MarksVolume c v first last ls (set ls v k)
+marks_set c v first last ls l k is marks = record {
+  here = λ x y was now.
+      let old : l ≡ x = same_item (slice_get ls v) l x is was in
+      subst (MarksOnly (region_count c v) first last x) (set_here ls v k y now) (subst (λ (z : Logs). MarksOnly (region_count c v) first last z k) old marks);
+  others = λ w apart. set_other ls v k w apart;
+}
+
+pub clears_none : (c : Config) (v : ℕ) (ls : List Logs) → ClearsVolume c v ls ls
+clears_none c v ls = record {
+  here = λ l k was now. let same : l ≡ k = same_item (slice_get ls v) l k was now in subst (MarksFewer (region_count c v) l) same (same_fewer (region_count c v) l);
+  others = λ w apart. refl;
+}
+
+pub clears_set : (c : Config) (v : ℕ) (ls : List Logs) (l k : Logs) → slice_get ls v ≡ Some l → MarksFewer (region_count c v) l k → ClearsVolume c v ls (set ls v k)
+clears_set c v ls l k is fewer = record {
+  here = λ x y was now.
+      let old : l ≡ x = same_item (slice_get ls v) l x is was in
+      subst (MarksFewer (region_count c v) x) (set_here ls v k y now) (subst (λ (z : Logs). MarksFewer (region_count c v) z k) old fewer);
+  others = λ w apart. set_other ls v k w apart;
+}

@@ -1,2 +1,10 @@
-pub mod AlikeLemmas
 pub mod SetLemmas
+pub mod AlikeLemmas
+pub mod StayLemmas
+pub mod ClearLemmas
+pub mod OpenLemmas
+pub mod DeportedLogs
+pub mod FactLemmas
+pub mod CrashedLogs
+pub mod TrustedLogs
+pub mod MadeLogs

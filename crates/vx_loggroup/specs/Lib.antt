@@ -1,1 +1,5 @@
 pub mod LoggedVolumes
+pub mod Facts
+pub mod Marks
+pub mod Opens
+pub mod Made

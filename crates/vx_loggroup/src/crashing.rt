@@ -1,36 +1,35 @@
 // A crash of a group with logs.
-ghost use Rattle.std.specs.Prelude.{◌≡◌, ◌⊎◌, ◌<◌, ℕ, Some, false, length, slice_get, true};
+ghost use Rattle.std.specs.Prelude.{◌≡◌, ℕ, false, true};
 ghost use Rattle.vx_disk.specs.Racks.{Stopped};
 ghost use Rattle.vx_group.specs.Holding.{wide};
-ghost use Rattle.vx_group.specs.Resumes.{AtRest, CanImport};
+ghost use Rattle.vx_group.specs.Resumes.{CanImport};
 ghost use Rattle.vx_group.specs.Stands.{inner_meaning};
-ghost use Rattle.vx_logged.specs.Logged.{LogKept};
 ghost use Rattle.vx_loggroup.specs.LoggedVolumes.{LoggedStands};
-ghost use Rattle.vx_loggroup.specs.declared.volumes.LoggedVolume.{LoggedVolume as VolumeValue};
 ghost use Rattle.vx_logimport.specs.Covers.{DisksTell};
 
-use crate::volumes::LoggedVolume;
 use vx_disk::Rack;
 use vx_group::GroupCore;
 use vx_logimport::crash_told;
+use vx_logs::Logs;
+use vx_model::limits::MOST_VOLUMES;
 
 /// Crashes the disks on which a group with logs stands. To its volumes this is a crash too. While logs are not stopped the disks tell behind it
-/// what an import by logs asks of each volume whose log is in memory or held as lost; of each other one they do where a crash leaves one value
-/// of each block.
+/// all that an import by logs asks.
 pub fn crash_whole<R: Rack>(
     rack: &mut R,
     core: &GroupCore,
-    volumes: &[LoggedVolume],
+    logs: &Vec<Logs>,
+    alike: &[bool; MOST_VOLUMES],
     stopped: bool,
     pick: u64,
 )
-    requires stands { LoggedStands core.now volumes.now stopped (R.meaning rack.old) }
+    requires stands { LoggedStands core.now logs.now.items alike.now stopped (R.meaning rack.old) }
     ensures fell { Stopped (R.meaning rack.old) (R.meaning rack.new) }
     ensures volumes { Stopped (inner_meaning (wide core.now) (R.meaning rack.old)) (inner_meaning (wide core.now) (R.meaning rack.new)) }
     ensures can { core.now.inner.agreed ≡ true → CanImport (R.meaning rack.new) }
-    ensures tells { (v : ℕ) (l : VolumeValue) → stopped ≡ false → slice_get volumes.now v ≡ Some l → LogKept core.now v l.logs ⊎ AtRest (R.meaning rack.new) → DisksTell v (R.meaning rack.new) }
+    ensures tells { stopped ≡ false → (v : ℕ) → DisksTell v (R.meaning rack.new) }
 {
     // What is kept of the volumes is gone with the group.
-    let _kept = (volumes.len(), stopped);
+    let _kept = (logs.len(), alike.len(), stopped);
     crash_told(rack, core, pick);
 }

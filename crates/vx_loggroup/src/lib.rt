@@ -1,14 +1,27 @@
 //! A group that keeps the dirty region logs of its volumes.
+//!
+//! Of a block of which the log of its volume has not the region, each plex that is ACTIVE has the same, whatever a crash leaves, at each moment
+//! between calls; so an import copies the regions alone that a log has. A log has no region but those of writes since the last import that
+//! took its marks off.
 #![tactic(auto)]
 
+mod alike;
+mod attaching;
+mod beginning;
+mod clearing;
 mod crashing;
-mod flushing;
+mod deporting;
+mod group;
 mod keeping;
-mod volumes;
+mod making;
+mod opening;
 mod whole;
-mod writing;
 
+pub use attaching::att_whole;
 pub use crashing::crash_whole;
+pub use deporting::deport_whole;
+pub use group::LoggedGroup;
 pub use keeping::{det_whole, read_whole};
-pub use volumes::LoggedVolume;
+pub use making::make_whole;
+pub use opening::{Opened, open_logged};
 pub use whole::{flush_whole, write_whole};

@@ -1,65 +1,82 @@
 // Calls on a volume of a group with logs, and what they leave of all volumes.
-ghost use Rattle.std.specs.Prelude.{◌≡◌, ◌+◌, ◌<◌, ◌≤◌, false, length, true, IfErr, OnOk};
+ghost use Rattle.std.specs.Prelude.{◌≡◌, ◌+◌, ◌/◌, ◌<◌, ◌≤◌, false, length, true, IfErr, OnOk};
 ghost use Rattle.vx_config.specs.Table.{greatest};
 ghost use Rattle.vx_disk.specs.Causes.{Cause};
 ghost use Rattle.vx_disk.specs.Shelf.{Fits, Flushed, Goes, Nothing, Written, Wrote};
 ghost use Rattle.vx_group.specs.Holding.{wide};
 ghost use Rattle.vx_group.specs.Stands.{inner_meaning};
 ghost use Rattle.vx_loggroup.specs.LoggedVolumes.{LoggedStands};
+ghost use Rattle.vx_loggroup.specs.Marks.{ClearsVolume, MarksVolume};
+ghost use Rattle.vx_logs.specs.Writes.{first_region, last_region};
+ghost use Rattle.vx_model.specs.declared.limits.TheConstants.{MOST_VOLUMES};
 
-use crate::flushing::flush_one;
-use crate::volumes::LoggedVolume;
-use crate::writing::write_one;
+use crate::alike::{is_alike, is_sure, set_alike};
 use vx_disk::{Shelf, ShelfError};
 use vx_group::GroupCore;
+use vx_logged::{flush_cleared, write_marked};
+use vx_logs::Logs;
+use vx_model::limits::MOST_VOLUMES;
 
-/// Writes a run of blocks of a volume, of which the regions are durably marked first.
+/// Writes a run of blocks of a volume, of which the regions are durably marked first, and no others. Where it fails, the plexes of the volume may
+/// differ: no mark of it is taken off from then on.
 pub fn write_whole<S: Shelf>(
     shelf: &mut S,
     core: &mut GroupCore,
-    volumes: &mut [LoggedVolume],
+    logs: &mut Vec<Logs>,
+    alike: &mut [bool; MOST_VOLUMES],
     stopped: &mut bool,
     vol: u32,
     block: u64,
     bytes: &[u8],
 ) -> Result<(), ShelfError>
-    requires stands { LoggedStands core.old volumes.old stopped.old (S.meaning shelf.old) }
+    requires stands { LoggedStands core.old logs.old.items alike.old stopped.old (S.meaning shelf.old) }
     requires fits { Fits (inner_meaning (wide core.old) (S.meaning shelf.old)) vol block (length bytes.now) }
-    ensures stands { LoggedStands core.new volumes.new stopped.new (S.meaning shelf.new) }
+    ensures stands { LoggedStands core.new logs.new.items alike.new stopped.new (S.meaning shelf.new) }
     ensures goes { Goes (Written vol block bytes.now) (inner_meaning (wide core.old) (S.meaning shelf.old)) (inner_meaning (wide core.new) (S.meaning shelf.new)) }
     ensures ok { OnOk result (Wrote vol block bytes.now (inner_meaning (wide core.old) (S.meaning shelf.old)) (inner_meaning (wide core.new) (S.meaning shelf.new))) }
+    ensures marks { MarksVolume (wide core.old).config vol (first_region block) (last_region block (length bytes.now / 512)) logs.old.items logs.new.items }
     ensures full { stopped.old ≡ false → stopped.new ≡ true → greatest ≤ core.old.inner.config.serial + 18 }
     ensures trust { OnOk result (core.old.inner.committed ≡ true → core.new.inner.committed ≡ true) }
     ensures agreed { IfErr result (λ e. core.old.inner.committed ≡ true → core.new.inner.agreed ≡ true) }
     ensures cause { Cause (inner_meaning (wide core.old) (S.meaning shelf.old)) (inner_meaning (wide core.new) (S.meaning shelf.new)) vol result }
 {
-    write_one(
+    match write_marked(
         shelf,
         core,
-        &mut volumes[vol as usize],
+        &mut logs[vol as usize],
         stopped,
         vol,
         block,
         bytes,
-    )
+    ) {
+        Ok(()) => Ok(()),
+        Err(error) => {
+            set_alike(alike, vol, false);
+            Err(error)
+        }
+    }
 }
 
 /// Makes a volume durable, and takes marks off its log where more than 64 regions were marked since and its plexes are alike.
 pub fn flush_whole<S: Shelf>(
     shelf: &mut S,
     core: &mut GroupCore,
-    volumes: &mut [LoggedVolume],
+    logs: &mut Vec<Logs>,
+    alike: &[bool; MOST_VOLUMES],
     stopped: bool,
     vol: u32,
 ) -> Result<(), ShelfError>
-    requires stands { LoggedStands core.old volumes.old stopped (S.meaning shelf.old) }
+    requires stands { LoggedStands core.old logs.old.items alike.now stopped (S.meaning shelf.old) }
     requires there { vol < (inner_meaning (wide core.old) (S.meaning shelf.old)).units }
-    ensures stands { LoggedStands core.new volumes.new stopped (S.meaning shelf.new) }
+    ensures stands { LoggedStands core.new logs.new.items alike.now stopped (S.meaning shelf.new) }
     ensures goes { Goes Nothing (inner_meaning (wide core.old) (S.meaning shelf.old)) (inner_meaning (wide core.new) (S.meaning shelf.new)) }
     ensures ok { OnOk result (Flushed vol (inner_meaning (wide core.old) (S.meaning shelf.old)) (inner_meaning (wide core.new) (S.meaning shelf.new))) }
+    ensures marks { ClearsVolume (wide core.old).config vol logs.old.items logs.new.items }
     ensures trust { OnOk result (core.old.inner.committed ≡ true → core.new.inner.committed ≡ true) }
     ensures agreed { IfErr result (λ e. core.old.inner.committed ≡ true → core.new.inner.agreed ≡ true) }
     ensures cause { Cause (inner_meaning (wide core.old) (S.meaning shelf.old)) (inner_meaning (wide core.new) (S.meaning shelf.new)) vol result }
 {
-    flush_one(shelf, core, &mut volumes[vol as usize], stopped, vol)
+    let down = shelf.is_down();
+    let sure = is_sure(is_alike(alike, vol), stopped, down);
+    flush_cleared(shelf, core, &mut logs[vol as usize], sure, vol)
 }

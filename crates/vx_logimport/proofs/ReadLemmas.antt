@@ -12,15 +12,15 @@ use Rattle.vx_volume.proofs.ReadRuns.{still}
 use Rattle.vx_logimport.specs.Marked.{AreDirtyLogs, LogRead, LogsRead, dirty_logs}
 
 -- one that was taken up, or is lost
-pub read_of : (c : Config) (v : ℕ) (o : Option Dirty) (gone : Bool) (m m' : Meaning) → TakesUp c v o gone m m' → LogRead c v o m m'
-read_of c v None true m m' takes = by takes.2
+pub read_of : (c : Config) (v : ℕ) (o : Option Dirty) (gone : Bool) (m m' : Meaning) → ((d : Dirty) → o ≡ Some d → d.held ≡ 65) → TakesUp c v o gone m m' → LogRead c v o m m'
+read_of c v None true m m' full takes = by takes.2
   where
     by : (on_failed c v ≡ true) ⊎ SomeRose m m' → LogRead c v None m m'
     by (inl failed) = inr (inl failed)
     by (inr rose) = inr (inr (inl rose))
-read_of c v None false m m' takes = inl takes.0
-read_of c v (Some d) true m m' takes = absurd (let clash : Some d ≡ None = takes.0 in cc)
-read_of c v (Some d) false m m' takes = (takes.0.0, takes.0.1, takes.0.2)
+read_of c v None false m m' full takes = inl takes.0
+read_of c v (Some d) true m m' full takes = absurd (let clash : Some d ≡ None = takes.0 in cc)
+read_of c v (Some d) false m m' full takes = (takes.0.0, takes.0.1, takes.0.2, let held = full d refl in omega (arith, held))
 
 -- behind reads that changed nothing, and left the shelf up
 pub read_before : (c : Config) (v : ℕ) (o : Option Dirty) (m m1 m2 : Meaning) → Goes Nothing m m1 → (IsTrue m1.down → ⊥) → LogRead c v o m1 m2 → LogRead c v o m m2
@@ -38,6 +38,7 @@ read_before c v (Some d) m m1 m2 goes up read = (
       | inr down ↦ absurd (up down)
     ];
   },
+  read.3,
 )
 
 -- before calls

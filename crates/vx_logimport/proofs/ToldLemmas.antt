@@ -1,5 +1,5 @@
 -- What the disks of a group tell behind a crash, where its logs stood.
-use Rattle.std.proofs.Common.{◌≡◌, ◌⊎◌, ◌∙◌, inl, inr, ℕ, ◌+◌, ◌/◌, ◌%◌, ◌<◌, Bool, true, false, IsTrue, Option, Some, None, List, length, refl, sym, ap, subst, arith}
+use Rattle.std.proofs.Common.{◌≡◌, ◌⊎◌, ◌∙◌, inl, inr, ℕ, ◌+◌, ◌/◌, ◌%◌, ◌<◌, ◌≤◌, Bool, true, false, IsTrue, Option, Some, None, List, length, refl, sym, ap, subst, arith}
 use Rattle.std.specs.Prelude.{not}
 use Rattle.vx_config.specs.Checks.{blocks_of}
 use Rattle.vx_config.specs.declared.config.Config.{Config}
@@ -47,7 +47,7 @@ settled_less x v m m' less settled = record {
 
 -- an image of a group, by its own configuration
 module _ (c x : Config) (v : ℕ) (l : Logs) (m : Meaning) (lt : v < length c.volumes) (on : VolumeOn c v l m) (kin : Kin c x) where
-  covers_of : ConfigCovers x v m
+  pub covers_of : ConfigCovers x v m
   covers_of = record {
     so = λ e p q b y z w in_use inside live_p live_q left off at_p at_q.
         let trusted = kin.shape.trusted v Drl lt (in_use_trusted x v e in_use) in
@@ -72,7 +72,7 @@ module _ (c x : Config) (v : ℕ) (l : Logs) (m : Meaning) (lt : v < length c.vo
         ((on.stands.drl d at).each k (omega (arith, low_c, long))).only y
         (subst (λ (n : ℕ). m.leaves d.map.unit (n + k) y) start (subst (λ (u : ℕ). m.leaves u (e.start + k) y) unit left))
 
-    settled_of : LogSettled x v m
+    pub settled_of : LogSettled x v m
     settled_of = record {
       one = λ e k y z in_use low left_y left_z. by e k y z in_use low left_y left_z l.drl refl;
     }
@@ -89,7 +89,7 @@ tells_less v m m' units size less tells = record {
 }
 
 -- where a crash leaves one value of each block
-rest_settled : (x : Config) (v : ℕ) (m : Meaning) → AtRest m → LogSettled x v m
+pub rest_settled : (x : Config) (v : ℕ) (m : Meaning) → AtRest m → LogSettled x v m
 rest_settled x v m rest = record { one = λ e k y z in_use low left_y left_z. rest.one e.disk (e.start + k) y z left_y left_z }
 
 -- behind a crash, by the log in memory before it
@@ -116,3 +116,15 @@ module _ (core : GroupCore) (v : ℕ) (l : Logs) (m m' : Meaning) (stands : Grou
       by : (i : Image) (x : Config) → Each m'.leaves i → found m' i ≡ Found x → (log_trusted (wide core).config v Drl ≡ true → l.drl ≡ None → ⊥) ⊎ AtRest m' → LogSettled x v m'
       by i x each is (inl kept) = settled_less x v m m' less (settled_of (wide core).config x v l m in_wide on (kin_of i x each is) kept)
       by i x each is (inr rest) = rest_settled x v m' rest
+
+-- of a volume that memory has not no image trusts a log
+pub beyond_told : (core : GroupCore) (v : ℕ) (m m' : Meaning) → GroupStands core m → length (wide core).config.volumes ≤ v → m'.units ≡ m.units → ((u : ℕ) → m'.size u ≡ m.size u) → ((u b : ℕ) (y : List ℕ) → m'.leaves u b y → m.leaves u b y) → DisksTell v m'
+beyond_told core v m m' stands le units size less = record {
+  covers = λ i x each is. record { so = λ e p q b y z w in_use inside live_p live_q left off at_p at_q. absurd (none i x each is e in_use) };
+  settled = λ i x each is. record { one = λ e k y z in_use low left_y left_z. absurd (none i x each is e in_use) };
+}
+  where
+    none : (i : Image) (x : Config) → Each m'.leaves i → found m' i ≡ Found x → (e : LogEntry) → InUse x v Drl e → ⊥
+    none i x each is e in_use =
+        let kin = stands.stands.kept.kin i x (λ u b. less u b (i u b) (each u b)) (sym (found_same m m' units size (λ u. true) i) ∙ is) in
+        let clash : true ≡ false = sym (in_use_trusted x v e in_use) ∙ kin.shape.beyond v Drl le in cc

@@ -8,6 +8,7 @@ use Rattle.vx_config.specs.declared.config.Config.{Config}
 use Rattle.vx_config.specs.declared.entry.VolumeLog.TheVariants.{Drl}
 use Rattle.vx_disk.specs.Shelf.{Meaning}
 use Rattle.vx_drl.specs.Dirty.{Dirty}
+use Rattle.vx_drl.specs.declared.marks.TheConstants.{MOST_HELD}
 use Rattle.vx_layout.specs.Places.{place}
 use Rattle.vx_logs.specs.Held.{DrlFits, is_used}
 use Rattle.vx_logs.specs.declared.logs.Logs.{Logs}
@@ -25,11 +26,11 @@ use Rattle.vx_grouplogs.specs.Loading.{SomeRose, on_failed}
 use Rattle.vx_grouplogs.specs.On.{VolumeOn}
 use Rattle.vx_logimport.specs.declared.importing.Marked.{Marked}
 
--- A log that was read is the one of the volume, which is in use, with bytes that a read gives. None was read only where none is in use, where its disk
--- is held as failed, where a device call failed, or where the volume has no block.
+-- A log that was read is the one of the volume, which is in use, with bytes that a read gives; its marks are taken off as soon as that is asked. None was
+-- read only where none is in use, where its disk is held as failed, where a device call failed, or where the volume has no block.
 abbrev pub LogRead : Config → ℕ → Option Dirty → Meaning → Meaning → Type 0
 LogRead c v None old new = (is_used c v Drl ≡ false) ⊎ (on_failed c v ≡ true) ⊎ SomeRose old new ⊎ (blocks_of c.volumes v ≡ 0)
-LogRead c v (Some d) old new = (is_used c v Drl ≡ true) × DrlFits c v d × IsRead d.map old
+LogRead c v (Some d) old new = (is_used c v Drl ≡ true) × DrlFits c v d × IsRead d.map old × (MOST_HELD < d.held)
 
 -- the same of the log of each volume
 pub record LogsRead (c : Config) (logs : List Logs) (old new : Meaning) : Type 0 where

@@ -1,19 +1,22 @@
 -- Which disk a refused call of the group names, and which one works where it is done.
-use Rattle.std.proofs.Common.{◌≡◌, ℕ, sym, subst}
-use Rattle.std.specs.Prelude.{IfErr, OnOk, Option, Result, Ok, Err}
+use Rattle.std.proofs.Common.{◌≡◌, ◌∙◌, ◌<◌, ℕ, List, Bool, true, false, ap, length, refl, sym, subst, IsTrue}
+use Rattle.std.specs.Prelude.{IfErr, IsSome, OnOk, Option, Some, None, Result, Ok, Err}
 use Rattle.vx_model.specs.declared.no.No.{No}
 use Rattle.vx_model.specs.declared.no.No.TheVariants.{Device}
-use Rattle.vx_disk.specs.Causes.{Works}
+use Rattle.vx_disk.specs.Causes.{Names, WithDisks, Works, refusal_of}
 use Rattle.vx_disk.specs.Disks.{Disks}
 use Rattle.vx_disk.specs.Shelf.{Meaning}
+use Rattle.vx_disk.specs.declared.shelf.ShelfError.{ShelfError}
+use Rattle.vx_disk.specs.declared.shelf.ShelfError.TheVariants.{Fault, Down}
 use Rattle.vx_ringio.specs.Spends.{Spends}
 use Rattle.vx_ringio.proofs.Spending.{works_since}
 use Rattle.vx_srl.specs.Causes.{BlamesLog, BlamesUnit}
 use Rattle.vx_srl.specs.Views.{Log}
 use Rattle.vx_srl.specs.declared.errors.SrlNo.{SrlNo}
 use Rattle.vx_srl.specs.declared.errors.SrlNo.TheVariants.{NoRoom, Other, Overrun}
-use Rattle.vx_rvg.specs.Groups.{IsNoFault, no_of}
-use Rattle.vx_rvg.specs.Views.{Core}
+use Rattle.vx_rvg.specs.Commits.{StageIs}
+use Rattle.vx_rvg.specs.Groups.{BlamesVolumes, IsNoFault, no_of}
+use Rattle.vx_rvg.specs.Views.{Core, unit_of}
 
 by_log : (disks : Option Disks) (unit : ℕ) (why : SrlNo) → BlamesLog disks unit why → BlamesUnit disks unit (no_of why)
 by_log disks unit (NoRoom need free) blames = tt
@@ -40,3 +43,38 @@ blames_since (Err why) old mid c k same log blames =
 pub works_behind : {T : Type 0} (r : Result T No) (old mid : Meaning) (c k : Core) → Spends old mid → k.log ≡ c.log → OnOk r (Works mid.disks k.log.unit) → OnOk r (Works old.disks c.log.unit)
 works_behind (Ok x) old mid c k spends log works = subst (λ (l : Log). Works old.disks l.unit) log (works_since old mid k.log.unit spends works)
 works_behind (Err why) old mid c k spends log works = tt
+
+-- ---- behind other calls
+
+some_since : (P : Disks → Disks → Type 0) (old mid : Option Disks) → WithDisks old mid P → IsSome old → IsSome mid
+some_since P None mid on some = absurd (let e : false ≡ true = some in cc)
+some_since P (Some o) None on some = absurd on
+some_since P (Some o) (Some m) on some = refl
+
+-- calls before left the place of the log
+pub unit_since : (old mid : Meaning) (u unit : ℕ) (why : No) → Spends old mid → u ≡ unit → BlamesUnit mid.disks u why → BlamesUnit old.disks unit why
+unit_since old mid u unit (Device disk) spends here blames = λ some. blames (some_since _ old.disks mid.disks spends.told some) ∙ here
+unit_since old mid u unit other spends here blames = tt
+
+-- what is staged leaves it
+pub staged_place : (refusal : Option No) (c c' : Core) (vol start : ℕ) (bytes : List ℕ) (old new : Meaning) (number : ℕ) → StageIs refusal c vol start bytes old new c' (Ok number) → c'.log.unit ≡ c.log.unit
+staged_place (Some why) c c' vol start bytes old new number is = absurd (let e : Ok number ≡ Err why = is.0 in cc)
+staged_place None c c' vol start bytes old new number is = ap (λ (k : Core). k.log.unit) is.1
+
+-- ---- the disk of a volume
+
+pub named_volume : (T : Type 0) (disks : Option Disks) (vols : List ℕ) (v unit : ℕ) (error : ShelfError) → v < length vols → unit ≡ unit_of vols v → Names {T = T} disks unit (Err error) → BlamesVolumes disks vols (refusal_of error)
+named_volume T None vols v unit (Fault disk) low here names = λ some. absurd (let e : false ≡ true = some in cc)
+named_volume T (Some disks) vols v unit (Fault disk) low here names = λ some. (v, (low, names ∙ here))
+named_volume T disks vols v unit Down low here names = tt
+
+pub volumes_since : (old mid : Meaning) (vols : List ℕ) (why : No) → Spends old mid → BlamesVolumes mid.disks vols why → BlamesVolumes old.disks vols why
+volumes_since old mid vols (Device disk) spends blames = λ some. blames (some_since _ old.disks mid.disks spends.told some)
+volumes_since old mid vols other spends blames = tt
+
+-- a call that failed and ended the others
+pub volumes_exit : (U : Type 0) (old mid : Meaning) (vols : List ℕ) (r : Result U ShelfError) (error given : ShelfError) → r ≡ Err error → error ≡ given → Spends old mid → BlamesVolumes mid.disks vols (refusal_of given)
+    → IfErr r (λ e. BlamesVolumes old.disks vols (refusal_of e))
+volumes_exit U old mid vols r error given is same spends blames =
+    subst (λ (x : Result U ShelfError). IfErr x (λ e. BlamesVolumes old.disks vols (refusal_of e))) (sym is)
+    (subst (λ (e : ShelfError). BlamesVolumes old.disks vols (refusal_of e)) (sym same) (volumes_since old mid vols (refusal_of given) spends blames))

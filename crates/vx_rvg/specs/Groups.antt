@@ -1,5 +1,5 @@
 -- What the calls of a replicated volume group answer.
-use Rattle.std.specs.Prelude.{◌≡◌, ℕ, ◌+◌, ◌<◌, ◌&&◌, Bool, min, max, Option, Some, None, Result, Ok, Err, List, [], ◌++◌, length, drop, ltb, leb, if◌then◌else◌, MatchOption, IsTrue}
+use Rattle.std.specs.Prelude.{◌≡◌, ℕ, ◌+◌, ◌<◌, ◌&&◌, Bool, min, max, Option, Some, None, Result, Ok, Err, List, [], ◌++◌, length, drop, ltb, leb, if◌then◌else◌, MatchOption, IsSome, IsTrue}
 use Rattle.vx_model.specs.Answer.{is_too_large}
 use Rattle.vx_model.specs.Content.{blocks_in, block_of}
 use Rattle.vx_model.specs.declared.no.No.{No}
@@ -9,6 +9,7 @@ use Rattle.vx_model.specs.declared.errors.Stop.{Stop}
 use Rattle.vx_model.specs.declared.errors.Stop.TheVariants.{No as Refused, OutOfMemory}
 use Rattle.vx_model.specs.declared.state.State.{State}
 use Rattle.vx_model.specs.declared.units.Units.{Units}
+use Rattle.vx_disk.specs.Disks.{Disks}
 use Rattle.vx_disk.specs.Shelf.{Meaning}
 use Rattle.vx_overlay.specs.Pending.{newest}
 use Rattle.vx_overlay.specs.declared.entry.Entry.{Entry}
@@ -19,7 +20,7 @@ use Rattle.vx_srl.specs.Views.{Log, most_number, kept_record}
 use Rattle.vx_srl.specs.declared.errors.SrlNo.{SrlNo}
 use Rattle.vx_srl.specs.declared.errors.SrlNo.TheVariants.{Other}
 use Rattle.vx_overlay.specs.Writes.{entries_at}
-use Rattle.vx_rvg.specs.Views.{Core, last_of}
+use Rattle.vx_rvg.specs.Views.{Core, last_of, unit_of}
 
 -- whether a stamp and a number are left for each of so many more headers and writes
 abbrev pub has_numbers : Core → ℕ → Bool
@@ -83,6 +84,11 @@ GroupFails c old new c' other = ⊥
 abbrev pub IsNoFault : No → Type 0
 IsNoFault (Device disk) = ⊥
 IsNoFault other = Unit {0}
+
+-- where the shelf is a rack, a refusal 7 names the disk of one of these volumes
+abbrev pub BlamesVolumes : Option Disks → (vols : List ℕ) → No → Type 0
+BlamesVolumes disks vols (Device disk) = IsSome disks → (v : ℕ) × ((v < length vols) × (disk ≡ unit_of vols v))
+BlamesVolumes disks vols other = Unit {0}
 
 -- a write that is not refused: its number, or a device call failed
 abbrev pub Writes : Core → ℕ → ℕ → List ℕ → Meaning → Meaning → Core → Result ℕ No → Type 0

@@ -1,10 +1,10 @@
 // The bringing of logged writes into their volumes.
 ghost use Rattle.std.specs.Prelude.{◌≡◌, ◌+◌, ◌<◌, ◌≤◌, ℕ, length, Some, None, IsTrue, IsFalse, IfErr, IfOk, OnOk, IsSome};
-ghost use Rattle.vx_disk.specs.Causes.{Works};
+ghost use Rattle.vx_disk.specs.Causes.{Works, refusal_of};
 ghost use Rattle.vx_disk.specs.Moves.{Moves, Anything, Nowhere};
 ghost use Rattle.vx_ringio.specs.Spends.{Spends};
 ghost use Rattle.vx_rvg.specs.Brings.{Brings, BringsOne, VolumesFlushed};
-ghost use Rattle.vx_rvg.specs.Groups.{halted_or, applied_through, ApplyIs, IsNoFault};
+ghost use Rattle.vx_rvg.specs.Groups.{halted_or, applied_through, ApplyIs, BlamesVolumes, IsNoFault};
 ghost use Rattle.vx_rvg.specs.Stands.{Resting, Rests};
 ghost use Rattle.vx_srl.specs.Causes.{CallsStopped};
 ghost use Rattle.vx_rvg.specs.Views.{IsSound, UnitsPlaced, Waits, last_of, unit_of};
@@ -23,6 +23,7 @@ fn bring_one<S: Shelf>(shelf: &mut S, core: &RvgCore, n: u64) -> Result<u64, She
     ensures brings { IfOk result (BringsOne core.now n (S.meaning shelf.old) (S.meaning shelf.new)) }
     ensures moves { Moves (Waits core.now (S.meaning shelf.old)) Anything (S.meaning shelf.old) (S.meaning shelf.new) }
     ensures stopped { CallsStopped (S.meaning shelf.old) (S.meaning shelf.new) result }
+    ensures blames { IfErr result (λ error. BlamesVolumes (S.meaning shelf.old).disks core.now.units.vols (refusal_of error)) }
     ensures spends { Spends (S.meaning shelf.old) (S.meaning shelf.new) }
 {
     // A log bounds the blocks of its records by its ring.
@@ -50,6 +51,7 @@ fn flush_volumes<S: Shelf>(shelf: &mut S, core: &RvgCore) -> Result<(), ShelfErr
     ensures flushed { OnOk result (VolumesFlushed core.now.units.vols (S.meaning shelf.old) (S.meaning shelf.new)) }
     ensures moves { Moves Nowhere Anything (S.meaning shelf.old) (S.meaning shelf.new) }
     ensures stopped { CallsStopped (S.meaning shelf.old) (S.meaning shelf.new) result }
+    ensures blames { IfErr result (λ error. BlamesVolumes (S.meaning shelf.old).disks core.now.units.vols (refusal_of error)) }
     ensures spends { Spends (S.meaning shelf.old) (S.meaning shelf.new) }
     ensures works { OnOk result ((v : ℕ) → v < length core.now.units.vols → Works (S.meaning shelf.old).disks (unit_of core.now.units.vols v)) }
 {
@@ -68,6 +70,7 @@ fn bring<S: Shelf>(shelf: &mut S, core: &RvgCore, to: u64) -> Result<u64, ShelfE
     ensures brings { IfOk result (Brings core.now to (S.meaning shelf.old) (S.meaning shelf.new)) }
     ensures moves { Moves (Waits core.now (S.meaning shelf.old)) Anything (S.meaning shelf.old) (S.meaning shelf.new) }
     ensures stopped { CallsStopped (S.meaning shelf.old) (S.meaning shelf.new) result }
+    ensures blames { IfErr result (λ error. BlamesVolumes (S.meaning shelf.old).disks core.now.units.vols (refusal_of error)) }
     ensures spends { Spends (S.meaning shelf.old) (S.meaning shelf.new) }
     ensures works { OnOk result ((v : ℕ) → v < length core.now.units.vols → Works (S.meaning shelf.old).disks (unit_of core.now.units.vols v)) }
 {
@@ -88,6 +91,7 @@ pub(crate) fn apply_to<S: Shelf>(shelf: &mut S, core: &mut RvgCore, count: u64) 
     ensures unchanged { IsSome (halted_or core.old.halted None) → shelf.new ≡ shelf.old }
     ensures nothing { count ≤ core.old.applied → shelf.new ≡ shelf.old }
     ensures idle { count ≤ core.old.applied → IfErr result IsNoFault }
+    ensures blames { IfErr result (BlamesVolumes (S.meaning shelf.old).disks core.old.units.vols) }
     ensures sound { IsSound core.new (S.meaning shelf.new) }
     ensures stands { OnOk result (Rests core.old core.new (S.meaning shelf.old) (S.meaning shelf.new)) }
     ensures moves { Moves (Waits core.old (S.meaning shelf.old)) (Resting core.old (S.meaning shelf.old)) (S.meaning shelf.old) (S.meaning shelf.new) }
@@ -122,11 +126,12 @@ impl<S: Shelf> Rvg<S> {
     /// Brings the logged writes up to a number into their volumes, durably. Answers the number up to which all are there now.
     ///
     /// It changes neither the content nor the log. Refusals: 20 where a call answered 7 before, which changes nothing; 7 where a device
-    /// call failed: then the group is halted. 6 where the shelf is down.
+    /// call failed, with the disk of a volume: then the group is halted. 6 where the shelf is down.
     pub fn apply(&mut self, count: u64) -> Result<u64, No>
         ensures answers { ApplyIs (halted_or self.old.core.halted None) self.old.core count (S.meaning self.old.shelf) (S.meaning self.new.shelf) self.new.core result }
         ensures unchanged { IsSome (halted_or self.old.core.halted None) → self.new.shelf ≡ self.old.shelf }
         ensures nothing { count ≤ self.old.core.applied → self.new.shelf ≡ self.old.shelf }
+        ensures blames { IfErr result (BlamesVolumes (S.meaning self.old.shelf).disks self.old.core.units.vols) }
         ensures stands { OnOk result (Rests self.old.core self.new.core (S.meaning self.old.shelf) (S.meaning self.new.shelf)) }
         ensures moves { Moves (Waits self.old.core (S.meaning self.old.shelf)) (Resting self.old.core (S.meaning self.old.shelf)) (S.meaning self.old.shelf) (S.meaning self.new.shelf) }
         ensures spends { Spends (S.meaning self.old.shelf) (S.meaning self.new.shelf) }

@@ -1,5 +1,5 @@
 // A replicated volume group: what it answers, and its reads and writes.
-ghost use Rattle.std.specs.Prelude.{◌≡◌, ◌+◌, ◌-◌, ◌<◌, ◌≤◌, ◌%◌, [], ◌∷◌, length, drop, Some, None, IsTrue, IsFalse, OnOk, IsSome};
+ghost use Rattle.std.specs.Prelude.{◌≡◌, ◌+◌, ◌-◌, ◌<◌, ◌≤◌, ◌%◌, [], ◌∷◌, length, drop, Some, None, IsTrue, IfErr, IsFalse, OnOk, IsSome};
 ghost use Rattle.vx_disk.specs.Causes.{OnDisks, Works};
 ghost use Rattle.vx_disk.specs.Disks.{Untouched};
 ghost use Rattle.vx_disk.specs.Moves.{Moves, Run};
@@ -13,6 +13,7 @@ ghost use Rattle.vx_rvg.specs.Groups.{has_numbers, write_refusal, read_refusal, 
 ghost use Rattle.vx_rvg.specs.Holdings.{Holding, blocks_taken, with_writes};
 ghost use Rattle.vx_rvg.specs.Stands.{Stands, Writing};
 ghost use Rattle.vx_rvg.specs.Views.{IsSound, unit_of, last_of};
+ghost use Rattle.vx_srl.specs.Causes.{BlamesUnit};
 ghost use Rattle.vx_srl.specs.Views.{BodyFits, free_of, blocks_needed, next_of, blocks_above};
 ghost use Rattle.vx_srlfmt.specs.Headers.{CanSpellState};
 
@@ -55,6 +56,7 @@ impl<S: Shelf> Rvg<S> {
             (Writing self.old.core (record { volume = vol; start = start; bytes = bytes.now } ∷ []) (S.meaning self.old.shelf)) (S.meaning self.old.shelf) (S.meaning self.new.shelf) }
         ensures calls { OnOk result (BodyFits self.old.core.log bytes.now → MakesCalls 4 (S.meaning self.old.shelf) (S.meaning self.new.shelf)) }
         ensures short { BodyFits self.old.core.log bytes.now → FallsShort 4 (S.meaning self.old.shelf) (S.meaning self.new.shelf) }
+        ensures blames { IfErr result (BlamesUnit (S.meaning self.old.shelf).disks self.old.core.log.unit) }
         ensures least { OnOk result (MakesAtLeast 4 (S.meaning self.old.shelf) (S.meaning self.new.shelf)) }
         ensures spends { Spends (S.meaning self.old.shelf) (S.meaning self.new.shelf) }
         ensures works { OnOk result (Works (S.meaning self.old.shelf).disks self.old.core.log.unit) }

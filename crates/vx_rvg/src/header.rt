@@ -34,6 +34,7 @@ pub(crate) fn give_up<S: Shelf>(shelf: &mut S, core: &mut RvgCore, to: u64) -> R
         (Saving core.old (reclaimed core.old to) (S.meaning shelf.old)) (S.meaning shelf.old) (S.meaning shelf.new) }
     ensures calls { OnOk result (core.old.log.header.low ≤ to → MakesCalls 2 (S.meaning shelf.old) (S.meaning shelf.new)) }
     ensures short { FallsShort 2 (S.meaning shelf.old) (S.meaning shelf.new) }
+    ensures blames { IfErr result (BlamesUnit (S.meaning shelf.old).disks core.old.log.unit) }
     ensures spends { Spends (S.meaning shelf.old) (S.meaning shelf.new) }
 {
     if let Some(disk) = core.halted {
@@ -65,6 +66,7 @@ impl<S: Shelf> Rvg<S> {
             (Saving self.old.core (reclaimed self.old.core to) (S.meaning self.old.shelf)) (S.meaning self.old.shelf) (S.meaning self.new.shelf) }
         ensures calls { OnOk result (self.old.core.log.header.low ≤ to → MakesCalls 2 (S.meaning self.old.shelf) (S.meaning self.new.shelf)) }
         ensures short { FallsShort 2 (S.meaning self.old.shelf) (S.meaning self.new.shelf) }
+        ensures blames { IfErr result (BlamesUnit (S.meaning self.old.shelf).disks self.old.core.log.unit) }
         ensures spends { Spends (S.meaning self.old.shelf) (S.meaning self.new.shelf) }
     {
         give_up(&mut self.shelf, &mut self.core, to)

@@ -1,5 +1,5 @@
 // The sealing of what is staged: it becomes part of the log, durably.
-ghost use Rattle.std.specs.Prelude.{◌≡◌, ◌+◌, ◌<◌, List, [], length, IsSome, IsTrue, OnOk};
+ghost use Rattle.std.specs.Prelude.{◌≡◌, ◌+◌, ◌<◌, List, [], length, IsSome, IsTrue, IfErr, OnOk};
 ghost use Rattle.vx_disk.specs.Burns.{FallsShort, MakesCalls};
 ghost use Rattle.vx_disk.specs.Moves.{Moves, Run};
 ghost use Rattle.vx_model.specs.Content.{Write};
@@ -8,6 +8,7 @@ ghost use Rattle.vx_rvg.specs.Commits.{Committing, HasStaged, SealIs, Seals, sea
 ghost use Rattle.vx_rvg.specs.Holdings.{Holding, with_writes};
 ghost use Rattle.vx_rvg.specs.Stands.{Stands};
 ghost use Rattle.vx_rvg.specs.Views.{IsSoundWith};
+ghost use Rattle.vx_srl.specs.Causes.{BlamesUnit};
 
 use crate::write::refused;
 use crate::{RvgCore, Staging};
@@ -27,6 +28,7 @@ pub(crate) fn seal_records<S: Shelf>(shelf: &mut S, core: &mut RvgCore) -> Resul
     ensures moves { Moves (Run core.old.units.srl 0 (core.old.log.ring + 2)) (Committing core.old (S.meaning shelf.old)) (S.meaning shelf.old) (S.meaning shelf.new) }
     ensures calls { OnOk result (0 < length core.old.log.staged → MakesCalls (length core.old.log.staged + 2) (S.meaning shelf.old) (S.meaning shelf.new)) }
     ensures short { FallsShort (length core.old.log.staged + 2) (S.meaning shelf.old) (S.meaning shelf.new) }
+    ensures blames { IfErr result (BlamesUnit (S.meaning shelf.old).disks core.old.log.unit) }
     ensures spends { Spends (S.meaning shelf.old) (S.meaning shelf.new) }
 {
     match core.srl.seal(shelf) {
@@ -52,6 +54,7 @@ fn seal_up<S: Shelf>(shelf: &mut S, core: &mut RvgCore) -> Result<u64, No>
     ensures moves { Moves (Run core.old.units.srl 0 (core.old.log.ring + 2)) (Committing core.old (S.meaning shelf.old)) (S.meaning shelf.old) (S.meaning shelf.new) }
     ensures calls { OnOk result (0 < length core.old.log.staged → MakesCalls (length core.old.log.staged + 2) (S.meaning shelf.old) (S.meaning shelf.new)) }
     ensures short { FallsShort (length core.old.log.staged + 2) (S.meaning shelf.old) (S.meaning shelf.new) }
+    ensures blames { IfErr result (BlamesUnit (S.meaning shelf.old).disks core.old.log.unit) }
     ensures spends { Spends (S.meaning shelf.old) (S.meaning shelf.new) }
 {
     if let Some(disk) = core.halted {
@@ -82,6 +85,7 @@ impl<S: Shelf> Staging<S> {
         ensures moves { Moves (Run self.old.core.units.srl 0 (self.old.core.log.ring + 2)) (Committing self.old.core (S.meaning self.old.shelf)) (S.meaning self.old.shelf) (S.meaning self.new.shelf) }
         ensures calls { OnOk result (0 < length self.old.core.log.staged → MakesCalls (length self.old.core.log.staged + 2) (S.meaning self.old.shelf) (S.meaning self.new.shelf)) }
         ensures short { FallsShort (length self.old.core.log.staged + 2) (S.meaning self.old.shelf) (S.meaning self.new.shelf) }
+        ensures blames { IfErr result (BlamesUnit (S.meaning self.old.shelf).disks self.old.core.log.unit) }
         ensures spends { Spends (S.meaning self.old.shelf) (S.meaning self.new.shelf) }
     {
         match seal_up(&mut self.shelf, &mut self.core) {

@@ -1,5 +1,5 @@
 // The staging of a write: its blocks are in the log's ring and wait, and it is not part of the log.
-ghost use Rattle.std.specs.Prelude.{◌≡◌, ◌+◌, ◌<◌, ◌≤◌, [], ◌∷◌, ◌++◌, List, length, None, IsSome, OnOk};
+ghost use Rattle.std.specs.Prelude.{◌≡◌, ◌+◌, ◌<◌, ◌≤◌, [], ◌∷◌, ◌++◌, List, length, None, IsSome, IfErr, OnOk};
 ghost use Rattle.vx_disk.specs.Burns.{FallsShort, MakesCalls};
 ghost use Rattle.vx_disk.specs.Causes.{Works};
 ghost use Rattle.vx_disk.specs.Moves.{Moves, Run};
@@ -10,6 +10,7 @@ ghost use Rattle.vx_rvg.specs.Commits.{Committing, HasStaged, StageIs, number_re
 ghost use Rattle.vx_rvg.specs.Groups.{write_refusal};
 ghost use Rattle.vx_rvg.specs.Holdings.{Holding};
 ghost use Rattle.vx_rvg.specs.Views.{IsSoundWith, unit_of, volume_size};
+ghost use Rattle.vx_srl.specs.Causes.{BlamesUnit};
 ghost use Rattle.vx_srl.specs.Views.{BodyFits, free_of, blocks_needed};
 
 use crate::patch::add_all;
@@ -40,6 +41,7 @@ pub(crate) fn stage_record<S: Shelf>(
     ensures moves { Moves (Run core.old.units.srl 0 (core.old.log.ring + 2)) (Committing core.old (S.meaning shelf.old)) (S.meaning shelf.old) (S.meaning shelf.new) }
     ensures calls { OnOk result (BodyFits core.old.log bytes.now → MakesCalls 1 (S.meaning shelf.old) (S.meaning shelf.new)) }
     ensures short { BodyFits core.old.log bytes.now → FallsShort 1 (S.meaning shelf.old) (S.meaning shelf.new) }
+    ensures blames { IfErr result (BlamesUnit (S.meaning shelf.old).disks core.old.log.unit) }
     ensures least { OnOk result (MakesAtLeast 1 (S.meaning shelf.old) (S.meaning shelf.new)) }
     ensures spends { Spends (S.meaning shelf.old) (S.meaning shelf.new) }
     ensures works { OnOk result (Works (S.meaning shelf.old).disks core.old.log.unit) }
@@ -79,6 +81,7 @@ impl<S: Shelf> Staging<S> {
         ensures moves { Moves (Run self.old.core.units.srl 0 (self.old.core.log.ring + 2)) (Committing self.old.core (S.meaning self.old.shelf)) (S.meaning self.old.shelf) (S.meaning self.new.shelf) }
         ensures calls { OnOk result (BodyFits self.old.core.log bytes.now → MakesCalls 1 (S.meaning self.old.shelf) (S.meaning self.new.shelf)) }
         ensures short { BodyFits self.old.core.log bytes.now → FallsShort 1 (S.meaning self.old.shelf) (S.meaning self.new.shelf) }
+        ensures blames { IfErr result (BlamesUnit (S.meaning self.old.shelf).disks self.old.core.log.unit) }
         ensures least { OnOk result (MakesAtLeast 1 (S.meaning self.old.shelf) (S.meaning self.new.shelf)) }
         ensures spends { Spends (S.meaning self.old.shelf) (S.meaning self.new.shelf) }
         ensures works { OnOk result (Works (S.meaning self.old.shelf).disks self.old.core.log.unit) }

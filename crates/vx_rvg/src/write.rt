@@ -1,11 +1,12 @@
 // The logging of a write: it is staged, and sealed at once.
-ghost use Rattle.std.specs.Prelude.{◌≡◌, ◌+◌, ◌<◌, ◌≤◌, [], ◌∷◌, length, None, IsFalse, OnOk};
+ghost use Rattle.std.specs.Prelude.{◌≡◌, ◌+◌, ◌<◌, ◌≤◌, [], ◌∷◌, length, None, IfErr, IsFalse, OnOk};
 ghost use Rattle.vx_disk.specs.Moves.{Moves, Run};
 ghost use Rattle.vx_model.specs.Content.{Write, blocks_in};
 ghost use Rattle.vx_ringio.specs.Bodies.{IsBlocks};
 ghost use Rattle.vx_disk.specs.Burns.{FallsShort, MakesCalls};
 ghost use Rattle.vx_disk.specs.Causes.{Works};
 ghost use Rattle.vx_ringio.specs.Spends.{MakesAtLeast, Spends};
+ghost use Rattle.vx_srl.specs.Causes.{BlamesUnit};
 ghost use Rattle.vx_srl.specs.Views.{BodyFits, free_of, blocks_needed, most_number};
 ghost use Rattle.vx_rvg.specs.Groups.{Writes, no_of};
 ghost use Rattle.vx_rvg.specs.Holdings.{Holding, with_writes};
@@ -56,6 +57,7 @@ pub(crate) fn commit<S: Shelf>(
         (S.meaning shelf.old) (S.meaning shelf.new) }
     ensures calls { OnOk result (BodyFits core.old.log bytes.now → MakesCalls 4 (S.meaning shelf.old) (S.meaning shelf.new)) }
     ensures short { BodyFits core.old.log bytes.now → FallsShort 4 (S.meaning shelf.old) (S.meaning shelf.new) }
+    ensures blames { IfErr result (BlamesUnit (S.meaning shelf.old).disks core.old.log.unit) }
     ensures least { OnOk result (MakesAtLeast 4 (S.meaning shelf.old) (S.meaning shelf.new)) }
     ensures spends { Spends (S.meaning shelf.old) (S.meaning shelf.new) }
     ensures works { OnOk result (Works (S.meaning shelf.old).disks core.old.log.unit) }

@@ -53,8 +53,8 @@ module _ (told : Type 0) (d : Doubted) (xs ys : List Event) (fails : Fails) (sai
 
   pub stops_more : StopsAmong told d xs fails said last → StopsAmong told d (xs ++ ys) fails said last
   stops_more (HaltsIn e site disk middle came here one is leaves) = HaltsIn e site disk middle (comes_more e site middle came) here one is leaves
-  stops_more (HaltsApplying before rest site count reached disk split runs none one is) =
-      HaltsApplying before (rest ++ ys) site count reached disk (longer xs before rest ys (ApplyAt site count reached) split) runs none one is
+  stops_more (HaltsApplying before rest site count reached disk split runs none here one is) =
+      HaltsApplying before (rest ++ ys) site count reached disk (longer xs before rest ys (ApplyAt site count reached) split) runs none here one is
   stops_more (CutsApplying before rest site count reached kept taken middle split runs none opens fused one is leaves) =
       CutsApplying before (rest ++ ys) site count reached kept taken middle (longer xs before rest ys (ApplyAt site count reached) split) runs none opens fused one is leaves
   stops_more (CutsIn e site kept taken middle came fused one is leaves) = CutsIn e site kept taken middle (comes_more e site middle came) fused one is leaves
@@ -80,10 +80,10 @@ module _ (told : Type 0) (d m : Doubted) (xs ys : List Event) (fails : Fails) (s
 
   pub stops_behind : StopsAmong told m ys fails said last → StopsAmong told d (xs ++ ys) fails said last
   stops_behind (HaltsIn e site disk middle came here one is leaves) = HaltsIn e site disk middle (comes_behind e site middle came) here one is leaves
-  stops_behind (HaltsApplying before rest site count reached disk split runs none one is) =
+  stops_behind (HaltsApplying before rest site count reached disk split runs none here one is) =
       HaltsApplying (xs ++ before) rest site count reached disk (later xs ys before rest (ApplyAt site count reached) split)
       (subst (λ (es : List Event). Runs d es last) (sym (append_assoc xs before (Fault site disk ∷ []))) (runs_then d m last xs (before ++ Fault site disk ∷ []) done runs))
-      (fails_both xs before calm none) one is
+      (fails_both xs before calm none) here one is
   stops_behind (CutsApplying before rest site count reached kept taken middle split runs none opens fused one is leaves) =
       CutsApplying (xs ++ before) rest site count reached kept taken middle (later xs ys before rest (ApplyAt site count reached) split) (runs_then d m middle xs before done runs)
       (fails_both xs before calm none) opens (fuses site fused) one is leaves
@@ -99,8 +99,8 @@ pub line_stops : (told : Type 0) (d : Doubted) (line : ScriptLine) (fails : Fail
     → AreLeft line d last new → LinkEnds told d line fails said new
 line_stops told d line fails said last new (HaltsIn e site disk middle came here one is leaves) left =
     LinksHalt e site disk middle came here one is (subst (λ (x : Doubted). AreLeft line d x new) leaves left)
-line_stops told d line fails said last new (HaltsApplying before rest site count reached disk split runs none one is) left =
-    AppliesPart before rest site count reached disk last split runs none one is left
+line_stops told d line fails said last new (HaltsApplying before rest site count reached disk split runs none here one is) left =
+    AppliesPart before rest site count reached disk last split runs none here one is left
 line_stops told d line fails said last new (CutsApplying before rest site count reached kept taken middle split runs none opens fused one is leaves) left =
     AppliesCut before rest site count reached kept taken middle split runs none opens fused one is (subst (λ (x : Doubted). AreLeft line d x new) leaves left)
 line_stops told d line fails said last new (CutsIn e site kept taken middle came fused one is leaves) left =

@@ -28,9 +28,9 @@ use Rattle.vx_history.specs.declared.receiver.RAction.{RAction}
 use Rattle.vx_history.specs.declared.receiver.RAction.TheVariants as receiving
 use Rattle.vx_script.specs.declared.line.ScriptLine.TheVariants.{Apply}
 use Rattle.vx_events.specs.Doubts.{IsAs, run_as, with_disks}
-use Rattle.vx_events.specs.Ends.{AllDone, BegunOf, DiskFails, Ends, LeavesOf, NoneLeft, WritesAHeader, FindsLinks, FindsNone, FuseRunsOut, HeaderFails, IsLeft, NoNumber, ShowsReceived}
+use Rattle.vx_events.specs.Ends.{AllDone, BegunOf, DiskFails, Ends, LeavesOf, MayName, NoneLeft, WritesAHeader, FindsLinks, FindsNone, FuseRunsOut, HeaderFails, IsLeft, NoNumber, ShowsReceived}
 use Rattle.vx_events.specs.Facts.{site_number}
-use Rattle.vx_events.specs.Fails.{Fails}
+use Rattle.vx_events.specs.Fails.{Fails, IsSiteDisk}
 use Rattle.vx_events.specs.LinksFit.{LinksFit}
 use Rattle.vx_events.specs.Lists.{Choice, events_of}
 use Rattle.vx_events.specs.Sayings.{Replies}
@@ -134,6 +134,13 @@ module _ (told : Type 0) (a b : ℕ) (d : Doubted) (may : MayMove a b d.world) (
       let node : (happened d (Fault b disk) false).world.nodes b ≡ n = ap (λ (x : World). x.nodes b) (fault_is d.world b disk below up) ∙ at_place d.world.nodes b n in
       (ap (λ (m : Node). m.failing) node, ap (λ (m : Node). m.group) node)
 
+  -- a halted site has the disks that it had
+  fault_names : (disk : ℕ) → IsSiteDisk (d.world.nodes b) disk → IsSiteDisk ((happened d (Fault b disk) false).world.nodes b) disk
+  fault_names disk names =
+      let n : Node = record (d.world.nodes b) { halted = Some disk; fuse = burned (d.world.nodes b).fuse } in
+      let node : (happened d (Fault b disk) false).world.nodes b ≡ n = ap (λ (x : World). x.nodes b) (fault_is d.world b disk below up) ∙ at_place d.world.nodes b n in
+      subst (λ (m : Node). IsSiteDisk m disk) (sym node) names
+
   -- ---- its notes
 
   left_noted : (m : Doubted) (f : ℕ → Fuse) (last new : Doubted) (taken : Bool) → MayBurn a b f m.world → last ≡ noted_as f m → HasDisksOf (d.world.nodes b) (m.world.nodes b)
@@ -224,15 +231,16 @@ module _ (told : Type 0) (a b : ℕ) (d : Doubted) (may : MayMove a b d.world) (
             noted = left_noted (happened d (ApplyAt b count 0) false) fuses (happened (noted_as fuses d) (ApplyAt b count c.reached) taken) new taken
                 (burns_kept a b fuses d.world (step d.world (ApplyAt b count 0)).world (λ i. ap (λ (n : Node). n.fuse) (stays.nodes i)) burns) (applied_noted count c.reached taken) (ap (λ (n : Node). n.failing) (stays.nodes b), ap (λ (n : Node). n.group) (stays.nodes b)) left_so;
           })
-      by (DiskFails c taken before e rest left disk split leaves one says is_left) =
+      by (DiskFails c taken before e rest left disk split leaves names one says is_left) =
           let o = single (ApplyAt b count c.reached) e before rest (sym (evs c) ∙ split) in
           let left_is : left ≡ Fault b disk ∷ [] = subst (λ (x : Event). LeavesOf x disk left) o.1 leaves in
+          let named : IsSiteDisk (d.world.nodes b) disk = subst (λ (x : Event). MayName ((noted_as fuses d).world.nodes b) x disk) o.1 names in
           let left_so = subst (λ (es : List Event). IsLeft b (Apply name count) taken (noted_as fuses d) (run_as taken (noted_as fuses d) es) new) (ap (λ (xs : List Event). xs ++ left) o.0 ∙ left_is) is_left in
           subst (λ (x : Said). GoesTo told a b d (ApplyAt b count 0 ∷ []) fails new x) (sym says)
           (record {
             last = happened d (Fault b disk) false;
             sites = ap (λ (x : World). x.sites) (fault_is d.world b disk below up);
-            stops = subst (λ (f : Fails). SettleStops told a b d (ApplyAt b count 0 ∷ []) f (Refused (Device disk)) (happened d (Fault b disk) false)) (sym one) (stops_apply told a b d may count 0 disk (up, runs));
+            stops = subst (λ (f : Fails). SettleStops told a b d (ApplyAt b count 0 ∷ []) f (Refused (Device disk)) (happened d (Fault b disk) false)) (sym one) (stops_apply told a b d may count 0 disk (up, runs) (fault_names disk named));
             noted = left_noted (happened d (Fault b disk) false) (noted_at fuses b) (happened (noted_as fuses d) (Fault b disk) taken) new taken (burns_fault disk) (fault_noted disk taken)
                 (fault_disks disk) left_so;
           })

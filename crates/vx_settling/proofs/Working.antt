@@ -18,7 +18,7 @@ use Rattle.vx_history.specs.declared.event.Event.{Event}
 use Rattle.vx_history.specs.declared.event.Event.TheVariants.{Apply, Connect, Deliver, Fault, Pump, Tick}
 use Rattle.vx_script.specs.declared.line.ScriptLine.TheVariants.{Settle}
 use Rattle.vx_events.specs.Facts.{head_of, site_number}
-use Rattle.vx_events.specs.Fails.{Fails, IsLogDisk}
+use Rattle.vx_events.specs.Fails.{Fails, IsLogDisk, IsSiteDisk}
 use Rattle.vx_events.specs.LinkEnds.{AreLeft, LinkEnds}
 use Rattle.vx_events.specs.LinkFinds.{ApplyCut, ApplyHalts, EndsBetween, GivesUp, HeaderCut, HeaderHalts, IsGivenUp, IsStored, IsUnread, MayTake, MovesBetween, PumpSends, kept_with, pumped_with, taken_with}
 use Rattle.vx_events.specs.LinkLists.{link_events}
@@ -97,11 +97,11 @@ module _ (told : Type 0) (p s : ℕ) where
     }
 
     -- a disk failed as s applied what waits there, or its fuse ran out
-    pub stops_apply : (count reached disk : ℕ) → IsOpen (d.world.nodes s)
+    pub stops_apply : (count reached disk : ℕ) → IsOpen (d.world.nodes s) → IsSiteDisk ((happened d (Fault s disk) false).world.nodes s) disk
         → SettleStops told p s d (Apply s count reached ∷ []) ((s, disk) ∷ []) (Refused (Device disk)) (happened d (Fault s disk) false)
-    stops_apply count reached disk opens = record {
-      exact = λ tells. HaltsApplying [] [] s count reached disk refl (false, refl) refl refl refl;
-      other = λ untold. record { middle = d; moves = begins p s d may; ends = ApplyHalts disk opens refl refl refl };
+    stops_apply count reached disk opens here = record {
+      exact = λ tells. HaltsApplying [] [] s count reached disk refl (false, refl) refl here refl refl;
+      other = λ untold. record { middle = d; moves = begins p s d may; ends = ApplyHalts disk opens here refl refl refl };
     }
 
     pub cuts_apply : (count reached kept : ℕ) (taken : Bool) → IsOpen (d.world.nodes s) → IsFused (d.world.nodes s).fuse
@@ -152,7 +152,7 @@ module _ (told : Type 0) (p s : ℕ) where
     ends_then middle fails said last moved (GivesUp why other none is leaves) = GivesUp why other none is leaves
     ends_then middle fails said last moved (IsUnread disk asks here one is leaves) = IsUnread disk asks here one is leaves
     ends_then middle fails said last moved (HeaderHalts number disk opens writes here one is leaves) = HeaderHalts number disk opens writes here one is leaves
-    ends_then middle fails said last moved (ApplyHalts disk opens one is leaves) = ApplyHalts disk opens one is leaves
+    ends_then middle fails said last moved (ApplyHalts disk opens here one is leaves) = ApplyHalts disk opens here one is leaves
     ends_then middle fails said last moved (HeaderCut number kept taken opens writes fused none is leaves) =
         HeaderCut number kept taken opens writes (still_fused p s d m moved p fused) none is leaves
     ends_then middle fails said last moved (ApplyCut kept taken opens fused none is leaves) = ApplyCut kept taken opens (still_fused p s d m moved s fused) none is leaves

@@ -7,7 +7,7 @@ use Rattle.vx_history.specs.Doubts.{Doubted, Runs, crashed_as, halved}
 use Rattle.vx_history.specs.Stops.{ComesTo, IsFused, IsOpen, all_fails}
 use Rattle.vx_history.specs.declared.event.Event.{Event}
 use Rattle.vx_history.specs.declared.event.Event.TheVariants.{Apply as ApplyAt, Fault}
-use Rattle.vx_events.specs.Fails.{Fails, IsLogDisk}
+use Rattle.vx_events.specs.Fails.{Fails, IsLogDisk, IsSiteDisk}
 use Rattle.vx_events.specs.LinkEnds.{ReadsLog, TakesNumber}
 use Rattle.vx_events.specs.Stamps.{most_stamp_at, stamps_of}
 use Rattle.vx_events.specs.declared.said.Said.{Said}
@@ -20,7 +20,7 @@ pub data StopsAmong (told : Type 0) (d : Doubted) (events : List Event) (fails :
       → last ≡ halved middle e site disk → StopsAmong told d events fails said last
   -- a disk of this site failed as waiting records were applied
   HaltsApplying : (before rest : List Event) (site count reached disk : ℕ) → events ≡ before ++ ApplyAt site count reached ∷ rest
-      → Runs d (before ++ Fault site disk ∷ []) last → all_fails before ≡ [] → fails ≡ (site, disk) ∷ [] → said ≡ Refused (Device disk)
+      → Runs d (before ++ Fault site disk ∷ []) last → all_fails before ≡ [] → IsSiteDisk (last.world.nodes site) disk → fails ≡ (site, disk) ∷ [] → said ≡ Refused (Device disk)
       → StopsAmong told d events fails said last
   -- the fuse of this site ran out as waiting records were applied
   CutsApplying : (before rest : List Event) (site count reached kept : ℕ) (taken : Bool) (middle : Doubted) → events ≡ before ++ ApplyAt site count reached ∷ rest

@@ -17,7 +17,7 @@ ghost use Rattle.vx_history.specs.declared.sender.Action.TheVariants.{Nothing as
 ghost use Rattle.vx_history.specs.declared.sender.SEvent.TheVariants.{Pump as PumpLink};
 ghost use Rattle.vx_script.specs.declared.line.ScriptLine.TheVariants.{Settle};
 ghost use Rattle.vx_events.specs.Facts.{site_number};
-ghost use Rattle.vx_events.specs.Fails.{Fails, IsLogDisk};
+ghost use Rattle.vx_events.specs.Fails.{Fails, IsLogDisk, IsSiteDisk};
 ghost use Rattle.vx_events.specs.LinkEnds.{AreLeft, LinkEnds};
 ghost use Rattle.vx_events.specs.LinkFinds.{IsGivenUp, MayTake, PumpSends, kept_with, pumped_with, taken_with};
 ghost use Rattle.vx_events.specs.LinkLists.{link_events};
@@ -52,7 +52,7 @@ pub fn settling_works()
         → IsFused (d.world.nodes p).fuse → SettleStops (t ≡ true) p s d (Deliver number ∷ []) [] (Refused IsOff) (crashed_as (halved d (Deliver number) p 0) p kept taken) }
     ensures header_lacks { (t : Bool) (p s : ℕ) (d : Doubted) → MayMove p s d.world → (number : ℕ) → IsHeardAt d.world number p
         → (t ≡ true → MOST_NUMBER ≤ most_stamp_at d.world p + stamps_of (Deliver number) d.world p) → SettleStops (t ≡ true) p s d (Deliver number ∷ []) [] (Refused (Limit Number MOST_NUMBER)) d }
-    ensures applying { (t : Bool) (p s : ℕ) (d : Doubted) → MayMove p s d.world → (count reached disk : ℕ) → IsOpen (d.world.nodes s)
+    ensures applying { (t : Bool) (p s : ℕ) (d : Doubted) → MayMove p s d.world → (count reached disk : ℕ) → IsOpen (d.world.nodes s) → IsSiteDisk ((happened d (Fault s disk) false).world.nodes s) disk
         → SettleStops (t ≡ true) p s d (Apply s count reached ∷ []) ((s, disk) ∷ []) (Refused (Device disk)) (happened d (Fault s disk) false) }
     ensures applying_cut { (t : Bool) (p s : ℕ) (d : Doubted) → MayMove p s d.world → (count reached kept : ℕ) (taken : Bool) → IsOpen (d.world.nodes s) → IsFused (d.world.nodes s).fuse
         → SettleStops (t ≡ true) p s d (Apply s count reached ∷ []) [] (Refused IsOff) (crashed_as (halved d (Fault s 0) s 0) s kept taken) }

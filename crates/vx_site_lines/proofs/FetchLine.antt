@@ -229,7 +229,7 @@ module _ {R : Type 0} {g : Ghosts R} where
         next = d;
         fails = (k, disk) ∷ [];
         done = done_by (IsTold new) d line name volume start count ((k, disk) ∷ []) (Refused (Device disk)) d is
-            (λ l list still. only_left (IsTold new) d l k (ReadAt k (volume_number (d.world.nodes k) volume) start count) disk (list first_choice) refl (still d.world));
+            (λ l list still. only_left (IsTold new) d l k (ReadAt k (volume_number (d.world.nodes k) volume) start count) disk (list first_choice) refl tt (still d.world));
         carries = carries_same d old new load (told_by old new s before after changed);
         stands = stays_for d old new s before after stands read.seat.below changed alone keeps gave.0 facts;
         rose = subst (λ (i : ℕ). RoseAll ((i, disk) ∷ []) (count_of old) (count_of new)) (sym read.seat.number) (rose_at old new s disk before after changed gave.1);

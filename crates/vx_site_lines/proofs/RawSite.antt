@@ -238,7 +238,7 @@ module _ {R : Type 0} {g : Ghosts R} where
       by_stop (Refused (Device disk)) h = record {
         next = d;
         fails = (site_number d.world name, disk) ∷ [];
-        done = record { ends = only_left (IsTold new) d (Raw name) (site_number d.world name) (MakeRaw (site_number d.world name)) disk refl refl refl; counts = tt; works = tt; calls = tt };
+        done = record { ends = only_left (IsTold new) d (Raw name) (site_number d.world name) (MakeRaw (site_number d.world name)) disk refl refl tt refl; counts = tt; works = tt; calls = tt };
         carries = carries_same d old new load (told_by old new s before after changed);
         stands = stays (h.0 (beside_of d s));
         rose = subst (λ (i : ℕ). RoseAll ((i, disk) ∷ []) (count_of old) (count_of new)) (sym found.seat.number) (rose_at old new s disk before after changed h.1);

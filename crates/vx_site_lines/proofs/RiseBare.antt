@@ -152,7 +152,7 @@ module _ {R : Type 0} {g : Ghosts R} where
       pub unread_leads : (disk : ℕ) → RoseAt before after disk → Leads d (Recover name) (Refused (Device disk)) old new
       unread_leads disk rose =
           bare_leads ((s, disk) ∷ []) (Refused (Device disk))
-          (DiskFails first_choice false [] (RecoverAt s None) [] [] disk (bare_events d s name number bare) (inl refl) refl refl (record { world = refl; after = λ i. refl }))
+          (DiskFails first_choice false [] (RecoverAt s None) [] [] disk (bare_events d s name number bare) (inl refl) tt refl refl (record { world = refl; after = λ i. refl }))
           (rose_at old new s disk before after changed rose)
 
       pub untold_none : (why : No) → IsNoDevice why → (IsToldAt after → ⊥) → Leads d (Recover name) (Refused why) old new

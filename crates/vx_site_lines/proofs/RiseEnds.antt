@@ -98,10 +98,10 @@ module _ (T : Type 0) (d h : Doubted) (s : ℕ) (c : Choice) (taken : Bool) (nam
 
   -- a disk failed, before its next session or behind it
   pub unread_ends : (disk : ℕ) → Ends T d line s ((s, disk) ∷ []) (Refused (Device disk)) (own_disks taken s d.world h)
-  unread_ends disk = DiskFails c taken opens.before (RecoverAt s None) [] [] disk opens.list (inl refl) refl refl (left_by [])
+  unread_ends disk = DiskFails c taken opens.before (RecoverAt s None) [] [] disk opens.list (inl refl) tt refl refl (left_by [])
 
   pub begun_ends : (disk : ℕ) → Ends T d line s ((s, disk) ∷ []) (Refused (Device disk)) (own_disks taken s d.world (happened h (RecoverAt s (Some disk)) taken))
-  begun_ends disk = DiskFails c taken opens.before (RecoverAt s None) [] (RecoverAt s (Some disk) ∷ []) disk opens.list (inr refl) refl refl (left_by (RecoverAt s (Some disk) ∷ []))
+  begun_ends disk = DiskFails c taken opens.before (RecoverAt s None) [] (RecoverAt s (Some disk) ∷ []) disk opens.list (inr refl) tt refl refl (left_by (RecoverAt s (Some disk) ∷ []))
 
   -- no number is left for its next session
   pub none_ends : (T → MOST_NUMBER ≤ most_stamp_at h.world s + 2) → Ends T d line s [] (Refused (Limit Number MOST_NUMBER)) (own_disks taken s d.world h)

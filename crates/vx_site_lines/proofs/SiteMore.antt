@@ -330,7 +330,7 @@ module _ {R : Type 0} {g : Ghosts R} where
       by_stop (Refused (Device disk)) h = record {
         next = d;
         fails = (s, disk) ∷ [];
-        done = record { ends = only_left (IsTold new) d (Site name disks blocks) s (MakeSite name disks blocks) disk refl refl refl; counts = tt; works = tt; calls = tt };
+        done = record { ends = only_left (IsTold new) d (Site name disks blocks) s (MakeSite name disks blocks) disk refl refl tt refl; counts = tt; works = tt; calls = tt };
         carries = carries_same d old new load (told_by old new s before after here);
         stands = stays h.0;
         rose = rose_at old new s disk before after here h.1;

@@ -23,6 +23,7 @@ use Rattle.vx_script.specs.declared.line.ScriptLine.{ScriptLine}
 use Rattle.vx_diskset.specs.DiskSets.{CanWrite}
 use Rattle.vx_events.specs.Doubts.{run_as}
 use Rattle.vx_events.specs.Ends.{AllDone, DiskFails, Ends, FuseRunsOut, IsLeft, NoNumber, noted}
+use Rattle.vx_events.specs.Fails.{IsSiteDisk}
 use Rattle.vx_events.specs.Lists.{Choice, events_of}
 use Rattle.vx_events.specs.LinksFit.{RowFits}
 use Rattle.vx_events.specs.Sayings.{RepeatsSaid, Replies}
@@ -70,9 +71,9 @@ module _ (told : Type 0) (d : Doubted) (line : ScriptLine) (s : ℕ) (x : Write)
       (subst (λ (es : List Event). IsLeft s line false d (run_as false d es) e) (sym events) (record { world = sym (notes (step d.world event).world); after = λ i. refl }))
 
   -- a disk failed in it
-  pub half_ends : (disk : ℕ) → Ends told d line s ((s, disk) ∷ []) (Refused (Device disk)) (written_for d s x (Some disk))
-  half_ends disk =
-      DiskFails c false [] event [] (WriteAt s x.volume x.start x.bytes (Some disk) ∷ []) disk events refl refl refl
+  pub half_ends : (disk : ℕ) → IsSiteDisk (d.world.nodes s) disk → Ends told d line s ((s, disk) ∷ []) (Refused (Device disk)) (written_for d s x (Some disk))
+  half_ends disk names =
+      DiskFails c false [] event [] (WriteAt s x.volume x.start x.bytes (Some disk) ∷ []) disk events refl names refl refl
       (record { world = sym (notes (step d.world (WriteAt s x.volume x.start x.bytes (Some disk))).world); after = λ i. refl })
 
   -- no number is left

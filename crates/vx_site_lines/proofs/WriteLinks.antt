@@ -25,6 +25,8 @@ use Rattle.vx_script.specs.declared.line.ScriptLine.TheVariants.{Write as WriteL
 use Rattle.vx_disk.specs.Causes.{OnDisks}
 use Rattle.vx_disk.specs.Disks.{Disks}
 use Rattle.vx_ringio.specs.Spends.{Passed}
+use Rattle.vx_events.specs.Fails.{IsSiteDisk, Fails}
+use Rattle.vx_diskset.specs.Blames.{BlamesSite}
 use Rattle.vx_diskset.specs.Asked.{FailsAs, FusedAs, LeavesFuse, WritesUnder, disks_told, size_in}
 use Rattle.vx_diskset.specs.Burning.{Burnt, IsLogged}
 use Rattle.vx_diskset.specs.DiskSets.{WroteAt, halted_with, worked}
@@ -34,7 +36,6 @@ use Rattle.vx_diskset.specs.Stands.{IsToldAt, KeepsRole, RoleIs, SiteStands}
 use Rattle.vx_diskset.specs.declared.disk_set.DiskSet.{DiskSet}
 use Rattle.vx_events.specs.Ends.{Ends, noted}
 use Rattle.vx_events.specs.Facts.{site_number, volume_number}
-use Rattle.vx_events.specs.Fails.{Fails}
 use Rattle.vx_events.specs.Fuses.{MayPass}
 use Rattle.vx_events.specs.LinkedFacts.{linked_fact, links_by, links_of_site}
 use Rattle.vx_events.specs.Lines.{IsCutBelow, IsDone, write_in}
@@ -257,10 +258,10 @@ module _ {R : Type 0} {g : Ghosts R} where
         (rose_still old new s before after changed.there changed.later changed.disk_sets))
 
     -- a disk failed in it
-    half_leads : (disk number : ℕ) (f f' : SiteFacts) → WroteAt (beside_of d s) n x before after (Err (Device disk)) → WritesUnder bytes (Refused (Device disk)) before after → (n.safe < MOST_NUMBER → number ≡ n.safe + 1)
+    half_leads : (disk number : ℕ) (f f' : SiteFacts) → IsSiteDisk n disk → WroteAt (beside_of d s) n x before after (Err (Device disk)) → WritesUnder bytes (Refused (Device disk)) before after → (n.safe < MOST_NUMBER → number ≡ n.safe + 1)
         → slice_get old.facts.items s ≡ Some f → (list_any (is_over (blocks_in bytes + 1)) f.links ≡ false → f' ≡ half_fact disk number (blocks_in bytes + 1) f) → new.facts.items ≡ slice_set old.facts.items s f'
         → SameLoad old new → Leads d line (Refused (Device disk)) old new
-    half_leads disk number f f' wrote under next_is at noted facts load =
+    half_leads disk number f f' names wrote under next_is at noted facts load =
         let can : IsLetIn d.world s x = lets wrote.2 in
         let e : Doubted = written_for d s x (Some disk) in
         let eff = line_halted d s x (stands.links.rows s) can disk in
@@ -271,7 +272,7 @@ module _ {R : Type 0} {g : Ghosts R} where
         ∙ sym (half_shown d s x stands.links can disk to.can.origin whole) in
         leads_by ((s, disk) ∷ []) (Refused (Device disk)) e
         (record {
-          ends = λ l events notes. half_ends (IsTold new) d l s x first_choice (events first_choice) notes disk;
+          ends = λ l events notes. half_ends (IsTold new) d l s x first_choice (events first_choice) notes disk names;
           counts = record { done = λ told calls exact w. absurd (never_written (Device disk) w); off = λ told calls exact off. absurd (device_off disk off) };
           works = λ w. absurd (never_written (Device disk) w);
           calls = λ w. absurd (never_written (Device disk) w);
@@ -340,17 +341,17 @@ module _ {R : Type 0} {g : Ghosts R} where
             (rose_still old new s before after changed.there changed.later changed.disk_sets))
 
     -- it was refused
-    pub write_stops : (why : No) (said : Said) (number : ℕ) (f f' : SiteFacts) → WroteAt (beside_of d s) n x before after (Err why) → WritesUnder bytes (Refused why) before after → said ≡ Refused why → (n.safe < MOST_NUMBER → number ≡ n.safe + 1)
+    pub write_stops : (why : No) (said : Said) (number : ℕ) (f f' : SiteFacts) → BlamesSite n why → WroteAt (beside_of d s) n x before after (Err why) → WritesUnder bytes (Refused why) before after → said ≡ Refused why → (n.safe < MOST_NUMBER → number ≡ n.safe + 1)
         → slice_get old.facts.items s ≡ Some f → (list_any (is_over (blocks_in bytes + 1)) f.links ≡ false → f' ≡ unwritten_facts why number (blocks_in bytes + 1) f) → new.facts.items ≡ slice_set old.facts.items s f'
         → LetsGoBy why old new s → Leads d line said old new
-    write_stops why said number f f' wrote under says next_is at noted facts gone = subst (λ (r : Said). Leads d line r old new) (sym says) (by_why why wrote under noted gone)
+    write_stops why said number f f' blames wrote under says next_is at noted facts gone = subst (λ (r : Said). Leads d line r old new) (sym says) (by_why why blames wrote under noted gone)
       where
         free : list_any (is_over (blocks_in bytes + 1)) f.links ≡ false
         free = subst (λ (q : SiteFacts). list_any (is_over (blocks_in bytes + 1)) q.links ≡ false) (sym (some_same (sym at ∙ to.seat.fact))) counted
 
-        by_why : (why : No) → WroteAt (beside_of d s) n x before after (Err why) → WritesUnder bytes (Refused why) before after
+        by_why : (why : No) → BlamesSite n why → WroteAt (beside_of d s) n x before after (Err why) → WritesUnder bytes (Refused why) before after
             → (list_any (is_over (blocks_in bytes + 1)) f.links ≡ false → f' ≡ unwritten_facts why number (blocks_in bytes + 1) f) → LetsGoBy why old new s → Leads d line (Refused why) old new
-        by_why (Device disk) wrote under noted gone = half_leads disk number f f' wrote under next_is at noted facts (record { flight = gone.flight; assemblies = gone.assemblies; feeders = gone.feeders })
-        by_why (Limit what most) wrote under noted gone = none_leads what most f f' wrote under at (noted free) facts (record { flight = gone.flight; assemblies = gone.assemblies; feeders = gone.feeders })
-        by_why Off wrote under noted gone = cut_leads f f' wrote under at (noted free) facts (record { flight = gone.flight; assemblies = gone.assemblies; feeders = gone.feeders })
-        by_why other wrote under noted gone = absurd wrote
+        by_why (Device disk) blames wrote under noted gone = half_leads disk number f f' blames wrote under next_is at noted facts (record { flight = gone.flight; assemblies = gone.assemblies; feeders = gone.feeders })
+        by_why (Limit what most) blames wrote under noted gone = none_leads what most f f' wrote under at (noted free) facts (record { flight = gone.flight; assemblies = gone.assemblies; feeders = gone.feeders })
+        by_why Off blames wrote under noted gone = cut_leads f f' wrote under at (noted free) facts (record { flight = gone.flight; assemblies = gone.assemblies; feeders = gone.feeders })
+        by_why other blames wrote under noted gone = absurd wrote

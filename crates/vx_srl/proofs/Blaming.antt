@@ -1,14 +1,13 @@
 -- Which disk a refused call of the log names.
 use Rattle.std.proofs.Common.{◌≡◌, ℕ, false, true, subst, sym}
-use Rattle.std.specs.Prelude.{IsSome, Option, Some, None, Result, Err}
+use Rattle.std.specs.Prelude.{IsSome, Option, Some, None, Result, Ok, Err}
 use Rattle.vx_model.specs.declared.no.No.{No}
-use Rattle.vx_disk.specs.Causes.{Names, refusal_of}
+use Rattle.vx_disk.specs.Causes.{Names, WithDisks, refusal_of}
 use Rattle.vx_disk.specs.Disks.{Disks}
 use Rattle.vx_disk.specs.declared.shelf.ShelfError.{ShelfError}
 use Rattle.vx_disk.specs.declared.shelf.ShelfError.TheVariants.{Fault, Down}
-use Rattle.vx_srl.specs.Calls.{log_no_number}
+use Rattle.vx_ringio.proofs.Naming.{names_before}
 use Rattle.vx_srl.specs.Causes.{BlamesLog, BlamesUnit}
-use Rattle.vx_srl.specs.declared.errors.SrlNo.{SrlNo}
 use Rattle.vx_srl.specs.declared.errors.SrlNo.TheVariants.{Other}
 
 named_unit : (T : Type 0) (disks : Option Disks) (unit : ℕ) (error : ShelfError) → Names {T = T} disks unit (Err error) → BlamesUnit disks unit (refusal_of error)
@@ -21,6 +20,21 @@ pub blames_failed : (T : Type 0) (disks : Option Disks) (u unit : ℕ) (error : 
 blames_failed T disks u unit error why here is names =
     subst (λ (v : ℕ). BlamesUnit disks v why) here (subst (λ (x : No). BlamesUnit disks u x) (sym is) (named_unit T disks u error names))
 
--- no number is left
-pub blames_none : (disks : Option Disks) (unit : ℕ) (why : SrlNo) → why ≡ log_no_number → BlamesLog disks unit why
-blames_none disks unit why is = subst (λ (x : SrlNo). BlamesLog disks unit x) (sym is) tt
+-- ---- calls one after another
+
+names_err : (T U : Type 0) (disks : Option Disks) (unit : ℕ) (error : ShelfError) → Names {T = T} disks unit (Err error) → Names {T = U} disks unit (Err error)
+names_err T U None unit error names = tt
+names_err T U (Some disks) unit (Fault disk) names = names
+names_err T U (Some disks) unit Down names = tt
+
+pub names_done : (T : Type 0) (x : T) (disks : Option Disks) (unit : ℕ) → Names {T = T} disks unit (Ok x)
+names_done T x None unit = tt
+names_done T x (Some disks) unit = tt
+
+-- one that failed behind others, and ended them
+pub names_exit : (T U : Type 0) (old mid : Option Disks) (P : Disks → Disks → Type 0) (u unit : ℕ) (r : Result U ShelfError) (error given : ShelfError) → r ≡ Err error → error ≡ given → u ≡ unit → WithDisks old mid P
+    → Names {T = T} mid u (Err given) → Names {T = U} old unit r
+names_exit T U old mid P u unit r error given is same here on names =
+    let first : Names {T = U} old u (Err given) = names_before U old mid P u (Err given) on (names_err T U mid u given names) in
+    subst (λ (v : ℕ). Names {T = U} old v r) here
+    (subst (λ (x : Result U ShelfError). Names {T = U} old u x) (sym is) (subst (λ (e : ShelfError). Names {T = U} old u (Err e)) (sym same) first))

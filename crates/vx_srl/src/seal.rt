@@ -1,10 +1,11 @@
 // The sealing of what is staged: it becomes part of the log.
-ghost use Rattle.std.specs.Prelude.{◌≡◌, ◌+◌, ◌-◌, ◌≤◌, ◌<◌, [], length, drop, All, Ok, OnOk};
+ghost use Rattle.std.specs.Prelude.{◌≡◌, ◌+◌, ◌-◌, ◌≤◌, ◌<◌, [], length, drop, All, Ok, IfErr, OnOk};
 ghost use Rattle.vx_disk.specs.Burns.{FallsShort, MakesCalls};
+ghost use Rattle.vx_disk.specs.Causes.{Names};
 ghost use Rattle.vx_ringio.specs.Spends.{Spends};
 ghost use Rattle.vx_ringio.specs.Tracks.{RingLies, Follows, Arrives};
 ghost use Rattle.vx_srl.specs.Calls.{SealsStaged, sealing};
-ghost use Rattle.vx_srl.specs.Causes.{CallsEnded, CallsStopped};
+ghost use Rattle.vx_srl.specs.Causes.{BlamesLog, CallsEnded, CallsStopped};
 ghost use Rattle.vx_srl.specs.Fronts.{fronts_written, seal_written};
 ghost use Rattle.vx_srl.specs.Rings.{RingGoes, LeadsTo};
 ghost use Rattle.vx_srl.specs.Views.{head_number};
@@ -34,6 +35,7 @@ fn write_fronts<S: Shelf>(
     ensures cause { CallsStopped (S.meaning shelf.old) (S.meaning shelf.new) result }
     ensures calls { OnOk result (MakesCalls (length records.now.items - from) (S.meaning shelf.old) (S.meaning shelf.new)) }
     ensures short { FallsShort (length records.now.items - from) (S.meaning shelf.old) (S.meaning shelf.new) }
+    ensures names { Names (S.meaning shelf.old).disks unit result }
     ensures spends { Spends (S.meaning shelf.old) (S.meaning shelf.new) }
 {
     for k in from..records.len() {
@@ -52,6 +54,7 @@ impl Srl {
         ensures cause { CallsEnded (S.meaning shelf.old) (S.meaning shelf.new) result }
         ensures calls { OnOk result (MakesCalls (length self.now.staged + 2) (S.meaning shelf.old) (S.meaning shelf.new)) }
         ensures short { FallsShort (length self.now.staged + 2) (S.meaning shelf.old) (S.meaning shelf.new) }
+        ensures names { Names (S.meaning shelf.old).disks self.now.unit result }
         ensures spends { Spends (S.meaning shelf.old) (S.meaning shelf.new) }
     {
         flush_ring(shelf, self.unit)?;
@@ -71,6 +74,7 @@ impl Srl {
         ensures leads { OnOk result (0 < length self.old.staged → LeadsTo self.old sealing self.new (S.meaning shelf.old) (S.meaning shelf.new)) }
         ensures calls { OnOk result (0 < length self.old.staged → MakesCalls (length self.old.staged + 2) (S.meaning shelf.old) (S.meaning shelf.new)) }
         ensures short { FallsShort (length self.old.staged + 2) (S.meaning shelf.old) (S.meaning shelf.new) }
+        ensures blames { IfErr result (BlamesLog (S.meaning shelf.old).disks self.old.unit) }
         ensures spends { Spends (S.meaning shelf.old) (S.meaning shelf.new) }
     {
         if self.sealed == self.records.len() {

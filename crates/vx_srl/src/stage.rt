@@ -1,11 +1,12 @@
 // The staging of a record: its blocks are written, and its header is not.
-ghost use Rattle.std.specs.Prelude.{◌≡◌, ◌⊎◌, ◌+◌, ◌<◌, ◌≤◌, ◌/◌, length, Err, OnOk, All};
+ghost use Rattle.std.specs.Prelude.{◌≡◌, ◌⊎◌, ◌+◌, ◌<◌, ◌≤◌, ◌/◌, length, Err, IfErr, OnOk, All};
 ghost use Rattle.vx_ringio.specs.Bodies.{IsBlocks, all_blocks};
 ghost use Rattle.vx_disk.specs.Burns.{FallsShort, MakesCalls};
 ghost use Rattle.vx_disk.specs.Causes.{Works};
 ghost use Rattle.vx_ringio.specs.Spends.{MakesAtLeast, Spends};
 ghost use Rattle.vx_ringio.specs.Tracks.{RingLies};
 ghost use Rattle.vx_ringlog.specs.Records.{as_on_disk};
+ghost use Rattle.vx_srl.specs.Causes.{BlamesLog};
 ghost use Rattle.vx_srl.specs.Calls.{StagesRecord, staging, staged_with, log_no_number};
 ghost use Rattle.vx_srl.specs.Rings.{RingGoes, LeadsTo};
 ghost use Rattle.vx_srl.specs.Views.{BodyFits, free_of, blocks_needed, next_of, most_number, record_next, kept_record};
@@ -90,6 +91,7 @@ impl Srl {
         ensures leads { OnOk result (LeadsTo self.old (staging (record_next self.old vol block bytes.now)) self.new (S.meaning shelf.old) (S.meaning shelf.new)) }
         ensures calls { OnOk result (BodyFits self.old bytes.now → MakesCalls 1 (S.meaning shelf.old) (S.meaning shelf.new)) }
         ensures short { BodyFits self.old bytes.now → FallsShort 1 (S.meaning shelf.old) (S.meaning shelf.new) }
+        ensures blames { IfErr result (BlamesLog (S.meaning shelf.old).disks self.old.unit) }
         ensures least { OnOk result (MakesAtLeast 1 (S.meaning shelf.old) (S.meaning shelf.new)) }
         ensures spends { Spends (S.meaning shelf.old) (S.meaning shelf.new) }
         ensures works { OnOk result (Works (S.meaning shelf.old).disks self.old.unit) }

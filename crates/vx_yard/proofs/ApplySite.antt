@@ -40,6 +40,8 @@ use Rattle.vx_events.proofs.Steps.{apply_step}
 use Rattle.vx_events.specs.Doubts.{run_as}
 use Rattle.vx_events.specs.Effects.{EffectAt}
 use Rattle.vx_events.specs.Ends.{AllDone, DiskFails, Ends, FuseRunsOut, IsLeft}
+use Rattle.vx_events.specs.Fails.{IsSiteDisk}
+use Rattle.vx_diskset.specs.Blames.{BlamesSite}
 use Rattle.vx_events.specs.Facts.{group_by, group_fact, seat_of, site_fact, site_number}
 use Rattle.vx_events.specs.LinkedFacts.{link_facts, links_by}
 use Rattle.vx_events.specs.LinksFit.{LinksFit}
@@ -190,9 +192,9 @@ module _ {R : Type 0} {g : Ghosts R} where
         }
 
     -- a disk failed in it, and the site is halted
-    halts : (disk : ℕ) (f f' : SiteFacts) → AppliedAt (beside_of d s) n to before after (Err (Device disk)) → LeavesFuse NoMore (Refused (Device disk)) before after → slice_get old.facts.items s ≡ Some f
+    halts : (disk : ℕ) (f f' : SiteFacts) → IsSiteDisk n disk → AppliedAt (beside_of d s) n to before after (Err (Device disk)) → LeavesFuse NoMore (Refused (Device disk)) before after → slice_get old.facts.items s ≡ Some f
         → f' ≡ halted_facts disk f → new.facts.items ≡ slice_set old.facts.items s f' → SameLoad old new → Leads d (Apply name to) (Refused (Device disk)) old new
-    halts disk f f' is calls at noted facts load =
+    halts disk f f' names is calls at noted facts load =
         let k : ℕ = site_number d.world name in
         let m : Node = halted_at n disk in
         let h : Doubted = happened d (Fault s disk) false in
@@ -210,7 +212,7 @@ module _ {R : Type 0} {g : Ghosts R} where
           fails = (s, disk) ∷ [];
           done = record {
             ends = subst (λ (i : ℕ). Ends (IsTold new) d (Apply name to) i ((s, disk) ∷ []) (Refused (Device disk)) e) (sym here.seat.number)
-                (DiskFails first_choice false [] (ApplyAt s to 0) [] (Fault s disk ∷ []) disk ev refl refl refl (record { world = refl; after = λ i. refl }));
+                (DiskFails first_choice false [] (ApplyAt s to 0) [] (Fault s disk ∷ []) disk ev refl names refl refl (record { world = refl; after = λ i. refl }));
             counts = tt;
             works = tt;
             calls = tt;
@@ -278,11 +280,11 @@ module _ {R : Type 0} {g : Ghosts R} where
             })
 
     -- it was refused
-    pub apply_refused : (why : No) (said : Said) (f f' : SiteFacts) → said ≡ Refused why → AppliedAt (beside_of d s) n to before after (Err why) → LeavesFuse NoMore (Refused why) before after → slice_get old.facts.items s ≡ Some f
+    pub apply_refused : (why : No) (said : Said) (f f' : SiteFacts) → said ≡ Refused why → BlamesSite n why → AppliedAt (beside_of d s) n to before after (Err why) → LeavesFuse NoMore (Refused why) before after → slice_get old.facts.items s ≡ Some f
         → f' ≡ noted_facts why f → new.facts.items ≡ slice_set old.facts.items s f' → LetsGoBy why old new s → Leads d (Apply name to) said old new
-    apply_refused why said f f' says is calls at noted facts lets = subst (λ (r : Said). Leads d (Apply name to) r old new) (sym says) (by_why why is calls noted lets)
+    apply_refused why said f f' says blames is calls at noted facts lets = subst (λ (r : Said). Leads d (Apply name to) r old new) (sym says) (by_why why blames is calls noted lets)
       where
-        by_why : (why : No) → AppliedAt (beside_of d s) n to before after (Err why) → LeavesFuse NoMore (Refused why) before after → f' ≡ noted_facts why f → LetsGoBy why old new s → Leads d (Apply name to) (Refused why) old new
-        by_why (Device disk) is calls noted lets = halts disk f f' is calls at noted facts (record { flight = lets.flight; assemblies = lets.assemblies; feeders = lets.feeders })
-        by_why Off is calls noted lets = falls_off f f' is calls at noted facts (record { flight = lets.flight; assemblies = lets.assemblies; feeders = lets.feeders })
-        by_why other is calls noted lets = absurd is
+        by_why : (why : No) → BlamesSite n why → AppliedAt (beside_of d s) n to before after (Err why) → LeavesFuse NoMore (Refused why) before after → f' ≡ noted_facts why f → LetsGoBy why old new s → Leads d (Apply name to) (Refused why) old new
+        by_why (Device disk) blames is calls noted lets = halts disk f f' blames is calls at noted facts (record { flight = lets.flight; assemblies = lets.assemblies; feeders = lets.feeders })
+        by_why Off blames is calls noted lets = falls_off f f' is calls at noted facts (record { flight = lets.flight; assemblies = lets.assemblies; feeders = lets.feeders })
+        by_why other blames is calls noted lets = absurd is

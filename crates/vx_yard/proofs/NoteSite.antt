@@ -17,7 +17,7 @@ use Rattle.vx_diskset.specs.declared.disk_set.DiskSet.{DiskSet}
 use Rattle.vx_events.proofs.Calm.{chosen_world, run_world}
 use Rattle.vx_events.specs.Doubts.{run_as}
 use Rattle.vx_events.specs.Effects.{ChangesNode}
-use Rattle.vx_events.specs.Ends.{AllDone, DiskFails, Ends, LeavesOf, noted}
+use Rattle.vx_events.specs.Ends.{AllDone, DiskFails, Ends, LeavesOf, MayName, noted}
 use Rattle.vx_effects.proofs.Leaving.{fit_note}
 use Rattle.vx_events.specs.LinksFit.{LinksFit}
 use Rattle.vx_events.specs.Lists.{Choice, events_of}
@@ -82,9 +82,9 @@ one_left told d line s c e o said v is whole at says leads =
     })
 
 -- a disk failed, and nothing of the line's one event stands
-pub only_left : (told : Type 0) (d : Doubted) (line : ScriptLine) (s : ℕ) (e : Event) (disk : ℕ) → events_of d.world line first_choice ≡ e ∷ [] → LeavesOf e disk [] → noted s line d.world ≡ d.world
+pub only_left : (told : Type 0) (d : Doubted) (line : ScriptLine) (s : ℕ) (e : Event) (disk : ℕ) → events_of d.world line first_choice ≡ e ∷ [] → LeavesOf e disk [] → MayName (d.world.nodes s) e disk → noted s line d.world ≡ d.world
     → Ends told d line s ((s, disk) ∷ []) (Refused (Device disk)) d
-only_left told d line s e disk is leaves still = DiskFails first_choice false [] e [] [] disk is leaves refl refl (record { world = sym still; after = λ i. refl })
+only_left told d line s e disk is leaves names still = DiskFails first_choice false [] e [] [] disk is leaves names refl refl (record { world = sym still; after = λ i. refl })
 
 module _ {R : Type 0} {g : Ghosts R} where
   -- a site whose node is another, with what it has beside it

@@ -6,6 +6,7 @@ use Rattle.vx_diskset.specs.declared.receivers.Reached.{Reached}
 use Rattle.std.proofs.lemmas.Result.{err_from_is_err_and}
 use Rattle.vx_ringio.proofs.Spending.{then_spends}
 use Rattle.vx_diskset.specs.Received.{reached}
+use Rattle.vx_diskset.proofs.Blamed.{blamed_since}
 use Rattle.vx_diskset.proofs.Reaching.{applied_all, applied_done, applied_failed}
 use Rattle.vx_diskset.proofs.Receiving.{durable_of, receiver_up}
 use Rattle.vx_diskset.proofs.receivers.apply_oldest.Goals as goal
@@ -80,3 +81,13 @@ returns-clause-brought g c = λ beside n r can.
     c.log_waiting.ensures.later.counts c.head-number.result c.in_ok-apply_group.field-0 (c.head-number.ensures ∙ here.head can.running)
     (c.in_ok-apply_group.ensures.applied beside (durable_of (reached n number)) (receiver_up (reached n number) c.log_waiting.new.rvg.core c.log_waiting.new.waiting (g.R.Shelf.meaning c.log_waiting.new.rvg.shelf) here can.running (lawful c.log_waiting.new.rvg.shelf) c.log_waiting.new.rvg.sound.log_unit) can.running)
     ∙ sym (c.head-number.ensures ∙ here.head can.running)
+
+pub returns-in_err-log_waiting-clause-blames : goal.returns-in_err-log_waiting-clause-blames
+returns-in_err-log_waiting-clause-blames g c =
+    let p = err_from_is_err_and c.from_residual.result c.from_residual.ensures.1 in
+    rw (p.1, p.2) c.in_err-log_waiting.ensures.blames
+
+pub returns-in_err-apply_group-clause-blames : goal.returns-in_err-apply_group-clause-blames
+returns-in_err-apply_group-clause-blames g c =
+    let p = err_from_is_err_and c.from_residual-in_err-apply_group.result c.from_residual-in_err-apply_group.ensures.1 in
+    rw (p.1, p.2) (blamed_since c.args.rvg.now.core.units c.log_waiting.new.rvg.core.units c.in_err-apply_group.field-0.0 c.log_waiting.ensures.units c.in_err-apply_group.ensures.blames)

@@ -47,3 +47,8 @@ returns-clause-logs g c = λ beside n r can.
 pub write_group-requires-clause-volume : goal.write_group-requires-clause-volume
 write_group-requires-clause-volume g c κs within =
     (can_parts c.args.rvg.now.core (g.R.Shelf.meaning c.args.rvg.now.shelf).size c.in-Some.update.now (c.requires.waits.fits 0 c.in-Some.update.now (sym c.in-Some.ensures))).0
+
+pub returns-in_err-write_group-clause-blames : goal.returns-in_err-write_group-clause-blames
+returns-in_err-write_group-clause-blames g c =
+    let p = err_from_is_err_and c.from_residual.result c.from_residual.ensures.1 in
+    rw (p.1, p.2) c.in_err-write_group.ensures.blames

@@ -1,10 +1,11 @@
 -- The oldest of what waits are logged, one after another.
-use Rattle.std.proofs.Common.{◌+◌, ℕ, arith, subst, sym}
+use Rattle.std.proofs.Common.{◌+◌, ℕ, arith, subst, sym, ◌∙◌}
 use Rattle.std.proofs.lemmas.Result.{err_from_is_err_and}
 use Rattle.vx_ringio.proofs.Spending.{then_spends}
 use Rattle.vx_secondary.specs.Receivers.{Wait}
 use Rattle.vx_diskset.specs.Received.{reached}
 use Rattle.vx_diskset.specs.Stands.{IsReceiverAt}
+use Rattle.vx_diskset.proofs.Blamed.{blamed_since}
 use Rattle.vx_diskset.proofs.Reaching.{failed_more, logged_more, logged_none, next_can, numbers_left, some_waits, still_waits}
 use Rattle.vx_diskset.proofs.Mores.{wait_more}
 use Rattle.vx_diskset.proofs.receivers.log_waiting.Goals as goal
@@ -68,3 +69,14 @@ pub log_next-requires-clause-numbers : goal.log_next-requires-clause-numbers
 log_next-requires-clause-numbers g c κs within =
     numbers_left c.args.waiting.now c.loop.counter c.args.rvg.now.core c.loop.rvg.core c.loop.rvg.core (g.R.Shelf.meaning c.args.rvg.now.shelf) (g.R.Shelf.meaning c.loop.rvg.shelf) (g.R.Shelf.meaning c.loop.rvg.shelf) c.loop.waiting c.loop.invariant
     c.args.count (omega (arith, c.loop-test.true)) c.requires.numbers
+
+pub returns-in_err-log_next-clause-blames : goal.returns-in_err-log_next-clause-blames
+returns-in_err-log_next-clause-blames g c =
+    let p = err_from_is_err_and c.from_residual.result c.from_residual.ensures.1 in
+    rw (p.1, p.2) (blamed_since c.args.rvg.now.core.units c.loop.rvg.core.units c.in_err-log_next.field-0.0 c.loop.invariant.more.units c.in_err-log_next.ensures.blames)
+
+pub returns-in_err-log_next-clause-units : goal.returns-in_err-log_next-clause-units
+returns-in_err-log_next-clause-units g c = c.in_err-log_next.ensures.group.units ∙ c.loop.invariant.more.units
+
+pub returns-clause-units : goal.returns-clause-units
+returns-clause-units g c = c.loop.invariant.more.units

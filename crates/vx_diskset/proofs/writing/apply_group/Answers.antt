@@ -1,5 +1,6 @@
 -- An apply of a site that is up.
 use Rattle.std.proofs.Common.{sym, ◌∙◌}
+use Rattle.vx_diskset.proofs.Blamed.{volumes_blamed}
 use Rattle.vx_diskset.proofs.ApplyGroup.{applied_as, applied_cut}
 use Rattle.std.specs.Prelude.{None}
 use Rattle.vx_rvg.specs.Groups.{halted_or}
@@ -55,3 +56,8 @@ returns-clause-group g c = more_applied (halted_or c.args.rvg.now.core.halted No
 
 pub returns-clause-never : goal.returns-clause-never
 returns-clause-never g c = apply_never c.args.rvg.now.core c.args.to (g.R.Shelf.meaning c.args.rvg.now.shelf) (g.R.Shelf.meaning c.apply-answer.new.self.shelf) c.apply-answer.new.self.core c.apply-answer.result c.apply-answer.ensures.answers
+
+pub returns-clause-blames : goal.returns-clause-blames
+returns-clause-blames g c =
+    let is_rack = (g.met.R.Rack g.world.𝓛 g.world.𝓜 g.world.𝓡 ((λ s x. x), (λ x. x), (λ x. x), λ x. x)).rack in
+    volumes_blamed c.apply-answer.result (g.R.Shelf.meaning c.args.rvg.now.shelf) c.args.rvg.now.core (is_rack c.args.rvg.now.shelf) c.apply-answer.ensures.blames

@@ -5,6 +5,7 @@ use Rattle.std.specs.Prelude.{Err, Ok, min}
 use Rattle.std.proofs.lemmas.Result.{err_from_is_err_and}
 use Rattle.vx_srl.specs.Views.{Log, free_of}
 use Rattle.vx_diskset.specs.DiskSets.{worked}
+use Rattle.vx_diskset.proofs.Blamed.{blamed_since}
 use Rattle.vx_diskset.proofs.MakeRoom.{room_unapplied, room_later, room_again, room_after}
 use Rattle.vx_ringio.proofs.Spending.{spends_none, then_spends}
 use Rattle.vx_diskset.proofs.Mores.{more_after, more_none}
@@ -119,3 +120,13 @@ returns-then-free-count-2-clause-takes g c = record {
 
 pub returns-else-free-count-2-clause-takes : goal.returns-else-free-count-2-clause-takes
 returns-else-free-count-2-clause-takes g c = record { never = λ has. tt; stamp = tt }
+
+pub returns-in_err-apply_group-clause-blames : goal.returns-in_err-apply_group-clause-blames
+returns-in_err-apply_group-clause-blames g c =
+    let p = err_from_is_err_and c.from_residual.result c.from_residual.ensures.1 in
+    rw (p.1, p.2) c.in_err-apply_group.ensures.blames
+
+pub returns-in_err-reclaim_group-clause-blames : goal.returns-in_err-reclaim_group-clause-blames
+returns-in_err-reclaim_group-clause-blames g c =
+    let p = err_from_is_err_and c.from_residual-in_err-reclaim_group.result c.from_residual-in_err-reclaim_group.ensures.1 in
+    rw (p.1, p.2) (blamed_since c.args.rvg.now.core.units c.apply_group.new.rvg.core.units c.in_err-reclaim_group.field-0.0 c.apply_group.ensures.units c.in_err-reclaim_group.ensures.blames)

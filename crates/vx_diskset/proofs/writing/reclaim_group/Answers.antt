@@ -1,6 +1,7 @@
 -- A log of a site that is up gives up what it holds up to a number.
 use Rattle.std.proofs.Common.{sym, ◌∙◌, ap, arith, refl}
 use Rattle.vx_rvg.specs.Saves.{reclaim_refusal, reclaimed}
+use Rattle.vx_diskset.proofs.Blamed.{unit_blamed}
 use Rattle.vx_diskset.proofs.MakeRoom.{reclaimed_as, reclaim_cut, roomed_at, save_units}
 use Rattle.vx_diskset.proofs.CallsBurn.{reclaim_off}
 use Rattle.vx_diskset.proofs.Mores.{more_reclaimed}
@@ -68,3 +69,8 @@ pub returns-clause-takes : goal.returns-clause-takes
 returns-clause-takes g c =
     reclaim_takes c.args.rvg.now.core c.args.to (g.R.Shelf.meaning c.args.rvg.now.shelf) (g.R.Shelf.meaning c.reclaim-answer.new.self.shelf) c.reclaim-answer.new.self.core c.reclaim-answer.result c.ring-ring.ensures.low
     (omega (arith, c.requires.applied, c.args.rvg.now.sound.known)) c.reclaim-answer.ensures.answers
+
+pub returns-clause-blames : goal.returns-clause-blames
+returns-clause-blames g c =
+    let is_rack = (g.met.R.Rack g.world.𝓛 g.world.𝓜 g.world.𝓡 ((λ s x. x), (λ x. x), (λ x. x), λ x. x)).rack in
+    unit_blamed c.reclaim-answer.result (g.R.Shelf.meaning c.args.rvg.now.shelf) c.args.rvg.now.core (is_rack c.args.rvg.now.shelf) c.args.rvg.now.sound.log_unit c.reclaim-answer.ensures.blames

@@ -3,6 +3,7 @@ use Rattle.std.proofs.Common.{◌∙◌, ◌<◌, ℕ, inl, ap, arith, refl, sub
 use Rattle.vx_model.specs.Content.{blocks_in}
 use Rattle.std.specs.Prelude.{Err}
 use Rattle.std.proofs.lemmas.Result.{err_from_is_err_and}
+use Rattle.vx_diskset.proofs.Blamed.{all_blamed_since, unit_blamed}
 use Rattle.vx_diskset.proofs.ExactWrite.{hand_here, first_after, cut_less, exact_is}
 use Rattle.vx_diskset.proofs.WriteGroup.{unroomed, written_as, write_cut, wrote_later, wrote_at, wrote_none}
 use Rattle.vx_diskset.specs.declared.disk_set.DiskSet.TheVariants.{Up}
@@ -170,3 +171,14 @@ pub returns-clause-takes : goal.returns-clause-takes
 returns-clause-takes g c =
     write_takes c.args.rvg.now.core c.make_room.new.rvg.core c.args.volume ((g.R.Shelf.meaning c.make_room.new.rvg.shelf).size (unit_of c.make_room.new.rvg.core.units.vols c.args.volume)) c.args.start (blocks_in c.args.bytes.now) c.args.bytes.now
     (g.R.Shelf.meaning c.make_room.new.rvg.shelf) (g.R.Shelf.meaning c.write-answer.new.self.shelf) c.write-answer.new.self.core c.write-answer.result (omega (arith, c.make_room.ensures.group.last)) c.in_ok-make_room.ensures.takes.stamp c.write-answer.ensures.answers
+
+pub returns-in_err-make_room-clause-blames : goal.returns-in_err-make_room-clause-blames
+returns-in_err-make_room-clause-blames g c =
+    let p = err_from_is_err_and c.from_residual.result c.from_residual.ensures.1 in
+    rw (p.1, p.2) c.in_err-make_room.ensures.blames
+
+pub returns-clause-blames : goal.returns-clause-blames
+returns-clause-blames g c =
+    let is_rack = (g.met.R.Rack g.world.𝓛 g.world.𝓜 g.world.𝓡 ((λ s x. x), (λ x. x), (λ x. x), λ x. x)).rack in
+    all_blamed_since c.write-answer.result c.args.rvg.now.core.units c.make_room.new.rvg.core.units c.make_room.ensures.units
+    (unit_blamed c.write-answer.result (g.R.Shelf.meaning c.make_room.new.rvg.shelf) c.make_room.new.rvg.core (is_rack c.make_room.new.rvg.shelf) c.make_room.new.rvg.sound.log_unit c.write-answer.ensures.blames)

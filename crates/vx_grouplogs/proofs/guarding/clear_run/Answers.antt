@@ -1,5 +1,6 @@
 -- The log of a volume behind marks that were taken off.
-use Rattle.std.proofs.Common.{◌∙◌}
+use Rattle.std.proofs.Common.{◌∙◌, refl}
+use Rattle.vx_grouplogs.proofs.DirtyLemmas.{gone_fewer, marks_fewer, marks_off}
 use Rattle.vx_grouplogs.proofs.OnCalls.{clear_down, on_gone, on_others}
 use Rattle.vx_grouplogs.proofs.guarding.clear_run.Goals as goal
 
@@ -33,3 +34,14 @@ returns-in-Ok-clause-up g c =
 pub returns-in-Err-clause-down : goal.returns-in-Err-clause-down
 returns-in-Err-clause-down g c =
     clear_down c.args.logs.now c.clear_marks.new.logs (g.S.Shelf.meaning c.args.shelf.now) (g.S.Shelf.meaning c.clear_marks.new.shelf) c.in-Err.no c.in-Err.ensures.clears
+
+pub returns-in-Ok-clause-fewer : goal.returns-in-Ok-clause-fewer
+returns-in-Ok-clause-fewer g c =
+    marks_fewer c.args.config.now c.requires.checked c.args.vol c.requires.some c.args.logs.now c.requires.on.fits (g.S.Shelf.meaning c.args.shelf.now) c.requires.disks _ c.clear_marks.new.logs (g.S.Shelf.meaning c.args.shelf.now) (g.S.Shelf.meaning c.clear_marks.new.shelf) c.in-Ok.ensures.clears.0
+
+pub returns-in-Ok-clause-off : goal.returns-in-Ok-clause-off
+returns-in-Ok-clause-off g c =
+    marks_off c.args.config.now c.requires.checked c.args.vol c.requires.some c.args.logs.now c.requires.on.fits (g.S.Shelf.meaning c.args.shelf.now) c.requires.disks _ c.clear_marks.new.logs (g.S.Shelf.meaning c.args.shelf.now) (g.S.Shelf.meaning c.clear_marks.new.shelf) c.in-Ok.ensures.clears.0
+
+pub returns-in-Err-clause-fewer : goal.returns-in-Err-clause-fewer
+returns-in-Err-clause-fewer g c = gone_fewer _ c.args.logs.now _ refl

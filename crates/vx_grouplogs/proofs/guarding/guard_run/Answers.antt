@@ -1,5 +1,6 @@
 -- The log of a volume behind its marks.
-use Rattle.std.proofs.Common.{◌+◌, ◌-◌, ◌/◌}
+use Rattle.std.proofs.Common.{◌+◌, ◌-◌, ◌/◌, refl, arith}
+use Rattle.vx_grouplogs.proofs.DirtyLemmas.{gone_only, marks_only}
 use Rattle.vx_grouplogs.proofs.OnCalls.{mark_down, marked_plain, on_gone, on_others, still_plain}
 use Rattle.vx_grouplogs.proofs.guarding.guard_run.Goals as goal
 
@@ -42,3 +43,11 @@ returns-in-Ok-clause-up g c =
 pub returns-in-Err-clause-down : goal.returns-in-Err-clause-down
 returns-in-Err-clause-down g c =
     mark_down c.args.config.now c.args.vol (c.args.block / 64) ((c.args.block + c.args.count - 1) / 64) c.args.logs.now c.mark_run.new.logs (g.S.Shelf.meaning c.args.shelf.now) (g.S.Shelf.meaning c.mark_run.new.shelf) c.in-Err.no c.in-Err.ensures.marks
+
+pub returns-in-Ok-clause-adds : goal.returns-in-Ok-clause-adds
+returns-in-Ok-clause-adds g c =
+    marks_only c.args.config.now c.requires.checked c.args.vol (omega (arith, c.requires.some, c.requires.within)) c.args.logs.now c.requires.on.fits (g.S.Shelf.meaning c.args.shelf.now) c.requires.disks
+    (c.args.block / 64) ((c.args.block + c.args.count - 1) / 64) _ c.mark_run.new.logs (g.S.Shelf.meaning c.args.shelf.now) (g.S.Shelf.meaning c.mark_run.new.shelf) c.in-Ok.ensures.marks.drl
+
+pub returns-in-Err-clause-adds : goal.returns-in-Err-clause-adds
+returns-in-Err-clause-adds g c = gone_only _ _ _ c.args.logs.now _ refl

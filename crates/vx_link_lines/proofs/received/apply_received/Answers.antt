@@ -80,7 +80,7 @@ returns-in-Err-clause-leads g c = λ d s stands carries seat receives.
     let can = can_receive d t stands.links other here.can.up here.can.running in
     let seen = c.index_mut-in-Err.result.now in
     received_refused d old _ c.args.name.now c.args.count t before after stands here (record { there = there; later = c.apply_waiting.ensures.later; disk_sets = refl; racks = refl }) c.apply_waiting.ensures.role other c.in-Err.no c.refused.result seen c.refused.new.facts c.refused.ensures.said
-    (c.in-Err.ensures.applied (beside_of d t) (d.world.nodes t) stood can) (c.in-Err.ensures.called (beside_of d t) (d.world.nodes t) stood)
+    (c.in-Err.ensures.blames (beside_of d t) (d.world.nodes t) stood) (c.in-Err.ensures.applied (beside_of d t) (d.world.nodes t) stood can) (c.in-Err.ensures.called (beside_of d t) (d.world.nodes t) stood)
     (get_at old.facts.items t seen c.site_of-site.ensures.fact c.index_mut-in-Err.ensures.value) c.refused.ensures.noted refl (record { flight = refl; assemblies = c.let_go_if_down.ensures; feeders = refl })
 
 pub returns-in-Err-clause-told : goal.returns-in-Err-clause-told

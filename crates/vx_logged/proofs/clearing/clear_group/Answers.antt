@@ -1,5 +1,5 @@
 -- Marks that are taken off.
-use Rattle.std.proofs.Common.{◌≡◌, ◌+◌, ◌<◌, ◌≤◌, Bool, false, true, ap, subst, sym, arith}
+use Rattle.std.proofs.Common.{◌≡◌, ◌+◌, ◌<◌, ◌≤◌, ℕ, Bool, false, true, ap, subst, sym, arith}
 use Rattle.vx_config.specs.declared.config.Config.{Config}
 use Rattle.vx_disk.specs.Shelf.{Nothing}
 use Rattle.vx_disk.proofs.Causing.{Cause_both}
@@ -9,7 +9,8 @@ use Rattle.vx_group.specs.Stands.{inner_meaning}
 use Rattle.vx_group.proofs.LostLemmas.{if_ok_from}
 use Rattle.vx_group.proofs.TrustLemmas.{err_from, ok_from}
 use Rattle.vx_grouplogs.specs.Covering.{AllAlike}
-use Rattle.vx_logged.proofs.StandLemmas.{alike_goes, config_is, inner_fit, inner_others, inner_sound, logs_Stands, logs_goes, others_each, others_then, to_inner, to_wide}
+use Rattle.vx_grouplogs.specs.Marking.{MarksFewer, NoMarks}
+use Rattle.vx_logged.proofs.StandLemmas.{alike_goes, config_is, if_ok_any, inner_fit, inner_others, inner_sound, logs_Stands, logs_goes, no_regions, others_each, others_then, same_fewer, same_regions, to_inner, to_wide}
 use Rattle.vx_logged.proofs.clearing.clear_group.Goals as goal
 
 pub clear_run-requires-clause-checked : goal.clear_run-requires-clause-checked
@@ -125,3 +126,28 @@ returns-clause-cause g c =
     let goes = then_nothing Nothing (inner_meaning (wide c.args.core.now) (g.S.Shelf.meaning c.args.shelf.now)) (inner_meaning (wide c.ready_group.new.core) (g.S.Shelf.meaning c.ready_group.new.shelf)) (inner_meaning (wide c.ready_group.new.core) (g.S.Shelf.meaning c.clear_run.new.shelf)) c.ready_group.ensures.goes (logs_goes c.ready_group.new.core c.args.vol (g.S.Shelf.meaning c.ready_group.new.shelf) (g.S.Shelf.meaning c.clear_run.new.shelf) (c.in-Ok.ensures.none c.if-not-ready.false) c.ready_group.ensures.stands c.clear_run.ensures.group) in
     Cause_both (inner_meaning (wide c.args.core.now) (g.S.Shelf.meaning c.args.shelf.now)) (inner_meaning (wide c.ready_group.new.core) (g.S.Shelf.meaning c.clear_run.new.shelf)) (inner_meaning (wide c.keep_log.new.core) (g.S.Shelf.meaning c.keep_log.new.shelf)) c.args.vol c.keep_log.result
     (record { before = c.in-Ok.ensures.cause.before; after = λ down. c.in-Ok.ensures.cause.after (c.in-Ok-clear_run.ensures.up down) }) goes.faults goes.disk_faults c.keep_log.ensures.cause
+
+pub returns-in-Err-clause-fewer : goal.returns-in-Err-clause-fewer
+returns-in-Err-clause-fewer g c = same_fewer _ c.args.logs.now
+
+pub returns-then-not-ready-clause-fewer : goal.returns-then-not-ready-clause-fewer
+returns-then-not-ready-clause-fewer g c = same_fewer _ c.args.logs.now
+
+pub returns-then-not-ready-clause-off : goal.returns-then-not-ready-clause-off
+returns-then-not-ready-clause-off g c = λ is. absurd (let clash : false ≡ true = is in cc)
+
+pub returns-then-blocks-eq0-clause-fewer : goal.returns-then-blocks-eq0-clause-fewer
+returns-then-blocks-eq0-clause-fewer g c = same_fewer _ c.args.logs.now
+
+pub returns-then-blocks-eq0-clause-off : goal.returns-then-blocks-eq0-clause-off
+returns-then-blocks-eq0-clause-off g c = λ is many.
+    no_regions c.args.core.now c.ready_group.new.core c.args.vol c.blocks_of-blocks.result c.args.logs.now (g.S.Shelf.meaning c.args.shelf.now) (g.S.Shelf.meaning c.ready_group.new.shelf) (c.in-Ok.ensures.none c.if-not-ready.false) c.ready_group.ensures.goes c.blocks_of-blocks.ensures c.if-blocks-eq0.true
+
+pub returns-in-Err-clear_run-clause-fewer : goal.returns-in-Err-clear_run-clause-fewer
+returns-in-Err-clear_run-clause-fewer g c = subst (λ (n : ℕ). MarksFewer n c.args.logs.now c.clear_run.new.logs) (same_regions c.args.core.now c.ready_group.new.core c.args.vol (g.S.Shelf.meaning c.args.shelf.now) (g.S.Shelf.meaning c.ready_group.new.shelf) (c.in-Ok.ensures.none c.if-not-ready.false) c.ready_group.ensures.goes) c.clear_run.ensures.fewer
+
+pub returns-clause-fewer : goal.returns-clause-fewer
+returns-clause-fewer g c = subst (λ (n : ℕ). MarksFewer n c.args.logs.now c.clear_run.new.logs) (same_regions c.args.core.now c.ready_group.new.core c.args.vol (g.S.Shelf.meaning c.args.shelf.now) (g.S.Shelf.meaning c.ready_group.new.shelf) (c.in-Ok.ensures.none c.if-not-ready.false) c.ready_group.ensures.goes) c.clear_run.ensures.fewer
+
+pub returns-clause-off : goal.returns-clause-off
+returns-clause-off g c = if_ok_any c.keep_log.result (λ (done : Bool) is many. subst (λ (n : ℕ). NoMarks n c.clear_run.new.logs) (same_regions c.args.core.now c.ready_group.new.core c.args.vol (g.S.Shelf.meaning c.args.shelf.now) (g.S.Shelf.meaning c.ready_group.new.shelf) (c.in-Ok.ensures.none c.if-not-ready.false) c.ready_group.ensures.goes) (c.in-Ok-clear_run.ensures.off many))

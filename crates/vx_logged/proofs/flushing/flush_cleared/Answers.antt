@@ -1,11 +1,13 @@
 -- A flush, and marks that are taken off behind it.
-use Rattle.std.proofs.Common.{Bool, Err, arith}
+use Rattle.std.proofs.Common.{ℕ, Bool, Err, ap, subst, arith}
 use Rattle.vx_disk.specs.Shelf.{Nothing}
 use Rattle.vx_disk.proofs.Causing.{Cause_both}
 use Rattle.vx_disk.proofs.Runs.{then_nothing}
 use Rattle.vx_group.specs.Holding.{wide}
 use Rattle.vx_group.specs.Stands.{inner_meaning}
-use Rattle.vx_logged.proofs.StandLemmas.{cause_to, each_on, flushed_alike, flushed_then, others_each, others_then}
+use Rattle.vx_grouplogs.specs.Marking.{MarksFewer}
+use Rattle.vx_model.specs.Sizes.{regions_of as regions_in}
+use Rattle.vx_logged.proofs.StandLemmas.{cause_to, each_on, flushed_alike, flushed_then, others_each, others_then, same_fewer}
 use Rattle.vx_logged.proofs.flushing.flush_cleared.Goals as goal
 
 pub clear_group-requires-clause-there : goal.clear_group-requires-clause-there
@@ -80,3 +82,15 @@ pub returns-in-Err-clear_group-clause-cause : goal.returns-in-Err-clear_group-cl
 returns-in-Err-clear_group-clause-cause g c =
     Cause_both {T = Unit {0}} (inner_meaning (wide c.args.core.now) (g.S.Shelf.meaning c.args.shelf.now)) (inner_meaning (wide c.flush_group.new.core) (g.S.Shelf.meaning c.flush_group.new.shelf)) (inner_meaning (wide c.clear_group.new.core) (g.S.Shelf.meaning c.clear_group.new.shelf)) c.args.vol (Err c.in-Err-clear_group.error) c.in-Ok.ensures.cause c.flush_group.ensures.goes.faults c.flush_group.ensures.goes.disk_faults
     (cause_to Bool (Unit {0}) c.args.vol c.in-Err-clear_group.error (inner_meaning (wide c.flush_group.new.core) (g.S.Shelf.meaning c.flush_group.new.shelf)) (inner_meaning (wide c.clear_group.new.core) (g.S.Shelf.meaning c.clear_group.new.shelf)) c.in-Err-clear_group.ensures.cause)
+
+pub returns-in-Err-clause-fewer : goal.returns-in-Err-clause-fewer
+returns-in-Err-clause-fewer g c = same_fewer _ c.args.logs.now
+
+pub returns-then-not-sure-clause-fewer : goal.returns-then-not-sure-clause-fewer
+returns-then-not-sure-clause-fewer g c = same_fewer _ c.args.logs.now
+
+pub returns-in-Ok-clear_group-clause-fewer : goal.returns-in-Ok-clear_group-clause-fewer
+returns-in-Ok-clear_group-clause-fewer g c = subst (λ (n : ℕ). MarksFewer n c.args.logs.now c.clear_group.new.logs) (ap regions_in (c.flush_group.ensures.goes.size c.args.vol)) c.clear_group.ensures.fewer
+
+pub returns-in-Err-clear_group-clause-fewer : goal.returns-in-Err-clear_group-clause-fewer
+returns-in-Err-clear_group-clause-fewer g c = subst (λ (n : ℕ). MarksFewer n c.args.logs.now c.clear_group.new.logs) (ap regions_in (c.flush_group.ensures.goes.size c.args.vol)) c.clear_group.ensures.fewer

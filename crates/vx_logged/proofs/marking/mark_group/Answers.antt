@@ -1,5 +1,5 @@
 -- Marks of a group before a write.
-use Rattle.std.proofs.Common.{◌≡◌, ◌+◌, ◌<◌, ◌≤◌, Bool, false, true, ap, subst, sym, arith}
+use Rattle.std.proofs.Common.{◌≡◌, ◌+◌, ◌<◌, ◌≤◌, ℕ, Bool, false, true, ap, subst, sym, arith}
 use Rattle.vx_config.specs.Checks.{blocks_of}
 use Rattle.vx_config.specs.declared.config.Config.{Config}
 use Rattle.vx_disk.specs.Shelf.{Nothing}
@@ -7,9 +7,11 @@ use Rattle.vx_disk.proofs.Causing.{Cause_both}
 use Rattle.vx_disk.proofs.Runs.{then_nothing}
 use Rattle.vx_group.specs.Holding.{wide}
 use Rattle.vx_group.specs.Stands.{inner_meaning}
+use Rattle.vx_grouplogs.specs.Marking.{MarksOnly}
+use Rattle.vx_logs.specs.Writes.{first_region, last_region}
 use Rattle.vx_group.proofs.LostLemmas.{if_ok_from}
 use Rattle.vx_group.proofs.TrustLemmas.{err_from, ok_from}
-use Rattle.vx_logged.proofs.StandLemmas.{config_is, inner_fit, inner_others, inner_sound, logs_Stands, logs_goes, others_each, others_then, to_inner, to_wide}
+use Rattle.vx_logged.proofs.StandLemmas.{config_is, inner_fit, inner_others, inner_sound, logs_Stands, logs_goes, others_each, others_then, same_only, same_regions, to_inner, to_wide}
 use Rattle.vx_logged.proofs.marking.mark_group.Goals as goal
 
 pub guard_run-requires-clause-checked : goal.guard_run-requires-clause-checked
@@ -121,3 +123,17 @@ returns-then-not-ready-clause-may g c =
 pub returns-clause-may : goal.returns-clause-may
 returns-clause-may g c =
     if_ok_from c.keep_log.result (λ (done : Bool) kept is. record { some = kept is; held = c.in-Ok-guard_run.ensures.held }) c.keep_log.ensures.kept
+
+pub returns-in-Err-clause-adds : goal.returns-in-Err-clause-adds
+returns-in-Err-clause-adds g c = same_only _ _ _ c.args.logs.now
+
+pub returns-then-not-ready-clause-adds : goal.returns-then-not-ready-clause-adds
+returns-then-not-ready-clause-adds g c = same_only _ _ _ c.args.logs.now
+
+pub returns-in-Err-guard_run-clause-adds : goal.returns-in-Err-guard_run-clause-adds
+returns-in-Err-guard_run-clause-adds g c =
+    subst (λ (n : ℕ). MarksOnly n (first_region c.args.block) (last_region c.args.block c.args.count) c.args.logs.now c.guard_run.new.logs) (same_regions c.args.core.now c.ready_group.new.core c.args.vol (g.S.Shelf.meaning c.args.shelf.now) (g.S.Shelf.meaning c.ready_group.new.shelf) (c.in-Ok.ensures.none c.if-not-ready.false) c.ready_group.ensures.goes) c.guard_run.ensures.adds
+
+pub returns-clause-adds : goal.returns-clause-adds
+returns-clause-adds g c =
+    subst (λ (n : ℕ). MarksOnly n (first_region c.args.block) (last_region c.args.block c.args.count) c.args.logs.now c.guard_run.new.logs) (same_regions c.args.core.now c.ready_group.new.core c.args.vol (g.S.Shelf.meaning c.args.shelf.now) (g.S.Shelf.meaning c.ready_group.new.shelf) (c.in-Ok.ensures.none c.if-not-ready.false) c.ready_group.ensures.goes) c.guard_run.ensures.adds

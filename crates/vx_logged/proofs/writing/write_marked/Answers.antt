@@ -7,7 +7,7 @@ use Rattle.vx_group.specs.Holding.{wide}
 use Rattle.vx_group.specs.Stands.{inner_meaning}
 use Rattle.vx_group.proofs.CallLemmas.{nothing_Wrote}
 use Rattle.vx_group.proofs.TrustLemmas.{err_from, ok_from}
-use Rattle.vx_logged.proofs.StandLemmas.{fits_later, not_false, not_true, others_then, write_here, write_others}
+use Rattle.vx_logged.proofs.StandLemmas.{fits_later, not_false, not_true, others_then, same_only, write_here, write_others}
 use Rattle.vx_logged.proofs.writing.write_marked.Goals as goal
 
 pub mark_group-requires-clause-there : goal.mark_group-requires-clause-there
@@ -97,3 +97,12 @@ returns-clause-agreed g c =
 pub returns-clause-cause : goal.returns-clause-cause
 returns-clause-cause g c =
     Cause_both (inner_meaning (wide c.args.core.now) (g.S.Shelf.meaning c.args.shelf.now)) (inner_meaning (wide c.mark_group.new.core) (g.S.Shelf.meaning c.mark_group.new.shelf)) (inner_meaning (wide c.write_group-2.new.core) (g.S.Shelf.meaning c.write_group-2.new.shelf)) c.args.vol c.write_group-2.result c.in-Ok.ensures.cause c.mark_group.ensures.goes.faults c.mark_group.ensures.goes.disk_faults c.write_group-2.ensures.cause
+
+pub returns-then-stopped-clause-adds : goal.returns-then-stopped-clause-adds
+returns-then-stopped-clause-adds g c = same_only _ _ _ c.args.logs.now
+
+pub returns-in-Err-clause-adds : goal.returns-in-Err-clause-adds
+returns-in-Err-clause-adds g c = c.mark_group.ensures.adds
+
+pub returns-clause-adds : goal.returns-clause-adds
+returns-clause-adds g c = c.mark_group.ensures.adds

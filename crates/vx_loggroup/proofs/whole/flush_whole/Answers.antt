@@ -1,25 +1,29 @@
--- `flush_whole`: clause stands; that the volume is there; what `flush_one` asks.
-use Rattle.std.proofs.Common.{arith}
-use Rattle.std.proofs.lemmas.List.{length-set}
-use Rattle.std.proofs.lemmas.Option.{slice_get-get_or}
-use Rattle.vx_group.proofs.HoldLemmas.{wide_shape}
-use Rattle.vx_loggroup.specs.LoggedVolumes.{VolumeStands}
-use Rattle.vx_loggroup.specs.declared.volumes.LoggedVolume.{LoggedVolume}
-use Rattle.vx_loggroup.proofs.SetLemmas.{set_each}
+-- `flush_whole`: clauses stands and marks; what the calls ask.
+use Rattle.std.proofs.Common.{◌∙◌, refl, sym, arith}
+use Rattle.vx_disk.specs.Shelf.{Nothing}
+use Rattle.vx_group.specs.Holding.{wide}
+use Rattle.vx_group.proofs.CallLemmas.{not_down}
+use Rattle.vx_loggroup.specs.LoggedVolumes.{is_alike}
+use Rattle.vx_loggroup.proofs.AlikeLemmas.{clears_set, here_stands, index_low, set_stands}
+use Rattle.vx_loggroup.proofs.SetLemmas.{item_of}
 use Rattle.vx_loggroup.proofs.whole.flush_whole.Goals as goal
 
-pub bounds-volumes-vol : goal.bounds-volumes-vol
-bounds-volumes-vol g c = (let exists = c.requires.there in let many = c.requires.stands.many in let same = (wide_shape c.args.core.now).volumes in omega (arith, exists, many, same))
+pub index_mut-requires : goal.index_mut-requires
+index_mut-requires g c = let lt = (index_low c.args.core.now c.args.logs.now.items c.args.alike.now c.args.stopped (g.S.Shelf.meaning c.args.shelf.now) c.args.vol c.requires.stands c.requires.there) in omega (arith, c.args.logs.now.ok, lt)
 
-pub flush_one-requires-clause-stands : goal.flush_one-requires-clause-stands
-flush_one-requires-clause-stands g c = c.requires.stands.group
+pub flush_cleared-requires-clause-log : goal.flush_cleared-requires-clause-log
+flush_cleared-requires-clause-log g c = λ is. (c.requires.stands.each c.args.vol c.index_mut.result.now (item_of c.args.logs.now.items c.args.vol c.index_mut.result.now c.index_mut.ensures.value (index_low c.args.core.now c.args.logs.now.items c.args.alike.now c.args.stopped (g.S.Shelf.meaning c.args.shelf.now) c.args.vol c.requires.stands c.requires.there))).on (c.is_sure-sure.ensures.going is)
 
-pub flush_one-requires-clause-volume : goal.flush_one-requires-clause-volume
-flush_one-requires-clause-volume g c = c.requires.stands.each c.args.vol _ (slice_get-get_or c.args.volumes.now c.args.vol c.index-volumes-vol.result (let exists = c.requires.there in let many = c.requires.stands.many in let same = (wide_shape c.args.core.now).volumes in omega (arith, exists, many, same)))
+pub flush_cleared-requires-clause-one : goal.flush_cleared-requires-clause-one
+flush_cleared-requires-clause-one g c = λ is. (c.requires.stands.each c.args.vol c.index_mut.result.now (item_of c.args.logs.now.items c.args.vol c.index_mut.result.now c.index_mut.ensures.value (index_low c.args.core.now c.args.logs.now.items c.args.alike.now c.args.stopped (g.S.Shelf.meaning c.args.shelf.now) c.args.vol c.requires.stands c.requires.there))).alike (sym c.is_alike.ensures ∙ c.is_sure-sure.ensures.alike is)
+    (not_down c.is_down-down.result (g.S.Shelf.meaning c.args.shelf.now).down c.is_down-down.ensures (c.is_sure-sure.ensures.up is))
 
 pub returns-clause-stands : goal.returns-clause-stands
-returns-clause-stands g c = record {
-  group = c.flush_one.ensures.stands;
-  many = let exists = c.flush_one.ensures.goes.units in let many = c.requires.stands.many in let same = (wide_shape c.args.core.now).volumes in let new = (wide_shape c.flush_one.new.core).volumes in let long = length-set c.args.volumes.now c.args.vol c.flush_one.new.one in omega (arith, exists, many, same, new, long);
-  each = set_each c.args.volumes.now c.args.vol c.flush_one.new.one (λ w (l : LoggedVolume). VolumeStands c.flush_one.new.core w l c.args.stopped (g.S.Shelf.meaning c.flush_one.new.shelf)) (λ w l apart is. c.flush_one.ensures.others.each w l apart (c.requires.stands.each w l is)) c.flush_one.ensures.volume;
-}
+returns-clause-stands g c =
+    set_stands Nothing c.args.core.now c.flush_cleared.new.core c.args.logs.now.items c.args.alike.now c.args.alike.now c.args.stopped c.args.stopped c.args.vol c.flush_cleared.new.logs (g.S.Shelf.meaning c.args.shelf.now) (g.S.Shelf.meaning c.flush_cleared.new.shelf) c.requires.stands c.flush_cleared.ensures.stands c.flush_cleared.ensures.goes
+    (λ w b x apart none. none) (λ off. off) c.flush_cleared.ensures.others (λ w apart. refl)
+    (here_stands c.args.core.now c.flush_cleared.new.core c.args.vol c.index_mut.result.now c.flush_cleared.new.logs (is_alike c.args.alike.now c.args.vol) c.args.stopped (g.S.Shelf.meaning c.args.shelf.now) (g.S.Shelf.meaning c.flush_cleared.new.shelf)
+    (c.requires.stands.each c.args.vol c.index_mut.result.now (item_of c.args.logs.now.items c.args.vol c.index_mut.result.now c.index_mut.ensures.value (index_low c.args.core.now c.args.logs.now.items c.args.alike.now c.args.stopped (g.S.Shelf.meaning c.args.shelf.now) c.args.vol c.requires.stands c.requires.there))) c.flush_cleared.ensures.goes c.flush_cleared.ensures.log)
+
+pub returns-clause-marks : goal.returns-clause-marks
+returns-clause-marks g c = clears_set (wide c.args.core.now).config c.args.vol c.args.logs.now.items c.index_mut.result.now c.flush_cleared.new.logs (item_of c.args.logs.now.items c.args.vol c.index_mut.result.now c.index_mut.ensures.value (index_low c.args.core.now c.args.logs.now.items c.args.alike.now c.args.stopped (g.S.Shelf.meaning c.args.shelf.now) c.args.vol c.requires.stands c.requires.there)) c.flush_cleared.ensures.fewer

@@ -1,25 +1,39 @@
--- `write_whole`: clause stands; that the volume is there; what `write_one` asks.
-use Rattle.std.proofs.Common.{arith}
-use Rattle.std.proofs.lemmas.List.{length-set}
-use Rattle.std.proofs.lemmas.Option.{slice_get-get_or}
-use Rattle.vx_group.proofs.HoldLemmas.{wide_shape}
-use Rattle.vx_loggroup.specs.LoggedVolumes.{VolumeStands}
-use Rattle.vx_loggroup.specs.declared.volumes.LoggedVolume.{LoggedVolume}
-use Rattle.vx_loggroup.proofs.SetLemmas.{set_each}
+-- `write_whole`: clauses stands and marks; what `write_marked` asks.
+use Rattle.std.proofs.Common.{◌≡◌, ◌∙◌, ◌/◌, true, false, length, refl, sym, arith}
+use Rattle.vx_disk.specs.Shelf.{Written}
+use Rattle.vx_group.specs.Holding.{wide}
+use Rattle.vx_logs.specs.Writes.{first_region, last_region}
+use Rattle.vx_loggroup.proofs.AlikeLemmas.{going_back, index_low, marks_set, reads_wrote, set_stands}
+use Rattle.vx_loggroup.proofs.SetLemmas.{item_of}
 use Rattle.vx_loggroup.proofs.whole.write_whole.Goals as goal
 
-pub bounds-volumes-vol : goal.bounds-volumes-vol
-bounds-volumes-vol g c = (let exists = c.requires.fits.exists in let many = c.requires.stands.many in let same = (wide_shape c.args.core.now).volumes in omega (arith, exists, many, same))
+pub index_mut-requires : goal.index_mut-requires
+index_mut-requires g c = let lt = (index_low c.args.core.now c.args.logs.now.items c.args.alike.now c.args.stopped.now (g.S.Shelf.meaning c.args.shelf.now) c.args.vol c.requires.stands c.requires.fits.exists) in omega (arith, c.args.logs.now.ok, lt)
 
-pub write_one-requires-clause-stands : goal.write_one-requires-clause-stands
-write_one-requires-clause-stands g c = c.requires.stands.group
+pub write_marked-requires-clause-log : goal.write_marked-requires-clause-log
+write_marked-requires-clause-log g c = (c.requires.stands.each c.args.vol c.index_mut.result.now (item_of c.args.logs.now.items c.args.vol c.index_mut.result.now c.index_mut.ensures.value (index_low c.args.core.now c.args.logs.now.items c.args.alike.now c.args.stopped.now (g.S.Shelf.meaning c.args.shelf.now) c.args.vol c.requires.stands c.requires.fits.exists))).on
 
-pub write_one-requires-clause-volume : goal.write_one-requires-clause-volume
-write_one-requires-clause-volume g c = c.requires.stands.each c.args.vol _ (slice_get-get_or c.args.volumes.now c.args.vol c.index-volumes-vol.result (let exists = c.requires.fits.exists in let many = c.requires.stands.many in let same = (wide_shape c.args.core.now).volumes in omega (arith, exists, many, same)))
+pub returns-in-Ok-clause-stands : goal.returns-in-Ok-clause-stands
+returns-in-Ok-clause-stands g c =
+    set_stands (Written c.args.vol c.args.block c.args.bytes.now) c.args.core.now c.write_marked.new.core c.args.logs.now.items c.args.alike.now c.args.alike.now c.args.stopped.now c.write_marked.new.stopped c.args.vol c.write_marked.new.logs (g.S.Shelf.meaning c.args.shelf.now) (g.S.Shelf.meaning c.write_marked.new.shelf) c.requires.stands c.write_marked.ensures.stands c.write_marked.ensures.goes
+    (λ w b x apart put. apart put.covers.there) (going_back c.args.stopped.now c.write_marked.new.stopped c.write_marked.ensures.stays) c.write_marked.ensures.others (λ w apart. refl)
+    (record {
+      on = c.write_marked.ensures.log;
+      alike = λ is up. reads_wrote (Written c.args.vol c.args.block c.args.bytes.now) c.args.core.now c.write_marked.new.core (g.S.Shelf.meaning c.args.shelf.now) (g.S.Shelf.meaning c.write_marked.new.shelf) c.write_marked.ensures.goes c.args.vol c.args.block c.args.bytes.now c.in-Ok.ensures.ok
+          ((c.requires.stands.each c.args.vol c.index_mut.result.now (item_of c.args.logs.now.items c.args.vol c.index_mut.result.now c.index_mut.ensures.value (index_low c.args.core.now c.args.logs.now.items c.args.alike.now c.args.stopped.now (g.S.Shelf.meaning c.args.shelf.now) c.args.vol c.requires.stands c.requires.fits.exists))).alike is (λ down. up (c.write_marked.ensures.goes.falls down)));
+    })
 
-pub returns-clause-stands : goal.returns-clause-stands
-returns-clause-stands g c = record {
-  group = c.write_one.ensures.stands;
-  many = let exists = c.write_one.ensures.goes.units in let many = c.requires.stands.many in let same = (wide_shape c.args.core.now).volumes in let new = (wide_shape c.write_one.new.core).volumes in let long = length-set c.args.volumes.now c.args.vol c.write_one.new.one in omega (arith, exists, many, same, new, long);
-  each = set_each c.args.volumes.now c.args.vol c.write_one.new.one (λ w (l : LoggedVolume). VolumeStands c.write_one.new.core w l c.write_one.new.stopped (g.S.Shelf.meaning c.write_one.new.shelf)) (λ w l apart is. c.write_one.ensures.others.each w l apart (c.requires.stands.each w l is)) c.write_one.ensures.volume;
-}
+pub returns-in-Err-clause-stands : goal.returns-in-Err-clause-stands
+returns-in-Err-clause-stands g c =
+    set_stands (Written c.args.vol c.args.block c.args.bytes.now) c.args.core.now c.write_marked.new.core c.args.logs.now.items c.args.alike.now c.set_alike.new.alike c.args.stopped.now c.write_marked.new.stopped c.args.vol c.write_marked.new.logs (g.S.Shelf.meaning c.args.shelf.now) (g.S.Shelf.meaning c.write_marked.new.shelf) c.requires.stands c.write_marked.ensures.stands c.write_marked.ensures.goes
+    (λ w b x apart put. apart put.covers.there) (going_back c.args.stopped.now c.write_marked.new.stopped c.write_marked.ensures.stays) c.write_marked.ensures.others c.set_alike.ensures.others
+    (record {
+      on = c.write_marked.ensures.log;
+      alike = λ is up. absurd (let clash : false ≡ true = sym c.set_alike.ensures.here ∙ is in cc);
+    })
+
+pub returns-in-Ok-clause-marks : goal.returns-in-Ok-clause-marks
+returns-in-Ok-clause-marks g c = marks_set (wide c.args.core.now).config c.args.vol (first_region c.args.block) (last_region c.args.block (length c.args.bytes.now / 512)) c.args.logs.now.items c.index_mut.result.now c.write_marked.new.logs (item_of c.args.logs.now.items c.args.vol c.index_mut.result.now c.index_mut.ensures.value (index_low c.args.core.now c.args.logs.now.items c.args.alike.now c.args.stopped.now (g.S.Shelf.meaning c.args.shelf.now) c.args.vol c.requires.stands c.requires.fits.exists)) c.write_marked.ensures.adds
+
+pub returns-in-Err-clause-marks : goal.returns-in-Err-clause-marks
+returns-in-Err-clause-marks g c = marks_set (wide c.args.core.now).config c.args.vol (first_region c.args.block) (last_region c.args.block (length c.args.bytes.now / 512)) c.args.logs.now.items c.index_mut.result.now c.write_marked.new.logs (item_of c.args.logs.now.items c.args.vol c.index_mut.result.now c.index_mut.ensures.value (index_low c.args.core.now c.args.logs.now.items c.args.alike.now c.args.stopped.now (g.S.Shelf.meaning c.args.shelf.now) c.args.vol c.requires.stands c.requires.fits.exists)) c.write_marked.ensures.adds

@@ -1,7 +1,8 @@
--- `apply_to`: clauses sound, stands, moves and works; what `drop_oldest` asks.
+-- `apply_to`: clauses sound, stands, moves, blames and works; what `drop_oldest` asks.
 use Rattle.std.proofs.Common.{sym, subst, arith}
 use Rattle.vx_model.specs.declared.no.No.{No}
 use Rattle.vx_disk.specs.Causes.{DeviceCause}
+use Rattle.vx_rvg.specs.Groups.{BlamesVolumes}
 use Rattle.vx_rvg.specs.Views.{Core, IsSound}
 use Rattle.vx_rvg.proofs.ApplyStands.{apply_failed, apply_moves, few_wait, new_rests, new_sound, still_running}
 use Rattle.vx_rvg.proofs.apply.apply_to.Goals as goal
@@ -38,3 +39,6 @@ returns-in-Err-clause-moves g c = apply_moves c.args.core.now _ _ c.requires.sou
 
 pub returns-in-Ok-clause-works : goal.returns-in-Ok-clause-works
 returns-in-Ok-clause-works g c = λ less v low. c.in-Ok.ensures.works v low
+
+pub returns-in-Err-clause-blames : goal.returns-in-Err-clause-blames
+returns-in-Err-clause-blames g c = subst (λ (why : No). BlamesVolumes (g.S.Shelf.meaning c.args.shelf.now).disks c.args.core.now.units.vols why) (sym c.refusal-no.ensures) c.in-Err.ensures.blames

@@ -1,5 +1,7 @@
--- `bring`: clauses moves, brings, spends and works; what `bring_one` and `flush_volumes` ask; what stays true in its loop over `n`; that no number grows too large.
-use Rattle.std.proofs.Common.{◌≤◌, ◌+◌, subst, arith}
+-- `bring`: clauses moves, brings, blames, spends and works; what `bring_one` and `flush_volumes` ask; what stays true in its loop over `n`; that no number grows too large.
+use Rattle.std.proofs.Common.{ℕ, ◌≤◌, ◌+◌, subst, arith}
+use Rattle.std.proofs.lemmas.Result.{err_from_is_err_and}
+use Rattle.vx_rvg.proofs.Blaming.{volumes_exit}
 use Rattle.vx_srl.specs.Views.{IsOrdered, all_of}
 use Rattle.vx_rvg.specs.Views.{Core, volume_size}
 use Rattle.vx_rvg.proofs.ApplyAll.{all_bring, due_few, more_moves, one_brought, rest_moves}
@@ -53,3 +55,13 @@ bring_one-requires-clause-placed g c = placed_same c.args.core.now.units _ _ (mo
 
 pub flush_volumes-requires : goal.flush_volumes-requires
 flush_volumes-requires g c = record { placed = placed_same c.args.core.now.units _ _ (moved_sizes _ _ _ _ c.loop-n.invariant.0.moves) c.requires.placed }
+
+pub returns-in_err-count-clause-blames : goal.returns-in_err-count-clause-blames
+returns-in_err-count-clause-blames g c =
+    let p = err_from_is_err_and c.from_residual.result c.from_residual.ensures.1 in
+    volumes_exit ℕ (g.S.Shelf.meaning c.args.shelf.now) (g.S.Shelf.meaning c.loop-n.shelf) c.args.core.now.units.vols c.from_residual.result p.0 _ p.1 p.2 c.loop-n.invariant.2 c.in_err-count.ensures.blames
+
+pub returns-in_err-flush_volumes-clause-blames : goal.returns-in_err-flush_volumes-clause-blames
+returns-in_err-flush_volumes-clause-blames g c =
+    let p = err_from_is_err_and c.from_residual-in_err-flush_volumes.result c.from_residual-in_err-flush_volumes.ensures.1 in
+    volumes_exit ℕ (g.S.Shelf.meaning c.args.shelf.now) (g.S.Shelf.meaning c.loop-n.shelf) c.args.core.now.units.vols c.from_residual-in_err-flush_volumes.result p.0 _ p.1 p.2 c.loop-n.invariant.2 c.in_err-flush_volumes.ensures.blames

@@ -1,8 +1,10 @@
--- `bring_one`: clauses moves, brings and spends.
+-- `bring_one`: clauses moves, brings, blames and spends.
 use Rattle.std.proofs.Common.{ℕ, ap, arith}
+use Rattle.std.proofs.lemmas.Result.{err_from_is_err_and}
+use Rattle.vx_rvg.proofs.Blaming.{named_volume, volumes_exit}
 use Rattle.std.proofs.lemmas.List.{length-take-le}
 use Rattle.vx_rvg.proofs.ApplyOne.{count_few, kept_at, kept_there, one_brings, one_moves, patched_in}
-use Rattle.vx_ringio.proofs.Spending.{spends_write}
+use Rattle.vx_ringio.proofs.Spending.{spends_none, spends_write}
 use Rattle.vx_rvg.proofs.apply.bring_one.Goals as goal
 
 pub returns-in_err-write-clause-moves : goal.returns-in_err-write-clause-moves
@@ -34,3 +36,10 @@ returns-in_err-write-clause-spends g c = spends_write _ _ _ _ _ c.write.result c
 
 pub returns-clause-spends : goal.returns-clause-spends
 returns-clause-spends g c = spends_write _ _ _ _ _ c.write.result c.write.ensures.goes c.write.ensures.cause c.write.ensures.disks
+
+pub returns-in_err-write-clause-blames : goal.returns-in_err-write-clause-blames
+returns-in_err-write-clause-blames g c =
+    let p = err_from_is_err_and c.from_residual.result c.from_residual.ensures.1 in
+    let m = g.S.Shelf.meaning c.args.shelf.now in
+    volumes_exit ℕ m m c.args.core.now.units.vols c.from_residual.result p.0 _ p.1 p.2 (spends_none m)
+    (named_volume (Unit {0}) m.disks c.args.core.now.units.vols _ c.unit-unit.result _ (omega (arith, c.if-head-volumes.false, c.volumes.ensures)) c.unit-unit.ensures c.in_err-write.ensures.names)

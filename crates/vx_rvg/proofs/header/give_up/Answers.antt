@@ -1,7 +1,8 @@
 -- The group behind a reclaim.
-use Rattle.std.proofs.Common.{◌≤◌, arith, subst, sym}
+use Rattle.std.proofs.Common.{◌≤◌, arith, subst, sym, ap}
 use Rattle.vx_rvg.specs.contracts.rvg_core.RvgCore.{the_view}
 use Rattle.vx_rvg.specs.Views.{Core, IsSound}
+use Rattle.vx_rvg.proofs.Blaming.{blames_of}
 use Rattle.vx_rvg.proofs.SaveCalls.{given_up_moves, given_up_rests, given_up_sound, halted_up_sound, reclaim_cases, reclaim_done}
 use Rattle.vx_rvg.proofs.header.give_up.Goals as goal
 
@@ -36,3 +37,7 @@ pub returns-clause-moves : goal.returns-clause-moves
 returns-clause-moves g c =
     let low : c.core.inside.srl.header.low ≤ c.args.to = omega (arith, c.if-to-low.false, c.low.ensures.is) in
     given_up_moves (the_view c.core.inside) c.args.core.now c.core.view_is c.args.to low c.requires.applied c.low.ensures.some (g.S.Shelf.meaning c.args.shelf.now) (g.S.Shelf.meaning c.reclaim.new.shelf) c.requires.sound c.reclaim.ensures.goes
+
+pub returns-in-Err-clause-blames : goal.returns-in-Err-clause-blames
+returns-in-Err-clause-blames g c =
+    blames_of (g.S.Shelf.meaning c.args.shelf.now).disks _ _ c.in-Err.why c.refused-no.result (ap (λ (k : Core). k.log.unit) c.core.view_is) c.refused-no.ensures c.in-Err.ensures.blames

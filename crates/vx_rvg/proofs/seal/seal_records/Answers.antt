@@ -3,6 +3,7 @@ use Rattle.std.proofs.Common.{◌<◌, ◌+◌, length, sym, ◌∙◌, ap, subs
 use Rattle.vx_disk.specs.Burns.{FallsShort, MakesCalls}
 use Rattle.vx_ringio.specs.Tracks.{RingLies}
 use Rattle.vx_rvg.specs.Views.{Core}
+use Rattle.vx_rvg.proofs.Blaming.{blames_of}
 use Rattle.vx_rvg.proofs.StagedCalls.{all_sound, all_stand, core_kept, not_none, seal_done, seal_failed, seal_stopped, sealed_moves}
 use Rattle.vx_rvg.proofs.seal.seal_records.Goals as goal
 
@@ -63,3 +64,7 @@ returns-in-Err-clause-moves g c =
 pub returns-in-Err-clause-short : goal.returns-in-Err-clause-short
 returns-in-Err-clause-short g c =
     subst (λ (k : Core). FallsShort (length k.log.staged + 2) (g.S.Shelf.meaning c.args.shelf.now) (g.S.Shelf.meaning c.seal.new.shelf)) c.core.view_is c.in-Err.ensures.short
+
+pub returns-in-Err-clause-blames : goal.returns-in-Err-clause-blames
+returns-in-Err-clause-blames g c =
+    blames_of (g.S.Shelf.meaning c.args.shelf.now).disks _ _ c.in-Err.why c.refused-no.result (ap (λ (k : Core). k.log.unit) c.core.view_is) c.refused-no.ensures c.in-Err.ensures.blames

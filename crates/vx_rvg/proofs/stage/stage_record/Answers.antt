@@ -6,6 +6,7 @@ use Rattle.vx_disk.specs.Causes.{Works}
 use Rattle.vx_srl.specs.Views.{BodyFits, free_of, blocks_needed, next_of}
 use Rattle.vx_ringio.specs.Tracks.{RingLies}
 use Rattle.vx_rvg.specs.Views.{Core}
+use Rattle.vx_rvg.proofs.Blaming.{blames_of}
 use Rattle.vx_rvg.proofs.StagedCalls.{number_fits, stage_done, stage_stopped, staged_has, staged_moves, staged_room, staged_sound, stopped_sound, where_refused}
 use Rattle.vx_rvg.proofs.stage.stage_record.Goals as goal
 
@@ -80,3 +81,7 @@ returns-in-Err-clause-moves g c =
 
 pub returns-in-Err-clause-short : goal.returns-in-Err-clause-short
 returns-in-Err-clause-short g c = subst (λ (k : Core). BodyFits k.log c.args.bytes.now → FallsShort 1 (g.S.Shelf.meaning c.args.shelf.now) (g.S.Shelf.meaning c.stage.new.shelf)) c.core.view_is c.in-Err.ensures.short
+
+pub returns-in-Err-clause-blames : goal.returns-in-Err-clause-blames
+returns-in-Err-clause-blames g c =
+    blames_of (g.S.Shelf.meaning c.args.shelf.now).disks _ _ c.in-Err.why c.refused-no.result (ap (λ (k : Core). k.log.unit) c.core.view_is) c.refused-no.ensures c.in-Err.ensures.blames

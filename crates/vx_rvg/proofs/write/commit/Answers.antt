@@ -2,6 +2,8 @@
 use Rattle.std.proofs.Common.{length, ◌∙◌, ap}
 use Rattle.vx_ringio.proofs.Spending.{then_spends}
 use Rattle.vx_rvg.specs.Views.{Core}
+use Rattle.vx_rvg.proofs.Blaming.{staged_place, unit_since}
+use Rattle.vx_rvg.specs.Commits.{number_refusal}
 use Rattle.vx_rvg.proofs.WriteCommit.{cut_fits, four_calls, four_least, four_short, seal_fails, seal_leaves, sound_staged, stage_fails, stage_leaves, stage_writing, staged_low, staged_up, write_answers, write_leaves, write_moves, write_stands}
 use Rattle.vx_rvg.proofs.write.commit.Goals as goal
 
@@ -88,3 +90,9 @@ returns-in-Err-seal_records-clause-short g c =
 pub returns-in-Err-seal_records-clause-spends : goal.returns-in-Err-seal_records-clause-spends
 returns-in-Err-seal_records-clause-spends g c =
     then_spends _ _ _ c.stage_record.ensures.spends c.seal_records.ensures.spends
+
+pub returns-in-Err-seal_records-clause-blames : goal.returns-in-Err-seal_records-clause-blames
+returns-in-Err-seal_records-clause-blames g c =
+    unit_since (g.S.Shelf.meaning c.args.shelf.now) (g.S.Shelf.meaning c.stage_record.new.shelf) _ _ c.in-Err-seal_records.no c.stage_record.ensures.spends
+    (staged_place (number_refusal c.args.core.now) c.args.core.now c.stage_record.new.core c.args.vol c.args.start c.args.bytes.now (g.S.Shelf.meaning c.args.shelf.now) (g.S.Shelf.meaning c.stage_record.new.shelf) c.in_default.field-0 c.in_default.ensures.answers)
+    c.in-Err-seal_records.ensures.blames

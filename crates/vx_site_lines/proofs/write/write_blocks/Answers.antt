@@ -56,6 +56,7 @@ returns-in-Err-clause-leads g c = λ d line stands is free.
     let racks = (g.met.R.Rack g.world.𝓛 g.world.𝓜 g.world.𝓡 ((λ s x. x), (λ x. x), (λ x. x), λ x. x)).rack in
     write_stops racks d y _ line c.args.name.now c.args.volume.now c.args.start c.args.bytes.now s c.volume_of-place.result c.index_mut.result.now c.write_keeping.new.self stands is to (record { there = at; later = c.in-Err.ensures.later; disk_sets = refl; racks = refl }) c.in-Err.ensures.role
     c.in-Err.no c.note_unwritten.result c.saturating_add-next.result c.index_mut-in-Err.result.now c.note_unwritten.new.facts
+    (c.in-Err.ensures.blames (beside_of d s) (d.world.nodes s) there)
     (c.in-Err.ensures.wrote (beside_of d s) (d.world.nodes s) there to.can
     (room_as d y c.args.name.now c.args.volume.now c.args.start c.args.bytes.now s c.volume_of-place.result c.index_mut.result.now c.index-2.result.now c.hold_of_site-hold.result stands to at f c.hold_of_site-hold.ensures.hold))
     (c.in-Err.ensures.called (beside_of d s) (d.world.nodes s) there) c.note_unwritten.ensures.said

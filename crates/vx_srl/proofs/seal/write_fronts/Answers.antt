@@ -1,5 +1,7 @@
--- `write_fronts`: clauses follows, short and spends; what stays true in its loop over `k`.
-use Rattle.std.proofs.Common.{arith}
+-- `write_fronts`: clauses follows, short, names and spends; what stays true in its loop over `k`.
+use Rattle.std.proofs.Common.{arith, refl}
+use Rattle.std.proofs.lemmas.Result.{err_from_is_err_and}
+use Rattle.vx_srl.proofs.Blaming.{names_done, names_exit}
 use Rattle.vx_srl.proofs.FrontLaws.{cut_follows, one_more, one_written, short_cut, short_more}
 use Rattle.vx_ringio.proofs.Spending.{then_spends}
 use Rattle.vx_srl.proofs.seal.write_fronts.Goals as goal
@@ -24,3 +26,11 @@ loop-k-preserved g c = (
 
 pub returns-in_err-write_front-clause-spends : goal.returns-in_err-write_front-clause-spends
 returns-in_err-write_front-clause-spends g c = then_spends _ _ _ c.loop-k.invariant.3 c.write_front.ensures.spends
+
+pub returns-in_err-write_front-clause-names : goal.returns-in_err-write_front-clause-names
+returns-in_err-write_front-clause-names g c =
+    let p = err_from_is_err_and c.from_residual.result c.from_residual.ensures.1 in
+    names_exit (Unit {0}) (Unit {0}) _ _ _ c.args.unit c.args.unit c.from_residual.result p.0 _ p.1 p.2 refl c.loop-k.invariant.3.told c.in_err-write_front.ensures.names
+
+pub returns-clause-names : goal.returns-clause-names
+returns-clause-names g c = names_done (Unit {0}) tt (g.S.Shelf.meaning c.args.shelf.now).disks c.args.unit

@@ -23,3 +23,9 @@ returns-else-is_off-clause-called g c = λ beside n stands. c.in-Err.ensures.cal
 
 pub returns-then-is_off-clause-role : goal.returns-then-is_off-clause-role
 returns-then-is_off-clause-role g c = role_then c.args.self.now c.apply_up.new.self c.fall.new.self c.apply_up.ensures.role c.fall.ensures.role
+
+pub returns-then-is_off-clause-blames : goal.returns-then-is_off-clause-blames
+returns-then-is_off-clause-blames g c = λ beside n stands. c.in-Err.ensures.blames beside n stands
+
+pub returns-else-is_off-clause-blames : goal.returns-else-is_off-clause-blames
+returns-else-is_off-clause-blames g c = λ beside n stands. c.in-Err.ensures.blames beside n stands

@@ -1,6 +1,7 @@
 -- An apply of what waits, before the crash.
 use Rattle.std.proofs.Common.{◌∙◌, ℕ, ap, sym, arith}
 use Rattle.std.specs.Prelude.{min}
+use Rattle.vx_diskset.proofs.Blamed.{blamed_receiver}
 use Rattle.vx_diskset.proofs.Reaching.{reached_full, reached_idle, reached_none_up, reached_up}
 use Rattle.vx_rvg.specs.Groups.{has_numbers}
 use Rattle.vx_diskset.specs.Received.{reached_by}
@@ -40,3 +41,6 @@ pub returns-else-not-has_numbers-clause-called : goal.returns-else-not-has_numbe
 returns-else-not-has_numbers-clause-called g c = λ beside n stands.
     called_received (reached_by c.apply_oldest.result) beside n c.args.self.now c.in-Receives.site _ c.in-Receives.is stands
     (λ up. reached_called c.apply_oldest.result c.in-Receives.site.rvg c.apply_oldest.new.rvg up (c.apply_oldest.ensures.off up) c.apply_oldest.ensures.spends)
+
+pub returns-else-not-has_numbers-clause-blames : goal.returns-else-not-has_numbers-clause-blames
+returns-else-not-has_numbers-clause-blames g c = λ beside n stands. blamed_receiver c.apply_oldest.result beside n c.args.self.now c.in-Receives.site c.in-Receives.is stands c.apply_oldest.ensures.blames

@@ -1,6 +1,7 @@
 -- `apply_up`: clauses called and applied.
 use Rattle.vx_diskset.specs.Burning.{NoMore, said_by}
 use Rattle.vx_diskset.specs.declared.disk_set.DiskSet.TheVariants.{Up}
+use Rattle.vx_diskset.proofs.Blamed.{blamed_receiver, blamed_up}
 use Rattle.vx_diskset.proofs.CallsBurn.{called_by, called_up, is_done}
 use Rattle.std.proofs.Common.{refl}
 use Rattle.vx_diskset.proofs.Receiving.{applied_received, durable_of, receiver_as}
@@ -18,3 +19,10 @@ returns-in-Receives-clause-applied g c = λ beside n stands can.
     applied_received beside n c.args.self.now c.in-Receives.site
     (record { rvg = c.apply_group-in-Receives.new.rvg; waiting = c.in-Receives.site.waiting; waits = c.apply_group-in-Receives.ensures.waiting c.in-Receives.site.waiting c.in-Receives.site.waits }) c.in-Receives.is stands can.running refl c.args.to c.apply_group-in-Receives.result
     (c.apply_group-in-Receives.ensures.applied beside (durable_of n) (receiver_as beside n c.args.self.now c.in-Receives.site c.in-Receives.is stands can.running (lawful c.in-Receives.site.rvg.shelf)) can.running)
+
+pub returns-in-Up-clause-blames : goal.returns-in-Up-clause-blames
+returns-in-Up-clause-blames g c = λ beside n stands. blamed_up c.apply_group.result beside n c.args.self.now c.in-Up.rvg c.in-Up.is stands c.apply_group.ensures.blames
+
+pub returns-in-Receives-clause-blames : goal.returns-in-Receives-clause-blames
+returns-in-Receives-clause-blames g c = λ beside n stands.
+    blamed_receiver c.apply_group-in-Receives.result beside n c.args.self.now c.in-Receives.site c.in-Receives.is stands c.apply_group-in-Receives.ensures.blames

@@ -7,6 +7,7 @@ use Rattle.vx_diskset.specs.Burning.{IsLogged, said_by}
 use Rattle.vx_diskset.specs.declared.disk_set.DiskSet.TheVariants.{Up}
 use Rattle.vx_diskset.specs.DiskSets.{LoggedUp}
 use Rattle.vx_diskset.specs.Stands.{SiteStands}
+use Rattle.vx_diskset.proofs.Blamed.{blamed_up}
 use Rattle.vx_diskset.proofs.WriteGroup.{logged_wrote}
 use Rattle.vx_diskset.proofs.CallsBurn.{called_still, called_up, cuts_none, cuts_up}
 use Rattle.vx_diskset.proofs.disk_set.DiskSet.write_up.Goals as goal
@@ -30,3 +31,6 @@ returns-then-volume-volumes-clause-wrote g c = λ beside n stands can has.
     (subst (λ e. LoggedUp beside n x e (Up c.write_group.new.rvg) c.write_group.result) (sym c.in-Up.is)
     (c.write_group.ensures.wrote beside n (subst (λ e. SiteStands beside n e) c.in-Up.is stands)
     (record { up = can.up; running = can.running; volume_exists = can.volume_exists; fits = can.fits; within = can.within }) has))
+
+pub returns-then-volume-volumes-clause-blames : goal.returns-then-volume-volumes-clause-blames
+returns-then-volume-volumes-clause-blames g c = λ beside n stands. blamed_up c.write_group.result beside n c.args.self.now c.in-Up.rvg c.in-Up.is stands c.write_group.ensures.blames

@@ -1,5 +1,6 @@
--- `seal`: clauses nothing, goes and leads.
-use Rattle.std.proofs.Common.{subst, sym, arith}
+-- `seal`: clauses nothing, goes, leads and blames.
+use Rattle.std.proofs.Common.{refl, subst, sym, arith}
+use Rattle.vx_srl.proofs.Blaming.{blames_failed}
 use Rattle.vx_srl.specs.Calls.{sealing}
 use Rattle.vx_srl.specs.Rings.{LeadsTo}
 use Rattle.vx_srl.specs.Views.{Log}
@@ -33,3 +34,7 @@ returns-clause-leads g c =
     λ some. subst (λ (x : Log). LeadsTo c.args.self.now sealing x (g.S.Shelf.meaning c.args.shelf.now) (g.S.Shelf.meaning c.write_staged.new.shelf))
     (sym (is_sealed i.unit i.ring i.header i.records.items i.sealed c.args.self.now c.self.view_is c.len-self-inside.result (omega (arith, c.len-self-inside.ensures))))
     (seal_leads c.args.self.now (view_ordered i.unit i.ring i.header i.records.items i.sealed c.args.self.now c.self.view_is c.self.invariant.ordered) _ _ c.in_default.ensures.arrives)
+
+pub returns-in-Err-clause-blames : goal.returns-in-Err-clause-blames
+returns-in-Err-clause-blames g c =
+    blames_failed (Unit {0}) (g.S.Shelf.meaning c.args.shelf.now).disks _ _ c.in-Err.error c.refusal.result refl c.refusal.ensures c.in-Err.ensures.names

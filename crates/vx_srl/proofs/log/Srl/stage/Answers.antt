@@ -1,5 +1,6 @@
--- `stage`: clauses goes, leads and works; what `write_body` asks.
-use Rattle.std.proofs.Common.{arith, subst}
+-- `stage`: clauses goes, leads, works and blames; what `write_body` asks.
+use Rattle.std.proofs.Common.{ap, arith, subst}
+use Rattle.vx_srl.proofs.Blaming.{blames_failed}
 use Rattle.vx_srl.proofs.StageRecord.{body_blocks}
 use Rattle.vx_srl.proofs.StageKept.{goes_kept, leads_kept}
 use Rattle.vx_disk.specs.Causes.{Works}
@@ -26,3 +27,7 @@ returns-clause-leads g c =
 
 pub returns-clause-works : goal.returns-clause-works
 returns-clause-works g c = subst (λ (l : Log). Works (g.S.Shelf.meaning c.args.shelf.now).disks l.unit) c.self.view_is c.in_default.ensures.works
+
+pub returns-in-Err-clause-blames : goal.returns-in-Err-clause-blames
+returns-in-Err-clause-blames g c =
+    blames_failed (Unit {0}) (g.S.Shelf.meaning c.args.shelf.now).disks _ _ c.in-Err.error c.refusal.result (ap (λ (l : Log). l.unit) c.self.view_is) c.refusal.ensures c.in-Err.ensures.names

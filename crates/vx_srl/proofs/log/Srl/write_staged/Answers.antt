@@ -1,12 +1,15 @@
--- `write_staged`: clauses follows, cause, arrives and spends; what `write_fronts` asks.
-use Rattle.std.proofs.Common.{sym, subst}
+-- `write_staged`: clauses follows, cause, arrives, names and spends; what `write_fronts` asks.
+use Rattle.std.proofs.Common.{ap, sym, subst}
+use Rattle.vx_disk.specs.Causes.{Names}
+use Rattle.vx_ringio.proofs.Naming.{names_before}
+use Rattle.vx_srl.proofs.Blaming.{names_exit}
 use Rattle.std.proofs.lemmas.Result.{err_from_is_err_and, on_ok_weaker}
 use Rattle.vx_ringio.specs.Tracks.{Arrives, Follows, RingLies}
 use Rattle.vx_srl.specs.Fronts.{seal_written}
 use Rattle.vx_srl.specs.Views.{Log}
 use Rattle.vx_srl.proofs.FrontLaws.{ended_err, ended_last, flush_cut, fronts_cut, fronts_follow, lies_stays, places_low, seal_arrives, seal_follows}
 use Rattle.vx_srl.proofs.LogLists.{place_low}
-use Rattle.vx_ringio.proofs.Spending.{then_spends}
+use Rattle.vx_ringio.proofs.Spending.{spends_none, then_spends}
 use Rattle.vx_srl.proofs.log.Srl.write_staged.Goals as goal
 
 pub returns-in_err-flush_ring-clause-follows : goal.returns-in_err-flush_ring-clause-follows
@@ -62,3 +65,18 @@ returns-in_err-write_fronts-clause-spends g c = then_spends _ _ _ c.flush_ring.e
 
 pub returns-clause-spends : goal.returns-clause-spends
 returns-clause-spends g c = then_spends _ _ _ (then_spends _ _ _ c.flush_ring.ensures.spends c.write_fronts.ensures.spends) c.flush_ring-2.ensures.spends
+
+pub returns-in_err-flush_ring-clause-names : goal.returns-in_err-flush_ring-clause-names
+returns-in_err-flush_ring-clause-names g c =
+    let p = err_from_is_err_and c.from_residual.result c.from_residual.ensures.1 in
+    names_exit (Unit {0}) (Unit {0}) _ _ _ _ _ c.from_residual.result p.0 _ p.1 p.2 (ap (λ (x : Log). x.unit) c.self.view_is) (spends_none (g.S.Shelf.meaning c.args.shelf.now)).told c.in_err-flush_ring.ensures.names
+
+pub returns-in_err-write_fronts-clause-names : goal.returns-in_err-write_fronts-clause-names
+returns-in_err-write_fronts-clause-names g c =
+    let p = err_from_is_err_and c.from_residual-in_err-write_fronts.result c.from_residual-in_err-write_fronts.ensures.1 in
+    names_exit (Unit {0}) (Unit {0}) _ _ _ _ _ c.from_residual-in_err-write_fronts.result p.0 _ p.1 p.2 (ap (λ (x : Log). x.unit) c.self.view_is) c.flush_ring.ensures.spends.told c.in_err-write_fronts.ensures.names
+
+pub returns-clause-names : goal.returns-clause-names
+returns-clause-names g c =
+    subst (λ (x : Log). Names (g.S.Shelf.meaning c.args.shelf.now).disks x.unit c.flush_ring-2.result) c.self.view_is
+    (names_before (Unit {0}) _ _ _ _ c.flush_ring-2.result (then_spends _ _ _ c.flush_ring.ensures.spends c.write_fronts.ensures.spends).told c.flush_ring-2.ensures.names)

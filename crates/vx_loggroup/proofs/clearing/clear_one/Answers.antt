@@ -1,0 +1,34 @@
+-- `clear_one`: clauses stands, marks and off; what the calls ask.
+use Rattle.std.proofs.Common.{Bool, false, refl, subst, sym, arith}
+use Rattle.vx_disk.specs.Shelf.{Nothing}
+use Rattle.vx_group.specs.Holding.{wide}
+use Rattle.vx_group.proofs.LostLemmas.{if_ok_from}
+use Rattle.vx_grouplogs.specs.Marking.{HoldsMany, NoMarks}
+use Rattle.vx_logs.specs.declared.logs.Logs.{Logs}
+use Rattle.std.specs.Prelude.{slice_get}
+use Rattle.vx_loggroup.specs.LoggedVolumes.{is_alike}
+use Rattle.vx_loggroup.specs.Marks.{region_count}
+use Rattle.vx_loggroup.proofs.AlikeLemmas.{clears_set, here_stands, index_low, same_item, set_stands}
+use Rattle.vx_loggroup.proofs.SetLemmas.{item_of, set_here}
+use Rattle.vx_loggroup.proofs.clearing.clear_one.Goals as goal
+
+pub index_mut-requires : goal.index_mut-requires
+index_mut-requires g c = let lt = (index_low c.args.core.now c.args.logs.now.items c.args.alike.now false (g.S.Shelf.meaning c.args.shelf.now) c.args.vol c.requires.stands c.requires.there) in omega (arith, c.args.logs.now.ok, lt)
+
+pub clear_group-requires-clause-log : goal.clear_group-requires-clause-log
+clear_group-requires-clause-log g c = (c.requires.stands.each c.args.vol c.index_mut.result.now (item_of c.args.logs.now.items c.args.vol c.index_mut.result.now c.index_mut.ensures.value (index_low c.args.core.now c.args.logs.now.items c.args.alike.now false (g.S.Shelf.meaning c.args.shelf.now) c.args.vol c.requires.stands c.requires.there))).on refl
+
+pub returns-clause-stands : goal.returns-clause-stands
+returns-clause-stands g c =
+    set_stands Nothing c.args.core.now c.clear_group.new.core c.args.logs.now.items c.args.alike.now c.args.alike.now false false c.args.vol c.clear_group.new.logs (g.S.Shelf.meaning c.args.shelf.now) (g.S.Shelf.meaning c.clear_group.new.shelf) c.requires.stands c.clear_group.ensures.stands c.clear_group.ensures.goes
+    (λ w b x apart none. none) (λ off. off) c.clear_group.ensures.others (λ w apart. refl)
+    (here_stands c.args.core.now c.clear_group.new.core c.args.vol c.index_mut.result.now c.clear_group.new.logs (is_alike c.args.alike.now c.args.vol) false (g.S.Shelf.meaning c.args.shelf.now) (g.S.Shelf.meaning c.clear_group.new.shelf)
+    (c.requires.stands.each c.args.vol c.index_mut.result.now (item_of c.args.logs.now.items c.args.vol c.index_mut.result.now c.index_mut.ensures.value (index_low c.args.core.now c.args.logs.now.items c.args.alike.now false (g.S.Shelf.meaning c.args.shelf.now) c.args.vol c.requires.stands c.requires.there))) c.clear_group.ensures.goes (λ on. c.clear_group.ensures.log))
+
+pub returns-clause-marks : goal.returns-clause-marks
+returns-clause-marks g c = clears_set (wide c.args.core.now).config c.args.vol c.args.logs.now.items c.index_mut.result.now c.clear_group.new.logs (item_of c.args.logs.now.items c.args.vol c.index_mut.result.now c.index_mut.ensures.value (index_low c.args.core.now c.args.logs.now.items c.args.alike.now false (g.S.Shelf.meaning c.args.shelf.now) c.args.vol c.requires.stands c.requires.there)) c.clear_group.ensures.fewer
+
+pub returns-clause-off : goal.returns-clause-off
+returns-clause-off g c = if_ok_from c.clear_group.result (λ (done : Bool) off is kept (l k : Logs) was many now.
+    let old = same_item (slice_get c.args.logs.now.items c.args.vol) c.index_mut.result.now l (item_of c.args.logs.now.items c.args.vol c.index_mut.result.now c.index_mut.ensures.value (index_low c.args.core.now c.args.logs.now.items c.args.alike.now false (g.S.Shelf.meaning c.args.shelf.now) c.args.vol c.requires.stands c.requires.there)) was in
+    subst (λ (z : Logs). NoMarks (region_count (wide c.args.core.now).config c.args.vol) z) (set_here c.args.logs.now.items c.args.vol c.clear_group.new.logs k now) (off is (subst (λ (z : Logs). HoldsMany z.drl) (sym old) many))) c.clear_group.ensures.off

@@ -1,0 +1,26 @@
+-- Which regions the dirty region logs of a group have, call by call.
+use Rattle.std.specs.Prelude.{◌≡◌, ℕ, ◌<◌, Bool, true, Some, List, slice_get}
+use Rattle.vx_config.specs.Checks.{blocks_of}
+use Rattle.vx_config.specs.declared.config.Config.{Config}
+use Rattle.vx_grouplogs.specs.Marking.{MarksFewer, MarksOnly, NoMarks}
+use Rattle.vx_logs.specs.declared.logs.Logs.{Logs}
+use Rattle.vx_model.specs.Sizes.{regions_of}
+use Rattle.vx_loggroup.specs.LoggedVolumes.{is_alike}
+
+-- the regions of a volume
+abbrev pub region_count : Config → ℕ → ℕ
+region_count c v = regions_of (blocks_of c.volumes v)
+
+-- only the log of volume v changed, and of its regions those from first to last alone have a mark that they had not
+pub record MarksVolume (c : Config) (v first last : ℕ) (old new : List Logs) : Type 0 where
+  pub here : (l k : Logs) → slice_get old v ≡ Some l → slice_get new v ≡ Some k → MarksOnly (region_count c v) first last l k
+  pub others : (w : ℕ) → (w ≡ v → ⊥) → slice_get new w ≡ slice_get old w
+
+-- only the log of volume v changed, and no region has a mark that it had not
+pub record ClearsVolume (c : Config) (v : ℕ) (old new : List Logs) : Type 0 where
+  pub here : (l k : Logs) → slice_get old v ≡ Some l → slice_get new v ≡ Some k → MarksFewer (region_count c v) l k
+  pub others : (w : ℕ) → (w ≡ v → ⊥) → slice_get new w ≡ slice_get old w
+
+-- of the volumes below n whose plexes are said to be alike no log has a region
+pub record MarksAreOff (c : Config) (alike : List Bool) (n : ℕ) (logs : List Logs) : Type 0 where
+  pub each : (v : ℕ) (l : Logs) → v < n → is_alike alike v ≡ true → slice_get logs v ≡ Some l → NoMarks (region_count c v) l

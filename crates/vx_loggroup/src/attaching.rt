@@ -1,0 +1,43 @@
+// A plex of a group with logs that is attached.
+ghost use Rattle.std.specs.Prelude.{◌≡◌, ◌⊎◌, ◌<◌, false, IfOk, IsTrue, None, Ok, OnOk, Some, Err, length, true, ℕ};
+ghost use Rattle.vx_group.specs.Attaches.{GroupAttachEnds, att_refusal, copied_regions};
+ghost use Rattle.vx_group.specs.Calls.{GroupAttaches};
+ghost use Rattle.vx_group.specs.Dets.{DetStops};
+ghost use Rattle.vx_group.specs.Regains.{HoldsPlex, Regains};
+ghost use Rattle.vx_loggroup.specs.LoggedVolumes.{LoggedStands};
+ghost use Rattle.vx_model.specs.declared.errors.Stop.TheVariants.{No as Refused};
+ghost use Rattle.vx_model.specs.declared.no.No.{No as NoValue};
+ghost use Rattle.vx_volume.specs.Plexes.{active};
+
+use vx_disk::Shelf;
+use vx_group::{GroupCore, att_in};
+use vx_logs::Logs;
+use vx_model::Stop;
+use vx_model::limits::MOST_VOLUMES;
+
+/// Attaches a plex, as a group does without logs, and answers how many regions were copied: all of the volume.
+pub fn att_whole<S: Shelf>(
+    shelf: &mut S,
+    core: &mut GroupCore,
+    logs: &Vec<Logs>,
+    alike: &[bool; MOST_VOLUMES],
+    stopped: bool,
+    vol: u32,
+    plex: u32,
+) -> Result<u64, Stop>
+    requires stands { LoggedStands core.old logs.now.items alike.now stopped (S.meaning shelf.old) }
+    ensures stands { LoggedStands core.new logs.now.items alike.now stopped (S.meaning shelf.new) }
+    ensures refused { (no : NoValue) → att_refusal core.old.inner.config vol plex ≡ Some no → (result ≡ Err (Refused no)) × (core.new ≡ core.old) × (shelf.new ≡ shelf.old) }
+    ensures already { att_refusal core.old.inner.config vol plex ≡ None → IsTrue (active core.old.inner.config vol plex) → (result ≡ Ok 0) × (core.new ≡ core.old) × (shelf.new ≡ shelf.old) }
+    ensures count { active core.old.inner.config vol plex ≡ false → IfOk result (λ n. n ≡ copied_regions core.old.inner.config vol) }
+    ensures attaches { GroupAttaches vol plex None core.old core.new (S.meaning shelf.old) (S.meaning shelf.new) }
+    ensures ends { active core.old.inner.config vol plex ≡ false → GroupAttachEnds vol plex core.new.inner.config (S.meaning shelf.new) result }
+    ensures regains { Regains core.old.inner.config core.new.inner.config vol plex (S.meaning shelf.old) (S.meaning shelf.new) }
+    ensures held { active core.old.inner.config vol plex ≡ false → OnOk result (HoldsPlex (λ s. S.meaning s) core.old.inner.config core.new.inner.config vol plex shelf.new) }
+    ensures trust { OnOk result (core.old.inner.committed ≡ true → core.new.inner.committed ≡ true) }
+    ensures cause { att_refusal core.old.inner.config vol plex ≡ None → DetStops (S.meaning shelf.old) (S.meaning shelf.new) result }
+{
+    // What is kept of the volumes stays as it is.
+    let _kept = (logs.len(), alike.len(), stopped);
+    att_in(shelf, core, vol, plex, None)
+}

@@ -1,0 +1,242 @@
+// What an import by a dirty region log writes to the plexes, and what it does where the log is lost.
+use std::alloc::Global;
+use std::test::*;
+use vx_config::{Config, LogEntry, Subdisk};
+use vx_disk::{MemShelf, Rack, Shelf};
+use vx_group_rows::Untold;
+use vx_layout::Shape;
+use vx_loggroup::LoggedGroup;
+use vx_model::{Name, OutOfMemory};
+
+type Disks = Untold<MemShelf>;
+
+// 256 blocks on two plexes, with a dirty region log.
+const WANT: Shape = Shape {
+    blocks: 256,
+    mirrors: 2,
+    ncol: 1,
+    width: 0,
+    drl: true,
+    fmr: false,
+    prefer: None,
+};
+
+// A group on three disks, of which these calls fail, with such a volume.
+fn group_on(alloc: Global, fails: &[u64]) -> Result<LoggedGroup<Disks>, OutOfMemory> {
+    let mut shelf = match MemShelf::new(alloc, fails) {
+        Ok(shelf) => shelf,
+        Err(_) => return Err(OutOfMemory),
+    };
+    if shelf.fit(alloc, None, 7, 3, 1024).is_err() {
+        return Err(OutOfMemory);
+    }
+    let shelf = Untold { shelf };
+    if shelf.units() == 0 || shelf.units() > 8 {
+        return Err(OutOfMemory);
+    }
+    match LoggedGroup::create(alloc, shelf, 7) {
+        Ok(group) => {
+            let mut group = group;
+            match group.make_volume(alloc, &Name::new(b"v"), &WANT) {
+                Ok(_) => Ok(group),
+                Err(_) => Err(OutOfMemory),
+            }
+        }
+        Err(_) => Err(OutOfMemory),
+    }
+}
+
+// Writes one block of these bytes, and answers whether that is done.
+fn put(group: &mut LoggedGroup<Disks>, block: u64, byte: u8) -> bool {
+    if group.units() == 0 || block >= group.size(0) {
+        return false;
+    }
+    group.write(0, block, &[byte; 512]).is_ok()
+}
+
+fn log_of(config: &Config) -> Option<LogEntry> {
+    match config.volumes.as_slice().get(0) {
+        Some(volume) => volume.drl,
+        None => None,
+    }
+}
+
+// Whether the volume has a log, and it is held as lost.
+fn is_lost(config: &Config) -> Option<bool> {
+    match log_of(config) {
+        Some(entry) => Some(entry.lost),
+        None => None,
+    }
+}
+
+// The first run of a plex.
+fn run_of(config: &Config, plex: usize) -> Option<Subdisk> {
+    match config.volumes.as_slice().get(0) {
+        Some(volume) => match volume.plexes.as_slice().get(plex) {
+            Some(entry) => match entry.subdisks.as_slice().get(0) {
+                Some(run) => Some(*run),
+                None => None,
+            },
+            None => None,
+        },
+        None => None,
+    }
+}
+
+// Writes a block of a disk.
+fn mark(disks: &mut MemShelf, run: Option<Subdisk>, block: u64, byte: u8) {
+    if let Some(run) = run {
+        let unit = u32::from(run.disk);
+        if unit < disks.units()
+            && block < 256
+            && run.start < 700
+            && run.start + block < disks.size(unit)
+        {
+            match disks.write(unit, run.start + block, &[byte; 512]) {
+                Ok(()) => {}
+                Err(_) => {}
+            }
+        }
+    }
+}
+
+// The first byte of a block of a disk.
+fn look(disks: &mut MemShelf, run: Option<Subdisk>, block: u64) -> Option<u8> {
+    let mut bytes = [0; 512];
+    if let Some(run) = run {
+        let unit = u32::from(run.disk);
+        if unit < disks.units()
+            && block < 256
+            && run.start < 700
+            && run.start + block < disks.size(unit)
+        {
+            return match disks.read(unit, run.start + block, &mut bytes) {
+                Ok(()) => Some(bytes[0]),
+                Err(_) => None,
+            };
+        }
+    }
+    None
+}
+
+// The disks behind a crash that loses all that may be lost, with other bytes in some blocks of the second plex, and its first run.
+fn crashed(group: LoggedGroup<Disks>) -> (MemShelf, Option<Subdisk>) {
+    let run = run_of(group.config(), 1);
+    let (shelf, _rest) = group.apart();
+    let mut disks = shelf.shelf;
+    disks.crash(0);
+    if disks.is_down() {
+        disks.revive();
+    }
+    for block in [0, 63, 64, 127, 128, 255] {
+        mark(&mut disks, run, block, 0xee);
+    }
+    (disks, run)
+}
+
+// The group that an import gives.
+fn opened(alloc: Global, disks: MemShelf) -> Option<LoggedGroup<Disks>> {
+    match LoggedGroup::import(alloc, Untold { shelf: disks }) {
+        Ok(group) => Some(group),
+        Err(_) => None,
+    }
+}
+
+// What an import leaves in these blocks of the second plex, and whether the log is lost then.
+fn again(alloc: Global, disks: MemShelf, run: Option<Subdisk>) -> ([Option<u8>; 6], Option<bool>) {
+    match opened(alloc, disks) {
+        Some(group) => {
+            let lost = is_lost(group.config());
+            let (shelf, _rest) = group.apart();
+            let mut disks = shelf.shelf;
+            (
+                [
+                    look(&mut disks, run, 0),
+                    look(&mut disks, run, 63),
+                    look(&mut disks, run, 64),
+                    look(&mut disks, run, 127),
+                    look(&mut disks, run, 128),
+                    look(&mut disks, run, 255),
+                ],
+                lost,
+            )
+        }
+        None => ([None; 6], None),
+    }
+}
+
+// The bytes that were put there, and those of the first plex.
+const KEPT: Option<u8> = Some(0xee);
+
+const COPIED: Option<u8> = Some(0);
+
+#[test]
+fn a_log_of_a_new_volume_is_trusted(rt: HostRuntime) -> Result<(), Fail> {
+    let alloc = rt.alloc();
+    let group = group_on(alloc, &[])?;
+    assert_eq!(rt; is_lost(group.config()), Some(false));
+    Ok(())
+}
+
+#[test]
+fn an_import_copies_the_regions_of_writes(rt: HostRuntime) -> Result<(), Fail> {
+    let alloc = rt.alloc();
+    let mut group = group_on(alloc, &[])?;
+    assert!(rt; put(&mut group, 70, 0x11));
+    let (disks, run) = crashed(group);
+    assert_eq!(rt;
+        again(alloc, disks, run),
+        ([KEPT, KEPT, COPIED, COPIED, KEPT, KEPT], Some(false))
+    );
+    Ok(())
+}
+
+#[test]
+fn an_import_takes_marks_off(rt: HostRuntime) -> Result<(), Fail> {
+    let alloc = rt.alloc();
+    let mut group = group_on(alloc, &[])?;
+    assert!(rt; put(&mut group, 70, 0x11));
+    let (shelf, _rest) = group.apart();
+    let mut disks = shelf.shelf;
+    disks.crash(0);
+    if disks.is_down() {
+        disks.revive();
+    }
+    match opened(alloc, disks) {
+        Some(group) => {
+            let mut group = group;
+            assert!(rt; put(&mut group, 200, 0x22));
+            let (disks, run) = crashed(group);
+            assert_eq!(rt;
+                again(alloc, disks, run),
+                ([KEPT, KEPT, KEPT, KEPT, KEPT, COPIED], Some(false))
+            );
+        }
+        None => assert!(rt; false),
+    }
+    Ok(())
+}
+
+// A group whose log was lost in a write, as one of these calls failed.
+fn lost_by(alloc: Global, fails: &[u64]) -> Result<Option<LoggedGroup<Disks>>, OutOfMemory> {
+    let mut group = group_on(alloc, fails)?;
+    if put(&mut group, 70, 0x11) && is_lost(group.config()) == Some(true) {
+        return Ok(Some(group));
+    }
+    Ok(None)
+}
+
+#[test]
+fn a_lost_log_is_not_used_again(rt: HostRuntime) -> Result<(), Fail> {
+    let alloc = rt.alloc();
+    let mut lost = 0;
+    for call in 0..120 {
+        if let Ok(Some(group)) = lost_by(alloc, &[call]) {
+            let (disks, run) = crashed(group);
+            assert_eq!(rt; again(alloc, disks, run), ([COPIED; 6], Some(true)));
+            lost += 1;
+        }
+    }
+    assert_eq!(rt; lost, 0);
+    Ok(())
+}

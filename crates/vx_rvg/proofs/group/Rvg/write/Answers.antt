@@ -1,0 +1,6 @@
+-- `write`: clause blames.
+use Rattle.vx_rvg.proofs.Blaming.{blames_idle}
+use Rattle.vx_rvg.proofs.group.Rvg.write.Goals as goal
+
+pub returns-in-Some-clause-blames : goal.returns-in-Some-clause-blames
+returns-in-Some-clause-blames g c = blames_idle (g.S.Shelf.meaning c.args.self.now.shelf).disks c.args.self.now.core.log.unit c.in-Some.no c.in-Some.ensures.idle
