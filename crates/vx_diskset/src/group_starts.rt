@@ -3,7 +3,7 @@ use crate::group_set::{CutWrite, KeptWrite};
 use crate::{DiskSet, GroupSet};
 use std::alloc::Global;
 use vx_disk::Rack;
-use vx_grouped::{GroupSite, begin_group, has_label, kept, start_bare};
+use vx_grouped::{GroupSite, begin_group};
 use vx_model::{No, Stop};
 
 // The disks of a bare site on which a group was begun: labels may stand on them.
@@ -29,7 +29,7 @@ fn look_kept<R: Rack>(
 ) -> Result<Option<KeptWrite>, No> {
     match cut {
         Some(write) => {
-            let bits = kept(site, write.volume, write.block, write.bytes.as_bytes())?;
+            let bits = site.kept(write.volume, write.block, write.bytes.as_bytes())?;
             Ok(Some(KeptWrite {
                 write: *write,
                 bits,
@@ -68,36 +68,6 @@ impl<R: Rack> DiskSet<R> {
                 other => (group_of(other), Err(Stop::No(No::Role))),
             },
             other => (other, Err(Stop::No(No::Role))),
-        }
-    }
-
-    /// Whether a group was made of the disks of a bare site, by an earlier run or in part.
-    pub fn has_label(&mut self) -> bool {
-        match self {
-            DiskSet::Bare(rack) => has_label(rack),
-            DiskSet::OfGroup(group) => match &mut group.site {
-                GroupSite::Marked(rack) => has_label(rack),
-                _ => false,
-            },
-            _ => false,
-        }
-    }
-
-    /// Imports the group that an earlier run left on the disks of a bare site. Where it is refused, the site stays bare.
-    pub fn recover_bare_group(self, alloc: Global) -> (DiskSet<R>, Result<(), Stop>) {
-        match self {
-            DiskSet::Bare(rack) => match start_bare(alloc, rack) {
-                Ok(group) => (group_of(group), Ok(())),
-                Err((rack, stop)) => (DiskSet::Bare(rack), Err(stop)),
-            },
-            DiskSet::OfGroup(group) => match group.site {
-                GroupSite::Marked(rack) => match start_bare(alloc, rack) {
-                    Ok(group) => (group_of(group), Ok(())),
-                    Err((rack, stop)) => (marked(rack), Err(stop)),
-                },
-                other => (group_of(other), Err(Stop::No(No::Role))),
-            },
-            other => (other, Err(Stop::No(No::NoConfig))),
         }
     }
 

@@ -13,7 +13,7 @@ fn has_label_at<R: Rack>(rack: &mut R, disk: u32) -> bool {
 }
 
 /// Whether one of the disks that can be read has a label of a group.
-pub fn has_label<R: Rack>(rack: &mut R) -> bool {
+pub(crate) fn has_label<R: Rack>(rack: &mut R) -> bool {
     if !are_large(rack) {
         return false;
     }
@@ -35,7 +35,7 @@ fn unlabel<R: Rack>(rack: &mut R, disk: u32) -> Result<(), ShelfError> {
 }
 
 /// Takes the labels off the disks that can be read, so that no group is found on them. Disks without labels are not written.
-pub fn unlabel_all<R: Rack>(rack: &mut R) -> Result<(), ShelfError> {
+pub(crate) fn unlabel_all<R: Rack>(rack: &mut R) -> Result<(), ShelfError> {
     if !are_large(rack) {
         return Ok(());
     }

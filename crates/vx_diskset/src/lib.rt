@@ -6,6 +6,7 @@ mod group_set;
 mod group_starts;
 mod grouping;
 mod keeping;
+mod labels;
 mod pumping;
 mod reading;
 mod receivers;

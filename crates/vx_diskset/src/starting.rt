@@ -15,11 +15,12 @@ ghost use Rattle.vx_diskset.specs.DiskSets.{Later, CanHold, CanStart, MadeIs, Ba
 ghost use Rattle.vx_diskset.specs.Layouts.{CanBeRaw, raw_units as units_of};
 ghost use Rattle.vx_diskset.specs.Stands.{IsBareAt, IsCleanAt};
 
+use crate::labels::unlabel_all;
 use crate::units::raw_units;
 use crate::{DiskSet, GroupSet};
 use std::alloc::Global;
 use vx_disk::{Rack, refusal};
-use vx_grouped::{GroupSite, unlabel_all};
+use vx_grouped::GroupSite;
 use vx_model::limits::{LEAST_BLOCKS, LEAST_RAW_DISKS, LINK_PLACES, MOST_DISKS};
 use vx_model::{No, Role, State, Stop, map_blocks, ring_blocks};
 use vx_ringio::{TopSeen, read_top};

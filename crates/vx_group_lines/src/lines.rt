@@ -12,7 +12,7 @@ use std::alloc::Global;
 use vx_disk::Rack;
 use vx_events::Said;
 use vx_model::limits::{BLOCK, MOST_CALL_BLOCKS};
-use vx_model::{Name, OutOfMemory, SiteState};
+use vx_model::{Name, OutOfMemory};
 use vx_script::ScriptLine;
 use vx_yard::Yard;
 
@@ -22,17 +22,8 @@ fn is_group<R: Rack>(yard: &Yard<R>, name: &Name) -> bool {
     yard.facts[site].grouped && yard.facts[site].rvg.is_none()
 }
 
-// The same, or a bare site on whose disks an earlier run left a group.
-fn recovers_group<R: Rack>(yard: &mut Yard<R>, name: &Name) -> bool {
-    let site = yard.site_of(name);
-    if yard.facts[site].state == SiteState::Bare {
-        return yard.disk_sets[site].has_label();
-    }
-    is_group(yard, name)
-}
-
 /// Whether a line that no test refuses goes to the group of its site.
-pub fn is_of_group<R: Rack>(yard: &mut Yard<R>, words: &ScriptLine) -> bool {
+pub fn is_of_group<R: Rack>(yard: &Yard<R>, words: &ScriptLine) -> bool {
     match words {
         ScriptLine::GroupInit { .. }
         | ScriptLine::GroupDeport { .. }
@@ -44,8 +35,8 @@ pub fn is_of_group<R: Rack>(yard: &mut Yard<R>, words: &ScriptLine) -> bool {
         | ScriptLine::Put { site, .. }
         | ScriptLine::Read { site, .. }
         | ScriptLine::Show { site, .. }
+        | ScriptLine::Recover { site }
         | ScriptLine::Status { site } => is_group(yard, site),
-        ScriptLine::Recover { site } => recovers_group(yard, site),
         _ => false,
     }
 }

@@ -7,7 +7,7 @@ use vx_disk::Rack;
 use vx_diskset::{DiskSet, KeptWrite};
 use vx_events::Said;
 use vx_model::limits::BLOCK;
-use vx_model::{Name, OutOfMemory, SiteState, Stop};
+use vx_model::{Name, OutOfMemory, SiteState};
 use vx_order::{SiteFacts, VolumeRoom};
 use vx_report::Kept;
 use vx_yard::Yard;
@@ -78,24 +78,7 @@ fn rise<R: Rack>(
     }
 }
 
-// Imports what an earlier run left as a group on the disks of a bare site, and says how it stands. Where it is refused, the site stays bare.
-fn rise_bare<R: Rack>(
-    yard: &mut Yard<R>,
-    alloc: Global,
-    site: usize,
-    room: RiseRoom,
-) -> Result<Said, OutOfMemory> {
-    let disk_set = mem::replace(&mut yard.disk_sets[site], DiskSet::Gone);
-    let (disk_set, came) = disk_set.recover_bare_group(alloc);
-    yard.disk_sets[site] = disk_set;
-    match came {
-        Ok(()) => Ok(stand_up(yard, alloc, site, room, None)),
-        Err(Stop::No(no)) => Ok(Said::Refused(no)),
-        Err(Stop::OutOfMemory) => Err(OutOfMemory),
-    }
-}
-
-/// Recovers a site whose disks are a group: one that is up crashes first, and one that is bare imports what an earlier run left on its disks.
+/// Recovers a site whose disks are a group: one that is up crashes first.
 pub fn recover_line<R: Rack>(
     yard: &mut Yard<R>,
     alloc: Global,
@@ -104,8 +87,7 @@ pub fn recover_line<R: Rack>(
     let room = RiseRoom::new(alloc)?;
     let site = yard.site_of(name);
     match yard.facts[site].state {
-        SiteState::Bare => rise_bare(yard, alloc, site, room),
-        SiteState::Deported => unreachable!(),
+        SiteState::Bare | SiteState::Deported => unreachable!(),
         SiteState::Up => {
             go_down(yard, alloc, site, u64::MAX);
             rise(yard, alloc, site, room)

@@ -17,6 +17,7 @@ pub mod SettleLemmas
 pub mod SiteAddLemmas
 pub mod SiteAlike
 pub mod SiteCarry
+pub mod SiteKeepLemmas
 pub mod SiteLemmas
 pub mod SiteReturnLemmas
 pub mod WriteLemmas

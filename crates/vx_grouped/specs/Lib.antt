@@ -10,5 +10,6 @@ pub mod Returns
 pub mod SetFuses
 pub mod SiteAdds
 pub mod SiteEnds
+pub mod SiteKeeps
 pub mod SiteReturns
 pub mod Watches

@@ -20,7 +20,7 @@ use vx_group::Group;
 use vx_model::No;
 
 // Whether so many bytes are whole blocks that lie in a volume.
-fn fits_volume<S: Shelf>(group: &Group<S>, vol: u32, block: u64, count: usize) -> bool
+pub(crate) fn fits_volume<S: Shelf>(group: &Group<S>, vol: u32, block: u64, count: usize) -> bool
     ensures is { IsTrue result → Fits (inner_meaning (wide group.now.core) (S.meaning group.now.shelf)) vol block count }
     ensures all { (note : GroupNode) → HoldsPlain note (inner_meaning (wide group.now.core) (S.meaning group.now.shelf)) → FitsPlain note vol block count → IsTrue result }
 {

@@ -125,7 +125,7 @@ module _ (first m m' : Meaning) (written : Values) (since : CalledSince first m)
 pub since_stop : (first m m' : Meaning) (P : Disks → Disks → Type 0) → CalledSince first m → IsTrue m.down → Stopped m m' → OnDisks m.disks m'.disks P → CalledSince first m'
 since_stop first m m' P since was stopped on =
     let step : WithDisks m.disks m'.disks (DisksGo m'.down) =
-        on_both m.disks m'.disks (λ o n. P o n × ((u : ℕ) → n.failing u ≡ o.failing u)) (DisksGo m'.down) (λ o n it. record { failing = it.1; fuse = λ up. absurd (not_both m'.down stopped.down up) }) on in
+    on_both m.disks m'.disks (λ o n. P o n × ((u : ℕ) → n.failing u ≡ o.failing u)) (DisksGo m'.down) (λ o n it. record { failing = it.1; fuse = λ up. absurd (not_both m'.down stopped.down up) }) on in
     record {
       units = stopped.units ∙ since.units;
       size = λ u. stopped.size u ∙ since.size u;

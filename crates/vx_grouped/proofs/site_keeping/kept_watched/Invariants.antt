@@ -1,0 +1,5 @@
+-- The disks with which the account begins.
+use Rattle.vx_grouped.proofs.site_keeping.kept_watched.Given as goal
+
+abbrev pub ghosts-kept_from : goal.ghosts-kept_from
+ghosts-kept_from g a = record { first = g.R.Shelf.meaning a.group.shelf }

@@ -1,0 +1,106 @@
+// Which blocks of a write the volumes of a site's group have.
+ghost use Rattle.std.specs.Prelude.{◌≤◌, length};
+ghost use Rattle.vx_disk.specs.Shelf.{Fits};
+ghost use Rattle.vx_history.specs.Groups.{GroupNode};
+ghost use Rattle.vx_history.specs.World.{Node};
+ghost use Rattle.vx_group.specs.Holding.{wide};
+ghost use Rattle.vx_group.specs.Stands.{inner_meaning};
+ghost use Rattle.vx_grouped.specs.GroupSites.{FitsPlain, GroupUp, UpNoted, site_disks};
+ghost use Rattle.vx_grouped.specs.SiteKeeps.{PlainKeeps, PlainKept};
+ghost use Rattle.vx_watched.specs.Since.{CalledSince};
+
+use crate::GroupSite;
+use crate::keeping::kept_plain;
+use crate::site_plain::fits_volume;
+use std::marker::Brand;
+use std::mem;
+use vx_disk::Rack;
+use vx_group::Group;
+use vx_model::No;
+use vx_model::limits::{MOST_CALL_BLOCKS, MOST_CALL_BYTES};
+use vx_watched::{Begun, Watched};
+
+fn kept_from<B: Begun, R: Rack>(
+    group: Group<R>,
+    vol: u32,
+    block: u64,
+    bytes: &[u8],
+) -> (Group<R>, Result<[bool; MOST_CALL_BLOCKS as usize], No>)
+    requires fits { Fits (inner_meaning (wide group.core) (R.meaning group.shelf)) vol block (length bytes.now) }
+    requires few { length bytes.now ≤ MOST_CALL_BYTES }
+    requires since { CalledSince B.first (R.meaning group.shelf) }
+    ensures works { PlainKeeps vol block bytes.now group.core (R.meaning group.shelf) result.0.core (R.meaning result.0.shelf) result.1 }
+    ensures since { CalledSince B.first (R.meaning result.0.shelf) }
+{
+    let (rack, core) = group.apart();
+    let watched = Watched::<R, B>::over(rack);
+    let mut group = Group::together(watched, core);
+    let answer = kept_plain(&mut group, vol, block, bytes);
+    let (watched, core) = group.apart();
+    let rack = watched.into_shelf();
+    (Group::together(rack, core), answer)
+}
+
+// Reads the blocks of a write of a volume.
+fn kept_watched<R: Rack>(
+    group: Group<R>,
+    vol: u32,
+    block: u64,
+    bytes: &[u8],
+) -> (Group<R>, Result<[bool; MOST_CALL_BLOCKS as usize], No>)
+    requires fits { Fits (inner_meaning (wide group.core) (R.meaning group.shelf)) vol block (length bytes.now) }
+    requires few { length bytes.now ≤ MOST_CALL_BYTES }
+    ensures works { PlainKeeps vol block bytes.now group.core (R.meaning group.shelf) result.0.core (R.meaning result.0.shelf) result.1 }
+    ensures since { CalledSince (R.meaning group.shelf) (R.meaning result.0.shelf) }
+{
+    kept_from::<Brand, R>(group, vol, block, bytes)
+}
+
+// Reads the blocks of a write of a volume, and says which it has.
+fn kept_site<R: Rack>(
+    group: Group<R>,
+    vol: u32,
+    block: u64,
+    bytes: &[u8],
+) -> (GroupSite<R>, Result<[bool; MOST_CALL_BLOCKS as usize], No>)
+    requires few { length bytes.now ≤ MOST_CALL_BYTES }
+    ensures kept { (n : Node) (note : GroupNode) → GroupUp n note group.core (R.meaning group.shelf) → FitsPlain note vol block (length bytes.now) → PlainKept n note vol block bytes.now (GroupSite.Up group) result.0 result.1 }
+    ensures since { CalledSince (R.meaning group.shelf) (site_disks result.0) }
+{
+    if !fits_volume(&group, vol, block, bytes.len()) {
+        return (GroupSite::Up(group), Err(No::Role));
+    }
+    let (group, answer) = kept_watched(group, vol, block, bytes);
+    match answer {
+        Ok(bits) => (GroupSite::Up(group), Ok(bits)),
+        Err(no) => (GroupSite::Up(group), Err(no)),
+    }
+}
+
+impl<R: Rack> GroupSite<R> {
+    /// Reads the blocks of a write of a volume of the group, and says of each whether it has what was to be written.
+    ///
+    /// Answers 7 only where the count of the disk that it names rose. Nothing else is answered.
+    pub fn kept(
+        &mut self,
+        vol: u32,
+        block: u64,
+        bytes: &[u8],
+    ) -> Result<[bool; MOST_CALL_BLOCKS as usize], No>
+        requires few { length bytes.now ≤ MOST_CALL_BYTES }
+        ensures kept { (n : Node) (note : GroupNode) → UpNoted n note self.old → FitsPlain note vol block (length bytes.now) → PlainKept n note vol block bytes.now self.old self.new result }
+        ensures since { CalledSince (site_disks self.old) (site_disks self.new) }
+    {
+        match mem::replace(self, GroupSite::Gone) {
+            GroupSite::Up(group) => {
+                let (site, answer) = kept_site(group, vol, block, bytes);
+                *self = site;
+                answer
+            }
+            other => {
+                *self = other;
+                Err(No::Role)
+            }
+        }
+    }
+}
