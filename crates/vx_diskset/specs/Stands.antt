@@ -7,15 +7,16 @@ use Rattle.vx_model.specs.declared.call.Update.{Update}
 use Rattle.vx_history.specs.World.{Node, NoFuse, bare_site}
 use Rattle.vx_model.specs.declared.state.KeptLink.{KeptLink}
 use Rattle.vx_diskset.specs.Holds.{KeptBeside}
-use Rattle.vx_model.specs.declared.site.SiteState.TheVariants.{Up as IsUp, Down as IsDown}
+use Rattle.vx_model.specs.declared.site.SiteState.TheVariants.{Bare as IsBare, Up as IsUp, Down as IsDown}
 use Rattle.vx_disk.specs.Shelf.{Meaning, Image, Keeps}
 use Rattle.vx_disk.specs.declared.shelf.Shelf.{Ghosts}
 use Rattle.vx_rvg.specs.Views.{Core, last_of}
 use Rattle.vx_secondary.specs.Receivers.{writes_of_updates}
 use Rattle.vx_diskset.specs.declared.disk_set.DiskSet.{DiskSet}
 use Rattle.vx_diskset.specs.declared.disk_set.DiskSet.TheVariants.{Bare, Spoiled, Up, Receives, Down, OfGroup, Gone}
-use Rattle.vx_grouped.specs.GroupSites.{site_disks}
-use Rattle.vx_diskset.specs.GroupSets.{IsGroupSet}
+use Rattle.vx_grouped.specs.GroupSites.{GroupSiteStands, site_disks}
+use Rattle.vx_diskset.specs.GroupSets.{cut_value, noted_cut}
+use Rattle.vx_diskset.specs.declared.group_set.GroupSet.{GroupSet}
 use Rattle.vx_diskset.specs.Fuses.{IsFirstLog}
 use Rattle.vx_grouped.specs.SetFuses.{HasFuse}
 use Rattle.vx_events.specs.Fuses.{ring_taken}
@@ -140,6 +141,16 @@ pub record IsDownAt (beside : KeptBeside) (n : Node) (m : Meaning) : Type 0 wher
   pub left : IsTrue m.tells → LeftWith (units_of n) n.ring (state_with n beside.links) n.session (most_header beside n) n.log n.base m
 
 module _ {R : Type 0} {g : Ghosts R} where
+  -- The disks of a site that has a group of disks, and no replicated volume group, with the write that its fuse cut. Such a site is never in doubt. On
+  -- those of a bare one a group was begun.
+  pub record IsGroupSet (beside : KeptBeside) (n : Node) (s : GroupSet R g) : Type 0 where
+    pub sure : beside.doubt ≡ None
+    pub stands : GroupSiteStands n s.site
+    pub cut : cut_value s.cut ≡ noted_cut n.group
+    pub bare : n.state ≡ IsBare → n ≡ bare_with n
+    pub few : n.disks ≤ MOST_DISKS
+    pub some : LEAST_BLOCKS ≤ n.blocks
+
   -- the disks of a site, with what the world has of it beside its node
   abbrev pub SiteStands : KeptBeside → Node → DiskSet R g → Type 0
   SiteStands beside n (Bare rack) = IsCleanAt n (g.meaning rack)

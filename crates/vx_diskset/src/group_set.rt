@@ -1,4 +1,6 @@
 // The disks of a site that has a group of disks, and no replicated volume group.
+ghost use Rattle.std.specs.Prelude.{◌≡◌, None};
+
 use vx_disk::Rack;
 use vx_grouped::GroupSite;
 use vx_model::Blocks;
@@ -28,7 +30,10 @@ pub struct GroupSet<R: Rack> {
 
 impl<R: Rack> GroupSet<R> {
     /// The disks, where no write is cut.
-    pub fn of(site: GroupSite<R>) -> GroupSet<R> {
+    pub fn of(site: GroupSite<R>) -> GroupSet<R>
+        ensures site { result.site ≡ site }
+        ensures cut { result.cut ≡ None }
+    {
         GroupSet { site, cut: None }
     }
 }
