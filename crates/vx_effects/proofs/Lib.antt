@@ -7,6 +7,7 @@ pub mod Headers
 pub mod Fitting
 pub mod Groups
 pub mod GroupAside
+pub mod GroupKeeps
 pub mod Leaving
 pub mod Finding
 pub mod Effects

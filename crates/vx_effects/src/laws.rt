@@ -28,9 +28,10 @@ ghost use Rattle.vx_history.specs.declared.event.Event.TheVariants.{Apply, Crash
 ghost use Rattle.vx_history.specs.declared.event.Said.TheVariants.{Done};
 ghost use Rattle.vx_script.specs.declared.line.ScriptLine.{ScriptLine};
 ghost use Rattle.vx_events.specs.Doubts.{run_as, sure};
-ghost use Rattle.vx_events.specs.Effects.{AddsSite, ChangesAt, ChangesNode, EffectAt};
+ghost use Rattle.vx_events.specs.Effects.{AddsSite, ChangesAt, ChangesNode, EffectAt, KeepsDisks};
 ghost use Rattle.vx_events.specs.Fails.{Fails};
 ghost use Rattle.vx_events.specs.GroupEnds.{GroupEnds};
+ghost use Rattle.vx_events.specs.GroupLines.{MakesNoFailure};
 ghost use Rattle.vx_events.specs.declared.said.Said.{Said};
 ghost use Rattle.vx_events.specs.Ends.{IsLeft, found_linked};
 ghost use Rattle.vx_events.specs.Facts.{site_fact};
@@ -115,9 +116,12 @@ pub fn changes_one_site()
         → AddsSite d (happened d (Site name disks blocks) taken) (bare_site name disks blocks) }
 {}
 
-/// However a line over a group of disks ends, each other site is as it was.
+/// However a line over a group of disks ends, each other site is as it was; and the site itself keeps its name and its disks, with those that are made to
+/// fail, but where the line is one that does that.
 pub fn groups_change_one_site()
-    ensures { (tells : Bool) (d : Doubted) (line : ScriptLine) (s : ℕ) (fails : Fails) (said : Said) (new : Doubted) → GroupEnds (IsTrue tells) d line s fails said new
+    ensures keeps { (tells : Bool) (d : Doubted) (line : ScriptLine) (s : ℕ) (fails : Fails) (said : Said) (new : Doubted) → MakesNoFailure line
+        → GroupEnds (IsTrue tells) d line s fails said new → KeepsDisks (d.world.nodes s) (new.world.nodes s) }
+    ensures aside { (tells : Bool) (d : Doubted) (line : ScriptLine) (s : ℕ) (fails : Fails) (said : Said) (new : Doubted) → GroupEnds (IsTrue tells) d line s fails said new
         → ChangesNode s d new }
 {}
 

@@ -1,5 +1,5 @@
 -- In a world without groups of disks a line does what it does there; and a line that works on a group ends as events do.
-use Rattle.std.proofs.Common.{◌≡◌, ◌∙◌, ℕ, zero, suc, ◌+◌, Bool, true, false, List, [], ◌∷◌, length, refl, ap, sym, subst}
+use Rattle.std.proofs.Common.{◌≡◌, ◌∙◌, ℕ, zero, suc, ◌+◌, Bool, true, false, List, [], ◌∷◌, length, refl, ap, sym, subst, inl, inr}
 use Rattle.std.specs.Prelude.{◌&&◌, eqb, is_some, Option, Some, None, if◌then◌else◌}
 use Rattle.vx_model.specs.declared.no.No.{No}
 use Rattle.vx_history.specs.Doubts.{Doubted}
@@ -29,18 +29,23 @@ values_same f g same k zero = refl
 values_same {A} f g same k (suc n) =
     ap (λ (x : A). x ∷ values_from f (k + 1) n) (same k) ∙ ap (λ (xs : List A). g k ∷ xs) (values_same f g same (k + 1) n)
 
+-- a site that is over no group is seen as it is beside no group
+pub fact_apart : (w : World) (i : ℕ) → is_over_group (w.nodes i) ≡ false → fact_over w i ≡ linked_fact w i
+fact_apart w i none = ap (λ (b : Bool). if b then fact_of_group (w.nodes i) (note_at (w.nodes i)) else linked_fact w i) none
+
+-- and one over a group by what is noted of it
+pub fact_grouped : (w : World) (i : ℕ) → is_over_group (w.nodes i) ≡ true → fact_over w i ≡ fact_of_group (w.nodes i) (note_at (w.nodes i))
+fact_grouped w i over = ap (λ (b : Bool). if b then fact_of_group (w.nodes i) (note_at (w.nodes i)) else linked_fact w i) over
+
 module _ (w : World) (groups : HasNoGroups w) where
   -- no site is over a group
   no_group : (i : ℕ) → is_over_group (w.nodes i) ≡ false
   no_group i = ap (λ (o : Option GroupNode). is_some o && eqb (length (w.nodes i).volumes) 0) (groups.none i)
 
-  fact_same : (i : ℕ) → fact_over w i ≡ linked_fact w i
-  fact_same i = ap (λ (b : Bool). if b then fact_of_group (w.nodes i) (note_at (w.nodes i)) else linked_fact w i) (no_group i)
+  pub facts_same : facts_over w ≡ linked_facts w
+  facts_same = values_same (λ i. fact_over w i) (λ i. linked_fact w i) (λ i. fact_apart w i (no_group i)) 0 w.sites
 
-  facts_same : facts_over w ≡ linked_facts w
-  facts_same = values_same (λ i. fact_over w i) (λ i. linked_fact w i) fact_same 0 w.sites
-
-  refused_same : (files : Bool) (line : ScriptLine) → refused_over w files line ≡ refused_by w files line
+  pub refused_same : (files : Bool) (line : ScriptLine) → refused_over w files line ≡ refused_by w files line
   refused_same files (Deliver number) = refl
   refused_same files other = ap (λ (sites : List SiteFacts). line_refusal sites files other) facts_same
 
@@ -64,13 +69,14 @@ module _ (w : World) (groups : HasNoGroups w) where
 
 by_refusal : (o : Option No) (told : Type 0) (d : Doubted) (line : ScriptLine) (fails : Fails) (said : Said) (new : Doubted) → StepBy o told d line fails said new
     → OverBy o false told d line fails said new
-by_refusal None told d line fails said new step = step
+by_refusal None told d line fails said new step = inl step
 by_refusal (Some why) told d line fails said new step = step
 
-back_refusal : (o : Option No) (told : Type 0) (d : Doubted) (line : ScriptLine) (fails : Fails) (said : Said) (new : Doubted) → OverBy o false told d line fails said new
-    → StepBy o told d line fails said new
-back_refusal None told d line fails said new step = step
-back_refusal (Some why) told d line fails said new step = step
+back_refusal : (o : Option No) (told : Type 0) (d : Doubted) (line : ScriptLine) (fails : Fails) (said : Said) (new : Doubted) → told
+    → OverBy o false told d line fails said new → StepBy o told d line fails said new
+back_refusal None told d line fails said new tells (inl step) = step
+back_refusal None told d line fails said new tells (inr kept) = absurd (kept.untold tells)
+back_refusal (Some why) told d line fails said new tells step = step
 
 pub over_plain : (told : Type 0) (files : Bool) (d : Doubted) (line : ScriptLine) (fails : Fails) (said : Said) (new : Doubted) → HasNoGroups d.world → MakesNoGroup line
     → LineStep told files d line fails said new → StepOver told files d line fails said new
@@ -79,10 +85,10 @@ over_plain told files d line fails said new groups makes step =
     (subst (λ (b : Bool). OverBy (refused_by d.world files line) b told d line fails said new) (sym (not_for_group d.world groups line makes))
     (by_refusal (refused_by d.world files line) told d line fails said new step))
 
-pub plain_over : (told : Type 0) (files : Bool) (d : Doubted) (line : ScriptLine) (fails : Fails) (said : Said) (new : Doubted) → HasNoGroups d.world → MakesNoGroup line
-    → StepOver told files d line fails said new → LineStep told files d line fails said new
-plain_over told files d line fails said new groups makes step =
-    back_refusal (refused_by d.world files line) told d line fails said new
+pub plain_over : (told : Type 0) (files : Bool) (d : Doubted) (line : ScriptLine) (fails : Fails) (said : Said) (new : Doubted) → told → HasNoGroups d.world
+    → MakesNoGroup line → StepOver told files d line fails said new → LineStep told files d line fails said new
+plain_over told files d line fails said new tells groups makes step =
+    back_refusal (refused_by d.world files line) told d line fails said new tells
     (subst (λ (b : Bool). OverBy (refused_by d.world files line) b told d line fails said new) (not_for_group d.world groups line makes)
     (subst (λ (o : Option No). OverBy o (is_for_group d.world line) told d line fails said new) (refused_same d.world groups files line) step))
 

@@ -44,3 +44,10 @@ pub record EffectAt (s : ℕ) (d e : Doubted) (n : Node) (row : ℕ → Link) (m
   pub is : SiteIs s e n row many doubt
   pub sent : e.world.packets ≡ packets
   pub gathering : e.world.gathering s ≡ gathered
+
+-- a site has the name, and the disks, that it had; those that were made to fail are the same
+pub record KeepsDisks (n m : Node) : Type 0 where
+  pub name : m.name ≡ n.name
+  pub disks : m.disks ≡ n.disks
+  pub blocks : m.blocks ≡ n.blocks
+  pub failing : m.failing ≡ n.failing

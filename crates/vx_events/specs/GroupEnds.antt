@@ -3,7 +3,7 @@
 use Rattle.std.specs.Prelude.{◌≡◌, ◌≢◌, ◌⊎◌, ℕ, ◌*◌, true, false, List, [], map, replicate, Option, Some, None, Contains}
 use Rattle.std.specs.List.{AllByRecursion}
 use Rattle.vx_model.specs.Content.{Write}
-use Rattle.vx_model.specs.declared.limits.TheConstants.{MOST_SUBDISKS}
+use Rattle.vx_model.specs.declared.limits.TheConstants.{MOST_NUMBER, MOST_SUBDISKS}
 use Rattle.vx_model.specs.declared.no.Counted.TheVariants.{Number, Subdisks}
 use Rattle.vx_model.specs.declared.no.No.{No}
 use Rattle.vx_model.specs.declared.no.No.TheVariants.{Device, Down as IsOff, LastPlex, Limit, Missing, NoConfig, Space}
@@ -85,7 +85,7 @@ abbrev pub GroupWants : GroupNode → ScriptLine → No → Type 0
 GroupWants note (Volume site volume blocks mirrors layout log map policy) (Space need have) = LacksSpace note (shape_of blocks mirrors layout log map policy) need have
 GroupWants note (Volume site volume blocks mirrors layout log map policy) (Limit Subdisks most) = most ≡ MOST_SUBDISKS
 GroupWants note (PlexDetach site volume plex) LastPlex = IsLastPlex note (plain_number note volume) plex
-GroupWants note line (Limit Number most) = Commits line
+GroupWants note line (Limit Number most) = Commits line × (most ≡ MOST_NUMBER)
 GroupWants note line why = ⊥
 
 -- nothing changes, or a further configuration may be on the disks beside the one in memory
@@ -127,11 +127,12 @@ BringsUp (GroupImport site) = Unit {0}
 BringsUp (Recover site) = Unit {0}
 BringsUp other = ⊥
 
--- Why a group is not found on its disks: the lowest disk that is held as good and could not be read, or no configuration on any that could be read. Where
--- contents are told, and imports agree, no block of it is damaged or of another format.
+-- Why a group is not found on its disks: the lowest disk that is held as good and could not be read, no configuration on any that could be read, or
+-- want of a serial. Where contents are told, and imports agree, no block of it is damaged or of another format.
 abbrev pub NotFound : (s : ℕ) → GroupNode → Fails → No → Type 0
 NotFound s note fails (Missing disk) = Contains fails (s, disk)
 NotFound s note fails NoConfig = (fails ≢ []) ⊎ ((note.config ≡ []) × (config_of note.config ≡ None))
+NotFound s note fails (Limit Number most) = most ≡ MOST_NUMBER
 NotFound s note fails why = ⊥
 
 -- nothing is known of what the disks hold

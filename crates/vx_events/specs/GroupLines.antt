@@ -126,3 +126,8 @@ group_noted s (GroupImport site) v = worked_on v s
 group_noted s (Read site volume start count) v = worked_on v s
 group_noted s (Show site volume start count) v = worked_on v s
 group_noted s other v = v
+
+-- no line that makes a disk fail, or ends that
+abbrev pub MakesNoFailure : ScriptLine → Type 0
+MakesNoFailure (Disk site disk state) = ⊥
+MakesNoFailure other = Unit {0}

@@ -1,7 +1,8 @@
 -- What a line does to a world in which some sites are over groups of disks: its first refusal, or its events and the way in which they end. In worlds
 -- without groups it is what a line does there.
-use Rattle.std.specs.Prelude.{ℕ, Bool, true, false, List, length, Option, Some, None, if◌then◌else◌}
+use Rattle.std.specs.Prelude.{◌≡◌, ◌⊎◌, ℕ, Bool, true, false, List, length, Option, Some, None, if◌then◌else◌}
 use Rattle.vx_model.specs.declared.no.No.{No}
+use Rattle.vx_model.specs.declared.site.SiteState.TheVariants.{Bare}
 use Rattle.vx_history.specs.Doubts.{Doubted}
 use Rattle.vx_history.specs.Groups.{GroupNode}
 use Rattle.vx_history.specs.World.{Node, World}
@@ -84,10 +85,18 @@ group_place w other = 0
 
 -- ---- lines
 
+-- a recovery of a bare site, of whose disks nothing is told, found a group that was kept on them, or none
+pub record FindsKept (told : Type 0) (d : Doubted) (line : ScriptLine) (s : ℕ) (fails : Fails) (said : Said) (new : Doubted) : Type 0 where
+  pub untold : told → ⊥
+  pub site : List ℕ
+  pub recovers : line ≡ Recover site
+  pub bare : (d.world.nodes s).state ≡ Bare
+  pub ends : GroupEnds told d line s fails said new
+
 -- a line that no test refuses: one that works on a group, or another
 abbrev pub WorksOver : (group : Bool) → Type 0 → Doubted → ScriptLine → Fails → Said → Doubted → Type 0
 WorksOver true told d line fails said new = GroupEnds told d line (group_place d.world line) fails said new
-WorksOver false told d line fails said new = IsDone told d line fails said new
+WorksOver false told d line fails said new = IsDone told d line fails said new ⊎ FindsKept told d line (group_place d.world line) fails said new
 
 abbrev pub OverBy : Option No → (group : Bool) → Type 0 → Doubted → ScriptLine → Fails → Said → Doubted → Type 0
 OverBy (Some why) group told d line fails said new = IsRefusedLine why d fails said new

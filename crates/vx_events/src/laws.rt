@@ -74,12 +74,12 @@ pub fn group_lines_are_events()
         → GroupStops d new }
 {}
 
-/// In a world without groups of disks a line that makes none does what it does there. A line that works on a group, and is refused or not, ends as
+/// In a world without groups of disks, over disks that tell their contents, a line that makes none does what it does there. A line that works on a group, and is refused or not, ends as
 /// events of the world do.
 pub fn steps_over_groups()
     ensures over { (tells files : Bool) (d : Doubted) (line : ScriptLine) (fails : Fails) (said : Said) (new : Doubted) → HasNoGroups d.world → MakesNoGroup line
         → LineStep (IsTrue tells) files d line fails said new → StepOver (IsTrue tells) files d line fails said new }
-    ensures plain { (tells files : Bool) (d : Doubted) (line : ScriptLine) (fails : Fails) (said : Said) (new : Doubted) → HasNoGroups d.world → MakesNoGroup line
+    ensures plain { (tells files : Bool) (d : Doubted) (line : ScriptLine) (fails : Fails) (said : Said) (new : Doubted) → IsTrue tells → HasNoGroups d.world → MakesNoGroup line
         → StepOver (IsTrue tells) files d line fails said new → LineStep (IsTrue tells) files d line fails said new }
     ensures stops { (tells files : Bool) (d : Doubted) (line : ScriptLine) (fails : Fails) (said : Said) (new : Doubted) → is_for_group d.world line ≡ true
         → StepOver (IsTrue tells) files d line fails said new → GroupStops d new }
