@@ -8,6 +8,7 @@ mod deport;
 mod import;
 mod init;
 mod lines;
+mod marks;
 mod noting;
 mod plex;
 mod read;

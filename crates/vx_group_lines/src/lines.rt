@@ -2,6 +2,7 @@
 use crate::deport::deport_line;
 use crate::import::import_line;
 use crate::init::init_line;
+use crate::marks::{crash_line, disk_line, fuse_line};
 use crate::plex::{attach_line, detach_line};
 use crate::read::read_plain;
 use crate::recover::recover_line;
@@ -35,6 +36,9 @@ pub fn is_of_group<R: Rack>(yard: &Yard<R>, words: &ScriptLine) -> bool {
         | ScriptLine::Put { site, .. }
         | ScriptLine::Read { site, .. }
         | ScriptLine::Show { site, .. }
+        | ScriptLine::Disk { site, .. }
+        | ScriptLine::Crash { site, .. }
+        | ScriptLine::Fuse { site, .. }
         | ScriptLine::Recover { site }
         | ScriptLine::Status { site } => is_group(yard, site),
         _ => false,
@@ -118,6 +122,9 @@ pub fn work_group<R: Rack>(
         ScriptLine::PlexAttach { site, volume, plex } => {
             attach_line(yard, alloc, site, volume, *plex)
         }
+        ScriptLine::Disk { site, disk, state } => Ok(disk_line(yard, site, *disk, *state)),
+        ScriptLine::Crash { site, pick } => Ok(crash_line(yard, alloc, site, *pick)),
+        ScriptLine::Fuse { site, writes, pick } => Ok(fuse_line(yard, site, *writes, *pick)),
         ScriptLine::Recover { site } => recover_line(yard, alloc, site),
         ScriptLine::Status { site } => status_line(yard, alloc, site),
         _ => work_blocks(yard, alloc, words),

@@ -1,4 +1,15 @@
 // The lines that read blocks of a volume of a disk group.
+ghost use Rattle.std.specs.Prelude.{◌≡◌, ℕ, IsSome, true};
+ghost use Rattle.vx_history.specs.Doubts.{Doubted};
+ghost use Rattle.vx_script.specs.declared.line.ScriptLine.{ScriptLine};
+ghost use Rattle.vx_group_lines.specs.Plain.{IsReadOf, IsRoomFor};
+ghost use Rattle.vx_events.specs.Facts.{seat_of};
+ghost use Rattle.vx_events.specs.StepsOver.{is_for_group};
+ghost use Rattle.vx_yard.specs.OfSites.{AsAsked};
+ghost use Rattle.vx_yard.specs.Standing.{LeadsOver, StandsFor};
+ghost use Rattle.vx_yard.specs.Working.{IsFree};
+ghost use Rattle.vx_yard.specs.Yards.{IsYardKept, IsTold, in_files};
+
 use vx_disk::Rack;
 use vx_diskset::DiskSet;
 use vx_events::Said;
@@ -23,7 +34,14 @@ pub fn read_plain<R: Rack>(
     volume: &Name,
     start: u64,
     room: Vec<u8>,
-) -> Said {
+) -> Said
+    requires kept { IsYardKept yard.old }
+    requires named { IsSome (seat_of yard.old.facts.items name.now) }
+    ensures leads { (d : Doubted) (line : ScriptLine) (count : ℕ) → StandsFor d yard.old → IsReadOf line name.now volume.now start count → IsRoomFor count room.items → IsFree yard.old line → is_for_group d.world line ≡ true → LeadsOver d line result yard.old yard.new }
+    ensures asked { (d : Doubted) (line : ScriptLine) (count : ℕ) → StandsFor d yard.old → IsReadOf line name.now volume.now start count → IsRoomFor count room.items → IsFree yard.old line → is_for_group d.world line ≡ true → AsAsked d.world line yard.old yard.new }
+    ensures told { IsTold yard.new → IsTold yard.old }
+    ensures files { in_files yard.new ≡ in_files yard.old }
+{
     let site = yard.site_of(name);
     let place = yard.volume_of(site, volume);
     match blocks_of(&mut yard.disk_sets[site], place as u32, start, room) {
