@@ -41,3 +41,9 @@ module _ {R : Type 0} {g : Ghosts R} where
     pub disk_set : DiskSet R g
     pub there : slice_get y.disk_sets.items s ≡ Some disk_set
     pub is : AtSite (λ site. site_config site ≡ Some c) disk_set
+
+  -- and it is not up
+  pub record HasNoConfig (s : ℕ) (y : Yard R g) : Type 0 where
+    pub disk_set : DiskSet R g
+    pub there : slice_get y.disk_sets.items s ≡ Some disk_set
+    pub is : AtSite (λ site. site_config site ≡ None) disk_set

@@ -1,4 +1,13 @@
 // The line that recovers a site whose disks are a group.
+ghost use Rattle.std.specs.Prelude.{◌≡◌, true};
+ghost use Rattle.vx_history.specs.Doubts.{Doubted};
+ghost use Rattle.vx_script.specs.declared.line.ScriptLine.TheVariants.{Recover};
+ghost use Rattle.vx_events.specs.StepsOver.{is_for_group};
+ghost use Rattle.vx_yard.specs.OfSites.{AsAsked};
+ghost use Rattle.vx_yard.specs.Standing.{LeadsOverOrCrashes, StandsFor};
+ghost use Rattle.vx_yard.specs.Working.{IsFree};
+ghost use Rattle.vx_yard.specs.Yards.{IsYardKept, IsTold, in_files};
+
 use crate::noting::{group_stopped, note_up};
 use crate::views::{ViewRoom, view_at};
 use std::alloc::Global;
@@ -78,12 +87,20 @@ fn rise<R: Rack>(
     }
 }
 
-/// Recovers a site whose disks are a group: one that is up crashes first.
+/// Recovers a site whose disks are a group: one that is up crashes first. Where memory runs out in its import, the site is down, and nothing else is
+/// done.
 pub fn recover_line<R: Rack>(
     yard: &mut Yard<R>,
     alloc: Global,
     name: &Name,
-) -> Result<Said, OutOfMemory> {
+) -> Result<Said, OutOfMemory>
+    requires kept { IsYardKept yard.old }
+    requires free { IsFree yard.old (Recover name.now) }
+    ensures leads { (d : Doubted) → StandsFor d yard.old → is_for_group d.world (Recover name.now) ≡ true → LeadsOverOrCrashes d (Recover name.now) yard.old yard.new result }
+    ensures asked { (d : Doubted) → StandsFor d yard.old → is_for_group d.world (Recover name.now) ≡ true → AsAsked d.world (Recover name.now) yard.old yard.new }
+    ensures told { IsTold yard.new → IsTold yard.old }
+    ensures files { in_files yard.new ≡ in_files yard.old }
+{
     let room = RiseRoom::new(alloc)?;
     let site = yard.site_of(name);
     match yard.facts[site].state {

@@ -1,4 +1,11 @@
 // What a status shows of a disk group.
+ghost use Rattle.std.specs.Prelude.{◌≡◌, ◌<◌, ◌≤◌, [], IfOk, map, length, ℕ, option_copied, Some, None, slice_get};
+ghost use Rattle.vx_config.specs.declared.config.Config.{Config as ConfigValue};
+ghost use Rattle.vx_events.specs.GroupViews.{is_ok, volume_view};
+ghost use Rattle.vx_order.specs.declared.facts.SiteFacts.{SiteFacts as Facts};
+ghost use Rattle.vx_group_lines.specs.Noting.{HasConfig, HasNoConfig};
+ghost use Rattle.vx_group_lines.specs.Views.{IsSmall, disks_in, view_with, volumes_in};
+
 use std::alloc::Global;
 use vx_config::Config;
 use vx_disk::Rack;
@@ -15,7 +22,9 @@ pub(crate) struct ViewRoom {
 }
 
 impl ViewRoom {
-    pub(crate) fn new(alloc: Global) -> Result<ViewRoom, OutOfMemory> {
+    pub(crate) fn new(alloc: Global) -> Result<ViewRoom, OutOfMemory>
+        ensures { IfOk result (λ room. (room.disks ≡ []) × (room.volumes ≡ [])) }
+    {
         Ok(ViewRoom {
             disks: DiskViewRoom::new(alloc)?,
             volumes: VolumeViewRoom::new(alloc)?,
@@ -24,7 +33,13 @@ impl ViewRoom {
 }
 
 // The disks and volumes of a configuration; none where there is no configuration.
-fn views_of(config: Option<&Config>, room: ViewRoom) -> (DiskViews, VolumeViews) {
+fn views_of(config: Option<&Config>, room: ViewRoom) -> (DiskViews, VolumeViews)
+    requires disks { room.disks ≡ [] }
+    requires volumes { room.volumes ≡ [] }
+    requires few { IsSmall (option_copied config.entry) }
+    ensures disks { result.0 ≡ disks_in (option_copied config.entry) }
+    ensures volumes { result.1 ≡ volumes_in (option_copied config.entry) }
+{
     match config {
         Some(config) => (
             disks_shown(room.disks, config.disks.as_slice()),
@@ -40,7 +55,15 @@ pub(crate) fn view_at<R: Rack>(
     alloc: Global,
     site: usize,
     room: ViewRoom,
-) -> SiteView {
+) -> SiteView
+    requires facts { site < length yard.now.facts.items }
+    requires disk_set { site < length yard.now.disk_sets.items }
+    requires disks { room.disks ≡ [] }
+    requires volumes { room.volumes ≡ [] }
+    requires few { (c : ConfigValue) → HasConfig site c yard.now → IsSmall (Some c) }
+    ensures up { (f : Facts) (c : ConfigValue) → slice_get yard.now.facts.items site ≡ Some f → HasConfig site c yard.now → result ≡ view_with f (Some c) }
+    ensures off { (f : Facts) → slice_get yard.now.facts.items site ≡ Some f → HasNoConfig site yard.now → result ≡ view_with f None }
+{
     let (disks, volumes) = views_of(yard.disk_sets[site].config(), room);
     SiteView {
         name: yard.facts[site].name,

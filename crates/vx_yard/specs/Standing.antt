@@ -11,7 +11,8 @@ use Rattle.vx_history.specs.World.{Node}
 use Rattle.vx_history.specs.declared.event.Event.TheVariants.{Crash as CrashAt}
 use Rattle.vx_history.specs.declared.event.Said.TheVariants.{Done as IsDone}
 use Rattle.vx_model.specs.declared.site.SiteState.TheVariants.{Down as IsDown}
-use Rattle.vx_events.specs.Doubts.{doubt_chosen, with_disks}
+use Rattle.vx_events.specs.Doubts.{IsAs, doubt_chosen, run_as, with_disks}
+use Rattle.vx_events.specs.GroupLines.{refused_events}
 use Rattle.vx_disk.specs.declared.shelf.Shelf.{Ghosts}
 use Rattle.std.specs.Io.KnownBytes.{Appends}
 use Rattle.vx_script.specs.declared.line.ScriptLine.{ScriptLine}
@@ -125,6 +126,18 @@ module _ {R : Type 0} {g : Ghosts R} where
   abbrev pub LeadsOverIs : Doubted → ScriptLine → Yard R g → Yard R g → Result Said OutOfMemory → Type 0
   LeadsOverIs d line old new (Ok said) = LeadsOver d line said old new
   LeadsOverIs d line old new (Err e) = StaysFor d old new
+
+  -- memory ran out in the import of a recovery, behind the crash of a site that was up; or nothing was done
+  pub record CrashesFor (d : Doubted) (line : ScriptLine) (old new : Yard R g) : Type 0 where
+    pub next : Doubted
+    pub is : IsAs (run_as false d (refused_events (d.world.nodes (group_place d.world line)) (group_place d.world line) line)) (run_as false d (refused_events (d.world.nodes (group_place d.world line)) (group_place d.world line) line)).world next
+    pub stands : StandsFor next new
+    pub carries : Carries d old → Carries next new
+    pub rose : RoseAll [] (count_of old) (count_of new)
+
+  abbrev pub LeadsOverOrCrashes : Doubted → ScriptLine → Yard R g → Yard R g → Result Said OutOfMemory → Type 0
+  LeadsOverOrCrashes d line old new (Ok said) = LeadsOver d line said old new
+  LeadsOverOrCrashes d line old new (Err e) = CrashesFor d line old new
 
   -- the line was done, or memory ran out within it
   abbrev pub LeadsOrStops : Doubted → ScriptLine → Yard R g → Yard R g → Result Said OutOfMemory → Type 0
