@@ -185,7 +185,7 @@ impl<R: Rack> DiskSet<R> {
 
     /// Starts what stands on the disks of a site that crashed, with room taken before. Where it is refused, the disks crash again.
     pub fn recover(self, room: StartRoom) -> (DiskSet<R>, Result<(), No>)
-        ensures recovered { (beside : KeptBeside) (n : Node) → SiteStands beside n self → n.state ≡ DownState → room.ring ≡ n.ring → CameUpIs beside n self result.0 result.1 }
+        ensures recovered { (beside : KeptBeside) (n : Node) → SiteStands beside n self → n.state ≡ DownState → n.group ≡ None → room.ring ≡ n.ring → CameUpIs beside n self result.0 result.1 }
         ensures failing { SameFailing self result.0 }
         ensures later { Later self result.0 }
     {
@@ -235,7 +235,7 @@ impl<R: Rack> DiskSet<R> {
     /// it is refused, the disks crash again.
     pub fn recover_any(self, room: StartRoom, waiting: Waiting) -> (DiskSet<R>, Result<(), No>)
         requires none { waiting ≡ [] }
-        ensures recovered { (beside : KeptBeside) (n : Node) → SiteStands beside n self → n.state ≡ DownState → room.ring ≡ n.ring → CameUpByIs beside n self result.0 result.1 }
+        ensures recovered { (beside : KeptBeside) (n : Node) → SiteStands beside n self → n.state ≡ DownState → n.group ≡ None → room.ring ≡ n.ring → CameUpByIs beside n self result.0 result.1 }
         ensures failing { SameFailing self result.0 }
         ensures later { Later self result.0 }
     {
