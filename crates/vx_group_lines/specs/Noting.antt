@@ -18,7 +18,7 @@ use Rattle.vx_yard.specs.declared.yard.Yard.{Yard}
 
 module _ {R : Type 0} {g : Ghosts R} where
   -- all but what the tests see of its sites, and what these put together
-  pub record SameBut (old new : Yard R g) : Type 0 where
+  pub record KeepsRest (old new : Yard R g) : Type 0 where
     pub disk_sets : new.disk_sets ≡ old.disk_sets
     pub racks : new.racks ≡ old.racks
     pub flight : new.flight ≡ old.flight
@@ -29,7 +29,7 @@ module _ {R : Type 0} {g : Ghosts R} where
   pub record IsNotedRefusal (s : ℕ) (f : SiteFacts) (why : Refusal) (old new : Yard R g) (result : Result Said OutOfMemory) : Type 0 where
     pub facts : new.facts.items ≡ slice_set old.facts.items s (noted_facts why f)
     pub assemblies : LetGoBy why s old.assemblies.items new.assemblies.items
-    pub same : SameBut old new
+    pub same : KeepsRest old new
     pub said : result ≡ Ok (Refused why)
 
   abbrev pub reply_noted : (s : ℕ) → SiteFacts → Stop → Yard R g → Yard R g → Result Said OutOfMemory → Type 0

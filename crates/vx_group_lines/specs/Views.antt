@@ -1,12 +1,11 @@
 -- What a status shows of a group of disks, by its configuration.
-use Rattle.std.specs.Prelude.{◌≡◌, ◌≤◌, ℕ, Bool, List, [], map, length, Option, Some, None, slice_get}
+use Rattle.std.specs.Prelude.{◌≡◌, ◌≤◌, ℕ, [], map, length, Option, Some, None, slice_get}
 use Rattle.vx_config.specs.declared.config.Config.{Config}
 use Rattle.vx_config.specs.declared.entry.VolumeEntry.{VolumeEntry}
-use Rattle.vx_events.specs.GroupViews.{is_ok, volume_view}
+use Rattle.vx_events.specs.GroupViews.{disks_of, volume_view, volumes_of}
 use Rattle.vx_model.specs.declared.limits.TheConstants.{MOST_DISKS, MOST_PLEXES, MOST_VOLUMES}
 use Rattle.vx_order.specs.declared.facts.SiteFacts.{SiteFacts}
 use Rattle.vx_report.specs.declared.view.SiteView.{SiteView}
-use Rattle.vx_report.specs.declared.view.VolumeView.{VolumeView}
 
 -- no more disks, volumes and plexes than a group may have
 pub record FitsViews (c : Config) : Type 0 where
@@ -18,14 +17,6 @@ abbrev pub IsSmall : Option Config → Type 0
 IsSmall None = Unit {0}
 IsSmall (Some c) = FitsViews c
 
-abbrev pub disks_in : Option Config → List Bool
-disks_in None = []
-disks_in (Some c) = map is_ok c.disks
-
-abbrev pub volumes_in : Option Config → List VolumeView
-volumes_in None = []
-volumes_in (Some c) = map volume_view c.volumes
-
 -- a site over a group with this configuration, or with none in memory
 abbrev pub view_with : SiteFacts → Option Config → SiteView
-view_with f config = record { name = f.name; state = f.state; disks = disks_in config; volumes = volumes_in config; rvg = None; links = [] }
+view_with f config = record { name = f.name; state = f.state; disks = disks_of config; volumes = map volume_view (volumes_of config); rvg = None; links = [] }

@@ -8,7 +8,7 @@ ghost use Rattle.vx_order.specs.declared.facts.SiteFacts.{SiteFacts as Facts};
 ghost use Rattle.vx_yard.specs.GroupFacts.{group_up_facts};
 ghost use Rattle.vx_yard.specs.Loads.{LetGoBy};
 ghost use Rattle.vx_yard.specs.Writes.{noted_facts};
-ghost use Rattle.vx_group_lines.specs.Noting.{HasConfig, SameBut, reply_noted};
+ghost use Rattle.vx_group_lines.specs.Noting.{HasConfig, KeepsRest, reply_noted};
 
 use std::alloc::Global;
 use vx_disk::Rack;
@@ -26,7 +26,7 @@ pub(crate) fn group_refused<R: Rack>(yard: &mut Yard<R>, alloc: Global, site: us
     requires facts { site < length yard.old.facts.items }
     ensures facts { (f : Facts) → slice_get yard.old.facts.items site ≡ Some f → yard.new.facts.items ≡ slice_set yard.old.facts.items site (noted_facts no f) }
     ensures assemblies { LetGoBy no site yard.old.assemblies.items yard.new.assemblies.items }
-    ensures same { SameBut yard.old yard.new }
+    ensures same { KeepsRest yard.old yard.new }
     ensures said { result ≡ Refused no }
 {
     let_go_if_down(&mut yard.assemblies, site, &no);
@@ -58,7 +58,7 @@ pub(crate) fn note_up<R: Rack>(yard: &mut Yard<R>, site: usize, room: VolumeRoom
     ensures facts { (f : Facts) (c : ConfigValue) → slice_get yard.old.facts.items site ≡ Some f → HasConfig site c yard.old
         → yard.new.facts.items ≡ slice_set yard.old.facts.items site (group_up_facts (map plain_fact c.volumes) f) }
     ensures assemblies { yard.new.assemblies ≡ yard.old.assemblies }
-    ensures same { SameBut yard.old yard.new }
+    ensures same { KeepsRest yard.old yard.new }
 {
     let volumes = match yard.disk_sets[site].config() {
         Some(config) => volumes_seen(room, config.volumes.as_slice()),

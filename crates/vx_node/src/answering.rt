@@ -48,9 +48,6 @@ fn work<R: Rack>(yard: &mut Yard<R>, alloc: Global, words: &ScriptLine) -> Resul
     ensures told { IsTold yard.new → IsTold yard.old }
     ensures files { in_files yard.new ≡ in_files yard.old }
 {
-    if is_of_group(yard, words) {
-        return work_group(yard, alloc, words);
-    }
     match words {
         ScriptLine::Site {
             site,
@@ -135,7 +132,13 @@ fn perform<R: Rack>(
         ScriptLine::Settle { primary, secondary } => {
             settle_line(yard, alloc, primary, secondary)
         }
-        _ => work(yard, alloc, words),
+        _ => {
+            if is_of_group(yard, words) {
+                work_group(yard, alloc, words)
+            } else {
+                work(yard, alloc, words)
+            }
+        }
     }
 }
 
