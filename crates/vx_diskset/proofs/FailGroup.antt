@@ -1,15 +1,17 @@
 -- Which disks of a site are made to fail, and what it notes of its group, is nothing by which its disk set stands.
-use Rattle.std.proofs.Common.{◌≡◌, ◌∙◌, ℕ, Bool, ap, refl}
+use Rattle.std.proofs.Common.{◌≡◌, ◌∙◌, ℕ, Bool, ap, refl, subst, sym}
 use Rattle.std.specs.Prelude.{Option}
 use Rattle.vx_model.specs.declared.site.SiteState.TheVariants.{Bare as IsBare}
 use Rattle.vx_history.specs.Groups.{GroupNode}
 use Rattle.vx_history.specs.World.{Node}
 use Rattle.vx_diskset.specs.Holds.{KeptBeside}
 use Rattle.vx_disk.specs.declared.shelf.Shelf.{Ghosts}
-use Rattle.vx_diskset.specs.Stands.{SiteStands, bare_with}
+use Rattle.vx_diskset.specs.Stands.{IsGroupSet, SiteStands, bare_with}
 use Rattle.vx_diskset.specs.declared.disk_set.DiskSet.{DiskSet}
-use Rattle.vx_diskset.specs.declared.disk_set.DiskSet.TheVariants.{Bare, Spoiled, Up, Receives, Down, Gone}
+use Rattle.vx_diskset.specs.declared.disk_set.DiskSet.TheVariants.{Bare, Spoiled, Up, Receives, Down, OfGroup, Gone}
+use Rattle.vx_diskset.specs.declared.group_set.GroupSet.{GroupSet}
 use Rattle.vx_diskset.proofs.BesideLemmas.{site_map}
+use Rattle.vx_diskset.proofs.GroupStands.{set_failing}
 
 -- a bare site notes no other group
 bare_noted : (n : Node) (failing : ℕ → Bool) (group : Option GroupNode) → (n.state ≡ IsBare → group ≡ n.group) → n ≡ bare_with n
@@ -19,14 +21,14 @@ bare_noted n failing group same is =
     ∙ ap (λ (k : Node). let m : Node = record k { failing = failing } in m) is
 
 module _ {R : Type 0} {g : Ghosts R} where
-  pub stands_noted : (beside : KeptBeside) (n : Node) (failing : ℕ → Bool) (group : Option GroupNode) (e : DiskSet R g) → (n.state ≡ IsBare → group ≡ n.group)
+  pub stands_noted : (beside : KeptBeside) (n : Node) (failing : ℕ → Bool) (group : Option GroupNode) (e : DiskSet R g) → (n.state ≡ IsBare → group ≡ n.group) → ((s : GroupSet R g) → e ≡ OfGroup s → group ≡ n.group)
       → SiteStands beside n e → SiteStands beside (record n { failing = failing; group = group }) e
-  stands_noted beside n failing group (Bare rack) same h = record {
+  stands_noted beside n failing group (Bare rack) same over h = record {
     bare = record { is = bare_noted n failing group same h.bare.is; fitted = h.bare.fitted; unarmed = h.bare.unarmed; few = h.bare.few; some = h.bare.some; blank = h.bare.blank };
     front = h.front;
   }
-  stands_noted beside n failing group (Spoiled rack) same h = record { is = bare_noted n failing group same h.is; fitted = h.fitted; unarmed = h.unarmed; few = h.few; some = h.some; blank = h.blank }
-  stands_noted beside n failing group (Up rvg) same h = record {
+  stands_noted beside n failing group (Spoiled rack) same over h = record { is = bare_noted n failing group same h.is; fitted = h.fitted; unarmed = h.unarmed; few = h.few; some = h.some; blank = h.blank }
+  stands_noted beside n failing group (Up rvg) same over h = record {
     state = h.state;
     up = h.up;
     fuse = h.fuse;
@@ -52,7 +54,7 @@ module _ {R : Type 0} {g : Ghosts R} where
     sure = h.sure;
     may = h.may;
   }
-  stands_noted beside n failing group (Receives s) same h = record {
+  stands_noted beside n failing group (Receives s) same over h = record {
     state = h.state;
     role = h.role;
     up = h.up;
@@ -79,7 +81,7 @@ module _ {R : Type 0} {g : Ghosts R} where
     sure = h.sure;
     may = h.may;
   }
-  stands_noted beside n failing group (Down rack) same h = record {
+  stands_noted beside n failing group (Down rack) same over h = record {
     state = h.state;
     unfused = h.unfused;
     down = h.down;
@@ -91,7 +93,9 @@ module _ {R : Type 0} {g : Ghosts R} where
     begun = h.begun;
     left = h.left;
   }
-  stands_noted beside n failing group Gone same h = absurd h
+  stands_noted beside n failing group (OfGroup s) same over h =
+      subst (λ (o : Option GroupNode). IsGroupSet beside (record n { failing = failing; group = o }) s) (sym (over s refl)) (set_failing beside n failing s h)
+  stands_noted beside n failing group Gone same over h = absurd h
 
   pub stands_failing : (beside : KeptBeside) (n : Node) (failing : ℕ → Bool) (e : DiskSet R g) → SiteStands beside n e → SiteStands beside (record n { failing = failing }) e
-  stands_failing beside n failing e h = stands_noted beside n failing n.group e (λ _. refl) h
+  stands_failing beside n failing e h = stands_noted beside n failing n.group e (λ _. refl) (λ s is. refl) h

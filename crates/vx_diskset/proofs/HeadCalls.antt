@@ -12,6 +12,7 @@ use Rattle.vx_disk.specs.declared.shelf.Shelf.{Ghosts}
 use Rattle.vx_disk.proofs.Burning.{no_calls}
 use Rattle.vx_ringio.specs.Spends.{Passed, Spends}
 use Rattle.vx_rvg.specs.declared.group.Rvg.{Rvg}
+use Rattle.vx_grouped.specs.GroupSites.{site_disks}
 use Rattle.vx_secondary.specs.declared.secondary.Secondary.{Secondary}
 use Rattle.vx_events.specs.declared.said.Said.{Said}
 use Rattle.vx_events.specs.declared.said.Said.TheVariants.{Done, Refused}
@@ -26,7 +27,7 @@ use Rattle.vx_diskset.specs.Received.{reached_by}
 use Rattle.vx_diskset.specs.Stands.{IsReceiverAt, IsUpAt, SiteStands}
 use Rattle.vx_diskset.specs.declared.receivers.Reached.{Reached}
 use Rattle.vx_diskset.specs.declared.disk_set.DiskSet.{DiskSet}
-use Rattle.vx_diskset.specs.declared.disk_set.DiskSet.TheVariants.{Bare, Spoiled, Up, Receives, Down, Gone}
+use Rattle.vx_diskset.specs.declared.disk_set.DiskSet.TheVariants.{Bare, Spoiled, Up, Receives, Down, OfGroup, Gone}
 use Rattle.vx_diskset.proofs.CallsBurn.{called_by, called_cut, called_still, done_called, is_done, still_on}
 
 -- an answer says how many
@@ -100,6 +101,7 @@ module _ {R : Type 0} {g : Ghosts R} where
   none_taken (Up rvg) = (no_calls (g.meaning rvg.shelf) 0 refl).fuses
   none_taken (Receives s) = (no_calls (g.meaning s.rvg.shelf) 0 refl).fuses
   none_taken (Down rack) = (no_calls (g.meaning rack) 0 refl).fuses
+  none_taken (OfGroup s) = (no_calls (site_disks s.site) 0 refl).fuses
   none_taken Gone = tt
 
   -- no call

@@ -7,7 +7,7 @@ use Rattle.std.proofs.Math.Seq.{drop-append-add}
 use Rattle.vx_model.specs.Content.{Write, blocks_in}
 use Rattle.vx_model.specs.Sites.{is_origin}
 use Rattle.vx_model.specs.declared.state.KeptLink.{KeptLink}
-use Rattle.vx_diskset.specs.Holds.{KeptBeside}
+use Rattle.vx_diskset.specs.Holds.{site_alone, KeptBeside}
 use Rattle.vx_disk.specs.Shelf.{Meaning}
 use Rattle.vx_rvg.proofs.FetchGives.{taken_above}
 use Rattle.vx_rvg.specs.Holdings.{Holding}
@@ -21,12 +21,13 @@ use Rattle.vx_history.specs.World.{Node}
 use Rattle.vx_model.specs.declared.site.SiteState.TheVariants.{Bare as IsBare, Up as IsUp, Down as IsDown}
 use Rattle.vx_disk.specs.declared.shelf.Shelf.{Ghosts}
 use Rattle.vx_diskset.specs.declared.disk_set.DiskSet.{DiskSet}
-use Rattle.vx_diskset.specs.declared.disk_set.DiskSet.TheVariants.{Bare, Spoiled, Up, Receives, Down, Gone}
+use Rattle.vx_diskset.specs.declared.disk_set.DiskSet.TheVariants.{Bare, Spoiled, Up, Receives, Down, OfGroup, Gone}
 use Rattle.vx_diskset.specs.DiskSets.{CanWrite}
 use Rattle.vx_diskset.specs.Needs.{HasRoom, NoneNeeds, TakesAs, hold_of, is_needing}
 use Rattle.vx_model.specs.declared.state.State.{State}
 use Rattle.vx_rvg.specs.declared.group.Rvg.{Rvg}
 use Rattle.vx_diskset.specs.Stands.{IsUpAt, StandsAlone}
+use Rattle.vx_diskset.proofs.GroupStands.{up_has_none}
 use Rattle.vx_diskset.proofs.ExactWrite.{taken_push, taken_same}
 
 -- ---- what links need
@@ -172,6 +173,9 @@ module _ {R : Type 0} {g : Ghosts R} where
   all_durable n (Up rvg) h origin up none = omega (arith, h.logged, h.durable none)
   all_durable n (Receives s) h origin up none = let e : true ≡ false = sym origin ∙ h.role in absurd (cc)
   all_durable n (Down rack) h origin up none = let e : IsDown ≡ IsUp = sym h.state ∙ up in absurd (cc)
+  all_durable n (OfGroup s) h origin up none =
+      let has = up_has_none site_alone n s h up in
+      ap (λ (xs : List Write). length xs) has.log ∙ sym has.safe
   all_durable n Gone h origin up none = absurd h
 
   pub all_room : (n : Node) (volume start count hold : ℕ) (e : DiskSet R g) → StandsAlone n e → CanWrite n volume start count → hold ≡ n.safe → HasRoom [] n hold count

@@ -7,7 +7,7 @@ use Rattle.vx_rvg.specs.declared.group.Rvg.{Rvg}
 use Rattle.vx_secondary.specs.declared.secondary.Secondary.{Secondary}
 use Rattle.vx_diskset.specs.Stands.{KeepsRole, RoleIs}
 use Rattle.vx_diskset.specs.declared.disk_set.DiskSet.{DiskSet}
-use Rattle.vx_diskset.specs.declared.disk_set.DiskSet.TheVariants.{Bare, Spoiled, Up, Receives, Down, Gone}
+use Rattle.vx_diskset.specs.declared.disk_set.DiskSet.TheVariants.{Bare, Spoiled, Up, Receives, Down, OfGroup, Gone}
 
 module _ {R : Type 0} {g : Ghosts R} where
   -- an origin needs none
@@ -17,6 +17,7 @@ module _ {R : Type 0} {g : Ghosts R} where
   role_origin n (Up rvg) origin = origin
   role_origin n (Receives s) origin = tt
   role_origin n (Down rack) origin = tt
+  role_origin n (OfGroup s) origin = tt
   role_origin n Gone origin = tt
 
   -- it goes by the kind of the role alone
@@ -26,6 +27,7 @@ module _ {R : Type 0} {g : Ghosts R} where
   role_like n k (Up rvg) same role = same ∙ role
   role_like n k (Receives s) same role = tt
   role_like n k (Down rack) same role = tt
+  role_like n k (OfGroup s) same role = tt
   role_like n k Gone same role = tt
 
   pub role_same : (e : DiskSet R g) → KeepsRole e e

@@ -11,11 +11,12 @@ use Rattle.vx_model.specs.Sizes.{ring_of}
 use Rattle.vx_events.proofs.Values.{length-values_from, slice_index-values_from}
 use Rattle.vx_model.specs.declared.call.Update.{Update}
 use Rattle.vx_diskset.specs.declared.disk_set.DiskSet.{DiskSet}
-use Rattle.vx_diskset.specs.declared.disk_set.DiskSet.TheVariants.{Bare, Spoiled, Up, Receives, Down, Gone}
+use Rattle.vx_diskset.specs.declared.disk_set.DiskSet.TheVariants.{Bare, Spoiled, Up, Receives, Down, OfGroup, Gone}
 use Rattle.vx_diskset.specs.Holds.{KeptBeside}
 use Rattle.vx_diskset.specs.Layouts.{LiesOn, raw_units}
 use Rattle.vx_diskset.specs.Stands.{IsCleanAt, IsDownAt, IsReceiverAt, IsToldAt, IsUpAt, SiteStands}
 use Rattle.vx_diskset.specs.Withdrawn.{IsBareOf, Revived}
+use Rattle.vx_diskset.proofs.GroupStands.{raw_is_bare, set_fed}
 use Rattle.vx_diskset.proofs.BesideLemmas.{never_besides}
 use Rattle.vx_diskset.proofs.StaysUp.{not_true, told_now}
 
@@ -156,13 +157,14 @@ module _ {R : Type 0} {g : Ghosts R} (lawful : (r : R) → Lawful (g.meaning r))
   any_links b other n feeder (Up rvg) untold sure up h = up_beside b other n feeder rvg.core (g.meaning rvg.shelf) (lawful rvg.shelf) untold sure h
   any_links b other n feeder (Receives s) untold sure up h = receiver_beside b other n feeder s.rvg.core s.waiting (g.meaning s.rvg.shelf) (lawful s.rvg.shelf) untold sure h
   any_links b other n feeder (Down rack) untold sure up h = let e : IsUp ≡ IsDown = sym up ∙ h.state in absurd (cc)
+  any_links b other n feeder (OfGroup s) untold sure up h = set_fed b other n feeder s sure up h
   any_links b other n feeder Gone untold sure up h = absurd h
 
 module _ {R : Type 0} {g : Ghosts R} where
   -- a site that is down again is any that was down on them
   pub any_down : (b other : KeptBeside) (n k : Node) (before after : DiskSet R g) → (IsToldAt after → ⊥) → n.state ≡ IsDown → k.state ≡ IsDown → k.disks ≡ n.disks → k.blocks ≡ n.blocks
-      → SiteStands other n before → SiteStands b k after → SiteStands other n after
-  any_down b other n k before (Down rack) untold state up disks blocks h0 h = by_before before h0
+      → n.group ≡ None → k.group ≡ None → SiteStands other n before → SiteStands b k after → SiteStands other n after
+  any_down b other n k before (Down rack) untold state up disks blocks raw raw_too h0 h = by_before before h0
     where
       by_before : (e : DiskSet R g) → SiteStands other n e → IsDownAt other n (g.meaning rack)
       by_before (Down was) h0 = down_again b other n k (g.meaning rack) (g.meaning was) untold h disks blocks h0
@@ -170,9 +172,11 @@ module _ {R : Type 0} {g : Ghosts R} where
       by_before (Spoiled was) h0 = let e : IsBare ≡ IsDown = sym (ap (λ (x : Node). x.state) h0.is) ∙ state in absurd (cc)
       by_before (Up rvg) h0 = let e : IsUp ≡ IsDown = sym h0.state ∙ state in absurd (cc)
       by_before (Receives s) h0 = let e : IsUp ≡ IsDown = sym h0.state ∙ state in absurd (cc)
+      by_before (OfGroup s) h0 = let e : IsBare ≡ IsDown = sym (raw_is_bare other n s h0 raw) ∙ state in absurd (cc)
       by_before Gone h0 = absurd h0
-  any_down b other n k before (Bare rack) untold state down disks blocks h0 h = let e : IsBare ≡ IsDown = sym (ap (λ (x : Node). x.state) h.bare.is) ∙ down in absurd (cc)
-  any_down b other n k before (Spoiled rack) untold state down disks blocks h0 h = let e : IsBare ≡ IsDown = sym (ap (λ (x : Node). x.state) h.is) ∙ down in absurd (cc)
-  any_down b other n k before (Up rvg) untold state down disks blocks h0 h = let e : IsUp ≡ IsDown = sym h.state ∙ down in absurd (cc)
-  any_down b other n k before (Receives s) untold state down disks blocks h0 h = let e : IsUp ≡ IsDown = sym h.state ∙ down in absurd (cc)
-  any_down b other n k before Gone untold state down disks blocks h0 h = absurd h
+  any_down b other n k before (Bare rack) untold state down disks blocks raw raw_too h0 h = let e : IsBare ≡ IsDown = sym (ap (λ (x : Node). x.state) h.bare.is) ∙ down in absurd (cc)
+  any_down b other n k before (Spoiled rack) untold state down disks blocks raw raw_too h0 h = let e : IsBare ≡ IsDown = sym (ap (λ (x : Node). x.state) h.is) ∙ down in absurd (cc)
+  any_down b other n k before (Up rvg) untold state down disks blocks raw raw_too h0 h = let e : IsUp ≡ IsDown = sym h.state ∙ down in absurd (cc)
+  any_down b other n k before (Receives s) untold state down disks blocks raw raw_too h0 h = let e : IsUp ≡ IsDown = sym h.state ∙ down in absurd (cc)
+  any_down b other n k before (OfGroup s) untold state down disks blocks raw raw_too h0 h = let e : IsBare ≡ IsDown = sym (raw_is_bare b k s h raw_too) ∙ down in absurd (cc)
+  any_down b other n k before Gone untold state down disks blocks raw raw_too h0 h = absurd h

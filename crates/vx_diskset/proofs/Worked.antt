@@ -8,7 +8,8 @@ use Rattle.vx_diskset.specs.DiskSets.{worked}
 use Rattle.vx_diskset.specs.Holds.{KeptBeside}
 use Rattle.vx_diskset.specs.Stands.{IsBareAt, IsCleanAt, IsDownAt, SiteStands}
 use Rattle.vx_diskset.specs.declared.disk_set.DiskSet.{DiskSet}
-use Rattle.vx_diskset.specs.declared.disk_set.DiskSet.TheVariants.{Bare, Spoiled, Up, Receives, Down, Gone}
+use Rattle.vx_diskset.specs.declared.disk_set.DiskSet.TheVariants.{Bare, Spoiled, Up, Receives, Down, OfGroup, Gone}
+use Rattle.vx_diskset.proofs.GroupStands.{set_burned}
 use Rattle.vx_diskset.proofs.Reaching.{receiver_burned}
 use Rattle.vx_diskset.proofs.StaysUp.{up_worked}
 
@@ -25,4 +26,5 @@ module _ {R : Type 0} {g : Ghosts R} where
   stands_worked beside n (Up rvg) stands = up_worked n rvg.core (g.meaning rvg.shelf) stands
   stands_worked beside n (Receives s) stands = receiver_burned n s.rvg.core s.waiting (g.meaning s.rvg.shelf) stands
   stands_worked beside n (Down rack) stands = subst (λ (k : Node). IsDownAt beside k (g.meaning rack)) (down_worked n (g.meaning rack) stands) stands
+  stands_worked beside n (OfGroup s) stands = set_burned beside n s stands
   stands_worked beside n Gone stands = absurd stands

@@ -1,20 +1,22 @@
 -- What a call asks of the rack of a site: a disk, a number of calls or a pick, as the rack itself takes them. Other calls make no disk fail,
 -- and one that writes crashes the disks only where their fuse has no call left.
-use Rattle.std.specs.Prelude.{◌≡◌, ◌≢◌, ◌⊎◌, ℕ, ◌<◌, ltb, if◌then◌else◌, List, Bool, true, Option, Some, None}
+use Rattle.std.specs.Prelude.{◌≡◌, ◌≢◌, ◌⊎◌, ℕ, ◌<◌, ◌≤◌, ltb, if◌then◌else◌, List, Bool, true, Option, Some, None}
 use Rattle.vx_model.specs.Content.{blocks_in}
 use Rattle.vx_model.specs.declared.no.No.TheVariants.{Down as IsOff}
 use Rattle.vx_history.specs.World.{Node}
 use Rattle.vx_disk.specs.Burns.{FewerLeft, RackIsShort}
 use Rattle.vx_disk.specs.Causes.{OnDisks, WithDisks, Works}
-use Rattle.vx_disk.specs.Disks.{Disks, Crashed, SameBlocks, Untouched}
+use Rattle.vx_disk.specs.Disks.{Disks, Crashed, SameBlocks, Untouched, is_set}
 use Rattle.vx_disk.specs.declared.shelf.Shelf.{Ghosts}
 use Rattle.vx_rvg.specs.declared.group.Rvg.{Rvg}
 use Rattle.vx_srl.specs.Views.{BodyFits, free_of}
 use Rattle.vx_events.specs.declared.said.Said.{Said}
 use Rattle.vx_events.specs.declared.said.Said.TheVariants.{Refused}
 use Rattle.vx_diskset.specs.declared.disk_set.DiskSet.{DiskSet}
-use Rattle.vx_diskset.specs.declared.disk_set.DiskSet.TheVariants.{Bare, Spoiled, Up, Receives, Down, Gone}
+use Rattle.vx_diskset.specs.declared.disk_set.DiskSet.TheVariants.{Bare, Spoiled, Up, Receives, Down, OfGroup, Gone}
 use Rattle.vx_diskset.specs.Burning.{Burnt, IsLogged, NoMore}
+use Rattle.vx_watched.specs.Since.{fuse_calls}
+use Rattle.vx_grouped.specs.GroupSites.{site_disks}
 use Rattle.vx_diskset.specs.Fuses.{LeftAs}
 
 -- the calls of a header that is written where a link comes to count more as stored
@@ -44,6 +46,7 @@ module _ {R : Type 0} {g : Ghosts R} where
   disks_told (Up rvg) = (g.meaning rvg.shelf).disks
   disks_told (Receives s) = (g.meaning s.rvg.shelf).disks
   disks_told (Down rack) = (g.meaning rack).disks
+  disks_told (OfGroup s) = (site_disks s.site).disks
   disks_told Gone = None
 
   abbrev pub size_in : DiskSet R g → ℕ → ℕ
@@ -52,6 +55,7 @@ module _ {R : Type 0} {g : Ghosts R} where
   size_in (Up rvg) = (g.meaning rvg.shelf).size
   size_in (Receives s) = (g.meaning s.rvg.shelf).size
   size_in (Down rack) = (g.meaning rack).size
+  size_in (OfGroup s) = (site_disks s.site).size
   size_in Gone = λ u. 0
 
   -- how many disks it has
@@ -61,6 +65,7 @@ module _ {R : Type 0} {g : Ghosts R} where
   units_in (Up rvg) = (g.meaning rvg.shelf).units
   units_in (Receives s) = (g.meaning s.rvg.shelf).units
   units_in (Down rack) = (g.meaning rack).units
+  units_in (OfGroup s) = (site_disks s.site).units
   units_in Gone = 0
 
   -- each later call on this disk fails, or no longer, and nothing else changed
@@ -120,3 +125,8 @@ module _ {R : Type 0} {g : Ghosts R} where
   pub record WritesUnder (bytes : List ℕ) (said : Said) (old new : DiskSet R g) : Type 0 where
     pub burns : LeavesFuse IsLogged said old new
     pub cuts : CutsShort bytes said old
+
+  -- The fuse of the disks is set where it was, with no more calls left, or it is not set any more.
+  pub record FuseGoesOn (old new : DiskSet R g) : Type 0 where
+    pub set : (o n : Disks) → disks_told old ≡ Some o → disks_told new ≡ Some n → is_set n.fuse ≡ true → is_set o.fuse ≡ true
+    pub left : (o n : Disks) → disks_told old ≡ Some o → disks_told new ≡ Some n → is_set n.fuse ≡ true → fuse_calls n.fuse ≤ fuse_calls o.fuse

@@ -54,6 +54,7 @@ Suffices links n l = (n.safe ≤ hold_of l) ⊎ ((j : ℕ) × ((o : KeptLink) ×
 pub record CanKeep (beside : KeptBeside) (n : Node) (s : State) : Type 0 where
   pub up : n.state ≡ IsUp
   pub running : n.halted ≡ None
+  pub raw : n.group ≡ None
   pub line : s.line ≡ n.line
   pub role : is_origin s.role ≡ is_origin n.role
   pub needs : (k : ℕ) (l : KeptLink) → slice_get s.links k ≡ Some l → is_needing l ≡ true → Suffices beside.links n l

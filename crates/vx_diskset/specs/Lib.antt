@@ -4,6 +4,8 @@ pub mod Burning
 pub mod DiskSets
 pub mod Fetching
 pub mod Fuses
+pub mod GroupCalls
+pub mod GroupSets
 pub mod Holds
 pub mod Keeps
 pub mod Lasts

@@ -7,13 +7,16 @@ use Rattle.vx_model.specs.declared.call.Update.{Update}
 use Rattle.vx_history.specs.World.{Node, NoFuse, bare_site}
 use Rattle.vx_model.specs.declared.state.KeptLink.{KeptLink}
 use Rattle.vx_diskset.specs.Holds.{KeptBeside}
-use Rattle.vx_model.specs.declared.site.SiteState.TheVariants.{Up as IsUp, Down as IsDown}
+use Rattle.vx_model.specs.declared.site.SiteState.TheVariants.{Bare as IsBare, Up as IsUp, Down as IsDown}
 use Rattle.vx_disk.specs.Shelf.{Meaning, Image, Keeps}
 use Rattle.vx_disk.specs.declared.shelf.Shelf.{Ghosts}
 use Rattle.vx_rvg.specs.Views.{Core, last_of}
 use Rattle.vx_secondary.specs.Receivers.{writes_of_updates}
 use Rattle.vx_diskset.specs.declared.disk_set.DiskSet.{DiskSet}
-use Rattle.vx_diskset.specs.declared.disk_set.DiskSet.TheVariants.{Bare, Spoiled, Up, Receives, Down, Gone}
+use Rattle.vx_diskset.specs.declared.disk_set.DiskSet.TheVariants.{Bare, Spoiled, Up, Receives, Down, OfGroup, Gone}
+use Rattle.vx_grouped.specs.GroupSites.{GroupSiteStands, site_disks}
+use Rattle.vx_diskset.specs.GroupSets.{cut_value, noted_cut}
+use Rattle.vx_diskset.specs.declared.group_set.GroupSet.{GroupSet}
 use Rattle.vx_diskset.specs.Fuses.{IsFirstLog}
 use Rattle.vx_grouped.specs.SetFuses.{HasFuse}
 use Rattle.vx_events.specs.Fuses.{ring_taken}
@@ -138,6 +141,16 @@ pub record IsDownAt (beside : KeptBeside) (n : Node) (m : Meaning) : Type 0 wher
   pub left : IsTrue m.tells → LeftWith (units_of n) n.ring (state_with n beside.links) n.session (most_header beside n) n.log n.base m
 
 module _ {R : Type 0} {g : Ghosts R} where
+  -- The disks of a site that has a group of disks, and no replicated volume group, with the write that its fuse cut. Such a site is never in doubt. On
+  -- those of a bare one a group was begun.
+  pub record IsGroupSet (beside : KeptBeside) (n : Node) (s : GroupSet R g) : Type 0 where
+    pub sure : beside.doubt ≡ None
+    pub stands : GroupSiteStands n s.site
+    pub cut : cut_value s.cut ≡ noted_cut n.group
+    pub bare : n.state ≡ IsBare → n ≡ bare_with n
+    pub few : n.disks ≤ MOST_DISKS
+    pub some : LEAST_BLOCKS ≤ n.blocks
+
   -- the disks of a site, with what the world has of it beside its node
   abbrev pub SiteStands : KeptBeside → Node → DiskSet R g → Type 0
   SiteStands beside n (Bare rack) = IsCleanAt n (g.meaning rack)
@@ -145,6 +158,7 @@ module _ {R : Type 0} {g : Ghosts R} where
   SiteStands beside n (Up rvg) = IsUpAt beside n rvg.core (g.meaning rvg.shelf)
   SiteStands beside n (Receives s) = IsReceiverAt beside n s.rvg.core s.waiting (g.meaning s.rvg.shelf)
   SiteStands beside n (Down rack) = IsDownAt beside n (g.meaning rack)
+  SiteStands beside n (OfGroup s) = IsGroupSet beside n s
   SiteStands beside n Gone = ⊥
 
   -- the same of a site without links, as each is that the lines which are built make
@@ -158,6 +172,7 @@ module _ {R : Type 0} {g : Ghosts R} where
   RoleIs n (Up rvg) = is_origin n.role ≡ true
   RoleIs n (Receives s) = Unit {0}
   RoleIs n (Down rack) = Unit {0}
+  RoleIs n (OfGroup s) = Unit {0}
   RoleIs n Gone = Unit {0}
 
   -- a call that leaves the group of a site with the room in which updates wait, or without it
@@ -171,6 +186,7 @@ module _ {R : Type 0} {g : Ghosts R} where
   CutAt beside n (Up rvg) = IsHeldAt beside n (g.meaning rvg.shelf)
   CutAt beside n (Receives s) = IsHeldAt beside n (g.meaning s.rvg.shelf)
   CutAt beside n (Down rack) = ⊥
+  CutAt beside n (OfGroup s) = ⊥
   CutAt beside n Gone = ⊥
 
   -- the disk set of a number that no site has
@@ -180,6 +196,7 @@ module _ {R : Type 0} {g : Ghosts R} where
   IsUnused (Up rvg) = ⊥
   IsUnused (Receives s) = ⊥
   IsUnused (Down rack) = ⊥
+  IsUnused (OfGroup s) = ⊥
   IsUnused Gone = ⊥
 
   -- whether the contents of its disks are told
@@ -189,6 +206,7 @@ module _ {R : Type 0} {g : Ghosts R} where
   IsToldAt (Up rvg) = IsTrue (g.meaning rvg.shelf).tells
   IsToldAt (Receives s) = IsTrue (g.meaning s.rvg.shelf).tells
   IsToldAt (Down rack) = IsTrue (g.meaning rack).tells
+  IsToldAt (OfGroup s) = IsTrue (site_disks s.site).tells
   IsToldAt Gone = ⊥
 
   -- the count of the faults of a disk
@@ -198,6 +216,7 @@ module _ {R : Type 0} {g : Ghosts R} where
   faults_at (Up rvg) d = (g.meaning rvg.shelf).disk_faults d
   faults_at (Receives s) d = (g.meaning s.rvg.shelf).disk_faults d
   faults_at (Down rack) d = (g.meaning rack).disk_faults d
+  faults_at (OfGroup s) d = (site_disks s.site).disk_faults d
   faults_at Gone d = 0
 
   -- all writes up to this number are in the volumes of its group, and none behind it
@@ -207,4 +226,5 @@ module _ {R : Type 0} {g : Ghosts R} where
   InVolumes number (Up rvg) = rvg.core.applied ≡ number
   InVolumes number (Receives s) = s.rvg.core.applied ≡ number
   InVolumes number (Down rack) = ⊥
+  InVolumes number (OfGroup s) = ⊥
   InVolumes number Gone = ⊥

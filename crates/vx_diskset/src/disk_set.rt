@@ -8,6 +8,7 @@ ghost use Rattle.vx_rvg.specs.Views.{last_of};
 ghost use Rattle.vx_model.specs.declared.limits.TheConstants.{MOST_NUMBER};
 ghost use Rattle.vx_srlfmt.specs.Headers.{CanSpellState};
 
+use crate::GroupSet;
 use std::alloc::Global;
 use vx_disk::Rack;
 use vx_model::limits::{LEAST_BLOCKS, MOST_DISKS};
@@ -27,6 +28,8 @@ pub enum DiskSet<R: Rack> {
     Receives(Secondary<R>),
     /// The disks of a raw set that crashed.
     Down(R),
+    /// The disks of a group without a replicated volume group, up or not.
+    OfGroup(GroupSet<R>),
     /// It was taken out, and comes back within the same line.
     Gone,
 }
@@ -88,6 +91,7 @@ impl<R: Rack> DiskSet<R> {
                 site.rvg.shelf.fail(disk as u32, on)
             }
             DiskSet::Down(rack) if disk < rack.units() as u64 => rack.fail(disk as u32, on),
+            DiskSet::OfGroup(group) => group.site.fail(disk, on),
             _ => {}
         }
     }
@@ -102,6 +106,7 @@ impl<R: Rack> DiskSet<R> {
         match self {
             DiskSet::Up(rvg) => rvg.shelf.fuse(calls, pick),
             DiskSet::Receives(site) => site.rvg.shelf.fuse(calls, pick),
+            DiskSet::OfGroup(group) => group.site.fuse(calls, pick),
             _ => {}
         }
     }
@@ -126,6 +131,10 @@ impl<R: Rack> DiskSet<R> {
                 rack.crash(pick);
                 DiskSet::Down(rack)
             }
+            DiskSet::OfGroup(group) => DiskSet::OfGroup(GroupSet {
+                site: group.site.crash(pick),
+                cut: group.cut,
+            }),
             other => other,
         }
     }

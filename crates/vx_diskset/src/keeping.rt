@@ -80,9 +80,11 @@ impl<R: Rack> DiskSet<R> {
         match self {
             DiskSet::Up(rvg) => keep_group(rvg, state),
             DiskSet::Receives(site) => keep_group(&mut site.rvg, state),
-            DiskSet::Bare(_) | DiskSet::Spoiled(_) | DiskSet::Down(_) | DiskSet::Gone => Err(
-                No::Role,
-            ),
+            DiskSet::Bare(_)
+            | DiskSet::Spoiled(_)
+            | DiskSet::Down(_)
+            | DiskSet::OfGroup(_)
+            | DiskSet::Gone => Err(No::Role),
         }
     }
 }

@@ -2,7 +2,11 @@
 #![tactic(auto)]
 
 mod disk_set;
+mod group_set;
+mod group_starts;
+mod grouping;
 mod keeping;
+mod labels;
 mod pumping;
 mod reading;
 mod receivers;
@@ -13,6 +17,7 @@ mod withdrawing;
 mod writing;
 
 pub use disk_set::DiskSet;
+pub use group_set::{CutWrite, GroupSet, KeptWrite};
 pub use reading::blocks_of;
 pub use receivers::Reached;
 pub use units::can_be_raw;

@@ -117,6 +117,7 @@ impl<R: Rack> DiskSet<R> {
             | DiskSet::Spoiled(_)
             | DiskSet::Receives(_)
             | DiskSet::Down(_)
+            | DiskSet::OfGroup(_)
             | DiskSet::Gone => Err(Stop::No(No::Role)),
         }
     }

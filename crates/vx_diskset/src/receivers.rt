@@ -142,9 +142,11 @@ impl<R: Rack> DiskSet<R> {
                 }
             }
             DiskSet::Up(_) => self.read(volume, start, into),
-            DiskSet::Bare(_) | DiskSet::Spoiled(_) | DiskSet::Down(_) | DiskSet::Gone => Err(
-                No::Role,
-            ),
+            DiskSet::Bare(_)
+            | DiskSet::Spoiled(_)
+            | DiskSet::Down(_)
+            | DiskSet::OfGroup(_)
+            | DiskSet::Gone => Err(No::Role),
         }
     }
 
@@ -204,9 +206,11 @@ impl<R: Rack> DiskSet<R> {
                 number: rvg.head(),
                 acks: false,
             }),
-            DiskSet::Bare(_) | DiskSet::Spoiled(_) | DiskSet::Down(_) | DiskSet::Gone => Err(
-                No::Role,
-            ),
+            DiskSet::Bare(_)
+            | DiskSet::Spoiled(_)
+            | DiskSet::Down(_)
+            | DiskSet::OfGroup(_)
+            | DiskSet::Gone => Err(No::Role),
         }
     }
 }

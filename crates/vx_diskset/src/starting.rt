@@ -15,10 +15,12 @@ ghost use Rattle.vx_diskset.specs.DiskSets.{Later, CanHold, CanStart, MadeIs, Ba
 ghost use Rattle.vx_diskset.specs.Layouts.{CanBeRaw, raw_units as units_of};
 ghost use Rattle.vx_diskset.specs.Stands.{IsBareAt, IsCleanAt};
 
-use crate::DiskSet;
+use crate::labels::unlabel_all;
 use crate::units::raw_units;
+use crate::{DiskSet, GroupSet};
 use std::alloc::Global;
 use vx_disk::{Rack, refusal};
+use vx_grouped::GroupSite;
 use vx_model::limits::{LEAST_BLOCKS, LEAST_RAW_DISKS, LINK_PLACES, MOST_DISKS};
 use vx_model::{No, Role, State, Stop, map_blocks, ring_blocks};
 use vx_ringio::{TopSeen, read_top};
@@ -53,6 +55,15 @@ fn make_group<R: Rack>(alloc: Global, rack: R, site: u32) -> (DiskSet<R>, Result
     match Rvg::create(alloc, rack, &raw_units(disks), &State::first(site)) {
         Ok(rvg) => (DiskSet::Up(rvg), Ok(())),
         Err((rack, stop)) => (DiskSet::Spoiled(rack), Err(stop)),
+    }
+}
+
+// The same of disks on which a group may have been made, by an earlier run or in part: their labels are taken off first.
+fn make_unlabelled<R: Rack>(alloc: Global, rack: R, site: u32) -> (DiskSet<R>, Result<(), Stop>) {
+    let mut rack = rack;
+    match unlabel_all(&mut rack) {
+        Ok(()) => make_group(alloc, rack, site),
+        Err(error) => (DiskSet::Spoiled(rack), Err(Stop::No(refusal(error)))),
     }
 }
 
@@ -159,15 +170,22 @@ impl<R: Rack> DiskSet<R> {
         ensures later { Later self result.0 }
     {
         match self {
-            DiskSet::Bare(rack) => make_group(alloc, rack, site),
+            DiskSet::Bare(rack) => make_unlabelled(alloc, rack, site),
             DiskSet::Spoiled(rack) => make_group(alloc, rack, site),
+            DiskSet::OfGroup(group) => match group.site {
+                GroupSite::Marked(rack) => make_unlabelled(alloc, rack, site),
+                other => (
+                    DiskSet::OfGroup(GroupSet::of(other)),
+                    Err(Stop::No(No::Role)),
+                ),
+            },
             other => (other, Err(Stop::No(No::Role))),
         }
     }
 
     /// Starts what stands on the disks of a site that crashed, with room taken before. Where it is refused, the disks crash again.
     pub fn recover(self, room: StartRoom) -> (DiskSet<R>, Result<(), No>)
-        ensures recovered { (beside : KeptBeside) (n : Node) → SiteStands beside n self → n.state ≡ DownState → room.ring ≡ n.ring → CameUpIs beside n self result.0 result.1 }
+        ensures recovered { (beside : KeptBeside) (n : Node) → SiteStands beside n self → n.state ≡ DownState → n.group ≡ None → room.ring ≡ n.ring → CameUpIs beside n self result.0 result.1 }
         ensures failing { SameFailing self result.0 }
         ensures later { Later self result.0 }
     {
@@ -217,7 +235,7 @@ impl<R: Rack> DiskSet<R> {
     /// it is refused, the disks crash again.
     pub fn recover_any(self, room: StartRoom, waiting: Waiting) -> (DiskSet<R>, Result<(), No>)
         requires none { waiting ≡ [] }
-        ensures recovered { (beside : KeptBeside) (n : Node) → SiteStands beside n self → n.state ≡ DownState → room.ring ≡ n.ring → CameUpByIs beside n self result.0 result.1 }
+        ensures recovered { (beside : KeptBeside) (n : Node) → SiteStands beside n self → n.state ≡ DownState → n.group ≡ None → room.ring ≡ n.ring → CameUpByIs beside n self result.0 result.1 }
         ensures failing { SameFailing self result.0 }
         ensures later { Later self result.0 }
     {

@@ -233,6 +233,7 @@ impl<R: Rack> DiskSet<R> {
             | DiskSet::Spoiled(_)
             | DiskSet::Receives(_)
             | DiskSet::Down(_)
+            | DiskSet::OfGroup(_)
             | DiskSet::Gone => Err(No::Role),
         }
     }
@@ -264,16 +265,18 @@ impl<R: Rack> DiskSet<R> {
                     Err(No::Role)
                 }
             }
-            DiskSet::Bare(_) | DiskSet::Spoiled(_) | DiskSet::Down(_) | DiskSet::Gone => Err(
-                No::Role,
-            ),
+            DiskSet::Bare(_)
+            | DiskSet::Spoiled(_)
+            | DiskSet::Down(_)
+            | DiskSet::OfGroup(_)
+            | DiskSet::Gone => Err(No::Role),
         }
     }
 
     /// Brings the logged writes up to a number into their volumes. Answers the number up to which all are there now. A site whose fuse
     /// runs out crashes.
     pub fn apply(&mut self, to: u64) -> Result<u64, No>
-        ensures applied { (beside : KeptBeside) (n : Node) → SiteStands beside n self.old → CanApply n → AppliedAt beside n to self.old self.new result }
+        ensures applied { (beside : KeptBeside) (n : Node) → SiteStands beside n self.old → CanApply n → n.group ≡ None → AppliedAt beside n to self.old self.new result }
         ensures brought { IfOk result (λ number. InVolumes number self.new) }
         ensures called { (beside : KeptBeside) (n : Node) → SiteStands beside n self.old → LeavesFuse NoMore (said_by result) self.old self.new }
         ensures role { KeepsRole self.old self.new }
@@ -294,7 +297,7 @@ impl<R: Rack> DiskSet<R> {
 
     // The same, before it crashes.
     fn apply_up(&mut self, to: u64) -> Result<u64, No>
-        ensures applied { (beside : KeptBeside) (n : Node) → SiteStands beside n self.old → CanApply n → AppliedUp beside n to self.old self.new result }
+        ensures applied { (beside : KeptBeside) (n : Node) → SiteStands beside n self.old → CanApply n → n.group ≡ None → AppliedUp beside n to self.old self.new result }
         ensures brought { IfOk result (λ number. InVolumes number self.new) }
         ensures called { (beside : KeptBeside) (n : Node) → SiteStands beside n self.old → LeavesFuse NoMore (said_by result) self.old self.new }
         ensures role { KeepsRole self.old self.new }
@@ -304,9 +307,11 @@ impl<R: Rack> DiskSet<R> {
         match self {
             DiskSet::Up(rvg) => apply_group(rvg, to),
             DiskSet::Receives(site) => apply_group(&mut site.rvg, to),
-            DiskSet::Bare(_) | DiskSet::Spoiled(_) | DiskSet::Down(_) | DiskSet::Gone => Err(
-                No::Role,
-            ),
+            DiskSet::Bare(_)
+            | DiskSet::Spoiled(_)
+            | DiskSet::Down(_)
+            | DiskSet::OfGroup(_)
+            | DiskSet::Gone => Err(No::Role),
         }
     }
 }

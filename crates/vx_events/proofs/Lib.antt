@@ -14,6 +14,7 @@ pub mod LinkWaiting
 pub mod LinkWrites
 pub mod Noting
 pub mod Over
+pub mod OverSeats
 pub mod Parts
 pub mod Passing
 pub mod Places

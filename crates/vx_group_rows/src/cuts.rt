@@ -1,6 +1,5 @@
 // Writes and detaches that are cut behind each of their writes and flushes, and what an import then gives.
 use crate::imports::{Disks, crashed, disks_of, group_on};
-use crate::untold::Untold;
 use crate::volumes::{Told, det, flush, get, make, plain, put, state, told_of};
 use std::alloc::Global;
 use std::test::*;
@@ -8,6 +7,7 @@ use vx_config::PlexState;
 use vx_disk::Rack;
 use vx_group::Group;
 use vx_model::OutOfMemory;
+use vx_untold::Untold;
 
 // A new group has 18 writes and flushes, a volume of 16 blocks 12, and a write of it with its flush four.
 const BEFORE: u64 = 34;

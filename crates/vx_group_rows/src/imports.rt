@@ -1,5 +1,4 @@
 // Groups that are imported over a shelf in memory behind crashes and deports, with each device call of an import failing or cut in turn.
-use crate::untold::Untold;
 use crate::volumes::{Told, flush, get, make, plain, put, state, told_of};
 use std::alloc::Global;
 use std::test::*;
@@ -7,6 +6,7 @@ use vx_config::{Config, PlexState};
 use vx_disk::{MemShelf, Rack, Shelf};
 use vx_group::Group;
 use vx_model::OutOfMemory;
+use vx_untold::Untold;
 
 pub type Disks = Untold<MemShelf>;
 

@@ -4,10 +4,9 @@
 #![tactic(auto)]
 
 mod crashes;
-mod untold;
 
 pub use crashes::{crash_and_import, crash_and_import_again, cut_and_import, import_again};
-pub use untold::Untold;
+pub use vx_untold::Untold;
 
 #[cfg(test)]
 mod attaches;

@@ -1,13 +1,13 @@
 // A disk that fails, is held as failed, works again, and comes back with the plex on it.
 use crate::attaches::att;
 use crate::imports::{Disks, crashed, disks_of, failed_disk, group_on, reads};
-use crate::untold::Untold;
 use crate::volumes::{Told, det, get, group_of, make, plain, put, state};
 use std::alloc::Global;
 use std::test::*;
 use vx_config::{Config, PlexState};
 use vx_disk::{Rack, Shelf};
 use vx_group::Group;
+use vx_untold::Untold;
 
 /// The group with one of its disks made to fail, or working again.
 pub fn failing(group: Group<Disks>, disk: u32, on: bool) -> Group<Disks> {

@@ -1,6 +1,5 @@
 // The replicated volume group of a group, whose volumes are named by a commit that is cut in turn; and what a refused deport gives back.
 use crate::imports::{Disks, again};
-use crate::untold::Untold;
 use crate::volumes::{Told, get, group_of, make, plain, put, told_of};
 use std::alloc::Global;
 use std::test::*;
@@ -8,6 +7,7 @@ use vx_config::Config;
 use vx_disk::{MemShelf, Rack, Shelf};
 use vx_group::Group;
 use vx_model::{OutOfMemory, Units, VolumeUnits};
+use vx_untold::Untold;
 
 // What a configuration names: the log, the maps, and how many data volumes.
 type Named = Option<(u32, u32, usize)>;

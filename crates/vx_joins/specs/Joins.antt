@@ -22,6 +22,7 @@ use Rattle.vx_diskset.specs.Stands.{IsHeldAt, IsReceiverAt, IsToldAt, IsUpAt, Ro
 pub record CanJoin (beside : KeptBeside) (n : Node) : Type 0 where
   pub up : n.state ≡ IsUp
   pub running : n.halted ≡ None
+  pub raw : n.group ≡ None
   pub origin : is_origin n.role ≡ true
   pub empty : n.log ≡ []
   pub unlinked : beside.links ≡ []

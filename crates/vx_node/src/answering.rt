@@ -13,6 +13,7 @@ use crate::settled::settle_line;
 use std::alloc::Global;
 use vx_disk::Rack;
 use vx_events::Said;
+use vx_group_lines::{is_of_group, work_group};
 use vx_link_lines::{apply_line, deliver_line, work_link};
 use vx_model::limits::{BLOCK, MOST_CALL_BLOCKS};
 use vx_model::{No, OutOfMemory};
@@ -131,7 +132,13 @@ fn perform<R: Rack>(
         ScriptLine::Settle { primary, secondary } => {
             settle_line(yard, alloc, primary, secondary)
         }
-        _ => work(yard, alloc, words),
+        _ => {
+            if is_of_group(yard, words) {
+                work_group(yard, alloc, words)
+            } else {
+                work(yard, alloc, words)
+            }
+        }
     }
 }
 

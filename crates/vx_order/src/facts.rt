@@ -1,10 +1,10 @@
 // What the tests of a line look at.
 ghost use Rattle.std.specs.Prelude.{◌≡◌, ◌<◌, ◌++◌, ◌∷◌, [], IfOk, OnOk, length, slice_set};
-ghost use Rattle.vx_model.specs.declared.limits.TheConstants.{LINK_PLACES};
+ghost use Rattle.vx_model.specs.declared.limits.TheConstants.{LINK_PLACES, MOST_VOLUMES};
 
 use std::alloc::Global;
 use std::marker::Model;
-use vx_model::limits::LINK_PLACES;
+use vx_model::limits::{LINK_PLACES, MOST_VOLUMES};
 use vx_model::{Line, Link, Mark, Name, OutOfMemory, Role, SiteState};
 
 /// What a volume is to the replicated volume group of its site.
@@ -109,6 +109,56 @@ impl VolumeTable {
         ensures { result.now ≡ self.now }
     {
         &self.volumes
+    }
+}
+
+/// Room for the volumes of a disk group, taken before they are known. Contracts see those that are in it.
+#[derive(Drop)]
+pub struct VolumeRoom {
+    volumes: Vec<VolumeFacts>,
+}
+
+impl Model for VolumeRoom {
+    ghost use Rattle.std.specs.Prelude.{List, ◌≤◌};
+    ghost use Rattle.std.specs.Vec.{vec_capacity};
+    ghost use Rattle.vx_model.specs.declared.limits.TheConstants.{MOST_VOLUMES};
+    ghost use Rattle.vx_order.specs.declared.facts.VolumeFacts.{VolumeFacts};
+
+    ghost Value = { List VolumeFacts };
+
+    ghost view = { λ r. r.volumes.items };
+
+    ghost invariant = { λ r. MOST_VOLUMES ≤ vec_capacity r.volumes };
+}
+
+impl VolumeRoom {
+    /// Room for as many volumes as a group may have.
+    pub fn new(alloc: Global) -> Result<VolumeRoom, OutOfMemory>
+        ensures { IfOk result (λ room. room ≡ []) }
+    {
+        Ok(VolumeRoom {
+            volumes: Vec::with_capacity(alloc, MOST_VOLUMES)?,
+        })
+    }
+
+    /// Adds a volume after the others.
+    pub fn push(&mut self, volume: VolumeFacts)
+        requires room { length self.old < MOST_VOLUMES }
+        ensures { self.new ≡ self.old ++ volume ∷ [] }
+    {
+        match self.volumes.push(volume) {
+            Ok(()) => {}
+            Err(_) => unreachable!(),
+        }
+    }
+
+    /// The volumes as a table.
+    pub fn into_table(self) -> VolumeTable
+        ensures { result ≡ self }
+    {
+        VolumeTable {
+            volumes: self.volumes,
+        }
     }
 }
 

@@ -29,7 +29,8 @@ mod subject;
 mod volumes;
 
 pub use facts::{
-    LinkFacts, LinkRoom, LinkTable, RvgFacts, SiteFacts, VolumeFacts, VolumeKind, VolumeTable,
+    LinkFacts, LinkRoom, LinkTable, RvgFacts, SiteFacts, VolumeFacts, VolumeKind, VolumeRoom,
+    VolumeTable,
 };
 pub use group_laws::{deport_lines, import_lines, init_lines, plex_lines, rvg_lines, volume_lines};
 pub use laws::{

@@ -1,4 +1,5 @@
 pub mod BlockText
+pub mod GroupRoom
 pub mod KeptText
 pub mod Refusals
 pub mod StatusWords

@@ -4,6 +4,7 @@
 #![tactic(auto)]
 
 mod blocks;
+mod group_room;
 mod kept;
 mod links;
 mod refusals;
@@ -12,6 +13,7 @@ mod view;
 mod words;
 
 pub use blocks::{block, push_block};
+pub use group_room::{DiskViewRoom, VolumeHead, VolumeViewRoom};
 pub use kept::push_kept;
 pub use links::push_links;
 pub use refusals::{push_refusal, refusal};

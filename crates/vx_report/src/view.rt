@@ -75,6 +75,13 @@ impl Model for DiskViews {
 }
 
 impl DiskViews {
+    /// These, in order.
+    pub(crate) fn of(disks: Vec<bool>) -> DiskViews
+        ensures { result ≡ disks.items }
+    {
+        DiskViews { disks }
+    }
+
     /// No disks.
     pub fn new(alloc: Global) -> DiskViews
         ensures { result ≡ [] }
@@ -116,6 +123,13 @@ impl Model for PlexViews {
 }
 
 impl PlexViews {
+    /// These, in order.
+    pub(crate) fn of(plexes: Vec<PlexState>) -> PlexViews
+        ensures { result ≡ plexes.items }
+    {
+        PlexViews { plexes }
+    }
+
     /// No plexes.
     pub fn new(alloc: Global) -> PlexViews
         ensures { result ≡ [] }
@@ -157,6 +171,13 @@ impl Model for VolumeViews {
 }
 
 impl VolumeViews {
+    /// These, in order.
+    pub(crate) fn of(volumes: Vec<VolumeView>) -> VolumeViews
+        ensures { result ≡ volumes.items }
+    {
+        VolumeViews { volumes }
+    }
+
     /// No volumes.
     pub fn new(alloc: Global) -> VolumeViews
         ensures { result ≡ [] }

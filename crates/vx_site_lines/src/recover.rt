@@ -20,7 +20,6 @@ ghost use Rattle.vx_yard.specs.Standing.{LeadsIs, StandsFor};
 ghost use Rattle.vx_yard.specs.Working.{IsFree};
 ghost use Rattle.vx_yard.specs.Yards.{IsYardKept, IsTold, in_files};
 
-use crate::crash::go_down;
 use crate::rooms::{RiseRoom, Risen, greet, link_views, what_rose};
 use crate::status::view_at;
 use std::alloc::Global;
@@ -35,6 +34,7 @@ use vx_net::Net;
 use vx_order::LinkRoom;
 use vx_report::{LinkViewRoom, SiteView};
 use vx_script::ScriptLine;
+use vx_yard::falling::go_down;
 use vx_yard::load::set_feeder;
 use vx_yard::{Yard, facts};
 

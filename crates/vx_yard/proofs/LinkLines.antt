@@ -15,7 +15,8 @@ use Rattle.vx_effects.proofs.Fitting.{fit_happened}
 use Rattle.vx_events.proofs.LinkWaiting.{wait_agrees}
 use Rattle.vx_events.specs.Facts.{seat_of, site_number}
 use Rattle.vx_events.specs.LinkEnds.{LinksDone}
-use Rattle.vx_events.specs.LinkedFacts.{linked_facts, refused_by}
+use Rattle.vx_events.specs.LinkedFacts.{refused_by}
+use Rattle.vx_events.specs.StepsOver.{facts_over}
 use Rattle.vx_events.specs.Lines.{IsDone}
 use Rattle.vx_events.specs.LinksFit.{LinksFit}
 use Rattle.vx_events.specs.Sayings.{RepeatsSaid}
@@ -157,7 +158,7 @@ module _ {R : Type 0} {g : Ghosts R} where
     others = λ s e past is. agree.others s e (omega (arith, past, left.sites)) is;
   }
 
-  pub stands_kept : (d : Doubted) (v : World) (old new : Yard R g) → StandsFor d old → LeavesDisks d.world v → LinksFit (record d { world = v }) → Relinks old new → new.facts.items ≡ linked_facts v
+  pub stands_kept : (d : Doubted) (v : World) (old new : Yard R g) → StandsFor d old → LeavesDisks d.world v → LinksFit (record d { world = v }) → Relinks old new → new.facts.items ≡ facts_over v
       → StandsFor (record d { world = v }) new
   stands_kept d v old new stands left fits relinks facts = record {
     facts = facts;
@@ -210,7 +211,7 @@ module _ {R : Type 0} {g : Ghosts R} where
 
   -- a line that changes links in memory, and may have sent something
   pub brings_by : (d : Doubted) (v : World) (line : ScriptLine) (said : Said) (old new : Yard R g) (more : List Packet) → StandsFor d old → Carries d old → LeavesDisks d.world v
-      → v.packets ≡ d.world.packets ++ more → LinksFit (record d { world = v }) → IsDone (IsTold new) d line [] said (record d { world = v }) → Relinks old new → new.facts.items ≡ linked_facts v
+      → v.packets ≡ d.world.packets ++ more → LinksFit (record d { world = v }) → IsDone (IsTold new) d line [] said (record d { world = v }) → Relinks old new → new.facts.items ≡ facts_over v
       → FlightStands v.packets new.flight → Leads d line said old new
   brings_by d v line said old new more stands carries left sends fits done relinks facts flight = record {
     next = record d { world = v };
@@ -301,7 +302,7 @@ module _ {R : Type 0} {g : Ghosts R} where
       (fit_happened d (TickAt a b) false stands.links) (tick_done (IsTold new) d p s comes.said) relinks (facts ∙ comes.stands.facts) comes.stands.flight
 
   pub wait_brings : (d : Doubted) (y : Yard R g) (p : List ℕ) (number : ℕ) (said : Said) (o : EventSaid) (fs : List SiteFacts) → StandsFor d y → Carries d y → (files : Bool) → refused_by d.world files (Wait p number) ≡ None
-      → o ≡ (step d.world (WaitAt (site_number d.world p) number)).said → fs ≡ y.facts.items → fs ≡ linked_facts (step d.world (WaitAt (site_number d.world p) number)).world → said ≡ reply_of o
+      → o ≡ (step d.world (WaitAt (site_number d.world p) number)).said → fs ≡ y.facts.items → fs ≡ facts_over (step d.world (WaitAt (site_number d.world p) number)).world → said ≡ reply_of o
       → Leads d (Wait p number) said y y
   wait_brings d y p number said o fs stands carries files free is same facts replied =
       let a : ℕ = site_number d.world p in

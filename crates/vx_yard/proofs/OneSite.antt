@@ -18,7 +18,7 @@ use Rattle.vx_diskset.specs.declared.disk_set.DiskSet.TheVariants.{Bare, Spoiled
 use Rattle.vx_model.specs.declared.site.SiteState.TheVariants.{Up as IsUp}
 use Rattle.vx_events.specs.Effects.{ChangesNode}
 use Rattle.vx_events.specs.Facts.{values_from}
-use Rattle.vx_events.specs.LinkedFacts.{linked_fact, linked_facts}
+use Rattle.vx_events.specs.StepsOver.{fact_over, facts_over}
 use Rattle.vx_events.specs.LinksFit.{LinksFit}
 use Rattle.vx_events.proofs.Places.{some_same}
 use Rattle.vx_events.proofs.Values.{slice_get-values_from}
@@ -28,7 +28,7 @@ use Rattle.vx_yard.specs.Yards.{IsTold, count_of}
 use Rattle.vx_yard.specs.declared.yard.Yard.{Yard}
 use Rattle.vx_yard.proofs.ChangeSite.{counts_later, counts_rose, rose_one, told_before}
 use Rattle.vx_yard.proofs.Lists.{get-set_same, get-set_other, length-set, set_same, values_from-set}
-use Rattle.vx_yard.proofs.Rows.{fact_same, row_links_same}
+use Rattle.vx_yard.proofs.Rows.{over_same, row_links_same}
 
 -- ---- the sites that are as they were
 
@@ -47,14 +47,14 @@ beside_same d e i sites links headers after =
     ∙ ap (λ (o : Option KeptSite). let b : KeptBeside = record { links = row_links (d.world.links i) d.world.sites; headers = d.world.headers i; doubt = o } in b)
     (ap (λ (o : Option After). doubt_of e.world i o) after ∙ doubt_same d.world e.world i sites headers (d.after i))
 
-pub facts_set : (d e : Doubted) (s : ℕ) → ChangesNode s d e → linked_facts e.world ≡ slice_set (linked_facts d.world) s (linked_fact e.world s)
+pub facts_set : (d e : Doubted) (s : ℕ) → ChangesNode s d e → facts_over e.world ≡ slice_set (facts_over d.world) s (fact_over e.world s)
 facts_set d e s changes =
     let start : 0 + s ≡ s = omega arith in
-    ap (λ (k : ℕ). values_from (λ i. linked_fact e.world i) 0 k) changes.sites
-    ∙ values_from-set (λ i. linked_fact d.world i) (λ i. linked_fact e.world i) 0 d.world.sites s (linked_fact e.world s) (ap (λ (i : ℕ). linked_fact e.world i) start)
+    ap (λ (k : ℕ). values_from (λ i. fact_over e.world i) 0 k) changes.sites
+    ∙ values_from-set (λ i. fact_over d.world i) (λ i. fact_over e.world i) 0 d.world.sites s (fact_over e.world s) (ap (λ (i : ℕ). fact_over e.world i) start)
     (λ j apart.
     let other : j ≡ s → ⊥ = λ is. apart (is ∙ sym start) in
-    fact_same (d.world.nodes j) (e.world.nodes j) (d.world.links j) (e.world.links j) d.world.sites e.world.sites (changes.nodes j other) (λ k. changes.links j k other) changes.sites)
+    over_same (d.world.nodes j) (e.world.nodes j) (d.world.links j) (e.world.links j) d.world.sites e.world.sites (changes.nodes j other) (λ k. changes.links j k other) changes.sites)
 
 module _ {R : Type 0} {g : Ghosts R} where
   -- what a site comes to, whose disk set is this one then
@@ -116,9 +116,9 @@ module _ {R : Type 0} {g : Ghosts R} where
 
   -- the yard with another disk set of a site stands for the world that this one comes to
   pub stands_at : (d e : Doubted) (old new : Yard R g) (s : ℕ) (f : SiteFacts) (before after : DiskSet R g) → StandsFor d old → s < d.world.sites → Changed old new s before after → Comes d e s after
-      → f ≡ linked_fact e.world s → new.facts.items ≡ slice_set old.facts.items s f → StandsFor e new
+      → f ≡ fact_over e.world s → new.facts.items ≡ slice_set old.facts.items s f → StandsFor e new
   stands_at d e old new s f before after stands below changed comes fact facts = record {
-    facts = facts ∙ ap (λ (fs : List SiteFacts). slice_set fs s f) stands.facts ∙ ap (λ (x : SiteFacts). slice_set (linked_facts d.world) s x) fact ∙ sym (facts_set d e s comes.changes);
+    facts = facts ∙ ap (λ (fs : List SiteFacts). slice_set fs s f) stands.facts ∙ ap (λ (x : SiteFacts). slice_set (facts_over d.world) s x) fact ∙ sym (facts_set d e s comes.changes);
     disk_sets = subst (λ es. SitesAgree e es) (sym changed.disk_sets) (sites_set d e old.disk_sets.items s after stands.disk_sets below comes);
     links = comes.links;
     roles = record {
@@ -150,13 +150,13 @@ module _ {R : Type 0} {g : Ghosts R} where
 
   -- the same of a site of which the tests see nothing new
   pub stands_still : (d e : Doubted) (old new : Yard R g) (s : ℕ) (before after : DiskSet R g) → StandsFor d old → s < d.world.sites → Changed old new s before after → Comes d e s after
-      → linked_fact e.world s ≡ linked_fact d.world s → new.facts.items ≡ old.facts.items → StandsFor e new
+      → fact_over e.world s ≡ fact_over d.world s → new.facts.items ≡ old.facts.items → StandsFor e new
   stands_still d e old new s before after stands below changed comes fact facts =
       let start : 0 + s ≡ s = omega arith in
-      let there : slice_get old.facts.items s ≡ Some (linked_fact e.world s) =
-      ap (λ (fs : List SiteFacts). slice_get fs s) stands.facts ∙ slice_get-values_from (λ i. linked_fact d.world i) 0 d.world.sites s below ∙ ap (λ (i : ℕ). Some (linked_fact d.world i)) start
+      let there : slice_get old.facts.items s ≡ Some (fact_over e.world s) =
+      ap (λ (fs : List SiteFacts). slice_get fs s) stands.facts ∙ slice_get-values_from (λ i. fact_over d.world i) 0 d.world.sites s below ∙ ap (λ (i : ℕ). Some (fact_over d.world i)) start
       ∙ ap (λ (x : SiteFacts). Some x) (sym fact) in
-      stands_at d e old new s (linked_fact e.world s) before after stands below changed comes refl (facts ∙ sym (set_same old.facts.items s (linked_fact e.world s) there))
+      stands_at d e old new s (fact_over e.world s) before after stands below changed comes refl (facts ∙ sym (set_same old.facts.items s (fact_over e.world s) there))
 
   -- one call failed, on a disk of the site
   pub rose_at : (old new : Yard R g) (s disk : ℕ) (before after : DiskSet R g) → Changed old new s before after → RoseAt before after disk → RoseAll ((s, disk) ∷ []) (count_of old) (count_of new)

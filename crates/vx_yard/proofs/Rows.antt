@@ -9,6 +9,9 @@ use Rattle.vx_order.specs.declared.facts.LinkFacts.{LinkFacts}
 use Rattle.vx_order.specs.declared.facts.SiteFacts.{SiteFacts}
 use Rattle.vx_diskset.specs.Holds.{row_links}
 use Rattle.vx_events.specs.Facts.{site_fact}
+use Rattle.vx_events.specs.GroupLines.{is_over_group}
+use Rattle.vx_events.specs.GroupNotes.{note_at}
+use Rattle.vx_events.specs.StepsOver.{fact_of_group}
 use Rattle.vx_events.specs.LinkedFacts.{needed_by, link_fact, link_facts, links_by}
 
 module _ (row new : ℕ → Link) (same : (k : ℕ) → new k ≡ row k) where
@@ -47,6 +50,15 @@ pub fact_same : (n m : Node) (row new : ℕ → Link) (sites many : ℕ) → m �
 fact_same n m row new sites many node same count =
     ap (λ (k : Node). fact_from k new many) node ∙ ap (λ (k : ℕ). fact_from n new k) count
     ∙ ap (λ (ls : List LinkFacts). let f : SiteFacts = record (site_fact n) { links = links_by n.state ls } in f) (link_facts_same row new same n sites)
+
+-- the same of a site that may be over a group
+abbrev pub over_from : Node → (ℕ → Link) → ℕ → SiteFacts
+over_from n row sites = if is_over_group n then fact_of_group n (note_at n) else fact_from n row sites
+
+pub over_same : (n m : Node) (row new : ℕ → Link) (sites many : ℕ) → m ≡ n → ((k : ℕ) → new k ≡ row k) → many ≡ sites → over_from m new many ≡ over_from n row sites
+over_same n m row new sites many node same count =
+    ap (λ (k : Node). over_from k new many) node
+    ∙ ap (λ (f : SiteFacts). if is_over_group n then fact_of_group n (note_at n) else f) (fact_same n n row new sites many refl same count)
 
 -- another node, of which the tests see the same
 pub shown_by : (n m : Node) (row : ℕ → Link) → ((s : ℕ) (l : Link) → needed_by m s l ≡ needed_by n s l) → (ss : List ℕ) → link_facts m row ss ≡ link_facts n row ss

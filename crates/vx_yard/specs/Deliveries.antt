@@ -2,7 +2,7 @@
 use Rattle.std.specs.Prelude.{◌≡◌, Bool, true, false}
 use Rattle.vx_disk.specs.declared.shelf.Shelf.{Ghosts}
 use Rattle.vx_diskset.specs.declared.disk_set.DiskSet.{DiskSet}
-use Rattle.vx_diskset.specs.declared.disk_set.DiskSet.TheVariants.{Bare, Spoiled, Up, Receives as HasRoom, Down, Gone}
+use Rattle.vx_diskset.specs.declared.disk_set.DiskSet.TheVariants.{Bare, Spoiled, Up, Receives as HasRoom, Down, OfGroup, Gone}
 
 module _ {R : Type 0} {g : Ghosts R} where
   -- whether a group has the room in which updates wait
@@ -12,4 +12,5 @@ module _ {R : Type 0} {g : Ghosts R} where
   Receives (Up rvg) b = b ≡ false
   Receives (HasRoom s) b = b ≡ true
   Receives (Down rack) b = b ≡ false
+  Receives (OfGroup s) b = b ≡ false
   Receives Gone b = b ≡ false

@@ -2,6 +2,7 @@ pub mod BothSites
 pub mod Carries
 pub mod Changes
 pub mod Deliveries
+pub mod GroupFacts
 pub mod Happenings
 pub mod Holds
 pub mod Lines

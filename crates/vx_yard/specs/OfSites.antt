@@ -1,17 +1,18 @@
 -- What a line asks of the rack of its site, and of no other.
-use Rattle.std.specs.Prelude.{◌≡◌, ℕ, ◌*◌, ◌<◌, ◌≤◌, replicate, Option, None, Some, slice_get, slice_set}
+use Rattle.std.specs.Prelude.{◌≡◌, ℕ, ◌*◌, ◌<◌, ◌≤◌, Bool, true, false, List, replicate, Option, None, Some, slice_get, slice_set}
 use Rattle.vx_history.specs.Events.{delivered, packet_at}
 use Rattle.vx_history.specs.World.{Message, Packet, Update, World}
 use Rattle.vx_disk.specs.declared.shelf.Shelf.{Ghosts}
 use Rattle.vx_script.specs.declared.line.ScriptLine.{ScriptLine}
-use Rattle.vx_script.specs.declared.line.ScriptLine.TheVariants.{Site, Raw, Disk, Crash, Fuse, Recover, Write, Put, Read, Show, Apply, Status, Link, Set, Connect, Cut, Pause, Resume, Pump, Tick, Wait, Deliver, Settle}
+use Rattle.vx_script.specs.declared.line.ScriptLine.TheVariants.{Site, Raw, Disk, Crash, Fuse, Recover, GroupInit, GroupDeport, GroupImport, Volume, PlexDetach, PlexAttach, Write, Put, Read, Show, Apply, Status, Link, Set, Connect, Cut, Pause, Resume, Pump, Tick, Wait, Deliver, Settle}
 use Rattle.vx_events.specs.declared.said.Said.{Said}
 use Rattle.vx_events.specs.Facts.{site_number}
 use Rattle.vx_events.specs.Failing.{is_failing}
+use Rattle.vx_events.specs.GroupLines.{is_over_group}
 use Rattle.vx_diskset.specs.declared.disk_set.DiskSet.{DiskSet}
 use Rattle.vx_yard.specs.declared.yard.Yard.{Yard}
 use Rattle.vx_yard.specs.BothSites.{BothSites, LinkBurns, SettleBurns}
-use Rattle.vx_diskset.specs.Asked.{SetsDisk, SetsFuse, CrashesBy, SameFailing, HeadUnder, LeavesAlone, LeavesFuse, WritesUnder, stored_calls}
+use Rattle.vx_diskset.specs.Asked.{SetsDisk, SetsFuse, CrashesBy, FuseGoesOn, SameFailing, HeadUnder, LeavesAlone, LeavesFuse, WritesUnder, stored_calls}
 use Rattle.vx_diskset.specs.Burning.{NoMore}
 
 -- the calls of a packet that a site hears of another one: those of a header where its link comes to count more as stored
@@ -19,6 +20,17 @@ abbrev pub heard_calls : World → (number site source : ℕ) → ℕ
 heard_calls w number site source = stored_calls (w.links site source).stored ((delivered w number (packet_at w.packets number)).world.links site source).stored
 
 module _ {R : Type 0} {g : Ghosts R} where
+  -- What a read leaves of the disks of its site. One of a group is a read of some plex, or of several where disks fail: it is known that it makes none
+  -- fail.
+  abbrev pub ReadsBy : Bool → DiskSet R g → DiskSet R g → Type 0
+  ReadsBy true old new = SameFailing old new
+  ReadsBy false old new = LeavesAlone old new
+
+  -- What a write of these bytes leaves of the fuse of its site. How many calls it makes over a group is not said.
+  abbrev pub WritesBy : Bool → List ℕ → Said → DiskSet R g → DiskSet R g → Type 0
+  WritesBy true bytes said old new = FuseGoesOn old new
+  WritesBy false bytes said old new = WritesUnder bytes said old new
+
   -- the disk set of this site did so, and no other changed
   pub record OfSite (Did : DiskSet R g → DiskSet R g → Type 0) (site : ℕ) (old new : Yard R g) : Type 0 where
     pub before : DiskSet R g
@@ -41,8 +53,14 @@ module _ {R : Type 0} {g : Ghosts R} where
   AsAsked w (Recover site) old new = OfSite SameFailing (site_number w site) old new
   AsAsked w (Write site volume block count fill) old new = OfSite SameFailing (site_number w site) old new
   AsAsked w (Put site volume block bytes) old new = OfSite SameFailing (site_number w site) old new
-  AsAsked w (Read site volume block count) old new = OfSite LeavesAlone (site_number w site) old new
-  AsAsked w (Show site volume block count) old new = OfSite LeavesAlone (site_number w site) old new
+  AsAsked w (GroupInit site) old new = OfSite SameFailing (site_number w site) old new
+  AsAsked w (GroupDeport site) old new = OfSite SameFailing (site_number w site) old new
+  AsAsked w (GroupImport site) old new = OfSite SameFailing (site_number w site) old new
+  AsAsked w (Volume site volume blocks mirrors layout log map policy) old new = OfSite SameFailing (site_number w site) old new
+  AsAsked w (PlexDetach site volume plex) old new = OfSite SameFailing (site_number w site) old new
+  AsAsked w (PlexAttach site volume plex) old new = OfSite SameFailing (site_number w site) old new
+  AsAsked w (Read site volume block count) old new = OfSite (ReadsBy (is_over_group (w.nodes (site_number w site)))) (site_number w site) old new
+  AsAsked w (Show site volume block count) old new = OfSite (ReadsBy (is_over_group (w.nodes (site_number w site)))) (site_number w site) old new
   AsAsked w (Apply site count) old new = OfSite SameFailing (site_number w site) old new
   AsAsked w (Status site) old new = new.disk_sets.items ≡ old.disk_sets.items
   AsAsked w (Link p s sync prot) old new = AllSameFailing old new
@@ -82,8 +100,13 @@ module _ {R : Type 0} {g : Ghosts R} where
 
   -- What the calls of a line that was answered so leave of the fuse of its site.
   abbrev pub HasCalled : World → ScriptLine → Said → Yard R g → Yard R g → Type 0
-  HasCalled w (Write site volume block count fill) said old new = OfSite (WritesUnder (replicate (512 * count) fill) said) (site_number w site) old new
-  HasCalled w (Put site volume block bytes) said old new = OfSite (WritesUnder bytes said) (site_number w site) old new
+  HasCalled w (Write site volume block count fill) said old new = OfSite (WritesBy (is_over_group (w.nodes (site_number w site))) (replicate (512 * count) fill) said) (site_number w site) old new
+  HasCalled w (Put site volume block bytes) said old new = OfSite (WritesBy (is_over_group (w.nodes (site_number w site))) bytes said) (site_number w site) old new
+  HasCalled w (GroupDeport site) said old new = OfSite FuseGoesOn (site_number w site) old new
+  HasCalled w (GroupImport site) said old new = OfSite FuseGoesOn (site_number w site) old new
+  HasCalled w (Volume site volume blocks mirrors layout log map policy) said old new = OfSite FuseGoesOn (site_number w site) old new
+  HasCalled w (PlexDetach site volume plex) said old new = OfSite FuseGoesOn (site_number w site) old new
+  HasCalled w (PlexAttach site volume plex) said old new = OfSite FuseGoesOn (site_number w site) old new
   HasCalled w (Apply site count) said old new = OfSite (LeavesFuse NoMore said) (site_number w site) old new
   HasCalled w (Link p s sync prot) said old new = BothSites (LinkBurns said) (site_number w p) (site_number w s) old new
   HasCalled w (Set p s sync prot) said old new = OfSite (HeadUnder 2 said) (site_number w p) old new

@@ -2,9 +2,19 @@
 use Rattle.std.specs.Prelude.{List, [], ◌∷◌, ◌++◌}
 use Rattle.vx_disk.specs.declared.shelf.Shelf.{Ghosts}
 use Rattle.vx_diskset.specs.declared.disk_set.DiskSet.{DiskSet}
-use Rattle.vx_diskset.specs.declared.disk_set.DiskSet.TheVariants.{Bare, Spoiled, Up, Receives, Down, Gone}
+use Rattle.vx_diskset.specs.declared.disk_set.DiskSet.TheVariants.{Bare, Spoiled, Up, Receives, Down, OfGroup, Gone}
+use Rattle.vx_grouped.specs.declared.group_site.GroupSite.{GroupSite}
+use Rattle.vx_grouped.specs.declared.group_site.GroupSite.TheVariants.{Up as GroupUp, Deported, Down as GroupDown, Marked, Gone as GroupGone}
 
 module _ {R : Type 0} {g : Ghosts R} where
+  -- that of a site whose disks are a group
+  abbrev pub site_rack : GroupSite R g → List R
+  site_rack (GroupUp group) = group.shelf ∷ []
+  site_rack (Deported rack) = rack ∷ []
+  site_rack (GroupDown rack) = rack ∷ []
+  site_rack (Marked rack) = rack ∷ []
+  site_rack GroupGone = []
+
   -- that of one, if it is not taken out
   abbrev pub rack_in : DiskSet R g → List R
   rack_in (Bare rack) = rack ∷ []
@@ -12,6 +22,7 @@ module _ {R : Type 0} {g : Ghosts R} where
   rack_in (Up rvg) = rvg.shelf ∷ []
   rack_in (Receives s) = s.rvg.shelf ∷ []
   rack_in (Down rack) = rack ∷ []
+  rack_in (OfGroup s) = site_rack s.site
   rack_in Gone = []
 
   abbrev pub racks_in : List (DiskSet R g) → List R

@@ -11,7 +11,8 @@ use Rattle.vx_history.specs.World.{Node}
 use Rattle.vx_history.specs.declared.event.Event.TheVariants.{Crash as CrashAt}
 use Rattle.vx_history.specs.declared.event.Said.TheVariants.{Done as IsDone}
 use Rattle.vx_model.specs.declared.site.SiteState.TheVariants.{Down as IsDown}
-use Rattle.vx_events.specs.Doubts.{doubt_chosen, with_disks}
+use Rattle.vx_events.specs.Doubts.{IsAs, doubt_chosen, run_as, with_disks}
+use Rattle.vx_events.specs.GroupLines.{refused_events}
 use Rattle.vx_disk.specs.declared.shelf.Shelf.{Ghosts}
 use Rattle.std.specs.Io.KnownBytes.{Appends}
 use Rattle.vx_script.specs.declared.line.ScriptLine.{ScriptLine}
@@ -20,9 +21,10 @@ use Rattle.vx_diskset.specs.Holds.{beside_of}
 use Rattle.vx_diskset.specs.Stands.{IsUnused, RoleIs, SiteStands}
 use Rattle.vx_diskset.specs.declared.disk_set.DiskSet.{DiskSet}
 use Rattle.vx_events.specs.Fails.{Fails}
-use Rattle.vx_events.specs.LinkedFacts.{linked_facts}
-use Rattle.vx_events.specs.Lines.{IsDone as IsDoneLine, LineStep as IsStep}
+use Rattle.vx_events.specs.GroupEnds.{GroupEnds}
+use Rattle.vx_events.specs.Lines.{IsDone as IsDoneLine}
 use Rattle.vx_events.specs.Parts.{StopsShort}
+use Rattle.vx_events.specs.StepsOver.{StepOver, facts_over, group_place}
 use Rattle.vx_world.specs.Lines.{GoodDoubted}
 use Rattle.vx_yard.specs.Carries.{Carries}
 use Rattle.vx_yard.specs.OfSites.{HasCalled}
@@ -63,7 +65,7 @@ module _ {R : Type 0} {g : Ghosts R} where
   -- Each site has the group that its role asks for, and one in doubt is the same site either way. The disks that the world makes fail are made
   -- to fail, and a fuse that it knows of has no more calls left than it knows.
   pub record StandsFor (d : Doubted) (y : Yard R g) : Type 0 where
-    pub facts : y.facts.items ≡ linked_facts d.world
+    pub facts : y.facts.items ≡ facts_over d.world
     pub disk_sets : SitesAgree d y.disk_sets.items
     pub links : LinksFit d
     pub roles : RolesAre d y
@@ -93,6 +95,15 @@ module _ {R : Type 0} {g : Ghosts R} where
     pub carries : Carries d old → Carries next new
     pub rose : RoseAll fails (count_of old) (count_of new)
 
+  -- the same of a line that works on the group of a site
+  pub record LeadsOver (d : Doubted) (line : ScriptLine) (said : Said) (old new : Yard R g) : Type 0 where
+    pub next : Doubted
+    pub fails : Fails
+    pub done : GroupEnds (IsTold new) d line (group_place d.world line) fails said next
+    pub stands : StandsFor next new
+    pub carries : Carries d old → Carries next new
+    pub rose : RoseAll fails (count_of old) (count_of new)
+
   -- nothing of a line was done
   pub record StaysFor (d : Doubted) (old new : Yard R g) : Type 0 where
     pub stands : StandsFor d new
@@ -111,6 +122,22 @@ module _ {R : Type 0} {g : Ghosts R} where
   abbrev pub LeadsIs : Doubted → ScriptLine → Yard R g → Yard R g → Result Said OutOfMemory → Type 0
   LeadsIs d line old new (Ok said) = Leads d line said old new
   LeadsIs d line old new (Err e) = StaysFor d old new
+
+  abbrev pub LeadsOverIs : Doubted → ScriptLine → Yard R g → Yard R g → Result Said OutOfMemory → Type 0
+  LeadsOverIs d line old new (Ok said) = LeadsOver d line said old new
+  LeadsOverIs d line old new (Err e) = StaysFor d old new
+
+  -- memory ran out in the import of a recovery, behind the crash of a site that was up; or nothing was done
+  pub record CrashesFor (d : Doubted) (line : ScriptLine) (old new : Yard R g) : Type 0 where
+    pub next : Doubted
+    pub is : IsAs (run_as false d (refused_events (d.world.nodes (group_place d.world line)) (group_place d.world line) line)) (run_as false d (refused_events (d.world.nodes (group_place d.world line)) (group_place d.world line) line)).world next
+    pub stands : StandsFor next new
+    pub carries : Carries d old → Carries next new
+    pub rose : RoseAll [] (count_of old) (count_of new)
+
+  abbrev pub LeadsOverOrCrashes : Doubted → ScriptLine → Yard R g → Yard R g → Result Said OutOfMemory → Type 0
+  LeadsOverOrCrashes d line old new (Ok said) = LeadsOver d line said old new
+  LeadsOverOrCrashes d line old new (Err e) = CrashesFor d line old new
 
   -- the line was done, or memory ran out within it
   abbrev pub LeadsOrStops : Doubted → ScriptLine → Yard R g → Yard R g → Result Said OutOfMemory → Type 0
@@ -133,7 +160,7 @@ module _ {R : Type 0} {g : Ghosts R} where
   pub record AnswersFor (d : Doubted) (line : ScriptLine) (said : Said) (old new : Yard R g) : Type 0 where
     pub next : Doubted
     pub fails : Fails
-    pub step : IsStep (IsTold new) (in_files old) d line fails said next
+    pub step : StepOver (IsTold new) (in_files old) d line fails said next
     pub stands : StandsFor next new
     pub carries : Carries d old → Carries next new
     pub rose : RoseAll fails (count_of old) (count_of new)

@@ -6,7 +6,9 @@
 
 mod errors;
 pub mod facts;
+pub mod falling;
 pub mod folder;
+pub mod group_facts;
 pub mod load;
 pub mod place;
 mod racks;

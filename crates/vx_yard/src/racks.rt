@@ -1,10 +1,28 @@
 // The racks of the disk sets, as they come back.
 ghost use Rattle.std.specs.Prelude.{◌≡◌, ◌≤◌, ◌<◌, ◌++◌, [], map, vec_len};
 ghost use Rattle.std.specs.Vec.{vec_capacity};
-ghost use Rattle.vx_yard.specs.Racks.{rack_in, racks_in};
+ghost use Rattle.vx_yard.specs.Racks.{rack_in, racks_in, site_rack};
 
 use crate::DiskSet;
 use vx_disk::Rack;
+use vx_grouped::GroupSite;
+
+// Adds the rack of a site whose disks are a group.
+fn give_site<R: Rack>(racks: &mut Vec<R>, site: GroupSite<R>)
+    ensures items { vec_len racks.old < vec_capacity racks.old → racks.new.items ≡ racks.old.items ++ site_rack site }
+    ensures room { vec_capacity racks.old ≤ vec_capacity racks.new }
+{
+    match site {
+        GroupSite::Up(group) => {
+            let (rack, _) = group.apart();
+            let _ = racks.push(rack);
+        }
+        GroupSite::Deported(rack) | GroupSite::Down(rack) | GroupSite::Marked(rack) => {
+            let _ = racks.push(rack);
+        }
+        GroupSite::Gone => {}
+    }
+}
 
 // Adds the rack of an disk set.
 fn give_back<R: Rack>(racks: &mut Vec<R>, disk_set: DiskSet<R>)
@@ -20,6 +38,9 @@ fn give_back<R: Rack>(racks: &mut Vec<R>, disk_set: DiskSet<R>)
         }
         DiskSet::Receives(site) => {
             let _ = racks.push(site.into_rvg().into_shelf());
+        }
+        DiskSet::OfGroup(group) => {
+            give_site(racks, group.site);
         }
         DiskSet::Gone => {}
     }

@@ -6,18 +6,18 @@ ghost use Rattle.vx_yard.specs.Yards.{IsYardKept, IsShaped};
 use crate::Yard;
 use vx_disk::Rack;
 use vx_model::SiteState;
-use vx_model::limits::{LEAST_BLOCKS, MOST_DISKS, MOST_SITES};
+use vx_model::limits::{LEAST_BLOCKS, MOST_DISKS, MOST_SITES, MOST_VOLUMES};
 use vx_order::SiteFacts;
 
 fn is_shaped(site: &SiteFacts) -> bool
     ensures { result ≡ true → IsShaped site.now }
 {
-    if site.volumes.as_slice().len() > MOST_DISKS as usize || site.blocks < LEAST_BLOCKS {
+    if site.volumes.as_slice().len() > MOST_VOLUMES || site.blocks < LEAST_BLOCKS {
         return false;
     }
     match site.state {
         SiteState::Bare => site.disks <= MOST_DISKS,
-        SiteState::Deported => false,
+        SiteState::Deported => site.grouped,
         SiteState::Up | SiteState::Down => true,
     }
 }

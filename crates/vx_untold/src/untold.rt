@@ -1,5 +1,5 @@
-// A shelf that tells nothing of its contents, for tests of what cannot be known beforehand.
-ghost use Rattle.vx_group_rows.specs.Untold.{untold, untold_Lawful};
+// A shelf that tells nothing of its contents.
+ghost use Rattle.vx_untold.specs.Untold.{untold, untold_Lawful};
 
 use vx_disk::{Shelf, ShelfError};
 

@@ -1,0 +1,204 @@
+-- The disks of a site with a group of disks: by which parts of its node they stand, and what such a site is not.
+use Rattle.std.proofs.Common.{◌≡◌, ◌∙◌, ◌<◌, ◌≤◌, ℕ, Bool, List, ap, arith, length, refl, subst, sym}
+use Rattle.std.specs.Prelude.{Option, Some, None}
+use Rattle.vx_model.specs.declared.limits.TheConstants.{LEAST_BLOCKS, MOST_DISKS}
+use Rattle.vx_model.specs.declared.site.SiteState.TheVariants.{Bare as IsBare, Up as IsUp, Down as IsDown, Deported as IsDeported}
+use Rattle.vx_config.specs.declared.config.Config.{Config}
+use Rattle.vx_disk.specs.Shelf.{Meaning}
+use Rattle.vx_disk.specs.declared.shelf.Shelf.{Ghosts}
+use Rattle.vx_history.specs.Groups.{GroupNode}
+use Rattle.vx_history.specs.Steps.{burned}
+use Rattle.vx_history.specs.World.{Fuse as FuseOf, Node, NoFuse, Volume}
+use Rattle.vx_grouped.specs.Away.{AwayLies}
+use Rattle.vx_grouped.specs.GroupSites.{GroupAway, GroupDown, GroupSiteStands, GroupUp, HasNoRvg, IsMarkedSite, NotesGroup}
+use Rattle.vx_grouped.specs.SetFuses.{HasFuse}
+use Rattle.vx_grouped.specs.declared.group_site.GroupSite.{GroupSite}
+use Rattle.vx_grouped.specs.declared.group_site.GroupSite.TheVariants.{Up, Deported, Down, Marked, Gone}
+use Rattle.vx_grouped.proofs.SettleLemmas.{fuse_burned}
+use Rattle.vx_grouped.proofs.SiteLemmas.{lies_as}
+use Rattle.vx_diskset.specs.GroupSets.{noted_cut}
+use Rattle.vx_diskset.specs.Holds.{KeptBeside}
+use Rattle.vx_diskset.specs.Stands.{IsGroupSet, SiteStands, bare_with}
+use Rattle.vx_diskset.specs.declared.disk_set.DiskSet.{DiskSet}
+use Rattle.vx_diskset.specs.declared.disk_set.DiskSet.TheVariants.{OfGroup}
+use Rattle.vx_diskset.specs.declared.group_set.GroupSet.{GroupSet}
+
+-- ---- nodes alike in all by which such disks stand
+
+pub record IsLikeGroup (n k : Node) : Type 0 where
+  pub state : n.state ≡ k.state
+  pub disks : n.disks ≡ k.disks
+  pub blocks : n.blocks ≡ k.blocks
+  pub group : n.group ≡ k.group
+  pub none : HasNoRvg n → HasNoRvg k
+  pub fuse : (m : Meaning) → HasFuse n.fuse m → HasFuse k.fuse m
+  pub unfused : n.fuse ≡ NoFuse → k.fuse ≡ NoFuse
+
+away_like : (n k : Node) (note : GroupNode) (last : Config) (m : Meaning) → n.disks ≡ k.disks → n.blocks ≡ k.blocks → AwayLies n note last m → AwayLies k note last m
+away_like n k note last m disks blocks it = record {
+  units = it.units ∙ disks;
+  size = λ u low. it.size u (subst (λ (x : ℕ). u < x) (sym disks) low) ∙ blocks;
+  can = it.can;
+  sizes = it.sizes;
+  volumes = it.volumes;
+  has = it.has;
+}
+
+module _ (n k : Node) (like : IsLikeGroup n k) where
+  noted_like : (note : GroupNode) → NotesGroup n note → NotesGroup k note
+  noted_like note it = record { is = sym like.group ∙ it.is; none = like.none it.none }
+
+  marked_like : (m : Meaning) → IsMarkedSite n m → IsMarkedSite k m
+  marked_like m it = record {
+    state = sym like.state ∙ it.state;
+    units = it.units ∙ like.disks;
+    size = λ u low. it.size u (subst (λ (x : ℕ). u < x) (sym like.disks) low) ∙ like.blocks;
+    unfused = like.unfused it.unfused;
+    up = it.up;
+    unarmed = it.unarmed;
+  }
+
+  module _ {R : Type 0} {g : Ghosts R} where
+    stands_like : (s : GroupSite R g) → GroupSiteStands n s → GroupSiteStands k s
+    stands_like (Up group) (note, it) = (
+      note,
+      record {
+        noted = noted_like note it.noted;
+        fuse = like.fuse (g.meaning group.shelf) it.fuse;
+        at = record { state = sym like.state ∙ it.at.state; up = it.at.up; lies = lies_as n k note group.core (g.meaning group.shelf) like.disks like.blocks it.at.lies };
+      },
+    )
+    stands_like (Deported rack) (note, it) = (
+      note,
+      record {
+        noted = noted_like note it.noted;
+        up = it.up;
+        fuse = like.fuse (g.meaning rack) it.fuse;
+        away = record {
+            state = sym like.state ∙ it.away.state;
+            last = it.away.last;
+            newest = it.away.newest;
+            finds = it.away.finds;
+            config = it.away.config;
+            lies = away_like n k note it.away.last (g.meaning rack) like.disks like.blocks it.away.lies;
+        };
+      },
+    )
+    stands_like (Down rack) (note, it) = (
+      note,
+      record {
+        noted = noted_like note it.noted;
+        unfused = like.unfused it.unfused;
+        stopped = it.stopped;
+        away = record {
+            state = sym like.state ∙ it.away.state;
+            last = it.away.last;
+            config = it.away.config;
+            lies = away_like n k note it.away.last (g.meaning rack) like.disks like.blocks it.away.lies;
+        };
+      },
+    )
+    stands_like (Marked rack) it = marked_like (g.meaning rack) it
+    stands_like Gone it = absurd it
+
+    -- also with something else beside the node, as long as that is no doubt
+    pub set_like : (beside other : KeptBeside) (s : GroupSet R g) → other.doubt ≡ None → (k.state ≡ IsBare → k ≡ bare_with k) → IsGroupSet beside n s → IsGroupSet other k s
+    set_like beside other s sure bare it = record {
+      sure = sure;
+      stands = stands_like s.site it.stands;
+      cut = it.cut ∙ ap (λ (o : Option GroupNode). noted_cut o) like.group;
+      bare = bare;
+      few = subst (λ (x : ℕ). x ≤ MOST_DISKS) like.disks it.few;
+      some = subst (λ (x : ℕ). LEAST_BLOCKS ≤ x) like.blocks it.some;
+    }
+
+-- what a line that works on a site notes of its fuse
+burned_like : (n : Node) → IsLikeGroup n (record n { fuse = burned n.fuse })
+burned_like n = record {
+  state = refl;
+  disks = refl;
+  blocks = refl;
+  group = refl;
+  none = λ it. record { role = it.role; volumes = it.volumes; log = it.log; safe = it.safe; running = it.running };
+  fuse = λ m it. fuse_burned n.fuse m m (λ unarmed. unarmed) it;
+  unfused = λ none. ap (λ (f : FuseOf). burned f) none;
+}
+
+fed_like : (n : Node) (feeder : ℕ) → IsLikeGroup n (record n { fed_by = feeder })
+fed_like n feeder = record {
+  state = refl;
+  disks = refl;
+  blocks = refl;
+  group = refl;
+  none = λ it. record { role = it.role; volumes = it.volumes; log = it.log; safe = it.safe; running = it.running };
+  fuse = λ m it. it;
+  unfused = λ none. none;
+}
+
+failing_like : (n : Node) (failing : ℕ → Bool) → IsLikeGroup n (record n { failing = failing })
+failing_like n failing = record {
+  state = refl;
+  disks = refl;
+  blocks = refl;
+  group = refl;
+  none = λ it. record { role = it.role; volumes = it.volumes; log = it.log; safe = it.safe; running = it.running };
+  fuse = λ m it. it;
+  unfused = λ none. none;
+}
+
+module _ {R : Type 0} {g : Ghosts R} where
+  pub set_burned : (beside : KeptBeside) (n : Node) (s : GroupSet R g) → IsGroupSet beside n s → IsGroupSet beside (record n { fuse = burned n.fuse }) s
+  set_burned beside n s it =
+      let k : Node = record n { fuse = burned n.fuse } in
+      set_like n k (burned_like n) beside beside s it.sure
+      (λ state.
+      let is : n ≡ bare_with n = it.bare state in
+      let none : n.fuse ≡ NoFuse = ap (λ (x : Node). x.fuse) is in
+      let same : n ≡ k = ap (λ (x : FuseOf). let q : Node = record n { fuse = x } in q) (none ∙ sym (ap (λ (x : FuseOf). burned x) none)) in
+      subst (λ (x : Node). x ≡ bare_with x) same is) it
+
+  pub set_fed : (beside other : KeptBeside) (n : Node) (feeder : ℕ) (s : GroupSet R g) → other.doubt ≡ None → n.state ≡ IsUp → IsGroupSet beside n s → IsGroupSet other (record n { fed_by = feeder }) s
+  set_fed beside other n feeder s sure up it =
+      set_like n (record n { fed_by = feeder }) (fed_like n feeder) beside other s sure (λ state. absurd (let e : IsUp ≡ IsBare = sym up ∙ state in cc)) it
+
+  pub set_failing : (beside : KeptBeside) (n : Node) (failing : ℕ → Bool) (s : GroupSet R g) → IsGroupSet beside n s → IsGroupSet beside (record n { failing = failing }) s
+  set_failing beside n failing s it =
+      set_like n (record n { failing = failing }) (failing_like n failing) beside beside s it.sure
+      (λ state. ap (λ (x : Node). let q : Node = record x { failing = failing } in q) (it.bare state)) it
+
+  -- ---- what such a site is
+
+  -- one that notes no group is bare
+  bare_by : (n : Node) (s : GroupSite R g) → GroupSiteStands n s → n.group ≡ None → n.state ≡ IsBare
+  bare_by n (Up group) (note, it) raw = absurd (let e : Some note ≡ None = sym it.noted.is ∙ raw in cc)
+  bare_by n (Deported rack) (note, it) raw = absurd (let e : Some note ≡ None = sym it.noted.is ∙ raw in cc)
+  bare_by n (Down rack) (note, it) raw = absurd (let e : Some note ≡ None = sym it.noted.is ∙ raw in cc)
+  bare_by n (Marked rack) it raw = it.state
+  bare_by n Gone it raw = absurd it
+
+  pub raw_is_bare : (beside : KeptBeside) (n : Node) (s : GroupSet R g) → IsGroupSet beside n s → n.group ≡ None → n.state ≡ IsBare
+  raw_is_bare beside n s it raw = bare_by n s.site it.stands raw
+
+  none_by : (n : Node) (s : GroupSite R g) → GroupSiteStands n s → n.state ≡ IsUp → HasNoRvg n
+  none_by n (Up group) (note, it) up = it.noted.none
+  none_by n (Deported rack) (note, it) up = it.noted.none
+  none_by n (Down rack) (note, it) up = it.noted.none
+  none_by n (Marked rack) it up = absurd (let e : IsBare ≡ IsUp = sym it.state ∙ up in cc)
+  none_by n Gone it up = absurd it
+
+  -- one that is up has no volume of a replicated volume group, and no write
+  pub up_has_none : (beside : KeptBeside) (n : Node) (s : GroupSet R g) → IsGroupSet beside n s → n.state ≡ IsUp → HasNoRvg n
+  up_has_none beside n s it up = none_by n s.site it.stands up
+
+  -- such disks are those of no raw set that is up
+  pub never_raw_up : {A : Type 0} (beside : KeptBeside) (n : Node) (e : DiskSet R g) (s : GroupSet R g) → e ≡ OfGroup s → SiteStands beside n e → n.group ≡ None → n.state ≡ IsUp → A
+  never_raw_up beside n e s is stands raw up =
+      let it : IsGroupSet beside n s = subst (λ (x : DiskSet R g). SiteStands beside n x) is stands in
+      absurd (let e : IsBare ≡ IsUp = sym (raw_is_bare beside n s it raw) ∙ up in cc)
+
+  -- nor of one with a volume
+  pub never_with_volume : {A : Type 0} (beside : KeptBeside) (n : Node) (e : DiskSet R g) (s : GroupSet R g) (volume : ℕ) → e ≡ OfGroup s → SiteStands beside n e → n.state ≡ IsUp → volume < length n.volumes → A
+  never_with_volume beside n e s volume is stands up low =
+      let it : IsGroupSet beside n s = subst (λ (x : DiskSet R g). SiteStands beside n x) is stands in
+      let has = up_has_none beside n s it up in
+      absurd (omega (arith, low, ap (λ (xs : List Volume). length xs) has.volumes))

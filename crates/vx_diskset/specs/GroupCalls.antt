@@ -1,0 +1,31 @@
+-- What the calls on the group of a site promise.
+use Rattle.std.specs.Prelude.{◌≡◌, Option, None}
+use Rattle.vx_model.specs.Content.{Write}
+use Rattle.vx_disk.specs.declared.shelf.Shelf.{Ghosts}
+use Rattle.vx_watched.specs.Since.{CalledSince}
+use Rattle.vx_grouped.specs.GroupSites.{site_disks}
+use Rattle.vx_grouped.specs.declared.group_site.GroupSite.{GroupSite}
+use Rattle.vx_diskset.specs.GroupSets.{cut_value}
+use Rattle.vx_diskset.specs.declared.disk_set.DiskSet.{DiskSet}
+use Rattle.vx_diskset.specs.declared.disk_set.DiskSet.TheVariants.{OfGroup}
+
+module _ {R : Type 0} {g : Ghosts R} where
+  -- they are those of a group, of which this holds
+  abbrev pub AtSite : (GroupSite R g → Type 0) → DiskSet R g → Type 0
+  AtSite P (OfGroup s) = P s.site
+  AtSite P other = ⊥
+
+  -- and so they are behind the call
+  abbrev pub OnSites : (GroupSite R g → GroupSite R g → Type 0) → DiskSet R g → DiskSet R g → Type 0
+  OnSites P (OfGroup old) new = AtSite (P old.site) new
+  OnSites P old new = ⊥
+
+  -- the write that the fuse cut
+  abbrev pub cut_in : DiskSet R g → Option Write
+  cut_in (OfGroup s) = cut_value s.cut
+  cut_in other = None
+
+  -- whatever calls were made of them, those on the disks are accounted for; other disks are as they were
+  abbrev pub CalledOn : DiskSet R g → DiskSet R g → Type 0
+  CalledOn (OfGroup old) new = AtSite (λ s. CalledSince (site_disks old.site) (site_disks s)) new
+  CalledOn old new = new ≡ old

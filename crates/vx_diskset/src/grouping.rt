@@ -1,0 +1,159 @@
+// The calls on the group of a site that is up.
+ghost use Rattle.std.specs.Prelude.{◌≡◌, ◌≤◌, ◌<◌, ◌%◌, ℕ, false, Err, IfOk, IfSome, OnOk, Some, length, option_copied};
+ghost use Rattle.vx_grouped.specs.Ends.{plain_write};
+ghost use Rattle.vx_grouped.specs.GroupSites.{FitsPlain, UpNoted, site_config, site_disks};
+ghost use Rattle.vx_grouped.specs.SiteAdds.{SiteAdded, VolumeIn, refuses_volume};
+ghost use Rattle.vx_grouped.specs.SiteEnds.{PlainRead, PlainWrote, RegionsOf, SiteCalled, SiteDeported, answers_down, is_plex_on, refuses_att, refuses_det};
+ghost use Rattle.vx_history.specs.Groups.{GroupNode};
+ghost use Rattle.vx_history.specs.World.{Node};
+ghost use Rattle.vx_model.specs.declared.errors.Stop.TheVariants.{No as Refused};
+ghost use Rattle.vx_model.specs.declared.limits.TheConstants.{MOST_CALL_BYTES};
+ghost use Rattle.vx_model.specs.declared.no.No.{No as NoValue};
+ghost use Rattle.vx_watched.specs.Since.{CalledSince};
+ghost use Rattle.vx_diskset.specs.GroupCalls.{AtSite, CalledOn, OnSites, cut_in};
+ghost use Rattle.vx_diskset.specs.GroupSets.{cut_behind, cut_value};
+
+use crate::DiskSet;
+use crate::group_set::{CutWrite, GroupSet};
+use crate::writing::is_off;
+use std::alloc::Global;
+use std::mem;
+use vx_config::Config;
+use vx_disk::Rack;
+use vx_layout::Shape;
+use vx_model::{Blocks, Name, No, Stop};
+
+// Writes to a volume of a group. The write in which the fuse runs out is cut.
+fn write_set<R: Rack>(
+    group: &mut GroupSet<R>,
+    volume: u32,
+    block: u64,
+    bytes: &[u8],
+) -> Result<(), No>
+    requires some { 0 < length bytes.now }
+    requires few { length bytes.now ≤ MOST_CALL_BYTES }
+    requires whole { length bytes.now % 512 ≡ 0 }
+    ensures wrote { (n : Node) (note : GroupNode) → UpNoted n note group.old.site → FitsPlain note volume block (length bytes.now) → PlainWrote n note (plain_write volume block bytes.now) group.old.site group.new.site result }
+    ensures cut { cut_value group.new.cut ≡ cut_behind result (plain_write volume block bytes.now) (cut_value group.old.cut) }
+    ensures since { CalledSince (site_disks group.old.site) (site_disks group.new.site) }
+{
+    match group.site.write(volume, block, bytes) {
+        Ok(()) => Ok(()),
+        Err(no) => {
+            if is_off(&no) {
+                group.cut = Some(CutWrite {
+                    volume,
+                    block,
+                    bytes: Blocks::new(bytes),
+                });
+            }
+            Err(no)
+        }
+    }
+}
+
+impl<R: Rack> DiskSet<R> {
+    /// The configuration of the group of a site that is up.
+    pub fn config(&self) -> Option<&Config>
+        ensures { (n : Node) (note : GroupNode) → AtSite (UpNoted n note) self.now → AtSite (λ s. option_copied result ≡ site_config s) self.now }
+    {
+        match self {
+            DiskSet::OfGroup(group) => group.site.config(),
+            _ => None,
+        }
+    }
+
+    /// Deports the group of a site that is up. A site whose fuse runs out crashes.
+    pub fn deport_group(&mut self) -> Result<(), Stop>
+        ensures deported { (n : Node) (note : GroupNode) → AtSite (UpNoted n note) self.old → OnSites (λ o e. SiteDeported n note o e result) self.old self.new }
+        ensures cut { cut_in self.new ≡ cut_in self.old }
+        ensures since { CalledOn self.old self.new }
+    {
+        match mem::replace(self, DiskSet::Gone) {
+            DiskSet::OfGroup(group) => {
+                let (site, answer) = group.site.deport();
+                *self = DiskSet::OfGroup(GroupSet {
+                    site,
+                    cut: group.cut,
+                });
+                answer
+            }
+            other => {
+                *self = other;
+                Err(Stop::No(No::Role))
+            }
+        }
+    }
+
+    /// Makes a volume of the group of a site that is up, and answers its number. A site whose fuse runs out crashes.
+    pub fn make_volume(&mut self, alloc: Global, name: &Name, want: &Shape) -> Result<u32, Stop>
+        requires prefer { IfSome want.now.prefer (λ p. p < want.now.mirrors) }
+        ensures made { (n : Node) (note : GroupNode) → AtSite (UpNoted n note) self.old → OnSites (λ o e. SiteAdded n note want.now o e result) self.old self.new }
+        ensures refused { (n : Node) (note : GroupNode) (no : NoValue) → AtSite (UpNoted n note) self.old → AtSite (λ o. refuses_volume o name.now want.now ≡ Some no) self.old → result ≡ Err (Refused no) }
+        ensures volume { (n : Node) (note : GroupNode) → AtSite (UpNoted n note) self.old → IfOk result (λ vol. OnSites (VolumeIn name.now want.now vol) self.old self.new) }
+        ensures cut { cut_in self.new ≡ cut_in self.old }
+        ensures since { CalledOn self.old self.new }
+    {
+        match self {
+            DiskSet::OfGroup(group) => group.site.make_volume(alloc, name, want),
+            _ => Err(Stop::No(No::Role)),
+        }
+    }
+
+    /// Detaches a plex. A site whose fuse runs out crashes.
+    pub fn detach_plex(&mut self, volume: u32, plex: u32) -> Result<(), Stop>
+        ensures called { (n : Node) (note : GroupNode) → AtSite (UpNoted n note) self.old → OnSites (λ o e. SiteCalled n note o e result) self.old self.new }
+        ensures refused { (n : Node) (note : GroupNode) (no : NoValue) → AtSite (UpNoted n note) self.old → AtSite (λ o. refuses_det o volume plex ≡ Some no) self.old → result ≡ Err (Refused no) }
+        ensures off { OnOk result (AtSite (λ e. is_plex_on e volume plex ≡ false) self.new) }
+        ensures others { OnOk result ((w p : ℕ) → (w ≡ volume → p ≡ plex → ⊥) → OnSites (λ o e. is_plex_on e w p ≡ is_plex_on o w p) self.old self.new) }
+        ensures cut { cut_in self.new ≡ cut_in self.old }
+        ensures since { CalledOn self.old self.new }
+    {
+        match self {
+            DiskSet::OfGroup(group) => group.site.det(volume, plex),
+            _ => Err(Stop::No(No::Role)),
+        }
+    }
+
+    /// Attaches a plex, and answers how many regions were copied. A site whose fuse runs out crashes.
+    pub fn attach_plex(&mut self, volume: u32, plex: u32) -> Result<u64, Stop>
+        ensures called { (n : Node) (note : GroupNode) → AtSite (UpNoted n note) self.old → OnSites (λ o e. SiteCalled n note o e result) self.old self.new }
+        ensures refused { (n : Node) (note : GroupNode) (no : NoValue) → AtSite (UpNoted n note) self.old → AtSite (λ o. refuses_att o volume plex ≡ Some no) self.old → result ≡ Err (Refused no) }
+        ensures count { AtSite (λ o. is_plex_on o volume plex ≡ false) self.old → IfOk result (λ k. AtSite (λ o. RegionsOf o volume k) self.old) }
+        ensures others { OnOk result ((w p : ℕ) → (w ≡ volume → p ≡ plex → ⊥) → OnSites (λ o e. is_plex_on e w p ≡ is_plex_on o w p) self.old self.new) }
+        ensures cut { cut_in self.new ≡ cut_in self.old }
+        ensures since { CalledOn self.old self.new }
+    {
+        match self {
+            DiskSet::OfGroup(group) => group.site.att(volume, plex),
+            _ => Err(Stop::No(No::Role)),
+        }
+    }
+
+    /// Writes whole blocks to a volume of a group, by its number, and makes them durable. A site whose fuse runs out crashes.
+    pub fn write_plain(&mut self, volume: u32, start: u64, bytes: &[u8]) -> Result<(), No>
+        requires some { 0 < length bytes.now }
+        requires few { length bytes.now ≤ MOST_CALL_BYTES }
+        requires whole { length bytes.now % 512 ≡ 0 }
+        ensures wrote { (n : Node) (note : GroupNode) → AtSite (UpNoted n note) self.old → FitsPlain note volume start (length bytes.now) → OnSites (λ o e. PlainWrote n note (plain_write volume start bytes.now) o e result) self.old self.new }
+        ensures cut { (n : Node) (note : GroupNode) → AtSite (UpNoted n note) self.old → cut_in self.new ≡ cut_behind result (plain_write volume start bytes.now) (cut_in self.old) }
+        ensures since { CalledOn self.old self.new }
+    {
+        match self {
+            DiskSet::OfGroup(group) => write_set(group, volume, start, bytes),
+            _ => Err(No::Role),
+        }
+    }
+
+    /// Reads whole blocks of a volume of a group, by its number.
+    pub fn read_plain(&mut self, volume: u32, start: u64, into: &mut [u8]) -> Result<(), No>
+        ensures read { (n : Node) (note : GroupNode) → AtSite (UpNoted n note) self.old → FitsPlain note volume start (length into.old) → OnSites (λ o e. PlainRead n note volume start into.new o e result) self.old self.new }
+        ensures cut { cut_in self.new ≡ cut_in self.old }
+        ensures since { CalledOn self.old self.new }
+    {
+        match self {
+            DiskSet::OfGroup(group) => group.site.read(volume, start, into),
+            _ => Err(No::Role),
+        }
+    }
+}

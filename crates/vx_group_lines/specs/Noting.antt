@@ -1,0 +1,49 @@
+-- What a yard keeps where the tests of a line see something else of one site.
+use Rattle.std.specs.Prelude.{◌≡◌, ℕ, Some, None, slice_get, slice_set, Result, Ok, Err}
+use Rattle.vx_config.specs.declared.config.Config.{Config}
+use Rattle.vx_disk.specs.declared.shelf.Shelf.{Ghosts}
+use Rattle.vx_model.specs.declared.errors.OutOfMemory.{OutOfMemory}
+use Rattle.vx_model.specs.declared.errors.Stop.{Stop}
+use Rattle.vx_model.specs.declared.no.No.{No as Refusal}
+use Rattle.vx_model.specs.declared.errors.Stop.TheVariants.{No as StopsBy, OutOfMemory as MemoryStop}
+use Rattle.vx_order.specs.declared.facts.SiteFacts.{SiteFacts}
+use Rattle.vx_grouped.specs.GroupSites.{site_config}
+use Rattle.vx_diskset.specs.GroupCalls.{AtSite}
+use Rattle.vx_diskset.specs.declared.disk_set.DiskSet.{DiskSet}
+use Rattle.vx_events.specs.declared.said.Said.{Said}
+use Rattle.vx_events.specs.declared.said.Said.TheVariants.{Refused}
+use Rattle.vx_yard.specs.Loads.{LetGoBy}
+use Rattle.vx_yard.specs.Writes.{noted_facts}
+use Rattle.vx_yard.specs.declared.yard.Yard.{Yard}
+
+module _ {R : Type 0} {g : Ghosts R} where
+  -- all but what the tests see of its sites, and what these put together
+  pub record KeepsRest (old new : Yard R g) : Type 0 where
+    pub disk_sets : new.disk_sets ≡ old.disk_sets
+    pub racks : new.racks ≡ old.racks
+    pub flight : new.flight ≡ old.flight
+    pub feeders : new.feeders ≡ old.feeders
+    pub dir : new.dir ≡ old.dir
+
+  -- a site with these facts behind a call that was refused so, and the reply
+  pub record IsNotedRefusal (s : ℕ) (f : SiteFacts) (why : Refusal) (old new : Yard R g) (result : Result Said OutOfMemory) : Type 0 where
+    pub facts : new.facts.items ≡ slice_set old.facts.items s (noted_facts why f)
+    pub assemblies : LetGoBy why s old.assemblies.items new.assemblies.items
+    pub same : KeepsRest old new
+    pub said : result ≡ Ok (Refused why)
+
+  abbrev pub reply_noted : (s : ℕ) → SiteFacts → Stop → Yard R g → Yard R g → Result Said OutOfMemory → Type 0
+  reply_noted s f (StopsBy why) old new result = IsNotedRefusal s f why old new result
+  reply_noted s f MemoryStop old new result = (new ≡ old) × (result ≡ Err (record {}))
+
+  -- the group of the site is up with this configuration
+  pub record HasConfig (s : ℕ) (c : Config) (y : Yard R g) : Type 0 where
+    pub disk_set : DiskSet R g
+    pub there : slice_get y.disk_sets.items s ≡ Some disk_set
+    pub is : AtSite (λ site. site_config site ≡ Some c) disk_set
+
+  -- and it is not up
+  pub record HasNoConfig (s : ℕ) (y : Yard R g) : Type 0 where
+    pub disk_set : DiskSet R g
+    pub there : slice_get y.disk_sets.items s ≡ Some disk_set
+    pub is : AtSite (λ site. site_config site ≡ None) disk_set

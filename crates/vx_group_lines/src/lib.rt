@@ -1,0 +1,21 @@
+//! The lines that work on the disks of one site as a group without a replicated volume group: it is made, deported, imported and recovered, its
+//! volumes are made, written and read, its plexes are detached and attached, and its status is shown.
+//!
+//! A line has a file by its word (`init`, `volume` ..). What it does on the disks of the site is in `vx_diskset`.
+#![tactic(auto)]
+
+mod deport;
+mod import;
+mod init;
+mod lines;
+mod marks;
+mod noting;
+mod plex;
+mod read;
+mod recover;
+mod status;
+mod views;
+mod volume;
+mod write;
+
+pub use lines::{is_of_group, work_group};

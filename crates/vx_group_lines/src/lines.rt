@@ -1,0 +1,132 @@
+// The lines that go to the group of a site, and their work.
+use crate::deport::deport_line;
+use crate::import::import_line;
+use crate::init::init_line;
+use crate::marks::{crash_line, disk_line, fuse_line};
+use crate::plex::{attach_line, detach_line};
+use crate::read::read_plain;
+use crate::recover::recover_line;
+use crate::status::status_line;
+use crate::volume::{shape_of, volume_line};
+use crate::write::write_plain;
+use std::alloc::Global;
+use vx_disk::Rack;
+use vx_events::Said;
+use vx_model::limits::{BLOCK, MOST_CALL_BLOCKS};
+use vx_model::{Name, OutOfMemory};
+use vx_script::ScriptLine;
+use vx_yard::Yard;
+
+// Whether the disks of a site are a group without a replicated volume group.
+fn is_group<R: Rack>(yard: &Yard<R>, name: &Name) -> bool {
+    let site = yard.site_of(name);
+    yard.facts[site].grouped && yard.facts[site].rvg.is_none()
+}
+
+/// Whether a line that no test refuses goes to the group of its site.
+pub fn is_of_group<R: Rack>(yard: &Yard<R>, words: &ScriptLine) -> bool {
+    match words {
+        ScriptLine::GroupInit { .. }
+        | ScriptLine::GroupDeport { .. }
+        | ScriptLine::GroupImport { .. }
+        | ScriptLine::Volume { .. }
+        | ScriptLine::PlexDetach { .. }
+        | ScriptLine::PlexAttach { .. } => true,
+        ScriptLine::Write { site, .. }
+        | ScriptLine::Put { site, .. }
+        | ScriptLine::Read { site, .. }
+        | ScriptLine::Show { site, .. }
+        | ScriptLine::Disk { site, .. }
+        | ScriptLine::Crash { site, .. }
+        | ScriptLine::Fuse { site, .. }
+        | ScriptLine::Recover { site }
+        | ScriptLine::Status { site } => is_group(yard, site),
+        _ => false,
+    }
+}
+
+// So many blocks, each byte of which is `fill`, and no more than a line may ask.
+fn filled(alloc: Global, count: u64, fill: u8) -> Result<Vec<u8>, OutOfMemory> {
+    let bytes = Vec::from_elem(alloc, fill, BLOCK * count.min(MOST_CALL_BLOCKS) as usize)?;
+    Ok(bytes)
+}
+
+// The lines that write and read a volume.
+fn work_blocks<R: Rack>(
+    yard: &mut Yard<R>,
+    alloc: Global,
+    words: &ScriptLine,
+) -> Result<Said, OutOfMemory> {
+    match words {
+        ScriptLine::Write {
+            site,
+            volume,
+            block,
+            count,
+            fill,
+        } => {
+            let bytes = filled(alloc, *count, *fill)?;
+            Ok(write_plain(yard, alloc, site, volume, *block, &bytes))
+        }
+        ScriptLine::Put {
+            site,
+            volume,
+            block,
+            bytes,
+        } => Ok(write_plain(yard, alloc, site, volume, *block, bytes.as_bytes())),
+        ScriptLine::Read {
+            site,
+            volume,
+            block,
+            count,
+        }
+        | ScriptLine::Show {
+            site,
+            volume,
+            block,
+            count,
+        } => {
+            let room = filled(alloc, *count, 0)?;
+            Ok(read_plain(yard, site, volume, *block, room))
+        }
+        _ => unreachable!(),
+    }
+}
+
+/// Does a line that no test refuses and that goes to the group of its site.
+pub fn work_group<R: Rack>(
+    yard: &mut Yard<R>,
+    alloc: Global,
+    words: &ScriptLine,
+) -> Result<Said, OutOfMemory> {
+    match words {
+        ScriptLine::GroupInit { site } => init_line(yard, alloc, site),
+        ScriptLine::GroupDeport { site } => deport_line(yard, alloc, site),
+        ScriptLine::GroupImport { site } => import_line(yard, alloc, site),
+        ScriptLine::Volume {
+            site,
+            volume,
+            blocks,
+            mirrors,
+            layout,
+            log,
+            map,
+            policy,
+        } => {
+            let want = shape_of(*blocks, *mirrors, layout, log, map, policy);
+            volume_line(yard, alloc, site, volume, &want)
+        }
+        ScriptLine::PlexDetach { site, volume, plex } => {
+            detach_line(yard, alloc, site, volume, *plex)
+        }
+        ScriptLine::PlexAttach { site, volume, plex } => {
+            attach_line(yard, alloc, site, volume, *plex)
+        }
+        ScriptLine::Disk { site, disk, state } => Ok(disk_line(yard, site, *disk, *state)),
+        ScriptLine::Crash { site, pick } => Ok(crash_line(yard, alloc, site, *pick)),
+        ScriptLine::Fuse { site, writes, pick } => Ok(fuse_line(yard, site, *writes, *pick)),
+        ScriptLine::Recover { site } => recover_line(yard, alloc, site),
+        ScriptLine::Status { site } => status_line(yard, alloc, site),
+        _ => work_blocks(yard, alloc, words),
+    }
+}

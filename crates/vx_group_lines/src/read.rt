@@ -1,0 +1,51 @@
+// The lines that read blocks of a volume of a disk group.
+ghost use Rattle.std.specs.Prelude.{◌≡◌, ℕ, IsSome, true};
+ghost use Rattle.vx_history.specs.Doubts.{Doubted};
+ghost use Rattle.vx_script.specs.declared.line.ScriptLine.{ScriptLine};
+ghost use Rattle.vx_group_lines.specs.Plain.{IsReadOf, IsRoomFor};
+ghost use Rattle.vx_events.specs.Facts.{seat_of};
+ghost use Rattle.vx_events.specs.StepsOver.{is_for_group};
+ghost use Rattle.vx_yard.specs.OfSites.{AsAsked};
+ghost use Rattle.vx_yard.specs.Standing.{LeadsOver, StandsFor};
+ghost use Rattle.vx_yard.specs.Working.{IsFree};
+ghost use Rattle.vx_yard.specs.Yards.{IsYardKept, IsTold, in_files};
+
+use vx_disk::Rack;
+use vx_diskset::DiskSet;
+use vx_events::Said;
+use vx_model::{Bytes, Name, No};
+use vx_yard::Yard;
+
+// So many blocks of a volume, by its number, read into a place for them.
+fn blocks_of<R: Rack>(
+    disk_set: &mut DiskSet<R>,
+    volume: u32,
+    start: u64,
+    mut room: Vec<u8>,
+) -> Result<Bytes, No> {
+    disk_set.read_plain(volume, start, &mut room)?;
+    Ok(Bytes::new(room))
+}
+
+/// Reads blocks of a volume, into a place for them.
+pub fn read_plain<R: Rack>(
+    yard: &mut Yard<R>,
+    name: &Name,
+    volume: &Name,
+    start: u64,
+    room: Vec<u8>,
+) -> Said
+    requires kept { IsYardKept yard.old }
+    requires named { IsSome (seat_of yard.old.facts.items name.now) }
+    ensures leads { (d : Doubted) (line : ScriptLine) (count : ℕ) → StandsFor d yard.old → IsReadOf line name.now volume.now start count → IsRoomFor count room.items → IsFree yard.old line → is_for_group d.world line ≡ true → LeadsOver d line result yard.old yard.new }
+    ensures asked { (d : Doubted) (line : ScriptLine) (count : ℕ) → StandsFor d yard.old → IsReadOf line name.now volume.now start count → IsRoomFor count room.items → IsFree yard.old line → is_for_group d.world line ≡ true → AsAsked d.world line yard.old yard.new }
+    ensures told { IsTold yard.new → IsTold yard.old }
+    ensures files { in_files yard.new ≡ in_files yard.old }
+{
+    let site = yard.site_of(name);
+    let place = yard.volume_of(site, volume);
+    match blocks_of(&mut yard.disk_sets[site], place as u32, start, room) {
+        Ok(blocks) => Said::Got(blocks),
+        Err(no) => Said::Refused(no),
+    }
+}

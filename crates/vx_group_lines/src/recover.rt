@@ -1,0 +1,114 @@
+// The line that recovers a site whose disks are a group.
+ghost use Rattle.std.specs.Prelude.{◌≡◌, true};
+ghost use Rattle.vx_history.specs.Doubts.{Doubted};
+ghost use Rattle.vx_script.specs.declared.line.ScriptLine.TheVariants.{Recover};
+ghost use Rattle.vx_events.specs.StepsOver.{is_for_group};
+ghost use Rattle.vx_yard.specs.OfSites.{AsAsked};
+ghost use Rattle.vx_yard.specs.Standing.{LeadsOverOrCrashes, StandsFor};
+ghost use Rattle.vx_yard.specs.Working.{IsFree};
+ghost use Rattle.vx_yard.specs.Yards.{IsYardKept, IsTold, in_files};
+
+use crate::noting::{group_stopped, note_up};
+use crate::views::{ViewRoom, view_at};
+use std::alloc::Global;
+use std::mem;
+use vx_disk::Rack;
+use vx_diskset::{DiskSet, KeptWrite};
+use vx_events::Said;
+use vx_model::limits::BLOCK;
+use vx_model::{Name, OutOfMemory, SiteState};
+use vx_order::{SiteFacts, VolumeRoom};
+use vx_report::Kept;
+use vx_yard::Yard;
+use vx_yard::falling::go_down;
+
+// What a recovery needs of memory beside its import.
+#[derive(Drop)]
+struct RiseRoom {
+    volumes: VolumeRoom,
+    views: ViewRoom,
+}
+
+impl RiseRoom {
+    fn new(alloc: Global) -> Result<RiseRoom, OutOfMemory> {
+        Ok(RiseRoom {
+            volumes: VolumeRoom::new(alloc)?,
+            views: ViewRoom::new(alloc)?,
+        })
+    }
+}
+
+// What is kept of a write, with the name of its volume. Nothing is said of a volume that the group has not.
+fn shown(facts: &SiteFacts, kept: &KeptWrite) -> Option<Kept> {
+    match facts.volumes.as_slice().get(kept.write.volume as usize) {
+        Some(volume) => Some(Kept {
+            volume: volume.name,
+            block: kept.write.block,
+            count: (kept.write.bytes.as_bytes().len() / BLOCK) as u32,
+            bits: kept.bits,
+        }),
+        None => None,
+    }
+}
+
+fn shown_if(facts: &SiteFacts, kept: Option<KeptWrite>) -> Option<Kept> {
+    match kept {
+        Some(kept) => shown(facts, &kept),
+        None => None,
+    }
+}
+
+// A group that came up says how it stands, and what is kept.
+fn stand_up<R: Rack>(
+    yard: &mut Yard<R>,
+    alloc: Global,
+    site: usize,
+    room: RiseRoom,
+    kept: Option<KeptWrite>,
+) -> Said {
+    note_up(yard, site, room.volumes);
+    let kept = shown_if(&yard.facts[site], kept);
+    Said::Resumed(view_at(yard, alloc, site, room.views), kept)
+}
+
+// Imports the group of a site that is down, and says how it stands.
+fn rise<R: Rack>(
+    yard: &mut Yard<R>,
+    alloc: Global,
+    site: usize,
+    room: RiseRoom,
+) -> Result<Said, OutOfMemory> {
+    let disk_set = mem::replace(&mut yard.disk_sets[site], DiskSet::Gone);
+    let (disk_set, came) = disk_set.recover_group(alloc);
+    yard.disk_sets[site] = disk_set;
+    match came {
+        Ok(kept) => Ok(stand_up(yard, alloc, site, room, kept)),
+        Err(stop) => group_stopped(yard, alloc, site, stop),
+    }
+}
+
+/// Recovers a site whose disks are a group: one that is up crashes first. Where memory runs out in its import, the site is down, and nothing else is
+/// done.
+pub fn recover_line<R: Rack>(
+    yard: &mut Yard<R>,
+    alloc: Global,
+    name: &Name,
+) -> Result<Said, OutOfMemory>
+    requires kept { IsYardKept yard.old }
+    requires free { IsFree yard.old (Recover name.now) }
+    ensures leads { (d : Doubted) → StandsFor d yard.old → is_for_group d.world (Recover name.now) ≡ true → LeadsOverOrCrashes d (Recover name.now) yard.old yard.new result }
+    ensures asked { (d : Doubted) → StandsFor d yard.old → is_for_group d.world (Recover name.now) ≡ true → AsAsked d.world (Recover name.now) yard.old yard.new }
+    ensures told { IsTold yard.new → IsTold yard.old }
+    ensures files { in_files yard.new ≡ in_files yard.old }
+{
+    let room = RiseRoom::new(alloc)?;
+    let site = yard.site_of(name);
+    match yard.facts[site].state {
+        SiteState::Bare | SiteState::Deported => unreachable!(),
+        SiteState::Up => {
+            go_down(yard, alloc, site, u64::MAX);
+            rise(yard, alloc, site, room)
+        }
+        SiteState::Down => rise(yard, alloc, site, room),
+    }
+}
