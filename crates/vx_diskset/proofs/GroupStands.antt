@@ -75,12 +75,12 @@ module _ (n k : Node) (like : IsLikeGroup n k) where
         up = it.up;
         fuse = like.fuse (g.meaning rack) it.fuse;
         away = record {
-            state = sym like.state ∙ it.away.state;
-            last = it.away.last;
-            newest = it.away.newest;
-            finds = it.away.finds;
-            config = it.away.config;
-            lies = away_like n k note it.away.last (g.meaning rack) like.disks like.blocks it.away.lies;
+          state = sym like.state ∙ it.away.state;
+          last = it.away.last;
+          newest = it.away.newest;
+          finds = it.away.finds;
+          config = it.away.config;
+          lies = away_like n k note it.away.last (g.meaning rack) like.disks like.blocks it.away.lies;
         };
       },
     )
@@ -91,10 +91,10 @@ module _ (n k : Node) (like : IsLikeGroup n k) where
         unfused = like.unfused it.unfused;
         stopped = it.stopped;
         away = record {
-            state = sym like.state ∙ it.away.state;
-            last = it.away.last;
-            config = it.away.config;
-            lies = away_like n k note it.away.last (g.meaning rack) like.disks like.blocks it.away.lies;
+          state = sym like.state ∙ it.away.state;
+          last = it.away.last;
+          config = it.away.config;
+          lies = away_like n k note it.away.last (g.meaning rack) like.disks like.blocks it.away.lies;
         };
       },
     )

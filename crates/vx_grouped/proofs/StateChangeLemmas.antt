@@ -24,8 +24,8 @@ module _ (c : Config) (v k : ℕ) (m m' : Meaning) where
       → (on_state s ≡ true → (on_state t ≡ true) ⊎ PlexBlamed c v k m m') → (on_state t ≡ true → (on_state s ≡ true) ⊎ AnyBlamed c v m m') → StateStays c v k m m' s t
   by_state Active Active one two down up = inl refl
   by_state Stale Stale one two down up = inl refl
-  by_state Active Stale one two down up = elim (down refl) [ | inl on ↦ absurd (let no_one : false ≡ true = on in cc) | inr blamed ↦ inr (inl (refl, blamed)) ]
-  by_state Stale Active one two down up = elim (up refl) [ | inl on ↦ absurd (let no_one : false ≡ true = on in cc) | inr any ↦ inr (inr (refl, any)) ]
+  by_state Active Stale one two down up = elim (down refl) [ inl on ↦ absurd (let no_one : false ≡ true = on in cc) | inr blamed ↦ inr (inl (refl, blamed)) ]
+  by_state Stale Active one two down up = elim (up refl) [ inl on ↦ absurd (let no_one : false ≡ true = on in cc) | inr any ↦ inr (inr (refl, any)) ]
   by_state Clean t one two down up = absurd (let no_one : false ≡ true = one refl in cc)
   by_state Active Clean one two down up = absurd (let no_one : false ≡ true = two refl in cc)
   by_state Stale Clean one two down up = absurd (let no_one : false ≡ true = two refl in cc)
@@ -47,11 +47,11 @@ states_stay c d m m' one two loses v k p q was is =
     (λ live_q. sym is_on ∙ two.each v k (live_there d v k q is ∙ live_q))
     (λ on. down (loses.plexes v k (was_on ∙ on)))
     (λ on. up (loses.on v k (is_on ∙ on)))
-    where
-      down : IsTrue (active d v k) ⊎ PlexBlamed c v k m m' → (on_state q.state ≡ true) ⊎ PlexBlamed c v k m m'
-      down (inl on) = inl (sym (on_there d v k q is) ∙ on)
-      down (inr blamed) = inr blamed
+  where
+    down : IsTrue (active d v k) ⊎ PlexBlamed c v k m m' → (on_state q.state ≡ true) ⊎ PlexBlamed c v k m m'
+    down (inl on) = inl (sym (on_there d v k q is) ∙ on)
+    down (inr blamed) = inr blamed
 
-      up : IsTrue (active c v k) ⊎ AnyBlamed c v m m' → (on_state p.state ≡ true) ⊎ AnyBlamed c v m m'
-      up (inl on) = inl (sym (on_there c v k p was) ∙ on)
-      up (inr any) = inr any
+    up : IsTrue (active c v k) ⊎ AnyBlamed c v m m' → (on_state p.state ≡ true) ⊎ AnyBlamed c v m m'
+    up (inl on) = inl (sym (on_there c v k p was) ∙ on)
+    up (inr any) = inr any
