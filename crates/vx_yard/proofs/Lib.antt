@@ -18,8 +18,10 @@ pub mod Lists
 pub mod NamedSite
 pub mod NewYard
 pub mod NoteSite
+pub mod NotedFew
 pub mod OfSites
 pub mod OneSite
+pub mod OverGroup
 pub mod RawTable
 pub mod RecoverLine
 pub mod Rows

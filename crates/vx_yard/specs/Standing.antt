@@ -151,6 +151,8 @@ module _ {R : Type 0} {g : Ghosts R} where
     pub said : (step (doubt_chosen taken d (CrashAt s count)).world (CrashAt s count)).said ≡ IsDone
     pub down : ((crash_of d s count taken).world.nodes s).state ≡ IsDown
     pub blocks : ((crash_of d s count taken).world.nodes s).blocks ≡ (d.world.nodes s).blocks
+    pub volumes : ((crash_of d s count taken).world.nodes s).volumes ≡ (d.world.nodes s).volumes
+    pub group : ((crash_of d s count taken).world.nodes s).group ≡ (d.world.nodes s).group
     pub sites : (crash_of d s count taken).world.sites ≡ d.world.sites
     pub stands : StandsFor (crash_of d s count taken) new
     pub carries : Carries d old → Carries (crash_of d s count taken) new
