@@ -44,7 +44,10 @@ use Rattle.vx_events.specs.Effects.{ChangesNode, EffectAt}
 use Rattle.vx_events.specs.Ends.{AllDone, Ends, IsLeft}
 use Rattle.vx_events.specs.Facts.{seat_of, site_number}
 use Rattle.vx_events.proofs.OverSeats.{over_reads}
+use Rattle.vx_events.specs.GroupLines.{is_over_group}
 use Rattle.vx_events.specs.StepsOver.{fact_over}
+use Rattle.vx_grouped.specs.GroupSites.{HasNoRvg}
+use Rattle.vx_model.specs.Content.{Write}
 use Rattle.vx_events.specs.Sayings.{RepeatsSaid, Replies}
 use Rattle.vx_events.specs.declared.said.Said.TheVariants.{Done}
 use Rattle.vx_history.specs.declared.event.Event.{Event}
@@ -58,7 +61,7 @@ use Rattle.vx_yard.proofs.FailsStay.{fails_then}
 use Rattle.vx_yard.proofs.FuseStays.{fused_none}
 use Rattle.vx_yard.proofs.OneSite.{Changed, Comes, role_off, stands_at, told_by}
 use Rattle.vx_yard.proofs.Carrying.{LetsGo, carries_let}
-use Rattle.vx_yard.proofs.OverGroup.{doubt_apart, set_notes}
+use Rattle.vx_yard.proofs.OverGroup.{doubt_apart, over_none, set_notes}
 use Rattle.vx_yard.proofs.Rows.{down_over, over_same, row_links_same}
 
 -- the node that it leaves
@@ -220,6 +223,9 @@ module _ {R : Type 0} {g : Ghosts R} where
       small : s < MOST_SITES
       small = omega (arith, below, stands.disk_sets.few)
 
+      no_rvg : is_over_group n ≡ true → HasNoRvg n
+      no_rvg over = over_none (beside_of d s) n before (stands.disk_sets.sites s before below changed.there) over up
+
       -- a site in doubt is over no group
       doubt_never : (m : Node) (count : ℕ) (links : List KeptLink) (headers : ℕ) → m.volumes ≡ n.volumes → (k : KeptSite) → (beside_of d s).doubt ≡ Some k
           → SiteStands (record { links = links; headers = headers; doubt = None }) (crashed m count) after → (x : GroupSet R g) → after ≡ OfGroup x → ⊥
@@ -239,6 +245,7 @@ module _ {R : Type 0} {g : Ghosts R} where
             down = ap (λ (x : Node). x.state) (crash_node d s count false n (d.world.links s) refl (λ j. refl) (λ _. refl) below up least most);
             blocks = ap (λ (x : Node). x.blocks) (crash_node d s count false n (d.world.links s) refl (λ j. refl) (λ _. refl) below up least most);
             sites = (crash_changes d s count false n (d.world.links s) refl (λ j. refl) (λ _. refl) below up least most).sites;
+            plain = λ over. (omega (arith, most, ap (λ (xs : List Write). length xs) (no_rvg over).log), refl);
             group = ap (λ (x : Node). x.group) (crash_node d s count false n (d.world.links s) refl (λ j. refl) (λ _. refl) below up least most);
             volumes = ap (λ (x : Node). x.volumes) (crash_node d s count false n (d.world.links s) refl (λ j. refl) (λ _. refl) below up least most);
             carries = carries_let s d (crash_of d s count false) old new lets small (crash_changes d s count false n (d.world.links s) refl (λ j. refl) (λ _. refl) below up least most)
@@ -268,6 +275,7 @@ module _ {R : Type 0} {g : Ghosts R} where
             down = ap (λ (x : Node). x.state) (crash_node d s count true a.node a.row node_is row_is (λ e. absurd (never e)) below fits.up_too least most);
             blocks = ap (λ (x : Node). x.blocks) (crash_node d s count true a.node a.row node_is row_is (λ e. absurd (never e)) below fits.up_too least most) ∙ same_site.blocks;
             sites = (crash_changes d s count true a.node a.row node_is row_is (λ e. absurd (never e)) below fits.up_too least most).sites;
+            plain = λ over. absurd (doubt_apart (beside_of d s) n before k (stands.disk_sets.sites s before below changed.there) up other (no_rvg over).volumes);
             group = ap (λ (x : Node). x.group) (crash_node d s count true a.node a.row node_is row_is (λ e. absurd (never e)) below fits.up_too least most);
             volumes = ap (λ (x : Node). x.volumes) (crash_node d s count true a.node a.row node_is row_is (λ e. absurd (never e)) below fits.up_too least most) ∙ same_site.volumes;
             carries = carries_let s d (crash_of d s count true) old new lets small (crash_changes d s count true a.node a.row node_is row_is (λ e. absurd (never e)) below fits.up_too least most)

@@ -1,5 +1,5 @@
 -- A yard that stands for a world has sites of shapes that sites may have.
-use Rattle.std.proofs.Common.{◌≡◌, ◌∙◌, ◌<◌, ◌≤◌, ◌⊎◌, inl, inr, ⊎_elim, ℕ, zero, suc, Bool, true, false, List, [], ◌∷◌, length, ap, subst, sym, refl, arith}
+use Rattle.std.proofs.Common.{◌≡◌, ◌∙◌, ◌<◌, ◌≤◌, ⊎_elim, ℕ, zero, suc, Bool, true, false, List, [], ◌∷◌, length, ap, subst, sym, refl, arith}
 use Rattle.std.proofs.lemmas.List.{length-map}
 use Rattle.std.specs.Prelude.{Some, map, slice_get, if◌then◌else◌}
 use Rattle.std.specs.Str.{bytes_eq}
@@ -7,7 +7,6 @@ use Rattle.std.proofs.lemmas.Option.{slice_get_within}
 use Rattle.vx_history.specs.Doubts.{Doubted}
 use Rattle.vx_history.specs.World.{Link, Node}
 use Rattle.vx_model.specs.declared.limits.TheConstants.{LEAST_BLOCKS, MOST_DISKS, MOST_VOLUMES}
-use Rattle.vx_model.specs.declared.site.SiteState.{SiteState}
 use Rattle.vx_model.specs.declared.site.SiteState.TheVariants.{Bare as IsBare, Up as IsUp, Deported as IsDeported, Down as IsDown}
 use Rattle.vx_disk.specs.Shelf.{Meaning}
 use Rattle.vx_disk.specs.declared.shelf.Shelf.{Ghosts}
@@ -30,19 +29,13 @@ use Rattle.vx_yard.specs.Yards.{IsYardKept, IsShaped}
 use Rattle.vx_yard.specs.declared.yard.Yard.{Yard}
 use Rattle.vx_yard.proofs.NamedSite.{fact_of}
 use Rattle.vx_yard.proofs.NotedFew.{few_noted}
-use Rattle.vx_yard.proofs.OverGroup.{bare_apart, laid_apart, set_over}
+use Rattle.vx_yard.proofs.OverGroup.{bare_apart, bare_or, laid_apart, set_over}
 use Rattle.vx_yard.proofs.Rows.{fact_from, over_from}
 
 some_at : {A : Type 0} (xs : List A) (i : ℕ) → i < length xs → (x : A) × (slice_get xs i ≡ Some x)
 some_at [] i h = absurd (omega arith)
 some_at (x ∷ xs) zero h = (x, refl)
 some_at (x ∷ xs) (suc i) h = some_at xs i (omega arith)
-
-bare_or : (t : SiteState) → (t ≡ IsBare) ⊎ (t ≡ IsBare → ⊥)
-bare_or IsBare = inl refl
-bare_or IsUp = inr (λ e. cc)
-bare_or IsDeported = inr (λ e. cc)
-bare_or IsDown = inr (λ e. cc)
 
 -- the shape of a node over no group
 record IsNodeShaped (n : Node) : Type 0 where

@@ -11,8 +11,7 @@ use Rattle.vx_events.specs.Facts.{seat_of, site_number}
 use Rattle.vx_events.specs.GroupLines.{is_over_group}
 use Rattle.vx_events.specs.LinkedFacts.{linked_fact}
 use Rattle.vx_events.specs.StepsOver.{fact_over, facts_over, over_group_at}
-use Rattle.vx_events.proofs.Over.{fact_apart, fact_grouped}
-use Rattle.vx_events.proofs.OverSeats.{seats_over}
+use Rattle.vx_events.proofs.OverSeats.{fact_apart, fact_grouped, seats_over}
 use Rattle.vx_events.proofs.Places.{position_within, some_same}
 use Rattle.vx_events.proofs.Refused.{Named}
 use Rattle.vx_events.proofs.Values.{length-values_from, slice_get-values_from}

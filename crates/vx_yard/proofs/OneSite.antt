@@ -21,7 +21,7 @@ use Rattle.vx_events.specs.Facts.{values_from}
 use Rattle.vx_events.specs.GroupLines.{is_over_group}
 use Rattle.vx_events.specs.LinkedFacts.{linked_fact}
 use Rattle.vx_events.specs.StepsOver.{fact_over, facts_over}
-use Rattle.vx_events.proofs.Over.{fact_apart}
+use Rattle.vx_events.proofs.OverSeats.{fact_apart}
 use Rattle.vx_events.specs.LinksFit.{LinksFit}
 use Rattle.vx_events.proofs.Places.{some_same}
 use Rattle.vx_events.proofs.Values.{slice_get-values_from}

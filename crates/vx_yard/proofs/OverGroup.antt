@@ -1,9 +1,11 @@
 -- Which sites are over a group, as their disks stand.
-use Rattle.std.proofs.Common.{◌≡◌, ◌∙◌, ◌≤◌, ℕ, zero, suc, ◌-◌, Bool, true, false, List, [], length, ap, subst, sym, refl, arith}
+use Rattle.std.proofs.Common.{◌≡◌, ◌∙◌, ◌≤◌, ◌⊎◌, inl, inr, ⊎_elim, ℕ, ◌-◌, Bool, true, false, List, [], length, ap, subst, sym, refl, arith}
 use Rattle.std.specs.Prelude.{◌&&◌, eqb, Option, Some, None, is_some}
+use Rattle.std.proofs.lemmas.Bool.Decides.{nat_tests}
 use Rattle.vx_history.specs.Groups.{GroupNode}
 use Rattle.vx_history.specs.World.{Node, Volume}
-use Rattle.vx_model.specs.declared.site.SiteState.TheVariants.{Bare as IsBare, Up as IsUp}
+use Rattle.vx_model.specs.declared.site.SiteState.{SiteState}
+use Rattle.vx_model.specs.declared.site.SiteState.TheVariants.{Bare as IsBare, Up as IsUp, Deported as IsDeported, Down as IsDown}
 use Rattle.vx_disk.specs.Shelf.{Meaning}
 use Rattle.vx_disk.specs.declared.shelf.Shelf.{Ghosts}
 use Rattle.vx_grouped.specs.GroupSites.{GroupSiteStands, HasNoRvg, NotesGroup}
@@ -29,10 +31,12 @@ noted_over n note it =
 pub bare_apart : (n : Node) → n ≡ bare_with n → is_over_group n ≡ false
 bare_apart n is = ap (λ (k : Node). is_over_group k) is
 
+not_zero : (k : ℕ) → 1 ≤ k → eqb k 0 ≡ false
+not_zero k some = grind (arith, nat_tests)
+
 some_apart : (k : ℕ) (b : Bool) → 1 ≤ k → (b && eqb k 0) ≡ false
-some_apart zero b some = absurd (omega (arith, some))
-some_apart (suc k) true some = refl
-some_apart (suc k) false some = refl
+some_apart k true some = not_zero k some
+some_apart k false some = refl
 
 laid_many : (n : Node) (m : Meaning) → LiesOn n m → 1 ≤ length n.volumes
 laid_many n m lies = let many : length n.volumes ≡ n.disks - 2 = sym lies.laid.count ∙ length-values_from (λ k. k) 1 (n.disks - 2) in omega (arith, many, lies.can.some)
@@ -43,6 +47,15 @@ laid_apart n m lies = some_apart (length n.volumes) (is_some n.group) (laid_many
 
 laid_some : (n : Node) (m : Meaning) → LiesOn n m → n.volumes ≡ [] → ⊥
 laid_some n m lies none = omega (arith, laid_many n m lies, ap (λ (vs : List Volume). length vs) none)
+
+pub both_ways : {b : Bool} → b ≡ true → b ≡ false → ⊥
+both_ways over apart = let e : true ≡ false = sym over ∙ apart in cc
+
+pub bare_or : (t : SiteState) → (t ≡ IsBare) ⊎ (t ≡ IsBare → ⊥)
+bare_or IsBare = inl refl
+bare_or IsUp = inr (λ e. cc)
+bare_or IsDeported = inr (λ e. cc)
+bare_or IsDown = inr (λ e. cc)
 
 module _ {R : Type 0} {g : Ghosts R} where
   site_over : (n : Node) (s : GroupSite R g) → GroupSiteStands n s → (n.state ≡ IsBare → ⊥) → is_over_group n ≡ true
@@ -67,6 +80,10 @@ module _ {R : Type 0} {g : Ghosts R} where
   pub set_notes : (beside : KeptBeside) (n : Node) (s : GroupSet R g) → IsGroupSet beside n s → (n.state ≡ IsBare → ⊥) → (note : GroupNode) × NotesGroup n note
   set_notes beside n s it made = made_by n s.site it.stands made
 
+  -- one that is over none is bare
+  pub apart_bare : (beside : KeptBeside) (n : Node) (s : GroupSet R g) → IsGroupSet beside n s → is_over_group n ≡ false → n.state ≡ IsBare
+  apart_bare beside n s it apart = ⊎_elim (λ (bare : n.state ≡ IsBare). bare) (λ made. absurd (both_ways (set_over beside n s it made) apart)) (bare_or n.state)
+
   -- other disks are those of a site over no group
   pub raw_apart : (beside : KeptBeside) (n : Node) (e : DiskSet R g) → SiteStands beside n e → ((s : GroupSet R g) → e ≡ OfGroup s → ⊥) → is_over_group n ≡ false
   raw_apart beside n (Bare rack) it other = bare_apart n it.bare.is
@@ -76,9 +93,6 @@ module _ {R : Type 0} {g : Ghosts R} where
   raw_apart beside n (Down rack) it other = laid_apart n (g.meaning rack) it.lies
   raw_apart beside n (OfGroup s) it other = absurd (other s refl)
   raw_apart beside n Gone it other = absurd it
-
-  both_ways : {b : Bool} → b ≡ true → b ≡ false → ⊥
-  both_ways over apart = let e : true ≡ false = sym over ∙ apart in cc
 
   -- the disks of a site over a group are a group
   pub over_is : (beside : KeptBeside) (n : Node) (e : DiskSet R g) → SiteStands beside n e → is_over_group n ≡ true → (s : GroupSet R g) × (e ≡ OfGroup s)
