@@ -114,7 +114,7 @@ module _ {R : Type 0} {g : Ghosts R} where
   sure_at beside n (Up rvg) h up runs = h.sure runs
   sure_at beside n (Receives site) h up runs = h.sure runs
   sure_at beside n (Down rack) h up runs = absurd (let e : IsDown ≡ IsUp = sym h.state ∙ up in cc)
-  sure_at beside n (OfGroup s) h up runs = h.sure
+  sure_at beside n (OfGroup s) h up runs = h.sure (λ bare. let e : IsBare ≡ IsUp = sym bare ∙ up in cc)
   sure_at beside n Gone h up runs = absurd h
 
   pub calls_keep : (P : Disks → Disks → Type 0) (said : Said) (before after : DiskSet R g) → LeavesFuse P said before after → SameFailing before after

@@ -224,7 +224,7 @@ module _ {R : Type 0} {g : Ghosts R} where
       small = omega (arith, below, stands.disk_sets.few)
 
       no_rvg : is_over_group n ≡ true → HasNoRvg n
-      no_rvg over = over_none (beside_of d s) n before (stands.disk_sets.sites s before below changed.there) over up
+      no_rvg over = over_none (beside_of d s) n before (stands.disk_sets.sites s before below changed.there) over
 
       -- a site in doubt is over no group
       doubt_never : (m : Node) (count : ℕ) (links : List KeptLink) (headers : ℕ) → m.volumes ≡ n.volumes → (k : KeptSite) → (beside_of d s).doubt ≡ Some k

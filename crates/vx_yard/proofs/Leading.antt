@@ -2,6 +2,7 @@
 use Rattle.std.proofs.Common.{◌≡◌, ◌∙◌, ◌<◌, ◌≤◌, ℕ, List, length, Bool, true, false, ap, arith, refl, sym, subst}
 use Rattle.std.specs.Prelude.{Some, slice_get}
 use Rattle.vx_model.specs.Sites.{is_origin}
+use Rattle.vx_model.specs.declared.site.Role.{Role}
 use Rattle.vx_model.specs.declared.site.SiteState.TheVariants.{Up as IsUp}
 use Rattle.vx_history.specs.Doubts.{Doubted}
 use Rattle.vx_disk.specs.declared.shelf.Shelf.{Ghosts}
@@ -39,11 +40,11 @@ module _ {R : Type 0} {g : Ghosts R} (d : Doubted) (y : Yard R g) (name : List �
       ∙ sym (ap (λ (f : SiteFacts). f.state) (fact_placed d y name s (place_at d y name s stands seat) seat n)) ∙ up
 
   -- a site over a group leads its volumes
-  over_leads : is_over_group (d.world.nodes s) ≡ true → (d.world.nodes s).state ≡ IsUp → is_origin (d.world.nodes s).role ≡ true
-  over_leads over up =
+  over_leads : is_over_group (d.world.nodes s) ≡ true → is_origin (d.world.nodes s).role ≡ true
+  over_leads over =
       let below = (place_at d y name s stands seat).below in
       let e = get_there y.disk_sets.items s (omega (arith, below, stands.disk_sets.few, stands.disk_sets.eight)) in
-      ap is_origin (over_none (beside_of d s) (d.world.nodes s) e.0 (stands.disk_sets.sites s e.0 below e.1) over up).role
+      ap (λ (r : Role). is_origin r) (over_none (beside_of d s) (d.world.nodes s) e.0 (stands.disk_sets.sites s e.0 below e.1) over).role
 
   -- a read that no test refuses is at such a site
   pub read_leads : (volume : List ℕ) (start count : ℕ) → IsFree y (Read name volume start count) → (t : ℕ) → seat_of y.facts.items name ≡ Some t → is_origin (d.world.nodes t).role ≡ true
@@ -51,7 +52,7 @@ module _ {R : Type 0} {g : Ghosts R} (d : Doubted) (y : Yard R g) (name : List �
       let may = read_may y.facts.items (in_files y) name volume start count free in
       let up : (d.world.nodes s).state ≡ IsUp = up_at may.site may.up in
       subst (λ (i : ℕ). is_origin (d.world.nodes i).role ≡ true) (some_same (sym seat ∙ at))
-      (by_group (is_over_group (d.world.nodes s)) (λ over. over_leads over up)
+      (by_group (is_over_group (d.world.nodes s)) over_leads
       (λ apart. ap is_origin (read_role d.world s y.facts.items (in_files y) name volume start count may.site (fact_named d y name s (site_at d y name s stands apart seat) seat may.site) up free)))
 
   module _ (e : DiskSet R g) (b : Bool) (there : slice_get y.disk_sets.items s ≡ Some e) (is : Receives e b) where

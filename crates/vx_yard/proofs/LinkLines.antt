@@ -14,6 +14,7 @@ use Rattle.vx_diskset.specs.declared.disk_set.DiskSet.{DiskSet}
 use Rattle.vx_effects.proofs.Fitting.{fit_happened}
 use Rattle.vx_events.proofs.LinkWaiting.{wait_agrees}
 use Rattle.vx_events.specs.Facts.{seat_of, site_number}
+use Rattle.vx_events.specs.GroupLines.{is_over_group}
 use Rattle.vx_events.specs.LinkEnds.{LinksDone}
 use Rattle.vx_events.specs.StepsOver.{facts_over, refused_over}
 use Rattle.vx_events.specs.Lines.{IsDone}
@@ -35,6 +36,8 @@ use Rattle.vx_linked.specs.Greetings.{Tells}
 use Rattle.vx_linked.specs.Turns.{ComesBehind, FactsStandFor as LinksStand}
 use Rattle.vx_model.specs.declared.errors.OutOfMemory.{OutOfMemory}
 use Rattle.vx_model.specs.declared.limits.TheConstants.{MOST_SITES}
+use Rattle.vx_model.specs.Sites.{is_origin}
+use Rattle.vx_model.specs.declared.site.Role.{Role}
 use Rattle.vx_model.specs.declared.site.SiteState.TheVariants.{Up}
 use Rattle.vx_net.specs.Flights.{Flying}
 use Rattle.vx_order.specs.Order.{line_refusal}
@@ -52,6 +55,7 @@ use Rattle.vx_yard.proofs.Carrying.{feeds_same}
 use Rattle.vx_yard.proofs.ChangeSite.{rose_none}
 use Rattle.vx_yard.proofs.NamedSite.{place_at}
 use Rattle.vx_yard.proofs.OneSite.{doubt_same}
+use Rattle.vx_yard.proofs.OverGroup.{over_none, receives_apart}
 
 -- what the world has of a site beside its node stays
 beside_kept : (d : Doubted) (v : World) (s : ℕ) → LeavesDisks d.world v → beside_of (record d { world = v }) s ≡ beside_of d s
@@ -246,15 +250,16 @@ module _ {R : Type 0} {g : Ghosts R} where
 
   -- the session and the last durable write of the site that may greet
   pub tells : (d : Doubted) (y : Yard R g) (name : List ℕ) (s session stored : ℕ) (e f : DiskSet R g) → StandsFor d y → seat_of y.facts.items name ≡ Some s → slice_get y.disk_sets.items s ≡ Some e
-      → slice_get y.disk_sets.items s ≡ Some f → ((beside : KeptBeside) (n : Node) → SiteStands beside n e → n.state ≡ Up → session ≡ n.session)
+      → slice_get y.disk_sets.items s ≡ Some f → ((beside : KeptBeside) (n : Node) → SiteStands beside n e → n.state ≡ Up → is_over_group n ≡ false → session ≡ n.session)
       → ((beside : KeptBeside) (n : Node) → SiteStands beside n f → n.state ≡ Up → n.halted ≡ None → stored ≡ n.safe) → Tells (d.world.nodes (site_number d.world name)) session stored
   tells d y name s session stored e f stands is there too session_is stored_is =
       let at = place_at d y name s stands is in
       let here = stands.disk_sets.sites s e at.below there in
       let same = stands.disk_sets.sites s f at.below too in
       subst (λ (k : ℕ). Tells (d.world.nodes k) session stored) (sym at.number) (record {
-        session_is = λ up receives. session_is (beside_of d s) (d.world.nodes s) here up;
+        session_is = λ up receives. session_is (beside_of d s) (d.world.nodes s) here up (receives_apart (beside_of d s) (d.world.nodes s) e here receives);
         stored_is = λ up runs receives. stored_is (beside_of d s) (d.world.nodes s) same up runs;
+        origin = λ over. ap (λ (r : Role). is_origin r) (over_none (beside_of d s) (d.world.nodes s) e here over).role;
       })
 
   -- ---- the lines

@@ -4,6 +4,8 @@ use Rattle.std.specs.Prelude.{◌&&◌, eqb, Option, Some, None, is_some}
 use Rattle.std.proofs.lemmas.Bool.Decides.{nat_tests}
 use Rattle.vx_history.specs.Groups.{GroupNode}
 use Rattle.vx_history.specs.World.{Node, Volume}
+use Rattle.vx_model.specs.Sites.{is_origin}
+use Rattle.vx_model.specs.declared.site.Role.{Role}
 use Rattle.vx_model.specs.declared.site.SiteState.{SiteState}
 use Rattle.vx_model.specs.declared.site.SiteState.TheVariants.{Bare as IsBare, Up as IsUp, Deported as IsDeported, Down as IsDown}
 use Rattle.vx_disk.specs.Shelf.{Meaning}
@@ -11,7 +13,6 @@ use Rattle.vx_disk.specs.declared.shelf.Shelf.{Ghosts}
 use Rattle.vx_grouped.specs.GroupSites.{GroupSiteStands, HasNoRvg, NotesGroup}
 use Rattle.vx_grouped.specs.declared.group_site.GroupSite.{GroupSite}
 use Rattle.vx_grouped.specs.declared.group_site.GroupSite.TheVariants.{Up as GroupUp, Deported as GroupAway, Down as GroupDown, Marked, Gone as GroupGone}
-use Rattle.vx_diskset.proofs.GroupStands.{up_has_none}
 use Rattle.vx_diskset.specs.Holds.{KeptBeside, KeptSite}
 use Rattle.vx_diskset.specs.Layouts.{LiesOn}
 use Rattle.vx_diskset.specs.Stands.{IsGroupSet, SiteStands, bare_with}
@@ -105,10 +106,19 @@ module _ {R : Type 0} {g : Ghosts R} where
   over_is beside n Gone it over = absurd it
 
   -- and such a site has no replicated volume group
-  pub over_none : (beside : KeptBeside) (n : Node) (e : DiskSet R g) → SiteStands beside n e → is_over_group n ≡ true → n.state ≡ IsUp → HasNoRvg n
-  over_none beside n e it over up =
+  pub over_none : (beside : KeptBeside) (n : Node) (e : DiskSet R g) → SiteStands beside n e → is_over_group n ≡ true → HasNoRvg n
+  over_none beside n e it over =
       let of = over_is beside n e it over in
-      up_has_none beside n of.0 (subst (λ (x : DiskSet R g). SiteStands beside n x) of.1 it) up
+      let set : IsGroupSet beside n of.0 = subst (λ (x : DiskSet R g). SiteStands beside n x) of.1 it in
+      (set_notes beside n of.0 set (λ bare. both_ways over (bare_apart n (set.bare bare)))).1.none
+
+  -- one that receives is over no group
+  pub receives_apart : (beside : KeptBeside) (n : Node) (e : DiskSet R g) → SiteStands beside n e → is_origin n.role ≡ false → is_over_group n ≡ false
+  receives_apart beside n e it receives = by (is_over_group n) refl
+    where
+      by : (b : Bool) → is_over_group n ≡ b → is_over_group n ≡ false
+      by false is = is
+      by true is = absurd (both_ways (ap (λ (r : Role). is_origin r) (over_none beside n e it is).role) receives)
 
   -- a site that may be another has a volume of a replicated volume group
   pub doubt_apart : (beside : KeptBeside) (n : Node) (e : DiskSet R g) (k : KeptSite) → SiteStands beside n e → n.state ≡ IsUp → beside.doubt ≡ Some k → n.volumes ≡ [] → ⊥
@@ -117,5 +127,5 @@ module _ {R : Type 0} {g : Ghosts R} where
   doubt_apart beside n (Up rvg) k it up doubt none = laid_some n (g.meaning rvg.shelf) it.lies none
   doubt_apart beside n (Receives s) k it up doubt none = laid_some n (g.meaning s.rvg.shelf) it.lies none
   doubt_apart beside n (Down rack) k it up doubt none = laid_some n (g.meaning rack) it.lies none
-  doubt_apart beside n (OfGroup s) k it up doubt none = never_some (sym it.sure ∙ doubt)
+  doubt_apart beside n (OfGroup s) k it up doubt none = never_some (sym (it.sure (λ bare. let e : IsBare ≡ IsUp = sym bare ∙ up in cc)) ∙ doubt)
   doubt_apart beside n Gone k it up doubt none = it
