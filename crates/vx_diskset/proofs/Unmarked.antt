@@ -20,14 +20,15 @@ use Rattle.vx_diskset.specs.DiskSets.{MadeIs}
 use Rattle.vx_diskset.specs.GroupSets.{noted_cut}
 use Rattle.vx_diskset.specs.Holds.{KeptBeside}
 use Rattle.vx_diskset.specs.Stands.{IsBareAt, IsGroupSet, IsMarkedAt, SiteStands, faults_at}
-use Rattle.vx_diskset.specs.Zeroing.{IsZero, LeavesZeros}
+use Rattle.vx_diskset.specs.Zeroing.{LeavesZeros}
+use Rattle.vx_diskset.specs.Zeros.{OnlyZeros}
 use Rattle.vx_diskset.specs.declared.disk_set.DiskSet.{DiskSet}
 use Rattle.vx_diskset.specs.declared.disk_set.DiskSet.TheVariants.{Spoiled, OfGroup}
 use Rattle.vx_diskset.specs.declared.group_set.CutWrite.{CutWrite}
 use Rattle.vx_diskset.specs.declared.group_set.GroupSet.{GroupSet}
 use Rattle.vx_diskset.proofs.StaysUp.{never_both, not_true}
 
-module _ (n : Node) (m new : Meaning) (goes : Goes IsZero m new) (it : IsMarkedAt n m) where
+module _ (n : Node) (m new : Meaning) (goes : Goes OnlyZeros m new) (it : IsMarkedAt n m) where
   still_up : IsFalse new.down
   still_up = not_true new.down (λ fell. never_both m.down (goes.safe it.marked.unarmed fell) it.marked.up)
 
@@ -110,7 +111,7 @@ module _ {R : Type 0} {g : Ghosts R} where
   zeroed_why site n rack last (Fault disk) cause it = ((λ beside. marked_set beside n last it), cause)
   zeroed_why site n rack last IsOff cause it = absurd (never_both (g.meaning last).down cause it.marked.up)
 
-  pub zeroed_failed : (site : ℕ) (n : Node) (rack last : R) (error : ShelfError) (stop : Stop) → stop ≡ Refused (refusal_of error) → Goes IsZero (g.meaning rack) (g.meaning last)
+  pub zeroed_failed : (site : ℕ) (n : Node) (rack last : R) (error : ShelfError) (stop : Stop) → stop ≡ Refused (refusal_of error) → Goes OnlyZeros (g.meaning rack) (g.meaning last)
       → DeviceCause (g.meaning rack) (g.meaning last) (refusal_of error) → IsMarkedAt n (g.meaning rack) → MadeIs {g = g} site n (Spoiled rack) (OfGroup (record { site = Marked last; cut = None })) (Err stop)
   zeroed_failed site n rack last error stop is goes cause it =
       subst (λ (s : Stop). MadeIs site n (Spoiled rack) (OfGroup (set_of last)) (Err s)) (sym is) (zeroed_why site n rack last error cause (marked_still n (g.meaning rack) (g.meaning last) goes it))
