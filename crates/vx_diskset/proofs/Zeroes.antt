@@ -18,7 +18,7 @@ use Rattle.vx_diskset.proofs.KeepsFailing.{same_disks, same_then}
 
 -- ---- a run
 
-pub run_zeros : (count : ℕ) → count ≤ 16 → take (512 * count) (replicate 8192 0) ≡ replicate (512 * count) 0
+pub run_zeros : (count : ℕ) → count ≤ 16 → take {A = ℕ} (512 * count) (replicate 8192 0) ≡ replicate (512 * count) 0
 run_zeros count few = take-replicate (512 * count) 8192 0 (omega (arith, few))
 
 piece_zeros : (block count b : ℕ) → block ≤ b → 512 * (b - block) < 512 * count → piece block (replicate (512 * count) 0) b ≡ zero_block
