@@ -136,7 +136,7 @@ module _ (w : World) (from to : List ℕ) (f : FoundLink (facts_over w) from to)
         (find_at (leads_to b) (links_of_site w a) ∙ ap (slice_get (links_of_site w a)) (sym place_is) ∙ ap (λ (ls : List LinkFacts). slice_get ls f.place) (sym links_there) ∙ f.link_is)).0
 
     -- the facts with another link in its place
-    pub relinked_is : (l : Link) → l.made ≡ (w.links a b).made → relinked (facts_over w) f.here f.site f.place (link_fact (w.nodes a) b l) ≡ linked_facts (with_link w a b l)
+    pub relinked_is : (l : Link) → l.made ≡ (w.links a b).made → relinked (facts_over w) f.here f.site f.place (link_fact (w.nodes a) b l) ≡ facts_over (with_link w a b l)
     relinked_is l same =
         let x : LinkFacts = link_fact (w.nodes a) b l in
         ap (λ (i : ℕ). relinked (facts_over w) i f.site f.place x) here_is
@@ -182,7 +182,7 @@ between w from to l is = by (slice_get (facts_over w) from) (λ site at. get_sit
 
 -- the facts with a link put between two sites that are linked
 pub put_is : (w : World) (from to : ℕ) (old new : List SiteFacts) (x : LinkFacts) (l : Link) → old ≡ facts_over w → Put from to x old new → (w.nodes from).state ≡ Up → l.made ≡ (w.links from to).made
-    → x ≡ link_fact (w.nodes from) to l → new ≡ linked_facts (with_link w from to l)
+    → x ≡ link_fact (w.nodes from) to l → new ≡ facts_over (with_link w from to l)
 put_is w from to old new x l facts put up same is =
     let seen : put.site ≡ fact_over w from = (get_site w from put.site (sym (ap (λ (fs : List SiteFacts). slice_get fs from) facts) ∙ put.site_is)).1 in
     let alone = apart_linked w from (λ none. no_place (leads_to to) put.site.links put.place (ap (λ (s : SiteFacts). s.links) seen ∙ none) put.place_is) in

@@ -1,5 +1,5 @@
 -- Events of one link that look at nothing of its site, in memory.
-use Rattle.std.specs.Prelude.{◌≡◌, ℕ, ◌<◌, true, List}
+use Rattle.std.specs.Prelude.{◌≡◌, ℕ, ◌<◌, true, false, List}
 use Rattle.vx_courier.specs.UnderWay.{FlightStands}
 use Rattle.vx_events.specs.GroupLines.{is_over_group}
 use Rattle.vx_events.specs.LinkedFacts.{link_fact}
