@@ -7,6 +7,7 @@ use Rattle.vx_model.specs.declared.site.SiteState.TheVariants.{Bare as IsBare, U
 use Rattle.vx_history.specs.Doubts.{Doubted, happened}
 use Rattle.vx_events.proofs.Steps.{no_sites}
 use Rattle.vx_events.specs.LinkedFacts.{link_facts, linked_fact, links_by}
+use Rattle.vx_events.specs.StepsOver.{facts_over}
 use Rattle.vx_events.specs.LinksFit.{StartsAt}
 use Rattle.vx_history.specs.Sends.{is_linked}
 use Rattle.vx_model.specs.declared.site.SiteState.{SiteState}

@@ -49,7 +49,7 @@ use Rattle.vx_effects.proofs.Notes.{burned_twice}
 use Rattle.vx_events.proofs.Places.{never_some, some_same}
 use Rattle.vx_events.specs.Effects.{ChangesNode, EffectAt}
 use Rattle.vx_events.specs.LinkEnds.{LinkEnds, LinksDone, link_noted, target_noted}
-use Rattle.vx_events.specs.LinkedFacts.{linked_facts}
+use Rattle.vx_events.specs.StepsOver.{facts_over}
 use Rattle.vx_events.specs.LinksFit.{LinksFit}
 use Rattle.vx_events.specs.Sayings.{RepeatsSaid}
 use Rattle.vx_events.specs.declared.said.Said.{Said}
@@ -238,7 +238,7 @@ module _ {R : Type 0} {g : Ghosts R} where
     pub record Heard (a : Assembled) (said : EventSaid) : Type 0 where
       pub says : said ≡ o.said
       pub calls : LeavesFuse NoMore Done before after
-      pub facts : new.facts.items ≡ linked_facts (behind d event).world
+      pub facts : new.facts.items ≡ facts_over (behind d event).world
       pub flight : new.flight ≡ old.flight
       pub assemblies : new.assemblies.items ≡ slice_set old.assemblies.items s a
       pub feeders : new.feeders.items ≡ old.feeders.items
@@ -334,7 +334,7 @@ module _ {R : Type 0} {g : Ghosts R} where
     pub opens : IsOpen (d.world.nodes t)
     pub says : said ≡ (delivered d.world number (packet_at d.world.packets number)).said
     pub calls : LeavesFuse NoMore Done before after
-    pub facts : new.facts.items ≡ linked_facts (behind d (DeliverAt number)).world
+    pub facts : new.facts.items ≡ facts_over (behind d (DeliverAt number)).world
     pub flight : new.flight ≡ old.flight
     pub assemblies : new.assemblies.items ≡ slice_set old.assemblies.items t a
     pub feeders : new.feeders.items ≡ old.feeders.items
@@ -396,7 +396,7 @@ module _ {R : Type 0} {g : Ghosts R} where
           calls = tt;
         };
         stands = stands_kept start v y y noted left (fit_worked (behind d (DeliverAt number)) s (fit_happened d (DeliverAt number) false stands.links)) same
-            (noted.facts ∙ subst (λ (o : Outcome). linked_facts start.world ≡ linked_facts (worked_on (headers_counted d.world (DeliverAt number) o).world s)) (sym is) refl);
+            (noted.facts ∙ subst (λ (o : Outcome). facts_over start.world ≡ facts_over (worked_on (headers_counted d.world (DeliverAt number) o).world s)) (sym is) refl);
         carries = λ carries. carries_kept start v y y [] (carries_noted d s y carries) left sent same
             (subst (λ (ps : List Packet). FlightStands ps y.flight) (sym (ap (λ (o : Outcome). o.world.packets) is)) carries.flight);
         rose = rose_none (count_of y) (count_of y) (λ k u. omega arith);
@@ -424,7 +424,7 @@ module _ {R : Type 0} {g : Ghosts R} where
           calls = tt;
         };
         stands = stands_kept d v y y stands left (fit_happened d (DeliverAt number) false stands.links) same
-            (stands.facts ∙ subst (λ (o : Outcome). linked_facts d.world ≡ linked_facts (headers_counted d.world (DeliverAt number) o).world) (sym is) refl);
+            (stands.facts ∙ subst (λ (o : Outcome). facts_over d.world ≡ facts_over (headers_counted d.world (DeliverAt number) o).world) (sym is) refl);
         carries = λ carries. carries_kept d v y y [] carries left sent same (subst (λ (ps : List Packet). FlightStands ps y.flight) (sym (ap (λ (o : Outcome). o.world.packets) is)) carries.flight);
         rose = rose_none (count_of y) (count_of y) (λ k u. omega arith);
       }

@@ -138,7 +138,7 @@ module _ (d : Doubted) (number : ℕ) (p : Packet) (at : packet_at d.world.packe
     effect = heard_rose rises;
     kept = heard_kept;
     sure = sure_open d s fits opens;
-    like = record { state = refl; name = refl; disks = refl; blocks = refl; volumes = refl; failing = refl; fuse = refl };
+    like = record { state = refl; name = refl; disks = refl; blocks = refl; volumes = refl; group = refl; failing = refl; fuse = refl };
     fits = fit_happened d event false fits;
     fits_before = fits;
     opens = opens;

@@ -43,7 +43,7 @@ use Rattle.vx_events.specs.Effects.{EffectAt}
 use Rattle.vx_events.specs.Facts.{seat_of, site_number}
 use Rattle.vx_events.specs.Fuses.{MayPass, header_calls}
 use Rattle.vx_events.specs.LinkEnds.{LinkEnds, LinkReplies, LinksDone, link_noted}
-use Rattle.vx_events.specs.LinkedFacts.{linked_facts, refused_by}
+use Rattle.vx_events.specs.StepsOver.{facts_over, refused_over}
 use Rattle.vx_events.specs.LinkLists.{link_events}
 use Rattle.vx_events.specs.Sayings.{RepeatsSaid}
 use Rattle.vx_events.specs.declared.said.Said.{Said}
@@ -94,7 +94,7 @@ module _ {R : Type 0} {g : Ghosts R} (d : Doubted) (old : Yard R g) (first secon
 
   pub set_said : (step w event).said ≡ IsDone
   set_said =
-      let tested : refused_by w (in_files old) (Set first second sync free_prot) ≡ None = ap (λ (fs : List SiteFacts). line_refusal fs (in_files old) (Set first second sync free_prot)) (sym stands.facts) ∙ free in
+      let tested : refused_over w (in_files old) (Set first second sync free_prot) ≡ None = ap (λ (fs : List SiteFacts). line_refusal fs (in_files old) (Set first second sync free_prot)) (sym stands.facts) ∙ free in
       subst (λ (k : ℕ). (step w (SetAt k q sync)).said ≡ IsDone) here.number
       (subst (λ (k : ℕ). (step w (SetAt (site_number w first) k sync)).said ≡ IsDone) there.number (set_agrees w (in_files old) first second sync free_prot tested))
 
@@ -124,7 +124,7 @@ module _ {R : Type 0} {g : Ghosts R} (d : Doubted) (old : Yard R g) (first secon
       effect = effect;
       kept = kept;
       sure = sure_open d s stands.links set_opens;
-      like = record { state = refl; name = refl; disks = refl; blocks = refl; volumes = refl; failing = refl; fuse = refl };
+      like = record { state = refl; name = refl; disks = refl; blocks = refl; volumes = refl; group = refl; failing = refl; fuse = refl };
       fits = fit_happened d event false stands.links;
       fits_before = stands.links;
       opens = set_opens;
@@ -155,7 +155,7 @@ module _ {R : Type 0} {g : Ghosts R} (d : Doubted) (old : Yard R g) (first secon
 
   -- the state that was asked of the disks
   pub set_state_is : (disks : DiskSet R g) (st : State) → slice_get old.disk_sets.items s ≡ Some disks
-      → ((beside : KeptBeside) (m : Node) (v : World) → SiteStands beside m disks → m.state ≡ IsUp → old.facts.items ≡ linked_facts v → HasPlaces v.sites (v.links s) → (step v event).said ≡ IsDone
+      → ((beside : KeptBeside) (m : Node) (v : World) → SiteStands beside m disks → m.state ≡ IsUp → old.facts.items ≡ facts_over v → HasPlaces v.sites (v.links s) → (step v event).said ≡ IsDone
       → st ≡ state_with m (header_links (step v event).world s)) → st ≡ state
   set_state_is disks st there_too is =
       is (beside_of d s) n w (stands.disk_sets.sites s disks here.below there_too) set_opens.0 stands.facts (stands.links.rows s).places set_said
@@ -186,7 +186,7 @@ module _ {R : Type 0} {g : Ghosts R} (d : Doubted) (old : Yard R g) (first secon
     notes v = ap (λ (k : ℕ). worked_on v k) here.number
 
     -- it is done
-    pub set_leads : ((r : R) → IsRack (g.meaning r)) → HeadUnder 2 Done before after → KeptAt (beside_of d s) (worked n) state before after (Ok tt) → LeavesFuse NoMore Done before after → new.facts.items ≡ linked_facts (step w event).world → SameLoad old new → Leads d line Done old new
+    pub set_leads : ((r : R) → IsRack (g.meaning r)) → HeadUnder 2 Done before after → KeptAt (beside_of d s) (worked n) state before after (Ok tt) → LeavesFuse NoMore Done before after → new.facts.items ≡ facts_over (step w event).world → SameLoad old new → Leads d line Done old new
     set_leads racks head is calls facts load =
         let stood : SiteStands (beside_of d s) n before = stands.disk_sets.sites s before here.below at in
         leads_by {fails = []}

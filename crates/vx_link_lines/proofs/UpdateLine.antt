@@ -34,6 +34,7 @@ use Rattle.vx_events.specs.Effects.{ChangesNode, EffectAt}
 use Rattle.vx_events.specs.Facts.{group_by, group_fact}
 use Rattle.vx_events.specs.LinkEnds.{AreLeft, LinkEnds, LinksDone, link_noted, target_noted}
 use Rattle.vx_events.specs.LinkedFacts.{linked_fact}
+use Rattle.vx_events.specs.StepsOver.{facts_over}
 use Rattle.vx_events.specs.LinksFit.{LinksFit}
 use Rattle.vx_events.specs.Sayings.{RepeatsSaid}
 use Rattle.vx_events.specs.declared.said.Said.{Said}
