@@ -9,7 +9,6 @@ pub mod ExactWrite
 pub mod FailGroup
 pub mod FuseGroup
 pub mod GroupStands
-pub mod OverSets
 pub mod HeadCalls
 pub mod KeepGroup
 pub mod KeepsFailing
