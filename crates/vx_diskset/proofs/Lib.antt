@@ -10,7 +10,6 @@ pub mod FailGroup
 pub mod FuseGroup
 pub mod GroupCalling
 pub mod GroupStands
-pub mod OverSets
 pub mod HeadCalls
 pub mod KeepGroup
 pub mod KeepsFailing

@@ -324,13 +324,13 @@ module _ {R : Type 0} {g : Ghosts R} where
     -- what the call of the first part promises of the fuse of its site
     abbrev pub CallsJoin : Yard R g → Result (Unit {0}) Said → Type 0
     CallsJoin new result =
-        (e : Doubted) (noting : (ℕ → Node) → ℕ → Node) → NotesAt s noting → StandsFor (noted_by noting e) old → LinksFit e → s < e.world.sites → (step e.world (LinkAt p s sync Joins)).said ≡ IsDone
-        → OfSite (HeadUnder 2 (part_said result)) s old new
+        (e : Doubted) (noting : (ℕ → Node) → ℕ → Node) → NotesAt s noting → StandsFor (noted_by noting e) old → LinksFit e → s < e.world.sites → is_over_group (e.world.nodes s) ≡ false
+        → (step e.world (LinkAt p s sync Joins)).said ≡ IsDone → OfSite (HeadUnder 2 (part_said result)) s old new
 
     pub under_one : (new : Yard R g) (result : Result (Unit {0}) Said) → CallsJoin new result → BothSites (UnderJoined (part_said result)) p s old new
     under_one new result call =
         under_joined p s apart (part_said result) old new (omega (arith, l.below, stands.disk_sets.few, stands.disk_sets.eight)) (omega (arith, l.below_too, stands.disk_sets.few, stands.disk_sets.eight))
-        (call d note (notes_both p s s (inr refl)) start fit l.below_too l.said)
+        (call d note (notes_both p s s (inr refl)) start fit l.below_too l.apart_too l.said)
 
     pub under_two : (mid new : Yard R g) (said : Said) → BothSites (UnderJoined Done) p s old mid → OfSite (HeadUnder 2 said) p mid new → BothSites (UnderMade said) p s old new
     under_two mid new said before of = under_made p s apart said old mid new before of

@@ -1,5 +1,5 @@
 -- The sites that a line names which makes a link are found, and its first event is not refused.
-use Rattle.std.proofs.Common.{◌≡◌, ◌∙◌, ℕ, List, Bool, ap, sym, subst}
+use Rattle.std.proofs.Common.{◌≡◌, ◌∙◌, ℕ, List, Bool, false, ap, sym, subst}
 use Rattle.std.specs.Prelude.{IsSome, Some, None}
 use Rattle.vx_model.specs.declared.link.Prot.{Prot}
 use Rattle.vx_model.specs.declared.link.SyncMode.{SyncMode}
@@ -17,9 +17,10 @@ use Rattle.vx_order.specs.declared.facts.SiteFacts.{SiteFacts}
 use Rattle.vx_script.specs.declared.line.ScriptLine.TheVariants.{Link}
 use Rattle.vx_disk.specs.declared.shelf.Shelf.{Ghosts}
 use Rattle.vx_effects.proofs.LinkParts.{AreTwo, two_done}
-use Rattle.vx_events.proofs.LinkJoining.{join_agrees}
+use Rattle.vx_events.proofs.LinkJoining.{join_agrees, join_apart}
 use Rattle.vx_events.proofs.Refused.{passes}
 use Rattle.vx_events.specs.Facts.{seat_of, site_number}
+use Rattle.vx_events.specs.GroupLines.{is_over_group}
 use Rattle.vx_events.specs.LinkedFacts.{linked_fact, links_by, links_of_site}
 use Rattle.vx_events.specs.StepsOver.{facts_over, refused_over}
 use Rattle.vx_linked.proofs.Finding.{seat_found}
@@ -31,7 +32,7 @@ use Rattle.vx_link_lines.specs.declared.linking.LinkStates.{LinkStates}
 use Rattle.vx_yard.specs.declared.yard.Yard.{Yard}
 use Rattle.vx_link_lines.proofs.AllDurable.{durable_for}
 use Rattle.vx_yard.proofs.LinkLines.{listed}
-use Rattle.vx_yard.proofs.NamedSite.{SiteAt, site_at}
+use Rattle.vx_yard.proofs.NamedSite.{PlaceAt, place_at}
 
 pub link_first : (sites : List SiteFacts) (files : Bool) (first second : List ℕ) (sync : SyncMode) (prot : Prot) → line_refusal sites files (Link first second sync prot) ≡ None → IsSome (seat_of sites first)
 unfolding first_name second_name need_of halt_of ask_of

@@ -1,5 +1,5 @@
 -- What a site greets with, as the tests of a line see it and as the world has it.
-use Rattle.std.proofs.Common.{◌≡◌, ◌∙◌, ℕ, List, [], ◌++◌, length, Bool, true, false, ap, subst, refl}
+use Rattle.std.proofs.Common.{◌≡◌, ◌∙◌, ℕ, List, [], ◌++◌, length, Bool, true, false, ap, sym, subst, refl}
 use Rattle.std.specs.Prelude.{Option, Some, None, not, ◌&&◌, slice_get, if◌then◌else◌}
 use Rattle.vx_courier.specs.UnderWay.{FlightStands}
 use Rattle.vx_history.specs.Events.{greeting_back, greets}

@@ -1,5 +1,5 @@
 // A link that hears a greeting or an acknowledgement.
-ghost use Rattle.std.specs.Prelude.{◌≡◌, ℕ, ◌<◌, Some, None, IsSome};
+ghost use Rattle.std.specs.Prelude.{◌≡◌, ℕ, ◌<◌, Some, None, IsSome, true, false};
 ghost use Rattle.std.specs.Option.{option_copied};
 ghost use Rattle.vx_events.specs.LinkedFacts.{link_fact};
 ghost use Rattle.vx_events.specs.GroupLines.{is_over_group};
@@ -7,6 +7,7 @@ ghost use Rattle.vx_events.specs.StepsOver.{facts_over};
 ghost use Rattle.vx_history.specs.Listed.{AreListed};
 ghost use Rattle.vx_history.specs.Events.{handed, heard, link_heard, packet_at};
 ghost use Rattle.vx_history.specs.Refusals.{keeps_links, says};
+ghost use Rattle.vx_history.specs.Sends.{is_linked};
 ghost use Rattle.vx_history.specs.Step.{step};
 ghost use Rattle.vx_history.specs.World.{Packet, World};
 ghost use Rattle.vx_history.specs.declared.event.Event.TheVariants.{Deliver as DeliverAt};

@@ -5,7 +5,7 @@ use Rattle.vx_order.specs.declared.facts.SiteFacts.{SiteFacts}
 use Rattle.vx_events.proofs.Places.{some_same}
 use Rattle.vx_yard.specs.Yards.{in_files}
 use Rattle.vx_link_lines.proofs.LinkEnding.{called_named}
-use Rattle.vx_link_lines.proofs.LinkNames.{link_first, link_links, link_second, link_two, links_it}
+use Rattle.vx_link_lines.proofs.LinkNames.{link_apart, link_apart_too, link_first, link_links, link_second, link_two, links_it}
 use Rattle.vx_yard.proofs.Lists.{get_at}
 use Rattle.vx_yard.proofs.NamedSite.{site_at, unbegun_for}
 use Rattle.vx_yard.proofs.OfSites.{all_still}
