@@ -7,18 +7,6 @@ use Rattle.vx_yard.proofs.Lists.{get_at, set_twice}
 use Rattle.vx_diskset.proofs.KeepsFailing.{failing_stopped}
 use Rattle.vx_diskset.specs.Holds.{beside_of}
 use Rattle.vx_yard.proofs.CrashSite.{falls}
-use Rattle.vx_yard.proofs.ApplySite.{can_apply_at}
-use Rattle.vx_yard.proofs.SettleCalls.{packet_burns}
-use Rattle.vx_yard.proofs.LinkLines.{wait_brings}
-use Rattle.vx_yard.proofs.RecoverLine.{told_or}
-use Rattle.vx_yard.proofs.Leading.{read_leads}
-use Rattle.vx_yard.proofs.HeadNeeds.{head_works}
-use Rattle.vx_yard.proofs.HoldsRoom.{room_beside}
-use Rattle.vx_yard.proofs.IntoRacks.{racks_keep}
-use Rattle.vx_yard.proofs.Kept.{kept_for}
-use Rattle.vx_yard.proofs.NoteSite.{comes_one}
-use Rattle.vx_yard.proofs.NewYard.{begins_empty}
-use Rattle.vx_yard.proofs.Seats.{volume_there}
 use Rattle.vx_yard.proofs.falling.go_down.Goals as goal
 
 pub returns-clause-told : goal.returns-clause-told
