@@ -1,5 +1,5 @@
 -- How a recovery or an import of a group leaves the disks of its site.
-use Rattle.std.specs.Prelude.{◌≡◌, ◌⊎◌, ℕ, ◌<◌, Bool, true, false, [], None, IsTrue, Result, Ok, Err}
+use Rattle.std.specs.Prelude.{◌≡◌, ◌⊎◌, ℕ, ◌<◌, ◌≤◌, Bool, true, false, [], None, IsTrue, Result, Ok, Err}
 use Rattle.vx_model.specs.declared.errors.Stop.{Stop}
 use Rattle.vx_model.specs.declared.errors.Stop.TheVariants.{No as Refused}
 use Rattle.vx_model.specs.declared.no.No.TheVariants.{Device, Down as IsOff, Limit}
