@@ -34,7 +34,7 @@ err_is (Ok y) a b one two = cc
 err_is (Err s) a b one two = let p : s ≡ a = cc in let q : s ≡ b = cc in sym p ∙ q
 
 -- a refusal of a device is no test's
-pub rose_by : (T : Type 0) (m m' : Meaning) (o : Option No) (disk : ℕ) (r : Result T Stop) → r ≡ Err (Refused (Device disk)) → (o ≡ None → DetStops m m' r) → ((no : No) → o ≡ Some no → r ≡ Err (Refused no)) → (o ≡ Some (Device disk) → ⊥)
+pub rose_by : (T : Type 0) (m m' : Meaning) (o : Option No) (disk : ℕ) (r : Result T Stop) → r ≡ Err (Refused (Device disk)) → (o ≡ None → DetStops m m' r) → ((which : No) → o ≡ Some which → r ≡ Err (Refused which)) → (o ≡ Some (Device disk) → ⊥)
     → Rose (m.disk_faults disk) (m'.disk_faults disk)
 rose_by T m m' None disk r is stops refused never = by_stop r is (stops refl)
   where
@@ -46,7 +46,7 @@ rose_by T m m' (Some why) disk r is stops refused never =
     absurd (never (ap (λ (x : No). Some x) one))
 
 -- where it says that they are down they are
-pub down_by_stop : (T : Type 0) (m m' : Meaning) (o : Option No) (stop : Stop) (r : Result T Stop) → r ≡ Err stop → stops_down stop ≡ true → (o ≡ None → DetStops m m' r) → ((no : No) → o ≡ Some no → r ≡ Err (Refused no)) → (o ≡ Some IsOff → ⊥) → IsTrue m'.down
+pub down_by_stop : (T : Type 0) (m m' : Meaning) (o : Option No) (stop : Stop) (r : Result T Stop) → r ≡ Err stop → stops_down stop ≡ true → (o ≡ None → DetStops m m' r) → ((which : No) → o ≡ Some which → r ≡ Err (Refused which)) → (o ≡ Some IsOff → ⊥) → IsTrue m'.down
 down_by_stop T m m' None stop r is off stops refused never = by_stop stop off (subst (λ (y : Result T Stop). DetStops m m' y) is (stops refl))
   where
     by_stop : (x : Stop) → stops_down x ≡ true → DetStops {T = T} m m' (Err x) → IsTrue m'.down
@@ -69,28 +69,28 @@ blames_device (Device disk) = true
 blames_device IsOff = true
 blames_device other = false
 
-pub none_else : (m m' : Meaning) (no : No) → blames_device no ≡ false → DeviceCause m m' no → ⊥
+pub none_else : (m m' : Meaning) (which : No) → blames_device which ≡ false → DeviceCause m m' which → ⊥
 none_else m m' (Device disk) is cause = let clash : true ≡ false = is in cc
 none_else m m' IsOff is cause = let clash : true ≡ false = is in cc
 none_else m m' other is cause = cause
 
 -- another refusal is that of the tests
-pub lacks_by : (T : Type 0) (m m' : Meaning) (o : Option No) (stop : Stop) (r : Result T Stop) → r ≡ Err stop → (o ≡ None → DetStops m m' r) → ((no : No) → o ≡ Some no → r ≡ Err (Refused no)) → (no : No) → stop ≡ Refused no → blames_device no ≡ false → o ≡ Some no
-lacks_by T m m' None stop r is stops refused no same other =
-    absurd (none_else m m' no other (subst (λ (x : Result T Stop). DetStops m m' x) (is ∙ ap (λ (x : Stop). Err x) same) (stops refl)))
-lacks_by T m m' (Some why) stop r is stops refused no same other =
+pub lacks_by : (T : Type 0) (m m' : Meaning) (o : Option No) (stop : Stop) (r : Result T Stop) → r ≡ Err stop → (o ≡ None → DetStops m m' r) → ((which : No) → o ≡ Some which → r ≡ Err (Refused which)) → (which : No) → stop ≡ Refused which → blames_device which ≡ false → o ≡ Some which
+lacks_by T m m' None stop r is stops refused which same other =
+    absurd (none_else m m' which other (subst (λ (x : Result T Stop). DetStops m m' x) (is ∙ ap (λ (x : Stop). Err x) same) (stops refl)))
+lacks_by T m m' (Some why) stop r is stops refused which same other =
     let one : stop ≡ Refused why = err_is r stop (Refused why) is (refused why refl) in
-    let two : Refused why ≡ Refused no = sym one ∙ same in
-    let three : why ≡ no = cc in
+    let two : Refused why ≡ Refused which = sym one ∙ same in
+    let three : why ≡ which = cc in
     ap (λ (x : No). Some x) three
 
 -- where it blames a device no test refused it, as tests of names and counts blame none
-pub none_refused : (T : Type 0) (o : Option No) (stop : Stop) (r : Result T Stop) → r ≡ Err stop → ((no : No) → o ≡ Some no → r ≡ Err (Refused no)) → (o ≡ Some IsOff → ⊥) → ((disk : ℕ) → o ≡ Some (Device disk) → ⊥) → (no : No) → stop ≡ Refused no → blames_device no ≡ true → o ≡ None
-none_refused T None stop r is refused off device no same blames = refl
-none_refused T (Some why) stop r is refused off device no same blames =
+pub none_refused : (T : Type 0) (o : Option No) (stop : Stop) (r : Result T Stop) → r ≡ Err stop → ((which : No) → o ≡ Some which → r ≡ Err (Refused which)) → (o ≡ Some IsOff → ⊥) → ((disk : ℕ) → o ≡ Some (Device disk) → ⊥) → (which : No) → stop ≡ Refused which → blames_device which ≡ true → o ≡ None
+none_refused T None stop r is refused off device which same blames = refl
+none_refused T (Some why) stop r is refused off device which same blames =
     let one : stop ≡ Refused why = err_is r stop (Refused why) is (refused why refl) in
-    let two : Refused why ≡ Refused no = sym one ∙ same in
-    let three : why ≡ no = cc in
+    let two : Refused why ≡ Refused which = sym one ∙ same in
+    let three : why ≡ which = cc in
     absurd (by why (λ here. off (ap (λ (x : No). Some x) here)) (λ disk here. device disk (ap (λ (x : No). Some x) here)) (subst (λ (x : No). blames_device x ≡ true) (sym three) blames))
   where
     by : (x : No) → (x ≡ IsOff → ⊥) → ((disk : ℕ) → x ≡ Device disk → ⊥) → blames_device x ≡ true → ⊥
@@ -125,7 +125,7 @@ module _ {R : Type 0} {g : Ghosts R} (T : Type 0) (n : Node) (note : GroupNode) 
     -- it was refused, over disks that are up
     pub called_up : (stop : Stop) → stops_down stop ≡ false → CallLeaves {T = T} n note new.core (laid_disks new) (Err stop)
         → ((disk : ℕ) → stop ≡ Refused (Device disk) → Rose ((laid_disks group).disk_faults disk) ((laid_disks new).disk_faults disk))
-        → ((no : No) → stop ≡ Refused no → blames_device no ≡ true → Fails group.core.inner.config new.core.inner.config) → ((no : No) → stop ≡ Refused no → blames_device no ≡ false → Lacks no)
+        → ((which : No) → stop ≡ Refused which → blames_device which ≡ true → Fails group.core.inner.config new.core.inner.config) → ((which : No) → stop ≡ Refused which → blames_device which ≡ false → Lacks which)
         → SiteCalled {T = T} Done Fails Lacks n note (Up group) (Up new) (Err stop)
     called_up (Refused (Device disk)) off leaves rose fails lacks = (
       note_refused leaves.0 new.core.inner note,
@@ -142,7 +142,7 @@ module _ {R : Type 0} {g : Ghosts R} (T : Type 0) (n : Node) (note : GroupNode) 
     module _ (idle : Idle R g) (stopped : Stopped (laid_disks new) (idle_disks idle))
         (away : (k : Node) (next : GroupNode) → GroupLies k next new.core (laid_disks new) → IsAwayAt (record k { state = IsDown }) next new.core.inner.config (idle_disks idle)) where
       -- the fuse ran out in it
-      pub called_cut : (stop : Stop) → stops_down stop ≡ true → CallLeaves {T = T} n note new.core (laid_disks new) (Err stop) → ((no : No) → stop ≡ Refused no → blames_device no ≡ true → Fails group.core.inner.config new.core.inner.config)
+      pub called_cut : (stop : Stop) → stops_down stop ≡ true → CallLeaves {T = T} n note new.core (laid_disks new) (Err stop) → ((which : No) → stop ≡ Refused which → blames_device which ≡ true → Fails group.core.inner.config new.core.inner.config)
           → SiteCalled {T = T} Done Fails Lacks n note (Up group) (Down idle) (Err stop)
       called_cut (Refused (Device disk)) off leaves fails = cc
       called_cut (Refused IsOff) off leaves fails = (

@@ -67,9 +67,9 @@ deport_rose m m' stop (inl full) disk is = let clash : Refused (Limit Numbers gr
 deport_rose m m' stop (inr it) disk is = subst (λ (x : Stop). DetStops {T = Unit {0}} m m' (Err x)) is it
 
 -- why it is refused, but for a device
-deport_lacks : (m m' : Meaning) (stop : Stop) → Refuses m m' stop → (no : No) → stop ≡ Refused no → blames_device no ≡ false → no ≡ Limit Numbers greatest
-deport_lacks m m' stop (inl full) no is other = let same : Refused no ≡ Refused (Limit Numbers greatest) = sym is ∙ full in cc
-deport_lacks m m' stop (inr it) no is other = absurd (none_else m m' no other (subst (λ (x : Stop). DetStops {T = Unit {0}} m m' (Err x)) is it))
+deport_lacks : (m m' : Meaning) (stop : Stop) → Refuses m m' stop → (which : No) → stop ≡ Refused which → blames_device which ≡ false → which ≡ Limit Numbers greatest
+deport_lacks m m' stop (inl full) which is other = let same : Refused which ≡ Refused (Limit Numbers greatest) = sym is ∙ full in cc
+deport_lacks m m' stop (inr it) which is other = absurd (none_else m m' which other (subst (λ (x : Stop). DetStops {T = Unit {0}} m m' (Err x)) is it))
 
 -- ---- the configuration of disks that were deported
 
@@ -138,15 +138,15 @@ module _ {R : Type 0} {g : Ghosts R} (n : Node) (note : GroupNode) (group : Laid
 
     pub deport_up : stops_down stop ≡ false → CallLeaves {T = Unit {0}} n note new.core (laid_disks new) (Err stop) → SiteDeported n note (Up group) (Up new) (Err stop)
     deport_up off leaves =
-        called_up (Unit {0}) n note group new up since spells (λ c d. ⊥) (LosesSome (laid_disks group) (laid_disks new)) (λ no. no ≡ Limit Numbers greatest) stop off leaves (deport_rose (laid_disks group) (laid_disks new) stop why)
-        (λ no is blames. loses_some group.core.inner.config new.core.inner.config (laid_disks group) (laid_disks new) (racks group.shelf).counts (racks new.shelf).counts back.on back.loses)
+        called_up (Unit {0}) n note group new up since spells (λ c d. ⊥) (LosesSome (laid_disks group) (laid_disks new)) (λ which. which ≡ Limit Numbers greatest) stop off leaves (deport_rose (laid_disks group) (laid_disks new) stop why)
+        (λ which is blames. loses_some group.core.inner.config new.core.inner.config (laid_disks group) (laid_disks new) (racks group.shelf).counts (racks new.shelf).counts back.on back.loses)
         (deport_lacks (laid_disks group) (laid_disks new) stop why)
 
     module _ (idle : Idle R g) (stopped : Stopped (laid_disks new) (idle_disks idle))
         (away : (k : Node) (next : GroupNode) → GroupLies k next new.core (laid_disks new) → IsAwayAt (record k { state = IsDown }) next new.core.inner.config (idle_disks idle)) where
       pub deport_cut : stops_down stop ≡ true → CallLeaves {T = Unit {0}} n note new.core (laid_disks new) (Err stop) → SiteDeported n note (Up group) (Down idle) (Err stop)
       deport_cut off leaves =
-          called_cut (Unit {0}) n note group new up since spells (λ c d. ⊥) (LosesSome (laid_disks group) (idle_disks idle)) (λ no. no ≡ Limit Numbers greatest) idle stopped away stop off leaves
-          (λ no is blames. loses_some group.core.inner.config new.core.inner.config (laid_disks group) (idle_disks idle) (racks group.shelf).counts (racks idle.rack).counts back.on
+          called_cut (Unit {0}) n note group new up since spells (λ c d. ⊥) (LosesSome (laid_disks group) (idle_disks idle)) (λ which. which ≡ Limit Numbers greatest) idle stopped away stop off leaves
+          (λ which is blames. loses_some group.core.inner.config new.core.inner.config (laid_disks group) (idle_disks idle) (racks group.shelf).counts (racks idle.rack).counts back.on
           (both_lose (laid_disks group) (laid_disks new) (idle_disks idle) (racks group.shelf) (racks new.shelf) (racks idle.rack) since.counts (λ d. let same = stopped.counts.disk_faults d in omega (arith, same))
           group.core.inner.config new.core.inner.config new.core.inner.config back.loses (loses_same new.core.inner.config (laid_disks new) (idle_disks idle))))

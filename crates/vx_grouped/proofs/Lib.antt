@@ -27,3 +27,5 @@ pub mod StateChangeLemmas
 pub mod SpellLemmas
 pub mod MovesLemmas
 pub mod PlexMoveLemmas
+pub mod SitePlexLemmas
+pub mod BothLemmas

@@ -118,5 +118,9 @@ module _ (c d : Config) (v p : ℕ) (m m' : Meaning) (one : (u : ℕ) → m.disk
   pub att_done : CoreMoves (uses c v p) c d m m' → IsTrue (active d v p) → AttDone v p m m' c d
   att_done it on = record { whole = false; moves = restated_moves (uses c v p) Active false it (λ y at. active_state y.state (sym (on_there d v p y at) ∙ on)) }
 
-  pub att_fails : CoreMoves (uses c v p) c d m m' → active c v p ≡ false → active d v p ≡ false → AttFails v p m m' c d
-  att_fails it off still = as_was (uses c v p) it (still ∙ sym off)
+  pub att_fails : CoreMoves (uses c v p) c d m m' → active c v p ≡ false → AttFails v p m m' c d
+  att_fails it off = by (active d v p) refl
+    where
+      by : (t : Bool) → active d v p ≡ t → AttFails v p m m' c d
+      by true on = inr (att_done it on)
+      by false still = inl (as_was (uses c v p) it (still ∙ sym off))

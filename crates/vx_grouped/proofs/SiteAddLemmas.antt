@@ -163,28 +163,28 @@ module _ {R : Type 0} {g : Ghosts R} (n : Node) (note : GroupNode) (name : List 
   )
 
   module _ (stop : Stop) (works : MakesVolume name want group.core (laid_disks group) new.core (laid_disks new) (Err stop)) where
-    ended : make_refusal group.core.inner.config name want ≡ None → (no : No) → stop ≡ Refused no → MakeEnds name want group.core.inner new.core.inner (laid_disks group) (laid_disks new) (Err (Refused no))
-    ended none no is = subst (λ (x : Stop). MakeEnds name want group.core.inner new.core.inner (laid_disks group) (laid_disks new) (Err x)) is (works.ends none)
+    ended : make_refusal group.core.inner.config name want ≡ None → (which : No) → stop ≡ Refused which → MakeEnds name want group.core.inner new.core.inner (laid_disks group) (laid_disks new) (Err (Refused which))
+    ended none which is = subst (λ (x : Stop). MakeEnds name want group.core.inner new.core.inner (laid_disks group) (laid_disks new) (Err x)) is (works.ends none)
 
     not_made : (s : Shade R) → (new.core.inner.config.volumes ≡ group.core.inner.config.volumes) → MoreFailed (laid_disks group) (shade_meaning g.meaning s) group.core.inner.config.disks new.core.inner.config.disks
         → LosesSome (laid_disks group) (shade_meaning g.meaning s) group.core.inner.config new.core.inner.config
     not_made s volumes failing = fails_alone group.core.inner.config group.core.inner.config new.core.inner.config (laid_disks group) (shade_meaning g.meaning s) (racks group.shelf).counts (racks s).counts refl works.parts failing volumes
 
-    none_of : (no : No) → stop ≡ Refused no → blames_device no ≡ true → make_refusal group.core.inner.config name want ≡ None
+    none_of : (which : No) → stop ≡ Refused which → blames_device which ≡ true → make_refusal group.core.inner.config name want ≡ None
     none_of = none_refused ℕ (make_refusal group.core.inner.config name want) stop (Err stop) refl works.refused (never_off group.core.inner.config name want) (never_device group.core.inner.config name want)
 
-    fails : (no : No) → stop ≡ Refused no → blames_device no ≡ true → LosesSome (laid_disks group) (laid_disks new) group.core.inner.config new.core.inner.config
-    fails no is blames = not_made new.shelf (ended (none_of no is blames) no is).0 works.disks
+    fails : (which : No) → stop ≡ Refused which → blames_device which ≡ true → LosesSome (laid_disks group) (laid_disks new) group.core.inner.config new.core.inner.config
+    fails which is blames = not_made new.shelf (ended (none_of which is blames) which is).0 works.disks
 
-    lacks_in : (o : Option No) → make_refusal group.core.inner.config name want ≡ o → (no : No) → stop ≡ Refused no → blames_device no ≡ false → LacksVolume (Up group) name want no
-    lacks_in None none no is other = inr (none, room_by group.core.inner.config name want (laid_disks group) (laid_disks new) no other (ended none no is).1)
-    lacks_in (Some why) some no is other =
+    lacks_in : (o : Option No) → make_refusal group.core.inner.config name want ≡ o → (which : No) → stop ≡ Refused which → blames_device which ≡ false → LacksVolume (Up group) name want which
+    lacks_in None none which is other = inr (none, room_by group.core.inner.config name want (laid_disks group) (laid_disks new) which other (ended none which is).1)
+    lacks_in (Some why) some which is other =
         let same : stop ≡ Refused why = err_is (Err stop) stop (Refused why) refl (works.refused why some) in
-        let two : Refused why ≡ Refused no = sym same ∙ is in
-        let three : why ≡ no = cc in
+        let two : Refused why ≡ Refused which = sym same ∙ is in
+        let three : why ≡ which = cc in
         inl (some ∙ ap (λ (x : No). Some x) three)
 
-    lacks : (no : No) → stop ≡ Refused no → blames_device no ≡ false → LacksVolume (Up group) name want no
+    lacks : (which : No) → stop ≡ Refused which → blames_device which ≡ false → LacksVolume (Up group) name want which
     lacks = lacks_in (make_refusal group.core.inner.config name want) refl
 
   pub made_up : (stop : Stop) → stops_down stop ≡ false → MakesVolume name want group.core (laid_disks group) new.core (laid_disks new) (Err stop) → IsStill {T = ℕ} (Err stop) ((new.core ≡ group.core) × (new.shelf ≡ group.shelf))
@@ -200,5 +200,5 @@ module _ {R : Type 0} {g : Ghosts R} (n : Node) (note : GroupNode) (name : List 
     pub made_cut : (stop : Stop) → stops_down stop ≡ true → MakesVolume name want group.core (laid_disks group) new.core (laid_disks new) (Err stop) → SiteAdded n note name want (Up group) (Down idle) (Err stop)
     made_cut (Refused why) off works =
         called_cut ℕ n note group new up since spells (λ c d. ⊥) (LosesSome (laid_disks group) (idle_disks idle)) (LacksVolume (Up group) name want) idle stopped away (Refused why) off (works.leaves n note up.at)
-        (λ no is blames. not_made (Refused why) works idle.rack (ended (Refused why) works (none_of (Refused why) works no is blames) no is).0 (failed_since (laid_disks group) (laid_disks new) (idle_disks idle) stopped works.disks))
+        (λ which is blames. not_made (Refused why) works idle.rack (ended (Refused why) works (none_of (Refused why) works which is blames) which is).0 (failed_since (laid_disks group) (laid_disks new) (idle_disks idle) stopped works.disks))
     made_cut OutOfMemory off works = cc

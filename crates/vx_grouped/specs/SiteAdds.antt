@@ -28,7 +28,7 @@ use Rattle.vx_grouped.specs.declared.group_site.GroupSite.TheVariants.{Up}
 
 -- a volume that is made, by the parts of the group
 pub record MakesVolume (name : List ℕ) (want : Shape) (c : GroupCore) (m : Meaning) (d : GroupCore) (m' : Meaning) (r : Result ℕ Stop) : Type 0 where
-  pub refused : (no : No) → make_refusal c.inner.config name want ≡ Some no → r ≡ Err (Refused no)
+  pub refused : (which : No) → make_refusal c.inner.config name want ≡ Some which → r ≡ Err (Refused which)
   pub leaves : (n : Node) (note : GroupNode) → IsGroupAt n note c m → VolumeLeaves n note want d m' r
   pub ends : make_refusal c.inner.config name want ≡ None → MakeEnds name want c.inner d.inner m m' r
   pub trust : OnOk r (c.inner.committed ≡ true → d.inner.committed ≡ true)
@@ -48,12 +48,12 @@ module _ {R : Type 0} {g : Ghosts R} where
   refuses_volume other name want = None
 
   abbrev pub LacksRoom : GroupSite R g → List ℕ → Shape → No → Type 0
-  LacksRoom (Up group) name want no = IsRoomShort group.core.inner.config name want no
-  LacksRoom other name want no = ⊥
+  LacksRoom (Up group) name want which = IsRoomShort group.core.inner.config name want which
+  LacksRoom other name want which = ⊥
 
   -- why a volume is not made, but for a device: a test, want of space, or of room for its subdisks
   abbrev pub LacksVolume : GroupSite R g → List ℕ → Shape → No → Type 0
-  LacksVolume old name want no = (refuses_volume old name want ≡ Some no) ⊎ ((refuses_volume old name want ≡ None) × LacksRoom old name want no)
+  LacksVolume old name want which = (refuses_volume old name want ≡ Some which) ⊎ ((refuses_volume old name want ≡ None) × LacksRoom old name want which)
 
   -- A volume is made, which begins as zeros; else each volume has what it had. A refusal but 6 and 7 has changed nothing, nor has want of memory.
   abbrev pub SiteAdded : Node → GroupNode → List ℕ → Shape → GroupSite R g → GroupSite R g → Result ℕ Stop → Type 0

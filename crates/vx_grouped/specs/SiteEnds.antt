@@ -127,12 +127,12 @@ module _ {R : Type 0} {g : Ghosts R} where
   -- a plex that is detached: refused by the first test that holds
   abbrev pub DetCalled : Node → GroupNode → ℕ → ℕ → GroupSite R g → GroupSite R g → Result (Unit {0}) Stop → Type 0
   DetCalled n note vol plex old new r =
-      SiteCalled {T = Unit {0}} (DetDone vol plex (site_disks old) (site_disks new)) (DetFails vol plex (site_disks old) (site_disks new)) (λ no. refuses_det old vol plex ≡ Some no) n note old new r
+      SiteCalled {T = Unit {0}} (DetDone vol plex (site_disks old) (site_disks new)) (DetFails vol plex (site_disks old) (site_disks new)) (λ which. refuses_det old vol plex ≡ Some which) n note old new r
 
   -- and one that is attached
   abbrev pub AttCalled : Node → GroupNode → ℕ → ℕ → GroupSite R g → GroupSite R g → Result ℕ Stop → Type 0
   AttCalled n note vol plex old new r =
-      SiteCalled {T = ℕ} (AttDone vol plex (site_disks old) (site_disks new)) (AttFails vol plex (site_disks old) (site_disks new)) (λ no. refuses_att old vol plex ≡ Some no) n note old new r
+      SiteCalled {T = ℕ} (AttDone vol plex (site_disks old) (site_disks new)) (AttFails vol plex (site_disks old) (site_disks new)) (λ which. refuses_att old vol plex ≡ Some which) n note old new r
 
   -- A deport: done, the disks are by themselves, each image has the configuration that is noted, and each volume has on them what it had. It is refused for
   -- want of serials, or as any call.
@@ -141,4 +141,4 @@ module _ {R : Type 0} {g : Ghosts R} where
       (next : GroupNode) × NoteSettles note next × AwayNoted (deported_with next n) next new × ConfigGoes (CleansPlexes (site_disks old) (site_disks new)) note next old new
       × NewestCommitted next new
   SiteDeported n note old new (Err stop) =
-      SiteCalled {T = Unit {0}} (λ c d. ⊥) (LosesSome (site_disks old) (site_disks new)) (λ no. no ≡ Limit Numbers greatest) n note old new (Err stop)
+      SiteCalled {T = Unit {0}} (λ c d. ⊥) (LosesSome (site_disks old) (site_disks new)) (λ which. which ≡ Limit Numbers greatest) n note old new (Err stop)

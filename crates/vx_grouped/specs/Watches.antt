@@ -61,7 +61,7 @@ pub record PlexAtts (vol plex : ℕ) (c : GroupCore) (m : Meaning) (d : GroupCor
   pub others : (w p : ℕ) → (w ≡ vol → p ≡ plex → ⊥) → active d.inner.config w p ≡ active c.inner.config w p
   pub trust : OnOk r (c.inner.committed ≡ true → d.inner.committed ≡ true)
   pub cause : att_refusal c.inner.config vol plex ≡ None → DetStops m m' r
-  pub off : active c.inner.config vol plex ≡ false → IfErr r (λ stop. active d.inner.config vol plex ≡ false)
+  pub stays : IsTrue (active c.inner.config vol plex) → OnOk r (IsTrue (active d.inner.config vol plex))
   pub moves : CoreMoves (uses c.inner.config vol plex) c.inner.config d.inner.config m m'
 
 -- what is known of the disks of a group that was deported, or that is given back

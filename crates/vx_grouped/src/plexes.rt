@@ -61,7 +61,7 @@ pub fn att_plex<S: Shelf>(group: &mut Group<S>, vol: u32, plex: u32) -> Result<u
     ensures others { (w p : ℕ) → (w ≡ vol → p ≡ plex → ⊥) → active group.new.core.inner.config w p ≡ active group.old.core.inner.config w p }
     ensures trust { OnOk result (group.old.core.inner.committed ≡ true → group.new.core.inner.committed ≡ true) }
     ensures cause { att_refusal group.old.core.inner.config vol plex ≡ None → DetStops (S.meaning group.old.shelf) (S.meaning group.new.shelf) result }
-    ensures off { active group.old.core.inner.config vol plex ≡ false → IfErr result (λ stop. active group.new.core.inner.config vol plex ≡ false) }
+    ensures stays { IsTrue (active group.old.core.inner.config vol plex) → OnOk result (IsTrue (active group.new.core.inner.config vol plex)) }
     ensures moves { CoreMoves (uses group.old.core.inner.config vol plex) group.old.core.inner.config group.new.core.inner.config (S.meaning group.old.shelf) (S.meaning group.new.shelf) }
 {
     let answer = group.att(vol, plex);
