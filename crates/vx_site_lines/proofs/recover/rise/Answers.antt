@@ -4,7 +4,7 @@ use Rattle.std.specs.Prelude.{Some, slice_set}
 use Rattle.vx_diskset.specs.declared.disk_set.DiskSet.TheVariants.{Gone}
 use Rattle.vx_diskset.proofs.KeepsFailing.{failing_stopped, failing_then}
 use Rattle.vx_yard.proofs.Lists.{get_at, set_twice}
-use Rattle.vx_site_lines.proofs.RawLine.{raw_told}
+use Rattle.vx_yard.proofs.ChangeSite.{raw_told}
 use Rattle.vx_site_lines.proofs.RiseCases.{later_then, rises_again, rises_not, rises_up}
 use Rattle.vx_site_lines.proofs.recover.rise.Goals as goal
 
