@@ -14,7 +14,9 @@ use Rattle.vx_rvg.specs.Views.{Core, last_of}
 use Rattle.vx_secondary.specs.Receivers.{writes_of_updates}
 use Rattle.vx_diskset.specs.declared.disk_set.DiskSet.{DiskSet}
 use Rattle.vx_diskset.specs.declared.disk_set.DiskSet.TheVariants.{Bare, Spoiled, Up, Receives, Down, OfGroup, Gone}
-use Rattle.vx_grouped.specs.GroupSites.{GroupSiteStands, site_disks}
+use Rattle.vx_grouped.specs.GroupSites.{FitsPlain, GroupSiteStands, site_disks}
+use Rattle.vx_history.specs.Groups.{GroupNode}
+use Rattle.vx_diskset.specs.declared.group_set.CutWrite.{CutWrite}
 use Rattle.vx_diskset.specs.GroupSets.{cut_value, noted_cut}
 use Rattle.vx_diskset.specs.declared.group_set.GroupSet.{GroupSet}
 use Rattle.vx_diskset.specs.Fuses.{IsFirstLog}
@@ -118,6 +120,11 @@ pub record IsReceiverAt (beside : KeptBeside) (n : Node) (c : Core) (us : List U
   pub sure : n.halted ≡ None → beside.doubt ≡ None
   pub may : (k : KeptSite) → beside.doubt ≡ Some k → MayBe k m
 
+-- a write that the fuse of a group cut: its site is down, and it lies in its volume
+pub record CutLies (n : Node) (x : CutWrite) : Type 0 where
+  pub down : n.state ≡ IsDown
+  pub fits : (note : GroupNode) → n.group ≡ Some note → FitsPlain note x.volume x.block (length x.bytes)
+
 -- the disks of a site, up or down: a crash leaves its writes on them
 pub record IsHeldAt (beside : KeptBeside) (n : Node) (m : Meaning) : Type 0 where
   pub lies : LiesOn n m
@@ -144,9 +151,10 @@ module _ {R : Type 0} {g : Ghosts R} where
   -- The disks of a site that has a group of disks, and no replicated volume group, with the write that its fuse cut. Such a site is never in doubt. On
   -- those of a bare one a group was begun.
   pub record IsGroupSet (beside : KeptBeside) (n : Node) (s : GroupSet R g) : Type 0 where
-    pub sure : beside.doubt ≡ None
+    pub sure : (n.state ≡ IsBare → ⊥) → beside.doubt ≡ None
     pub stands : GroupSiteStands n s.site
     pub cut : cut_value s.cut ≡ noted_cut n.group
+    pub lies : (x : CutWrite) → s.cut ≡ Some x → CutLies n x
     pub bare : n.state ≡ IsBare → n ≡ bare_with n
     pub few : n.disks ≤ MOST_DISKS
     pub some : LEAST_BLOCKS ≤ n.blocks
