@@ -12,8 +12,7 @@ use Rattle.vx_diskset.specs.declared.disk_set.DiskSet.{DiskSet}
 use Rattle.vx_diskset.specs.declared.disk_set.DiskSet.TheVariants.{Bare, Spoiled, Up, Receives, Down, OfGroup, Gone}
 use Rattle.vx_diskset.specs.declared.group_set.GroupSet.{GroupSet}
 use Rattle.vx_diskset.proofs.GroupStands.{over_group}
-use Rattle.vx_events.proofs.Over.{fact_apart}
-use Rattle.vx_events.proofs.OverSeats.{over_reads}
+use Rattle.vx_events.proofs.OverSeats.{fact_apart, over_reads}
 use Rattle.vx_events.proofs.Refused.{Named}
 use Rattle.vx_events.specs.Facts.{seat_of}
 use Rattle.vx_events.specs.GroupLines.{is_over_group}

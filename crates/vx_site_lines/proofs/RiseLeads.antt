@@ -28,6 +28,7 @@ use Rattle.vx_effects.proofs.Fitting.{fit_happened}
 use Rattle.vx_effects.proofs.Leaving.{fit_disks}
 use Rattle.vx_effects.proofs.Rises.{session_effect}
 use Rattle.vx_effects.specs.Restarts.{row_of_kept}
+use Rattle.vx_events.proofs.OverSeats.{fact_apart}
 use Rattle.vx_events.proofs.Places.{never_some, some_same}
 use Rattle.vx_events.specs.Effects.{EffectAt}
 use Rattle.vx_events.specs.Ends.{Ends, IsNoDevice, found_linked}
@@ -35,7 +36,8 @@ use Rattle.vx_events.specs.Facts.{site_number, volume_fact}
 use Rattle.vx_events.specs.Fails.{Fails}
 use Rattle.vx_events.specs.Found.{SameDisks}
 use Rattle.vx_events.specs.LinkViews.{linked_view}
-use Rattle.vx_events.specs.LinkedFacts.{linked_fact, linked_facts}
+use Rattle.vx_events.specs.GroupLines.{is_over_group}
+use Rattle.vx_events.specs.LinkedFacts.{linked_fact}
 use Rattle.vx_events.specs.Lines.{IsDone as IsDoneLine}
 use Rattle.vx_events.specs.Lists.{Choice}
 use Rattle.vx_events.specs.LinksFit.{LinksFit}
@@ -60,6 +62,7 @@ use Rattle.vx_yard.proofs.NamedSite.{fact_of}
 use Rattle.vx_yard.proofs.NoteSite.{comes_same}
 use Rattle.vx_yard.proofs.OneSite.{Changed, Comes, beside_same, role_off, rose_at, stands_still, told_by}
 use Rattle.vx_yard.proofs.RecoverLine.{session_fact, told_or}
+use Rattle.vx_site_lines.proofs.Apart.{fact_stays, over_as, over_is}
 use Rattle.vx_site_lines.proofs.RiseEnds.{begun_ends, found_ends, none_ends, refused_ends, rose_ends, unread_ends}
 use Rattle.vx_site_lines.proofs.RiseLine.{down_h, effect_as, fit_h, found_as, free_h, own_at, own_safe, sure, told_comes, told_kept, told_last, unfused_down, untold_comes, untold_kept}
 use Rattle.vx_site_lines.proofs.RiseSite.{ComesUp, SeesDisks, up_carries, up_stands}
@@ -126,7 +129,7 @@ module _ {R : Type 0} {g : Ghosts R} where
       last_is = rises.last_is.each (beside_of mid s) came.node after here came.stands came.same.up came.same.running
 
       session_is : rises.session ≡ came.node.session
-      session_is = rises.session_is.each (beside_of mid s) came.node after here came.stands came.same.up
+      session_is = rises.session_is.each (beside_of mid s) came.node after here came.stands came.same.up (over_as m came.node came.same.group came.same.volumes apart)
 
       facts_are : new.facts.items ≡ slice_set old.facts.items s (risen_facts state came.node.safe ring used f)
       facts_are =
@@ -395,6 +398,7 @@ module _ {R : Type 0} {g : Ghosts R} where
           (⊎_elim
           (λ (own : fell.kept ≡ itself b k).
           any_down (sure_of fell.kept) (beside_of mid s) m (crashed fell.kept.node fell.count) before after untold down refl
-          (ap (λ (x : KeptSite). x.node.disks) own ∙ disks.disks) (ap (λ (x : KeptSite). x.node.blocks) own ∙ disks.blocks) stood_down fell.stands)
+          (ap (λ (x : KeptSite). x.node.disks) own ∙ disks.disks) (ap (λ (x : KeptSite). x.node.blocks) own ∙ disks.blocks) apart
+          (over_as k fell.kept.node (ap (λ (x : KeptSite). x.node.group) own) (ap (λ (x : KeptSite). x.node.volumes) own) (over_as m k disks.group disks.volumes apart)) stood_down fell.stands)
           (λ other. absurd (never_some (sym sure ∙ other))) fell.is)
           rose_none_here

@@ -23,8 +23,7 @@ use Rattle.vx_diskset.specs.Stands.{SiteStands}
 use Rattle.vx_diskset.specs.declared.disk_set.DiskSet.{DiskSet}
 use Rattle.vx_effects.proofs.Headers.{count_none}
 use Rattle.vx_events.proofs.LinkTesting.{AllLinked, all_linked}
-use Rattle.vx_events.proofs.Over.{fact_apart}
-use Rattle.vx_events.proofs.OverSeats.{name_over}
+use Rattle.vx_events.proofs.OverSeats.{fact_apart, name_over}
 use Rattle.vx_events.proofs.Places.{some_same}
 use Rattle.vx_events.proofs.Values.{slice_get-values_from}
 use Rattle.vx_events.specs.Ends.{AllDone}
@@ -126,7 +125,7 @@ module _ {R : Type 0} {g : Ghosts R} where
   -- what is shown of the facts of a site and of its links is how it stands
   pub linked_view_is : (d : Doubted) (y : Yard R g) (s session : ℕ) (site f : SiteFacts) (links : List LinkView) (disk_set : DiskSet R g) (view : SiteView) → StandsFor d y → s < d.world.sites → is_over_group (d.world.nodes s) ≡ false
       → slice_get y.facts.items s ≡ Some site → slice_get y.facts.items s ≡ Some f → slice_get y.disk_sets.items s ≡ Some disk_set
-      → ((beside : KeptBeside) (n : Node) → SiteStands beside n disk_set → n.state ≡ Up → session ≡ n.session)
+      → ((beside : KeptBeside) (n : Node) → SiteStands beside n disk_set → n.state ≡ Up → is_over_group n ≡ false → session ≡ n.session)
       → view ≡ site_seen y.facts.items session site links → links ≡ links_seen y.facts.items f.links → view ≡ linked_view d.world s
   linked_view_is d y s session site f links disk_set view stands below apart site_at f_at disk_set_at session_is is links_is =
       let there = fact_of d y s stands below ∙ ap (λ (x : SiteFacts). Some x) (fact_apart d.world s apart) in
@@ -136,7 +135,7 @@ module _ {R : Type 0} {g : Ghosts R} where
       ∙ ap (λ (ls : List LinkView). site_seen y.facts.items session site ls) (links_is ∙ ap (λ (x : SiteFacts). links_seen y.facts.items x.links) f_same)
       ∙ ap (λ (x : SiteFacts). site_seen y.facts.items session x (links_seen y.facts.items (linked_fact d.world s).links)) same
       ∙ ap (λ (fs : List SiteFacts). site_seen fs session (linked_fact d.world s) (links_seen fs (linked_fact d.world s).links)) stands.facts
-      ∙ seen_is d s session stands.links (session_is (beside_of d s) (d.world.nodes s) (stands.disk_sets.sites s disk_set below disk_set_at))
+      ∙ seen_is d s session stands.links (λ up. session_is (beside_of d s) (d.world.nodes s) (stands.disk_sets.sites s disk_set below disk_set_at) up apart)
 
   pub status_leads : (d : Doubted) (y : Yard R g) (name : List ℕ) (s : ℕ) (view : SiteView) → StandsFor d y → over_group_at d.world name ≡ false → seat_of y.facts.items name ≡ Some s → ((s < d.world.sites) → is_over_group (d.world.nodes s) ≡ false → view ≡ linked_view d.world s) → Leads d (Status name) (Shown view) y y
   status_leads d y name s view stands apart at is =

@@ -29,7 +29,7 @@ use Rattle.vx_events.specs.GroupLines.{is_over_group}
 use Rattle.vx_events.specs.LinkedFacts.{linked_fact}
 use Rattle.vx_events.specs.StepsOver.{over_group_at}
 use Rattle.vx_events.specs.Lines.{write_in}
-use Rattle.vx_events.proofs.OverWrites.{put_over, write_over}
+use Rattle.vx_events.proofs.LinkWrites.{put_let_in, write_let_in}
 use Rattle.vx_events.proofs.Places.{some_same}
 use Rattle.vx_events.proofs.Refused.{Named, passes}
 use Rattle.vx_events.proofs.RefusedCalls.{WriteMay, put_may, write_may}
@@ -101,11 +101,11 @@ module _ {R : Type 0} {g : Ghosts R} where
       → volume_number (d.world.nodes s) volume ≡ v → (cs : List Change) × (admitted d.world s (the_write v start bytes) ≡ Goes cs)
   let_in_by d y line name volume start bytes s v stands apart (OfWrite count fill is filled) free number place =
       goes_by d.world name volume start bytes (replicate (512 * count) fill) s v number place (sym filled)
-      (write_over d.world (in_files y) name volume start count fill apart
+      (write_let_in d.world (in_files y) name volume start count fill apart
       (subst (λ (fs : List SiteFacts). line_refusal fs (in_files y) (WriteLine name volume start count fill) ≡ None) stands.facts (subst (λ (l : ScriptLine). IsFree y l) is free)))
   let_in_by d y line name volume start bytes s v stands apart (OfPut is one) free number place =
       goes_by d.world name volume start bytes bytes s v number place refl
-      (put_over d.world (in_files y) name volume start bytes apart
+      (put_let_in d.world (in_files y) name volume start bytes apart
       (subst (λ (fs : List SiteFacts). line_refusal fs (in_files y) (PutLine name volume start bytes) ≡ None) stands.facts (subst (λ (l : ScriptLine). IsFree y l) is free)) one)
 
   -- where the write goes, and that its site takes it and lets it in

@@ -11,6 +11,6 @@ returns-then-needs_log-clause-is g c = λ beside n stands up running.
     need_if n c.args.link.now c.needs_log.result c.used.result c.needs_log.ensures c.if-needs_log.true (c.used.ensures.is beside n stands up running)
 
 pub returns-then-needs_log-clause-some : goal.returns-then-needs_log-clause-some
-returns-then-needs_log-clause-some g c = λ beside n k stands origin up running told at.
+returns-then-needs_log-clause-some g c = λ beside n k stands origin up apart running told at.
     let holds = holds_log c.args.link.now c.needs_log.result c.needs_log.ensures c.if-needs_log.true in
-    c.used.ensures.some beside n k c.args.link.now stands origin up running told at holds.0 (omega (arith, holds.1))
+    c.used.ensures.some beside n k c.args.link.now stands origin up apart running told at holds.0 (omega (arith, holds.1))
