@@ -1,5 +1,5 @@
 -- The disks of a site with a group of disks: by which parts of its node they stand, and what such a site is not.
-use Rattle.std.proofs.Common.{◌≡◌, ◌∙◌, ◌<◌, ◌≤◌, ℕ, Bool, true, false, List, ap, arith, length, refl, subst, sym}
+use Rattle.std.proofs.Common.{◌≡◌, ◌∙◌, ◌<◌, ◌≤◌, ℕ, Bool, true, false, List, [], ap, arith, length, refl, subst, sym}
 use Rattle.std.specs.Prelude.{◌&&◌, Option, Some, None, eqb, is_some}
 use Rattle.vx_model.specs.declared.limits.TheConstants.{LEAST_BLOCKS, MOST_DISKS}
 use Rattle.vx_model.specs.declared.site.SiteState.TheVariants.{Bare as IsBare, Up as IsUp, Down as IsDown, Deported as IsDeported}
@@ -106,10 +106,12 @@ module _ (n k : Node) (like : IsLikeGroup n k) where
     cut_like : (x : CutWrite) → CutLies n x → CutLies k x
     cut_like x it = record { down = sym like.state ∙ it.down; fits = λ note is. it.fits note (like.group ∙ is) }
 
-    -- also with something else beside the node, as long as that is no doubt
-    pub set_like : (beside other : KeptBeside) (s : GroupSet R g) → ((k.state ≡ IsBare → ⊥) → other.doubt ≡ None) → (k.state ≡ IsBare → k ≡ bare_with k) → IsGroupSet beside n s → IsGroupSet other k s
-    set_like beside other s sure bare it = record {
+    -- also with something else beside the node, as long as that is no doubt and no link
+    pub set_like : (beside other : KeptBeside) (s : GroupSet R g) → ((k.state ≡ IsBare → ⊥) → other.doubt ≡ None) → ((k.state ≡ IsBare → ⊥) → other.links ≡ []) → (k.state ≡ IsBare → k ≡ bare_with k) → IsGroupSet beside n s
+        → IsGroupSet other k s
+    set_like beside other s sure unlinked bare it = record {
       sure = sure;
+      unlinked = unlinked;
       stands = stands_like s.site it.stands;
       cut = it.cut ∙ ap (λ (o : Option GroupNode). noted_cut o) like.group;
       lies = λ x is. cut_like x (it.lies x is);
@@ -130,17 +132,6 @@ burned_like n = record {
   unfused = λ none. ap (λ (f : FuseOf). burned f) none;
 }
 
-fed_like : (n : Node) (feeder : ℕ) → IsLikeGroup n (record n { fed_by = feeder })
-fed_like n feeder = record {
-  state = refl;
-  disks = refl;
-  blocks = refl;
-  group = refl;
-  none = λ it. record { role = it.role; volumes = it.volumes; log = it.log; safe = it.safe; running = it.running };
-  fuse = λ m it. it;
-  unfused = λ none. none;
-}
-
 failing_like : (n : Node) (failing : ℕ → Bool) → IsLikeGroup n (record n { failing = failing })
 failing_like n failing = record {
   state = refl;
@@ -156,20 +147,16 @@ module _ {R : Type 0} {g : Ghosts R} where
   pub set_burned : (beside : KeptBeside) (n : Node) (s : GroupSet R g) → IsGroupSet beside n s → IsGroupSet beside (record n { fuse = burned n.fuse }) s
   set_burned beside n s it =
       let k : Node = record n { fuse = burned n.fuse } in
-      set_like n k (burned_like n) beside beside s it.sure
+      set_like n k (burned_like n) beside beside s it.sure it.unlinked
       (λ state.
       let is : n ≡ bare_with n = it.bare state in
       let none : n.fuse ≡ NoFuse = ap (λ (x : Node). x.fuse) is in
       let same : n ≡ k = ap (λ (x : FuseOf). let q : Node = record n { fuse = x } in q) (none ∙ sym (ap (λ (x : FuseOf). burned x) none)) in
       subst (λ (x : Node). x ≡ bare_with x) same is) it
 
-  pub set_fed : (beside other : KeptBeside) (n : Node) (feeder : ℕ) (s : GroupSet R g) → other.doubt ≡ None → n.state ≡ IsUp → IsGroupSet beside n s → IsGroupSet other (record n { fed_by = feeder }) s
-  set_fed beside other n feeder s sure up it =
-      set_like n (record n { fed_by = feeder }) (fed_like n feeder) beside other s (λ some. sure) (λ state. absurd (let e : IsUp ≡ IsBare = sym up ∙ state in cc)) it
-
   pub set_failing : (beside : KeptBeside) (n : Node) (failing : ℕ → Bool) (s : GroupSet R g) → IsGroupSet beside n s → IsGroupSet beside (record n { failing = failing }) s
   set_failing beside n failing s it =
-      set_like n (record n { failing = failing }) (failing_like n failing) beside beside s it.sure
+      set_like n (record n { failing = failing }) (failing_like n failing) beside beside s it.sure it.unlinked
       (λ state. ap (λ (x : Node). let q : Node = record x { failing = failing } in q) (it.bare state)) it
 
   -- ---- what such a site is

@@ -17,7 +17,7 @@ use Rattle.vx_diskset.specs.Layouts.{LiesOn, raw_units}
 use Rattle.vx_diskset.specs.Stands.{IsCleanAt, IsDownAt, IsReceiverAt, IsToldAt, IsUpAt, SiteStands}
 use Rattle.vx_diskset.specs.Withdrawn.{IsBareOf, Revived}
 use Rattle.vx_events.specs.GroupLines.{is_over_group}
-use Rattle.vx_diskset.proofs.GroupStands.{apart_bare, set_fed}
+use Rattle.vx_diskset.proofs.GroupStands.{apart_bare}
 use Rattle.vx_diskset.proofs.BesideLemmas.{never_besides}
 use Rattle.vx_diskset.proofs.StaysUp.{not_true, told_now}
 
@@ -151,15 +151,15 @@ bare_withdrawn n k m last lawful lies rose of untold = record {
 
 module _ {R : Type 0} {g : Ghosts R} (lawful : (r : R) → Lawful (g.meaning r)) where
   -- whatever links its log keeps, and whoever feeds it
-  pub any_links : (b other : KeptBeside) (n : Node) (feeder : ℕ) (e : DiskSet R g) → (IsToldAt e → ⊥) → other.doubt ≡ None → n.state ≡ IsUp → SiteStands b n e
+  pub any_links : (b other : KeptBeside) (n : Node) (feeder : ℕ) (e : DiskSet R g) → (IsToldAt e → ⊥) → other.doubt ≡ None → n.state ≡ IsUp → is_over_group n ≡ false → SiteStands b n e
       → SiteStands other (record n { fed_by = feeder }) e
-  any_links b other n feeder (Bare rack) untold sure up h = let e : IsUp ≡ IsBare = sym up ∙ ap (λ (x : Node). x.state) h.bare.is in absurd (cc)
-  any_links b other n feeder (Spoiled rack) untold sure up h = let e : IsUp ≡ IsBare = sym up ∙ ap (λ (x : Node). x.state) h.is in absurd (cc)
-  any_links b other n feeder (Up rvg) untold sure up h = up_beside b other n feeder rvg.core (g.meaning rvg.shelf) (lawful rvg.shelf) untold sure h
-  any_links b other n feeder (Receives s) untold sure up h = receiver_beside b other n feeder s.rvg.core s.waiting (g.meaning s.rvg.shelf) (lawful s.rvg.shelf) untold sure h
-  any_links b other n feeder (Down rack) untold sure up h = let e : IsUp ≡ IsDown = sym up ∙ h.state in absurd (cc)
-  any_links b other n feeder (OfGroup s) untold sure up h = set_fed b other n feeder s sure up h
-  any_links b other n feeder Gone untold sure up h = absurd h
+  any_links b other n feeder (Bare rack) untold sure up apart h = let e : IsUp ≡ IsBare = sym up ∙ ap (λ (x : Node). x.state) h.bare.is in absurd (cc)
+  any_links b other n feeder (Spoiled rack) untold sure up apart h = let e : IsUp ≡ IsBare = sym up ∙ ap (λ (x : Node). x.state) h.is in absurd (cc)
+  any_links b other n feeder (Up rvg) untold sure up apart h = up_beside b other n feeder rvg.core (g.meaning rvg.shelf) (lawful rvg.shelf) untold sure h
+  any_links b other n feeder (Receives s) untold sure up apart h = receiver_beside b other n feeder s.rvg.core s.waiting (g.meaning s.rvg.shelf) (lawful s.rvg.shelf) untold sure h
+  any_links b other n feeder (Down rack) untold sure up apart h = let e : IsUp ≡ IsDown = sym up ∙ h.state in absurd (cc)
+  any_links b other n feeder (OfGroup s) untold sure up apart h = let e : IsBare ≡ IsUp = sym (apart_bare b n s h apart) ∙ up in absurd (cc)
+  any_links b other n feeder Gone untold sure up apart h = absurd h
 
 module _ {R : Type 0} {g : Ghosts R} where
   -- a site that is down again is any that was down on them

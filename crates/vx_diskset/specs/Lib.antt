@@ -16,3 +16,4 @@ pub mod Received
 pub mod Rooms
 pub mod Stands
 pub mod Withdrawn
+pub mod Zeroing

@@ -14,10 +14,11 @@ ghost use Rattle.vx_history.specs.World.{Node};
 ghost use Rattle.vx_diskset.specs.Asked.{SameFailing};
 ghost use Rattle.vx_diskset.specs.DiskSets.{Later, CanHold, CanStart, MadeIs, BareUpIs};
 ghost use Rattle.vx_diskset.specs.Layouts.{CanBeRaw, raw_units as units_of};
-ghost use Rattle.vx_diskset.specs.Stands.{IsBareAt, IsCleanAt};
+ghost use Rattle.vx_diskset.specs.Stands.{IsBareAt, IsCleanAt, IsMarkedAt};
 
 use crate::labels::unlabel_all;
 use crate::units::raw_units;
+use crate::zeroing::zero_disks;
 use crate::{DiskSet, GroupSet};
 use std::alloc::Global;
 use vx_disk::{Rack, refusal};
@@ -59,12 +60,35 @@ fn make_group<R: Rack>(alloc: Global, rack: R, site: u32) -> (DiskSet<R>, Result
     }
 }
 
-// The same of disks on which a group may have been made, by an earlier run or in part: their labels are taken off first.
-fn make_unlabelled<R: Rack>(alloc: Global, rack: R, site: u32) -> (DiskSet<R>, Result<(), Stop>) {
+// The same of clean disks, on which a group of an earlier run may stand: its labels are taken off first.
+fn make_unlabelled<R: Rack>(alloc: Global, rack: R, site: u32) -> (DiskSet<R>, Result<(), Stop>)
+    ensures made { (n : Node) → IsCleanAt n (R.meaning rack) → CanBeRaw n.disks n.blocks → MadeIs site n (DiskSet.Bare rack) result.0 result.1 }
+    ensures failing { SameFailing (DiskSet.Bare rack) result.0 }
+    ensures later { Later (DiskSet.Bare rack) result.0 }
+{
     let mut rack = rack;
     match unlabel_all(&mut rack) {
         Ok(()) => make_group(alloc, rack, site),
-        Err(error) => (DiskSet::Spoiled(rack), Err(Stop::No(refusal(error)))),
+        Err(no) => (DiskSet::Bare(rack), Err(Stop::No(no))),
+    }
+}
+
+// The same of disks on which a group was begun: they are written over first.
+fn make_zeroed<R: Rack>(alloc: Global, rack: R, site: u32) -> (DiskSet<R>, Result<(), Stop>)
+    ensures made { (n : Node) → IsMarkedAt n (R.meaning rack) → CanBeRaw n.disks n.blocks → MadeIs site n (DiskSet.Spoiled rack) result.0 result.1 }
+    ensures failing { SameFailing (DiskSet.Spoiled rack) result.0 }
+    ensures later { Later (DiskSet.Spoiled rack) result.0 }
+{
+    let mut rack = rack;
+    match zero_disks(&mut rack) {
+        Ok(()) => make_group(alloc, rack, site),
+        Err(error) => (
+            DiskSet::OfGroup(GroupSet {
+                site: GroupSite::Marked(rack),
+                cut: None,
+            }),
+            Err(Stop::No(refusal(error))),
+        ),
     }
 }
 
@@ -174,9 +198,12 @@ impl<R: Rack> DiskSet<R> {
             DiskSet::Bare(rack) => make_unlabelled(alloc, rack, site),
             DiskSet::Spoiled(rack) => make_group(alloc, rack, site),
             DiskSet::OfGroup(group) => match group.site {
-                GroupSite::Marked(rack) => make_unlabelled(alloc, rack, site),
+                GroupSite::Marked(rack) => make_zeroed(alloc, rack, site),
                 other => (
-                    DiskSet::OfGroup(GroupSet::of(other)),
+                    DiskSet::OfGroup(GroupSet {
+                        site: other,
+                        cut: group.cut,
+                    }),
                     Err(Stop::No(No::Role)),
                 ),
             },
