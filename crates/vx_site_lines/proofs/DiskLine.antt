@@ -35,17 +35,27 @@ use Rattle.vx_order.specs.declared.facts.SiteFacts.{SiteFacts}
 use Rattle.vx_diskset.specs.declared.disk_set.DiskSet.TheVariants.{Bare, Spoiled, Up, Receives, Down, OfGroup, Gone}
 use Rattle.std.proofs.Common.{◌<◌, ◌∙◌, arith}
 use Rattle.vx_yard.proofs.Carrying.{SameLoad, carries_node}
-use Rattle.vx_diskset.proofs.GroupStands.{set_units}
+use Rattle.vx_grouped.specs.GroupSites.{GroupSiteStands, site_disks}
+use Rattle.vx_grouped.specs.declared.group_site.GroupSite.{GroupSite}
+use Rattle.vx_grouped.specs.declared.group_site.GroupSite.TheVariants.{Up as GroupUp, Deported as GroupDeported, Down as GroupDown, Marked, Gone as GroupGone}
 use Rattle.vx_site_lines.proofs.Apart.{fact_stays, over_is}
 
 module _ {R : Type 0} {g : Ghosts R} where
+  -- those of a group have as many
+  group_units : (n : Node) (e : GroupSite R g) → GroupSiteStands n e → (site_disks e).units ≡ n.disks
+  group_units n (GroupUp group) (note, h) = h.at.lies.units
+  group_units n (GroupDeported rack) (note, h) = h.away.lies.units
+  group_units n (GroupDown rack) (note, h) = h.away.lies.units
+  group_units n (Marked rack) h = h.units
+  group_units n GroupGone h = absurd h
+
   units_at : (beside : KeptBeside) (n : Node) (e : DiskSet R g) → SiteStands beside n e → units_in e ≡ n.disks
   units_at beside n (Bare rack) h = h.bare.fitted.units
   units_at beside n (Spoiled rack) h = h.fitted.units
   units_at beside n (Up rvg) h = h.lies.units
   units_at beside n (Receives site) h = h.lies.units
   units_at beside n (Down rack) h = h.lies.units
-  units_at beside n (OfGroup s) h = set_units beside n s h
+  units_at beside n (OfGroup s) h = group_units n s.site h.stands
   units_at beside n Gone h = absurd h
 
   -- the disk that the line names is one of the site's

@@ -12,7 +12,7 @@ fetch-requires-clause-free g c = λ κs within. inl c.requires.free
 
 pub returns-clause-leads : goal.returns-clause-leads
 returns-clause-leads g c = λ d stands apart. c.fetch.ensures.leads d (ReadBlocks c.args.name.now c.args.volume.now c.args.start c.args.count) stands apart (inl refl) c.requires.free
-    (λ t at. read_leads d c.args.yard.now c.args.name.now t stands at apart c.args.volume.now c.args.start c.args.count c.requires.free t at)
+    (λ t at. read_leads d c.args.yard.now c.args.name.now t stands at c.args.volume.now c.args.start c.args.count c.requires.free t at)
 
 pub returns-clause-asked : goal.returns-clause-asked
 returns-clause-asked g c = λ d stands apart. reads_alone (over_group_at d.world c.args.name.now) (site_number d.world c.args.name.now) c.args.yard.now _ apart (c.fetch.ensures.asked d stands apart)
