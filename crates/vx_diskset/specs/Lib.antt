@@ -13,7 +13,9 @@ pub mod Layouts
 pub mod Needs
 pub mod Pumps
 pub mod Received
+pub mod Recovers
 pub mod Rooms
 pub mod Stands
 pub mod Withdrawn
 pub mod Zeroing
+pub mod Zeros
