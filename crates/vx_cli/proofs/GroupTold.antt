@@ -2,6 +2,8 @@
 use Rattle.std.proofs.Common.{ℕ, inl, inr}
 use Rattle.std.specs.Prelude.{Option, Some, None}
 use Rattle.vx_model.specs.Content.{Write}
+use Rattle.vx_model.specs.declared.no.No.{No}
+use Rattle.vx_model.specs.declared.no.No.TheVariants.{Device}
 use Rattle.vx_history.specs.Doubts.{Doubted}
 use Rattle.vx_history.specs.Groups.{GroupNode}
 use Rattle.vx_history.specs.World.{Node}
@@ -9,7 +11,7 @@ use Rattle.vx_report.specs.declared.view.Kept.{Kept}
 use Rattle.vx_script.specs.declared.line.ScriptLine.{ScriptLine}
 use Rattle.vx_script.specs.declared.line.ScriptLine.TheVariants.{Read, Recover, Show}
 use Rattle.vx_events.specs.Fails.{Fails}
-use Rattle.vx_events.specs.GroupEnds.{GroupDoes, GroupEnds, GroupDone, GroupLacks, GroupFails, ImportFails, KeptUnread, GroupCut, GroupNotFound, FindsGroup, FindsNoGroup, KnowsNothing}
+use Rattle.vx_events.specs.GroupEnds.{GroupDoes, GroupEnds, GroupDone, GroupLacks, GroupFails, ImportFails, KeptUnread, GroupCut, GroupNotFound, FindsGroup, FindsNoGroup, ImportRefuses, KnowsNothing}
 use Rattle.vx_events.specs.GroupNotes.{NotesBack, NotesUnread}
 use Rattle.vx_events.specs.GroupReplies.{GivesPlain, IsKeptOf, SaysBack, ShowsKept}
 use Rattle.vx_events.specs.StepsOver.{FindsKept}
@@ -61,11 +63,17 @@ module _ {T U : Type 0} (f : U → T) where
   nothing_told note (inl never) = inl (λ u. never (f u))
   nothing_told note (inr loose) = inr loose
 
+  refuses_told : (s : ℕ) (note : GroupNode) (fails : Fails) (why : No) → ImportRefuses T s note fails why → ImportRefuses U s note fails why
+  refuses_told s note fails (Device disk) x = x
+  refuses_told s note fails other (inl not) = inl not
+  refuses_told s note fails other (inr x) = inr (nothing_told note x.0, x.1)
+
   pub group_told : (d : Doubted) (line : ScriptLine) (s : ℕ) (fails : Fails) (said : Said) (new : Doubted) → GroupEnds T d line s fails said new → GroupEnds U d line s fails said new
   group_told d line s fails said new (GroupDone next of does left) = GroupDone next of (does_told s (d.world.nodes s) _ line fails said next does) left
   group_told d line s fails said new (GroupLacks why wants none says left) = GroupLacks why wants none says left
   group_told d line s fails said new (GroupFails disk next of has spoils says left) = GroupFails disk next of has spoils says left
-  group_told d line s fails said new (ImportFails disk next site is of has begun says left) = ImportFails disk next site is of has begun says left
+  group_told d line s fails said new (ImportFails why next site is of refuses begun says left) =
+      ImportFails why next site is of (refuses_told s _ fails why refuses) begun says left
   group_told d line s fails said new (KeptUnread disk next site is of has unread says left) = KeptUnread disk next site is of has (unread_told s fails _ next unread) says left
   group_told d line s fails said new (GroupCut next of fused cuts says left) = GroupCut next of fused cuts says left
   group_told d line s fails said new (GroupNotFound why of brings not says left) = GroupNotFound why of brings not says left

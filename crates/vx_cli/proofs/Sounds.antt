@@ -1,6 +1,7 @@
 -- A line leaves a good world good, whichever of the sites in doubt are as they may be on their disks.
-use Rattle.std.proofs.Common.{◌≡◌, ⊎_elim, refl, ℕ, List, [], ◌∷◌, Option, Some, None, Result, Ok, Err, Bool, true, false, sym, subst}
+use Rattle.std.proofs.Common.{◌≡◌, ◌⊎◌, inl, inr, refl, ℕ, List, [], ◌∷◌, Option, Some, None, Result, Ok, Err, Bool, true, false, sym, subst}
 use Rattle.vx_history.specs.Doubts.{Doubted}
+use Rattle.vx_history.specs.Steps.{burned, worked_on}
 use Rattle.vx_history.specs.declared.event.Event.{Event}
 use Rattle.vx_history.specs.declared.event.Event.TheVariants.{Crash as CrashAt}
 use Rattle.vx_script.specs.declared.line.ScriptLine.{ScriptLine}
@@ -10,10 +11,10 @@ use Rattle.vx_world.proofs.Lining.{line_good}
 use Rattle.vx_events.specs.Doubts.{run_as}
 use Rattle.vx_events.specs.Fails.{Fails}
 use Rattle.vx_events.specs.Lines.{is_of_links}
-use Rattle.vx_events.specs.Parts.{FellFirst, PartLeft, StopsShort}
+use Rattle.vx_events.specs.Parts.{DonePart, FellFirst, PartLeft, ReadFirst, StopsShort}
 use Rattle.vx_events.specs.StepsOver.{group_place, is_for_group}
 use Rattle.vx_events.specs.Stopping.{StopsBy}
-use Rattle.vx_events.proofs.Noting.{as_like, like_self, links_like}
+use Rattle.vx_events.proofs.Noting.{as_like, like_noted, like_self, links_like}
 use Rattle.vx_events.proofs.Over.{over_stops}
 use Rattle.vx_events.proofs.Parts.{told_part}
 use Rattle.vx_events.proofs.Stopping.{line_stops, runs_as}
@@ -47,5 +48,16 @@ fell_good d line new good fell =
     let last : Doubted = run_as false d es in
     like_good last new (runs_good es d last good (runs_as false d es)) (as_like last new last.world (like_self last.world) fell.leads)
 
+-- or of which only the reads were done
+read_good : (d : Doubted) (line : ScriptLine) (new : Doubted) → GoodDoubted d → ReadFirst d line new → GoodDoubted new
+read_good d line new good read =
+    let s : ℕ = group_place d.world line in
+    like_good d new good (as_like d new (worked_on d.world s) (like_noted d.world s (burned (d.world.nodes s).fuse)) read.leads)
+
 pub part_good : {told : Type 0} → told → (d : Doubted) (line : ScriptLine) (new : Doubted) → GoodDoubted d → StopsShort told d line new → GoodDoubted new
-part_good {told} is d line new good short = ⊎_elim (λ part. left_good line d part.before new good part.leads) (λ fell. fell_good d line new good fell) (told_part told d line new is short)
+part_good {told} is d line new good short = by (told_part told d line new is short)
+  where
+    by : DonePart d line new ⊎ FellFirst d line new ⊎ ReadFirst d line new → GoodDoubted new
+    by (inl part) = left_good line d part.before new good part.leads
+    by (inr (inl fell)) = fell_good d line new good fell
+    by (inr (inr read)) = read_good d line new good read

@@ -18,7 +18,7 @@ use Rattle.vx_events.specs.Fails.{Fails}
 use Rattle.vx_events.specs.LinkEnds.{LinkEnds, LinksDone, LinksHalt, AppliesPart, AppliesCut, LinksCut, LinksFind, LogUnread, NoHeader}
 use Rattle.vx_events.specs.Lines.{CountsCalls, EndsBy, is_of_links}
 use Rattle.vx_events.specs.Lists.{events_of}
-use Rattle.vx_events.specs.Parts.{StopsBetween, StopsDown, StopsInPart, StopsShort}
+use Rattle.vx_events.specs.Parts.{StopsBetween, StopsDown, StopsInPart, StopsRead, StopsShort}
 use Rattle.vx_events.specs.Sayings.{RepeatsOf, Replies}
 use Rattle.vx_events.specs.StepsOver.{OverBy, WorksOver, group_place, is_for_group, refused_over}
 use Rattle.vx_events.specs.declared.said.Said.{Said}
@@ -111,6 +111,7 @@ module _ {T U : Type 0} (f : U → T) where
   short_told : (d : Doubted) (line : ScriptLine) (new : Doubted) → StopsShort T d line new → StopsShort U d line new
   short_told d line new (StopsInPart part) = StopsInPart part
   short_told d line new (StopsDown fell) = StopsDown fell
+  short_told d line new (StopsRead read) = StopsRead read
   short_told d line new (StopsBetween never p s middle is moves left) = StopsBetween (λ u. never (f u)) p s middle is moves left
 
   part_told : (r : Result (Option ScriptLine) ℕ) (d last : Doubted) → PartOfLine T r d last → PartOfLine U r d last

@@ -38,4 +38,3 @@ pub mod Worked
 pub mod WriteGroup
 pub mod WriteLeaves
 pub mod Zeroes
-pub mod GroupCalling

@@ -8,7 +8,7 @@ ghost use Rattle.vx_node.specs.Works.{WorksIs};
 ghost use Rattle.vx_yard.specs.Carries.{Carries};
 ghost use Rattle.vx_yard.specs.OfSites.{AsAsked, AsSettled, HasCalled};
 ghost use Rattle.vx_yard.specs.Lines.{is_built};
-ghost use Rattle.vx_yard.specs.Standing.{AnswersIs, GoodFor, LeadsIs, StandsFor};
+ghost use Rattle.vx_yard.specs.Standing.{AnswersIs, GoodFor, StandsFor};
 ghost use Rattle.vx_yard.specs.Working.{IsFree, TakesNoMemory, refused_in, takes_memory};
 ghost use Rattle.vx_yard.specs.Yards.{IsYardKept, IsTold, in_files};
 
@@ -44,7 +44,7 @@ fn work<R: Rack>(yard: &mut Yard<R>, alloc: Global, words: &ScriptLine) -> Resul
     requires other { is_group_line words.now ≡ false }
     requires kept { IsYardKept yard.old }
     requires free { IsFree yard.old words.now }
-    ensures leads { (d : Doubted) → StandsFor d yard.old → is_for_group d.world words.now ≡ false → Carries d yard.old → GoodFor d yard.old → LeadsIs d words.now yard.old yard.new result }
+    ensures leads { (d : Doubted) → StandsFor d yard.old → is_for_group d.world words.now ≡ false → Carries d yard.old → GoodFor d yard.old → WorksIs d words.now yard.old yard.new result }
     ensures asked { (d : Doubted) → StandsFor d yard.old → is_for_group d.world words.now ≡ false → AsAsked d.world words.now yard.old yard.new }
     ensures called { (d : Doubted) → StandsFor d yard.old → is_for_group d.world words.now ≡ false → Carries d yard.old → GoodFor d yard.old → IfOk result (λ said. HasCalled d.world words.now said yard.old yard.new) }
     // Memory is short for no line that takes none.

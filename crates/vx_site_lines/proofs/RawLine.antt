@@ -1,6 +1,6 @@
 -- What a line that makes a raw set comes to.
 use Rattle.std.proofs.Common.{◌≡◌, ◌∙◌, ◌-◌, ℕ, List, ap, sym, refl}
-use Rattle.std.specs.Prelude.{Some, map}
+use Rattle.std.specs.Prelude.{None, Some, map}
 use Rattle.vx_history.specs.World.{Node}
 use Rattle.vx_model.specs.Sites.{no_line}
 use Rattle.vx_history.specs.Steps.{raw_set, raw_volumes}

@@ -212,14 +212,14 @@ module _ {R : Type 0} {g : Ghosts R} where
       abbrev beside_now : KeptBeside
       beside_now = record { links = row_links row d.world.sites; headers = d.world.headers s; doubt = None }
 
+      apart : is_over_group k ≡ false
+      apart = over_as (raw_set 0 n) k found.same.group found.same.volumes (raw_apart 0 n (bare_at (beside_of d s) n before stood bare).3)
+
       stands_now : SiteStands beside_now k after
-      stands_now = any_links lawful beside_now beside_now found.node found.node.other after found.untold refl found.same.up (found.stands beside_now refl)
+      stands_now = any_links lawful beside_now beside_now found.node found.node.other after found.untold refl found.same.up apart (found.stands beside_now refl)
 
       fact_is : site ≡ linked_fact d.world s
       fact_is = some_same (sym site_at ∙ fact_of d old s stands below) ∙ fact_apart d.world s (bare_over d old s stands below bare)
-
-      apart : is_over_group k ≡ false
-      apart = over_as (raw_set 0 n) k found.same.group found.same.volumes (raw_apart 0 n (bare_at (beside_of d s) n before stood bare).3)
 
       blocks_is : site.blocks ≡ n.blocks
       blocks_is = ap (λ (x : SiteFacts). x.blocks) fact_is

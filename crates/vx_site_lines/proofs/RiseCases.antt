@@ -91,6 +91,9 @@ module _ {R : Type 0} {g : Ghosts R} where
       came : CameUp (beside_of mid s) m up
       came = by.came
 
+      by_apart : is_over_group by.came.node ≡ false
+      by_apart = over_as m by.came.node by.came.same.group by.came.same.volumes apart
+
       came_apart : is_over_group came.node ≡ false
       came_apart = over_as m came.node came.same.group came.same.volumes apart
 
@@ -104,7 +107,7 @@ module _ {R : Type 0} {g : Ghosts R} where
           → Replaced old y s up → LeadsFrom mid d (Recover name) said old new
       rises_up y new state used said rises risen links replaced =
           stood_up lawful d h old s ring c taken name number from fit_d stands below down apart ring_is before up there later same y new replaced sites state used said rises sites_mid by.came by.role
-          (risen (beside_of mid s) by.came.node by.came.stands by.came.same.up came_apart by.came.same.running) (λ told. links (beside_of mid s) by.came.node by.came.stands by.came.same.up by.came.same.running told)
+          (risen (beside_of mid s) by.came.node by.came.stands by.came.same.up by_apart by.came.same.running) (λ told. links (beside_of mid s) by.came.node by.came.stands by.came.same.up by.came.same.running told)
 
       -- and goes down again, as it may not stand up with what its log keeps
       module _ (after : DiskSet R g) (new : Yard R g)
@@ -182,6 +185,9 @@ module _ {R : Type 0} {g : Ghosts R} where
         rose : BareUp n up
         rose = rose_by.came
 
+        rose_by_apart : is_over_group rose_by.came.node ≡ false
+        rose_by_apart = over_as (raw_set 0 n) rose_by.came.node rose_by.came.same.group rose_by.came.same.volumes (raw_apart 0 n (bare_at (beside_of d s) n before stood_bare bare).3)
+
         rose_apart : is_over_group rose.node ≡ false
         rose_apart = over_as (raw_set 0 n) rose.node rose.same.group rose.same.volumes (raw_apart 0 n (bare_at (beside_of d s) n before stood_bare bare).3)
 
@@ -197,7 +203,7 @@ module _ {R : Type 0} {g : Ghosts R} where
             (table ∙ ap (λ (f : SiteFacts). map volume_fact (raw_volumes 1 (f.disks - 2) two.blocks)) (some_same (sym at_one ∙ at_three))
             ∙ ap (λ (f : SiteFacts). map volume_fact (raw_volumes 1 (three.disks - 2) f.blocks)) two_three)
             (ring_is ∙ ap (λ (f : SiteFacts). ring_of f.blocks) two_three) facts disk_sets racks flight assemblies feeders rises (sites_is ∙ many_sites d old stands) rose_by.came rose_by.role
-            (risen site_alone rose_by.came.node (rose_by.came.stands site_alone refl) rose_by.came.same.up rose_apart rose_by.came.same.running)
+            (risen site_alone rose_by.came.node (rose_by.came.stands site_alone refl) rose_by.came.same.up rose_by_apart rose_by.came.same.running)
 
         -- and is bare again, as it may not stand up with what its log keeps
         pub bare_again : (after : DiskSet R g) (new : Yard R g)

@@ -406,4 +406,4 @@ module _ {R : Type 0} {g : Ghosts R} where
       }
         where
           stands_now : SiteStands (beside_now row_found) k_found after
-          stands_now = any_links lawful (beside_of mid s) (beside_now row_found) came.node came.node.other after untold refl came.same.up came.stands
+          stands_now = any_links lawful (beside_of mid s) (beside_now row_found) came.node came.node.other after untold refl came.same.up (apart_of came.node came.same) came.stands
