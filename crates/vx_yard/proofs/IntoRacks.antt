@@ -256,7 +256,7 @@ module _ {R : Type 0} {g : Ghosts R} where
   beside_holds lawful beside n (Some (Down rack)) r apart stands is =
       subst (λ (k : R). HoldsSite beside n (g.meaning k)) (some_same is) (down_holds n (g.meaning rack) (lawful rack) (stands (Down rack) refl))
   beside_holds lawful beside n (Some (OfGroup s)) r apart stands is =
-      bare_has {beside} n (g.meaning r) (apart_bare beside n s (stands (OfGroup s) refl) apart)
+      bare_has {beside = beside} n (g.meaning r) (apart_bare beside n s (stands (OfGroup s) refl) apart)
   beside_holds lawful beside n (Some Gone) r apart stands is = absurd (cc)
 
   beside_group : (lawful : (r : R) → Lawful (g.meaning r)) (beside : KeptBeside) (n : Node) (x : Option (DiskSet R g)) (r : R) (note : GroupNode) → is_over_group n ≡ true → n.group ≡ Some note
