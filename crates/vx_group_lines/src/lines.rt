@@ -3,7 +3,7 @@ ghost use Rattle.std.specs.Prelude.{◌≡◌, ◌*◌, IfOk, IsOk, IsSome, min,
 ghost use Rattle.vx_history.specs.Doubts.{Doubted};
 ghost use Rattle.vx_events.specs.Facts.{seat_of};
 ghost use Rattle.vx_events.specs.StepsOver.{is_for_group, over_group_at};
-ghost use Rattle.vx_group_lines.specs.Plain.{is_block_kind, is_group_kind};
+ghost use Rattle.vx_group_lines.specs.Plain.{is_block_kind, is_group_kind, is_group_line};
 ghost use Rattle.vx_yard.specs.OfSites.{AsAsked, HasCalled};
 ghost use Rattle.vx_yard.specs.Standing.{LeadsOverIs, LeadsOverOrCrashes, StandsFor};
 ghost use Rattle.vx_yard.specs.Working.{IsFree, takes_memory};
@@ -43,6 +43,7 @@ pub fn is_of_group<R: Rack>(yard: &Yard<R>, words: &ScriptLine) -> bool
     requires free { IsFree yard.now words.now }
     ensures is { (d : Doubted) → StandsFor d yard.now → result ≡ is_for_group d.world words.now }
     ensures kind { result ≡ true → is_group_kind words.now ≡ true }
+    ensures always { is_group_line words.now ≡ true → result ≡ true }
 {
     match words {
         ScriptLine::GroupInit { .. }
