@@ -13,6 +13,8 @@ pub mod Layouts
 pub mod Needs
 pub mod Pumps
 pub mod Received
+pub mod Recovers
 pub mod Rooms
 pub mod Stands
 pub mod Withdrawn
+pub mod Zeros

@@ -14,8 +14,10 @@ use Rattle.vx_rvg.specs.Views.{Core, last_of}
 use Rattle.vx_secondary.specs.Receivers.{writes_of_updates}
 use Rattle.vx_diskset.specs.declared.disk_set.DiskSet.{DiskSet}
 use Rattle.vx_diskset.specs.declared.disk_set.DiskSet.TheVariants.{Bare, Spoiled, Up, Receives, Down, OfGroup, Gone}
-use Rattle.vx_grouped.specs.GroupSites.{GroupSiteStands, site_disks}
+use Rattle.vx_history.specs.Groups.{GroupNode}
+use Rattle.vx_grouped.specs.GroupSites.{FitsPlain, GroupSiteStands, site_disks}
 use Rattle.vx_diskset.specs.GroupSets.{cut_value, noted_cut}
+use Rattle.vx_diskset.specs.declared.group_set.CutWrite.{CutWrite}
 use Rattle.vx_diskset.specs.declared.group_set.GroupSet.{GroupSet}
 use Rattle.vx_diskset.specs.Fuses.{IsFirstLog}
 use Rattle.vx_grouped.specs.SetFuses.{HasFuse}
@@ -140,6 +142,11 @@ pub record IsDownAt (beside : KeptBeside) (n : Node) (m : Meaning) : Type 0 wher
   pub begun : IsTrue m.tells → 0 < n.session
   pub left : IsTrue m.tells → LeftWith (units_of n) n.ring (state_with n beside.links) n.session (most_header beside n) n.log n.base m
 
+-- a write is cut only at a site that is down, and lies in its volume
+pub record CutLies (n : Node) (x : CutWrite) : Type 0 where
+  pub down : n.state ≡ IsDown
+  pub fits : (note : GroupNode) → n.group ≡ Some note → FitsPlain note x.volume x.block (length x.bytes)
+
 module _ {R : Type 0} {g : Ghosts R} where
   -- The disks of a site that has a group of disks, and no replicated volume group, with the write that its fuse cut. Such a site is never in doubt. On
   -- those of a bare one a group was begun.
@@ -147,6 +154,7 @@ module _ {R : Type 0} {g : Ghosts R} where
     pub sure : beside.doubt ≡ None
     pub stands : GroupSiteStands n s.site
     pub cut : cut_value s.cut ≡ noted_cut n.group
+    pub lies : (x : CutWrite) → s.cut ≡ Some x → CutLies n x
     pub bare : n.state ≡ IsBare → n ≡ bare_with n
     pub few : n.disks ≤ MOST_DISKS
     pub some : LEAST_BLOCKS ≤ n.blocks

@@ -63,7 +63,7 @@ fn make_unlabelled<R: Rack>(alloc: Global, rack: R, site: u32) -> (DiskSet<R>, R
     let mut rack = rack;
     match unlabel_all(&mut rack) {
         Ok(()) => make_group(alloc, rack, site),
-        Err(error) => (DiskSet::Spoiled(rack), Err(Stop::No(refusal(error)))),
+        Err(no) => (DiskSet::Spoiled(rack), Err(Stop::No(no))),
     }
 }
 
@@ -175,7 +175,10 @@ impl<R: Rack> DiskSet<R> {
             DiskSet::OfGroup(group) => match group.site {
                 GroupSite::Marked(rack) => make_unlabelled(alloc, rack, site),
                 other => (
-                    DiskSet::OfGroup(GroupSet::of(other)),
+                    DiskSet::OfGroup(GroupSet {
+                        site: other,
+                        cut: None,
+                    }),
                     Err(Stop::No(No::Role)),
                 ),
             },

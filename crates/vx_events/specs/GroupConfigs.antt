@@ -20,10 +20,10 @@ Matched R None (Some y) = ⊥
 Matched R (Some x) None = ⊥
 Matched R (Some x) (Some y) = R x y
 
--- a plex is as it was, or STALE where a call failed
+-- A plex is as it was. Where a call failed it may be STALE; and ACTIVE, where it was held back and is the last one of its volume that can be used.
 pub record PlexLoses (fails : Fails) (p q : PlexEntry) : Type 0 where
   pub subdisks : q.subdisks ≡ p.subdisks
-  pub state : (q.state ≡ p.state) ⊎ ((q.state ≡ Stale) × (fails ≢ []))
+  pub state : (q.state ≡ p.state) ⊎ ((q.state ≡ Stale) × (fails ≢ [])) ⊎ ((q.state ≡ Active) × (fails ≢ []))
 
 -- a volume is as it was but for its plexes
 pub record VolumeLoses (fails : Fails) (v u : VolumeEntry) : Type 0 where

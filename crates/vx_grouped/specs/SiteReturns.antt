@@ -4,6 +4,7 @@ use Rattle.vx_model.specs.declared.errors.Stop.{Stop}
 use Rattle.vx_model.specs.declared.errors.Stop.TheVariants.{No as Refused}
 use Rattle.vx_model.specs.declared.no.No.TheVariants.{Device, Down as IsOff, Limit}
 use Rattle.vx_disk.specs.Counts.{Rose}
+use Rattle.vx_disk.specs.Disks.{Disks, is_set}
 use Rattle.vx_disk.specs.Racks.{Alike, Stopped}
 use Rattle.vx_disk.specs.Shelf.{Meaning}
 use Rattle.vx_disk.specs.declared.shelf.Shelf.{Ghosts}
@@ -14,6 +15,7 @@ use Rattle.vx_history.specs.World.{Node}
 use Rattle.vx_config.specs.declared.config.Config.{Config}
 use Rattle.vx_group.specs.Imports.{ImportStops}
 use Rattle.vx_group.specs.Resumes.{CanImport}
+use Rattle.vx_watched.specs.Since.{fuse_calls, is_rack}
 use Rattle.vx_grouped.specs.Away.{AwayLies}
 use Rattle.vx_grouped.specs.GroupSites.{AreStopped, UpNoted, site_disks, with_note}
 use Rattle.vx_grouped.specs.Returns.{HasNoMore}
@@ -60,6 +62,21 @@ stops_early (Refused (Device disk)) = false
 stops_early (Refused IsOff) = false
 stops_early (Refused (Limit what most)) = false
 stops_early other = true
+
+-- disks that are made to fail as before, with a fuse that has no more calls left, or none
+pub record FailsFused (old new : Disks) : Type 0 where
+  pub failing : (u : ℕ) → new.failing u ≡ old.failing u
+  pub set : is_set new.fuse ≡ true → is_set old.fuse ≡ true
+  pub left : is_set new.fuse ≡ true → fuse_calls new.fuse ≤ fuse_calls old.fuse
+
+-- disks behind an import, whatever it answered
+pub record ReturnSince (old new : Meaning) : Type 0 where
+  pub units : new.units ≡ old.units
+  pub size : (u : ℕ) → new.size u ≡ old.size u
+  pub tells : new.tells ≡ old.tells
+  pub counts : (d : ℕ) → old.disk_faults d ≤ new.disk_faults d
+  pub rack : is_rack new.disks ≡ is_rack old.disks
+  pub told : (o n : Disks) → old.disks ≡ Some o → new.disks ≡ Some n → FailsFused o n
 
 module _ {R : Type 0} {g : Ghosts R} where
   -- whatever image a crash leaves, imports of the disks by themselves agree

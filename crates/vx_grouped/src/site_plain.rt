@@ -85,6 +85,17 @@ fn read_site<R: Rack>(
 }
 
 impl<R: Rack> GroupSite<R> {
+    /// Whether so many bytes from a block of a volume on are whole blocks that lie in it.
+    pub fn fits(&self, vol: u32, block: u64, count: usize) -> bool
+        ensures is { (n : Node) (note : GroupNode) → UpNoted n note self.now → IsTrue result → FitsPlain note vol block count }
+        ensures all { (n : Node) (note : GroupNode) → UpNoted n note self.now → FitsPlain note vol block count → IsTrue result }
+    {
+        match self {
+            GroupSite::Up(group) => fits_volume(group, vol, block, count),
+            _ => false,
+        }
+    }
+
     /// Writes whole blocks to a volume of the group, by its place in the configuration, and makes them durable. Plexes may be detached, of which
     /// a disk failed. A site whose fuse runs out crashes.
     ///

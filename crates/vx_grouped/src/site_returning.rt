@@ -7,9 +7,9 @@ ghost use Rattle.vx_group.specs.Imports.{ImportStops};
 ghost use Rattle.vx_group.specs.Resumes.{CanImport, CanImportBehind};
 ghost use Rattle.vx_grouped.specs.Away.{AwayLies};
 ghost use Rattle.vx_grouped.specs.Begins.{CreateSince};
-ghost use Rattle.vx_grouped.specs.GroupSites.{AwayNoted, DownNoted, GroupAway, GroupDown};
+ghost use Rattle.vx_grouped.specs.GroupSites.{AwayNoted, DownNoted, GroupAway, GroupDown, site_disks};
 ghost use Rattle.vx_grouped.specs.Returns.{ImportLeaves};
-ghost use Rattle.vx_grouped.specs.SiteReturns.{ImportsAgree, SiteImports, SiteRecovers, stops_early};
+ghost use Rattle.vx_grouped.specs.SiteReturns.{ImportsAgree, ReturnSince, SiteImports, SiteRecovers, stops_early};
 ghost use Rattle.vx_watched.specs.Since.{CalledSince};
 
 use crate::GroupSite;
@@ -120,6 +120,7 @@ impl<R: Rack> GroupSite<R> {
         ensures recovered { (n : Node) (note : GroupNode) → DownNoted n note self → SiteRecovers n note self result.0 result.1 }
         ensures imported { (n : Node) (note : GroupNode) → AwayNoted n note self → SiteImports n note self result.0 result.1 }
         ensures again { ImportsAgree result.0 }
+        ensures since { ReturnSince (site_disks self) (site_disks result.0) }
     {
         match self {
             GroupSite::Down(rack) => recover_site(alloc, rack),
