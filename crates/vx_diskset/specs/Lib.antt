@@ -18,3 +18,4 @@ pub mod Rooms
 pub mod Stands
 pub mod Withdrawn
 pub mod Zeros
+pub mod Zeroing
