@@ -11,12 +11,7 @@ use Rattle.vx_events.specs.Facts.{seat_of, site_number}
 use Rattle.vx_events.specs.GroupLines.{is_over_group}
 use Rattle.vx_events.specs.LinkedFacts.{linked_fact}
 use Rattle.vx_events.specs.StepsOver.{fact_over, facts_over, over_group_at}
-<<<<<<< HEAD
 use Rattle.vx_events.proofs.OverSeats.{fact_apart, fact_grouped, seats_over}
-=======
-use Rattle.vx_events.proofs.Over.{fact_apart}
-use Rattle.vx_events.proofs.OverSeats.{seats_over}
->>>>>>> land/S
 use Rattle.vx_events.proofs.Places.{position_within, some_same}
 use Rattle.vx_events.proofs.Refused.{Named}
 use Rattle.vx_events.proofs.Values.{length-values_from, slice_get-values_from}
@@ -79,13 +74,6 @@ module _ {R : Type 0} {g : Ghosts R} where
   site_at d y name s stands apart is =
       let at = place_at d y name s stands is in
       record { below = at.below; number = at.number; fact = at.fact ∙ ap (λ (f : SiteFacts). Some f) (fact_apart d.world s apart); apart = apart }
-
-  -- the same by the name
-  pub apart_at : (d : Doubted) (y : Yard R g) (name : List ℕ) (s : ℕ) → StandsFor d y → over_group_at d.world name ≡ false → seat_of y.facts.items name ≡ Some s → is_over_group (d.world.nodes s) ≡ false
-  apart_at d y name s stands apart is = ap (λ (k : ℕ). is_over_group (d.world.nodes k)) (sym (place_at d y name s stands is).number) ∙ apart
-
-  pub named_at : (d : Doubted) (y : Yard R g) (name : List ℕ) (s : ℕ) → StandsFor d y → over_group_at d.world name ≡ false → seat_of y.facts.items name ≡ Some s → SiteAt d y name s
-  named_at d y name s stands apart is = site_at d y name s stands (apart_at d y name s stands apart is) is
 
   -- the same by the name
   pub apart_at : (d : Doubted) (y : Yard R g) (name : List ℕ) (s : ℕ) → StandsFor d y → over_group_at d.world name ≡ false → seat_of y.facts.items name ≡ Some s → is_over_group (d.world.nodes s) ≡ false
