@@ -58,7 +58,7 @@ values_alike : {A : Type 0} (f g : ℕ → A) (k n : ℕ) → ((i : ℕ) → g i
 values_alike f g k zero same = refl
 values_alike {A} f g k (suc n) same = ap (λ (x : A). x ∷ values_from g (k + 1) n) (same k) ∙ ap (λ (xs : List A). f k ∷ xs) (values_alike f g (k + 1) n same)
 
-over_burnt : (n : Node) (row : ℕ → Link) (sites : ℕ) → over_of (burnt n) row sites ≡ over_of n row sites
+pub over_burnt : (n : Node) (row : ℕ → Link) (sites : ℕ) → over_of (burnt n) row sites ≡ over_of n row sites
 over_burnt n row sites = ap (λ (f : SiteFacts). if is_over_group n then fact_of_group n (note_at n) else f) (fact_burnt n row sites)
 
 pub worked_shows : (w : World) (s : ℕ) → facts_over (worked_on w s) ≡ facts_over w

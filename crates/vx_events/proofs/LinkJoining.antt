@@ -37,6 +37,7 @@ use Rattle.vx_order.specs.Tests.{when, before, first_said_no}
 use Rattle.vx_script.specs.declared.line.ScriptLine.TheVariants.{Link}
 use Rattle.vx_events.specs.Durables.{AreDurable}
 use Rattle.vx_events.specs.Facts.{site_number, volume_fact, group_fact, group_by, head_of}
+use Rattle.vx_events.specs.GroupLines.{is_over_group}
 use Rattle.vx_events.specs.LinkedFacts.{link_fact, link_facts, links_by, links_of_site, linked_fact}
 use Rattle.vx_events.specs.StepsOver.{fact_over, facts_over, refused_over}
 use Rattle.vx_history.specs.Listed.{IsAmong, AreListed}
@@ -242,10 +243,11 @@ both_unused first second here there e =
     let u = all_of (is_unused (rvg_of second)) _ t.1 in
     (q.0, u.0)
 
-pub join_agrees : (w : World) (files : Bool) (p s : List ℕ) (sync : SyncMode) (prot : Prot) → AreDurable w → AreListed w → refused_over w files (Link p s sync prot) ≡ None
-    → (step w (LinkAt (site_number w p) (site_number w s) sync Joins)).said ≡ Done
+-- neither of the sites of a link that may be made is over a group
+pub join_apart : (w : World) (files : Bool) (p s : List ℕ) (sync : SyncMode) (prot : Prot) → refused_over w files (Link p s sync prot) ≡ None
+    → (is_over_group (w.nodes (site_number w p)) ≡ false) × (is_over_group (w.nodes (site_number w s)) ≡ false)
 unfolding first_name second_name need_of halt_of ask_of first_said_no
-join_agrees w files p s sync prot whole listed free =
+join_apart w files p s sync prot free =
     let t = passes (facts_over w) files (Link p s sync prot) free in
     let a : ℕ = site_number w p in
     let b : ℕ = site_number w s in
@@ -257,8 +259,20 @@ join_agrees w files p s sync prot whole listed free =
     (subst (λ (o : Option ℕ). when (not (can_link (Some a) o (site_named (facts_over w) p) (site_named (facts_over w) s))) WrongRole ≡ None) two.place
     (subst (λ (o : Option ℕ). when (not (can_link o (place_named (facts_over w) (Some s)) (site_named (facts_over w) p) (site_named (facts_over w) s))) WrongRole ≡ None) one.place t.link_role))))) in
     let unused = both_unused (Some (fact_over w a)) (Some (fact_over w b)) (Some a) (Some b) linking in
-    let first : site_named (facts_over w) p ≡ Some (linked_fact w a) = one.found ∙ ap (λ (f : SiteFacts). Some f) (fact_apart w a (apart_shown w a is_unused refl unused.0)) in
-    let second : site_named (facts_over w) s ≡ Some (linked_fact w b) = two.found ∙ ap (λ (f : SiteFacts). Some f) (fact_apart w b (apart_shown w b is_unused refl unused.1)) in
+    (apart_shown w a is_unused refl unused.0, apart_shown w b is_unused refl unused.1)
+
+pub join_agrees : (w : World) (files : Bool) (p s : List ℕ) (sync : SyncMode) (prot : Prot) → AreDurable w → AreListed w → refused_over w files (Link p s sync prot) ≡ None
+    → (step w (LinkAt (site_number w p) (site_number w s) sync Joins)).said ≡ Done
+unfolding first_name second_name need_of halt_of ask_of first_said_no
+join_agrees w files p s sync prot whole listed free =
+    let t = passes (facts_over w) files (Link p s sync prot) free in
+    let a : ℕ = site_number w p in
+    let b : ℕ = site_number w s in
+    let one = seat_at w p t.known in
+    let two = seat_at w s t.other_known in
+    let apart = join_apart w files p s sync prot free in
+    let first : site_named (facts_over w) p ≡ Some (linked_fact w a) = one.found ∙ ap (λ (f : SiteFacts). Some f) (fact_apart w a apart.0) in
+    let second : site_named (facts_over w) s ≡ Some (linked_fact w b) = two.found ∙ ap (λ (f : SiteFacts). Some f) (fact_apart w b apart.1) in
     let ups = neither (not (is_up (w.nodes a).state)) (not (is_up (w.nodes b).state))
     (when_none (not (is_up (w.nodes a).state) || not (is_up (w.nodes b).state)) _
     (subst (λ (o : Option SiteFacts). when (not (is_up (w.nodes a).state) || site_off o) NotUp ≡ None) second (subst (λ (o : Option SiteFacts). when (site_off o || site_off (site_named (facts_over w) s)) NotUp ≡ None) first t.up))) in

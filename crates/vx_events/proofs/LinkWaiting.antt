@@ -23,6 +23,7 @@ use Rattle.vx_order.specs.Subject.{first_name, second_name, need_of, halt_of}
 use Rattle.vx_order.specs.Tests.{when}
 use Rattle.vx_script.specs.declared.line.ScriptLine.TheVariants.{Wait}
 use Rattle.vx_events.specs.Facts.{site_number, group_fact, head_of}
+use Rattle.vx_events.specs.GroupLines.{is_over_group}
 use Rattle.vx_events.specs.LinkedFacts.{link_fact, link_facts, links_by, links_of_site, linked_fact}
 use Rattle.vx_events.specs.StepsOver.{fact_over, facts_over, refused_over}
 use Rattle.vx_history.specs.Listed.{IsAmong, AreListed}
@@ -91,6 +92,18 @@ module _ (w : World) (listed : AreListed w) (a number : ℕ) (below : a < w.site
       ∙ off (number == 0 || nat_lt n.safe number) (Unknown (ByNumber number)) w confirmed known
       ∙ off (some_below w.sites (λ k. is_unconfirmed number k (w.links a k))) (Unconfirmed number) w o none
 
+-- the site of such a line is over no group
+pub wait_apart : (w : World) (files : Bool) (p : List ℕ) (number : ℕ) → refused_over w files (Wait p number) ≡ None → is_over_group (w.nodes (site_number w p)) ≡ false
+unfolding first_name second_name need_of halt_of ask_of
+wait_apart w files p number free =
+    let t = passes (facts_over w) files (Wait p number) free in
+    let a : ℕ = site_number w p in
+    let one = seat_at w p t.known in
+    let shows : has_writes (rvg_of (Some (fact_over w a))) ≡ true =
+    not_false (has_writes (rvg_of (Some (fact_over w a))))
+    (when_none (not (has_writes (rvg_of (Some (fact_over w a))))) WrongRole (subst (λ (o : Option SiteFacts). when (not (has_writes (rvg_of o))) WrongRole ≡ None) one.found t.link_role)) in
+    apart_shown w a has_writes refl shows
+
 pub wait_agrees : (w : World) (files : Bool) (p : List ℕ) (number : ℕ) → AreListed w → refused_over w files (Wait p number) ≡ None
     → ((step w (WaitAt (site_number w p) number)).said ≡ DoneAt number) ⊎ ((step w (WaitAt (site_number w p) number)).said ≡ Pending number)
 unfolding first_name second_name need_of halt_of ask_of
@@ -99,10 +112,7 @@ wait_agrees w files p number listed free =
     let a : ℕ = site_number w p in
     let n : Node = w.nodes a in
     let one = seat_at w p t.known in
-    let shows : has_writes (rvg_of (Some (fact_over w a))) ≡ true =
-    not_false (has_writes (rvg_of (Some (fact_over w a))))
-    (when_none (not (has_writes (rvg_of (Some (fact_over w a))))) WrongRole (subst (λ (o : Option SiteFacts). when (not (has_writes (rvg_of o))) WrongRole ≡ None) one.found t.link_role)) in
-    let found : site_named (facts_over w) p ≡ Some (linked_fact w a) = one.found ∙ ap (λ (f : SiteFacts). Some f) (fact_apart w a (apart_shown w a has_writes refl shows)) in
+    let found : site_named (facts_over w) p ≡ Some (linked_fact w a) = one.found ∙ ap (λ (f : SiteFacts). Some f) (fact_apart w a (wait_apart w files p number free)) in
     let here = here_by w a (when_none (not (is_up n.state)) NotUp (subst (λ (o : Option SiteFacts). when (site_off o) NotUp ≡ None) found t.up))
     (subst (λ (o : Option SiteFacts). halted_one o ≡ None) found t.running) in
     let role : when (not (has_writes (Some (group_fact n)))) WrongRole ≡ None =

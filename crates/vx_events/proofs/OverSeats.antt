@@ -1,6 +1,6 @@
 -- What the tests of a line see of a site that may be over a group: it stands under the same number and name, and only one that is over none shows a
 -- replicated volume group.
-use Rattle.std.proofs.Common.{◌≡◌, ◌∙◌, ℕ, zero, suc, ◌+◌, Bool, true, false, List, refl, ap, sym}
+use Rattle.std.proofs.Common.{◌≡◌, ◌∙◌, ℕ, zero, suc, ◌+◌, Bool, true, false, List, [], refl, ap, sym}
 use Rattle.std.specs.Prelude.{Option, Some, None, cond, if◌then◌else◌}
 use Rattle.std.specs.List.{position_from}
 use Rattle.std.specs.Str.{bytes_eq}
@@ -39,6 +39,14 @@ apart_shown w i tests none shows = by (is_over_group (w.nodes i)) refl shows
         → is_over_group (w.nodes i) ≡ false
     by true is e = absurd (never (sym e ∙ ap tests (none_of (is_up (w.nodes i).state)) ∙ none))
     by false is e = is
+
+-- and so is one that shows links
+pub apart_linked : (w : World) (i : ℕ) → ((fact_over w i).links ≡ [] → ⊥) → is_over_group (w.nodes i) ≡ false
+apart_linked w i some = by (is_over_group (w.nodes i)) refl some
+  where
+    by : (b : Bool) → is_over_group (w.nodes i) ≡ b → ((if b then fact_of_group (w.nodes i) (note_at (w.nodes i)) else linked_fact w i).links ≡ [] → ⊥) → is_over_group (w.nodes i) ≡ false
+    by true is never = absurd (never refl)
+    by false is never = is
 
 -- what is read of one of two values of which it is the same
 of_either : {A : Type 0} (read : SiteFacts → A) (b : Bool) (f k : SiteFacts) (x : A) → read f ≡ x → read k ≡ x → read (if b then f else k) ≡ x

@@ -139,6 +139,11 @@ NotFound s note fails why = ⊥
 abbrev pub KnowsNothing : Type 0 → GroupNode → Type 0
 KnowsNothing told note = (told → ⊥) ⊎ (note.loose ≡ true)
 
+-- why an import is refused that has written: a disk failed, or as one that has not
+abbrev pub ImportRefuses : Type 0 → (s : ℕ) → GroupNode → Fails → No → Type 0
+ImportRefuses told s note fails (Device disk) = Contains fails (s, disk)
+ImportRefuses told s note fails why = NotFound s note fails why ⊎ (KnowsNothing told note × IsNoDevice why)
+
 -- what a line says that found a group of which nothing was known
 abbrev pub SaysFound : Node → ScriptLine → GroupNode → Said → Type 0
 SaysFound n (GroupImport site) next said = said ≡ Done
@@ -163,9 +168,9 @@ pub data GroupEnds (told : Type 0) (d : Doubted) (line : ScriptLine) (s : ℕ) (
   GroupFails : (disk : ℕ) (next : GroupNode) → AreOf s fails → Contains fails (s, disk) → GroupSpoils s (note_at (d.world.nodes s)) line fails next
       → said ≡ Refused (Device disk) → IsLeftOver s line next (run_as false d (refused_events (d.world.nodes s) s line)) new
       → GroupEnds told d line s fails said new
-  -- an import that had written was ended by a failing disk: the disks crashed, and have no fuse
-  ImportFails : (disk : ℕ) (next : GroupNode) (site : List ℕ) → line ≡ GroupImport site → AreOf s fails → Contains fails (s, disk)
-      → NotesBegun (note_at (d.world.nodes s)) next → said ≡ Refused (Device disk) → IsAs d (fuse_lost (noting d.world s next) s) new
+  -- an import was refused that had written: the disks crashed, and have no fuse
+  ImportFails : (why : No) (next : GroupNode) (site : List ℕ) → line ≡ GroupImport site → AreOf s fails → ImportRefuses told s (note_at (d.world.nodes s)) fails why
+      → NotesBegun (note_at (d.world.nodes s)) next → said ≡ Refused why → IsAs d (fuse_lost (noting d.world s next) s) new
       → GroupEnds told d line s fails said new
   -- a recovery came up, and what is kept of a write that was cut could not be read: the site is down
   KeptUnread : (disk : ℕ) (next : GroupNode) (site : List ℕ) → line ≡ Recover site → AreOf s fails → Contains fails (s, disk)

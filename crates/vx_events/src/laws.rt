@@ -19,7 +19,7 @@ ghost use Rattle.vx_events.specs.GroupEnds.{GroupEnds, GroupStops};
 ghost use Rattle.vx_events.specs.Fails.{AreBorne, Fails};
 ghost use Rattle.vx_events.specs.Lines.{LineStep, is_of_links};
 ghost use Rattle.vx_events.specs.Lists.{Choice};
-ghost use Rattle.vx_events.specs.Parts.{DonePart, FellFirst, StopsShort, first_part, goes_in_parts, may_stop};
+ghost use Rattle.vx_events.specs.Parts.{DonePart, FellFirst, ReadFirst, StopsShort, first_part, goes_in_parts, may_stop};
 ghost use Rattle.vx_events.specs.Plain.{HasNoGroups, IsUnlinked, IsSizedAs};
 ghost use Rattle.vx_events.specs.StepsOver.{MakesNoGroup, StepOver, is_for_group};
 ghost use Rattle.vx_events.specs.Stopping.{StopsBy};
@@ -91,10 +91,11 @@ pub fn only_groups_bear()
 {}
 
 /// Where memory runs out within a line that does not go in parts nothing is done, whether disks tell their contents or not; of one that does, any first
-/// part of its events may be. Of a recovery of a group that is up the crash may be. Where disks tell their contents nothing else is.
+/// part of its events may be. Of a recovery of a group that is up the crash may be, and an import may have read its disks under a fuse. Where disks tell
+/// their contents nothing else is.
 pub fn memory_leaves_a_part()
     ensures none { (d : Doubted) (line : ScriptLine) (new : Doubted) → goes_in_parts line ≡ false → DonePart d line new → new ≡ d }
     ensures any { (d : Doubted) (line : ScriptLine) (c : Choice) (k : ℕ) → goes_in_parts line ≡ true → DonePart d line (first_part d line c k) }
     ensures short { (d : Doubted) (line : ScriptLine) (new : Doubted) → may_stop d.world line ≡ false → StopsShort ⊥ d line new → new ≡ d }
-    ensures told { (d : Doubted) (line : ScriptLine) (new : Doubted) → StopsShort (Unit {0}) d line new → DonePart d line new ⊎ FellFirst d line new }
+    ensures told { (d : Doubted) (line : ScriptLine) (new : Doubted) → StopsShort (Unit {0}) d line new → DonePart d line new ⊎ FellFirst d line new ⊎ ReadFirst d line new }
 {}
