@@ -12,6 +12,16 @@ is_block_kind (ReadLine site volume start count) = true
 is_block_kind (ShowLine site volume start count) = true
 is_block_kind other = false
 
+-- whether lines of this kind go to no other site than one over a group, or one of which a group is made
+abbrev pub is_group_line : ScriptLine → Bool
+is_group_line (GroupInit site) = true
+is_group_line (GroupDeport site) = true
+is_group_line (GroupImport site) = true
+is_group_line (Volume site volume blocks mirrors layout log map policy) = true
+is_group_line (PlexDetach site volume plex) = true
+is_group_line (PlexAttach site volume plex) = true
+is_group_line other = false
+
 -- whether lines of this kind may go to a group
 abbrev pub is_group_kind : ScriptLine → Bool
 is_group_kind (GroupInit site) = true

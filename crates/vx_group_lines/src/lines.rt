@@ -3,9 +3,9 @@ ghost use Rattle.std.specs.Prelude.{◌≡◌, ◌*◌, IfOk, IsOk, IsSome, min,
 ghost use Rattle.vx_history.specs.Doubts.{Doubted};
 ghost use Rattle.vx_events.specs.Facts.{seat_of};
 ghost use Rattle.vx_events.specs.StepsOver.{is_for_group, over_group_at};
-ghost use Rattle.vx_group_lines.specs.Plain.{is_block_kind, is_group_kind};
+ghost use Rattle.vx_group_lines.specs.Plain.{is_block_kind, is_group_kind, is_group_line};
 ghost use Rattle.vx_yard.specs.OfSites.{AsAsked, HasCalled};
-ghost use Rattle.vx_yard.specs.Standing.{LeadsOverIs, LeadsOverOrCrashes, StandsFor};
+ghost use Rattle.vx_yard.specs.Standing.{LeadsOverIs, LeadsOverOrStops, StandsFor};
 ghost use Rattle.vx_yard.specs.Working.{IsFree, takes_memory};
 ghost use Rattle.vx_yard.specs.Yards.{IsYardKept, IsTold, in_files};
 
@@ -43,6 +43,7 @@ pub fn is_of_group<R: Rack>(yard: &Yard<R>, words: &ScriptLine) -> bool
     requires free { IsFree yard.now words.now }
     ensures is { (d : Doubted) → StandsFor d yard.now → result ≡ is_for_group d.world words.now }
     ensures kind { result ≡ true → is_group_kind words.now ≡ true }
+    ensures always { is_group_line words.now ≡ true → result ≡ true }
 {
     match words {
         ScriptLine::GroupInit { .. }
@@ -133,7 +134,7 @@ pub fn work_group<R: Rack>(
     requires kept { IsYardKept yard.old }
     requires free { IsFree yard.old words.now }
     requires goes { is_group_kind words.now ≡ true }
-    ensures leads { (d : Doubted) → StandsFor d yard.old → is_for_group d.world words.now ≡ true → LeadsOverOrCrashes d words.now yard.old yard.new result }
+    ensures leads { (d : Doubted) → StandsFor d yard.old → is_for_group d.world words.now ≡ true → LeadsOverOrStops d words.now yard.old yard.new result }
     ensures asked { (d : Doubted) → StandsFor d yard.old → is_for_group d.world words.now ≡ true → AsAsked d.world words.now yard.old yard.new }
     ensures called { (d : Doubted) → StandsFor d yard.old → is_for_group d.world words.now ≡ true → IfOk result (λ said. HasCalled d.world words.now said yard.old yard.new) }
     ensures whole { takes_memory words.now ≡ false → IsOk result }
