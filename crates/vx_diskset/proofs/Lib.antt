@@ -35,3 +35,4 @@ pub mod ThenUnder
 pub mod Worked
 pub mod WriteGroup
 pub mod WriteLeaves
+pub mod Zeroes

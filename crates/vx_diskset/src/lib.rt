@@ -15,6 +15,7 @@ mod starting;
 mod units;
 mod withdrawing;
 mod writing;
+mod zeroing;
 
 pub use disk_set::DiskSet;
 pub use group_set::{CutWrite, GroupSet, KeptWrite};
