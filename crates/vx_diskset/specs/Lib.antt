@@ -17,8 +17,4 @@ pub mod Recovers
 pub mod Rooms
 pub mod Stands
 pub mod Withdrawn
-<<<<<<< HEAD
-pub mod Zeros
-=======
 pub mod Zeroing
->>>>>>> 24dd1083e38809277ffa9466c8aaac3f447a4e03

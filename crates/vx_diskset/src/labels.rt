@@ -6,7 +6,7 @@ ghost use Rattle.vx_history.specs.World.{Node};
 ghost use Rattle.vx_model.specs.Content.{zero_block};
 ghost use Rattle.vx_ringio.specs.Spends.{Spends};
 ghost use Rattle.vx_diskset.specs.Stands.{IsCleanAt};
-ghost use Rattle.vx_diskset.specs.Zeros.{OnlyZeros};
+ghost use Rattle.vx_diskset.specs.Zeroing.{IsZero};
 
 use vx_copyfmt::{LabelSeen, get_label};
 use vx_copyio::are_large;
@@ -32,7 +32,7 @@ fn has_label_at<R: Rack>(rack: &mut R, disk: u32) -> bool
 fn unlabel<R: Rack>(rack: &mut R, disk: u32) -> Result<(), No>
     requires there { disk < (R.meaning rack.old).units }
     requires some { 0 < (R.meaning rack.old).size disk }
-    ensures goes { Goes OnlyZeros (R.meaning rack.old) (R.meaning rack.new) }
+    ensures goes { Goes IsZero (R.meaning rack.old) (R.meaning rack.new) }
     ensures spends { Spends (R.meaning rack.old) (R.meaning rack.new) }
     ensures cause { IfErr result (DeviceCause (R.meaning rack.old) (R.meaning rack.new)) }
 {
