@@ -1,14 +1,14 @@
 -- What a call on the group of a site leaves of the disks below it.
 use Rattle.std.proofs.Common.{◌≡◌, ◌∙◌, ◌⊎◌, inl, inr, ℕ, ◌≤◌, Bool, true, false, List, ap, refl, subst, sym, IsTrue}
-use Rattle.std.specs.Prelude.{Option, Some, None, IsFalse, Result, Ok, Err}
+use Rattle.std.specs.Prelude.{Option, Some, None, IsFalse, Result, Ok, Err, OnOk}
 use Rattle.vx_model.specs.Content.{Write}
 use Rattle.vx_model.specs.declared.errors.Stop.{Stop}
 use Rattle.vx_model.specs.declared.errors.Stop.TheVariants.{No as Refused, OutOfMemory}
 use Rattle.vx_model.specs.declared.no.No.{No}
 use Rattle.vx_model.specs.declared.no.No.TheVariants.{Device, Down as IsOff}
-use Rattle.vx_disk.specs.Causes.{WithDisks}
-use Rattle.vx_disk.specs.Disks.{Disks, is_set}
-use Rattle.vx_disk.specs.Racks.{IsRack}
+use Rattle.vx_disk.specs.Causes.{OnDisks, WithDisks}
+use Rattle.vx_disk.specs.Disks.{Crashed, Disks, is_set}
+use Rattle.vx_disk.specs.Racks.{IsRack, Stopped}
 use Rattle.vx_disk.specs.Shelf.{Meaning}
 use Rattle.vx_disk.specs.declared.shelf.Shelf.{Ghosts}
 use Rattle.vx_history.specs.Groups.{GroupNode, note_cut, note_doubt, note_write}
@@ -18,9 +18,9 @@ use Rattle.vx_watched.specs.Since.{CalledSince, fuse_calls, is_rack}
 use Rattle.vx_grouped.specs.Added.{note_added}
 use Rattle.vx_grouped.specs.GroupSites.{AwayNoted, DownNoted, GroupSiteStands, UpNoted, deported_with, site_disks, with_note}
 use Rattle.vx_grouped.specs.SiteAdds.{SiteAdded}
-use Rattle.vx_grouped.specs.SiteEnds.{PlainRead, PlainWrote, SiteCalled, SiteDeported, burned_site}
+use Rattle.vx_grouped.specs.SiteEnds.{PlainRead, PlainWrote, SiteCalled, SiteDeported, burned_site, is_plex_on}
 use Rattle.vx_layout.specs.declared.shape.Shape.{Shape}
-use Rattle.vx_grouped.specs.SiteReturns.{FailsFused, ReturnSince}
+use Rattle.vx_grouped.specs.SiteReturns.{ReturnSince}
 use Rattle.vx_grouped.specs.declared.group_site.GroupSite.{GroupSite}
 use Rattle.vx_grouped.specs.declared.group_site.GroupSite.TheVariants.{Up, Deported, Down, Marked, Gone}
 use Rattle.vx_diskset.specs.Asked.{FuseGoesOn, SameFailing, disks_told}
@@ -40,52 +40,57 @@ with_by P None (Some y) same each = absurd (let e : true ≡ false = same in cc)
 with_by P (Some x) None same each = absurd (let e : false ≡ true = same in cc)
 with_by P (Some x) (Some y) same each = each x y refl refl
 
--- the fuse of disks that are up, or have none
-calls_fused : (m m' : Meaning) → IsRack m' → CalledSince m m' → (IsFalse m'.down ⊎ IsFalse m'.armed) → (x y : Disks) → m.disks ≡ Some x → m'.disks ≡ Some y → FailsFused x y
-calls_fused m m' rack since (inl up) x y was is =
-    let goes = since.told x y was is in
-    record { failing = goes.failing; set = λ on. sym (goes.fuse up).set ∙ on; left = λ on. (goes.fuse up).left }
-calls_fused m m' rack since (inr unarmed) x y was is =
+-- no fuse is set on a rack that has none
+never_set : (m : Meaning) → IsRack m → IsFalse m.armed → (y : Disks) → m.disks ≡ Some y → is_set y.fuse ≡ true → ⊥
+never_set m rack unarmed y is on =
     let told : rack.told ≡ y = some_same rack.told y (sym rack.is ∙ is) in
-    let off : is_set y.fuse ≡ false = sym (ap (λ (d : Disks). is_set d.fuse) told) ∙ sym rack.armed ∙ unarmed in
-    let never : is_set y.fuse ≡ true → ⊥ = λ on. let e : true ≡ false = sym on ∙ off in cc in
-    record { failing = (since.told x y was is).failing; set = λ on. absurd (never on); left = λ on. absurd (never on) }
+    let e : true ≡ false = sym on ∙ sym (ap (λ (d : Disks). is_set d.fuse) told) ∙ sym rack.armed ∙ unarmed in
+    cc
   where
     some_same : (a b : Disks) → Some a ≡ Some b → a ≡ b
     some_same a b refl = refl
 
--- calls in a row on disks that are up, or have no fuse
-pub return_calls : (m m' : Meaning) → IsRack m' → CalledSince m m' → (IsFalse m'.down ⊎ IsFalse m'.armed) → ReturnSince m m'
-return_calls m m' rack since settled = record {
+-- disks behind their calls, as an import leaves them
+pub return_called : (m m' : Meaning) → CalledSince m m' → ReturnSince m m'
+return_called m m' since = record {
   units = since.units;
   size = since.size;
   tells = since.tells;
   counts = since.counts;
   rack = since.rack;
-  told = calls_fused m m' rack since settled;
+  failing = λ x y was is. (since.told x y was is).failing;
+  unarmed = since.unarmed;
+  left = λ x y was is up on. let goes = (since.told x y was is).fuse up in (sym goes.set ∙ on, goes.left);
 }
 
-pub return_then : (a b c : Meaning) → ReturnSince a b → ReturnSince b c → ReturnSince a c
-return_then a b c one two = record {
-  units = two.units ∙ one.units;
-  size = λ u. two.size u ∙ one.size u;
-  tells = two.tells ∙ one.tells;
-  counts = λ d. omega (one.counts d, two.counts d);
-  rack = two.rack ∙ one.rack;
-  told = λ x z was is. between a b c one two b.disks refl x z was is;
+-- and behind a crash
+pub return_fell : (m middle m' : Meaning) (pick : ℕ) → ReturnSince m middle → Stopped middle m' → OnDisks middle.disks m'.disks (Crashed middle.size pick) → ReturnSince m m'
+return_fell m middle m' pick since fell on = record {
+  units = fell.units ∙ since.units;
+  size = λ u. fell.size u ∙ since.size u;
+  tells = fell.tells ∙ since.tells;
+  counts = λ d. omega (since.counts d, fell.counts.disk_faults d);
+  rack = rack_on middle.disks m'.disks on ∙ since.rack;
+  failing = λ x z was is u. failing_on m.disks middle.disks m'.disks x z was is since.rack (λ y there. since.failing x y was there) on u;
+  unarmed = λ none. fell.unarmed;
+  left = λ x z was is up on_it. absurd (never_both m'.down fell.down up);
 }
   where
-    between : (a b c : Meaning) → ReturnSince a b → ReturnSince b c → (o : Option Disks) → b.disks ≡ o → (x z : Disks) → a.disks ≡ Some x → c.disks ≡ Some z → FailsFused x z
-    between a b c one two None middle x z was is =
-        absurd (let e : true ≡ false = ap (λ (o : Option Disks). is_rack o) (sym was) ∙ sym one.rack ∙ ap (λ (o : Option Disks). is_rack o) middle in cc)
-    between a b c one two (Some y) middle x z was is =
-        let first = one.told x y was middle in
-        let second = two.told y z middle is in
-        record {
-          failing = λ u. second.failing u ∙ first.failing u;
-          set = λ on. first.set (second.set on);
-          left = λ on. omega (second.left on, first.left (second.set on));
-        }
+    rack_on : (o n : Option Disks) → OnDisks o n (Crashed middle.size pick) → is_rack n ≡ is_rack o
+    rack_on None None it = refl
+    rack_on None (Some z) it = absurd it
+    rack_on (Some y) None it = absurd it
+    rack_on (Some y) (Some z) it = refl
+
+    failing_on : (o c n : Option Disks) (x z : Disks) → o ≡ Some x → n ≡ Some z → is_rack c ≡ is_rack o → ((y : Disks) → c ≡ Some y → (u : ℕ) → y.failing u ≡ x.failing u) → OnDisks c n (Crashed middle.size pick)
+        → (u : ℕ) → z.failing u ≡ x.failing u
+    failing_on o None None x z was is same each it u = absurd (let e : None ≡ Some z = is in cc)
+    failing_on o None (Some w) x z was is same each it u = absurd it
+    failing_on o (Some y) None x z was is same each it u = absurd it
+    failing_on o (Some y) (Some w) x z was is same each it u = ap (λ (d : Disks). d.failing u) (sym (some_one w z is)) ∙ it.1 u ∙ each y refl u
+      where
+        some_one : (a b : Disks) → Some a ≡ Some b → a ≡ b
+        some_one a b refl = refl
 
 module _ {R : Type 0} {g : Ghosts R} where
   -- ---- the disks below a disk set
@@ -140,7 +145,7 @@ module _ {R : Type 0} {g : Ghosts R} where
     failing_called since = failing_by since.rack (λ x y one two. (since.told x y one two).failing)
 
     pub failing_returned : ReturnSince m m' → SameFailing old new
-    failing_returned since = failing_by since.rack (λ x y one two. (since.told x y one two).failing)
+    failing_returned since = failing_by since.rack since.failing
 
     pub later_called : CalledSince m m' → Later old new
     later_called since = later_by since.counts since.tells
@@ -148,10 +153,15 @@ module _ {R : Type 0} {g : Ghosts R} where
     pub later_returned : ReturnSince m m' → Later old new
     later_returned since = later_by since.counts since.tells
 
-    pub fuse_returned : ReturnSince m m' → FuseGoesOn old new
-    fuse_returned since = record {
-      set = λ x y one two. (since.told x y (sym was.disks ∙ one) (sym now.disks ∙ two)).set;
-      left = λ x y one two. (since.told x y (sym was.disks ∙ one) (sym now.disks ∙ two)).left;
+    -- of disks that are up, or have no fuse
+    pub fuse_returned : ReturnSince m m' → IsRack m' → IsFalse m'.down ⊎ IsFalse m'.armed → FuseGoesOn old new
+    fuse_returned since rack (inl up) = record {
+      set = λ x y one two on. (since.left x y (sym was.disks ∙ one) (sym now.disks ∙ two) up on).0;
+      left = λ x y one two on. (since.left x y (sym was.disks ∙ one) (sym now.disks ∙ two) up on).1;
+    }
+    fuse_returned since rack (inr unarmed) = record {
+      set = λ x y one two on. absurd (never_set m' rack unarmed y (sym now.disks ∙ two) on);
+      left = λ x y one two on. absurd (never_set m' rack unarmed y (sym now.disks ∙ two) on);
     }
 
   pub group_failing : (old : DiskSet R g) (o s : GroupSet R g) → old ≡ OfGroup o → CalledSince (site_disks o.site) (site_disks s.site) → SameFailing old (OfGroup s)
@@ -171,17 +181,21 @@ module _ {R : Type 0} {g : Ghosts R} where
   pub at_none : (P : GroupSite R g → Type 0) (A : Type 0) (e : DiskSet R g) → ((o : GroupSet R g) → e ≡ OfGroup o → ⊥) → AtSite P e → A
   at_none P A e never it = let on = on_group P e it in absurd (never on.set on.is)
 
+  -- the other plexes
+  pub others_on : {T : Type 0} (r : Result T Stop) (e : DiskSet R g) (o s : GroupSet R g) → e ≡ OfGroup o → (v p : ℕ)
+      → OnOk r ((w q : ℕ) → (w ≡ v → q ≡ p → ⊥) → is_plex_on s.site w q ≡ is_plex_on o.site w q)
+      → OnOk r ((w q : ℕ) → (w ≡ v → q ≡ p → ⊥) → OnSites (λ x y. is_plex_on y w q ≡ is_plex_on x w q) e (OfGroup s))
+  others_on (Ok done) e o s is v p all = λ w q other. subst (λ (x : DiskSet R g). OnSites (λ a b. is_plex_on b w q ≡ is_plex_on a w q) x (OfGroup s)) (sym is) (all w q other)
+  others_on (Err stop) e o s is v p all = tt
+
   -- ---- disks that stand for a site are up, or have no fuse
 
   pub record IsSettled (s : GroupSite R g) : Type 0 where
     pub rack : IsRack (site_disks s)
     pub at : IsFalse (site_disks s).down ⊎ IsFalse (site_disks s).armed
 
-  pub return_settled : (m : Meaning) (s : GroupSite R g) → CalledSince m (site_disks s) → IsSettled s → ReturnSince m (site_disks s)
-  return_settled m s since it = return_calls m (site_disks s) it.rack since it.at
-
   pub group_fuse : (old : DiskSet R g) (o s : GroupSet R g) → old ≡ OfGroup o → CalledSince (site_disks o.site) (site_disks s.site) → IsSettled s.site → FuseGoesOn old (OfGroup s)
-  group_fuse old o s is since it = fuse_returned old (OfGroup s) (site_disks o.site) (site_disks s.site) (has_group old o is) (has_group (OfGroup s) s refl) (return_settled (site_disks o.site) s.site since it)
+  group_fuse old o s is since it = fuse_returned old (OfGroup s) (site_disks o.site) (site_disks s.site) (has_group old o is) (has_group (OfGroup s) s refl) (return_called (site_disks o.site) (site_disks s.site) since) it.rack it.at
 
   module _ (rackful : (r : R) → IsRack (g.meaning r)) where
     pub settled : (n : Node) (s : GroupSite R g) → GroupSiteStands n s → IsSettled s

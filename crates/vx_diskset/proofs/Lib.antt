@@ -9,10 +9,12 @@ pub mod ExactWrite
 pub mod FailGroup
 pub mod FuseGroup
 pub mod GroupCalling
+pub mod GroupRising
 pub mod GroupStands
 pub mod HeadCalls
 pub mod KeepGroup
 pub mod KeepsFailing
+pub mod LabelLemmas
 pub mod LastWrites
 pub mod Laying
 pub mod LeavesNumbers

@@ -16,5 +16,6 @@ pub mod Received
 pub mod Recovers
 pub mod Rooms
 pub mod Stands
+pub mod Unlabels
 pub mod Withdrawn
 pub mod Zeroing

@@ -1,5 +1,5 @@
 // How a group is made on the disks of a site, and how it comes up again.
-ghost use Rattle.std.specs.Prelude.{◌≡◌, ◌<◌, ◌≤◌, IfErr, None, if◌then◌else◌, is_ok};
+ghost use Rattle.std.specs.Prelude.{◌≡◌, ◌<◌, ◌≤◌, IfErr, None, Some, if◌then◌else◌, is_ok};
 ghost use Rattle.vx_copyio.specs.Labelling.{least_blocks};
 ghost use Rattle.vx_grouped.specs.GroupSites.{AwayNoted, DownNoted, UpNoted, site_disks};
 ghost use Rattle.vx_grouped.specs.Begins.{BeginsGroup, CanBegin};
@@ -39,7 +39,26 @@ fn begin_on<R: Rack>(alloc: Global, rack: R, site: u32) -> (DiskSet<R>, Result<(
     )
 }
 
-// Reads what is kept of the write that is cut, if one is, at a group that is up. Nothing is said of one whose volume is not there any more.
+// Reads what is kept of a write that is cut, at a group that is up. Nothing is said of one whose volume is not there any more.
+fn kept_at<R: Rack>(site: &mut GroupSite<R>, write: &CutWrite) -> Result<Option<KeptWrite>, No>
+    ensures looks { (n : Node) (note : GroupNode) → UpNoted n note site.old → LooksKept n note (Some write.now) site.old site.new result }
+    ensures since { CalledSince (site_disks site.old) (site_disks site.new) }
+{
+    let bytes = write.bytes.as_bytes();
+    if site.fits(write.volume, write.block, bytes.len()) {
+        match site.kept(write.volume, write.block, bytes) {
+            Ok(bits) => Ok(Some(KeptWrite {
+                write: *write,
+                bits,
+            })),
+            Err(no) => Err(no),
+        }
+    } else {
+        Ok(None)
+    }
+}
+
+// The same where a write may be cut.
 fn look_kept<R: Rack>(
     site: &mut GroupSite<R>,
     cut: &Option<CutWrite>,
@@ -48,16 +67,7 @@ fn look_kept<R: Rack>(
     ensures since { CalledSince (site_disks site.old) (site_disks site.new) }
 {
     match cut {
-        Some(write) => {
-            if !site.fits(write.volume, write.block, write.bytes.as_bytes().len()) {
-                return Ok(None);
-            }
-            let bits = site.kept(write.volume, write.block, write.bytes.as_bytes())?;
-            Ok(Some(KeptWrite {
-                write: *write,
-                bits,
-            }))
-        }
+        Some(write) => kept_at(site, write),
         None => Ok(None),
     }
 }
@@ -143,7 +153,7 @@ impl<R: Rack> DiskSet<R> {
     pub fn import_group(self, alloc: Global) -> (DiskSet<R>, Result<(), Stop>)
         ensures imported { (n : Node) (note : GroupNode) → AtSite (AwayNoted n note) self → OnSites (λ o e. SiteImports n note o e result.1) self result.0 }
         ensures cut { cut_in result.0 ≡ cut_past result.1 self }
-        ensures fuse { FuseGoesOn self result.0 }
+        ensures fuse { (n : Node) (note : GroupNode) → AtSite (AwayNoted n note) self → FuseGoesOn self result.0 }
         ensures failing { SameFailing self result.0 }
         ensures later { Later self result.0 }
     {
@@ -156,7 +166,7 @@ impl<R: Rack> DiskSet<R> {
     /// Imports the group of a site that crashed, and says what is kept of the write that its crash cut. Where it is refused, the site stays down.
     pub fn recover_group(self, alloc: Global) -> (DiskSet<R>, Result<Option<KeptWrite>, Stop>)
         ensures recovered { (n : Node) (note : GroupNode) → AtSite (DownNoted n note) self → RecoversGroup n note self result.0 result.1 }
-        ensures fuse { FuseGoesOn self result.0 }
+        ensures fuse { (n : Node) (note : GroupNode) → AtSite (DownNoted n note) self → FuseGoesOn self result.0 }
         ensures failing { SameFailing self result.0 }
         ensures later { Later self result.0 }
     {

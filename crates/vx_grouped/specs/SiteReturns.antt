@@ -1,5 +1,5 @@
 -- How a recovery or an import of a group leaves the disks of its site.
-use Rattle.std.specs.Prelude.{◌≡◌, ◌⊎◌, ℕ, ◌<◌, Bool, true, false, [], None, IsTrue, Result, Ok, Err}
+use Rattle.std.specs.Prelude.{◌≡◌, ◌⊎◌, ℕ, ◌<◌, ◌≤◌, Bool, true, false, [], Some, None, IsFalse, IsTrue, Result, Ok, Err}
 use Rattle.vx_model.specs.declared.errors.Stop.{Stop}
 use Rattle.vx_model.specs.declared.errors.Stop.TheVariants.{No as Refused}
 use Rattle.vx_model.specs.declared.no.No.TheVariants.{Device, Down as IsOff, Limit}
@@ -63,20 +63,16 @@ stops_early (Refused IsOff) = false
 stops_early (Refused (Limit what most)) = false
 stops_early other = true
 
--- disks that are made to fail as before, with a fuse that has no more calls left, or none
-pub record FailsFused (old new : Disks) : Type 0 where
-  pub failing : (u : ℕ) → new.failing u ≡ old.failing u
-  pub set : is_set new.fuse ≡ true → is_set old.fuse ≡ true
-  pub left : is_set new.fuse ≡ true → fuse_calls new.fuse ≤ fuse_calls old.fuse
-
--- disks behind an import, whatever it answered
+-- Disks behind an import, whatever it answered: the same are made to fail, and a fuse that is set has no more calls left.
 pub record ReturnSince (old new : Meaning) : Type 0 where
   pub units : new.units ≡ old.units
   pub size : (u : ℕ) → new.size u ≡ old.size u
   pub tells : new.tells ≡ old.tells
   pub counts : (d : ℕ) → old.disk_faults d ≤ new.disk_faults d
   pub rack : is_rack new.disks ≡ is_rack old.disks
-  pub told : (o n : Disks) → old.disks ≡ Some o → new.disks ≡ Some n → FailsFused o n
+  pub failing : (o n : Disks) → old.disks ≡ Some o → new.disks ≡ Some n → (u : ℕ) → n.failing u ≡ o.failing u
+  pub unarmed : IsFalse old.armed → IsFalse new.armed
+  pub left : (o n : Disks) → old.disks ≡ Some o → new.disks ≡ Some n → IsFalse new.down → is_set n.fuse ≡ true → (is_set o.fuse ≡ true) × (fuse_calls n.fuse ≤ fuse_calls o.fuse)
 
 module _ {R : Type 0} {g : Ghosts R} where
   -- whatever image a crash leaves, imports of the disks by themselves agree
