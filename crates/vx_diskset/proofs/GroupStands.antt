@@ -27,7 +27,7 @@ use Rattle.vx_diskset.specs.declared.group_set.GroupSet.{GroupSet}
 
 -- ---- nodes alike in all by which such disks stand
 
-pub record IsLikeGroup (n k : Node) : Type 0 where
+pub record IsLikeGroup (n k : Node) : Type 1 where
   pub state : n.state ≡ k.state
   pub disks : n.disks ≡ k.disks
   pub blocks : n.blocks ≡ k.blocks
@@ -143,6 +143,12 @@ failing_like n failing = record {
   unfused = λ none. none;
 }
 
+-- a site that notes a group is over one
+noted_over : (n : Node) (note : GroupNode) → NotesGroup n note → is_over_group n ≡ true
+noted_over n note it =
+    ap (λ (o : Option GroupNode). is_some o && eqb (length n.volumes) 0) it.is
+    ∙ ap (λ (vs : List Volume). eqb (length vs) 0) it.none.volumes
+
 module _ {R : Type 0} {g : Ghosts R} where
   pub set_burned : (beside : KeptBeside) (n : Node) (s : GroupSet R g) → IsGroupSet beside n s → IsGroupSet beside (record n { fuse = burned n.fuse }) s
   set_burned beside n s it =
@@ -160,11 +166,6 @@ module _ {R : Type 0} {g : Ghosts R} where
       (λ state. ap (λ (x : Node). let q : Node = record x { failing = failing } in q) (it.bare state)) it
 
   -- ---- what such a site is
-
-  noted_over : (n : Node) (note : GroupNode) → NotesGroup n note → is_over_group n ≡ true
-  noted_over n note it =
-      ap (λ (o : Option GroupNode). is_some o && eqb (length n.volumes) 0) it.is
-      ∙ ap (λ (vs : List Volume). eqb (length vs) 0) it.none.volumes
 
   over_by : (n : Node) (s : GroupSite R g) → GroupSiteStands n s → (n.state ≡ IsBare → ⊥) → is_over_group n ≡ true
   over_by n (Up group) (note, it) some = noted_over n note it.noted

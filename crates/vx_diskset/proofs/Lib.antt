@@ -23,6 +23,7 @@ pub mod MakeGroup
 pub mod MakeRoom
 pub mod Mores
 pub mod NeedLemmas
+pub mod OverGroups
 pub mod PumpGroup
 pub mod Reaching
 pub mod ReadGroup
@@ -34,6 +35,7 @@ pub mod StartGroup
 pub mod StaysUp
 pub mod TakenBack
 pub mod ThenUnder
+pub mod Unmarked
 pub mod Worked
 pub mod WriteGroup
 pub mod WriteLeaves

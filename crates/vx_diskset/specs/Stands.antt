@@ -1,5 +1,5 @@
 -- What the disks of a site stand for: how its rack, or the group over it, agrees with its node of the world.
-use Rattle.std.specs.Prelude.{◌≡◌, ℕ, ◌+◌, ◌<◌, ◌≤◌, List, Some, length, take, drop, None, IsTrue, IsFalse, true, false}
+use Rattle.std.specs.Prelude.{◌≡◌, ℕ, ◌+◌, ◌<◌, ◌≤◌, List, [], Some, length, take, drop, None, IsTrue, IsFalse, true, false}
 use Rattle.vx_model.specs.declared.limits.TheConstants.{LEAST_BLOCKS, MOST_DISKS}
 use Rattle.vx_model.specs.Content.{zero_block}
 use Rattle.vx_model.specs.Sites.{is_origin}
@@ -16,7 +16,6 @@ use Rattle.vx_diskset.specs.declared.disk_set.DiskSet.{DiskSet}
 use Rattle.vx_diskset.specs.declared.disk_set.DiskSet.TheVariants.{Bare, Spoiled, Up, Receives, Down, OfGroup, Gone}
 use Rattle.vx_grouped.specs.GroupSites.{FitsPlain, GroupSiteStands, IsMarkedSite, site_disks}
 use Rattle.vx_history.specs.Groups.{GroupNode}
-use Rattle.vx_diskset.specs.declared.group_set.CutWrite.{CutWrite}
 use Rattle.vx_diskset.specs.GroupSets.{cut_value, noted_cut}
 use Rattle.vx_diskset.specs.declared.group_set.GroupSet.{GroupSet}
 use Rattle.vx_diskset.specs.Fuses.{IsFirstLog}
@@ -126,11 +125,6 @@ pub record IsReceiverAt (beside : KeptBeside) (n : Node) (c : Core) (us : List U
   pub left : (i : Image) → m.now i → HasSite beside n i
   pub sure : n.halted ≡ None → beside.doubt ≡ None
   pub may : (k : KeptSite) → beside.doubt ≡ Some k → MayBe k m
-
--- a write that the fuse of a group cut: its site is down, and it lies in its volume
-pub record CutLies (n : Node) (x : CutWrite) : Type 0 where
-  pub down : n.state ≡ IsDown
-  pub fits : (note : GroupNode) → n.group ≡ Some note → FitsPlain note x.volume x.block (length x.bytes)
 
 -- the disks of a site, up or down: a crash leaves its writes on them
 pub record IsHeldAt (beside : KeptBeside) (n : Node) (m : Meaning) : Type 0 where

@@ -2,7 +2,8 @@
 ghost use Rattle.std.specs.Prelude.{◌≡◌, ◌+◌, ◌<◌, ◌≤◌, IfErr, OnOk};
 ghost use Rattle.vx_disk.specs.Causes.{Cause, DeviceCause, refusal_of};
 ghost use Rattle.vx_disk.specs.Shelf.{Goes};
-ghost use Rattle.vx_diskset.specs.Zeroing.{FailsAlike, GivesZeros, IsZero, IsZeroOf, LeavesZeros};
+ghost use Rattle.vx_diskset.specs.Zeroing.{FailsAlike, GivesZeros, IsZeroOf, LeavesZeros};
+ghost use Rattle.vx_diskset.specs.Zeros.{OnlyZeros};
 
 use vx_disk::{Rack, ShelfError};
 use vx_model::limits::BLOCK;
@@ -46,7 +47,7 @@ fn zero_disk<R: Rack>(rack: &mut R, disk: u32) -> Result<(), ShelfError>
 
 /// Writes zeros to each block of each disk, and makes them durable. A disk that fails ends it.
 pub(crate) fn zero_disks<R: Rack>(rack: &mut R) -> Result<(), ShelfError>
-    ensures goes { Goes IsZero (R.meaning rack.old) (R.meaning rack.new) }
+    ensures goes { Goes OnlyZeros (R.meaning rack.old) (R.meaning rack.new) }
     ensures ok { OnOk result (LeavesZeros (R.meaning rack.old).units (R.meaning rack.new)) }
     ensures cause { IfErr result (λ e. DeviceCause (R.meaning rack.old) (R.meaning rack.new) (refusal_of e)) }
     ensures failing { FailsAlike (R.meaning rack.old).disks (R.meaning rack.new).disks }
