@@ -1,5 +1,5 @@
 -- A group that comes up again, and what is kept of the write that the fuse cut.
-use Rattle.std.proofs.Common.{◌≡◌, ◌∙◌, ℕ, Bool, true, false, List, ap, length, refl, subst, sym, IsTrue}
+use Rattle.std.proofs.Common.{◌≡◌, ◌∙◌, inr, ℕ, Bool, true, false, List, ap, length, refl, subst, sym, IsTrue}
 use Rattle.std.specs.Prelude.{Option, Some, None, Result, Ok, Err, is_ok}
 use Rattle.vx_model.specs.declared.errors.Stop.{Stop}
 use Rattle.vx_model.specs.declared.errors.Stop.TheVariants.{No as Refused, OutOfMemory}
@@ -14,18 +14,19 @@ use Rattle.vx_history.specs.World.{Node}
 use Rattle.vx_grouped.specs.GroupSites.{DownNoted, FitsPlain, UpNoted, site_disks, with_note}
 use Rattle.vx_grouped.specs.SiteEnds.{MayCrashSite, burned_site}
 use Rattle.vx_grouped.specs.SiteKeeps.{PlainKept}
-use Rattle.vx_grouped.specs.SiteReturns.{ReturnSince}
+use Rattle.vx_grouped.specs.SiteReturns.{ReturnSince, SiteRecovers}
 use Rattle.vx_grouped.specs.declared.group_site.GroupSite.{GroupSite}
 use Rattle.vx_grouped.specs.declared.group_site.GroupSite.TheVariants.{Up, Deported, Down, Marked, Gone}
 use Rattle.vx_grouped.proofs.SettleLemmas.{fuse_burned}
 use Rattle.vx_grouped.proofs.SiteLemmas.{up_burned}
 use Rattle.vx_diskset.specs.GroupCalls.{AtSite, cut_in}
-use Rattle.vx_diskset.specs.Recovers.{CutFits, KeptIs, LooksKept, RisesWith, still_cut}
-use Rattle.vx_diskset.specs.declared.disk_set.DiskSet.TheVariants.{OfGroup}
+use Rattle.vx_diskset.specs.Recovers.{CutFits, KeptIs, LooksKept, RecoversGroup, RisesWith, still_cut}
+use Rattle.vx_diskset.specs.declared.disk_set.DiskSet.{DiskSet}
+use Rattle.vx_diskset.specs.declared.disk_set.DiskSet.TheVariants.{Bare, Spoiled, Up as UpSet, Receives, Down as DownSet, OfGroup, Gone as GoneSet}
 use Rattle.vx_diskset.specs.declared.group_set.CutWrite.{CutWrite}
 use Rattle.vx_diskset.specs.declared.group_set.GroupSet.{GroupSet}
 use Rattle.vx_diskset.specs.declared.group_set.KeptWrite.{KeptWrite}
-use Rattle.vx_diskset.proofs.GroupCalling.{return_fell}
+use Rattle.vx_diskset.proofs.GroupCalling.{return_fell, return_then}
 
 module _ {R : Type 0} {g : Ghosts R} where
   -- ---- what is read at a group that is up
@@ -101,3 +102,19 @@ module _ {R : Type 0} {g : Ghosts R} where
     subst (λ (k : ℕ). Rose ((site_disks old).disk_faults disk) k) (sym (crash_counts pick mid new fell disk)) it.2,
   )
   rises_unread n note cut old mid new pick other it crash fell = absurd it
+
+  -- ---- a recovery
+
+  pub came_back : (n : Node) (note : GroupNode) (s : GroupSet R g) (middle : GroupSite R g) (new : DiskSet R g) (r : Result (Option KeptWrite) Stop) → SiteRecovers n note s.site middle (Ok tt)
+      → ((k : Node) (next : GroupNode) → UpNoted k next middle → RisesWith k next s.cut middle new r) → RecoversGroup n note (OfGroup s) new r
+  came_back n note s middle new (Ok kept) came rises = record { middle = middle; came = came; rises = rises }
+  came_back n note s middle new (Err stop) came rises = inr (record { middle = middle; came = came; rises = rises })
+
+  pub returned_on : (m : Meaning) (middle : GroupSite R g) (new : DiskSet R g) → ReturnSince m (site_disks middle) → AtSite (λ e. ReturnSince (site_disks middle) (site_disks e)) new → AtSite (λ e. ReturnSince m (site_disks e)) new
+  returned_on m middle (Bare rack) one two = absurd two
+  returned_on m middle (Spoiled rack) one two = absurd two
+  returned_on m middle (UpSet rvg) one two = absurd two
+  returned_on m middle (Receives s) one two = absurd two
+  returned_on m middle (DownSet rack) one two = absurd two
+  returned_on m middle (OfGroup s) one two = return_then m (site_disks middle) (site_disks s.site) one two
+  returned_on m middle GoneSet one two = absurd two

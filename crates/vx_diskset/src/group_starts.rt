@@ -1,5 +1,5 @@
 // How a group is made on the disks of a site, and how it comes up again.
-ghost use Rattle.std.specs.Prelude.{◌≡◌, ◌<◌, ◌≤◌, IfErr, None, Some, if◌then◌else◌, is_ok};
+ghost use Rattle.std.specs.Prelude.{◌≡◌, ◌<◌, ◌≤◌, IfErr, None, Some};
 ghost use Rattle.vx_copyio.specs.Labelling.{least_blocks};
 ghost use Rattle.vx_grouped.specs.GroupSites.{AwayNoted, DownNoted, UpNoted, site_disks};
 ghost use Rattle.vx_grouped.specs.Begins.{BeginsGroup, CanBegin};
@@ -12,7 +12,6 @@ ghost use Rattle.vx_diskset.specs.Asked.{FuseGoesOn, SameFailing};
 ghost use Rattle.vx_diskset.specs.DiskSets.{Later};
 ghost use Rattle.vx_diskset.specs.GroupCalls.{AtSite, InitIs, OnSites, cut_in};
 ghost use Rattle.vx_diskset.specs.Holds.{KeptBeside};
-ghost use Rattle.vx_diskset.specs.GroupSets.{cut_value};
 ghost use Rattle.vx_diskset.specs.Recovers.{LooksKept, RecoversGroup, RisesWith, cut_past};
 ghost use Rattle.vx_diskset.specs.Stands.{SiteStands};
 
@@ -96,7 +95,7 @@ fn stand_up<R: Rack>(
 // Imports the group of a site that crashed or was deported.
 fn import_in<R: Rack>(group: GroupSet<R>, alloc: Global) -> (DiskSet<R>, Result<(), Stop>)
     ensures imported { (n : Node) (note : GroupNode) → AwayNoted n note group.site → AtSite (λ e. SiteImports n note group.site e result.1) result.0 }
-    ensures cut { cut_in result.0 ≡ (if is_ok result.1 then None else cut_value group.cut) }
+    ensures cut { cut_in result.0 ≡ cut_past result.1 (DiskSet.OfGroup group) }
     ensures since { AtSite (λ e. ReturnSince (site_disks group.site) (site_disks e)) result.0 }
 {
     let cut = group.cut;
