@@ -1,9 +1,9 @@
 -- The calls of a line on the disks of a site with a group: which disks fail, the fuse, a crash.
 use Rattle.std.proofs.Common.{◌≡◌, ◌∙◌, ℕ, ap, ◌⊎◌, arith, inl, refl, subst, sym}
-use Rattle.std.specs.Prelude.{None}
+use Rattle.std.specs.Prelude.{None, Some}
 use Rattle.vx_model.specs.declared.site.SiteState.TheVariants.{Bare as IsBare, Up as IsUp, Down as IsDown, Deported as IsDeported}
 use Rattle.vx_disk.specs.Causes.{OnDisks}
-use Rattle.vx_disk.specs.Disks.{Crashed, Untouched}
+use Rattle.vx_disk.specs.Disks.{Crashed, SameBlocks, Untouched}
 use Rattle.vx_disk.specs.declared.shelf.Shelf.{Ghosts}
 use Rattle.vx_history.specs.Groups.{GroupNode}
 use Rattle.vx_history.specs.Steps.{crashed}
@@ -12,7 +12,7 @@ use Rattle.vx_grouped.specs.GroupSites.{DownNoted, GroupSiteStands, UpNoted, sit
 use Rattle.vx_grouped.specs.SiteEnds.{CountsAlike, MayCrashSite, StaysAlike}
 use Rattle.vx_grouped.specs.declared.group_site.GroupSite.{GroupSite}
 use Rattle.vx_grouped.specs.declared.group_site.GroupSite.TheVariants.{Up, Deported, Down, Marked, Gone}
-use Rattle.vx_diskset.specs.Asked.{MayCrash}
+use Rattle.vx_diskset.specs.Asked.{CrashesBy, MayCrash, SetsFuse}
 use Rattle.vx_diskset.specs.DiskSets.{CrashedAt, Later}
 use Rattle.vx_diskset.specs.Holds.{KeptBeside, itself}
 use Rattle.vx_diskset.specs.Stands.{IsGroupSet, SiteStands}
@@ -77,6 +77,20 @@ module _ {R : Type 0} {g : Ghosts R} where
         few = it.few;
         some = it.some;
       }
+
+  pub set_asked : (beside : KeptBeside) (n : Node) (calls pick : ℕ) (e : DiskSet R g) (s : GroupSet R g) (site : GroupSite R g) → e ≡ OfGroup s
+      → ((note : GroupNode) → UpNoted n note s.site → OnDisks (site_disks s.site).disks (site_disks site).disks (λ o n. SameBlocks o n × (n.fuse ≡ Some (calls, pick)))) → SiteStands beside n e → n.state ≡ IsUp
+      → SetsFuse calls pick e (OfGroup (record s { site = site }))
+  set_asked beside n calls pick e s site is asked stands up =
+      let noted = set_up beside n e s is stands up in
+      subst (λ (x : DiskSet R g). SetsFuse calls pick x (OfGroup (record s { site = site }))) (sym is) (asked noted.0 noted.1)
+
+  pub set_told : (beside : KeptBeside) (n : Node) (pick : ℕ) (e : DiskSet R g) (s : GroupSet R g) (site : GroupSite R g) → e ≡ OfGroup s
+      → ((note : GroupNode) → UpNoted n note s.site → OnDisks (site_disks s.site).disks (site_disks site).disks (Crashed (site_disks s.site).size pick)) → SiteStands beside n e → n.state ≡ IsUp
+      → CrashesBy pick e (OfGroup (record s { site = site }))
+  set_told beside n pick e s site is asked stands up =
+      let noted = set_up beside n e s is stands up in
+      subst (λ (x : DiskSet R g). CrashesBy pick x (OfGroup (record s { site = site }))) (sym is) (asked noted.0 noted.1)
 
   -- behind a crash
   crashed_set : (beside : KeptBeside) (n : Node) (s : GroupSet R g) (site : GroupSite R g) → ((note : GroupNode) → UpNoted n note s.site → DownNoted (crashed n 0) note site) → IsGroupSet beside n s → n.state ≡ IsUp

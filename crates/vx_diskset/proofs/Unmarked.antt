@@ -1,12 +1,13 @@
 -- The disks of a bare site on which a group was begun: what they stand for, and a raw set over them.
-use Rattle.std.proofs.Common.{◌≡◌, ◌∙◌, ◌<◌, ℕ, ap, arith, refl, subst, sym}
+use Rattle.std.proofs.Common.{◌≡◌, ◌∙◌, ◌<◌, ◌≤◌, ℕ, ap, arith, refl, subst, sym}
 use Rattle.std.specs.Prelude.{Option, None, Some, Result, Ok, Err, IsFalse, IsTrue}
 use Rattle.vx_model.specs.declared.errors.Stop.{Stop}
 use Rattle.vx_model.specs.declared.errors.Stop.TheVariants.{No as Refused, OutOfMemory}
-use Rattle.vx_model.specs.declared.no.No.TheVariants.{Device}
+use Rattle.vx_model.specs.declared.no.No.TheVariants.{Device, Down as Off}
+use Rattle.vx_model.specs.declared.no.No.{No}
 use Rattle.vx_model.specs.declared.site.SiteState.TheVariants.{Bare as IsBare, Up as IsUp, Down as IsDown, Deported as IsDeported}
 use Rattle.vx_disk.specs.Causes.{DeviceCause, refusal_of}
-use Rattle.vx_disk.specs.Counts.{Rose}
+use Rattle.vx_disk.proofs.Causing.{Rose_before}
 use Rattle.vx_disk.specs.Shelf.{Goes, Meaning}
 use Rattle.vx_disk.specs.declared.shelf.Shelf.{Ghosts}
 use Rattle.vx_disk.specs.declared.shelf.ShelfError.{ShelfError}
@@ -19,11 +20,11 @@ use Rattle.vx_grouped.specs.declared.group_site.GroupSite.TheVariants.{Up, Depor
 use Rattle.vx_diskset.specs.DiskSets.{MadeIs}
 use Rattle.vx_diskset.specs.GroupSets.{noted_cut}
 use Rattle.vx_diskset.specs.Holds.{KeptBeside}
-use Rattle.vx_diskset.specs.Stands.{IsBareAt, IsGroupSet, IsMarkedAt, SiteStands, faults_at}
+use Rattle.vx_diskset.specs.Stands.{IsBareAt, IsCleanAt, IsGroupSet, IsMarkedAt, SiteStands, faults_at}
 use Rattle.vx_diskset.specs.Zeroing.{LeavesZeros}
 use Rattle.vx_diskset.specs.Zeros.{OnlyZeros}
 use Rattle.vx_diskset.specs.declared.disk_set.DiskSet.{DiskSet}
-use Rattle.vx_diskset.specs.declared.disk_set.DiskSet.TheVariants.{Spoiled, OfGroup}
+use Rattle.vx_diskset.specs.declared.disk_set.DiskSet.TheVariants.{Bare, Spoiled, OfGroup}
 use Rattle.vx_diskset.specs.declared.group_set.CutWrite.{CutWrite}
 use Rattle.vx_diskset.specs.declared.group_set.GroupSet.{GroupSet}
 use Rattle.vx_diskset.proofs.StaysUp.{never_both, not_true}
@@ -63,9 +64,6 @@ module _ (n : Node) (m new : Meaning) (goes : Goes OnlyZeros m new) (it : IsMark
   }
 
 module _ {R : Type 0} {g : Ghosts R} where
-  set_of : R → GroupSet R g
-  set_of rack = record { site = Marked rack; cut = None }
-
   pub marked_set : (beside : KeptBeside) (n : Node) (rack : R) → IsMarkedAt n (g.meaning rack) → SiteStands {g = g} beside n (OfGroup (record { site = Marked rack; cut = None }))
   marked_set beside n rack it = record {
     sure = λ some. absurd (some it.marked.state);
@@ -97,21 +95,26 @@ module _ {R : Type 0} {g : Ghosts R} where
       let it : IsGroupSet beside n s = subst (λ (x : DiskSet R g). SiteStands beside n x) is stands in
       absurd (only_by n s.site it.stands state none)
 
-  -- ---- a raw set over them
+  -- ---- a raw set over them, and over clean disks
 
-  -- the counts of the disks are all that is asked of what was before
-  pub made_as : (site : ℕ) (n : Node) (a b new : DiskSet R g) (result : Result (Unit {0}) Stop) → ((d : ℕ) → faults_at b d ≡ faults_at a d) → MadeIs site n a new result → MadeIs site n b new result
-  made_as site n a b new (Ok done) same is = is
-  made_as site n a b new (Err OutOfMemory) same is = is
-  made_as site n a b new (Err (Refused (Device disk))) same is = (is.0, subst (λ (k : ℕ). Rose k (faults_at new disk)) (sym (same disk)) is.1)
-  made_as site n a b new (Err (Refused other)) same is = is
+  -- behind calls that only raise counts
+  pub made_behind : (site : ℕ) (n : Node) (first mid new : DiskSet R g) (result : Result (Unit {0}) Stop) → ((d : ℕ) → faults_at first d ≤ faults_at mid d) → MadeIs site n mid new result → MadeIs site n first new result
+  made_behind site n first mid new (Ok done) less is = is
+  made_behind site n first mid new (Err OutOfMemory) less is = is
+  made_behind site n first mid new (Err (Refused (Device disk))) less is = (is.0, Rose_before (faults_at first disk) (faults_at mid disk) (faults_at new disk) (less disk) is.1)
+  made_behind site n first mid new (Err (Refused other)) less is = is
+
+  pub unlabelled_failed : (site : ℕ) (n : Node) (rack last : R) (why : No) → IsCleanAt n (g.meaning last) → DeviceCause (g.meaning rack) (g.meaning last) why → MadeIs {g = g} site n (Bare rack) (Bare last) (Err (Refused why))
+  unlabelled_failed site n rack last (Device disk) clean cause = ((λ beside. clean), cause)
+  unlabelled_failed site n rack last Off clean cause = absurd (never_both (g.meaning last).down cause clean.bare.fitted.up)
+  unlabelled_failed site n rack last other clean cause = absurd cause
 
   zeroed_why : (site : ℕ) (n : Node) (rack last : R) (error : ShelfError) → DeviceCause (g.meaning rack) (g.meaning last) (refusal_of error) → IsMarkedAt n (g.meaning last)
-      → MadeIs site n (Spoiled rack) (OfGroup (set_of last)) (Err (Refused (refusal_of error)))
+      → MadeIs site n (Spoiled rack) (OfGroup (record { site = Marked last; cut = None })) (Err (Refused (refusal_of error)))
   zeroed_why site n rack last (Fault disk) cause it = ((λ beside. marked_set beside n last it), cause)
   zeroed_why site n rack last IsOff cause it = absurd (never_both (g.meaning last).down cause it.marked.up)
 
   pub zeroed_failed : (site : ℕ) (n : Node) (rack last : R) (error : ShelfError) (stop : Stop) → stop ≡ Refused (refusal_of error) → Goes OnlyZeros (g.meaning rack) (g.meaning last)
       → DeviceCause (g.meaning rack) (g.meaning last) (refusal_of error) → IsMarkedAt n (g.meaning rack) → MadeIs {g = g} site n (Spoiled rack) (OfGroup (record { site = Marked last; cut = None })) (Err stop)
   zeroed_failed site n rack last error stop is goes cause it =
-      subst (λ (s : Stop). MadeIs site n (Spoiled rack) (OfGroup (set_of last)) (Err s)) (sym is) (zeroed_why site n rack last error cause (marked_still n (g.meaning rack) (g.meaning last) goes it))
+      subst (λ (s : Stop). MadeIs site n (Spoiled rack) (OfGroup (record { site = Marked last; cut = None })) (Err s)) (sym is) (zeroed_why site n rack last error cause (marked_still n (g.meaning rack) (g.meaning last) goes it))
