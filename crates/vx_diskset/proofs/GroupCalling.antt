@@ -1,11 +1,12 @@
 -- What a call on the group of a site leaves of the disks below it.
-use Rattle.std.proofs.Common.{◌≡◌, ◌∙◌, ◌⊎◌, inl, inr, ℕ, ◌≤◌, Bool, true, false, List, ap, refl, subst, sym, IsTrue}
-use Rattle.std.specs.Prelude.{Option, Some, None, IsFalse, Result, Ok, Err, OnOk}
+use Rattle.std.proofs.Common.{arith, ◌≡◌, ◌∙◌, ◌⊎◌, inl, inr, ℕ, ◌≤◌, Bool, true, false, List, ap, refl, subst, sym, IsTrue}
+use Rattle.std.specs.Prelude.{Option, Some, None, IsFalse, Result, Ok, Err, OnOk, unwrap_or}
 use Rattle.vx_model.specs.Content.{Write}
 use Rattle.vx_model.specs.declared.errors.Stop.{Stop}
 use Rattle.vx_model.specs.declared.errors.Stop.TheVariants.{No as Refused, OutOfMemory}
 use Rattle.vx_model.specs.declared.no.No.{No}
-use Rattle.vx_model.specs.declared.no.No.TheVariants.{Device, Down as IsOff}
+use Rattle.vx_model.specs.declared.no.No.TheVariants.{Device, Down as IsOff, Limit}
+use Rattle.vx_model.specs.declared.no.Counted.TheVariants.{Number as Numbers}
 use Rattle.vx_disk.specs.Causes.{OnDisks, WithDisks}
 use Rattle.vx_disk.specs.Disks.{Crashed, Disks, is_set}
 use Rattle.vx_disk.specs.Racks.{IsRack, Stopped}
@@ -17,10 +18,15 @@ use Rattle.vx_history.specs.World.{Node}
 use Rattle.vx_watched.specs.Since.{CalledSince, fuse_calls, is_rack}
 use Rattle.vx_grouped.specs.Added.{note_added}
 use Rattle.vx_grouped.specs.GroupSites.{AwayNoted, DownNoted, GroupSiteStands, UpNoted, deported_with, site_disks, with_note}
-use Rattle.vx_grouped.specs.SiteAdds.{SiteAdded}
-use Rattle.vx_grouped.specs.SiteEnds.{PlainRead, PlainWrote, SiteCalled, SiteDeported, burned_site, is_plex_on}
+use Rattle.vx_grouped.specs.SiteAdds.{LacksVolume, SiteAdded}
+use Rattle.vx_grouped.specs.SiteEnds.{AttCalled, DetCalled, PlainRead, PlainWrote, SiteCalled, SiteDeported, burned_site, is_plex_on, refuses_att, refuses_det}
+use Rattle.vx_grouped.specs.ConfigMoves.{AttDone, AttFails, DetDone, DetFails, LosesSome}
+use Rattle.vx_config.specs.Table.{greatest}
+use Rattle.vx_config.specs.declared.config.Config.{Config}
+use Rattle.vx_untold.specs.Shades.{shade_meaning, shade_rack}
 use Rattle.vx_layout.specs.declared.shape.Shape.{Shape}
-use Rattle.vx_grouped.specs.SiteReturns.{ReturnSince}
+use Rattle.vx_grouped.specs.ReturnSince.{FailsFused, ReturnSince}
+use Rattle.vx_diskset.specs.Recovers.{RisesSince}
 use Rattle.vx_grouped.specs.declared.group_site.GroupSite.{GroupSite}
 use Rattle.vx_grouped.specs.declared.group_site.GroupSite.TheVariants.{Up, Deported, Down, Marked, Gone}
 use Rattle.vx_diskset.specs.Asked.{FuseGoesOn, SameFailing, disks_told}
@@ -43,54 +49,76 @@ with_by P (Some x) (Some y) same each = each x y refl refl
 -- no fuse is set on a rack that has none
 never_set : (m : Meaning) → IsRack m → IsFalse m.armed → (y : Disks) → m.disks ≡ Some y → is_set y.fuse ≡ true → ⊥
 never_set m rack unarmed y is on =
-    let told : rack.told ≡ y = some_same rack.told y (sym rack.is ∙ is) in
+    let told : rack.told ≡ y = ap (λ (o : Option Disks). unwrap_or o y) (sym rack.is ∙ is) in
     let e : true ≡ false = sym on ∙ sym (ap (λ (d : Disks). is_set d.fuse) told) ∙ sym rack.armed ∙ unarmed in
     cc
-  where
-    some_same : (a b : Disks) → Some a ≡ Some b → a ≡ b
-    some_same a b refl = refl
 
--- disks behind their calls, as an import leaves them
-pub return_called : (m m' : Meaning) → CalledSince m m' → ReturnSince m m'
-return_called m m' since = record {
-  units = since.units;
-  size = since.size;
+-- disks behind their calls
+pub rises_called : (m m' : Meaning) → CalledSince m m' → RisesSince m m'
+rises_called m m' since = record {
+  tells = λ told. sym since.tells ∙ told;
+  counts = since.counts;
+  rack = since.rack;
+  failing = λ x y was is. (since.told x y was is).failing;
+  passes = λ x y was is up. let goes = (since.told x y was is).fuse up in record { failing = (since.told x y was is).failing; set = λ on. sym goes.set ∙ on; left = λ on. goes.left };
+}
+
+-- behind an import
+pub rises_returned : (m m' : Meaning) → ReturnSince m m' → RisesSince m m'
+rises_returned m m' since = record {
   tells = since.tells;
   counts = since.counts;
   rack = since.rack;
   failing = λ x y was is. (since.told x y was is).failing;
-  unarmed = since.unarmed;
-  left = λ x y was is up on. let goes = (since.told x y was is).fuse up in (sym goes.set ∙ on, goes.left);
+  passes = λ x y was is up. since.told x y was is;
 }
+
+-- behind an import, and what came then
+module _ (m middle m' : Meaning) (one : ReturnSince m middle) (two : RisesSince middle m') where
+  between : (o : Option Disks) → middle.disks ≡ o → is_rack o ≡ is_rack m.disks → (x z : Disks) → m.disks ≡ Some x → (P : Disks → Disks → Type 0) → ((y : Disks) → middle.disks ≡ Some y → P x z) → P x z
+  between None there same x z was P each = absurd (let e : true ≡ false = ap (λ (d : Option Disks). is_rack d) (sym was) ∙ sym same in cc)
+  between (Some y) there same x z was P each = each y there
+
+  pub rises_then : RisesSince m m'
+  rises_then = record {
+    tells = λ told. one.tells (two.tells told);
+    counts = λ d. omega (arith, one.counts d, two.counts d);
+    rack = two.rack ∙ one.rack;
+    failing = λ x z was is u. between middle.disks refl one.rack x z was (λ a c. c.failing u ≡ a.failing u) (λ y there. two.failing y z there is u ∙ (one.told x y was there).failing u);
+    passes = λ x z was is up. between middle.disks refl one.rack x z was FailsFused (λ y there.
+        let first = one.told x y was there in
+        let second = two.passes y z there is up in
+        record {
+          failing = λ u. second.failing u ∙ first.failing u;
+          set = λ on. first.set (second.set on);
+          left = λ on. omega (arith, second.left on, first.left (second.set on));
+        });
+  }
 
 -- and behind a crash
-pub return_fell : (m middle m' : Meaning) (pick : ℕ) → ReturnSince m middle → Stopped middle m' → OnDisks middle.disks m'.disks (Crashed middle.size pick) → ReturnSince m m'
-return_fell m middle m' pick since fell on = record {
-  units = fell.units ∙ since.units;
-  size = λ u. fell.size u ∙ since.size u;
-  tells = fell.tells ∙ since.tells;
-  counts = λ d. omega (since.counts d, fell.counts.disk_faults d);
-  rack = rack_on middle.disks m'.disks on ∙ since.rack;
-  failing = λ x z was is u. failing_on m.disks middle.disks m'.disks x z was is since.rack (λ y there. since.failing x y was there) on u;
-  unarmed = λ none. fell.unarmed;
-  left = λ x z was is up on_it. absurd (never_both m'.down fell.down up);
-}
-  where
-    rack_on : (o n : Option Disks) → OnDisks o n (Crashed middle.size pick) → is_rack n ≡ is_rack o
-    rack_on None None it = refl
-    rack_on None (Some z) it = absurd it
-    rack_on (Some y) None it = absurd it
-    rack_on (Some y) (Some z) it = refl
+module _ (m middle m' : Meaning) (pick : ℕ) (since : RisesSince m middle) (fell : Stopped middle m') where
+  rack_on : (o n : Option Disks) → OnDisks o n (Crashed middle.size pick) → is_rack n ≡ is_rack o
+  rack_on None None it = refl
+  rack_on None (Some z) it = absurd it
+  rack_on (Some y) None it = absurd it
+  rack_on (Some y) (Some z) it = refl
 
-    failing_on : (o c n : Option Disks) (x z : Disks) → o ≡ Some x → n ≡ Some z → is_rack c ≡ is_rack o → ((y : Disks) → c ≡ Some y → (u : ℕ) → y.failing u ≡ x.failing u) → OnDisks c n (Crashed middle.size pick)
-        → (u : ℕ) → z.failing u ≡ x.failing u
-    failing_on o None None x z was is same each it u = absurd (let e : None ≡ Some z = is in cc)
-    failing_on o None (Some w) x z was is same each it u = absurd it
-    failing_on o (Some y) None x z was is same each it u = absurd it
-    failing_on o (Some y) (Some w) x z was is same each it u = ap (λ (d : Disks). d.failing u) (sym (some_one w z is)) ∙ it.1 u ∙ each y refl u
-      where
-        some_one : (a b : Disks) → Some a ≡ Some b → a ≡ b
-        some_one a b refl = refl
+  failing_on : (c n : Option Disks) (x z : Disks) → m.disks ≡ Some x → n ≡ Some z → is_rack c ≡ is_rack m.disks → ((y : Disks) → c ≡ Some y → (u : ℕ) → y.failing u ≡ x.failing u) → OnDisks c n (Crashed middle.size pick)
+      → (u : ℕ) → z.failing u ≡ x.failing u
+  failing_on None n x z was is same each it u = absurd (let e : true ≡ false = ap (λ (d : Option Disks). is_rack d) (sym was) ∙ sym same in cc)
+  failing_on (Some y) None x z was is same each it u = absurd it
+  failing_on (Some y) (Some w) x z was is same each it u =
+      let w_is : w ≡ z = ap (λ (o : Option Disks). unwrap_or o w) is in
+      ap (λ (d : Disks). d.failing u) (sym w_is) ∙ it.1 u ∙ each y refl u
+
+  pub rises_fell : OnDisks middle.disks m'.disks (Crashed middle.size pick) → RisesSince m m'
+  rises_fell on = record {
+    tells = λ told. since.tells (sym fell.tells ∙ told);
+    counts = λ d. omega (arith, since.counts d, fell.counts.disk_faults d);
+    rack = rack_on middle.disks m'.disks on ∙ since.rack;
+    failing = λ x z was is. failing_on middle.disks m'.disks x z was is since.rack (λ y there. since.failing x y was there) on;
+    passes = λ x z was is up. absurd (never_both m'.down fell.down up);
+  }
 
 module _ {R : Type 0} {g : Ghosts R} where
   -- ---- the disks below a disk set
@@ -135,40 +163,34 @@ module _ {R : Type 0} {g : Ghosts R} where
           (with_by (λ x y. (u : ℕ) → y.failing u ≡ x.failing u) m.disks m'.disks rack each));
     }
 
-    later_by : ((d : ℕ) → m.disk_faults d ≤ m'.disk_faults d) → m'.tells ≡ m.tells → Later old new
+    later_by : ((d : ℕ) → m.disk_faults d ≤ m'.disk_faults d) → (IsTrue m'.tells → IsTrue m.tells) → Later old new
     later_by counts tells = record {
-      counts = λ d. omega (was.faults d, now.faults d, counts d);
-      told = λ it. was.told (sym tells ∙ now.tells it);
+      counts = λ d. omega (arith, was.faults d, now.faults d, counts d);
+      told = λ it. was.told (tells (now.tells it));
     }
 
-    pub failing_called : CalledSince m m' → SameFailing old new
-    failing_called since = failing_by since.rack (λ x y one two. (since.told x y one two).failing)
+    pub failing_risen : RisesSince m m' → SameFailing old new
+    failing_risen since = failing_by since.rack since.failing
 
-    pub failing_returned : ReturnSince m m' → SameFailing old new
-    failing_returned since = failing_by since.rack since.failing
-
-    pub later_called : CalledSince m m' → Later old new
-    later_called since = later_by since.counts since.tells
-
-    pub later_returned : ReturnSince m m' → Later old new
-    later_returned since = later_by since.counts since.tells
+    pub later_risen : RisesSince m m' → Later old new
+    later_risen since = later_by since.counts since.tells
 
     -- of disks that are up, or have no fuse
-    pub fuse_returned : ReturnSince m m' → IsRack m' → IsFalse m'.down ⊎ IsFalse m'.armed → FuseGoesOn old new
-    fuse_returned since rack (inl up) = record {
-      set = λ x y one two on. (since.left x y (sym was.disks ∙ one) (sym now.disks ∙ two) up on).0;
-      left = λ x y one two on. (since.left x y (sym was.disks ∙ one) (sym now.disks ∙ two) up on).1;
+    pub fuse_risen : RisesSince m m' → IsRack m' → IsFalse m'.down ⊎ IsFalse m'.armed → FuseGoesOn old new
+    fuse_risen since rack (inl up) = record {
+      set = λ x y one two on. (since.passes x y (sym was.disks ∙ one) (sym now.disks ∙ two) up).set on;
+      left = λ x y one two on. (since.passes x y (sym was.disks ∙ one) (sym now.disks ∙ two) up).left on;
     }
-    fuse_returned since rack (inr unarmed) = record {
+    fuse_risen since rack (inr unarmed) = record {
       set = λ x y one two on. absurd (never_set m' rack unarmed y (sym now.disks ∙ two) on);
       left = λ x y one two on. absurd (never_set m' rack unarmed y (sym now.disks ∙ two) on);
     }
 
   pub group_failing : (old : DiskSet R g) (o s : GroupSet R g) → old ≡ OfGroup o → CalledSince (site_disks o.site) (site_disks s.site) → SameFailing old (OfGroup s)
-  group_failing old o s is since = failing_called old (OfGroup s) (site_disks o.site) (site_disks s.site) (has_group old o is) (has_group (OfGroup s) s refl) since
+  group_failing old o s is since = failing_risen old (OfGroup s) (site_disks o.site) (site_disks s.site) (has_group old o is) (has_group (OfGroup s) s refl) (rises_called (site_disks o.site) (site_disks s.site) since)
 
   pub group_later : (old : DiskSet R g) (o s : GroupSet R g) → old ≡ OfGroup o → CalledSince (site_disks o.site) (site_disks s.site) → Later old (OfGroup s)
-  group_later old o s is since = later_called old (OfGroup s) (site_disks o.site) (site_disks s.site) (has_group old o is) (has_group (OfGroup s) s refl) since
+  group_later old o s is since = later_risen old (OfGroup s) (site_disks o.site) (site_disks s.site) (has_group old o is) (has_group (OfGroup s) s refl) (rises_called (site_disks o.site) (site_disks s.site) since)
 
   -- ---- facts of the site of a group hold of its disk set
 
@@ -195,43 +217,51 @@ module _ {R : Type 0} {g : Ghosts R} where
     pub at : IsFalse (site_disks s).down ⊎ IsFalse (site_disks s).armed
 
   pub group_fuse : (old : DiskSet R g) (o s : GroupSet R g) → old ≡ OfGroup o → CalledSince (site_disks o.site) (site_disks s.site) → IsSettled s.site → FuseGoesOn old (OfGroup s)
-  group_fuse old o s is since it = fuse_returned old (OfGroup s) (site_disks o.site) (site_disks s.site) (has_group old o is) (has_group (OfGroup s) s refl) (return_called (site_disks o.site) (site_disks s.site) since) it.rack it.at
+  group_fuse old o s is since it = fuse_risen old (OfGroup s) (site_disks o.site) (site_disks s.site) (has_group old o is) (has_group (OfGroup s) s refl) (rises_called (site_disks o.site) (site_disks s.site) since) it.rack it.at
 
   module _ (rackful : (r : R) → IsRack (g.meaning r)) where
     pub settled : (n : Node) (s : GroupSite R g) → GroupSiteStands n s → IsSettled s
-    settled n (Up group) it = record { rack = rackful group.shelf; at = inl (not_true (g.meaning group.shelf).down it.1.at.up) }
-    settled n (Deported rack) it = record { rack = rackful rack; at = inl (not_true (g.meaning rack).down it.1.up) }
-    settled n (Down rack) it = record { rack = rackful rack; at = inr it.1.stopped.unarmed }
+    settled n (Up group) it = record { rack = shade_rack g.meaning rackful group.shelf; at = inl (not_true (shade_meaning g.meaning group.shelf).down it.1.at.up) }
+    settled n (Deported idle) it = record { rack = shade_rack g.meaning rackful idle.rack; at = inl (not_true (shade_meaning g.meaning idle.rack).down it.1.up) }
+    settled n (Down idle) it = record { rack = shade_rack g.meaning rackful idle.rack; at = inr it.1.stopped.unarmed }
     settled n (Marked rack) it = record { rack = rackful rack; at = inl it.up }
     settled n Gone it = absurd it
 
     pub up_settled : (n : Node) (note : GroupNode) (s : GroupSite R g) → UpNoted n note s → IsSettled s
     up_settled n note (Up group) it = settled n (Up group) (note, it)
-    up_settled n note (Deported rack) it = absurd it
-    up_settled n note (Down rack) it = absurd it
+    up_settled n note (Deported idle) it = absurd it
+    up_settled n note (Down idle) it = absurd it
     up_settled n note (Marked rack) it = absurd it
     up_settled n note Gone it = absurd it
 
     pub down_settled : (n : Node) (note : GroupNode) (s : GroupSite R g) → DownNoted n note s → IsSettled s
     down_settled n note (Up group) it = absurd it
-    down_settled n note (Deported rack) it = absurd it
-    down_settled n note (Down rack) it = settled n (Down rack) (note, it)
+    down_settled n note (Deported idle) it = absurd it
+    down_settled n note (Down idle) it = settled n (Down idle) (note, it)
     down_settled n note (Marked rack) it = absurd it
     down_settled n note Gone it = absurd it
 
     pub away_settled : (n : Node) (note : GroupNode) (s : GroupSite R g) → AwayNoted n note s → IsSettled s
     away_settled n note (Up group) it = absurd it
-    away_settled n note (Deported rack) it = settled n (Deported rack) (note, it)
-    away_settled n note (Down rack) it = absurd it
+    away_settled n note (Deported idle) it = settled n (Deported idle) (note, it)
+    away_settled n note (Down idle) it = absurd it
     away_settled n note (Marked rack) it = absurd it
     away_settled n note Gone it = absurd it
 
-    pub called_settled : (T : Type 0) (n : Node) (note : GroupNode) (old new : GroupSite R g) (r : Result T Stop) → SiteCalled n note old new r → IsSettled new
-    called_settled T n note old new (Ok done) it = up_settled (with_note it.0 n) it.0 new it.2
-    called_settled T n note old new (Err (Refused (Device disk))) it = up_settled (with_note it.0 n) it.0 new it.2
-    called_settled T n note old new (Err (Refused IsOff)) it = down_settled (crashed (with_note it.0 n) 0) it.0 new it.2
-    called_settled T n note old new (Err (Refused other)) it = up_settled (burned_site n) note new it
-    called_settled T n note old new (Err OutOfMemory) it = absurd it
+    called_settled : (T : Type 0) (Done Fails : Config → Config → Type 0) (Lacks : No → Type 0) (n : Node) (note : GroupNode) (old new : GroupSite R g) (r : Result T Stop) → SiteCalled {T = T} Done Fails Lacks n note old new r → IsSettled new
+    called_settled T Done Fails Lacks n note old new (Ok done) it = up_settled (with_note it.0 n) it.0 new it.2
+    called_settled T Done Fails Lacks n note old new (Err (Refused (Device disk))) it = up_settled (with_note it.0 n) it.0 new it.2
+    called_settled T Done Fails Lacks n note old new (Err (Refused IsOff)) it = down_settled (crashed (with_note it.0 n) 0) it.0 new it.2
+    called_settled T Done Fails Lacks n note old new (Err (Refused other)) it = up_settled (burned_site n) note new it.0
+    called_settled T Done Fails Lacks n note old new (Err OutOfMemory) it = absurd it
+
+    pub det_settled : (n : Node) (note : GroupNode) (vol plex : ℕ) (old new : GroupSite R g) (r : Result (Unit {0}) Stop) → DetCalled n note vol plex old new r → IsSettled new
+    det_settled n note vol plex old new r it =
+        called_settled (Unit {0}) (DetDone vol plex (site_disks old) (site_disks new)) (DetFails vol plex (site_disks old) (site_disks new)) (λ no. refuses_det old vol plex ≡ Some no) n note old new r it
+
+    pub att_settled : (n : Node) (note : GroupNode) (vol plex : ℕ) (old new : GroupSite R g) (r : Result ℕ Stop) → AttCalled n note vol plex old new r → IsSettled new
+    att_settled n note vol plex old new r it =
+        called_settled ℕ (AttDone vol plex (site_disks old) (site_disks new)) (AttFails vol plex (site_disks old) (site_disks new)) (λ no. refuses_att old vol plex ≡ Some no) n note old new r it
 
     pub wrote_settled : (n : Node) (note : GroupNode) (x : Write) (old new : GroupSite R g) (r : Result (Unit {0}) No) → PlainWrote n note x old new r → IsSettled new
     wrote_settled n note x old new (Ok done) it = up_settled (with_note (note_write x it.0) n) (note_write x it.0) new it.2
@@ -246,9 +276,9 @@ module _ {R : Type 0} {g : Ghosts R} where
 
     pub deported_settled : (n : Node) (note : GroupNode) (old new : GroupSite R g) (r : Result (Unit {0}) Stop) → SiteDeported n note old new r → IsSettled new
     deported_settled n note old new (Ok done) it = away_settled (deported_with it.0 n) it.0 new it.2
-    deported_settled n note old new (Err stop) it = called_settled (Unit {0}) n note old new (Err stop) it
+    deported_settled n note old new (Err stop) it = called_settled (Unit {0}) (λ c d. ⊥) (LosesSome (site_disks old) (site_disks new)) (λ no. no ≡ Limit Numbers greatest) n note old new (Err stop) it
 
-    pub added_settled : (n : Node) (note : GroupNode) (want : Shape) (old new : GroupSite R g) (r : Result ℕ Stop) → SiteAdded n note want old new r → IsSettled new
-    added_settled n note want old new (Ok vol) it = up_settled (with_note (note_added vol want.blocks it.0) n) (note_added vol want.blocks it.0) new it.2
-    added_settled n note want old new (Err (Refused why)) it = called_settled ℕ n note old new (Err (Refused why)) it
-    added_settled n note want old new (Err OutOfMemory) it = up_settled (burned_site n) note new it
+    pub added_settled : (n : Node) (note : GroupNode) (name : List ℕ) (want : Shape) (old new : GroupSite R g) (r : Result ℕ Stop) → SiteAdded n note name want old new r → IsSettled new
+    added_settled n note name want old new (Ok vol) it = up_settled (with_note (note_added vol want.blocks it.0) n) (note_added vol want.blocks it.0) new it.2
+    added_settled n note name want old new (Err (Refused why)) it = called_settled ℕ (λ c d. ⊥) (LosesSome (site_disks old) (site_disks new)) (LacksVolume old name want) n note old new (Err (Refused why)) it
+    added_settled n note name want old new (Err OutOfMemory) it = up_settled n note new it

@@ -1,18 +1,23 @@
 -- Labels that are taken off: nothing but zeros is written, and clean disks stay clean.
-use Rattle.std.proofs.Common.{◌≡◌, ◌∙◌, ⊎_elim, ℕ, ◌*◌, ◌<◌, ◌≤◌, List, Result, Ok, Err, OnOk, ap, replicate, refl, subst, sym}
-use Rattle.std.specs.Prelude.{IfErr, IsFalse}
+use Rattle.std.proofs.Common.{arith, ◌≡◌, ◌∙◌, ◌⊎◌, inl, inr, ⊎_elim, ℕ, ◌<◌, ◌≤◌, List, Result, Ok, Err, ap, length, replicate, refl, subst, sym, take, IsTrue}
+use Rattle.std.proofs.Math.Seq.{take-length}
+use Rattle.std.proofs.lemmas.Bool.{cases_lt}
+use Rattle.std.specs.Prelude.{IfErr}
+use Rattle.vx_wire.specs.Numbers.{be_bytes}
 use Rattle.vx_model.specs.Content.{zero_block}
 use Rattle.vx_model.specs.declared.no.No.{No}
 use Rattle.vx_model.specs.declared.no.No.TheVariants.{Device, Down as IsOff}
-use Rattle.vx_disk.specs.Causes.{Cause, DeviceCause, OnDisks}
-use Rattle.vx_disk.specs.Shelf.{Goes, Keeps, Meaning, Nothing, Or, Written}
+use Rattle.vx_copyfmt.specs.Labels.{begins_label, seen_in}
+use Rattle.vx_copyfmt.specs.declared.label.LabelSeen.TheVariants as seen
+use Rattle.vx_disk.specs.Causes.{DeviceCause}
+use Rattle.vx_disk.specs.Shelf.{Covers, Goes, Keeps, Lawful, Meaning, Nothing, Or, Read, Written, piece}
 use Rattle.vx_disk.proofs.Causing.{Rose_before}
-use Rattle.vx_disk.proofs.Runs.{both_Goes, nothing_then, same_Goes, then_nothing, weaker}
+use Rattle.vx_disk.proofs.Runs.{both_Goes, same_Goes, then_nothing, weaker}
 use Rattle.vx_ringio.proofs.Spending.{spends_none, then_spends}
 use Rattle.vx_ringio.specs.Spends.{Spends}
 use Rattle.vx_history.specs.World.{Node}
 use Rattle.vx_diskset.specs.Stands.{IsCleanAt}
-use Rattle.vx_diskset.specs.Unlabels.{Unlabels}
+use Rattle.vx_diskset.specs.Unlabels.{HasNoFront, OnlyReads, Unlabels}
 use Rattle.vx_diskset.specs.Zeroing.{IsZero, IsZeroOf}
 use Rattle.vx_diskset.proofs.StaysUp.{never_both, not_true}
 use Rattle.vx_diskset.proofs.Zeroes.{run_goes}
@@ -63,3 +68,37 @@ clean_zeros n m new goes clean = record {
   };
   front = λ b below. zeros_keep m new 0 b goes (clean.front b below);
 }
+
+-- ---- zeros are no label
+
+unfolding seen_in begins_label be_bytes
+  pub zero_seen : seen_in zero_block ≡ seen.Other
+  zero_seen = refl
+
+pub no_front : (n : Node) (m : Meaning) → IsCleanAt n m → HasNoFront m
+no_front n m clean = record { each = λ u low. front_at u (cases_lt 0 u) (subst (λ (k : ℕ). u < k) clean.bare.fitted.units low) }
+  where
+    some : 0 < n.blocks
+    some = omega (arith, clean.bare.some)
+    front_at : (u : ℕ) → (0 < u) ⊎ (u ≤ 0) → u < n.disks → Keeps m u 0 zero_block
+    front_at u (inl past) low = clean.bare.blank u 0 past low some
+    front_at u (inr none) low = subst (λ (k : ℕ). Keeps m k 0 zero_block) (omega (arith, none)) (clean.front 0 some)
+
+pub no_front_read : (m new : Meaning) → Goes Nothing m new → HasNoFront m → HasNoFront new
+no_front_read m new goes it = record { each = λ u low. record { only = λ v left. ⊎_elim (λ old. (it.each u (subst (λ (k : ℕ). u < k) goes.units low)).only v old) (λ none. absurd none) (goes.leaves u 0 v left) } }
+
+-- what a read gave of such a block, where contents are told
+pub zero_read : (m : Meaning) (disk : ℕ) (bytes : List ℕ) → Lawful m → length bytes ≡ 512 → IsTrue m.tells → Keeps m disk 0 zero_block → Read m disk 0 bytes → bytes ≡ zero_block
+zero_read m disk bytes lawful long tells keeps read =
+    let covers : Covers disk 0 bytes disk 0 = record { there = refl; first = omega arith; last = omega (arith, long) } in
+    let is : piece 0 bytes 0 ≡ zero_block = keeps.only (piece 0 bytes 0) (lawful.shown disk 0 (piece 0 bytes 0) (read.each tells 0 covers)) in
+    let whole : take 512 bytes ≡ bytes = ap (λ (k : ℕ). take k bytes) (sym long) ∙ take-length bytes in
+    sym whole ∙ is
+
+-- ---- reads in a row
+
+pub reads_none : (m : Meaning) → OnlyReads m m
+reads_none m = record { goes = same_Goes Nothing m; spends = spends_none m }
+
+pub reads_then : (old mid new : Meaning) → OnlyReads old mid → Goes Nothing mid new → Spends mid new → OnlyReads old new
+reads_then old mid new one goes spends = record { goes = then_nothing Nothing old mid new one.goes goes; spends = then_spends old mid new one.spends spends }

@@ -8,6 +8,7 @@ pub mod CrashGroup
 pub mod ExactWrite
 pub mod FailGroup
 pub mod FuseGroup
+pub mod GroupBegun
 pub mod GroupCalling
 pub mod GroupRising
 pub mod GroupStands

@@ -5,6 +5,7 @@ pub mod DiskSets
 pub mod Fetching
 pub mod Fuses
 pub mod GroupCalls
+pub mod GroupFinds
 pub mod GroupSets
 pub mod Holds
 pub mod Keeps

@@ -3,7 +3,7 @@ ghost use Rattle.std.specs.Prelude.{◌≡◌, ◌<◌, ◌≤◌, IfErr, None, 
 ghost use Rattle.vx_copyio.specs.Labelling.{least_blocks};
 ghost use Rattle.vx_grouped.specs.GroupSites.{AwayNoted, DownNoted, UpNoted, site_disks};
 ghost use Rattle.vx_grouped.specs.Begins.{BeginsGroup, CanBegin};
-ghost use Rattle.vx_grouped.specs.SiteReturns.{ReturnSince, SiteImports};
+ghost use Rattle.vx_grouped.specs.SiteReturns.{SiteImports};
 ghost use Rattle.vx_history.specs.Groups.{GroupNode};
 ghost use Rattle.vx_history.specs.World.{Node};
 ghost use Rattle.vx_model.specs.declared.site.SiteState.TheVariants.{Bare as BareState};
@@ -12,7 +12,7 @@ ghost use Rattle.vx_diskset.specs.Asked.{FuseGoesOn, SameFailing};
 ghost use Rattle.vx_diskset.specs.DiskSets.{Later};
 ghost use Rattle.vx_diskset.specs.GroupCalls.{AtSite, InitIs, OnSites, cut_in};
 ghost use Rattle.vx_diskset.specs.Holds.{KeptBeside};
-ghost use Rattle.vx_diskset.specs.Recovers.{LooksKept, RecoversGroup, RisesWith, cut_past};
+ghost use Rattle.vx_diskset.specs.Recovers.{LooksKept, RecoversGroup, RisesSince, RisesWith, cut_past};
 ghost use Rattle.vx_diskset.specs.Stands.{SiteStands};
 
 use crate::group_set::{CutWrite, KeptWrite};
@@ -44,7 +44,8 @@ fn kept_at<R: Rack>(site: &mut GroupSite<R>, write: &CutWrite) -> Result<Option<
     ensures since { CalledSince (site_disks site.old) (site_disks site.new) }
 {
     let bytes = write.bytes.as_bytes();
-    if site.fits(write.volume, write.block, bytes.len()) {
+    let count = bytes.len();
+    if site.fits(write.volume, write.block, count) {
         match site.kept(write.volume, write.block, bytes) {
             Ok(bits) => Ok(Some(KeptWrite {
                 write: *write,
@@ -77,7 +78,7 @@ fn stand_up<R: Rack>(
     cut: Option<CutWrite>,
 ) -> (DiskSet<R>, Result<Option<KeptWrite>, Stop>)
     ensures rises { (n : Node) (note : GroupNode) → UpNoted n note site → RisesWith n note cut site result.0 result.1 }
-    ensures since { AtSite (λ e. ReturnSince (site_disks site) (site_disks e)) result.0 }
+    ensures since { AtSite (λ e. RisesSince (site_disks site) (site_disks e)) result.0 }
 {
     let mut site = site;
     match look_kept(&mut site, &cut) {
@@ -96,7 +97,7 @@ fn stand_up<R: Rack>(
 fn import_in<R: Rack>(group: GroupSet<R>, alloc: Global) -> (DiskSet<R>, Result<(), Stop>)
     ensures imported { (n : Node) (note : GroupNode) → AwayNoted n note group.site → AtSite (λ e. SiteImports n note group.site e result.1) result.0 }
     ensures cut { cut_in result.0 ≡ cut_past result.1 (DiskSet.OfGroup group) }
-    ensures since { AtSite (λ e. ReturnSince (site_disks group.site) (site_disks e)) result.0 }
+    ensures since { AtSite (λ e. RisesSince (site_disks group.site) (site_disks e)) result.0 }
 {
     let cut = group.cut;
     let (site, answer) = group.site.import(alloc);
@@ -112,7 +113,7 @@ fn recover_in<R: Rack>(
     alloc: Global,
 ) -> (DiskSet<R>, Result<Option<KeptWrite>, Stop>)
     ensures recovered { (n : Node) (note : GroupNode) → DownNoted n note group.site → RecoversGroup n note (DiskSet.OfGroup group) result.0 result.1 }
-    ensures since { AtSite (λ e. ReturnSince (site_disks group.site) (site_disks e)) result.0 }
+    ensures since { AtSite (λ e. RisesSince (site_disks group.site) (site_disks e)) result.0 }
 {
     let cut = group.cut;
     let (site, answer) = group.site.import(alloc);

@@ -1,12 +1,13 @@
 // The labels of a group on the disks of a bare site: whether there are some, and how they are taken off.
-ghost use Rattle.std.specs.Prelude.{◌≡◌, ◌<◌, ◌≤◌, ℕ, IfErr};
+ghost use Rattle.std.specs.Prelude.{◌≡◌, ◌<◌, ◌≤◌, ℕ, false, IfErr, IsTrue};
 ghost use Rattle.vx_copyio.specs.Labelling.{AreLarge};
 ghost use Rattle.vx_disk.specs.Causes.{DeviceCause, refusal_of};
-ghost use Rattle.vx_disk.specs.Shelf.{Goes, Nothing};
+ghost use Rattle.vx_disk.specs.Shelf.{Goes, Keeps, Nothing};
 ghost use Rattle.vx_history.specs.World.{Node};
+ghost use Rattle.vx_model.specs.Content.{zero_block};
 ghost use Rattle.vx_ringio.specs.Spends.{Spends};
 ghost use Rattle.vx_diskset.specs.Stands.{IsCleanAt};
-ghost use Rattle.vx_diskset.specs.Unlabels.{Unlabels};
+ghost use Rattle.vx_diskset.specs.Unlabels.{HasNoFront, Unlabels};
 ghost use Rattle.vx_diskset.specs.Zeroing.{IsZero};
 
 use vx_copyfmt::{LabelSeen, get_label};
@@ -14,10 +15,11 @@ use vx_copyio::are_large;
 use vx_disk::{Rack, ShelfError, refusal};
 use vx_model::No;
 
-// Whether a disk that can be read has a label.
+// Whether a disk that can be read has a label. Of zeros it is known that they are none.
 fn has_label_at<R: Rack>(rack: &mut R, disk: u32) -> bool
     requires there { disk < (R.meaning rack.old).units }
     requires some { 0 < (R.meaning rack.old).size disk }
+    ensures none { IsTrue (R.meaning rack.old).tells → Keeps (R.meaning rack.old) disk 0 zero_block → result ≡ false }
     ensures goes { Goes Nothing (R.meaning rack.old) (R.meaning rack.new) }
     ensures spends { Spends (R.meaning rack.old) (R.meaning rack.new) }
 {
@@ -25,6 +27,34 @@ fn has_label_at<R: Rack>(rack: &mut R, disk: u32) -> bool
     match rack.read(disk, 0, &mut block) {
         Ok(()) => !matches!(get_label(&block), LabelSeen::Other),
         Err(_) => false,
+    }
+}
+
+// The same of any of the disks.
+fn any_label<R: Rack>(rack: &mut R) -> bool
+    requires large { AreLarge (R.meaning rack.old) }
+    ensures none { IsTrue (R.meaning rack.old).tells → HasNoFront (R.meaning rack.old) → result ≡ false }
+    ensures goes { Goes Nothing (R.meaning rack.old) (R.meaning rack.new) }
+    ensures spends { Spends (R.meaning rack.old) (R.meaning rack.new) }
+{
+    for disk in 0..rack.units() {
+        if has_label_at(rack, disk) {
+            return true;
+        }
+    }
+    false
+}
+
+/// Whether one of the disks that can be read has a label of a group.
+pub(crate) fn has_label<R: Rack>(rack: &mut R) -> bool
+    ensures none { IsTrue (R.meaning rack.old).tells → HasNoFront (R.meaning rack.old) → result ≡ false }
+    ensures goes { Goes Nothing (R.meaning rack.old) (R.meaning rack.new) }
+    ensures spends { Spends (R.meaning rack.old) (R.meaning rack.new) }
+{
+    if are_large(rack) {
+        any_label(rack)
+    } else {
+        false
     }
 }
 

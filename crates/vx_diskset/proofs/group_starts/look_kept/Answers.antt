@@ -1,5 +1,6 @@
 -- `look_kept`: what is read where a write may be cut.
 use Rattle.std.proofs.Common.{subst, sym}
+use Rattle.std.specs.Prelude.{None, Ok}
 use Rattle.vx_diskset.specs.Recovers.{LooksKept}
 use Rattle.vx_diskset.proofs.GroupRising.{looked_none}
 use Rattle.vx_diskset.proofs.group_starts.look_kept.Goals as goal
@@ -10,4 +11,4 @@ returns-in-Some-clause-looks g c = λ n note up.
 
 pub returns-in-None-clause-looks : goal.returns-in-None-clause-looks
 returns-in-None-clause-looks g c = λ n note up.
-    subst (λ x. LooksKept n note x c.args.site.now c.args.site.now _) (sym c.in-None.is) (looked_none n note c.args.site.now up)
+    subst (λ x. LooksKept n note x c.args.site.now c.args.site.now (Ok None)) (sym c.in-None.is) (looked_none n note c.args.site.now up)

@@ -4,14 +4,14 @@ use Rattle.vx_grouped.specs.GroupSites.{UpNoted}
 use Rattle.vx_diskset.specs.Asked.{FuseGoesOn}
 use Rattle.vx_diskset.specs.GroupCalls.{CalledOn, OnSites, cut_in}
 use Rattle.vx_diskset.specs.declared.disk_set.DiskSet.TheVariants.{OfGroup}
-use Rattle.vx_diskset.proofs.GroupCalling.{at_none, at_sites, group_failing, group_fuse, group_later, on_sites, called_settled, others_on}
-use Rattle.vx_grouped.specs.SiteEnds.{SiteCalled, refuses_det, is_plex_on}
+use Rattle.vx_diskset.proofs.GroupCalling.{at_none, at_sites, group_failing, group_fuse, group_later, on_sites, det_settled, others_on}
+use Rattle.vx_grouped.specs.SiteEnds.{DetCalled, refuses_det, is_plex_on}
 use Rattle.std.specs.Prelude.{Err, None, Ok, Some, false, IfOk, IsTrue}
 use Rattle.vx_model.specs.declared.errors.Stop.TheVariants.{No as Refused}
 use Rattle.vx_diskset.proofs.disk_set.DiskSet.detach_plex.Goals as goal
 
 pub returns-in-OfGroup-clause-called : goal.returns-in-OfGroup-clause-called
-returns-in-OfGroup-clause-called g c = λ n note. on_sites (UpNoted n note) (λ o e. SiteCalled n note o e c.det.result) c.args.self.now c.in-OfGroup.group (record c.in-OfGroup.group { site = c.det.new.self }) c.in-OfGroup.is (c.det.ensures.called n note)
+returns-in-OfGroup-clause-called g c = λ n note. on_sites (UpNoted n note) (λ o e. DetCalled n note c.args.volume c.args.plex o e c.det.result) c.args.self.now c.in-OfGroup.group (record c.in-OfGroup.group { site = c.det.new.self }) c.in-OfGroup.is (c.det.ensures.called n note)
 
 pub returns-in_default-clause-called : goal.returns-in_default-clause-called
 returns-in_default-clause-called g c = λ n note. at_none (UpNoted n note) _ c.args.self.now c.in_default.not-OfGroup
@@ -19,7 +19,7 @@ returns-in_default-clause-called g c = λ n note. at_none (UpNoted n note) _ c.a
 pub returns-in-OfGroup-clause-fuse : goal.returns-in-OfGroup-clause-fuse
 returns-in-OfGroup-clause-fuse g c = λ n note.
     let is_rack = (g.met.R.Rack g.world.𝓛 g.world.𝓜 g.world.𝓡 ((λ s x. x), (λ x. x), (λ x. x), λ x. x)).rack in
-    at_sites (UpNoted n note) (FuseGoesOn c.args.self.now (OfGroup (record c.in-OfGroup.group { site = c.det.new.self }))) c.args.self.now c.in-OfGroup.group c.in-OfGroup.is (λ it. group_fuse c.args.self.now c.in-OfGroup.group (record c.in-OfGroup.group { site = c.det.new.self }) c.in-OfGroup.is c.det.ensures.since (called_settled is_rack _ n note c.in-OfGroup.group.site c.det.new.self c.det.result (c.det.ensures.called n note it)))
+    at_sites (UpNoted n note) (FuseGoesOn c.args.self.now (OfGroup (record c.in-OfGroup.group { site = c.det.new.self }))) c.args.self.now c.in-OfGroup.group c.in-OfGroup.is (λ it. group_fuse c.args.self.now c.in-OfGroup.group (record c.in-OfGroup.group { site = c.det.new.self }) c.in-OfGroup.is c.det.ensures.since (det_settled is_rack n note c.args.volume c.args.plex c.in-OfGroup.group.site c.det.new.self c.det.result (c.det.ensures.called n note it)))
 
 pub returns-in_default-clause-fuse : goal.returns-in_default-clause-fuse
 returns-in_default-clause-fuse g c = λ n note. at_none (UpNoted n note) (FuseGoesOn c.args.self.now c.args.self.now) c.args.self.now c.in_default.not-OfGroup

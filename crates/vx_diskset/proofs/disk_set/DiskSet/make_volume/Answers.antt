@@ -11,7 +11,7 @@ use Rattle.vx_model.specs.declared.errors.Stop.TheVariants.{No as Refused}
 use Rattle.vx_diskset.proofs.disk_set.DiskSet.make_volume.Goals as goal
 
 pub returns-in-OfGroup-clause-made : goal.returns-in-OfGroup-clause-made
-returns-in-OfGroup-clause-made g c = λ n note. on_sites (UpNoted n note) (λ o e. SiteAdded n note c.args.want.now o e c.make_volume.result) c.args.self.now c.in-OfGroup.group (record c.in-OfGroup.group { site = c.make_volume.new.self }) c.in-OfGroup.is (c.make_volume.ensures.made n note)
+returns-in-OfGroup-clause-made g c = λ n note. on_sites (UpNoted n note) (λ o e. SiteAdded n note c.args.name.now c.args.want.now o e c.make_volume.result) c.args.self.now c.in-OfGroup.group (record c.in-OfGroup.group { site = c.make_volume.new.self }) c.in-OfGroup.is (c.make_volume.ensures.made n note)
 
 pub returns-in_default-clause-made : goal.returns-in_default-clause-made
 returns-in_default-clause-made g c = λ n note. at_none (UpNoted n note) _ c.args.self.now c.in_default.not-OfGroup
@@ -19,7 +19,7 @@ returns-in_default-clause-made g c = λ n note. at_none (UpNoted n note) _ c.arg
 pub returns-in-OfGroup-clause-fuse : goal.returns-in-OfGroup-clause-fuse
 returns-in-OfGroup-clause-fuse g c = λ n note.
     let is_rack = (g.met.R.Rack g.world.𝓛 g.world.𝓜 g.world.𝓡 ((λ s x. x), (λ x. x), (λ x. x), λ x. x)).rack in
-    at_sites (UpNoted n note) (FuseGoesOn c.args.self.now (OfGroup (record c.in-OfGroup.group { site = c.make_volume.new.self }))) c.args.self.now c.in-OfGroup.group c.in-OfGroup.is (λ it. group_fuse c.args.self.now c.in-OfGroup.group (record c.in-OfGroup.group { site = c.make_volume.new.self }) c.in-OfGroup.is c.make_volume.ensures.since (added_settled is_rack n note c.args.want.now c.in-OfGroup.group.site c.make_volume.new.self c.make_volume.result (c.make_volume.ensures.made n note it)))
+    at_sites (UpNoted n note) (FuseGoesOn c.args.self.now (OfGroup (record c.in-OfGroup.group { site = c.make_volume.new.self }))) c.args.self.now c.in-OfGroup.group c.in-OfGroup.is (λ it. group_fuse c.args.self.now c.in-OfGroup.group (record c.in-OfGroup.group { site = c.make_volume.new.self }) c.in-OfGroup.is c.make_volume.ensures.since (added_settled is_rack n note c.args.name.now c.args.want.now c.in-OfGroup.group.site c.make_volume.new.self c.make_volume.result (c.make_volume.ensures.made n note it)))
 
 pub returns-in_default-clause-fuse : goal.returns-in_default-clause-fuse
 returns-in_default-clause-fuse g c = λ n note. at_none (UpNoted n note) (FuseGoesOn c.args.self.now c.args.self.now) c.args.self.now c.in_default.not-OfGroup
