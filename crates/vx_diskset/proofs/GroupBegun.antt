@@ -14,7 +14,11 @@ use Rattle.vx_disk.specs.declared.shelf.Shelf.{Ghosts}
 use Rattle.vx_history.specs.Groups.{GroupNode}
 use Rattle.vx_history.specs.World.{Fuse as FuseOf, Node, NoFuse}
 use Rattle.vx_grouped.specs.Begins.{BeginsGroup, CanBegin, group_begun}
-use Rattle.vx_grouped.specs.GroupSites.{GroupSiteStands, IsMarkedSite}
+use Rattle.vx_watched.specs.Since.{CalledSince}
+use Rattle.vx_grouped.specs.GroupSites.{GroupSiteStands, IsMarkedSite, site_disks}
+use Rattle.vx_diskset.specs.Asked.{FuseGoesOn, SameFailing}
+use Rattle.vx_diskset.specs.DiskSets.{Later}
+use Rattle.vx_diskset.specs.Recovers.{RisesSince}
 use Rattle.vx_grouped.specs.declared.group_site.GroupSite.{GroupSite}
 use Rattle.vx_grouped.specs.declared.group_site.GroupSite.TheVariants.{Marked}
 use Rattle.vx_diskset.specs.GroupCalls.{AtSite, InitIs, bare_disks, cut_in}
@@ -25,7 +29,7 @@ use Rattle.vx_diskset.specs.declared.disk_set.DiskSet.{DiskSet}
 use Rattle.vx_diskset.specs.declared.disk_set.DiskSet.TheVariants.{Bare, Spoiled, OfGroup}
 use Rattle.vx_diskset.specs.declared.group_set.CutWrite.{CutWrite}
 use Rattle.vx_diskset.specs.declared.group_set.GroupSet.{GroupSet}
-use Rattle.vx_diskset.proofs.GroupCalling.{IsSettled, on_group, settled, up_settled}
+use Rattle.vx_diskset.proofs.GroupCalling.{HasDisks, IsSettled, OnGroup, failing_risen, fuse_risen, has_group, later_risen, on_group, rises_called, settled, up_settled}
 
 -- ---- disks of which a group can be made
 
@@ -102,3 +106,35 @@ module _ {R : Type 0} {g : Ghosts R} where
     begin_settled site n old new r it =
         let on = on_group (λ e. BeginsGroup site n old e r) new it in
         subst (λ (x : DiskSet R g). AtSite IsSettled x) (sym on.is) (begun_settled site n old on.set.site r on.has)
+
+  module _ (old new : DiskSet R g) (m : Meaning) (was : HasDisks old m) (since : AtSite (λ e. CalledSince m (site_disks e)) new) where
+    now : OnGroup new (λ e. CalledSince m (site_disks e))
+    now = on_group (λ e. CalledSince m (site_disks e)) new since
+
+    risen : RisesSince m (site_disks now.set.site)
+    risen = rises_called m (site_disks now.set.site) now.has
+
+    pub begin_failing : SameFailing old new
+    begin_failing = failing_risen old new m (site_disks now.set.site) was (has_group new now.set now.is) risen
+
+    pub begin_later : Later old new
+    begin_later = later_risen old new m (site_disks now.set.site) was (has_group new now.set now.is) risen
+
+    pub begin_fuse : AtSite IsSettled new → FuseGoesOn old new
+    begin_fuse at =
+        let settled : IsSettled now.set.site = subst (λ (x : DiskSet R g). AtSite IsSettled x) now.is at in
+        fuse_risen old new m (site_disks now.set.site) was (has_group new now.set now.is) risen settled.rack settled.at
+
+  -- ---- the disks on which a group was begun before
+
+  pub marked_disks : (e : DiskSet R g) (s : GroupSet R g) (rack : R) → e ≡ OfGroup s → s.site ≡ Marked rack → HasDisks e (g.meaning rack)
+  marked_disks e s rack is marked = subst (λ (x : GroupSite R g). HasDisks e (site_disks x)) marked (has_group e s is)
+
+  pub marked_bare : (e : DiskSet R g) (s : GroupSet R g) (rack : R) → e ≡ OfGroup s → s.site ≡ Marked rack → bare_disks e ≡ g.meaning rack
+  marked_bare e s rack is marked = ap (λ (x : DiskSet R g). bare_disks x) is ∙ ap (λ (x : GroupSite R g). site_disks x) marked
+
+  pub marked_at : (beside : KeptBeside) (n : Node) (e : DiskSet R g) (s : GroupSet R g) → e ≡ OfGroup s → SiteStands beside n e → IsGroupSet beside n s
+  marked_at beside n e s is stands = subst (λ (x : DiskSet R g). SiteStands beside n x) is stands
+
+  pub marked_can : (beside : KeptBeside) (n : Node) (s : GroupSet R g) (rack : R) → s.site ≡ Marked rack → IsGroupSet beside n s → 0 < n.disks → least_blocks ≤ n.blocks → CanBegin n (g.meaning rack)
+  marked_can beside n s rack marked it some large = begin_marked n (g.meaning rack) (subst (λ (x : GroupSite R g). GroupSiteStands n x) marked it.stands) it.few some large

@@ -18,23 +18,24 @@ use Rattle.vx_ringio.specs.Spends.{Spends}
 use Rattle.vx_history.specs.World.{Node}
 use Rattle.vx_diskset.specs.Stands.{IsCleanAt}
 use Rattle.vx_diskset.specs.Unlabels.{HasNoFront, OnlyReads, Unlabels}
-use Rattle.vx_diskset.specs.Zeroing.{IsZero, IsZeroOf}
+use Rattle.vx_diskset.specs.Zeroing.{IsZeroOf}
+use Rattle.vx_diskset.specs.Zeros.{OnlyZeros}
 use Rattle.vx_diskset.proofs.StaysUp.{never_both, not_true}
 use Rattle.vx_diskset.proofs.Zeroes.{run_goes}
 
 -- ---- one block
 
-pub front_goes : (disk : ℕ) (old new : Meaning) → Goes (Written disk 0 (replicate 512 0)) old new → Goes IsZero old new
-front_goes disk old new goes = weaker (IsZeroOf disk) IsZero old new (run_goes disk 0 1 (replicate 512 0) refl old new goes) (λ u b v put. record { value = put.value })
+pub front_goes : (disk : ℕ) (old new : Meaning) → Goes (Written disk 0 (replicate 512 0)) old new → Goes OnlyZeros old new
+front_goes disk old new goes = weaker (IsZeroOf disk) OnlyZeros old new (run_goes disk 0 1 (replicate 512 0) refl old new goes) (λ u b v put. put.value)
 
 -- ---- calls in a row
 
 pub unlabels_none : (m : Meaning) → Unlabels m m
-unlabels_none m = record { goes = same_Goes IsZero m; spends = spends_none m }
+unlabels_none m = record { goes = same_Goes OnlyZeros m; spends = spends_none m }
 
 pub unlabels_then : (old mid new : Meaning) → Unlabels old mid → Unlabels mid new → Unlabels old new
 unlabels_then old mid new one two = record {
-  goes = weaker (Or IsZero IsZero) IsZero old new (both_Goes IsZero IsZero old mid new one.goes two.goes) (λ u b v. ⊎_elim (λ put. put) (λ put. put));
+  goes = weaker (Or OnlyZeros OnlyZeros) OnlyZeros old new (both_Goes OnlyZeros OnlyZeros old mid new one.goes two.goes) (λ u b v. ⊎_elim (λ put. put) (λ put. put));
   spends = then_spends old mid new one.spends two.spends;
 }
 
@@ -49,10 +50,10 @@ causes_since old mid new less (Err why) it = cause_since old mid new less why it
 
 -- ---- clean disks
 
-zeros_keep : (m new : Meaning) (u b : ℕ) → Goes IsZero m new → Keeps m u b zero_block → Keeps new u b zero_block
-zeros_keep m new u b goes keeps = record { only = λ v left. ⊎_elim (λ old. keeps.only v old) (λ put. put.value) (goes.leaves u b v left) }
+zeros_keep : (m new : Meaning) (u b : ℕ) → Goes OnlyZeros m new → Keeps m u b zero_block → Keeps new u b zero_block
+zeros_keep m new u b goes keeps = record { only = λ v left. ⊎_elim (λ old. keeps.only v old) (λ put. put) (goes.leaves u b v left) }
 
-pub clean_zeros : (n : Node) (m new : Meaning) → Goes IsZero m new → IsCleanAt n m → IsCleanAt n new
+pub clean_zeros : (n : Node) (m new : Meaning) → Goes OnlyZeros m new → IsCleanAt n m → IsCleanAt n new
 clean_zeros n m new goes clean = record {
   bare = record {
     is = clean.bare.is;
@@ -71,9 +72,9 @@ clean_zeros n m new goes clean = record {
 
 -- ---- zeros are no label
 
+pub zero_seen : seen_in zero_block ≡ seen.Other
 unfolding seen_in begins_label be_bytes
-  pub zero_seen : seen_in zero_block ≡ seen.Other
-  zero_seen = refl
+zero_seen = refl
 
 pub no_front : (n : Node) (m : Meaning) → IsCleanAt n m → HasNoFront m
 no_front n m clean = record { each = λ u low. front_at u (cases_lt 0 u) (subst (λ (k : ℕ). u < k) clean.bare.fitted.units low) }

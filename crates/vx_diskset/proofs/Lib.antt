@@ -10,6 +10,8 @@ pub mod FailGroup
 pub mod FuseGroup
 pub mod GroupBegun
 pub mod GroupCalling
+pub mod GroupCut
+pub mod GroupFinding
 pub mod GroupRising
 pub mod GroupStands
 pub mod HeadCalls

@@ -20,3 +20,4 @@ pub mod Stands
 pub mod Unlabels
 pub mod Withdrawn
 pub mod Zeroing
+pub mod Zeros

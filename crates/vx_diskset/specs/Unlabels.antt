@@ -3,7 +3,7 @@ use Rattle.std.specs.Prelude.{ℕ, ◌<◌}
 use Rattle.vx_model.specs.Content.{zero_block}
 use Rattle.vx_disk.specs.Shelf.{Goes, Keeps, Meaning, Nothing}
 use Rattle.vx_ringio.specs.Spends.{Spends}
-use Rattle.vx_diskset.specs.Zeroing.{IsZero}
+use Rattle.vx_diskset.specs.Zeros.{OnlyZeros}
 
 -- the first block of each disk holds zeros
 pub record HasNoFront (m : Meaning) : Type 0 where
@@ -16,5 +16,5 @@ pub record OnlyReads (old new : Meaning) : Type 0 where
 
 -- calls that wrote nothing but zeros
 pub record Unlabels (old new : Meaning) : Type 0 where
-  pub goes : Goes IsZero old new
+  pub goes : Goes OnlyZeros old new
   pub spends : Spends old new

@@ -128,7 +128,7 @@ impl<R: Rack> DiskSet<R> {
     pub fn init_group(self, alloc: Global, site: u32) -> (DiskSet<R>, Result<(), Stop>)
         ensures begun { (beside : KeptBeside) (n : Node) → SiteStands beside n self → n.state ≡ BareState → 0 < n.disks → least_blocks ≤ n.blocks → InitIs site n self result.0 result.1 }
         ensures stays { (beside : KeptBeside) (n : Node) → SiteStands beside n self → n.state ≡ BareState → 0 < n.disks → least_blocks ≤ n.blocks → IfErr result.1 (λ stop. SiteStands beside n result.0) }
-        ensures fuse { (beside : KeptBeside) (n : Node) → SiteStands beside n self → n.state ≡ BareState → FuseGoesOn self result.0 }
+        ensures fuse { (beside : KeptBeside) (n : Node) → SiteStands beside n self → n.state ≡ BareState → 0 < n.disks → least_blocks ≤ n.blocks → FuseGoesOn self result.0 }
         ensures failing { SameFailing self result.0 }
         ensures later { Later self result.0 }
     {

@@ -8,7 +8,7 @@ ghost use Rattle.vx_model.specs.Content.{zero_block};
 ghost use Rattle.vx_ringio.specs.Spends.{Spends};
 ghost use Rattle.vx_diskset.specs.Stands.{IsCleanAt};
 ghost use Rattle.vx_diskset.specs.Unlabels.{HasNoFront, Unlabels};
-ghost use Rattle.vx_diskset.specs.Zeroing.{IsZero};
+ghost use Rattle.vx_diskset.specs.Zeros.{OnlyZeros};
 
 use vx_copyfmt::{LabelSeen, get_label};
 use vx_copyio::are_large;
@@ -62,7 +62,7 @@ pub(crate) fn has_label<R: Rack>(rack: &mut R) -> bool
 fn zero_front<R: Rack>(rack: &mut R, disk: u32) -> Result<(), ShelfError>
     requires there { disk < (R.meaning rack.old).units }
     requires some { 0 < (R.meaning rack.old).size disk }
-    ensures goes { Goes IsZero (R.meaning rack.old) (R.meaning rack.new) }
+    ensures goes { Goes OnlyZeros (R.meaning rack.old) (R.meaning rack.new) }
     ensures spends { Spends (R.meaning rack.old) (R.meaning rack.new) }
     ensures cause { IfErr result (λ e. DeviceCause (R.meaning rack.old) (R.meaning rack.new) (refusal_of e)) }
 {

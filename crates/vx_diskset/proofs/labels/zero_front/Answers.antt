@@ -4,14 +4,14 @@ use Rattle.std.specs.Prelude.{IfErr}
 use Rattle.vx_disk.specs.Causes.{DeviceCause, refusal_of}
 use Rattle.vx_disk.proofs.Runs.{then_nothing}
 use Rattle.vx_ringio.proofs.Spending.{spends_flush, spends_write, then_spends}
-use Rattle.vx_diskset.specs.Zeroing.{IsZero}
+use Rattle.vx_diskset.specs.Zeros.{OnlyZeros}
 use Rattle.vx_diskset.proofs.LabelLemmas.{front_goes}
 use Rattle.vx_diskset.proofs.Zeroes.{device_of}
 use Rattle.vx_diskset.proofs.labels.zero_front.Goals as goal
 
 pub returns-in-Ok-clause-goes : goal.returns-in-Ok-clause-goes
 returns-in-Ok-clause-goes g c =
-    then_nothing IsZero (g.R.Shelf.meaning c.args.rack.now) (g.R.Shelf.meaning c.write.new.self) (g.R.Shelf.meaning c.flush.new.self)
+    then_nothing OnlyZeros (g.R.Shelf.meaning c.args.rack.now) (g.R.Shelf.meaning c.write.new.self) (g.R.Shelf.meaning c.flush.new.self)
     (front_goes c.args.disk (g.R.Shelf.meaning c.args.rack.now) (g.R.Shelf.meaning c.write.new.self) c.write.ensures.goes) c.flush.ensures.goes
 
 pub returns-in-Ok-clause-spends : goal.returns-in-Ok-clause-spends
