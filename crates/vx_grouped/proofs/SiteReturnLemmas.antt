@@ -157,7 +157,7 @@ blames m m' why on (inr late) = elim late.1 [
 ]
 
 -- where it says that they are down they are
-down_of : (m m' : Meaning) (stop : Stop) → stops_down stop ≡ true → ImportStops m m' stop → IsTrue m'.down
+pub down_of : (m m' : Meaning) (stop : Stop) → stops_down stop ≡ true → ImportStops m m' stop → IsTrue m'.down
 down_of m m' (Refused IsOff) off stops = blames m m' IsOff refl stops
 down_of m m' (Refused (Device disk)) off stops = cc
 down_of m m' (Refused other) off stops = cc
