@@ -38,3 +38,4 @@ pub mod Worked
 pub mod WriteGroup
 pub mod WriteLeaves
 pub mod Zeroes
+mod GroupCalling
