@@ -3,3 +3,5 @@ pub mod Fails
 pub mod GroupAt
 pub mod GroupLeads
 pub mod Tests
+pub mod GroupMarks
+pub mod Losing

@@ -11,6 +11,7 @@ mod lines;
 mod marks;
 mod noting;
 mod plex;
+mod probe;
 mod read;
 mod recover;
 mod status;
