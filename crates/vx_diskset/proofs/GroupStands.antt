@@ -1,7 +1,10 @@
 -- The disks of a site with a group of disks: by which parts of its node they stand, and what such a site is not.
-use Rattle.std.proofs.Common.{◌≡◌, ◌∙◌, ◌<◌, ◌≤◌, ℕ, Bool, true, false, List, [], ap, arith, length, refl, subst, sym}
+use Rattle.std.proofs.Common.{◌≡◌, ◌⊎◌, inl, inr, ◌∙◌, ◌<◌, ◌≤◌, ℕ, Bool, true, false, List, [], ap, arith, length, refl, subst, sym}
 use Rattle.std.specs.Prelude.{◌&&◌, Option, Some, None, eqb, is_some}
 use Rattle.vx_model.specs.declared.limits.TheConstants.{LEAST_BLOCKS, MOST_DISKS}
+use Rattle.vx_model.specs.Sites.{is_origin, is_up}
+use Rattle.vx_model.specs.declared.site.Role.{Role}
+use Rattle.vx_model.specs.declared.site.SiteState.{SiteState}
 use Rattle.vx_model.specs.declared.site.SiteState.TheVariants.{Bare as IsBare, Up as IsUp, Down as IsDown, Deported as IsDeported}
 use Rattle.vx_config.specs.declared.config.Config.{Config}
 use Rattle.vx_disk.specs.Shelf.{Meaning}
@@ -27,7 +30,7 @@ use Rattle.vx_diskset.specs.declared.group_set.GroupSet.{GroupSet}
 
 -- ---- nodes alike in all by which such disks stand
 
-pub record IsLikeGroup (n k : Node) : Type 0 where
+pub record IsLikeGroup (n k : Node) : Type 1 where
   pub state : n.state ≡ k.state
   pub disks : n.disks ≡ k.disks
   pub blocks : n.blocks ≡ k.blocks
@@ -59,6 +62,9 @@ module _ (n k : Node) (like : IsLikeGroup n k) where
     up = it.up;
     unarmed = it.unarmed;
   }
+
+  cut_like : (x : CutWrite) → CutLies n x → CutLies k x
+  cut_like x it = record { down = sym like.state ∙ it.down; fits = λ note is. it.fits note (like.group ∙ is) }
 
   module _ {R : Type 0} {g : Ghosts R} where
     stands_like : (s : GroupSite R g) → GroupSiteStands n s → GroupSiteStands k s
@@ -103,9 +109,6 @@ module _ (n k : Node) (like : IsLikeGroup n k) where
     stands_like (Marked rack) it = marked_like (g.meaning rack) it
     stands_like Gone it = absurd it
 
-    cut_like : (x : CutWrite) → CutLies n x → CutLies k x
-    cut_like x it = record { down = sym like.state ∙ it.down; fits = λ note is. it.fits note (like.group ∙ is) }
-
     -- also with something else beside the node, as long as that is no doubt and no link
     pub set_like : (beside other : KeptBeside) (s : GroupSet R g) → ((k.state ≡ IsBare → ⊥) → other.doubt ≡ None) → ((k.state ≡ IsBare → ⊥) → other.links ≡ []) → (k.state ≡ IsBare → k ≡ bare_with k) → IsGroupSet beside n s
         → IsGroupSet other k s
@@ -143,6 +146,12 @@ failing_like n failing = record {
   unfused = λ none. none;
 }
 
+-- a site that notes a group is over one
+noted_over : (n : Node) (note : GroupNode) → NotesGroup n note → is_over_group n ≡ true
+noted_over n note it =
+    ap (λ (o : Option GroupNode). is_some o && eqb (length n.volumes) 0) it.is
+    ∙ ap (λ (vs : List Volume). eqb (length vs) 0) it.none.volumes
+
 module _ {R : Type 0} {g : Ghosts R} where
   pub set_burned : (beside : KeptBeside) (n : Node) (s : GroupSet R g) → IsGroupSet beside n s → IsGroupSet beside (record n { fuse = burned n.fuse }) s
   set_burned beside n s it =
@@ -160,11 +169,6 @@ module _ {R : Type 0} {g : Ghosts R} where
       (λ state. ap (λ (x : Node). let q : Node = record x { failing = failing } in q) (it.bare state)) it
 
   -- ---- what such a site is
-
-  noted_over : (n : Node) (note : GroupNode) → NotesGroup n note → is_over_group n ≡ true
-  noted_over n note it =
-      ap (λ (o : Option GroupNode). is_some o && eqb (length n.volumes) 0) it.is
-      ∙ ap (λ (vs : List Volume). eqb (length vs) 0) it.none.volumes
 
   over_by : (n : Node) (s : GroupSite R g) → GroupSiteStands n s → (n.state ≡ IsBare → ⊥) → is_over_group n ≡ true
   over_by n (Up group) (note, it) some = noted_over n note it.noted
@@ -210,3 +214,14 @@ module _ {R : Type 0} {g : Ghosts R} where
       let it : IsGroupSet beside n s = subst (λ (x : DiskSet R g). SiteStands beside n x) is stands in
       let has = up_has_none beside n s it up in
       absurd (omega (arith, low, ap (λ (xs : List Volume). length xs) has.volumes))
+
+  -- such a site is not up, or writes arise at it
+  off_by : (n : Node) (s : GroupSite R g) → GroupSiteStands n s → (is_up n.state ≡ false) ⊎ (is_origin n.role ≡ true)
+  off_by n (Up group) (note, it) = inr (ap (λ (r : Role). is_origin r) it.noted.none.role)
+  off_by n (Deported rack) (note, it) = inr (ap (λ (r : Role). is_origin r) it.noted.none.role)
+  off_by n (Down rack) (note, it) = inr (ap (λ (r : Role). is_origin r) it.noted.none.role)
+  off_by n (Marked rack) it = inl (ap (λ (s : SiteState). is_up s) it.state)
+  off_by n Gone it = absurd it
+
+  pub off_or_origin : (beside : KeptBeside) (n : Node) (s : GroupSet R g) → IsGroupSet beside n s → (is_up n.state ≡ false) ⊎ (is_origin n.role ≡ true)
+  off_or_origin beside n s it = off_by n s.site it.stands

@@ -8,6 +8,7 @@ pub mod CrashGroup
 pub mod ExactWrite
 pub mod FailGroup
 pub mod FuseGroup
+pub mod GroupCalling
 pub mod GroupStands
 pub mod HeadCalls
 pub mod KeepGroup
@@ -20,6 +21,7 @@ pub mod MakeGroup
 pub mod MakeRoom
 pub mod Mores
 pub mod NeedLemmas
+pub mod OverGroups
 pub mod PumpGroup
 pub mod Reaching
 pub mod ReadGroup
@@ -31,6 +33,7 @@ pub mod StartGroup
 pub mod StaysUp
 pub mod TakenBack
 pub mod ThenUnder
+pub mod Unmarked
 pub mod Worked
 pub mod WriteGroup
 pub mod WriteLeaves

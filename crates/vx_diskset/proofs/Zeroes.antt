@@ -12,12 +12,13 @@ use Rattle.vx_disk.specs.declared.shelf.ShelfError.{ShelfError}
 use Rattle.vx_disk.specs.declared.shelf.ShelfError.TheVariants.{Fault, Down}
 use Rattle.vx_disk.proofs.Causing.{Rose_before}
 use Rattle.vx_disk.proofs.Runs.{both_Goes, same_Goes, weaker}
-use Rattle.vx_diskset.specs.Zeroing.{FailsAlike, GivesZeros, IsZero, IsZeroOf, LeavesZeros, ZeroesDisk, ZeroesDisks}
+use Rattle.vx_diskset.specs.Zeroing.{FailsAlike, GivesZeros, IsZeroOf, LeavesZeros, ZeroesDisk, ZeroesDisks}
+use Rattle.vx_diskset.specs.Zeros.{OnlyZeros}
 use Rattle.vx_diskset.proofs.KeepsFailing.{same_disks, same_then}
 
 -- ---- a run
 
-pub run_zeros : (count : ℕ) → count ≤ 16 → take (512 * count) (replicate 8192 0) ≡ replicate (512 * count) 0
+pub run_zeros : (count : ℕ) → count ≤ 16 → take {A = ℕ} (512 * count) (replicate 8192 0) ≡ replicate (512 * count) 0
 run_zeros count few = take-replicate (512 * count) 8192 0 (omega (arith, few))
 
 piece_zeros : (block count b : ℕ) → block ≤ b → 512 * (b - block) < 512 * count → piece block (replicate (512 * count) 0) b ≡ zero_block
@@ -109,11 +110,11 @@ module _ (disk done : ℕ) (old mid new : Meaning) (so : ZeroesDisk disk done ol
 -- ---- all disks
 
 pub disks_start : (m : Meaning) → ZeroesDisks 0 m m
-disks_start m = record { goes = same_Goes IsZero m; leaves = record { each = λ u b low inside. absurd (omega (arith, low)) }; failing = same_disks m.disks }
+disks_start m = record { goes = same_Goes OnlyZeros m; leaves = record { each = λ u b low inside. absurd (omega (arith, low)) }; failing = same_disks m.disks }
 
 module _ (disk : ℕ) (old mid new : Meaning) (so : ZeroesDisks disk old mid) where
-  pub disks_goes : Goes (IsZeroOf disk) mid new → Goes IsZero old new
-  disks_goes goes = weaker (Or IsZero (IsZeroOf disk)) IsZero old new (both_Goes IsZero (IsZeroOf disk) old mid new so.goes goes) (λ u b v. ⊎_elim (λ put. put) (λ put. record { value = put.value }))
+  pub disks_goes : Goes (IsZeroOf disk) mid new → Goes OnlyZeros old new
+  disks_goes goes = weaker (Or OnlyZeros (IsZeroOf disk)) OnlyZeros old new (both_Goes OnlyZeros (IsZeroOf disk) old mid new so.goes goes) (λ u b v. ⊎_elim (λ put. put) (λ put. put.value))
 
   pub disks_fail : FailsAlike mid.disks new.disks → FailsAlike old.disks new.disks
   disks_fail more = same_then old.disks mid.disks new.disks so.failing more

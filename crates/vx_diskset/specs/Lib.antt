@@ -17,5 +17,5 @@ pub mod Recovers
 pub mod Rooms
 pub mod Stands
 pub mod Withdrawn
-pub mod Zeros
 pub mod Zeroing
+pub mod Zeros

@@ -16,8 +16,8 @@ use Rattle.vx_diskset.specs.declared.disk_set.DiskSet.{DiskSet}
 use Rattle.vx_diskset.specs.declared.disk_set.DiskSet.TheVariants.{Bare, Spoiled, Up, Receives, Down, OfGroup, Gone}
 use Rattle.vx_grouped.specs.GroupSites.{FitsPlain, GroupSiteStands, IsMarkedSite, site_disks}
 use Rattle.vx_history.specs.Groups.{GroupNode}
-use Rattle.vx_diskset.specs.declared.group_set.CutWrite.{CutWrite}
 use Rattle.vx_diskset.specs.GroupSets.{cut_value, noted_cut}
+use Rattle.vx_diskset.specs.declared.group_set.CutWrite.{CutWrite}
 use Rattle.vx_diskset.specs.declared.group_set.GroupSet.{GroupSet}
 use Rattle.vx_diskset.specs.Fuses.{IsFirstLog}
 use Rattle.vx_grouped.specs.SetFuses.{HasFuse}
@@ -127,11 +127,6 @@ pub record IsReceiverAt (beside : KeptBeside) (n : Node) (c : Core) (us : List U
   pub sure : n.halted ≡ None → beside.doubt ≡ None
   pub may : (k : KeptSite) → beside.doubt ≡ Some k → MayBe k m
 
--- a write that the fuse of a group cut: its site is down, and it lies in its volume
-pub record CutLies (n : Node) (x : CutWrite) : Type 0 where
-  pub down : n.state ≡ IsDown
-  pub fits : (note : GroupNode) → n.group ≡ Some note → FitsPlain note x.volume x.block (length x.bytes)
-
 -- the disks of a site, up or down: a crash leaves its writes on them
 pub record IsHeldAt (beside : KeptBeside) (n : Node) (m : Meaning) : Type 0 where
   pub lies : LiesOn n m
@@ -153,6 +148,11 @@ pub record IsDownAt (beside : KeptBeside) (n : Node) (m : Meaning) : Type 0 wher
   pub logged : length n.log ≡ n.safe
   pub begun : IsTrue m.tells → 0 < n.session
   pub left : IsTrue m.tells → LeftWith (units_of n) n.ring (state_with n beside.links) n.session (most_header beside n) n.log n.base m
+
+-- a write is cut only at a site that is down, and lies in its volume
+pub record CutLies (n : Node) (x : CutWrite) : Type 0 where
+  pub down : n.state ≡ IsDown
+  pub fits : (note : GroupNode) → n.group ≡ Some note → FitsPlain note x.volume x.block (length x.bytes)
 
 module _ {R : Type 0} {g : Ghosts R} where
   -- The disks of a site that has a group of disks, and no replicated volume group, with the write that its fuse cut. Such a site is never in doubt, and has no links. On

@@ -4,10 +4,7 @@ use Rattle.vx_model.specs.Content.{zero_block}
 use Rattle.vx_disk.specs.Causes.{WithDisks}
 use Rattle.vx_disk.specs.Disks.{Disks}
 use Rattle.vx_disk.specs.Shelf.{Goes, Keeps, Meaning}
-
--- zeros, wherever they stand
-pub record IsZero (u b : ℕ) (v : List ℕ) : Type 0 where
-  pub value : v ≡ zero_block
+use Rattle.vx_diskset.specs.Zeros.{OnlyZeros}
 
 -- zeros of one disk
 pub record IsZeroOf (disk u b : ℕ) (v : List ℕ) : Type 0 where
@@ -34,6 +31,6 @@ pub record ZeroesDisk (disk below : ℕ) (old new : Meaning) : Type 0 where
 
 -- the disks before this one were written over
 pub record ZeroesDisks (below : ℕ) (old new : Meaning) : Type 0 where
-  pub goes : Goes IsZero old new
+  pub goes : Goes OnlyZeros old new
   pub leaves : LeavesZeros below new
   pub failing : FailsAlike old.disks new.disks

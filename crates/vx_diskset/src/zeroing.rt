@@ -2,7 +2,8 @@
 ghost use Rattle.std.specs.Prelude.{◌≡◌, ◌+◌, ◌<◌, ◌≤◌, IfErr, OnOk};
 ghost use Rattle.vx_disk.specs.Causes.{Cause, DeviceCause, refusal_of};
 ghost use Rattle.vx_disk.specs.Shelf.{Goes};
-ghost use Rattle.vx_diskset.specs.Zeroing.{FailsAlike, GivesZeros, IsZero, IsZeroOf, LeavesZeros};
+ghost use Rattle.vx_diskset.specs.Zeroing.{FailsAlike, GivesZeros, IsZeroOf, LeavesZeros};
+ghost use Rattle.vx_diskset.specs.Zeros.{OnlyZeros};
 
 use vx_disk::{Rack, ShelfError};
 use vx_model::limits::BLOCK;
@@ -38,21 +39,27 @@ fn zero_disk<R: Rack>(rack: &mut R, disk: u32) -> Result<(), ShelfError>
     let mut done = 0;
     while done < blocks {
         let count = (blocks - done).min(RUN as u64);
-        zero_run(rack, disk, done, count)?;
-        done += count;
+        match zero_run(rack, disk, done, count) {
+            Ok(()) => done += count,
+            Err(error) => return Err(error),
+        }
     }
     rack.flush(disk)
 }
 
 /// Writes zeros to each block of each disk, and makes them durable. A disk that fails ends it.
 pub(crate) fn zero_disks<R: Rack>(rack: &mut R) -> Result<(), ShelfError>
-    ensures goes { Goes IsZero (R.meaning rack.old) (R.meaning rack.new) }
+    ensures goes { Goes OnlyZeros (R.meaning rack.old) (R.meaning rack.new) }
     ensures ok { OnOk result (LeavesZeros (R.meaning rack.old).units (R.meaning rack.new)) }
     ensures cause { IfErr result (λ e. DeviceCause (R.meaning rack.old) (R.meaning rack.new) (refusal_of e)) }
     ensures failing { FailsAlike (R.meaning rack.old).disks (R.meaning rack.new).disks }
 {
-    for disk in 0..rack.units() {
-        zero_disk(rack, disk)?;
+    let disks = rack.units();
+    for disk in 0..disks {
+        match zero_disk(rack, disk) {
+            Ok(()) => {}
+            Err(error) => return Err(error),
+        }
     }
     Ok(())
 }
