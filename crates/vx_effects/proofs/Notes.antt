@@ -1,6 +1,6 @@
 -- What a line notes of the fuses of two sites, and what that leaves as it is.
 use Rattle.std.proofs.Common.{◌≡◌, ◌∙◌, inl, inr, ◌⊎◌, ⊎_elim, ◌+◌, ℕ, zero, suc, List, [], ◌∷◌, refl, ap, sym}
-use Rattle.std.specs.Prelude.{Option}
+use Rattle.std.specs.Prelude.{Option, if◌then◌else◌}
 use Rattle.std.proofs.lemmas.Bool.{cases_eq}
 use Rattle.vx_history.proofs.Updates.{all_updated, at_place}
 use Rattle.vx_history.specs.Doubts.{After, Doubted}
