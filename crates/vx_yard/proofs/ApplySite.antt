@@ -40,6 +40,7 @@ use Rattle.vx_events.specs.GroupLines.{is_over_group}
 use Rattle.vx_order.specs.Grouping.{apply_role}
 use Rattle.vx_order.specs.Order.{line_refusal}
 use Rattle.vx_order.specs.Shapes.{line_role}
+use Rattle.vx_order.specs.Sites.{rvg_of}
 use Rattle.vx_order.specs.Subject.{first_name}
 use Rattle.vx_events.proofs.Steps.{apply_step}
 use Rattle.vx_events.specs.Doubts.{run_as}
@@ -100,11 +101,11 @@ halted_fact n row sites disk =
     ∙ ap (λ (ls : List LinkFacts). let f : SiteFacts = record (site_fact (halted_at n disk)) { links = links_by n.state ls } in f) (sym (shown_by n (halted_at n disk) row (λ k l. refl) ss))
 
 -- a line that applies finds a replicated volume group
-apply_has : (sites : List SiteFacts) (files : Bool) (name : List ℕ) (to : ℕ) → line_refusal sites files (Apply name to) ≡ None → (n : Named sites name) → is_some n.facts.rvg ≡ true
+apply_has : (sites : List SiteFacts) (files : Bool) (name : List ℕ) (to : ℕ) → line_refusal sites files (Apply name to) ≡ None → (n : Named sites name) → is_some (rvg_of (Some n.facts)) ≡ true
 unfolding first_name line_role
 apply_has sites files name to free n =
     let p = passes sites files (Apply name to) free in
-    not_false (is_some n.facts.rvg) (when_none (not (is_some n.facts.rvg)) WrongRole (subst (λ (o : Option SiteFacts). apply_role o ≡ None) n.found p.role))
+    not_false (is_some (rvg_of (Some n.facts))) (when_none (not (is_some (rvg_of (Some n.facts)))) WrongRole (subst (λ (o : Option SiteFacts). apply_role o ≡ None) n.found p.role))
 
 module _ {R : Type 0} {g : Ghosts R} where
   -- a running site is what its node says

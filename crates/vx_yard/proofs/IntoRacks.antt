@@ -1,7 +1,7 @@
 -- The racks as they come back from their disk sets.
 use Rattle.std.proofs.Common.{◌≡◌, ◌∙◌, ◌++◌, ◌≤◌, inl, ℕ, zero, suc, List, [], ◌∷◌, length, ap, append_assoc, sym, subst, refl, arith, IsTrue, true, false}
-use Rattle.std.specs.Prelude.{Option, Some, None, drop, reverse, slice_get, take}
-use Rattle.std.proofs.lemmas.List.{reverse-append}
+use Rattle.std.specs.Prelude.{Option, Some, None, drop, map, reverse, slice_get, take}
+use Rattle.std.proofs.lemmas.List.{append-nil, reverse-append}
 use Rattle.std.specs.Option.{option_and_then}
 use Rattle.vx_history.specs.World.{Node}
 use Rattle.vx_model.specs.declared.site.SiteState.TheVariants.{Bare as IsBare, Up as IsUp, Down as IsDown}
@@ -71,6 +71,16 @@ bare_holds n m bare = bare_has n m (ap (λ (k : Node). k.state) bare.is)
 
 some_same : {A : Type 0} {a b : A} → Some a ≡ Some b → a ≡ b
 some_same e = cc
+
+-- one more of the last of a list has its image behind the others
+pub put_more : {A B : Type 0} (f : A → B) (sets new : List B) (racks rest : List A) (r : A) → racks ≡ rest ++ r ∷ [] → new ≡ sets ++ f r ∷ [] → new ++ map f (reverse rest) ≡ sets ++ map f (reverse racks)
+put_more {A} {B} f sets new racks rest r front is =
+    ap (λ (xs : List B). xs ++ map f (reverse rest)) is ∙ append_assoc sets (f r ∷ []) (map f (reverse rest))
+    ∙ ap (λ (ys : List A). sets ++ map f ys) (sym (ap (λ (ys : List A). reverse ys) front ∙ reverse-append rest (r ∷ [])))
+
+-- none is left
+pub put_all : {A B : Type 0} (f : A → B) (sets : List B) (racks all : List A) → racks ≡ [] → sets ++ map f (reverse racks) ≡ map f all → sets ≡ map f all
+put_all {A} {B} f sets racks all none whole = sym (append-nil sets) ∙ sym (ap (λ (rs : List A). sets ++ map f (reverse rs)) none) ∙ whole
 
 module _ {R : Type 0} {g : Ghosts R} where
   -- ---- those of a group
@@ -256,7 +266,7 @@ module _ {R : Type 0} {g : Ghosts R} where
   beside_holds lawful beside n (Some (Down rack)) r apart stands is =
       subst (λ (k : R). HoldsSite beside n (g.meaning k)) (some_same is) (down_holds n (g.meaning rack) (lawful rack) (stands (Down rack) refl))
   beside_holds lawful beside n (Some (OfGroup s)) r apart stands is =
-      bare_has {beside} n (g.meaning r) (apart_bare beside n s (stands (OfGroup s) refl) apart)
+      bare_has {beside = beside} n (g.meaning r) (apart_bare beside n s (stands (OfGroup s) refl) apart)
   beside_holds lawful beside n (Some Gone) r apart stands is = absurd (cc)
 
   beside_group : (lawful : (r : R) → Lawful (g.meaning r)) (beside : KeptBeside) (n : Node) (x : Option (DiskSet R g)) (r : R) (note : GroupNode) → is_over_group n ≡ true → n.group ≡ Some note

@@ -1,17 +1,17 @@
 -- The site that a line names, in a yard whose sites may keep links.
-use Rattle.std.proofs.Common.{◌≡◌, ◌∙◌, ◌+◌, ◌<◌, ℕ, Bool, true, false, List, [], length, ap, sym, subst, refl, arith}
+use Rattle.std.proofs.Common.{◌≡◌, ◌∙◌, ◌+◌, ◌<◌, ℕ, true, false, List, [], length, ap, sym, subst, refl, arith}
 use Rattle.std.specs.Prelude.{Option, Some, is_some, slice_get, slice_set, unwrap_or}
 use Rattle.std.specs.Str.{bytes_eq}
 use Rattle.vx_history.specs.Doubts.{Doubted}
-use Rattle.vx_history.specs.World.{World}
 use Rattle.vx_disk.specs.declared.shelf.Shelf.{Ghosts}
+use Rattle.vx_order.specs.Sites.{rvg_of}
 use Rattle.vx_order.specs.declared.facts.SiteFacts.{SiteFacts}
 use Rattle.vx_diskset.specs.declared.disk_set.DiskSet.{DiskSet}
 use Rattle.vx_events.specs.Facts.{seat_of, site_number}
 use Rattle.vx_events.specs.GroupLines.{is_over_group}
 use Rattle.vx_events.specs.LinkedFacts.{linked_fact}
 use Rattle.vx_events.specs.StepsOver.{fact_over, facts_over, over_group_at}
-use Rattle.vx_events.proofs.OverSeats.{fact_apart, fact_grouped, seats_over}
+use Rattle.vx_events.proofs.OverSeats.{apart_shown, fact_apart, seats_over}
 use Rattle.vx_events.proofs.Places.{position_within, some_same}
 use Rattle.vx_events.proofs.Refused.{Named}
 use Rattle.vx_events.proofs.Values.{length-values_from, slice_get-values_from}
@@ -28,14 +28,6 @@ use Rattle.vx_yard.proofs.Carrying.{SameLoad, carries_same}
 use Rattle.vx_yard.proofs.ChangeSite.{rose_none}
 use Rattle.vx_yard.proofs.OfSites.{site_still}
 use Rattle.vx_yard.specs.declared.yard.Yard.{Yard}
-
--- a site with a replicated volume group is over no other group
-pub rvg_apart : (w : World) (s : ℕ) → is_some (fact_over w s).rvg ≡ true → is_over_group (w.nodes s) ≡ false
-rvg_apart w s has = by (is_over_group (w.nodes s)) refl
-  where
-    by : (b : Bool) → is_over_group (w.nodes s) ≡ b → is_over_group (w.nodes s) ≡ false
-    by false is = is
-    by true is = absurd (let e : false ≡ true = sym (ap (λ (f : SiteFacts). is_some f.rvg) (fact_grouped w s is)) ∙ has in cc)
 
 module _ {R : Type 0} {g : Ghosts R} where
   -- what the tests see of a site
@@ -95,10 +87,10 @@ module _ {R : Type 0} {g : Ghosts R} where
       some_same (sym n.at.there ∙ ap (slice_get y.facts.items) place ∙ seat.fact)
 
   -- one in whose facts the tests found a replicated volume group
-  pub rvg_at : (d : Doubted) (y : Yard R g) (name : List ℕ) (s : ℕ) → StandsFor d y → seat_of y.facts.items name ≡ Some s → (n : Named y.facts.items name) → is_some n.facts.rvg ≡ true → SiteAt d y name s
+  pub rvg_at : (d : Doubted) (y : Yard R g) (name : List ℕ) (s : ℕ) → StandsFor d y → seat_of y.facts.items name ≡ Some s → (n : Named y.facts.items name) → is_some (rvg_of (Some n.facts)) ≡ true → SiteAt d y name s
   rvg_at d y name s stands seat n has =
       site_at d y name s stands
-      (rvg_apart d.world s (ap (λ (f : SiteFacts). is_some f.rvg) (sym (fact_placed d y name s (place_at d y name s stands seat) seat n)) ∙ has)) seat
+      (apart_shown d.world s (λ o. is_some o) refl (ap (λ (f : SiteFacts). is_some (rvg_of (Some f))) (sym (fact_placed d y name s (place_at d y name s stands seat) seat n)) ∙ has)) seat
 
   -- what a line asked of the rack of its site
   pub asks_at : (Did : DiskSet R g → DiskSet R g → Type 0) (d : Doubted) (old new : Yard R g) (name : List ℕ) (s : ℕ) (before after : DiskSet R g) → StandsFor d old → seat_of old.facts.items name ≡ Some s
