@@ -3,12 +3,12 @@ use Rattle.std.specs.Prelude.{◌≡◌, ℕ, ◌+◌, ◌≤◌, ◌<◌, Bool,
 use Rattle.std.specs.List.{concat}
 use Rattle.std.specs.Io.KnownBytes.{Appends}
 use Rattle.vx_history.specs.Doubts.{Doubted}
-use Rattle.vx_history.specs.World.{empty_world}
+use Rattle.vx_history.specs.World.{World, empty_world}
 use Rattle.vx_events.specs.Doubts.{sure}
 use Rattle.vx_yard.specs.Lines.{script_line}
 use Rattle.vx_yard.specs.Stands.{RoseAll}
 use Rattle.vx_events.specs.Fails.{Fails}
-use Rattle.vx_events.specs.Parts.{StopsShort, goes_in_parts}
+use Rattle.vx_events.specs.Parts.{StopsShort, may_stop}
 use Rattle.vx_script.specs.Lines.{split_lines, whole_lines_of}
 use Rattle.vx_script.specs.declared.line.ScriptLine.{ScriptLine}
 use Rattle.vx_cli.specs.Reading.{MayHave}
@@ -82,16 +82,16 @@ abbrev pub PartOfNext : Type 0 → List (List ℕ) → Doubted → Doubted → T
 PartOfNext told [] d last = last ≡ d
 PartOfNext told (line ∷ lines) d last = PartOfLine told (script_line line) d last
 
--- a line that was read is none that goes in parts
-abbrev pub GoesWhole : Result (Option ScriptLine) ℕ → Type 0
-GoesWhole (Ok (Some words)) = goes_in_parts words ≡ false
-GoesWhole (Ok None) = Unit {0}
-GoesWhole (Err column) = Unit {0}
+-- a line that was read is none of which want of memory may leave a part
+abbrev pub GoesWhole : World → Result (Option ScriptLine) ℕ → Type 0
+GoesWhole w (Ok (Some words)) = may_stop w words ≡ false
+GoesWhole w (Ok None) = Unit {0}
+GoesWhole w (Err column) = Unit {0}
 
 -- nor is the next of these lines
-abbrev pub NextGoesWhole : List (List ℕ) → Type 0
-NextGoesWhole [] = Unit {0}
-NextGoesWhole (line ∷ lines) = GoesWhole (script_line line)
+abbrev pub NextGoesWhole : World → List (List ℕ) → Type 0
+NextGoesWhole w [] = Unit {0}
+NextGoesWhole w (line ∷ lines) = GoesWhole w (script_line line)
 
 -- The last world of a run, by the status: the one behind the lines that were done. Only for want of memory is the next line done in part.
 abbrev pub LastWorld : Type 0 → Status → List (List ℕ) → Doubted → Doubted → Type 0

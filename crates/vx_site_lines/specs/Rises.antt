@@ -113,7 +113,7 @@ module _ {R : Type 0} {g : Ghosts R} where
     pub each : (beside : KeptBeside) (n : Node) (e : DiskSet R g) → slice_get y.disk_sets.items s ≡ Some e → SiteStands beside n e → n.state ≡ Up → n.halted ≡ None → last ≡ n.safe
 
   pub record SessionAt (s session : ℕ) (y : Yard R g) : Type 0 where
-    pub each : (beside : KeptBeside) (n : Node) (e : DiskSet R g) → slice_get y.disk_sets.items s ≡ Some e → SiteStands beside n e → n.state ≡ Up → session ≡ n.session
+    pub each : (beside : KeptBeside) (n : Node) (e : DiskSet R g) → slice_get y.disk_sets.items s ≡ Some e → SiteStands beside n e → n.state ≡ Up → is_over_group n ≡ false → session ≡ n.session
 
   -- The site came up with this state of its log: the tests see it, the one that it followed feeds it, and it greets that one.
   pub record RisesTo (s ring : ℕ) (state : State) (used : List ℕ) (said : Said) (old new : Yard R g) : Type 0 where
