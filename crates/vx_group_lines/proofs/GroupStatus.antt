@@ -19,10 +19,14 @@ use Rattle.vx_events.specs.GroupViews.{config_of, grouped_view, plain_fact, note
 use Rattle.vx_order.specs.declared.facts.VolumeFacts.{VolumeFacts}
 use Rattle.vx_report.specs.declared.view.SiteView.{SiteView}
 
+read_back : (c : Config) → HasSpelling (at_serial 0 c) → config.read (noted_config c) ≡ Ok (at_serial 0 c, [])
+unfolding noted_config
+read_back c has = noted_is (at_serial 0 c) has
+
 -- the configuration that is noted is the one in memory, but for its serial
-pub config_is : (note : List ℕ) (c : Config) → note ≡ noted_config c → HasSpelling c → config_of note ≡ Some (at_serial 0 c)
+pub config_is : (note : List ℕ) (c : Config) → note ≡ noted_config c → HasSpelling (at_serial 0 c) → config_of note ≡ Some (at_serial 0 c)
 config_is note c is has =
-    ap (λ (bytes : List ℕ). config_of bytes) is ∙ ap (λ (r : Reading Config). read_front r) (noted_is c has)
+    ap (λ (bytes : List ℕ). config_of bytes) is ∙ ap (λ (r : Reading Config). read_front r) (read_back c has)
 
 -- so the tests see its volumes
 pub table_is : (note : GroupNode) (c : Config) → config_of note.config ≡ Some (at_serial 0 c) → noted_table note ≡ map plain_fact c.volumes

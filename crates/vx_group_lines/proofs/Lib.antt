@@ -5,3 +5,4 @@ pub mod GroupLeads
 pub mod Tests
 pub mod GroupMarks
 pub mod Losing
+pub mod GroupStatus

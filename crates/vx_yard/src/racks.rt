@@ -1,11 +1,25 @@
 // The racks of the disk sets, as they come back.
-ghost use Rattle.std.specs.Prelude.{◌≡◌, ◌≤◌, ◌<◌, ◌++◌, [], map, vec_len};
+ghost use Rattle.std.specs.Prelude.{◌≡◌, ◌≤◌, ◌<◌, ◌++◌, ◌∷◌, [], map, vec_len};
 ghost use Rattle.std.specs.Vec.{vec_capacity};
+ghost use Rattle.vx_untold.specs.Shades.{rack_of};
 ghost use Rattle.vx_yard.specs.Racks.{rack_in, racks_in, site_rack};
 
 use crate::DiskSet;
 use vx_disk::Rack;
 use vx_grouped::GroupSite;
+use vx_untold::Shade;
+
+// Adds the rack of disks that may tell nothing.
+fn give_shade<R: Rack>(racks: &mut Vec<R>, shade: Shade<R>)
+    ensures items { vec_len racks.old < vec_capacity racks.old → racks.new.items ≡ racks.old.items ++ rack_of shade ∷ [] }
+    ensures room { vec_capacity racks.old ≤ vec_capacity racks.new }
+{
+    match shade {
+        Shade::Bright(rack) | Shade::Dark(rack) => {
+            let _ = racks.push(rack);
+        }
+    }
+}
 
 // Adds the rack of a site whose disks are a group.
 fn give_site<R: Rack>(racks: &mut Vec<R>, site: GroupSite<R>)
@@ -13,11 +27,9 @@ fn give_site<R: Rack>(racks: &mut Vec<R>, site: GroupSite<R>)
     ensures room { vec_capacity racks.old ≤ vec_capacity racks.new }
 {
     match site {
-        GroupSite::Up(group) => {
-            let (rack, _) = group.apart();
-            let _ = racks.push(rack);
-        }
-        GroupSite::Deported(rack) | GroupSite::Down(rack) | GroupSite::Marked(rack) => {
+        GroupSite::Up(group) => give_shade(racks, group.shelf),
+        GroupSite::Deported(idle) | GroupSite::Down(idle) => give_shade(racks, idle.rack),
+        GroupSite::Marked(rack) => {
             let _ = racks.push(rack);
         }
         GroupSite::Gone => {}

@@ -5,6 +5,7 @@ use Rattle.vx_group_lines.proofs.Fails.{all_rose}
 use Rattle.vx_group_lines.proofs.GroupLeads.{leads_by}
 use Rattle.vx_group_lines.proofs.GroupMarks.{crash_group_leads}
 use Rattle.vx_group_lines.proofs.Tests.{rise_may}
+use Rattle.vx_group_lines.proofs.GroupStatus.{table_is}
 use Rattle.vx_group_lines.proofs.Losing.{again_as}
 use Rattle.vx_group_lines.proofs.probe.probe.Goals as goal
 
