@@ -25,7 +25,7 @@ use Rattle.vx_config.specs.Table.{greatest}
 use Rattle.vx_config.specs.declared.config.Config.{Config}
 use Rattle.vx_untold.specs.Shades.{shade_meaning, shade_rack}
 use Rattle.vx_layout.specs.declared.shape.Shape.{Shape}
-use Rattle.vx_grouped.specs.ReturnSince.{FailsFused, ReturnSince}
+use Rattle.vx_grouped.specs.SiteReturns.{FailsFused, ReturnSince}
 use Rattle.vx_diskset.specs.Recovers.{RisesSince}
 use Rattle.vx_grouped.specs.declared.group_site.GroupSite.{GroupSite}
 use Rattle.vx_grouped.specs.declared.group_site.GroupSite.TheVariants.{Up, Deported, Down, Marked, Gone}

@@ -16,7 +16,7 @@ use Rattle.vx_grouped.specs.GroupSites.{DownNoted, FitsPlain, UpNoted, site_disk
 use Rattle.vx_grouped.specs.SiteEnds.{MayCrashSite, burned_site, stops_down}
 use Rattle.vx_grouped.specs.SiteKeeps.{PlainKept}
 use Rattle.vx_grouped.specs.SiteReturns.{ImportRefused, SiteImports, SiteRecovers, as_imported, returned_with}
-use Rattle.vx_grouped.specs.ReturnSince.{ReturnSince}
+use Rattle.vx_grouped.specs.SiteReturns.{ReturnSince}
 use Rattle.vx_untold.specs.Shades.{shade_meaning}
 use Rattle.vx_diskset.specs.Asked.{FuseGoesOn, SameFailing}
 use Rattle.vx_diskset.specs.DiskSets.{Later}

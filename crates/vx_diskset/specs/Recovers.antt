@@ -14,7 +14,7 @@ use Rattle.vx_history.specs.Steps.{crashed}
 use Rattle.vx_history.specs.World.{Node}
 use Rattle.vx_grouped.specs.GroupSites.{DownNoted, FitsPlain, UpNoted, site_disks, with_note}
 use Rattle.vx_grouped.specs.Keepings.{KeepsPlain}
-use Rattle.vx_grouped.specs.ReturnSince.{FailsFused}
+use Rattle.vx_grouped.specs.SiteReturns.{FailsFused}
 use Rattle.vx_watched.specs.Since.{is_rack}
 use Rattle.vx_grouped.specs.SiteEnds.{burned_site}
 use Rattle.vx_grouped.specs.SiteReturns.{SiteRecovers}

@@ -14,10 +14,11 @@ use Rattle.vx_order.specs.declared.facts.SiteFacts.{SiteFacts}
 use Rattle.vx_script.specs.declared.line.DiskState.{DiskState}
 use Rattle.vx_script.specs.declared.line.ScriptLine.{ScriptLine}
 use Rattle.vx_script.specs.declared.line.ScriptLine.TheVariants.{Crash, Disk, Fuse}
-use Rattle.vx_grouped.specs.GroupSites.{HasNoRvg}
+use Rattle.vx_grouped.specs.GroupSites.{GroupSiteStands, HasNoRvg, site_disks}
+use Rattle.vx_grouped.specs.declared.group_site.GroupSite.{GroupSite}
+use Rattle.vx_grouped.specs.declared.group_site.GroupSite.TheVariants.{Up as SiteUp, Deported as SiteAway, Down as SiteDown, Marked, Gone as SiteGone}
 use Rattle.vx_disk.specs.Disks.{SameBlocks}
 use Rattle.vx_diskset.specs.Fuses.{HasLeft}
-use Rattle.vx_diskset.proofs.GroupStands.{set_units}
 use Rattle.vx_yard.proofs.CrashSite.{crash_up}
 use Rattle.vx_diskset.proofs.FailGroup.{stands_failing}
 use Rattle.vx_diskset.specs.Asked.{CrashesBy, FailsAs, FusedAs, SetsDisk, SetsFuse, disks_told, units_in}
@@ -77,6 +78,17 @@ none_as n m role volumes log safe running none = record {
 }
 
 module _ {R : Type 0} {g : Ghosts R} where
+  -- as many disks as its node has
+  site_units : (n : Node) (e : GroupSite R g) → GroupSiteStands n e → (site_disks e).units ≡ n.disks
+  site_units n (SiteUp group) (note, it) = it.at.lies.units
+  site_units n (SiteAway idle) (note, it) = it.away.lies.units
+  site_units n (SiteDown idle) (note, it) = it.away.lies.units
+  site_units n (Marked rack) it = it.units
+  site_units n SiteGone it = absurd it
+
+  set_units : (beside : KeptBeside) (n : Node) (set : GroupSet R g) → IsGroupSet beside n set → units_in (OfGroup set) ≡ n.disks
+  set_units beside n set it = site_units n set.site it.stands
+
   -- the note of a site over a group
   pub group_noted_at : (d : Doubted) (y : Yard R g) (name : List ℕ) (s : ℕ) (e : DiskSet R g) → GroupAt d y name s e → (d.world.nodes s).group ≡ Some (note_at (d.world.nodes s))
   group_noted_at d y name s e at =

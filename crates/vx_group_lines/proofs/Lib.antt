@@ -6,3 +6,5 @@ pub mod Tests
 pub mod GroupMarks
 pub mod Losing
 pub mod GroupStatus
+pub mod GroupCalls
+pub mod Changing

@@ -11,7 +11,6 @@ mod lines;
 mod marks;
 mod noting;
 mod plex;
-mod probe;
 mod read;
 mod recover;
 mod status;

@@ -1,7 +1,0 @@
-// Probe.
-ghost use Rattle.std.specs.Prelude.{IsTrue, true};
-
-/// Probe.
-pub fn probe()
-    ensures { IsTrue true }
-{}
