@@ -16,6 +16,7 @@ use Rattle.vx_config.specs.Table.{greatest}
 use Rattle.vx_config.specs.declared.config.Config.{Config}
 use Rattle.vx_group.specs.Dets.{DetStops}
 use Rattle.vx_watched.specs.Since.{CalledSince}
+use Rattle.vx_group.specs.declared.group_core.GroupCore.{GroupCore}
 use Rattle.vx_grouped.specs.Away.{IsDeportedAt, note_deported, IsAwayAt}
 use Rattle.vx_grouped.specs.GroupSites.{GroupUp, idle_disks, laid_disks}
 use Rattle.vx_grouped.specs.SiteEnds.{SiteDeported, stops_down}
@@ -95,11 +96,14 @@ module _ (n : Node) (note : GroupNode) (c : GroupCore) (m m' : Meaning) (lies : 
     volumes = λ v. volume_moves OpensSame c.inner.config it.config v (newest_frames n note c m m' lies stands it v) (λ k p q at_p at_q.
         opened_by p.state q.state (sym (live_there it.config v k q at_q) ∙ newest_lives n note c m m' lies stands it v k ∙ live_volumes it.behind.config c.inner.config same v k ∙ live_there c.inner.config v k p at_p));
   })
-  cleans_by (inr any) = inr (any, record {
-    parts = it.parts;
-    disks = disks;
-    volumes = λ v. volume_moves AnyState c.inner.config it.config v (newest_frames n note c m m' lies stands it v) (λ k p q at_p at_q. tt);
-  })
+  cleans_by (inr any) = inr (
+    any,
+    record {
+      parts = it.parts;
+      disks = disks;
+      volumes = λ v. volume_moves AnyState c.inner.config it.config v (newest_frames n note c m m' lies stands it v) (λ k p q at_p at_q. tt);
+    },
+  )
 
   cleans : CleansPlexes m m' c.inner.config it.config
   cleans = cleans_by it.quiesces.volumes

@@ -159,7 +159,7 @@ module _ {R : Type 0} {g : Ghosts R} (n : Node) (note : GroupNode) (name : List 
     done_settles new.core.inner note (λ tight none. works.trust (up.at.lies.committed tight none)),
     up_with n note (note_added vol want.blocks (note_done new.core.inner note)) new.core (laid_disks new) up.noted spells fuse (works.leaves n note up.at),
     goes ℕ n note group new up since spells (VolumeAdded name want vol (laid_disks group) (laid_disks new)) (note_done new.core.inner note) refl (Up new) refl
-    (added vol works (made_volume name want group.core new.core (laid_disks group) (laid_disks new) (Ok vol) works vol refl)),
+        (added vol works (made_volume name want group.core new.core (laid_disks group) (laid_disks new) (Ok vol) works vol refl)),
   )
 
   module _ (stop : Stop) (works : MakesVolume name want group.core (laid_disks group) new.core (laid_disks new) (Err stop)) where

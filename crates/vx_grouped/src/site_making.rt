@@ -10,9 +10,9 @@ ghost use Rattle.vx_grouped.specs.SiteAdds.{MakesVolume, SiteAdded, VolumeIn, re
 ghost use Rattle.vx_untold.specs.Shades.{shade_meaning};
 ghost use Rattle.vx_watched.specs.Since.{CalledSince};
 
-use crate::{GroupSite, Laid};
 use crate::making::make_volume_of;
 use crate::site_plexes::is_down_stop;
+use crate::{GroupSite, Laid};
 use std::alloc::Global;
 use std::marker::Brand;
 use std::mem;
