@@ -43,3 +43,4 @@ pub mod Worked
 pub mod WriteGroup
 pub mod WriteLeaves
 pub mod Zeroes
+mod GroupCalling

@@ -1,0 +1,5 @@
+pub mod Arriving
+pub mod Fails
+pub mod GroupAt
+pub mod GroupLeads
+pub mod Tests
