@@ -4,11 +4,11 @@ use Rattle.vx_model.specs.Content.{Write}
 use Rattle.vx_model.specs.declared.errors.Stop.{Stop}
 use Rattle.vx_disk.specs.Shelf.{Meaning}
 use Rattle.vx_disk.specs.declared.shelf.Shelf.{Ghosts}
+use Rattle.vx_config.specs.declared.config.Config.{Config}
 use Rattle.vx_history.specs.World.{Node}
 use Rattle.vx_watched.specs.Empty.{no_shelf}
 use Rattle.vx_watched.specs.Since.{CalledSince}
 use Rattle.vx_grouped.specs.Begins.{BeginsGroup}
-use Rattle.vx_config.specs.declared.config.Config.{Config}
 use Rattle.vx_grouped.specs.GroupSites.{site_config, site_disks}
 use Rattle.vx_grouped.specs.declared.group_site.GroupSite.{GroupSite}
 use Rattle.vx_diskset.specs.GroupSets.{cut_value}

@@ -10,3 +10,4 @@ pub mod GroupCalls
 pub mod Changing
 pub mod GroupShown
 pub mod Choosing
+pub mod Returning
