@@ -11,3 +11,4 @@ pub mod Changing
 pub mod GroupShown
 pub mod Choosing
 pub mod Returning
+pub mod Rising
