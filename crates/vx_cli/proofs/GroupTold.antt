@@ -9,7 +9,7 @@ use Rattle.vx_history.specs.Groups.{GroupNode}
 use Rattle.vx_history.specs.World.{Node}
 use Rattle.vx_report.specs.declared.view.Kept.{Kept}
 use Rattle.vx_script.specs.declared.line.ScriptLine.{ScriptLine}
-use Rattle.vx_script.specs.declared.line.ScriptLine.TheVariants.{Read, Recover, Show}
+use Rattle.vx_script.specs.declared.line.ScriptLine.TheVariants.{GroupImport, Read, Recover, Show}
 use Rattle.vx_events.specs.Fails.{Fails}
 use Rattle.vx_events.specs.GroupEnds.{GroupDoes, GroupEnds, GroupDone, GroupLacks, GroupFails, ImportFails, KeptUnread, GroupCut, GroupNotFound, FindsGroup, FindsNoGroup, ImportRefuses, KnowsNothing}
 use Rattle.vx_events.specs.GroupNotes.{NotesBack, NotesUnread}
@@ -21,15 +21,16 @@ module _ {T U : Type 0} (f : U → T) where
   gives_told : (note : GroupNode) (volume start count : ℕ) (said : Said) → GivesPlain T note volume start count said → GivesPlain U note volume start count said
   gives_told note volume start count said x = record { bytes = x.bytes; got = x.got; size = x.size; each = λ u. x.each (f u) }
 
-  back_told : (s : ℕ) (fails : Fails) (note new : GroupNode) → NotesBack T s fails note new → NotesBack U s fails note new
-  back_told s fails note new x = record {
-    found = x.found;
-    one = x.one;
+  back_told : (s : ℕ) (n : Node) (fails : Fails) (note new : GroupNode) → NotesBack T s n fails note new → NotesBack U s n fails note new
+  back_told s n fails note new x = record {
     old = x.old;
     now = x.now;
     was = x.was;
     is = x.is;
-    loses = x.loses;
+    volumes = λ u. x.volumes (f u);
+    many = x.many;
+    blocks = x.blocks;
+    failed = x.failed;
     begun = x.begun;
     loose = x.loose;
     size = x.size;
@@ -40,8 +41,8 @@ module _ {T U : Type 0} (f : U → T) where
     perhaps = x.perhaps;
   }
 
-  unread_told : (s : ℕ) (fails : Fails) (note new : GroupNode) → NotesUnread T s fails note new → NotesUnread U s fails note new
-  unread_told s fails note new x = record { middle = x.middle; back = back_told s fails note x.middle x.back; is = x.is }
+  unread_told : (s : ℕ) (n : Node) (fails : Fails) (note new : GroupNode) → NotesUnread T s n fails note new → NotesUnread U s n fails note new
+  unread_told s n fails note new x = record { middle = x.middle; back = back_told s n fails note x.middle x.back; is = x.is }
 
   kept_told : (x : Write) (next : GroupNode) (kept : Kept) → IsKeptOf T x next kept → IsKeptOf U x next kept
   kept_told x next kept k = record { volume = k.volume; is_volume = k.is_volume; name = k.name; block = k.block; many = k.many; each = λ u. k.each (f u) }
@@ -56,7 +57,8 @@ module _ {T U : Type 0} (f : U → T) where
   does_told : (s : ℕ) (n : Node) (note : GroupNode) (line : ScriptLine) (fails : Fails) (said : Said) (next : GroupNode) → GroupDoes T s n note line fails said next → GroupDoes U s n note line fails said next
   does_told s n note (Read site volume start count) fails said next x = (x.0, gives_told note _ start count said x.1)
   does_told s n note (Show site volume start count) fails said next x = (x.0, gives_told note _ start count said x.1)
-  does_told s n note (Recover site) fails said next x = (back_told s fails note next x.0, says_told _ note next said x.1)
+  does_told s n note (Recover site) fails said next x = (back_told s n fails note next x.0, says_told _ note next said x.1)
+  does_told s n note (GroupImport site) fails said next x = (back_told s n fails note next x.0, x.1)
   does_told s n note other fails said next x = x
 
   nothing_told : (note : GroupNode) → KnowsNothing T note → KnowsNothing U note
@@ -74,7 +76,7 @@ module _ {T U : Type 0} (f : U → T) where
   group_told d line s fails said new (GroupFails disk next of has spoils says left) = GroupFails disk next of has spoils says left
   group_told d line s fails said new (ImportFails why next site is of refuses begun says left) =
       ImportFails why next site is of (refuses_told s _ fails why refuses) begun says left
-  group_told d line s fails said new (KeptUnread disk next site is of has unread says left) = KeptUnread disk next site is of has (unread_told s fails _ next unread) says left
+  group_told d line s fails said new (KeptUnread disk next site is of has unread says left) = KeptUnread disk next site is of has (unread_told s (d.world.nodes s) fails _ next unread) says left
   group_told d line s fails said new (GroupCut next of fused cuts says left) = GroupCut next of fused cuts says left
   group_told d line s fails said new (GroupNotFound why of brings not says left) = GroupNotFound why of brings not says left
   group_told d line s fails said new (FindsGroup next of brings knows says left) = FindsGroup next of brings (nothing_told _ knows) says left

@@ -1,5 +1,5 @@
 // The racks of the disk sets, as they come back.
-ghost use Rattle.std.specs.Prelude.{◌≡◌, ◌≤◌, ◌<◌, ◌++◌, ◌∷◌, [], map, vec_len};
+ghost use Rattle.std.specs.Prelude.{◌≡◌, ◌≤◌, ◌<◌, ◌++◌, [], map, vec_len};
 ghost use Rattle.std.specs.Vec.{vec_capacity};
 ghost use Rattle.vx_untold.specs.Shades.{rack_of};
 ghost use Rattle.vx_yard.specs.Racks.{rack_in, racks_in, site_rack};
@@ -9,15 +9,12 @@ use vx_disk::Rack;
 use vx_grouped::GroupSite;
 use vx_untold::Shade;
 
-// Adds the rack of disks that may tell nothing.
-fn give_shade<R: Rack>(racks: &mut Vec<R>, shade: Shade<R>)
-    ensures items { vec_len racks.old < vec_capacity racks.old → racks.new.items ≡ racks.old.items ++ rack_of shade ∷ [] }
-    ensures room { vec_capacity racks.old ≤ vec_capacity racks.new }
+// The rack, whether its contents are told or not.
+fn rack_from<R: Rack>(shade: Shade<R>) -> R
+    ensures { result ≡ rack_of shade }
 {
     match shade {
-        Shade::Bright(rack) | Shade::Dark(rack) => {
-            let _ = racks.push(rack);
-        }
+        Shade::Bright(rack) | Shade::Dark(rack) => rack,
     }
 }
 
@@ -27,8 +24,12 @@ fn give_site<R: Rack>(racks: &mut Vec<R>, site: GroupSite<R>)
     ensures room { vec_capacity racks.old ≤ vec_capacity racks.new }
 {
     match site {
-        GroupSite::Up(group) => give_shade(racks, group.shelf),
-        GroupSite::Deported(idle) | GroupSite::Down(idle) => give_shade(racks, idle.rack),
+        GroupSite::Up(laid) => {
+            let _ = racks.push(rack_from(laid.shelf));
+        }
+        GroupSite::Deported(idle) | GroupSite::Down(idle) => {
+            let _ = racks.push(rack_from(idle.rack));
+        }
         GroupSite::Marked(rack) => {
             let _ = racks.push(rack);
         }
