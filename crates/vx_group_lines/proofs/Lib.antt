@@ -8,3 +8,5 @@ pub mod Losing
 pub mod GroupStatus
 pub mod GroupCalls
 pub mod Changing
+pub mod GroupEnding
+pub mod GroupDone
