@@ -12,3 +12,5 @@ pub mod GroupShown
 pub mod Choosing
 pub mod Returning
 pub mod Rising
+pub mod GroupEnding
+pub mod GroupDone
