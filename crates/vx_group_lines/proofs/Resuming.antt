@@ -13,7 +13,7 @@ use Rattle.vx_model.specs.declared.no.Counted.TheVariants.{Number as Numbers}
 use Rattle.vx_model.specs.declared.no.No.{No}
 use Rattle.vx_model.specs.declared.no.No.TheVariants.{Damaged, Device, Format, Limit, Missing as Lacks, NoConfig}
 use Rattle.vx_model.specs.declared.site.SiteState.{SiteState}
-use Rattle.vx_model.specs.declared.site.SiteState.TheVariants.{Up as IsUp, Down as IsDown}
+use Rattle.vx_model.specs.declared.site.SiteState.TheVariants.{Bare as IsBare, Up as IsUp, Deported as IsDeported, Down as IsDown}
 use Rattle.vx_disk.specs.Counts.{Rose}
 use Rattle.vx_disk.specs.declared.shelf.Shelf.{Ghosts}
 use Rattle.vx_config.specs.Checks.{blocks_of}
@@ -25,7 +25,7 @@ use Rattle.vx_history.specs.Groups.{GroupNode}
 use Rattle.vx_history.specs.Sound.{is_at_rest}
 use Rattle.vx_history.specs.Steps.{crashed, group_up}
 use Rattle.vx_history.specs.World.{Node}
-use Rattle.vx_history.specs.declared.event.Event.TheVariants.{Crash as CrashAt, Group as GroupAt}
+use Rattle.vx_history.specs.declared.event.Event.TheVariants.{Crash as CrashAt, Group as Regroup}
 use Rattle.vx_order.specs.declared.facts.SiteFacts.{SiteFacts}
 use Rattle.vx_order.specs.declared.facts.VolumeFacts.{VolumeFacts}
 use Rattle.vx_report.specs.declared.view.Kept.{Kept}
@@ -72,12 +72,13 @@ use Rattle.vx_yard.specs.Carries.{Carries}
 use Rattle.vx_yard.specs.Changes.{down_facts}
 use Rattle.vx_yard.specs.GroupFacts.{group_up_facts}
 use Rattle.vx_yard.specs.Loads.{LetGo}
+use Rattle.vx_yard.specs.Replies.{reply_to}
 use Rattle.vx_yard.specs.Standing.{Falls, LeadsOverOrStops, StandsFor, crash_of}
 use Rattle.vx_yard.specs.Stands.{RoseAll}
 use Rattle.vx_yard.specs.Yards.{IsTold, count_of}
 use Rattle.vx_yard.specs.declared.yard.Yard.{Yard}
 use Rattle.vx_packet.specs.Assemblies.{Assembled}
-use Rattle.vx_group_lines.specs.Noting.{IsNotedRefusal, KeepsRest, reply_noted}
+use Rattle.vx_group_lines.specs.Noting.{HasConfig, IsNotedRefusal, KeepsRest, reply_noted}
 use Rattle.vx_group_lines.specs.Rises.{ComesDown, RisesFor, RisesIs, StandsSo, StoodUp, kept_shown}
 use Rattle.vx_group_lines.specs.Views.{view_with}
 use Rattle.vx_group_lines.proofs.Arriving.{Arrives, arrives_crash, arrives_noted, arrives_up, noted_at}
@@ -319,7 +320,7 @@ module _ {R : Type 0} {g : Ghosts R} where
       where
       sizes : (v : ℕ) → next.bytes.size v ≡ blocks_of c.volumes v
       sizes v =
-          config.sizes v ∙ ap (λ (vs : List VolumeEntry). blocks_of vs v) (some_config {config.now} {c} (sym (config_is next.config config.now config.noted_now.is config.noted_now.spells) ∙ reads))
+          config.sizes v ∙ ap (λ (vs : List VolumeEntry). blocks_of vs v) (some_config config.now c (sym (config_is next.config config.now config.noted_now.is config.noted_now.spells) ∙ reads))
 
       back_for : (told : Type 0) (set : GroupSet R g) (is : after ≡ OfGroup set) (many : ℕ) → MOST_DISKS ≤ many → (told → IsTrue (site_disks set.site).tells) → (d : Doubted) → ComesDown d e s
           → NotesBack told s (d.world.nodes s) (calls s old new many) (note_at (d.world.nodes s)) next
@@ -344,7 +345,7 @@ module _ {R : Type 0} {g : Ghosts R} where
         within = omega (arith, fits.within, back.size yes_ x.volume (omega (arith, fits.some, fits.whole, fits.within)));
       }
 
-      risen : Arrives e (happened e (GroupAt s) false) s (group_up (e.world.nodes s)) (e.world.gathering s)
+      risen : Arrives e (happened e (Regroup s) false) s (group_up (e.world.nodes s)) (e.world.gathering s)
       risen =
           let none = (down_notes n note call.at.set.site is_down).0.none in
           arrives_up e e s n (e.world.gathering s) starts begin.below (ap (λ (t : SiteState). is_at_rest t) begin.down) none.role none.volumes none.log
@@ -353,7 +354,7 @@ module _ {R : Type 0} {g : Ghosts R} where
       kept_up : (kept : Option KeptWrite) → AtSite (UpNoted (burned_site (returned_with next (e.world.nodes s))) next) after → cut_in after ≡ None → KeptIs next (site_disks m) cut kept
           → StandsSo s (fact_of_group (e.world.nodes s) (note_at (e.world.nodes s))) c after (Ok kept) mid new result → RisesIs e s old new result
       kept_up kept at clear is_kept so = subst (λ (r : Result Said OutOfMemory). RisesIs e s old new r) (sym replied) (record {
-        next = noted_at (happened e (GroupAt s) false) s next;
+        next = noted_at (happened e (Regroup s) false) s next;
         fails = calls s old new MOST_DISKS;
         done = ends;
         stands = follows.stands;
@@ -386,10 +387,10 @@ module _ {R : Type 0} {g : Ghosts R} where
             feeders = ap (λ xs. xs.items) half.feeders ∙ half.load.feeders;
           }
 
-          follows : Follows e (noted_at (happened e (GroupAt s) false) s next) old new
+          follows : Follows e (noted_at (happened e (Regroup s) false) s next) old new
           follows =
-              follows_on e (noted_at (happened e (GroupAt s) false) s next) s (risen_node next n) next (group_up_facts (map plain_fact c.volumes) (fact_of_group n note)) old new before t.set begin.stands begin.below (turned t.set t.is)
-              (arrives_noted e (happened e (GroupAt s) false) s (group_up n) next (e.world.gathering s) risen) (up_notes (risen_node next n) next t.set.site holds).0
+              follows_on e (noted_at (happened e (Regroup s) false) s next) s (risen_node next n) next (group_up_facts (map plain_fact c.volumes) (fact_of_group n note)) old new before t.set begin.stands begin.below (turned t.set t.is)
+              (arrives_noted e (happened e (Regroup s) false) s (group_up n) next (e.world.gathering s) risen) (up_notes (risen_node next n) next t.set.site holds).0
               (up_set (risen_node next n) next t.set (record { few = sized.few; some = sized.some }) holds (ap (λ (x : DiskSet R g). cut_in x) (sym t.is) ∙ clear) back.cut)
               (still_fails (risen_node next n) t.set t.is refl) (fused_none (risen_node next n) (OfGroup t.set) (unfused_down n note call.at.set.site is_down)) (up_seen n note next c reads)
               (so.0 ∙ ap (λ (fs : List SiteFacts). slice_set fs s (group_up_facts (map plain_fact c.volumes) (fact_of_group n note))) half.facts) load
@@ -405,7 +406,7 @@ module _ {R : Type 0} {g : Ghosts R} where
               subst (λ (w : Option Write). ShowsKept (IsTold new) w next (kept_shown (map plain_fact c.volumes) kept)) (cut_for d comes)
               (shows_cut (IsTold new) next (site_disks m) c (λ _. tells) reads sizes cut kept (λ x is. lies_now tells x (was_fits x (sym cut_is ∙ is))) is_kept)
 
-          ends : (d : Doubted) (name : List ℕ) → ComesDown d e s → GroupEnds (IsTold new) d (Recover name) s (calls s old new MOST_DISKS) (Resumed view shown) (noted_at (happened e (GroupAt s) false) s next)
+          ends : (d : Doubted) (name : List ℕ) → ComesDown d e s → GroupEnds (IsTold new) d (Recover name) s (calls s old new MOST_DISKS) (Resumed view shown) (noted_at (happened e (Regroup s) false) s next)
           ends d name comes =
               subst (λ (x : Doubted). GroupEnds (IsTold new) d (Recover name) s (calls s old new MOST_DISKS) (Resumed view shown) (noted_at x s next)) (up_as d e s comes)
               (bool_by (site_disks t.set.site).tells
@@ -424,7 +425,7 @@ module _ {R : Type 0} {g : Ghosts R} where
           → AtSite (λ x. Rose ((site_disks m).disk_faults disk) ((site_disks x).disk_faults disk)) after
           → StandsSo s (fact_of_group (e.world.nodes s) (note_at (e.world.nodes s))) c after (Err (StopsBy (Device disk))) mid new result → RisesIs e s old new result
       unread disk at stays_cut fits rose so = subst (λ (r : Result Said OutOfMemory). RisesIs e s old new r) (sym so.2) (record {
-        next = noted_at (happened (happened e (GroupAt s) false) (CrashAt s 0) false) s (still_cut cut next);
+        next = noted_at (happened (happened e (Regroup s) false) (CrashAt s 0) false) s (still_cut cut next);
         fails = calls s old new (MOST_DISKS + suc disk);
         done = ends;
         stands = follows.stands;
@@ -448,16 +449,16 @@ module _ {R : Type 0} {g : Ghosts R} where
             feeders = ap (λ xs. xs.items) half.feeders ∙ half.load.feeders;
           }
 
-          fell : Arrives e (happened (happened e (GroupAt s) false) (CrashAt s 0) false) s (crashed (group_up (e.world.nodes s)) 0) None
+          fell : Arrives e (happened (happened e (Regroup s) false) (CrashAt s 0) false) s (crashed (group_up (e.world.nodes s)) 0) None
           fell =
               let none = (down_notes n note call.at.set.site is_down).0.none in
-              arrives_crash e (happened e (GroupAt s) false) s (group_up n) (e.world.gathering s) risen (omega (arith, begin.below, risen.site.sites)) refl none.log none.safe
+              arrives_crash e (happened e (Regroup s) false) s (group_up n) (e.world.gathering s) risen (omega (arith, begin.below, risen.site.sites)) refl none.log none.safe
 
-          follows : Follows e (noted_at (happened (happened e (GroupAt s) false) (CrashAt s 0) false) s (still_cut cut next)) old new
+          follows : Follows e (noted_at (happened (happened e (Regroup s) false) (CrashAt s 0) false) s (still_cut cut next)) old new
           follows =
-              follows_off e (noted_at (happened (happened e (GroupAt s) false) (CrashAt s 0) false) s (still_cut cut next)) s k (still_cut cut next)
+              follows_off e (noted_at (happened (happened e (Regroup s) false) (CrashAt s 0) false) s (still_cut cut next)) s k (still_cut cut next)
               (down_facts (group_up_facts (map plain_fact c.volumes) (fact_of_group n note))) old new before t.set begin.stands begin.below (turned t.set t.is)
-              (arrives_noted e (happened (happened e (GroupAt s) false) (CrashAt s 0) false) s (crashed (group_up n) 0) (still_cut cut next) None fell)
+              (arrives_noted e (happened (happened e (Regroup s) false) (CrashAt s 0) false) s (crashed (group_up n) 0) (still_cut cut next) None fell)
               (λ back_up. let w : IsDown ≡ IsUp = back_up in absurd (cc)) (down_notes k (still_cut cut next) t.set.site t.holds).0
               (down_set k (still_cut cut next) t.set (record { few = sized.few; some = sized.some }) t.holds same (λ x is. fits_note (still_cut cut next) next refl x (fits x t.set.cut same is)))
               (still_fails k t.set t.is refl) (fused_none k (OfGroup t.set) refl) (fell_seen n note next (still_cut cut next) c reads refl)
@@ -470,7 +471,7 @@ module _ {R : Type 0} {g : Ghosts R} where
               (subst (λ (x : DiskSet R g). AtSite (λ y. Rose ((site_disks m).disk_faults disk) ((site_disks y).disk_faults disk)) x) t.is rose))
 
           ends : (d : Doubted) (name : List ℕ) → ComesDown d e s
-              → GroupEnds (IsTold new) d (Recover name) s (calls s old new (MOST_DISKS + suc disk)) (Refused (Device disk)) (noted_at (happened (happened e (GroupAt s) false) (CrashAt s 0) false) s (still_cut cut next))
+              → GroupEnds (IsTold new) d (Recover name) s (calls s old new (MOST_DISKS + suc disk)) (Refused (Device disk)) (noted_at (happened (happened e (Regroup s) false) (CrashAt s 0) false) s (still_cut cut next))
           ends d name comes =
               subst
               (λ (x : Doubted). GroupEnds (IsTold new) d (Recover name) s (calls s old new (MOST_DISKS + suc disk)) (Refused (Device disk)) (noted_at x s (still_cut cut next)))
@@ -635,3 +636,88 @@ module _ {R : Type 0} {g : Ghosts R} where
         leads = subst (λ (k : ℕ). let last = run_as false d (CrashAt k 0 ∷ []) in IsAs last last.world e) (sym place) (record { world = refl; after = λ i. refl });
       }))
       (rises e f.begin.stands f.begin.below f.begin.over f.begin.down)
+
+  -- ---- the group that came up, and the look
+
+  pub stood_by : (s : ℕ) (cut : Option CutWrite) (old mid new : Yard R g) (before after : DiskSet R g) (answer : Result (Option KeptWrite) Stop) (result : Result Said OutOfMemory) → KeepsRest old mid
+      → slice_get mid.disk_sets.items s ≡ Some before → new.disk_sets.items ≡ slice_set mid.disk_sets.items s after → ((n : Node) (note : GroupNode) → AtSite (UpNoted n note) before → LooksAt n note cut before after answer)
+      → SameFailing before after → Later before after → new.racks ≡ mid.racks → new.flight ≡ mid.flight → new.feeders ≡ mid.feeders → new.dir ≡ mid.dir
+      → ((f : SiteFacts) (c : Config) → slice_get old.facts.items s ≡ Some f → AtSite (λ x. site_config x ≡ Some c) before → StandsSo s f c after answer old new result) → StoodUp s cut old new result
+  stood_by s cut old mid new before after answer result rest there disk_sets looks failing later racks flight feeders dir so = record {
+    before = before;
+    after = after;
+    answer = answer;
+    there = ap (λ es. slice_get es.items s) (sym rest.disk_sets) ∙ there;
+    disk_sets = disk_sets ∙ ap (λ es. slice_set es.items s after) rest.disk_sets;
+    looks = looks;
+    failing = failing;
+    later = later;
+    racks = racks ∙ rest.racks;
+    flight = flight ∙ rest.flight;
+    feeders = feeders ∙ rest.feeders;
+    dir = dir ∙ rest.dir;
+    so = so;
+  }
+
+  -- what the tests see of it
+  noted_up : (s : ℕ) (old mid : Yard R g) (before : DiskSet R g) (f : SiteFacts) (c : Config) → KeepsRest old mid → slice_get mid.disk_sets.items s ≡ Some before → slice_get old.facts.items s ≡ Some f
+      → AtSite (λ x. site_config x ≡ Some c) before
+      → ((f : SiteFacts) (c : Config) → slice_get old.facts.items s ≡ Some f → HasConfig s c old → mid.facts.items ≡ slice_set old.facts.items s (group_up_facts (map plain_fact c.volumes) f))
+      → mid.facts.items ≡ slice_set old.facts.items s (group_up_facts (map plain_fact c.volumes) f)
+  noted_up s old mid before f c rest there at is noted = noted f c at (record { disk_set = before; there = ap (λ es. slice_get es.items s) (sym rest.disk_sets) ∙ there; is = is })
+
+  seen_up : (s : ℕ) (old mid : Yard R g) (f x : SiteFacts) → slice_get old.facts.items s ≡ Some f → mid.facts.items ≡ slice_set old.facts.items s x → slice_get mid.facts.items s ≡ Some x
+  seen_up s old mid f x at is = ap (λ (fs : List SiteFacts). slice_get fs s) is ∙ get-set_same old.facts.items s x (slice_get_within old.facts.items s f at)
+
+  -- its answer, where what is kept was read
+  pub so_up : (s : ℕ) (old mid new : Yard R g) (before after : DiskSet R g) (kept : Option KeptWrite) (shown : Option Kept) (view : SiteView) (seen : SiteFacts) → KeepsRest old mid → slice_get mid.disk_sets.items s ≡ Some before
+      → new.facts.items ≡ mid.facts.items → new.assemblies ≡ mid.assemblies → mid.assemblies ≡ old.assemblies → slice_get new.disk_sets.items s ≡ Some after → slice_get new.facts.items s ≡ Some seen → shown ≡ kept_shown seen.volumes kept
+      → ((f : SiteFacts) (c : Config) → slice_get old.facts.items s ≡ Some f → HasConfig s c old → mid.facts.items ≡ slice_set old.facts.items s (group_up_facts (map plain_fact c.volumes) f))
+      → ((f : SiteFacts) (c : Config) → slice_get new.facts.items s ≡ Some f → HasConfig s c new → view ≡ view_with f (Some c))
+      → (f : SiteFacts) (c : Config) → slice_get old.facts.items s ≡ Some f → AtSite (λ x. site_config x ≡ Some c) before → StandsSo s f c after (Ok kept) old new (Ok (Resumed view shown))
+  so_up s old mid new before after kept shown view seen rest there facts loads held here looked_at shows noted views f c at is =
+      let x : SiteFacts = group_up_facts (map plain_fact c.volumes) f in
+      let marked : mid.facts.items ≡ slice_set old.facts.items s x = noted_up s old mid before f c rest there at is noted in
+      let now : slice_get new.facts.items s ≡ Some x = ap (λ (fs : List SiteFacts). slice_get fs s) facts ∙ seen_up s old mid f x at marked in
+      let same : seen ≡ x = some_same (sym looked_at ∙ now) in
+      (
+        facts ∙ marked,
+        loads ∙ held,
+        λ k has.
+        ap (λ (v : SiteView). Ok (Resumed v shown)) (views x k now (record { disk_set = after; there = here; is = has }))
+        ∙ ap (λ (o : Option Kept). Ok (Resumed (view_with x (Some k)) o)) (shows ∙ ap (λ (y : SiteFacts). kept_shown y.volumes kept) same),
+      )
+
+  -- and where it was not
+  pub so_down : (s : ℕ) (old mid near new : Yard R g) (before after : DiskSet R g) (stop : Stop) (result : Result Said OutOfMemory) → KeepsRest old mid → slice_get mid.disk_sets.items s ≡ Some before → near.facts.items ≡ mid.facts.items
+      → near.assemblies ≡ mid.assemblies → mid.assemblies ≡ old.assemblies
+      → ((f : SiteFacts) (c : Config) → slice_get old.facts.items s ≡ Some f → HasConfig s c old → mid.facts.items ≡ slice_set old.facts.items s (group_up_facts (map plain_fact c.volumes) f))
+      → ((f : SiteFacts) → slice_get near.facts.items s ≡ Some f → new.facts.items ≡ slice_set near.facts.items s (down_facts f)) → LetGo s near.assemblies.items new.assemblies.items → result ≡ reply_to stop
+      → (f : SiteFacts) (c : Config) → slice_get old.facts.items s ≡ Some f → AtSite (λ x. site_config x ≡ Some c) before → StandsSo s f c after (Err stop) old new result
+  so_down s old mid near new before after stop result rest there facts loads held noted fell lets replied f c at is =
+      let x : SiteFacts = group_up_facts (map plain_fact c.volumes) f in
+      let marked : mid.facts.items ≡ slice_set old.facts.items s x = noted_up s old mid before f c rest there at is noted in
+      let now : slice_get near.facts.items s ≡ Some x = ap (λ (fs : List SiteFacts). slice_get fs s) facts ∙ seen_up s old mid f x at marked in
+      (
+        fell x now ∙ ap (λ (fs : List SiteFacts). slice_set fs s (down_facts x)) (facts ∙ marked) ∙ set_twice old.facts.items s x (down_facts x),
+        subst (λ (xs : List Assembled). LetGo s xs new.assemblies.items) (ap (λ xs. xs.items) (loads ∙ held)) lets,
+        replied,
+      )
+
+  -- memory ran out before anything was done
+  pub unbegun_rise : (d : Doubted) (name : List ℕ) (y : Yard R g) (r : Result Said OutOfMemory) (x : OutOfMemory) → r ≡ Err x → StandsFor d y → LeadsOverOrStops d (Recover name) y y r
+  unbegun_rise d name y r x is stands =
+      subst (λ (q : Result Said OutOfMemory). LeadsOverOrStops d (Recover name) y y q) (sym is) (record {
+        next = d;
+        part = StopsInPart (none_done d (Recover name));
+        stands = stands;
+        carries = λ was. was;
+        rose = rose_none (count_of y) (count_of y) (λ i u. omega arith);
+      })
+
+  -- a site over a group that is neither bare, up nor deported is down
+  pub off_down : (t : SiteState) → (t ≡ IsBare → ⊥) → (t ≡ IsUp → ⊥) → (t ≡ IsDeported → ⊥) → t ≡ IsDown
+  off_down IsBare bare up away = absurd (bare refl)
+  off_down IsUp bare up away = absurd (up refl)
+  off_down IsDeported bare up away = absurd (away refl)
+  off_down IsDown bare up away = refl
