@@ -3,3 +3,14 @@ pub mod Fails
 pub mod GroupAt
 pub mod GroupLeads
 pub mod Tests
+pub mod GroupMarks
+pub mod Losing
+pub mod GroupStatus
+pub mod GroupCalls
+pub mod Changing
+pub mod GroupShown
+pub mod Choosing
+pub mod Returning
+pub mod Rising
+pub mod GroupEnding
+pub mod GroupDone
