@@ -6,7 +6,7 @@ use Rattle.vx_model.specs.declared.errors.Stop.{Stop}
 use Rattle.vx_model.specs.declared.errors.Stop.TheVariants.{No as Refused, OutOfMemory}
 use Rattle.vx_model.specs.declared.limits.TheConstants.{LEAST_BLOCKS, MOST_DISKS}
 use Rattle.vx_model.specs.declared.no.No.TheVariants.{Device}
-use Rattle.vx_model.specs.declared.site.SiteState.TheVariants.{Bare as IsBare}
+use Rattle.vx_model.specs.declared.site.SiteState.TheVariants.{Bare as IsBare, Up as IsUp, Down as IsDown, Deported as IsDeported}
 use Rattle.vx_copyio.specs.Labelling.{least_blocks}
 use Rattle.vx_disk.specs.Racks.{IsRack}
 use Rattle.vx_disk.specs.Shelf.{Meaning}
@@ -20,7 +20,7 @@ use Rattle.vx_diskset.specs.Asked.{FuseGoesOn, SameFailing}
 use Rattle.vx_diskset.specs.DiskSets.{Later}
 use Rattle.vx_diskset.specs.Recovers.{RisesSince}
 use Rattle.vx_grouped.specs.declared.group_site.GroupSite.{GroupSite}
-use Rattle.vx_grouped.specs.declared.group_site.GroupSite.TheVariants.{Marked}
+use Rattle.vx_grouped.specs.declared.group_site.GroupSite.TheVariants.{Up, Deported, Down, Marked, Gone}
 use Rattle.vx_diskset.specs.GroupCalls.{AtSite, InitIs, bare_disks, cut_in}
 use Rattle.vx_diskset.specs.GroupSets.{cut_value, noted_cut}
 use Rattle.vx_diskset.specs.Holds.{KeptBeside}
@@ -63,15 +63,12 @@ module _ {R : Type 0} {g : Ghosts R} where
   -- ---- a site that is bare still
 
   module _ (beside : KeptBeside) (n : Node) (is : n ≡ bare_with n) (state : n.state ≡ IsBare) (few : n.disks ≤ MOST_DISKS) (some : LEAST_BLOCKS ≤ n.blocks) where
-    no_group : n.group ≡ None
-    no_group = ap (λ (x : Node). x.group) is
-
     bare_set : (s : GroupSet R g) → GroupSiteStands n s.site → cut_value s.cut ≡ None → IsGroupSet beside n s
     bare_set s stands cut = record {
       sure = λ never. absurd (never state);
       unlinked = λ never. absurd (never state);
       stands = stands;
-      cut = cut ∙ sym (ap (λ (o : Option GroupNode). noted_cut o) no_group);
+      cut = cut ∙ sym (ap (λ (o : Option GroupNode). noted_cut o) (ap (λ (x : Node). x.group) is));
       lies = λ x there. absurd (let e : cut_value (Some x) ≡ None = ap (λ (o : Option CutWrite). cut_value o) (sym there) ∙ cut in cc);
       bare = λ same. is;
       few = few;
@@ -127,14 +124,22 @@ module _ {R : Type 0} {g : Ghosts R} where
 
   -- ---- the disks on which a group was begun before
 
-  pub marked_disks : (e : DiskSet R g) (s : GroupSet R g) (rack : R) → e ≡ OfGroup s → s.site ≡ Marked rack → HasDisks e (g.meaning rack)
-  marked_disks e s rack is marked = subst (λ (x : GroupSite R g). HasDisks e (site_disks x)) marked (has_group e s is)
+  pub marked_only : {A : Type 0} (n : Node) (s : GroupSite R g) → GroupSiteStands n s → n.state ≡ IsBare → ((rack : R) → s ≡ Marked rack → ⊥) → A
+  marked_only n (Up group) it state never = absurd (let e : IsUp ≡ IsBare = sym it.1.at.state ∙ state in cc)
+  marked_only n (Deported idle) it state never = absurd (let e : IsDeported ≡ IsBare = sym it.1.away.state ∙ state in cc)
+  marked_only n (Down idle) it state never = absurd (let e : IsDown ≡ IsBare = sym it.1.away.state ∙ state in cc)
+  marked_only n (Marked rack) it state never = absurd (never rack refl)
+  marked_only n Gone it state never = absurd it
 
-  pub marked_bare : (e : DiskSet R g) (s : GroupSet R g) (rack : R) → e ≡ OfGroup s → s.site ≡ Marked rack → bare_disks e ≡ g.meaning rack
-  marked_bare e s rack is marked = ap (λ (x : DiskSet R g). bare_disks x) is ∙ ap (λ (x : GroupSite R g). site_disks x) marked
+  pub marked_bare : (e : DiskSet R g) (s : GroupSet R g) → e ≡ OfGroup s → bare_disks e ≡ site_disks s.site
+  marked_bare e s is = ap (λ (x : DiskSet R g). bare_disks x) is
 
   pub marked_at : (beside : KeptBeside) (n : Node) (e : DiskSet R g) (s : GroupSet R g) → e ≡ OfGroup s → SiteStands beside n e → IsGroupSet beside n s
   marked_at beside n e s is stands = subst (λ (x : DiskSet R g). SiteStands beside n x) is stands
 
-  pub marked_can : (beside : KeptBeside) (n : Node) (s : GroupSet R g) (rack : R) → s.site ≡ Marked rack → IsGroupSet beside n s → 0 < n.disks → least_blocks ≤ n.blocks → CanBegin n (g.meaning rack)
-  marked_can beside n s rack marked it some large = begin_marked n (g.meaning rack) (subst (λ (x : GroupSite R g). GroupSiteStands n x) marked it.stands) it.few some large
+  pub marked_can : (n : Node) (s : GroupSite R g) → GroupSiteStands n s → n.state ≡ IsBare → n.disks ≤ MOST_DISKS → 0 < n.disks → least_blocks ≤ n.blocks → CanBegin n (site_disks s)
+  marked_can n (Up group) it state few some large = absurd (let e : IsUp ≡ IsBare = sym it.1.at.state ∙ state in cc)
+  marked_can n (Deported idle) it state few some large = absurd (let e : IsDeported ≡ IsBare = sym it.1.away.state ∙ state in cc)
+  marked_can n (Down idle) it state few some large = absurd (let e : IsDown ≡ IsBare = sym it.1.away.state ∙ state in cc)
+  marked_can n (Marked rack) it state few some large = begin_marked n (g.meaning rack) it few some large
+  marked_can n Gone it state few some large = absurd it

@@ -1,7 +1,7 @@
 // How a group is made on the disks of a site, and how it comes up again.
 ghost use Rattle.std.specs.Prelude.{◌≡◌, ◌<◌, ◌≤◌, IfErr, None, Some};
 ghost use Rattle.vx_copyio.specs.Labelling.{least_blocks};
-ghost use Rattle.vx_grouped.specs.GroupSites.{AwayNoted, DownNoted, UpNoted, site_disks};
+ghost use Rattle.vx_grouped.specs.GroupSites.{AwayNoted, DownNoted, GroupSiteStands, UpNoted, site_disks};
 ghost use Rattle.vx_grouped.specs.Begins.{BeginsGroup, CanBegin};
 ghost use Rattle.vx_grouped.specs.SiteReturns.{SiteImports};
 ghost use Rattle.vx_history.specs.Groups.{GroupNode};
@@ -38,14 +38,32 @@ fn begin_on<R: Rack>(alloc: Global, rack: R, site: u32) -> (DiskSet<R>, Result<(
     )
 }
 
+// The same of the disks of a bare site on which one was begun before.
+fn begin_again<R: Rack>(
+    alloc: Global,
+    marked: GroupSite<R>,
+    cut: Option<CutWrite>,
+    site: u32,
+) -> (DiskSet<R>, Result<(), Stop>)
+    ensures begun { (n : Node) → GroupSiteStands n marked → n.state ≡ BareState → CanBegin n (site_disks marked) → AtSite (λ e. BeginsGroup site n (site_disks marked) e result.1) result.0 × (cut_in result.0 ≡ None) }
+    ensures since { AtSite (λ e. CalledSince (site_disks marked) (site_disks e)) result.0 }
+{
+    match marked {
+        GroupSite::Marked(rack) => begin_on(alloc, rack, site),
+        other => (
+            DiskSet::OfGroup(GroupSet { site: other, cut }),
+            Err(Stop::No(No::Role)),
+        ),
+    }
+}
+
 // Reads what is kept of a write that is cut, at a group that is up. Nothing is said of one whose volume is not there any more.
 fn kept_at<R: Rack>(site: &mut GroupSite<R>, write: &CutWrite) -> Result<Option<KeptWrite>, No>
     ensures looks { (n : Node) (note : GroupNode) → UpNoted n note site.old → LooksKept n note (Some write.now) site.old site.new result }
     ensures since { CalledSince (site_disks site.old) (site_disks site.new) }
 {
     let bytes = write.bytes.as_bytes();
-    let count = bytes.len();
-    if site.fits(write.volume, write.block, count) {
+    if site.fits(write.volume, write.block, bytes.len()) {
         match site.kept(write.volume, write.block, bytes) {
             Ok(bits) => Ok(Some(KeptWrite {
                 write: *write,
@@ -135,16 +153,7 @@ impl<R: Rack> DiskSet<R> {
         match self {
             DiskSet::Bare(rack) => begin_on(alloc, rack, site),
             DiskSet::Spoiled(rack) => begin_on(alloc, rack, site),
-            DiskSet::OfGroup(group) => match group.site {
-                GroupSite::Marked(rack) => begin_on(alloc, rack, site),
-                other => (
-                    DiskSet::OfGroup(GroupSet {
-                        site: other,
-                        cut: group.cut,
-                    }),
-                    Err(Stop::No(No::Role)),
-                ),
-            },
+            DiskSet::OfGroup(group) => begin_again(alloc, group.site, group.cut, site),
             other => (other, Err(Stop::No(No::Role))),
         }
     }

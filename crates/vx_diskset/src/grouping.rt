@@ -48,6 +48,7 @@ fn write_set<R: Rack>(
                     block,
                     bytes: Blocks::new(bytes),
                 });
+                return Err(no);
             }
             Err(no)
         }

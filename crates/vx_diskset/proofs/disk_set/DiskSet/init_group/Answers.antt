@@ -1,10 +1,11 @@
 -- `init_group`: the group that is begun on the disks of a bare site.
 use Rattle.std.proofs.Common.{ap, subst, sym}
 use Rattle.vx_grouped.specs.Begins.{BeginsGroup}
+use Rattle.vx_grouped.specs.GroupSites.{site_disks}
 use Rattle.vx_diskset.specs.GroupCalls.{AtSite, bare_disks}
 use Rattle.vx_diskset.specs.Stands.{SiteStands}
-use Rattle.vx_diskset.proofs.GroupBegun.{begin_bare, begin_failing, begin_fuse, begin_later, begin_settled, begun_stays, marked_at, marked_bare, marked_can, marked_disks}
-use Rattle.vx_diskset.proofs.GroupCalling.{has_bare, has_spoiled}
+use Rattle.vx_diskset.proofs.GroupBegun.{begin_bare, begin_failing, begin_fuse, begin_later, begin_settled, begun_stays, marked_at, marked_bare, marked_can}
+use Rattle.vx_diskset.proofs.GroupCalling.{has_bare, has_group, has_spoiled}
 use Rattle.vx_diskset.proofs.disk_set.DiskSet.init_group.Goals as goal
 
 pub returns-in-Bare-clause-begun : goal.returns-in-Bare-clause-begun
@@ -51,24 +52,27 @@ returns-in-Spoiled-clause-failing g c = begin_failing c.args.self c.begin_on-in-
 pub returns-in-Spoiled-clause-later : goal.returns-in-Spoiled-clause-later
 returns-in-Spoiled-clause-later g c = begin_later c.args.self c.begin_on-in-Spoiled.result.0 (g.R.Shelf.meaning c.in-Spoiled.rack) (has_spoiled c.args.self c.in-Spoiled.rack c.in-Spoiled.is) c.begin_on-in-Spoiled.ensures.since
 
-pub returns-in-Marked-clause-begun : goal.returns-in-Marked-clause-begun
-returns-in-Marked-clause-begun g c = λ beside n stands state some large.
+pub returns-in-OfGroup-clause-begun : goal.returns-in-OfGroup-clause-begun
+returns-in-OfGroup-clause-begun g c = λ beside n stands state some large.
     let it = marked_at beside n c.args.self c.in-OfGroup.group c.in-OfGroup.is stands in
-    (subst (λ m. AtSite (λ e. BeginsGroup c.args.site n m e c.begin_on-in-Marked.result.1) c.begin_on-in-Marked.result.0) (sym (marked_bare c.args.self c.in-OfGroup.group c.in-Marked.rack c.in-OfGroup.is c.in-Marked.is)) (c.begin_on-in-Marked.ensures.begun n (marked_can beside n c.in-OfGroup.group c.in-Marked.rack c.in-Marked.is it some large)), c.begin_on-in-Marked.ensures.cut)
+    let begun = c.begin_again.ensures.begun n it.stands state (marked_can n c.in-OfGroup.group.site it.stands state it.few some large) in
+    (subst (λ m. AtSite (λ e. BeginsGroup c.args.site n m e c.begin_again.result.1) c.begin_again.result.0) (sym (marked_bare c.args.self c.in-OfGroup.group c.in-OfGroup.is)) begun.0, begun.1)
 
-pub returns-in-Marked-clause-stays : goal.returns-in-Marked-clause-stays
-returns-in-Marked-clause-stays g c = λ beside n stands state some large.
+pub returns-in-OfGroup-clause-stays : goal.returns-in-OfGroup-clause-stays
+returns-in-OfGroup-clause-stays g c = λ beside n stands state some large.
     let it = marked_at beside n c.args.self c.in-OfGroup.group c.in-OfGroup.is stands in
-    begun_stays beside n (it.bare state) state it.few it.some c.args.site (g.R.Shelf.meaning c.in-Marked.rack) c.begin_on-in-Marked.result.0 c.begin_on-in-Marked.result.1 c.begin_on-in-Marked.ensures.cut (c.begin_on-in-Marked.ensures.begun n (marked_can beside n c.in-OfGroup.group c.in-Marked.rack c.in-Marked.is it some large))
+    let begun = c.begin_again.ensures.begun n it.stands state (marked_can n c.in-OfGroup.group.site it.stands state it.few some large) in
+    begun_stays beside n (it.bare state) state it.few it.some c.args.site (site_disks c.in-OfGroup.group.site) c.begin_again.result.0 c.begin_again.result.1 begun.1 begun.0
 
-pub returns-in-Marked-clause-fuse : goal.returns-in-Marked-clause-fuse
-returns-in-Marked-clause-fuse g c = λ beside n stands state some large.
+pub returns-in-OfGroup-clause-fuse : goal.returns-in-OfGroup-clause-fuse
+returns-in-OfGroup-clause-fuse g c = λ beside n stands state some large.
     let is_rack = (g.met.R.Rack g.world.𝓛 g.world.𝓜 g.world.𝓡 ((λ s x. x), (λ x. x), (λ x. x), λ x. x)).rack in
     let it = marked_at beside n c.args.self c.in-OfGroup.group c.in-OfGroup.is stands in
-    begin_fuse c.args.self c.begin_on-in-Marked.result.0 (g.R.Shelf.meaning c.in-Marked.rack) (marked_disks c.args.self c.in-OfGroup.group c.in-Marked.rack c.in-OfGroup.is c.in-Marked.is) c.begin_on-in-Marked.ensures.since (begin_settled is_rack c.args.site n (g.R.Shelf.meaning c.in-Marked.rack) c.begin_on-in-Marked.result.0 c.begin_on-in-Marked.result.1 (c.begin_on-in-Marked.ensures.begun n (marked_can beside n c.in-OfGroup.group c.in-Marked.rack c.in-Marked.is it some large)))
+    let begun = c.begin_again.ensures.begun n it.stands state (marked_can n c.in-OfGroup.group.site it.stands state it.few some large) in
+    begin_fuse c.args.self c.begin_again.result.0 (site_disks c.in-OfGroup.group.site) (has_group c.args.self c.in-OfGroup.group c.in-OfGroup.is) c.begin_again.ensures.since (begin_settled is_rack c.args.site n (site_disks c.in-OfGroup.group.site) c.begin_again.result.0 c.begin_again.result.1 begun.0)
 
-pub returns-in-Marked-clause-failing : goal.returns-in-Marked-clause-failing
-returns-in-Marked-clause-failing g c = begin_failing c.args.self c.begin_on-in-Marked.result.0 (g.R.Shelf.meaning c.in-Marked.rack) (marked_disks c.args.self c.in-OfGroup.group c.in-Marked.rack c.in-OfGroup.is c.in-Marked.is) c.begin_on-in-Marked.ensures.since
+pub returns-in-OfGroup-clause-failing : goal.returns-in-OfGroup-clause-failing
+returns-in-OfGroup-clause-failing g c = begin_failing c.args.self c.begin_again.result.0 (site_disks c.in-OfGroup.group.site) (has_group c.args.self c.in-OfGroup.group c.in-OfGroup.is) c.begin_again.ensures.since
 
-pub returns-in-Marked-clause-later : goal.returns-in-Marked-clause-later
-returns-in-Marked-clause-later g c = begin_later c.args.self c.begin_on-in-Marked.result.0 (g.R.Shelf.meaning c.in-Marked.rack) (marked_disks c.args.self c.in-OfGroup.group c.in-Marked.rack c.in-OfGroup.is c.in-Marked.is) c.begin_on-in-Marked.ensures.since
+pub returns-in-OfGroup-clause-later : goal.returns-in-OfGroup-clause-later
+returns-in-OfGroup-clause-later g c = begin_later c.args.self c.begin_again.result.0 (site_disks c.in-OfGroup.group.site) (has_group c.args.self c.in-OfGroup.group c.in-OfGroup.is) c.begin_again.ensures.since
