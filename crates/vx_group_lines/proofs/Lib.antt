@@ -10,3 +10,5 @@ pub mod GroupCalls
 pub mod Changing
 pub mod GroupEnding
 pub mod GroupDone
+pub mod GroupPlex
+pub mod GroupAttach
