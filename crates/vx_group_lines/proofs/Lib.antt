@@ -14,3 +14,5 @@ pub mod Returning
 pub mod Rising
 pub mod GroupEnding
 pub mod GroupDone
+pub mod GroupPlex
+pub mod GroupAttach
