@@ -1,4 +1,6 @@
 pub mod LogPlaces
+pub mod LogShape
+pub mod KnowActs
 pub mod CoverLemmas
 pub mod GroupLemmas
 pub mod LoadedLemmas

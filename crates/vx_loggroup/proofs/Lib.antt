@@ -1,5 +1,6 @@
 pub mod SetLemmas
 pub mod AlikeLemmas
+pub mod KnownLemmas
 pub mod StayLemmas
 pub mod ClearLemmas
 pub mod OpenLemmas

@@ -16,9 +16,12 @@ use Rattle.vx_group.proofs.Standing.{fit_of, sound_of}
 use Rattle.vx_group.proofs.TrustingLemmas.{trusting_active, trusting_others, trusting_shape}
 use Rattle.vx_grouplogs.specs.Covering.{AllAlike}
 use Rattle.vx_grouplogs.specs.On.{VolumeOn}
+use Rattle.vx_groupmaps.specs.Knowing.{MapsKnow}
+use Rattle.vx_groupmaps.specs.Missing.{none_spared}
+use Rattle.vx_grouplogs.proofs.KnowActs.{know_idle, know_shape}
 use Rattle.vx_grouplogs.proofs.OnLemmas.{on_acts, spares_none}
 use Rattle.vx_grouplogs.proofs.SeenLemmas.{KeepsVolume, ShowsNone, alike_covers, on_given, on_seen}
-use Rattle.vx_logged.specs.Logged.{LogOn, OthersOn}
+use Rattle.vx_logged.specs.Logged.{Known, LogOn, OthersOn}
 
 -- ---- by the configuration that trusts it
 
@@ -34,7 +37,8 @@ module _ (v : ℕ) (c : Config) (sound : is_sound c ≡ true) (m : Meaning) (fit
   told_keeps w = record {
     inside = λ b is. record { volume = let same = (trusting_shape v Drl c).volumes in omega (arith, is.volume, same); within = let same = (trusting_shape v Drl c).blocks w in omega (arith, is.within, same) };
     blocks = sym ((trusting_shape v Drl c).blocks w);
-    logs = sym ((trusting_shape v Drl c).logs w Drl);
+    logs = λ log. sym ((trusting_shape v Drl c).logs w log);
+    frames = sym ((trusting_shape v Drl c).frames w);
   }
 
   some_told : (w b : ℕ) (x : List ℕ) → OnSome told m.leaves w b x → OnSome c m.leaves w b x
@@ -51,6 +55,10 @@ module _ (v : ℕ) (c : Config) (sound : is_sound c ≡ true) (m : Meaning) (fit
   pub told_other : (w : ℕ) (l : Logs) → (w ≡ v → ⊥) → VolumeOn c w l m → VolumeOn told w l m
   told_other w l apart on = on_seen w c told sound l m m fit (told_keeps w) (told_shows w) on (trusted_back w apart)
 
+  -- the maps know what they knew
+  pub told_know : (w : ℕ) (l : Logs) → MapsKnow c w l m → MapsKnow told w l m
+  told_know w l know = know_shape c told w (told_keeps w).frames (told_keeps w).blocks (λ p b. sym ((trusting_shape v Drl c).place w p b)) (λ q is. sym (trusting_active v Drl c w q) ∙ is) (told_keeps w).inside none_spared l m know
+
   pub told_alike : AllAlike c v m → AllAlike told v m
   told_alike alike = record { one = λ b x y off one two. alike.one b x y refl (some_told v b x one) (some_told v b y two) }
 
@@ -66,8 +74,15 @@ module _ (v : ℕ) (c d : GroupCore) (m m' : Meaning) (stands : GroupStands c m)
   behind : (w : ℕ) (l : Logs) → VolumeOn (lost v Drl false (wide c).config) w l m → LogOn d w l m'
   behind w l on = on_acts Nothing (lost v Drl false (wide c).config) (wide d).config sound w l m m' fits_told acts (spares_none Nothing (lost v Drl false (wide c).config) w l (λ u b x none. none)) on
 
+  -- what the maps know, as the plexes lie and take part as they did
+  pub trusted_know : (w : ℕ) (l : Logs) → Known c w l m → Known d w l m'
+  trusted_know w l know = know_idle (lost v Drl false (wide c).config) (wide d).config sound w none_spared l m m' acts (told_know v (wide c).config (sound_of (wide c) m stands.stands) m (fit_of (wide c) m stands.stands) w l know)
+
   pub trusted_others : OthersOn v c d m m'
-  trusted_others = record { each = λ w l apart on. behind w l (told_other v (wide c).config (sound_of (wide c) m stands.stands) m (fit_of (wide c) m stands.stands) w l apart on) }
+  trusted_others = record {
+    each = λ w l apart on. behind w l (told_other v (wide c).config (sound_of (wide c) m stands.stands) m (fit_of (wide c) m stands.stands) w l apart on);
+    maps = λ w l apart know. trusted_know w l know;
+  }
 
   pub trusted_here : (l : Logs) → AllAlike (wide c).config v m → LogOn c v l m → LogOn d v l m'
   trusted_here l alike on = behind v l (told_here v (wide c).config (sound_of (wide c) m stands.stands) m (fit_of (wide c) m stands.stands) l alike on)

@@ -36,6 +36,7 @@ pub fn begin_log<S: Shelf>(
     ensures none { core.new.held ≡ None }
     ensures goes { Goes Nothing (inner_meaning (wide core.old) (S.meaning shelf.old)) (inner_meaning (wide core.new) (S.meaning shelf.new)) }
     ensures log { LogOn core.new vol one.new (S.meaning shelf.new) }
+    ensures plain { one.new.fmr ≡ None }
     ensures others { OthersOn vol core.old core.new (S.meaning shelf.old) (S.meaning shelf.new) }
     ensures off { NoMarks (region_count (wide core.old).config vol) one.new }
     ensures agreed { core.old.inner.committed ≡ true → core.new.inner.agreed ≡ true }

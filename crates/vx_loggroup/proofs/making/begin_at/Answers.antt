@@ -5,6 +5,8 @@ use Rattle.vx_group.specs.Holding.{wide}
 use Rattle.vx_group.specs.Stands.{inner_meaning}
 use Rattle.vx_group.proofs.MendLemmas.{same_Goes}
 use Rattle.vx_grouplogs.specs.Marking.{NoMarks}
+use Rattle.vx_grouplogs.proofs.KnowActs.{know_none}
+use Rattle.vx_groupmaps.specs.Missing.{none_spared}
 use Rattle.vx_logged.proofs.StandLemmas.{no_regions}
 use Rattle.vx_logs.specs.declared.logs.Logs.{Logs}
 use Rattle.vx_loggroup.specs.LoggedVolumes.{is_alike}
@@ -33,7 +35,7 @@ pub returns-clause-stands : goal.returns-clause-stands
 returns-clause-stands g c =
     set_stands Nothing c.args.core.now c.begin_log.new.core c.args.logs.now.items c.args.alike.now c.args.alike.now c.args.stopped c.args.stopped c.args.vol c.begin_log.new.one (g.S.Shelf.meaning c.args.shelf.now) (g.S.Shelf.meaning c.begin_log.new.shelf) c.requires.stands c.begin_log.ensures.stands c.begin_log.ensures.goes
     (λ w b x apart none. none) (λ off. off) c.begin_log.ensures.others (λ w apart. refl)
-    (here_stands c.args.core.now c.begin_log.new.core c.args.vol c.index_mut.result.now c.begin_log.new.one (is_alike c.args.alike.now c.args.vol) c.args.stopped (g.S.Shelf.meaning c.args.shelf.now) (g.S.Shelf.meaning c.begin_log.new.shelf) (c.requires.stands.each c.args.vol c.index_mut.result.now (item_of c.args.logs.now.items c.args.vol c.index_mut.result.now c.index_mut.ensures.value (let many = c.requires.stands.many in let there = c.requires.there in omega (arith, many, there)))) c.begin_log.ensures.goes (λ on. c.begin_log.ensures.log))
+    (here_stands c.args.core.now c.begin_log.new.core c.args.vol c.index_mut.result.now c.begin_log.new.one (is_alike c.args.alike.now c.args.vol) c.args.stopped (g.S.Shelf.meaning c.args.shelf.now) (g.S.Shelf.meaning c.begin_log.new.shelf) (c.requires.stands.each c.args.vol c.index_mut.result.now (item_of c.args.logs.now.items c.args.vol c.index_mut.result.now c.index_mut.ensures.value (let many = c.requires.stands.many in let there = c.requires.there in omega (arith, many, there)))) c.begin_log.ensures.goes (λ on. c.begin_log.ensures.log) (λ know. know_none (wide c.begin_log.new.core).config c.args.vol none_spared c.begin_log.new.one (g.S.Shelf.meaning c.begin_log.new.shelf) c.begin_log.ensures.plain))
 
 pub returns-clause-begins : goal.returns-clause-begins
 returns-clause-begins g c = record {
