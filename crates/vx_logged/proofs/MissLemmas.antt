@@ -1,10 +1,9 @@
 -- What the maps of missed regions know of a volume of a group beside marks, and behind a write.
 use Rattle.std.proofs.Common.{◌≡◌, ◌∙◌, ◌⊎◌, inl, inr, ℕ, ◌+◌, ◌/◌, ◌<◌, ◌≤◌, Bool, true, false, Option, Some, None, List, IsTrue, length, refl, sym, ap, subst, arith}
-use Rattle.std.specs.Prelude.{◌&&◌, ◌||◌, ◌-◌, ◌*◌, not, is_some}
+use Rattle.std.specs.Prelude.{◌&&◌, ◌||◌, ◌-◌, ◌*◌, not}
 use Rattle.vx_bitmap.specs.Bits.{is_among}
-use Rattle.vx_config.specs.Checks.{is_sound, is_stale}
+use Rattle.vx_config.specs.Checks.{is_sound}
 use Rattle.vx_config.specs.declared.config.Config.{Config}
-use Rattle.vx_config.specs.declared.entry.PlexEntry.{PlexEntry}
 use Rattle.vx_disk.specs.Shelf.{Covers, Fits, Meaning, Written, Wrote}
 use Rattle.vx_fmr.specs.Missed.{Missed, has_missed}
 use Rattle.vx_group.specs.Holding.{GroupStands, wide}
@@ -17,44 +16,21 @@ use Rattle.vx_groupmaps.specs.Knowing.{MapsKnow, MapsKnowBy, or_off, or_stale}
 use Rattle.vx_groupmaps.specs.Missing.{none_spared, or_run, or_spared}
 use Rattle.vx_groupmaps.proofs.KnowLemmas.{know_less, read_old}
 use Rattle.vx_groupmaps.proofs.MapPlaces.{stale_off}
+use Rattle.vx_grouplogs.proofs.FreshLemmas.{fresh_active}
 use Rattle.vx_grouplogs.proofs.LogShape.{has_back}
-use Rattle.vx_kept.specs.Choice.{live, live_or}
 use Rattle.vx_kept.specs.Groups.{OnSome, OutsideVolumes}
-use Rattle.vx_kept.specs.Keeping.{AllOn}
 use Rattle.vx_kept.specs.PlexActs.{PlexActs}
 use Rattle.vx_kept.proofs.Steps.{inside_same}
-use Rattle.vx_layout.specs.Places.{HasBlock, has_plex, place, plex_at}
-use Rattle.vx_logs.specs.Held.{stale, stale_or}
+use Rattle.vx_layout.specs.Places.{HasBlock, place}
+use Rattle.vx_logs.specs.Held.{stale}
 use Rattle.vx_logs.specs.Writes.{first_region, last_region}
 use Rattle.vx_logs.specs.declared.logs.Logs.{Logs}
 use Rattle.vx_logs.proofs.NoteLemmas.{among_is}
-use Rattle.vx_model.specs.declared.site.PlexState.{PlexState}
-use Rattle.vx_model.specs.declared.site.PlexState.TheVariants.{Active, Clean, Stale}
 use Rattle.vx_volume.specs.Plexes.{InRun, Inside, active}
 use Rattle.vx_volume.specs.Volumes.{OnPlexes}
 use Rattle.vx_volume.proofs.PlaceLemmas.{has_of}
 use Rattle.vx_logged.specs.Logged.{Known, KnownBy, Narrowed, are_off}
 use Rattle.vx_logged.proofs.StandLemmas.{put_at}
-
--- ---- states
-
--- a plex that there is takes part, or is STALE
-live_or_stale : (c : Config) (v p b : ℕ) → HasBlock c v p b → stale c v p ≡ false → IsTrue (live c v p)
-unfolding has_plex stale live
-live_or_stale c v p b has off = by (plex_at c v p) has.plex off
-  where
-    by_state : (s : PlexState) (a : PlexEntry) → a.state ≡ s → is_stale a.state ≡ false → IsTrue (live_or (Some a))
-    by_state Active a is off = ap (λ (s : PlexState). live_or (Some (record { state = s; whole = a.whole; subdisks = a.subdisks }))) is
-    by_state Clean a is off = ap (λ (s : PlexState). live_or (Some (record { state = s; whole = a.whole; subdisks = a.subdisks }))) is
-    by_state Stale a is off = absurd (let clash : true ≡ false = sym (ap is_stale is) ∙ off in cc)
-
-    by : (o : Option PlexEntry) → is_some o ≡ true → stale_or o ≡ false → IsTrue (live_or o)
-    by None some off = absurd (let clash : false ≡ true = some in cc)
-    by (Some a) some off = by_state a.state a refl off
-
--- where each plex that takes part is ACTIVE, one that there is and is not STALE is
-pub fresh_active : (c : Config) (v p b : ℕ) → AllOn c → HasBlock c v p b → stale c v p ≡ false → IsTrue (active c v p)
-fresh_active c v p b all has off = all.each v p (live_or_stale c v p b has off)
 
 -- ---- regions of a run that plexes out of use miss
 

@@ -8,4 +8,5 @@ pub mod DeportedLogs
 pub mod FactLemmas
 pub mod CrashedLogs
 pub mod TrustedLogs
+pub mod BegunLemmas
 pub mod MadeLogs

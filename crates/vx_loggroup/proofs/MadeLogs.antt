@@ -30,7 +30,7 @@ use Rattle.vx_group.specs.Stands.{inner_meaning, volume_faults}
 use Rattle.vx_group.specs.declared.group_core.GroupCore.{GroupCore}
 use Rattle.vx_group.specs.declared.group_core.Held.{Held}
 use Rattle.vx_group.specs.declared.inner.Inner.{Inner}
-use Rattle.vx_group.proofs.HoldLemmas.{active_at_volumes, narrow_sound, wide_none}
+use Rattle.vx_group.proofs.HoldLemmas.{active_at_volumes, narrow_sound, wide_none, wide_shape}
 use Rattle.vx_group.proofs.Standing.{fit_of, sound_of}
 use Rattle.vx_group.proofs.TrustingLemmas.{places_Goes}
 use Rattle.vx_groupmaps.specs.Knowing.{MapsKnow, MapsKnowBy}
@@ -114,7 +114,7 @@ module _ (c : GroupCore) (d : Config) (m m' : Meaning) (stands : GroupStands c m
       unfolding has_plex place
       off p b x has put =
           let shape = inner_wide c m stands in
-          let has_c = has_back (wide c).config c.inner.config v (shape.frames v) (shape.blocks v) p b has in
+          let has_c = has_back c.inner.config (wide c).config v ((wide_shape c).frames v) ((wide_shape c).blocks v) p b has in
           let low = has_low c.inner.config v p b has_c in
           let same : slice_get begins.next.volumes v ≡ slice_get c.inner.config.volumes v = ap (λ (vs : List VolumeEntry). slice_get vs v) begins.is ∙ get_front c.inner.config.volumes (begins.volume ∷ []) v low in
           let has_n : HasBlock begins.next v p b = record { plex = ap (λ (o : Option VolumeEntry). is_some (plex_in o p)) same ∙ has_c.plex; block = let n = ap blocks_or_none same in let block = has_c.block in omega (arith, block, n) } in
