@@ -137,7 +137,7 @@ new_knows c v o m all one holds l same = record {
 }
   where
     fresh : (f : Missed) → l.fmr ≡ Some f → (p b : ℕ) → HasBlock c v p b → has_missed f p (b / 64) ≡ false → (t : Bool) → stale c v p ≡ t → stale c v p ≡ false
-    fresh f is p b has clear true yes = absurd (let block = has.block in let clash : true ≡ false = sym (holds.so f (sym same ∙ is) p (b / 64) yes (omega arith) (omega (arith, block))) ∙ clear in cc)
+    fresh f is p b has clear true on = absurd (let block = has.block in let clash : true ≡ false = sym (holds.so f (sym same ∙ is) p (b / 64) on (omega arith) (omega (arith, block))) ∙ clear in cc)
     fresh f is p b has clear false off = off
 
 -- the configuration's disks fit behind calls on the log

@@ -106,12 +106,12 @@ made_logs c m m' stands (inr begins) v u b x at left = elim (begins.acts.leaves 
 module _ (c : GroupCore) (d : Config) (m m' : Meaning) (stands : GroupStands c m) (v : ℕ) (frames : frame_at d v ≡ frame_at (wide c).config v) (blocks : blocks_in d.volumes v ≡ blocks_in (wide c).config.volumes v) (places : (p b : ℕ) → place d v p b ≡ place (wide c).config v p b)
     (some : (b : ℕ) (y : List ℕ) → (IsTrue m'.down → ⊥) → OnSome d m'.reads v b y → OnSome (wide c).config m.reads v b y) where
   pub made_know : (spare : ℕ → ℕ → Bool) (l : Logs) → MakesBeside c.inner.config m m' → MapsKnowBy (wide c).config v spare l m → MapsKnowBy d v spare l m'
+  unfolding has_plex place
   made_know spare l (inl acts) know = know_seen Nothing (wide c).config d (sound_of (wide c) m stands.stands) v frames blocks places m m' (record { so = acts.reads; falls = acts.falls }) some spare l (λ f is p b x has clear none. none) know
   made_know spare l (inr begins) know = know_seen (ZerosOn begins.next (length c.inner.config.volumes)) (wide c).config d (sound_of (wide c) m stands.stands) v frames blocks places m m' (record { so = begins.acts.reads; falls = begins.acts.falls }) some spare l
       (λ f is p b x has clear put. off p b x has put) know
     where
       off : (p b : ℕ) (x : List ℕ) → HasBlock (wide c).config v p b → ZerosOn begins.next (length c.inner.config.volumes) (place (wide c).config v p b).0 (place (wide c).config v p b).1 x → ⊥
-      unfolding has_plex place
       off p b x has put =
           let shape = inner_wide c m stands in
           let has_c = has_back c.inner.config (wide c).config v ((wide_shape c).frames v) ((wide_shape c).blocks v) p b has in
