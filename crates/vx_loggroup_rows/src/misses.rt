@@ -31,6 +31,17 @@ const PLAIN: Shape = Shape {
     prefer: None,
 };
 
+// The same on three plexes, with both logs.
+const LOGGED: Shape = Shape {
+    blocks: 256,
+    mirrors: 3,
+    ncol: 1,
+    width: 0,
+    drl: true,
+    fmr: true,
+    prefer: None,
+};
+
 // A group on three disks, of which these calls fail, with such a volume.
 fn group_of(
     alloc: Global,
@@ -161,5 +172,44 @@ fn a_plex_that_fails_in_a_write_misses_it(rt: HostRuntime) -> Result<(), Fail> {
         }
     }
     assert_eq!(rt; seen, 1);
+    Ok(())
+}
+
+// Writes a block while the third plex is detached, as this call fails, and attaches the plex then. Answers how many regions were copied; none,
+// where the detach or the attach is refused.
+fn failing(alloc: Global, call: u64) -> Result<Option<u64>, OutOfMemory> {
+    let mut group = group_of(alloc, &[call], &LOGGED)?;
+    if group.det(0, 2).is_err() {
+        return Ok(None);
+    }
+    if !put(&mut group, 70, 0xbb) || read(&mut group, 70) != Some(0xbb) {
+        return Ok(Some(99));
+    }
+    let copied = att(&mut group, 2);
+    if copied.is_some() {
+        let other = group.det(0, 0).is_ok() && group.det(0, 1).is_ok();
+        if other && read(&mut group, 70) != Some(0xbb) {
+            return Ok(Some(99));
+        }
+    }
+    Ok(copied)
+}
+
+#[test]
+fn a_write_is_done_whichever_of_its_calls_fails(rt: HostRuntime) -> Result<(), Fail> {
+    let alloc = rt.alloc();
+    let mut some = 0;
+    let mut all = 0;
+    for call in 120..200 {
+        match failing(alloc, call)? {
+            Some(1) => some += 1,
+            Some(4) => all += 1,
+            Some(_) => assert!(rt; false),
+            None => {}
+        }
+    }
+    // Where the log of missed regions is lost all regions are copied.
+    assert!(rt; some > 0);
+    assert!(rt; all > 0);
     Ok(())
 }
