@@ -12,6 +12,7 @@ pub mod GroupShown
 pub mod Choosing
 pub mod Returning
 pub mod Rising
+pub mod Resuming
 pub mod GroupEnding
 pub mod GroupDone
 pub mod GroupPlex
