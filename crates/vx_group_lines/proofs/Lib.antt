@@ -12,3 +12,7 @@ pub mod GroupEnding
 pub mod GroupDone
 pub mod GroupPlex
 pub mod GroupAttach
+pub mod GroupShown
+pub mod Choosing
+pub mod Returning
+pub mod Rising
