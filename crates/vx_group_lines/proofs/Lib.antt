@@ -16,3 +16,5 @@ pub mod GroupShown
 pub mod Choosing
 pub mod Returning
 pub mod Rising
+pub mod GroupNamed
+pub mod GroupDeports

@@ -104,8 +104,7 @@ module _ (told : Type 0) (next : GroupNode) (m : Meaning) (c : Config) (tells : 
       let entry = some_entry c.volumes x.volume some in
       let write : k.write ≡ x = is.0 in
       let view : Kept = record { volume = entry.0.name; block = k.write.block; count = length k.write.bytes / 512; bits = k.bits } in
-      let found : slice_get (map plain_fact c.volumes) k.write.volume ≡ Some (plain_fact entry.0) = ap (λ (y : CutWrite). slice_get (map plain_fact c.volumes) y.volume) write ∙ at_map c.volumes x.volume entry.0 entry.1 in
-      (
+      let found : slice_get (map plain_fact c.volumes) k.write.volume ≡ Some (plain_fact entry.0) = ap (λ (y : CutWrite). slice_get (map plain_fact c.volumes) y.volume) write ∙ at_map c.volumes x.volume entry.0 entry.1 in (
         view,
         ap (λ (o : Option VolumeFacts). kept_of_volume o k) found,
         record {
