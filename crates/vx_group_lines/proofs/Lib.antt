@@ -18,3 +18,5 @@ pub mod Returning
 pub mod Rising
 pub mod GroupNamed
 pub mod GroupDeports
+pub mod GroupEnding
+pub mod GroupDone
