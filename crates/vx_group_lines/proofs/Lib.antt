@@ -18,5 +18,4 @@ pub mod Returning
 pub mod Rising
 pub mod GroupNamed
 pub mod GroupDeports
-pub mod GroupEnding
-pub mod GroupDone
+pub mod GroupImports

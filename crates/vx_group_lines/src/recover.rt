@@ -28,11 +28,10 @@ use vx_model::limits::BLOCK;
 use vx_model::{Name, OutOfMemory, SiteState, Stop};
 use vx_order::{SiteFacts, VolumeRoom};
 use vx_report::Kept;
-use vx_yard::Yard;
-use vx_yard::facts;
 use vx_yard::falling::go_down;
 use vx_yard::load::let_go;
 use vx_yard::refusing::stopped;
+use vx_yard::{Yard, facts};
 
 // What a recovery needs of memory beside its import.
 #[derive(Drop)]
