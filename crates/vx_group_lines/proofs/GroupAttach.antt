@@ -43,6 +43,8 @@ use Rattle.vx_grouped.specs.declared.group_site.GroupSite.{GroupSite}
 use Rattle.vx_grouped.specs.declared.group_site.GroupSite.TheVariants.{Up as SiteUp, Deported as SiteAway, Down as SiteDown, Marked, Gone as SiteGone}
 use Rattle.vx_diskset.specs.GroupCalls.{AtSite, OnSites}
 use Rattle.vx_diskset.specs.declared.disk_set.DiskSet.{DiskSet}
+use Rattle.vx_diskset.specs.declared.disk_set.DiskSet.TheVariants.{OfGroup}
+use Rattle.vx_diskset.specs.declared.group_set.GroupSet.{GroupSet}
 use Rattle.vx_volume.specs.Plexes.{uses}
 use Rattle.vx_events.proofs.Places.{some_same}
 use Rattle.vx_events.specs.Fails.{Fails}
@@ -100,6 +102,34 @@ module _ {R : Type 0} {g : Ghosts R} where
   att_copies n note (Marked rack) v plex k it none all = absurd it
   att_copies n note SiteGone v plex k it none all = absurd it
 
+  pub att_at : (n : Node) (note : GroupNode) {v w p q : ℕ} → v ≡ w → p ≡ q → (r : Result ℕ Stop) (before after : DiskSet R g) → OnSites (λ o e. AttCalled n note v p o e r) before after
+      → OnSites (λ o e. AttCalled n note w q o e r) before after
+  att_at n note {v} {w} {p} {q} number plex r before after it =
+      subst (λ (k : ℕ). OnSites (λ (o e : GroupSite R g). AttCalled n note k q o e r) before after) number
+      (subst (λ (k : ℕ). OnSites (λ (o e : GroupSite R g). AttCalled n note v k o e r) before after) plex it)
+
+  -- nothing is copied to one that takes part
+  zero_by : (site : GroupSite R g) (v p count : ℕ) (o : Option No) → refuses_att site v p ≡ o → ((no : No) → refuses_att site v p ≡ Some no → (let r : Result ℕ Stop = Ok count in r) ≡ Err (StopsBy no))
+      → (refuses_att site v p ≡ None → IsTrue (is_plex_on site v p) → (let r : Result ℕ Stop = Ok count in r) ≡ Ok 0) → IsTrue (is_plex_on site v p) → count ≡ 0
+  zero_by site v p count None is refused already on = let e = already is on in cc
+  zero_by site v p count (Some no) is refused already on = absurd (let e = refused no is in cc)
+
+  pub att_zero : (before : DiskSet R g) (set : GroupSet R g) {v w p q : ℕ} (count : ℕ) → before ≡ OfGroup set → v ≡ w → p ≡ q → ((no : No) → AtSite (λ o. refuses_att o v p ≡ Some no) before → (let r : Result ℕ Stop = Ok count in r) ≡ Err (StopsBy no))
+      → (AtSite (λ o. refuses_att o v p ≡ None) before → AtSite (λ o. IsTrue (is_plex_on o v p)) before → (let r : Result ℕ Stop = Ok count in r) ≡ Ok 0) → IsTrue (is_plex_on set.site w q) → count ≡ 0
+  att_zero before set {v} {w} {p} {q} count is number plex refused already =
+      subst (λ (k : ℕ). IsTrue (is_plex_on set.site k q) → count ≡ 0) number
+      (subst (λ (k : ℕ). IsTrue (is_plex_on set.site v k) → count ≡ 0) plex
+      (λ on. zero_by set.site v p count (refuses_att set.site v p) refl
+      (λ no at. refused no (subst (λ (x : DiskSet R g). AtSite (λ (o : GroupSite R g). refuses_att o v p ≡ Some no) x) (sym is) at))
+      (λ at on. already (subst (λ (x : DiskSet R g). AtSite (λ (o : GroupSite R g). refuses_att o v p ≡ None) x) (sym is) at) (subst (λ (x : DiskSet R g). AtSite (λ (o : GroupSite R g). IsTrue (is_plex_on o v p)) x) (sym is) on)) on))
+
+  pub att_all : (before : DiskSet R g) (set : GroupSet R g) {v w p q : ℕ} (count : ℕ) → before ≡ OfGroup set → v ≡ w → p ≡ q → (AtSite (λ o. is_plex_on o v p ≡ false) before → AtSite (λ o. RegionsOf o v count) before)
+      → is_plex_on set.site w q ≡ false → RegionsOf set.site w count
+  att_all before set {v} {w} {p} {q} count is number plex all =
+      subst (λ (k : ℕ). is_plex_on set.site k q ≡ false → RegionsOf set.site k count) number
+      (subst (λ (k : ℕ). is_plex_on set.site v k ≡ false → RegionsOf set.site v count) plex
+      (λ off. subst (λ (x : DiskSet R g). AtSite (λ (o : GroupSite R g). RegionsOf o v count) x) is (all (subst (λ (x : DiskSet R g). AtSite (λ (o : GroupSite R g). is_plex_on o v p ≡ false) x) (sym is) off))))
+
   module _ (d : Doubted) (old new : Yard R g) (name volume : List ℕ) (plex s : ℕ) (before after : DiskSet R g) (found : VolumeFacts) (stands : StandsFor d old)
       (it : Calling d (PlexAttach name volume plex) old new name s before after)
       (at : slice_get (noted_table (note_at (d.world.nodes s))) (plain_number (note_at (d.world.nodes s)) volume) ≡ Some found) (below : plex < found.plexes)
@@ -119,7 +149,7 @@ module _ {R : Type 0} {g : Ghosts R} where
     pub att_ends : (count : ℕ) → OnSites (λ o e. AttCalled n note v plex o e (Ok count)) before after → (IsTrue (is_plex_on it.call.at.set.site v plex) → count ≡ 0) → (is_plex_on it.call.at.set.site v plex ≡ false → RegionsOf it.call.at.set.site v count)
         → new.facts.items ≡ old.facts.items → SameLoad old new → LeadsOver d (PlexAttach name volume plex) (DoneAt count) old new
     att_ends count on none all facts load =
-        done_leads d (PlexAttach name volume plex) old new name s before after stands it (λ o e. AttDone v plex o e) (λ o e. AttFails v plex o e) (λ o which. refuses_att o v plex ≡ Some which) (DoneAt count) count
+        done_leads d (PlexAttach name volume plex) old new name s before after stands it (λ o e. AttDone v plex o e) (λ o e. AttFails v plex o e) (λ o which. refuses_att o v plex ≡ Some which) (DoneAt count) count (λ k h. h)
         (record {
           ends = λ many fails o e next was now names noted noted_now enough change keeps. (
             reconfigures s many fails o e note next names (λ c x. PutsOr s fails (λ k. lies_on_disk c v plex k) v plex Active c x) (λ a b. NoteSettles a b) was now noted noted_now

@@ -230,6 +230,12 @@ module _ {R : Type 0} {g : Ghosts R} where
   att_wants n note (Marked rack) name volume p f why it at below is = absurd it
   att_wants n note SiteGone name volume p f why it at below is = absurd it
 
+  pub det_at : (n : Node) (note : GroupNode) {v w p q : ℕ} → v ≡ w → p ≡ q → (r : Result (Unit {0}) Stop) (before after : DiskSet R g) → OnSites (λ o e. DetCalled n note v p o e r) before after
+      → OnSites (λ o e. DetCalled n note w q o e r) before after
+  det_at n note {v} {w} {p} {q} number plex r before after it =
+      subst (λ (k : ℕ). OnSites (λ (o e : GroupSite R g). DetCalled n note k q o e r) before after) number
+      (subst (λ (k : ℕ). OnSites (λ (o e : GroupSite R g). DetCalled n note v k o e r) before after) plex it)
+
   -- ---- the line that detaches a plex
 
   module _ (d : Doubted) (old new : Yard R g) (name volume : List ℕ) (plex s : ℕ) (before after : DiskSet R g) (found : VolumeFacts) (stands : StandsFor d old)
@@ -250,7 +256,7 @@ module _ {R : Type 0} {g : Ghosts R} where
 
     pub det_done : OnSites (λ o e. DetCalled n note v plex o e (Ok (tt {0}))) before after → new.facts.items ≡ old.facts.items → SameLoad old new → LeadsOver d (PlexDetach name volume plex) Done old new
     det_done on facts load =
-        done_leads d (PlexDetach name volume plex) old new name s before after stands it (λ o e. DetDone v plex o e) (λ o e. DetFails v plex o e) (λ o which. refuses_det o v plex ≡ Some which) Done (tt {0})
+        done_leads d (PlexDetach name volume plex) old new name s before after stands it (λ o e. DetDone v plex o e) (λ o e. DetFails v plex o e) (λ o which. refuses_det o v plex ≡ Some which) Done (tt {0}) (λ k h. h)
         (record {
           ends = λ many fails o e next was now names noted noted_now enough change keeps. (
             reconfigures s many fails o e note next names (λ c x. PutsOr s fails none_again v plex Stale c x) (λ a b. NoteSettles a b) was now noted noted_now
