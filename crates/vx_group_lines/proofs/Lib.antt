@@ -15,3 +15,8 @@ pub mod Rising
 pub mod Resuming
 pub mod GroupEnding
 pub mod GroupDone
+pub mod GroupPlex
+pub mod GroupAttach
+pub mod GroupNamed
+pub mod GroupDeports
+pub mod GroupImports
