@@ -26,7 +26,7 @@ returns-in-Ok-clause-rises g c = λ e stands below over down.
     })
     e (record { stands = stands; below = below; over = over; down = down }) c.in-Ok.cut c.stand_up.result
     (λ n note was. subst (λ r. RaisesGroup n note c.replace-disk_set.result c.raise_group-disk_set.result.0 r) c.in-Ok.is (c.raise_group-disk_set.ensures.raised n note was))
-    c.stand_up.ensures
+    c.stand_up.ensures.stood
 
 pub returns-in-Ok-clause-failing : goal.returns-in-Ok-clause-failing
 returns-in-Ok-clause-failing g c =
@@ -44,7 +44,7 @@ returns-in-Ok-clause-failing g c =
       failing = c.raise_group-disk_set.ensures.failing;
       later = c.raise_group-disk_set.ensures.later;
     })
-    c.in-Ok.cut c.stand_up.result c.stand_up.ensures
+    c.in-Ok.cut c.stand_up.result c.stand_up.ensures.stood
 
 pub returns-in-Ok-clause-told : goal.returns-in-Ok-clause-told
 returns-in-Ok-clause-told g c =
@@ -62,7 +62,7 @@ returns-in-Ok-clause-told g c =
       failing = c.raise_group-disk_set.ensures.failing;
       later = c.raise_group-disk_set.ensures.later;
     })
-    c.in-Ok.cut c.stand_up.result c.stand_up.ensures
+    c.in-Ok.cut c.stand_up.result c.stand_up.ensures.stood
 
 pub returns-in-Err-clause-rises : goal.returns-in-Err-clause-rises
 returns-in-Err-clause-rises g c = λ e stands below over down.
