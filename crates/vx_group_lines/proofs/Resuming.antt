@@ -133,6 +133,17 @@ crashes_over d name s place over up =
     ∙ ap (λ (b : Bool). b && is_up (d.world.nodes s).state) over
     ∙ ap (λ (t : SiteState). is_up t) up
 
+-- a site that was down
+pub down_first : (d : Doubted) (s : ℕ) → (d.world.nodes s).state ≡ IsDown → ComesDown d d s
+down_first d s down = record { how = inl (down, refl); name = refl; disks = refl; blocks = refl; note = refl }
+
+-- a site over a group that is neither bare, up nor deported is down
+pub off_down : (t : SiteState) → (t ≡ IsBare → ⊥) → (t ≡ IsUp → ⊥) → (t ≡ IsDeported → ⊥) → t ≡ IsDown
+off_down IsBare bare up away = absurd (bare refl)
+off_down IsUp bare up away = absurd (up refl)
+off_down IsDeported bare up away = absurd (away refl)
+off_down IsDown bare up away = refl
+
 module _ {R : Type 0} {g : Ghosts R} where
   later_then : (a b c : DiskSet R g) → Later a b → Later b c → Later a c
   later_then a b c one two = record { counts = λ k. omega (arith, one.counts k, two.counts k); told = λ told. one.told (two.told told) }
@@ -614,10 +625,6 @@ module _ {R : Type 0} {g : Ghosts R} where
         rose = f.rose;
       }
 
-  -- and one that was down
-  pub down_first : (d : Doubted) (s : ℕ) → (d.world.nodes s).state ≡ IsDown → ComesDown d d s
-  down_first d s down = record { how = inl (down, refl); name = refl; disks = refl; blocks = refl; note = refl }
-
   -- ---- the line
 
   pub resumes : (d e : Doubted) (name : List ℕ) (s : ℕ) (old mid new : Yard R g) (result : Result Said OutOfMemory) → group_place d.world (Recover name) ≡ s → ComesDown d e s → (Carries d old → Carries e mid)
@@ -734,10 +741,3 @@ module _ {R : Type 0} {g : Ghosts R} where
         carries = λ was. was;
         rose = rose_none (count_of y) (count_of y) (λ i u. omega arith);
       })
-
-  -- a site over a group that is neither bare, up nor deported is down
-  pub off_down : (t : SiteState) → (t ≡ IsBare → ⊥) → (t ≡ IsUp → ⊥) → (t ≡ IsDeported → ⊥) → t ≡ IsDown
-  off_down IsBare bare up away = absurd (bare refl)
-  off_down IsUp bare up away = absurd (up refl)
-  off_down IsDeported bare up away = absurd (away refl)
-  off_down IsDown bare up away = refl

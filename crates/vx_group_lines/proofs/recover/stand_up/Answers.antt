@@ -11,9 +11,6 @@ use Rattle.vx_group_lines.proofs.recover.stand_up.Goals as goal
 pub view_at-requires-clause-few : goal.view_at-requires-clause-few
 view_at-requires-clause-few g c = λ κs within x has. small_set has.disk_set x (config_at has.disk_set (Some x) has.is)
 
-pub index-requires : goal.index-requires
-index-requires g c = subst (λ k. c.args.site < k) (sym c.note_up.ensures.many) c.requires.facts
-
 pub view_at-requires-clause-facts : goal.view_at-requires-clause-facts
 view_at-requires-clause-facts g c κs within = subst (λ k. c.args.site < k) (sym c.note_up.ensures.many) c.requires.facts
 
@@ -57,5 +54,5 @@ returns-in-Err g c =
       stood =
           stood_by s c.args.cut y mid c.fall_again.new.yard before after (Err c.in-Err.stop) c.fall_again.result c.note_up.ensures.same there (ap (λ es. es.items) same.disk_sets ∙ put)
           (λ n note up. subst (λ r. LooksAt n note c.args.cut before after r) c.in-Err.is (c.look_at_cut-disk_set.ensures.looks n note up)) c.look_at_cut-disk_set.ensures.failing c.look_at_cut-disk_set.ensures.later same.racks same.flight same.feeders same.dir
-          (so_down s y mid _ c.fall_again.new.yard before after c.in-Err.stop c.fall_again.result c.note_up.ensures.same there refl refl c.note_up.ensures.assemblies c.note_up.ensures.facts c.fall_again.ensures.facts c.fall_again.ensures.assemblies c.fall_again.ensures.said);
+          (so_down s y mid mid c.fall_again.new.yard before after c.in-Err.stop c.fall_again.result c.note_up.ensures.same there refl refl c.note_up.ensures.assemblies c.note_up.ensures.facts c.fall_again.ensures.facts c.fall_again.ensures.assemblies c.fall_again.ensures.said);
     }
