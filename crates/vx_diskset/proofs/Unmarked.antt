@@ -7,6 +7,7 @@ use Rattle.vx_model.specs.declared.no.No.TheVariants.{Device, Down as Off}
 use Rattle.vx_model.specs.declared.no.No.{No}
 use Rattle.vx_model.specs.declared.site.SiteState.TheVariants.{Bare as IsBare, Up as IsUp, Down as IsDown, Deported as IsDeported}
 use Rattle.vx_disk.specs.Causes.{DeviceCause, refusal_of}
+use Rattle.vx_disk.specs.Counts.{Rose}
 use Rattle.vx_disk.proofs.Causing.{Rose_before}
 use Rattle.vx_disk.specs.Shelf.{Goes, Meaning}
 use Rattle.vx_disk.specs.declared.shelf.Shelf.{Ghosts}
@@ -104,17 +105,17 @@ module _ {R : Type 0} {g : Ghosts R} where
   made_behind site n first mid new (Err (Refused (Device disk))) less is = (is.0, Rose_before (faults_at first disk) (faults_at mid disk) (faults_at new disk) (less disk) is.1)
   made_behind site n first mid new (Err (Refused other)) less is = is
 
-  pub unlabelled_failed : (site : ℕ) (n : Node) (rack last : R) (why : No) → IsCleanAt n (g.meaning last) → DeviceCause (g.meaning rack) (g.meaning last) why → MadeIs {g = g} site n (Bare rack) (Bare last) (Err (Refused why))
-  unlabelled_failed site n rack last (Device disk) clean cause = ((λ beside. clean), cause)
-  unlabelled_failed site n rack last Off clean cause = absurd (never_both (g.meaning last).down cause clean.bare.fitted.up)
-  unlabelled_failed site n rack last other clean cause = absurd cause
+  pub unlabelled_failed : (site : ℕ) (n : Node) (e : DiskSet R g) (rack last : R) (why : No) → e ≡ Bare rack → IsCleanAt n (g.meaning last) → DeviceCause (g.meaning rack) (g.meaning last) why → MadeIs site n e (Bare last) (Err (Refused why))
+  unlabelled_failed site n e rack last (Device disk) is clean cause = ((λ beside. clean), subst (λ (x : DiskSet R g). Rose (faults_at x disk) ((g.meaning last).disk_faults disk)) (sym is) cause)
+  unlabelled_failed site n e rack last Off is clean cause = absurd (never_both (g.meaning last).down cause clean.bare.fitted.up)
+  unlabelled_failed site n e rack last other is clean cause = absurd cause
 
-  zeroed_why : (site : ℕ) (n : Node) (rack last : R) (error : ShelfError) → DeviceCause (g.meaning rack) (g.meaning last) (refusal_of error) → IsMarkedAt n (g.meaning last)
-      → MadeIs site n (Spoiled rack) (OfGroup (record { site = Marked last; cut = None })) (Err (Refused (refusal_of error)))
-  zeroed_why site n rack last (Fault disk) cause it = ((λ beside. marked_set beside n last it), cause)
-  zeroed_why site n rack last IsOff cause it = absurd (never_both (g.meaning last).down cause it.marked.up)
+  zeroed_why : (site : ℕ) (n : Node) (e : DiskSet R g) (rack last : R) (error : ShelfError) → e ≡ Spoiled rack → DeviceCause (g.meaning rack) (g.meaning last) (refusal_of error) → IsMarkedAt n (g.meaning last)
+      → MadeIs site n e (OfGroup (record { site = Marked last; cut = None })) (Err (Refused (refusal_of error)))
+  zeroed_why site n e rack last (Fault disk) is cause it = ((λ beside. marked_set beside n last it), subst (λ (x : DiskSet R g). Rose (faults_at x disk) ((g.meaning last).disk_faults disk)) (sym is) cause)
+  zeroed_why site n e rack last IsOff is cause it = absurd (never_both (g.meaning last).down cause it.marked.up)
 
-  pub zeroed_failed : (site : ℕ) (n : Node) (rack last : R) (error : ShelfError) (stop : Stop) → stop ≡ Refused (refusal_of error) → Goes OnlyZeros (g.meaning rack) (g.meaning last)
-      → DeviceCause (g.meaning rack) (g.meaning last) (refusal_of error) → IsMarkedAt n (g.meaning rack) → MadeIs {g = g} site n (Spoiled rack) (OfGroup (record { site = Marked last; cut = None })) (Err stop)
-  zeroed_failed site n rack last error stop is goes cause it =
-      subst (λ (s : Stop). MadeIs site n (Spoiled rack) (OfGroup (record { site = Marked last; cut = None })) (Err s)) (sym is) (zeroed_why site n rack last error cause (marked_still n (g.meaning rack) (g.meaning last) goes it))
+  pub zeroed_failed : (site : ℕ) (n : Node) (e : DiskSet R g) (rack last : R) (error : ShelfError) (stop : Stop) → e ≡ Spoiled rack → stop ≡ Refused (refusal_of error) → Goes OnlyZeros (g.meaning rack) (g.meaning last)
+      → DeviceCause (g.meaning rack) (g.meaning last) (refusal_of error) → IsMarkedAt n (g.meaning rack) → MadeIs site n e (OfGroup (record { site = Marked last; cut = None })) (Err stop)
+  zeroed_failed site n e rack last error stop old is goes cause it =
+      subst (λ (s : Stop). MadeIs site n e (OfGroup (record { site = Marked last; cut = None })) (Err s)) (sym is) (zeroed_why site n e rack last error old cause (marked_still n (g.meaning rack) (g.meaning last) goes it))

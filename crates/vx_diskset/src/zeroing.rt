@@ -39,8 +39,10 @@ fn zero_disk<R: Rack>(rack: &mut R, disk: u32) -> Result<(), ShelfError>
     let mut done = 0;
     while done < blocks {
         let count = (blocks - done).min(RUN as u64);
-        zero_run(rack, disk, done, count)?;
-        done += count;
+        match zero_run(rack, disk, done, count) {
+            Ok(()) => done += count,
+            Err(error) => return Err(error),
+        }
     }
     rack.flush(disk)
 }
@@ -52,8 +54,12 @@ pub(crate) fn zero_disks<R: Rack>(rack: &mut R) -> Result<(), ShelfError>
     ensures cause { IfErr result (λ e. DeviceCause (R.meaning rack.old) (R.meaning rack.new) (refusal_of e)) }
     ensures failing { FailsAlike (R.meaning rack.old).disks (R.meaning rack.new).disks }
 {
-    for disk in 0..rack.units() {
-        zero_disk(rack, disk)?;
+    let disks = rack.units();
+    for disk in 0..disks {
+        match zero_disk(rack, disk) {
+            Ok(()) => {}
+            Err(error) => return Err(error),
+        }
     }
     Ok(())
 }

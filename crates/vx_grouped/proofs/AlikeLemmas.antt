@@ -6,7 +6,10 @@ use Rattle.vx_disk.specs.Racks.{Alike, IsRack}
 use Rattle.vx_disk.specs.Shelf.{Each, Image, Meaning}
 use Rattle.vx_history.specs.Groups.{GroupNode}
 use Rattle.vx_history.specs.World.{Fuse, NoFuse, FuseSet, FuseLit, Node}
+use Rattle.vx_config.specs.Configs.{HasSpelling}
 use Rattle.vx_config.specs.declared.config.Config.{Config}
+use Rattle.vx_kept.specs.Cleans.{at_serial}
+use Rattle.vx_kept.specs.Facts.{is_found}
 use Rattle.vx_kept.proofs.Low.{found_same}
 use Rattle.vx_group.specs.Holding.{wide}
 use Rattle.vx_group.specs.Stands.{inner_meaning}
@@ -58,17 +61,21 @@ module _ (n : Node) (note : GroupNode) (c d : GroupCore) (m m' : Meaning) (core 
     holds = holds_alike note (inner_meaning (wide c) m) (inner_meaning (wide d) m') volumes lies.holds;
   }
 
+  spells_core : HasSpelling (at_serial 0 c.inner.config) → HasSpelling (at_serial 0 d.inner.config)
+  spells_core it = subst (λ (x : GroupCore). HasSpelling (at_serial 0 x.inner.config)) (sym core) it
+
   pub alike_up : HasFuse n.fuse m' → GroupUp n note c m → GroupUp n note d m'
-  alike_up fuse it = record { noted = it.noted; fuse = fuse; at = record { state = it.at.state; up = λ is. it.at.up (subst IsTrue down is); lies = alike_lies it.at.lies } }
+  alike_up fuse it = record { noted = it.noted; fuse = fuse; spells = spells_core it.spells; at = record { state = it.at.state; up = λ is. it.at.up (subst IsTrue down is); lies = alike_lies it.at.lies } }
 
   pub alike_fallen : GroupFallen n note c m → GroupFallen n note d m'
-  alike_fallen it = record { noted = it.noted; cut = record { down = down ∙ it.cut.down; lies = alike_lies it.cut.lies } }
+  alike_fallen it = record { noted = it.noted; spells = spells_core it.spells; cut = record { down = down ∙ it.cut.down; lies = alike_lies it.cut.lies } }
 
   -- with a fuse that was just set
   pub fused_up : (calls : ℕ) → LetsPass calls m'.disks → GroupUp n note c m → GroupUp (record n { fuse = FuseSet calls }) note d m'
   fused_up calls fuse it = record {
     noted = record { is = it.noted.is; none = record { role = it.noted.none.role; volumes = it.noted.none.volumes; log = it.noted.none.log; safe = it.noted.none.safe; running = it.noted.none.running } };
     fuse = fuse;
+    spells = spells_core it.spells;
     at = record { state = it.at.state; up = λ is. it.at.up (subst IsTrue down is); lies = lies_as n (record n { fuse = FuseSet calls }) note d m' refl refl (alike_lies it.at.lies) };
   }
 
@@ -84,32 +91,26 @@ module _ (n : Node) (note : GroupNode) (m m' : Meaning) (units : m'.units ≡ m.
     size = λ u low. size u ∙ it.size u low;
     can = λ tight. less_can m m' units size leaves (it.can tight);
     sizes = it.sizes;
+    finds = λ i each. subst (λ o. is_found o ≡ true) (sym (found_same m m' units size (λ u. true) i)) (it.finds i (before i each));
     volumes = λ i x each is. it.volumes i x (before i each) (sym (found_same m m' units size (λ u. true) i) ∙ is);
     has = λ i x each is. it.has i x (before i each) (sym (found_same m m' units size (λ u. true) i) ∙ is);
   }
 
-  pub less_down : IsAwayAt n note m → IsAwayAt n note m'
-  less_down it = record { state = it.state; last = it.last; config = it.config; lies = less_away it.last it.lies }
+  pub less_down : (last : Config) → IsAwayAt n note last m → IsAwayAt n note last m'
+  less_down last it = record { state = it.state; config = it.config; lies = less_away last it.lies }
 
-  pub less_deported : IsDeportedAt n note m → IsDeportedAt n note m'
-  less_deported it = record {
-    state = it.state;
-    last = it.last;
-    newest = it.newest;
-    finds = λ i each. found_same m m' units size (λ u. true) i ∙ it.finds i (before i each);
-    config = it.config;
-    lies = less_away it.last it.lies;
-  }
+  pub less_deported : (last newest : Config) → IsDeportedAt n note last newest m → IsDeportedAt n note last newest m'
+  less_deported last newest it = record { state = it.state; config = it.config; frames = it.frames; lies = less_away last it.lies }
 
 module _ (n : Node) (m m' : Meaning) (alike : Alike m m') (down : m'.down ≡ m.down) (armed : m'.armed ≡ m.armed) where
   stopped_alike : AreStopped m → AreStopped m'
   stopped_alike it = record { down = down ∙ it.down; unarmed = armed ∙ it.unarmed }
 
   pub alike_down : (note : GroupNode) → GroupDown n note m → GroupDown n note m'
-  alike_down note it = record { noted = it.noted; unfused = it.unfused; stopped = stopped_alike it.stopped; away = less_down n note m m' alike.contents.units alike.contents.size alike.contents.leaves it.away }
+  alike_down note it = record { noted = it.noted; unfused = it.unfused; stopped = stopped_alike it.stopped; last = it.last; spells = it.spells; away = less_down n note m m' alike.contents.units alike.contents.size alike.contents.leaves it.last it.away }
 
   pub alike_away : (note : GroupNode) → HasFuse n.fuse m' → GroupAway n note m → GroupAway n note m'
-  alike_away note fuse it = record { noted = it.noted; up = λ is. it.up (subst IsTrue down is); fuse = fuse; away = less_deported n note m m' alike.contents.units alike.contents.size alike.contents.leaves it.away }
+  alike_away note fuse it = record { noted = it.noted; up = λ is. it.up (subst IsTrue down is); fuse = fuse; last = it.last; newest = it.newest; spells = it.spells; away = less_deported n note m m' alike.contents.units alike.contents.size alike.contents.leaves it.last it.newest it.away }
 
   pub alike_marked : IsMarkedSite n m → IsMarkedSite n m'
   alike_marked it = record {

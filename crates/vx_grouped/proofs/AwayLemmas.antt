@@ -41,12 +41,13 @@ module _ (n : Node) (note : GroupNode) (c : GroupCore) (m m' : Meaning) (lies : 
     size = λ u low. stopped.size u ∙ lies.size u low;
     can = λ tight. can (lies.agreed tight);
     sizes = λ v. lies.holds.size v ∙ (wide_shape c).blocks v;
+    finds = stands.kept.finds;
     volumes = λ i x each is. extends_shape x (wide c).config c.inner.config (kin i x each is).shape (wide_shape c);
     has = has;
   }
 
-  pub crash_away : (c.inner.agreed ≡ true → CanImport m') → IsAwayAt (record n { state = IsDown }) note m'
-  crash_away can = record { state = refl; last = c.inner.config; config = lies.config; lies = crash_lies can }
+  pub crash_away : (c.inner.agreed ≡ true → CanImport m') → IsAwayAt (record n { state = IsDown }) note c.inner.config m'
+  crash_away can = record { state = refl; config = lies.config; lies = crash_lies can }
 
 -- the same of equal parts
 pub lies_at : {S : Type 0} (meaning : S → Meaning) (n : Node) (note : GroupNode) (c d : GroupCore) (s t : S) → d ≡ c → t ≡ s → GroupLies n note c (meaning s) → GroupLies n note d (meaning t)

@@ -18,16 +18,17 @@ use Rattle.vx_group.specs.Calls.{GroupCreated}
 use Rattle.vx_group.specs.Creates.{IsNewGroup}
 use Rattle.vx_group.specs.Holding.{volumes_by, wide}
 use Rattle.vx_group.specs.Stands.{inner_meaning}
-use Rattle.vx_group.specs.declared.group.Group.{Group}
 use Rattle.vx_group.specs.declared.group_core.GroupCore.{GroupCore}
 use Rattle.vx_group.specs.declared.group_core.Held.{Held}
 use Rattle.vx_group.specs.declared.inner.Inner.{Inner}
 use Rattle.vx_watched.specs.Since.{CalledSince}
 use Rattle.vx_grouped.specs.Begins.{BeginRefuses, BeginsGroup, CanBegin, IsFirstNote, group_begun}
 use Rattle.vx_grouped.specs.GroupNotes.{noted_config}
-use Rattle.vx_grouped.specs.GroupSites.{IsMarkedSite, GroupUp}
+use Rattle.vx_grouped.specs.GroupSites.{GroupUp, IsMarkedSite, idle_disks, laid_disks}
 use Rattle.vx_grouped.specs.Plain.{HoldsPlain}
 use Rattle.vx_grouped.specs.SetFuses.{HasFuse}
+use Rattle.vx_grouped.specs.declared.idle.Idle.{Idle}
+use Rattle.vx_grouped.specs.declared.laid.Laid.{Laid}
 use Rattle.vx_grouped.specs.declared.group_site.GroupSite.TheVariants.{Up, Marked}
 
 -- the note of a group that was just made
@@ -125,13 +126,13 @@ module _ (m m' : Meaning) (n : Node) (can : CanBegin n m) (since : CalledSince m
     ]
 
 module _ {R : Type 0} (g : Ghosts R) (rack : R) (n : Node) (site : ℕ) (can : CanBegin n (g.meaning rack)) where
-  pub begun_done : (group : Group R g) → IsNewGroup site group.core.inner (g.meaning group.shelf) × (group.core.held ≡ None) → CalledSince (g.meaning rack) (g.meaning group.shelf) → BeginsGroup site n (g.meaning rack) (Up group) (Ok tt)
+  pub begun_done : (group : Laid R g) → IsNewGroup site group.core.inner (laid_disks group) × (group.core.held ≡ None) → CalledSince (g.meaning rack) (laid_disks group) → BeginsGroup site n (g.meaning rack) (Up group) (Ok tt)
   begun_done group it since = (
     first_note group.core.inner,
-    first (g.meaning rack) (g.meaning group.shelf) n can since site group.core it.0 it.1,
-    begun_up (g.meaning rack) (g.meaning group.shelf) n can since site group.core it.0 it.1,
+    first (g.meaning rack) (laid_disks group) n can since site group.core it.0 it.1,
+    begun_up (g.meaning rack) (laid_disks group) n can since site group.core it.0 it.1,
     (it.0.site_is, it.0.volumes, it.0.rvg),
-    trusted (g.meaning rack) (g.meaning group.shelf) n can since site group.core it.0 it.1 (HasFailed group.core.inner.config.disks) (λ some. some),
+    trusted (g.meaning rack) (laid_disks group) n can since site group.core it.0 it.1 (HasFailed group.core.inner.config.disks) (λ some. some),
   )
 
   begun_failed : (s : R) (why : No) → (HasSmall (g.meaning rack) × (why ≡ Size)) ⊎ DeviceCause (g.meaning rack) (g.meaning s) why → CalledSince (g.meaning rack) (g.meaning s) → BeginsGroup {g = g} site n (g.meaning rack) (Marked s) (Err (Refused why))

@@ -1,5 +1,5 @@
 -- Calls on a site's group that write to no volume, by its note.
-use Rattle.std.proofs.Common.{◌≡◌, ℕ, true, false, IsTrue, refl, sym, ◌∙◌, ap, subst}
+use Rattle.std.proofs.Common.{◌≡◌, Bool, ℕ, true, false, IsTrue, refl, sym, ◌∙◌, ap, subst}
 use Rattle.std.specs.Prelude.{Option, Some, None, Result, Ok, Err}
 use Rattle.vx_model.specs.declared.errors.Stop.{Stop}
 use Rattle.vx_model.specs.declared.errors.Stop.TheVariants.{No as Refused, OutOfMemory}
@@ -13,23 +13,28 @@ use Rattle.vx_disk.specs.declared.shelf.Shelf.{Ghosts}
 use Rattle.vx_history.specs.Groups.{GroupNode}
 use Rattle.vx_history.specs.World.{Node}
 use Rattle.vx_group.specs.Dets.{DetStops}
-use Rattle.vx_group.specs.declared.group.Group.{Group}
 use Rattle.vx_watched.specs.Since.{CalledSince}
 use Rattle.vx_grouped.specs.Away.{IsAwayAt}
 use Rattle.vx_grouped.specs.Ends.{CallLeaves}
-use Rattle.vx_grouped.specs.GroupNotes.{GroupLies, note_done, note_refused}
-use Rattle.vx_grouped.specs.GroupSites.{GroupUp}
-use Rattle.vx_grouped.specs.SiteEnds.{SiteCalled, stops_down}
+use Rattle.vx_grouped.specs.GroupNotes.{GroupLies, note_done, note_refused, noted_config}
+use Rattle.vx_grouped.specs.GroupSites.{GroupUp, idle_disks, laid_disks}
+use Rattle.vx_grouped.specs.SiteEnds.{SiteCalled, stops_down, ConfigGoes, HasNow}
+use Rattle.vx_grouped.specs.declared.idle.Idle.{Idle}
+use Rattle.vx_grouped.specs.declared.laid.Laid.{Laid}
+use Rattle.vx_grouped.specs.declared.group_site.GroupSite.{GroupSite}
 use Rattle.vx_grouped.specs.declared.group_site.GroupSite.TheVariants.{Up, Down}
 use Rattle.vx_grouped.proofs.SettleLemmas.{done_settles, fell_fused, fuse_burned, refused_unsettles}
 use Rattle.vx_grouped.proofs.SiteLemmas.{down_with, up_burned, up_with}
+use Rattle.vx_disk.specs.Causes.{DeviceCause}
+use Rattle.vx_config.specs.Configs.{HasSpelling}
+use Rattle.vx_kept.specs.Cleans.{at_serial}
 
 pub err_is : {T : Type 0} (x : Result T Stop) (a b : Stop) → x ≡ Err a → x ≡ Err b → a ≡ b
 err_is (Ok y) a b one two = cc
 err_is (Err s) a b one two = let p : s ≡ a = cc in let q : s ≡ b = cc in sym p ∙ q
 
 -- a refusal of a device is no test's
-pub rose_by : (T : Type 0) (m m' : Meaning) (o : Option No) (disk : ℕ) (r : Result T Stop) → r ≡ Err (Refused (Device disk)) → (o ≡ None → DetStops m m' r) → ((no : No) → o ≡ Some no → r ≡ Err (Refused no)) → (o ≡ Some (Device disk) → ⊥)
+pub rose_by : (T : Type 0) (m m' : Meaning) (o : Option No) (disk : ℕ) (r : Result T Stop) → r ≡ Err (Refused (Device disk)) → (o ≡ None → DetStops m m' r) → ((which : No) → o ≡ Some which → r ≡ Err (Refused which)) → (o ≡ Some (Device disk) → ⊥)
     → Rose (m.disk_faults disk) (m'.disk_faults disk)
 rose_by T m m' None disk r is stops refused never = by_stop r is (stops refl)
   where
@@ -41,7 +46,7 @@ rose_by T m m' (Some why) disk r is stops refused never =
     absurd (never (ap (λ (x : No). Some x) one))
 
 -- where it says that they are down they are
-pub down_by_stop : (T : Type 0) (m m' : Meaning) (o : Option No) (stop : Stop) (r : Result T Stop) → r ≡ Err stop → stops_down stop ≡ true → (o ≡ None → DetStops m m' r) → ((no : No) → o ≡ Some no → r ≡ Err (Refused no)) → (o ≡ Some IsOff → ⊥) → IsTrue m'.down
+pub down_by_stop : (T : Type 0) (m m' : Meaning) (o : Option No) (stop : Stop) (r : Result T Stop) → r ≡ Err stop → stops_down stop ≡ true → (o ≡ None → DetStops m m' r) → ((which : No) → o ≡ Some which → r ≡ Err (Refused which)) → (o ≡ Some IsOff → ⊥) → IsTrue m'.down
 down_by_stop T m m' None stop r is off stops refused never = by_stop stop off (subst (λ (y : Result T Stop). DetStops m m' y) is (stops refl))
   where
     by_stop : (x : Stop) → stops_down x ≡ true → DetStops {T = T} m m' (Err x) → IsTrue m'.down
@@ -58,38 +63,94 @@ down_by_stop T m m' (Some why) stop r is off stops refused never =
     only IsOff on = refl
     only other on = cc
 
-module _ {R : Type 0} {g : Ghosts R} (T : Type 0) (n : Node) (note : GroupNode) (group new : Group R g) (up : GroupUp n note group.core (g.meaning group.shelf)) (since : CalledSince (g.meaning group.shelf) (g.meaning new.shelf)) where
-  -- it is done
-  pub called_done : (done : T) → (group.core.inner.committed ≡ true → new.core.inner.committed ≡ true) → CallLeaves n note new.core (g.meaning new.shelf) (Ok done) → SiteCalled n note (Up group) (Up new) (Ok done)
-  called_done done trust at = (
-    note_done new.core.inner note,
-    done_settles new.core.inner note (λ tight none. trust (up.at.lies.committed tight none)),
-    up_with n note (note_done new.core.inner note) new.core (g.meaning new.shelf) up.noted (fuse_burned n.fuse (g.meaning group.shelf) (g.meaning new.shelf) since.unarmed up.fuse) at,
-  )
+-- whether a refusal blames a device
+abbrev pub blames_device : No → Bool
+blames_device (Device disk) = true
+blames_device IsOff = true
+blames_device other = false
 
-  -- it was refused, over disks that are up
-  pub called_up : (stop : Stop) → stops_down stop ≡ false → CallLeaves {T = T} n note new.core (g.meaning new.shelf) (Err stop)
-      → ((disk : ℕ) → stop ≡ Refused (Device disk) → Rose ((g.meaning group.shelf).disk_faults disk) ((g.meaning new.shelf).disk_faults disk)) → SiteCalled {T = T} n note (Up group) (Up new) (Err stop)
-  called_up (Refused (Device disk)) off leaves rose = (
-    note_refused leaves.0 new.core.inner note,
-    refused_unsettles new.core.inner note leaves.0,
-    up_with n note (note_refused leaves.0 new.core.inner note) new.core (g.meaning new.shelf) up.noted (fuse_burned n.fuse (g.meaning group.shelf) (g.meaning new.shelf) since.unarmed up.fuse) leaves.1,
-    rose disk refl,
-  )
-  called_up (Refused IsOff) off leaves rose = cc
-  called_up (Refused other) off leaves rose = up_burned n note new.core (g.meaning new.shelf) up.noted (fuse_burned n.fuse (g.meaning group.shelf) (g.meaning new.shelf) since.unarmed up.fuse) leaves
-  called_up OutOfMemory off leaves rose = absurd leaves
+pub none_else : (m m' : Meaning) (which : No) → blames_device which ≡ false → DeviceCause m m' which → ⊥
+none_else m m' (Device disk) is cause = let clash : true ≡ false = is in cc
+none_else m m' IsOff is cause = let clash : true ≡ false = is in cc
+none_else m m' other is cause = cause
 
-  module _ (rack : R) (stopped : Stopped (g.meaning new.shelf) (g.meaning rack))
-      (away : (k : Node) (next : GroupNode) → GroupLies k next new.core (g.meaning new.shelf) → IsAwayAt (record k { state = IsDown }) next (g.meaning rack)) where
-    -- the fuse ran out in it
-    pub called_cut : (stop : Stop) → stops_down stop ≡ true → CallLeaves {T = T} n note new.core (g.meaning new.shelf) (Err stop) → SiteCalled {T = T} n note (Up group) (Down rack) (Err stop)
-    called_cut (Refused (Device disk)) off leaves = cc
-    called_cut (Refused IsOff) off leaves = (
+-- another refusal is that of the tests
+pub lacks_by : (T : Type 0) (m m' : Meaning) (o : Option No) (stop : Stop) (r : Result T Stop) → r ≡ Err stop → (o ≡ None → DetStops m m' r) → ((which : No) → o ≡ Some which → r ≡ Err (Refused which)) → (which : No) → stop ≡ Refused which → blames_device which ≡ false → o ≡ Some which
+lacks_by T m m' None stop r is stops refused which same other =
+    absurd (none_else m m' which other (subst (λ (x : Result T Stop). DetStops m m' x) (is ∙ ap (λ (x : Stop). Err x) same) (stops refl)))
+lacks_by T m m' (Some why) stop r is stops refused which same other =
+    let one : stop ≡ Refused why = err_is r stop (Refused why) is (refused why refl) in
+    let two : Refused why ≡ Refused which = sym one ∙ same in
+    let three : why ≡ which = cc in
+    ap (λ (x : No). Some x) three
+
+-- where it blames a device no test refused it, as tests of names and counts blame none
+pub none_refused : (T : Type 0) (o : Option No) (stop : Stop) (r : Result T Stop) → r ≡ Err stop → ((which : No) → o ≡ Some which → r ≡ Err (Refused which)) → (o ≡ Some IsOff → ⊥) → ((disk : ℕ) → o ≡ Some (Device disk) → ⊥) → (which : No) → stop ≡ Refused which → blames_device which ≡ true → o ≡ None
+none_refused T None stop r is refused off device which same blames = refl
+none_refused T (Some why) stop r is refused off device which same blames =
+    let one : stop ≡ Refused why = err_is r stop (Refused why) is (refused why refl) in
+    let two : Refused why ≡ Refused which = sym one ∙ same in
+    let three : why ≡ which = cc in
+    absurd (by why (λ here. off (ap (λ (x : No). Some x) here)) (λ disk here. device disk (ap (λ (x : No). Some x) here)) (subst (λ (x : No). blames_device x ≡ true) (sym three) blames))
+  where
+    by : (x : No) → (x ≡ IsOff → ⊥) → ((disk : ℕ) → x ≡ Device disk → ⊥) → blames_device x ≡ true → ⊥
+    by (Device disk) never none is = none disk refl
+    by IsOff never none is = never refl
+    by other never none is = let clash : false ≡ true = is in cc
+
+module _ {R : Type 0} {g : Ghosts R} (T : Type 0) (n : Node) (note : GroupNode) (group new : Laid R g) (up : GroupUp n note group.core (laid_disks group)) (since : CalledSince (laid_disks group) (laid_disks new)) (spells : HasSpelling (at_serial 0 new.core.inner.config)) where
+  -- the configuration that is noted behind the call
+  pub goes : (Change : Config → Config → Type 0) (next : GroupNode) → next.config ≡ noted_config new.core.inner.config → (e : GroupSite R g) → HasNow new.core.inner.config e → Change group.core.inner.config new.core.inner.config → ConfigGoes Change note next (Up group) e
+  goes Change next is e has change = record {
+    was = group.core.inner.config;
+    now = new.core.inner.config;
+    had = refl;
+    has = has;
+    noted = record { is = up.at.lies.config; spells = up.spells };
+    noted_now = record { is = is; spells = spells };
+    change = change;
+  }
+
+  module _ (Done Fails : Config → Config → Type 0) (Lacks : No → Type 0) where
+    -- it is done
+    pub called_done : (done : T) → (group.core.inner.committed ≡ true → new.core.inner.committed ≡ true) → CallLeaves n note new.core (laid_disks new) (Ok done) → Done group.core.inner.config new.core.inner.config
+        → SiteCalled Done Fails Lacks n note (Up group) (Up new) (Ok done)
+    called_done done trust at change = (
+      note_done new.core.inner note,
+      done_settles new.core.inner note (λ tight none. trust (up.at.lies.committed tight none)),
+      up_with n note (note_done new.core.inner note) new.core (laid_disks new) up.noted spells (fuse_burned n.fuse (laid_disks group) (laid_disks new) since.unarmed up.fuse) at,
+      goes Done (note_done new.core.inner note) refl (Up new) refl change,
+    )
+
+    -- it was refused, over disks that are up
+    pub called_up : (stop : Stop) → stops_down stop ≡ false → CallLeaves {T = T} n note new.core (laid_disks new) (Err stop)
+        → ((disk : ℕ) → stop ≡ Refused (Device disk) → Rose ((laid_disks group).disk_faults disk) ((laid_disks new).disk_faults disk))
+        → ((which : No) → stop ≡ Refused which → blames_device which ≡ true → Fails group.core.inner.config new.core.inner.config) → ((which : No) → stop ≡ Refused which → blames_device which ≡ false → Lacks which)
+        → SiteCalled {T = T} Done Fails Lacks n note (Up group) (Up new) (Err stop)
+    called_up (Refused (Device disk)) off leaves rose fails lacks = (
       note_refused leaves.0 new.core.inner note,
       refused_unsettles new.core.inner note leaves.0,
-      down_with n note (note_refused leaves.0 new.core.inner note) (g.meaning rack) up.noted (record { down = stopped.down; unarmed = stopped.unarmed }) (away n (note_refused leaves.0 new.core.inner note) leaves.1.lies),
-      fell_fused n.fuse (g.meaning group.shelf) (g.meaning new.shelf) up.fuse up.at.up since.safe leaves.1.down,
+      up_with n note (note_refused leaves.0 new.core.inner note) new.core (laid_disks new) up.noted spells (fuse_burned n.fuse (laid_disks group) (laid_disks new) since.unarmed up.fuse) leaves.1,
+      rose disk refl,
+      goes Fails (note_refused leaves.0 new.core.inner note) refl (Up new) refl (fails (Device disk) refl refl),
     )
-    called_cut (Refused other) off leaves = cc
-    called_cut OutOfMemory off leaves = cc
+    called_up (Refused IsOff) off leaves rose fails lacks = cc
+    called_up (Refused other) off leaves rose fails lacks =
+        (up_burned n note new.core (laid_disks new) up.noted spells (fuse_burned n.fuse (laid_disks group) (laid_disks new) since.unarmed up.fuse) leaves, lacks other refl refl)
+    called_up OutOfMemory off leaves rose fails lacks = absurd leaves
+
+    module _ (idle : Idle R g) (stopped : Stopped (laid_disks new) (idle_disks idle))
+        (away : (k : Node) (next : GroupNode) → GroupLies k next new.core (laid_disks new) → IsAwayAt (record k { state = IsDown }) next new.core.inner.config (idle_disks idle)) where
+      -- the fuse ran out in it
+      pub called_cut : (stop : Stop) → stops_down stop ≡ true → CallLeaves {T = T} n note new.core (laid_disks new) (Err stop) → ((which : No) → stop ≡ Refused which → blames_device which ≡ true → Fails group.core.inner.config new.core.inner.config)
+          → SiteCalled {T = T} Done Fails Lacks n note (Up group) (Down idle) (Err stop)
+      called_cut (Refused (Device disk)) off leaves fails = cc
+      called_cut (Refused IsOff) off leaves fails = (
+        note_refused leaves.0 new.core.inner note,
+        refused_unsettles new.core.inner note leaves.0,
+        down_with n note (note_refused leaves.0 new.core.inner note) new.core.inner.config (idle_disks idle) up.noted (record { down = stopped.down; unarmed = stopped.unarmed }) spells (away n (note_refused leaves.0 new.core.inner note) leaves.1.lies),
+        fell_fused n.fuse (laid_disks group) (laid_disks new) up.fuse up.at.up since.safe leaves.1.down,
+        goes Fails (note_refused leaves.0 new.core.inner note) refl (Down idle) tt (fails IsOff refl refl),
+      )
+      called_cut (Refused other) off leaves fails = cc
+      called_cut OutOfMemory off leaves fails = cc

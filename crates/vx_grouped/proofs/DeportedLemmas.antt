@@ -12,10 +12,11 @@ use Rattle.vx_history.specs.World.{Node}
 use Rattle.vx_config.specs.declared.config.Config.{Config}
 use Rattle.vx_copyfmt.specs.Imports.{Found}
 use Rattle.vx_kept.specs.Choice.{live}
-use Rattle.vx_kept.specs.Cleans.{at_serial}
+use Rattle.vx_kept.specs.Cleans.{at_serial, cleaned}
 use Rattle.vx_kept.specs.Groups.{found}
-use Rattle.vx_kept.specs.Keeping.{Kin}
-use Rattle.vx_kept.proofs.Chosen.{active_volumes, extends_shape, extends_volumes}
+use Rattle.vx_kept.specs.Keeping.{Kin, frame_at}
+use Rattle.vx_kept.proofs.Chosen.{active_volumes, extends_shape, extends_volumes, frames_volumes, live_volumes}
+use Rattle.vx_kept.proofs.CleanLemmas.{all_clean}
 use Rattle.vx_kept.proofs.Narrower.{stand_apart}
 use Rattle.vx_kept.proofs.Steps.{inside_back}
 use Rattle.vx_layout.specs.Places.{place}
@@ -79,18 +80,29 @@ module _ (n : Node) (note : GroupNode) (c : GroupCore) (m m' : Meaning) (lies : 
         ];
       })))
 
-  pub deported_at : (c.inner.committed ≡ true → CanImport m') → IsDeportedAt (record n { state = IsDeported }) (note_deported it.config c.inner note) m'
+  -- it has the volumes that it had
+  pub newest_frames : (v : ℕ) → frame_at it.config v ≡ frame_at c.inner.config v
+  newest_frames v =
+      frames_volumes it.config (cleaned it.behind.unsure it.behind.config (length c.inner.config.volumes)) it.volumes v
+      ∙ (all_clean it.behind.unsure (length c.inner.config.volumes) it.behind.config).alike.shape.frames v ∙ it.quiesces.shape.frames v
+
+  -- and its plexes take part as those behind the flushes do
+  pub newest_lives : (v p : ℕ) → live it.config v p ≡ live it.behind.config v p
+  newest_lives v p =
+      live_volumes it.config (cleaned it.behind.unsure it.behind.config (length c.inner.config.volumes)) it.volumes v p
+      ∙ (all_clean it.behind.unsure (length c.inner.config.volumes) it.behind.config).alike.lives v p
+
+  pub deported_at : (c.inner.committed ≡ true → CanImport m') → IsDeportedAt (record n { state = IsDeported }) (note_deported it.config c.inner note) c.inner.config it.config m'
   deported_at can = record {
     state = refl;
-    last = c.inner.config;
-    newest = it.config;
-    finds = it.finds;
     config = refl;
+    frames = newest_frames;
     lies = record {
       units = it.quiesces.acts.units ∙ lies.units;
       size = λ u low. it.quiesces.acts.size u ∙ lies.size u low;
       can = λ tight. can (deported_tight c.inner.committed tight);
       sizes = λ v. lies.holds.size v ∙ (wide_shape c).blocks v;
+      finds = it.kept.finds;
       volumes = λ i x each is. extends_shape x it.behind.config c.inner.config
           (extends_volumes x (at_serial it.config.serial it.behind.config) it.behind.config refl (kin i x each is).shape) it.quiesces.shape;
       has = λ i x each is v p b inside on. elim (has i x each is v p b inside on) [

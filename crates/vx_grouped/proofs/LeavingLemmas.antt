@@ -1,11 +1,12 @@
 -- A deport of a site's group, by its note.
-use Rattle.std.proofs.Common.{◌≡◌, ◌⊎◌, inl, inr, ℕ, true, IsTrue, sym, ◌∙◌, subst}
-use Rattle.std.specs.Prelude.{Ok, Err}
+use Rattle.std.proofs.Common.{◌≡◌, ◌⊎◌, inl, inr, ℕ, false, true, IsTrue, refl, sym, ◌∙◌, subst, arith}
+use Rattle.std.specs.Prelude.{Ok, Err, slice_get}
 use Rattle.vx_model.specs.declared.errors.Stop.{Stop}
 use Rattle.vx_model.specs.declared.errors.Stop.TheVariants.{No as Refused, OutOfMemory}
 use Rattle.vx_model.specs.declared.no.Counted.TheVariants.{Number as Numbers}
+use Rattle.vx_model.specs.declared.no.No.{No}
 use Rattle.vx_model.specs.declared.no.No.TheVariants.{Device, Down as IsOff, Limit}
-use Rattle.vx_model.specs.declared.site.SiteState.TheVariants.{Deported as IsDeported}
+use Rattle.vx_model.specs.declared.site.SiteState.TheVariants.{Deported as IsDeported, Down as IsDown}
 use Rattle.vx_disk.specs.Counts.{Rose}
 use Rattle.vx_disk.specs.Shelf.{Meaning}
 use Rattle.vx_disk.specs.declared.shelf.Shelf.{Ghosts}
@@ -14,14 +15,38 @@ use Rattle.vx_history.specs.World.{Node}
 use Rattle.vx_config.specs.Table.{greatest}
 use Rattle.vx_config.specs.declared.config.Config.{Config}
 use Rattle.vx_group.specs.Dets.{DetStops}
-use Rattle.vx_group.specs.declared.group.Group.{Group}
 use Rattle.vx_watched.specs.Since.{CalledSince}
-use Rattle.vx_grouped.specs.Away.{IsDeportedAt, note_deported}
-use Rattle.vx_grouped.specs.GroupSites.{GroupUp}
+use Rattle.vx_grouped.specs.Away.{IsDeportedAt, note_deported, IsAwayAt}
+use Rattle.vx_grouped.specs.GroupSites.{GroupUp, idle_disks, laid_disks}
 use Rattle.vx_grouped.specs.SiteEnds.{SiteDeported, stops_down}
-use Rattle.vx_grouped.specs.declared.group_site.GroupSite.TheVariants.{Up, Deported}
+use Rattle.vx_grouped.specs.declared.idle.Idle.{Idle}
+use Rattle.vx_grouped.specs.declared.laid.Laid.{Laid}
+use Rattle.vx_grouped.specs.declared.group_site.GroupSite.TheVariants.{Up, Deported, Down}
 use Rattle.vx_grouped.proofs.SettleLemmas.{deport_settles, fuse_burned}
 use Rattle.vx_grouped.proofs.SiteLemmas.{away_with}
+use Rattle.vx_group.specs.Quiesces.{AnyFailed}
+use Rattle.vx_grouped.specs.ConfigMoves.{AnyState, CleansPlexes, DiskMoves, LosesSome, OpensSame, Placed, none_again, opened_state}
+use Rattle.vx_grouped.specs.CoreMoves.{BackMoves}
+use Rattle.vx_grouped.specs.Ends.{CallLeaves}
+use Rattle.vx_group.specs.Resumes.{CanImport}
+use Rattle.vx_model.specs.declared.site.PlexState.{PlexState}
+use Rattle.vx_model.specs.declared.site.PlexState.TheVariants.{Active, Clean, Stale}
+use Rattle.vx_untold.specs.declared.shade.Shade.{Shade}
+use Rattle.vx_group.specs.Deports.{DeportedBy}
+use Rattle.vx_grouped.specs.GroupNotes.{GroupLies}
+use Rattle.vx_group.specs.Holding.{GroupStands, wide}
+use Rattle.vx_config.specs.Configs.{HasSpelling}
+use Rattle.vx_disk.specs.Racks.{IsRack, Stopped}
+use Rattle.vx_kept.specs.Cleans.{at_serial}
+use Rattle.vx_grouped.proofs.CalledLemmas.{blames_device, called_cut, called_up, none_else}
+use Rattle.vx_grouped.proofs.WriteLemmas.{both_lose}
+use Rattle.vx_grouped.proofs.DeportedLemmas.{deported_at, newest_frames, newest_lives}
+use Rattle.vx_grouped.proofs.MovesLemmas.{disk_place, loses_some, volume_moves}
+use Rattle.vx_grouped.proofs.StateChangeLemmas.{live_state, live_there}
+use Rattle.vx_kept.proofs.Chosen.{live_volumes}
+use Rattle.vx_group.proofs.LoseLemmas.{loses_same}
+use Rattle.vx_untold.specs.Shades.{shade_meaning}
+use Rattle.vx_grouped.proofs.SpellLemmas.{spells_like}
 
 -- why it was refused: for want of serials, or for a device
 abbrev Refuses : Meaning → Meaning → Stop → Type 0
@@ -41,10 +66,87 @@ deport_rose m m' stop (inl full) disk is = let clash : Refused (Limit Numbers gr
     never clash = cc
 deport_rose m m' stop (inr it) disk is = subst (λ (x : Stop). DetStops {T = Unit {0}} m m' (Err x)) is it
 
-module _ {R : Type 0} {g : Ghosts R} (n : Node) (note : GroupNode) (group : Group R g) (rack : R) (up : GroupUp n note group.core (g.meaning group.shelf)) (since : CalledSince (g.meaning group.shelf) (g.meaning rack)) where
-  pub deported_done : (IsTrue (g.meaning rack).down → ⊥) → (x : Config) × IsDeportedAt (record n { state = IsDeported }) (note_deported x group.core.inner note) (g.meaning rack) → SiteDeported n note (Up group) (Deported rack) (Ok tt)
-  deported_done still leaves = (
-    note_deported leaves.0 group.core.inner note,
-    deport_settles leaves.0 group.core.inner note up.at.lies.committed,
-    away_with n note (note_deported leaves.0 group.core.inner note) (g.meaning rack) up.noted still (fuse_burned n.fuse (g.meaning group.shelf) (g.meaning rack) since.unarmed up.fuse) leaves.1,
-  )
+-- why it is refused, but for a device
+deport_lacks : (m m' : Meaning) (stop : Stop) → Refuses m m' stop → (which : No) → stop ≡ Refused which → blames_device which ≡ false → which ≡ Limit Numbers greatest
+deport_lacks m m' stop (inl full) which is other = let same : Refused which ≡ Refused (Limit Numbers greatest) = sym is ∙ full in cc
+deport_lacks m m' stop (inr it) which is other = absurd (none_else m m' which other (subst (λ (x : Stop). DetStops {T = Unit {0}} m m' (Err x)) is it))
+
+-- ---- the configuration of disks that were deported
+
+opened_by : (s t : PlexState) → live_state t ≡ live_state s → opened_state t ≡ opened_state s
+opened_by Active Active same = refl
+opened_by Active Clean same = refl
+opened_by Active Stale same = let clash : false ≡ true = same in cc
+opened_by Clean Active same = refl
+opened_by Clean Clean same = refl
+opened_by Clean Stale same = let clash : false ≡ true = same in cc
+opened_by Stale Active same = let clash : true ≡ false = same in cc
+opened_by Stale Clean same = let clash : true ≡ false = same in cc
+opened_by Stale Stale same = refl
+
+module _ (n : Node) (note : GroupNode) (c : GroupCore) (m m' : Meaning) (lies : GroupLies n note c m) (stands : GroupStands c m) (one : (u : ℕ) → m.disk_faults u ≡ m.faults u) (two : (u : ℕ) → m'.disk_faults u ≡ m'.faults u) (it : DeportedBy (wide c).config c.inner m m') where
+  disks : (k : ℕ) → Placed (DiskMoves none_again m m' k) (slice_get c.inner.config.disks k) (slice_get it.config.disks k)
+  disks = disk_place c.inner.config it.config m m' one two none_again it.failing.count it.failing.blocks it.failing.blamed (λ u off. it.failing.stays u)
+
+  cleans_by : (it.behind.config.volumes ≡ c.inner.config.volumes) ⊎ AnyFailed m m' → CleansPlexes m m' c.inner.config it.config
+  cleans_by (inl same) = inl (record {
+    parts = it.parts;
+    disks = disks;
+    volumes = λ v. volume_moves OpensSame c.inner.config it.config v (newest_frames n note c m m' lies stands it v) (λ k p q at_p at_q.
+        opened_by p.state q.state (sym (live_there it.config v k q at_q) ∙ newest_lives n note c m m' lies stands it v k ∙ live_volumes it.behind.config c.inner.config same v k ∙ live_there c.inner.config v k p at_p));
+  })
+  cleans_by (inr any) = inr (any, record {
+    parts = it.parts;
+    disks = disks;
+    volumes = λ v. volume_moves AnyState c.inner.config it.config v (newest_frames n note c m m' lies stands it v) (λ k p q at_p at_q. tt);
+  })
+
+  cleans : CleansPlexes m m' c.inner.config it.config
+  cleans = cleans_by it.quiesces.volumes
+
+  newest_spells : HasSpelling (at_serial 0 c.inner.config) → HasSpelling (at_serial 0 it.config)
+  newest_spells has = spells_like c.inner.config it.config it.parts (newest_frames n note c m m' lies stands it) it.failing.blocks has
+
+module _ {R : Type 0} {g : Ghosts R} (n : Node) (note : GroupNode) (group : Laid R g) (up : GroupUp n note group.core (laid_disks group)) (racks : (s : Shade R) → IsRack (shade_meaning g.meaning s)) where
+  module _ (idle : Idle R g) (since : CalledSince (laid_disks group) (idle_disks idle)) where
+    deported_of : (it : DeportedBy (wide group.core).config group.core.inner (laid_disks group) (idle_disks idle)) → IsDeportedAt (record n { state = IsDeported }) (note_deported it.config group.core.inner note) group.core.inner.config it.config (idle_disks idle)
+        → (IsTrue (idle_disks idle).down → ⊥) → SiteDeported n note (Up group) (Deported idle) (Ok tt)
+    deported_of it at still =
+        let spells = newest_spells n note group.core (laid_disks group) (idle_disks idle) up.at.lies group.stands (racks group.shelf).counts (racks idle.rack).counts it up.spells in (
+          note_deported it.config group.core.inner note,
+          deport_settles it.config group.core.inner note up.at.lies.committed,
+          away_with n note (note_deported it.config group.core.inner note) group.core.inner.config it.config (idle_disks idle) up.noted still (fuse_burned n.fuse (laid_disks group) (idle_disks idle) since.unarmed up.fuse) spells at,
+          record {
+            was = group.core.inner.config;
+            now = it.config;
+            had = refl;
+            has = tt;
+            noted = record { is = up.at.lies.config; spells = up.spells };
+            noted_now = record { is = refl; spells = spells };
+            change = cleans n note group.core (laid_disks group) (idle_disks idle) up.at.lies group.stands (racks group.shelf).counts (racks idle.rack).counts it;
+          },
+          (it.config, record { is = refl; spells = spells }, record { finds = it.finds }),
+        )
+
+    pub deported_done : (group.core.inner.committed ≡ true → CanImport (idle_disks idle)) → DeportedBy (wide group.core).config group.core.inner (laid_disks group) (idle_disks idle) → (IsTrue (idle_disks idle).down → ⊥)
+        → SiteDeported n note (Up group) (Deported idle) (Ok tt)
+    deported_done can it still = deported_of it (deported_at n note group.core (laid_disks group) (idle_disks idle) up.at.lies group.stands it can) still
+
+  module _ (new : Laid R g) (since : CalledSince (laid_disks group) (laid_disks new)) (stop : Stop) (why : Refuses (laid_disks group) (laid_disks new) stop) (back : BackMoves group.core new.core (laid_disks group) (laid_disks new)) where
+    spells : HasSpelling (at_serial 0 new.core.inner.config)
+    spells = spells_like group.core.inner.config new.core.inner.config back.loses.parts back.loses.frames back.loses.disks.blocks up.spells
+
+    pub deport_up : stops_down stop ≡ false → CallLeaves {T = Unit {0}} n note new.core (laid_disks new) (Err stop) → SiteDeported n note (Up group) (Up new) (Err stop)
+    deport_up off leaves =
+        called_up (Unit {0}) n note group new up since spells (λ c d. ⊥) (LosesSome (laid_disks group) (laid_disks new)) (λ which. which ≡ Limit Numbers greatest) stop off leaves (deport_rose (laid_disks group) (laid_disks new) stop why)
+        (λ which is blames. loses_some group.core.inner.config new.core.inner.config (laid_disks group) (laid_disks new) (racks group.shelf).counts (racks new.shelf).counts back.on back.loses)
+        (deport_lacks (laid_disks group) (laid_disks new) stop why)
+
+    module _ (idle : Idle R g) (stopped : Stopped (laid_disks new) (idle_disks idle))
+        (away : (k : Node) (next : GroupNode) → GroupLies k next new.core (laid_disks new) → IsAwayAt (record k { state = IsDown }) next new.core.inner.config (idle_disks idle)) where
+      pub deport_cut : stops_down stop ≡ true → CallLeaves {T = Unit {0}} n note new.core (laid_disks new) (Err stop) → SiteDeported n note (Up group) (Down idle) (Err stop)
+      deport_cut off leaves =
+          called_cut (Unit {0}) n note group new up since spells (λ c d. ⊥) (LosesSome (laid_disks group) (idle_disks idle)) (λ which. which ≡ Limit Numbers greatest) idle stopped away stop off leaves
+          (λ which is blames. loses_some group.core.inner.config new.core.inner.config (laid_disks group) (idle_disks idle) (racks group.shelf).counts (racks idle.rack).counts back.on
+          (both_lose (laid_disks group) (laid_disks new) (idle_disks idle) (racks group.shelf) (racks new.shelf) (racks idle.rack) since.counts (λ d. let same = stopped.counts.disk_faults d in omega (arith, same))
+          group.core.inner.config new.core.inner.config new.core.inner.config back.loses (loses_same new.core.inner.config (laid_disks new) (idle_disks idle))))

@@ -24,3 +24,8 @@ pub mod SiteReturnLemmas
 pub mod WriteLemmas
 pub mod WroteLemmas
 pub mod StateChangeLemmas
+pub mod SpellLemmas
+pub mod MovesLemmas
+pub mod PlexMoveLemmas
+pub mod SitePlexLemmas
+pub mod BothLemmas

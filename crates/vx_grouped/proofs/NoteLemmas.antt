@@ -38,7 +38,7 @@ refused_committed false next begun none = cc
 
 -- ---- the disks below
 
-blocks_same : (ds : List DiskEntry) (u : ℕ) → u < length ds → disk_blocks ds u ≡ blocks_at ds u
+pub blocks_same : (ds : List DiskEntry) (u : ℕ) → u < length ds → disk_blocks ds u ≡ blocks_at ds u
 blocks_same [] u low = absurd (omega (arith, low))
 blocks_same (d ∷ ds) zero low = refl
 blocks_same (d ∷ ds) (suc u) low = blocks_same ds u (omega (arith, low))

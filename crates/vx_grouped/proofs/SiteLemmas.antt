@@ -5,7 +5,9 @@ use Rattle.vx_disk.specs.Shelf.{Meaning}
 use Rattle.vx_history.specs.Groups.{GroupNode}
 use Rattle.vx_history.specs.Steps.{burned, crashed}
 use Rattle.vx_history.specs.World.{Node}
+use Rattle.vx_config.specs.Configs.{HasSpelling}
 use Rattle.vx_config.specs.declared.config.Config.{Config}
+use Rattle.vx_kept.specs.Cleans.{at_serial}
 use Rattle.vx_group.specs.declared.group_core.GroupCore.{GroupCore}
 use Rattle.vx_grouped.specs.Away.{AwayLies, IsAwayAt, IsDeportedAt}
 use Rattle.vx_grouped.specs.GroupNotes.{GroupLies, IsGroupAt}
@@ -24,12 +26,13 @@ lies_as n k note c m disks blocks it = record {
   holds = it.holds;
 }
 
-away_as : (n k : Node) (note : GroupNode) (last : Config) (m : Meaning) → n.disks ≡ k.disks → n.blocks ≡ k.blocks → AwayLies n note last m → AwayLies k note last m
+pub away_as : (n k : Node) (note : GroupNode) (last : Config) (m : Meaning) → n.disks ≡ k.disks → n.blocks ≡ k.blocks → AwayLies n note last m → AwayLies k note last m
 away_as n k note last m disks blocks it = record {
   units = it.units ∙ disks;
   size = λ u low. it.size u (subst (λ (x : ℕ). u < x) (sym disks) low) ∙ blocks;
   can = it.can;
   sizes = it.sizes;
+  finds = it.finds;
   volumes = it.volumes;
   has = it.has;
 }
@@ -44,50 +47,50 @@ noted_crashed n note it = record { is = it.is; none = record { role = it.none.ro
 
 -- ---- a group that is up
 
-pub up_with : (n : Node) (note next : GroupNode) (d : GroupCore) (m' : Meaning) → NotesGroup n note → HasFuse (burned n.fuse) m' → IsGroupAt n next d m' → GroupUp (with_note next n) next d m'
-up_with n note next d m' noted fuse at = record {
+pub up_with : (n : Node) (note next : GroupNode) (d : GroupCore) (m' : Meaning) → NotesGroup n note → HasSpelling (at_serial 0 d.inner.config) → HasFuse (burned n.fuse) m' → IsGroupAt n next d m' → GroupUp (with_note next n) next d m'
+up_with n note next d m' noted spells fuse at = record {
   noted = noted_with n note next noted;
   fuse = fuse;
+  spells = spells;
   at = record { state = at.state; up = at.up; lies = lies_as n (with_note next n) next d m' refl refl at.lies };
 }
 
 -- and its note is the same
-pub up_burned : (n : Node) (note : GroupNode) (d : GroupCore) (m' : Meaning) → NotesGroup n note → HasFuse (burned n.fuse) m' → IsGroupAt n note d m' → GroupUp (record n { fuse = burned n.fuse }) note d m'
-up_burned n note d m' noted fuse at = record {
+pub up_burned : (n : Node) (note : GroupNode) (d : GroupCore) (m' : Meaning) → NotesGroup n note → HasSpelling (at_serial 0 d.inner.config) → HasFuse (burned n.fuse) m' → IsGroupAt n note d m' → GroupUp (record n { fuse = burned n.fuse }) note d m'
+up_burned n note d m' noted spells fuse at = record {
   noted = record { is = noted.is; none = record { role = noted.none.role; volumes = noted.none.volumes; log = noted.none.log; safe = noted.none.safe; running = noted.none.running } };
   fuse = fuse;
+  spells = spells;
   at = record { state = at.state; up = at.up; lies = lies_as n (record n { fuse = burned n.fuse }) note d m' refl refl at.lies };
 }
 
 -- ---- one that crashed
 
-pub down_noted : (n : Node) (note : GroupNode) (m : Meaning) → NotesGroup n note → AreStopped m → IsAwayAt (record n { state = IsDown }) note m → GroupDown (crashed n 0) note m
-down_noted n note m noted stopped away = record {
+pub down_noted : (n : Node) (note : GroupNode) (last : Config) (m : Meaning) → NotesGroup n note → AreStopped m → HasSpelling (at_serial 0 last) → IsAwayAt (record n { state = IsDown }) note last m → GroupDown (crashed n 0) note m
+down_noted n note last m noted stopped spells away = record {
   noted = noted_crashed n note noted;
   unfused = refl;
   stopped = stopped;
-  away = record { state = refl; last = away.last; config = away.config; lies = away_as (record n { state = IsDown }) (crashed n 0) note away.last m refl refl away.lies };
+  last = last;
+  spells = spells;
+  away = record { state = refl; config = away.config; lies = away_as (record n { state = IsDown }) (crashed n 0) note last m refl refl away.lies };
 }
 
 -- behind a call that changed the note
-pub down_with : (n : Node) (note next : GroupNode) (m : Meaning) → NotesGroup n note → AreStopped m → IsAwayAt (record n { state = IsDown }) next m → GroupDown (crashed (with_note next n) 0) next m
-down_with n note next m noted stopped away =
-    down_noted (with_note next n) next m (noted_with n note next noted) stopped
-    (record { state = refl; last = away.last; config = away.config; lies = away_as (record n { state = IsDown }) (record (with_note next n) { state = IsDown }) next away.last m refl refl away.lies })
+pub down_with : (n : Node) (note next : GroupNode) (last : Config) (m : Meaning) → NotesGroup n note → AreStopped m → HasSpelling (at_serial 0 last) → IsAwayAt (record n { state = IsDown }) next last m → GroupDown (crashed (with_note next n) 0) next m
+down_with n note next last m noted stopped spells away =
+    down_noted (with_note next n) next last m (noted_with n note next noted) stopped spells
+    (record { state = refl; config = away.config; lies = away_as (record n { state = IsDown }) (record (with_note next n) { state = IsDown }) next last m refl refl away.lies })
 
 -- ---- one that was deported
 
-pub away_with : (n : Node) (note next : GroupNode) (m : Meaning) → NotesGroup n note → (IsTrue m.down → ⊥) → HasFuse (burned n.fuse) m → IsDeportedAt (record n { state = IsDeported }) next m → GroupAway (deported_with next n) next m
-away_with n note next m noted up fuse away = record {
+pub away_with : (n : Node) (note next : GroupNode) (last newest : Config) (m : Meaning) → NotesGroup n note → (IsTrue m.down → ⊥) → HasFuse (burned n.fuse) m → HasSpelling (at_serial 0 newest) → IsDeportedAt (record n { state = IsDeported }) next last newest m → GroupAway (deported_with next n) next m
+away_with n note next last newest m noted up fuse spells away = record {
   noted = record { is = refl; none = record { role = noted.none.role; volumes = noted.none.volumes; log = refl; safe = refl; running = refl } };
   up = up;
   fuse = fuse;
-  away = record {
-    state = refl;
-    last = away.last;
-    newest = away.newest;
-    finds = away.finds;
-    config = away.config;
-    lies = away_as (record n { state = IsDeported }) (deported_with next n) next away.last m refl refl away.lies;
-  };
+  last = last;
+  newest = newest;
+  spells = spells;
+  away = record { state = refl; config = away.config; frames = away.frames; lies = away_as (record n { state = IsDeported }) (deported_with next n) next last m refl refl away.lies };
 }

@@ -28,15 +28,16 @@ use Rattle.vx_kept.proofs.Low.{found_same}
 use Rattle.vx_group.specs.Imports.{ImportStops, StopsEarly}
 use Rattle.vx_group.specs.Resumes.{CanImport}
 use Rattle.vx_group.proofs.AgainLemmas.{goes_can}
-use Rattle.vx_group.specs.declared.group.Group.{Group}
 use Rattle.vx_group.specs.declared.group_core.GroupCore.{GroupCore}
 use Rattle.vx_watched.specs.Since.{CalledSince}
 use Rattle.vx_grouped.specs.Away.{AwayLies}
-use Rattle.vx_grouped.specs.GroupSites.{GroupAway, GroupDown, GroupUp, NotesGroup}
+use Rattle.vx_grouped.specs.GroupSites.{GroupAway, GroupDown, GroupUp, NotesGroup, idle_disks, laid_disks}
 use Rattle.vx_grouped.specs.Returns.{GroupReturns, HasNoMore, ImportLeft, note_imported, note_loose}
 use Rattle.vx_grouped.specs.SetFuses.{HasFuse}
 use Rattle.vx_grouped.specs.SiteEnds.{stops_down}
 use Rattle.vx_grouped.specs.SiteReturns.{BlamesDisk, ImportRefused, LeftAgain, NoteReturns, SiteImports, SiteRecovers, StaysAway, returned_with, stops_early}
+use Rattle.vx_grouped.specs.declared.idle.Idle.{Idle}
+use Rattle.vx_grouped.specs.declared.laid.Laid.{Laid}
 use Rattle.vx_grouped.specs.declared.group_site.GroupSite.TheVariants.{Up, Deported, Down}
 use Rattle.vx_grouped.proofs.AlikeLemmas.{less_away}
 use Rattle.vx_grouped.proofs.ReturnLemmas.{away_again}
@@ -207,13 +208,13 @@ module _ {R : Type 0} (g : Ghosts R) (n : Node) (note : GroupNode) (rack first :
   lies : AwayLies n note down.away.last (g.meaning first)
   lies = less_away n note (g.meaning rack) (g.meaning first) revived.contents.units revived.contents.size revived.contents.leaves down.away.last down.away.lies
 
-  pub recovered_up : (g.meaning first).armed ≡ (g.meaning rack).armed → (group : Group R g) → CalledSince (g.meaning first) (g.meaning group.shelf)
-      → ((last : Config) → AwayLies n note last (g.meaning first) → GroupReturns n note last (g.meaning first) group.core (g.meaning group.shelf)) → SiteRecovers {g = g} n note (Down rack) (Up group) (Ok tt)
+  pub recovered_up : (g.meaning first).armed ≡ (g.meaning rack).armed → (group : Laid R g) → CalledSince (g.meaning first) (laid_disks group)
+      → ((last : Config) → AwayLies n note last (g.meaning first) → GroupReturns n note last (g.meaning first) group.core (laid_disks group)) → SiteRecovers {g = g} n note (Down rack) (Up group) (Ok tt)
   recovered_up armed group since back =
       let it = back down.away.last lies in (
-        next n note down.away.last (g.meaning rack) (g.meaning first) revived.contents.tells lies group.core (g.meaning group.shelf) it,
-        returns_note n note down.away.last (g.meaning rack) (g.meaning first) revived.contents.tells lies group.core (g.meaning group.shelf) it,
-        returns_up n note down.away.last (g.meaning rack) (g.meaning first) revived.contents.tells lies group.core (g.meaning group.shelf) it down.noted (no_fuse n.fuse (g.meaning group.shelf) down.unfused (since.unarmed (armed ∙ down.stopped.unarmed))),
+        next n note down.away.last (g.meaning rack) (g.meaning first) revived.contents.tells lies group.core (laid_disks group) it,
+        returns_note n note down.away.last (g.meaning rack) (g.meaning first) revived.contents.tells lies group.core (laid_disks group) it,
+        returns_up n note down.away.last (g.meaning rack) (g.meaning first) revived.contents.tells lies group.core (laid_disks group) it down.noted (no_fuse n.fuse (laid_disks group) down.unfused (since.unarmed (armed ∙ down.stopped.unarmed))),
       )
 
   pub recovered_not : (middle new : R) (stop : Stop) → Stopped (g.meaning middle) (g.meaning new) → CanImport (g.meaning new) → ImportStops (g.meaning first) (g.meaning middle) stop
@@ -237,14 +238,14 @@ up_not_down true up is = let clash : true ≡ false = up in cc
 up_not_down false up is = let clash : false ≡ true = is in cc
 
 module _ {R : Type 0} (g : Ghosts R) (n : Node) (note : GroupNode) (rack : R) (away : GroupAway n note (g.meaning rack)) where
-  pub imported_up : (group : Group R g) → CalledSince (g.meaning rack) (g.meaning group.shelf)
-      → ((last : Config) → AwayLies n note last (g.meaning rack) → GroupReturns n note last (g.meaning rack) group.core (g.meaning group.shelf)) → SiteImports {g = g} n note (Deported rack) (Up group) (Ok tt)
+  pub imported_up : (group : Laid R g) → CalledSince (g.meaning rack) (laid_disks group)
+      → ((last : Config) → AwayLies n note last (g.meaning rack) → GroupReturns n note last (g.meaning rack) group.core (laid_disks group)) → SiteImports {g = g} n note (Deported rack) (Up group) (Ok tt)
   imported_up group since back =
       let it = back away.away.last away.away.lies in (
-        next n note away.away.last (g.meaning rack) (g.meaning rack) refl away.away.lies group.core (g.meaning group.shelf) it,
-        returns_note n note away.away.last (g.meaning rack) (g.meaning rack) refl away.away.lies group.core (g.meaning group.shelf) it,
-        returns_up n note away.away.last (g.meaning rack) (g.meaning rack) refl away.away.lies group.core (g.meaning group.shelf) it away.noted
-            (fuse_burned n.fuse (g.meaning rack) (g.meaning group.shelf) since.unarmed away.fuse),
+        next n note away.away.last (g.meaning rack) (g.meaning rack) refl away.away.lies group.core (laid_disks group) it,
+        returns_note n note away.away.last (g.meaning rack) (g.meaning rack) refl away.away.lies group.core (laid_disks group) it,
+        returns_up n note away.away.last (g.meaning rack) (g.meaning rack) refl away.away.lies group.core (laid_disks group) it away.noted
+            (fuse_burned n.fuse (g.meaning rack) (laid_disks group) since.unarmed away.fuse),
       )
 
   away_by : (new : R) (stop : Stop) → stops_down stop ≡ false → StaysAway n note (g.meaning rack) (g.meaning new) → BlamesDisk stop (g.meaning rack) (g.meaning new) → SiteImports {g = g} n note (Deported rack) (Deported new) (Err stop)

@@ -13,10 +13,10 @@ use Rattle.vx_kept.specs.Keeping.{AllOn}
 use Rattle.vx_group.specs.Loses.{AnyBlamed, LosesPlexes}
 use Rattle.vx_grouped.specs.StateChanges.{StateStays}
 
-abbrev on_state : PlexState → Bool
+abbrev pub on_state : PlexState → Bool
 on_state s = active_or (Some (record { state = s; whole = false; subdisks = [] }))
 
-abbrev live_state : PlexState → Bool
+abbrev pub live_state : PlexState → Bool
 live_state s = live_or (Some (record { state = s; whole = false; subdisks = [] }))
 
 module _ (c : Config) (v k : ℕ) (m m' : Meaning) where
@@ -30,11 +30,11 @@ module _ (c : Config) (v k : ℕ) (m m' : Meaning) where
   by_state Active Clean one two down up = absurd (let no_one : false ≡ true = two refl in cc)
   by_state Stale Clean one two down up = absurd (let no_one : false ≡ true = two refl in cc)
 
-on_there : (c : Config) (v k : ℕ) (p : PlexEntry) → plex_at c v k ≡ Some p → active c v k ≡ on_state p.state
+pub on_there : (c : Config) (v k : ℕ) (p : PlexEntry) → plex_at c v k ≡ Some p → active c v k ≡ on_state p.state
 unfolding active
 on_there c v k p at = ap active_or at
 
-live_there : (c : Config) (v k : ℕ) (p : PlexEntry) → plex_at c v k ≡ Some p → live c v k ≡ live_state p.state
+pub live_there : (c : Config) (v k : ℕ) (p : PlexEntry) → plex_at c v k ≡ Some p → live c v k ≡ live_state p.state
 unfolding live
 live_there c v k p at = ap live_or at
 

@@ -1,5 +1,5 @@
 -- Writes and reads of a site's group, by its note.
-use Rattle.std.proofs.Common.{refl, ◌≡◌, ℕ, true, false, List, IsTrue, arith}
+use Rattle.std.proofs.Common.{refl, sym, subst, ◌≡◌, ℕ, true, false, List, IsTrue, arith}
 use Rattle.std.specs.Prelude.{Ok, Err}
 use Rattle.vx_model.specs.Content.{Write}
 use Rattle.vx_model.specs.declared.no.No.{No}
@@ -8,24 +8,34 @@ use Rattle.vx_model.specs.declared.site.SiteState.TheVariants.{Down as IsDown}
 use Rattle.vx_disk.specs.Causes.{DeviceCause}
 use Rattle.vx_disk.specs.Racks.{IsRack, Stopped}
 use Rattle.vx_disk.specs.Shelf.{Meaning}
+use Rattle.vx_untold.specs.declared.shade.Shade.{Shade}
 use Rattle.vx_disk.specs.declared.shelf.Shelf.{Ghosts}
 use Rattle.vx_history.specs.Groups.{GroupNode, note_cut, note_doubt, note_write}
 use Rattle.vx_history.specs.Steps.{burned}
 use Rattle.vx_history.specs.World.{Node}
 use Rattle.vx_group.specs.Loses.{LosesPlexes}
-use Rattle.vx_group.specs.declared.group.Group.{Group}
 use Rattle.vx_group.proofs.LoseLemmas.{loses_same}
 use Rattle.vx_watched.specs.Since.{CalledSince}
 use Rattle.vx_grouped.specs.Away.{IsAwayAt}
 use Rattle.vx_grouped.specs.Ends.{WriteLeaves, plain_write}
 use Rattle.vx_grouped.specs.GroupNotes.{GroupLies, IsGroupAt, note_done, note_refused, noted_config}
-use Rattle.vx_grouped.specs.GroupSites.{GroupUp}
-use Rattle.vx_grouped.specs.SiteEnds.{ConfigGoes, PlainRead, PlainWrote, answers_down}
+use Rattle.vx_grouped.specs.GroupSites.{GroupUp, idle_disks, laid_disks, site_disks}
+use Rattle.vx_grouped.specs.SiteEnds.{ConfigGoes, PlainRead, PlainWrote, answers_down, HasNow}
 use Rattle.vx_grouped.specs.Watches.{PlainReads, PlainWrites}
+use Rattle.vx_grouped.specs.declared.idle.Idle.{Idle}
+use Rattle.vx_grouped.specs.declared.laid.Laid.{Laid}
+use Rattle.vx_grouped.specs.declared.group_site.GroupSite.{GroupSite}
 use Rattle.vx_grouped.specs.declared.group_site.GroupSite.TheVariants.{Up, Down}
 use Rattle.vx_grouped.proofs.WriteLemmas.{both_lose}
 use Rattle.vx_grouped.proofs.SettleLemmas.{done_settles, fell_fused, fuse_burned, refused_unsettles}
 use Rattle.vx_grouped.proofs.SiteLemmas.{down_with, up_burned, up_with}
+use Rattle.vx_grouped.specs.CoreMoves.{BothOn}
+use Rattle.vx_config.specs.Configs.{HasSpelling}
+use Rattle.vx_grouped.specs.ConfigMoves.{LosesSome}
+use Rattle.vx_kept.specs.Cleans.{at_serial}
+use Rattle.vx_grouped.proofs.MovesLemmas.{loses_some}
+use Rattle.vx_untold.specs.Shades.{shade_meaning}
+use Rattle.vx_grouped.proofs.SpellLemmas.{spells_like}
 
 -- what the answer of a device says of the disks
 pub down_by : (m m' : Meaning) (no : No) → answers_down no ≡ true → DeviceCause m m' no → IsTrue m'.down
@@ -33,73 +43,94 @@ down_by m m' (Device disk) off cause = cc
 down_by m m' IsOff off cause = cause
 down_by m m' other off cause = cc
 
-module _ {R : Type 0} {g : Ghosts R} (n : Node) (note : GroupNode) (v b : ℕ) (bytes : List ℕ) (group new : Group R g) (up : GroupUp n note group.core (g.meaning group.shelf)) (since : CalledSince (g.meaning group.shelf) (g.meaning new.shelf)) where
+module _ {R : Type 0} {g : Ghosts R} (n : Node) (note : GroupNode) (v b : ℕ) (bytes : List ℕ) (group new : Laid R g) (up : GroupUp n note group.core (laid_disks group)) (since : CalledSince (laid_disks group) (laid_disks new)) where
   abbrev own : Write
   own = plain_write v b bytes
 
-  -- the configuration that is noted behind a call, whatever crashed since
-  goes : (next : GroupNode) → next.config ≡ noted_config new.core.inner.config → (m : Meaning) → LosesPlexes group.core.inner.config new.core.inner.config (g.meaning group.shelf) m → ConfigGoes note next (g.meaning group.shelf) m
-  goes next is m loses = record { was = group.core.inner.config; now = new.core.inner.config; noted = up.at.lies.config; noted_now = is; loses = loses }
+  -- it has a spelling still
+  lasts : LosesPlexes group.core.inner.config new.core.inner.config (laid_disks group) (laid_disks new) → HasSpelling (at_serial 0 new.core.inner.config)
+  lasts loses = spells_like group.core.inner.config new.core.inner.config loses.parts loses.frames loses.disks.blocks up.spells
 
-  -- a write that is done
-  pub wrote_done : PlainWrites v b bytes group.core (g.meaning group.shelf) new.core (g.meaning new.shelf) (Ok tt) → PlainWrote n note own (Up group) (Up new) (Ok tt)
-  wrote_done it = (
-    note_done new.core.inner note,
-    done_settles new.core.inner note (λ tight none. it.trust (up.at.lies.committed tight none)),
-    up_with n note (note_write own (note_done new.core.inner note)) new.core (g.meaning new.shelf) up.noted (fuse_burned n.fuse (g.meaning group.shelf) (g.meaning new.shelf) since.unarmed up.fuse) (it.leaves n note up.at),
-    goes (note_done new.core.inner note) refl (g.meaning new.shelf) it.loses,
-  )
+  module _ (racks : (s : Shade R) → IsRack (shade_meaning g.meaning s)) where
+    -- what became of its configuration, whatever crashed since
+    lost : (s : Shade R) → LosesPlexes group.core.inner.config new.core.inner.config (laid_disks group) (shade_meaning g.meaning s) → BothOn group.core.inner.config new.core.inner.config (laid_disks group).units
+        → LosesSome (laid_disks group) (shade_meaning g.meaning s) group.core.inner.config new.core.inner.config
+    lost s loses on = loses_some group.core.inner.config new.core.inner.config (laid_disks group) (shade_meaning g.meaning s) (racks group.shelf).counts (racks s).counts on loses
 
-  up_by : (no : No) → answers_down no ≡ false → WriteLeaves {T = Unit {0}} n note own new.core (g.meaning new.shelf) (Err no) → DeviceCause (g.meaning group.shelf) (g.meaning new.shelf) no
-      → LosesPlexes group.core.inner.config new.core.inner.config (g.meaning group.shelf) (g.meaning new.shelf) → PlainWrote n note own (Up group) (Up new) (Err no)
-  up_by (Device disk) off leaves cause loses = (
-    note_refused leaves.0 new.core.inner note,
-    refused_unsettles new.core.inner note leaves.0,
-    up_with n note (note_doubt own (note_refused leaves.0 new.core.inner note)) new.core (g.meaning new.shelf) up.noted (fuse_burned n.fuse (g.meaning group.shelf) (g.meaning new.shelf) since.unarmed up.fuse) leaves.1,
-    cause,
-    goes (note_refused leaves.0 new.core.inner note) refl (g.meaning new.shelf) loses,
-  )
-  up_by IsOff off leaves cause loses = cc
-  up_by other off leaves cause loses = absurd leaves
+    noted : (next : GroupNode) → next.config ≡ noted_config new.core.inner.config → (e : GroupSite R g) → HasNow new.core.inner.config e → HasSpelling (at_serial 0 new.core.inner.config)
+        → LosesSome (laid_disks group) (site_disks e) group.core.inner.config new.core.inner.config → ConfigGoes (LosesSome (laid_disks group) (site_disks e)) note next (Up group) e
+    noted next is e has spells change = record {
+      was = group.core.inner.config;
+      now = new.core.inner.config;
+      had = refl;
+      has = has;
+      noted = record { is = up.at.lies.config; spells = up.spells };
+      noted_now = record { is = is; spells = spells };
+      change = change;
+    }
 
-  -- one that failed, over disks that are up
-  pub wrote_up : (no : No) → answers_down no ≡ false → PlainWrites v b bytes group.core (g.meaning group.shelf) new.core (g.meaning new.shelf) (Err no) → PlainWrote n note own (Up group) (Up new) (Err no)
-  wrote_up why off it = up_by why off (it.leaves n note up.at) it.cause it.loses
+    -- a write that is done
+    pub wrote_done : PlainWrites v b bytes group.core (laid_disks group) new.core (laid_disks new) (Ok tt) → PlainWrote n note own (Up group) (Up new) (Ok tt)
+    wrote_done it = (
+      note_done new.core.inner note,
+      done_settles new.core.inner note (λ tight none. it.trust (up.at.lies.committed tight none)),
+      up_with n note (note_write own (note_done new.core.inner note)) new.core (laid_disks new) up.noted (lasts it.loses) (fuse_burned n.fuse (laid_disks group) (laid_disks new) since.unarmed up.fuse) (it.leaves n note up.at),
+      noted (note_done new.core.inner note) refl (Up new) refl (lasts it.loses) (lost new.shelf it.loses it.on),
+    )
 
-  module _ (rack : R) (stopped : Stopped (g.meaning new.shelf) (g.meaning rack))
-      (away : (k : Node) (next : GroupNode) → GroupLies k next new.core (g.meaning new.shelf) → IsAwayAt (record k { state = IsDown }) next (g.meaning rack)) where
-    cut_by : (no : No) → answers_down no ≡ true → WriteLeaves {T = Unit {0}} n note own new.core (g.meaning new.shelf) (Err no) → LosesPlexes group.core.inner.config new.core.inner.config (g.meaning group.shelf) (g.meaning rack)
-        → PlainWrote n note own (Up group) (Down rack) (Err no)
-    cut_by (Device disk) off leaves loses = cc
-    cut_by IsOff off leaves loses = (
+    up_by : (no : No) → answers_down no ≡ false → WriteLeaves {T = Unit {0}} n note own new.core (laid_disks new) (Err no) → DeviceCause (laid_disks group) (laid_disks new) no
+        → LosesPlexes group.core.inner.config new.core.inner.config (laid_disks group) (laid_disks new) → BothOn group.core.inner.config new.core.inner.config (laid_disks group).units → PlainWrote n note own (Up group) (Up new) (Err no)
+    up_by (Device disk) off leaves cause loses on = (
       note_refused leaves.0 new.core.inner note,
       refused_unsettles new.core.inner note leaves.0,
-      down_with n note (note_cut own (note_refused leaves.0 new.core.inner note)) (g.meaning rack) up.noted (record { down = stopped.down; unarmed = stopped.unarmed }) (away n (note_cut own (note_refused leaves.0 new.core.inner note)) leaves.1.lies),
-      fell_fused n.fuse (g.meaning group.shelf) (g.meaning new.shelf) up.fuse up.at.up since.safe leaves.1.down,
-      goes (note_refused leaves.0 new.core.inner note) refl (g.meaning rack) loses,
+      up_with n note (note_doubt own (note_refused leaves.0 new.core.inner note)) new.core (laid_disks new) up.noted (lasts loses) (fuse_burned n.fuse (laid_disks group) (laid_disks new) since.unarmed up.fuse) leaves.1,
+      cause,
+      noted (note_refused leaves.0 new.core.inner note) refl (Up new) refl (lasts loses) (lost new.shelf loses on),
     )
-    cut_by other off leaves loses = cc
+    up_by IsOff off leaves cause loses on = cc
+    up_by other off leaves cause loses on = absurd leaves
 
-    -- one in which the fuse ran out
-    pub wrote_cut : (no : No) → answers_down no ≡ true → PlainWrites v b bytes group.core (g.meaning group.shelf) new.core (g.meaning new.shelf) (Err no)
-        → IsRack (g.meaning group.shelf) → IsRack (g.meaning new.shelf) → IsRack (g.meaning rack) → PlainWrote n note own (Up group) (Down rack) (Err no)
-    wrote_cut why off it one two three =
-        cut_by why off (it.leaves n note up.at)
-        (both_lose (g.meaning group.shelf) (g.meaning new.shelf) (g.meaning rack) one two three since.counts (λ d. let same = stopped.counts.disk_faults d in omega (arith, same)) group.core.inner.config new.core.inner.config new.core.inner.config
-        it.loses (loses_same new.core.inner.config (g.meaning new.shelf) (g.meaning rack)))
+    -- one that failed, over disks that are up
+    pub wrote_up : (no : No) → answers_down no ≡ false → PlainWrites v b bytes group.core (laid_disks group) new.core (laid_disks new) (Err no) → PlainWrote n note own (Up group) (Up new) (Err no)
+    wrote_up why off it = up_by why off (it.leaves n note up.at) it.cause it.loses it.on
+
+    module _ (idle : Idle R g) (stopped : Stopped (laid_disks new) (idle_disks idle))
+        (away : (k : Node) (next : GroupNode) → GroupLies k next new.core (laid_disks new) → IsAwayAt (record k { state = IsDown }) next new.core.inner.config (idle_disks idle)) where
+      cut_by : (no : No) → answers_down no ≡ true → WriteLeaves {T = Unit {0}} n note own new.core (laid_disks new) (Err no) → HasSpelling (at_serial 0 new.core.inner.config)
+          → LosesPlexes group.core.inner.config new.core.inner.config (laid_disks group) (idle_disks idle) → BothOn group.core.inner.config new.core.inner.config (laid_disks group).units → PlainWrote n note own (Up group) (Down idle) (Err no)
+      cut_by (Device disk) off leaves spells loses on = cc
+      cut_by IsOff off leaves spells loses on = (
+        note_refused leaves.0 new.core.inner note,
+        refused_unsettles new.core.inner note leaves.0,
+        down_with n note (note_cut own (note_refused leaves.0 new.core.inner note)) new.core.inner.config (idle_disks idle) up.noted (record { down = stopped.down; unarmed = stopped.unarmed }) spells
+        (away n (note_cut own (note_refused leaves.0 new.core.inner note)) leaves.1.lies),
+        fell_fused n.fuse (laid_disks group) (laid_disks new) up.fuse up.at.up since.safe leaves.1.down,
+        noted (note_refused leaves.0 new.core.inner note) refl (Down idle) tt spells (lost idle.rack loses on),
+      )
+      cut_by other off leaves spells loses on = cc
+
+      -- one in which the fuse ran out
+      pub wrote_cut : (no : No) → answers_down no ≡ true → PlainWrites v b bytes group.core (laid_disks group) new.core (laid_disks new) (Err no) → PlainWrote n note own (Up group) (Down idle) (Err no)
+      wrote_cut why off it =
+          cut_by why off (it.leaves n note up.at) (lasts it.loses)
+          (both_lose (laid_disks group) (laid_disks new) (idle_disks idle) (racks group.shelf) (racks new.shelf) (racks idle.rack) since.counts (λ d. let same = stopped.counts.disk_faults d in omega (arith, same)) group.core.inner.config new.core.inner.config new.core.inner.config
+          it.loses (loses_same new.core.inner.config (laid_disks new) (idle_disks idle))) it.on
 
   -- ---- reads
 
-  stays_up : IsGroupAt n note new.core (g.meaning new.shelf) → GroupUp (record n { fuse = burned n.fuse }) note new.core (g.meaning new.shelf)
-  stays_up at = up_burned n note new.core (g.meaning new.shelf) up.noted (fuse_burned n.fuse (g.meaning group.shelf) (g.meaning new.shelf) since.unarmed up.fuse) at
+  spells_same : new.core.inner.config ≡ group.core.inner.config → HasSpelling (at_serial 0 new.core.inner.config)
+  spells_same same = subst (λ (c : Config). HasSpelling (at_serial 0 c)) (sym same) up.spells
 
-  pub read_done : PlainReads v b bytes group.core (g.meaning group.shelf) new.core (g.meaning new.shelf) (Ok tt) → PlainRead n note v b bytes (Up group) (Up new) (Ok tt)
-  read_done it = (it.reads note up.at.lies.holds, stays_up (it.stays n note up.at))
+  stays_up : IsGroupAt n note new.core (laid_disks new) → new.core.inner.config ≡ group.core.inner.config → GroupUp (record n { fuse = burned n.fuse }) note new.core (laid_disks new)
+  stays_up at same = up_burned n note new.core (laid_disks new) up.noted (spells_same same) (fuse_burned n.fuse (laid_disks group) (laid_disks new) since.unarmed up.fuse) at
 
-  read_by : (no : No) → IsGroupAt n note new.core (g.meaning new.shelf) → DeviceCause (g.meaning group.shelf) (g.meaning new.shelf) no → PlainRead n note v b bytes (Up group) (Up new) (Err no)
-  read_by (Device disk) at cause = (stays_up at, cause)
-  read_by IsOff at cause = absurd (at.up cause)
-  read_by other at cause = absurd cause
+  pub read_done : PlainReads v b bytes group.core (laid_disks group) new.core (laid_disks new) (Ok tt) → PlainRead n note v b bytes (Up group) (Up new) (Ok tt)
+  read_done it = (it.reads note up.at.lies.holds, stays_up (it.stays n note up.at) it.same)
 
-  pub read_failed : (no : No) → PlainReads v b bytes group.core (g.meaning group.shelf) new.core (g.meaning new.shelf) (Err no) → PlainRead n note v b bytes (Up group) (Up new) (Err no)
-  read_failed why it = read_by why (it.stays n note up.at) it.cause
+  read_by : (no : No) → IsGroupAt n note new.core (laid_disks new) → new.core.inner.config ≡ group.core.inner.config → DeviceCause (laid_disks group) (laid_disks new) no → PlainRead n note v b bytes (Up group) (Up new) (Err no)
+  read_by (Device disk) at same cause = (stays_up at same, cause)
+  read_by IsOff at same cause = absurd (at.up cause)
+  read_by other at same cause = absurd cause
+
+  pub read_failed : (no : No) → PlainReads v b bytes group.core (laid_disks group) new.core (laid_disks new) (Err no) → PlainRead n note v b bytes (Up group) (Up new) (Err no)
+  read_failed why it = read_by why (it.stays n note up.at) it.same it.cause

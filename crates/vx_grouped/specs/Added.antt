@@ -21,6 +21,12 @@ note_added vol blocks note = record note {
   others = λ v b. if v == vol then [] else note.others v b;
 }
 
+-- where memory ran out nothing has changed
+abbrev pub IsStill : {T : Type 0} → Result T Stop → Type 0 → Type 0
+IsStill (Ok x) same = Unit {0}
+IsStill (Err (Refused why)) same = Unit {0}
+IsStill (Err OutOfMemory) same = same
+
 -- A volume is made, which begins as zeros, and each other has what it had; or it is not, and each has what it had. A refusal but 6 and 7 has
 -- changed nothing, nor has want of memory.
 abbrev pub VolumeLeaves : Node → GroupNode → Shape → GroupCore → Meaning → Result ℕ Stop → Type 0

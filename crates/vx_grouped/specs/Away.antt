@@ -8,8 +8,9 @@ use Rattle.vx_config.specs.Checks.{blocks_of}
 use Rattle.vx_config.specs.declared.config.Config.{Config}
 use Rattle.vx_copyfmt.specs.Imports.{Found}
 use Rattle.vx_kept.specs.Choice.{live}
+use Rattle.vx_kept.specs.Facts.{is_found}
 use Rattle.vx_kept.specs.Groups.{found}
-use Rattle.vx_kept.specs.Keeping.{Extends}
+use Rattle.vx_kept.specs.Keeping.{Extends, frame_at}
 use Rattle.vx_layout.specs.Places.{place}
 use Rattle.vx_volume.specs.Plexes.{Inside}
 use Rattle.vx_group.specs.Resumes.{CanImport}
@@ -24,14 +25,14 @@ pub record AwayLies (n : Node) (note : GroupNode) (last : Config) (m : Meaning) 
   pub size : (u : ℕ) → u < n.disks → m.size u ≡ n.blocks
   pub can : note.loose ≡ false → CanImport m
   pub sizes : (v : ℕ) → note.bytes.size v ≡ blocks_of last.volumes v
+  pub finds : (i : Image) → Each m.leaves i → is_found (found m i) ≡ true
   pub volumes : (i : Image) (x : Config) → Each m.leaves i → found m i ≡ Found x → Extends x last
   pub has : (i : Image) (x : Config) → Each m.leaves i → found m i ≡ Found x → (v p b : ℕ) → Inside last v b → IsTrue (live x v p)
       → BlockMay note v b (i (place x v p b).0 (place x v p b).1)
 
 -- the disks of a site that crashed: it is noted with the configuration that memory had
-pub record IsAwayAt (n : Node) (note : GroupNode) (m : Meaning) : Type 0 where
+pub record IsAwayAt (n : Node) (note : GroupNode) (last : Config) (m : Meaning) : Type 0 where
   pub state : n.state ≡ IsDown
-  pub last : Config
   pub config : note.config ≡ noted_config last
   pub lies : AwayLies n note last m
 
@@ -39,11 +40,13 @@ pub record IsAwayAt (n : Node) (note : GroupNode) (m : Meaning) : Type 0 where
 abbrev pub note_deported : Config → Inner → GroupNode → GroupNode
 note_deported x core note = record note { config = noted_config x; begun = if core.committed then [] else note.begun; loose = if core.committed then false else true }
 
--- the disks of a site that was deported: each image has the configuration that is noted
-pub record IsDeportedAt (n : Node) (note : GroupNode) (m : Meaning) : Type 0 where
+-- the disks of a site that was deported: it is noted with the configuration that was committed then, which has the volumes of the last one
+pub record IsDeportedAt (n : Node) (note : GroupNode) (last newest : Config) (m : Meaning) : Type 0 where
   pub state : n.state ≡ Deported
-  pub last : Config
-  pub newest : Config
-  pub finds : (i : Image) → Each m.leaves i → found m i ≡ Found newest
   pub config : note.config ≡ noted_config newest
+  pub frames : (v : ℕ) → frame_at newest v ≡ frame_at last v
   pub lies : AwayLies n note last m
+
+-- whatever a crash leaves, each image has this configuration
+pub record AllHave (c : Config) (m : Meaning) : Type 0 where
+  pub finds : (i : Image) → Each m.leaves i → found m i ≡ Found c

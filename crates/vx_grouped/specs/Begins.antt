@@ -1,5 +1,5 @@
 -- A group that is begun on the disks of a bare site.
-use Rattle.std.specs.Prelude.{◌≡◌, ◌⊎◌, ℕ, ◌<◌, ◌≤◌, false, [], Some, None, IsFalse, Result, Ok, Err}
+use Rattle.std.specs.Prelude.{◌≡◌, ◌⊎◌, ℕ, ◌<◌, ◌≤◌, false, [], length, slice_get, Some, None, IsFalse, Result, Ok, Err}
 use Rattle.vx_model.specs.declared.errors.Stop.{Stop}
 use Rattle.vx_model.specs.declared.errors.Stop.TheVariants.{No as Refused, OutOfMemory}
 use Rattle.vx_model.specs.declared.limits.TheConstants.{MOST_DISKS}
@@ -12,6 +12,8 @@ use Rattle.vx_disk.specs.declared.shelf.Shelf.{Ghosts}
 use Rattle.vx_history.specs.Groups.{GroupNode}
 use Rattle.vx_history.specs.Steps.{group_set}
 use Rattle.vx_history.specs.World.{Node, NoFuse}
+use Rattle.vx_config.specs.declared.config.Config.{Config}
+use Rattle.vx_config.specs.declared.entry.DiskEntry.{DiskEntry}
 use Rattle.vx_copyio.specs.Labelling.{HasSmall, least_blocks}
 use Rattle.vx_kept.specs.Trusts.{HasFailed}
 use Rattle.vx_watched.specs.Since.{CalledSince}
@@ -53,20 +55,28 @@ abbrev pub CreateSince : {S G : Type 0} → Meaning → (S → Meaning) → (G �
 CreateSince old meaning shelf (Ok g) = CalledSince old (meaning (shelf g))
 CreateSince old meaning shelf (Err (s, stop)) = CalledSince old (meaning s)
 
+-- a configuration with the number of the site, all its disks, no volumes, and no replicated volume group
+pub record IsEmptyConfig (site : ℕ) (n : Node) (c : Config) : Type 0 where
+  pub site_is : c.site ≡ site
+  pub many : length c.disks ≡ n.disks
+  pub each : (k : ℕ) (d : DiskEntry) → slice_get c.disks k ≡ Some d → d.blocks ≡ n.blocks
+  pub volumes : c.volumes ≡ []
+  pub rvg : c.rvg ≡ None
+
 module _ {R : Type 0} {g : Ghosts R} where
   -- a disk of the group is held as failed
   abbrev pub HoldsFailed : GroupSite R g → Type 0
   HoldsFailed (Up group) = HasFailed group.core.inner.config.disks
   HoldsFailed other = ⊥
 
-  -- its group has the number of the site, no volumes, and no replicated volume group
-  abbrev pub IsEmptyGroup : ℕ → GroupSite R g → Type 0
-  IsEmptyGroup site (Up group) = (group.core.inner.config.site ≡ site) × (group.core.inner.config.volumes ≡ []) × (group.core.inner.config.rvg ≡ None)
-  IsEmptyGroup site other = ⊥
+  -- its group is this one
+  abbrev pub IsEmptyGroup : ℕ → Node → GroupSite R g → Type 0
+  IsEmptyGroup site n (Up group) = IsEmptyConfig site n group.core.inner.config
+  IsEmptyGroup site n other = ⊥
 
   -- the site with a group whose imports agree unless a disk is held as failed; or bare, where a disk failed, or memory was wanted
   abbrev pub BeginsGroup : ℕ → Node → Meaning → GroupSite R g → Result (Unit {0}) Stop → Type 0
-  BeginsGroup site n old new (Ok done) = (note : GroupNode) × IsFirstNote note × UpNoted (group_begun note site n) note new × IsEmptyGroup site new × ((note.loose ≡ false) ⊎ HoldsFailed new)
+  BeginsGroup site n old new (Ok done) = (note : GroupNode) × IsFirstNote note × UpNoted (group_begun note site n) note new × IsEmptyGroup site n new × ((note.loose ≡ false) ⊎ HoldsFailed new)
   BeginsGroup site n old new (Err (Refused (Device disk))) = GroupSiteStands n new × Rose (old.disk_faults disk) ((site_disks new).disk_faults disk)
   BeginsGroup site n old new (Err OutOfMemory) = GroupSiteStands n new
   BeginsGroup site n old new (Err (Refused other)) = ⊥

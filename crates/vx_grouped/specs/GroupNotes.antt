@@ -4,7 +4,7 @@ use Rattle.vx_model.specs.declared.site.SiteState.TheVariants.{Up as IsUp}
 use Rattle.vx_disk.specs.Shelf.{Meaning}
 use Rattle.vx_history.specs.Groups.{GroupNode}
 use Rattle.vx_history.specs.World.{Node}
-use Rattle.vx_config.specs.Configs.{spelled_config}
+use Rattle.vx_config.specs.Configs.{HasSpelling, spelled_config}
 use Rattle.vx_config.specs.declared.config.Config.{Config}
 use Rattle.vx_kept.specs.Cleans.{at_serial}
 use Rattle.vx_group.specs.Holding.{wide}
@@ -16,6 +16,11 @@ use Rattle.vx_grouped.specs.Plain.{HoldsPlain}
 -- a configuration as it is noted: as it is spelled, under the serial 0
 unfoldable pub noted_config : Config → List ℕ
 noted_config c = spelled_config (at_serial 0 c)
+
+-- The note has this configuration, which is read back of it under the serial 0.
+pub record NotesConfig (note : GroupNode) (c : Config) : Type 0 where
+  pub is : note.config ≡ noted_config c
+  pub spells : HasSpelling (at_serial 0 c)
 
 -- Whether imports may disagree behind a call: not while the newest configuration is committed; else where they might before, or may now.
 abbrev pub loose_by : Inner → Bool → Bool

@@ -4,16 +4,21 @@ use Rattle.vx_model.specs.declared.site.Role.TheVariants.{Primary}
 use Rattle.vx_model.specs.declared.site.SiteState.TheVariants.{Bare}
 use Rattle.vx_disk.specs.Shelf.{Meaning}
 use Rattle.vx_disk.specs.declared.shelf.Shelf.{Ghosts}
+use Rattle.vx_config.specs.Configs.{HasSpelling}
 use Rattle.vx_config.specs.declared.config.Config.{Config}
+use Rattle.vx_kept.specs.Cleans.{at_serial}
 use Rattle.vx_history.specs.Groups.{GroupNode}
 use Rattle.vx_history.specs.Steps.{burned, crashed, deported_site}
 use Rattle.vx_history.specs.World.{Node, NoFuse}
 use Rattle.vx_group.specs.declared.group_core.GroupCore.{GroupCore}
+use Rattle.vx_untold.specs.Shades.{shade_meaning}
 use Rattle.vx_watched.specs.Empty.{no_shelf}
 use Rattle.vx_grouped.specs.Away.{IsAwayAt, IsDeportedAt}
 use Rattle.vx_grouped.specs.GroupNotes.{IsGroupAt, IsGroupCut}
 use Rattle.vx_grouped.specs.SetFuses.{HasFuse}
 use Rattle.vx_grouped.specs.declared.group_site.GroupSite.{GroupSite}
+use Rattle.vx_grouped.specs.declared.idle.Idle.{Idle}
+use Rattle.vx_grouped.specs.declared.laid.Laid.{Laid}
 use Rattle.vx_grouped.specs.declared.group_site.GroupSite.TheVariants.{Up, Deported, Down, Marked, Gone}
 
 -- a site without a replicated volume group: a primary with no volume of one and no write, which nothing halts
@@ -41,6 +46,7 @@ deported_with note n = deported_site (burned n.fuse) (crashed (with_note note n)
 pub record GroupUp (n : Node) (note : GroupNode) (core : GroupCore) (m : Meaning) : Type 0 where
   pub noted : NotesGroup n note
   pub fuse : HasFuse n.fuse m
+  pub spells : HasSpelling (at_serial 0 core.inner.config)
   pub at : IsGroupAt n note core m
 
 -- disks that are down and have no fuse
@@ -53,14 +59,19 @@ pub record GroupDown (n : Node) (note : GroupNode) (m : Meaning) : Type 0 where
   pub noted : NotesGroup n note
   pub unfused : n.fuse ≡ NoFuse
   pub stopped : AreStopped m
-  pub away : IsAwayAt n note m
+  pub last : Config
+  pub spells : HasSpelling (at_serial 0 last)
+  pub away : IsAwayAt n note last m
 
 -- a site whose group was deported: its disks are up, and keep their fuse
 pub record GroupAway (n : Node) (note : GroupNode) (m : Meaning) : Type 0 where
   pub noted : NotesGroup n note
   pub up : IsTrue m.down → ⊥
   pub fuse : HasFuse n.fuse m
-  pub away : IsDeportedAt n note m
+  pub last : Config
+  pub newest : Config
+  pub spells : HasSpelling (at_serial 0 newest)
+  pub away : IsDeportedAt n note last newest m
 
 -- the disks of a bare site, on which labels and headers of a group may stand
 pub record IsMarkedSite (n : Node) (m : Meaning) : Type 0 where
@@ -74,6 +85,7 @@ pub record IsMarkedSite (n : Node) (m : Meaning) : Type 0 where
 -- a site whose fuse ran out: its disks are down, and the group over them is not yet let go
 pub record GroupFallen (n : Node) (note : GroupNode) (core : GroupCore) (m : Meaning) : Type 0 where
   pub noted : NotesGroup n note
+  pub spells : HasSpelling (at_serial 0 core.inner.config)
   pub cut : IsGroupCut n note core m
 
 -- so many bytes from this block of a volume on: whole blocks, which lie in the volume that is noted
@@ -83,11 +95,18 @@ pub record FitsPlain (note : GroupNode) (vol block count : ℕ) : Type 0 where
   pub within : block + count / 512 ≤ note.bytes.size vol
 
 module _ {R : Type 0} {g : Ghosts R} where
-  -- its disks
+  -- the disks of a group that is up, and of one that is not
+  abbrev pub laid_disks : Laid R g → Meaning
+  laid_disks laid = shade_meaning g.meaning laid.shelf
+
+  abbrev pub idle_disks : Idle R g → Meaning
+  idle_disks idle = shade_meaning g.meaning idle.rack
+
+  -- its disks: they may tell nothing of their contents where it is not known what they hold
   abbrev pub site_disks : GroupSite R g → Meaning
-  site_disks (Up group) = g.meaning group.shelf
-  site_disks (Deported rack) = g.meaning rack
-  site_disks (Down rack) = g.meaning rack
+  site_disks (Up group) = laid_disks group
+  site_disks (Deported idle) = idle_disks idle
+  site_disks (Down idle) = idle_disks idle
   site_disks (Marked rack) = g.meaning rack
   site_disks Gone = no_shelf
 
@@ -103,26 +122,26 @@ module _ {R : Type 0} {g : Ghosts R} where
 
   -- the group is up
   abbrev pub UpNoted : Node → GroupNode → GroupSite R g → Type 0
-  UpNoted n note (Up group) = GroupUp n note group.core (g.meaning group.shelf)
+  UpNoted n note (Up group) = GroupUp n note group.core (laid_disks group)
   UpNoted n note other = ⊥
 
   -- it is up, and its disks are down
   abbrev pub CutNoted : Node → GroupNode → GroupSite R g → Type 0
-  CutNoted n note (Up group) = GroupFallen n note group.core (g.meaning group.shelf)
+  CutNoted n note (Up group) = GroupFallen n note group.core (laid_disks group)
   CutNoted n note other = ⊥
 
   abbrev pub DownNoted : Node → GroupNode → GroupSite R g → Type 0
-  DownNoted n note (Down rack) = GroupDown n note (g.meaning rack)
+  DownNoted n note (Down idle) = GroupDown n note (idle_disks idle)
   DownNoted n note other = ⊥
 
   abbrev pub AwayNoted : Node → GroupNode → GroupSite R g → Type 0
-  AwayNoted n note (Deported rack) = GroupAway n note (g.meaning rack)
+  AwayNoted n note (Deported idle) = GroupAway n note (idle_disks idle)
   AwayNoted n note other = ⊥
 
   -- the disks of a site that has a group, or on which one was begun
   abbrev pub GroupSiteStands : Node → GroupSite R g → Type 0
-  GroupSiteStands n (Up group) = (note : GroupNode) × GroupUp n note group.core (g.meaning group.shelf)
-  GroupSiteStands n (Deported rack) = (note : GroupNode) × GroupAway n note (g.meaning rack)
-  GroupSiteStands n (Down rack) = (note : GroupNode) × GroupDown n note (g.meaning rack)
+  GroupSiteStands n (Up group) = (note : GroupNode) × GroupUp n note group.core (laid_disks group)
+  GroupSiteStands n (Deported idle) = (note : GroupNode) × GroupAway n note (idle_disks idle)
+  GroupSiteStands n (Down idle) = (note : GroupNode) × GroupDown n note (idle_disks idle)
   GroupSiteStands n (Marked rack) = IsMarkedSite n (g.meaning rack)
   GroupSiteStands n Gone = ⊥

@@ -2,11 +2,13 @@
 use Rattle.std.specs.Prelude.{◌≡◌, ◌⊎◌, ℕ, ◌<◌, ◌≤◌, Bool, true, false, if◌then◌else◌, IsTrue, None, List, [], length, Result, Ok, Err}
 use Rattle.vx_model.specs.declared.errors.Stop.{Stop}
 use Rattle.vx_model.specs.declared.site.SiteState.TheVariants.{Up as IsUp}
+use Rattle.vx_disk.specs.Counts.{Rose}
 use Rattle.vx_disk.specs.Shelf.{Each, Image, Meaning}
 use Rattle.vx_history.specs.Groups.{BlockMay, GroupNode}
 use Rattle.vx_history.specs.World.{Node}
 use Rattle.vx_config.specs.Checks.{blocks_of}
 use Rattle.vx_config.specs.declared.config.Config.{Config}
+use Rattle.vx_copies.specs.Marks.{blocks_at, failed_at}
 use Rattle.vx_copyfmt.specs.Imports.{Found}
 use Rattle.vx_volume.specs.Plexes.{Inside}
 use Rattle.vx_kept.specs.Groups.{found}
@@ -28,6 +30,12 @@ note_imported core renewed value note = record note {
   cut = None;
 }
 
+-- the disks of the shelf, of which one is held as failed only where a call on it failed
+pub record DisksBack (c : Config) (old new : Meaning) : Type 0 where
+  pub count : length c.disks ≡ old.units
+  pub blocks : (u : ℕ) → u < old.units → blocks_at c.disks u ≡ old.size u
+  pub failed : (u : ℕ) → u < old.units → failed_at c.disks u ≡ true → Rose (old.faults u) (new.faults u)
+
 -- The group is up. Where contents are told its first volumes are those of the configuration of before, and each block of them that was renewed has
 -- a value that it might have.
 pub record GroupReturns (n : Node) (note : GroupNode) (last : Config) (old : Meaning) (core : GroupCore) (m : Meaning) : Type 0 where
@@ -38,6 +46,7 @@ pub record GroupReturns (n : Node) (note : GroupNode) (last : Config) (old : Mea
   pub sizes : IsTrue old.tells → (v : ℕ) → v < length last.volumes → blocks_of core.inner.config.volumes v ≡ blocks_of last.volumes v
   pub frames : IsTrue old.tells → (v : ℕ) → v < length last.volumes → frame_at core.inner.config v ≡ frame_at last v
   pub names : IsTrue old.tells → (v : ℕ) → v < length last.volumes → volume_name core.inner.config v ≡ volume_name last v
+  pub disks : DisksBack core.inner.config old m
   pub may : IsTrue old.tells → (v b : ℕ) → Inside last v b → renewed v ≡ true → BlockMay note v b (value v b)
 
 -- no image has a volume more than this configuration, as one might behind a refused commit

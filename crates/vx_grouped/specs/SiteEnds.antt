@@ -1,10 +1,11 @@
 -- How calls leave the disks of a site with a group.
-use Rattle.std.specs.Prelude.{◌≡◌, ℕ, true, false, List, Bool, Option, None, Result, Ok, Err}
+use Rattle.std.specs.Prelude.{◌≡◌, ℕ, true, false, List, Bool, Option, Some, None, Result, Ok, Err}
 use Rattle.vx_model.specs.Content.{Write}
 use Rattle.vx_model.specs.declared.errors.Stop.{Stop}
 use Rattle.vx_model.specs.declared.errors.Stop.TheVariants.{No as Refused, OutOfMemory}
 use Rattle.vx_model.specs.declared.no.No.{No}
-use Rattle.vx_model.specs.declared.no.No.TheVariants.{Device, Down as IsOff}
+use Rattle.vx_model.specs.declared.no.Counted.TheVariants.{Number as Numbers}
+use Rattle.vx_model.specs.declared.no.No.TheVariants.{Device, Down as IsOff, Limit}
 use Rattle.vx_disk.specs.Causes.{OnDisks}
 use Rattle.vx_disk.specs.Counts.{Rose}
 use Rattle.vx_disk.specs.Disks.{Crashed}
@@ -15,16 +16,19 @@ use Rattle.vx_history.specs.Groups.{GroupNode, NoteSettles, NoteUnsettles, note_
 use Rattle.vx_history.specs.Steps.{burned, crashed}
 use Rattle.vx_history.specs.Stops.{IsFused}
 use Rattle.vx_history.specs.World.{Node}
+use Rattle.vx_config.specs.Table.{greatest}
 use Rattle.vx_config.specs.declared.config.Config.{Config}
 use Rattle.vx_volume.specs.Plexes.{active}
 use Rattle.vx_group.specs.Attaches.{att_refusal, copied_regions}
 use Rattle.vx_group.specs.Dets.{det_refusal}
-use Rattle.vx_group.specs.Loses.{LosesPlexes}
-use Rattle.vx_grouped.specs.GroupNotes.{noted_config}
-use Rattle.vx_grouped.specs.GroupSites.{AwayNoted, CutNoted, DownNoted, GroupSiteStands, UpNoted, deported_with, site_disks, with_note}
+use Rattle.vx_untold.specs.Shades.{shade_meaning}
+use Rattle.vx_grouped.specs.Away.{AllHave}
+use Rattle.vx_grouped.specs.ConfigMoves.{AttDone, AttFails, CleansPlexes, DetDone, DetFails, LosesSome}
+use Rattle.vx_grouped.specs.GroupNotes.{NotesConfig}
+use Rattle.vx_grouped.specs.GroupSites.{AwayNoted, CutNoted, DownNoted, GroupSiteStands, UpNoted, deported_with, site_config, site_disks, with_note}
 use Rattle.vx_grouped.specs.Plain.{ReadsPlain}
 use Rattle.vx_grouped.specs.declared.group_site.GroupSite.{GroupSite}
-use Rattle.vx_grouped.specs.declared.group_site.GroupSite.TheVariants.{Up}
+use Rattle.vx_grouped.specs.declared.group_site.GroupSite.TheVariants.{Up, Deported}
 
 -- a site whose disks may have been written and flushed
 abbrev pub burned_site : Node → Node
@@ -39,16 +43,12 @@ abbrev pub stops_down : Stop → Bool
 stops_down (Refused IsOff) = true
 stops_down other = false
 
--- The configuration that is noted behind a call on these disks comes of the one before so: plexes were detached of which a call failed, and disks are
--- held as failed of which one failed.
-pub record ConfigGoes (note next : GroupNode) (old new : Meaning) : Type 0 where
-  pub was : Config
-  pub now : Config
-  pub noted : note.config ≡ noted_config was
-  pub noted_now : next.config ≡ noted_config now
-  pub loses : LosesPlexes was now old new
-
 module _ {R : Type 0} {g : Ghosts R} where
+  -- each image has the configuration that is noted
+  abbrev pub NewestCommitted : GroupNode → GroupSite R g → Type 0
+  NewestCommitted note (Deported idle) = (c : Config) × NotesConfig note c × AllHave c (shade_meaning g.meaning idle.rack)
+  NewestCommitted note other = ⊥
+
   -- whatever the site is noted as, it still is
   pub record StaysAlike (old new : GroupSite R g) : Type 0 where
     pub up : (n : Node) (note : GroupNode) → UpNoted n note old → UpNoted n note new
@@ -62,18 +62,35 @@ module _ {R : Type 0} {g : Ghosts R} where
 
   -- the disks crashed with this pick, or nothing was done to them
   abbrev pub MayCrashSite : ℕ → GroupSite R g → GroupSite R g → Type 0
-  MayCrashSite pick (Up group) new = Stopped (g.meaning group.shelf) (site_disks new) × OnDisks (g.meaning group.shelf).disks (site_disks new).disks (Crashed (g.meaning group.shelf).size pick)
+  MayCrashSite pick (Up group) new = Stopped (shade_meaning g.meaning group.shelf) (site_disks new) × OnDisks (shade_meaning g.meaning group.shelf).disks (site_disks new).disks (Crashed (shade_meaning g.meaning group.shelf).size pick)
   MayCrashSite pick old new = new ≡ old
+
+  -- the group, where it is up, has this configuration
+  abbrev pub HasNow : Config → GroupSite R g → Type 0
+  HasNow c (Up group) = group.core.inner.config ≡ c
+  HasNow c other = Unit {0}
+
+  -- the configuration that is noted behind a call comes of the one before by such a change
+  pub record ConfigGoes (Change : Config → Config → Type 0) (note next : GroupNode) (old new : GroupSite R g) : Type 0 where
+    pub was : Config
+    pub now : Config
+    pub had : site_config old ≡ Some was
+    pub has : HasNow now new
+    pub noted : NotesConfig note was
+    pub noted_now : NotesConfig next now
+    pub change : Change was now
 
   -- A write to a volume: done, its blocks have what was written. Else a disk failed, and each of them has that or what it had; or the fuse ran
   -- out, and so it is behind the crash. No other refusal comes.
   abbrev pub PlainWrote : Node → GroupNode → Write → GroupSite R g → GroupSite R g → Result (Unit {0}) No → Type 0
-  PlainWrote n note x old new (Ok done) = (next : GroupNode) × NoteSettles note next × UpNoted (with_note (note_write x next) n) (note_write x next) new × ConfigGoes note next (site_disks old) (site_disks new)
+  PlainWrote n note x old new (Ok done) =
+      (next : GroupNode) × NoteSettles note next × UpNoted (with_note (note_write x next) n) (note_write x next) new × ConfigGoes (LosesSome (site_disks old) (site_disks new)) note next old new
   PlainWrote n note x old new (Err (Device disk)) =
       (next : GroupNode) × NoteUnsettles note next × UpNoted (with_note (note_doubt x next) n) (note_doubt x next) new × Rose ((site_disks old).disk_faults disk) ((site_disks new).disk_faults disk)
-      × ConfigGoes note next (site_disks old) (site_disks new)
+      × ConfigGoes (LosesSome (site_disks old) (site_disks new)) note next old new
   PlainWrote n note x old new (Err IsOff) =
-      (next : GroupNode) × NoteUnsettles note next × DownNoted (crashed (with_note (note_cut x next) n) 0) (note_cut x next) new × IsFused n.fuse × ConfigGoes note next (site_disks old) (site_disks new)
+      (next : GroupNode) × NoteUnsettles note next × DownNoted (crashed (with_note (note_cut x next) n) 0) (note_cut x next) new × IsFused n.fuse
+      × ConfigGoes (LosesSome (site_disks old) (site_disks new)) note next old new
   PlainWrote n note x old new (Err other) = ⊥
 
   -- a read of a volume: of each block a value that it may have, or a disk failed
@@ -82,18 +99,16 @@ module _ {R : Type 0} {g : Ghosts R} where
   PlainRead n note vol block bytes old new (Err (Device disk)) = UpNoted (burned_site n) note new × Rose ((site_disks old).disk_faults disk) ((site_disks new).disk_faults disk)
   PlainRead n note vol block bytes old new (Err other) = ⊥
 
-  -- A call that writes to no volume: each has what it had. A refusal but 6 and 7 has changed nothing, and memory suffices.
-  abbrev pub SiteCalled : {T : Type 0} → Node → GroupNode → GroupSite R g → GroupSite R g → Result T Stop → Type 0
-  SiteCalled n note old new (Ok done) = (next : GroupNode) × NoteSettles note next × UpNoted (with_note next n) next new
-  SiteCalled n note old new (Err (Refused (Device disk))) = (next : GroupNode) × NoteUnsettles note next × UpNoted (with_note next n) next new × Rose ((site_disks old).disk_faults disk) ((site_disks new).disk_faults disk)
-  SiteCalled n note old new (Err (Refused IsOff)) = (next : GroupNode) × NoteUnsettles note next × DownNoted (crashed (with_note next n) 0) next new × IsFused n.fuse
-  SiteCalled n note old new (Err (Refused other)) = UpNoted (burned_site n) note new
-  SiteCalled n note old new (Err OutOfMemory) = ⊥
-
-  -- a deport: done, the disks are by themselves, and each volume has on them what it had
-  abbrev pub SiteDeported : Node → GroupNode → GroupSite R g → GroupSite R g → Result (Unit {0}) Stop → Type 0
-  SiteDeported n note old new (Ok done) = (next : GroupNode) × NoteSettles note next × AwayNoted (deported_with next n) next new
-  SiteDeported n note old new (Err stop) = SiteCalled {T = Unit {0}} n note old new (Err stop)
+  -- A call that writes to no volume: each has what it had. Done, or not, its configuration changes so. A refusal but 6 and 7 has this reason, and has
+  -- changed nothing; and memory suffices.
+  abbrev pub SiteCalled : {T : Type 0} → (Done Fails : Config → Config → Type 0) → (No → Type 0) → Node → GroupNode → GroupSite R g → GroupSite R g → Result T Stop → Type 0
+  SiteCalled Done Fails Lacks n note old new (Ok done) = (next : GroupNode) × NoteSettles note next × UpNoted (with_note next n) next new × ConfigGoes Done note next old new
+  SiteCalled Done Fails Lacks n note old new (Err (Refused (Device disk))) =
+      (next : GroupNode) × NoteUnsettles note next × UpNoted (with_note next n) next new × Rose ((site_disks old).disk_faults disk) ((site_disks new).disk_faults disk) × ConfigGoes Fails note next old new
+  SiteCalled Done Fails Lacks n note old new (Err (Refused IsOff)) =
+      (next : GroupNode) × NoteUnsettles note next × DownNoted (crashed (with_note next n) 0) next new × IsFused n.fuse × ConfigGoes Fails note next old new
+  SiteCalled Done Fails Lacks n note old new (Err (Refused other)) = UpNoted (burned_site n) note new × Lacks other
+  SiteCalled Done Fails Lacks n note old new (Err OutOfMemory) = ⊥
 
   -- the first test of a detach, and of an attach, that refuses it
   abbrev pub refuses_det : GroupSite R g → ℕ → ℕ → Option No
@@ -113,3 +128,22 @@ module _ {R : Type 0} {g : Ghosts R} where
   abbrev pub RegionsOf : GroupSite R g → ℕ → ℕ → Type 0
   RegionsOf (Up group) vol count = count ≡ copied_regions group.core.inner.config vol
   RegionsOf other vol count = ⊥
+
+  -- a plex that is detached: refused by the first test that holds
+  abbrev pub DetCalled : Node → GroupNode → ℕ → ℕ → GroupSite R g → GroupSite R g → Result (Unit {0}) Stop → Type 0
+  DetCalled n note vol plex old new r =
+      SiteCalled {T = Unit {0}} (DetDone vol plex (site_disks old) (site_disks new)) (DetFails vol plex (site_disks old) (site_disks new)) (λ which. refuses_det old vol plex ≡ Some which) n note old new r
+
+  -- and one that is attached
+  abbrev pub AttCalled : Node → GroupNode → ℕ → ℕ → GroupSite R g → GroupSite R g → Result ℕ Stop → Type 0
+  AttCalled n note vol plex old new r =
+      SiteCalled {T = ℕ} (AttDone vol plex (site_disks old) (site_disks new)) (AttFails vol plex (site_disks old) (site_disks new)) (λ which. refuses_att old vol plex ≡ Some which) n note old new r
+
+  -- A deport: done, the disks are by themselves, each image has the configuration that is noted, and each volume has on them what it had. It is refused for
+  -- want of serials, or as any call.
+  abbrev pub SiteDeported : Node → GroupNode → GroupSite R g → GroupSite R g → Result (Unit {0}) Stop → Type 0
+  SiteDeported n note old new (Ok done) =
+      (next : GroupNode) × NoteSettles note next × AwayNoted (deported_with next n) next new × ConfigGoes (CleansPlexes (site_disks old) (site_disks new)) note next old new
+      × NewestCommitted next new
+  SiteDeported n note old new (Err stop) =
+      SiteCalled {T = Unit {0}} (λ c d. ⊥) (LosesSome (site_disks old) (site_disks new)) (λ which. which ≡ Limit Numbers greatest) n note old new (Err stop)

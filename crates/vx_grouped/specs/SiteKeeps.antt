@@ -1,5 +1,5 @@
 -- Which blocks of a write the disks of a site with a group have.
-use Rattle.std.specs.Prelude.{ℕ, Bool, List, Result, Ok, Err, IfErr, IfOk}
+use Rattle.std.specs.Prelude.{◌≡◌, ℕ, Bool, List, Result, Ok, Err, IfErr, IfOk}
 use Rattle.vx_model.specs.declared.no.No.{No}
 use Rattle.vx_model.specs.declared.no.No.TheVariants.{Device}
 use Rattle.vx_disk.specs.Causes.{DeviceCause}
@@ -22,6 +22,7 @@ use Rattle.vx_grouped.specs.declared.group_site.GroupSite.{GroupSite}
 pub record PlainKeeps (vol block : ℕ) (bytes : List ℕ) (c : GroupCore) (m : Meaning) (d : GroupCore) (m' : Meaning) (r : Result (List Bool) No) : Type 0 where
   pub kept : (note : GroupNode) → HoldsPlain note (inner_meaning (wide c) m) → IfOk r (KeepsPlain note m vol block bytes)
   pub stays : (n : Node) (note : GroupNode) → IsGroupAt n note c m → IsGroupAt n note d m'
+  pub same : d.inner.config ≡ c.inner.config
   pub cause : IfErr r (DeviceCause m m')
 
 module _ {R : Type 0} {g : Ghosts R} where

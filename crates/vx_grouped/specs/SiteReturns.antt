@@ -1,26 +1,30 @@
 -- How a recovery or an import of a group leaves the disks of its site.
-use Rattle.std.specs.Prelude.{◌≡◌, ◌⊎◌, ℕ, ◌<◌, Bool, true, false, [], None, IsTrue, Result, Ok, Err}
+use Rattle.std.specs.Prelude.{◌≡◌, ◌⊎◌, ℕ, ◌<◌, ◌≤◌, Bool, true, false, [], Some, None, IsTrue, IsFalse, Result, Ok, Err}
 use Rattle.vx_model.specs.declared.errors.Stop.{Stop}
-use Rattle.vx_model.specs.declared.errors.Stop.TheVariants.{No as Refused}
-use Rattle.vx_model.specs.declared.no.No.TheVariants.{Device, Down as IsOff, Limit}
+use Rattle.vx_model.specs.declared.errors.Stop.TheVariants.{No as Refused, OutOfMemory}
+use Rattle.vx_model.specs.declared.no.Counted.TheVariants.{Number as Numbers}
+use Rattle.vx_model.specs.declared.no.No.TheVariants.{Damaged, Device, Down as IsOff, Format, Limit, Missing as Lacks, NoConfig}
 use Rattle.vx_disk.specs.Counts.{Rose}
 use Rattle.vx_disk.specs.Disks.{Disks, is_set}
 use Rattle.vx_disk.specs.Racks.{Alike, Stopped}
 use Rattle.vx_disk.specs.Shelf.{Meaning}
 use Rattle.vx_disk.specs.declared.shelf.Shelf.{Ghosts}
 use Rattle.vx_history.specs.Groups.{BlockMay, GroupNode}
-use Rattle.vx_history.specs.Steps.{burned, group_up}
+use Rattle.vx_history.specs.Steps.{burned, crashed, group_up}
 use Rattle.vx_history.specs.Stops.{IsFused}
 use Rattle.vx_history.specs.World.{Node}
+use Rattle.vx_config.specs.Checks.{blocks_of}
+use Rattle.vx_config.specs.Table.{greatest}
 use Rattle.vx_config.specs.declared.config.Config.{Config}
 use Rattle.vx_group.specs.Imports.{ImportStops}
-use Rattle.vx_group.specs.Resumes.{CanImport}
-use Rattle.vx_watched.specs.Since.{fuse_calls, is_rack}
-use Rattle.vx_grouped.specs.Away.{AwayLies}
-use Rattle.vx_grouped.specs.GroupSites.{AreStopped, UpNoted, site_disks, with_note}
-use Rattle.vx_grouped.specs.Returns.{HasNoMore}
-use Rattle.vx_grouped.specs.SetFuses.{HasFuse}
-use Rattle.vx_grouped.specs.SiteEnds.{stops_down}
+use Rattle.vx_untold.specs.Shades.{shade_meaning}
+use Rattle.vx_untold.specs.declared.shade.Shade.{Shade}
+use Rattle.vx_watched.specs.Since.{FuseGoes, fuse_calls, is_rack}
+use Rattle.vx_grouped.specs.ConfigMoves.{ConfigBack}
+use Rattle.vx_grouped.specs.GroupNotes.{NotesConfig}
+use Rattle.vx_grouped.specs.GroupSites.{AwayNoted, DownNoted, UpNoted, site_disks, with_note}
+use Rattle.vx_grouped.specs.Readies.{ready_of}
+use Rattle.vx_grouped.specs.SiteEnds.{HasNow, burned_site, stops_down}
 use Rattle.vx_grouped.specs.declared.group_site.GroupSite.{GroupSite}
 use Rattle.vx_grouped.specs.declared.group_site.GroupSite.TheVariants.{Deported, Down}
 
@@ -40,21 +44,21 @@ pub record NoteReturns (told : Type 0) (note next : GroupNode) : Type 0 where
 abbrev pub returned_with : GroupNode → Node → Node
 returned_with next n = with_note next (group_up n)
 
--- The disks behind an import that was refused: they may be imported again, and have what they had, unless an image has a volume more than was noted.
-pub record LeftAgain (n : Node) (note : GroupNode) (old m : Meaning) : Type 0 where
-  pub can : CanImport m
-  pub away : (last : Config) → AwayLies n note last old → HasNoMore last old → AwayLies n note last m
+-- Why an import is refused: a disk fails in it; or, before it writes, a disk that is held as good cannot be read, none has a configuration that may be
+-- taken up, or too few serials are left. Of disks of which contents are told none is damaged or of another format.
+abbrev pub ImportWhy : Type 0 → Meaning → Meaning → Stop → Type 0
+ImportWhy told old new (Refused (Device disk)) = Rose (old.disk_faults disk) (new.disk_faults disk)
+ImportWhy told old new (Refused (Lacks disk)) = Rose (old.disk_faults disk) (new.disk_faults disk)
+ImportWhy told old new (Refused NoConfig) = Unit {0}
+ImportWhy told old new (Refused (Limit what most)) = (what ≡ Numbers) × (most ≡ greatest)
+ImportWhy told old new (Refused (Damaged disk block stored computed)) = told → ⊥
+ImportWhy told old new (Refused (Format version)) = told → ⊥
+ImportWhy told old new (Refused other) = ⊥
+ImportWhy told old new OutOfMemory = Unit {0}
 
--- the disks of a site that was deported, behind an import that was refused: they are up, with what is left of their fuse, or none
-pub record StaysAway (n : Node) (note : GroupNode) (old m : Meaning) : Type 0 where
-  pub up : IsTrue m.down → ⊥
-  pub fuse : HasFuse (burned n.fuse) m
-  pub again : LeftAgain n note old m
-
--- the count of the disk rose that is named
-abbrev pub BlamesDisk : Stop → Meaning → Meaning → Type 0
-BlamesDisk (Refused (Device disk)) old new = Rose (old.disk_faults disk) (new.disk_faults disk)
-BlamesDisk other old new = Unit {0}
+-- a fuse that is set still is, and has no more calls left
+pub record KeepsFuse (old new : Meaning) : Type 0 where
+  pub goes : (o n : Disks) → old.disks ≡ Some o → new.disks ≡ Some n → FuseGoes o.fuse n.fuse
 
 -- whether an import that was refused so had written nothing
 abbrev pub stops_early : Stop → Bool
@@ -63,58 +67,69 @@ stops_early (Refused IsOff) = false
 stops_early (Refused (Limit what most)) = false
 stops_early other = true
 
--- disks that are made to fail as before, with a fuse that has no more calls left, or none
+-- The disks that are made to fail are the same. A fuse that is set was set before, and has no more calls left.
 pub record FailsFused (old new : Disks) : Type 0 where
   pub failing : (u : ℕ) → new.failing u ≡ old.failing u
   pub set : is_set new.fuse ≡ true → is_set old.fuse ≡ true
   pub left : is_set new.fuse ≡ true → fuse_calls new.fuse ≤ fuse_calls old.fuse
 
--- disks behind an import, whatever it answered
+-- The same disks, of which contents are told no more than before.
 pub record ReturnSince (old new : Meaning) : Type 0 where
   pub units : new.units ≡ old.units
   pub size : (u : ℕ) → new.size u ≡ old.size u
-  pub tells : new.tells ≡ old.tells
+  pub tells : IsTrue new.tells → IsTrue old.tells
   pub counts : (d : ℕ) → old.disk_faults d ≤ new.disk_faults d
   pub rack : is_rack new.disks ≡ is_rack old.disks
   pub told : (o n : Disks) → old.disks ≡ Some o → new.disks ≡ Some n → FailsFused o n
 
 module _ {R : Type 0} {g : Ghosts R} where
-  -- whatever image a crash leaves, imports of the disks by themselves agree
-  abbrev pub ImportsAgree : GroupSite R g → Type 0
-  ImportsAgree (Deported rack) = CanImport (g.meaning rack)
-  ImportsAgree (Down rack) = CanImport (g.meaning rack)
-  ImportsAgree other = Unit {0}
-
-  -- the disks are down behind a crash
-  abbrev pub IsStopped : GroupSite R g → Type 0
-  IsStopped (Down rack) = AreStopped (g.meaning rack)
-  IsStopped other = ⊥
+  -- the disks as an import sees them: where imports of them may disagree, it is not known what they hold
+  abbrev pub as_imported : GroupSite R g → Meaning
+  as_imported (Deported idle) = shade_meaning g.meaning (ready_of idle.agreed idle.rack)
+  as_imported (Down idle) = shade_meaning g.meaning (ready_of idle.agreed idle.rack)
+  as_imported other = site_disks other
 
   -- why an import of disks that were down was refused: what it found of them, once they were up, and left of them, before they crashed again
-  pub record RefusedBetween (old new : GroupSite R g) (stop : Stop) : Type 0 where
-    pub first : R
-    pub middle : R
-    pub revived : Alike (site_disks old) (g.meaning first)
-    pub stops : ImportStops (g.meaning first) (g.meaning middle) stop
-    pub crashed : Stopped (g.meaning middle) (site_disks new)
+  pub record RefusedBetween (old : Meaning) (new : GroupSite R g) (stop : Stop) : Type 0 where
+    pub first : Shade R
+    pub middle : Shade R
+    pub revived : Alike old (shade_meaning g.meaning first)
+    pub stops : ImportStops (shade_meaning g.meaning first) (shade_meaning g.meaning middle) stop
+    pub crashed : Stopped (shade_meaning g.meaning middle) (site_disks new)
 
-  -- A recovery of a site that crashed: its group is up. Refused, its disks are down again, and may be imported once more.
+  -- the configuration that was taken up, beside the one that was noted
+  pub record ConfigReturns (note next : GroupNode) (old : Meaning) (new : GroupSite R g) : Type 0 where
+    pub was : Config
+    pub now : Config
+    pub has : HasNow now new
+    pub noted : NotesConfig note was
+    pub noted_now : NotesConfig next now
+    pub sizes : (v : ℕ) → next.bytes.size v ≡ blocks_of now.volumes v
+    pub change : ConfigBack (IsTrue (site_disks new).tells) old (site_disks new) was now
+
+  -- the group is up, with another note
+  abbrev pub ReturnsUp : Node → GroupNode → Meaning → GroupSite R g → Type 0
+  ReturnsUp n note old new = (next : GroupNode) × NoteReturns (IsTrue (site_disks new).tells) note next × UpNoted (returned_with next n) next new × ConfigReturns note next old new
+
+  -- the same of these disks, which crashed: the group is up; or it is refused, and they are down again
+  abbrev pub RecoversFrom : Node → GroupNode → Meaning → GroupSite R g → Result (Unit {0}) Stop → Type 0
+  RecoversFrom n note old new (Ok done) = ReturnsUp n note old new
+  RecoversFrom n note old new (Err stop) = DownNoted n note new × ImportWhy (IsTrue (site_disks new).tells) old (site_disks new) stop × (IsTrue (site_disks new).tells → RefusedBetween old new stop)
+
+  -- What a refused import leaves: the disks by themselves, without a fuse where it had begun to write; or they are down, as it ran out.
+  abbrev pub ImportRefused : Bool → Node → GroupNode → Meaning → GroupSite R g → Stop → Type 0
+  ImportRefused true n note old new stop = DownNoted (crashed (returned_with note n) 0) note new × IsFused n.fuse
+  ImportRefused false n note old new stop =
+      AwayNoted (burned_site n) note new × (IsFalse (site_disks new).armed ⊎ KeepsFuse old (site_disks new)) × ImportWhy (IsTrue (site_disks new).tells) old (site_disks new) stop
+
+  abbrev pub ImportsFrom : Node → GroupNode → Meaning → GroupSite R g → Result (Unit {0}) Stop → Type 0
+  ImportsFrom n note old new (Ok done) = ReturnsUp n note old new × KeepsFuse old (site_disks new)
+  ImportsFrom n note old new (Err stop) = ImportRefused (stops_down stop) n note old new stop
+
+  -- A recovery of a site that crashed: its group is up. Refused, its disks are down again.
   abbrev pub SiteRecovers : Node → GroupNode → GroupSite R g → GroupSite R g → Result (Unit {0}) Stop → Type 0
-  SiteRecovers n note old new (Ok done) = (next : GroupNode) × NoteReturns (IsTrue (site_disks old).tells) note next × UpNoted (returned_with next n) next new
-  SiteRecovers n note old new (Err stop) = IsStopped new × LeftAgain n note (site_disks old) (site_disks new) × RefusedBetween old new stop × BlamesDisk stop (site_disks old) (site_disks new)
+  SiteRecovers n note old new r = RecoversFrom n note (as_imported old) new r
 
-  -- the disks are by themselves, and up
-  abbrev pub IsAwayStill : Node → GroupNode → Meaning → GroupSite R g → Type 0
-  IsAwayStill n note old (Deported rack) = StaysAway n note old (g.meaning rack)
-  IsAwayStill n note old other = ⊥
-
-  -- what a refused import leaves, whether the disks are down or not
-  abbrev pub ImportRefused : Bool → Node → GroupNode → GroupSite R g → GroupSite R g → Stop → Type 0
-  ImportRefused true n note old new stop = IsStopped new × LeftAgain n note (site_disks old) (site_disks new) × IsFused n.fuse
-  ImportRefused false n note old new stop = IsAwayStill n note (site_disks old) new × BlamesDisk stop (site_disks old) (site_disks new)
-
-  -- An import of a site that was deported: its group is up. Refused, its disks are by themselves still; or its fuse ran out, and they are down. Each
-  -- block has what it had.
+  -- An import of a site that was deported: its group is up. Refused, its disks are by themselves still; or its fuse ran out, and they are down.
   abbrev pub SiteImports : Node → GroupNode → GroupSite R g → GroupSite R g → Result (Unit {0}) Stop → Type 0
-  SiteImports n note old new (Ok done) = (next : GroupNode) × NoteReturns (IsTrue (site_disks old).tells) note next × UpNoted (returned_with next n) next new
-  SiteImports n note old new (Err stop) = ImportRefused (stops_down stop) n note old new stop
+  SiteImports n note old new r = ImportsFrom n note (as_imported old) new r

@@ -10,7 +10,7 @@ use Rattle.vx_model.specs.declared.no.No.TheVariants.{Limit}
 use Rattle.vx_history.specs.Groups.{GroupNode}
 use Rattle.vx_history.specs.World.{Node}
 use Rattle.vx_config.specs.Table.{greatest}
-use Rattle.vx_volume.specs.Plexes.{active}
+use Rattle.vx_volume.specs.Plexes.{active, uses}
 use Rattle.vx_group.specs.Attaches.{IsAttached, att_refusal, copied_regions}
 use Rattle.vx_group.specs.Dets.{DetStops, det_refusal}
 use Rattle.vx_group.specs.Holding.{wide}
@@ -18,6 +18,8 @@ use Rattle.vx_group.specs.Loses.{LosesPlexes}
 use Rattle.vx_group.specs.Stands.{inner_meaning}
 use Rattle.vx_group.specs.declared.group_core.GroupCore.{GroupCore}
 use Rattle.vx_watched.specs.Since.{CalledSince}
+use Rattle.vx_grouped.specs.ConfigMoves.{none_again}
+use Rattle.vx_grouped.specs.CoreMoves.{BothOn, CoreMoves}
 use Rattle.vx_grouped.specs.Ends.{CallLeaves, WriteLeaves, plain_write}
 use Rattle.vx_grouped.specs.GroupNotes.{IsGroupAt}
 use Rattle.vx_grouped.specs.Plain.{HoldsPlain, ReadsPlain}
@@ -26,6 +28,7 @@ use Rattle.vx_grouped.specs.Plain.{HoldsPlain, ReadsPlain}
 pub record PlainWrites (vol block : ℕ) (bytes : List ℕ) (c : GroupCore) (m : Meaning) (d : GroupCore) (m' : Meaning) (r : Result (Unit {0}) No) : Type 0 where
   pub leaves : (n : Node) (note : GroupNode) → IsGroupAt n note c m → WriteLeaves n note (plain_write vol block bytes) d m' r
   pub loses : LosesPlexes c.inner.config d.inner.config m m'
+  pub on : BothOn c.inner.config d.inner.config m.units
   pub trust : OnOk r (c.inner.committed ≡ true → d.inner.committed ≡ true)
   pub agreed : IfErr r (λ no. c.inner.committed ≡ true → d.inner.agreed ≡ true)
   pub cause : IfErr r (DeviceCause m m')
@@ -45,6 +48,8 @@ pub record PlexDets (vol plex : ℕ) (c : GroupCore) (m : Meaning) (d : GroupCor
   pub others : (w p : ℕ) → (w ≡ vol → p ≡ plex → ⊥) → active d.inner.config w p ≡ active c.inner.config w p
   pub trust : OnOk r (c.inner.committed ≡ true → d.inner.committed ≡ true)
   pub cause : det_refusal c.inner.config vol plex ≡ None → DetStops m m' r
+  pub narrows : (w p : ℕ) → IsTrue (active d.inner.config w p) → IsTrue (active c.inner.config w p)
+  pub moves : CoreMoves none_again c.inner.config d.inner.config m m'
 
 -- a plex that is attached
 pub record PlexAtts (vol plex : ℕ) (c : GroupCore) (m : Meaning) (d : GroupCore) (m' : Meaning) (r : Result ℕ Stop) : Type 0 where
@@ -56,6 +61,8 @@ pub record PlexAtts (vol plex : ℕ) (c : GroupCore) (m : Meaning) (d : GroupCor
   pub others : (w p : ℕ) → (w ≡ vol → p ≡ plex → ⊥) → active d.inner.config w p ≡ active c.inner.config w p
   pub trust : OnOk r (c.inner.committed ≡ true → d.inner.committed ≡ true)
   pub cause : att_refusal c.inner.config vol plex ≡ None → DetStops m m' r
+  pub stays : IsTrue (active c.inner.config vol plex) → OnOk r (IsTrue (active d.inner.config vol plex))
+  pub moves : CoreMoves (uses c.inner.config vol plex) c.inner.config d.inner.config m m'
 
 -- what is known of the disks of a group that was deported, or that is given back
 abbrev pub DeportSince : {S G : Type 0} → Meaning → (S → Meaning) → (G → S) → Result S (G × Stop) → Type 0

@@ -7,13 +7,14 @@ ghost use Rattle.vx_grouped.specs.Begins.{BeginRefuses, BeginsGroup, CanBegin, C
 ghost use Rattle.vx_grouped.specs.GroupSites.{site_disks};
 ghost use Rattle.vx_watched.specs.Since.{CalledSince};
 
-use crate::GroupSite;
+use crate::{GroupSite, Laid};
 use std::alloc::Global;
 use std::marker::Brand;
 use vx_disk::Rack;
 use vx_group::Group;
 use vx_model::limits::MOST_DISKS;
 use vx_model::{No, Stop};
+use vx_untold::Shade;
 use vx_watched::{Begun, Watched};
 
 fn create_from<B: Begun, R: Rack>(alloc: Global, rack: R, site: u32) -> Result<Group<R>, (R, Stop)>
@@ -47,6 +48,18 @@ fn create_watched<R: Rack>(alloc: Global, rack: R, site: u32) -> Result<Group<R>
     create_from::<Brand, R>(alloc, rack, site)
 }
 
+// A group on disks of which the contents are told.
+fn brightened<R: Rack>(group: Group<R>) -> Laid<R>
+    ensures core { result.core ≡ group.core }
+    ensures shelf { result.shelf ≡ Shade.Bright group.shelf }
+{
+    let (rack, core) = group.apart();
+    Laid {
+        shelf: Shade::Bright(rack),
+        core,
+    }
+}
+
 /// Makes the disks of a bare site a group without volumes. Where it is not made, labels of it may stand on them.
 ///
 /// Answers 7 only where the count of the disk that it names rose, and may run out of memory. Nothing else is answered of 1 to 8 disks of 1,024
@@ -60,7 +73,11 @@ pub fn begin_group<R: Rack>(alloc: Global, rack: R, site: u32) -> (GroupSite<R>,
         return (GroupSite::Marked(rack), Err(Stop::No(No::Role)));
     }
     match create_watched(alloc, rack, site) {
-        Ok(group) => (GroupSite::Up(group), Ok(())),
+        Ok(group) => {
+            let laid = brightened(group);
+            laid.spelled();
+            (GroupSite::Up(laid), Ok(()))
+        }
         Err((rack, stop)) => (GroupSite::Marked(rack), Err(stop)),
     }
 }

@@ -6,19 +6,18 @@ ghost use Rattle.vx_history.specs.Groups.{GroupNode};
 ghost use Rattle.vx_history.specs.Steps.{crashed};
 ghost use Rattle.vx_history.specs.World.{FuseSet, Node};
 
-use crate::leaving::crash_group;
+use crate::{Idle, Laid};
 use vx_config::Config;
-use vx_disk::Rack;
-use vx_group::Group;
+use vx_disk::{Rack, Shelf};
 
 /// The rack of a site number, under a group of its disks or by itself.
 #[derive(Drop)]
 pub enum GroupSite<R: Rack> {
-    Up(Group<R>),
+    Up(Laid<R>),
     /// The disks of a group that was deported.
-    Deported(R),
+    Deported(Idle<R>),
     /// The disks of a group that crashed.
-    Down(R),
+    Down(Idle<R>),
     /// The disks of a bare site on which a group was begun, and not finished.
     Marked(R),
     /// It was taken out, and comes back within the same call.
@@ -28,17 +27,15 @@ pub enum GroupSite<R: Rack> {
 impl<R: Rack> GroupSite<R> {
     ghost use Rattle.vx_grouped.specs.GroupSites.{CutNoted, DownNoted, GroupSiteStands, UpNoted, site_agrees, site_config, site_disks};
     ghost use Rattle.vx_grouped.specs.SiteEnds.{MayCrashSite, StaysAlike};
-    ghost use Rattle.vx_grouped.specs.SiteReturns.{ImportsAgree};
 
     /// How many disks it has.
     pub fn disks(&self) -> u32
         ensures { result ≡ (site_disks self.now).units }
     {
         match self {
-            GroupSite::Up(group) => group.disks(),
-            GroupSite::Deported(rack) | GroupSite::Down(rack) | GroupSite::Marked(rack) => {
-                rack.units()
-            }
+            GroupSite::Up(group) => group.shelf.units(),
+            GroupSite::Deported(idle) | GroupSite::Down(idle) => idle.rack.units(),
+            GroupSite::Marked(rack) => rack.units(),
             GroupSite::Gone => 0,
         }
     }
@@ -59,7 +56,7 @@ impl<R: Rack> GroupSite<R> {
         ensures { result ≡ site_agrees self.now }
     {
         match self {
-            GroupSite::Up(group) => group.is_agreed(),
+            GroupSite::Up(group) => group.core.inner.agreed,
             GroupSite::Deported(_) | GroupSite::Down(_) | GroupSite::Marked(_) | GroupSite::Gone =>
                 false,
         }
@@ -71,9 +68,11 @@ impl<R: Rack> GroupSite<R> {
         ensures asked { disk < (site_disks self.old).units → WithDisks (site_disks self.old).disks (site_disks self.new).disks (λ o n. Untouched o n × (n.failing disk ≡ on) × ((u : ℕ) → u ≢ disk → n.failing u ≡ o.failing u)) }
     {
         match self {
-            GroupSite::Up(group) if disk < group.disks() as u64 => group.fail(disk as u32, on),
-            GroupSite::Deported(rack) if disk < rack.units() as u64 => rack.fail(disk as u32, on),
-            GroupSite::Down(rack) if disk < rack.units() as u64 => rack.fail(disk as u32, on),
+            GroupSite::Up(group) if disk < group.shelf.units() as u64 => group.fail(disk as u32, on),
+            GroupSite::Deported(idle) if disk < idle.rack.units() as u64 => {
+                idle.fail(disk as u32, on)
+            }
+            GroupSite::Down(idle) if disk < idle.rack.units() as u64 => idle.fail(disk as u32, on),
             GroupSite::Marked(rack) if disk < rack.units() as u64 => rack.fail(disk as u32, on),
             _ => {}
         }
@@ -95,11 +94,10 @@ impl<R: Rack> GroupSite<R> {
         ensures crashed { (n : Node) (note : GroupNode) → UpNoted n note self → DownNoted (crashed n 0) note result }
         ensures cut { (n : Node) (note : GroupNode) → CutNoted n note self → DownNoted (crashed n 0) note result }
         ensures asked { (n : Node) (note : GroupNode) → UpNoted n note self → OnDisks (site_disks self).disks (site_disks result).disks (Crashed (site_disks self).size pick) }
-        ensures can { site_agrees self ≡ true → ImportsAgree result }
         ensures stopped { MayCrashSite pick self result }
     {
         match self {
-            GroupSite::Up(group) => GroupSite::Down(crash_group(group, pick)),
+            GroupSite::Up(group) => GroupSite::Down(group.crash(pick)),
             other => other,
         }
     }

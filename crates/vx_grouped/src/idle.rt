@@ -1,35 +1,56 @@
 // The disks of a group by themselves.
-ghost use Rattle.std.specs.Prelude.{◌≡◌, true};
+ghost use Rattle.std.specs.Prelude.{◌≡◌, ◌≢◌, ◌<◌, ℕ, true};
 ghost use Rattle.vx_grouped.specs.ImportFacts.{ImportFact};
+ghost use Rattle.vx_untold.specs.Shades.{shade_meaning};
 
 use vx_disk::Rack;
+use vx_untold::Shade;
 
 /// Disks on which a group lay, and whether imports of them agree.
 #[derive(Drop)]
 pub struct Idle<R: Rack> {
-    pub rack: R,
+    pub rack: Shade<R>,
     pub agreed: bool,
-    pub ghost can: { agreed ≡ true → ImportFact (R.meaning rack) },
+    pub ghost can: { agreed ≡ true → ImportFact (shade_meaning (λ s. R.meaning s) rack) },
 }
 
 impl<R: Rack> Idle<R> {
+    ghost use Rattle.vx_disk.specs.Causes.{WithDisks};
+    ghost use Rattle.vx_disk.specs.Disks.{Untouched};
+    ghost use Rattle.vx_disk.specs.Racks.{Alike};
     ghost use Rattle.vx_group.specs.Resumes.{CanImport};
+    ghost use Rattle.vx_grouped.specs.Readies.{ready_of};
 
     /// Disks behind a crash or a deport.
-    pub fn of(rack: R, agreed: bool) -> Idle<R>
-        requires can { agreed ≡ true → CanImport (R.meaning rack) }
+    pub fn of(rack: Shade<R>, agreed: bool) -> Idle<R>
+        requires can { agreed ≡ true → CanImport (shade_meaning (λ s. R.meaning s) rack) }
         ensures rack { result.rack ≡ rack }
         ensures agreed { result.agreed ≡ agreed }
     {
         Idle { rack, agreed }
     }
 
-    /// Hands the disks out, and whether they may be imported.
-    pub fn apart(self) -> (R, bool)
-        ensures rack { result.0 ≡ self.rack }
-        ensures agreed { result.1 ≡ self.agreed }
-        ensures can { result.1 ≡ true → CanImport (R.meaning result.0) }
+    /// Makes each later call on a disk fail, or ends that. Nothing else changes.
+    pub fn fail(&mut self, disk: u32, on: bool)
+        requires { disk < (shade_meaning (λ s. R.meaning s) self.old.rack).units }
+        ensures agreed { self.new.agreed ≡ self.old.agreed }
+        ensures alike { Alike (shade_meaning (λ s. R.meaning s) self.old.rack) (shade_meaning (λ s. R.meaning s) self.new.rack) }
+        ensures down { (shade_meaning (λ s. R.meaning s) self.new.rack).down ≡ (shade_meaning (λ s. R.meaning s) self.old.rack).down }
+        ensures armed { (shade_meaning (λ s. R.meaning s) self.new.rack).armed ≡ (shade_meaning (λ s. R.meaning s) self.old.rack).armed }
+        ensures disks { WithDisks (shade_meaning (λ s. R.meaning s) self.old.rack).disks (shade_meaning (λ s. R.meaning s) self.new.rack).disks (λ o n. Untouched o n × (n.failing disk ≡ on) × ((u : ℕ) → u ≢ disk → n.failing u ≡ o.failing u)) }
     {
-        (self.rack, self.agreed)
+        self.rack.fail(disk, on);
+    }
+
+    /// Hands the disks out for an import: where imports of them may disagree, as disks that tell nothing.
+    pub fn into_ready(self) -> Shade<R>
+        ensures ready { result ≡ ready_of self.agreed self.rack }
+        ensures can { CanImport (shade_meaning (λ s. R.meaning s) result) }
+    {
+        if self.agreed {
+            self.rack
+        } else {
+            self.rack.darkened()
+        }
     }
 }

@@ -9,6 +9,7 @@ ghost use Rattle.vx_group.specs.Deports.{DeportStops};
 ghost use Rattle.vx_group.specs.Dets.{margin};
 ghost use Rattle.vx_group.specs.Resumes.{CanImport};
 ghost use Rattle.vx_grouped.specs.Away.{IsAwayAt};
+ghost use Rattle.vx_grouped.specs.CoreMoves.{DeportCan, DeportMoves};
 ghost use Rattle.vx_grouped.specs.Ends.{DeportLeaves};
 ghost use Rattle.vx_grouped.specs.GroupNotes.{GroupLies, IsGroupAt};
 ghost use Rattle.vx_history.specs.Groups.{GroupNode};
@@ -21,7 +22,7 @@ use vx_model::{No, Stop};
 
 /// Crashes the disks of a group, up or down, and hands them out. Where imports agree, they may be imported.
 pub fn crash_group<R: Rack>(group: Group<R>, pick: u64) -> R
-    ensures away { (n : Node) (note : GroupNode) → GroupLies n note group.core (R.meaning group.shelf) → IsAwayAt (record n { state = DownState }) note (R.meaning result) }
+    ensures away { (n : Node) (note : GroupNode) → GroupLies n note group.core (R.meaning group.shelf) → IsAwayAt (record n { state = DownState }) note group.core.inner.config (R.meaning result) }
     ensures can { group.core.inner.agreed ≡ true → CanImport (R.meaning result) }
     ensures stopped { Stopped (R.meaning group.shelf) (R.meaning result) }
     ensures disks { OnDisks (R.meaning group.shelf).disks (R.meaning result).disks (Crashed (R.meaning group.shelf).size pick) }
@@ -41,6 +42,8 @@ pub fn deport_group<S: Shelf>(group: Group<S>) -> Result<S, (Group<S>, Stop)>
     ensures ends { GroupDeported group.core (S.meaning group.shelf) (λ s. S.meaning s) (λ g. g.core) (λ g. g.shelf) result }
     ensures up { IfOk result (λ s. IsTrue (S.meaning s).down → ⊥) }
     ensures leaves { (n : Node) (note : GroupNode) → IsGroupAt n note group.core (S.meaning group.shelf) → DeportLeaves n note group.core (λ s. S.meaning s) (λ g. g.core) (λ g. g.shelf) result }
+    ensures can { DeportCan group.core (λ s. S.meaning s) result }
+    ensures moves { DeportMoves group.core (S.meaning group.shelf) (λ s. S.meaning s) (λ g. g.core) (λ g. g.shelf) result }
     ensures cause { group.core.inner.config.serial ≤ greatest - margin → DeportStops (S.meaning group.shelf) (λ s. S.meaning s) (λ g. g.shelf) result }
 {
     match group.deport() {

@@ -5,10 +5,12 @@
 #![tactic(auto)]
 
 mod beginning;
+mod finding;
 mod group_site;
 mod idle;
 mod importing;
 mod keeping;
+mod laid;
 pub mod laws;
 mod leaving;
 mod making;
@@ -23,10 +25,12 @@ mod site_returning;
 mod watching;
 
 pub use beginning::begin_group;
+pub use finding::find_group;
 pub use group_site::GroupSite;
 pub use idle::Idle;
 pub use importing::import_group;
 pub use keeping::kept_plain;
+pub use laid::Laid;
 pub use leaving::{crash_group, deport_group};
 pub use making::make_volume_of;
 pub use plain::{read_plain, write_plain};

@@ -6,6 +6,7 @@ ghost use Rattle.vx_disk.specs.Shelf.{Fits, Goes, Nothing};
 ghost use Rattle.vx_group.specs.Holding.{wide};
 ghost use Rattle.vx_group.specs.Loses.{LosesPlexes};
 ghost use Rattle.vx_group.specs.Stands.{inner_meaning};
+ghost use Rattle.vx_grouped.specs.CoreMoves.{BothOn};
 ghost use Rattle.vx_grouped.specs.Ends.{WriteLeaves, plain_write};
 ghost use Rattle.vx_grouped.specs.GroupNotes.{IsGroupAt};
 ghost use Rattle.vx_grouped.specs.Plain.{HoldsPlain, ReadsPlain};
@@ -30,6 +31,7 @@ pub fn write_plain<S: Shelf>(
     requires fits { Fits (inner_meaning (wide group.old.core) (S.meaning group.old.shelf)) vol block (length bytes.now) }
     ensures leaves { (n : Node) (note : GroupNode) → IsGroupAt n note group.old.core (S.meaning group.old.shelf) → WriteLeaves n note (plain_write vol block bytes.now) group.new.core (S.meaning group.new.shelf) result }
     ensures loses { LosesPlexes group.old.core.inner.config group.new.core.inner.config (S.meaning group.old.shelf) (S.meaning group.new.shelf) }
+    ensures on { BothOn group.old.core.inner.config group.new.core.inner.config (S.meaning group.old.shelf).units }
     ensures trust { OnOk result (group.old.core.inner.committed ≡ true → group.new.core.inner.committed ≡ true) }
     ensures agreed { IfErr result (λ no. group.old.core.inner.committed ≡ true → group.new.core.inner.agreed ≡ true) }
     ensures cause { IfErr result (DeviceCause (S.meaning group.old.shelf) (S.meaning group.new.shelf)) }

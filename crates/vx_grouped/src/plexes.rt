@@ -6,13 +6,15 @@ ghost use Rattle.vx_group.specs.Dets.{DetStops, det_refusal};
 ghost use Rattle.vx_group.specs.Holding.{wide};
 ghost use Rattle.vx_group.specs.Regains.{Regains};
 ghost use Rattle.vx_group.specs.Stands.{inner_meaning};
+ghost use Rattle.vx_grouped.specs.ConfigMoves.{none_again};
+ghost use Rattle.vx_grouped.specs.CoreMoves.{CoreMoves};
 ghost use Rattle.vx_grouped.specs.Ends.{CallLeaves};
 ghost use Rattle.vx_grouped.specs.GroupNotes.{IsGroupAt};
 ghost use Rattle.vx_history.specs.Groups.{GroupNode};
 ghost use Rattle.vx_history.specs.World.{Node};
 ghost use Rattle.vx_model.specs.declared.errors.Stop.TheVariants.{No as Refused};
 ghost use Rattle.vx_model.specs.declared.no.No.{No as NoValue};
-ghost use Rattle.vx_volume.specs.Plexes.{active};
+ghost use Rattle.vx_volume.specs.Plexes.{active, uses};
 
 use vx_disk::Shelf;
 use vx_group::Group;
@@ -32,6 +34,8 @@ pub fn det_plex<S: Shelf>(group: &mut Group<S>, vol: u32, plex: u32) -> Result<(
     ensures trust { OnOk result (group.old.core.inner.committed ≡ true → group.new.core.inner.committed ≡ true) }
     ensures agreed { IfErr result (λ stop. group.old.core.inner.committed ≡ true → group.new.core.inner.agreed ≡ true) }
     ensures cause { det_refusal group.old.core.inner.config vol plex ≡ None → DetStops (S.meaning group.old.shelf) (S.meaning group.new.shelf) result }
+    ensures narrows { (w p : ℕ) → IsTrue (active group.new.core.inner.config w p) → IsTrue (active group.old.core.inner.config w p) }
+    ensures moves { CoreMoves none_again group.old.core.inner.config group.new.core.inner.config (S.meaning group.old.shelf) (S.meaning group.new.shelf) }
 {
     let answer = group.det(vol, plex);
     if group.is_down() {
@@ -57,6 +61,8 @@ pub fn att_plex<S: Shelf>(group: &mut Group<S>, vol: u32, plex: u32) -> Result<u
     ensures others { (w p : ℕ) → (w ≡ vol → p ≡ plex → ⊥) → active group.new.core.inner.config w p ≡ active group.old.core.inner.config w p }
     ensures trust { OnOk result (group.old.core.inner.committed ≡ true → group.new.core.inner.committed ≡ true) }
     ensures cause { att_refusal group.old.core.inner.config vol plex ≡ None → DetStops (S.meaning group.old.shelf) (S.meaning group.new.shelf) result }
+    ensures stays { IsTrue (active group.old.core.inner.config vol plex) → OnOk result (IsTrue (active group.new.core.inner.config vol plex)) }
+    ensures moves { CoreMoves (uses group.old.core.inner.config vol plex) group.old.core.inner.config group.new.core.inner.config (S.meaning group.old.shelf) (S.meaning group.new.shelf) }
 {
     let answer = group.att(vol, plex);
     if group.is_down() {

@@ -7,17 +7,18 @@ ghost use Rattle.vx_group.specs.Holding.{wide};
 ghost use Rattle.vx_group.specs.Stands.{inner_meaning};
 ghost use Rattle.vx_grouped.specs.GroupSites.{FitsPlain, GroupUp, UpNoted, site_disks};
 ghost use Rattle.vx_grouped.specs.SiteKeeps.{PlainKeeps, PlainKept};
+ghost use Rattle.vx_untold.specs.Shades.{shade_meaning};
 ghost use Rattle.vx_watched.specs.Since.{CalledSince};
 
-use crate::GroupSite;
+use crate::{GroupSite, Laid};
 use crate::keeping::kept_plain;
-use crate::site_plain::fits_volume;
 use std::marker::Brand;
 use std::mem;
 use vx_disk::Rack;
 use vx_group::Group;
 use vx_model::No;
 use vx_model::limits::{MOST_CALL_BLOCKS, MOST_CALL_BYTES};
+use vx_untold::Shade;
 use vx_watched::{Begun, Watched};
 
 fn kept_from<B: Begun, R: Rack>(
@@ -43,37 +44,38 @@ fn kept_from<B: Begun, R: Rack>(
 
 // Reads the blocks of a write of a volume.
 fn kept_watched<R: Rack>(
-    group: Group<R>,
+    laid: Laid<R>,
     vol: u32,
     block: u64,
     bytes: &[u8],
-) -> (Group<R>, Result<[bool; MOST_CALL_BLOCKS as usize], No>)
-    requires fits { Fits (inner_meaning (wide group.core) (R.meaning group.shelf)) vol block (length bytes.now) }
+) -> (Laid<R>, Result<[bool; MOST_CALL_BLOCKS as usize], No>)
+    requires fits { Fits (inner_meaning (wide laid.core) (shade_meaning (λ s. R.meaning s) laid.shelf)) vol block (length bytes.now) }
     requires few { length bytes.now ≤ MOST_CALL_BYTES }
-    ensures works { PlainKeeps vol block bytes.now group.core (R.meaning group.shelf) result.0.core (R.meaning result.0.shelf) result.1 }
-    ensures since { CalledSince (R.meaning group.shelf) (R.meaning result.0.shelf) }
+    ensures works { PlainKeeps vol block bytes.now laid.core (shade_meaning (λ s. R.meaning s) laid.shelf) result.0.core (shade_meaning (λ s. R.meaning s) result.0.shelf) result.1 }
+    ensures since { CalledSince (shade_meaning (λ s. R.meaning s) laid.shelf) (shade_meaning (λ s. R.meaning s) result.0.shelf) }
 {
-    kept_from::<Brand, R>(group, vol, block, bytes)
+    let (group, answer) = kept_from::<Brand, Shade<R>>(laid.together(), vol, block, bytes);
+    (Laid::of(group), answer)
 }
 
 // Reads the blocks of a write of a volume, and says which it has.
 fn kept_site<R: Rack>(
-    group: Group<R>,
+    laid: Laid<R>,
     vol: u32,
     block: u64,
     bytes: &[u8],
 ) -> (GroupSite<R>, Result<[bool; MOST_CALL_BLOCKS as usize], No>)
     requires few { length bytes.now ≤ MOST_CALL_BYTES }
-    ensures kept { (n : Node) (note : GroupNode) → GroupUp n note group.core (R.meaning group.shelf) → FitsPlain note vol block (length bytes.now) → PlainKept n note vol block bytes.now (GroupSite.Up group) result.0 result.1 }
-    ensures since { CalledSince (R.meaning group.shelf) (site_disks result.0) }
+    ensures kept { (n : Node) (note : GroupNode) → GroupUp n note laid.core (shade_meaning (λ s. R.meaning s) laid.shelf) → FitsPlain note vol block (length bytes.now) → PlainKept n note vol block bytes.now (GroupSite.Up laid) result.0 result.1 }
+    ensures since { CalledSince (shade_meaning (λ s. R.meaning s) laid.shelf) (site_disks result.0) }
 {
-    if !fits_volume(&group, vol, block, bytes.len()) {
-        return (GroupSite::Up(group), Err(No::Role));
+    if !laid.fits(vol, block, bytes.len()) {
+        return (GroupSite::Up(laid), Err(No::Role));
     }
-    let (group, answer) = kept_watched(group, vol, block, bytes);
+    let (laid, answer) = kept_watched(laid, vol, block, bytes);
     match answer {
-        Ok(bits) => (GroupSite::Up(group), Ok(bits)),
-        Err(no) => (GroupSite::Up(group), Err(no)),
+        Ok(bits) => (GroupSite::Up(laid), Ok(bits)),
+        Err(no) => (GroupSite::Up(laid), Err(no)),
     }
 }
 

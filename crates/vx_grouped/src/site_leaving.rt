@@ -2,20 +2,23 @@
 ghost use Rattle.std.specs.Prelude.{◌≡◌, IfOk, IsTrue};
 ghost use Rattle.vx_history.specs.Groups.{GroupNode};
 ghost use Rattle.vx_history.specs.World.{Node};
+ghost use Rattle.vx_grouped.specs.CoreMoves.{DeportCan, DeportMoves};
 ghost use Rattle.vx_grouped.specs.Ends.{DeportLeaves};
 ghost use Rattle.vx_grouped.specs.GroupNotes.{IsGroupAt};
 ghost use Rattle.vx_grouped.specs.GroupSites.{GroupUp, UpNoted, site_disks};
 ghost use Rattle.vx_grouped.specs.SiteEnds.{SiteDeported};
 ghost use Rattle.vx_grouped.specs.Watches.{DeportRefuses, DeportSince};
+ghost use Rattle.vx_untold.specs.Shades.{shade_meaning};
 ghost use Rattle.vx_watched.specs.Since.{CalledSince};
 
-use crate::GroupSite;
-use crate::leaving::{crash_group, deport_group};
+use crate::leaving::deport_group;
 use crate::site_plexes::is_down_stop;
+use crate::{GroupSite, Idle, Laid};
 use std::marker::Brand;
-use vx_disk::{Rack, Shelf};
+use vx_disk::Rack;
 use vx_group::Group;
 use vx_model::{No, Stop};
+use vx_untold::Shade;
 use vx_watched::{Begun, Watched};
 
 fn deport_from<B: Begun, R: Rack>(group: Group<R>) -> Result<R, (Group<R>, Stop)>
@@ -23,6 +26,8 @@ fn deport_from<B: Begun, R: Rack>(group: Group<R>) -> Result<R, (Group<R>, Stop)
     requires since { CalledSince B.first (R.meaning group.shelf) }
     ensures leaves { (n : Node) (note : GroupNode) → IsGroupAt n note group.core (R.meaning group.shelf) → DeportLeaves n note group.core (λ s. R.meaning s) (λ g. g.core) (λ g. g.shelf) result }
     ensures up { IfOk result (λ s. IsTrue (R.meaning s).down → ⊥) }
+    ensures can { DeportCan group.core (λ s. R.meaning s) result }
+    ensures moves { DeportMoves group.core (R.meaning group.shelf) (λ s. R.meaning s) (λ g. g.core) (λ g. g.shelf) result }
     ensures refusals { DeportRefuses (R.meaning group.shelf) (λ s. R.meaning s) (λ g. g.shelf) result }
     ensures since { DeportSince B.first (λ s. R.meaning s) (λ g. g.shelf) result }
 {
@@ -40,31 +45,37 @@ fn deport_from<B: Begun, R: Rack>(group: Group<R>) -> Result<R, (Group<R>, Stop)
 }
 
 // Deports a group that is up, and hands its disks out. A refusal gives it back.
-fn deport_watched<R: Rack>(group: Group<R>) -> Result<R, (Group<R>, Stop)>
-    requires { IsTrue (R.meaning group.shelf).down → ⊥ }
-    ensures leaves { (n : Node) (note : GroupNode) → IsGroupAt n note group.core (R.meaning group.shelf) → DeportLeaves n note group.core (λ s. R.meaning s) (λ g. g.core) (λ g. g.shelf) result }
-    ensures up { IfOk result (λ s. IsTrue (R.meaning s).down → ⊥) }
-    ensures refusals { DeportRefuses (R.meaning group.shelf) (λ s. R.meaning s) (λ g. g.shelf) result }
-    ensures since { DeportSince (R.meaning group.shelf) (λ s. R.meaning s) (λ g. g.shelf) result }
+fn deport_watched<R: Rack>(laid: Laid<R>) -> Result<Shade<R>, (Laid<R>, Stop)>
+    requires { IsTrue (shade_meaning (λ s. R.meaning s) laid.shelf).down → ⊥ }
+    ensures leaves { (n : Node) (note : GroupNode) → IsGroupAt n note laid.core (shade_meaning (λ s. R.meaning s) laid.shelf) → DeportLeaves n note laid.core (λ s. shade_meaning (λ s. R.meaning s) s) (λ g. g.core) (λ g. g.shelf) result }
+    ensures up { IfOk result (λ s. IsTrue (shade_meaning (λ s. R.meaning s) s).down → ⊥) }
+    ensures can { DeportCan laid.core (λ s. shade_meaning (λ s. R.meaning s) s) result }
+    ensures moves { DeportMoves laid.core (shade_meaning (λ s. R.meaning s) laid.shelf) (λ s. shade_meaning (λ s. R.meaning s) s) (λ g. g.core) (λ g. g.shelf) result }
+    ensures refusals { DeportRefuses (shade_meaning (λ s. R.meaning s) laid.shelf) (λ s. shade_meaning (λ s. R.meaning s) s) (λ g. g.shelf) result }
+    ensures since { DeportSince (shade_meaning (λ s. R.meaning s) laid.shelf) (λ s. shade_meaning (λ s. R.meaning s) s) (λ g. g.shelf) result }
 {
-    deport_from::<Brand, R>(group)
+    match deport_from::<Brand, Shade<R>>(laid.together()) {
+        Ok(rack) => Ok(rack),
+        Err((group, stop)) => Err((Laid::of(group), stop)),
+    }
 }
 
 // Deports a site's group. A site whose fuse runs out crashes.
-fn deport_site<R: Rack>(group: Group<R>) -> (GroupSite<R>, Result<(), Stop>)
-    ensures deported { (n : Node) (note : GroupNode) → GroupUp n note group.core (R.meaning group.shelf) → SiteDeported n note (GroupSite.Up group) result.0 result.1 }
-    ensures since { CalledSince (R.meaning group.shelf) (site_disks result.0) }
+fn deport_site<R: Rack>(laid: Laid<R>) -> (GroupSite<R>, Result<(), Stop>)
+    ensures deported { (n : Node) (note : GroupNode) → GroupUp n note laid.core (shade_meaning (λ s. R.meaning s) laid.shelf) → SiteDeported n note (GroupSite.Up laid) result.0 result.1 }
+    ensures since { CalledSince (shade_meaning (λ s. R.meaning s) laid.shelf) (site_disks result.0) }
 {
-    if group.is_down() {
-        return (GroupSite::Up(group), Err(Stop::No(No::Role)));
+    if laid.is_down() {
+        return (GroupSite::Up(laid), Err(Stop::No(No::Role)));
     }
-    match deport_watched(group) {
-        Ok(rack) => (GroupSite::Deported(rack), Ok(())),
-        Err((group, stop)) => {
+    let agreed = laid.core.inner.committed;
+    match deport_watched(laid) {
+        Ok(rack) => (GroupSite::Deported(Idle::of(rack, agreed)), Ok(())),
+        Err((laid, stop)) => {
             if is_down_stop(&stop) {
-                return (GroupSite::Down(crash_group(group, u64::MAX)), Err(stop));
+                return (GroupSite::Down(laid.crash(u64::MAX)), Err(stop));
             }
-            (GroupSite::Up(group), Err(stop))
+            (GroupSite::Up(laid), Err(stop))
         }
     }
 }

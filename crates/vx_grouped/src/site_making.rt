@@ -4,21 +4,23 @@ ghost use Rattle.vx_history.specs.Groups.{GroupNode};
 ghost use Rattle.vx_history.specs.World.{Node};
 ghost use Rattle.vx_model.specs.declared.errors.Stop.TheVariants.{No as Refused};
 ghost use Rattle.vx_model.specs.declared.no.No.{No as NoValue};
+ghost use Rattle.vx_grouped.specs.Added.{IsStill};
 ghost use Rattle.vx_grouped.specs.GroupSites.{GroupUp, UpNoted, site_disks};
 ghost use Rattle.vx_grouped.specs.SiteAdds.{MakesVolume, SiteAdded, VolumeIn, refuses_volume};
+ghost use Rattle.vx_untold.specs.Shades.{shade_meaning};
 ghost use Rattle.vx_watched.specs.Since.{CalledSince};
 
-use crate::GroupSite;
-use crate::leaving::crash_group;
+use crate::{GroupSite, Laid};
 use crate::making::make_volume_of;
 use crate::site_plexes::is_down_stop;
 use std::alloc::Global;
 use std::marker::Brand;
 use std::mem;
-use vx_disk::{Rack, Shelf};
+use vx_disk::Rack;
 use vx_group::Group;
 use vx_layout::Shape;
 use vx_model::{Name, No, Stop};
+use vx_untold::Shade;
 use vx_watched::{Begun, Watched};
 
 fn make_from<B: Begun, R: Rack>(
@@ -31,6 +33,7 @@ fn make_from<B: Begun, R: Rack>(
     requires prefer { IfSome want.now.prefer (λ p. p < want.now.mirrors) }
     requires since { CalledSince B.first (R.meaning group.shelf) }
     ensures works { MakesVolume name.now want.now group.core (R.meaning group.shelf) result.0.core (R.meaning result.0.shelf) result.1 }
+    ensures still { IsStill result.1 ((result.0.core ≡ group.core) × (result.0.shelf ≡ group.shelf)) }
     ensures since { CalledSince B.first (R.meaning result.0.shelf) }
 {
     let (rack, core) = group.apart();
@@ -45,42 +48,45 @@ fn make_from<B: Begun, R: Rack>(
 // Makes a volume in a group that is up.
 fn make_watched<R: Rack>(
     alloc: Global,
-    group: Group<R>,
+    laid: Laid<R>,
     name: &Name,
     want: &Shape,
-) -> (Group<R>, Result<u32, Stop>)
-    requires up { IsTrue (R.meaning group.shelf).down → ⊥ }
+) -> (Laid<R>, Result<u32, Stop>)
+    requires up { IsTrue (shade_meaning (λ s. R.meaning s) laid.shelf).down → ⊥ }
     requires prefer { IfSome want.now.prefer (λ p. p < want.now.mirrors) }
-    ensures works { MakesVolume name.now want.now group.core (R.meaning group.shelf) result.0.core (R.meaning result.0.shelf) result.1 }
-    ensures since { CalledSince (R.meaning group.shelf) (R.meaning result.0.shelf) }
+    ensures works { MakesVolume name.now want.now laid.core (shade_meaning (λ s. R.meaning s) laid.shelf) result.0.core (shade_meaning (λ s. R.meaning s) result.0.shelf) result.1 }
+    ensures still { IsStill result.1 ((result.0.core ≡ laid.core) × (result.0.shelf ≡ laid.shelf)) }
+    ensures since { CalledSince (shade_meaning (λ s. R.meaning s) laid.shelf) (shade_meaning (λ s. R.meaning s) result.0.shelf) }
 {
-    make_from::<Brand, R>(alloc, group, name, want)
+    let (group, answer) = make_from::<Brand, Shade<R>>(alloc, laid.together(), name, want);
+    (Laid::of(group), answer)
 }
 
 // Makes a volume. A site whose fuse runs out crashes.
 fn make_site<R: Rack>(
     alloc: Global,
-    group: Group<R>,
+    laid: Laid<R>,
     name: &Name,
     want: &Shape,
 ) -> (GroupSite<R>, Result<u32, Stop>)
     requires prefer { IfSome want.now.prefer (λ p. p < want.now.mirrors) }
-    ensures made { (n : Node) (note : GroupNode) → GroupUp n note group.core (R.meaning group.shelf) → SiteAdded n note want.now (GroupSite.Up group) result.0 result.1 }
-    ensures refused { (n : Node) (note : GroupNode) (no : NoValue) → GroupUp n note group.core (R.meaning group.shelf) → refuses_volume (GroupSite.Up group) name.now want.now ≡ Some no → result.1 ≡ Err (Refused no) }
-    ensures volume { (n : Node) (note : GroupNode) → GroupUp n note group.core (R.meaning group.shelf) → IfOk result.1 (λ vol. VolumeIn name.now want.now vol (GroupSite.Up group) result.0) }
-    ensures since { CalledSince (R.meaning group.shelf) (site_disks result.0) }
+    ensures made { (n : Node) (note : GroupNode) → GroupUp n note laid.core (shade_meaning (λ s. R.meaning s) laid.shelf) → SiteAdded n note name.now want.now (GroupSite.Up laid) result.0 result.1 }
+    ensures refused { (n : Node) (note : GroupNode) (no : NoValue) → GroupUp n note laid.core (shade_meaning (λ s. R.meaning s) laid.shelf) → refuses_volume (GroupSite.Up laid) name.now want.now ≡ Some no → result.1 ≡ Err (Refused no) }
+    ensures volume { (n : Node) (note : GroupNode) → GroupUp n note laid.core (shade_meaning (λ s. R.meaning s) laid.shelf) → IfOk result.1 (λ vol. VolumeIn name.now want.now vol (GroupSite.Up laid) result.0) }
+    ensures since { CalledSince (shade_meaning (λ s. R.meaning s) laid.shelf) (site_disks result.0) }
 {
-    if group.is_down() {
-        return (GroupSite::Up(group), Err(Stop::No(No::Role)));
+    if laid.is_down() {
+        return (GroupSite::Up(laid), Err(Stop::No(No::Role)));
     }
-    let (group, answer) = make_watched(alloc, group, name, want);
+    let (laid, answer) = make_watched(alloc, laid, name, want);
+    laid.spelled();
     match answer {
-        Ok(vol) => (GroupSite::Up(group), Ok(vol)),
+        Ok(vol) => (GroupSite::Up(laid), Ok(vol)),
         Err(stop) => {
             if is_down_stop(&stop) {
-                return (GroupSite::Down(crash_group(group, u64::MAX)), Err(stop));
+                return (GroupSite::Down(laid.crash(u64::MAX)), Err(stop));
             }
-            (GroupSite::Up(group), Err(stop))
+            (GroupSite::Up(laid), Err(stop))
         }
     }
 }
@@ -93,7 +99,7 @@ impl<R: Rack> GroupSite<R> {
     /// the disk that it names rose, and 6 only where the fuse ran out.
     pub fn make_volume(&mut self, alloc: Global, name: &Name, want: &Shape) -> Result<u32, Stop>
         requires prefer { IfSome want.now.prefer (λ p. p < want.now.mirrors) }
-        ensures made { (n : Node) (note : GroupNode) → UpNoted n note self.old → SiteAdded n note want.now self.old self.new result }
+        ensures made { (n : Node) (note : GroupNode) → UpNoted n note self.old → SiteAdded n note name.now want.now self.old self.new result }
         ensures refused { (n : Node) (note : GroupNode) (no : NoValue) → UpNoted n note self.old → refuses_volume self.old name.now want.now ≡ Some no → result ≡ Err (Refused no) }
         ensures volume { (n : Node) (note : GroupNode) → UpNoted n note self.old → IfOk result (λ vol. VolumeIn name.now want.now vol self.old self.new) }
         ensures since { CalledSince (site_disks self.old) (site_disks self.new) }

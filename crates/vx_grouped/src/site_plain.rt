@@ -1,36 +1,18 @@
 // Writes and reads of the volumes of a site's group.
 ghost use Rattle.std.specs.Prelude.{◌≡◌, IsTrue, length};
-ghost use Rattle.vx_disk.specs.Shelf.{Fits};
 ghost use Rattle.vx_history.specs.Groups.{GroupNode};
 ghost use Rattle.vx_history.specs.World.{Node};
-ghost use Rattle.vx_group.specs.Holding.{wide};
-ghost use Rattle.vx_group.specs.Stands.{inner_meaning};
 ghost use Rattle.vx_grouped.specs.Ends.{plain_write};
-ghost use Rattle.vx_grouped.specs.Plain.{HoldsPlain};
 ghost use Rattle.vx_grouped.specs.GroupSites.{FitsPlain, GroupUp, UpNoted, site_disks};
 ghost use Rattle.vx_grouped.specs.SiteEnds.{PlainRead, PlainWrote, answers_down};
+ghost use Rattle.vx_untold.specs.Shades.{shade_meaning};
 ghost use Rattle.vx_watched.specs.Since.{CalledSince};
 
-use crate::GroupSite;
-use crate::leaving::crash_group;
+use crate::{GroupSite, Laid};
 use crate::watching::{read_watched, write_watched};
 use std::mem;
-use vx_disk::{Rack, Shelf};
-use vx_group::Group;
+use vx_disk::Rack;
 use vx_model::No;
-
-// Whether so many bytes are whole blocks that lie in a volume.
-pub(crate) fn fits_volume<S: Shelf>(group: &Group<S>, vol: u32, block: u64, count: usize) -> bool
-    ensures is { IsTrue result → Fits (inner_meaning (wide group.now.core) (S.meaning group.now.shelf)) vol block count }
-    ensures all { (note : GroupNode) → HoldsPlain note (inner_meaning (wide group.now.core) (S.meaning group.now.shelf)) → FitsPlain note vol block count → IsTrue result }
-{
-    if vol >= group.units() {
-        return false;
-    }
-    let size = group.size(vol);
-    let blocks = count as u64 / 512;
-    count > 0 && count % 512 == 0 && blocks <= size && block <= size - blocks
-}
 
 // Whether the disks were found down.
 fn is_down_no(no: &No) -> bool
@@ -41,58 +23,59 @@ fn is_down_no(no: &No) -> bool
 
 // Writes whole blocks to a volume, and makes them durable. A site whose fuse runs out crashes.
 fn write_site<R: Rack>(
-    group: Group<R>,
+    laid: Laid<R>,
     vol: u32,
     block: u64,
     bytes: &[u8],
 ) -> (GroupSite<R>, Result<(), No>)
-    ensures wrote { (n : Node) (note : GroupNode) → GroupUp n note group.core (R.meaning group.shelf) → FitsPlain note vol block (length bytes.now) → PlainWrote n note (plain_write vol block bytes.now) (GroupSite.Up group) result.0 result.1 }
-    ensures since { CalledSince (R.meaning group.shelf) (site_disks result.0) }
+    ensures wrote { (n : Node) (note : GroupNode) → GroupUp n note laid.core (shade_meaning (λ s. R.meaning s) laid.shelf) → FitsPlain note vol block (length bytes.now) → PlainWrote n note (plain_write vol block bytes.now) (GroupSite.Up laid) result.0 result.1 }
+    ensures since { CalledSince (shade_meaning (λ s. R.meaning s) laid.shelf) (site_disks result.0) }
 {
-    if !fits_volume(&group, vol, block, bytes.len()) {
-        return (GroupSite::Up(group), Err(No::Role));
+    if !laid.fits(vol, block, bytes.len()) {
+        return (GroupSite::Up(laid), Err(No::Role));
     }
-    let (group, answer) = write_watched(group, vol, block, bytes);
+    let (laid, answer) = write_watched(laid, vol, block, bytes);
     match answer {
-        Ok(()) => (GroupSite::Up(group), Ok(())),
+        Ok(()) => (GroupSite::Up(laid), Ok(())),
         Err(no) => {
             if is_down_no(&no) {
-                return (GroupSite::Down(crash_group(group, u64::MAX)), Err(no));
+                return (GroupSite::Down(laid.crash(u64::MAX)), Err(no));
             }
-            (GroupSite::Up(group), Err(no))
+            (GroupSite::Up(laid), Err(no))
         }
     }
 }
 
 // Reads whole blocks of a volume.
 fn read_site<R: Rack>(
-    group: Group<R>,
+    laid: Laid<R>,
     vol: u32,
     block: u64,
     into: &mut [u8],
 ) -> (GroupSite<R>, Result<(), No>)
-    ensures read { (n : Node) (note : GroupNode) → GroupUp n note group.core (R.meaning group.shelf) → FitsPlain note vol block (length into.old) → PlainRead n note vol block into.new (GroupSite.Up group) result.0 result.1 }
-    ensures since { CalledSince (R.meaning group.shelf) (site_disks result.0) }
+    ensures read { (n : Node) (note : GroupNode) → GroupUp n note laid.core (shade_meaning (λ s. R.meaning s) laid.shelf) → FitsPlain note vol block (length into.old) → PlainRead n note vol block into.new (GroupSite.Up laid) result.0 result.1 }
+    ensures since { CalledSince (shade_meaning (λ s. R.meaning s) laid.shelf) (site_disks result.0) }
 {
-    if !fits_volume(&group, vol, block, into.len()) {
-        return (GroupSite::Up(group), Err(No::Role));
+    if !laid.fits(vol, block, into.len()) {
+        return (GroupSite::Up(laid), Err(No::Role));
     }
-    let (group, answer) = read_watched(group, vol, block, into);
+    let (laid, answer) = read_watched(laid, vol, block, into);
     match answer {
-        Ok(()) => (GroupSite::Up(group), Ok(())),
-        Err(no) => (GroupSite::Up(group), Err(no)),
+        Ok(()) => (GroupSite::Up(laid), Ok(())),
+        Err(no) => (GroupSite::Up(laid), Err(no)),
     }
 }
 
 impl<R: Rack> GroupSite<R> {
-    /// Whether so many bytes from a block of a volume on are whole blocks that lie in it.
+    /// Whether so many bytes from a block of a volume on are whole blocks of it.
     pub fn fits(&self, vol: u32, block: u64, count: usize) -> bool
         ensures is { (n : Node) (note : GroupNode) → UpNoted n note self.now → IsTrue result → FitsPlain note vol block count }
         ensures all { (n : Node) (note : GroupNode) → UpNoted n note self.now → FitsPlain note vol block count → IsTrue result }
     {
         match self {
-            GroupSite::Up(group) => fits_volume(group, vol, block, count),
-            _ => false,
+            GroupSite::Up(group) => group.fits(vol, block, count),
+            GroupSite::Deported(_) | GroupSite::Down(_) | GroupSite::Marked(_) | GroupSite::Gone =>
+                false,
         }
     }
 

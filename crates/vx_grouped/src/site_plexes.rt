@@ -5,15 +5,14 @@ ghost use Rattle.vx_history.specs.World.{Node};
 ghost use Rattle.vx_model.specs.declared.errors.Stop.TheVariants.{No as Refused};
 ghost use Rattle.vx_model.specs.declared.no.No.{No as NoValue};
 ghost use Rattle.vx_grouped.specs.GroupSites.{GroupUp, UpNoted, site_disks};
-ghost use Rattle.vx_grouped.specs.SiteEnds.{RegionsOf, SiteCalled, is_plex_on, refuses_att, refuses_det, stops_down};
+ghost use Rattle.vx_grouped.specs.SiteEnds.{AttCalled, DetCalled, RegionsOf, is_plex_on, refuses_att, refuses_det, stops_down};
+ghost use Rattle.vx_untold.specs.Shades.{shade_meaning};
 ghost use Rattle.vx_watched.specs.Since.{CalledSince};
 
-use crate::GroupSite;
-use crate::leaving::crash_group;
+use crate::{GroupSite, Laid};
 use crate::watching::{att_watched, det_watched};
 use std::mem;
-use vx_disk::{Rack, Shelf};
-use vx_group::Group;
+use vx_disk::Rack;
 use vx_model::{No, Stop};
 
 // Whether the disks were found down.
@@ -24,49 +23,49 @@ pub(crate) fn is_down_stop(stop: &Stop) -> bool
 }
 
 // Detaches a plex. A site whose fuse runs out crashes.
-fn det_site<R: Rack>(group: Group<R>, vol: u32, plex: u32) -> (GroupSite<R>, Result<(), Stop>)
-    ensures called { (n : Node) (note : GroupNode) → GroupUp n note group.core (R.meaning group.shelf) → SiteCalled n note (GroupSite.Up group) result.0 result.1 }
-    ensures refused { (n : Node) (note : GroupNode) (no : NoValue) → GroupUp n note group.core (R.meaning group.shelf) → refuses_det (GroupSite.Up group) vol plex ≡ Some no → result.1 ≡ Err (Refused no) }
+fn det_site<R: Rack>(laid: Laid<R>, vol: u32, plex: u32) -> (GroupSite<R>, Result<(), Stop>)
+    ensures called { (n : Node) (note : GroupNode) → GroupUp n note laid.core (shade_meaning (λ s. R.meaning s) laid.shelf) → DetCalled n note vol plex (GroupSite.Up laid) result.0 result.1 }
+    ensures refused { (n : Node) (note : GroupNode) (no : NoValue) → GroupUp n note laid.core (shade_meaning (λ s. R.meaning s) laid.shelf) → refuses_det (GroupSite.Up laid) vol plex ≡ Some no → result.1 ≡ Err (Refused no) }
     ensures off { OnOk result.1 (is_plex_on result.0 vol plex ≡ false) }
-    ensures others { OnOk result.1 ((w p : ℕ) → (w ≡ vol → p ≡ plex → ⊥) → is_plex_on result.0 w p ≡ is_plex_on (GroupSite.Up group) w p) }
-    ensures since { CalledSince (R.meaning group.shelf) (site_disks result.0) }
+    ensures others { OnOk result.1 ((w p : ℕ) → (w ≡ vol → p ≡ plex → ⊥) → is_plex_on result.0 w p ≡ is_plex_on (GroupSite.Up laid) w p) }
+    ensures since { CalledSince (shade_meaning (λ s. R.meaning s) laid.shelf) (site_disks result.0) }
 {
-    if group.is_down() {
-        return (GroupSite::Up(group), Err(Stop::No(No::Role)));
+    if laid.is_down() {
+        return (GroupSite::Up(laid), Err(Stop::No(No::Role)));
     }
-    let (group, answer) = det_watched(group, vol, plex);
+    let (laid, answer) = det_watched(laid, vol, plex);
     match answer {
-        Ok(()) => (GroupSite::Up(group), Ok(())),
+        Ok(()) => (GroupSite::Up(laid), Ok(())),
         Err(stop) => {
             if is_down_stop(&stop) {
-                return (GroupSite::Down(crash_group(group, u64::MAX)), Err(stop));
+                return (GroupSite::Down(laid.crash(u64::MAX)), Err(stop));
             }
-            (GroupSite::Up(group), Err(stop))
+            (GroupSite::Up(laid), Err(stop))
         }
     }
 }
 
 // Attaches a plex. A site whose fuse runs out crashes.
-fn att_site<R: Rack>(group: Group<R>, vol: u32, plex: u32) -> (GroupSite<R>, Result<u64, Stop>)
-    ensures called { (n : Node) (note : GroupNode) → GroupUp n note group.core (R.meaning group.shelf) → SiteCalled n note (GroupSite.Up group) result.0 result.1 }
-    ensures refused { (n : Node) (note : GroupNode) (no : NoValue) → GroupUp n note group.core (R.meaning group.shelf) → refuses_att (GroupSite.Up group) vol plex ≡ Some no → result.1 ≡ Err (Refused no) }
-    ensures already { (n : Node) (note : GroupNode) → GroupUp n note group.core (R.meaning group.shelf) → refuses_att (GroupSite.Up group) vol plex ≡ None → IsTrue (is_plex_on (GroupSite.Up group) vol plex) → result.1 ≡ Ok 0 }
-    ensures count { is_plex_on (GroupSite.Up group) vol plex ≡ false → IfOk result.1 (λ k. RegionsOf (GroupSite.Up group) vol k) }
-    ensures on { is_plex_on (GroupSite.Up group) vol plex ≡ false → OnOk result.1 (IsTrue (is_plex_on result.0 vol plex)) }
-    ensures others { OnOk result.1 ((w p : ℕ) → (w ≡ vol → p ≡ plex → ⊥) → is_plex_on result.0 w p ≡ is_plex_on (GroupSite.Up group) w p) }
-    ensures since { CalledSince (R.meaning group.shelf) (site_disks result.0) }
+fn att_site<R: Rack>(laid: Laid<R>, vol: u32, plex: u32) -> (GroupSite<R>, Result<u64, Stop>)
+    ensures called { (n : Node) (note : GroupNode) → GroupUp n note laid.core (shade_meaning (λ s. R.meaning s) laid.shelf) → AttCalled n note vol plex (GroupSite.Up laid) result.0 result.1 }
+    ensures refused { (n : Node) (note : GroupNode) (no : NoValue) → GroupUp n note laid.core (shade_meaning (λ s. R.meaning s) laid.shelf) → refuses_att (GroupSite.Up laid) vol plex ≡ Some no → result.1 ≡ Err (Refused no) }
+    ensures already { (n : Node) (note : GroupNode) → GroupUp n note laid.core (shade_meaning (λ s. R.meaning s) laid.shelf) → refuses_att (GroupSite.Up laid) vol plex ≡ None → IsTrue (is_plex_on (GroupSite.Up laid) vol plex) → result.1 ≡ Ok 0 }
+    ensures count { is_plex_on (GroupSite.Up laid) vol plex ≡ false → IfOk result.1 (λ k. RegionsOf (GroupSite.Up laid) vol k) }
+    ensures on { is_plex_on (GroupSite.Up laid) vol plex ≡ false → OnOk result.1 (IsTrue (is_plex_on result.0 vol plex)) }
+    ensures others { OnOk result.1 ((w p : ℕ) → (w ≡ vol → p ≡ plex → ⊥) → is_plex_on result.0 w p ≡ is_plex_on (GroupSite.Up laid) w p) }
+    ensures since { CalledSince (shade_meaning (λ s. R.meaning s) laid.shelf) (site_disks result.0) }
 {
-    if group.is_down() {
-        return (GroupSite::Up(group), Err(Stop::No(No::Role)));
+    if laid.is_down() {
+        return (GroupSite::Up(laid), Err(Stop::No(No::Role)));
     }
-    let (group, answer) = att_watched(group, vol, plex);
+    let (laid, answer) = att_watched(laid, vol, plex);
     match answer {
-        Ok(count) => (GroupSite::Up(group), Ok(count)),
+        Ok(count) => (GroupSite::Up(laid), Ok(count)),
         Err(stop) => {
             if is_down_stop(&stop) {
-                return (GroupSite::Down(crash_group(group, u64::MAX)), Err(stop));
+                return (GroupSite::Down(laid.crash(u64::MAX)), Err(stop));
             }
-            (GroupSite::Up(group), Err(stop))
+            (GroupSite::Up(laid), Err(stop))
         }
     }
 }
@@ -77,7 +76,7 @@ impl<R: Rack> GroupSite<R> {
     /// Answers 1, 10 and 19 as the group does, and then nothing has changed; else 7 only where the count of the disk that it names rose, and 6
     /// only where the fuse ran out.
     pub fn det(&mut self, vol: u32, plex: u32) -> Result<(), Stop>
-        ensures called { (n : Node) (note : GroupNode) → UpNoted n note self.old → SiteCalled n note self.old self.new result }
+        ensures called { (n : Node) (note : GroupNode) → UpNoted n note self.old → DetCalled n note vol plex self.old self.new result }
         ensures refused { (n : Node) (note : GroupNode) (no : NoValue) → UpNoted n note self.old → refuses_det self.old vol plex ≡ Some no → result ≡ Err (Refused no) }
         ensures off { OnOk result (is_plex_on self.new vol plex ≡ false) }
         ensures others { OnOk result ((w p : ℕ) → (w ≡ vol → p ≡ plex → ⊥) → is_plex_on self.new w p ≡ is_plex_on self.old w p) }
@@ -102,7 +101,7 @@ impl<R: Rack> GroupSite<R> {
     /// Answers 1 and 19 as the group does, and then nothing has changed; else 7 only where the count of the disk that it names rose, and 6 only
     /// where the fuse ran out.
     pub fn att(&mut self, vol: u32, plex: u32) -> Result<u64, Stop>
-        ensures called { (n : Node) (note : GroupNode) → UpNoted n note self.old → SiteCalled n note self.old self.new result }
+        ensures called { (n : Node) (note : GroupNode) → UpNoted n note self.old → AttCalled n note vol plex self.old self.new result }
         ensures refused { (n : Node) (note : GroupNode) (no : NoValue) → UpNoted n note self.old → refuses_att self.old vol plex ≡ Some no → result ≡ Err (Refused no) }
         ensures already { (n : Node) (note : GroupNode) → UpNoted n note self.old → refuses_att self.old vol plex ≡ None → IsTrue (is_plex_on self.old vol plex) → result ≡ Ok 0 }
         ensures count { is_plex_on self.old vol plex ≡ false → IfOk result (λ k. RegionsOf self.old vol k) }

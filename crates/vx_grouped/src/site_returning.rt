@@ -1,5 +1,6 @@
 // A site's group that comes up again, behind a crash or a deport.
-ghost use Rattle.std.specs.Prelude.{◌≡◌, IfErr};
+ghost use Rattle.std.specs.Prelude.{◌≡◌, ℕ, IfErr, IsFalse, IsTrue, false, true};
+ghost use Rattle.vx_disk.specs.Racks.{Alike, Stopped};
 ghost use Rattle.vx_history.specs.Groups.{GroupNode};
 ghost use Rattle.vx_history.specs.World.{Node};
 ghost use Rattle.vx_config.specs.declared.config.Config.{Config as ConfigValue};
@@ -7,19 +8,21 @@ ghost use Rattle.vx_group.specs.Imports.{ImportStops};
 ghost use Rattle.vx_group.specs.Resumes.{CanImport, CanImportBehind};
 ghost use Rattle.vx_grouped.specs.Away.{AwayLies};
 ghost use Rattle.vx_grouped.specs.Begins.{CreateSince};
-ghost use Rattle.vx_grouped.specs.GroupSites.{AwayNoted, DownNoted, GroupAway, GroupDown, site_disks};
+ghost use Rattle.vx_grouped.specs.GroupSites.{AreStopped, AwayNoted, DownNoted, GroupAway, GroupDown, site_disks};
 ghost use Rattle.vx_grouped.specs.Returns.{ImportLeaves};
-ghost use Rattle.vx_grouped.specs.SiteReturns.{ImportsAgree, ReturnSince, SiteImports, SiteRecovers, stops_early};
+ghost use Rattle.vx_grouped.specs.SiteReturns.{ImportsFrom, ReturnSince, RecoversFrom, SiteImports, SiteRecovers, stops_early};
+ghost use Rattle.vx_untold.specs.Shades.{shade_meaning};
 ghost use Rattle.vx_watched.specs.Since.{CalledSince};
 
-use crate::GroupSite;
 use crate::importing::import_group;
 use crate::site_plexes::is_down_stop;
+use crate::{GroupSite, Idle, Laid};
 use std::alloc::Global;
 use std::marker::Brand;
 use vx_disk::{Rack, Shelf};
-use vx_group::{Group, fall, revive};
+use vx_group::{Group, fall};
 use vx_model::{No, Stop};
+use vx_untold::Shade;
 use vx_watched::{Begun, Watched};
 
 fn import_from<B: Begun, R: Rack>(alloc: Global, rack: R) -> Result<Group<R>, (R, Stop)>
@@ -43,34 +46,16 @@ fn import_from<B: Begun, R: Rack>(alloc: Global, rack: R) -> Result<Group<R>, (R
 }
 
 // Imports a group of the disks of a rack that is up, whose calls it accounts for.
-fn import_watched<R: Rack>(alloc: Global, rack: R) -> Result<Group<R>, (R, Stop)>
-    requires { CanImport (R.meaning rack) }
-    ensures leaves { (n : Node) (note : GroupNode) (last : ConfigValue) → AwayLies n note last (R.meaning rack) → ImportLeaves n note last (R.meaning rack) (λ s. R.meaning s) (λ g. g.core) (λ g. g.shelf) result }
-    ensures stops { IfErr result (λ e. ImportStops (R.meaning rack) (R.meaning e.0) e.1) }
-    ensures again { IfErr result (λ e. CanImportBehind (R.meaning e.0)) }
-    ensures since { CreateSince (R.meaning rack) (λ s. R.meaning s) (λ g. g.shelf) result }
+fn import_watched<R: Rack>(alloc: Global, rack: Shade<R>) -> Result<Laid<R>, (Shade<R>, Stop)>
+    requires { CanImport (shade_meaning (λ s. R.meaning s) rack) }
+    ensures leaves { (n : Node) (note : GroupNode) (last : ConfigValue) → AwayLies n note last (shade_meaning (λ s. R.meaning s) rack) → ImportLeaves n note last (shade_meaning (λ s. R.meaning s) rack) (λ s. shade_meaning (λ s. R.meaning s) s) (λ g. g.core) (λ g. g.shelf) result }
+    ensures stops { IfErr result (λ e. ImportStops (shade_meaning (λ s. R.meaning s) rack) (shade_meaning (λ s. R.meaning s) e.0) e.1) }
+    ensures again { IfErr result (λ e. CanImportBehind (shade_meaning (λ s. R.meaning s) e.0)) }
+    ensures since { CreateSince (shade_meaning (λ s. R.meaning s) rack) (λ s. shade_meaning (λ s. R.meaning s) s) (λ g. g.shelf) result }
 {
-    import_from::<Brand, R>(alloc, rack)
-}
-
-// Ends the down state of the disks of a group that crashed, and imports it. Refused, they crash again.
-fn recover_site<R: Rack>(alloc: Global, rack: R) -> (GroupSite<R>, Result<(), Stop>)
-    requires { CanImport (R.meaning rack) }
-    ensures recovered { (n : Node) (note : GroupNode) → GroupDown n note (R.meaning rack) → SiteRecovers n note (GroupSite.Down rack) result.0 result.1 }
-    ensures again { ImportsAgree result.0 }
-{
-    if !rack.is_down() {
-        return (GroupSite::Down(rack), Err(Stop::No(No::Role)));
-    }
-    let mut rack = rack;
-    revive(&mut rack);
-    match import_watched(alloc, rack) {
-        Ok(group) => (GroupSite::Up(group), Ok(())),
-        Err((rack, stop)) => {
-            let mut rack = rack;
-            fall(&mut rack, u64::MAX);
-            (GroupSite::Down(rack), Err(stop))
-        }
+    match import_from::<Brand, Shade<R>>(alloc, rack) {
+        Ok(group) => Ok(Laid::of(group)),
+        Err((rack, stop)) => Err((rack, stop)),
     }
 }
 
@@ -84,47 +69,106 @@ fn is_early(stop: &Stop) -> bool
     )
 }
 
+// Disks that fell in an import: where it had begun to write it is not known what they hold.
+fn fallen<R: Rack>(rack: Shade<R>, early: bool) -> Shade<R>
+    ensures fell { AreStopped (shade_meaning (λ s. R.meaning s) result) }
+    ensures stopped { early ≡ true → Stopped (shade_meaning (λ s. R.meaning s) rack) (shade_meaning (λ s. R.meaning s) result) }
+    ensures dark { early ≡ false → IsFalse (shade_meaning (λ s. R.meaning s) result).tells }
+    ensures can { CanImportBehind (shade_meaning (λ s. R.meaning s) rack) → CanImport (shade_meaning (λ s. R.meaning s) result) }
+    ensures since { ReturnSince (shade_meaning (λ s. R.meaning s) rack) (shade_meaning (λ s. R.meaning s) result) }
+    ensures counts { (d : ℕ) → (shade_meaning (λ s. R.meaning s) result).disk_faults d ≡ (shade_meaning (λ s. R.meaning s) rack).disk_faults d }
+{
+    let mut rack = rack;
+    fall(&mut rack, u64::MAX);
+    if early { rack } else { rack.darkened() }
+}
+
+// Ends the down state of disks.
+fn risen<R: Rack>(rack: Shade<R>) -> Shade<R>
+    requires { IsTrue (shade_meaning (λ s. R.meaning s) rack).down }
+    ensures alike { Alike (shade_meaning (λ s. R.meaning s) rack) (shade_meaning (λ s. R.meaning s) result) }
+    ensures up { IsFalse (shade_meaning (λ s. R.meaning s) result).down }
+    ensures armed { (shade_meaning (λ s. R.meaning s) result).armed ≡ (shade_meaning (λ s. R.meaning s) rack).armed }
+    ensures can { CanImport (shade_meaning (λ s. R.meaning s) rack) → CanImport (shade_meaning (λ s. R.meaning s) result) }
+    ensures since { ReturnSince (shade_meaning (λ s. R.meaning s) rack) (shade_meaning (λ s. R.meaning s) result) }
+{
+    let mut rack = rack;
+    rack.revive();
+    rack
+}
+
+// Imports the group of disks that crashed. Refused, they crash again.
+fn recover_site<R: Rack>(alloc: Global, rack: Shade<R>) -> (GroupSite<R>, Result<(), Stop>)
+    requires { CanImport (shade_meaning (λ s. R.meaning s) rack) }
+    ensures recovered { (n : Node) (note : GroupNode) → GroupDown n note (shade_meaning (λ s. R.meaning s) rack) → RecoversFrom n note (shade_meaning (λ s. R.meaning s) rack) result.0 result.1 }
+    ensures since { ReturnSince (shade_meaning (λ s. R.meaning s) rack) (site_disks result.0) }
+{
+    if !rack.is_down() {
+        return (GroupSite::Down(Idle::of(rack, true)), Err(Stop::No(No::Role)));
+    }
+    match import_watched(alloc, risen(rack)) {
+        Ok(laid) => {
+            laid.spelled();
+            (GroupSite::Up(laid), Ok(()))
+        }
+        Err((rack, stop)) => {
+            let early = is_early(&stop);
+            (
+                GroupSite::Down(Idle::of(fallen(rack, early), true)),
+                Err(stop),
+            )
+        }
+    }
+}
+
 // Imports a group that was deported. Refused, its disks are by themselves as they were; or they crashed and are up again, where it had begun to write;
 // or they are down, as the fuse ran out.
-fn import_site<R: Rack>(alloc: Global, rack: R) -> (GroupSite<R>, Result<(), Stop>)
-    requires { CanImport (R.meaning rack) }
-    ensures imported { (n : Node) (note : GroupNode) → GroupAway n note (R.meaning rack) → SiteImports n note (GroupSite.Deported rack) result.0 result.1 }
-    ensures again { ImportsAgree result.0 }
+fn import_site<R: Rack>(alloc: Global, rack: Shade<R>) -> (GroupSite<R>, Result<(), Stop>)
+    requires { CanImport (shade_meaning (λ s. R.meaning s) rack) }
+    ensures imported { (n : Node) (note : GroupNode) → GroupAway n note (shade_meaning (λ s. R.meaning s) rack) → ImportsFrom n note (shade_meaning (λ s. R.meaning s) rack) result.0 result.1 }
+    ensures since { ReturnSince (shade_meaning (λ s. R.meaning s) rack) (site_disks result.0) }
 {
     if rack.is_down() {
-        return (GroupSite::Deported(rack), Err(Stop::No(No::Role)));
+        return (
+            GroupSite::Deported(Idle::of(rack, true)),
+            Err(Stop::No(No::Role)),
+        );
     }
     match import_watched(alloc, rack) {
-        Ok(group) => (GroupSite::Up(group), Ok(())),
+        Ok(laid) => {
+            laid.spelled();
+            (GroupSite::Up(laid), Ok(()))
+        }
         Err((rack, stop)) => {
-            if is_early(&stop) && !rack.is_down() {
-                return (GroupSite::Deported(rack), Err(stop));
+            let early = is_early(&stop);
+            if early && !rack.is_down() {
+                return (GroupSite::Deported(Idle::of(rack, true)), Err(stop));
             }
-            let mut rack = rack;
-            fall(&mut rack, u64::MAX);
+            let rack = fallen(rack, early);
             if is_down_stop(&stop) {
-                return (GroupSite::Down(rack), Err(stop));
+                return (GroupSite::Down(Idle::of(rack, true)), Err(stop));
             }
-            revive(&mut rack);
-            (GroupSite::Deported(rack), Err(stop))
+            (
+                GroupSite::Deported(Idle::of(risen(rack), true)),
+                Err(stop),
+            )
         }
     }
 }
 
 impl<R: Rack> GroupSite<R> {
     /// Imports the group of a site that crashed or was deported. Each block of a volume that stopped uncleanly has then one value, which it
-    /// might have before. Refused, the disks may be imported once more: those of a site that crashed are down again, and those of one that
-    /// was deported are by themselves, unless its fuse ran out.
+    /// might have before. Refused, the disks of a site that crashed are down again, and those of one that was deported are by themselves,
+    /// unless its fuse ran out. Where imports of them may disagree, and behind one that was refused after it had begun to write, nothing is told
+    /// any more of what they hold.
     pub fn import(self, alloc: Global) -> (GroupSite<R>, Result<(), Stop>)
-        requires can { ImportsAgree self }
         ensures recovered { (n : Node) (note : GroupNode) → DownNoted n note self → SiteRecovers n note self result.0 result.1 }
         ensures imported { (n : Node) (note : GroupNode) → AwayNoted n note self → SiteImports n note self result.0 result.1 }
-        ensures again { ImportsAgree result.0 }
         ensures since { ReturnSince (site_disks self) (site_disks result.0) }
     {
         match self {
-            GroupSite::Down(rack) => recover_site(alloc, rack),
-            GroupSite::Deported(rack) => import_site(alloc, rack),
+            GroupSite::Down(idle) => recover_site(alloc, idle.into_ready()),
+            GroupSite::Deported(idle) => import_site(alloc, idle.into_ready()),
             other => (other, Err(Stop::No(No::Role))),
         }
     }

@@ -4,14 +4,17 @@ ghost use Rattle.vx_disk.specs.Shelf.{Fits};
 ghost use Rattle.vx_group.specs.Holding.{wide};
 ghost use Rattle.vx_group.specs.Stands.{inner_meaning};
 ghost use Rattle.vx_grouped.specs.Watches.{PlainReads, PlainWrites, PlexAtts, PlexDets};
+ghost use Rattle.vx_untold.specs.Shades.{shade_meaning};
 ghost use Rattle.vx_watched.specs.Since.{CalledSince};
 
+use crate::Laid;
 use crate::plain::{read_plain, write_plain};
 use crate::plexes::{att_plex, det_plex};
 use std::marker::Brand;
 use vx_disk::Rack;
 use vx_group::Group;
 use vx_model::{No, Stop};
+use vx_untold::Shade;
 use vx_watched::{Begun, Watched};
 
 fn write_from<B: Begun, R: Rack>(
@@ -36,16 +39,17 @@ fn write_from<B: Begun, R: Rack>(
 
 /// Writes whole blocks to a volume, and makes them durable.
 pub fn write_watched<R: Rack>(
-    group: Group<R>,
+    laid: Laid<R>,
     vol: u32,
     block: u64,
     bytes: &[u8],
-) -> (Group<R>, Result<(), No>)
-    requires { Fits (inner_meaning (wide group.core) (R.meaning group.shelf)) vol block (length bytes.now) }
-    ensures works { PlainWrites vol block bytes.now group.core (R.meaning group.shelf) result.0.core (R.meaning result.0.shelf) result.1 }
-    ensures since { CalledSince (R.meaning group.shelf) (R.meaning result.0.shelf) }
+) -> (Laid<R>, Result<(), No>)
+    requires { Fits (inner_meaning (wide laid.core) (shade_meaning (λ s. R.meaning s) laid.shelf)) vol block (length bytes.now) }
+    ensures works { PlainWrites vol block bytes.now laid.core (shade_meaning (λ s. R.meaning s) laid.shelf) result.0.core (shade_meaning (λ s. R.meaning s) result.0.shelf) result.1 }
+    ensures since { CalledSince (shade_meaning (λ s. R.meaning s) laid.shelf) (shade_meaning (λ s. R.meaning s) result.0.shelf) }
 {
-    write_from::<Brand, R>(group, vol, block, bytes)
+    let (group, answer) = write_from::<Brand, Shade<R>>(laid.together(), vol, block, bytes);
+    (Laid::of(group), answer)
 }
 
 fn read_from<B: Begun, R: Rack>(
@@ -70,16 +74,17 @@ fn read_from<B: Begun, R: Rack>(
 
 /// Reads whole blocks of a volume.
 pub fn read_watched<R: Rack>(
-    group: Group<R>,
+    laid: Laid<R>,
     vol: u32,
     block: u64,
     into: &mut [u8],
-) -> (Group<R>, Result<(), No>)
-    requires { Fits (inner_meaning (wide group.core) (R.meaning group.shelf)) vol block (length into.old) }
-    ensures works { PlainReads vol block into.new group.core (R.meaning group.shelf) result.0.core (R.meaning result.0.shelf) result.1 }
-    ensures since { CalledSince (R.meaning group.shelf) (R.meaning result.0.shelf) }
+) -> (Laid<R>, Result<(), No>)
+    requires { Fits (inner_meaning (wide laid.core) (shade_meaning (λ s. R.meaning s) laid.shelf)) vol block (length into.old) }
+    ensures works { PlainReads vol block into.new laid.core (shade_meaning (λ s. R.meaning s) laid.shelf) result.0.core (shade_meaning (λ s. R.meaning s) result.0.shelf) result.1 }
+    ensures since { CalledSince (shade_meaning (λ s. R.meaning s) laid.shelf) (shade_meaning (λ s. R.meaning s) result.0.shelf) }
 {
-    read_from::<Brand, R>(group, vol, block, into)
+    let (group, answer) = read_from::<Brand, Shade<R>>(laid.together(), vol, block, into);
+    (Laid::of(group), answer)
 }
 
 fn det_from<B: Begun, R: Rack>(group: Group<R>, vol: u32, plex: u32) -> (Group<R>, Result<(), Stop>)
@@ -98,12 +103,13 @@ fn det_from<B: Begun, R: Rack>(group: Group<R>, vol: u32, plex: u32) -> (Group<R
 }
 
 /// Detaches a plex of a group that is up.
-pub fn det_watched<R: Rack>(group: Group<R>, vol: u32, plex: u32) -> (Group<R>, Result<(), Stop>)
-    requires { IsTrue (R.meaning group.shelf).down → ⊥ }
-    ensures works { PlexDets vol plex group.core (R.meaning group.shelf) result.0.core (R.meaning result.0.shelf) result.1 }
-    ensures since { CalledSince (R.meaning group.shelf) (R.meaning result.0.shelf) }
+pub fn det_watched<R: Rack>(laid: Laid<R>, vol: u32, plex: u32) -> (Laid<R>, Result<(), Stop>)
+    requires { IsTrue (shade_meaning (λ s. R.meaning s) laid.shelf).down → ⊥ }
+    ensures works { PlexDets vol plex laid.core (shade_meaning (λ s. R.meaning s) laid.shelf) result.0.core (shade_meaning (λ s. R.meaning s) result.0.shelf) result.1 }
+    ensures since { CalledSince (shade_meaning (λ s. R.meaning s) laid.shelf) (shade_meaning (λ s. R.meaning s) result.0.shelf) }
 {
-    det_from::<Brand, R>(group, vol, plex)
+    let (group, answer) = det_from::<Brand, Shade<R>>(laid.together(), vol, plex);
+    (Laid::of(group), answer)
 }
 
 fn att_from<B: Begun, R: Rack>(
@@ -126,10 +132,11 @@ fn att_from<B: Begun, R: Rack>(
 }
 
 /// Attaches a plex of a group that is up, and answers how many regions were copied.
-pub fn att_watched<R: Rack>(group: Group<R>, vol: u32, plex: u32) -> (Group<R>, Result<u64, Stop>)
-    requires { IsTrue (R.meaning group.shelf).down → ⊥ }
-    ensures works { PlexAtts vol plex group.core (R.meaning group.shelf) result.0.core (R.meaning result.0.shelf) result.1 }
-    ensures since { CalledSince (R.meaning group.shelf) (R.meaning result.0.shelf) }
+pub fn att_watched<R: Rack>(laid: Laid<R>, vol: u32, plex: u32) -> (Laid<R>, Result<u64, Stop>)
+    requires { IsTrue (shade_meaning (λ s. R.meaning s) laid.shelf).down → ⊥ }
+    ensures works { PlexAtts vol plex laid.core (shade_meaning (λ s. R.meaning s) laid.shelf) result.0.core (shade_meaning (λ s. R.meaning s) result.0.shelf) result.1 }
+    ensures since { CalledSince (shade_meaning (λ s. R.meaning s) laid.shelf) (shade_meaning (λ s. R.meaning s) result.0.shelf) }
 {
-    att_from::<Brand, R>(group, vol, plex)
+    let (group, answer) = att_from::<Brand, Shade<R>>(laid.together(), vol, plex);
+    (Laid::of(group), answer)
 }

@@ -1,1 +1,2 @@
+pub mod Shades
 pub mod Untold

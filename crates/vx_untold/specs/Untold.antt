@@ -1,5 +1,5 @@
 -- A shelf as one that tells nothing of its contents.
-use Rattle.std.specs.Prelude.{◌≡◌, true, false, None}
+use Rattle.std.specs.Prelude.{◌≡◌, true, false}
 use Rattle.vx_disk.specs.Shelf.{Lawful, Meaning, Nothing}
 
 abbrev pub untold : Meaning → Meaning
@@ -16,7 +16,7 @@ untold m = record {
   disk_faults = m.disk_faults;
   down = m.down;
   armed = m.armed;
-  disks = None;
+  disks = m.disks;
 }
 
 -- it obeys the laws of a shelf

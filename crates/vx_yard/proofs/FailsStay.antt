@@ -25,6 +25,7 @@ use Rattle.vx_diskset.specs.declared.disk_set.DiskSet.TheVariants.{Bare, Spoiled
 use Rattle.vx_grouped.specs.GroupSites.{GroupSiteStands, site_disks}
 use Rattle.vx_grouped.specs.declared.group_site.GroupSite.{GroupSite}
 use Rattle.vx_grouped.specs.declared.group_site.GroupSite.TheVariants.{Up as GroupUp, Deported as GroupAway, Down as GroupDown, Marked, Gone as GroupGone}
+use Rattle.vx_untold.specs.Shades.{shade_rack}
 use Rattle.vx_diskset.proofs.KeepsFailing.{Same, same_on}
 
 -- ---- which disks are made to fail is seen by no test
@@ -84,9 +85,9 @@ module _ {R : Type 0} {g : Ghosts R} where
 
   -- those of a group
   site_told : ((r : R) → IsRack (g.meaning r)) → (n : Node) (s : GroupSite R g) → GroupSiteStands n s → (d : Disks) × ((site_disks s).disks ≡ Some d)
-  site_told racks n (GroupUp group) h = ((racks group.shelf).told, (racks group.shelf).is)
-  site_told racks n (GroupAway rack) h = ((racks rack).told, (racks rack).is)
-  site_told racks n (GroupDown rack) h = ((racks rack).told, (racks rack).is)
+  site_told racks n (GroupUp laid) h = let rack = shade_rack g.meaning racks laid.shelf in (rack.told, rack.is)
+  site_told racks n (GroupAway idle) h = let rack = shade_rack g.meaning racks idle.rack in (rack.told, rack.is)
+  site_told racks n (GroupDown idle) h = let rack = shade_rack g.meaning racks idle.rack in (rack.told, rack.is)
   site_told racks n (Marked rack) h = ((racks rack).told, (racks rack).is)
   site_told racks n GroupGone h = absurd h
 

@@ -21,6 +21,7 @@ use Rattle.vx_grouped.specs.GroupNotes.{GroupLies}
 use Rattle.vx_grouped.specs.GroupSites.{GroupSiteStands, site_disks}
 use Rattle.vx_grouped.specs.declared.group_site.GroupSite.{GroupSite}
 use Rattle.vx_grouped.specs.declared.group_site.GroupSite.TheVariants.{Up as GroupUp, Deported as GroupAway, Down as GroupDown, Marked, Gone as GroupGone}
+use Rattle.vx_untold.specs.Shades.{shade_lawful, shade_meaning}
 use Rattle.vx_diskset.specs.Holds.{KeptBeside}
 use Rattle.vx_diskset.specs.Stands.{IsGroupSet}
 use Rattle.vx_diskset.specs.declared.group_set.GroupSet.{GroupSet}
@@ -60,12 +61,15 @@ away_holds n note last m lies lawful = record {
 
 module _ {R : Type 0} {g : Ghosts R} (lawful : (r : R) → Lawful (g.meaning r)) where
   site_holds : (n : Node) (s : GroupSite R g) (note : GroupNode) → GroupSiteStands n s → (n.state ≡ IsBare → ⊥) → n.group ≡ Some note → HoldsGroup note (site_disks s)
-  site_holds n (GroupUp group) note (k, it) made noted =
-      subst (λ (x : GroupNode). HoldsGroup x (g.meaning group.shelf)) (some_same (sym it.noted.is ∙ noted)) (up_holds n k group.core (g.meaning group.shelf) it.at.lies group.stands (lawful group.shelf))
-  site_holds n (GroupAway rack) note (k, it) made noted =
-      subst (λ (x : GroupNode). HoldsGroup x (g.meaning rack)) (some_same (sym it.noted.is ∙ noted)) (away_holds n k it.away.last (g.meaning rack) it.away.lies (lawful rack))
-  site_holds n (GroupDown rack) note (k, it) made noted =
-      subst (λ (x : GroupNode). HoldsGroup x (g.meaning rack)) (some_same (sym it.noted.is ∙ noted)) (away_holds n k it.away.last (g.meaning rack) it.away.lies (lawful rack))
+  site_holds n (GroupUp laid) note (k, it) made noted =
+      let m : Meaning = shade_meaning g.meaning laid.shelf in
+      subst (λ (x : GroupNode). HoldsGroup x m) (some_same (sym it.noted.is ∙ noted)) (up_holds n k laid.core m it.at.lies laid.stands (shade_lawful g.meaning lawful laid.shelf))
+  site_holds n (GroupAway idle) note (k, it) made noted =
+      let m : Meaning = shade_meaning g.meaning idle.rack in
+      subst (λ (x : GroupNode). HoldsGroup x m) (some_same (sym it.noted.is ∙ noted)) (away_holds n k it.last m it.away.lies (shade_lawful g.meaning lawful idle.rack))
+  site_holds n (GroupDown idle) note (k, it) made noted =
+      let m : Meaning = shade_meaning g.meaning idle.rack in
+      subst (λ (x : GroupNode). HoldsGroup x m) (some_same (sym it.noted.is ∙ noted)) (away_holds n k it.last m it.away.lies (shade_lawful g.meaning lawful idle.rack))
   site_holds n (Marked rack) note it made noted = absurd (made it.state)
   site_holds n GroupGone note it made noted = absurd it
 

@@ -1,7 +1,7 @@
 -- The racks as they come back from their disk sets.
 use Rattle.std.proofs.Common.{◌≡◌, ◌∙◌, ◌++◌, ◌≤◌, inl, ℕ, zero, suc, List, [], ◌∷◌, length, ap, append_assoc, sym, subst, refl, arith, IsTrue, true, false}
-use Rattle.std.specs.Prelude.{Option, Some, None, drop, reverse, slice_get, take}
-use Rattle.std.proofs.lemmas.List.{reverse-append}
+use Rattle.std.specs.Prelude.{Option, Some, None, drop, map, reverse, slice_get, take}
+use Rattle.std.proofs.lemmas.List.{append-nil, reverse-append}
 use Rattle.std.specs.Option.{option_and_then}
 use Rattle.vx_history.specs.World.{Node}
 use Rattle.vx_model.specs.declared.site.SiteState.TheVariants.{Bare as IsBare, Up as IsUp, Down as IsDown}
@@ -16,9 +16,12 @@ use Rattle.vx_diskset.specs.declared.disk_set.DiskSet.{DiskSet}
 use Rattle.vx_diskset.specs.declared.disk_set.DiskSet.TheVariants.{Bare, Spoiled, Up, Receives, Down, OfGroup, Gone}
 use Rattle.vx_diskset.specs.Holds.{KeptBeside, HoldsSite, most_header, state_with, beside_of}
 use Rattle.vx_history.specs.Doubts.{Doubted}
-use Rattle.vx_yard.specs.Holds.{HoldsGroup, RacksHold, RacksTell, rack_count, rack_faults}
+use Rattle.vx_yard.specs.Holds.{GroupsHold, HoldsGroup, NoneOver, RacksHold, RacksTell, rack_count, rack_faults}
+use Rattle.vx_untold.specs.Shades.{shade_meaning, rack_of as shaded}
+use Rattle.vx_untold.specs.declared.shade.Shade.{Shade}
+use Rattle.vx_untold.specs.declared.shade.Shade.TheVariants.{Bright, Dark}
 use Rattle.vx_yard.proofs.HoldsGroups.{set_holds}
-use Rattle.vx_yard.proofs.OverGroup.{apart_bare, over_is}
+use Rattle.vx_yard.proofs.OverGroup.{apart_bare, both_ways, noted_over, over_is}
 use Rattle.vx_diskset.specs.Layouts.{units_of}
 use Rattle.vx_yard.specs.Racks.{rack_in, racks_in, site_rack}
 use Rattle.vx_yard.specs.Stands.{AreTold, fault_count, site_faults}
@@ -72,13 +75,34 @@ bare_holds n m bare = bare_has n m (ap (λ (k : Node). k.state) bare.is)
 some_same : {A : Type 0} {a b : A} → Some a ≡ Some b → a ≡ b
 some_same e = cc
 
+-- one more of the last of a list has its image behind the others
+pub put_more : {A B : Type 0} (f : A → B) (sets new : List B) (racks rest : List A) (r : A) → racks ≡ rest ++ r ∷ [] → new ≡ sets ++ f r ∷ [] → new ++ map f (reverse rest) ≡ sets ++ map f (reverse racks)
+put_more {A} {B} f sets new racks rest r front is =
+    ap (λ (xs : List B). xs ++ map f (reverse rest)) is ∙ append_assoc sets (f r ∷ []) (map f (reverse rest))
+    ∙ ap (λ (ys : List A). sets ++ map f ys) (sym (ap (λ (ys : List A). reverse ys) front ∙ reverse-append rest (r ∷ [])))
+
+-- none is left
+pub put_all : {A B : Type 0} (f : A → B) (sets : List B) (racks all : List A) → racks ≡ [] → sets ++ map f (reverse racks) ≡ map f all → sets ≡ map f all
+put_all {A} {B} f sets racks all none whole = sym (append-nil sets) ∙ sym (ap (λ (rs : List A). sets ++ map f (reverse rs)) none) ∙ whole
+
+module _ {R : Type 0} (meaning : R → Meaning) where
+  -- a rack that is seen as it is or as one that tells nothing has the same counts
+  shade_faults : (s : Shade R) (d : ℕ) → (meaning (shaded s)).disk_faults d ≡ (shade_meaning meaning s).disk_faults d
+  shade_faults (Bright rack) d = refl
+  shade_faults (Dark rack) d = refl
+
+  -- one that tells its contents is seen as it is
+  shade_told : (s : Shade R) → IsTrue (shade_meaning meaning s).tells → shade_meaning meaning s ≡ meaning (shaded s)
+  shade_told (Bright rack) tells = refl
+  shade_told (Dark rack) tells = absurd (let e : false ≡ true = tells in cc)
+
 module _ {R : Type 0} {g : Ghosts R} where
   -- ---- those of a group
 
   abbrev rack_at : GroupSite R g → Option R
-  rack_at (GroupUp group) = Some group.shelf
-  rack_at (GroupAway rack) = Some rack
-  rack_at (GroupDown rack) = Some rack
+  rack_at (GroupUp laid) = Some (shaded laid.shelf)
+  rack_at (GroupAway idle) = Some (shaded idle.rack)
+  rack_at (GroupDown idle) = Some (shaded idle.rack)
   rack_at (Marked rack) = Some rack
   rack_at GroupGone = None
 
@@ -118,25 +142,27 @@ module _ {R : Type 0} {g : Ghosts R} where
   few_at GroupGone = omega arith
 
   count_at : (s : GroupSite R g) (d : ℕ) → rack_count g.meaning (rack_at s) d ≡ (site_disks s).disk_faults d
-  count_at (GroupUp group) d = refl
-  count_at (GroupAway rack) d = refl
-  count_at (GroupDown rack) d = refl
+  count_at (GroupUp laid) d = shade_faults g.meaning laid.shelf d
+  count_at (GroupAway idle) d = shade_faults g.meaning idle.rack d
+  count_at (GroupDown idle) d = shade_faults g.meaning idle.rack d
   count_at (Marked rack) d = refl
   count_at GroupGone d = refl
 
-  disks_at : (s : GroupSite R g) (r : R) → rack_at s ≡ Some r → site_disks s ≡ g.meaning r
-  disks_at (GroupUp group) r is = ap g.meaning (some_same is)
-  disks_at (GroupAway rack) r is = ap g.meaning (some_same is)
-  disks_at (GroupDown rack) r is = ap g.meaning (some_same is)
-  disks_at (Marked rack) r is = ap g.meaning (some_same is)
-  disks_at GroupGone r is = absurd (cc)
+  -- those of which contents are told are seen as they are
+  disks_at : (s : GroupSite R g) (r : R) → IsTrue (site_disks s).tells → rack_at s ≡ Some r → site_disks s ≡ g.meaning r
+  disks_at (GroupUp laid) r tells is = shade_told g.meaning laid.shelf tells ∙ ap g.meaning (some_same is)
+  disks_at (GroupAway idle) r tells is = shade_told g.meaning idle.rack tells ∙ ap g.meaning (some_same is)
+  disks_at (GroupDown idle) r tells is = shade_told g.meaning idle.rack tells ∙ ap g.meaning (some_same is)
+  disks_at (Marked rack) r tells is = ap g.meaning (some_same is)
+  disks_at GroupGone r tells is = absurd (cc)
 
-  told_at : (s : GroupSite R g) → IsAt s → ((r : R) → rack_at s ≡ Some r → IsTrue (g.meaning r).tells) → IsTrue (site_disks s).tells
-  told_at (GroupUp group) there f = f group.shelf refl
-  told_at (GroupAway rack) there f = f rack refl
-  told_at (GroupDown rack) there f = f rack refl
-  told_at (Marked rack) there f = f rack refl
-  told_at GroupGone there f = absurd there
+  -- those of a site over no group
+  told_at : (n : Node) (s : GroupSite R g) → GroupSiteStands n s → is_over_group n ≡ false → ((r : R) → rack_at s ≡ Some r → IsTrue (g.meaning r).tells) → IsTrue (site_disks s).tells
+  told_at n (GroupUp laid) (note, it) apart f = absurd (both_ways (noted_over n note it.noted) apart)
+  told_at n (GroupAway idle) (note, it) apart f = absurd (both_ways (noted_over n note it.noted) apart)
+  told_at n (GroupDown idle) (note, it) apart f = absurd (both_ways (noted_over n note it.noted) apart)
+  told_at n (Marked rack) it apart f = f rack refl
+  told_at n GroupGone it apart f = absurd it
 
   stood_at : (n : Node) (s : GroupSite R g) → GroupSiteStands n s → IsAt s
   stood_at n (GroupUp group) h = tt
@@ -219,14 +245,23 @@ module _ {R : Type 0} {g : Ghosts R} where
   counts_as (Some (OfGroup s)) d = count_at s.site d
   counts_as (Some Gone) d = refl
 
-  tells_at : (e : DiskSet R g) → IsThere e → ((r : R) → rack_of e ≡ Some r → IsTrue (g.meaning r).tells) → IsToldAt e
-  tells_at (Bare rack) there f = f rack refl
-  tells_at (Spoiled rack) there f = f rack refl
-  tells_at (Up rvg) there f = f rvg.shelf refl
-  tells_at (Receives s) there f = f s.rvg.shelf refl
-  tells_at (Down rack) there f = f rack refl
-  tells_at (OfGroup s) there f = told_at s.site there f
-  tells_at Gone there f = there
+  unused_tells : (e : DiskSet R g) → IsUnused e → ((r : R) → rack_of e ≡ Some r → IsTrue (g.meaning r).tells) → IsToldAt e
+  unused_tells (Bare rack) there f = f rack refl
+  unused_tells (Spoiled rack) there f = absurd there
+  unused_tells (Up rvg) there f = absurd there
+  unused_tells (Receives s) there f = absurd there
+  unused_tells (Down rack) there f = absurd there
+  unused_tells (OfGroup s) there f = absurd there
+  unused_tells Gone there f = absurd there
+
+  tells_at : (beside : KeptBeside) (n : Node) (e : DiskSet R g) → SiteStands beside n e → is_over_group n ≡ false → ((r : R) → rack_of e ≡ Some r → IsTrue (g.meaning r).tells) → IsToldAt e
+  tells_at beside n (Bare rack) there apart f = f rack refl
+  tells_at beside n (Spoiled rack) there apart f = f rack refl
+  tells_at beside n (Up rvg) there apart f = f rvg.shelf refl
+  tells_at beside n (Receives s) there apart f = f s.rvg.shelf refl
+  tells_at beside n (Down rack) there apart f = f rack refl
+  tells_at beside n (OfGroup s) there apart f = told_at n s.site there.stands apart f
+  tells_at beside n Gone there apart f = absurd there
 
   -- ---- sites that may keep links and be in doubt
 
@@ -259,13 +294,13 @@ module _ {R : Type 0} {g : Ghosts R} where
       bare_has {beside = beside} n (g.meaning r) (apart_bare beside n s (stands (OfGroup s) refl) apart)
   beside_holds lawful beside n (Some Gone) r apart stands is = absurd (cc)
 
-  beside_group : (lawful : (r : R) → Lawful (g.meaning r)) (beside : KeptBeside) (n : Node) (x : Option (DiskSet R g)) (r : R) (note : GroupNode) → is_over_group n ≡ true → n.group ≡ Some note
+  beside_group : (lawful : (r : R) → Lawful (g.meaning r)) (beside : KeptBeside) (n : Node) (x : Option (DiskSet R g)) (r : R) (note : GroupNode) → is_over_group n ≡ true → n.group ≡ Some note → ((e : DiskSet R g) → x ≡ Some e → IsToldAt e)
       → ((e : DiskSet R g) → x ≡ Some e → SiteStands beside n e) → option_and_then rack_of x ≡ Some r → HoldsGroup note (g.meaning r)
-  beside_group lawful beside n None r note over noted stands is = absurd (cc)
-  beside_group lawful beside n (Some e) r note over noted stands is =
+  beside_group lawful beside n None r note over noted told stands is = absurd (cc)
+  beside_group lawful beside n (Some e) r note over noted told stands is =
       let of = over_is beside n e (stands e refl) over in
       let it : IsGroupSet beside n of.0 = subst (λ (k : DiskSet R g). SiteStands beside n k) of.1 (stands e refl) in
-      subst (λ (m : Meaning). HoldsGroup note m) (disks_at of.0.site r (ap rack_of (sym of.1) ∙ is)) (set_holds lawful beside n of.0 note it over noted)
+      subst (λ (m : Meaning). HoldsGroup note m) (disks_at of.0.site r (subst (λ (k : DiskSet R g). IsToldAt k) of.1 (told e refl)) (ap (λ (k : DiskSet R g). rack_of k) (sym of.1) ∙ is)) (set_holds lawful beside n of.0 note it over noted)
 
   pub racks_keep : (lawful : (r : R) → Lawful (g.meaning r)) (d : Doubted) (es : List (DiskSet R g)) → SitesAgree d es → RacksHold g.meaning d (racks_in es)
   racks_keep lawful d es agree =
@@ -273,17 +308,30 @@ module _ {R : Type 0} {g : Ghosts R} where
       record {
         eight = length-racks_in es there ∙ agree.eight;
         each = λ s r below apart at. beside_holds lawful (beside_of d s) (d.world.nodes s) (slice_get es s) r apart (λ e is. agree.sites s e below is) (sym (slice_get-racks_in es there s) ∙ at);
-        groups = λ s r note below over noted at. beside_group lawful (beside_of d s) (d.world.nodes s) (slice_get es s) r note over noted (λ e is. agree.sites s e below is) (sym (slice_get-racks_in es there s) ∙ at);
+      }
+
+  pub groups_hold : (lawful : (r : R) → Lawful (g.meaning r)) (d : Doubted) (es : List (DiskSet R g)) → SitesAgree d es → AreTold es → GroupsHold g.meaning d (racks_in es)
+  groups_hold lawful d es agree told =
+      let there = all_there es (agree_there d es agree) in
+      record {
+        each = λ s r note below over noted at.
+            beside_group lawful (beside_of d s) (d.world.nodes s) (slice_get es s) r note over noted (λ e is. told.each s e is) (λ e is. agree.sites s e below is) (sym (slice_get-racks_in es there s) ∙ at);
       }
 
   pub racks_counted : (d : Doubted) (es : List (DiskSet R g)) → SitesAgree d es → (s u : ℕ) → rack_faults g.meaning (racks_in es) s u ≡ site_faults es s u
   racks_counted d es agree s u = ap (λ (r : Option R). rack_count g.meaning r u) (slice_get-racks_in es (all_there es (agree_there d es agree)) s) ∙ counts_as (slice_get es s) u
 
-  pub racks_told : (d : Doubted) (es : List (DiskSet R g)) → SitesAgree d es → RacksTell g.meaning (racks_in es) → AreTold es
-  racks_told d es agree tell = record {
-    each = λ s e at. tells_at e (agree_there d es agree s e at)
-        (λ r is. tell.each s r (slice_get-racks_in es (all_there es (agree_there d es agree)) s ∙ ap (λ (x : Option (DiskSet R g)). option_and_then rack_of x) at ∙ is));
-  }
+  pub racks_told : (d : Doubted) (es : List (DiskSet R g)) → SitesAgree d es → NoneOver d → RacksTell g.meaning (racks_in es) → AreTold es
+  racks_told d es agree none tell = record { each = each }
+    where
+      found : (s : ℕ) (e : DiskSet R g) → slice_get es s ≡ Some e → (r : R) → rack_of e ≡ Some r → IsTrue (g.meaning r).tells
+      found s e at r is = tell.each s r (slice_get-racks_in es (all_there es (agree_there d es agree)) s ∙ ap (λ (x : Option (DiskSet R g)). option_and_then rack_of x) at ∙ is)
+
+      each : (s : ℕ) (e : DiskSet R g) → slice_get es s ≡ Some e → IsToldAt e
+      each s e at = ⊎_elim
+          (λ below. tells_at (beside_of d s) (d.world.nodes s) e (agree.sites s e below at) (none.each s below) (found s e at))
+          (λ past. unused_tells e (agree.others s e past at) (found s e at))
+          (cases_lt s d.world.sites)
 
   -- one disk set gives one rack at most
   pub rack_few : (e : DiskSet R g) → length (rack_in e) ≤ 1
@@ -294,6 +342,10 @@ module _ {R : Type 0} {g : Ghosts R} where
   rack_few (Down rack) = omega arith
   rack_few (OfGroup s) = few_at s.site
   rack_few Gone = omega arith
+
+  -- all were given back
+  pub given_all : (racks : List R) (sets all : List (DiskSet R g)) → sets ≡ [] → racks ++ racks_in (reverse sets) ≡ racks_in all → racks ≡ racks_in all
+  given_all racks sets all none whole = sym (append-nil racks) ∙ sym (ap (λ (es : List (DiskSet R g)). racks ++ racks_in (reverse es)) none) ∙ whole
 
   pub given_back : (racks new : List R) (sets rest : List (DiskSet R g)) (e : DiskSet R g) → sets ≡ rest ++ e ∷ [] → new ≡ racks ++ rack_in e → new ++ racks_in (reverse rest) ≡ racks ++ racks_in (reverse sets)
   given_back racks new sets rest e front is =

@@ -1,8 +1,6 @@
 -- A raw set over disks that were written over.
-use Rattle.std.proofs.Common.{ap, subst, sym}
+use Rattle.std.proofs.Common.{ap, refl}
 use Rattle.vx_model.specs.declared.errors.Stop.TheVariants.{No}
-use Rattle.vx_disk.specs.Causes.{DeviceCause}
-use Rattle.vx_diskset.specs.Asked.{SameFailing}
 use Rattle.vx_diskset.specs.declared.disk_set.DiskSet.TheVariants.{Spoiled}
 use Rattle.vx_diskset.proofs.KeepsFailing.{failing_then}
 use Rattle.vx_diskset.proofs.Unmarked.{made_behind, zeroed_bare, zeroed_failed}
@@ -17,7 +15,7 @@ returns-in-Ok-clause-made g c = λ n it can.
 
 pub returns-in-Err-clause-made : goal.returns-in-Err-clause-made
 returns-in-Err-clause-made g c = λ n it can.
-    zeroed_failed {R = g.row.R.Denot} {g = g.R.Shelf} c.args.site n c.args.rack c.zero_disks.new.rack c.in-Err.error _ (ap No c.refusal.ensures) c.zero_disks.ensures.goes c.in-Err.ensures.cause it
+    zeroed_failed {R = g.row.R.Denot} {g = g.R.Shelf} c.args.site n (Spoiled c.args.rack) c.args.rack c.zero_disks.new.rack c.in-Err.error _ refl (ap No c.refusal.ensures) c.zero_disks.ensures.goes c.in-Err.ensures.cause it
 
 pub returns-in-Ok-clause-failing : goal.returns-in-Ok-clause-failing
 returns-in-Ok-clause-failing g c = failing_then (Spoiled c.args.rack) (Spoiled c.zero_disks.new.rack) c.make_group.result.0 (record { told = c.zero_disks.ensures.failing }) c.make_group.ensures.failing

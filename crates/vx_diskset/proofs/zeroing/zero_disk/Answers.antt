@@ -1,5 +1,5 @@
 -- `zero_disk`: its loop, and the flush behind it.
-use Rattle.std.proofs.Common.{arith}
+use Rattle.std.proofs.Common.{Err, arith}
 use Rattle.vx_diskset.proofs.KeepsFailing.{same_on}
 use Rattle.vx_diskset.proofs.Zeroes.{device_of, disk_fails, disk_goes, disk_more, disk_start, flush_goes, flush_leaves}
 use Rattle.vx_diskset.proofs.zeroing.zero_disk.Goals as goal
@@ -9,16 +9,16 @@ loop-done-init g c = disk_start c.args.disk (g.R.Shelf.meaning c.args.rack.now)
 
 pub loop-done-preserved : goal.loop-done-preserved
 loop-done-preserved g c = disk_more c.args.disk c.loop-done.done (g.R.Shelf.meaning c.args.rack.now) (g.R.Shelf.meaning c.loop-done.rack) (g.R.Shelf.meaning c.zero_run.new.rack) c.loop-done.invariant c.min-count.result
-    c.zero_run.ensures.goes c.zero_run.ensures.failing c.in_ok-zero_run.ensures.ok
+    c.zero_run.ensures.goes c.zero_run.ensures.failing c.in-Ok.ensures.ok
 
-pub returns-in_err-zero_run-clause-goes : goal.returns-in_err-zero_run-clause-goes
-returns-in_err-zero_run-clause-goes g c = disk_goes c.args.disk c.loop-done.done (g.R.Shelf.meaning c.args.rack.now) (g.R.Shelf.meaning c.loop-done.rack) (g.R.Shelf.meaning c.zero_run.new.rack) c.loop-done.invariant c.zero_run.ensures.goes
+pub returns-in-Err-clause-goes : goal.returns-in-Err-clause-goes
+returns-in-Err-clause-goes g c = disk_goes c.args.disk c.loop-done.done (g.R.Shelf.meaning c.args.rack.now) (g.R.Shelf.meaning c.loop-done.rack) (g.R.Shelf.meaning c.zero_run.new.rack) c.loop-done.invariant c.zero_run.ensures.goes
 
-pub returns-in_err-zero_run-clause-cause : goal.returns-in_err-zero_run-clause-cause
-returns-in_err-zero_run-clause-cause g c = device_of (g.R.Shelf.meaning c.args.rack.now) (g.R.Shelf.meaning c.loop-done.rack) (g.R.Shelf.meaning c.zero_run.new.rack) c.args.disk c.zero_run.result c.loop-done.invariant.goes.disk_faults c.zero_run.ensures.cause
+pub returns-in-Err-clause-cause : goal.returns-in-Err-clause-cause
+returns-in-Err-clause-cause g c = device_of (g.R.Shelf.meaning c.args.rack.now) (g.R.Shelf.meaning c.loop-done.rack) (g.R.Shelf.meaning c.zero_run.new.rack) c.args.disk (Err c.in-Err.error) c.loop-done.invariant.goes.disk_faults c.in-Err.ensures.cause
 
-pub returns-in_err-zero_run-clause-failing : goal.returns-in_err-zero_run-clause-failing
-returns-in_err-zero_run-clause-failing g c = disk_fails c.args.disk c.loop-done.done (g.R.Shelf.meaning c.args.rack.now) (g.R.Shelf.meaning c.loop-done.rack) (g.R.Shelf.meaning c.zero_run.new.rack) c.loop-done.invariant c.zero_run.ensures.failing
+pub returns-in-Err-clause-failing : goal.returns-in-Err-clause-failing
+returns-in-Err-clause-failing g c = disk_fails c.args.disk c.loop-done.done (g.R.Shelf.meaning c.args.rack.now) (g.R.Shelf.meaning c.loop-done.rack) (g.R.Shelf.meaning c.zero_run.new.rack) c.loop-done.invariant c.zero_run.ensures.failing
 
 pub returns-clause-goes : goal.returns-clause-goes
 returns-clause-goes g c = flush_goes c.args.disk c.loop-done.done (g.R.Shelf.meaning c.args.rack.now) (g.R.Shelf.meaning c.loop-done.rack) (g.R.Shelf.meaning c.flush.new.self) c.loop-done.invariant c.flush.ensures.goes

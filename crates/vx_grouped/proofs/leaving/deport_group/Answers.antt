@@ -6,6 +6,7 @@ use Rattle.vx_group.specs.Dets.{margin}
 use Rattle.vx_group.proofs.CallLemmas.{not_down}
 use Rattle.vx_grouped.proofs.DeportedLemmas.{back_cut, back_up, deported_at, device_stops}
 use Rattle.vx_grouped.proofs.KeepLemmas.{never_fell, same_at}
+use Rattle.vx_grouped.proofs.BothLemmas.{both_on}
 use Rattle.vx_grouped.proofs.leaving.deport_group.Goals as goal
 
 pub returns-in-Ok-clause-leaves : goal.returns-in-Ok-clause-leaves
@@ -27,3 +28,18 @@ returns-else-is_down-clause-leaves g c = λ n note at.
     (not_down c.is_down.result (g.S.Shelf.meaning c.in-Err.group.shelf).down c.is_down.ensures c.if-is_down.false)
     (λ low. device_stops (g.S.Shelf.meaning c.args.group.shelf) g.S.Shelf.meaning (λ y. y.shelf) c.in-Err.group c.in-Err.stop (c.in-Err.ensures.cause low))
     (λ lt. ((c.in-Err.ensures.limit lt).0, same_at g.S.Shelf.meaning n note c.args.group.core c.in-Err.group.core c.args.group.shelf c.in-Err.group.shelf (c.in-Err.ensures.limit lt).1 (c.in-Err.ensures.limit lt).2 at))
+
+pub returns-in-Ok-clause-can : goal.returns-in-Ok-clause-can
+returns-in-Ok-clause-can g c = λ is. c.in-Ok.ensures.can (inl is)
+
+pub returns-then-is_down-clause-moves : goal.returns-then-is_down-clause-moves
+returns-then-is_down-clause-moves g c = record {
+  loses = c.in-Err.ensures.ends.quiesces.loses;
+  on = both_on c.args.group.core c.in-Err.group.core (g.S.Shelf.meaning c.args.group.shelf) (g.S.Shelf.meaning c.in-Err.group.shelf) c.args.group.stands c.in-Err.group.stands;
+}
+
+pub returns-else-is_down-clause-moves : goal.returns-else-is_down-clause-moves
+returns-else-is_down-clause-moves g c = record {
+  loses = c.in-Err.ensures.ends.quiesces.loses;
+  on = both_on c.args.group.core c.in-Err.group.core (g.S.Shelf.meaning c.args.group.shelf) (g.S.Shelf.meaning c.in-Err.group.shelf) c.args.group.stands c.in-Err.group.stands;
+}

@@ -12,6 +12,7 @@ use Rattle.vx_model.specs.declared.errors.Stop.TheVariants.{No as Refused}
 use Rattle.vx_model.specs.declared.no.No.TheVariants as refusal
 use Rattle.vx_grouped.proofs.AddedLemmas.{err_one, made_by, made_leaves, make_not_down, stop_volumes, volume_cut, volume_up}
 use Rattle.vx_grouped.proofs.KeepLemmas.{never_fell, same_at}
+use Rattle.vx_grouped.proofs.BothLemmas.{still_by}
 use Rattle.vx_grouped.proofs.making.make_volume_of.Goals as goal
 
 pub returns-in-Ok-clause-leaves : goal.returns-in-Ok-clause-leaves
@@ -55,3 +56,6 @@ returns-else-is_down-clause-leaves g c = λ n note at.
     (nat_lt (greatest - margin) c.args.group.now.core.inner.config.serial) (not (is_shape c.args.want.now)) _ _ _ _ _
     (λ is. let clash : refusal.Exists c.args.name.now ≡ refusal.Down = is in cc) (λ is. let clash : refusal.Limit Volumes MOST_VOLUMES ≡ refusal.Down = is in cc) (λ is. let clash : refusal.Limit Plexes MOST_PLEXES ≡ refusal.Down = is in cc)
     (λ is. let clash : refusal.Limit Number greatest ≡ refusal.Down = is in cc) (λ is. let clash : refusal.Size ≡ refusal.Down = is in cc))
+
+pub returns-else-is_down-clause-still : goal.returns-else-is_down-clause-still
+returns-else-is_down-clause-still g c = still_by c.in-Err.stop _ c.in-Err.ensures.unmoved

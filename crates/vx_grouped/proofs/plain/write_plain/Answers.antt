@@ -5,6 +5,7 @@ use Rattle.vx_group.specs.Holding.{wide}
 use Rattle.vx_group.specs.Laws.{group_lawful}
 use Rattle.vx_group.specs.Stands.{inner_meaning}
 use Rattle.vx_grouped.proofs.WriteLemmas.{both_lose, write_done, write_failed}
+use Rattle.vx_grouped.proofs.BothLemmas.{both_on}
 use Rattle.vx_grouped.proofs.plain.write_plain.Goals as goal
 
 pub returns-in-Err-clause-leaves : goal.returns-in-Err-clause-leaves
@@ -44,3 +45,12 @@ returns-in-Err-flush-clause-leaves g c = λ n note at.
     (Unit {0}) (Unit {0}) c.in-Err-flush.error c.refusal-in-Err-flush.result c.refusal-in-Err-flush.ensures
     (then_nothing (Written c.args.vol c.args.block c.args.bytes.now) (inner_meaning (wide c.args.group.now.core) (g.S.Shelf.meaning c.args.group.now.shelf)) (inner_meaning (wide c.write.new.self.core) (g.S.Shelf.meaning c.write.new.self.shelf)) (inner_meaning (wide c.flush.new.self.core) (g.S.Shelf.meaning c.flush.new.self.shelf)) c.write.ensures.goes c.flush.ensures.goes)
     (inner_meaning (wide c.write.new.self.core) (g.S.Shelf.meaning c.write.new.self.shelf)) c.in-Err-flush.ensures.cause
+
+pub returns-in-Ok-flush-clause-on : goal.returns-in-Ok-flush-clause-on
+returns-in-Ok-flush-clause-on g c = both_on c.args.group.now.core c.flush.new.self.core (g.S.Shelf.meaning c.args.group.now.shelf) (g.S.Shelf.meaning c.flush.new.self.shelf) c.args.group.now.stands c.flush.new.self.stands
+
+pub returns-in-Err-flush-clause-on : goal.returns-in-Err-flush-clause-on
+returns-in-Err-flush-clause-on g c = both_on c.args.group.now.core c.flush.new.self.core (g.S.Shelf.meaning c.args.group.now.shelf) (g.S.Shelf.meaning c.flush.new.self.shelf) c.args.group.now.stands c.flush.new.self.stands
+
+pub returns-in-Err-clause-on : goal.returns-in-Err-clause-on
+returns-in-Err-clause-on g c = both_on c.args.group.now.core c.write.new.self.core (g.S.Shelf.meaning c.args.group.now.shelf) (g.S.Shelf.meaning c.write.new.self.shelf) c.args.group.now.stands c.write.new.self.stands

@@ -7,6 +7,7 @@ use Rattle.vx_group.specs.Attaches.{att_refusal}
 use Rattle.vx_group.specs.Dets.{margin}
 use Rattle.vx_group.proofs.CallLemmas.{not_down}
 use Rattle.vx_grouped.proofs.KeepLemmas.{att_not_down, attached_by, call_cut, call_leaves, never_fell, same_at}
+use Rattle.vx_grouped.proofs.BothLemmas.{regains_by, stays_by}
 use Rattle.vx_grouped.proofs.plexes.att_plex.Goals as goal
 
 pub returns-then-is_down-clause-refused : goal.returns-then-is_down-clause-refused
@@ -37,3 +38,17 @@ returns-clause-leaves g c = λ n note at.
     (λ why is. ((c.att-answer.ensures.refused why is).0, same_at g.S.Shelf.meaning n note c.args.group.now.core c.att-answer.new.self.core c.args.group.now.shelf c.att-answer.new.self.shelf (c.att-answer.ensures.refused why is).1 (c.att-answer.ensures.refused why is).2 at))
     (att_not_down (nat_le (length c.args.group.now.core.inner.config.volumes) c.args.vol) (nat_le (plexes_of c.args.group.now.core.inner.config c.args.vol) c.args.plex)
     (nat_lt (greatest - margin) c.args.group.now.core.inner.config.serial) c.args.vol c.args.plex greatest)
+
+pub returns-then-is_down-clause-moves : goal.returns-then-is_down-clause-moves
+returns-then-is_down-clause-moves g c =
+    regains_by c.args.group.now.core c.att-answer.new.self.core (g.S.Shelf.meaning c.args.group.now.shelf) (g.S.Shelf.meaning c.att-answer.new.self.shelf) c.args.group.now.stands c.att-answer.new.self.stands
+    c.att-answer.ensures.attaches.acts.units c.att-answer.ensures.attaches.acts.size c.args.vol c.args.plex c.att-answer.ensures.attaches.parts c.att-answer.ensures.attaches.shape c.att-answer.ensures.regains
+
+pub returns-clause-moves : goal.returns-clause-moves
+returns-clause-moves g c =
+    regains_by c.args.group.now.core c.att-answer.new.self.core (g.S.Shelf.meaning c.args.group.now.shelf) (g.S.Shelf.meaning c.att-answer.new.self.shelf) c.args.group.now.stands c.att-answer.new.self.stands
+    c.att-answer.ensures.attaches.acts.units c.att-answer.ensures.attaches.acts.size c.args.vol c.args.plex c.att-answer.ensures.attaches.parts c.att-answer.ensures.attaches.shape c.att-answer.ensures.regains
+
+pub returns-clause-stays : goal.returns-clause-stays
+returns-clause-stays g c = λ on. stays_by c.att-answer.result (att_refusal c.args.group.now.core.inner.config c.args.vol c.args.plex) c.args.vol c.args.plex c.args.group.now.core c.att-answer.new.self.core (λ why is. (c.att-answer.ensures.refused why is).0)
+    (λ none. (c.att-answer.ensures.already none on).1) on

@@ -5,6 +5,7 @@ use Rattle.vx_config.specs.Checks.{plexes_of}
 use Rattle.vx_config.specs.Table.{greatest}
 use Rattle.vx_group.specs.Dets.{any_below, det_refusal, is_other, margin}
 use Rattle.vx_group.proofs.CallLemmas.{not_down}
+use Rattle.vx_grouped.proofs.BothLemmas.{moves_by}
 use Rattle.vx_grouped.proofs.KeepLemmas.{agreed_either, call_cut, call_leaves, det_not_down, never_fell, same_at}
 use Rattle.vx_volume.specs.Plexes.{active}
 use Rattle.vx_grouped.proofs.plexes.det_plex.Goals as goal
@@ -35,3 +36,11 @@ returns-clause-leaves g c = λ n note at.
     (det_not_down (nat_le (length c.args.group.now.core.inner.config.volumes) c.args.vol) (nat_le (plexes_of c.args.group.now.core.inner.config c.args.vol) c.args.plex)
     (active c.args.group.now.core.inner.config c.args.vol c.args.plex && not (any_below (is_other c.args.group.now.core.inner.config c.args.vol c.args.plex) (plexes_of c.args.group.now.core.inner.config c.args.vol)))
     (nat_lt (greatest - margin) c.args.group.now.core.inner.config.serial) c.args.vol c.args.plex greatest)
+
+pub returns-then-is_down-clause-moves : goal.returns-then-is_down-clause-moves
+returns-then-is_down-clause-moves g c =
+    moves_by c.args.group.now.core c.det-answer.new.self.core (g.S.Shelf.meaning c.args.group.now.shelf) (g.S.Shelf.meaning c.det-answer.new.self.shelf) c.args.group.now.stands c.det-answer.new.self.stands c.det-answer.ensures.parts c.det-answer.ensures.narrows.shape c.det-answer.ensures.disks
+
+pub returns-clause-moves : goal.returns-clause-moves
+returns-clause-moves g c =
+    moves_by c.args.group.now.core c.det-answer.new.self.core (g.S.Shelf.meaning c.args.group.now.shelf) (g.S.Shelf.meaning c.det-answer.new.self.shelf) c.args.group.now.stands c.det-answer.new.self.stands c.det-answer.ensures.parts c.det-answer.ensures.narrows.shape c.det-answer.ensures.disks

@@ -1,11 +1,15 @@
 -- A deport over disks with an account.
-use Rattle.std.proofs.Common.{◌∙◌, ◌-◌, inl, inr, refl}
+use Rattle.std.proofs.Common.{◌≡◌, ◌∙◌, ◌-◌, true, inl, inr, refl}
 use Rattle.std.proofs.lemmas.Bool.{cases_lt}
 use Rattle.std.specs.Prelude.{Err}
 use Rattle.vx_model.specs.declared.site.SiteState.TheVariants.{Deported as IsDeported}
 use Rattle.vx_config.specs.Table.{greatest}
 use Rattle.vx_config.specs.declared.config.Config.{Config}
+use Rattle.vx_group.specs.Deports.{DeportedBy}
 use Rattle.vx_group.specs.Dets.{DetStops, margin}
+use Rattle.vx_group.specs.Holding.{wide}
+use Rattle.vx_group.specs.Resumes.{CanImport}
+use Rattle.vx_grouped.specs.CoreMoves.{BackMoves}
 use Rattle.vx_grouped.specs.Away.{IsDeportedAt, note_deported}
 use Rattle.vx_grouped.specs.Ends.{CallLeaves}
 use Rattle.vx_grouped.specs.GroupNotes.{IsGroupAt}
@@ -15,7 +19,7 @@ use Rattle.vx_grouped.proofs.site_leaving.deport_from.Goals as goal
 
 pub returns-in-Ok-clause-leaves : goal.returns-in-Ok-clause-leaves
 returns-in-Ok-clause-leaves g c = λ n note at.
-    carried (λ x s y t. IsGroupAt n note x (g.R.Shelf.meaning s) → (z : Config) × IsDeportedAt (record n { state = IsDeported }) (note_deported z x.inner note) (g.R.Shelf.meaning t))
+    carried (λ x s y t. IsGroupAt n note x (g.R.Shelf.meaning s) → (z : Config) × IsDeportedAt (record n { state = IsDeported }) (note_deported z x.inner note) x.inner.config z (g.R.Shelf.meaning t))
     c.args.group.core c.together-group.result.core c.args.group.core c.args.group.core c.args.group.shelf c.together-group.result.shelf.shelf c.into_shelf.result c.in-Ok.watched.shelf
     (c.together-group.ensures.core ∙ c.apart-rack.ensures.core) (shelf_of _ _ c.together-group.ensures.shelf ∙ c.over-watched.ensures ∙ c.apart-rack.ensures.shelf) refl c.into_shelf.ensures.shelf (λ it. c.in-Ok.ensures.leaves n note it) at
 
@@ -36,3 +40,22 @@ returns-in-Err-clause-refusals g c = elim (cases_lt (greatest - margin) c.togeth
       (c.together.ensures.core ∙ c.apart-watched.ensures.core) (c.together.ensures.shelf ∙ c.into_shelf-rack.ensures.shelf ∙ shelf_of _ _ c.apart-watched.ensures.shelf)
       (device_stops (g.R.Shelf.meaning c.together-group.result.shelf.shelf) (λ w. g.R.Shelf.meaning w.shelf) (λ y. y.shelf) c.in-Err.group c.in-Err.stop (c.in-Err.ensures.cause le)))
 ]
+
+pub returns-in-Ok-clause-can : goal.returns-in-Ok-clause-can
+returns-in-Ok-clause-can g c =
+    carried (λ x s y t. x.inner.committed ≡ true → CanImport (g.R.Shelf.meaning t))
+    c.args.group.core c.together-group.result.core c.args.group.core c.args.group.core c.args.group.shelf c.together-group.result.shelf.shelf c.into_shelf.result c.in-Ok.watched.shelf
+    (c.together-group.ensures.core ∙ c.apart-rack.ensures.core) (shelf_of _ _ c.together-group.ensures.shelf ∙ c.over-watched.ensures ∙ c.apart-rack.ensures.shelf) refl c.into_shelf.ensures.shelf c.in-Ok.ensures.can
+
+pub returns-in-Ok-clause-moves : goal.returns-in-Ok-clause-moves
+returns-in-Ok-clause-moves g c =
+    carried (λ x s y t. DeportedBy (wide x).config x.inner (g.R.Shelf.meaning s) (g.R.Shelf.meaning t))
+    c.args.group.core c.together-group.result.core c.args.group.core c.args.group.core c.args.group.shelf c.together-group.result.shelf.shelf c.into_shelf.result c.in-Ok.watched.shelf
+    (c.together-group.ensures.core ∙ c.apart-rack.ensures.core) (shelf_of _ _ c.together-group.ensures.shelf ∙ c.over-watched.ensures ∙ c.apart-rack.ensures.shelf) refl c.into_shelf.ensures.shelf c.in-Ok.ensures.moves
+
+pub returns-in-Err-clause-moves : goal.returns-in-Err-clause-moves
+returns-in-Err-clause-moves g c =
+    carried (λ x s y t. BackMoves x y (g.R.Shelf.meaning s) (g.R.Shelf.meaning t))
+    c.args.group.core c.together-group.result.core c.together.result.core c.in-Err.group.core c.args.group.shelf c.together-group.result.shelf.shelf c.together.result.shelf c.in-Err.group.shelf.shelf
+    (c.together-group.ensures.core ∙ c.apart-rack.ensures.core) (shelf_of _ _ c.together-group.ensures.shelf ∙ c.over-watched.ensures ∙ c.apart-rack.ensures.shelf)
+    (c.together.ensures.core ∙ c.apart-watched.ensures.core) (c.together.ensures.shelf ∙ c.into_shelf-rack.ensures.shelf ∙ shelf_of _ _ c.apart-watched.ensures.shelf) c.in-Err.ensures.moves

@@ -1,0 +1,16 @@
+-- The same over the disks of a site, of which contents are told or not.
+use Rattle.std.proofs.Common.{sym, subst}
+use Rattle.vx_untold.specs.Shades.{shade_meaning}
+use Rattle.vx_watched.specs.Since.{CalledSince}
+use Rattle.vx_grouped.specs.Watches.{PlexAtts}
+use Rattle.vx_grouped.proofs.CarryLemmas.{carried, since_at}
+use Rattle.vx_grouped.proofs.watching.att_watched.Goals as goal
+
+pub returns-clause-works : goal.returns-clause-works
+returns-clause-works g c =
+    carried (λ x s y t. PlexAtts c.args.vol c.args.plex x (shade_meaning g.R.Shelf.meaning s) y (shade_meaning g.R.Shelf.meaning t) c.att_from-group.result.1)
+    c.args.laid.core c.together.result.core c.of.result.core c.att_from-group.result.0.core c.args.laid.shelf c.together.result.shelf c.of.result.shelf c.att_from-group.result.0.shelf
+    c.together.ensures.core c.together.ensures.shelf c.of.ensures.core c.of.ensures.shelf c.att_from-group.ensures.works
+
+pub returns-clause-since : goal.returns-clause-since
+returns-clause-since g c = subst (λ s. CalledSince (shade_meaning g.R.Shelf.meaning c.args.laid.shelf) (shade_meaning g.R.Shelf.meaning s)) (sym c.of.ensures.shelf) c.att_from-group.ensures.since

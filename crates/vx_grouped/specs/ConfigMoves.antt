@@ -1,0 +1,134 @@
+-- What a call on a group makes of its configuration, place by place. Serials do not count.
+use Rattle.std.specs.Prelude.{◌≡◌, ◌⊎◌, ℕ, ◌<◌, ◌≤◌, Bool, true, false, Option, Some, None, length, is_some, slice_get, List}
+use Rattle.vx_model.specs.declared.site.PlexState.{PlexState}
+use Rattle.vx_model.specs.declared.site.PlexState.TheVariants.{Active, Clean, Stale}
+use Rattle.vx_disk.specs.Counts.{Rose}
+use Rattle.vx_disk.specs.Shelf.{Meaning}
+use Rattle.vx_config.specs.Changes.{stated}
+use Rattle.vx_config.specs.declared.config.Config.{Config}
+use Rattle.vx_config.specs.declared.entry.DiskEntry.{DiskEntry}
+use Rattle.vx_config.specs.declared.entry.PlexEntry.{PlexEntry}
+use Rattle.vx_config.specs.declared.entry.VolumeEntry.{VolumeEntry}
+use Rattle.vx_layout.specs.Made.{with_volume}
+use Rattle.vx_layout.specs.Space.{IsFound}
+use Rattle.vx_layout.specs.declared.shape.Found.{Found}
+use Rattle.vx_layout.specs.declared.shape.Shape.{Shape}
+use Rattle.vx_volume.specs.Plexes.{uses}
+use Rattle.vx_group.specs.Loses.{SameParts}
+use Rattle.vx_group.specs.Makes.{IsVolume}
+use Rattle.vx_group.specs.Quiesces.{AnyFailed}
+
+-- what stands at one place of two lists, if anything does, is in this relation
+abbrev pub Placed : {A : Type 0} → (A → A → Type 0) → Option A → Option A → Type 0
+Placed P None None = Unit {0}
+Placed P None (Some y) = ⊥
+Placed P (Some x) None = ⊥
+Placed P (Some x) (Some y) = P x y
+
+-- a call on one of the disks failed
+pub record AnyRose (old new : Meaning) : Type 0 where
+  pub disk : ℕ
+  pub below : disk < old.units
+  pub rose : Rose (old.disk_faults disk) (new.disk_faults disk)
+
+-- ---- plexes and volumes, by what may become of the state of a plex
+
+-- it lies where it lay
+pub record PlexMoves (By : PlexState → PlexState → Type 0) (p q : PlexEntry) : Type 0 where
+  pub subdisks : q.subdisks ≡ p.subdisks
+  pub state : By p.state q.state
+
+-- the same but for its plexes and what is lost of its logs
+pub record VolumeMoves (By : PlexState → PlexState → Type 0) (v u : VolumeEntry) : Type 0 where
+  pub name : u.name ≡ v.name
+  pub blocks : u.blocks ≡ v.blocks
+  pub ncol : u.ncol ≡ v.ncol
+  pub width : u.width ≡ v.width
+  pub prefer : u.prefer ≡ v.prefer
+  pub drl : is_some u.drl ≡ is_some v.drl
+  pub fmr : is_some u.fmr ≡ is_some v.fmr
+  pub plexes : (k : ℕ) → Placed (PlexMoves By) (slice_get v.plexes k) (slice_get u.plexes k)
+
+-- it is as it was; or STALE, or ACTIVE as one that was held back, and a call on a disk failed
+abbrev pub StateMoves : Meaning → Meaning → PlexState → PlexState → Type 0
+StateMoves old new s t = (t ≡ s) ⊎ (((t ≡ Stale) ⊎ (t ≡ Active)) × AnyRose old new)
+
+-- the state of a plex that takes part again where it stopped cleanly
+abbrev pub opened_state : PlexState → PlexState
+opened_state Active = Active
+opened_state Clean = Active
+opened_state Stale = Stale
+
+-- it takes part as it did, where it stopped cleanly
+abbrev pub OpensSame : PlexState → PlexState → Type 0
+OpensSame s t = opened_state t ≡ opened_state s
+
+-- any state
+abbrev pub AnyState : PlexState → PlexState → Type 0
+AnyState s t = Unit {0}
+
+-- ---- disks
+
+-- Disk k is held as failed as it was, or where a call on it failed. It may be held as good again where this says so.
+pub record DiskMoves (again : ℕ → Bool) (old new : Meaning) (k : ℕ) (a b : DiskEntry) : Type 0 where
+  pub blocks : b.blocks ≡ a.blocks
+  pub failed : b.failed ≡ true → (a.failed ≡ true) ⊎ Rose (old.disk_faults k) (new.disk_faults k)
+  pub stays : again k ≡ false → a.failed ≡ true → b.failed ≡ true
+
+-- ---- configurations
+
+-- d is c, but for disks that are held as failed, or as good again, and the states of plexes
+pub record ConfigMoves (again : ℕ → Bool) (By : PlexState → PlexState → Type 0) (old new : Meaning) (c d : Config) : Type 0 where
+  pub parts : SameParts c d
+  pub disks : (k : ℕ) → Placed (DiskMoves again old new k) (slice_get c.disks k) (slice_get d.disks k)
+  pub volumes : (v : ℕ) → Placed (VolumeMoves By) (slice_get c.volumes v) (slice_get d.volumes v)
+
+-- no disk
+abbrev pub none_again : ℕ → Bool
+none_again k = false
+
+-- a call in which disks may have failed
+abbrev pub LosesSome : Meaning → Meaning → Config → Config → Type 0
+LosesSome old new = ConfigMoves none_again (StateMoves old new) old new
+
+-- a plex was put into this state first, as one of which the next attach has to copy all or not
+pub record Restated (again : ℕ → Bool) (v p : ℕ) (state : PlexState) (old new : Meaning) (c d : Config) : Type 0 where
+  pub whole : Bool
+  pub moves : ConfigMoves again (StateMoves old new) old new (stated v p state whole c) d
+
+-- a plex was detached
+abbrev pub DetDone : ℕ → ℕ → Meaning → Meaning → Config → Config → Type 0
+DetDone v p = Restated none_again v p Stale
+
+-- or it was not, as a disk failed or the fuse ran out; memory may have it as detached all the same
+abbrev pub DetFails : ℕ → ℕ → Meaning → Meaning → Config → Config → Type 0
+DetFails v p old new c d = LosesSome old new c d ⊎ DetDone v p old new c d
+
+-- A plex was attached. Disks on which it lies may be held as good again.
+abbrev pub AttDone : ℕ → ℕ → Meaning → Meaning → Config → Config → Type 0
+AttDone v p old new c d = Restated (uses c v p) v p Active old new c d
+
+-- or it was not, as a disk failed or the fuse ran out; memory may have it as attached all the same
+abbrev pub AttFails : ℕ → ℕ → Meaning → Meaning → Config → Config → Type 0
+AttFails v p old new c d = ConfigMoves (uses c v p) (StateMoves old new) old new c d ⊎ AttDone v p old new c d
+
+-- a volume stands behind those of before, in the place that was found for it
+pub record VolumeAdded (name : List ℕ) (want : Shape) (vol : ℕ) (old new : Meaning) (c d : Config) : Type 0 where
+  pub number : vol ≡ length c.volumes
+  pub found : Found
+  pub space : IsFound c want found
+  pub volume : VolumeEntry
+  pub is_volume : IsVolume name want found volume
+  pub moves : LosesSome old new (with_volume c volume) d
+
+-- plexes that took part stopped cleanly, and no other changed; or a call on a disk failed
+abbrev pub CleansPlexes : Meaning → Meaning → Config → Config → Type 0
+CleansPlexes old new c d = ConfigMoves none_again OpensSame old new c d ⊎ (AnyFailed old new × ConfigMoves none_again AnyState old new c d)
+
+-- What an import took up: where contents are told, the first volumes are those of before but for the states of their plexes. Each disk is held as good,
+-- or a call on it failed.
+pub record ConfigBack (told : Type 0) (old new : Meaning) (c d : Config) : Type 0 where
+  pub volumes : told → (v : ℕ) → v < length c.volumes → Placed (VolumeMoves AnyState) (slice_get c.volumes v) (slice_get d.volumes v)
+  pub count : length d.disks ≡ old.units
+  pub blocks : (k : ℕ) (disk : DiskEntry) → slice_get d.disks k ≡ Some disk → disk.blocks ≡ old.size k
+  pub failed : (k : ℕ) (disk : DiskEntry) → slice_get d.disks k ≡ Some disk → disk.failed ≡ true → Rose (old.disk_faults k) (new.disk_faults k)
