@@ -13,7 +13,8 @@ use Rattle.vx_history.specs.Groups.{GroupNode}
 use Rattle.vx_history.specs.Steps.{burned}
 use Rattle.vx_history.specs.World.{Fuse as FuseOf, Node, NoFuse, Volume}
 use Rattle.vx_grouped.specs.Away.{AwayLies}
-use Rattle.vx_grouped.specs.GroupSites.{GroupAway, GroupDown, GroupSiteStands, GroupUp, HasNoRvg, IsMarkedSite, NotesGroup}
+use Rattle.vx_grouped.specs.GroupSites.{GroupAway, GroupDown, GroupSiteStands, GroupUp, HasNoRvg, IsMarkedSite, NotesGroup, idle_disks, laid_disks}
+use Rattle.vx_group.specs.declared.group_core.GroupCore.{GroupCore}
 use Rattle.vx_grouped.specs.SetFuses.{HasFuse}
 use Rattle.vx_grouped.specs.declared.group_site.GroupSite.{GroupSite}
 use Rattle.vx_grouped.specs.declared.group_site.GroupSite.TheVariants.{Up, Deported, Down, Marked, Gone}
@@ -39,12 +40,13 @@ pub record IsLikeGroup (n k : Node) : Type 1 where
   pub fuse : (m : Meaning) → HasFuse n.fuse m → HasFuse k.fuse m
   pub unfused : n.fuse ≡ NoFuse → k.fuse ≡ NoFuse
 
-away_like : (n k : Node) (note : GroupNode) (last : Config) (m : Meaning) → n.disks ≡ k.disks → n.blocks ≡ k.blocks → AwayLies n note last m → AwayLies k note last m
-away_like n k note last m disks blocks it = record {
+lies_like : (n k : Node) (note : GroupNode) (last : Config) (m : Meaning) → n.disks ≡ k.disks → n.blocks ≡ k.blocks → AwayLies n note last m → AwayLies k note last m
+lies_like n k note last m disks blocks it = record {
   units = it.units ∙ disks;
   size = λ u low. it.size u (subst (λ (x : ℕ). u < x) (sym disks) low) ∙ blocks;
   can = it.can;
   sizes = it.sizes;
+  finds = it.finds;
   volumes = it.volumes;
   has = it.has;
 }
@@ -63,49 +65,48 @@ module _ (n k : Node) (like : IsLikeGroup n k) where
     unarmed = it.unarmed;
   }
 
+  up_like : (note : GroupNode) (core : GroupCore) (m : Meaning) → GroupUp n note core m → GroupUp k note core m
+  up_like note core m it = record {
+    noted = noted_like note it.noted;
+    fuse = like.fuse m it.fuse;
+    spells = it.spells;
+    at = record { state = sym like.state ∙ it.at.state; up = it.at.up; lies = lies_as n k note core m like.disks like.blocks it.at.lies };
+  }
+
+  away_like : (note : GroupNode) (m : Meaning) → GroupAway n note m → GroupAway k note m
+  away_like note m it = record {
+    noted = noted_like note it.noted;
+    up = it.up;
+    fuse = like.fuse m it.fuse;
+    last = it.last;
+    newest = it.newest;
+    spells = it.spells;
+    away = record {
+      state = sym like.state ∙ it.away.state;
+      config = it.away.config;
+      frames = it.away.frames;
+      lies = lies_like n k note it.last m like.disks like.blocks it.away.lies;
+    };
+  }
+
+  down_like : (note : GroupNode) (m : Meaning) → GroupDown n note m → GroupDown k note m
+  down_like note m it = record {
+    noted = noted_like note it.noted;
+    unfused = like.unfused it.unfused;
+    stopped = it.stopped;
+    last = it.last;
+    spells = it.spells;
+    away = record { state = sym like.state ∙ it.away.state; config = it.away.config; lies = lies_like n k note it.last m like.disks like.blocks it.away.lies };
+  }
+
   cut_like : (x : CutWrite) → CutLies n x → CutLies k x
   cut_like x it = record { down = sym like.state ∙ it.down; fits = λ note is. it.fits note (like.group ∙ is) }
 
   module _ {R : Type 0} {g : Ghosts R} where
     stands_like : (s : GroupSite R g) → GroupSiteStands n s → GroupSiteStands k s
-    stands_like (Up group) (note, it) = (
-      note,
-      record {
-        noted = noted_like note it.noted;
-        fuse = like.fuse (g.meaning group.shelf) it.fuse;
-        at = record { state = sym like.state ∙ it.at.state; up = it.at.up; lies = lies_as n k note group.core (g.meaning group.shelf) like.disks like.blocks it.at.lies };
-      },
-    )
-    stands_like (Deported rack) (note, it) = (
-      note,
-      record {
-        noted = noted_like note it.noted;
-        up = it.up;
-        fuse = like.fuse (g.meaning rack) it.fuse;
-        away = record {
-          state = sym like.state ∙ it.away.state;
-          last = it.away.last;
-          newest = it.away.newest;
-          finds = it.away.finds;
-          config = it.away.config;
-          lies = away_like n k note it.away.last (g.meaning rack) like.disks like.blocks it.away.lies;
-        };
-      },
-    )
-    stands_like (Down rack) (note, it) = (
-      note,
-      record {
-        noted = noted_like note it.noted;
-        unfused = like.unfused it.unfused;
-        stopped = it.stopped;
-        away = record {
-          state = sym like.state ∙ it.away.state;
-          last = it.away.last;
-          config = it.away.config;
-          lies = away_like n k note it.away.last (g.meaning rack) like.disks like.blocks it.away.lies;
-        };
-      },
-    )
+    stands_like (Up group) (note, it) = (note, up_like note group.core (laid_disks group) it)
+    stands_like (Deported idle) (note, it) = (note, away_like note (idle_disks idle) it)
+    stands_like (Down idle) (note, it) = (note, down_like note (idle_disks idle) it)
     stands_like (Marked rack) it = marked_like (g.meaning rack) it
     stands_like Gone it = absurd it
 

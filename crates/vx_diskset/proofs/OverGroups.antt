@@ -8,7 +8,7 @@ use Rattle.vx_disk.specs.declared.shelf.Shelf.{Ghosts}
 use Rattle.vx_history.specs.Groups.{GroupNode}
 use Rattle.vx_history.specs.Steps.{crashed}
 use Rattle.vx_history.specs.World.{FuseSet, Node}
-use Rattle.vx_grouped.specs.GroupSites.{DownNoted, GroupSiteStands, UpNoted, site_disks}
+use Rattle.vx_grouped.specs.GroupSites.{DownNoted, GroupSiteStands, UpNoted, laid_disks, site_disks}
 use Rattle.vx_grouped.specs.SiteEnds.{CountsAlike, MayCrashSite, StaysAlike}
 use Rattle.vx_grouped.specs.declared.group_site.GroupSite.{GroupSite}
 use Rattle.vx_grouped.specs.declared.group_site.GroupSite.TheVariants.{Up, Deported, Down, Marked, Gone}
@@ -137,7 +137,7 @@ module _ {R : Type 0} {g : Ghosts R} where
 
   may_by : (pick : ℕ) (s site : GroupSite R g) → MayCrashSite pick s site
       → OnDisks (site_disks s).disks (site_disks site).disks (λ o n. Crashed (site_disks s).size pick o n ⊎ Untouched o n) × ((u : ℕ) → (site_disks site).size u ≡ (site_disks s).size u)
-  may_by pick (Up group) site it = (may_crash (g.meaning group.shelf).size pick (g.meaning group.shelf).disks (site_disks site).disks it.1, it.0.size)
+  may_by pick (Up group) site it = (may_crash (laid_disks group).size pick (laid_disks group).disks (site_disks site).disks it.1, it.0.size)
   may_by pick other site it = same_site pick other site it
 
   pub set_stopped : (pick : ℕ) (e : DiskSet R g) (s : GroupSet R g) (site : GroupSite R g) → e ≡ OfGroup s → MayCrashSite pick s.site site → MayCrash pick e (OfGroup (record s { site = site }))

@@ -26,7 +26,7 @@ pub enum GroupSite<R: Rack> {
 
 impl<R: Rack> GroupSite<R> {
     ghost use Rattle.vx_grouped.specs.GroupSites.{CutNoted, DownNoted, GroupSiteStands, UpNoted, site_agrees, site_config, site_disks};
-    ghost use Rattle.vx_grouped.specs.SiteEnds.{MayCrashSite, StaysAlike};
+    ghost use Rattle.vx_grouped.specs.SiteEnds.{CountsAlike, MayCrashSite, StaysAlike};
 
     /// How many disks it has.
     pub fn disks(&self) -> u32
@@ -66,6 +66,7 @@ impl<R: Rack> GroupSite<R> {
     pub fn fail(&mut self, disk: u64, on: bool)
         ensures stands { StaysAlike self.old self.new }
         ensures asked { disk < (site_disks self.old).units → WithDisks (site_disks self.old).disks (site_disks self.new).disks (λ o n. Untouched o n × (n.failing disk ≡ on) × ((u : ℕ) → u ≢ disk → n.failing u ≡ o.failing u)) }
+        ensures later { CountsAlike self.old self.new }
     {
         match self {
             GroupSite::Up(group) if disk < group.shelf.units() as u64 => group.fail(disk as u32, on),
@@ -82,6 +83,7 @@ impl<R: Rack> GroupSite<R> {
     pub fn fuse(&mut self, calls: u64, pick: u64)
         ensures fused { (n : Node) (note : GroupNode) → UpNoted n note self.old → UpNoted (record n { fuse = FuseSet calls }) note self.new }
         ensures asked { (n : Node) (note : GroupNode) → UpNoted n note self.old → OnDisks (site_disks self.old).disks (site_disks self.new).disks (λ o n. SameBlocks o n × (n.fuse ≡ Some (calls, pick))) }
+        ensures later { CountsAlike self.old self.new }
     {
         match self {
             GroupSite::Up(group) => group.fuse(calls, pick),
