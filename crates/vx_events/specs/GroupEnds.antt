@@ -103,7 +103,10 @@ GroupSpoils s note (Volume site volume blocks mirrors layout log map policy) fai
 GroupSpoils s note (PlexDetach site volume plex) fails next =
     Reconfigures (λ c d. ConfigLoses s fails c d ⊎ ((x : Config) × PutsPlex (plain_number note volume) plex Stale c x × ConfigLoses s fails x d)) NoteUnsettles note next
 GroupSpoils s note (PlexAttach site volume plex) fails next =
-    Reconfigures (λ c d. ConfigLosesBut (lies_on_disk c (plain_number note volume) plex) s fails c d) NoteUnsettles note next
+    Reconfigures
+    (λ c d. ConfigLosesBut (lies_on_disk c (plain_number note volume) plex) s fails c d
+    ⊎ ((x : Config) × PutsPlex (plain_number note volume) plex Active c x × ConfigLosesBut (lies_on_disk c (plain_number note volume) plex) s fails x d))
+    NoteUnsettles note next
 GroupSpoils s note (WriteLine site volume start count fill) fails next = NotesDoubt s fails (write_to note volume start (replicate (512 * count) fill)) note next
 GroupSpoils s note (Put site volume start bytes) fails next = NotesDoubt s fails (write_to note volume start bytes) note next
 GroupSpoils s note (Read site volume start count) fails next = next ≡ note
@@ -119,7 +122,10 @@ GroupCuts s note (Volume site volume blocks mirrors layout log map policy) fails
 GroupCuts s note (PlexDetach site volume plex) fails next =
     Reconfigures (λ c d. ConfigLoses s fails c d ⊎ ((x : Config) × PutsPlex (plain_number note volume) plex Stale c x × ConfigLoses s fails x d)) NoteUnsettles note next
 GroupCuts s note (PlexAttach site volume plex) fails next =
-    Reconfigures (λ c d. ConfigLosesBut (lies_on_disk c (plain_number note volume) plex) s fails c d) NoteUnsettles note next
+    Reconfigures
+    (λ c d. ConfigLosesBut (lies_on_disk c (plain_number note volume) plex) s fails c d
+    ⊎ ((x : Config) × PutsPlex (plain_number note volume) plex Active c x × ConfigLosesBut (lies_on_disk c (plain_number note volume) plex) s fails x d))
+    NoteUnsettles note next
 GroupCuts s note (WriteLine site volume start count fill) fails next = NotesCut s fails (write_to note volume start (replicate (512 * count) fill)) note next
 GroupCuts s note (Put site volume start bytes) fails next = NotesCut s fails (write_to note volume start bytes) note next
 GroupCuts s note other fails next = ⊥

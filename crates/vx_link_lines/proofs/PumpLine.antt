@@ -15,6 +15,7 @@ use Rattle.vx_events.specs.Facts.{seat_of, site_number}
 use Rattle.vx_events.specs.Fails.{IsLogDisk}
 use Rattle.vx_events.specs.LinkEnds.{LinksDone, LinksFind, LogUnread}
 use Rattle.vx_events.specs.LinkFinds.{FindsOther, IsUnreadable, PumpSends, ReadsNone, SendsOther, SentBy, pumped_with}
+use Rattle.vx_events.specs.GroupLines.{is_over_group}
 use Rattle.vx_events.specs.LinkedFacts.{link_fact}
 use Rattle.vx_events.specs.StepsOver.{facts_over}
 use Rattle.vx_events.specs.Lines.{IsDone}

@@ -52,7 +52,7 @@ fn needs_log(link: &Link) -> bool
 
 // The blocks of the log of a site that its link needs. None where the log does not hold them any more.
 fn needed<R: Rack>(disk_set: &DiskSet<R>, link: &Link) -> Option<u64>
-    ensures is { (beside : KeptBeside) (n : Node) (s : ℕ) (l : LinkOf) → SiteStands beside n disk_set.now → n.state ≡ UpState → is_over_group n ≡ false → n.halted ≡ None → is_plain_mode l.mode ≡ true
+    ensures is { (beside : KeptBeside) (n : Node) (s : ℕ) (l : LinkOf) → SiteStands beside n disk_set.now → n.state ≡ UpState → n.halted ≡ None → is_plain_mode l.mode ≡ true
         → link.now ≡ plain_link s l → IfSome result (λ blocks. blocks ≡ needed_by n s l) }
 {
     if needs_log(link) {

@@ -13,6 +13,6 @@ returns g c = record {
       let safe = c.last-safe.ensures.is beside n stands listening.up listening.running in
       let heard = c.heard_link-heard.ensures d.world p p.target at refl answers flight
       (record { up = listening.up; running = listening.running; keeps = listening.keeps; linked = listening.linked; safe_is = safe; line_is = line }) link in
-      c.needed.ensures.is beside n p.source ((world_behind d.world c.args.number).links p.target p.source) stands listening.up listening.apart listening.running
+      c.needed.ensures.is beside n p.source ((world_behind d.world c.args.number).links p.target p.source) stands listening.up listening.running
       (behind_plain d c.args.number p at answers c.args.flight.now flight fits listening) heard;
 }

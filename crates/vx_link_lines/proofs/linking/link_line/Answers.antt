@@ -43,7 +43,7 @@ returns-clause-leads g c = λ d prot stands.
     let other = get_at y.disk_sets.items s c.index-2.result.now c.site_of-there.ensures.disk_set c.index-2.ensures in
     let fact = get_at y.facts.items p c.index-3.result.now c.site_of-here.ensures.fact c.index-3.ensures in
     let two = link_two d y first second c.args.sync free.0 p s stands free.1 seat seat_too in
-    let are = c.in-Some.ensures.is d (stands.disk_sets.sites p c.index.result.now here.below one) (stands.disk_sets.sites s c.index-2.result.now there.below other) two.up two.running two.up_too
+    let are = c.in-Some.ensures.is d (stands.disk_sets.sites p c.index.result.now here.below one) (stands.disk_sets.sites s c.index-2.result.now there.below other) here.apart there.apart two.up two.running two.up_too
     (c.as_slice.ensures ∙ link_links d y first second c.args.sync free.0 p s stands free.1 seat seat_too c.index-3.result.now (some_same (sym fact ∙ here.fact))) in
     c.link_parts.ensures.leads d first second prot stands (links_it d y first second c.args.sync free.0 p s stands free.1 seat seat_too c.in-Some.states are)
 
@@ -63,7 +63,7 @@ returns-clause-asked g c = λ d prot stands.
     let other = get_at y.disk_sets.items s c.index-2.result.now c.site_of-there.ensures.disk_set c.index-2.ensures in
     let fact = get_at y.facts.items p c.index-3.result.now c.site_of-here.ensures.fact c.index-3.ensures in
     let two = link_two d y first second c.args.sync free.0 p s stands free.1 seat seat_too in
-    let are = c.in-Some.ensures.is d (stands.disk_sets.sites p c.index.result.now here.below one) (stands.disk_sets.sites s c.index-2.result.now there.below other) two.up two.running two.up_too
+    let are = c.in-Some.ensures.is d (stands.disk_sets.sites p c.index.result.now here.below one) (stands.disk_sets.sites s c.index-2.result.now there.below other) here.apart there.apart two.up two.running two.up_too
     (c.as_slice.ensures ∙ link_links d y first second c.args.sync free.0 p s stands free.1 seat seat_too c.index-3.result.now (some_same (sym fact ∙ here.fact))) in
     c.link_parts.ensures.asked d first second prot stands (links_it d y first second c.args.sync free.0 p s stands free.1 seat seat_too c.in-Some.states are)
 
@@ -83,7 +83,7 @@ returns-clause-called g c = λ d prot stands.
     let other = get_at y.disk_sets.items s c.index-2.result.now c.site_of-there.ensures.disk_set c.index-2.ensures in
     let fact = get_at y.facts.items p c.index-3.result.now c.site_of-here.ensures.fact c.index-3.ensures in
     let two = link_two d y first second c.args.sync free.0 p s stands free.1 seat seat_too in
-    let are = c.in-Some.ensures.is d (stands.disk_sets.sites p c.index.result.now here.below one) (stands.disk_sets.sites s c.index-2.result.now there.below other) two.up two.running two.up_too
+    let are = c.in-Some.ensures.is d (stands.disk_sets.sites p c.index.result.now here.below one) (stands.disk_sets.sites s c.index-2.result.now there.below other) here.apart there.apart two.up two.running two.up_too
     (c.as_slice.ensures ∙ link_links d y first second c.args.sync free.0 p s stands free.1 seat seat_too c.index-3.result.now (some_same (sym fact ∙ here.fact))) in
     let it = links_it d y first second c.args.sync free.0 p s stands free.1 seat seat_too c.in-Some.states are in
     called_named d first second prot p s c.args.sync c.in-Some.states it y stands c.link_parts.result c.link_parts.new.yard (c.link_parts.ensures.called d first second prot stands it)
