@@ -29,9 +29,9 @@ use Rattle.vx_grouped.proofs.MovesLemmas.{core_moves}
 use Rattle.vx_grouped.proofs.NoteLemmas.{blocks_same}
 
 -- where memory ran out nothing has changed
-pub still_by : {T : Type 0} (stop : Stop) (P : Type 0) → Unmoved {T = T} (Err stop) P → IsStill {T = T} (Err stop) P
-still_by (Refused why) P it = tt
-still_by OutOfMemory P it = it
+pub still_by : (T U : Type 0) (stop : Stop) (P : Type 0) → Unmoved {T = T} (Err stop) P → IsStill {T = U} (Err stop) P
+still_by T U (Refused why) P it = tt
+still_by T U OutOfMemory P it = it
 
 pub still_more : {T : Type 0} (r : Result T Stop) (P Q : Type 0) → (P → Q) → IsStill r P → IsStill r Q
 still_more (Ok done) P Q more it = tt

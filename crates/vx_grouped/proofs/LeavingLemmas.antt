@@ -16,6 +16,7 @@ use Rattle.vx_config.specs.Table.{greatest}
 use Rattle.vx_config.specs.declared.config.Config.{Config}
 use Rattle.vx_group.specs.Dets.{DetStops}
 use Rattle.vx_watched.specs.Since.{CalledSince}
+use Rattle.vx_group.specs.declared.group_core.GroupCore.{GroupCore}
 use Rattle.vx_grouped.specs.Away.{IsDeportedAt, note_deported, IsAwayAt}
 use Rattle.vx_grouped.specs.GroupSites.{GroupUp, idle_disks, laid_disks}
 use Rattle.vx_grouped.specs.SiteEnds.{SiteDeported, stops_down}
@@ -49,7 +50,7 @@ use Rattle.vx_untold.specs.Shades.{shade_meaning}
 use Rattle.vx_grouped.proofs.SpellLemmas.{spells_like}
 
 -- why it was refused: for want of serials, or for a device
-abbrev Refuses : Meaning → Meaning → Stop → Type 0
+abbrev pub Refuses : Meaning → Meaning → Stop → Type 0
 Refuses m m' stop = (stop ≡ Refused (Limit Numbers greatest)) ⊎ DetStops {T = Unit {0}} m m' (Err stop)
 
 pub deport_down : (m m' : Meaning) (stop : Stop) → stops_down stop ≡ true → Refuses m m' stop → IsTrue m'.down
@@ -131,6 +132,15 @@ module _ {R : Type 0} {g : Ghosts R} (n : Node) (note : GroupNode) (group : Laid
     pub deported_done : (group.core.inner.committed ≡ true → CanImport (idle_disks idle)) → DeportedBy (wide group.core).config group.core.inner (laid_disks group) (idle_disks idle) → (IsTrue (idle_disks idle).down → ⊥)
         → SiteDeported n note (Up group) (Deported idle) (Ok tt)
     deported_done can it still = deported_of it (deported_at n note group.core (laid_disks group) (idle_disks idle) up.at.lies group.stands it can) still
+
+  -- the same of the disks that were handed out
+  pub deported_from : (idle : Idle R g) (rack : Shade R) → idle.rack ≡ rack → CalledSince (laid_disks group) (shade_meaning g.meaning rack) → (group.core.inner.committed ≡ true → CanImport (shade_meaning g.meaning rack))
+      → DeportedBy (wide group.core).config group.core.inner (laid_disks group) (shade_meaning g.meaning rack) → (IsTrue (shade_meaning g.meaning rack).down → ⊥) → SiteDeported n note (Up group) (Deported idle) (Ok tt)
+  deported_from idle rack same since can it still =
+      deported_done idle (subst (λ (s : Shade R). CalledSince (laid_disks group) (shade_meaning g.meaning s)) (sym same) since)
+      (subst (λ (s : Shade R). group.core.inner.committed ≡ true → CanImport (shade_meaning g.meaning s)) (sym same) can)
+      (subst (λ (s : Shade R). DeportedBy (wide group.core).config group.core.inner (laid_disks group) (shade_meaning g.meaning s)) (sym same) it)
+      (subst (λ (s : Shade R). IsTrue (shade_meaning g.meaning s).down → ⊥) (sym same) still)
 
   module _ (new : Laid R g) (since : CalledSince (laid_disks group) (laid_disks new)) (stop : Stop) (why : Refuses (laid_disks group) (laid_disks new) stop) (back : BackMoves group.core new.core (laid_disks group) (laid_disks new)) where
     spells : HasSpelling (at_serial 0 new.core.inner.config)

@@ -29,3 +29,7 @@ pub mod MovesLemmas
 pub mod PlexMoveLemmas
 pub mod SitePlexLemmas
 pub mod BothLemmas
+pub mod WhyLemmas
+pub mod SinceReturns
+pub mod ReadyLemmas
+pub mod FindLemmas

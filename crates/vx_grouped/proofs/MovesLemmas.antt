@@ -59,7 +59,7 @@ disk_failed_at [] k d is = absurd (let no_one : None ≡ Some d = is in cc)
 disk_failed_at (e ∷ ds) zero d is = ap (λ (x : DiskEntry). x.failed) (one_disk e d is)
 disk_failed_at (e ∷ ds) (suc k) d is = disk_failed_at ds k d is
 
-rose_as : (m m' : Meaning) (u : ℕ) → m.disk_faults u ≡ m.faults u → m'.disk_faults u ≡ m'.faults u → Rose (m.faults u) (m'.faults u) → Rose (m.disk_faults u) (m'.disk_faults u)
+pub rose_as : (m m' : Meaning) (u : ℕ) → m.disk_faults u ≡ m.faults u → m'.disk_faults u ≡ m'.faults u → Rose (m.faults u) (m'.faults u) → Rose (m.disk_faults u) (m'.disk_faults u)
 rose_as m m' u one two it = subst (λ (x : ℕ). Rose x (m'.disk_faults u)) (sym one) (subst (λ (x : ℕ). Rose (m.faults u) x) (sym two) it)
 
 module _ (c d : Config) (m m' : Meaning) (one : (u : ℕ) → m.disk_faults u ≡ m.faults u) (two : (u : ℕ) → m'.disk_faults u ≡ m'.faults u) where

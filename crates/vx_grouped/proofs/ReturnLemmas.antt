@@ -1,6 +1,6 @@
 -- A group that comes back by an import, as its site notes it.
 use Rattle.std.proofs.Common.{◌≡◌, ◌⊎◌, inl, inr, ⊎_elim, ℕ, zero, suc, ◌<◌, ◌≤◌, ◌&&◌, ◌||◌, Bool, true, false, IsTrue, Option, Some, None, List, [], ◌∷◌, length, refl, ap, sym, ◌∙◌, subst, arith}
-use Rattle.std.specs.Prelude.{◌==◌, if◌then◌else◌, is_some, slice_get, Contains}
+use Rattle.std.specs.Prelude.{◌+◌, not, ◌==◌, if◌then◌else◌, is_some, slice_get, Contains}
 use Rattle.std.proofs.lemmas.Bool.{and_from, and_parts, cases_lt, eq-eqb, eqb-true}
 use Rattle.vx_model.specs.declared.site.SiteState.TheVariants.{Up as IsUp}
 use Rattle.vx_disk.specs.Shelf.{Each, Goes, Image, Lawful, Meaning, Nothing}
@@ -11,7 +11,11 @@ use Rattle.vx_config.specs.declared.config.Config.{Config}
 use Rattle.vx_config.specs.declared.entry.PlexEntry.{PlexEntry}
 use Rattle.vx_config.specs.declared.entry.VolumeEntry.{VolumeEntry}
 use Rattle.vx_copyfmt.specs.Imports.{Found}
-use Rattle.vx_copies.specs.Answers.{returned}
+use Rattle.vx_disk.specs.Counts.{Rose}
+use Rattle.vx_config.specs.declared.entry.DiskEntry.{DiskEntry}
+use Rattle.vx_copies.specs.Answers.{returned, returned_from}
+use Rattle.vx_copies.specs.Marks.{failed_at}
+use Rattle.vx_copies.proofs.OneTry.{wanted_count}
 use Rattle.vx_copies.specs.Bodies.{failed_in}
 use Rattle.vx_copies.specs.Looking.{on_shelf}
 use Rattle.vx_layout.proofs.Placing.{sound_apart}
@@ -37,11 +41,26 @@ use Rattle.vx_group.proofs.FoundLemmas.{found_wanted}
 use Rattle.vx_group.proofs.HoldLemmas.{wide_none}
 use Rattle.vx_grouped.specs.Away.{AwayLies}
 use Rattle.vx_grouped.specs.Plain.{HoldsPlain}
-use Rattle.vx_grouped.specs.Returns.{GroupReturns, HasNoMore, ImportLeft, note_imported, note_loose}
+use Rattle.vx_kept.specs.Facts.{is_found}
+use Rattle.vx_group.proofs.Standing.{disks_fit}
+use Rattle.vx_grouped.proofs.NoteLemmas.{blocks_same}
+use Rattle.vx_grouped.specs.Returns.{DisksBack, GroupReturns, HasNoMore, ImportLeft, note_imported, note_loose}
 use Rattle.vx_model.specs.declared.errors.Stop.{Stop}
 use Rattle.vx_kept.proofs.Steps.{inside_back}
 use Rattle.vx_kept.specs.Opens.{OpenVolumes}
 use Rattle.vx_grouped.specs.GroupNotes.{IsGroupAt, noted_config}
+
+-- ---- disks that were returned
+
+-- one that is held as failed still could not be read
+returned_failed : (readable : ℕ → Bool) (k : ℕ) (ds : List DiskEntry) (u : ℕ) → failed_at (returned_from readable k ds) u ≡ true → readable (k + u) ≡ false
+returned_failed readable k [] u is = absurd (let clash : false ≡ true = is in cc)
+returned_failed readable k (d ∷ ds) zero is = subst (λ (j : ℕ). readable j ≡ false) (let same : k ≡ k + zero = omega arith in same) (by (readable k) refl (and_parts d.failed (not (readable k)) is).1)
+  where
+    by : (t : Bool) → readable k ≡ t → not t ≡ true → readable k ≡ false
+    by true on not_on = let clash : false ≡ true = not_on in cc
+    by false off not_on = off
+returned_failed readable k (d ∷ ds) (suc u) is = subst (λ (j : ℕ). readable j ≡ false) (let same : k + 1 + u ≡ k + suc u = omega arith in same) (returned_failed readable (k + 1) ds u is)
 
 -- ---- an image with one block changed
 
@@ -147,6 +166,7 @@ module _ (n : Node) (note : GroupNode) (last : Config) (old : Meaning) (law : La
     size = λ u low. goes.size u ∙ away.size u low;
     can = λ tight. goes_can old new goes (away.can tight);
     sizes = away.sizes;
+    finds = λ i each. subst (λ o. is_found o ≡ true) (sym (found_same old new goes.units goes.size (λ u. true) i)) (away.finds i (before i each));
     volumes = λ i x each is. away.volumes i x (before i each) (sym (found_same old new goes.units goes.size (λ u. true) i) ∙ is);
     has = λ i x each is. away.has i x (before i each) (sym (found_same old new goes.units goes.size (λ u. true) i) ∙ is);
   }
@@ -265,6 +285,21 @@ module _ (n : Node) (note : GroupNode) (last : Config) (old : Meaning) (law : La
     may_by tells v b (inr le) t is inside on =
         absurd (let a = (extends_x can x opened up.readable up.image up.read up.is up.opens tells).volumes in let lt = inside.volume in omega (arith, a, lt, le, x_long))
 
+    disks_back : DisksBack core.config old new
+    disks_back = record {
+      count = wanted_count new.units new.size core.config r.stands.wanted ∙ same.units;
+      blocks = λ u low.
+          let there : u < length core.config.disks = (let is = wanted_count new.units new.size core.config r.stands.wanted in let units = same.units in omega (arith, low, is, units)) in
+          sym (blocks_same core.config.disks u there) ∙ sym ((disks_fit core.config new r.stands.wanted).size u there) ∙ same.size u;
+      failed = λ u low failed. by u low failed (failed_at opened.disks u) refl;
+    }
+      where
+        by : (u : ℕ) → u < old.units → failed_at core.config.disks u ≡ true → (t : Bool) → failed_at opened.disks u ≡ t → Rose (old.faults u) (new.faults u)
+        by u low failed true was =
+            let first : 0 + u ≡ u = omega arith in
+            up.blamed u low (subst (λ (k : ℕ). up.readable k ≡ false) first (returned_failed up.readable 0 x.disks u (sym (ap (λ (ds : List DiskEntry). failed_at ds u) up.opens.alike.disks) ∙ was)))
+        by u low failed false was = r.loses.disks.blamed u was failed
+
     pub group_returns : (group : GroupCore) → group.inner ≡ core → group.held ≡ None → GroupReturns n note last old group new
     group_returns group is none = record {
       renewed = λ v. stopped x v;
@@ -285,6 +320,7 @@ module _ (n : Node) (note : GroupNode) (last : Config) (old : Meaning) (law : La
       sizes = λ tells v lt. ap (λ (i : Inner). blocks_of i.config.volumes v) is ∙ r.goes.size v ∙ blocks_x v ∙ (extends_x can x opened up.readable up.image up.read up.is up.opens tells).blocks v lt;
       frames = λ tells v lt. ap (λ (i : Inner). frame_at i.config v) is ∙ r.loses.frames v ∙ up.opens.alike.shape.frames v ∙ (extends_x can x opened up.readable up.image up.read up.is up.opens tells).frames v lt;
       names = λ tells v lt. names_of group.inner.config last v v (ap (λ (i : Inner). frame_at i.config v) is ∙ r.loses.frames v ∙ up.opens.alike.shape.frames v ∙ (extends_x can x opened up.readable up.image up.read up.is up.opens tells).frames v lt);
+      disks = subst (λ (i : Inner). DisksBack i.config old new) (sym is) disks_back;
       may = λ tells v b inside on. may_by tells v b (cases_lt v (length opened.volumes)) (stopped x v) refl inside on;
     }
 
@@ -336,6 +372,7 @@ module _ (n : Node) (note : GroupNode) (last : Config) (old : Meaning) (law : La
       size = λ u low. same.size u ∙ away.size u low;
       can = λ tight. absurd (let clash : true ≡ false = tight in cc);
       sizes = away.sizes;
+      finds = h.stands.kept.finds;
       volumes = λ i z each is. to_last z (told_new i each) (h.stands.kept.kin i z each is).shape;
       has = half_has;
     }
@@ -346,4 +383,4 @@ module _ (n : Node) (note : GroupNode) (last : Config) (old : Meaning) (law : La
 
 -- so it is once more where an import may go over them, as behind a crash
 pub away_again : (n : Node) (note : GroupNode) (last : Config) (m : Meaning) → CanImport m → AwayLies n (note_loose note) last m → AwayLies n note last m
-away_again n note last m can it = record { units = it.units; size = it.size; can = λ tight. can; sizes = it.sizes; volumes = it.volumes; has = it.has }
+away_again n note last m can it = record { units = it.units; size = it.size; can = λ tight. can; sizes = it.sizes; finds = it.finds; volumes = it.volumes; has = it.has }

@@ -34,19 +34,19 @@ module _ {R : Type 0} {g : Ghosts R} (e : GroupSite R g) (disk : ℕ) (on : Bool
             (was.0, alike_up n was.0 group.core new.core (laid_disks group) (laid_disks new) core alike down volumes (fuse n was.1.fuse) was.1);
       }
 
-  module _ (rack new : R) (alike : Alike (g.meaning rack) (g.meaning new)) (down : (g.meaning new).down ≡ (g.meaning rack).down) (armed : (g.meaning new).armed ≡ (g.meaning rack).armed)
-      (told : WithDisks (g.meaning rack).disks (g.meaning new).disks (Told disk on)) where
+  module _ (rack new : Idle R g) (alike : Alike (idle_disks rack) (idle_disks new)) (down : (idle_disks new).down ≡ (idle_disks rack).down) (armed : (idle_disks new).armed ≡ (idle_disks rack).armed)
+      (told : WithDisks (idle_disks rack).disks (idle_disks new).disks (Told disk on)) where
     pub away_stays : e ≡ Deported rack → StaysAlike e (Deported new)
     away_stays is = record {
       up = λ n note it. absurd (subst (λ x. UpNoted n note x) is it);
       cut = λ n note it. absurd (subst (λ x. CutNoted n note x) is it);
       stands = λ n it. let was = subst (λ x. GroupSiteStands n x) is it in
-          (was.0, alike_away n (g.meaning rack) (g.meaning new) alike down armed was.0 (fuse_stays n.fuse (g.meaning rack) (g.meaning new) (Told disk on) armed (λ o d t. t.0.fuse) told was.1.fuse) was.1);
+          (was.0, alike_away n (idle_disks rack) (idle_disks new) alike down armed was.0 (fuse_stays n.fuse (idle_disks rack) (idle_disks new) (Told disk on) armed (λ o d t. t.0.fuse) told was.1.fuse) was.1);
     }
 
     pub down_stays : e ≡ Down rack → StaysAlike e (Down new)
     down_stays is = record {
       up = λ n note it. absurd (subst (λ x. UpNoted n note x) is it);
       cut = λ n note it. absurd (subst (λ x. CutNoted n note x) is it);
-      stands = λ n it. let was = subst (λ x. GroupSiteStands n x) is it in (was.0, alike_down n (g.meaning rack) (g.meaning new) alike down armed was.0 was.1);
+      stands = λ n it. let was = subst (λ x. GroupSiteStands n x) is it in (was.0, alike_down n (idle_disks rack) (idle_disks new) alike down armed was.0 was.1);
     }

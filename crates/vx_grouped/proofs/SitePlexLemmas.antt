@@ -50,13 +50,13 @@ moves_since again c d m m' r stopped it = record {
 }
 
 module _ (c : Config) (v p : ℕ) where
-  det_never_off : det_refusal c v p ≡ Some IsOff → ⊥
+  pub det_never_off : det_refusal c v p ≡ Some IsOff → ⊥
   det_never_off = det_not_down (nat_le (length c.volumes) v) (nat_le (plexes_of c v) p) (active c v p && not (any_below (is_other c v p) (plexes_of c v))) (nat_lt (greatest - margin) c.serial) v p greatest
 
   det_never_device : (disk : ℕ) → det_refusal c v p ≡ Some (Device disk) → ⊥
   det_never_device disk = det_not_device (nat_le (length c.volumes) v) (nat_le (plexes_of c v) p) (active c v p && not (any_below (is_other c v p) (plexes_of c v))) (nat_lt (greatest - margin) c.serial) v p greatest disk
 
-  att_never_off : att_refusal c v p ≡ Some IsOff → ⊥
+  pub att_never_off : att_refusal c v p ≡ Some IsOff → ⊥
   att_never_off = att_not_down (nat_le (length c.volumes) v) (nat_le (plexes_of c v) p) (nat_lt (greatest - margin) c.serial) v p greatest
 
   att_never_device : (disk : ℕ) → att_refusal c v p ≡ Some (Device disk) → ⊥

@@ -1,6 +1,7 @@
 -- A recovery of a site's group, by its note.
-use Rattle.std.proofs.Common.{⊎_elim, ◌≡◌, ◌⊎◌, inl, inr, ℕ, zero, suc, ◌<◌, Bool, true, false, List, [], ◌∷◌, length, IsTrue, IsFalse, refl, sym, ◌∙◌, subst, arith}
-use Rattle.std.specs.Prelude.{if◌then◌else◌, Result, Ok, Err}
+use Rattle.std.proofs.Common.{⊎_elim, ◌≡◌, ◌⊎◌, inl, inr, ℕ, zero, suc, ◌<◌, Bool, true, false, List, [], ◌∷◌, length, IsTrue, IsFalse, refl, sym, ◌∙◌, ap, subst, arith}
+use Rattle.std.specs.Prelude.{if◌then◌else◌, slice_get, Option, Some, None, Result, Ok, Err}
+use Rattle.std.proofs.lemmas.Option.{slice_get_within}
 use Rattle.vx_model.specs.declared.errors.Stop.{Stop}
 use Rattle.vx_model.specs.declared.errors.Stop.TheVariants.{No as Refused, OutOfMemory}
 use Rattle.vx_model.specs.declared.no.Counted.TheVariants.{Number as Numbers}
@@ -9,41 +10,54 @@ use Rattle.vx_model.specs.declared.no.No.TheVariants.{Damaged as IsDamaged, Devi
 use Rattle.vx_model.specs.declared.site.SiteState.TheVariants.{Up as IsUp}
 use Rattle.vx_disk.specs.Causes.{DeviceCause}
 use Rattle.vx_disk.specs.Counts.{Rose}
-use Rattle.vx_disk.specs.Racks.{Alike, Stopped}
-use Rattle.vx_disk.specs.Shelf.{Goes, Meaning, Nothing}
+use Rattle.vx_disk.specs.Racks.{Alike, Stopped, IsRack}
+use Rattle.vx_disk.specs.Shelf.{Goes, Meaning, Nothing, Each, Image, Lawful}
 use Rattle.vx_disk.specs.declared.shelf.Shelf.{Ghosts}
 use Rattle.vx_history.specs.Groups.{BlockMay, GroupNode}
-use Rattle.vx_history.specs.Steps.{burned}
+use Rattle.vx_history.specs.Steps.{burned, crashed}
 use Rattle.vx_history.specs.World.{Fuse, Node, NoFuse, FuseSet, FuseLit}
-use Rattle.vx_config.specs.Checks.{blocks_of}
+use Rattle.vx_config.specs.Checks.{blocks_of, blocks_or_none}
 use Rattle.vx_config.specs.declared.config.Config.{Config}
+use Rattle.vx_config.specs.declared.entry.DiskEntry.{DiskEntry}
 use Rattle.vx_config.specs.declared.entry.VolumeEntry.{VolumeEntry}
+use Rattle.vx_untold.specs.declared.shade.Shade.{Shade}
 use Rattle.vx_config.specs.Table.{greatest}
 use Rattle.vx_copyfmt.specs.Imports.{ImportOutcome, Found, Missing, NoConfig as NothingFound, Damaged, Format, import_of}
 use Rattle.vx_copies.specs.Answers.{IsAnswer, answer_to}
 use Rattle.vx_copies.specs.Bodies.{failed_in}
 use Rattle.vx_copies.specs.Looking.{on_shelf}
 use Rattle.vx_volume.specs.Plexes.{Inside}
-use Rattle.vx_kept.proofs.Low.{found_same}
 use Rattle.vx_group.specs.Imports.{ImportStops, StopsEarly}
 use Rattle.vx_group.specs.Resumes.{CanImport}
 use Rattle.vx_group.proofs.AgainLemmas.{goes_can}
 use Rattle.vx_group.specs.declared.group_core.GroupCore.{GroupCore}
 use Rattle.vx_watched.specs.Since.{CalledSince}
 use Rattle.vx_grouped.specs.Away.{AwayLies}
-use Rattle.vx_grouped.specs.GroupSites.{GroupAway, GroupDown, GroupUp, NotesGroup, idle_disks, laid_disks}
-use Rattle.vx_grouped.specs.Returns.{GroupReturns, HasNoMore, ImportLeft, note_imported, note_loose}
+use Rattle.vx_grouped.specs.GroupSites.{GroupAway, GroupDown, GroupUp, NotesGroup, idle_disks, laid_disks, AreStopped}
+use Rattle.vx_grouped.specs.Returns.{GroupReturns, note_imported}
 use Rattle.vx_grouped.specs.SetFuses.{HasFuse}
-use Rattle.vx_grouped.specs.SiteEnds.{stops_down}
-use Rattle.vx_grouped.specs.SiteReturns.{BlamesDisk, ImportRefused, LeftAgain, NoteReturns, SiteImports, SiteRecovers, StaysAway, returned_with, stops_early}
+use Rattle.vx_grouped.specs.SiteEnds.{stops_down, burned_site}
+use Rattle.vx_grouped.specs.SiteReturns.{ImportRefused, NoteReturns, returned_with, stops_early, ImportWhy, ImportsFrom, KeepsFuse, RecoversFrom, ReturnSince, ReturnsUp, TellsNone}
 use Rattle.vx_grouped.specs.declared.idle.Idle.{Idle}
 use Rattle.vx_grouped.specs.declared.laid.Laid.{Laid}
+use Rattle.vx_grouped.specs.declared.group_site.GroupSite.{GroupSite}
 use Rattle.vx_grouped.specs.declared.group_site.GroupSite.TheVariants.{Up, Deported, Down}
 use Rattle.vx_grouped.proofs.AlikeLemmas.{less_away}
-use Rattle.vx_grouped.proofs.ReturnLemmas.{away_again}
 use Rattle.vx_grouped.proofs.CalledLemmas.{err_is}
 use Rattle.vx_grouped.proofs.SettleLemmas.{fell_fused, fuse_burned}
-use Rattle.vx_grouped.proofs.SiteLemmas.{lies_as}
+use Rattle.vx_grouped.proofs.SiteLemmas.{lies_as, away_as}
+use Rattle.vx_grouped.specs.ConfigMoves.{AnyState, ConfigBack}
+use Rattle.vx_config.specs.Configs.{HasSpelling}
+use Rattle.vx_grouped.specs.GroupNotes.{NotesConfig}
+use Rattle.vx_kept.specs.Cleans.{at_serial}
+use Rattle.vx_grouped.proofs.MovesLemmas.{disk_blocks_at, disk_failed_at, rose_as, volume_moves}
+use Rattle.vx_kept.specs.Groups.{found, found_by}
+use Rattle.vx_kept.specs.Keeping.{frame, frame_at, frame_or}
+use Rattle.vx_kept.specs.Facts.{is_found}
+use Rattle.vx_kept.specs.Trusts.{is_plain}
+use Rattle.vx_untold.specs.Shades.{shade_meaning}
+use Rattle.vx_grouped.proofs.NotedLemmas.{spells_zero}
+use Rattle.vx_grouped.proofs.WhyLemmas.{why_by}
 
 -- ---- notes
 
@@ -82,38 +96,16 @@ module _ (n : Node) (note : GroupNode) (last : Config) (m0 m : Meaning) (told : 
     size = λ tells v low. back.sizes (subst IsTrue (sym told) tells) v (inside v 0 low).volume ∙ sym (lies.sizes v);
   }
 
-  pub returns_up : NotesGroup n note → HasFuse (burned n.fuse) m' → GroupUp (returned_with next n) next core m'
-  returns_up noted fuse = record {
+  pub returns_up : NotesGroup n note → HasSpelling (at_serial 0 core.inner.config) → HasFuse (burned n.fuse) m' → GroupUp (returned_with next n) next core m'
+  returns_up noted spells fuse = record {
     noted = record { is = refl; none = record { role = noted.none.role; volumes = noted.none.volumes; log = noted.none.log; safe = noted.none.safe; running = refl } };
     fuse = fuse;
+    spells = spells;
     at = record { state = refl; up = back.at.up; lies = lies_as (record n { state = IsUp }) (returned_with next n) next core m' refl refl back.at.lies };
   }
 
 no_fuse : (f : Fuse) (m : Meaning) → f ≡ NoFuse → IsFalse m.armed → HasFuse (burned f) m
 no_fuse f m is none = subst (λ (x : Fuse). HasFuse (burned x) m) (sym is) none
-
--- no image has more volumes on disks that leave no more
-less_more : (last : Config) (m m' : Meaning) → m'.units ≡ m.units → ((u : ℕ) → m'.size u ≡ m.size u) → ((u b : ℕ) (v : List ℕ) → m'.leaves u b v → m.leaves u b v) → HasNoMore last m → HasNoMore last m'
-less_more last m m' units size leaves none = record {
-  each = λ i x each is. none.each i x (λ u b. leaves u b (i u b) (each u b)) (sym (found_same m m' units size (λ u. true) i) ∙ is);
-}
-
-module _ (n : Node) (note : GroupNode) (m1 m2 m3 : Meaning) (units : m3.units ≡ m2.units) (size : (u : ℕ) → m3.size u ≡ m2.size u) (leaves : (u b : ℕ) (v : List ℕ) → m3.leaves u b v → m2.leaves u b v) (can : CanImport m3)
-    (left : (last : Config) → AwayLies n note last m1 → ImportLeft n note last m1 m2) where
-  by_left : (last : Config) → HasNoMore last m1 → ImportLeft n note last m1 m2 → AwayLies n note last m3
-  by_left last none (inl it) = less_away n note m2 m3 units size leaves last it
-  by_left last none (inr behind) = away_again n note last m3 can (less_away n (note_loose note) m2 m3 units size leaves last (behind.1 none))
-
-  pub left_now : LeftAgain n note m1 m3
-  left_now = record { can = can; away = λ last lies none. by_left last none (left last lies) }
-
-  -- where the import began on disks that had been down
-  pub left_again : (m0 : Meaning) → Alike m0 m1 → LeftAgain n note m0 m3
-  left_again m0 revived = record {
-    can = can;
-    away = λ last lies none. by_left last (less_more last m0 m1 revived.contents.units revived.contents.size revived.contents.leaves none)
-        (left last (less_away n note m0 m1 revived.contents.units revived.contents.size revived.contents.leaves last lies));
-  }
 
 -- ---- why it was refused
 
@@ -164,15 +156,8 @@ blames m m' why on (inr late) = elim late.1 [
   | inr full ↦ absurd (not_blame why (Limit Numbers greatest) full.0 refl on)
 ]
 
--- the disk that it names had a failed call, whatever crashed since
-blames_disk : (m0 m1 m2 m3 : Meaning) → ((d : ℕ) → m1.disk_faults d ≡ m0.disk_faults d) → ((d : ℕ) → m3.disk_faults d ≡ m2.disk_faults d) → (stop : Stop) → ImportStops m1 m2 stop → BlamesDisk stop m0 m3
-blames_disk m0 m1 m2 m3 first last (Refused (Device disk)) stops =
-    subst (λ (x : ℕ). Rose x (m3.disk_faults disk)) (first disk) (subst (λ (x : ℕ). Rose (m1.disk_faults disk) x) (sym (last disk)) (blames m1 m2 (Device disk) refl stops))
-blames_disk m0 m1 m2 m3 first last (Refused other) stops = tt
-blames_disk m0 m1 m2 m3 first last OutOfMemory stops = tt
-
 -- where it says that they are down they are
-down_of : (m m' : Meaning) (stop : Stop) → stops_down stop ≡ true → ImportStops m m' stop → IsTrue m'.down
+pub down_of : (m m' : Meaning) (stop : Stop) → stops_down stop ≡ true → ImportStops m m' stop → IsTrue m'.down
 down_of m m' (Refused IsOff) off stops = blames m m' IsOff refl stops
 down_of m m' (Refused (Device disk)) off stops = cc
 down_of m m' (Refused other) off stops = cc
@@ -202,93 +187,304 @@ early_goes m m' OutOfMemory early (inr it) = absurd it.1
 pub still_can : (m m' : Meaning) (stop : Stop) → stops_early stop ≡ true → CanImport m → ImportStops m m' stop → CanImport m'
 still_can m m' stop early can stops = goes_can m m' (early_goes m m' stop early stops) can
 
--- ---- a site that crashed
+-- ---- what an import made of the site
 
-module _ {R : Type 0} (g : Ghosts R) (n : Node) (note : GroupNode) (rack first : R) (down : GroupDown n note (g.meaning rack)) (revived : Alike (g.meaning rack) (g.meaning first)) where
-  lies : AwayLies n note down.away.last (g.meaning first)
-  lies = less_away n note (g.meaning rack) (g.meaning first) revived.contents.units revived.contents.size revived.contents.leaves down.away.last down.away.lies
+-- nothing is asked of disks that leave nothing
+pub none_can : (m : Meaning) → TellsNone m → CanImport m
+none_can m none = record {
+  base = λ i x each is. absurd (none.leaves 0 0 (i 0 0) (each 0 0));
+  one = λ i j readable x each_i each_j is. absurd (none.leaves 0 0 (i 0 0) (each_i 0 0));
+  plain = λ i readable x each is. absurd (none.leaves 0 0 (i 0 0) (each 0 0));
+}
 
-  pub recovered_up : (g.meaning first).armed ≡ (g.meaning rack).armed → (group : Laid R g) → CalledSince (g.meaning first) (laid_disks group)
-      → ((last : Config) → AwayLies n note last (g.meaning first) → GroupReturns n note last (g.meaning first) group.core (laid_disks group)) → SiteRecovers {g = g} n note (Down rack) (Up group) (Ok tt)
-  recovered_up armed group since back =
-      let it = back down.away.last lies in (
-        next n note down.away.last (g.meaning rack) (g.meaning first) revived.contents.tells lies group.core (laid_disks group) it,
-        returns_note n note down.away.last (g.meaning rack) (g.meaning first) revived.contents.tells lies group.core (laid_disks group) it,
-        returns_up n note down.away.last (g.meaning rack) (g.meaning first) revived.contents.tells lies group.core (laid_disks group) it down.noted (no_fuse n.fuse (laid_disks group) down.unfused (since.unarmed (armed ∙ down.stopped.unarmed))),
-      )
+pub is_up : (down : Bool) → (IsTrue down → ⊥) → IsFalse down
+is_up true never = absurd (never refl)
+is_up false never = refl
 
-  pub recovered_not : (middle new : R) (stop : Stop) → Stopped (g.meaning middle) (g.meaning new) → CanImport (g.meaning new) → ImportStops (g.meaning first) (g.meaning middle) stop
-      → ((last : Config) → AwayLies n note last (g.meaning first) → ImportLeft n note last (g.meaning first) (g.meaning middle)) → SiteRecovers {g = g} n note (Down rack) (Down new) (Err stop)
-  recovered_not middle new stop fell can stops left = (
-    record { down = fell.down; unarmed = fell.unarmed },
-    left_again n note (g.meaning first) (g.meaning middle) (g.meaning new) fell.units fell.size fell.leaves can left (g.meaning rack) revived,
-    record { first = first; middle = middle; revived = revived; stops = stops; crashed = fell },
-    blames_disk (g.meaning rack) (g.meaning first) (g.meaning middle) (g.meaning new) revived.counts.disk_faults fell.counts.disk_faults stop stops,
-  )
+frame_blocks : (o : Option VolumeEntry) → blocks_or_none (frame_or o) ≡ blocks_or_none o
+unfolding frame
+frame_blocks None = refl
+frame_blocks (Some v) = refl
 
--- ---- a site that was deported
+-- the same blocks, where the frames are the same
+frames_blocks : (c d : Config) → ((v : ℕ) → frame_at c v ≡ frame_at d v) → (v : ℕ) → blocks_of c.volumes v ≡ blocks_of d.volumes v
+frames_blocks c d frames v = sym (frame_blocks (slice_get c.volumes v)) ∙ ap blocks_or_none (frames v) ∙ frame_blocks (slice_get d.volumes v)
+
+-- a list with the frames of another one is as long
+frames_long : (vs us : List VolumeEntry) → ((k : ℕ) → frame_or (slice_get us k) ≡ frame_or (slice_get vs k)) → length us ≡ length vs
+frames_long [] [] same = refl
+frames_long [] (u ∷ us) same = absurd (let no_one : Some (frame u) ≡ None = same 0 in cc)
+frames_long (v ∷ vs) [] same = absurd (let no_one : None ≡ Some (frame v) = same 0 in cc)
+frames_long (v ∷ vs) (u ∷ us) same = let rest = frames_long vs us (λ k. same (suc k)) in omega (arith, rest)
+
+up_not_down : (down : Bool) → IsFalse down → IsTrue down → ⊥
+up_not_down true up is = let clash : true ≡ false = up in cc
+up_not_down false up is = let clash : false ≡ true = is in cc
 
 unarmed_any : (f : Fuse) (m : Meaning) → IsFalse m.armed → HasFuse (burned f) m
 unarmed_any NoFuse m none = none
 unarmed_any (FuseSet calls) m none = tt
 unarmed_any (FuseLit most) m none = tt
 
-up_not_down : (down : Bool) → IsFalse down → IsTrue down → ⊥
-up_not_down true up is = let clash : true ≡ false = up in cc
-up_not_down false up is = let clash : false ≡ true = is in cc
+-- disks of which nothing is told
+pub dark_away : (n : Node) (note : GroupNode) (last : Config) (m m' : Meaning) → m'.units ≡ m.units → ((u : ℕ) → m'.size u ≡ m.size u) → TellsNone m' → AwayLies n note last m → AwayLies n note last m'
+dark_away n note last m m' units size none it = record {
+  units = units ∙ it.units;
+  size = λ u low. size u ∙ it.size u low;
+  can = λ tight. none_can m' none;
+  sizes = it.sizes;
+  finds = λ i each. absurd (none.leaves 0 0 (i 0 0) (each 0 0));
+  volumes = λ i x each is. absurd (none.leaves 0 0 (i 0 0) (each 0 0));
+  has = λ i x each is. absurd (none.leaves 0 0 (i 0 0) (each 0 0));
+}
 
-module _ {R : Type 0} (g : Ghosts R) (n : Node) (note : GroupNode) (rack : R) (away : GroupAway n note (g.meaning rack)) where
-  pub imported_up : (group : Laid R g) → CalledSince (g.meaning rack) (laid_disks group)
-      → ((last : Config) → AwayLies n note last (g.meaning rack) → GroupReturns n note last (g.meaning rack) group.core (laid_disks group)) → SiteImports {g = g} n note (Deported rack) (Up group) (Ok tt)
-  imported_up group since back =
-      let it = back away.away.last away.away.lies in (
-        next n note away.away.last (g.meaning rack) (g.meaning rack) refl away.away.lies group.core (laid_disks group) it,
-        returns_note n note away.away.last (g.meaning rack) (g.meaning rack) refl away.away.lies group.core (laid_disks group) it,
-        returns_up n note away.away.last (g.meaning rack) (g.meaning rack) refl away.away.lies group.core (laid_disks group) it away.noted
-            (fuse_burned n.fuse (g.meaning rack) (laid_disks group) since.unarmed away.fuse),
+module _ {R : Type 0} {g : Ghosts R} (n : Node) (note : GroupNode) (last newest : Config) (had : NotesConfig note newest) (frames : (v : ℕ) → frame_at newest v ≡ frame_at last v) (racks : (s : Shade R) → IsRack (shade_meaning g.meaning s))
+    (old : Meaning) (first : Shade R) (units : (shade_meaning g.meaning first).units ≡ old.units) (size : (u : ℕ) → (shade_meaning g.meaning first).size u ≡ old.size u) (faults : (u : ℕ) → (shade_meaning g.meaning first).disk_faults u ≡ old.disk_faults u)
+    (lies : AwayLies n note last (shade_meaning g.meaning first)) (group : Laid R g) (since : CalledSince (shade_meaning g.meaning first) (laid_disks group)) (has : HasSpelling group.core.inner.config)
+    (back : GroupReturns n note last (shade_meaning g.meaning first) group.core (laid_disks group)) where
+  abbrev now : Config
+  now = group.core.inner.config
+
+  long : length newest.volumes ≡ length last.volumes
+  long = frames_long last.volumes newest.volumes frames
+
+  below : (k : ℕ) (disk : DiskEntry) → slice_get now.disks k ≡ Some disk → k < (shade_meaning g.meaning first).units
+  below k disk at = let lt = slice_get_within now.disks k disk at in let count = back.disks.count in omega (arith, lt, count)
+
+  config_back : ConfigBack (IsTrue (laid_disks group).tells) old (laid_disks group) newest now
+  config_back = record {
+    volumes = λ tells v lt. volume_moves AnyState newest now v (back.frames (sym since.tells ∙ tells) v (let same = long in omega (arith, lt, same)) ∙ sym (frames v)) (λ k p q at_p at_q. tt);
+    count = back.disks.count ∙ units;
+    blocks = λ k disk at. sym (disk_blocks_at now.disks k disk at) ∙ back.disks.blocks k (below k disk at) ∙ size k;
+    failed = λ k disk at failed.
+        subst (λ (x : ℕ). Rose x ((laid_disks group).disk_faults k)) (faults k)
+        (rose_as (shade_meaning g.meaning first) (laid_disks group) k ((racks first).counts k) ((racks group.shelf).counts k) (back.disks.failed k (below k disk at) (disk_failed_at now.disks k disk at ∙ failed)));
+  }
+
+  abbrev noted_next : GroupNode
+  noted_next = next n note last (laid_disks group) (shade_meaning g.meaning first) (sym since.tells) lies group.core (laid_disks group) back
+
+  pub came_up : NotesGroup n note → HasFuse (burned n.fuse) (laid_disks group) → ReturnsUp n note old (Up group)
+  came_up noted fuse = (
+    noted_next,
+    returns_note n note last (laid_disks group) (shade_meaning g.meaning first) (sym since.tells) lies group.core (laid_disks group) back,
+    returns_up n note last (laid_disks group) (shade_meaning g.meaning first) (sym since.tells) lies group.core (laid_disks group) back noted (spells_zero now has) fuse,
+    record {
+      was = newest;
+      now = now;
+      has = refl;
+      noted = had;
+      noted_now = record { is = refl; spells = spells_zero now has };
+      sizes = λ v. refl;
+      change = config_back;
+    },
+  )
+
+-- ---- why it was not
+
+-- what an import that was refused so left may be imported still
+module _ (n : Node) (note : GroupNode) (last : Config) (m m' m3 : Meaning) (law : Lawful m) (lies : AwayLies n note last m) (can : CanImport m) (stop : Stop) (stops : ImportStops m m' stop) where
+  plain_of : IsTrue m.tells → (i : Image) (readable : ℕ → Bool) → Each m.reads i → is_plain (found_by m readable i) ≡ true
+  plain_of tells i readable read =
+      let each : Each m.leaves i = λ u b. law.shown u b (i u b) (read u b) in
+      by each (found m i) refl (lies.finds i each)
+    where
+      by : Each m.leaves i → (o : ImportOutcome Config) → found m i ≡ o → is_found o ≡ true → is_plain (found_by m readable i) ≡ true
+      by each (Found x) is yes_it = can.plain i readable x each is
+      by each (Missing d) is yes_it = absurd (let clash : false ≡ true = yes_it in cc)
+      by each NothingFound is yes_it = absurd (let clash : false ≡ true = yes_it in cc)
+      by each (Damaged d block stored computed) is yes_it = absurd (let clash : false ≡ true = yes_it in cc)
+      by each (Format version) is yes_it = absurd (let clash : false ≡ true = yes_it in cc)
+
+  -- it had written nothing
+  pub early_lies : stops_early stop ≡ true → (units : m3.units ≡ m'.units) (size : (u : ℕ) → m3.size u ≡ m'.size u) (leaves : (u b : ℕ) (v : List ℕ) → m3.leaves u b v → m'.leaves u b v) → AwayLies n note last m3
+  early_lies early units size leaves =
+      let goes = early_goes m m' stop early stops in
+      less_away n note m m3 (units ∙ goes.units) (λ u. size u ∙ goes.size u) (λ u b v left. ⊎_elim (λ was. was) (λ none. absurd none) (goes.leaves u b v (leaves u b v left))) last lies
+
+-- a site that crashed has no fuse that could run out
+never_off : (m m' : Meaning) (stop : Stop) → IsFalse m.down → IsFalse m.armed → CalledSince m m' → ImportStops m m' stop → stop ≡ Refused IsOff → ⊥
+never_off m m' stop up unarmed since stops is = up_not_down m.down up (since.safe unarmed (down_of m m' stop (ap stops_down is) stops))
+
+module _ {R : Type 0} {g : Ghosts R} (n : Node) (note : GroupNode) (racks : (s : Shade R) → IsRack (shade_meaning g.meaning s)) (laws : (s : Shade R) → Lawful (shade_meaning g.meaning s)) where
+  -- ---- a site that crashed
+
+  module _ (rack first : Shade R) (down : GroupDown n note (shade_meaning g.meaning rack)) (revived : Alike (shade_meaning g.meaning rack) (shade_meaning g.meaning first)) (up : IsFalse (shade_meaning g.meaning first).down)
+      (armed : (shade_meaning g.meaning first).armed ≡ (shade_meaning g.meaning rack).armed) where
+    lies : AwayLies n note down.last (shade_meaning g.meaning first)
+    lies = less_away n note (shade_meaning g.meaning rack) (shade_meaning g.meaning first) revived.contents.units revived.contents.size revived.contents.leaves down.last down.away.lies
+
+    had : NotesConfig note down.last
+    had = record { is = down.away.config; spells = down.spells }
+
+    unarmed : IsFalse (shade_meaning g.meaning first).armed
+    unarmed = armed ∙ down.stopped.unarmed
+
+    pub recovered_up : (group : Laid R g) → CalledSince (shade_meaning g.meaning first) (laid_disks group) → HasSpelling group.core.inner.config
+        → ((last : Config) → AwayLies n note last (shade_meaning g.meaning first) → GroupReturns n note last (shade_meaning g.meaning first) group.core (laid_disks group)) → RecoversFrom n note (shade_meaning g.meaning rack) (Up group) (Ok tt)
+    recovered_up group since has back =
+        came_up n note down.last down.last had (λ v. refl) racks (shade_meaning g.meaning rack) first revived.contents.units revived.contents.size revived.counts.disk_faults lies group since has (back down.last lies)
+        down.noted (no_fuse n.fuse (laid_disks group) down.unfused (since.unarmed unarmed))
+
+    module _ (middle : Shade R) (idle : Idle R g) (fallen : Shade R) (is : idle.rack ≡ fallen) (stop : Stop) (since : CalledSince (shade_meaning g.meaning first) (shade_meaning g.meaning middle)) (stops : ImportStops (shade_meaning g.meaning first) (shade_meaning g.meaning middle) stop)
+        (can : CanImport (shade_meaning g.meaning first)) (fell : AreStopped (shade_meaning g.meaning fallen)) (counts : (d : ℕ) → (shade_meaning g.meaning fallen).disk_faults d ≡ (shade_meaning g.meaning middle).disk_faults d) (kept : ReturnSince (shade_meaning g.meaning middle) (shade_meaning g.meaning fallen))
+        (early : stops_early stop ≡ true → Stopped (shade_meaning g.meaning middle) (shade_meaning g.meaning fallen)) (dark : stops_early stop ≡ false → TellsNone (shade_meaning g.meaning fallen)) where
+      lies_by : (t : Bool) → stops_early stop ≡ t → AwayLies n note down.last (shade_meaning g.meaning fallen)
+      lies_by true it =
+          let stopped = early it in
+          early_lies n note down.last (shade_meaning g.meaning first) (shade_meaning g.meaning middle) (shade_meaning g.meaning fallen) (laws first) lies can stop stops it stopped.units stopped.size stopped.leaves
+      lies_by false it = dark_away n note down.last (shade_meaning g.meaning first) (shade_meaning g.meaning fallen) (kept.units ∙ since.units) (λ u. kept.size u ∙ since.size u) (dark it) lies
+
+      stands : GroupDown n note (shade_meaning g.meaning fallen)
+      stands = record {
+        noted = down.noted;
+        unfused = down.unfused;
+        stopped = fell;
+        last = down.last;
+        spells = down.spells;
+        away = record { state = down.away.state; config = down.away.config; lies = lies_by (stops_early stop) refl };
+      }
+
+      tells_first : IsTrue (shade_meaning g.meaning fallen).tells → IsTrue (shade_meaning g.meaning first).tells
+      tells_first tells = sym since.tells ∙ kept.tells tells
+
+      why : ImportWhy (IsTrue (shade_meaning g.meaning fallen).tells) (shade_meaning g.meaning rack) (shade_meaning g.meaning fallen) stop
+      why =
+          why_by (shade_meaning g.meaning rack) (shade_meaning g.meaning first) (shade_meaning g.meaning middle) (shade_meaning g.meaning fallen) revived.counts.disk_faults counts (racks first).counts (racks middle).counts
+          (IsTrue (shade_meaning g.meaning fallen).tells) (λ tells. plain_of n note down.last (shade_meaning g.meaning first) (shade_meaning g.meaning middle) (shade_meaning g.meaning fallen) (laws first) lies can stop stops (tells_first tells)) tells_first up stop
+          (never_off (shade_meaning g.meaning first) (shade_meaning g.meaning middle) stop up unarmed since stops) stops
+
+      between_by : (t : Bool) → stops_early stop ≡ t → IsTrue (shade_meaning g.meaning fallen).tells → (e : Shade R) → e ≡ fallen → Stopped (shade_meaning g.meaning middle) (shade_meaning g.meaning e)
+      between_by true it tells e same = subst (λ (s : Shade R). Stopped (shade_meaning g.meaning middle) (shade_meaning g.meaning s)) (sym same) (early it)
+      between_by false it tells e same = absurd (let no_one : true ≡ false = sym tells ∙ (dark it).tells in cc)
+
+      pub recovered_not : RecoversFrom n note (shade_meaning g.meaning rack) (Down idle) (Err stop)
+      recovered_not = (
+        subst (λ (s : Shade R). GroupDown n note (shade_meaning g.meaning s)) (sym is) stands,
+        subst (λ (s : Shade R). ImportWhy (IsTrue (shade_meaning g.meaning s).tells) (shade_meaning g.meaning rack) (shade_meaning g.meaning s) stop) (sym is) why,
+        λ tells. record {
+          first = first;
+          middle = middle;
+          revived = revived;
+          stops = stops;
+          crashed = between_by (stops_early stop) refl (subst (λ (s : Shade R). IsTrue (shade_meaning g.meaning s).tells) is tells) idle.rack is;
+        },
       )
 
-  away_by : (new : R) (stop : Stop) → stops_down stop ≡ false → StaysAway n note (g.meaning rack) (g.meaning new) → BlamesDisk stop (g.meaning rack) (g.meaning new) → SiteImports {g = g} n note (Deported rack) (Deported new) (Err stop)
-  away_by new stop off stays blame = subst (λ (b : Bool). ImportRefused {g = g} b n note (Deported rack) (Deported new) stop) (sym off) (stays, blame)
+  -- ---- a site that was deported
 
-  early_up : (stop : Stop) → stops_early stop ≡ true → stops_down stop ≡ false
-  early_up (Refused IsOff) early = cc
-  early_up (Refused other) early = refl
-  early_up OutOfMemory early = refl
+  module _ (rack : Shade R) (away : GroupAway n note (shade_meaning g.meaning rack)) where
+    had_away : NotesConfig note away.newest
+    had_away = record { is = away.away.config; spells = away.spells }
 
-  -- it had written nothing, and the disks are as they were
-  pub imported_early : (new : R) (stop : Stop) → stops_early stop ≡ true → (IsTrue (g.meaning new).down → ⊥) → CalledSince (g.meaning rack) (g.meaning new) → CanImport (g.meaning rack) → ImportStops (g.meaning rack) (g.meaning new) stop
-      → SiteImports {g = g} n note (Deported rack) (Deported new) (Err stop)
-  imported_early new stop early up since can stops =
-      let goes = early_goes (g.meaning rack) (g.meaning new) stop early stops in
-      let less : (u b : ℕ) (v : List ℕ) → (g.meaning new).leaves u b v → (g.meaning rack).leaves u b v = λ u b v left. ⊎_elim (λ was. was) (λ none. absurd none) (goes.leaves u b v left) in
-      away_by new stop (early_up stop early)
-      (record {
-        up = up;
-        fuse = fuse_burned n.fuse (g.meaning rack) (g.meaning new) since.unarmed away.fuse;
-        again = record { can = goes_can (g.meaning rack) (g.meaning new) goes can; away = λ last lies none. less_away n note (g.meaning rack) (g.meaning new) goes.units goes.size less last lies };
-      })
-      (blames_disk (g.meaning rack) (g.meaning rack) (g.meaning new) (g.meaning new) (λ d. refl) (λ d. refl) stop stops)
+    keeps_fuse : (m : Meaning) → CalledSince (shade_meaning g.meaning rack) m → (IsTrue m.down → ⊥) → KeepsFuse (shade_meaning g.meaning rack) m
+    keeps_fuse m since still = record { goes = λ o k was is. (since.told o k was is).fuse (is_up m.down still) }
 
-  module _ (middle fallen : R) (stop : Stop) (fell : Stopped (g.meaning middle) (g.meaning fallen)) (can : CanImport (g.meaning fallen)) (stops : ImportStops (g.meaning rack) (g.meaning middle) stop)
-      (left : (last : Config) → AwayLies n note last (g.meaning rack) → ImportLeft n note last (g.meaning rack) (g.meaning middle)) where
-    -- it had begun to write: the disks crashed, and are up again
-    pub imported_late : (new : R) → stops_down stop ≡ false → Alike (g.meaning fallen) (g.meaning new) → IsFalse (g.meaning new).down → (g.meaning new).armed ≡ (g.meaning fallen).armed → CanImport (g.meaning new)
-        → SiteImports {g = g} n note (Deported rack) (Deported new) (Err stop)
-    imported_late new off alike up armed again =
-        away_by new stop off
-        (record {
-          up = up_not_down (g.meaning new).down up;
-          fuse = unarmed_any n.fuse (g.meaning new) (armed ∙ fell.unarmed);
-          again = left_now n note (g.meaning rack) (g.meaning middle) (g.meaning new) (alike.contents.units ∙ fell.units) (λ u. alike.contents.size u ∙ fell.size u) (λ u b v it. fell.leaves u b v (alike.contents.leaves u b v it)) again left;
-        })
-        (blames_disk (g.meaning rack) (g.meaning rack) (g.meaning middle) (g.meaning new) (λ d. refl) (λ d. alike.counts.disk_faults d ∙ fell.counts.disk_faults d) stop stops)
-
-    -- the fuse ran out in it
-    pub imported_down : stops_down stop ≡ true → CalledSince (g.meaning rack) (g.meaning middle) → SiteImports {g = g} n note (Deported rack) (Down fallen) (Err stop)
-    imported_down off since =
-        subst (λ (b : Bool). ImportRefused {g = g} b n note (Deported rack) (Down fallen) stop) (sym off) (
-          record { down = fell.down; unarmed = fell.unarmed },
-          left_now n note (g.meaning rack) (g.meaning middle) (g.meaning fallen) fell.units fell.size fell.leaves can left,
-          fell_fused n.fuse (g.meaning rack) (g.meaning middle) away.fuse away.up since.safe (down_of (g.meaning rack) (g.meaning middle) stop off stops),
+    pub imported_up : (group : Laid R g) → CalledSince (shade_meaning g.meaning rack) (laid_disks group) → HasSpelling group.core.inner.config
+        → ((last : Config) → AwayLies n note last (shade_meaning g.meaning rack) → GroupReturns n note last (shade_meaning g.meaning rack) group.core (laid_disks group)) → ImportsFrom n note (shade_meaning g.meaning rack) (Up group) (Ok tt)
+    imported_up group since has back =
+        let it = back away.last away.away.lies in
+        (
+          came_up n note away.last away.newest had_away away.away.frames racks (shade_meaning g.meaning rack) rack refl (λ u. refl) (λ u. refl) away.away.lies group since has it away.noted
+          (fuse_burned n.fuse (shade_meaning g.meaning rack) (laid_disks group) since.unarmed away.fuse),
+          keeps_fuse (laid_disks group) since it.at.up,
         )
+
+    module _ (middle : Shade R) (stop : Stop) (since : CalledSince (shade_meaning g.meaning rack) (shade_meaning g.meaning middle)) (stops : ImportStops (shade_meaning g.meaning rack) (shade_meaning g.meaning middle) stop) (can : CanImport (shade_meaning g.meaning rack)) where
+      away_as_is : (m : Meaning) → m.units ≡ (shade_meaning g.meaning rack).units → AwayLies n note away.last m → (IsTrue m.down → ⊥) → HasFuse (burned n.fuse) m → GroupAway (burned_site n) note m
+      away_as_is m units lies still fuse = record {
+        noted = record { is = away.noted.is; none = record { role = away.noted.none.role; volumes = away.noted.none.volumes; log = away.noted.none.log; safe = away.noted.none.safe; running = away.noted.none.running } };
+        up = still;
+        fuse = fuse;
+        last = away.last;
+        newest = away.newest;
+        spells = away.spells;
+        away = record { state = away.away.state; config = away.away.config; frames = away.away.frames; lies = away_as n (burned_site n) note away.last m refl refl lies };
+      }
+
+      why_away : (s : Shade R) → IsFalse (shade_meaning g.meaning rack).down → ((d : ℕ) → (shade_meaning g.meaning s).disk_faults d ≡ (shade_meaning g.meaning middle).disk_faults d) → (IsTrue (shade_meaning g.meaning s).tells → IsTrue (shade_meaning g.meaning rack).tells)
+          → (stop ≡ Refused IsOff → ⊥) → ImportWhy (IsTrue (shade_meaning g.meaning s).tells) (shade_meaning g.meaning rack) (shade_meaning g.meaning s) stop
+      why_away s up counts tells never =
+          why_by (shade_meaning g.meaning rack) (shade_meaning g.meaning rack) (shade_meaning g.meaning middle) (shade_meaning g.meaning s) (λ u. refl) counts (racks rack).counts (racks middle).counts
+          (IsTrue (shade_meaning g.meaning s).tells) (λ told. plain_of n note away.last (shade_meaning g.meaning rack) (shade_meaning g.meaning middle) (shade_meaning g.meaning s) (laws rack) away.away.lies can stop stops (tells told)) tells up stop never stops
+
+      never_stops : stops_down stop ≡ false → stop ≡ Refused IsOff → ⊥
+      never_stops off is = let clash : false ≡ true = sym off ∙ ap stops_down is in cc
+
+      refused_as : (e : GroupSite R g) → stops_down stop ≡ false → ImportRefused false n note (shade_meaning g.meaning rack) e stop → ImportsFrom n note (shade_meaning g.meaning rack) e (Err stop)
+      refused_as e off it = subst (λ (b : Bool). ImportRefused b n note (shade_meaning g.meaning rack) e stop) (sym off) it
+
+      early_up : (x : Stop) → stops_early x ≡ true → stops_down x ≡ false
+      early_up (Refused IsOff) early = cc
+      early_up (Refused other) early = refl
+      early_up OutOfMemory early = refl
+
+      -- it had written nothing, and the disks are as they were
+      pub imported_early : (idle : Idle R g) → idle.rack ≡ middle → stops_early stop ≡ true → (IsTrue (shade_meaning g.meaning middle).down → ⊥) → ImportsFrom n note (shade_meaning g.meaning rack) (Deported idle) (Err stop)
+      imported_early idle is early still =
+          refused_as (Deported idle) (early_up stop early) (subst (λ (s : Shade R). GroupAway (burned_site n) note (shade_meaning g.meaning s) × (IsFalse (shade_meaning g.meaning s).armed ⊎ KeepsFuse (shade_meaning g.meaning rack) (shade_meaning g.meaning s))
+              × ImportWhy (IsTrue (shade_meaning g.meaning s).tells) (shade_meaning g.meaning rack) (shade_meaning g.meaning s) stop) (sym is) (
+            away_as_is (shade_meaning g.meaning middle) since.units
+            (early_lies n note away.last (shade_meaning g.meaning rack) (shade_meaning g.meaning middle) (shade_meaning g.meaning middle) (laws rack) away.away.lies can stop stops early refl (λ u. refl) (λ u b v left. left))
+            still (fuse_burned n.fuse (shade_meaning g.meaning rack) (shade_meaning g.meaning middle) since.unarmed away.fuse),
+            inr (keeps_fuse (shade_meaning g.meaning middle) since still),
+            why_away middle (is_up (shade_meaning g.meaning rack).down away.up) (λ d. refl) (λ tells. sym since.tells ∙ tells) (never_stops (early_up stop early)),
+          ))
+
+      module _ (fallen : Shade R) (fell : AreStopped (shade_meaning g.meaning fallen)) (counts : (d : ℕ) → (shade_meaning g.meaning fallen).disk_faults d ≡ (shade_meaning g.meaning middle).disk_faults d) (kept : ReturnSince (shade_meaning g.meaning middle) (shade_meaning g.meaning fallen))
+          (early : stops_early stop ≡ true → Stopped (shade_meaning g.meaning middle) (shade_meaning g.meaning fallen)) (dark : stops_early stop ≡ false → TellsNone (shade_meaning g.meaning fallen)) where
+        lies_fell : (t : Bool) → stops_early stop ≡ t → AwayLies n note away.last (shade_meaning g.meaning fallen)
+        lies_fell true it =
+            let stopped = early it in
+            early_lies n note away.last (shade_meaning g.meaning rack) (shade_meaning g.meaning middle) (shade_meaning g.meaning fallen) (laws rack) away.away.lies can stop stops it stopped.units stopped.size stopped.leaves
+        lies_fell false it = dark_away n note away.last (shade_meaning g.meaning rack) (shade_meaning g.meaning fallen) (kept.units ∙ since.units) (λ u. kept.size u ∙ since.size u) (dark it) away.away.lies
+
+        tells_rack : IsTrue (shade_meaning g.meaning fallen).tells → IsTrue (shade_meaning g.meaning rack).tells
+        tells_rack tells = sym since.tells ∙ kept.tells tells
+
+        -- the disks crashed, and are up again
+        pub imported_late : (idle : Idle R g) (new : Shade R) → idle.rack ≡ new → stops_down stop ≡ false → Alike (shade_meaning g.meaning fallen) (shade_meaning g.meaning new) → IsFalse (shade_meaning g.meaning new).down
+            → (shade_meaning g.meaning new).armed ≡ (shade_meaning g.meaning fallen).armed → ImportsFrom n note (shade_meaning g.meaning rack) (Deported idle) (Err stop)
+        imported_late idle new is off alike up armed =
+            refused_as (Deported idle) off (subst (λ (s : Shade R). GroupAway (burned_site n) note (shade_meaning g.meaning s) × (IsFalse (shade_meaning g.meaning s).armed ⊎ KeepsFuse (shade_meaning g.meaning rack) (shade_meaning g.meaning s))
+                × ImportWhy (IsTrue (shade_meaning g.meaning s).tells) (shade_meaning g.meaning rack) (shade_meaning g.meaning s) stop) (sym is) (
+              away_as_is (shade_meaning g.meaning new) (alike.contents.units ∙ kept.units ∙ since.units)
+              (less_away n note (shade_meaning g.meaning fallen) (shade_meaning g.meaning new) alike.contents.units alike.contents.size alike.contents.leaves away.last (lies_fell (stops_early stop) refl))
+              (up_not_down (shade_meaning g.meaning new).down up) (unarmed_any n.fuse (shade_meaning g.meaning new) (armed ∙ fell.unarmed)),
+              inl (armed ∙ fell.unarmed),
+              why_away new (is_up (shade_meaning g.meaning rack).down away.up) (λ d. alike.counts.disk_faults d ∙ counts d) (λ tells. tells_rack (sym alike.contents.tells ∙ tells)) (never_stops off),
+            ))
+
+        -- the fuse ran out in it, so that it had begun to write
+        late_of : (x : Stop) → stops_down x ≡ true → stops_early x ≡ false
+        late_of (Refused IsOff) off = refl
+        late_of (Refused (Device disk)) off = refl
+        late_of (Refused other) off = cc
+        late_of OutOfMemory off = cc
+
+        pub imported_down : (idle : Idle R g) → idle.rack ≡ fallen → stops_down stop ≡ true → ImportsFrom n note (shade_meaning g.meaning rack) (Down idle) (Err stop)
+        imported_down idle is off =
+            let none = dark (late_of stop off) in
+            subst (λ (b : Bool). ImportRefused b n note (shade_meaning g.meaning rack) (Down idle) stop) (sym off) (
+              subst (λ (s : Shade R). GroupDown (crashed (returned_with note n) 0) note (shade_meaning g.meaning s)) (sym is) (record {
+                noted = record { is = refl; none = record { role = away.noted.none.role; volumes = away.noted.none.volumes; log = refl; safe = refl; running = refl } };
+                unfused = refl;
+                stopped = fell;
+                last = away.newest;
+                spells = away.spells;
+                away = record {
+                  state = refl;
+                  config = away.away.config;
+                  lies = record {
+                    units = kept.units ∙ since.units ∙ away.away.lies.units;
+                    size = λ u low. kept.size u ∙ since.size u ∙ away.away.lies.size u low;
+                    can = λ tight. none_can (shade_meaning g.meaning fallen) none;
+                    sizes = λ v. away.away.lies.sizes v ∙ sym (frames_blocks away.newest away.last away.away.frames v);
+                    finds = λ i each. absurd (none.leaves 0 0 (i 0 0) (each 0 0));
+                    volumes = λ i x each found_x. absurd (none.leaves 0 0 (i 0 0) (each 0 0));
+                    has = λ i x each found_x. absurd (none.leaves 0 0 (i 0 0) (each 0 0));
+                  };
+                };
+              }),
+              fell_fused n.fuse (shade_meaning g.meaning rack) (shade_meaning g.meaning middle) away.fuse away.up since.safe (down_of (shade_meaning g.meaning rack) (shade_meaning g.meaning middle) stop off stops),
+            )

@@ -16,6 +16,7 @@ use Rattle.vx_history.specs.World.{Node}
 use Rattle.vx_group.specs.Loses.{LosesPlexes}
 use Rattle.vx_group.proofs.LoseLemmas.{loses_same}
 use Rattle.vx_watched.specs.Since.{CalledSince}
+use Rattle.vx_config.specs.declared.config.Config.{Config}
 use Rattle.vx_grouped.specs.Away.{IsAwayAt}
 use Rattle.vx_grouped.specs.Ends.{WriteLeaves, plain_write}
 use Rattle.vx_grouped.specs.GroupNotes.{GroupLies, IsGroupAt, note_done, note_refused, noted_config}

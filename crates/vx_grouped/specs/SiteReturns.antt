@@ -1,5 +1,5 @@
 -- How a recovery or an import of a group leaves the disks of its site.
-use Rattle.std.specs.Prelude.{◌≡◌, ◌⊎◌, ℕ, ◌<◌, ◌≤◌, Bool, true, false, [], Some, None, IsTrue, IsFalse, Result, Ok, Err}
+use Rattle.std.specs.Prelude.{◌≡◌, ◌⊎◌, ℕ, ◌<◌, ◌≤◌, Bool, true, false, [], Some, None, IsTrue, IsFalse, List, Result, Ok, Err}
 use Rattle.vx_model.specs.declared.errors.Stop.{Stop}
 use Rattle.vx_model.specs.declared.errors.Stop.TheVariants.{No as Refused, OutOfMemory}
 use Rattle.vx_model.specs.declared.no.Counted.TheVariants.{Number as Numbers}
@@ -59,6 +59,11 @@ ImportWhy told old new OutOfMemory = Unit {0}
 -- a fuse that is set still is, and has no more calls left
 pub record KeepsFuse (old new : Meaning) : Type 0 where
   pub goes : (o n : Disks) → old.disks ≡ Some o → new.disks ≡ Some n → FuseGoes o.fuse n.fuse
+
+-- disks that tell nothing, and leave nothing
+pub record TellsNone (m : Meaning) : Type 0 where
+  pub tells : m.tells ≡ false
+  pub leaves : (u b : ℕ) (v : List ℕ) → m.leaves u b v → ⊥
 
 -- whether an import that was refused so had written nothing
 abbrev pub stops_early : Stop → Bool

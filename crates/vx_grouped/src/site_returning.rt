@@ -1,5 +1,5 @@
 // A site's group that comes up again, behind a crash or a deport.
-ghost use Rattle.std.specs.Prelude.{◌≡◌, ℕ, IfErr, IsFalse, IsTrue, false, true};
+ghost use Rattle.std.specs.Prelude.{◌≡◌, ℕ, IfErr, IfOk, IsFalse, IsTrue, false, true};
 ghost use Rattle.vx_disk.specs.Racks.{Alike, Stopped};
 ghost use Rattle.vx_history.specs.Groups.{GroupNode};
 ghost use Rattle.vx_history.specs.World.{Node};
@@ -10,7 +10,7 @@ ghost use Rattle.vx_grouped.specs.Away.{AwayLies};
 ghost use Rattle.vx_grouped.specs.Begins.{CreateSince};
 ghost use Rattle.vx_grouped.specs.GroupSites.{AreStopped, AwayNoted, DownNoted, GroupAway, GroupDown, site_disks};
 ghost use Rattle.vx_grouped.specs.Returns.{ImportLeaves};
-ghost use Rattle.vx_grouped.specs.SiteReturns.{ImportsFrom, ReturnSince, RecoversFrom, SiteImports, SiteRecovers, stops_early};
+ghost use Rattle.vx_grouped.specs.SiteReturns.{ImportsFrom, RecoversFrom, ReturnSince, SiteImports, SiteRecovers, TellsNone, stops_early};
 ghost use Rattle.vx_untold.specs.Shades.{shade_meaning};
 ghost use Rattle.vx_watched.specs.Since.{CalledSince};
 
@@ -20,7 +20,7 @@ use crate::{GroupSite, Idle, Laid};
 use std::alloc::Global;
 use std::marker::Brand;
 use vx_disk::{Rack, Shelf};
-use vx_group::{Group, fall};
+use vx_group::{Group, fall, revive};
 use vx_model::{No, Stop};
 use vx_untold::Shade;
 use vx_watched::{Begun, Watched};
@@ -31,6 +31,7 @@ fn import_from<B: Begun, R: Rack>(alloc: Global, rack: R) -> Result<Group<R>, (R
     ensures leaves { (n : Node) (note : GroupNode) (last : ConfigValue) → AwayLies n note last (R.meaning rack) → ImportLeaves n note last (R.meaning rack) (λ s. R.meaning s) (λ g. g.core) (λ g. g.shelf) result }
     ensures stops { IfErr result (λ e. ImportStops (R.meaning rack) (R.meaning e.0) e.1) }
     ensures again { IfErr result (λ e. CanImportBehind (R.meaning e.0)) }
+    ensures up { IfOk result (λ g. IsTrue (R.meaning g.shelf).down → ⊥) }
     ensures since { CreateSince B.first (λ s. R.meaning s) (λ g. g.shelf) result }
 {
     let watched = Watched::<R, B>::over(rack);
@@ -51,6 +52,7 @@ fn import_watched<R: Rack>(alloc: Global, rack: Shade<R>) -> Result<Laid<R>, (Sh
     ensures leaves { (n : Node) (note : GroupNode) (last : ConfigValue) → AwayLies n note last (shade_meaning (λ s. R.meaning s) rack) → ImportLeaves n note last (shade_meaning (λ s. R.meaning s) rack) (λ s. shade_meaning (λ s. R.meaning s) s) (λ g. g.core) (λ g. g.shelf) result }
     ensures stops { IfErr result (λ e. ImportStops (shade_meaning (λ s. R.meaning s) rack) (shade_meaning (λ s. R.meaning s) e.0) e.1) }
     ensures again { IfErr result (λ e. CanImportBehind (shade_meaning (λ s. R.meaning s) e.0)) }
+    ensures up { IfOk result (λ g. IsTrue (shade_meaning (λ s. R.meaning s) g.shelf).down → ⊥) }
     ensures since { CreateSince (shade_meaning (λ s. R.meaning s) rack) (λ s. shade_meaning (λ s. R.meaning s) s) (λ g. g.shelf) result }
 {
     match import_from::<Brand, Shade<R>>(alloc, rack) {
@@ -73,7 +75,7 @@ fn is_early(stop: &Stop) -> bool
 fn fallen<R: Rack>(rack: Shade<R>, early: bool) -> Shade<R>
     ensures fell { AreStopped (shade_meaning (λ s. R.meaning s) result) }
     ensures stopped { early ≡ true → Stopped (shade_meaning (λ s. R.meaning s) rack) (shade_meaning (λ s. R.meaning s) result) }
-    ensures dark { early ≡ false → IsFalse (shade_meaning (λ s. R.meaning s) result).tells }
+    ensures dark { early ≡ false → TellsNone (shade_meaning (λ s. R.meaning s) result) }
     ensures can { CanImportBehind (shade_meaning (λ s. R.meaning s) rack) → CanImport (shade_meaning (λ s. R.meaning s) result) }
     ensures since { ReturnSince (shade_meaning (λ s. R.meaning s) rack) (shade_meaning (λ s. R.meaning s) result) }
     ensures counts { (d : ℕ) → (shade_meaning (λ s. R.meaning s) result).disk_faults d ≡ (shade_meaning (λ s. R.meaning s) rack).disk_faults d }
@@ -93,7 +95,7 @@ fn risen<R: Rack>(rack: Shade<R>) -> Shade<R>
     ensures since { ReturnSince (shade_meaning (λ s. R.meaning s) rack) (shade_meaning (λ s. R.meaning s) result) }
 {
     let mut rack = rack;
-    rack.revive();
+    revive(&mut rack);
     rack
 }
 

@@ -58,4 +58,4 @@ returns-else-is_down-clause-leaves g c = λ n note at.
     (λ is. let clash : refusal.Limit Number greatest ≡ refusal.Down = is in cc) (λ is. let clash : refusal.Size ≡ refusal.Down = is in cc))
 
 pub returns-else-is_down-clause-still : goal.returns-else-is_down-clause-still
-returns-else-is_down-clause-still g c = still_by c.in-Err.stop _ c.in-Err.ensures.unmoved
+returns-else-is_down-clause-still g c = still_by ℕ ℕ c.in-Err.stop _ c.in-Err.ensures.unmoved

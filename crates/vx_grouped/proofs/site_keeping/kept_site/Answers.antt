@@ -1,15 +1,16 @@
 -- Which blocks of a write a site's group has.
 use Rattle.std.proofs.Common.{subst}
+use Rattle.vx_untold.specs.Shades.{shade_meaning}
 use Rattle.vx_grouped.specs.SiteKeeps.{PlainKeeps}
 use Rattle.vx_grouped.proofs.SiteKeepLemmas.{kept_done, kept_failed}
 use Rattle.vx_grouped.proofs.site_keeping.kept_site.Goals as goal
 
 pub returns-in-Ok-clause-kept : goal.returns-in-Ok-clause-kept
 returns-in-Ok-clause-kept g c = λ n note up fits.
-    kept_done n note c.args.vol c.args.block c.args.bytes.now c.args.group c.kept_watched-group.result.0 up c.kept_watched-group.ensures.since c.in-Ok.bits
-    (subst (λ r. PlainKeeps c.args.vol c.args.block c.args.bytes.now c.args.group.core (g.R.Shelf.meaning c.args.group.shelf) c.kept_watched-group.result.0.core (g.R.Shelf.meaning c.kept_watched-group.result.0.shelf) r) c.in-Ok.is c.kept_watched-group.ensures.works)
+    kept_done n note c.args.vol c.args.block c.args.bytes.now c.args.laid c.kept_watched-laid.result.0 up c.kept_watched-laid.ensures.since c.in-Ok.bits
+    (subst (λ r. PlainKeeps c.args.vol c.args.block c.args.bytes.now c.args.laid.core (shade_meaning g.R.Shelf.meaning c.args.laid.shelf) c.kept_watched-laid.result.0.core (shade_meaning g.R.Shelf.meaning c.kept_watched-laid.result.0.shelf) r) c.in-Ok.is c.kept_watched-laid.ensures.works)
 
 pub returns-in-Err-clause-kept : goal.returns-in-Err-clause-kept
 returns-in-Err-clause-kept g c = λ n note up fits.
-    kept_failed n note c.args.vol c.args.block c.args.bytes.now c.args.group c.kept_watched-group.result.0 up c.kept_watched-group.ensures.since c.in-Err.no
-    (subst (λ r. PlainKeeps c.args.vol c.args.block c.args.bytes.now c.args.group.core (g.R.Shelf.meaning c.args.group.shelf) c.kept_watched-group.result.0.core (g.R.Shelf.meaning c.kept_watched-group.result.0.shelf) r) c.in-Err.is c.kept_watched-group.ensures.works)
+    kept_failed n note c.args.vol c.args.block c.args.bytes.now c.args.laid c.kept_watched-laid.result.0 up c.kept_watched-laid.ensures.since c.in-Err.no
+    (subst (λ r. PlainKeeps c.args.vol c.args.block c.args.bytes.now c.args.laid.core (shade_meaning g.R.Shelf.meaning c.args.laid.shelf) c.kept_watched-laid.result.0.core (shade_meaning g.R.Shelf.meaning c.kept_watched-laid.result.0.shelf) r) c.in-Err.is c.kept_watched-laid.ensures.works)

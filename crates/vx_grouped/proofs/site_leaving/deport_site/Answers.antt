@@ -1,25 +1,35 @@
 -- A site's group that is deported: what it leaves of the site and of its disks.
-use Rattle.std.proofs.Common.{◌∙◌, sym}
+use Rattle.std.proofs.Common.{◌∙◌, sym, subst}
 use Rattle.vx_disk.specs.Disks.{Crashed}
+use Rattle.vx_untold.specs.Shades.{shade_meaning, shade_rack}
+use Rattle.vx_watched.specs.Since.{CalledSince}
 use Rattle.vx_watched.proofs.SinceLemmas.{since_stop}
-use Rattle.vx_grouped.proofs.CalledLemmas.{called_cut, called_up}
-use Rattle.vx_grouped.proofs.LeavingLemmas.{deport_down, deport_rose, deported_done}
+use Rattle.vx_grouped.proofs.LeavingLemmas.{deport_cut, deport_down, deport_up, deported_from}
 use Rattle.vx_grouped.proofs.site_leaving.deport_site.Goals as goal
 
 pub returns-in-Ok-clause-deported : goal.returns-in-Ok-clause-deported
-returns-in-Ok-clause-deported g c = λ n note up. deported_done n note c.args.group c.in-Ok.rack up c.in-Ok.ensures.since c.in-Ok.ensures.up (c.in-Ok.ensures.leaves n note up.at)
+returns-in-Ok-clause-deported g c = λ n note up.
+    let is_rack = (g.met.R.Rack g.world.𝓛 g.world.𝓜 g.world.𝓡 ((λ s x. x), (λ x. x), (λ x. x), λ x. x)).rack in
+    let racks = shade_rack g.R.Shelf.meaning is_rack in
+    deported_from n note c.args.laid up racks c.of.result c.in-Ok.rack c.of.ensures.rack c.in-Ok.ensures.since c.in-Ok.ensures.can c.in-Ok.ensures.moves c.in-Ok.ensures.up
 
 pub returns-then-is_down_stop-clause-deported : goal.returns-then-is_down_stop-clause-deported
 returns-then-is_down_stop-clause-deported g c = λ n note up.
-    called_cut (Unit {0}) n note c.args.group c.in-Err.group up c.in-Err.ensures.since c.crash_group.result c.crash_group.ensures.stopped c.crash_group.ensures.away c.in-Err.stop (sym c.is_down_stop.ensures ∙ c.if-is_down_stop.true)
-    (c.in-Err.ensures.leaves n note up.at)
+    let is_rack = (g.met.R.Rack g.world.𝓛 g.world.𝓜 g.world.𝓡 ((λ s x. x), (λ x. x), (λ x. x), λ x. x)).rack in
+    let racks = shade_rack g.R.Shelf.meaning is_rack in
+    deport_cut n note c.args.laid up racks c.in-Err.laid c.in-Err.ensures.since c.in-Err.stop c.in-Err.ensures.refusals c.in-Err.ensures.moves c.crash.result c.crash.ensures.stopped c.crash.ensures.away
+    (sym c.is_down_stop.ensures ∙ c.if-is_down_stop.true) (c.in-Err.ensures.leaves n note up.at)
 
 pub returns-then-is_down_stop-clause-since : goal.returns-then-is_down_stop-clause-since
 returns-then-is_down_stop-clause-since g c =
-    since_stop (g.R.Shelf.meaning c.args.group.shelf) (g.R.Shelf.meaning c.in-Err.group.shelf) (g.R.Shelf.meaning c.crash_group.result) (Crashed (g.R.Shelf.meaning c.in-Err.group.shelf).size 0xffff_ffff_ffff_ffff) c.in-Err.ensures.since
-    (deport_down (g.R.Shelf.meaning c.args.group.shelf) (g.R.Shelf.meaning c.in-Err.group.shelf) c.in-Err.stop (sym c.is_down_stop.ensures ∙ c.if-is_down_stop.true) c.in-Err.ensures.refusals) c.crash_group.ensures.stopped c.crash_group.ensures.disks
+    since_stop (shade_meaning g.R.Shelf.meaning c.args.laid.shelf) (shade_meaning g.R.Shelf.meaning c.in-Err.laid.shelf) (shade_meaning g.R.Shelf.meaning c.crash.result.rack) (Crashed (shade_meaning g.R.Shelf.meaning c.in-Err.laid.shelf).size 0xffff_ffff_ffff_ffff) c.in-Err.ensures.since
+    (deport_down (shade_meaning g.R.Shelf.meaning c.args.laid.shelf) (shade_meaning g.R.Shelf.meaning c.in-Err.laid.shelf) c.in-Err.stop (sym c.is_down_stop.ensures ∙ c.if-is_down_stop.true) c.in-Err.ensures.refusals) c.crash.ensures.stopped c.crash.ensures.disks
 
 pub returns-else-is_down_stop-clause-deported : goal.returns-else-is_down_stop-clause-deported
 returns-else-is_down_stop-clause-deported g c = λ n note up.
-    called_up (Unit {0}) n note c.args.group c.in-Err.group up c.in-Err.ensures.since c.in-Err.stop (sym c.is_down_stop.ensures ∙ c.if-is_down_stop.false) (c.in-Err.ensures.leaves n note up.at)
-    (deport_rose (g.R.Shelf.meaning c.args.group.shelf) (g.R.Shelf.meaning c.in-Err.group.shelf) c.in-Err.stop c.in-Err.ensures.refusals)
+    let is_rack = (g.met.R.Rack g.world.𝓛 g.world.𝓜 g.world.𝓡 ((λ s x. x), (λ x. x), (λ x. x), λ x. x)).rack in
+    let racks = shade_rack g.R.Shelf.meaning is_rack in
+    deport_up n note c.args.laid up racks c.in-Err.laid c.in-Err.ensures.since c.in-Err.stop c.in-Err.ensures.refusals c.in-Err.ensures.moves (sym c.is_down_stop.ensures ∙ c.if-is_down_stop.false) (c.in-Err.ensures.leaves n note up.at)
+
+pub returns-in-Ok-clause-since : goal.returns-in-Ok-clause-since
+returns-in-Ok-clause-since g c = subst (λ s. CalledSince (shade_meaning g.R.Shelf.meaning c.args.laid.shelf) (shade_meaning g.R.Shelf.meaning s)) (sym c.of.ensures.rack) c.in-Ok.ensures.since

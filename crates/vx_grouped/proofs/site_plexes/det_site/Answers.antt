@@ -1,37 +1,37 @@
 -- A plex of a site's group that is detached.
-use Rattle.std.proofs.Common.{◌∙◌, ◌-◌, ◌&&◌, length, subst, sym}
-use Rattle.std.specs.Prelude.{◌≡◌, Err, nat_le, nat_lt, not}
-use Rattle.vx_config.specs.Checks.{plexes_of}
-use Rattle.vx_config.specs.Table.{greatest}
+use Rattle.std.proofs.Common.{◌∙◌, ℕ, subst, sym}
 use Rattle.vx_disk.specs.Disks.{Crashed}
-use Rattle.vx_group.specs.Dets.{any_below, det_refusal, is_other, margin}
-use Rattle.vx_volume.specs.Plexes.{active}
+use Rattle.vx_group.specs.Dets.{det_refusal}
+use Rattle.vx_untold.specs.Shades.{shade_meaning, shade_rack}
 use Rattle.vx_watched.proofs.SinceLemmas.{since_stop}
 use Rattle.vx_grouped.specs.Watches.{PlexDets}
-use Rattle.vx_grouped.proofs.CalledLemmas.{called_cut, called_done, called_up, down_by_stop, rose_by}
-use Rattle.vx_grouped.proofs.KeepLemmas.{det_not_device, det_not_down}
+use Rattle.vx_grouped.proofs.CalledLemmas.{down_by_stop}
+use Rattle.vx_grouped.proofs.SitePlexLemmas.{det_never_off, det_site_cut, det_site_done, det_site_up}
 use Rattle.vx_grouped.proofs.site_plexes.det_site.Goals as goal
 
 pub returns-then-is_down_stop-clause-called : goal.returns-then-is_down_stop-clause-called
 returns-then-is_down_stop-clause-called g c = λ n note up.
-    let works = (subst (λ r. PlexDets c.args.vol c.args.plex c.args.group.core (g.R.Shelf.meaning c.args.group.shelf) c.det_watched-group.result.0.core (g.R.Shelf.meaning c.det_watched-group.result.0.shelf) r) c.in-Err.is c.det_watched-group.ensures.works) in
-    called_cut (Unit {0}) n note c.args.group c.det_watched-group.result.0 up c.det_watched-group.ensures.since c.crash_group.result c.crash_group.ensures.stopped c.crash_group.ensures.away c.in-Err.stop (sym c.is_down_stop.ensures ∙ c.if-is_down_stop.true) (works.leaves n note up.at)
+    let is_rack = (g.met.R.Rack g.world.𝓛 g.world.𝓜 g.world.𝓡 ((λ s x. x), (λ x. x), (λ x. x), λ x. x)).rack in
+    let racks = shade_rack g.R.Shelf.meaning is_rack in
+    det_site_cut n note c.args.vol c.args.plex c.args.laid c.det_watched-laid.result.0 up c.det_watched-laid.ensures.since racks c.crash.result c.crash.ensures.stopped c.crash.ensures.away c.in-Err.stop (sym c.is_down_stop.ensures ∙ c.if-is_down_stop.true)
+    (subst (λ r. PlexDets c.args.vol c.args.plex c.args.laid.core (shade_meaning g.R.Shelf.meaning c.args.laid.shelf) c.det_watched-laid.result.0.core (shade_meaning g.R.Shelf.meaning c.det_watched-laid.result.0.shelf) r) c.in-Err.is c.det_watched-laid.ensures.works)
 
 pub returns-then-is_down_stop-clause-since : goal.returns-then-is_down_stop-clause-since
 returns-then-is_down_stop-clause-since g c =
-    since_stop (g.R.Shelf.meaning c.args.group.shelf) (g.R.Shelf.meaning c.det_watched-group.result.0.shelf) (g.R.Shelf.meaning c.crash_group.result) (Crashed (g.R.Shelf.meaning c.det_watched-group.result.0.shelf).size 0xffff_ffff_ffff_ffff) c.det_watched-group.ensures.since
-    (down_by_stop (Unit {0}) (g.R.Shelf.meaning c.args.group.shelf) (g.R.Shelf.meaning c.det_watched-group.result.0.shelf) (det_refusal c.args.group.core.inner.config c.args.vol c.args.plex) c.in-Err.stop c.det_watched-group.result.1 c.in-Err.is (sym c.is_down_stop.ensures ∙ c.if-is_down_stop.true) c.det_watched-group.ensures.works.cause c.det_watched-group.ensures.works.refused
-    (det_not_down (nat_le (length c.args.group.core.inner.config.volumes) c.args.vol) (nat_le (plexes_of c.args.group.core.inner.config c.args.vol) c.args.plex) (active c.args.group.core.inner.config c.args.vol c.args.plex && not (any_below (is_other c.args.group.core.inner.config c.args.vol c.args.plex) (plexes_of c.args.group.core.inner.config c.args.vol))) (nat_lt (greatest - margin) c.args.group.core.inner.config.serial) c.args.vol c.args.plex greatest))
-    c.crash_group.ensures.stopped c.crash_group.ensures.disks
+    since_stop (shade_meaning g.R.Shelf.meaning c.args.laid.shelf) (shade_meaning g.R.Shelf.meaning c.det_watched-laid.result.0.shelf) (shade_meaning g.R.Shelf.meaning c.crash.result.rack) (Crashed (shade_meaning g.R.Shelf.meaning c.det_watched-laid.result.0.shelf).size 0xffff_ffff_ffff_ffff) c.det_watched-laid.ensures.since
+    (down_by_stop (Unit {0}) (shade_meaning g.R.Shelf.meaning c.args.laid.shelf) (shade_meaning g.R.Shelf.meaning c.det_watched-laid.result.0.shelf) (det_refusal c.args.laid.core.inner.config c.args.vol c.args.plex) c.in-Err.stop c.det_watched-laid.result.1 c.in-Err.is (sym c.is_down_stop.ensures ∙ c.if-is_down_stop.true) c.det_watched-laid.ensures.works.cause c.det_watched-laid.ensures.works.refused (det_never_off c.args.laid.core.inner.config c.args.vol c.args.plex))
+    c.crash.ensures.stopped c.crash.ensures.disks
 
 pub returns-in-Ok-clause-called : goal.returns-in-Ok-clause-called
 returns-in-Ok-clause-called g c = λ n note up.
-    let works = (subst (λ r. PlexDets c.args.vol c.args.plex c.args.group.core (g.R.Shelf.meaning c.args.group.shelf) c.det_watched-group.result.0.core (g.R.Shelf.meaning c.det_watched-group.result.0.shelf) r) c.in-Ok.is c.det_watched-group.ensures.works) in
-    called_done (Unit {0}) n note c.args.group c.det_watched-group.result.0 up c.det_watched-group.ensures.since tt works.trust (works.leaves n note up.at)
+    let is_rack = (g.met.R.Rack g.world.𝓛 g.world.𝓜 g.world.𝓡 ((λ s x. x), (λ x. x), (λ x. x), λ x. x)).rack in
+    let racks = shade_rack g.R.Shelf.meaning is_rack in
+    det_site_done n note c.args.vol c.args.plex c.args.laid c.det_watched-laid.result.0 up c.det_watched-laid.ensures.since racks
+    (subst (λ r. PlexDets c.args.vol c.args.plex c.args.laid.core (shade_meaning g.R.Shelf.meaning c.args.laid.shelf) c.det_watched-laid.result.0.core (shade_meaning g.R.Shelf.meaning c.det_watched-laid.result.0.shelf) r) c.in-Ok.is c.det_watched-laid.ensures.works)
 
 pub returns-else-is_down_stop-clause-called : goal.returns-else-is_down_stop-clause-called
 returns-else-is_down_stop-clause-called g c = λ n note up.
-    let works = (subst (λ r. PlexDets c.args.vol c.args.plex c.args.group.core (g.R.Shelf.meaning c.args.group.shelf) c.det_watched-group.result.0.core (g.R.Shelf.meaning c.det_watched-group.result.0.shelf) r) c.in-Err.is c.det_watched-group.ensures.works) in
-    called_up (Unit {0}) n note c.args.group c.det_watched-group.result.0 up c.det_watched-group.ensures.since c.in-Err.stop (sym c.is_down_stop.ensures ∙ c.if-is_down_stop.false) (works.leaves n note up.at)
-    (λ disk is. rose_by (Unit {0}) (g.R.Shelf.meaning c.args.group.shelf) (g.R.Shelf.meaning c.det_watched-group.result.0.shelf) (det_refusal c.args.group.core.inner.config c.args.vol c.args.plex) disk c.det_watched-group.result.1 (subst (λ x. c.det_watched-group.result.1 ≡ Err x) is c.in-Err.is) c.det_watched-group.ensures.works.cause c.det_watched-group.ensures.works.refused
-    (det_not_device (nat_le (length c.args.group.core.inner.config.volumes) c.args.vol) (nat_le (plexes_of c.args.group.core.inner.config c.args.vol) c.args.plex) (active c.args.group.core.inner.config c.args.vol c.args.plex && not (any_below (is_other c.args.group.core.inner.config c.args.vol c.args.plex) (plexes_of c.args.group.core.inner.config c.args.vol))) (nat_lt (greatest - margin) c.args.group.core.inner.config.serial) c.args.vol c.args.plex greatest disk))
+    let is_rack = (g.met.R.Rack g.world.𝓛 g.world.𝓜 g.world.𝓡 ((λ s x. x), (λ x. x), (λ x. x), λ x. x)).rack in
+    let racks = shade_rack g.R.Shelf.meaning is_rack in
+    det_site_up n note c.args.vol c.args.plex c.args.laid c.det_watched-laid.result.0 up c.det_watched-laid.ensures.since racks c.in-Err.stop (sym c.is_down_stop.ensures ∙ c.if-is_down_stop.false)
+    (subst (λ r. PlexDets c.args.vol c.args.plex c.args.laid.core (shade_meaning g.R.Shelf.meaning c.args.laid.shelf) c.det_watched-laid.result.0.core (shade_meaning g.R.Shelf.meaning c.det_watched-laid.result.0.shelf) r) c.in-Err.is c.det_watched-laid.ensures.works)

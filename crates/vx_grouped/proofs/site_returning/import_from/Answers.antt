@@ -1,5 +1,5 @@
 -- An import over disks with an account.
-use Rattle.std.proofs.Common.{◌∙◌, refl, sym, subst}
+use Rattle.std.proofs.Common.{◌∙◌, IsTrue, refl, sym, subst}
 use Rattle.vx_group.specs.Imports.{ImportStops}
 use Rattle.vx_group.specs.Resumes.{CanImport, CanImportBehind}
 use Rattle.vx_grouped.specs.Away.{AwayLies}
@@ -27,3 +27,7 @@ returns-in-Err-clause-again g c = carried_two (λ s t. CanImportBehind (g.R.Shel
 
 pub import_group-came-requires : goal.import_group-came-requires
 import_group-came-requires g c = record { can = subst (λ s. CanImport (g.R.Shelf.meaning s)) (sym c.over-watched.ensures) c.requires.can }
+
+pub returns-in-Ok-clause-up : goal.returns-in-Ok-clause-up
+returns-in-Ok-clause-up g c =
+    carried_two (λ s t. IsTrue (g.R.Shelf.meaning t).down → ⊥) c.args.rack c.args.rack c.together.result.shelf c.in-Ok.group.shelf.shelf refl (c.together.ensures.shelf ∙ c.into_shelf-rack.ensures.shelf ∙ shelf_of _ _ c.apart-watched.ensures.shelf) c.in-Ok.ensures.imported.0.up

@@ -1,33 +1,66 @@
 -- An import of a site's group that was deported.
 use Rattle.std.proofs.Common.{◌∙◌, sym}
 use Rattle.vx_group.proofs.CallLemmas.{not_down}
-use Rattle.vx_grouped.proofs.SiteReturnLemmas.{imported_down, imported_early, imported_late, imported_up, still_can}
+use Rattle.vx_untold.specs.Shades.{shade_lawful, shade_meaning, shade_rack}
+use Rattle.vx_grouped.proofs.SinceReturns.{return_all, return_at, return_calls, return_none, return_then}
+use Rattle.vx_grouped.proofs.SiteReturnLemmas.{imported_down, imported_early, imported_late, imported_up, is_up, still_can}
 use Rattle.vx_grouped.proofs.site_returning.import_site.Goals as goal
 
+pub returns-then-is_down-clause-since : goal.returns-then-is_down-clause-since
+returns-then-is_down-clause-since g c = return_at (λ s. shade_meaning g.R.Shelf.meaning s) (shade_meaning g.R.Shelf.meaning c.args.rack) c.args.rack c.of.result.rack c.of.ensures.rack (return_none (shade_meaning g.R.Shelf.meaning c.args.rack))
+
 pub returns-in-Ok-clause-imported : goal.returns-in-Ok-clause-imported
-returns-in-Ok-clause-imported g c = λ n note away. imported_up g.R.Shelf n note c.args.rack away c.in-Ok.group c.in-Ok.ensures.since (c.in-Ok.ensures.leaves n note)
+returns-in-Ok-clause-imported g c = λ n note away.
+    let is_rack = (g.met.R.Rack g.world.𝓛 g.world.𝓜 g.world.𝓡 ((λ s x. x), (λ x. x), (λ x. x), λ x. x)).rack in
+    imported_up n note (shade_rack g.R.Shelf.meaning is_rack) (shade_lawful g.R.Shelf.meaning (g.met.R.Shelf g.world.𝓛 g.world.𝓜 g.world.𝓡 ((λ s x. x), (λ x. x), (λ x. x), λ x. x)).lawful) c.args.rack away c.in-Ok.laid c.in-Ok.ensures.since c.spelled.ensures (c.in-Ok.ensures.leaves n note)
+
+pub returns-in-Ok-clause-since : goal.returns-in-Ok-clause-since
+returns-in-Ok-clause-since g c = return_calls (shade_meaning g.R.Shelf.meaning c.args.rack) (shade_meaning g.R.Shelf.meaning c.in-Ok.laid.shelf) c.in-Ok.ensures.since (is_up (shade_meaning g.R.Shelf.meaning c.in-Ok.laid.shelf).down c.in-Ok.ensures.up)
 
 pub returns-then-not-is_down-clause-imported : goal.returns-then-not-is_down-clause-imported
 returns-then-not-is_down-clause-imported g c = λ n note away.
-    imported_early g.R.Shelf n note c.args.rack away c.in-Err.rack c.in-Err.stop (sym c.is_early.ensures ∙ c.if-is_early.true)
-    (not_down c.is_down-then-is_early.result (g.R.Shelf.meaning c.in-Err.rack).down c.is_down-then-is_early.ensures c.if-not-is_down.true) c.in-Err.ensures.since c.requires c.in-Err.ensures.stops
+    let is_rack = (g.met.R.Rack g.world.𝓛 g.world.𝓜 g.world.𝓡 ((λ s x. x), (λ x. x), (λ x. x), λ x. x)).rack in
+    imported_early n note (shade_rack g.R.Shelf.meaning is_rack) (shade_lawful g.R.Shelf.meaning (g.met.R.Shelf g.world.𝓛 g.world.𝓜 g.world.𝓡 ((λ s x. x), (λ x. x), (λ x. x), λ x. x)).lawful) c.args.rack away c.in-Err.rack c.in-Err.stop c.in-Err.ensures.since c.in-Err.ensures.stops c.requires c.of-then-not-is_down.result c.of-then-not-is_down.ensures.rack
+    (sym c.is_early-early.ensures ∙ c.if-early.true) (not_down c.is_down-then-early.result (shade_meaning g.R.Shelf.meaning c.in-Err.rack).down c.is_down-then-early.ensures c.if-not-is_down.true)
+
+pub returns-then-not-is_down-clause-since : goal.returns-then-not-is_down-clause-since
+returns-then-not-is_down-clause-since g c =
+    return_at (λ s. shade_meaning g.R.Shelf.meaning s) (shade_meaning g.R.Shelf.meaning c.args.rack) c.in-Err.rack c.of-then-not-is_down.result.rack c.of-then-not-is_down.ensures.rack
+    (return_calls (shade_meaning g.R.Shelf.meaning c.args.rack) (shade_meaning g.R.Shelf.meaning c.in-Err.rack) c.in-Err.ensures.since
+    (is_up (shade_meaning g.R.Shelf.meaning c.in-Err.rack).down (not_down c.is_down-then-early.result (shade_meaning g.R.Shelf.meaning c.in-Err.rack).down c.is_down-then-early.ensures c.if-not-is_down.true)))
+
+pub of-requires-then-not-is_down-clause-can : goal.of-requires-then-not-is_down-clause-can
+of-requires-then-not-is_down-clause-can g c = λ κs lives agreed.
+    still_can (shade_meaning g.R.Shelf.meaning c.args.rack) (shade_meaning g.R.Shelf.meaning c.in-Err.rack) c.in-Err.stop (sym c.is_early-early.ensures ∙ c.if-early.true) c.requires c.in-Err.ensures.stops
 
 pub returns-then-is_down_stop-clause-imported : goal.returns-then-is_down_stop-clause-imported
 returns-then-is_down_stop-clause-imported g c = λ n note away.
-    imported_down g.R.Shelf n note c.args.rack away c.in-Err.rack c.fall.new.rack c.in-Err.stop c.fall.ensures.stopped (c.fall.ensures.can c.in-Err.ensures.again) c.in-Err.ensures.stops (c.in-Err.ensures.leaves n note)
-    (sym c.is_down_stop.ensures ∙ c.if-is_down_stop.true) c.in-Err.ensures.since
+    let is_rack = (g.met.R.Rack g.world.𝓛 g.world.𝓜 g.world.𝓡 ((λ s x. x), (λ x. x), (λ x. x), λ x. x)).rack in
+    imported_down n note (shade_rack g.R.Shelf.meaning is_rack) (shade_lawful g.R.Shelf.meaning (g.met.R.Shelf g.world.𝓛 g.world.𝓜 g.world.𝓡 ((λ s x. x), (λ x. x), (λ x. x), λ x. x)).lawful) c.args.rack away c.in-Err.rack c.in-Err.stop c.in-Err.ensures.since c.in-Err.ensures.stops c.requires
+    c.fallen-rack.result c.fallen-rack.ensures.fell c.fallen-rack.ensures.counts c.fallen-rack.ensures.since (λ early. c.fallen-rack.ensures.stopped (c.is_early-early.ensures ∙ early)) (λ late. c.fallen-rack.ensures.dark (c.is_early-early.ensures ∙ late))
+    c.of-then-is_down_stop.result c.of-then-is_down_stop.ensures.rack (sym c.is_down_stop.ensures ∙ c.if-is_down_stop.true)
+
+pub returns-then-is_down_stop-clause-since : goal.returns-then-is_down_stop-clause-since
+returns-then-is_down_stop-clause-since g c =
+    let is_rack = (g.met.R.Rack g.world.𝓛 g.world.𝓜 g.world.𝓡 ((λ s x. x), (λ x. x), (λ x. x), λ x. x)).rack in
+    let racks = shade_rack g.R.Shelf.meaning is_rack in
+    return_at (λ s. shade_meaning g.R.Shelf.meaning s) (shade_meaning g.R.Shelf.meaning c.args.rack) c.fallen-rack.result c.of-then-is_down_stop.result.rack c.of-then-is_down_stop.ensures.rack
+    (return_all (shade_meaning g.R.Shelf.meaning c.args.rack) (shade_meaning g.R.Shelf.meaning c.args.rack) (shade_meaning g.R.Shelf.meaning c.in-Err.rack) (shade_meaning g.R.Shelf.meaning c.fallen-rack.result)
+    (return_none (shade_meaning g.R.Shelf.meaning c.args.rack)) c.in-Err.ensures.since c.fallen-rack.ensures.since (racks c.fallen-rack.result) c.fallen-rack.ensures.fell.unarmed)
 
 pub returns-else-is_down_stop-clause-imported : goal.returns-else-is_down_stop-clause-imported
 returns-else-is_down_stop-clause-imported g c = λ n note away.
-    imported_late g.R.Shelf n note c.args.rack away c.in-Err.rack c.fall.new.rack c.in-Err.stop c.fall.ensures.stopped (c.fall.ensures.can c.in-Err.ensures.again) c.in-Err.ensures.stops (c.in-Err.ensures.leaves n note)
-    c.revive.new.rack (sym c.is_down_stop.ensures ∙ c.if-is_down_stop.false) c.revive.ensures.alike c.revive.ensures.up c.revive.ensures.armed (c.revive.ensures.can (c.fall.ensures.can c.in-Err.ensures.again))
+    let is_rack = (g.met.R.Rack g.world.𝓛 g.world.𝓜 g.world.𝓡 ((λ s x. x), (λ x. x), (λ x. x), λ x. x)).rack in
+    imported_late n note (shade_rack g.R.Shelf.meaning is_rack) (shade_lawful g.R.Shelf.meaning (g.met.R.Shelf g.world.𝓛 g.world.𝓜 g.world.𝓡 ((λ s x. x), (λ x. x), (λ x. x), λ x. x)).lawful) c.args.rack away c.in-Err.rack c.in-Err.stop c.in-Err.ensures.since c.in-Err.ensures.stops c.requires
+    c.fallen-rack.result c.fallen-rack.ensures.fell c.fallen-rack.ensures.counts c.fallen-rack.ensures.since (λ early. c.fallen-rack.ensures.stopped (c.is_early-early.ensures ∙ early)) (λ late. c.fallen-rack.ensures.dark (c.is_early-early.ensures ∙ late))
+    c.of-in-Err.result c.risen.result c.of-in-Err.ensures.rack (sym c.is_down_stop.ensures ∙ c.if-is_down_stop.false) c.risen.ensures.alike c.risen.ensures.up c.risen.ensures.armed
 
-pub returns-then-not-is_down-clause-again : goal.returns-then-not-is_down-clause-again
-returns-then-not-is_down-clause-again g c =
-    still_can (g.R.Shelf.meaning c.args.rack) (g.R.Shelf.meaning c.in-Err.rack) c.in-Err.stop (sym c.is_early.ensures ∙ c.if-is_early.true) c.requires c.in-Err.ensures.stops
-
-pub returns-then-is_down_stop-clause-again : goal.returns-then-is_down_stop-clause-again
-returns-then-is_down_stop-clause-again g c = c.fall.ensures.can c.in-Err.ensures.again
-
-pub returns-else-is_down_stop-clause-again : goal.returns-else-is_down_stop-clause-again
-returns-else-is_down_stop-clause-again g c = c.revive.ensures.can (c.fall.ensures.can c.in-Err.ensures.again)
+pub returns-else-is_down_stop-clause-since : goal.returns-else-is_down_stop-clause-since
+returns-else-is_down_stop-clause-since g c =
+    let is_rack = (g.met.R.Rack g.world.𝓛 g.world.𝓜 g.world.𝓡 ((λ s x. x), (λ x. x), (λ x. x), λ x. x)).rack in
+    let racks = shade_rack g.R.Shelf.meaning is_rack in
+    return_at (λ s. shade_meaning g.R.Shelf.meaning s) (shade_meaning g.R.Shelf.meaning c.args.rack) c.risen.result c.of-in-Err.result.rack c.of-in-Err.ensures.rack
+    (return_then (shade_meaning g.R.Shelf.meaning c.args.rack) (shade_meaning g.R.Shelf.meaning c.fallen-rack.result) (shade_meaning g.R.Shelf.meaning c.risen.result)
+    (return_all (shade_meaning g.R.Shelf.meaning c.args.rack) (shade_meaning g.R.Shelf.meaning c.args.rack) (shade_meaning g.R.Shelf.meaning c.in-Err.rack) (shade_meaning g.R.Shelf.meaning c.fallen-rack.result)
+    (return_none (shade_meaning g.R.Shelf.meaning c.args.rack)) c.in-Err.ensures.since c.fallen-rack.ensures.since (racks c.fallen-rack.result) c.fallen-rack.ensures.fell.unarmed)
+    c.risen.ensures.since)

@@ -1,14 +1,37 @@
 -- A recovery of a site's group.
-use Rattle.vx_grouped.proofs.SiteReturnLemmas.{recovered_not, recovered_up}
+use Rattle.std.proofs.Common.{sym, ◌∙◌}
+use Rattle.vx_untold.specs.Shades.{shade_lawful, shade_meaning, shade_rack}
+use Rattle.vx_grouped.proofs.SinceReturns.{return_all, return_at, return_calls, return_none, return_then}
+use Rattle.vx_grouped.proofs.SiteReturnLemmas.{is_up, recovered_not, recovered_up}
 use Rattle.vx_grouped.proofs.site_returning.recover_site.Goals as goal
 
 pub returns-in-Ok-clause-recovered : goal.returns-in-Ok-clause-recovered
 returns-in-Ok-clause-recovered g c = λ n note down.
-    recovered_up g.R.Shelf n note c.args.rack c.revive.new.rack down c.revive.ensures.alike c.revive.ensures.armed c.in-Ok.group c.in-Ok.ensures.since (c.in-Ok.ensures.leaves n note)
+    let is_rack = (g.met.R.Rack g.world.𝓛 g.world.𝓜 g.world.𝓡 ((λ s x. x), (λ x. x), (λ x. x), λ x. x)).rack in
+    let racks = shade_rack g.R.Shelf.meaning is_rack in
+    let laws = shade_lawful g.R.Shelf.meaning (g.met.R.Shelf g.world.𝓛 g.world.𝓜 g.world.𝓡 ((λ s x. x), (λ x. x), (λ x. x), λ x. x)).lawful in
+    recovered_up n note racks laws c.args.rack c.risen.result down c.risen.ensures.alike c.risen.ensures.up c.risen.ensures.armed c.in-Ok.laid c.in-Ok.ensures.since c.spelled.ensures (c.in-Ok.ensures.leaves n note)
 
 pub returns-in-Err-clause-recovered : goal.returns-in-Err-clause-recovered
 returns-in-Err-clause-recovered g c = λ n note down.
-    recovered_not g.R.Shelf n note c.args.rack c.revive.new.rack down c.revive.ensures.alike c.in-Err.rack c.fall.new.rack c.in-Err.stop c.fall.ensures.stopped (c.fall.ensures.can c.in-Err.ensures.again) c.in-Err.ensures.stops (c.in-Err.ensures.leaves n note)
+    let is_rack = (g.met.R.Rack g.world.𝓛 g.world.𝓜 g.world.𝓡 ((λ s x. x), (λ x. x), (λ x. x), λ x. x)).rack in
+    let racks = shade_rack g.R.Shelf.meaning is_rack in
+    let laws = shade_lawful g.R.Shelf.meaning (g.met.R.Shelf g.world.𝓛 g.world.𝓜 g.world.𝓡 ((λ s x. x), (λ x. x), (λ x. x), λ x. x)).lawful in
+    recovered_not n note racks laws c.args.rack c.risen.result down c.risen.ensures.alike c.risen.ensures.up c.risen.ensures.armed c.in-Err.rack c.of-in-Err.result c.fallen.result c.of-in-Err.ensures.rack c.in-Err.stop c.in-Err.ensures.since c.in-Err.ensures.stops
+    (c.risen.ensures.can c.requires) c.fallen.ensures.fell c.fallen.ensures.counts c.fallen.ensures.since (λ early. c.fallen.ensures.stopped (c.is_early-early.ensures ∙ early)) (λ late. c.fallen.ensures.dark (c.is_early-early.ensures ∙ late))
 
-pub returns-in-Err-clause-again : goal.returns-in-Err-clause-again
-returns-in-Err-clause-again g c = c.fall.ensures.can c.in-Err.ensures.again
+pub returns-in-Err-clause-since : goal.returns-in-Err-clause-since
+returns-in-Err-clause-since g c =
+    let is_rack = (g.met.R.Rack g.world.𝓛 g.world.𝓜 g.world.𝓡 ((λ s x. x), (λ x. x), (λ x. x), λ x. x)).rack in
+    let racks = shade_rack g.R.Shelf.meaning is_rack in
+    return_at (λ s. shade_meaning g.R.Shelf.meaning s) (shade_meaning g.R.Shelf.meaning c.args.rack) c.fallen.result c.of-in-Err.result.rack c.of-in-Err.ensures.rack
+    (return_all (shade_meaning g.R.Shelf.meaning c.args.rack) (shade_meaning g.R.Shelf.meaning c.risen.result) (shade_meaning g.R.Shelf.meaning c.in-Err.rack) (shade_meaning g.R.Shelf.meaning c.fallen.result)
+    c.risen.ensures.since c.in-Err.ensures.since c.fallen.ensures.since (racks c.fallen.result) c.fallen.ensures.fell.unarmed)
+
+pub returns-in-Ok-clause-since : goal.returns-in-Ok-clause-since
+returns-in-Ok-clause-since g c =
+    return_then (shade_meaning g.R.Shelf.meaning c.args.rack) (shade_meaning g.R.Shelf.meaning c.risen.result) (shade_meaning g.R.Shelf.meaning c.in-Ok.laid.shelf) c.risen.ensures.since
+    (return_calls (shade_meaning g.R.Shelf.meaning c.risen.result) (shade_meaning g.R.Shelf.meaning c.in-Ok.laid.shelf) c.in-Ok.ensures.since (is_up (shade_meaning g.R.Shelf.meaning c.in-Ok.laid.shelf).down c.in-Ok.ensures.up))
+
+pub returns-then-not-is_down-clause-since : goal.returns-then-not-is_down-clause-since
+returns-then-not-is_down-clause-since g c = return_at (λ s. shade_meaning g.R.Shelf.meaning s) (shade_meaning g.R.Shelf.meaning c.args.rack) c.args.rack c.of.result.rack c.of.ensures.rack (return_none (shade_meaning g.R.Shelf.meaning c.args.rack))

@@ -8,8 +8,8 @@ returns-in-Up-clause-stands g c =
 
 pub returns-in-Deported-clause-stands : goal.returns-in-Deported-clause-stands
 returns-in-Deported-clause-stands g c =
-    away_stays c.args.self.now c.args.disk c.args.on c.in-Deported.rack c.fail-in-Deported.new.self c.fail-in-Deported.ensures.alike c.fail-in-Deported.ensures.down c.fail-in-Deported.ensures.armed c.fail-in-Deported.ensures.disks c.in-Deported.is
+    away_stays c.args.self.now c.args.disk c.args.on c.in-Deported.idle c.fail-in-Deported.new.self c.fail-in-Deported.ensures.alike c.fail-in-Deported.ensures.down c.fail-in-Deported.ensures.armed c.fail-in-Deported.ensures.disks c.in-Deported.is
 
 pub returns-in-Down-clause-stands : goal.returns-in-Down-clause-stands
 returns-in-Down-clause-stands g c =
-    down_stays c.args.self.now c.args.disk c.args.on c.in-Down.rack c.fail-in-Down.new.self c.fail-in-Down.ensures.alike c.fail-in-Down.ensures.down c.fail-in-Down.ensures.armed c.fail-in-Down.ensures.disks c.in-Down.is
+    down_stays c.args.self.now c.args.disk c.args.on c.in-Down.idle c.fail-in-Down.new.self c.fail-in-Down.ensures.alike c.fail-in-Down.ensures.down c.fail-in-Down.ensures.armed c.fail-in-Down.ensures.disks c.in-Down.is
