@@ -8,11 +8,16 @@ pub mod CrashGroup
 pub mod ExactWrite
 pub mod FailGroup
 pub mod FuseGroup
+pub mod GroupBegun
 pub mod GroupCalling
+pub mod GroupCut
+pub mod GroupFinding
+pub mod GroupRising
 pub mod GroupStands
 pub mod HeadCalls
 pub mod KeepGroup
 pub mod KeepsFailing
+pub mod LabelLemmas
 pub mod LastWrites
 pub mod Laying
 pub mod LeavesNumbers

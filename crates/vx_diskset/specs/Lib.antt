@@ -5,6 +5,7 @@ pub mod DiskSets
 pub mod Fetching
 pub mod Fuses
 pub mod GroupCalls
+pub mod GroupFinds
 pub mod GroupSets
 pub mod Holds
 pub mod Keeps
@@ -16,6 +17,7 @@ pub mod Received
 pub mod Recovers
 pub mod Rooms
 pub mod Stands
+pub mod Unlabels
 pub mod Withdrawn
 pub mod Zeroing
 pub mod Zeros

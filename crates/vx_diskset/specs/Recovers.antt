@@ -1,11 +1,12 @@
 -- How the group of a site that crashed comes up again, and what it says of the write that the fuse cut.
-use Rattle.std.specs.Prelude.{◌≡◌, ◌⊎◌, ℕ, List, length, Option, Some, None, Result, Ok, Err}
+use Rattle.std.specs.Prelude.{◌≡◌, ◌⊎◌, ℕ, ◌≤◌, IsTrue, IsFalse, List, length, Option, Some, None, Result, Ok, Err}
 use Rattle.vx_model.specs.Content.{Write}
 use Rattle.vx_model.specs.declared.errors.Stop.{Stop}
 use Rattle.vx_model.specs.declared.errors.Stop.TheVariants.{No as Refused}
 use Rattle.vx_model.specs.declared.no.No.{No}
 use Rattle.vx_model.specs.declared.no.No.TheVariants.{Device}
 use Rattle.vx_disk.specs.Counts.{Rose}
+use Rattle.vx_disk.specs.Disks.{Disks}
 use Rattle.vx_disk.specs.Shelf.{Meaning}
 use Rattle.vx_disk.specs.declared.shelf.Shelf.{Ghosts}
 use Rattle.vx_history.specs.Groups.{GroupNode}
@@ -13,6 +14,8 @@ use Rattle.vx_history.specs.Steps.{crashed}
 use Rattle.vx_history.specs.World.{Node}
 use Rattle.vx_grouped.specs.GroupSites.{DownNoted, FitsPlain, UpNoted, site_disks, with_note}
 use Rattle.vx_grouped.specs.Keepings.{KeepsPlain}
+use Rattle.vx_grouped.specs.SiteReturns.{FailsFused}
+use Rattle.vx_watched.specs.Since.{is_rack}
 use Rattle.vx_grouped.specs.SiteEnds.{burned_site}
 use Rattle.vx_grouped.specs.SiteReturns.{SiteRecovers}
 use Rattle.vx_grouped.specs.declared.group_site.GroupSite.{GroupSite}
@@ -37,6 +40,15 @@ KeptIs note m (Some x) (Some k) = (k.write ≡ x) × KeepsPlain note m x.volume 
 abbrev pub CutFits : GroupNode → Option CutWrite → Type 0
 CutFits note None = Unit {0}
 CutFits note (Some x) = FitsPlain note x.volume x.block (length x.bytes)
+
+-- Disks behind an import, and what was read and crashed of them then: the same are made to fail, and contents are told no more than before. While they are
+-- up, a fuse that is set was set before, and has no more calls left.
+pub record RisesSince (old new : Meaning) : Type 0 where
+  pub tells : IsTrue new.tells → IsTrue old.tells
+  pub counts : (d : ℕ) → old.disk_faults d ≤ new.disk_faults d
+  pub rack : is_rack new.disks ≡ is_rack old.disks
+  pub failing : (o n : Disks) → old.disks ≡ Some o → new.disks ≡ Some n → (u : ℕ) → n.failing u ≡ o.failing u
+  pub passes : (o n : Disks) → old.disks ≡ Some o → new.disks ≡ Some n → IsFalse new.down → FailsFused o n
 
 module _ {R : Type 0} {g : Ghosts R} where
   -- what was read of the write that was cut, at a group that is up

@@ -2,6 +2,7 @@
 #![tactic(auto)]
 
 mod disk_set;
+mod group_finds;
 mod group_set;
 mod group_starts;
 mod grouping;
