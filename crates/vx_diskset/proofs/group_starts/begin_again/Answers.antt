@@ -16,8 +16,8 @@ returns-in-Marked-clause-begun g c = λ n stands state can.
 pub returns-in-Marked-clause-since : goal.returns-in-Marked-clause-since
 returns-in-Marked-clause-since g c = subst (λ s. AtSite (λ e. CalledSince (site_disks s) (site_disks e)) c.begin_on.result.0) (sym c.in-Marked.is) c.begin_on.ensures.since
 
-pub returns-in-other-clause-begun : goal.returns-in-other-clause-begun
-returns-in-other-clause-begun g c = λ n stands state can. marked_only n c.args.marked stands state (λ rack is. c.in-other.not-Marked rack is)
+pub returns-in_default-clause-begun : goal.returns-in_default-clause-begun
+returns-in_default-clause-begun g c = λ n stands state can. marked_only n c.args.marked stands state (λ rack is. c.in_default.not-Marked rack is)
 
-pub returns-in-other-clause-since : goal.returns-in-other-clause-since
-returns-in-other-clause-since g c = since_none (site_disks c.args.marked)
+pub returns-in_default-clause-since : goal.returns-in_default-clause-since
+returns-in_default-clause-since g c = since_none (site_disks c.args.marked)
