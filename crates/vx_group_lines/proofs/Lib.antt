@@ -3,3 +3,8 @@ pub mod Fails
 pub mod GroupAt
 pub mod GroupLeads
 pub mod Tests
+pub mod GroupMarks
+pub mod Losing
+pub mod GroupStatus
+pub mod GroupCalls
+pub mod Changing
