@@ -55,6 +55,11 @@ module _ {R : Type 0} {g : Ghosts R} where
     pub cut : (n : Node) (note : GroupNode) → CutNoted n note old → CutNoted n note new
     pub stands : (n : Node) → GroupSiteStands n old → GroupSiteStands n new
 
+  -- no count of a disk changed, and contents are told as they were
+  pub record CountsAlike (old new : GroupSite R g) : Type 0 where
+    pub counts : (d : ℕ) → (site_disks new).disk_faults d ≡ (site_disks old).disk_faults d
+    pub tells : (site_disks new).tells ≡ (site_disks old).tells
+
   -- the disks crashed with this pick, or nothing was done to them
   abbrev pub MayCrashSite : ℕ → GroupSite R g → GroupSite R g → Type 0
   MayCrashSite pick (Up group) new = Stopped (shade_meaning g.meaning group.shelf) (site_disks new) × OnDisks (shade_meaning g.meaning group.shelf).disks (site_disks new).disks (Crashed (shade_meaning g.meaning group.shelf).size pick)
