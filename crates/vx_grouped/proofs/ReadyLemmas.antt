@@ -62,19 +62,19 @@ module _ {R : Type 0} {g : Ghosts R} (e : GroupSite R g) (idle : Idle R g) (rack
   recovered_ready is each n note it =
       let down = subst (λ (x : GroupSite R g). DownNoted n note x) is it in
       subst (λ (x : GroupSite R g). SiteRecovers n note x new answer) (sym is) (subst (λ (s : Shade R). RecoversFrom n note (shade_meaning g.meaning s) new answer) ready
-        (each n note (subst (λ (s : Shade R). GroupDown n note (shade_meaning g.meaning s)) (sym ready) (ready_down g.meaning n note idle.agreed idle.rack down))))
+      (each n note (subst (λ (s : Shade R). GroupDown n note (shade_meaning g.meaning s)) (sym ready) (ready_down g.meaning n note idle.agreed idle.rack down))))
 
   pub imported_ready : e ≡ Deported idle → ((n : Node) (note : GroupNode) → GroupAway n note (shade_meaning g.meaning rack) → ImportsFrom n note (shade_meaning g.meaning rack) new answer) → (n : Node) (note : GroupNode) → AwayNoted n note e
       → SiteImports n note e new answer
   imported_ready is each n note it =
       let away = subst (λ (x : GroupSite R g). AwayNoted n note x) is it in
       subst (λ (x : GroupSite R g). SiteImports n note x new answer) (sym is) (subst (λ (s : Shade R). ImportsFrom n note (shade_meaning g.meaning s) new answer) ready
-        (each n note (subst (λ (s : Shade R). GroupAway n note (shade_meaning g.meaning s)) (sym ready) (ready_away g.meaning n note idle.agreed idle.rack away))))
+      (each n note (subst (λ (s : Shade R). GroupAway n note (shade_meaning g.meaning s)) (sym ready) (ready_away g.meaning n note idle.agreed idle.rack away))))
 
   pub since_ready : site_disks e ≡ shade_meaning g.meaning idle.rack → ReturnSince (shade_meaning g.meaning rack) (site_disks new) → ReturnSince (site_disks e) (site_disks new)
   since_ready is since =
       subst (λ (m : Meaning). ReturnSince m (site_disks new)) (sym is) (return_then (shade_meaning g.meaning idle.rack) (shade_meaning g.meaning rack) (site_disks new)
-        (return_at (λ s. shade_meaning g.meaning s) (shade_meaning g.meaning idle.rack) (ready_of idle.agreed idle.rack) rack ready (return_ready g.meaning idle.agreed idle.rack)) since)
+      (return_at (λ s. shade_meaning g.meaning s) (shade_meaning g.meaning idle.rack) (ready_of idle.agreed idle.rack) rack ready (return_ready g.meaning idle.agreed idle.rack)) since)
 
 -- the disks as an import sees them are as many, as large, and have the same counts
 pub record ImportedSame (old new : Meaning) : Type 0 where

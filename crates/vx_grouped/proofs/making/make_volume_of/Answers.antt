@@ -1,5 +1,5 @@
 -- A volume that is made: what it leaves, and refusals of disks that are down behind it.
-use Rattle.std.proofs.Common.{ap, length, refl, sym, ◌-◌, ◌∙◌, ◌≡◌}
+use Rattle.std.proofs.Common.{ℕ, ap, length, refl, sym, ◌-◌, ◌∙◌, ◌≡◌}
 use Rattle.std.specs.Prelude.{nat_le, nat_lt, not}
 use Rattle.std.specs.List.{list_any}
 use Rattle.vx_config.specs.Table.{greatest}

@@ -2,7 +2,7 @@
 use Rattle.std.proofs.Common.{◌≡◌}
 use Rattle.vx_untold.specs.Shades.{shade_meaning}
 use Rattle.vx_watched.specs.Since.{CalledSince}
-use Rattle.vx_grouped.specs.Added.{IsStill}
+use Rattle.vx_grouped.specs.Added.{IsUnmoved}
 use Rattle.vx_grouped.specs.SiteAdds.{MakesVolume}
 use Rattle.vx_grouped.proofs.CarryLemmas.{carried, carried_two}
 use Rattle.vx_grouped.proofs.site_making.make_watched.Goals as goal
@@ -19,6 +19,6 @@ returns-clause-since g c =
 
 pub returns-clause-still : goal.returns-clause-still
 returns-clause-still g c =
-    carried (λ x s y t. IsStill c.make_from-group.result.1 ((y ≡ x) × (t ≡ s)))
+    carried (λ x s y t. IsUnmoved c.make_from-group.result.1 ((y ≡ x) × (t ≡ s)))
     c.args.laid.core c.together.result.core c.of.result.core c.make_from-group.result.0.core c.args.laid.shelf c.together.result.shelf c.of.result.shelf c.make_from-group.result.0.shelf
     c.together.ensures.core c.together.ensures.shelf c.of.ensures.core c.of.ensures.shelf c.make_from-group.ensures.still
