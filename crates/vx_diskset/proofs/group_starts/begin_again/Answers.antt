@@ -9,9 +9,11 @@ use Rattle.vx_diskset.proofs.GroupBegun.{marked_only}
 use Rattle.vx_diskset.proofs.group_starts.begin_again.Goals as goal
 
 pub returns-in-Marked-clause-begun : goal.returns-in-Marked-clause-begun
-returns-in-Marked-clause-begun g c = λ n stands state can.
-    (subst (λ s. AtSite (λ e. BeginsGroup c.args.site n (site_disks s) e c.begin_on.result.1) c.begin_on.result.0) (sym c.in-Marked.is)
-    (c.begin_on.ensures.begun n (subst (λ s. CanBegin n (site_disks s)) c.in-Marked.is can)), c.begin_on.ensures.cut)
+returns-in-Marked-clause-begun g c = λ n stands state can. (
+  subst (λ s. AtSite (λ e. BeginsGroup c.args.site n (site_disks s) e c.begin_on.result.1) c.begin_on.result.0) (sym c.in-Marked.is)
+      (c.begin_on.ensures.begun n (subst (λ s. CanBegin n (site_disks s)) c.in-Marked.is can)),
+  c.begin_on.ensures.cut,
+)
 
 pub returns-in-Marked-clause-since : goal.returns-in-Marked-clause-since
 returns-in-Marked-clause-since g c = subst (λ s. AtSite (λ e. CalledSince (site_disks s) (site_disks e)) c.begin_on.result.0) (sym c.in-Marked.is) c.begin_on.ensures.since
