@@ -195,7 +195,7 @@ module _ {R : Type 0} {g : Ghosts R} where
     sized = sized_of (beside_of d s) n call.at.set call.at.stands
 
     -- nothing is cut, and so it is noted
-    note_uncut : n.state ≡ IsUp → note.cut ≡ None
+    pub note_uncut : n.state ≡ IsUp → note.cut ≡ None
     note_uncut up =
         let none : cut_value call.at.set.cut ≡ None = uncut (beside_of d s) n call.at.set call.at.stands (λ down. let e : IsUp ≡ IsDown = sym up ∙ down in absurd (cc)) in
         ap (λ (o : Option GroupNode). noted_of o) (sym (group_noted_at d old name s before call.at)) ∙ sym call.at.stands.cut ∙ none
@@ -204,7 +204,7 @@ module _ {R : Type 0} {g : Ghosts R} where
         noted_of None = None
         noted_of (Some k) = k.cut
 
-    set_uncut : n.state ≡ IsUp → cut_value call.at.set.cut ≡ None
+    pub set_uncut : n.state ≡ IsUp → cut_value call.at.set.cut ≡ None
     set_uncut up = uncut (beside_of d s) n call.at.set call.at.stands (λ down. let e : IsUp ≡ IsDown = sym up ∙ down in absurd (cc))
 
     cut_of : (next : GroupSet R g) → after ≡ OfGroup next → (cut : Option Write) → cut_in after ≡ cut → cut_value next.cut ≡ cut

@@ -8,3 +8,13 @@ pub mod Losing
 pub mod GroupStatus
 pub mod GroupCalls
 pub mod Changing
+pub mod GroupEnding
+pub mod GroupDone
+pub mod GroupPlex
+pub mod GroupAttach
+pub mod GroupShown
+pub mod Choosing
+pub mod Returning
+pub mod Rising
+pub mod GroupNamed
+pub mod GroupDeports
