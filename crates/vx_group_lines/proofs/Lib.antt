@@ -18,3 +18,4 @@ pub mod Returning
 pub mod Rising
 pub mod GroupNamed
 pub mod GroupDeports
+pub mod Resuming
