@@ -19,3 +19,4 @@ pub mod Rising
 pub mod GroupNamed
 pub mod GroupDeports
 pub mod GroupImports
+pub mod Resuming
