@@ -8,10 +8,6 @@ pub mod Losing
 pub mod GroupStatus
 pub mod GroupCalls
 pub mod Changing
-pub mod GroupEnding
-pub mod GroupDone
-pub mod GroupPlex
-pub mod GroupAttach
 pub mod GroupShown
 pub mod Choosing
 pub mod Returning
@@ -20,3 +16,7 @@ pub mod GroupNamed
 pub mod GroupDeports
 pub mod GroupImports
 pub mod Resuming
+pub mod GroupEnding
+pub mod GroupDone
+pub mod GroupPlex
+pub mod GroupAttach
