@@ -112,7 +112,7 @@ module _ {R : Type 0} {g : Ghosts R} where
   zero_by : (site : GroupSite R g) (v p count : ℕ) (o : Option No) → refuses_att site v p ≡ o → ((no : No) → refuses_att site v p ≡ Some no → (let r : Result ℕ Stop = Ok count in r) ≡ Err (StopsBy no))
       → (refuses_att site v p ≡ None → IsTrue (is_plex_on site v p) → (let r : Result ℕ Stop = Ok count in r) ≡ Ok 0) → IsTrue (is_plex_on site v p) → count ≡ 0
   zero_by site v p count None is refused already on = let e = already is on in cc
-  zero_by site v p count (Some no) is refused already on = absurd (let e = refused no is in cc)
+  zero_by site v p count (Some why) is refused already on = absurd (let e = refused why is in cc)
 
   pub att_zero : (before : DiskSet R g) (set : GroupSet R g) {v w p q : ℕ} (count : ℕ) → before ≡ OfGroup set → v ≡ w → p ≡ q → ((no : No) → AtSite (λ o. refuses_att o v p ≡ Some no) before → (let r : Result ℕ Stop = Ok count in r) ≡ Err (StopsBy no))
       → (AtSite (λ o. refuses_att o v p ≡ None) before → AtSite (λ o. IsTrue (is_plex_on o v p)) before → (let r : Result ℕ Stop = Ok count in r) ≡ Ok 0) → IsTrue (is_plex_on set.site w q) → count ≡ 0
