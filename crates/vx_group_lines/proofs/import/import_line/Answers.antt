@@ -1,6 +1,6 @@
 -- Each case of a line that imports a group.
 use Rattle.std.proofs.Common.{◌≡◌, ◌∙◌, ℕ, ap, sym, subst, refl}
-use Rattle.std.specs.Prelude.{Some, None, Ok, Err, is_some, slice_set}
+use Rattle.std.specs.Prelude.{Some, None, Ok, Err, is_some, slice_get, slice_set}
 use Rattle.std.proofs.lemmas.Result.{err_from_is_err_and}
 use Rattle.vx_config.specs.declared.config.Config.{Config}
 use Rattle.vx_script.specs.declared.line.ScriptLine.TheVariants.{GroupImport}
@@ -67,7 +67,7 @@ returns-in-Ok-clause-leads g c = λ d stands over.
     (record { flight = same.flight; assemblies = ap (λ xs. xs.items) c.note_up.ensures.assemblies; feeders = ap (λ xs. xs.items) same.feeders })
     (λ x has. c.note_up.ensures.facts f x up.at.fact (record {
       disk_set = after;
-      there = get-set_same (slice_set sets s c.replace-disk_set.new.dest) s after (slice_get_within (slice_set sets s c.replace-disk_set.new.dest) s c.replace-disk_set.new.dest (get-set_same sets s c.replace-disk_set.new.dest (slice_get_within sets s before there)));
+      there = ap (λ es. slice_get es s) twice ∙ get-set_same sets s after (slice_get_within sets s before there);
       is = has;
     }))
 
