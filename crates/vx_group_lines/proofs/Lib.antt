@@ -8,3 +8,7 @@ pub mod Losing
 pub mod GroupStatus
 pub mod GroupCalls
 pub mod Changing
+pub mod GroupPlain
+pub mod GroupWrite
+pub mod GroupRead
+pub mod GroupInit
