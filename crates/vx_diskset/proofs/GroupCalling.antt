@@ -15,6 +15,7 @@ use Rattle.vx_disk.specs.declared.shelf.Shelf.{Ghosts}
 use Rattle.vx_history.specs.Groups.{GroupNode, note_cut, note_doubt, note_write}
 use Rattle.vx_history.specs.Steps.{crashed}
 use Rattle.vx_history.specs.World.{Node}
+use Rattle.vx_watched.proofs.SinceLemmas.{since_none}
 use Rattle.vx_watched.specs.Since.{CalledSince, fuse_calls, is_rack}
 use Rattle.vx_grouped.specs.Added.{note_added}
 use Rattle.vx_grouped.specs.GroupSites.{AwayNoted, DownNoted, GroupSiteStands, UpNoted, deported_with, site_disks, with_note}
@@ -25,13 +26,13 @@ use Rattle.vx_config.specs.Table.{greatest}
 use Rattle.vx_config.specs.declared.config.Config.{Config}
 use Rattle.vx_untold.specs.Shades.{shade_meaning, shade_rack}
 use Rattle.vx_layout.specs.declared.shape.Shape.{Shape}
-use Rattle.vx_grouped.specs.SiteReturns.{FailsFused, ReturnSince}
+use Rattle.vx_grouped.specs.SiteReturns.{ReturnSince}
 use Rattle.vx_diskset.specs.Recovers.{RisesSince}
 use Rattle.vx_grouped.specs.declared.group_site.GroupSite.{GroupSite}
 use Rattle.vx_grouped.specs.declared.group_site.GroupSite.TheVariants.{Up, Deported, Down, Marked, Gone}
 use Rattle.vx_diskset.specs.Asked.{FuseGoesOn, SameFailing, disks_told}
 use Rattle.vx_diskset.specs.DiskSets.{Later}
-use Rattle.vx_diskset.specs.GroupCalls.{AtSite, OnSites}
+use Rattle.vx_diskset.specs.GroupCalls.{AtSite, CalledOn, OnSites}
 use Rattle.vx_diskset.specs.Stands.{IsToldAt, faults_at}
 use Rattle.vx_diskset.specs.declared.disk_set.DiskSet.{DiskSet}
 use Rattle.vx_diskset.specs.declared.disk_set.DiskSet.TheVariants.{Bare, Spoiled, Up as UpSet, Receives, Down as DownSet, OfGroup, Gone as GoneSet}
@@ -72,28 +73,6 @@ rises_returned m m' since = record {
   failing = λ x y was is. (since.told x y was is).failing;
   passes = λ x y was is up. since.told x y was is;
 }
-
--- behind an import, and what came then
-module _ (m middle m' : Meaning) (one : ReturnSince m middle) (two : RisesSince middle m') where
-  between : (o : Option Disks) → middle.disks ≡ o → is_rack o ≡ is_rack m.disks → (x z : Disks) → m.disks ≡ Some x → (P : Disks → Disks → Type 0) → ((y : Disks) → middle.disks ≡ Some y → P x z) → P x z
-  between None there same x z was P each = absurd (let e : true ≡ false = ap (λ (d : Option Disks). is_rack d) (sym was) ∙ sym same in cc)
-  between (Some y) there same x z was P each = each y there
-
-  pub rises_then : RisesSince m m'
-  rises_then = record {
-    tells = λ told. one.tells (two.tells told);
-    counts = λ d. omega (arith, one.counts d, two.counts d);
-    rack = two.rack ∙ one.rack;
-    failing = λ x z was is u. between middle.disks refl one.rack x z was (λ a c. c.failing u ≡ a.failing u) (λ y there. two.failing y z there is u ∙ (one.told x y was there).failing u);
-    passes = λ x z was is up. between middle.disks refl one.rack x z was FailsFused (λ y there.
-        let first = one.told x y was there in
-        let second = two.passes y z there is up in
-        record {
-          failing = λ u. second.failing u ∙ first.failing u;
-          set = λ on. first.set (second.set on);
-          left = λ on. omega (arith, second.left on, first.left (second.set on));
-        });
-  }
 
 -- and behind a crash
 module _ (m middle m' : Meaning) (pick : ℕ) (since : RisesSince m middle) (fell : Stopped middle m') where
@@ -191,6 +170,16 @@ module _ {R : Type 0} {g : Ghosts R} where
 
   pub group_later : (old : DiskSet R g) (o s : GroupSet R g) → old ≡ OfGroup o → CalledSince (site_disks o.site) (site_disks s.site) → Later old (OfGroup s)
   group_later old o s is since = later_risen old (OfGroup s) (site_disks o.site) (site_disks s.site) (has_group old o is) (has_group (OfGroup s) s refl) (rises_called (site_disks o.site) (site_disks s.site) since)
+
+  -- where nothing was called
+  pub called_rest : (e : DiskSet R g) → CalledOn e e
+  called_rest (Bare rack) = tt
+  called_rest (Spoiled rack) = tt
+  called_rest (UpSet rvg) = tt
+  called_rest (Receives s) = tt
+  called_rest (DownSet rack) = tt
+  called_rest (OfGroup s) = since_none (site_disks s.site)
+  called_rest GoneSet = tt
 
   -- ---- facts of the site of a group hold of its disk set
 

@@ -141,7 +141,7 @@ module _ {R : Type 0} {g : Ghosts R} where
           (ap (λ fs. fs.items) facts ∙ sym (set_same old.facts.items s (fact_of_group n (note_at n)) at.fact)) load)
           (rose_still old new s before (OfGroup set) turned.there turned.later turned.disk_sets)
 
-  none_at : (d : Doubted) (y : Yard R g) (name : List ℕ) (s : ℕ) (e : DiskSet R g) → GroupAt d y name s e → HasNoRvg (d.world.nodes s)
+  pub none_at : (d : Doubted) (y : Yard R g) (name : List ℕ) (s : ℕ) (e : DiskSet R g) → GroupAt d y name s e → HasNoRvg (d.world.nodes s)
   none_at d y name s e at = (set_notes (beside_of d s) (d.world.nodes s) at.set at.stands at.made).1.none
 
   -- ---- a disk that is made to fail

@@ -12,3 +12,15 @@ pub mod GroupPlain
 pub mod GroupWrite
 pub mod GroupRead
 pub mod GroupInit
+pub mod GroupShown
+pub mod Choosing
+pub mod Returning
+pub mod Rising
+pub mod Resuming
+pub mod GroupEnding
+pub mod GroupDone
+pub mod GroupPlex
+pub mod GroupAttach
+pub mod GroupNamed
+pub mod GroupDeports
+pub mod GroupImports

@@ -1,6 +1,7 @@
 -- A group that is begun on the disks of a bare site, by its note.
 use Rattle.std.proofs.Common.{◌≡◌, ◌⊎◌, inl, inr, ℕ, ◌<◌, Bool, true, false, List, [], length, IsTrue, IsFalse, refl, sym, ◌∙◌, ap, subst, arith}
-use Rattle.std.specs.Prelude.{Option, None, Result, Ok, Err, IfErr, not}
+use Rattle.std.specs.Prelude.{Option, None, Result, Ok, Err, IfErr, not, slice_get}
+use Rattle.std.proofs.lemmas.Option.{slice_get_within}
 use Rattle.vx_model.specs.declared.errors.Stop.{Stop}
 use Rattle.vx_model.specs.declared.errors.Stop.TheVariants.{No as Refused, OutOfMemory}
 use Rattle.vx_model.specs.declared.no.No.{No}
@@ -11,7 +12,10 @@ use Rattle.vx_disk.specs.declared.shelf.Shelf.{Ghosts}
 use Rattle.vx_history.specs.Groups.{GroupNode}
 use Rattle.vx_history.specs.World.{Fuse, Node, NoFuse, no_volumes}
 use Rattle.vx_config.specs.Checks.{blocks_of}
+use Rattle.vx_config.specs.Configs.{HasSpelling}
+use Rattle.vx_config.specs.declared.entry.DiskEntry.{DiskEntry}
 use Rattle.vx_config.specs.declared.entry.VolumeEntry.{VolumeEntry}
+use Rattle.vx_copies.proofs.OneTry.{wanted_count}
 use Rattle.vx_copyio.specs.Labelling.{HasSmall}
 use Rattle.vx_kept.specs.Trusts.{HasFailed}
 use Rattle.vx_group.specs.Calls.{GroupCreated}
@@ -21,8 +25,12 @@ use Rattle.vx_group.specs.Stands.{inner_meaning}
 use Rattle.vx_group.specs.declared.group_core.GroupCore.{GroupCore}
 use Rattle.vx_group.specs.declared.group_core.Held.{Held}
 use Rattle.vx_group.specs.declared.inner.Inner.{Inner}
+use Rattle.vx_group.proofs.Standing.{disks_fit}
+use Rattle.vx_untold.specs.Shades.{shade_meaning}
+use Rattle.vx_untold.specs.declared.shade.Shade.{Shade}
+use Rattle.vx_untold.specs.declared.shade.Shade.TheVariants.{Bright}
 use Rattle.vx_watched.specs.Since.{CalledSince}
-use Rattle.vx_grouped.specs.Begins.{BeginRefuses, BeginsGroup, CanBegin, IsFirstNote, group_begun}
+use Rattle.vx_grouped.specs.Begins.{BeginRefuses, BeginsGroup, CanBegin, IsEmptyConfig, IsFirstNote, group_begun}
 use Rattle.vx_grouped.specs.GroupNotes.{noted_config}
 use Rattle.vx_grouped.specs.GroupSites.{GroupUp, IsMarkedSite, idle_disks, laid_disks}
 use Rattle.vx_grouped.specs.Plain.{HoldsPlain}
@@ -30,6 +38,9 @@ use Rattle.vx_grouped.specs.SetFuses.{HasFuse}
 use Rattle.vx_grouped.specs.declared.idle.Idle.{Idle}
 use Rattle.vx_grouped.specs.declared.laid.Laid.{Laid}
 use Rattle.vx_grouped.specs.declared.group_site.GroupSite.TheVariants.{Up, Marked}
+use Rattle.vx_grouped.proofs.MovesLemmas.{disk_blocks_at}
+use Rattle.vx_grouped.proofs.NoteLemmas.{blocks_same}
+use Rattle.vx_grouped.proofs.NotedLemmas.{spells_zero}
 
 -- the note of a group that was just made
 abbrev first_note : Inner → GroupNode
@@ -98,10 +109,11 @@ module _ (m m' : Meaning) (n : Node) (can : CanBegin n m) (since : CalledSince m
       has = λ v b x there within left. absurd (let none : length (wide core).config.volumes ≡ 0 = ap (λ (vs : List VolumeEntry). length vs) volumes in omega (arith, there, none));
     }
 
-    begun_up : GroupUp (group_begun (first_note core.inner) site n) (first_note core.inner) core m'
-    begun_up = record {
+    begun_up : HasSpelling core.inner.config → GroupUp (group_begun (first_note core.inner) site n) (first_note core.inner) core m'
+    begun_up has = record {
       noted = record { is = refl; none = record { role = refl; volumes = refl; log = refl; safe = refl; running = refl } };
       fuse = unarmed_fuse n.fuse m' can.unfused (since.unarmed can.unarmed);
+      spells = spells_zero core.inner.config has;
       at = record {
         state = refl;
         up = stays_up;
@@ -116,6 +128,21 @@ module _ (m m' : Meaning) (n : Node) (can : CanBegin n m) (since : CalledSince m
       };
     }
 
+    count : length core.inner.config.disks ≡ m'.units
+    count = wanted_count m'.units m'.size core.inner.config new.stands.wanted
+
+    empty : IsEmptyConfig site n core.inner.config
+    empty = record {
+      site_is = new.site_is;
+      many = count ∙ since.units ∙ can.units;
+      each = λ k d at.
+          let lt = slice_get_within core.inner.config.disks k d at in
+          let low : k < n.disks = (let is = count in let same = since.units in let units = can.units in omega (arith, lt, is, same, units)) in
+          sym (disk_blocks_at core.inner.config.disks k d at) ∙ sym (blocks_same core.inner.config.disks k lt) ∙ sym ((disks_fit core.inner.config m' new.stands.wanted).size k lt) ∙ since.size k ∙ can.size k low;
+      volumes = new.volumes;
+      rvg = new.rvg;
+    }
+
     first : IsFirstNote (first_note core.inner)
     first = record { begun = refl; size = λ v. refl; others = λ v b. refl; cut = refl; perhaps = λ v p r. refl }
 
@@ -126,14 +153,22 @@ module _ (m m' : Meaning) (n : Node) (can : CanBegin n m) (since : CalledSince m
     ]
 
 module _ {R : Type 0} (g : Ghosts R) (rack : R) (n : Node) (site : ℕ) (can : CanBegin n (g.meaning rack)) where
-  pub begun_done : (group : Laid R g) → IsNewGroup site group.core.inner (laid_disks group) × (group.core.held ≡ None) → CalledSince (g.meaning rack) (laid_disks group) → BeginsGroup site n (g.meaning rack) (Up group) (Ok tt)
-  begun_done group it since = (
+  begun_of : (group : Laid R g) → HasSpelling group.core.inner.config → IsNewGroup site group.core.inner (laid_disks group) × (group.core.held ≡ None) → CalledSince (g.meaning rack) (laid_disks group) → BeginsGroup site n (g.meaning rack) (Up group) (Ok tt)
+  begun_of group has it since = (
     first_note group.core.inner,
     first (g.meaning rack) (laid_disks group) n can since site group.core it.0 it.1,
-    begun_up (g.meaning rack) (laid_disks group) n can since site group.core it.0 it.1,
-    (it.0.site_is, it.0.volumes, it.0.rvg),
+    begun_up (g.meaning rack) (laid_disks group) n can since site group.core it.0 it.1 has,
+    empty (g.meaning rack) (laid_disks group) n can since site group.core it.0 it.1,
     trusted (g.meaning rack) (laid_disks group) n can since site group.core it.0 it.1 (HasFailed group.core.inner.config.disks) (λ some. some),
   )
+
+  -- the group over the disks that it was made of
+  pub begun_done : (group : Laid R g) (core : GroupCore) (made : R) → group.core ≡ core → group.shelf ≡ Bright made → HasSpelling group.core.inner.config → IsNewGroup site core.inner (g.meaning made) × (core.held ≡ None) → CalledSince (g.meaning rack) (g.meaning made)
+      → BeginsGroup site n (g.meaning rack) (Up group) (Ok tt)
+  begun_done group core made same bright has it since =
+      begun_of group has
+      (subst (λ (s : Shade R). IsNewGroup site group.core.inner (shade_meaning g.meaning s) × (group.core.held ≡ None)) (sym bright) (subst (λ (x : GroupCore). IsNewGroup site x.inner (g.meaning made) × (x.held ≡ None)) (sym same) it))
+      (subst (λ (s : Shade R). CalledSince (g.meaning rack) (shade_meaning g.meaning s)) (sym bright) since)
 
   begun_failed : (s : R) (why : No) → (HasSmall (g.meaning rack) × (why ≡ Size)) ⊎ DeviceCause (g.meaning rack) (g.meaning s) why → CalledSince (g.meaning rack) (g.meaning s) → BeginsGroup {g = g} site n (g.meaning rack) (Marked s) (Err (Refused why))
   begun_failed s why (inl small) since = absurd (never_small (g.meaning rack) (g.meaning s) n can since small.0)

@@ -22,18 +22,18 @@ use Rattle.vx_group.specs.Regains.{Regains}
 use Rattle.vx_group.specs.declared.group_core.GroupCore.{GroupCore}
 use Rattle.vx_group.proofs.HoldLemmas.{narrow_on, narrow_sound}
 use Rattle.vx_group.proofs.Standing.{disks_fit}
-use Rattle.vx_grouped.specs.Added.{IsStill}
+use Rattle.vx_grouped.specs.Added.{IsUnmoved}
 use Rattle.vx_grouped.specs.ConfigMoves.{none_again}
 use Rattle.vx_grouped.specs.CoreMoves.{BothOn, CoreMoves}
 use Rattle.vx_grouped.proofs.MovesLemmas.{core_moves}
 use Rattle.vx_grouped.proofs.NoteLemmas.{blocks_same}
 
 -- where memory ran out nothing has changed
-pub still_by : {T : Type 0} (stop : Stop) (P : Type 0) → Unmoved {T = T} (Err stop) P → IsStill {T = T} (Err stop) P
-still_by (Refused why) P it = tt
-still_by OutOfMemory P it = it
+pub still_by : (T U : Type 0) (stop : Stop) (P : Type 0) → Unmoved {T = T} (Err stop) P → IsUnmoved {T = U} (Err stop) P
+still_by T U (Refused why) P it = tt
+still_by T U OutOfMemory P it = it
 
-pub still_more : {T : Type 0} (r : Result T Stop) (P Q : Type 0) → (P → Q) → IsStill r P → IsStill r Q
+pub still_more : {T : Type 0} (r : Result T Stop) (P Q : Type 0) → (P → Q) → IsUnmoved r P → IsUnmoved r Q
 still_more (Ok done) P Q more it = tt
 still_more (Err (Refused why)) P Q more it = tt
 still_more (Err OutOfMemory) P Q more it = more it

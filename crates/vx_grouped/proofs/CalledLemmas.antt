@@ -14,6 +14,7 @@ use Rattle.vx_history.specs.Groups.{GroupNode}
 use Rattle.vx_history.specs.World.{Node}
 use Rattle.vx_group.specs.Dets.{DetStops}
 use Rattle.vx_watched.specs.Since.{CalledSince}
+use Rattle.vx_config.specs.declared.config.Config.{Config}
 use Rattle.vx_grouped.specs.Away.{IsAwayAt}
 use Rattle.vx_grouped.specs.Ends.{CallLeaves}
 use Rattle.vx_grouped.specs.GroupNotes.{GroupLies, note_done, note_refused, noted_config}

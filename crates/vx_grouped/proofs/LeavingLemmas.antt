@@ -16,6 +16,7 @@ use Rattle.vx_config.specs.Table.{greatest}
 use Rattle.vx_config.specs.declared.config.Config.{Config}
 use Rattle.vx_group.specs.Dets.{DetStops}
 use Rattle.vx_watched.specs.Since.{CalledSince}
+use Rattle.vx_group.specs.declared.group_core.GroupCore.{GroupCore}
 use Rattle.vx_grouped.specs.Away.{IsDeportedAt, note_deported, IsAwayAt}
 use Rattle.vx_grouped.specs.GroupSites.{GroupUp, idle_disks, laid_disks}
 use Rattle.vx_grouped.specs.SiteEnds.{SiteDeported, stops_down}
@@ -25,7 +26,7 @@ use Rattle.vx_grouped.specs.declared.group_site.GroupSite.TheVariants.{Up, Depor
 use Rattle.vx_grouped.proofs.SettleLemmas.{deport_settles, fuse_burned}
 use Rattle.vx_grouped.proofs.SiteLemmas.{away_with}
 use Rattle.vx_group.specs.Quiesces.{AnyFailed}
-use Rattle.vx_grouped.specs.ConfigMoves.{AnyState, CleansPlexes, DiskMoves, LosesSome, OpensSame, Placed, none_again, opened_state}
+use Rattle.vx_grouped.specs.ConfigMoves.{AnyState, CleansPlexes, DiskMoves, LosesSome, OpensSame, InBoth, none_again, opened_state}
 use Rattle.vx_grouped.specs.CoreMoves.{BackMoves}
 use Rattle.vx_grouped.specs.Ends.{CallLeaves}
 use Rattle.vx_group.specs.Resumes.{CanImport}
@@ -85,7 +86,7 @@ opened_by Stale Clean same = let clash : true ≡ false = same in cc
 opened_by Stale Stale same = refl
 
 module _ (n : Node) (note : GroupNode) (c : GroupCore) (m m' : Meaning) (lies : GroupLies n note c m) (stands : GroupStands c m) (one : (u : ℕ) → m.disk_faults u ≡ m.faults u) (two : (u : ℕ) → m'.disk_faults u ≡ m'.faults u) (it : DeportedBy (wide c).config c.inner m m') where
-  disks : (k : ℕ) → Placed (DiskMoves none_again m m' k) (slice_get c.inner.config.disks k) (slice_get it.config.disks k)
+  disks : (k : ℕ) → InBoth (DiskMoves none_again m m' k) (slice_get c.inner.config.disks k) (slice_get it.config.disks k)
   disks = disk_place c.inner.config it.config m m' one two none_again it.failing.count it.failing.blocks it.failing.blamed (λ u off. it.failing.stays u)
 
   cleans_by : (it.behind.config.volumes ≡ c.inner.config.volumes) ⊎ AnyFailed m m' → CleansPlexes m m' c.inner.config it.config
@@ -95,11 +96,14 @@ module _ (n : Node) (note : GroupNode) (c : GroupCore) (m m' : Meaning) (lies : 
     volumes = λ v. volume_moves OpensSame c.inner.config it.config v (newest_frames n note c m m' lies stands it v) (λ k p q at_p at_q.
         opened_by p.state q.state (sym (live_there it.config v k q at_q) ∙ newest_lives n note c m m' lies stands it v k ∙ live_volumes it.behind.config c.inner.config same v k ∙ live_there c.inner.config v k p at_p));
   })
-  cleans_by (inr any) = inr (any, record {
-    parts = it.parts;
-    disks = disks;
-    volumes = λ v. volume_moves AnyState c.inner.config it.config v (newest_frames n note c m m' lies stands it v) (λ k p q at_p at_q. tt);
-  })
+  cleans_by (inr any) = inr (
+    any,
+    record {
+      parts = it.parts;
+      disks = disks;
+      volumes = λ v. volume_moves AnyState c.inner.config it.config v (newest_frames n note c m m' lies stands it v) (λ k p q at_p at_q. tt);
+    },
+  )
 
   cleans : CleansPlexes m m' c.inner.config it.config
   cleans = cleans_by it.quiesces.volumes

@@ -31,3 +31,5 @@ pub mod SitePlexLemmas
 pub mod BothLemmas
 pub mod WhyLemmas
 pub mod SinceReturns
+pub mod ReadyLemmas
+pub mod FindLemmas

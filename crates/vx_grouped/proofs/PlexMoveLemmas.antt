@@ -73,9 +73,9 @@ module _ (c d : Config) (v p : ℕ) (m m' : Meaning) (one : (u : ℕ) → m.disk
     restated_state : (x q : ℕ) (a b : PlexEntry) → plex_at (stated v p s w c) x q ≡ Some a → plex_at d x q ≡ Some b → StateMoves m m' a.state b.state
     restated_state x q a b at_a at_b = elim (this_plex v p x q) [
       | inl same ↦
-        let here : plex_at (stated v p s w c) v p ≡ Some a = subst (λ (k : ℕ). plex_at (stated v p s w c) k p ≡ Some a) same.0 (subst (λ (k : ℕ). plex_at (stated v p s w c) x k ≡ Some a) same.1 at_a) in
-        let there : plex_at d v p ≡ Some b = subst (λ (k : ℕ). plex_at d k p ≡ Some b) same.0 (subst (λ (k : ℕ). plex_at d x k ≡ Some b) same.1 at_b) in
-        inl (has b there ∙ sym (state_same s w (plex_at c v p) a (sym (plex_same v p s w c) ∙ here)))
+          let here : plex_at (stated v p s w c) v p ≡ Some a = subst (λ (k : ℕ). plex_at (stated v p s w c) k p ≡ Some a) same.0 (subst (λ (k : ℕ). plex_at (stated v p s w c) x k ≡ Some a) same.1 at_a) in
+          let there : plex_at d v p ≡ Some b = subst (λ (k : ℕ). plex_at d k p ≡ Some b) same.0 (subst (λ (k : ℕ). plex_at d x k ≡ Some b) same.1 at_b) in
+          inl (has b there ∙ sym (state_same s w (plex_at c v p) a (sym (plex_same v p s w c) ∙ here)))
       | inr apart ↦ inl (other_state again it x q a b apart (sym (plex_apart v p s w c x q apart) ∙ at_a) at_b)
     ]
 
@@ -101,8 +101,8 @@ module _ (c d : Config) (v p : ℕ) (m m' : Meaning) (one : (u : ℕ) → m.disk
       each : (w q : ℕ) (x y : PlexEntry) → plex_at c w q ≡ Some x → plex_at d w q ≡ Some y → StateMoves m m' x.state y.state
       each w q x y at_x at_y = elim (this_plex v p w q) [
         | inl here ↦
-          let on : active d w q ≡ active c w q = subst (λ (k : ℕ). active d k q ≡ active c k q) (sym here.0) (subst (λ (k : ℕ). active d v k ≡ active c v k) (sym here.1) same) in
-          inl (same_state x.state y.state (on_by c it.on.was w q x at_x) (on_by d it.on.now w q y at_y) (sym (on_there d w q y at_y) ∙ on ∙ on_there c w q x at_x))
+            let on : active d w q ≡ active c w q = subst (λ (k : ℕ). active d k q ≡ active c k q) (sym here.0) (subst (λ (k : ℕ). active d v k ≡ active c v k) (sym here.1) same) in
+            inl (same_state x.state y.state (on_by c it.on.was w q x at_x) (on_by d it.on.now w q y at_y) (sym (on_there d w q y at_y) ∙ on ∙ on_there c w q x at_x))
         | inr apart ↦ inl (other_state again it w q x y apart at_x at_y)
       ]
 

@@ -295,7 +295,9 @@ module _ (n : Node) (note : GroupNode) (last : Config) (old : Meaning) (law : La
     }
       where
         by : (u : ℕ) → u < old.units → failed_at core.config.disks u ≡ true → (t : Bool) → failed_at opened.disks u ≡ t → Rose (old.faults u) (new.faults u)
-        by u low failed true was = up.blamed u low (returned_failed up.readable 0 x.disks u (sym (ap (λ (ds : List DiskEntry). failed_at ds u) up.opens.alike.disks) ∙ was))
+        by u low failed true was =
+            let first : 0 + u ≡ u = omega arith in
+            up.blamed u low (subst (λ (k : ℕ). up.readable k ≡ false) first (returned_failed up.readable 0 x.disks u (sym (ap (λ (ds : List DiskEntry). failed_at ds u) up.opens.alike.disks) ∙ was)))
         by u low failed false was = r.loses.disks.blamed u was failed
 
     pub group_returns : (group : GroupCore) → group.inner ≡ core → group.held ≡ None → GroupReturns n note last old group new

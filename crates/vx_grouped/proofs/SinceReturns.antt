@@ -1,5 +1,5 @@
 -- The disks of a site behind an import of them, beside what they were.
-use Rattle.std.proofs.Common.{◌≡◌, ◌∙◌, ◌⊎◌, inl, inr, ℕ, ◌≤◌, Bool, true, false, ap, refl, subst, sym, IsTrue}
+use Rattle.std.proofs.Common.{◌≡◌, ◌∙◌, ◌⊎◌, inl, inr, ℕ, ◌≤◌, Bool, true, false, ap, refl, subst, sym, arith, IsTrue}
 use Rattle.std.specs.Prelude.{Option, Some, None, IsFalse}
 use Rattle.vx_disk.specs.Causes.{OnDisks, WithDisks}
 use Rattle.vx_disk.specs.Disks.{Crashed, Disks, Untouched, is_set}
@@ -37,7 +37,7 @@ stays_then a b c one two = record {
   units = two.units ∙ one.units;
   size = λ u. two.size u ∙ one.size u;
   tells = λ on. one.tells (two.tells on);
-  counts = λ d. let first = one.counts d in let second = two.counts d in omega (first, second);
+  counts = λ d. let first = one.counts d in let second = two.counts d in omega (arith, first, second);
   rack = two.rack ∙ one.rack;
   failing = λ x z was is. between b.disks refl x z was is;
 }
@@ -77,13 +77,13 @@ return_none m = record {
   units = refl;
   size = λ u. refl;
   tells = λ on. on;
-  counts = λ d. omega tt;
+  counts = λ d. omega arith;
   rack = refl;
   told = λ x y was is. fused x y (some_same y x (sym is ∙ was));
 }
   where
     fused : (x y : Disks) → y ≡ x → FailsFused x y
-    fused x y same = subst (λ (d : Disks). FailsFused x d) (sym same) (record { failing = λ u. refl; set = λ on. on; left = λ on. omega tt })
+    fused x y same = subst (λ (d : Disks). FailsFused x d) (sym same) (record { failing = λ u. refl; set = λ on. on; left = λ on. omega arith })
 
 -- calls, and the disks are up
 pub return_calls : (a b : Meaning) → CalledSince a b → IsFalse b.down → ReturnSince a b
@@ -107,7 +107,7 @@ return_then a b c one two =
     between (Some y) middle x z was is =
         let first = one.told x y was middle in
         let second = two.told y z middle is in
-        record { failing = λ u. second.failing u ∙ first.failing u; set = λ on. first.set (second.set on); left = λ on. let s = second.left on in let f = first.left (second.set on) in omega (s, f) }
+        record { failing = λ u. second.failing u ∙ first.failing u; set = λ on. first.set (second.set on); left = λ on. let s = second.left on in let f = first.left (second.set on) in omega (arith, s, f) }
 
 -- behind calls that were refused the disks fell
 pub return_all : (m0 m1 m2 m3 : Meaning) → ReturnSince m0 m1 → CalledSince m1 m2 → ReturnSince m2 m3 → IsRack m3 → IsFalse m3.armed → ReturnSince m0 m3
@@ -135,7 +135,7 @@ return_fell a b pick rack stopped on = unset a b rack stopped.unarmed (record {
   units = stopped.units;
   size = stopped.size;
   tells = λ told. sym stopped.tells ∙ told;
-  counts = λ d. let same = stopped.counts.disk_faults d in omega same;
+  counts = λ d. let same = stopped.counts.disk_faults d in omega (arith, same);
   rack = with_rack a.disks b.disks (λ o n. Crashed a.size pick o n × ((u : ℕ) → n.failing u ≡ o.failing u)) on;
   failing = λ x y was is. (with_at a.disks b.disks (λ o n. Crashed a.size pick o n × ((u : ℕ) → n.failing u ≡ o.failing u)) on x y was is).1;
 })
@@ -145,11 +145,11 @@ return_alike a b alike on = record {
   units = alike.contents.units;
   size = alike.contents.size;
   tells = λ told. sym alike.contents.tells ∙ told;
-  counts = λ d. let same = alike.counts.disk_faults d in omega same;
+  counts = λ d. let same = alike.counts.disk_faults d in omega (arith, same);
   rack = with_rack a.disks b.disks (λ o n. Untouched o n × ((u : ℕ) → n.failing u ≡ o.failing u)) on;
   told = λ x y was is.
       let it = with_at a.disks b.disks (λ o n. Untouched o n × ((u : ℕ) → n.failing u ≡ o.failing u)) on x y was is in
-      record { failing = it.1; set = λ set. ap is_set (sym it.0.fuse) ∙ set; left = λ set. let same = ap fuse_calls it.0.fuse in omega same };
+      record { failing = it.1; set = λ set. ap is_set (sym it.0.fuse) ∙ set; left = λ set. let same = ap fuse_calls it.0.fuse in omega (arith, same) };
 }
 
 module _ {R : Type 0} (meaning : R → Meaning) where
@@ -158,7 +158,7 @@ module _ {R : Type 0} (meaning : R → Meaning) where
     units = refl;
     size = λ u. refl;
     tells = λ on. let clash : false ≡ true = on in cc;
-    counts = λ d. omega tt;
+    counts = λ d. omega arith;
     rack = refl;
     told = (return_none (meaning r)).told;
   }
@@ -197,3 +197,11 @@ module _ {R : Type 0} (meaning : R → Meaning) where
   pub dark_size : (s : Shade R) (u : ℕ) → (shade_meaning meaning (Dark (rack_of s))).size u ≡ (shade_meaning meaning s).size u
   dark_size (Bright r) u = refl
   dark_size (Dark r) u = refl
+
+-- disks that had no fuse have none
+pub returns_unarmed : (a b : Meaning) → IsRack a → IsRack b → ReturnSince a b → IsFalse a.armed → IsFalse b.armed
+returns_unarmed a b was now since off = by (is_set now.told.fuse) refl
+  where
+    by : (t : Bool) → is_set now.told.fuse ≡ t → IsFalse b.armed
+    by false is = now.armed ∙ is
+    by true is = absurd (unarmed_set a was off was.told was.is ((since.told was.told now.told was.is now.is).set is))

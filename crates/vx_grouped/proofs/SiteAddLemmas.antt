@@ -26,7 +26,7 @@ use Rattle.vx_group.specs.Makes.{MakeEnds, VolumeMade, has_name, is_shape, make_
 use Rattle.vx_group.specs.declared.group_core.GroupCore.{GroupCore}
 use Rattle.vx_group.specs.declared.inner.Inner.{Inner}
 use Rattle.vx_watched.specs.Since.{CalledSince}
-use Rattle.vx_grouped.specs.Added.{note_added, IsStill}
+use Rattle.vx_grouped.specs.Added.{note_added, IsUnmoved}
 use Rattle.vx_grouped.specs.Away.{IsAwayAt}
 use Rattle.vx_grouped.specs.GroupNotes.{GroupLies, note_done}
 use Rattle.vx_grouped.specs.GroupSites.{GroupUp, idle_disks, laid_disks}
@@ -159,7 +159,7 @@ module _ {R : Type 0} {g : Ghosts R} (n : Node) (note : GroupNode) (name : List 
     done_settles new.core.inner note (λ tight none. works.trust (up.at.lies.committed tight none)),
     up_with n note (note_added vol want.blocks (note_done new.core.inner note)) new.core (laid_disks new) up.noted spells fuse (works.leaves n note up.at),
     goes ℕ n note group new up since spells (VolumeAdded name want vol (laid_disks group) (laid_disks new)) (note_done new.core.inner note) refl (Up new) refl
-    (added vol works (made_volume name want group.core new.core (laid_disks group) (laid_disks new) (Ok vol) works vol refl)),
+        (added vol works (made_volume name want group.core new.core (laid_disks group) (laid_disks new) (Ok vol) works vol refl)),
   )
 
   module _ (stop : Stop) (works : MakesVolume name want group.core (laid_disks group) new.core (laid_disks new) (Err stop)) where
@@ -187,7 +187,7 @@ module _ {R : Type 0} {g : Ghosts R} (n : Node) (note : GroupNode) (name : List 
     lacks : (which : No) → stop ≡ Refused which → blames_device which ≡ false → LacksVolume (Up group) name want which
     lacks = lacks_in (make_refusal group.core.inner.config name want) refl
 
-  pub made_up : (stop : Stop) → stops_down stop ≡ false → MakesVolume name want group.core (laid_disks group) new.core (laid_disks new) (Err stop) → IsStill {T = ℕ} (Err stop) ((new.core ≡ group.core) × (new.shelf ≡ group.shelf))
+  pub made_up : (stop : Stop) → stops_down stop ≡ false → MakesVolume name want group.core (laid_disks group) new.core (laid_disks new) (Err stop) → IsUnmoved {T = ℕ} (Err stop) ((new.core ≡ group.core) × (new.shelf ≡ group.shelf))
       → SiteAdded n note name want (Up group) (Up new) (Err stop)
   made_up (Refused why) off works still =
       called_up ℕ n note group new up since spells (λ c d. ⊥) (LosesSome (laid_disks group) (laid_disks new)) (LacksVolume (Up group) name want) (Refused why) off (works.leaves n note up.at)

@@ -9,6 +9,7 @@ use Rattle.vx_history.specs.Groups.{GroupNode}
 use Rattle.vx_history.specs.Steps.{burned}
 use Rattle.vx_history.specs.World.{Node}
 use Rattle.vx_watched.specs.Since.{CalledSince}
+use Rattle.vx_config.specs.declared.config.Config.{Config}
 use Rattle.vx_grouped.specs.GroupNotes.{IsGroupAt}
 use Rattle.vx_grouped.specs.GroupSites.{GroupUp, idle_disks, laid_disks}
 use Rattle.vx_grouped.specs.SiteKeeps.{PlainKeeps, PlainKept}

@@ -157,7 +157,7 @@ blames m m' why on (inr late) = elim late.1 [
 ]
 
 -- where it says that they are down they are
-down_of : (m m' : Meaning) (stop : Stop) → stops_down stop ≡ true → ImportStops m m' stop → IsTrue m'.down
+pub down_of : (m m' : Meaning) (stop : Stop) → stops_down stop ≡ true → ImportStops m m' stop → IsTrue m'.down
 down_of m m' (Refused IsOff) off stops = blames m m' IsOff refl stops
 down_of m m' (Refused (Device disk)) off stops = cc
 down_of m m' (Refused other) off stops = cc
@@ -383,10 +383,9 @@ module _ {R : Type 0} {g : Ghosts R} (n : Node) (note : GroupNode) (racks : (s :
     pub imported_up : (group : Laid R g) → CalledSince (shade_meaning g.meaning rack) (laid_disks group) → HasSpelling group.core.inner.config
         → ((last : Config) → AwayLies n note last (shade_meaning g.meaning rack) → GroupReturns n note last (shade_meaning g.meaning rack) group.core (laid_disks group)) → ImportsFrom n note (shade_meaning g.meaning rack) (Up group) (Ok tt)
     imported_up group since has back =
-        let it = back away.last away.away.lies in
-        (
+        let it = back away.last away.away.lies in (
           came_up n note away.last away.newest had_away away.away.frames racks (shade_meaning g.meaning rack) rack refl (λ u. refl) (λ u. refl) away.away.lies group since has it away.noted
-          (fuse_burned n.fuse (shade_meaning g.meaning rack) (laid_disks group) since.unarmed away.fuse),
+              (fuse_burned n.fuse (shade_meaning g.meaning rack) (laid_disks group) since.unarmed away.fuse),
           keeps_fuse (laid_disks group) since it.at.up,
         )
 
@@ -423,10 +422,10 @@ module _ {R : Type 0} {g : Ghosts R} (n : Node) (note : GroupNode) (racks : (s :
       pub imported_early : (idle : Idle R g) → idle.rack ≡ middle → stops_early stop ≡ true → (IsTrue (shade_meaning g.meaning middle).down → ⊥) → ImportsFrom n note (shade_meaning g.meaning rack) (Deported idle) (Err stop)
       imported_early idle is early still =
           refused_as (Deported idle) (early_up stop early) (subst (λ (s : Shade R). GroupAway (burned_site n) note (shade_meaning g.meaning s) × (IsFalse (shade_meaning g.meaning s).armed ⊎ KeepsFuse (shade_meaning g.meaning rack) (shade_meaning g.meaning s))
-              × ImportWhy (IsTrue (shade_meaning g.meaning s).tells) (shade_meaning g.meaning rack) (shade_meaning g.meaning s) stop) (sym is) (
+          × ImportWhy (IsTrue (shade_meaning g.meaning s).tells) (shade_meaning g.meaning rack) (shade_meaning g.meaning s) stop) (sym is) (
             away_as_is (shade_meaning g.meaning middle) since.units
-            (early_lies n note away.last (shade_meaning g.meaning rack) (shade_meaning g.meaning middle) (shade_meaning g.meaning middle) (laws rack) away.away.lies can stop stops early refl (λ u. refl) (λ u b v left. left))
-            still (fuse_burned n.fuse (shade_meaning g.meaning rack) (shade_meaning g.meaning middle) since.unarmed away.fuse),
+                (early_lies n note away.last (shade_meaning g.meaning rack) (shade_meaning g.meaning middle) (shade_meaning g.meaning middle) (laws rack) away.away.lies can stop stops early refl (λ u. refl) (λ u b v left. left))
+                still (fuse_burned n.fuse (shade_meaning g.meaning rack) (shade_meaning g.meaning middle) since.unarmed away.fuse),
             inr (keeps_fuse (shade_meaning g.meaning middle) since still),
             why_away middle (is_up (shade_meaning g.meaning rack).down away.up) (λ d. refl) (λ tells. sym since.tells ∙ tells) (never_stops (early_up stop early)),
           ))
@@ -447,10 +446,10 @@ module _ {R : Type 0} {g : Ghosts R} (n : Node) (note : GroupNode) (racks : (s :
             → (shade_meaning g.meaning new).armed ≡ (shade_meaning g.meaning fallen).armed → ImportsFrom n note (shade_meaning g.meaning rack) (Deported idle) (Err stop)
         imported_late idle new is off alike up armed =
             refused_as (Deported idle) off (subst (λ (s : Shade R). GroupAway (burned_site n) note (shade_meaning g.meaning s) × (IsFalse (shade_meaning g.meaning s).armed ⊎ KeepsFuse (shade_meaning g.meaning rack) (shade_meaning g.meaning s))
-                × ImportWhy (IsTrue (shade_meaning g.meaning s).tells) (shade_meaning g.meaning rack) (shade_meaning g.meaning s) stop) (sym is) (
+            × ImportWhy (IsTrue (shade_meaning g.meaning s).tells) (shade_meaning g.meaning rack) (shade_meaning g.meaning s) stop) (sym is) (
               away_as_is (shade_meaning g.meaning new) (alike.contents.units ∙ kept.units ∙ since.units)
-              (less_away n note (shade_meaning g.meaning fallen) (shade_meaning g.meaning new) alike.contents.units alike.contents.size alike.contents.leaves away.last (lies_fell (stops_early stop) refl))
-              (up_not_down (shade_meaning g.meaning new).down up) (unarmed_any n.fuse (shade_meaning g.meaning new) (armed ∙ fell.unarmed)),
+                  (less_away n note (shade_meaning g.meaning fallen) (shade_meaning g.meaning new) alike.contents.units alike.contents.size alike.contents.leaves away.last (lies_fell (stops_early stop) refl))
+                  (up_not_down (shade_meaning g.meaning new).down up) (unarmed_any n.fuse (shade_meaning g.meaning new) (armed ∙ fell.unarmed)),
               inl (armed ∙ fell.unarmed),
               why_away new (is_up (shade_meaning g.meaning rack).down away.up) (λ d. alike.counts.disk_faults d ∙ counts d) (λ tells. tells_rack (sym alike.contents.tells ∙ tells)) (never_stops off),
             ))

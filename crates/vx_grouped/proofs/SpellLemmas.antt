@@ -78,8 +78,7 @@ plexes_like (p ∷ ps) (q ∷ qs) is fits =
 volume_like : (v u : VolumeEntry) → frame u ≡ frame v → volume_form.Fits v → volume_form.Fits u
 unfolding volume_form frame
 volume_like v u is fits =
-    let plexes = plexes_like v.plexes u.plexes (ap (λ (x : VolumeEntry). x.plexes) is) fits.1.1.1.1.1.2 in
-    (
+    let plexes = plexes_like v.plexes u.plexes (ap (λ (x : VolumeEntry). x.plexes) is) fits.1.1.1.1.1.2 in (
       subst (λ (n : List ℕ). name_form.Fits n) (sym (ap (λ (x : VolumeEntry). x.name) is)) fits.0,
       (
         (let low = fits.1.0 in let same = ap (λ (x : VolumeEntry). x.blocks) is in omega (arith, low, same)),
@@ -89,7 +88,7 @@ volume_like v u is fits =
             (let low = fits.1.1.1.0 in let same = ap (λ (x : VolumeEntry). x.width) is in omega (arith, low, same)),
             (
               subst (λ (o : Option ℕ). ways_form.Fits (o, (u.drl, u.fmr))) (sym (ap (λ (x : VolumeEntry). x.prefer) is))
-              (ways_like v.prefer v.drl v.fmr u.drl u.fmr (ap (λ (x : VolumeEntry). x.drl) is) (ap (λ (x : VolumeEntry). x.fmr) is) fits.1.1.1.1.0),
+                  (ways_like v.prefer v.drl v.fmr u.drl u.fmr (ap (λ (x : VolumeEntry). x.drl) is) (ap (λ (x : VolumeEntry). x.fmr) is) fits.1.1.1.1.0),
               ((let low = fits.1.1.1.1.1.0 in let same = plexes.1 in omega (arith, low, same)), (let high = fits.1.1.1.1.1.1 in let same = plexes.1 in omega (arith, high, same)), plexes.0),
             ),
           ),
@@ -115,8 +114,7 @@ unfolding HasSpelling config_form format_1
 spells_like c d parts frames blocks has =
     let volumes = volumes_like c.volumes d.volumes frames has.1.1.1.0.2 in
     let long = parts.count in
-    let many = volumes.1 in
-    (
+    let many = volumes.1 in (
       has.0,
       (
         (let low = has.1.0 in let same = parts.site in omega (arith, low, same)),

@@ -35,15 +35,15 @@ some_is a b is = cc
 
 missing_unread : (failed readable : ℕ → Bool) (n d : ℕ) → missing failed readable n ≡ Some d → (d < n) × (readable d ≡ false)
 missing_unread failed readable zero d is = absurd (let no_one : None ≡ Some d = is in cc)
-missing_unread failed readable (suc n) d is = by (missing failed readable n) refl is
+missing_unread failed readable (suc n) d is = by (missing_unread failed readable n d) (missing failed readable n) refl is
   where
     last : (t : Bool) → failed n || readable n ≡ t → (if t then None else Some n) ≡ Some d → (d < suc n) × (readable d ≡ false)
     last true on same = absurd (let no_one : None ≡ Some d = same in cc)
     last false off same = let here : n ≡ d = some_is n d same in (omega (arith, here), subst (λ (k : ℕ). readable k ≡ false) here (or_off (failed n) (readable n) off))
 
-    by : (o : Option ℕ) → missing failed readable n ≡ o → first_of o (if failed n || readable n then None else Some n) ≡ Some d → (d < suc n) × (readable d ≡ false)
-    by None none same = last (failed n || readable n) refl same
-    by (Some e) some same = let low = missing_unread failed readable n d (some ∙ same) in (omega (arith, low.0), low.1)
+    by : (missing failed readable n ≡ Some d → (d < n) × (readable d ≡ false)) → (o : Option ℕ) → missing failed readable n ≡ o → first_of o (if failed n || readable n then None else Some n) ≡ Some d → (d < suc n) × (readable d ≡ false)
+    by rest None none same = last (failed n || readable n) refl same
+    by rest (Some e) some same = let low = rest (some ∙ same) in let lt = low.0 in (omega (arith, lt), low.1)
 
 outcome_missing : (failed : Config → ℕ → Bool) (units : ℕ) (readable : ℕ → Bool) (d : ℕ) (o : Option (ℕ × Copy Config)) → by_newest failed units readable o ≡ Missing d → (d < units) × (readable d ≡ false)
 outcome_missing failed units readable d None is = absurd (let no_one : NothingFound ≡ Missing d = is in cc)

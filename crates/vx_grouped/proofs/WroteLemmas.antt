@@ -16,6 +16,7 @@ use Rattle.vx_history.specs.World.{Node}
 use Rattle.vx_group.specs.Loses.{LosesPlexes}
 use Rattle.vx_group.proofs.LoseLemmas.{loses_same}
 use Rattle.vx_watched.specs.Since.{CalledSince}
+use Rattle.vx_config.specs.declared.config.Config.{Config}
 use Rattle.vx_grouped.specs.Away.{IsAwayAt}
 use Rattle.vx_grouped.specs.Ends.{WriteLeaves, plain_write}
 use Rattle.vx_grouped.specs.GroupNotes.{GroupLies, IsGroupAt, note_done, note_refused, noted_config}
@@ -103,7 +104,7 @@ module _ {R : Type 0} {g : Ghosts R} (n : Node) (note : GroupNode) (v b : ℕ) (
         note_refused leaves.0 new.core.inner note,
         refused_unsettles new.core.inner note leaves.0,
         down_with n note (note_cut own (note_refused leaves.0 new.core.inner note)) new.core.inner.config (idle_disks idle) up.noted (record { down = stopped.down; unarmed = stopped.unarmed }) spells
-        (away n (note_cut own (note_refused leaves.0 new.core.inner note)) leaves.1.lies),
+            (away n (note_cut own (note_refused leaves.0 new.core.inner note)) leaves.1.lies),
         fell_fused n.fuse (laid_disks group) (laid_disks new) up.fuse up.at.up since.safe leaves.1.down,
         noted (note_refused leaves.0 new.core.inner note) refl (Down idle) tt spells (lost idle.rack loses on),
       )

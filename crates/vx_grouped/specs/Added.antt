@@ -22,10 +22,10 @@ note_added vol blocks note = record note {
 }
 
 -- where memory ran out nothing has changed
-abbrev pub IsStill : {T : Type 0} → Result T Stop → Type 0 → Type 0
-IsStill (Ok x) same = Unit {0}
-IsStill (Err (Refused why)) same = Unit {0}
-IsStill (Err OutOfMemory) same = same
+abbrev pub IsUnmoved : {T : Type 0} → Result T Stop → Type 0 → Type 0
+IsUnmoved (Ok x) same = Unit {0}
+IsUnmoved (Err (Refused why)) same = Unit {0}
+IsUnmoved (Err OutOfMemory) same = same
 
 -- A volume is made, which begins as zeros, and each other has what it had; or it is not, and each has what it had. A refusal but 6 and 7 has
 -- changed nothing, nor has want of memory.

@@ -19,11 +19,11 @@ use Rattle.vx_group.specs.Makes.{IsVolume}
 use Rattle.vx_group.specs.Quiesces.{AnyFailed}
 
 -- what stands at one place of two lists, if anything does, is in this relation
-abbrev pub Placed : {A : Type 0} → (A → A → Type 0) → Option A → Option A → Type 0
-Placed P None None = Unit {0}
-Placed P None (Some y) = ⊥
-Placed P (Some x) None = ⊥
-Placed P (Some x) (Some y) = P x y
+abbrev pub InBoth : {A : Type 0} → (A → A → Type 0) → Option A → Option A → Type 0
+InBoth P None None = Unit {0}
+InBoth P None (Some y) = ⊥
+InBoth P (Some x) None = ⊥
+InBoth P (Some x) (Some y) = P x y
 
 -- a call on one of the disks failed
 pub record AnyRose (old new : Meaning) : Type 0 where
@@ -47,7 +47,7 @@ pub record VolumeMoves (By : PlexState → PlexState → Type 0) (v u : VolumeEn
   pub prefer : u.prefer ≡ v.prefer
   pub drl : is_some u.drl ≡ is_some v.drl
   pub fmr : is_some u.fmr ≡ is_some v.fmr
-  pub plexes : (k : ℕ) → Placed (PlexMoves By) (slice_get v.plexes k) (slice_get u.plexes k)
+  pub plexes : (k : ℕ) → InBoth (PlexMoves By) (slice_get v.plexes k) (slice_get u.plexes k)
 
 -- it is as it was; or STALE, or ACTIVE as one that was held back, and a call on a disk failed
 abbrev pub StateMoves : Meaning → Meaning → PlexState → PlexState → Type 0
@@ -80,8 +80,8 @@ pub record DiskMoves (again : ℕ → Bool) (old new : Meaning) (k : ℕ) (a b :
 -- d is c, but for disks that are held as failed, or as good again, and the states of plexes
 pub record ConfigMoves (again : ℕ → Bool) (By : PlexState → PlexState → Type 0) (old new : Meaning) (c d : Config) : Type 0 where
   pub parts : SameParts c d
-  pub disks : (k : ℕ) → Placed (DiskMoves again old new k) (slice_get c.disks k) (slice_get d.disks k)
-  pub volumes : (v : ℕ) → Placed (VolumeMoves By) (slice_get c.volumes v) (slice_get d.volumes v)
+  pub disks : (k : ℕ) → InBoth (DiskMoves again old new k) (slice_get c.disks k) (slice_get d.disks k)
+  pub volumes : (v : ℕ) → InBoth (VolumeMoves By) (slice_get c.volumes v) (slice_get d.volumes v)
 
 -- no disk
 abbrev pub none_again : ℕ → Bool
@@ -128,7 +128,7 @@ CleansPlexes old new c d = ConfigMoves none_again OpensSame old new c d ⊎ (Any
 -- What an import took up: where contents are told, the first volumes are those of before but for the states of their plexes. Each disk is held as good,
 -- or a call on it failed.
 pub record ConfigBack (told : Type 0) (old new : Meaning) (c d : Config) : Type 0 where
-  pub volumes : told → (v : ℕ) → v < length c.volumes → Placed (VolumeMoves AnyState) (slice_get c.volumes v) (slice_get d.volumes v)
+  pub volumes : told → (v : ℕ) → v < length c.volumes → InBoth (VolumeMoves AnyState) (slice_get c.volumes v) (slice_get d.volumes v)
   pub count : length d.disks ≡ old.units
   pub blocks : (k : ℕ) (disk : DiskEntry) → slice_get d.disks k ≡ Some disk → disk.blocks ≡ old.size k
   pub failed : (k : ℕ) (disk : DiskEntry) → slice_get d.disks k ≡ Some disk → disk.failed ≡ true → Rose (old.disk_faults k) (new.disk_faults k)

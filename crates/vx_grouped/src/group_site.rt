@@ -69,7 +69,10 @@ impl<R: Rack> GroupSite<R> {
         ensures later { CountsAlike self.old self.new }
     {
         match self {
-            GroupSite::Up(group) if disk < group.shelf.units() as u64 => group.fail(disk as u32, on),
+            GroupSite::Up(group) if disk < group.shelf.units() as u64 => group.fail(
+                disk as u32,
+                on,
+            ),
             GroupSite::Deported(idle) if disk < idle.rack.units() as u64 => {
                 idle.fail(disk as u32, on)
             }

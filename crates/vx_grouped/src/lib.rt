@@ -1,7 +1,7 @@
 //! A group of disks as a site without a replicated volume group has it: what its calls make of what the site notes of the group.
 //!
 //! Its volumes are made, written and read by themselves, its plexes are detached and attached, and it is deported and imported. `GroupSite` is
-//! the disks of such a site, whatever became of its group. No line uses it yet.
+//! the disks of such a site, whatever became of its group; where it is not known what they hold they tell nothing of their contents.
 #![tactic(auto)]
 
 mod beginning;

@@ -3,7 +3,7 @@ ghost use Rattle.std.specs.Prelude.{◌≡◌, ◌<◌, Err, IfErr, IfSome, IsTr
 ghost use Rattle.vx_copies.specs.Commits.{MoreFailed};
 ghost use Rattle.vx_group.specs.Loses.{SameParts};
 ghost use Rattle.vx_group.specs.Makes.{MakeEnds, make_refusal};
-ghost use Rattle.vx_grouped.specs.Added.{IsStill, VolumeLeaves};
+ghost use Rattle.vx_grouped.specs.Added.{IsUnmoved, VolumeLeaves};
 ghost use Rattle.vx_grouped.specs.GroupNotes.{IsGroupAt};
 ghost use Rattle.vx_history.specs.Groups.{GroupNode};
 ghost use Rattle.vx_history.specs.World.{Node};
@@ -34,7 +34,7 @@ pub fn make_volume_of<S: Shelf>(
     ensures ends { make_refusal group.old.core.inner.config name.now want.now ≡ None → MakeEnds name.now want.now group.old.core.inner group.new.core.inner (S.meaning group.old.shelf) (S.meaning group.new.shelf) result }
     ensures trust { OnOk result (group.old.core.inner.committed ≡ true → group.new.core.inner.committed ≡ true) }
     ensures agreed { IfErr result (λ stop. group.old.core.inner.committed ≡ true → group.new.core.inner.agreed ≡ true) }
-    ensures still { IsStill result ((group.new.core ≡ group.old.core) × (group.new.shelf ≡ group.old.shelf)) }
+    ensures still { IsUnmoved result ((group.new.core ≡ group.old.core) × (group.new.shelf ≡ group.old.shelf)) }
     ensures parts { SameParts group.old.core.inner.config group.new.core.inner.config }
     ensures disks { MoreFailed (S.meaning group.old.shelf) (S.meaning group.new.shelf) group.old.core.inner.config.disks group.new.core.inner.config.disks }
 {

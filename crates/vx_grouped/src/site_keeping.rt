@@ -10,8 +10,8 @@ ghost use Rattle.vx_grouped.specs.SiteKeeps.{PlainKeeps, PlainKept};
 ghost use Rattle.vx_untold.specs.Shades.{shade_meaning};
 ghost use Rattle.vx_watched.specs.Since.{CalledSince};
 
-use crate::{GroupSite, Laid};
 use crate::keeping::kept_plain;
+use crate::{GroupSite, Laid};
 use std::marker::Brand;
 use std::mem;
 use vx_disk::Rack;

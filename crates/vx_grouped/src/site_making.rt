@@ -4,15 +4,15 @@ ghost use Rattle.vx_history.specs.Groups.{GroupNode};
 ghost use Rattle.vx_history.specs.World.{Node};
 ghost use Rattle.vx_model.specs.declared.errors.Stop.TheVariants.{No as Refused};
 ghost use Rattle.vx_model.specs.declared.no.No.{No as NoValue};
-ghost use Rattle.vx_grouped.specs.Added.{IsStill};
+ghost use Rattle.vx_grouped.specs.Added.{IsUnmoved};
 ghost use Rattle.vx_grouped.specs.GroupSites.{GroupUp, UpNoted, site_disks};
 ghost use Rattle.vx_grouped.specs.SiteAdds.{MakesVolume, SiteAdded, VolumeIn, refuses_volume};
 ghost use Rattle.vx_untold.specs.Shades.{shade_meaning};
 ghost use Rattle.vx_watched.specs.Since.{CalledSince};
 
-use crate::{GroupSite, Laid};
 use crate::making::make_volume_of;
 use crate::site_plexes::is_down_stop;
+use crate::{GroupSite, Laid};
 use std::alloc::Global;
 use std::marker::Brand;
 use std::mem;
@@ -33,7 +33,7 @@ fn make_from<B: Begun, R: Rack>(
     requires prefer { IfSome want.now.prefer (λ p. p < want.now.mirrors) }
     requires since { CalledSince B.first (R.meaning group.shelf) }
     ensures works { MakesVolume name.now want.now group.core (R.meaning group.shelf) result.0.core (R.meaning result.0.shelf) result.1 }
-    ensures still { IsStill result.1 ((result.0.core ≡ group.core) × (result.0.shelf ≡ group.shelf)) }
+    ensures still { IsUnmoved result.1 ((result.0.core ≡ group.core) × (result.0.shelf ≡ group.shelf)) }
     ensures since { CalledSince B.first (R.meaning result.0.shelf) }
 {
     let (rack, core) = group.apart();
@@ -55,7 +55,7 @@ fn make_watched<R: Rack>(
     requires up { IsTrue (shade_meaning (λ s. R.meaning s) laid.shelf).down → ⊥ }
     requires prefer { IfSome want.now.prefer (λ p. p < want.now.mirrors) }
     ensures works { MakesVolume name.now want.now laid.core (shade_meaning (λ s. R.meaning s) laid.shelf) result.0.core (shade_meaning (λ s. R.meaning s) result.0.shelf) result.1 }
-    ensures still { IsStill result.1 ((result.0.core ≡ laid.core) × (result.0.shelf ≡ laid.shelf)) }
+    ensures still { IsUnmoved result.1 ((result.0.core ≡ laid.core) × (result.0.shelf ≡ laid.shelf)) }
     ensures since { CalledSince (shade_meaning (λ s. R.meaning s) laid.shelf) (shade_meaning (λ s. R.meaning s) result.0.shelf) }
 {
     let (group, answer) = make_from::<Brand, Shade<R>>(alloc, laid.together(), name, want);

@@ -8,8 +8,8 @@ ghost use Rattle.vx_grouped.specs.SiteEnds.{PlainRead, PlainWrote, answers_down}
 ghost use Rattle.vx_untold.specs.Shades.{shade_meaning};
 ghost use Rattle.vx_watched.specs.Since.{CalledSince};
 
-use crate::{GroupSite, Laid};
 use crate::watching::{read_watched, write_watched};
+use crate::{GroupSite, Laid};
 use std::mem;
 use vx_disk::Rack;
 use vx_model::No;

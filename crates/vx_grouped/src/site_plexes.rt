@@ -9,8 +9,8 @@ ghost use Rattle.vx_grouped.specs.SiteEnds.{AttCalled, DetCalled, RegionsOf, is_
 ghost use Rattle.vx_untold.specs.Shades.{shade_meaning};
 ghost use Rattle.vx_watched.specs.Since.{CalledSince};
 
-use crate::{GroupSite, Laid};
 use crate::watching::{att_watched, det_watched};
+use crate::{GroupSite, Laid};
 use std::mem;
 use vx_disk::Rack;
 use vx_model::{No, Stop};

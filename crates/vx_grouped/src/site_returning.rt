@@ -106,7 +106,10 @@ fn recover_site<R: Rack>(alloc: Global, rack: Shade<R>) -> (GroupSite<R>, Result
     ensures since { ReturnSince (shade_meaning (λ s. R.meaning s) rack) (site_disks result.0) }
 {
     if !rack.is_down() {
-        return (GroupSite::Down(Idle::of(rack, true)), Err(Stop::No(No::Role)));
+        return (
+            GroupSite::Down(Idle::of(rack, true)),
+            Err(Stop::No(No::Role)),
+        );
     }
     match import_watched(alloc, risen(rack)) {
         Ok(laid) => {
@@ -150,10 +153,7 @@ fn import_site<R: Rack>(alloc: Global, rack: Shade<R>) -> (GroupSite<R>, Result<
             if is_down_stop(&stop) {
                 return (GroupSite::Down(Idle::of(rack, true)), Err(stop));
             }
-            (
-                GroupSite::Deported(Idle::of(risen(rack), true)),
-                Err(stop),
-            )
+            (GroupSite::Deported(Idle::of(risen(rack), true)), Err(stop))
         }
     }
 }

@@ -1,5 +1,5 @@
 -- A volume that is made: what it leaves, and refusals of disks that are down behind it.
-use Rattle.std.proofs.Common.{ap, length, refl, sym, ◌-◌, ◌∙◌, ◌≡◌}
+use Rattle.std.proofs.Common.{ℕ, ap, length, refl, sym, ◌-◌, ◌∙◌, ◌≡◌}
 use Rattle.std.specs.Prelude.{nat_le, nat_lt, not}
 use Rattle.std.specs.List.{list_any}
 use Rattle.vx_config.specs.Table.{greatest}
@@ -58,4 +58,4 @@ returns-else-is_down-clause-leaves g c = λ n note at.
     (λ is. let clash : refusal.Limit Number greatest ≡ refusal.Down = is in cc) (λ is. let clash : refusal.Size ≡ refusal.Down = is in cc))
 
 pub returns-else-is_down-clause-still : goal.returns-else-is_down-clause-still
-returns-else-is_down-clause-still g c = still_by c.in-Err.stop _ c.in-Err.ensures.unmoved
+returns-else-is_down-clause-still g c = still_by ℕ ℕ c.in-Err.stop _ c.in-Err.ensures.unmoved

@@ -3,4 +3,4 @@ use Rattle.vx_untold.specs.Shades.{shade_meaning}
 use Rattle.vx_grouped.proofs.site_keeping.kept_watched.Given as goal
 
 abbrev pub ghosts-kept_from : goal.ghosts-kept_from
-ghosts-kept_from g a = record { first = shade_meaning g.R.Shelf.meaning a.laid.shelf }
+ghosts-kept_from g a = record { first = shade_meaning g.R.Shelf.meaning a.group.shelf }

@@ -1,5 +1,5 @@
 -- A deport over the disks of a site.
-use Rattle.std.proofs.Common.{◌≡◌, true, refl, sym, subst}
+use Rattle.std.proofs.Common.{◌≡◌, true, refl}
 use Rattle.std.specs.Prelude.{Err}
 use Rattle.vx_model.specs.declared.site.SiteState.TheVariants.{Deported as IsDeported}
 use Rattle.vx_config.specs.declared.config.Config.{Config}
@@ -12,7 +12,7 @@ use Rattle.vx_grouped.specs.Away.{IsDeportedAt, note_deported}
 use Rattle.vx_grouped.specs.CoreMoves.{BackMoves}
 use Rattle.vx_grouped.specs.Ends.{CallLeaves}
 use Rattle.vx_grouped.specs.GroupNotes.{IsGroupAt}
-use Rattle.vx_grouped.proofs.CarryLemmas.{carried}
+use Rattle.vx_grouped.proofs.CarryLemmas.{carried, carried_two}
 use Rattle.vx_grouped.proofs.LeavingLemmas.{Refuses}
 use Rattle.vx_grouped.proofs.site_leaving.deport_watched.Goals as goal
 
@@ -47,4 +47,8 @@ returns-in-Err-clause-refusals g c =
     c.args.laid.core c.together.result.core c.of.result.core c.in-Err.group.core c.args.laid.shelf c.together.result.shelf c.of.result.shelf c.in-Err.group.shelf c.together.ensures.core c.together.ensures.shelf c.of.ensures.core c.of.ensures.shelf c.in-Err.ensures.refusals
 
 pub returns-in-Err-clause-since : goal.returns-in-Err-clause-since
-returns-in-Err-clause-since g c = subst (λ s. CalledSince (shade_meaning g.R.Shelf.meaning c.args.laid.shelf) (shade_meaning g.R.Shelf.meaning s)) (sym c.of.ensures.shelf) c.in-Err.ensures.since
+returns-in-Err-clause-since g c =
+    carried_two (λ s t. CalledSince (shade_meaning g.R.Shelf.meaning s) (shade_meaning g.R.Shelf.meaning t)) c.args.laid.shelf c.together.result.shelf c.of.result.shelf c.in-Err.group.shelf c.together.ensures.shelf c.of.ensures.shelf c.in-Err.ensures.since
+
+pub returns-in-Ok-clause-since : goal.returns-in-Ok-clause-since
+returns-in-Ok-clause-since g c = carried_two (λ s t. CalledSince (shade_meaning g.R.Shelf.meaning s) (shade_meaning g.R.Shelf.meaning t)) c.args.laid.shelf c.together.result.shelf c.in-Ok.rack c.in-Ok.rack c.together.ensures.shelf refl c.in-Ok.ensures.since

@@ -1,7 +1,7 @@
 -- A volume that is made over disks with an account.
 use Rattle.std.proofs.Common.{◌≡◌, ◌∙◌}
 use Rattle.vx_grouped.specs.SiteAdds.{MakesVolume}
-use Rattle.vx_grouped.specs.Added.{IsStill}
+use Rattle.vx_grouped.specs.Added.{IsUnmoved}
 use Rattle.vx_grouped.proofs.BothLemmas.{still_more}
 use Rattle.vx_grouped.proofs.CarryLemmas.{carried, shelf_of}
 use Rattle.vx_grouped.proofs.site_making.make_from.Goals as goal
@@ -16,7 +16,7 @@ returns-clause-works g c =
 
 pub returns-clause-still : goal.returns-clause-still
 returns-clause-still g c =
-    carried (λ x s y t. IsStill c.make_volume_of-answer.result ((y ≡ x) × (t ≡ s)))
+    carried (λ x s y t. IsUnmoved c.make_volume_of-answer.result ((y ≡ x) × (t ≡ s)))
     c.args.group.core c.together-group.result.core c.together.result.core c.make_volume_of-answer.new.group.core c.args.group.shelf c.together-group.result.shelf.shelf c.together.result.shelf c.make_volume_of-answer.new.group.shelf.shelf
     (c.together-group.ensures.core ∙ c.apart-rack.ensures.core) (shelf_of _ _ c.together-group.ensures.shelf ∙ c.over-watched.ensures ∙ c.apart-rack.ensures.shelf)
     (c.together.ensures.core ∙ c.apart-watched.ensures.core) (c.together.ensures.shelf ∙ c.into_shelf-rack.ensures.shelf ∙ shelf_of _ _ c.apart-watched.ensures.shelf)

@@ -3,7 +3,7 @@ use Rattle.std.proofs.Common.{◌≡◌, ◌∙◌, ℕ, subst, sym}
 use Rattle.vx_disk.specs.Disks.{Crashed}
 use Rattle.vx_untold.specs.Shades.{shade_meaning, shade_rack}
 use Rattle.vx_watched.proofs.SinceLemmas.{since_stop}
-use Rattle.vx_grouped.specs.Added.{IsStill}
+use Rattle.vx_grouped.specs.Added.{IsUnmoved}
 use Rattle.vx_grouped.specs.SiteAdds.{MakesVolume}
 use Rattle.vx_grouped.proofs.SiteAddLemmas.{made_cut, made_done, made_up, made_volume, make_down}
 use Rattle.vx_grouped.proofs.site_making.make_site.Goals as goal
@@ -36,4 +36,4 @@ returns-else-is_down_stop-clause-made g c = λ n note up.
     let racks = shade_rack g.R.Shelf.meaning is_rack in
     made_up n note c.args.name.now c.args.want.now c.args.laid c.make_watched-laid.result.0 up c.make_watched-laid.ensures.since c.spelled.ensures racks c.in-Err.stop (sym c.is_down_stop.ensures ∙ c.if-is_down_stop.false)
     (subst (λ r. MakesVolume c.args.name.now c.args.want.now c.args.laid.core (shade_meaning g.R.Shelf.meaning c.args.laid.shelf) c.make_watched-laid.result.0.core (shade_meaning g.R.Shelf.meaning c.make_watched-laid.result.0.shelf) r) c.in-Err.is c.make_watched-laid.ensures.works)
-    (subst (λ r. IsStill {T = ℕ} r ((c.make_watched-laid.result.0.core ≡ c.args.laid.core) × (c.make_watched-laid.result.0.shelf ≡ c.args.laid.shelf))) c.in-Err.is c.make_watched-laid.ensures.still)
+    (subst (λ r. IsUnmoved {T = ℕ} r ((c.make_watched-laid.result.0.core ≡ c.args.laid.core) × (c.make_watched-laid.result.0.shelf ≡ c.args.laid.shelf))) c.in-Err.is c.make_watched-laid.ensures.still)

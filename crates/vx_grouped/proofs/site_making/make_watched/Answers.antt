@@ -1,10 +1,10 @@
 -- The same over the disks of a site, of which contents are told or not.
-use Rattle.std.proofs.Common.{◌≡◌, sym, subst}
+use Rattle.std.proofs.Common.{◌≡◌}
 use Rattle.vx_untold.specs.Shades.{shade_meaning}
 use Rattle.vx_watched.specs.Since.{CalledSince}
-use Rattle.vx_grouped.specs.Added.{IsStill}
+use Rattle.vx_grouped.specs.Added.{IsUnmoved}
 use Rattle.vx_grouped.specs.SiteAdds.{MakesVolume}
-use Rattle.vx_grouped.proofs.CarryLemmas.{carried, since_at}
+use Rattle.vx_grouped.proofs.CarryLemmas.{carried, carried_two}
 use Rattle.vx_grouped.proofs.site_making.make_watched.Goals as goal
 
 pub returns-clause-works : goal.returns-clause-works
@@ -14,10 +14,11 @@ returns-clause-works g c =
     c.together.ensures.core c.together.ensures.shelf c.of.ensures.core c.of.ensures.shelf c.make_from-group.ensures.works
 
 pub returns-clause-since : goal.returns-clause-since
-returns-clause-since g c = subst (λ s. CalledSince (shade_meaning g.R.Shelf.meaning c.args.laid.shelf) (shade_meaning g.R.Shelf.meaning s)) (sym c.of.ensures.shelf) c.make_from-group.ensures.since
+returns-clause-since g c =
+    carried_two (λ s t. CalledSince (shade_meaning g.R.Shelf.meaning s) (shade_meaning g.R.Shelf.meaning t)) c.args.laid.shelf c.together.result.shelf c.of.result.shelf c.make_from-group.result.0.shelf c.together.ensures.shelf c.of.ensures.shelf c.make_from-group.ensures.since
 
 pub returns-clause-still : goal.returns-clause-still
 returns-clause-still g c =
-    carried (λ x s y t. IsStill c.make_from-group.result.1 ((y ≡ x) × (t ≡ s)))
+    carried (λ x s y t. IsUnmoved c.make_from-group.result.1 ((y ≡ x) × (t ≡ s)))
     c.args.laid.core c.together.result.core c.of.result.core c.make_from-group.result.0.core c.args.laid.shelf c.together.result.shelf c.of.result.shelf c.make_from-group.result.0.shelf
     c.together.ensures.core c.together.ensures.shelf c.of.ensures.core c.of.ensures.shelf c.make_from-group.ensures.still

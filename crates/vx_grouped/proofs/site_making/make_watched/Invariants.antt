@@ -3,4 +3,4 @@ use Rattle.vx_untold.specs.Shades.{shade_meaning}
 use Rattle.vx_grouped.proofs.site_making.make_watched.Given as goal
 
 abbrev pub ghosts-make_from : goal.ghosts-make_from
-ghosts-make_from g a = record { first = shade_meaning g.R.Shelf.meaning a.laid.shelf }
+ghosts-make_from g a = record { first = shade_meaning g.R.Shelf.meaning a.group.shelf }

@@ -12,7 +12,7 @@ returns-then-is_down-clause-since g c = return_at (λ s. shade_meaning g.R.Shelf
 pub returns-in-Ok-clause-imported : goal.returns-in-Ok-clause-imported
 returns-in-Ok-clause-imported g c = λ n note away.
     let is_rack = (g.met.R.Rack g.world.𝓛 g.world.𝓜 g.world.𝓡 ((λ s x. x), (λ x. x), (λ x. x), λ x. x)).rack in
-    imported_up n note (shade_rack g.R.Shelf.meaning is_rack) (shade_lawful g.R.Shelf.meaning g.met.R.Shelf.lawful) c.args.rack away c.in-Ok.laid c.in-Ok.ensures.since c.spelled.ensures (c.in-Ok.ensures.leaves n note)
+    imported_up n note (shade_rack g.R.Shelf.meaning is_rack) (shade_lawful g.R.Shelf.meaning (g.met.R.Shelf g.world.𝓛 g.world.𝓜 g.world.𝓡 ((λ s x. x), (λ x. x), (λ x. x), λ x. x)).lawful) c.args.rack away c.in-Ok.laid c.in-Ok.ensures.since c.spelled.ensures (c.in-Ok.ensures.leaves n note)
 
 pub returns-in-Ok-clause-since : goal.returns-in-Ok-clause-since
 returns-in-Ok-clause-since g c = return_calls (shade_meaning g.R.Shelf.meaning c.args.rack) (shade_meaning g.R.Shelf.meaning c.in-Ok.laid.shelf) c.in-Ok.ensures.since (is_up (shade_meaning g.R.Shelf.meaning c.in-Ok.laid.shelf).down c.in-Ok.ensures.up)
@@ -20,47 +20,47 @@ returns-in-Ok-clause-since g c = return_calls (shade_meaning g.R.Shelf.meaning c
 pub returns-then-not-is_down-clause-imported : goal.returns-then-not-is_down-clause-imported
 returns-then-not-is_down-clause-imported g c = λ n note away.
     let is_rack = (g.met.R.Rack g.world.𝓛 g.world.𝓜 g.world.𝓡 ((λ s x. x), (λ x. x), (λ x. x), λ x. x)).rack in
-    imported_early n note (shade_rack g.R.Shelf.meaning is_rack) (shade_lawful g.R.Shelf.meaning g.met.R.Shelf.lawful) c.args.rack away c.in-Err.rack c.in-Err.stop c.in-Err.ensures.since c.in-Err.ensures.stops c.requires c.of.result c.of.ensures.rack
+    imported_early n note (shade_rack g.R.Shelf.meaning is_rack) (shade_lawful g.R.Shelf.meaning (g.met.R.Shelf g.world.𝓛 g.world.𝓜 g.world.𝓡 ((λ s x. x), (λ x. x), (λ x. x), λ x. x)).lawful) c.args.rack away c.in-Err.rack c.in-Err.stop c.in-Err.ensures.since c.in-Err.ensures.stops c.requires c.of-then-not-is_down.result c.of-then-not-is_down.ensures.rack
     (sym c.is_early-early.ensures ∙ c.if-early.true) (not_down c.is_down-then-early.result (shade_meaning g.R.Shelf.meaning c.in-Err.rack).down c.is_down-then-early.ensures c.if-not-is_down.true)
 
 pub returns-then-not-is_down-clause-since : goal.returns-then-not-is_down-clause-since
 returns-then-not-is_down-clause-since g c =
-    return_at (λ s. shade_meaning g.R.Shelf.meaning s) (shade_meaning g.R.Shelf.meaning c.args.rack) c.in-Err.rack c.of.result.rack c.of.ensures.rack
+    return_at (λ s. shade_meaning g.R.Shelf.meaning s) (shade_meaning g.R.Shelf.meaning c.args.rack) c.in-Err.rack c.of-then-not-is_down.result.rack c.of-then-not-is_down.ensures.rack
     (return_calls (shade_meaning g.R.Shelf.meaning c.args.rack) (shade_meaning g.R.Shelf.meaning c.in-Err.rack) c.in-Err.ensures.since
     (is_up (shade_meaning g.R.Shelf.meaning c.in-Err.rack).down (not_down c.is_down-then-early.result (shade_meaning g.R.Shelf.meaning c.in-Err.rack).down c.is_down-then-early.ensures c.if-not-is_down.true)))
 
 pub of-requires-then-not-is_down-clause-can : goal.of-requires-then-not-is_down-clause-can
-of-requires-then-not-is_down-clause-can g c = λ agreed.
+of-requires-then-not-is_down-clause-can g c = λ κs lives agreed.
     still_can (shade_meaning g.R.Shelf.meaning c.args.rack) (shade_meaning g.R.Shelf.meaning c.in-Err.rack) c.in-Err.stop (sym c.is_early-early.ensures ∙ c.if-early.true) c.requires c.in-Err.ensures.stops
 
 pub returns-then-is_down_stop-clause-imported : goal.returns-then-is_down_stop-clause-imported
 returns-then-is_down_stop-clause-imported g c = λ n note away.
     let is_rack = (g.met.R.Rack g.world.𝓛 g.world.𝓜 g.world.𝓡 ((λ s x. x), (λ x. x), (λ x. x), λ x. x)).rack in
-    imported_down n note (shade_rack g.R.Shelf.meaning is_rack) (shade_lawful g.R.Shelf.meaning g.met.R.Shelf.lawful) c.args.rack away c.in-Err.rack c.in-Err.stop c.in-Err.ensures.since c.in-Err.ensures.stops c.requires
-    c.fallen.result c.fallen.ensures.fell c.fallen.ensures.counts c.fallen.ensures.since (λ early. c.fallen.ensures.stopped (c.is_early-early.ensures ∙ early)) (λ late. c.fallen.ensures.dark (c.is_early-early.ensures ∙ late))
-    c.of.result c.of.ensures.rack (sym c.is_down_stop.ensures ∙ c.if-is_down_stop.true)
+    imported_down n note (shade_rack g.R.Shelf.meaning is_rack) (shade_lawful g.R.Shelf.meaning (g.met.R.Shelf g.world.𝓛 g.world.𝓜 g.world.𝓡 ((λ s x. x), (λ x. x), (λ x. x), λ x. x)).lawful) c.args.rack away c.in-Err.rack c.in-Err.stop c.in-Err.ensures.since c.in-Err.ensures.stops c.requires
+    c.fallen-rack.result c.fallen-rack.ensures.fell c.fallen-rack.ensures.counts c.fallen-rack.ensures.since (λ early. c.fallen-rack.ensures.stopped (c.is_early-early.ensures ∙ early)) (λ late. c.fallen-rack.ensures.dark (c.is_early-early.ensures ∙ late))
+    c.of-then-is_down_stop.result c.of-then-is_down_stop.ensures.rack (sym c.is_down_stop.ensures ∙ c.if-is_down_stop.true)
 
 pub returns-then-is_down_stop-clause-since : goal.returns-then-is_down_stop-clause-since
 returns-then-is_down_stop-clause-since g c =
     let is_rack = (g.met.R.Rack g.world.𝓛 g.world.𝓜 g.world.𝓡 ((λ s x. x), (λ x. x), (λ x. x), λ x. x)).rack in
     let racks = shade_rack g.R.Shelf.meaning is_rack in
-    return_at (λ s. shade_meaning g.R.Shelf.meaning s) (shade_meaning g.R.Shelf.meaning c.args.rack) c.fallen.result c.of.result.rack c.of.ensures.rack
-    (return_all (shade_meaning g.R.Shelf.meaning c.args.rack) (shade_meaning g.R.Shelf.meaning c.args.rack) (shade_meaning g.R.Shelf.meaning c.in-Err.rack) (shade_meaning g.R.Shelf.meaning c.fallen.result)
-    (return_none (shade_meaning g.R.Shelf.meaning c.args.rack)) c.in-Err.ensures.since c.fallen.ensures.since (racks c.fallen.result) c.fallen.ensures.fell.unarmed)
+    return_at (λ s. shade_meaning g.R.Shelf.meaning s) (shade_meaning g.R.Shelf.meaning c.args.rack) c.fallen-rack.result c.of-then-is_down_stop.result.rack c.of-then-is_down_stop.ensures.rack
+    (return_all (shade_meaning g.R.Shelf.meaning c.args.rack) (shade_meaning g.R.Shelf.meaning c.args.rack) (shade_meaning g.R.Shelf.meaning c.in-Err.rack) (shade_meaning g.R.Shelf.meaning c.fallen-rack.result)
+    (return_none (shade_meaning g.R.Shelf.meaning c.args.rack)) c.in-Err.ensures.since c.fallen-rack.ensures.since (racks c.fallen-rack.result) c.fallen-rack.ensures.fell.unarmed)
 
 pub returns-else-is_down_stop-clause-imported : goal.returns-else-is_down_stop-clause-imported
 returns-else-is_down_stop-clause-imported g c = λ n note away.
     let is_rack = (g.met.R.Rack g.world.𝓛 g.world.𝓜 g.world.𝓡 ((λ s x. x), (λ x. x), (λ x. x), λ x. x)).rack in
-    imported_late n note (shade_rack g.R.Shelf.meaning is_rack) (shade_lawful g.R.Shelf.meaning g.met.R.Shelf.lawful) c.args.rack away c.in-Err.rack c.in-Err.stop c.in-Err.ensures.since c.in-Err.ensures.stops c.requires
-    c.fallen.result c.fallen.ensures.fell c.fallen.ensures.counts c.fallen.ensures.since (λ early. c.fallen.ensures.stopped (c.is_early-early.ensures ∙ early)) (λ late. c.fallen.ensures.dark (c.is_early-early.ensures ∙ late))
-    c.of.result c.risen.result c.of.ensures.rack (sym c.is_down_stop.ensures ∙ c.if-is_down_stop.false) c.risen.ensures.alike c.risen.ensures.up c.risen.ensures.armed
+    imported_late n note (shade_rack g.R.Shelf.meaning is_rack) (shade_lawful g.R.Shelf.meaning (g.met.R.Shelf g.world.𝓛 g.world.𝓜 g.world.𝓡 ((λ s x. x), (λ x. x), (λ x. x), λ x. x)).lawful) c.args.rack away c.in-Err.rack c.in-Err.stop c.in-Err.ensures.since c.in-Err.ensures.stops c.requires
+    c.fallen-rack.result c.fallen-rack.ensures.fell c.fallen-rack.ensures.counts c.fallen-rack.ensures.since (λ early. c.fallen-rack.ensures.stopped (c.is_early-early.ensures ∙ early)) (λ late. c.fallen-rack.ensures.dark (c.is_early-early.ensures ∙ late))
+    c.of-in-Err.result c.risen.result c.of-in-Err.ensures.rack (sym c.is_down_stop.ensures ∙ c.if-is_down_stop.false) c.risen.ensures.alike c.risen.ensures.up c.risen.ensures.armed
 
 pub returns-else-is_down_stop-clause-since : goal.returns-else-is_down_stop-clause-since
 returns-else-is_down_stop-clause-since g c =
     let is_rack = (g.met.R.Rack g.world.𝓛 g.world.𝓜 g.world.𝓡 ((λ s x. x), (λ x. x), (λ x. x), λ x. x)).rack in
     let racks = shade_rack g.R.Shelf.meaning is_rack in
-    return_at (λ s. shade_meaning g.R.Shelf.meaning s) (shade_meaning g.R.Shelf.meaning c.args.rack) c.risen.result c.of.result.rack c.of.ensures.rack
-    (return_then (shade_meaning g.R.Shelf.meaning c.args.rack) (shade_meaning g.R.Shelf.meaning c.fallen.result) (shade_meaning g.R.Shelf.meaning c.risen.result)
-    (return_all (shade_meaning g.R.Shelf.meaning c.args.rack) (shade_meaning g.R.Shelf.meaning c.args.rack) (shade_meaning g.R.Shelf.meaning c.in-Err.rack) (shade_meaning g.R.Shelf.meaning c.fallen.result)
-    (return_none (shade_meaning g.R.Shelf.meaning c.args.rack)) c.in-Err.ensures.since c.fallen.ensures.since (racks c.fallen.result) c.fallen.ensures.fell.unarmed)
+    return_at (λ s. shade_meaning g.R.Shelf.meaning s) (shade_meaning g.R.Shelf.meaning c.args.rack) c.risen.result c.of-in-Err.result.rack c.of-in-Err.ensures.rack
+    (return_then (shade_meaning g.R.Shelf.meaning c.args.rack) (shade_meaning g.R.Shelf.meaning c.fallen-rack.result) (shade_meaning g.R.Shelf.meaning c.risen.result)
+    (return_all (shade_meaning g.R.Shelf.meaning c.args.rack) (shade_meaning g.R.Shelf.meaning c.args.rack) (shade_meaning g.R.Shelf.meaning c.in-Err.rack) (shade_meaning g.R.Shelf.meaning c.fallen-rack.result)
+    (return_none (shade_meaning g.R.Shelf.meaning c.args.rack)) c.in-Err.ensures.since c.fallen-rack.ensures.since (racks c.fallen-rack.result) c.fallen-rack.ensures.fell.unarmed)
     c.risen.ensures.since)

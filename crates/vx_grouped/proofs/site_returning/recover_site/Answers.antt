@@ -9,22 +9,22 @@ pub returns-in-Ok-clause-recovered : goal.returns-in-Ok-clause-recovered
 returns-in-Ok-clause-recovered g c = λ n note down.
     let is_rack = (g.met.R.Rack g.world.𝓛 g.world.𝓜 g.world.𝓡 ((λ s x. x), (λ x. x), (λ x. x), λ x. x)).rack in
     let racks = shade_rack g.R.Shelf.meaning is_rack in
-    let laws = shade_lawful g.R.Shelf.meaning g.met.R.Shelf.lawful in
+    let laws = shade_lawful g.R.Shelf.meaning (g.met.R.Shelf g.world.𝓛 g.world.𝓜 g.world.𝓡 ((λ s x. x), (λ x. x), (λ x. x), λ x. x)).lawful in
     recovered_up n note racks laws c.args.rack c.risen.result down c.risen.ensures.alike c.risen.ensures.up c.risen.ensures.armed c.in-Ok.laid c.in-Ok.ensures.since c.spelled.ensures (c.in-Ok.ensures.leaves n note)
 
 pub returns-in-Err-clause-recovered : goal.returns-in-Err-clause-recovered
 returns-in-Err-clause-recovered g c = λ n note down.
     let is_rack = (g.met.R.Rack g.world.𝓛 g.world.𝓜 g.world.𝓡 ((λ s x. x), (λ x. x), (λ x. x), λ x. x)).rack in
     let racks = shade_rack g.R.Shelf.meaning is_rack in
-    let laws = shade_lawful g.R.Shelf.meaning g.met.R.Shelf.lawful in
-    recovered_not n note racks laws c.args.rack c.risen.result down c.risen.ensures.alike c.risen.ensures.up c.risen.ensures.armed c.in-Err.rack c.of.result c.fallen.result c.of.ensures.rack c.in-Err.stop c.in-Err.ensures.since c.in-Err.ensures.stops
+    let laws = shade_lawful g.R.Shelf.meaning (g.met.R.Shelf g.world.𝓛 g.world.𝓜 g.world.𝓡 ((λ s x. x), (λ x. x), (λ x. x), λ x. x)).lawful in
+    recovered_not n note racks laws c.args.rack c.risen.result down c.risen.ensures.alike c.risen.ensures.up c.risen.ensures.armed c.in-Err.rack c.of-in-Err.result c.fallen.result c.of-in-Err.ensures.rack c.in-Err.stop c.in-Err.ensures.since c.in-Err.ensures.stops
     (c.risen.ensures.can c.requires) c.fallen.ensures.fell c.fallen.ensures.counts c.fallen.ensures.since (λ early. c.fallen.ensures.stopped (c.is_early-early.ensures ∙ early)) (λ late. c.fallen.ensures.dark (c.is_early-early.ensures ∙ late))
 
 pub returns-in-Err-clause-since : goal.returns-in-Err-clause-since
 returns-in-Err-clause-since g c =
     let is_rack = (g.met.R.Rack g.world.𝓛 g.world.𝓜 g.world.𝓡 ((λ s x. x), (λ x. x), (λ x. x), λ x. x)).rack in
     let racks = shade_rack g.R.Shelf.meaning is_rack in
-    return_at (λ s. shade_meaning g.R.Shelf.meaning s) (shade_meaning g.R.Shelf.meaning c.args.rack) c.fallen.result c.of.result.rack c.of.ensures.rack
+    return_at (λ s. shade_meaning g.R.Shelf.meaning s) (shade_meaning g.R.Shelf.meaning c.args.rack) c.fallen.result c.of-in-Err.result.rack c.of-in-Err.ensures.rack
     (return_all (shade_meaning g.R.Shelf.meaning c.args.rack) (shade_meaning g.R.Shelf.meaning c.risen.result) (shade_meaning g.R.Shelf.meaning c.in-Err.rack) (shade_meaning g.R.Shelf.meaning c.fallen.result)
     c.risen.ensures.since c.in-Err.ensures.since c.fallen.ensures.since (racks c.fallen.result) c.fallen.ensures.fell.unarmed)
 

@@ -1,9 +1,8 @@
 -- The same over the disks of a site, of which contents are told or not.
-use Rattle.std.proofs.Common.{sym, subst}
 use Rattle.vx_untold.specs.Shades.{shade_meaning}
 use Rattle.vx_watched.specs.Since.{CalledSince}
 use Rattle.vx_grouped.specs.Watches.{PlexAtts}
-use Rattle.vx_grouped.proofs.CarryLemmas.{carried, since_at}
+use Rattle.vx_grouped.proofs.CarryLemmas.{carried, carried_two}
 use Rattle.vx_grouped.proofs.watching.att_watched.Goals as goal
 
 pub returns-clause-works : goal.returns-clause-works
@@ -13,4 +12,5 @@ returns-clause-works g c =
     c.together.ensures.core c.together.ensures.shelf c.of.ensures.core c.of.ensures.shelf c.att_from-group.ensures.works
 
 pub returns-clause-since : goal.returns-clause-since
-returns-clause-since g c = subst (λ s. CalledSince (shade_meaning g.R.Shelf.meaning c.args.laid.shelf) (shade_meaning g.R.Shelf.meaning s)) (sym c.of.ensures.shelf) c.att_from-group.ensures.since
+returns-clause-since g c =
+    carried_two (λ s t. CalledSince (shade_meaning g.R.Shelf.meaning s) (shade_meaning g.R.Shelf.meaning t)) c.args.laid.shelf c.together.result.shelf c.of.result.shelf c.att_from-group.result.0.shelf c.together.ensures.shelf c.of.ensures.shelf c.att_from-group.ensures.since

@@ -3,4 +3,4 @@ use Rattle.vx_untold.specs.Shades.{shade_meaning}
 use Rattle.vx_grouped.proofs.watching.det_watched.Given as goal
 
 abbrev pub ghosts-det_from : goal.ghosts-det_from
-ghosts-det_from g a = record { first = shade_meaning g.R.Shelf.meaning a.laid.shelf }
+ghosts-det_from g a = record { first = shade_meaning g.R.Shelf.meaning a.group.shelf }

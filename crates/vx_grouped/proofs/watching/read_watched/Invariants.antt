@@ -3,4 +3,4 @@ use Rattle.vx_untold.specs.Shades.{shade_meaning}
 use Rattle.vx_grouped.proofs.watching.read_watched.Given as goal
 
 abbrev pub ghosts-read_from : goal.ghosts-read_from
-ghosts-read_from g a = record { first = shade_meaning g.R.Shelf.meaning a.laid.shelf }
+ghosts-read_from g a = record { first = shade_meaning g.R.Shelf.meaning a.group.shelf }

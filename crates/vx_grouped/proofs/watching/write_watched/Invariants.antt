@@ -3,4 +3,4 @@ use Rattle.vx_untold.specs.Shades.{shade_meaning}
 use Rattle.vx_grouped.proofs.watching.write_watched.Given as goal
 
 abbrev pub ghosts-write_from : goal.ghosts-write_from
-ghosts-write_from g a = record { first = shade_meaning g.R.Shelf.meaning a.laid.shelf }
+ghosts-write_from g a = record { first = shade_meaning g.R.Shelf.meaning a.group.shelf }

@@ -2,7 +2,7 @@
 use Rattle.std.proofs.Common.{◌∙◌, sym, ◌≡◌, subst}
 use Rattle.std.specs.Prelude.{Some}
 use Rattle.vx_grouped.specs.GroupSites.{UpNoted}
-use Rattle.vx_grouped.specs.SiteEnds.{refuses_det}
+use Rattle.vx_grouped.specs.SiteEnds.{DetCalled, refuses_det}
 use Rattle.vx_grouped.proofs.SiteCarry.{others_as}
 use Rattle.vx_grouped.proofs.group_site.GroupSite.det.Goals as goal
 
@@ -11,3 +11,8 @@ returns-in-Up-clause-refused g c = λ n note why it is. c.det_site-site.ensures.
 
 pub returns-in-Up-clause-others : goal.returns-in-Up-clause-others
 returns-in-Up-clause-others g c = others_as c.args.self.now c.in-Up.group c.det_site-site.result.0 c.det_site-site.result.1 c.args.vol c.args.plex (sym c.replace.ensures.value ∙ c.in-Up.is) c.det_site-site.ensures.others
+
+pub returns-in-Up-clause-called : goal.returns-in-Up-clause-called
+returns-in-Up-clause-called g c = λ n note it.
+    subst (λ e. DetCalled n note c.args.vol c.args.plex e c.det_site-site.result.0 c.det_site-site.result.1) (sym (sym c.replace.ensures.value ∙ c.in-Up.is))
+    (c.det_site-site.ensures.called n note (subst (λ e. UpNoted n note e) (sym c.replace.ensures.value ∙ c.in-Up.is) it))

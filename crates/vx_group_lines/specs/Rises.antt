@@ -1,0 +1,104 @@
+-- How the group of a site comes up in a recovery.
+use Rattle.std.specs.Prelude.{◌≡◌, ◌⊎◌, ℕ, ◌/◌, List, length, map, Option, Some, None, slice_get, slice_set, false, Result, Ok, Err}
+use Rattle.vx_model.specs.declared.errors.OutOfMemory.{OutOfMemory}
+use Rattle.vx_model.specs.declared.errors.Stop.{Stop}
+use Rattle.vx_model.specs.declared.site.SiteState.TheVariants.{Down, Up}
+use Rattle.vx_history.specs.Doubts.{Doubted, happened}
+use Rattle.vx_history.specs.Groups.{GroupNode}
+use Rattle.vx_history.specs.World.{Node}
+use Rattle.vx_history.specs.declared.event.Event.TheVariants.{Crash as CrashAt}
+use Rattle.vx_disk.specs.declared.shelf.Shelf.{Ghosts}
+use Rattle.vx_config.specs.declared.config.Config.{Config}
+use Rattle.vx_grouped.specs.GroupSites.{UpNoted, site_config}
+use Rattle.vx_diskset.specs.Asked.{SameFailing}
+use Rattle.vx_diskset.specs.DiskSets.{Later}
+use Rattle.vx_diskset.specs.GroupCalls.{AtSite}
+use Rattle.vx_diskset.specs.Recovers.{LooksAt}
+use Rattle.vx_diskset.specs.declared.disk_set.DiskSet.{DiskSet}
+use Rattle.vx_diskset.specs.declared.group_set.CutWrite.{CutWrite}
+use Rattle.vx_diskset.specs.declared.group_set.KeptWrite.{KeptWrite}
+use Rattle.vx_order.specs.declared.facts.SiteFacts.{SiteFacts}
+use Rattle.vx_order.specs.declared.facts.VolumeFacts.{VolumeFacts}
+use Rattle.vx_report.specs.declared.view.Kept.{Kept}
+use Rattle.vx_script.specs.declared.line.ScriptLine.TheVariants.{Recover}
+use Rattle.vx_events.specs.Fails.{Fails}
+use Rattle.vx_events.specs.GroupEnds.{GroupEnds}
+use Rattle.vx_events.specs.GroupNotes.{note_at}
+use Rattle.vx_events.specs.GroupViews.{plain_fact}
+use Rattle.vx_events.specs.declared.said.Said.{Said}
+use Rattle.vx_events.specs.declared.said.Said.TheVariants.{Resumed}
+use Rattle.vx_yard.specs.Carries.{Carries}
+use Rattle.vx_yard.specs.Changes.{down_facts}
+use Rattle.vx_yard.specs.GroupFacts.{group_up_facts}
+use Rattle.vx_yard.specs.Loads.{LetGo}
+use Rattle.vx_yard.specs.Replies.{reply_to}
+use Rattle.vx_yard.specs.Standing.{StandsFor, StaysFor}
+use Rattle.vx_yard.specs.Stands.{RoseAll}
+use Rattle.vx_yard.specs.Yards.{IsTold, count_of}
+use Rattle.vx_yard.specs.declared.yard.Yard.{Yard}
+use Rattle.vx_group_lines.specs.Views.{view_with}
+
+-- ---- what is shown of a write that was cut
+
+-- with the name of its volume; nothing of a volume that is not there
+abbrev pub kept_of_volume : Option VolumeFacts → KeptWrite → Option Kept
+kept_of_volume None kept = None
+kept_of_volume (Some volume) kept = Some (record { volume = volume.name; block = kept.write.block; count = length kept.write.bytes / 512; bits = kept.bits })
+
+abbrev pub kept_shown : List VolumeFacts → Option KeptWrite → Option Kept
+kept_shown volumes None = None
+kept_shown volumes (Some kept) = kept_of_volume (slice_get volumes kept.write.volume) kept
+
+-- ---- the site
+
+-- The world e is d, in which site s is down, or what its crash left of it.
+pub record ComesDown (d e : Doubted) (s : ℕ) : Type 0 where
+  pub how : (((d.world.nodes s).state ≡ Down) × (e ≡ d)) ⊎ (((d.world.nodes s).state ≡ Up) × (e ≡ happened d (CrashAt s 0) false))
+  pub name : (e.world.nodes s).name ≡ (d.world.nodes s).name
+  pub disks : (e.world.nodes s).disks ≡ (d.world.nodes s).disks
+  pub blocks : (e.world.nodes s).blocks ≡ (d.world.nodes s).blocks
+  pub note : note_at (e.world.nodes s) ≡ note_at (d.world.nodes s)
+
+module _ {R : Type 0} {g : Ghosts R} where
+  -- ---- what is read of a write that was cut
+
+  -- What the tests see of a site that came up with this configuration, and the reply, by what was read.
+  abbrev pub StandsSo : (s : ℕ) → SiteFacts → Config → (after : DiskSet R g) → Result (Option KeptWrite) Stop → (old new : Yard R g) → Result Said OutOfMemory → Type 0
+  StandsSo s f c after (Ok kept) old new result =
+      (new.facts.items ≡ slice_set old.facts.items s (group_up_facts (map plain_fact c.volumes) f)) × (new.assemblies ≡ old.assemblies)
+      × ((k : Config) → AtSite (λ x. site_config x ≡ Some k) after
+      → result ≡ Ok (Resumed (view_with (group_up_facts (map plain_fact c.volumes) f) (Some k)) (kept_shown (map plain_fact c.volumes) kept)))
+  StandsSo s f c after (Err stop) old new result =
+      (new.facts.items ≡ slice_set old.facts.items s (down_facts (group_up_facts (map plain_fact c.volumes) f))) × LetGo s old.assemblies.items new.assemblies.items
+      × (result ≡ reply_to stop)
+
+  -- a look at the write that was cut, at a site that came up
+  pub record StoodUp (s : ℕ) (cut : Option CutWrite) (old new : Yard R g) (result : Result Said OutOfMemory) : Type 0 where
+    pub before : DiskSet R g
+    pub after : DiskSet R g
+    pub answer : Result (Option KeptWrite) Stop
+    pub there : slice_get old.disk_sets.items s ≡ Some before
+    pub disk_sets : new.disk_sets.items ≡ slice_set old.disk_sets.items s after
+    pub looks : (n : Node) (note : GroupNode) → AtSite (UpNoted n note) before → LooksAt n note cut before after answer
+    pub failing : SameFailing before after
+    pub later : Later before after
+    pub racks : new.racks ≡ old.racks
+    pub flight : new.flight ≡ old.flight
+    pub feeders : new.feeders ≡ old.feeders
+    pub dir : new.dir ≡ old.dir
+    pub so : (f : SiteFacts) (c : Config) → slice_get old.facts.items s ≡ Some f → AtSite (λ x. site_config x ≡ Some c) before → StandsSo s f c after answer old new result
+
+  -- ---- the recovery
+
+  -- A recovery of a site that is down in world e, whether it crashed in the same line or not, and whatever its name: it was answered so.
+  pub record RisesFor (e : Doubted) (s : ℕ) (said : Said) (old new : Yard R g) : Type 0 where
+    pub next : Doubted
+    pub fails : Fails
+    pub done : (d : Doubted) (name : List ℕ) → ComesDown d e s → GroupEnds (IsTold new) d (Recover name) s fails said next
+    pub stands : StandsFor next new
+    pub carries : Carries e old → Carries next new
+    pub rose : RoseAll fails (count_of old) (count_of new)
+
+  abbrev pub RisesIs : Doubted → ℕ → Yard R g → Yard R g → Result Said OutOfMemory → Type 0
+  RisesIs e s old new (Ok said) = RisesFor e s said old new
+  RisesIs e s old new (Err x) = StaysFor e old new
