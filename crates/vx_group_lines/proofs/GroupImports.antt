@@ -1,11 +1,10 @@
 -- The line that imports a group that was deported.
-use Rattle.std.proofs.Common.{◌≡◌, ◌≢◌, ◌∙◌, ◌⊎◌, ◌+◌, ◌<◌, ◌≤◌, ℕ, Bool, true, false, List, [], ◌∷◌, length, map, ap, sym, subst, refl, arith, inl, inr, ⊎_elim, IsTrue}
+use Rattle.std.proofs.Common.{◌≡◌, ◌∙◌, ◌⊎◌, ◌+◌, ◌<◌, ℕ, Bool, true, false, List, map, ap, sym, subst, refl, arith, inl, inr, IsTrue}
 use Rattle.std.specs.Prelude.{Contains, Option, Some, None, IsFalse, slice_get, slice_set, Result, Ok, Err}
 use Rattle.std.proofs.lemmas.Option.{slice_get_within}
 use Rattle.vx_model.specs.declared.errors.OutOfMemory.{OutOfMemory}
 use Rattle.vx_model.specs.declared.errors.Stop.{Stop}
 use Rattle.vx_model.specs.declared.errors.Stop.TheVariants.{No as StopsBy, OutOfMemory as MemoryStop}
-use Rattle.vx_model.specs.declared.limits.TheConstants.{MOST_NUMBER}
 use Rattle.vx_model.specs.declared.no.Counted.{Counted}
 use Rattle.vx_model.specs.declared.no.Counted.TheVariants.{Number as Numbers}
 use Rattle.vx_model.specs.declared.no.No.{No}
@@ -22,27 +21,24 @@ use Rattle.vx_history.specs.Doubts.{Doubted, happened}
 use Rattle.vx_history.specs.Groups.{GroupNode}
 use Rattle.vx_history.specs.Steps.{burned, crashed, group_up, worked_on}
 use Rattle.vx_history.specs.Stops.{IsFused}
-use Rattle.vx_history.specs.World.{Fuse as FuseOf, Node, NoFuse, World}
+use Rattle.vx_history.specs.World.{Node, NoFuse, World}
 use Rattle.vx_history.specs.declared.event.Event.TheVariants.{Crash as CrashAt, Group as GroupAt_}
 use Rattle.vx_history.specs.Sound.{is_at_rest}
-use Rattle.vx_kept.specs.Cleans.{at_serial}
 use Rattle.vx_order.specs.declared.facts.SiteFacts.{SiteFacts}
 use Rattle.vx_order.specs.declared.facts.VolumeFacts.{VolumeFacts}
-use Rattle.vx_script.specs.declared.line.ScriptLine.{ScriptLine}
 use Rattle.vx_script.specs.declared.line.ScriptLine.TheVariants.{GroupImport}
 use Rattle.vx_untold.specs.Shades.{shade_meaning}
 use Rattle.vx_untold.specs.declared.shade.Shade.{Shade}
 use Rattle.vx_untold.specs.declared.shade.Shade.TheVariants.{Bright, Dark}
-use Rattle.vx_watched.specs.Since.{FuseGoes, is_rack}
+use Rattle.vx_watched.specs.Since.{is_rack}
 use Rattle.vx_grouped.proofs.ReadyLemmas.{imported_same}
-use Rattle.vx_grouped.specs.GroupNotes.{NotesConfig}
-use Rattle.vx_grouped.specs.GroupSites.{AwayNoted, DownNoted, GroupAway, HasNoRvg, UpNoted, site_config, site_disks, with_note}
+use Rattle.vx_grouped.specs.GroupSites.{AwayNoted, DownNoted, HasNoRvg, UpNoted, site_config, site_disks, with_note}
 use Rattle.vx_grouped.specs.Readies.{ready_of}
 use Rattle.vx_grouped.specs.SiteEnds.{HasNow, burned_site, stops_down}
 use Rattle.vx_grouped.specs.SiteReturns.{ConfigReturns, ImportRefused, ImportWhy, KeepsFuse, NoteReturns, SiteImports, as_imported, returned_with}
 use Rattle.vx_grouped.specs.declared.group_site.GroupSite.{GroupSite}
 use Rattle.vx_grouped.specs.declared.group_site.GroupSite.TheVariants.{Up as SiteUp, Deported as SiteAway, Down as SiteDown, Marked, Gone as SiteGone}
-use Rattle.vx_diskset.specs.Asked.{FailsAs, FusedAs, SameFailing, disks_told}
+use Rattle.vx_diskset.specs.Asked.{FusedAs, SameFailing, disks_told}
 use Rattle.vx_diskset.specs.GroupCalls.{AtSite, OnSites, cut_in}
 use Rattle.vx_diskset.specs.GroupSets.{cut_value, noted_cut}
 use Rattle.vx_diskset.specs.Holds.{beside_of}
@@ -50,40 +46,36 @@ use Rattle.vx_diskset.specs.Stands.{IsToldAt}
 use Rattle.vx_diskset.specs.declared.disk_set.DiskSet.{DiskSet}
 use Rattle.vx_diskset.specs.declared.disk_set.DiskSet.TheVariants.{OfGroup}
 use Rattle.vx_diskset.specs.declared.group_set.GroupSet.{GroupSet}
-use Rattle.vx_events.proofs.Places.{some_same}
 use Rattle.vx_events.specs.Ends.{IsNoDevice}
 use Rattle.vx_events.specs.Fails.{Fails}
 use Rattle.vx_events.specs.Parts.{StopsRead}
-use Rattle.vx_events.specs.GroupEnds.{AreOf, FindsNoGroup, GroupCut, GroupDone, GroupEnds, GroupFails, GroupNotFound, ImportFails, ImportRefuses, KnowsNothing, NotFound, NotesBegun}
+use Rattle.vx_events.specs.GroupEnds.{AreOf, FindsNoGroup, GroupCut, GroupDone, GroupEnds, GroupFails, GroupNotFound, ImportFails, ImportRefuses, KnowsNothing, NotFound}
 use Rattle.vx_events.specs.GroupLines.{fuse_lost, noting}
 use Rattle.vx_events.specs.GroupNotes.{note_at}
-use Rattle.vx_events.specs.GroupViews.{noted_table, plain_fact}
+use Rattle.vx_events.specs.GroupViews.{plain_fact}
 use Rattle.vx_events.specs.StepsOver.{fact_of_group, group_place, over_group_at}
 use Rattle.vx_events.specs.declared.said.Said.{Said}
 use Rattle.vx_events.specs.declared.said.Said.TheVariants.{Done, Refused}
-use Rattle.vx_packet.specs.Assemblies.{Assembled}
 use Rattle.vx_yard.proofs.Carrying.{LetsGo, SameLoad}
 use Rattle.vx_yard.proofs.FuseStays.{fused_none}
 use Rattle.vx_yard.proofs.Lists.{get-set_same, set_same}
 use Rattle.vx_yard.proofs.OverGroup.{set_notes}
 use Rattle.vx_yard.specs.Changes.{down_facts}
 use Rattle.vx_yard.specs.GroupFacts.{group_up_facts}
-use Rattle.vx_yard.specs.Loads.{LetGoBy}
 use Rattle.vx_yard.specs.Standing.{LeadsOver, LeadsOverIs, LeadsOverOrStops, StandsFor, StopsFor}
-use Rattle.vx_yard.specs.Stands.{RoseAll}
 use Rattle.vx_yard.specs.Writes.{noted_facts}
-use Rattle.vx_yard.specs.Yards.{IsTold, count_of}
+use Rattle.vx_yard.specs.Yards.{IsTold}
 use Rattle.vx_yard.specs.declared.yard.Yard.{Yard}
 use Rattle.vx_group_lines.proofs.Arriving.{Arrives, arrives_crash, arrives_unfused, arrives_up, arrives_worked}
 use Rattle.vx_group_lines.proofs.Changing.{notes_table}
 use Rattle.vx_group_lines.proofs.Choosing.{or_stops}
-use Rattle.vx_group_lines.proofs.GroupAt.{GroupAt, away_notes, down_notes, no_value, uncut, up_notes}
+use Rattle.vx_group_lines.proofs.GroupAt.{away_notes, down_notes, no_value, uncut, up_notes}
 use Rattle.vx_group_lines.proofs.GroupCalls.{Called, SetThen, called_to, calls, calls_all, calls_are, calls_named, calls_none, cut_of, failing_to, fused_goes, sets_then, sized}
 use Rattle.vx_group_lines.proofs.GroupEnding.{IsQuiet, Midway, load_on, lets_on}
 use Rattle.vx_group_lines.proofs.GroupLeads.{Follows, away_set, down_set, follows_off, follows_on, leads_by, up_set}
 use Rattle.vx_group_lines.proofs.GroupMarks.{begins_at, group_noted_at, none_as, noting_same}
 use Rattle.vx_group_lines.proofs.Returning.{SitsOn, back_of}
-use Rattle.vx_group_lines.specs.Noting.{IsNotedRefusal, KeepsRest, reply_noted}
+use Rattle.vx_group_lines.specs.Noting.{IsNotedRefusal, reply_noted}
 
 -- ---- the disks as an import sees them
 

@@ -1,12 +1,11 @@
 -- The group, and the plex of it, that a line names; and what a reply to a refusal leaves.
-use Rattle.std.proofs.Common.{◌≡◌, ◌∙◌, ◌<◌, ◌≤◌, ℕ, Bool, true, List, length, ap, sym, subst, refl, arith}
-use Rattle.std.specs.Prelude.{Option, Some, None, IfOk, IsSome, is_some, min, slice_get, slice_set, unwrap_or, Result, Ok, Err}
+use Rattle.std.proofs.Common.{◌≡◌, ◌∙◌, ◌<◌, ◌≤◌, ℕ, true, List, ap, sym, subst, arith}
+use Rattle.std.specs.Prelude.{Option, Some, IfOk, IsSome, is_some, min, slice_get, unwrap_or, Result, Ok, Err}
 use Rattle.std.specs.Str.{bytes_eq}
 use Rattle.vx_model.specs.declared.errors.OutOfMemory.{OutOfMemory}
 use Rattle.vx_model.specs.declared.errors.Stop.{Stop}
 use Rattle.vx_model.specs.declared.errors.Stop.TheVariants.{No as StopsBy, OutOfMemory as MemoryStop}
 use Rattle.vx_model.specs.declared.site.SiteState.TheVariants.{Up as IsUp, Deported as IsDeported}
-use Rattle.vx_config.specs.declared.config.Config.{Config}
 use Rattle.vx_disk.specs.declared.shelf.Shelf.{Ghosts}
 use Rattle.vx_group.proofs.HoldLemmas.{narrow_sound}
 use Rattle.vx_history.specs.Doubts.{Doubted}
@@ -22,8 +21,7 @@ use Rattle.vx_grouped.specs.declared.group_site.GroupSite.{GroupSite}
 use Rattle.vx_grouped.specs.declared.group_site.GroupSite.TheVariants.{Up as SiteUp, Deported as SiteAway, Down as SiteDown, Marked, Gone as SiteGone}
 use Rattle.vx_diskset.specs.GroupCalls.{AtSite}
 use Rattle.vx_diskset.specs.declared.disk_set.DiskSet.{DiskSet}
-use Rattle.vx_events.proofs.Places.{some_same}
-use Rattle.vx_events.proofs.Refused.{FoundAt, Named}
+use Rattle.vx_events.proofs.Refused.{FoundAt}
 use Rattle.vx_events.specs.Facts.{place_of, seat_of}
 use Rattle.vx_events.specs.GroupLines.{plain_number}
 use Rattle.vx_events.specs.GroupNotes.{note_at}

@@ -1,13 +1,12 @@
 -- Each case of a line that imports a group.
-use Rattle.std.proofs.Common.{◌≡◌, ◌∙◌, ℕ, ap, sym, subst, refl}
-use Rattle.std.specs.Prelude.{Some, None, Ok, Err, is_some, slice_get, slice_set}
+use Rattle.std.proofs.Common.{◌∙◌, ap, sym, subst, refl}
+use Rattle.std.specs.Prelude.{Some, is_some, slice_get, slice_set}
 use Rattle.std.proofs.lemmas.Result.{err_from_is_err_and}
-use Rattle.vx_config.specs.declared.config.Config.{Config}
 use Rattle.vx_script.specs.declared.line.ScriptLine.TheVariants.{GroupImport}
 use Rattle.vx_grouped.specs.SiteReturns.{SiteImports}
 use Rattle.vx_diskset.proofs.KeepsFailing.{failing_same}
 use Rattle.vx_diskset.specs.Asked.{FuseGoesOn, SameFailing}
-use Rattle.vx_diskset.specs.GroupCalls.{OnSites, cut_in}
+use Rattle.vx_diskset.specs.GroupCalls.{OnSites}
 use Rattle.vx_diskset.specs.Recovers.{cut_past}
 use Rattle.vx_diskset.specs.declared.disk_set.DiskSet.TheVariants.{Gone}
 use Rattle.vx_events.specs.GroupNotes.{note_at}
