@@ -9,6 +9,10 @@ pub mod Losing
 pub mod GroupStatus
 pub mod GroupCalls
 pub mod Changing
+pub mod GroupPlain
+pub mod GroupWrite
+pub mod GroupRead
+pub mod GroupInit
 pub mod GroupShown
 pub mod Choosing
 pub mod Returning

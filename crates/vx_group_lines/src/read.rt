@@ -1,9 +1,14 @@
 // The lines that read blocks of a volume of a disk group.
-ghost use Rattle.std.specs.Prelude.{◌≡◌, ℕ, IsSome, true};
+ghost use Rattle.std.specs.Prelude.{◌≡◌, ℕ, IfOk, length, true};
 ghost use Rattle.vx_history.specs.Doubts.{Doubted};
 ghost use Rattle.vx_script.specs.declared.line.ScriptLine.{ScriptLine};
-ghost use Rattle.vx_group_lines.specs.Plain.{IsReadOf, IsRoomFor};
-ghost use Rattle.vx_events.specs.Facts.{seat_of};
+ghost use Rattle.vx_history.specs.Groups.{GroupNode};
+ghost use Rattle.vx_history.specs.World.{Node};
+ghost use Rattle.vx_grouped.specs.GroupSites.{FitsPlain, UpNoted};
+ghost use Rattle.vx_diskset.specs.Asked.{SameFailing};
+ghost use Rattle.vx_diskset.specs.DiskSets.{Later};
+ghost use Rattle.vx_diskset.specs.GroupCalls.{AtSite, CalledOn, OnSites, cut_in};
+ghost use Rattle.vx_group_lines.specs.Plain.{GavePlain, IsReadFree, IsReadOf, IsRoomFor};
 ghost use Rattle.vx_events.specs.StepsOver.{is_for_group};
 ghost use Rattle.vx_yard.specs.OfSites.{AsAsked};
 ghost use Rattle.vx_yard.specs.Standing.{LeadsOver, StandsFor};
@@ -36,7 +41,7 @@ pub fn read_plain<R: Rack>(
     room: Vec<u8>,
 ) -> Said
     requires kept { IsYardKept yard.old }
-    requires named { IsSome (seat_of yard.old.facts.items name.now) }
+    requires free { IsReadFree yard.old name.now volume.now start }
     ensures leads { (d : Doubted) (line : ScriptLine) (count : ℕ) → StandsFor d yard.old → IsReadOf line name.now volume.now start count → IsRoomFor count room.items → IsFree yard.old line → is_for_group d.world line ≡ true → LeadsOver d line result yard.old yard.new }
     ensures asked { (d : Doubted) (line : ScriptLine) (count : ℕ) → StandsFor d yard.old → IsReadOf line name.now volume.now start count → IsRoomFor count room.items → IsFree yard.old line → is_for_group d.world line ≡ true → AsAsked d.world line yard.old yard.new }
     ensures told { IsTold yard.new → IsTold yard.old }
