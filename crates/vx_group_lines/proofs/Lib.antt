@@ -3,6 +3,7 @@ pub mod Fails
 pub mod GroupAt
 pub mod GroupLeads
 pub mod Tests
+pub mod WorkLines
 pub mod GroupMarks
 pub mod Losing
 pub mod GroupStatus
