@@ -190,7 +190,7 @@ module _ {R : Type 0} {g : Ghosts R} where
     where
       by : (note.loose ≡ false) ⊎ HasFailed group.core.inner.config.disks → (note.loose ≡ false) ⊎ ((k : ℕ) × (d : DiskEntry) × (slice_get group.core.inner.config.disks k ≡ Some d) × (d.failed ≡ true))
       by (inl tight) = inl tight
-      by (inr some) = inr (some.disk, failed_entry group.core.inner.config.disks some.disk some.failed)
+      by (inr some) = let found = failed_entry group.core.inner.config.disks some.disk some.failed in inr (some.disk, found.0, found.1, found.2)
   first_note n m note site (SiteAway idle) first up empty loose = absurd up
   first_note n m note site (SiteDown idle) first up empty loose = absurd up
   first_note n m note site (Marked rack) first up empty loose = absurd up

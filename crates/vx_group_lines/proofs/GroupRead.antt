@@ -169,5 +169,5 @@ module _ {R : Type 0} {g : Ghosts R} where
   gave_plain n note v start into bytes before after done is read = subst (λ (bs : List ℕ). OnSites (λ o e. GavePlain n note v start o e (Ok bs)) before after) (sym is) read
 
   pub gave_none : (n : Node) (note : GroupNode) (v start : ℕ) (into : List ℕ) (before after : DiskSet R g) (no : No) → OnSites (λ o e. PlainRead n note v start into o e (Err no)) before after → OnSites (λ o e. GavePlain n note v start o e (Err no)) before after
-  gave_none n note v start into before after (Device disk) read = read
-  gave_none n note v start into before after other read = read
+  gave_none n kept v start into before after (Device disk) read = read
+  gave_none n kept v start into before after other read = read

@@ -27,7 +27,14 @@ fn blocks_of<R: Rack>(
     volume: u32,
     start: u64,
     mut room: Vec<u8>,
-) -> Result<Bytes, No> {
+) -> Result<Bytes, No>
+    ensures read { (n : Node) (note : GroupNode) → AtSite (UpNoted n note) disk_set.old → FitsPlain note volume start (length room.items) → OnSites (λ o e. GavePlain n note volume start o e result) disk_set.old disk_set.new }
+    ensures size { IfOk result (λ bytes. length bytes ≡ length room.items) }
+    ensures cut { cut_in disk_set.new ≡ cut_in disk_set.old }
+    ensures failing { SameFailing disk_set.old disk_set.new }
+    ensures later { Later disk_set.old disk_set.new }
+    ensures since { CalledOn disk_set.old disk_set.new }
+{
     disk_set.read_plain(volume, start, &mut room)?;
     Ok(Bytes::new(room))
 }

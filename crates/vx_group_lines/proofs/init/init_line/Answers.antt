@@ -1,5 +1,5 @@
 -- Each case of a line that makes a group of a bare site.
-use Rattle.std.proofs.Common.{◌≡◌, ◌∙◌, ℕ, ap, sym, subst, refl, arith}
+use Rattle.std.proofs.Common.{◌≡◌, ◌∙◌, ◌<◌, ℕ, ap, sym, subst, refl, arith}
 use Rattle.std.specs.Prelude.{[], slice_get, slice_set, Some, IfErr}
 use Rattle.vx_model.specs.declared.errors.Stop.{Stop}
 use Rattle.vx_order.specs.declared.facts.SiteFacts.{SiteFacts}
@@ -14,7 +14,7 @@ use Rattle.vx_events.specs.Facts.{seat_of}
 use Rattle.vx_events.specs.LinkedFacts.{linked_fact}
 use Rattle.vx_yard.proofs.ChangeSite.{raw_told}
 use Rattle.vx_yard.proofs.Lists.{get_at, set_twice}
-use Rattle.vx_yard.proofs.NamedSite.{asks_at, unbegun_for, unbegun_site}
+use Rattle.vx_yard.proofs.NamedSite.{asks_at, unbegun_site}
 use Rattle.vx_yard.proofs.Seats.{named_some}
 use Rattle.vx_yard.specs.GroupFacts.{group_up_facts}
 use Rattle.vx_yard.specs.Yards.{in_files}
@@ -37,7 +37,7 @@ returns-in-Ok-clause-leads g c = λ d stands over.
     let site = init_site d y c.args.name.now s e stands c.requires.kept c.requires.free seat there in
     let one = get_at y.facts.items s c.index.result.now c.site_of-site.ensures.fact c.index.ensures in
     let now = get_at y.facts.items s c.index_mut-in-Ok.result.now c.site_of-site.ensures.fact c.index_mut-in-Ok.ensures.value in
-    let some = omega (arith, c.else-disks-eq0.false, ap (λ (f : SiteFacts). f.disks) (some_same (sym one ∙ site.fact))) in
+    let some : 0 < (d.world.nodes s).disks = omega (arith, c.if-index-eq0.false, ap (λ (f : SiteFacts). f.disks) (some_same (sym one ∙ site.fact))) in
     init_done d y _ c.args.name.now s e c.init_group-disk_set.result.0 stands site
     (record {
       there = there;
@@ -60,7 +60,7 @@ returns-in-Err-clause-leads g c = λ d stands over.
     let there = at ∙ ap (λ e. Some e) (sym c.replace-disk_set.ensures.value) in
     let site = init_site d y c.args.name.now s e stands c.requires.kept c.requires.free seat there in
     let one = get_at y.facts.items s c.index.result.now c.site_of-site.ensures.fact c.index.ensures in
-    let some = omega (arith, c.else-disks-eq0.false, ap (λ (f : SiteFacts). f.disks) (some_same (sym one ∙ site.fact))) in
+    let some : 0 < (d.world.nodes s).disks = omega (arith, c.if-index-eq0.false, ap (λ (f : SiteFacts). f.disks) (some_same (sym one ∙ site.fact))) in
     init_stops d y _ c.args.name.now s e c.init_group-disk_set.result.0 stands site
     (record {
       there = there;
@@ -72,9 +72,6 @@ returns-in-Err-clause-leads g c = λ d stands over.
     (subst (λ r. InitIs s n e c.init_group-disk_set.result.0 r) c.in-Err.is (c.init_group-disk_set.ensures.begun (beside_of d s) n site.stood site.bare some site.large))
     (subst (λ r. IfErr r (λ (stop : Stop). SiteStands (beside_of d s) n c.init_group-disk_set.result.0)) c.in-Err.is (c.init_group-disk_set.ensures.stays (beside_of d s) n site.stood site.bare some site.large))
     refl
-
-pub returns-in-disks-eq0-clause-leads : goal.returns-in-disks-eq0-clause-leads
-returns-in-disks-eq0-clause-leads g c = λ d stands over. unbegun_for d c.args.yard.now stands
 
 pub returns-in-Ok-clause-asked : goal.returns-in-Ok-clause-asked
 returns-in-Ok-clause-asked g c = λ d stands over.
@@ -96,8 +93,8 @@ returns-in-Err-clause-asked g c = λ d stands over.
     (ap (λ e. slice_set (slice_set disk_sets s e) s c.init_group-disk_set.result.0) c.replace-disk_set.ensures.after ∙ set_twice disk_sets s Gone c.init_group-disk_set.result.0)
     c.init_group-disk_set.ensures.failing
 
-pub returns-in-disks-eq0-clause-asked : goal.returns-in-disks-eq0-clause-asked
-returns-in-disks-eq0-clause-asked g c = λ d stands over.
+pub returns-then-index-eq0-clause-asked : goal.returns-then-index-eq0-clause-asked
+returns-then-index-eq0-clause-asked g c = λ d stands over.
     unbegun_site SameFailing d c.args.yard.now c.args.name.now failing_same stands (init_may c.args.yard.now.facts.items (in_files c.args.yard.now) c.args.name.now c.requires.free).site
 
 pub returns-in-Ok-clause-told : goal.returns-in-Ok-clause-told

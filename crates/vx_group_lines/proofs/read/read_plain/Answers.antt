@@ -32,8 +32,7 @@ returns-in-Ok-clause-leads g c = λ d line count stands is room free over.
     let plain = plain_call d y c.args.name.now c.args.volume.now c.args.start count s c.volume_of-place.result e stands (read_over d.world line c.args.name.now c.args.volume.now c.args.start count is over) may seat at c.volume_of-place.ensures.place in
     let up = at_up d y c.args.name.now s e plain.at plain.up in
     let fits = plain_fits d y c.args.name.now c.args.volume.now c.args.start count s c.volume_of-place.result e _ plain room.size in
-    let called = record { at = plain.at; changed = record { there = at; later = c.in-Ok.ensures.later; disk_sets = refl; racks = refl }; failing = c.in-Ok.ensures.failing } in
-    read_done d y _ line c.args.name.now c.args.volume.now c.args.start count s c.volume_of-place.result e c.blocks_of.new.disk_set stands is plain called c.in-Ok.ensures.since refl (record { flight = refl; assemblies = refl; feeders = refl })
+    read_done d y _ line c.args.name.now c.args.volume.now c.args.start count s c.volume_of-place.result e c.blocks_of.new.disk_set stands is plain (record { at = plain.at; changed = record { there = at; later = c.in-Ok.ensures.later; disk_sets = refl; racks = refl }; failing = c.in-Ok.ensures.failing }) c.in-Ok.ensures.since refl (record { flight = refl; assemblies = refl; feeders = refl })
     c.in-Ok.blocks (c.in-Ok.ensures.size ∙ room.size)
     (c.in-Ok.ensures.read (d.world.nodes s) (note_at (d.world.nodes s)) up fits) c.in-Ok.ensures.cut
 
@@ -48,8 +47,7 @@ returns-in-Err-clause-leads g c = λ d line count stands is room free over.
     let plain = plain_call d y c.args.name.now c.args.volume.now c.args.start count s c.volume_of-place.result e stands (read_over d.world line c.args.name.now c.args.volume.now c.args.start count is over) may seat at c.volume_of-place.ensures.place in
     let up = at_up d y c.args.name.now s e plain.at plain.up in
     let fits = plain_fits d y c.args.name.now c.args.volume.now c.args.start count s c.volume_of-place.result e _ plain room.size in
-    let called = record { at = plain.at; changed = record { there = at; later = c.in-Err.ensures.later; disk_sets = refl; racks = refl }; failing = c.in-Err.ensures.failing } in
-    read_stops d y _ line c.args.name.now c.args.volume.now c.args.start count s c.volume_of-place.result e c.blocks_of.new.disk_set stands is plain called c.in-Err.ensures.since refl (record { flight = refl; assemblies = refl; feeders = refl })
+    read_stops d y _ line c.args.name.now c.args.volume.now c.args.start count s c.volume_of-place.result e c.blocks_of.new.disk_set stands is plain (record { at = plain.at; changed = record { there = at; later = c.in-Err.ensures.later; disk_sets = refl; racks = refl }; failing = c.in-Err.ensures.failing }) c.in-Err.ensures.since refl (record { flight = refl; assemblies = refl; feeders = refl })
     c.in-Err.no
     (c.in-Err.ensures.read (d.world.nodes s) (note_at (d.world.nodes s)) up fits) c.in-Err.ensures.cut
 
