@@ -25,3 +25,5 @@ pub mod GroupEnding
 pub mod GroupDone
 pub mod GroupPlex
 pub mod GroupAttach
+pub mod GroupVolume
+pub mod VolumeLine
