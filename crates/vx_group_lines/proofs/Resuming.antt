@@ -377,7 +377,6 @@ module _ {R : Type 0} {g : Ghosts R} where
           view = view_with (group_up_facts (map plain_fact c.volumes) (fact_of_group n note)) (Some has.config)
 
           replied : result ≡ Ok (Resumed view shown)
-          unfolding view shown
           replied = so.2 has.config (subst (λ (x : DiskSet R g). AtSite (λ y. site_config y ≡ Some has.config) x) (sym t.is) has.has)
 
           load : SameLoad old new
@@ -396,13 +395,11 @@ module _ {R : Type 0} {g : Ghosts R} where
               (so.0 ∙ ap (λ (fs : List SiteFacts). slice_set fs s (group_up_facts (map plain_fact c.volumes) (fact_of_group n note))) half.facts) load
 
           seen : (d : Doubted) → ComesDown d e s → view ≡ grouped_view (record (d.world.nodes s) { state = IsUp }) next
-          unfolding view
           seen d comes =
               ap (λ (f : SiteFacts). view_with f (Some has.config)) (up_seen n note next c reads) ∙ view_up (risen_node next n) next t.set.site has.config holds has.has
               ∙ named_view n (d.world.nodes s) next comes.name
 
           shows : IsTrue (site_disks t.set.site).tells → (d : Doubted) → ComesDown d e s → ShowsKept (IsTold new) (note_at (d.world.nodes s)).cut next shown
-          unfolding shown
           shows yes_ d comes =
               let tells = (since t.set t.is).tells yes_ in
               subst (λ (w : Option Write). ShowsKept (IsTold new) w next (kept_shown (map plain_fact c.volumes) kept)) (cut_for d comes)
@@ -435,7 +432,7 @@ module _ {R : Type 0} {g : Ghosts R} where
         rose = calls_all e old new [] s before after begin.stands call (MOST_DISKS + suc disk);
       })
         where
-          abbrev k : Node
+          k : Node
           k = crashed (with_note (still_cut cut next) (returned_with next (e.world.nodes s))) 0
 
           t : SetThen (DownNoted (crashed (with_note (still_cut cut next) (returned_with next (e.world.nodes s))) 0) (still_cut cut next)) after

@@ -95,6 +95,7 @@ fn filled(alloc: Global, count: u64, fill: u8) -> Result<Vec<u8>, OutOfMemory>
     Ok(bytes)
 }
 
+#[tactic(none)]
 // The lines that write and read a volume.
 fn work_blocks<R: Rack>(
     yard: &mut Yard<R>,
@@ -147,6 +148,7 @@ fn work_blocks<R: Rack>(
     }
 }
 
+#[tactic(none)]
 /// Does a line that no test refuses and that goes to the group of its site. A recovery of a group that is up may want memory behind its crash.
 pub fn work_group<R: Rack>(
     yard: &mut Yard<R>,
