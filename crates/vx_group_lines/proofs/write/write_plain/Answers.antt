@@ -1,13 +1,15 @@
 -- Each case of a line that writes to a volume of a group.
-use Rattle.std.proofs.Common.{◌≡◌, ap, subst, refl}
+use Rattle.std.proofs.Common.{◌≡◌, ap, sym, subst, refl}
 use Rattle.std.specs.Prelude.{Some, is_some}
 use Rattle.vx_model.specs.Content.{blocks_in}
 use Rattle.vx_events.specs.Facts.{seat_of}
 use Rattle.vx_events.specs.GroupNotes.{note_at}
 use Rattle.vx_events.specs.StepsOver.{fact_of_group}
+use Rattle.vx_events.specs.declared.said.Said.{Said}
 use Rattle.vx_yard.proofs.ChangeSite.{told_before}
 use Rattle.vx_yard.proofs.Lists.{get_at}
 use Rattle.vx_yard.proofs.Seats.{named_some, volume_there}
+use Rattle.vx_yard.specs.Standing.{LeadsOver}
 use Rattle.vx_yard.specs.Stands.{AreTold}
 use Rattle.vx_group_lines.proofs.GroupCalls.{at_up}
 use Rattle.vx_group_lines.proofs.GroupPlain.{plain_call, plain_fits}
@@ -52,10 +54,11 @@ returns-in-Err-clause-leads g c = λ d line stands is free over.
     let up = at_up d y c.args.name.now s e plain.at plain.up in
     let fits = plain_fits d y c.args.name.now c.args.volume.now c.args.start (blocks_in c.args.bytes.now) s c.volume_of-place.result e _ plain (block_count line c.args.name.now c.args.volume.now c.args.start c.args.bytes.now is) in
     let same = c.group_refused.ensures.same in
-    write_stops d y c.group_refused.new.yard line c.args.name.now c.args.volume.now c.args.start c.args.bytes.now s c.volume_of-place.result e c.write_plain.new.self stands is plain (record { at = plain.at; changed = record { there = at; later = c.in-Err.ensures.later; disk_sets = ap (λ es. es.items) same.disk_sets; racks = same.racks }; failing = c.in-Err.ensures.failing }) c.in-Err.ensures.since c.in-Err.no
+    subst (λ (r : Said). LeadsOver d line r y c.group_refused.new.yard) (sym c.group_refused.ensures.said)
+    (write_stops d y c.group_refused.new.yard line c.args.name.now c.args.volume.now c.args.start c.args.bytes.now s c.volume_of-place.result e c.write_plain.new.self stands is plain (record { at = plain.at; changed = record { there = at; later = c.in-Err.ensures.later; disk_sets = ap (λ es. es.items) same.disk_sets; racks = same.racks }; failing = c.in-Err.ensures.failing }) c.in-Err.ensures.since c.in-Err.no
     (c.in-Err.ensures.wrote (d.world.nodes s) (note_at (d.world.nodes s)) up fits) (c.in-Err.ensures.cut (d.world.nodes s) (note_at (d.world.nodes s)) up)
     (c.group_refused.ensures.facts (fact_of_group (d.world.nodes s) (note_at (d.world.nodes s))) plain.at.fact)
-    (record { flight = same.flight; assemblies = c.group_refused.ensures.assemblies; feeders = ap (λ fs. fs.items) same.feeders })
+    (record { flight = same.flight; assemblies = c.group_refused.ensures.assemblies; feeders = ap (λ fs. fs.items) same.feeders }))
 
 pub returns-in-Ok-clause-asked : goal.returns-in-Ok-clause-asked
 returns-in-Ok-clause-asked g c = λ d line stands is free over.
