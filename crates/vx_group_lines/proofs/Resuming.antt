@@ -1,6 +1,6 @@
 -- What a recovery of a group that is down leads a yard to: its group comes up, or it is refused.
 use Rattle.std.proofs.Common.{◌≡◌, ◌∙◌, ◌⊎◌, inl, inr, ⊎_elim, ◌+◌, ◌<◌, ◌≤◌, ℕ, suc, Bool, true, false, List, [], ◌∷◌, length, map, ap, sym, subst, refl, arith, IsTrue}
-use Rattle.std.specs.Prelude.{◌&&◌, Contains, Option, Some, None, slice_get, slice_set, Result, Ok, Err}
+use Rattle.std.specs.Prelude.{◌&&◌, is_some, Contains, Option, Some, None, slice_get, slice_set, Result, Ok, Err}
 use Rattle.std.proofs.lemmas.Option.{slice_get_within}
 use Rattle.vx_model.specs.Content.{Content, Write}
 use Rattle.vx_model.specs.Sites.{is_up}
@@ -13,7 +13,7 @@ use Rattle.vx_model.specs.declared.no.Counted.TheVariants.{Number as Numbers}
 use Rattle.vx_model.specs.declared.no.No.{No}
 use Rattle.vx_model.specs.declared.no.No.TheVariants.{Damaged, Device, Format, Limit, Missing as Lacks, NoConfig}
 use Rattle.vx_model.specs.declared.site.SiteState.{SiteState}
-use Rattle.vx_model.specs.declared.site.SiteState.TheVariants.{Up as IsUp, Down as IsDown}
+use Rattle.vx_model.specs.declared.site.SiteState.TheVariants.{Bare as IsBare, Up as IsUp, Deported as IsDeported, Down as IsDown}
 use Rattle.vx_disk.specs.Counts.{Rose}
 use Rattle.vx_disk.specs.declared.shelf.Shelf.{Ghosts}
 use Rattle.vx_config.specs.Checks.{blocks_of}
@@ -25,7 +25,7 @@ use Rattle.vx_history.specs.Groups.{GroupNode}
 use Rattle.vx_history.specs.Sound.{is_at_rest}
 use Rattle.vx_history.specs.Steps.{crashed, group_up}
 use Rattle.vx_history.specs.World.{Node}
-use Rattle.vx_history.specs.declared.event.Event.TheVariants.{Crash as CrashAt, Group as GroupAt}
+use Rattle.vx_history.specs.declared.event.Event.TheVariants.{Crash as CrashAt, Group as Regroup}
 use Rattle.vx_order.specs.declared.facts.SiteFacts.{SiteFacts}
 use Rattle.vx_order.specs.declared.facts.VolumeFacts.{VolumeFacts}
 use Rattle.vx_report.specs.declared.view.Kept.{Kept}
@@ -66,18 +66,20 @@ use Rattle.vx_yard.proofs.ChangeSite.{rose_none}
 use Rattle.vx_yard.proofs.FailsStay.{fails_then}
 use Rattle.vx_yard.proofs.FuseStays.{fused_none}
 use Rattle.vx_yard.proofs.Lists.{get-set_same, set_same, set_twice}
-use Rattle.vx_yard.proofs.OneSite.{Changed}
+use Rattle.vx_yard.proofs.OneSite.{Changed, told_by}
 use Rattle.vx_yard.proofs.RecoverLine.{rose_then}
 use Rattle.vx_yard.specs.Carries.{Carries}
 use Rattle.vx_yard.specs.Changes.{down_facts}
 use Rattle.vx_yard.specs.GroupFacts.{group_up_facts}
 use Rattle.vx_yard.specs.Loads.{LetGo}
+use Rattle.vx_yard.specs.OfSites.{OfSite}
+use Rattle.vx_yard.specs.Replies.{reply_to}
 use Rattle.vx_yard.specs.Standing.{Falls, LeadsOverOrStops, StandsFor, crash_of}
 use Rattle.vx_yard.specs.Stands.{RoseAll}
-use Rattle.vx_yard.specs.Yards.{IsTold, count_of}
+use Rattle.vx_yard.specs.Yards.{IsTold, count_of, in_files}
 use Rattle.vx_yard.specs.declared.yard.Yard.{Yard}
 use Rattle.vx_packet.specs.Assemblies.{Assembled}
-use Rattle.vx_group_lines.specs.Noting.{IsNotedRefusal, KeepsRest, reply_noted}
+use Rattle.vx_group_lines.specs.Noting.{HasConfig, IsNotedRefusal, KeepsRest, reply_noted}
 use Rattle.vx_group_lines.specs.Rises.{ComesDown, RisesFor, RisesIs, StandsSo, StoodUp, kept_shown}
 use Rattle.vx_group_lines.specs.Views.{view_with}
 use Rattle.vx_group_lines.proofs.Arriving.{Arrives, arrives_crash, arrives_noted, arrives_up, noted_at}
@@ -313,181 +315,182 @@ module _ {R : Type 0} {g : Ghosts R} where
       pub feeders : new.feeders ≡ mid.feeders
 
     module _
-      (m : GroupSite R g) (next : GroupNode) (back : NoteReturns (IsTrue (site_disks m).tells) (note_at (e.world.nodes s)) next) (config : ConfigReturns (note_at (e.world.nodes s)) next (as_imported call.at.set.site) m)
-      (since : (set : GroupSet R g) → after ≡ OfGroup set → SinceThen m set.site) (cut : Option CutWrite) (cut_is : cut ≡ call.at.set.cut) (c : Config) (reads : config_of next.config ≡ Some (at_serial 0 c))
-      (mid : Yard R g) (half : HalfWay mid) (result : Result Said OutOfMemory)
+        (m : GroupSite R g) (next : GroupNode) (back : NoteReturns (IsTrue (site_disks m).tells) (note_at (e.world.nodes s)) next) (config : ConfigReturns (note_at (e.world.nodes s)) next (as_imported call.at.set.site) m)
+        (since : (set : GroupSet R g) → after ≡ OfGroup set → SinceThen m set.site) (cut : Option CutWrite) (cut_is : cut ≡ call.at.set.cut) (c : Config) (reads : config_of next.config ≡ Some (at_serial 0 c))
+        (mid : Yard R g) (half : HalfWay mid) (result : Result Said OutOfMemory)
       where
-      sizes : (v : ℕ) → next.bytes.size v ≡ blocks_of c.volumes v
-      sizes v =
-          config.sizes v ∙ ap (λ (vs : List VolumeEntry). blocks_of vs v) (some_config {config.now} {c} (sym (config_is next.config config.now config.noted_now.is config.noted_now.spells) ∙ reads))
+        sizes : (v : ℕ) → next.bytes.size v ≡ blocks_of c.volumes v
+        sizes v =
+            config.sizes v ∙ ap (λ (vs : List VolumeEntry). blocks_of vs v) (some_config config.now c (sym (config_is next.config config.now config.noted_now.is config.noted_now.spells) ∙ reads))
 
-      back_for : (told : Type 0) (set : GroupSet R g) (is : after ≡ OfGroup set) (many : ℕ) → MOST_DISKS ≤ many → (told → IsTrue (site_disks set.site).tells) → (d : Doubted) → ComesDown d e s
-          → NotesBack told s (d.world.nodes s) (calls s old new many) (note_at (d.world.nodes s)) next
-      back_for told set is many enough tells d comes =
-          let sits : SitsOn n (as_imported call.at.set.site) = sits_down n note call.at.set.site is_down in
-          subst (λ (k : GroupNode). NotesBack told s (d.world.nodes s) (calls s old new many) k next) comes.note
-          (back_of told s (d.world.nodes s) note next (as_imported call.at.set.site) m (calls s old new many) (λ yes_. (since set is).tells (tells yes_))
-          (record { units = sits.units ∙ comes.disks; size = λ u low. sits.size u (omega (arith, low, comes.disks)) ∙ comes.blocks }) back config
-          (λ k low rose.
-          calls_named e old new [] s before after begin.stands call call.at.set set call.at.is_set is many k (omega (arith, low, comes.disks, sized.few, enough))
-          (rose_up ((site_disks call.at.set.site).disk_faults k) ((as_imported call.at.set.site).disk_faults k) ((site_disks m).disk_faults k) ((site_disks set.site).disk_faults k)
-          ((imported_same {R = R} {g = g} call.at.set.site).counts k) rose ((since set is).counts k))))
+        back_for : (told : Type 0) (set : GroupSet R g) (is : after ≡ OfGroup set) (many : ℕ) → MOST_DISKS ≤ many → (told → IsTrue (site_disks set.site).tells) → (d : Doubted) → ComesDown d e s
+            → NotesBack told s (d.world.nodes s) (calls s old new many) (note_at (d.world.nodes s)) next
+        back_for told set is many enough tells d comes =
+            let sits : SitsOn n (as_imported call.at.set.site) = sits_down n note call.at.set.site is_down in
+            subst (λ (k : GroupNode). NotesBack told s (d.world.nodes s) (calls s old new many) k next) comes.note
+            (back_of told s (d.world.nodes s) note next (as_imported call.at.set.site) m (calls s old new many) (λ yes_. (since set is).tells (tells yes_))
+            (record { units = sits.units ∙ comes.disks; size = λ u low. sits.size u (omega (arith, low, comes.disks)) ∙ comes.blocks }) back config
+            (λ k low rose.
+            calls_named e old new [] s before after begin.stands call call.at.set set call.at.is_set is many k (omega (arith, low, comes.disks, sized.few, enough))
+            (rose_up ((site_disks call.at.set.site).disk_faults k) ((as_imported call.at.set.site).disk_faults k) ((site_disks m).disk_faults k) ((site_disks set.site).disk_faults k)
+            ((imported_same {R = R} {g = g} call.at.set.site).counts k) rose ((since set is).counts k))))
 
-      cut_for : (d : Doubted) → ComesDown d e s → cut_value cut ≡ (note_at (d.world.nodes s)).cut
-      cut_for d comes = ap (λ (o : Option CutWrite). cut_value o) cut_is ∙ was_cut ∙ ap (λ (k : GroupNode). k.cut) comes.note
+        cut_for : (d : Doubted) → ComesDown d e s → cut_value cut ≡ (note_at (d.world.nodes s)).cut
+        cut_for d comes = ap (λ (o : Option CutWrite). cut_value o) cut_is ∙ was_cut ∙ ap (λ (k : GroupNode). k.cut) comes.note
 
-      -- the write that was cut lies in its volume still, where contents are told
-      lies_now : IsTrue (site_disks m).tells → (x : CutWrite) → FitsPlain (note_at (e.world.nodes s)) x.volume x.block (length x.bytes) → FitsPlain next x.volume x.block (length x.bytes)
-      lies_now yes_ x fits = record {
-        some = fits.some;
-        whole = fits.whole;
-        within = omega (arith, fits.within, back.size yes_ x.volume (omega (arith, fits.some, fits.whole, fits.within)));
-      }
+        -- the write that was cut lies in its volume still, where contents are told
+        lies_now : IsTrue (site_disks m).tells → (x : CutWrite) → FitsPlain (note_at (e.world.nodes s)) x.volume x.block (length x.bytes) → FitsPlain next x.volume x.block (length x.bytes)
+        lies_now yes_ x fits = record {
+          some = fits.some;
+          whole = fits.whole;
+          within = omega (arith, fits.within, back.size yes_ x.volume (omega (arith, fits.some, fits.whole, fits.within)));
+        }
 
-      risen : Arrives e (happened e (GroupAt s) false) s (group_up (e.world.nodes s)) (e.world.gathering s)
-      risen =
-          let none = (down_notes n note call.at.set.site is_down).0.none in
-          arrives_up e e s n (e.world.gathering s) starts begin.below (ap (λ (t : SiteState). is_at_rest t) begin.down) none.role none.volumes none.log
+        risen : Arrives e (happened e (Regroup s) false) s (group_up (e.world.nodes s)) (e.world.gathering s)
+        risen =
+            let none = (down_notes n note call.at.set.site is_down).0.none in
+            arrives_up e e s n (e.world.gathering s) starts begin.below (ap (λ (t : SiteState). is_at_rest t) begin.down) none.role none.volumes none.log
 
-      -- it stays up, with what is kept
-      kept_up : (kept : Option KeptWrite) → AtSite (UpNoted (burned_site (returned_with next (e.world.nodes s))) next) after → cut_in after ≡ None → KeptIs next (site_disks m) cut kept
-          → StandsSo s (fact_of_group (e.world.nodes s) (note_at (e.world.nodes s))) c after (Ok kept) mid new result → RisesIs e s old new result
-      kept_up kept at clear is_kept so = subst (λ (r : Result Said OutOfMemory). RisesIs e s old new r) (sym replied) (record {
-        next = noted_at (happened e (GroupAt s) false) s next;
-        fails = calls s old new MOST_DISKS;
-        done = ends;
-        stands = follows.stands;
-        carries = follows.carries;
-        rose = calls_all e old new [] s before after begin.stands call MOST_DISKS;
-      })
-        where
-          t : SetThen (UpNoted (burned_site (returned_with next (e.world.nodes s))) next) after
-          t = set_then (UpNoted (burned_site (returned_with next n)) next) after at
+        -- it stays up, with what is kept
+        kept_up : (kept : Option KeptWrite) → AtSite (UpNoted (burned_site (returned_with next (e.world.nodes s))) next) after → cut_in after ≡ None → KeptIs next (site_disks m) cut kept
+            → StandsSo s (fact_of_group (e.world.nodes s) (note_at (e.world.nodes s))) c after (Ok kept) mid new result → RisesIs e s old new result
+        kept_up kept at clear is_kept so = subst (λ (r : Result Said OutOfMemory). RisesIs e s old new r) (sym replied) (record {
+          next = noted_at (happened e (Regroup s) false) s next;
+          fails = calls s old new MOST_DISKS;
+          done = ends;
+          stands = follows.stands;
+          carries = follows.carries;
+          rose = calls_all e old new [] s before after begin.stands call MOST_DISKS;
+        })
+          where
+            t : SetThen (UpNoted (burned_site (returned_with next (e.world.nodes s))) next) after
+            t = set_then (UpNoted (burned_site (returned_with next n)) next) after at
 
-          holds : UpNoted (risen_node next (e.world.nodes s)) next t.set.site
-          holds = subst (λ (k : Node). UpNoted k next t.set.site) (risen_is n next (unfused_down n note call.at.set.site is_down)) t.holds
+            holds : UpNoted (risen_node next (e.world.nodes s)) next t.set.site
+            holds = subst (λ (k : Node). UpNoted k next t.set.site) (risen_is n next (unfused_down n note call.at.set.site is_down)) t.holds
 
-          has : HasUp (risen_node next (e.world.nodes s)) next t.set.site
-          has = has_up (risen_node next n) next t.set.site holds
+            has : HasUp (risen_node next (e.world.nodes s)) next t.set.site
+            has = has_up (risen_node next n) next t.set.site holds
 
-          shown : Option Kept
-          shown = kept_shown (map plain_fact c.volumes) kept
+            shown : Option Kept
+            shown = kept_shown (map plain_fact c.volumes) kept
 
-          view : SiteView
-          view = view_with (group_up_facts (map plain_fact c.volumes) (fact_of_group n note)) (Some has.config)
+            view : SiteView
+            view = view_with (group_up_facts (map plain_fact c.volumes) (fact_of_group n note)) (Some has.config)
 
-          replied : result ≡ Ok (Resumed view shown)
-          replied = so.2 has.config (subst (λ (x : DiskSet R g). AtSite (λ y. site_config y ≡ Some has.config) x) (sym t.is) has.has)
+            replied : result ≡ Ok (Resumed view shown)
+            replied = so.2 has.config (subst (λ (x : DiskSet R g). AtSite (λ y. site_config y ≡ Some has.config) x) (sym t.is) has.has)
 
-          load : SameLoad old new
-          load = record {
-            flight = half.flight ∙ half.load.flight;
-            assemblies = ap (λ xs. xs.items) so.1 ∙ half.load.assemblies;
-            feeders = ap (λ xs. xs.items) half.feeders ∙ half.load.feeders;
-          }
+            load : SameLoad old new
+            load = record {
+              flight = half.flight ∙ half.load.flight;
+              assemblies = ap (λ xs. xs.items) so.1 ∙ half.load.assemblies;
+              feeders = ap (λ xs. xs.items) half.feeders ∙ half.load.feeders;
+            }
 
-          follows : Follows e (noted_at (happened e (GroupAt s) false) s next) old new
-          follows =
-              follows_on e (noted_at (happened e (GroupAt s) false) s next) s (risen_node next n) next (group_up_facts (map plain_fact c.volumes) (fact_of_group n note)) old new before t.set begin.stands begin.below (turned t.set t.is)
-              (arrives_noted e (happened e (GroupAt s) false) s (group_up n) next (e.world.gathering s) risen) (up_notes (risen_node next n) next t.set.site holds).0
-              (up_set (risen_node next n) next t.set (record { few = sized.few; some = sized.some }) holds (ap (λ (x : DiskSet R g). cut_in x) (sym t.is) ∙ clear) back.cut)
-              (still_fails (risen_node next n) t.set t.is refl) (fused_none (risen_node next n) (OfGroup t.set) (unfused_down n note call.at.set.site is_down)) (up_seen n note next c reads)
-              (so.0 ∙ ap (λ (fs : List SiteFacts). slice_set fs s (group_up_facts (map plain_fact c.volumes) (fact_of_group n note))) half.facts) load
+            follows : Follows e (noted_at (happened e (Regroup s) false) s next) old new
+            follows =
+                follows_on e (noted_at (happened e (Regroup s) false) s next) s (risen_node next n) next (group_up_facts (map plain_fact c.volumes) (fact_of_group n note)) old new before t.set begin.stands begin.below (turned t.set t.is)
+                (arrives_noted e (happened e (Regroup s) false) s (group_up n) next (e.world.gathering s) risen) (up_notes (risen_node next n) next t.set.site holds).0
+                (up_set (risen_node next n) next t.set (record { few = sized.few; some = sized.some }) holds (ap (λ (x : DiskSet R g). cut_in x) (sym t.is) ∙ clear) back.cut)
+                (still_fails (risen_node next n) t.set t.is refl) (fused_none (risen_node next n) (OfGroup t.set) (unfused_down n note call.at.set.site is_down)) (up_seen n note next c reads)
+                (so.0 ∙ ap (λ (fs : List SiteFacts). slice_set fs s (group_up_facts (map plain_fact c.volumes) (fact_of_group n note))) half.facts) load
 
-          seen : (d : Doubted) → ComesDown d e s → view ≡ grouped_view (record (d.world.nodes s) { state = IsUp }) next
-          seen d comes =
-              ap (λ (f : SiteFacts). view_with f (Some has.config)) (up_seen n note next c reads) ∙ view_up (risen_node next n) next t.set.site has.config holds has.has
-              ∙ named_view n (d.world.nodes s) next comes.name
+            seen : (d : Doubted) → ComesDown d e s → view ≡ grouped_view (record (d.world.nodes s) { state = IsUp }) next
+            seen d comes =
+                ap (λ (f : SiteFacts). view_with f (Some has.config)) (up_seen n note next c reads) ∙ view_up (risen_node next n) next t.set.site has.config holds has.has
+                ∙ named_view n (d.world.nodes s) next comes.name
 
-          shows : IsTrue (site_disks t.set.site).tells → (d : Doubted) → ComesDown d e s → ShowsKept (IsTold new) (note_at (d.world.nodes s)).cut next shown
-          shows yes_ d comes =
-              let tells = (since t.set t.is).tells yes_ in
-              subst (λ (w : Option Write). ShowsKept (IsTold new) w next (kept_shown (map plain_fact c.volumes) kept)) (cut_for d comes)
-              (shows_cut (IsTold new) next (site_disks m) c (λ _. tells) reads sizes cut kept (λ x is. lies_now tells x (was_fits x (sym cut_is ∙ is))) is_kept)
+            shows : IsTrue (site_disks t.set.site).tells → (d : Doubted) → ComesDown d e s → ShowsKept (IsTold new) (note_at (d.world.nodes s)).cut next shown
+            shows yes_ d comes =
+                let tells = (since t.set t.is).tells yes_ in
+                subst (λ (w : Option Write). ShowsKept (IsTold new) w next (kept_shown (map plain_fact c.volumes) kept)) (cut_for d comes)
+                (shows_cut (IsTold new) next (site_disks m) c (λ _. tells) reads sizes cut kept (λ x is. lies_now tells x (was_fits x (sym cut_is ∙ is))) is_kept)
 
-          ends : (d : Doubted) (name : List ℕ) → ComesDown d e s → GroupEnds (IsTold new) d (Recover name) s (calls s old new MOST_DISKS) (Resumed view shown) (noted_at (happened e (GroupAt s) false) s next)
-          ends d name comes =
-              subst (λ (x : Doubted). GroupEnds (IsTold new) d (Recover name) s (calls s old new MOST_DISKS) (Resumed view shown) (noted_at x s next)) (up_as d e s comes)
-              (bool_by (site_disks t.set.site).tells
-              (λ yes_.
-              GroupDone next (calls_are e old new [] s before after begin.stands call MOST_DISKS)
-              (back_for (IsTold new) t.set t.is MOST_DISKS (omega arith) (λ _. yes_) d comes,
-              record { kept = shown; says = ap (λ (v : SiteView). Resumed v shown) (seen d comes); shows = shows yes_ d comes }) (record { world = refl; after = λ i. refl }))
-              (λ no_.
-              FindsGroup next (calls_are e old new [] s before after begin.stands call MOST_DISKS) tt
-              (inl (λ told. let x : true ≡ false = sym (told_of new s after t.set there_now t.is told) ∙ no_ in absurd (cc)))
-              (shown, ap (λ (v : SiteView). Resumed v shown) (seen d comes)) (record { world = refl; after = λ i. refl })))
+            ends : (d : Doubted) (name : List ℕ) → ComesDown d e s → GroupEnds (IsTold new) d (Recover name) s (calls s old new MOST_DISKS) (Resumed view shown) (noted_at (happened e (Regroup s) false) s next)
+            ends d name comes =
+                subst (λ (x : Doubted). GroupEnds (IsTold new) d (Recover name) s (calls s old new MOST_DISKS) (Resumed view shown) (noted_at x s next)) (up_as d e s comes)
+                (bool_by (site_disks t.set.site).tells
+                (λ yes_.
+                GroupDone next (calls_are e old new [] s before after begin.stands call MOST_DISKS) (
+                  back_for (IsTold new) t.set t.is MOST_DISKS (omega arith) (λ _. yes_) d comes,
+                  record { kept = shown; says = ap (λ (v : SiteView). Resumed v shown) (seen d comes); shows = shows yes_ d comes },
+                ) (record { world = refl; after = λ i. refl }))
+                (λ no_.
+                FindsGroup next (calls_are e old new [] s before after begin.stands call MOST_DISKS) tt
+                (inl (λ told. let x : true ≡ false = sym (told_of new s after t.set there_now t.is told) ∙ no_ in absurd (cc)))
+                (shown, ap (λ (v : SiteView). Resumed v shown) (seen d comes)) (record { world = refl; after = λ i. refl })))
 
-      -- it went down again
-      unread : (disk : ℕ) → AtSite (DownNoted (crashed (with_note (still_cut cut next) (returned_with next (e.world.nodes s))) 0) (still_cut cut next)) after → cut_in after ≡ cut_value cut
-          → ((x : CutWrite) → (k : Option CutWrite) → cut_value k ≡ cut_value cut → k ≡ Some x → FitsPlain next x.volume x.block (length x.bytes))
-          → AtSite (λ x. Rose ((site_disks m).disk_faults disk) ((site_disks x).disk_faults disk)) after
-          → StandsSo s (fact_of_group (e.world.nodes s) (note_at (e.world.nodes s))) c after (Err (StopsBy (Device disk))) mid new result → RisesIs e s old new result
-      unread disk at stays_cut fits rose so = subst (λ (r : Result Said OutOfMemory). RisesIs e s old new r) (sym so.2) (record {
-        next = noted_at (happened (happened e (GroupAt s) false) (CrashAt s 0) false) s (still_cut cut next);
-        fails = calls s old new (MOST_DISKS + suc disk);
-        done = ends;
-        stands = follows.stands;
-        carries = follows.carries;
-        rose = calls_all e old new [] s before after begin.stands call (MOST_DISKS + suc disk);
-      })
-        where
-          k : Node
-          k = crashed (with_note (still_cut cut next) (returned_with next (e.world.nodes s))) 0
+        -- it went down again
+        unread : (disk : ℕ) → AtSite (DownNoted (crashed (with_note (still_cut cut next) (returned_with next (e.world.nodes s))) 0) (still_cut cut next)) after → cut_in after ≡ cut_value cut
+            → ((x : CutWrite) → (k : Option CutWrite) → cut_value k ≡ cut_value cut → k ≡ Some x → FitsPlain next x.volume x.block (length x.bytes))
+            → AtSite (λ x. Rose ((site_disks m).disk_faults disk) ((site_disks x).disk_faults disk)) after
+            → StandsSo s (fact_of_group (e.world.nodes s) (note_at (e.world.nodes s))) c after (Err (StopsBy (Device disk))) mid new result → RisesIs e s old new result
+        unread disk at stays_cut fits rose so = subst (λ (r : Result Said OutOfMemory). RisesIs e s old new r) (sym so.2) (record {
+          next = noted_at (happened (happened e (Regroup s) false) (CrashAt s 0) false) s (still_cut cut next);
+          fails = calls s old new (MOST_DISKS + suc disk);
+          done = ends;
+          stands = follows.stands;
+          carries = follows.carries;
+          rose = calls_all e old new [] s before after begin.stands call (MOST_DISKS + suc disk);
+        })
+          where
+            k : Node
+            k = crashed (with_note (still_cut cut next) (returned_with next (e.world.nodes s))) 0
 
-          t : SetThen (DownNoted (crashed (with_note (still_cut cut next) (returned_with next (e.world.nodes s))) 0) (still_cut cut next)) after
-          t = set_then (DownNoted k (still_cut cut next)) after at
+            t : SetThen (DownNoted (crashed (with_note (still_cut cut next) (returned_with next (e.world.nodes s))) 0) (still_cut cut next)) after
+            t = set_then (DownNoted k (still_cut cut next)) after at
 
-          same : cut_value t.set.cut ≡ cut_value cut
-          same = ap (λ (x : DiskSet R g). cut_in x) (sym t.is) ∙ stays_cut
+            same : cut_value t.set.cut ≡ cut_value cut
+            same = ap (λ (x : DiskSet R g). cut_in x) (sym t.is) ∙ stays_cut
 
-          lets : LetsGo old new s
-          lets = record {
-            flight = half.flight ∙ half.load.flight;
-            assemblies = subst (λ (xs : List Assembled). LetGo s xs new.assemblies.items) half.load.assemblies so.1;
-            feeders = ap (λ xs. xs.items) half.feeders ∙ half.load.feeders;
-          }
+            lets : LetsGo old new s
+            lets = record {
+              flight = half.flight ∙ half.load.flight;
+              assemblies = subst (λ (xs : List Assembled). LetGo s xs new.assemblies.items) half.load.assemblies so.1;
+              feeders = ap (λ xs. xs.items) half.feeders ∙ half.load.feeders;
+            }
 
-          fell : Arrives e (happened (happened e (GroupAt s) false) (CrashAt s 0) false) s (crashed (group_up (e.world.nodes s)) 0) None
-          fell =
-              let none = (down_notes n note call.at.set.site is_down).0.none in
-              arrives_crash e (happened e (GroupAt s) false) s (group_up n) (e.world.gathering s) risen (omega (arith, begin.below, risen.site.sites)) refl none.log none.safe
+            fell : Arrives e (happened (happened e (Regroup s) false) (CrashAt s 0) false) s (crashed (group_up (e.world.nodes s)) 0) None
+            fell =
+                let none = (down_notes n note call.at.set.site is_down).0.none in
+                arrives_crash e (happened e (Regroup s) false) s (group_up n) (e.world.gathering s) risen (omega (arith, begin.below, risen.site.sites)) refl none.log none.safe
 
-          follows : Follows e (noted_at (happened (happened e (GroupAt s) false) (CrashAt s 0) false) s (still_cut cut next)) old new
-          follows =
-              follows_off e (noted_at (happened (happened e (GroupAt s) false) (CrashAt s 0) false) s (still_cut cut next)) s k (still_cut cut next)
-              (down_facts (group_up_facts (map plain_fact c.volumes) (fact_of_group n note))) old new before t.set begin.stands begin.below (turned t.set t.is)
-              (arrives_noted e (happened (happened e (GroupAt s) false) (CrashAt s 0) false) s (crashed (group_up n) 0) (still_cut cut next) None fell)
-              (λ back_up. let w : IsDown ≡ IsUp = back_up in absurd (cc)) (down_notes k (still_cut cut next) t.set.site t.holds).0
-              (down_set k (still_cut cut next) t.set (record { few = sized.few; some = sized.some }) t.holds same (λ x is. fits_note (still_cut cut next) next refl x (fits x t.set.cut same is)))
-              (still_fails k t.set t.is refl) (fused_none k (OfGroup t.set) refl) (fell_seen n note next (still_cut cut next) c reads refl)
-              (so.0 ∙ ap (λ (fs : List SiteFacts). slice_set fs s (down_facts (group_up_facts (map plain_fact c.volumes) (fact_of_group n note)))) half.facts) lets
+            follows : Follows e (noted_at (happened (happened e (Regroup s) false) (CrashAt s 0) false) s (still_cut cut next)) old new
+            follows =
+                follows_off e (noted_at (happened (happened e (Regroup s) false) (CrashAt s 0) false) s (still_cut cut next)) s k (still_cut cut next)
+                (down_facts (group_up_facts (map plain_fact c.volumes) (fact_of_group n note))) old new before t.set begin.stands begin.below (turned t.set t.is)
+                (arrives_noted e (happened (happened e (Regroup s) false) (CrashAt s 0) false) s (crashed (group_up n) 0) (still_cut cut next) None fell)
+                (λ back_up. let w : IsDown ≡ IsUp = back_up in absurd (cc)) (down_notes k (still_cut cut next) t.set.site t.holds).0
+                (down_set k (still_cut cut next) t.set (record { few = sized.few; some = sized.some }) t.holds same (λ x is. fits_note (still_cut cut next) next refl x (fits x t.set.cut same is)))
+                (still_fails k t.set t.is refl) (fused_none k (OfGroup t.set) refl) (fell_seen n note next (still_cut cut next) c reads refl)
+                (so.0 ∙ ap (λ (fs : List SiteFacts). slice_set fs s (down_facts (group_up_facts (map plain_fact c.volumes) (fact_of_group n note)))) half.facts) lets
 
-          named : Contains (calls s old new (MOST_DISKS + suc disk)) (s, disk)
-          named =
-              calls_named e old new [] s before after begin.stands call call.at.set t.set call.at.is_set t.is (MOST_DISKS + suc disk) disk (omega arith)
-              (rose_down ((site_disks call.at.set.site).disk_faults disk) ((site_disks m).disk_faults disk) ((site_disks t.set.site).disk_faults disk) ((since t.set t.is).from disk)
-              (subst (λ (x : DiskSet R g). AtSite (λ y. Rose ((site_disks m).disk_faults disk) ((site_disks y).disk_faults disk)) x) t.is rose))
+            named : Contains (calls s old new (MOST_DISKS + suc disk)) (s, disk)
+            named =
+                calls_named e old new [] s before after begin.stands call call.at.set t.set call.at.is_set t.is (MOST_DISKS + suc disk) disk (omega arith)
+                (rose_down ((site_disks call.at.set.site).disk_faults disk) ((site_disks m).disk_faults disk) ((site_disks t.set.site).disk_faults disk) ((since t.set t.is).from disk)
+                (subst (λ (x : DiskSet R g). AtSite (λ y. Rose ((site_disks m).disk_faults disk) ((site_disks y).disk_faults disk)) x) t.is rose))
 
-          ends : (d : Doubted) (name : List ℕ) → ComesDown d e s
-              → GroupEnds (IsTold new) d (Recover name) s (calls s old new (MOST_DISKS + suc disk)) (Refused (Device disk)) (noted_at (happened (happened e (GroupAt s) false) (CrashAt s 0) false) s (still_cut cut next))
-          ends d name comes =
-              subst
-              (λ (x : Doubted). GroupEnds (IsTold new) d (Recover name) s (calls s old new (MOST_DISKS + suc disk)) (Refused (Device disk)) (noted_at x s (still_cut cut next)))
-              (unread_as d e s comes)
-              (KeptUnread disk (still_cut cut next) name refl (calls_are e old new [] s before after begin.stands call (MOST_DISKS + suc disk)) named
-              (record {
-                middle = next;
-                back = back_for (IsTold new) t.set t.is (MOST_DISKS + suc disk) (omega arith) (λ told. told_of new s after t.set there_now t.is told) d comes;
-                is = ap (λ (w : Option Write). let q : GroupNode = record next { cut = w } in q) (cut_for d comes);
-              })
-              refl (record { world = refl; after = λ i. refl }))
+            ends : (d : Doubted) (name : List ℕ) → ComesDown d e s
+                → GroupEnds (IsTold new) d (Recover name) s (calls s old new (MOST_DISKS + suc disk)) (Refused (Device disk)) (noted_at (happened (happened e (Regroup s) false) (CrashAt s 0) false) s (still_cut cut next))
+            ends d name comes =
+                subst
+                (λ (x : Doubted). GroupEnds (IsTold new) d (Recover name) s (calls s old new (MOST_DISKS + suc disk)) (Refused (Device disk)) (noted_at x s (still_cut cut next)))
+                (unread_as d e s comes)
+                (KeptUnread disk (still_cut cut next) name refl (calls_are e old new [] s before after begin.stands call (MOST_DISKS + suc disk)) named
+                (record {
+                  middle = next;
+                  back = back_for (IsTold new) t.set t.is (MOST_DISKS + suc disk) (omega arith) (λ told. told_of new s after t.set there_now t.is told) d comes;
+                  is = ap (λ (w : Option Write). let q : GroupNode = record next { cut = w } in q) (cut_for d comes);
+                })
+                refl (record { world = refl; after = λ i. refl }))
 
-      pub looked : (answer : Result (Option KeptWrite) Stop) → RisesWith (returned_with next (e.world.nodes s)) next cut m after answer
-          → StandsSo s (fact_of_group (e.world.nodes s) (note_at (e.world.nodes s))) c after answer mid new result → RisesIs e s old new result
-      looked (Ok kept) it so = kept_up kept it.0 it.1 it.2 so
-      looked (Err (StopsBy (Device disk))) it so = unread disk it.0 it.1 (λ x o same is. fits_by next cut o same it.2 x is) it.3 so
-      looked (Err other) it so = absurd it
+        pub looked : (answer : Result (Option KeptWrite) Stop) → RisesWith (returned_with next (e.world.nodes s)) next cut m after answer
+            → StandsSo s (fact_of_group (e.world.nodes s) (note_at (e.world.nodes s))) c after answer mid new result → RisesIs e s old new result
+        looked (Ok kept) it so = kept_up kept it.0 it.1 it.2 so
+        looked (Err (StopsBy (Device disk))) it so = unread disk it.0 it.1 (λ x o same is. fits_by next cut o same it.2 x is) it.3 so
+        looked (Err other) it so = absurd it
 
   -- ---- the two calls of a site
 
@@ -495,6 +498,10 @@ module _ {R : Type 0} {g : Ghosts R} where
   kept_mid : (stop : Stop) (s : ℕ) (f : SiteFacts) (mid new : Yard R g) (result : Result Said OutOfMemory) → reply_noted s f stop mid new result → (new.disk_sets.items ≡ mid.disk_sets.items) × (new.racks ≡ mid.racks)
   kept_mid (StopsBy why) s f mid new result it = (ap (λ es. es.items) it.same.disk_sets, it.same.racks)
   kept_mid MemoryStop s f mid new result it = (ap (λ (y : Yard R g). y.disk_sets.items) it.0, ap (λ (y : Yard R g). y.racks) it.0)
+
+  pub dir_mid : (stop : Stop) (s : ℕ) (f : SiteFacts) (mid new : Yard R g) (result : Result Said OutOfMemory) → reply_noted s f stop mid new result → in_files new ≡ in_files mid
+  dir_mid (StopsBy why) s f mid new result it = ap (λ d. is_some d) it.same.dir
+  dir_mid MemoryStop s f mid new result it = ap (λ (y : Yard R g). in_files y) it.0
 
   module _ (old mid new : Yard R g) (s : ℕ) (before between : DiskSet R g) (first : RaisedTo old mid s before between) where
     -- the disks that came up are those that were looked at
@@ -518,6 +525,22 @@ module _ {R : Type 0} {g : Ghosts R} where
     changed_down stop f result it =
         let kept = kept_mid stop s f mid new result it in
         record { there = first.there; later = first.later; disk_sets = kept.0 ∙ first.disk_sets; racks = kept.1 ∙ first.racks }
+
+    pub of_up : (cut : Option CutWrite) (result : Result Said OutOfMemory) (st : StoodUp s cut mid new result) → OfSite SameFailing s old new
+    of_up cut result st =
+        let changed = changed_up cut result st in
+        record { before = before; after = st.after; there = changed.there; disk_sets = changed.disk_sets; did = failing_up cut result st }
+
+    pub told_up : (cut : Option CutWrite) (result : Result Said OutOfMemory) (st : StoodUp s cut mid new result) → IsTold new → IsTold old
+    told_up cut result st = told_by old new s before st.after (changed_up cut result st)
+
+    pub of_down : (stop : Stop) (f : SiteFacts) (result : Result Said OutOfMemory) → reply_noted s f stop mid new result → OfSite SameFailing s old new
+    of_down stop f result it =
+        let changed = changed_down stop f result it in
+        record { before = before; after = between; there = changed.there; disk_sets = changed.disk_sets; did = first.failing }
+
+    pub told_down : (stop : Stop) (f : SiteFacts) (result : Result Said OutOfMemory) → reply_noted s f stop mid new result → IsTold new → IsTold old
+    told_down stop f result it = told_by old new s before between (changed_down stop f result it)
 
     module _ (e : Doubted) (begin : Begins e s old) where
       pub came_up : (cut : Option CutWrite) (result : Result Said OutOfMemory) → ((n : Node) (note : GroupNode) → AtSite (DownNoted n note) before → RaisesGroup n note before between (Ok cut))
@@ -635,3 +658,86 @@ module _ {R : Type 0} {g : Ghosts R} where
         leads = subst (λ (k : ℕ). let last = run_as false d (CrashAt k 0 ∷ []) in IsAs last last.world e) (sym place) (record { world = refl; after = λ i. refl });
       }))
       (rises e f.begin.stands f.begin.below f.begin.over f.begin.down)
+
+  -- ---- the group that came up, and the look
+
+  pub stood_by : (s : ℕ) (cut : Option CutWrite) (old mid new : Yard R g) (before after : DiskSet R g) (answer : Result (Option KeptWrite) Stop) (result : Result Said OutOfMemory) → KeepsRest old mid
+      → slice_get mid.disk_sets.items s ≡ Some before → new.disk_sets.items ≡ slice_set mid.disk_sets.items s after → ((n : Node) (note : GroupNode) → AtSite (UpNoted n note) before → LooksAt n note cut before after answer)
+      → SameFailing before after → Later before after → new.racks ≡ mid.racks → new.flight ≡ mid.flight → new.feeders ≡ mid.feeders → new.dir ≡ mid.dir
+      → ((f : SiteFacts) (c : Config) → slice_get old.facts.items s ≡ Some f → AtSite (λ x. site_config x ≡ Some c) before → StandsSo s f c after answer old new result) → StoodUp s cut old new result
+  stood_by s cut old mid new before after answer result rest there disk_sets looks failing later racks flight feeders dir so = record {
+    before = before;
+    after = after;
+    answer = answer;
+    there = ap (λ es. slice_get es.items s) (sym rest.disk_sets) ∙ there;
+    disk_sets = disk_sets ∙ ap (λ es. slice_set es.items s after) rest.disk_sets;
+    looks = looks;
+    failing = failing;
+    later = later;
+    racks = racks ∙ rest.racks;
+    flight = flight ∙ rest.flight;
+    feeders = feeders ∙ rest.feeders;
+    dir = dir ∙ rest.dir;
+    so = so;
+  }
+
+  -- what the tests see of it
+  noted_up : (s : ℕ) (old mid : Yard R g) (before : DiskSet R g) (f : SiteFacts) (c : Config) → KeepsRest old mid → slice_get mid.disk_sets.items s ≡ Some before → slice_get old.facts.items s ≡ Some f
+      → AtSite (λ x. site_config x ≡ Some c) before
+      → ((f : SiteFacts) (c : Config) → slice_get old.facts.items s ≡ Some f → HasConfig s c old → mid.facts.items ≡ slice_set old.facts.items s (group_up_facts (map plain_fact c.volumes) f))
+      → mid.facts.items ≡ slice_set old.facts.items s (group_up_facts (map plain_fact c.volumes) f)
+  noted_up s old mid before f c rest there at is noted = noted f c at (record { disk_set = before; there = ap (λ es. slice_get es.items s) (sym rest.disk_sets) ∙ there; is = is })
+
+  seen_up : (s : ℕ) (old mid : Yard R g) (f x : SiteFacts) → slice_get old.facts.items s ≡ Some f → mid.facts.items ≡ slice_set old.facts.items s x → slice_get mid.facts.items s ≡ Some x
+  seen_up s old mid f x at is = ap (λ (fs : List SiteFacts). slice_get fs s) is ∙ get-set_same old.facts.items s x (slice_get_within old.facts.items s f at)
+
+  -- its answer, where what is kept was read
+  pub so_up : (s : ℕ) (old mid new : Yard R g) (before after : DiskSet R g) (kept : Option KeptWrite) (shown : Option Kept) (view : SiteView) (seen : SiteFacts) → KeepsRest old mid → slice_get mid.disk_sets.items s ≡ Some before
+      → new.facts.items ≡ mid.facts.items → new.assemblies ≡ mid.assemblies → mid.assemblies ≡ old.assemblies → slice_get new.disk_sets.items s ≡ Some after → slice_get new.facts.items s ≡ Some seen → shown ≡ kept_shown seen.volumes kept
+      → ((f : SiteFacts) (c : Config) → slice_get old.facts.items s ≡ Some f → HasConfig s c old → mid.facts.items ≡ slice_set old.facts.items s (group_up_facts (map plain_fact c.volumes) f))
+      → ((f : SiteFacts) (c : Config) → slice_get new.facts.items s ≡ Some f → HasConfig s c new → view ≡ view_with f (Some c))
+      → (f : SiteFacts) (c : Config) → slice_get old.facts.items s ≡ Some f → AtSite (λ x. site_config x ≡ Some c) before → StandsSo s f c after (Ok kept) old new (Ok (Resumed view shown))
+  so_up s old mid new before after kept shown view seen rest there facts loads held here looked_at shows noted views f c at is =
+      let x : SiteFacts = group_up_facts (map plain_fact c.volumes) f in
+      let marked : mid.facts.items ≡ slice_set old.facts.items s x = noted_up s old mid before f c rest there at is noted in
+      let now : slice_get new.facts.items s ≡ Some x = ap (λ (fs : List SiteFacts). slice_get fs s) facts ∙ seen_up s old mid f x at marked in
+      let same : seen ≡ x = some_same (sym looked_at ∙ now) in (
+        facts ∙ marked,
+        loads ∙ held,
+        λ k has.
+            ap (λ (v : SiteView). Ok (Resumed v shown)) (views x k now (record { disk_set = after; there = here; is = has }))
+            ∙ ap (λ (o : Option Kept). Ok (Resumed (view_with x (Some k)) o)) (shows ∙ ap (λ (y : SiteFacts). kept_shown y.volumes kept) same),
+      )
+
+  -- and where it was not
+  pub so_down : (s : ℕ) (old mid near new : Yard R g) (before after : DiskSet R g) (stop : Stop) (result : Result Said OutOfMemory) → KeepsRest old mid → slice_get mid.disk_sets.items s ≡ Some before → near.facts.items ≡ mid.facts.items
+      → near.assemblies ≡ mid.assemblies → mid.assemblies ≡ old.assemblies
+      → ((f : SiteFacts) (c : Config) → slice_get old.facts.items s ≡ Some f → HasConfig s c old → mid.facts.items ≡ slice_set old.facts.items s (group_up_facts (map plain_fact c.volumes) f))
+      → ((f : SiteFacts) → slice_get near.facts.items s ≡ Some f → new.facts.items ≡ slice_set near.facts.items s (down_facts f)) → LetGo s near.assemblies.items new.assemblies.items → result ≡ reply_to stop
+      → (f : SiteFacts) (c : Config) → slice_get old.facts.items s ≡ Some f → AtSite (λ x. site_config x ≡ Some c) before → StandsSo s f c after (Err stop) old new result
+  so_down s old mid near new before after stop result rest there facts loads held noted fell lets replied f c at is =
+      let x : SiteFacts = group_up_facts (map plain_fact c.volumes) f in
+      let marked : mid.facts.items ≡ slice_set old.facts.items s x = noted_up s old mid before f c rest there at is noted in
+      let now : slice_get near.facts.items s ≡ Some x = ap (λ (fs : List SiteFacts). slice_get fs s) facts ∙ seen_up s old mid f x at marked in (
+        fell x now ∙ ap (λ (fs : List SiteFacts). slice_set fs s (down_facts x)) (facts ∙ marked) ∙ set_twice old.facts.items s x (down_facts x),
+        subst (λ (xs : List Assembled). LetGo s xs new.assemblies.items) (ap (λ xs. xs.items) (loads ∙ held)) lets,
+        replied,
+      )
+
+  -- memory ran out before anything was done
+  pub unbegun_rise : (d : Doubted) (name : List ℕ) (y : Yard R g) (r : Result Said OutOfMemory) (x : OutOfMemory) → r ≡ Err x → StandsFor d y → LeadsOverOrStops d (Recover name) y y r
+  unbegun_rise d name y r x is stands =
+      subst (λ (q : Result Said OutOfMemory). LeadsOverOrStops d (Recover name) y y q) (sym is) (record {
+        next = d;
+        part = StopsInPart (none_done d (Recover name));
+        stands = stands;
+        carries = λ was. was;
+        rose = rose_none (count_of y) (count_of y) (λ i u. omega arith);
+      })
+
+  -- a site over a group that is neither bare, up nor deported is down
+  pub off_down : (t : SiteState) → (t ≡ IsBare → ⊥) → (t ≡ IsUp → ⊥) → (t ≡ IsDeported → ⊥) → t ≡ IsDown
+  off_down IsBare bare up away = absurd (bare refl)
+  off_down IsUp bare up away = absurd (up refl)
+  off_down IsDeported bare up away = absurd (away refl)
+  off_down IsDown bare up away = refl

@@ -40,7 +40,6 @@ use Rattle.vx_events.specs.GroupViews.{config_of, plain_fact, volumes_of}
 use Rattle.vx_yard.specs.Yards.{IsTold}
 use Rattle.vx_yard.specs.declared.yard.Yard.{Yard}
 use Rattle.vx_group_lines.specs.Rises.{ComesDown, kept_of_volume, kept_shown}
-use Rattle.vx_group_lines.proofs.GroupAt.{GroupAt}
 use Rattle.vx_group_lines.proofs.GroupStatus.{config_is}
 use Rattle.vx_group_lines.proofs.Returning.{SitsOn}
 
@@ -151,8 +150,8 @@ risen_node next n = record (group_up n) { group = Some next }
 pub risen_is : (n : Node) (next : GroupNode) → n.fuse ≡ NoFuse → burned_site (returned_with next n) ≡ risen_node next n
 risen_is n next none = ap (λ (x : FuseOf). let k : Node = record (risen_node next n) { fuse = x } in k) (still_none n.fuse none)
 
-pub some_config : {c d : Config} → Some (at_serial 0 c) ≡ Some (at_serial 0 d) → c.volumes ≡ d.volumes
-some_config {c} {d} is = ap (λ (x : Config). x.volumes) (some_same is)
+pub some_config : (c d : Config) → Some (at_serial 0 c) ≡ Some (at_serial 0 d) → c.volumes ≡ d.volumes
+some_config c d is = ap (λ (x : Config). x.volumes) (some_same is)
 
 pub bool_by : {P : Type 0} (b : Bool) → (b ≡ true → P) → (b ≡ false → P) → P
 bool_by true yes_ no_ = yes_ refl

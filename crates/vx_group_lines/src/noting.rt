@@ -67,6 +67,7 @@ pub(crate) fn note_up<R: Rack>(yard: &mut Yard<R>, site: usize, room: VolumeRoom
     requires empty { room ≡ [] }
     ensures facts { (f : Facts) (c : ConfigValue) → slice_get yard.old.facts.items site ≡ Some f → HasConfig site c yard.old
         → yard.new.facts.items ≡ slice_set yard.old.facts.items site (group_up_facts (map plain_fact c.volumes) f) }
+    ensures many { length yard.new.facts.items ≡ length yard.old.facts.items }
     ensures assemblies { yard.new.assemblies ≡ yard.old.assemblies }
     ensures same { KeepsRest yard.old yard.new }
 {

@@ -164,11 +164,10 @@ pub fn recover_line<R: Rack>(
     let room = RiseRoom::new(alloc)?;
     let site = yard.site_of(name);
     match yard.facts[site].state {
-        SiteState::Bare | SiteState::Deported => unreachable!(),
         SiteState::Up => {
             go_down(yard, alloc, site, u64::MAX);
             rise(yard, alloc, site, room)
         }
-        SiteState::Down => rise(yard, alloc, site, room),
+        _ => rise(yard, alloc, site, room),
     }
 }

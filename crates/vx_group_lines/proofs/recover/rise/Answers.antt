@@ -4,8 +4,8 @@ use Rattle.std.specs.Prelude.{Some, slice_set}
 use Rattle.vx_diskset.specs.Recovers.{RaisesGroup}
 use Rattle.vx_diskset.specs.declared.disk_set.DiskSet.TheVariants.{Gone}
 use Rattle.vx_yard.proofs.Lists.{get_at, set_twice}
-use Rattle.vx_yard.proofs.OneSite.{told_by}
-use Rattle.vx_group_lines.proofs.Resuming.{RaisedTo, came_down, came_up, changed_down, changed_up, failing_up}
+use Rattle.vx_yard.proofs.WriteLine.{get_there}
+use Rattle.vx_group_lines.proofs.Resuming.{came_down, came_up, dir_mid, of_down, of_up, told_down, told_up}
 use Rattle.vx_group_lines.proofs.recover.rise.Goals as goal
 
 pub returns-in-Ok-clause-rises : goal.returns-in-Ok-clause-rises
@@ -27,3 +27,102 @@ returns-in-Ok-clause-rises g c = λ e stands below over down.
     e (record { stands = stands; below = below; over = over; down = down }) c.in-Ok.cut c.stand_up.result
     (λ n note was. subst (λ r. RaisesGroup n note c.replace-disk_set.result c.raise_group-disk_set.result.0 r) c.in-Ok.is (c.raise_group-disk_set.ensures.raised n note was))
     c.stand_up.ensures.stood
+
+pub returns-in-Ok-clause-failing : goal.returns-in-Ok-clause-failing
+returns-in-Ok-clause-failing g c =
+    let ds = c.args.yard.now.disk_sets.items in
+    let s = c.args.site in
+    let at = get_at ds s c.index_mut.result.now c.requires.disk_set c.index_mut.ensures.value in
+    let there = at ∙ ap (λ x. Some x) (sym c.replace-disk_set.ensures.value) in
+    of_up c.args.yard.now _ c.stand_up.new.yard s c.replace-disk_set.result c.raise_group-disk_set.result.0
+    (record {
+      there = there;
+      disk_sets = ap (λ x. slice_set (slice_set ds s x) s c.raise_group-disk_set.result.0) c.replace-disk_set.ensures.after ∙ set_twice ds s Gone c.raise_group-disk_set.result.0;
+      facts = refl;
+      racks = refl;
+      load = record { flight = refl; assemblies = refl; feeders = refl };
+      failing = c.raise_group-disk_set.ensures.failing;
+      later = c.raise_group-disk_set.ensures.later;
+    })
+    c.in-Ok.cut c.stand_up.result c.stand_up.ensures.stood
+
+pub returns-in-Ok-clause-told : goal.returns-in-Ok-clause-told
+returns-in-Ok-clause-told g c =
+    let ds = c.args.yard.now.disk_sets.items in
+    let s = c.args.site in
+    let at = get_at ds s c.index_mut.result.now c.requires.disk_set c.index_mut.ensures.value in
+    let there = at ∙ ap (λ x. Some x) (sym c.replace-disk_set.ensures.value) in
+    told_up c.args.yard.now _ c.stand_up.new.yard s c.replace-disk_set.result c.raise_group-disk_set.result.0
+    (record {
+      there = there;
+      disk_sets = ap (λ x. slice_set (slice_set ds s x) s c.raise_group-disk_set.result.0) c.replace-disk_set.ensures.after ∙ set_twice ds s Gone c.raise_group-disk_set.result.0;
+      facts = refl;
+      racks = refl;
+      load = record { flight = refl; assemblies = refl; feeders = refl };
+      failing = c.raise_group-disk_set.ensures.failing;
+      later = c.raise_group-disk_set.ensures.later;
+    })
+    c.in-Ok.cut c.stand_up.result c.stand_up.ensures.stood
+
+pub returns-in-Err-clause-rises : goal.returns-in-Err-clause-rises
+returns-in-Err-clause-rises g c = λ e stands below over down.
+    let ds = c.args.yard.now.disk_sets.items in
+    let s = c.args.site in
+    let at = get_at ds s c.index_mut.result.now c.requires.disk_set c.index_mut.ensures.value in
+    let there = at ∙ ap (λ x. Some x) (sym c.replace-disk_set.ensures.value) in
+    came_down c.args.yard.now _ c.group_stopped.new.yard s c.replace-disk_set.result c.raise_group-disk_set.result.0
+    (record {
+      there = there;
+      disk_sets = ap (λ x. slice_set (slice_set ds s x) s c.raise_group-disk_set.result.0) c.replace-disk_set.ensures.after ∙ set_twice ds s Gone c.raise_group-disk_set.result.0;
+      facts = refl;
+      racks = refl;
+      load = record { flight = refl; assemblies = refl; feeders = refl };
+      failing = c.raise_group-disk_set.ensures.failing;
+      later = c.raise_group-disk_set.ensures.later;
+    })
+    e (record { stands = stands; below = below; over = over; down = down }) c.in-Err.stop c.group_stopped.result
+    (λ n note was. subst (λ r. RaisesGroup n note c.replace-disk_set.result c.raise_group-disk_set.result.0 r) c.in-Err.is (c.raise_group-disk_set.ensures.raised n note was))
+    c.group_stopped.ensures
+
+pub returns-in-Err-clause-failing : goal.returns-in-Err-clause-failing
+returns-in-Err-clause-failing g c =
+    let ds = c.args.yard.now.disk_sets.items in
+    let s = c.args.site in
+    let at = get_at ds s c.index_mut.result.now c.requires.disk_set c.index_mut.ensures.value in
+    let there = at ∙ ap (λ x. Some x) (sym c.replace-disk_set.ensures.value) in
+    let fact = get_there c.args.yard.now.facts.items s c.requires.facts in
+    of_down c.args.yard.now _ c.group_stopped.new.yard s c.replace-disk_set.result c.raise_group-disk_set.result.0
+    (record {
+      there = there;
+      disk_sets = ap (λ x. slice_set (slice_set ds s x) s c.raise_group-disk_set.result.0) c.replace-disk_set.ensures.after ∙ set_twice ds s Gone c.raise_group-disk_set.result.0;
+      facts = refl;
+      racks = refl;
+      load = record { flight = refl; assemblies = refl; feeders = refl };
+      failing = c.raise_group-disk_set.ensures.failing;
+      later = c.raise_group-disk_set.ensures.later;
+    })
+    c.in-Err.stop fact.0 c.group_stopped.result (c.group_stopped.ensures fact.0 fact.1)
+
+pub returns-in-Err-clause-told : goal.returns-in-Err-clause-told
+returns-in-Err-clause-told g c =
+    let ds = c.args.yard.now.disk_sets.items in
+    let s = c.args.site in
+    let at = get_at ds s c.index_mut.result.now c.requires.disk_set c.index_mut.ensures.value in
+    let there = at ∙ ap (λ x. Some x) (sym c.replace-disk_set.ensures.value) in
+    let fact = get_there c.args.yard.now.facts.items s c.requires.facts in
+    told_down c.args.yard.now _ c.group_stopped.new.yard s c.replace-disk_set.result c.raise_group-disk_set.result.0
+    (record {
+      there = there;
+      disk_sets = ap (λ x. slice_set (slice_set ds s x) s c.raise_group-disk_set.result.0) c.replace-disk_set.ensures.after ∙ set_twice ds s Gone c.raise_group-disk_set.result.0;
+      facts = refl;
+      racks = refl;
+      load = record { flight = refl; assemblies = refl; feeders = refl };
+      failing = c.raise_group-disk_set.ensures.failing;
+      later = c.raise_group-disk_set.ensures.later;
+    })
+    c.in-Err.stop fact.0 c.group_stopped.result (c.group_stopped.ensures fact.0 fact.1)
+
+pub returns-in-Err-clause-files : goal.returns-in-Err-clause-files
+returns-in-Err-clause-files g c =
+    let fact = get_there c.args.yard.now.facts.items c.args.site c.requires.facts in
+    dir_mid c.in-Err.stop c.args.site fact.0 _ c.group_stopped.new.yard c.group_stopped.result (c.group_stopped.ensures fact.0 fact.1)
