@@ -1,4 +1,6 @@
 // What a plex of a volume misses while it is detached, and what an attach of it copies.
+ghost use Rattle.std.specs.Prelude.{◌≡◌, None};
+
 use std::alloc::Global;
 use std::test::*;
 use vx_config::{Config, PlexState};
@@ -43,11 +45,7 @@ const LOGGED: Shape = Shape {
 };
 
 // A group on three disks, of which these calls fail, with such a volume.
-fn group_of(
-    alloc: Global,
-    fails: &[u64],
-    want: &Shape,
-) -> Result<LoggedGroup<Disks>, OutOfMemory>
+fn group_of(alloc: Global, fails: &[u64], want: &Shape) -> Result<LoggedGroup<Disks>, OutOfMemory>
     requires { want.now.prefer ≡ None }
 {
     let mut shelf = match MemShelf::new(alloc, fails) {
