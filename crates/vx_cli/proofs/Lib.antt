@@ -1,6 +1,7 @@
 pub mod Fresh
 pub mod CompleteLemmas
 pub mod EndsLemmas
+pub mod GroupTold
 pub mod LastLemmas
 pub mod ReaderLemmas
 pub mod RunLemmas

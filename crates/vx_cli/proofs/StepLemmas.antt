@@ -1,5 +1,5 @@
 -- Steps of lines, and the counts of the disks.
-use Rattle.std.proofs.Common.{◌≡◌, ◌∙◌, ℕ, ◌+◌, Bool, true, false, List, [], ◌∷◌, ◌++◌, ◌<◌, length, Option, Some, None, Result, Ok, Err, arith, ap, refl, sym}
+use Rattle.std.proofs.Common.{◌≡◌, ◌∙◌, ℕ, ◌+◌, Bool, true, false, List, [], ◌∷◌, ◌++◌, ◌<◌, length, Option, Some, None, Result, Ok, Err, arith, ap, refl, sym, inl, inr}
 use Rattle.std.proofs.lemmas.List.Sums.{sum_by-append}
 use Rattle.vx_history.specs.Refusals.{Outcome}
 use Rattle.vx_history.specs.Step.{step}
@@ -16,15 +16,16 @@ use Rattle.vx_events.specs.Doubts.{doubt_chosen}
 use Rattle.vx_events.specs.Ends.{Ends, AllDone, DiskFails, HeaderFails, FuseRunsOut, NoNumber, ShowsReceived, FindsLinks, FindsNone, place_of}
 use Rattle.vx_events.specs.Fails.{Fails}
 use Rattle.vx_events.specs.LinkEnds.{LinkEnds, LinksDone, LinksHalt, AppliesPart, AppliesCut, LinksCut, LinksFind, LogUnread, NoHeader}
-use Rattle.vx_events.specs.LinkedFacts.{refused_by}
-use Rattle.vx_events.specs.Lines.{CountsCalls, EndsBy, StepBy, is_of_links}
+use Rattle.vx_events.specs.Lines.{CountsCalls, EndsBy, is_of_links}
 use Rattle.vx_events.specs.Lists.{events_of}
-use Rattle.vx_events.specs.Parts.{StopsBetween, StopsInPart, StopsShort}
+use Rattle.vx_events.specs.Parts.{StopsBetween, StopsDown, StopsInPart, StopsRead, StopsShort}
 use Rattle.vx_events.specs.Sayings.{RepeatsOf, Replies}
+use Rattle.vx_events.specs.StepsOver.{OverBy, WorksOver, group_place, is_for_group, refused_over}
 use Rattle.vx_events.specs.declared.said.Said.{Said}
 use Rattle.vx_yard.specs.Lines.{script_line, only_built, if_built, is_built}
 use Rattle.vx_yard.specs.Stands.{RoseAll, times}
 use Rattle.vx_yard.specs.Steps.{SaidStep, BytesStep}
+use Rattle.vx_cli.proofs.GroupTold.{finds_told, group_told}
 use Rattle.vx_cli.specs.Ends.{LastWorld, PartOfLine, PartOfNext}
 use Rattle.vx_cli.specs.declared.status.Status.{Status}
 use Rattle.vx_cli.specs.declared.status.Status.TheVariants.{OutOfMemory}
@@ -88,15 +89,20 @@ module _ {T U : Type 0} (f : U → T) where
   counts_told w (Put site volume start bytes) said x = record { done = λ u. x.done (f u); off = λ u. x.off (f u) }
   counts_told w other said x = x
 
-  step_by_told : (why : Option No) (d : Doubted) (line : ScriptLine) (fails : Fails) (said : Said) (new : Doubted) → StepBy why T d line fails said new → StepBy why U d line fails said new
-  step_by_told (Some why) d line fails said new x = x
-  step_by_told None d line fails said new x =
-      record { ends = kind_told (is_of_links line) d line fails said new x.ends; counts = counts_told d.world line said x.counts; works = x.works; calls = x.calls }
+  works_told : (group : Bool) (d : Doubted) (line : ScriptLine) (fails : Fails) (said : Said) (new : Doubted) → WorksOver group T d line fails said new → WorksOver group U d line fails said new
+  works_told true d line fails said new x = group_told f d line (group_place d.world line) fails said new x
+  works_told false d line fails said new (inl x) =
+      inl (record { ends = kind_told (is_of_links line) d line fails said new x.ends; counts = counts_told d.world line said x.counts; works = x.works; calls = x.calls })
+  works_told false d line fails said new (inr x) = inr (finds_told f d line (group_place d.world line) fails said new x)
+
+  step_by_told : (why : Option No) (group : Bool) (d : Doubted) (line : ScriptLine) (fails : Fails) (said : Said) (new : Doubted) → OverBy why group T d line fails said new → OverBy why group U d line fails said new
+  step_by_told (Some why) group d line fails said new x = x
+  step_by_told None group d line fails said new x = works_told group d line fails said new x
 
   pub said_told : (files : Bool) (d : Doubted) (r : Result (Option ScriptLine) ℕ) (fails : Fails) (text : List ℕ) (new : Doubted) → SaidStep T files d r fails text new → SaidStep U files d r fails text new
   said_told files d (Ok None) fails text new x = x
   said_told files d (Ok (Some line)) fails text new x =
-      record { said = x.said; step = step_by_told (refused_by d.world files line) d line fails x.said new x.step; is = x.is }
+      record { said = x.said; step = step_by_told (refused_over d.world files line) (is_for_group d.world line) d line fails x.said new x.step; is = x.is }
   said_told files d (Err column) fails text new x = x
 
   pub line_told : (files : Bool) (d : Doubted) (line : List ℕ) (fails : Fails) (text : List ℕ) (new : Doubted) → BytesStep T files d line fails text new → BytesStep U files d line fails text new
@@ -104,6 +110,8 @@ module _ {T U : Type 0} (f : U → T) where
 
   short_told : (d : Doubted) (line : ScriptLine) (new : Doubted) → StopsShort T d line new → StopsShort U d line new
   short_told d line new (StopsInPart part) = StopsInPart part
+  short_told d line new (StopsDown fell) = StopsDown fell
+  short_told d line new (StopsRead read) = StopsRead read
   short_told d line new (StopsBetween never p s middle is moves left) = StopsBetween (λ u. never (f u)) p s middle is moves left
 
   part_told : (r : Result (Option ScriptLine) ℕ) (d last : Doubted) → PartOfLine T r d last → PartOfLine U r d last

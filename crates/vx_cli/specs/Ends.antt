@@ -3,12 +3,12 @@ use Rattle.std.specs.Prelude.{◌≡◌, ℕ, ◌+◌, ◌≤◌, ◌<◌, Bool,
 use Rattle.std.specs.List.{concat}
 use Rattle.std.specs.Io.KnownBytes.{Appends}
 use Rattle.vx_history.specs.Doubts.{Doubted}
-use Rattle.vx_history.specs.World.{empty_world}
+use Rattle.vx_history.specs.World.{World, empty_world}
 use Rattle.vx_events.specs.Doubts.{sure}
 use Rattle.vx_yard.specs.Lines.{script_line}
 use Rattle.vx_yard.specs.Stands.{RoseAll}
 use Rattle.vx_events.specs.Fails.{Fails}
-use Rattle.vx_events.specs.Parts.{StopsShort, goes_in_parts}
+use Rattle.vx_events.specs.Parts.{StopsShort, may_stop}
 use Rattle.vx_script.specs.Lines.{split_lines, whole_lines_of}
 use Rattle.vx_script.specs.declared.line.ScriptLine.{ScriptLine}
 use Rattle.vx_cli.specs.Reading.{MayHave}
@@ -82,16 +82,16 @@ abbrev pub PartOfNext : Type 0 → List (List ℕ) → Doubted → Doubted → T
 PartOfNext told [] d last = last ≡ d
 PartOfNext told (line ∷ lines) d last = PartOfLine told (script_line line) d last
 
--- a line that was read is none that goes in parts
-abbrev pub GoesWhole : Result (Option ScriptLine) ℕ → Type 0
-GoesWhole (Ok (Some words)) = goes_in_parts words ≡ false
-GoesWhole (Ok None) = Unit {0}
-GoesWhole (Err column) = Unit {0}
+-- a line that was read is none of which want of memory may leave a part
+abbrev pub GoesWhole : World → Result (Option ScriptLine) ℕ → Type 0
+GoesWhole w (Ok (Some words)) = may_stop w words ≡ false
+GoesWhole w (Ok None) = Unit {0}
+GoesWhole w (Err column) = Unit {0}
 
 -- nor is the next of these lines
-abbrev pub NextGoesWhole : List (List ℕ) → Type 0
-NextGoesWhole [] = Unit {0}
-NextGoesWhole (line ∷ lines) = GoesWhole (script_line line)
+abbrev pub NextGoesWhole : World → List (List ℕ) → Type 0
+NextGoesWhole w [] = Unit {0}
+NextGoesWhole w (line ∷ lines) = GoesWhole w (script_line line)
 
 -- The last world of a run, by the status: the one behind the lines that were done. Only for want of memory is the next line done in part.
 abbrev pub LastWorld : Type 0 → Status → List (List ℕ) → Doubted → Doubted → Type 0
@@ -115,9 +115,12 @@ pub record RunOutcome (told : Type 0) (files : Bool) (Leaves : Doubted → Type 
   pub rose : RoseAll (fails_of_lines part.failures) faults now_faults
   pub leaves : Leaves world
 
--- what a run came to over its whole input, which is the one that the source told, if it told any
-pub record RunIs (told : Type 0) (files : Bool) (Leaves : Doubted → Type 0) (status : Status)
+-- What a run came to over its whole input, which is the one that the source told, if it told any. What is so where contents are told is said of it by its
+-- last world.
+pub record RunIs (Told : Doubted → Type 0) (files : Bool) (Leaves : Doubted → Type 0) (status : Status)
     (left now_left written now_written : Option (List ℕ)) (faults now_faults : ℕ → ℕ → ℕ) : Type 0 where
   pub input : List ℕ
   pub has : MayHave left input
-  pub outcome : RunOutcome told files Leaves 0 (sure empty_world) input status now_left written now_written faults now_faults
+  pub final : Doubted
+  pub outcome : RunOutcome (Told final) files Leaves 0 (sure empty_world) input status now_left written now_written faults now_faults
+  pub ends : outcome.world ≡ final

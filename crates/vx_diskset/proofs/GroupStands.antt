@@ -1,7 +1,10 @@
 -- The disks of a site with a group of disks: by which parts of its node they stand, and what such a site is not.
-use Rattle.std.proofs.Common.{◌≡◌, ◌∙◌, ◌<◌, ◌≤◌, ℕ, Bool, List, ap, arith, length, refl, subst, sym}
-use Rattle.std.specs.Prelude.{Option, Some, None}
+use Rattle.std.proofs.Common.{◌≡◌, ◌⊎◌, inl, inr, ◌∙◌, ◌<◌, ◌≤◌, ℕ, Bool, true, false, List, [], ap, arith, length, refl, subst, sym}
+use Rattle.std.specs.Prelude.{◌&&◌, Option, Some, None, eqb, is_some}
 use Rattle.vx_model.specs.declared.limits.TheConstants.{LEAST_BLOCKS, MOST_DISKS}
+use Rattle.vx_model.specs.Sites.{is_origin, is_up}
+use Rattle.vx_model.specs.declared.site.Role.{Role}
+use Rattle.vx_model.specs.declared.site.SiteState.{SiteState}
 use Rattle.vx_model.specs.declared.site.SiteState.TheVariants.{Bare as IsBare, Up as IsUp, Down as IsDown, Deported as IsDeported}
 use Rattle.vx_config.specs.declared.config.Config.{Config}
 use Rattle.vx_disk.specs.Shelf.{Meaning}
@@ -10,7 +13,8 @@ use Rattle.vx_history.specs.Groups.{GroupNode}
 use Rattle.vx_history.specs.Steps.{burned}
 use Rattle.vx_history.specs.World.{Fuse as FuseOf, Node, NoFuse, Volume}
 use Rattle.vx_grouped.specs.Away.{AwayLies}
-use Rattle.vx_grouped.specs.GroupSites.{GroupAway, GroupDown, GroupSiteStands, GroupUp, HasNoRvg, IsMarkedSite, NotesGroup}
+use Rattle.vx_grouped.specs.GroupSites.{GroupAway, GroupDown, GroupSiteStands, GroupUp, HasNoRvg, IsMarkedSite, NotesGroup, idle_disks, laid_disks}
+use Rattle.vx_group.specs.declared.group_core.GroupCore.{GroupCore}
 use Rattle.vx_grouped.specs.SetFuses.{HasFuse}
 use Rattle.vx_grouped.specs.declared.group_site.GroupSite.{GroupSite}
 use Rattle.vx_grouped.specs.declared.group_site.GroupSite.TheVariants.{Up, Deported, Down, Marked, Gone}
@@ -18,14 +22,16 @@ use Rattle.vx_grouped.proofs.SettleLemmas.{fuse_burned}
 use Rattle.vx_grouped.proofs.SiteLemmas.{lies_as}
 use Rattle.vx_diskset.specs.GroupSets.{noted_cut}
 use Rattle.vx_diskset.specs.Holds.{KeptBeside}
-use Rattle.vx_diskset.specs.Stands.{IsGroupSet, SiteStands, bare_with}
+use Rattle.vx_events.specs.GroupLines.{is_over_group}
+use Rattle.vx_diskset.specs.declared.group_set.CutWrite.{CutWrite}
+use Rattle.vx_diskset.specs.Stands.{CutLies, IsGroupSet, SiteStands, bare_with}
 use Rattle.vx_diskset.specs.declared.disk_set.DiskSet.{DiskSet}
 use Rattle.vx_diskset.specs.declared.disk_set.DiskSet.TheVariants.{OfGroup}
 use Rattle.vx_diskset.specs.declared.group_set.GroupSet.{GroupSet}
 
 -- ---- nodes alike in all by which such disks stand
 
-pub record IsLikeGroup (n k : Node) : Type 0 where
+pub record IsLikeGroup (n k : Node) : Type 1 where
   pub state : n.state ≡ k.state
   pub disks : n.disks ≡ k.disks
   pub blocks : n.blocks ≡ k.blocks
@@ -34,12 +40,13 @@ pub record IsLikeGroup (n k : Node) : Type 0 where
   pub fuse : (m : Meaning) → HasFuse n.fuse m → HasFuse k.fuse m
   pub unfused : n.fuse ≡ NoFuse → k.fuse ≡ NoFuse
 
-away_like : (n k : Node) (note : GroupNode) (last : Config) (m : Meaning) → n.disks ≡ k.disks → n.blocks ≡ k.blocks → AwayLies n note last m → AwayLies k note last m
-away_like n k note last m disks blocks it = record {
+lies_like : (n k : Node) (note : GroupNode) (last : Config) (m : Meaning) → n.disks ≡ k.disks → n.blocks ≡ k.blocks → AwayLies n note last m → AwayLies k note last m
+lies_like n k note last m disks blocks it = record {
   units = it.units ∙ disks;
   size = λ u low. it.size u (subst (λ (x : ℕ). u < x) (sym disks) low) ∙ blocks;
   can = it.can;
   sizes = it.sizes;
+  finds = it.finds;
   volumes = it.volumes;
   has = it.has;
 }
@@ -58,55 +65,60 @@ module _ (n k : Node) (like : IsLikeGroup n k) where
     unarmed = it.unarmed;
   }
 
+  up_like : (note : GroupNode) (core : GroupCore) (m : Meaning) → GroupUp n note core m → GroupUp k note core m
+  up_like note core m it = record {
+    noted = noted_like note it.noted;
+    fuse = like.fuse m it.fuse;
+    spells = it.spells;
+    at = record { state = sym like.state ∙ it.at.state; up = it.at.up; lies = lies_as n k note core m like.disks like.blocks it.at.lies };
+  }
+
+  away_like : (note : GroupNode) (m : Meaning) → GroupAway n note m → GroupAway k note m
+  away_like note m it = record {
+    noted = noted_like note it.noted;
+    up = it.up;
+    fuse = like.fuse m it.fuse;
+    last = it.last;
+    newest = it.newest;
+    spells = it.spells;
+    away = record {
+      state = sym like.state ∙ it.away.state;
+      config = it.away.config;
+      frames = it.away.frames;
+      lies = lies_like n k note it.last m like.disks like.blocks it.away.lies;
+    };
+  }
+
+  down_like : (note : GroupNode) (m : Meaning) → GroupDown n note m → GroupDown k note m
+  down_like note m it = record {
+    noted = noted_like note it.noted;
+    unfused = like.unfused it.unfused;
+    stopped = it.stopped;
+    last = it.last;
+    spells = it.spells;
+    away = record { state = sym like.state ∙ it.away.state; config = it.away.config; lies = lies_like n k note it.last m like.disks like.blocks it.away.lies };
+  }
+
+  cut_like : (x : CutWrite) → CutLies n x → CutLies k x
+  cut_like x it = record { down = sym like.state ∙ it.down; fits = λ note is. it.fits note (like.group ∙ is) }
+
   module _ {R : Type 0} {g : Ghosts R} where
     stands_like : (s : GroupSite R g) → GroupSiteStands n s → GroupSiteStands k s
-    stands_like (Up group) (note, it) = (
-      note,
-      record {
-        noted = noted_like note it.noted;
-        fuse = like.fuse (g.meaning group.shelf) it.fuse;
-        at = record { state = sym like.state ∙ it.at.state; up = it.at.up; lies = lies_as n k note group.core (g.meaning group.shelf) like.disks like.blocks it.at.lies };
-      },
-    )
-    stands_like (Deported rack) (note, it) = (
-      note,
-      record {
-        noted = noted_like note it.noted;
-        up = it.up;
-        fuse = like.fuse (g.meaning rack) it.fuse;
-        away = record {
-          state = sym like.state ∙ it.away.state;
-          last = it.away.last;
-          newest = it.away.newest;
-          finds = it.away.finds;
-          config = it.away.config;
-          lies = away_like n k note it.away.last (g.meaning rack) like.disks like.blocks it.away.lies;
-        };
-      },
-    )
-    stands_like (Down rack) (note, it) = (
-      note,
-      record {
-        noted = noted_like note it.noted;
-        unfused = like.unfused it.unfused;
-        stopped = it.stopped;
-        away = record {
-          state = sym like.state ∙ it.away.state;
-          last = it.away.last;
-          config = it.away.config;
-          lies = away_like n k note it.away.last (g.meaning rack) like.disks like.blocks it.away.lies;
-        };
-      },
-    )
+    stands_like (Up group) (note, it) = (note, up_like note group.core (laid_disks group) it)
+    stands_like (Deported idle) (note, it) = (note, away_like note (idle_disks idle) it)
+    stands_like (Down idle) (note, it) = (note, down_like note (idle_disks idle) it)
     stands_like (Marked rack) it = marked_like (g.meaning rack) it
     stands_like Gone it = absurd it
 
-    -- also with something else beside the node, as long as that is no doubt
-    pub set_like : (beside other : KeptBeside) (s : GroupSet R g) → other.doubt ≡ None → (k.state ≡ IsBare → k ≡ bare_with k) → IsGroupSet beside n s → IsGroupSet other k s
-    set_like beside other s sure bare it = record {
+    -- also with something else beside the node, as long as that is no doubt and no link
+    pub set_like : (beside other : KeptBeside) (s : GroupSet R g) → ((k.state ≡ IsBare → ⊥) → other.doubt ≡ None) → ((k.state ≡ IsBare → ⊥) → other.links ≡ []) → (k.state ≡ IsBare → k ≡ bare_with k) → IsGroupSet beside n s
+        → IsGroupSet other k s
+    set_like beside other s sure unlinked bare it = record {
       sure = sure;
+      unlinked = unlinked;
       stands = stands_like s.site it.stands;
       cut = it.cut ∙ ap (λ (o : Option GroupNode). noted_cut o) like.group;
+      lies = λ x is. cut_like x (it.lies x is);
       bare = bare;
       few = subst (λ (x : ℕ). x ≤ MOST_DISKS) like.disks it.few;
       some = subst (λ (x : ℕ). LEAST_BLOCKS ≤ x) like.blocks it.some;
@@ -124,17 +136,6 @@ burned_like n = record {
   unfused = λ none. ap (λ (f : FuseOf). burned f) none;
 }
 
-fed_like : (n : Node) (feeder : ℕ) → IsLikeGroup n (record n { fed_by = feeder })
-fed_like n feeder = record {
-  state = refl;
-  disks = refl;
-  blocks = refl;
-  group = refl;
-  none = λ it. record { role = it.role; volumes = it.volumes; log = it.log; safe = it.safe; running = it.running };
-  fuse = λ m it. it;
-  unfused = λ none. none;
-}
-
 failing_like : (n : Node) (failing : ℕ → Bool) → IsLikeGroup n (record n { failing = failing })
 failing_like n failing = record {
   state = refl;
@@ -146,38 +147,50 @@ failing_like n failing = record {
   unfused = λ none. none;
 }
 
+-- a site that notes a group is over one
+noted_over : (n : Node) (note : GroupNode) → NotesGroup n note → is_over_group n ≡ true
+noted_over n note it =
+    ap (λ (o : Option GroupNode). is_some o && eqb (length n.volumes) 0) it.is
+    ∙ ap (λ (vs : List Volume). eqb (length vs) 0) it.none.volumes
+
 module _ {R : Type 0} {g : Ghosts R} where
   pub set_burned : (beside : KeptBeside) (n : Node) (s : GroupSet R g) → IsGroupSet beside n s → IsGroupSet beside (record n { fuse = burned n.fuse }) s
   set_burned beside n s it =
       let k : Node = record n { fuse = burned n.fuse } in
-      set_like n k (burned_like n) beside beside s it.sure
+      set_like n k (burned_like n) beside beside s it.sure it.unlinked
       (λ state.
       let is : n ≡ bare_with n = it.bare state in
       let none : n.fuse ≡ NoFuse = ap (λ (x : Node). x.fuse) is in
       let same : n ≡ k = ap (λ (x : FuseOf). let q : Node = record n { fuse = x } in q) (none ∙ sym (ap (λ (x : FuseOf). burned x) none)) in
       subst (λ (x : Node). x ≡ bare_with x) same is) it
 
-  pub set_fed : (beside other : KeptBeside) (n : Node) (feeder : ℕ) (s : GroupSet R g) → other.doubt ≡ None → n.state ≡ IsUp → IsGroupSet beside n s → IsGroupSet other (record n { fed_by = feeder }) s
-  set_fed beside other n feeder s sure up it =
-      set_like n (record n { fed_by = feeder }) (fed_like n feeder) beside other s sure (λ state. absurd (let e : IsUp ≡ IsBare = sym up ∙ state in cc)) it
-
   pub set_failing : (beside : KeptBeside) (n : Node) (failing : ℕ → Bool) (s : GroupSet R g) → IsGroupSet beside n s → IsGroupSet beside (record n { failing = failing }) s
   set_failing beside n failing s it =
-      set_like n (record n { failing = failing }) (failing_like n failing) beside beside s it.sure
+      set_like n (record n { failing = failing }) (failing_like n failing) beside beside s it.sure it.unlinked
       (λ state. ap (λ (x : Node). let q : Node = record x { failing = failing } in q) (it.bare state)) it
 
   -- ---- what such a site is
 
-  -- one that notes no group is bare
-  bare_by : (n : Node) (s : GroupSite R g) → GroupSiteStands n s → n.group ≡ None → n.state ≡ IsBare
-  bare_by n (Up group) (note, it) raw = absurd (let e : Some note ≡ None = sym it.noted.is ∙ raw in cc)
-  bare_by n (Deported rack) (note, it) raw = absurd (let e : Some note ≡ None = sym it.noted.is ∙ raw in cc)
-  bare_by n (Down rack) (note, it) raw = absurd (let e : Some note ≡ None = sym it.noted.is ∙ raw in cc)
-  bare_by n (Marked rack) it raw = it.state
-  bare_by n Gone it raw = absurd it
+  over_by : (n : Node) (s : GroupSite R g) → GroupSiteStands n s → (n.state ≡ IsBare → ⊥) → is_over_group n ≡ true
+  over_by n (Up group) (note, it) some = noted_over n note it.noted
+  over_by n (Deported rack) (note, it) some = noted_over n note it.noted
+  over_by n (Down rack) (note, it) some = noted_over n note it.noted
+  over_by n (Marked rack) it some = absurd (some it.state)
+  over_by n Gone it some = absurd it
 
-  pub raw_is_bare : (beside : KeptBeside) (n : Node) (s : GroupSet R g) → IsGroupSet beside n s → n.group ≡ None → n.state ≡ IsBare
-  raw_is_bare beside n s it raw = bare_by n s.site it.stands raw
+  -- a site with such disks is over a group, unless it is bare
+  pub over_group : (beside : KeptBeside) (n : Node) (s : GroupSet R g) → IsGroupSet beside n s → (n.state ≡ IsBare → ⊥) → is_over_group n ≡ true
+  over_group beside n s it some = over_by n s.site it.stands some
+
+  bare_by : (n : Node) (s : GroupSite R g) → GroupSiteStands n s → is_over_group n ≡ false → n.state ≡ IsBare
+  bare_by n (Up group) (note, it) apart = absurd (let e : true ≡ false = sym (noted_over n note it.noted) ∙ apart in cc)
+  bare_by n (Deported rack) (note, it) apart = absurd (let e : true ≡ false = sym (noted_over n note it.noted) ∙ apart in cc)
+  bare_by n (Down rack) (note, it) apart = absurd (let e : true ≡ false = sym (noted_over n note it.noted) ∙ apart in cc)
+  bare_by n (Marked rack) it apart = it.state
+  bare_by n Gone it apart = absurd it
+
+  pub apart_bare : (beside : KeptBeside) (n : Node) (s : GroupSet R g) → IsGroupSet beside n s → is_over_group n ≡ false → n.state ≡ IsBare
+  apart_bare beside n s it apart = bare_by n s.site it.stands apart
 
   none_by : (n : Node) (s : GroupSite R g) → GroupSiteStands n s → n.state ≡ IsUp → HasNoRvg n
   none_by n (Up group) (note, it) up = it.noted.none
@@ -190,11 +203,11 @@ module _ {R : Type 0} {g : Ghosts R} where
   pub up_has_none : (beside : KeptBeside) (n : Node) (s : GroupSet R g) → IsGroupSet beside n s → n.state ≡ IsUp → HasNoRvg n
   up_has_none beside n s it up = none_by n s.site it.stands up
 
-  -- such disks are those of no raw set that is up
-  pub never_raw_up : {A : Type 0} (beside : KeptBeside) (n : Node) (e : DiskSet R g) (s : GroupSet R g) → e ≡ OfGroup s → SiteStands beside n e → n.group ≡ None → n.state ≡ IsUp → A
-  never_raw_up beside n e s is stands raw up =
+  -- such disks are those of no site that is up and over no group
+  pub never_apart : {A : Type 0} (beside : KeptBeside) (n : Node) (e : DiskSet R g) (s : GroupSet R g) → e ≡ OfGroup s → SiteStands beside n e → n.state ≡ IsUp → is_over_group n ≡ false → A
+  never_apart beside n e s is stands up apart =
       let it : IsGroupSet beside n s = subst (λ (x : DiskSet R g). SiteStands beside n x) is stands in
-      absurd (let e : IsBare ≡ IsUp = sym (raw_is_bare beside n s it raw) ∙ up in cc)
+      absurd (let e : IsBare ≡ IsUp = sym (apart_bare beside n s it apart) ∙ up in cc)
 
   -- nor of one with a volume
   pub never_with_volume : {A : Type 0} (beside : KeptBeside) (n : Node) (e : DiskSet R g) (s : GroupSet R g) (volume : ℕ) → e ≡ OfGroup s → SiteStands beside n e → n.state ≡ IsUp → volume < length n.volumes → A
@@ -202,3 +215,14 @@ module _ {R : Type 0} {g : Ghosts R} where
       let it : IsGroupSet beside n s = subst (λ (x : DiskSet R g). SiteStands beside n x) is stands in
       let has = up_has_none beside n s it up in
       absurd (omega (arith, low, ap (λ (xs : List Volume). length xs) has.volumes))
+
+  -- such a site is not up, or writes arise at it
+  off_by : (n : Node) (s : GroupSite R g) → GroupSiteStands n s → (is_up n.state ≡ false) ⊎ (is_origin n.role ≡ true)
+  off_by n (Up group) (note, it) = inr (ap (λ (r : Role). is_origin r) it.noted.none.role)
+  off_by n (Deported rack) (note, it) = inr (ap (λ (r : Role). is_origin r) it.noted.none.role)
+  off_by n (Down rack) (note, it) = inr (ap (λ (r : Role). is_origin r) it.noted.none.role)
+  off_by n (Marked rack) it = inl (ap (λ (s : SiteState). is_up s) it.state)
+  off_by n Gone it = absurd it
+
+  pub off_or_origin : (beside : KeptBeside) (n : Node) (s : GroupSet R g) → IsGroupSet beside n s → (is_up n.state ≡ false) ⊎ (is_origin n.role ≡ true)
+  off_or_origin beside n s it = off_by n s.site it.stands

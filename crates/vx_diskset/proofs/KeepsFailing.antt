@@ -45,7 +45,7 @@ untouched_none : (o : Option Disks) → OnDisks o o Untouched
 untouched_none None = tt
 untouched_none (Some d) = (record { blocks = record { stable = λ u b. refl; latest = λ u b. refl; loose = λ u b. refl }; fuse = refl }, λ u. refl)
 
-may_crash : (size : ℕ → ℕ) (pick : ℕ) (o n : Option Disks) → OnDisks o n (Crashed size pick) → OnDisks o n (λ x y. Crashed size pick x y ⊎ Untouched x y)
+pub may_crash : (size : ℕ → ℕ) (pick : ℕ) (o n : Option Disks) → OnDisks o n (Crashed size pick) → OnDisks o n (λ x y. Crashed size pick x y ⊎ Untouched x y)
 may_crash size pick None None h = tt
 may_crash size pick None (Some n) h = absurd h
 may_crash size pick (Some o) None h = absurd h

@@ -8,10 +8,16 @@ pub mod CrashGroup
 pub mod ExactWrite
 pub mod FailGroup
 pub mod FuseGroup
+pub mod GroupBegun
+pub mod GroupCalling
+pub mod GroupCut
+pub mod GroupFinding
+pub mod GroupRising
 pub mod GroupStands
 pub mod HeadCalls
 pub mod KeepGroup
 pub mod KeepsFailing
+pub mod LabelLemmas
 pub mod LastWrites
 pub mod Laying
 pub mod LeavesNumbers
@@ -20,6 +26,7 @@ pub mod MakeGroup
 pub mod MakeRoom
 pub mod Mores
 pub mod NeedLemmas
+pub mod OverGroups
 pub mod PumpGroup
 pub mod Reaching
 pub mod ReadGroup
@@ -31,6 +38,9 @@ pub mod StartGroup
 pub mod StaysUp
 pub mod TakenBack
 pub mod ThenUnder
+pub mod Unmarked
 pub mod Worked
 pub mod WriteGroup
 pub mod WriteLeaves
+pub mod Zeroes
+mod GroupCalling

@@ -32,7 +32,8 @@ use Rattle.vx_rvg.specs.declared.group.Rvg.{Rvg}
 use Rattle.vx_disk.specs.declared.shelf.Shelf.{Ghosts}
 use Rattle.vx_diskset.specs.declared.disk_set.DiskSet.{DiskSet}
 use Rattle.vx_diskset.specs.declared.disk_set.DiskSet.TheVariants.{Bare, Spoiled, Up, Receives, Down, OfGroup, Gone}
-use Rattle.vx_diskset.proofs.GroupStands.{raw_is_bare}
+use Rattle.vx_events.specs.GroupLines.{is_over_group}
+use Rattle.vx_diskset.proofs.GroupStands.{apart_bare}
 use Rattle.vx_diskset.proofs.MakeGroup.{placed_raw}
 use Rattle.vx_diskset.specs.DiskSets.{CanStart, CameUp, CameUpIs, no_number}
 use Rattle.vx_events.specs.Found.{SameDisks}
@@ -363,14 +364,14 @@ start_needs disks ring units m up can alike is disks_is =
     )
 
 module _ {R : Type 0} {g : Ghosts R} where
-  never_down : (beside : KeptBeside) (n : Node) (e : DiskSet R g) → SiteStands beside n e → n.state ≡ IsDown → n.group ≡ None → ((rack : R) → e ≡ Down rack → ⊥) → ⊥
-  never_down beside n (Bare rack) h down raw none = let e : IsBare ≡ IsDown = sym (ap (λ (x : Node). x.state) h.bare.is) ∙ down in absurd (cc)
-  never_down beside n (Spoiled rack) h down raw none = let e : IsBare ≡ IsDown = sym (ap (λ (x : Node). x.state) h.is) ∙ down in absurd (cc)
-  never_down beside n (Up rvg) h down raw none = let e : IsUp ≡ IsDown = sym h.state ∙ down in absurd (cc)
-  never_down beside n (Receives s) h down raw none = let e : IsUp ≡ IsDown = sym h.state ∙ down in absurd (cc)
-  never_down beside n (Down rack) h down raw none = none rack refl
-  never_down beside n (OfGroup s) h down raw none = let e : IsBare ≡ IsDown = sym (raw_is_bare beside n s h raw) ∙ down in absurd (cc)
-  never_down beside n Gone h down raw none = h
+  never_down : (beside : KeptBeside) (n : Node) (e : DiskSet R g) → SiteStands beside n e → n.state ≡ IsDown → is_over_group n ≡ false → ((rack : R) → e ≡ Down rack → ⊥) → ⊥
+  never_down beside n (Bare rack) h down apart none = let e : IsBare ≡ IsDown = sym (ap (λ (x : Node). x.state) h.bare.is) ∙ down in absurd (cc)
+  never_down beside n (Spoiled rack) h down apart none = let e : IsBare ≡ IsDown = sym (ap (λ (x : Node). x.state) h.is) ∙ down in absurd (cc)
+  never_down beside n (Up rvg) h down apart none = let e : IsUp ≡ IsDown = sym h.state ∙ down in absurd (cc)
+  never_down beside n (Receives s) h down apart none = let e : IsUp ≡ IsDown = sym h.state ∙ down in absurd (cc)
+  never_down beside n (Down rack) h down apart none = none rack refl
+  never_down beside n (OfGroup s) h down apart none = let e : IsBare ≡ IsDown = sym (apart_bare beside n s h apart) ∙ down in absurd (cc)
+  never_down beside n Gone h down apart none = h
 
   pub came_at : {beside : KeptBeside} (n : Node) (disks : ℕ) (units : Units) (rack up : R) (rvg : Rvg R g) → units ≡ raw_units disks → disks ≡ (g.meaning up).units → IsDownAt beside n (g.meaning rack)
       → Alike (g.meaning rack) (g.meaning up) → IsFalse (g.meaning up).down → (g.meaning up).armed ≡ (g.meaning rack).armed → Lawful (g.meaning up) → Lawful (g.meaning rvg.shelf)
@@ -400,5 +401,5 @@ module _ {R : Type 0} {g : Ghosts R} where
       stopped law is_rack why (subst (λ (u : Units). StartCause u (g.meaning up) (g.meaning back) why) same cause) read)
 
   -- no site that is down has another disk set, or disks that cannot be started
-  pub not_started : (beside : KeptBeside) (n : Node) (e new : DiskSet R g) (why : No) → SiteStands beside n e → n.state ≡ IsDown → n.group ≡ None → ((rack : R) → e ≡ Down rack → ⊥) → CameUpIs beside n e new (Err why)
-  not_started beside n e new why h down raw none = absurd (never_down beside n e h down raw none)
+  pub not_started : (beside : KeptBeside) (n : Node) (e new : DiskSet R g) (why : No) → SiteStands beside n e → n.state ≡ IsDown → is_over_group n ≡ false → ((rack : R) → e ≡ Down rack → ⊥) → CameUpIs beside n e new (Err why)
+  not_started beside n e new why h down apart none = absurd (never_down beside n e h down apart none)

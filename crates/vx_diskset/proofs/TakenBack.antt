@@ -1,5 +1,5 @@
 -- Disks that tell no contents stand for a site whatever links its log keeps and whoever feeds it; and where it goes down again, for any that was down on them.
-use Rattle.std.proofs.Common.{◌≡◌, ◌∙◌, ◌<◌, ◌+◌, ◌-◌, ℕ, List, length, ap, sym, subst, refl, arith, IsTrue}
+use Rattle.std.proofs.Common.{◌≡◌, ◌∙◌, ◌<◌, ◌+◌, ◌-◌, ℕ, List, length, ap, sym, subst, refl, arith, false, IsTrue}
 use Rattle.std.specs.Prelude.{Option, Some, None, IsFalse}
 use Rattle.vx_model.specs.Content.{zero_block}
 use Rattle.vx_model.specs.declared.site.SiteState.TheVariants.{Bare as IsBare, Up as IsUp, Down as IsDown}
@@ -16,7 +16,8 @@ use Rattle.vx_diskset.specs.Holds.{KeptBeside}
 use Rattle.vx_diskset.specs.Layouts.{LiesOn, raw_units}
 use Rattle.vx_diskset.specs.Stands.{IsCleanAt, IsDownAt, IsReceiverAt, IsToldAt, IsUpAt, SiteStands}
 use Rattle.vx_diskset.specs.Withdrawn.{IsBareOf, Revived}
-use Rattle.vx_diskset.proofs.GroupStands.{raw_is_bare, set_fed}
+use Rattle.vx_events.specs.GroupLines.{is_over_group}
+use Rattle.vx_diskset.proofs.GroupStands.{apart_bare}
 use Rattle.vx_diskset.proofs.BesideLemmas.{never_besides}
 use Rattle.vx_diskset.proofs.StaysUp.{not_true, told_now}
 
@@ -150,21 +151,21 @@ bare_withdrawn n k m last lawful lies rose of untold = record {
 
 module _ {R : Type 0} {g : Ghosts R} (lawful : (r : R) → Lawful (g.meaning r)) where
   -- whatever links its log keeps, and whoever feeds it
-  pub any_links : (b other : KeptBeside) (n : Node) (feeder : ℕ) (e : DiskSet R g) → (IsToldAt e → ⊥) → other.doubt ≡ None → n.state ≡ IsUp → SiteStands b n e
+  pub any_links : (b other : KeptBeside) (n : Node) (feeder : ℕ) (e : DiskSet R g) → (IsToldAt e → ⊥) → other.doubt ≡ None → n.state ≡ IsUp → is_over_group n ≡ false → SiteStands b n e
       → SiteStands other (record n { fed_by = feeder }) e
-  any_links b other n feeder (Bare rack) untold sure up h = let e : IsUp ≡ IsBare = sym up ∙ ap (λ (x : Node). x.state) h.bare.is in absurd (cc)
-  any_links b other n feeder (Spoiled rack) untold sure up h = let e : IsUp ≡ IsBare = sym up ∙ ap (λ (x : Node). x.state) h.is in absurd (cc)
-  any_links b other n feeder (Up rvg) untold sure up h = up_beside b other n feeder rvg.core (g.meaning rvg.shelf) (lawful rvg.shelf) untold sure h
-  any_links b other n feeder (Receives s) untold sure up h = receiver_beside b other n feeder s.rvg.core s.waiting (g.meaning s.rvg.shelf) (lawful s.rvg.shelf) untold sure h
-  any_links b other n feeder (Down rack) untold sure up h = let e : IsUp ≡ IsDown = sym up ∙ h.state in absurd (cc)
-  any_links b other n feeder (OfGroup s) untold sure up h = set_fed b other n feeder s sure up h
-  any_links b other n feeder Gone untold sure up h = absurd h
+  any_links b other n feeder (Bare rack) untold sure up apart h = let e : IsUp ≡ IsBare = sym up ∙ ap (λ (x : Node). x.state) h.bare.is in absurd (cc)
+  any_links b other n feeder (Spoiled rack) untold sure up apart h = let e : IsUp ≡ IsBare = sym up ∙ ap (λ (x : Node). x.state) h.is in absurd (cc)
+  any_links b other n feeder (Up rvg) untold sure up apart h = up_beside b other n feeder rvg.core (g.meaning rvg.shelf) (lawful rvg.shelf) untold sure h
+  any_links b other n feeder (Receives s) untold sure up apart h = receiver_beside b other n feeder s.rvg.core s.waiting (g.meaning s.rvg.shelf) (lawful s.rvg.shelf) untold sure h
+  any_links b other n feeder (Down rack) untold sure up apart h = let e : IsUp ≡ IsDown = sym up ∙ h.state in absurd (cc)
+  any_links b other n feeder (OfGroup s) untold sure up apart h = let e : IsBare ≡ IsUp = sym (apart_bare b n s h apart) ∙ up in absurd (cc)
+  any_links b other n feeder Gone untold sure up apart h = absurd h
 
 module _ {R : Type 0} {g : Ghosts R} where
   -- a site that is down again is any that was down on them
   pub any_down : (b other : KeptBeside) (n k : Node) (before after : DiskSet R g) → (IsToldAt after → ⊥) → n.state ≡ IsDown → k.state ≡ IsDown → k.disks ≡ n.disks → k.blocks ≡ n.blocks
-      → n.group ≡ None → k.group ≡ None → SiteStands other n before → SiteStands b k after → SiteStands other n after
-  any_down b other n k before (Down rack) untold state up disks blocks raw raw_too h0 h = by_before before h0
+      → is_over_group n ≡ false → is_over_group k ≡ false → SiteStands other n before → SiteStands b k after → SiteStands other n after
+  any_down b other n k before (Down rack) untold state up disks blocks apart apart_too h0 h = by_before before h0
     where
       by_before : (e : DiskSet R g) → SiteStands other n e → IsDownAt other n (g.meaning rack)
       by_before (Down was) h0 = down_again b other n k (g.meaning rack) (g.meaning was) untold h disks blocks h0
@@ -172,11 +173,11 @@ module _ {R : Type 0} {g : Ghosts R} where
       by_before (Spoiled was) h0 = let e : IsBare ≡ IsDown = sym (ap (λ (x : Node). x.state) h0.is) ∙ state in absurd (cc)
       by_before (Up rvg) h0 = let e : IsUp ≡ IsDown = sym h0.state ∙ state in absurd (cc)
       by_before (Receives s) h0 = let e : IsUp ≡ IsDown = sym h0.state ∙ state in absurd (cc)
-      by_before (OfGroup s) h0 = let e : IsBare ≡ IsDown = sym (raw_is_bare other n s h0 raw) ∙ state in absurd (cc)
+      by_before (OfGroup s) h0 = let e : IsBare ≡ IsDown = sym (apart_bare other n s h0 apart) ∙ state in absurd (cc)
       by_before Gone h0 = absurd h0
-  any_down b other n k before (Bare rack) untold state down disks blocks raw raw_too h0 h = let e : IsBare ≡ IsDown = sym (ap (λ (x : Node). x.state) h.bare.is) ∙ down in absurd (cc)
-  any_down b other n k before (Spoiled rack) untold state down disks blocks raw raw_too h0 h = let e : IsBare ≡ IsDown = sym (ap (λ (x : Node). x.state) h.is) ∙ down in absurd (cc)
-  any_down b other n k before (Up rvg) untold state down disks blocks raw raw_too h0 h = let e : IsUp ≡ IsDown = sym h.state ∙ down in absurd (cc)
-  any_down b other n k before (Receives s) untold state down disks blocks raw raw_too h0 h = let e : IsUp ≡ IsDown = sym h.state ∙ down in absurd (cc)
-  any_down b other n k before (OfGroup s) untold state down disks blocks raw raw_too h0 h = let e : IsBare ≡ IsDown = sym (raw_is_bare b k s h raw_too) ∙ down in absurd (cc)
-  any_down b other n k before Gone untold state down disks blocks raw raw_too h0 h = absurd h
+  any_down b other n k before (Bare rack) untold state down disks blocks apart apart_too h0 h = let e : IsBare ≡ IsDown = sym (ap (λ (x : Node). x.state) h.bare.is) ∙ down in absurd (cc)
+  any_down b other n k before (Spoiled rack) untold state down disks blocks apart apart_too h0 h = let e : IsBare ≡ IsDown = sym (ap (λ (x : Node). x.state) h.is) ∙ down in absurd (cc)
+  any_down b other n k before (Up rvg) untold state down disks blocks apart apart_too h0 h = let e : IsUp ≡ IsDown = sym h.state ∙ down in absurd (cc)
+  any_down b other n k before (Receives s) untold state down disks blocks apart apart_too h0 h = let e : IsUp ≡ IsDown = sym h.state ∙ down in absurd (cc)
+  any_down b other n k before (OfGroup s) untold state down disks blocks apart apart_too h0 h = let e : IsBare ≡ IsDown = sym (apart_bare b k s h apart_too) ∙ down in absurd (cc)
+  any_down b other n k before Gone untold state down disks blocks apart apart_too h0 h = absurd h

@@ -1,13 +1,18 @@
 -- What the calls on the group of a site promise.
-use Rattle.std.specs.Prelude.{◌≡◌, Option, None}
+use Rattle.std.specs.Prelude.{◌≡◌, ℕ, Option, None, Result, Ok, Err}
 use Rattle.vx_model.specs.Content.{Write}
+use Rattle.vx_model.specs.declared.errors.Stop.{Stop}
+use Rattle.vx_disk.specs.Shelf.{Meaning}
 use Rattle.vx_disk.specs.declared.shelf.Shelf.{Ghosts}
+use Rattle.vx_history.specs.World.{Node}
+use Rattle.vx_watched.specs.Empty.{no_shelf}
 use Rattle.vx_watched.specs.Since.{CalledSince}
+use Rattle.vx_grouped.specs.Begins.{BeginsGroup}
 use Rattle.vx_grouped.specs.GroupSites.{site_disks}
 use Rattle.vx_grouped.specs.declared.group_site.GroupSite.{GroupSite}
 use Rattle.vx_diskset.specs.GroupSets.{cut_value}
 use Rattle.vx_diskset.specs.declared.disk_set.DiskSet.{DiskSet}
-use Rattle.vx_diskset.specs.declared.disk_set.DiskSet.TheVariants.{OfGroup}
+use Rattle.vx_diskset.specs.declared.disk_set.DiskSet.TheVariants.{Bare, Spoiled, OfGroup}
 
 module _ {R : Type 0} {g : Ghosts R} where
   -- they are those of a group, of which this holds
@@ -25,7 +30,18 @@ module _ {R : Type 0} {g : Ghosts R} where
   cut_in (OfGroup s) = cut_value s.cut
   cut_in other = None
 
-  -- whatever calls were made of them, those on the disks are accounted for; other disks are as they were
+  -- whatever calls were made of them, those on the disks of a group are accounted for
   abbrev pub CalledOn : DiskSet R g → DiskSet R g → Type 0
   CalledOn (OfGroup old) new = AtSite (λ s. CalledSince (site_disks old.site) (site_disks s)) new
-  CalledOn old new = new ≡ old
+  CalledOn old new = Unit {0}
+
+  -- the disks of a bare site, whatever was begun on them
+  abbrev pub bare_disks : DiskSet R g → Meaning
+  bare_disks (Bare rack) = g.meaning rack
+  bare_disks (Spoiled rack) = g.meaning rack
+  bare_disks (OfGroup s) = site_disks s.site
+  bare_disks other = no_shelf
+
+  -- the disks of a bare site are a group without volumes; or a disk failed, or memory was wanted, and labels of it may stand on them
+  abbrev pub InitIs : ℕ → Node → DiskSet R g → DiskSet R g → Result (Unit {0}) Stop → Type 0
+  InitIs site n old new result = AtSite (λ e. BeginsGroup site n (bare_disks old) e result) new × (cut_in new ≡ None)

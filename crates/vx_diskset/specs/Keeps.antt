@@ -1,5 +1,5 @@
 -- What the disks of a site promise of a state that is made durable in the header of its log.
-use Rattle.std.specs.Prelude.{◌≡◌, ◌⊎◌, ℕ, ◌+◌, ◌≤◌, List, true, Some, None, slice_get, Result, Ok, Err}
+use Rattle.std.specs.Prelude.{◌≡◌, ◌⊎◌, ℕ, ◌+◌, ◌≤◌, List, true, false, Some, None, slice_get, Result, Ok, Err}
 use Rattle.vx_model.specs.declared.no.No.{No}
 use Rattle.vx_model.specs.declared.no.No.TheVariants.{Device, Limit, Down as IsDown}
 use Rattle.vx_model.specs.declared.site.SiteState.TheVariants.{Up as IsUp}
@@ -11,6 +11,7 @@ use Rattle.vx_history.specs.World.{Node}
 use Rattle.vx_disk.specs.declared.shelf.Shelf.{Ghosts}
 use Rattle.vx_srl.specs.Views.{most_number}
 use Rattle.vx_events.specs.Fails.{IsLogDisk}
+use Rattle.vx_events.specs.GroupLines.{is_over_group}
 use Rattle.vx_events.specs.declared.said.Said.{Said}
 use Rattle.vx_events.specs.declared.said.Said.TheVariants.{Done, Refused}
 use Rattle.vx_diskset.specs.declared.disk_set.DiskSet.{DiskSet}
@@ -54,7 +55,7 @@ Suffices links n l = (n.safe ≤ hold_of l) ⊎ ((j : ℕ) × ((o : KeptLink) ×
 pub record CanKeep (beside : KeptBeside) (n : Node) (s : State) : Type 0 where
   pub up : n.state ≡ IsUp
   pub running : n.halted ≡ None
-  pub raw : n.group ≡ None
+  pub apart : is_over_group n ≡ false
   pub line : s.line ≡ n.line
   pub role : is_origin s.role ≡ is_origin n.role
   pub needs : (k : ℕ) (l : KeptLink) → slice_get s.links k ≡ Some l → is_needing l ≡ true → Suffices beside.links n l

@@ -5,6 +5,7 @@ pub mod DiskSets
 pub mod Fetching
 pub mod Fuses
 pub mod GroupCalls
+pub mod GroupFinds
 pub mod GroupSets
 pub mod Holds
 pub mod Keeps
@@ -13,6 +14,10 @@ pub mod Layouts
 pub mod Needs
 pub mod Pumps
 pub mod Received
+pub mod Recovers
 pub mod Rooms
 pub mod Stands
+pub mod Unlabels
 pub mod Withdrawn
+pub mod Zeroing
+pub mod Zeros

@@ -1,5 +1,5 @@
 -- What the disks of a site stand for: how its rack, or the group over it, agrees with its node of the world.
-use Rattle.std.specs.Prelude.{◌≡◌, ℕ, ◌+◌, ◌<◌, ◌≤◌, List, Some, length, take, drop, None, IsTrue, IsFalse, true, false}
+use Rattle.std.specs.Prelude.{◌≡◌, ℕ, ◌+◌, ◌<◌, ◌≤◌, List, [], Some, length, take, drop, None, IsTrue, IsFalse, true, false}
 use Rattle.vx_model.specs.declared.limits.TheConstants.{LEAST_BLOCKS, MOST_DISKS}
 use Rattle.vx_model.specs.Content.{zero_block}
 use Rattle.vx_model.specs.Sites.{is_origin}
@@ -14,8 +14,10 @@ use Rattle.vx_rvg.specs.Views.{Core, last_of}
 use Rattle.vx_secondary.specs.Receivers.{writes_of_updates}
 use Rattle.vx_diskset.specs.declared.disk_set.DiskSet.{DiskSet}
 use Rattle.vx_diskset.specs.declared.disk_set.DiskSet.TheVariants.{Bare, Spoiled, Up, Receives, Down, OfGroup, Gone}
-use Rattle.vx_grouped.specs.GroupSites.{GroupSiteStands, site_disks}
+use Rattle.vx_grouped.specs.GroupSites.{FitsPlain, GroupSiteStands, IsMarkedSite, site_disks}
+use Rattle.vx_history.specs.Groups.{GroupNode}
 use Rattle.vx_diskset.specs.GroupSets.{cut_value, noted_cut}
+use Rattle.vx_diskset.specs.declared.group_set.CutWrite.{CutWrite}
 use Rattle.vx_diskset.specs.declared.group_set.GroupSet.{GroupSet}
 use Rattle.vx_diskset.specs.Fuses.{IsFirstLog}
 use Rattle.vx_grouped.specs.SetFuses.{HasFuse}
@@ -55,6 +57,13 @@ pub record IsBareAt (n : Node) (m : Meaning) : Type 0 where
 pub record IsCleanAt (n : Node) (m : Meaning) : Type 0 where
   pub bare : IsBareAt n m
   pub front : (b : ℕ) → b < n.blocks → Keeps m 0 b zero_block
+
+-- the disks of a bare site on which a group was begun
+pub record IsMarkedAt (n : Node) (m : Meaning) : Type 0 where
+  pub marked : IsMarkedSite n m
+  pub is : n ≡ bare_with n
+  pub few : n.disks ≤ MOST_DISKS
+  pub some : LEAST_BLOCKS ≤ n.blocks
 
 -- the disks of a site under its replicated volume group, with what the world has of it beside its node
 pub record IsUpAt (beside : KeptBeside) (n : Node) (c : Core) (m : Meaning) : Type 0 where
@@ -140,13 +149,20 @@ pub record IsDownAt (beside : KeptBeside) (n : Node) (m : Meaning) : Type 0 wher
   pub begun : IsTrue m.tells → 0 < n.session
   pub left : IsTrue m.tells → LeftWith (units_of n) n.ring (state_with n beside.links) n.session (most_header beside n) n.log n.base m
 
+-- a write is cut only at a site that is down, and lies in its volume
+pub record CutLies (n : Node) (x : CutWrite) : Type 0 where
+  pub down : n.state ≡ IsDown
+  pub fits : (note : GroupNode) → n.group ≡ Some note → FitsPlain note x.volume x.block (length x.bytes)
+
 module _ {R : Type 0} {g : Ghosts R} where
-  -- The disks of a site that has a group of disks, and no replicated volume group, with the write that its fuse cut. Such a site is never in doubt. On
+  -- The disks of a site that has a group of disks, and no replicated volume group, with the write that its fuse cut. Such a site is never in doubt, and has no links. On
   -- those of a bare one a group was begun.
   pub record IsGroupSet (beside : KeptBeside) (n : Node) (s : GroupSet R g) : Type 0 where
-    pub sure : beside.doubt ≡ None
+    pub sure : (n.state ≡ IsBare → ⊥) → beside.doubt ≡ None
+    pub unlinked : (n.state ≡ IsBare → ⊥) → beside.links ≡ []
     pub stands : GroupSiteStands n s.site
     pub cut : cut_value s.cut ≡ noted_cut n.group
+    pub lies : (x : CutWrite) → s.cut ≡ Some x → CutLies n x
     pub bare : n.state ≡ IsBare → n ≡ bare_with n
     pub few : n.disks ≤ MOST_DISKS
     pub some : LEAST_BLOCKS ≤ n.blocks

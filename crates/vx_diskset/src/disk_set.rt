@@ -1,5 +1,6 @@
 // The disks of a site.
-ghost use Rattle.std.specs.Prelude.{◌≡◌, ◌≤◌, ◌<◌, IfSome, IsSome, List, None};
+ghost use Rattle.std.specs.Prelude.{◌≡◌, ◌≤◌, ◌<◌, IfSome, IsSome, List, None, false};
+ghost use Rattle.vx_events.specs.GroupLines.{is_over_group};
 ghost use Rattle.vx_diskset.specs.Holds.{KeptBeside};
 ghost use Rattle.vx_history.specs.World.{Node};
 ghost use Rattle.vx_diskset.specs.DiskSets.{Later};
@@ -153,7 +154,7 @@ impl<R: Rack> DiskSet<R> {
 
     /// What the log of a site that is up keeps of it; of its links only where contents are told.
     pub fn state(&self) -> Option<&State>
-        ensures is { (beside : KeptBeside) (n : Node) → SiteStands beside n self.now → n.state ≡ UpState → IfSome result (λ state. state.now ≡ state_with n state.now.links) × IsSome result }
+        ensures is { (beside : KeptBeside) (n : Node) → SiteStands beside n self.now → n.state ≡ UpState → is_over_group n ≡ false → IfSome result (λ state. state.now ≡ state_with n state.now.links) × IsSome result }
         ensures links { (beside : KeptBeside) (n : Node) → SiteStands beside n self.now → n.state ≡ UpState → IsToldAt self.now → IfSome result (λ state. state.now.links ≡ beside.links) }
         ensures spelled { IfSome result (λ state. CanSpellState state.now) }
     {
@@ -166,7 +167,7 @@ impl<R: Rack> DiskSet<R> {
 
     /// The session of a site that is up.
     pub fn session(&self) -> u64
-        ensures is { (beside : KeptBeside) (n : Node) → SiteStands beside n self.now → n.state ≡ UpState → result ≡ n.session }
+        ensures is { (beside : KeptBeside) (n : Node) → SiteStands beside n self.now → n.state ≡ UpState → is_over_group n ≡ false → result ≡ n.session }
         ensures few { result ≤ MOST_NUMBER }
     {
         match self {

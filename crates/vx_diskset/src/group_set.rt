@@ -1,5 +1,4 @@
 // The disks of a site that has a group of disks, and no replicated volume group.
-ghost use Rattle.std.specs.Prelude.{◌≡◌, None};
 
 use vx_disk::Rack;
 use vx_grouped::GroupSite;
@@ -26,14 +25,4 @@ pub struct KeptWrite {
 pub struct GroupSet<R: Rack> {
     pub site: GroupSite<R>,
     pub cut: Option<CutWrite>,
-}
-
-impl<R: Rack> GroupSet<R> {
-    /// The disks, where no write is cut.
-    pub fn of(site: GroupSite<R>) -> GroupSet<R>
-        ensures site { result.site ≡ site }
-        ensures cut { result.cut ≡ None }
-    {
-        GroupSet { site, cut: None }
-    }
 }

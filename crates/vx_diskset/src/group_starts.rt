@@ -1,4 +1,20 @@
 // How a group is made on the disks of a site, and how it comes up again.
+ghost use Rattle.std.specs.Prelude.{◌≡◌, ◌<◌, ◌≤◌, IfErr, None, Some};
+ghost use Rattle.vx_copyio.specs.Labelling.{least_blocks};
+ghost use Rattle.vx_grouped.specs.GroupSites.{AwayNoted, DownNoted, GroupSiteStands, UpNoted, site_disks};
+ghost use Rattle.vx_grouped.specs.Begins.{BeginsGroup, CanBegin};
+ghost use Rattle.vx_grouped.specs.SiteReturns.{SiteImports};
+ghost use Rattle.vx_history.specs.Groups.{GroupNode};
+ghost use Rattle.vx_history.specs.World.{Node};
+ghost use Rattle.vx_model.specs.declared.site.SiteState.TheVariants.{Bare as BareState};
+ghost use Rattle.vx_watched.specs.Since.{CalledSince};
+ghost use Rattle.vx_diskset.specs.Asked.{FuseGoesOn, SameFailing};
+ghost use Rattle.vx_diskset.specs.DiskSets.{Later};
+ghost use Rattle.vx_diskset.specs.GroupCalls.{AtSite, InitIs, OnSites, cut_in};
+ghost use Rattle.vx_diskset.specs.Holds.{KeptBeside};
+ghost use Rattle.vx_diskset.specs.Recovers.{LooksKept, RecoversGroup, RisesSince, RisesWith, cut_past};
+ghost use Rattle.vx_diskset.specs.Stands.{SiteStands};
+
 use crate::group_set::{CutWrite, KeptWrite};
 use crate::{DiskSet, GroupSet};
 use std::alloc::Global;
@@ -6,35 +22,70 @@ use vx_disk::Rack;
 use vx_grouped::{GroupSite, begin_group};
 use vx_model::{No, Stop};
 
-// The disks of a bare site on which a group was begun: labels may stand on them.
-fn marked<R: Rack>(rack: R) -> DiskSet<R> {
-    DiskSet::OfGroup(GroupSet::of(GroupSite::Marked(rack)))
+// Makes the disks of a bare site a group without volumes.
+fn begin_on<R: Rack>(alloc: Global, rack: R, site: u32) -> (DiskSet<R>, Result<(), Stop>)
+    ensures begun { (n : Node) → CanBegin n (R.meaning rack) → AtSite (λ e. BeginsGroup site n (R.meaning rack) e result.1) result.0 }
+    ensures cut { cut_in result.0 ≡ None }
+    ensures since { AtSite (λ e. CalledSince (R.meaning rack) (site_disks e)) result.0 }
+{
+    let (group, answer) = begin_group(alloc, rack, site);
+    (
+        DiskSet::OfGroup(GroupSet {
+            site: group,
+            cut: None,
+        }),
+        answer,
+    )
 }
 
-// The group on the disks of a site.
-fn group_of<R: Rack>(site: GroupSite<R>) -> DiskSet<R> {
-    DiskSet::OfGroup(GroupSet::of(site))
+// The same of the disks of a bare site on which one was begun before.
+fn begin_again<R: Rack>(
+    alloc: Global,
+    marked: GroupSite<R>,
+    cut: Option<CutWrite>,
+    site: u32,
+) -> (DiskSet<R>, Result<(), Stop>)
+    ensures begun { (n : Node) → GroupSiteStands n marked → n.state ≡ BareState → CanBegin n (site_disks marked) → AtSite (λ e. BeginsGroup site n (site_disks marked) e result.1) result.0 × (cut_in result.0 ≡ None) }
+    ensures since { AtSite (λ e. CalledSince (site_disks marked) (site_disks e)) result.0 }
+{
+    match marked {
+        GroupSite::Marked(rack) => begin_on(alloc, rack, site),
+        other => (
+            DiskSet::OfGroup(GroupSet { site: other, cut }),
+            Err(Stop::No(No::Role)),
+        ),
+    }
 }
 
-// The disks on which a group was begun.
-fn begun<R: Rack>(made: (GroupSite<R>, Result<(), Stop>)) -> (DiskSet<R>, Result<(), Stop>) {
-    let (site, answer) = made;
-    (group_of(site), answer)
+// Reads what is kept of a write that is cut, at a group that is up. Nothing is said of one whose volume is not there any more.
+fn kept_at<R: Rack>(site: &mut GroupSite<R>, write: &CutWrite) -> Result<Option<KeptWrite>, No>
+    ensures looks { (n : Node) (note : GroupNode) → UpNoted n note site.old → LooksKept n note (Some write.now) site.old site.new result }
+    ensures since { CalledSince (site_disks site.old) (site_disks site.new) }
+{
+    let bytes = write.bytes.as_bytes();
+    if site.fits(write.volume, write.block, bytes.len()) {
+        match site.kept(write.volume, write.block, bytes) {
+            Ok(bits) => Ok(Some(KeptWrite {
+                write: *write,
+                bits,
+            })),
+            Err(no) => Err(no),
+        }
+    } else {
+        Ok(None)
+    }
 }
 
-// What is kept of the write that is cut, if one is, at a group that came up.
+// The same where a write may be cut.
 fn look_kept<R: Rack>(
     site: &mut GroupSite<R>,
     cut: &Option<CutWrite>,
-) -> Result<Option<KeptWrite>, No> {
+) -> Result<Option<KeptWrite>, No>
+    ensures looks { (n : Node) (note : GroupNode) → UpNoted n note site.old → LooksKept n note cut.now site.old site.new result }
+    ensures since { CalledSince (site_disks site.old) (site_disks site.new) }
+{
     match cut {
-        Some(write) => {
-            let bits = site.kept(write.volume, write.block, write.bytes.as_bytes())?;
-            Ok(Some(KeptWrite {
-                write: *write,
-                bits,
-            }))
-        }
+        Some(write) => kept_at(site, write),
         None => Ok(None),
     }
 }
@@ -43,10 +94,13 @@ fn look_kept<R: Rack>(
 fn stand_up<R: Rack>(
     site: GroupSite<R>,
     cut: Option<CutWrite>,
-) -> (DiskSet<R>, Result<Option<KeptWrite>, Stop>) {
+) -> (DiskSet<R>, Result<Option<KeptWrite>, Stop>)
+    ensures rises { (n : Node) (note : GroupNode) → UpNoted n note site → RisesWith n note cut site result.0 result.1 }
+    ensures since { AtSite (λ e. RisesSince (site_disks site) (site_disks e)) result.0 }
+{
     let mut site = site;
     match look_kept(&mut site, &cut) {
-        Ok(kept) => (group_of(site), Ok(kept)),
+        Ok(kept) => (DiskSet::OfGroup(GroupSet { site, cut: None }), Ok(kept)),
         Err(no) => (
             DiskSet::OfGroup(GroupSet {
                 site: site.crash(u64::MAX),
@@ -57,53 +111,76 @@ fn stand_up<R: Rack>(
     }
 }
 
+// Imports the group of a site that crashed or was deported.
+fn import_in<R: Rack>(group: GroupSet<R>, alloc: Global) -> (DiskSet<R>, Result<(), Stop>)
+    ensures imported { (n : Node) (note : GroupNode) → AwayNoted n note group.site → AtSite (λ e. SiteImports n note group.site e result.1) result.0 }
+    ensures cut { cut_in result.0 ≡ cut_past result.1 (DiskSet.OfGroup group) }
+    ensures since { AtSite (λ e. RisesSince (site_disks group.site) (site_disks e)) result.0 }
+{
+    let cut = group.cut;
+    let (site, answer) = group.site.import(alloc);
+    match answer {
+        Ok(()) => (DiskSet::OfGroup(GroupSet { site, cut: None }), Ok(())),
+        Err(stop) => (DiskSet::OfGroup(GroupSet { site, cut }), Err(stop)),
+    }
+}
+
+// The same of a site that crashed, with what is kept of the write that its crash cut.
+fn recover_in<R: Rack>(
+    group: GroupSet<R>,
+    alloc: Global,
+) -> (DiskSet<R>, Result<Option<KeptWrite>, Stop>)
+    ensures recovered { (n : Node) (note : GroupNode) → DownNoted n note group.site → RecoversGroup n note (DiskSet.OfGroup group) result.0 result.1 }
+    ensures since { AtSite (λ e. RisesSince (site_disks group.site) (site_disks e)) result.0 }
+{
+    let cut = group.cut;
+    let (site, answer) = group.site.import(alloc);
+    match answer {
+        Ok(()) => stand_up(site, cut),
+        Err(stop) => (DiskSet::OfGroup(GroupSet { site, cut }), Err(stop)),
+    }
+}
+
 impl<R: Rack> DiskSet<R> {
     /// Makes a bare site's disks a group without volumes. Where it is not made, labels of it may stand on them.
-    pub fn init_group(self, alloc: Global, site: u32) -> (DiskSet<R>, Result<(), Stop>) {
+    pub fn init_group(self, alloc: Global, site: u32) -> (DiskSet<R>, Result<(), Stop>)
+        ensures begun { (beside : KeptBeside) (n : Node) → SiteStands beside n self → n.state ≡ BareState → 0 < n.disks → least_blocks ≤ n.blocks → InitIs site n self result.0 result.1 }
+        ensures stays { (beside : KeptBeside) (n : Node) → SiteStands beside n self → n.state ≡ BareState → 0 < n.disks → least_blocks ≤ n.blocks → IfErr result.1 (λ stop. SiteStands beside n result.0) }
+        ensures fuse { (beside : KeptBeside) (n : Node) → SiteStands beside n self → n.state ≡ BareState → 0 < n.disks → least_blocks ≤ n.blocks → FuseGoesOn self result.0 }
+        ensures failing { SameFailing self result.0 }
+        ensures later { Later self result.0 }
+    {
         match self {
-            DiskSet::Bare(rack) => begun(begin_group(alloc, rack, site)),
-            DiskSet::Spoiled(rack) => begun(begin_group(alloc, rack, site)),
-            DiskSet::OfGroup(group) => match group.site {
-                GroupSite::Marked(rack) => begun(begin_group(alloc, rack, site)),
-                other => (group_of(other), Err(Stop::No(No::Role))),
-            },
+            DiskSet::Bare(rack) => begin_on(alloc, rack, site),
+            DiskSet::Spoiled(rack) => begin_on(alloc, rack, site),
+            DiskSet::OfGroup(group) => begin_again(alloc, group.site, group.cut, site),
             other => (other, Err(Stop::No(No::Role))),
         }
     }
 
     /// Imports the group of a site that was deported. Where it is refused, the site stays as it was, or is down where its fuse ran out.
-    pub fn import_group(self, alloc: Global) -> (DiskSet<R>, Result<(), Stop>) {
+    pub fn import_group(self, alloc: Global) -> (DiskSet<R>, Result<(), Stop>)
+        ensures imported { (n : Node) (note : GroupNode) → AtSite (AwayNoted n note) self → OnSites (λ o e. SiteImports n note o e result.1) self result.0 }
+        ensures cut { cut_in result.0 ≡ cut_past result.1 self }
+        ensures fuse { (n : Node) (note : GroupNode) → AtSite (AwayNoted n note) self → FuseGoesOn self result.0 }
+        ensures failing { SameFailing self result.0 }
+        ensures later { Later self result.0 }
+    {
         match self {
-            DiskSet::OfGroup(group) => {
-                let (site, answer) = group.site.import(alloc);
-                (
-                    DiskSet::OfGroup(GroupSet {
-                        site,
-                        cut: group.cut,
-                    }),
-                    answer,
-                )
-            }
+            DiskSet::OfGroup(group) => import_in(group, alloc),
             other => (other, Err(Stop::No(No::Role))),
         }
     }
 
     /// Imports the group of a site that crashed, and says what is kept of the write that its crash cut. Where it is refused, the site stays down.
-    pub fn recover_group(self, alloc: Global) -> (DiskSet<R>, Result<Option<KeptWrite>, Stop>) {
+    pub fn recover_group(self, alloc: Global) -> (DiskSet<R>, Result<Option<KeptWrite>, Stop>)
+        ensures recovered { (n : Node) (note : GroupNode) → AtSite (DownNoted n note) self → RecoversGroup n note self result.0 result.1 }
+        ensures fuse { (n : Node) (note : GroupNode) → AtSite (DownNoted n note) self → FuseGoesOn self result.0 }
+        ensures failing { SameFailing self result.0 }
+        ensures later { Later self result.0 }
+    {
         match self {
-            DiskSet::OfGroup(group) => {
-                let (site, answer) = group.site.import(alloc);
-                match answer {
-                    Ok(()) => stand_up(site, group.cut),
-                    Err(stop) => (
-                        DiskSet::OfGroup(GroupSet {
-                            site,
-                            cut: group.cut,
-                        }),
-                        Err(stop),
-                    ),
-                }
-            }
+            DiskSet::OfGroup(group) => recover_in(group, alloc),
             other => (other, Err(Stop::No(No::Role))),
         }
     }

@@ -1,15 +1,17 @@
 // The calls on the group of a site that is up.
-ghost use Rattle.std.specs.Prelude.{◌≡◌, ◌≤◌, ◌<◌, ◌%◌, ℕ, false, Err, IfOk, IfSome, OnOk, Some, length, option_copied};
+ghost use Rattle.std.specs.Prelude.{◌≡◌, ◌≤◌, ◌<◌, ◌%◌, ℕ, false, Err, IfOk, IfSome, IsTrue, None, Ok, OnOk, Some, length, option_copied};
 ghost use Rattle.vx_grouped.specs.Ends.{plain_write};
 ghost use Rattle.vx_grouped.specs.GroupSites.{FitsPlain, UpNoted, site_config, site_disks};
 ghost use Rattle.vx_grouped.specs.SiteAdds.{SiteAdded, VolumeIn, refuses_volume};
-ghost use Rattle.vx_grouped.specs.SiteEnds.{PlainRead, PlainWrote, RegionsOf, SiteCalled, SiteDeported, answers_down, is_plex_on, refuses_att, refuses_det};
+ghost use Rattle.vx_grouped.specs.SiteEnds.{AttCalled, DetCalled, PlainRead, PlainWrote, RegionsOf, SiteDeported, is_plex_on, refuses_att, refuses_det};
 ghost use Rattle.vx_history.specs.Groups.{GroupNode};
 ghost use Rattle.vx_history.specs.World.{Node};
 ghost use Rattle.vx_model.specs.declared.errors.Stop.TheVariants.{No as Refused};
 ghost use Rattle.vx_model.specs.declared.limits.TheConstants.{MOST_CALL_BYTES};
 ghost use Rattle.vx_model.specs.declared.no.No.{No as NoValue};
 ghost use Rattle.vx_watched.specs.Since.{CalledSince};
+ghost use Rattle.vx_diskset.specs.Asked.{FuseGoesOn, SameFailing};
+ghost use Rattle.vx_diskset.specs.DiskSets.{Later};
 ghost use Rattle.vx_diskset.specs.GroupCalls.{AtSite, CalledOn, OnSites, cut_in};
 ghost use Rattle.vx_diskset.specs.GroupSets.{cut_behind, cut_value};
 
@@ -46,6 +48,7 @@ fn write_set<R: Rack>(
                     block,
                     bytes: Blocks::new(bytes),
                 });
+                return Err(no);
             }
             Err(no)
         }
@@ -67,6 +70,9 @@ impl<R: Rack> DiskSet<R> {
     pub fn deport_group(&mut self) -> Result<(), Stop>
         ensures deported { (n : Node) (note : GroupNode) → AtSite (UpNoted n note) self.old → OnSites (λ o e. SiteDeported n note o e result) self.old self.new }
         ensures cut { cut_in self.new ≡ cut_in self.old }
+        ensures fuse { (n : Node) (note : GroupNode) → AtSite (UpNoted n note) self.old → FuseGoesOn self.old self.new }
+        ensures failing { SameFailing self.old self.new }
+        ensures later { Later self.old self.new }
         ensures since { CalledOn self.old self.new }
     {
         match mem::replace(self, DiskSet::Gone) {
@@ -88,10 +94,13 @@ impl<R: Rack> DiskSet<R> {
     /// Makes a volume of the group of a site that is up, and answers its number. A site whose fuse runs out crashes.
     pub fn make_volume(&mut self, alloc: Global, name: &Name, want: &Shape) -> Result<u32, Stop>
         requires prefer { IfSome want.now.prefer (λ p. p < want.now.mirrors) }
-        ensures made { (n : Node) (note : GroupNode) → AtSite (UpNoted n note) self.old → OnSites (λ o e. SiteAdded n note want.now o e result) self.old self.new }
+        ensures made { (n : Node) (note : GroupNode) → AtSite (UpNoted n note) self.old → OnSites (λ o e. SiteAdded n note name.now want.now o e result) self.old self.new }
         ensures refused { (n : Node) (note : GroupNode) (no : NoValue) → AtSite (UpNoted n note) self.old → AtSite (λ o. refuses_volume o name.now want.now ≡ Some no) self.old → result ≡ Err (Refused no) }
         ensures volume { (n : Node) (note : GroupNode) → AtSite (UpNoted n note) self.old → IfOk result (λ vol. OnSites (VolumeIn name.now want.now vol) self.old self.new) }
         ensures cut { cut_in self.new ≡ cut_in self.old }
+        ensures fuse { (n : Node) (note : GroupNode) → AtSite (UpNoted n note) self.old → FuseGoesOn self.old self.new }
+        ensures failing { SameFailing self.old self.new }
+        ensures later { Later self.old self.new }
         ensures since { CalledOn self.old self.new }
     {
         match self {
@@ -102,11 +111,14 @@ impl<R: Rack> DiskSet<R> {
 
     /// Detaches a plex. A site whose fuse runs out crashes.
     pub fn detach_plex(&mut self, volume: u32, plex: u32) -> Result<(), Stop>
-        ensures called { (n : Node) (note : GroupNode) → AtSite (UpNoted n note) self.old → OnSites (λ o e. SiteCalled n note o e result) self.old self.new }
+        ensures called { (n : Node) (note : GroupNode) → AtSite (UpNoted n note) self.old → OnSites (λ o e. DetCalled n note volume plex o e result) self.old self.new }
         ensures refused { (n : Node) (note : GroupNode) (no : NoValue) → AtSite (UpNoted n note) self.old → AtSite (λ o. refuses_det o volume plex ≡ Some no) self.old → result ≡ Err (Refused no) }
         ensures off { OnOk result (AtSite (λ e. is_plex_on e volume plex ≡ false) self.new) }
         ensures others { OnOk result ((w p : ℕ) → (w ≡ volume → p ≡ plex → ⊥) → OnSites (λ o e. is_plex_on e w p ≡ is_plex_on o w p) self.old self.new) }
         ensures cut { cut_in self.new ≡ cut_in self.old }
+        ensures fuse { (n : Node) (note : GroupNode) → AtSite (UpNoted n note) self.old → FuseGoesOn self.old self.new }
+        ensures failing { SameFailing self.old self.new }
+        ensures later { Later self.old self.new }
         ensures since { CalledOn self.old self.new }
     {
         match self {
@@ -117,11 +129,16 @@ impl<R: Rack> DiskSet<R> {
 
     /// Attaches a plex, and answers how many regions were copied. A site whose fuse runs out crashes.
     pub fn attach_plex(&mut self, volume: u32, plex: u32) -> Result<u64, Stop>
-        ensures called { (n : Node) (note : GroupNode) → AtSite (UpNoted n note) self.old → OnSites (λ o e. SiteCalled n note o e result) self.old self.new }
+        ensures called { (n : Node) (note : GroupNode) → AtSite (UpNoted n note) self.old → OnSites (λ o e. AttCalled n note volume plex o e result) self.old self.new }
         ensures refused { (n : Node) (note : GroupNode) (no : NoValue) → AtSite (UpNoted n note) self.old → AtSite (λ o. refuses_att o volume plex ≡ Some no) self.old → result ≡ Err (Refused no) }
+        ensures already { (n : Node) (note : GroupNode) → AtSite (UpNoted n note) self.old → AtSite (λ o. refuses_att o volume plex ≡ None) self.old → AtSite (λ o. IsTrue (is_plex_on o volume plex)) self.old → result ≡ Ok 0 }
         ensures count { AtSite (λ o. is_plex_on o volume plex ≡ false) self.old → IfOk result (λ k. AtSite (λ o. RegionsOf o volume k) self.old) }
+        ensures on { AtSite (λ o. is_plex_on o volume plex ≡ false) self.old → OnOk result (AtSite (λ e. IsTrue (is_plex_on e volume plex)) self.new) }
         ensures others { OnOk result ((w p : ℕ) → (w ≡ volume → p ≡ plex → ⊥) → OnSites (λ o e. is_plex_on e w p ≡ is_plex_on o w p) self.old self.new) }
         ensures cut { cut_in self.new ≡ cut_in self.old }
+        ensures fuse { (n : Node) (note : GroupNode) → AtSite (UpNoted n note) self.old → FuseGoesOn self.old self.new }
+        ensures failing { SameFailing self.old self.new }
+        ensures later { Later self.old self.new }
         ensures since { CalledOn self.old self.new }
     {
         match self {
@@ -137,6 +154,9 @@ impl<R: Rack> DiskSet<R> {
         requires whole { length bytes.now % 512 ≡ 0 }
         ensures wrote { (n : Node) (note : GroupNode) → AtSite (UpNoted n note) self.old → FitsPlain note volume start (length bytes.now) → OnSites (λ o e. PlainWrote n note (plain_write volume start bytes.now) o e result) self.old self.new }
         ensures cut { (n : Node) (note : GroupNode) → AtSite (UpNoted n note) self.old → cut_in self.new ≡ cut_behind result (plain_write volume start bytes.now) (cut_in self.old) }
+        ensures fuse { (n : Node) (note : GroupNode) → AtSite (UpNoted n note) self.old → FitsPlain note volume start (length bytes.now) → FuseGoesOn self.old self.new }
+        ensures failing { SameFailing self.old self.new }
+        ensures later { Later self.old self.new }
         ensures since { CalledOn self.old self.new }
     {
         match self {
@@ -149,6 +169,9 @@ impl<R: Rack> DiskSet<R> {
     pub fn read_plain(&mut self, volume: u32, start: u64, into: &mut [u8]) -> Result<(), No>
         ensures read { (n : Node) (note : GroupNode) → AtSite (UpNoted n note) self.old → FitsPlain note volume start (length into.old) → OnSites (λ o e. PlainRead n note volume start into.new o e result) self.old self.new }
         ensures cut { cut_in self.new ≡ cut_in self.old }
+        ensures fuse { (n : Node) (note : GroupNode) → AtSite (UpNoted n note) self.old → FitsPlain note volume start (length into.old) → FuseGoesOn self.old self.new }
+        ensures failing { SameFailing self.old self.new }
+        ensures later { Later self.old self.new }
         ensures since { CalledOn self.old self.new }
     {
         match self {

@@ -2,6 +2,7 @@
 #![tactic(auto)]
 
 mod disk_set;
+mod group_finds;
 mod group_set;
 mod group_starts;
 mod grouping;
@@ -15,6 +16,7 @@ mod starting;
 mod units;
 mod withdrawing;
 mod writing;
+mod zeroing;
 
 pub use disk_set::DiskSet;
 pub use group_set::{CutWrite, GroupSet, KeptWrite};

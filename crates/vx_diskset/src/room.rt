@@ -1,5 +1,6 @@
 // The room that writes take in the log of a site.
-ghost use Rattle.std.specs.Prelude.{◌≡◌, ◌≤◌, ◌<◌, ◌+◌, ◌-◌, None, Some, IfSome, IsSome, List, ℕ, drop, slice_get, true};
+ghost use Rattle.std.specs.Prelude.{◌≡◌, ◌≤◌, ◌<◌, ◌+◌, ◌-◌, None, Some, IfSome, IsSome, List, ℕ, drop, slice_get, true, false};
+ghost use Rattle.vx_events.specs.GroupLines.{is_over_group};
 ghost use Rattle.vx_model.specs.Sites.{is_origin};
 ghost use Rattle.vx_model.specs.declared.state.KeptLink.{KeptLink};
 ghost use Rattle.vx_diskset.specs.Holds.{KeptBeside};
@@ -34,7 +35,7 @@ impl<R: Rack> DiskSet<R> {
     /// does not hold all of them any more; where contents are told it does from the hold of each link on that needs it.
     pub fn used(&self, above: u64) -> Option<u64>
         ensures is { (beside : KeptBeside) (n : Node) → SiteStands beside n self.now → n.state ≡ UpState → n.halted ≡ None → IfSome result (λ blocks. blocks ≡ ring_taken (drop above n.log)) }
-        ensures some { (beside : KeptBeside) (n : Node) (k : ℕ) (l : KeptLink) → SiteStands beside n self.now → is_origin n.role ≡ true → n.state ≡ UpState → n.halted ≡ None → IsToldAt self.now
+        ensures some { (beside : KeptBeside) (n : Node) (k : ℕ) (l : KeptLink) → SiteStands beside n self.now → is_origin n.role ≡ true → n.state ≡ UpState → is_over_group n ≡ false → n.halted ≡ None → IsToldAt self.now
             → slice_get beside.links k ≡ Some l → is_needing l ≡ true → hold_of l ≤ above → IsSome result }
     {
         match self {

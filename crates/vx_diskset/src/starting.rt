@@ -1,5 +1,6 @@
 // How a group is made on the disks of a site, and how it is started again.
-ghost use Rattle.std.specs.Prelude.{◌≡◌, ◌≤◌, ◌<◌, ◌*◌, ℕ, [], length, None, IfOk, IfErr, IsTrue, IsFalse, List};
+ghost use Rattle.std.specs.Prelude.{◌≡◌, ◌≤◌, ◌<◌, ◌*◌, ℕ, [], length, None, IfOk, IfErr, IsTrue, IsFalse, List, false};
+ghost use Rattle.vx_events.specs.GroupLines.{is_over_group};
 ghost use Rattle.vx_disk.specs.Maps.{maps_of};
 ghost use Rattle.vx_model.specs.Content.{zero_block};
 ghost use Rattle.vx_model.specs.Sites.{is_origin as is_origin_is};
@@ -13,10 +14,11 @@ ghost use Rattle.vx_history.specs.World.{Node};
 ghost use Rattle.vx_diskset.specs.Asked.{SameFailing};
 ghost use Rattle.vx_diskset.specs.DiskSets.{Later, CanHold, CanStart, MadeIs, BareUpIs};
 ghost use Rattle.vx_diskset.specs.Layouts.{CanBeRaw, raw_units as units_of};
-ghost use Rattle.vx_diskset.specs.Stands.{IsBareAt, IsCleanAt};
+ghost use Rattle.vx_diskset.specs.Stands.{IsBareAt, IsCleanAt, IsMarkedAt};
 
 use crate::labels::unlabel_all;
 use crate::units::raw_units;
+use crate::zeroing::zero_disks;
 use crate::{DiskSet, GroupSet};
 use std::alloc::Global;
 use vx_disk::{Rack, refusal};
@@ -58,12 +60,35 @@ fn make_group<R: Rack>(alloc: Global, rack: R, site: u32) -> (DiskSet<R>, Result
     }
 }
 
-// The same of disks on which a group may have been made, by an earlier run or in part: their labels are taken off first.
-fn make_unlabelled<R: Rack>(alloc: Global, rack: R, site: u32) -> (DiskSet<R>, Result<(), Stop>) {
+// The same of clean disks, on which a group of an earlier run may stand: its labels are taken off first.
+fn make_unlabelled<R: Rack>(alloc: Global, rack: R, site: u32) -> (DiskSet<R>, Result<(), Stop>)
+    ensures made { (n : Node) → IsCleanAt n (R.meaning rack) → CanBeRaw n.disks n.blocks → MadeIs site n (DiskSet.Bare rack) result.0 result.1 }
+    ensures failing { SameFailing (DiskSet.Bare rack) result.0 }
+    ensures later { Later (DiskSet.Bare rack) result.0 }
+{
     let mut rack = rack;
     match unlabel_all(&mut rack) {
         Ok(()) => make_group(alloc, rack, site),
-        Err(error) => (DiskSet::Spoiled(rack), Err(Stop::No(refusal(error)))),
+        Err(no) => (DiskSet::Bare(rack), Err(Stop::No(no))),
+    }
+}
+
+// The same of disks on which a group was begun: they are written over first.
+fn make_zeroed<R: Rack>(alloc: Global, rack: R, site: u32) -> (DiskSet<R>, Result<(), Stop>)
+    ensures made { (n : Node) → IsMarkedAt n (R.meaning rack) → CanBeRaw n.disks n.blocks → MadeIs site n (DiskSet.Spoiled rack) result.0 result.1 }
+    ensures failing { SameFailing (DiskSet.Spoiled rack) result.0 }
+    ensures later { Later (DiskSet.Spoiled rack) result.0 }
+{
+    let mut rack = rack;
+    match zero_disks(&mut rack) {
+        Ok(()) => make_group(alloc, rack, site),
+        Err(error) => (
+            DiskSet::OfGroup(GroupSet {
+                site: GroupSite::Marked(rack),
+                cut: None,
+            }),
+            Err(Stop::No(refusal(error))),
+        ),
     }
 }
 
@@ -173,9 +198,12 @@ impl<R: Rack> DiskSet<R> {
             DiskSet::Bare(rack) => make_unlabelled(alloc, rack, site),
             DiskSet::Spoiled(rack) => make_group(alloc, rack, site),
             DiskSet::OfGroup(group) => match group.site {
-                GroupSite::Marked(rack) => make_unlabelled(alloc, rack, site),
+                GroupSite::Marked(rack) => make_zeroed(alloc, rack, site),
                 other => (
-                    DiskSet::OfGroup(GroupSet::of(other)),
+                    DiskSet::OfGroup(GroupSet {
+                        site: other,
+                        cut: group.cut,
+                    }),
                     Err(Stop::No(No::Role)),
                 ),
             },
@@ -185,7 +213,7 @@ impl<R: Rack> DiskSet<R> {
 
     /// Starts what stands on the disks of a site that crashed, with room taken before. Where it is refused, the disks crash again.
     pub fn recover(self, room: StartRoom) -> (DiskSet<R>, Result<(), No>)
-        ensures recovered { (beside : KeptBeside) (n : Node) → SiteStands beside n self → n.state ≡ DownState → n.group ≡ None → room.ring ≡ n.ring → CameUpIs beside n self result.0 result.1 }
+        ensures recovered { (beside : KeptBeside) (n : Node) → SiteStands beside n self → n.state ≡ DownState → is_over_group n ≡ false → room.ring ≡ n.ring → CameUpIs beside n self result.0 result.1 }
         ensures failing { SameFailing self result.0 }
         ensures later { Later self result.0 }
     {
@@ -235,7 +263,7 @@ impl<R: Rack> DiskSet<R> {
     /// it is refused, the disks crash again.
     pub fn recover_any(self, room: StartRoom, waiting: Waiting) -> (DiskSet<R>, Result<(), No>)
         requires none { waiting ≡ [] }
-        ensures recovered { (beside : KeptBeside) (n : Node) → SiteStands beside n self → n.state ≡ DownState → n.group ≡ None → room.ring ≡ n.ring → CameUpByIs beside n self result.0 result.1 }
+        ensures recovered { (beside : KeptBeside) (n : Node) → SiteStands beside n self → n.state ≡ DownState → is_over_group n ≡ false → room.ring ≡ n.ring → CameUpByIs beside n self result.0 result.1 }
         ensures failing { SameFailing self result.0 }
         ensures later { Later self result.0 }
     {

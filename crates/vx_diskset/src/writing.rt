@@ -1,5 +1,6 @@
 // Calls on the group of a site that is up: its writes, its reads, and what brings logged writes into their volumes.
-ghost use Rattle.std.specs.Prelude.{◌≡◌, ◌≤◌, ◌<◌, ◌+◌, ◌*◌, ◌%◌, [], ℕ, drop, length, None, Err, IfOk, IfErr, OnOk, IsFalse, List};
+ghost use Rattle.std.specs.Prelude.{◌≡◌, ◌≤◌, ◌<◌, ◌+◌, ◌*◌, ◌%◌, [], ℕ, drop, length, None, Err, IfOk, IfErr, OnOk, IsFalse, List, false};
+ghost use Rattle.vx_events.specs.GroupLines.{is_over_group};
 ghost use Rattle.vx_model.specs.Content.{blocks_in};
 ghost use Rattle.vx_model.specs.declared.limits.TheConstants.{MOST_CALL_BLOCKS, MOST_CALL_BYTES};
 ghost use Rattle.vx_diskset.specs.Holds.{KeptBeside, site_alone};
@@ -276,7 +277,7 @@ impl<R: Rack> DiskSet<R> {
     /// Brings the logged writes up to a number into their volumes. Answers the number up to which all are there now. A site whose fuse
     /// runs out crashes.
     pub fn apply(&mut self, to: u64) -> Result<u64, No>
-        ensures applied { (beside : KeptBeside) (n : Node) → SiteStands beside n self.old → CanApply n → n.group ≡ None → AppliedAt beside n to self.old self.new result }
+        ensures applied { (beside : KeptBeside) (n : Node) → SiteStands beside n self.old → CanApply n → is_over_group n ≡ false → AppliedAt beside n to self.old self.new result }
         ensures brought { IfOk result (λ number. InVolumes number self.new) }
         ensures called { (beside : KeptBeside) (n : Node) → SiteStands beside n self.old → LeavesFuse NoMore (said_by result) self.old self.new }
         ensures role { KeepsRole self.old self.new }
@@ -297,7 +298,7 @@ impl<R: Rack> DiskSet<R> {
 
     // The same, before it crashes.
     fn apply_up(&mut self, to: u64) -> Result<u64, No>
-        ensures applied { (beside : KeptBeside) (n : Node) → SiteStands beside n self.old → CanApply n → n.group ≡ None → AppliedUp beside n to self.old self.new result }
+        ensures applied { (beside : KeptBeside) (n : Node) → SiteStands beside n self.old → CanApply n → is_over_group n ≡ false → AppliedUp beside n to self.old self.new result }
         ensures brought { IfOk result (λ number. InVolumes number self.new) }
         ensures called { (beside : KeptBeside) (n : Node) → SiteStands beside n self.old → LeavesFuse NoMore (said_by result) self.old self.new }
         ensures role { KeepsRole self.old self.new }

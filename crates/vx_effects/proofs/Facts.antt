@@ -24,9 +24,12 @@ use Rattle.vx_order.specs.declared.facts.SiteFacts.{SiteFacts}
 use Rattle.vx_events.proofs.Values.{values_from-push}
 use Rattle.vx_events.specs.Effects.{AddsSite, ChangesNode}
 use Rattle.vx_events.specs.Facts.{group_by, group_fact, head_of, site_fact, values_from}
-use Rattle.vx_events.specs.LinkedFacts.{link_fact, link_facts, linked_fact, linked_facts, links_by}
+use Rattle.vx_events.specs.GroupLines.{is_over_group}
+use Rattle.vx_events.specs.GroupNotes.{note_at}
+use Rattle.vx_events.specs.LinkedFacts.{link_fact, link_facts, links_by}
 use Rattle.vx_events.specs.LinksFit.{LinksFit}
-use Rattle.vx_effects.specs.Facts.{down_fact, fact_of, grown_link, grown_links, half_fact, halted_fact, halted_group, last_group, logged_fact, marked_fact, marked_group, risen_fact}
+use Rattle.vx_events.specs.StepsOver.{fact_of_group, fact_over, facts_over}
+use Rattle.vx_effects.specs.Facts.{down_fact, fact_of, grown_link, grown_links, half_fact, halted_fact, halted_group, last_group, logged_fact, marked_fact, marked_group, over_of, risen_fact}
 use Rattle.vx_effects.proofs.Rows.{facts_same, row_same, sites_further, sites_same}
 
 -- ---- a list of values with another one in a place
@@ -58,19 +61,26 @@ fact_same n row new sites same =
     (sites_same row new (λ k. ap (λ (l : Link). l.made) (same k)) sites 0 sites)
     ∙ ap (λ (fs : List LinkFacts). let f : SiteFacts = record (site_fact n) { links = links_by n.state fs } in f) (facts_same n row new same (linked_sites row sites 0 sites))
 
-pub other_fact : (s : ℕ) (d e : Doubted) → ChangesNode s d e → (i : ℕ) → (i ≡ s → ⊥) → linked_fact e.world i ≡ linked_fact d.world i
+-- and those of one that may be over a group
+pub over_same : (n : Node) (row new : ℕ → Link) (sites : ℕ) → ((k : ℕ) → new k ≡ row k) → over_of n new sites ≡ over_of n row sites
+over_same n row new sites same = ap (λ (f : SiteFacts). if is_over_group n then fact_of_group n (note_at n) else f) (fact_same n row new sites same)
+
+pub over_apart : (n : Node) (row : ℕ → Link) (sites : ℕ) → is_over_group n ≡ false → over_of n row sites ≡ fact_of n row sites
+over_apart n row sites none = ap (λ (b : Bool). if b then fact_of_group n (note_at n) else fact_of n row sites) none
+
+pub other_fact : (s : ℕ) (d e : Doubted) → ChangesNode s d e → (i : ℕ) → (i ≡ s → ⊥) → fact_over e.world i ≡ fact_over d.world i
 other_fact s d e c i apart =
-    ap (λ (n : Node). fact_of n (e.world.links i) e.world.sites) (c.nodes i apart)
-    ∙ ap (λ (sites : ℕ). fact_of (d.world.nodes i) (e.world.links i) sites) c.sites
-    ∙ fact_same (d.world.nodes i) (d.world.links i) (e.world.links i) d.world.sites (λ k. c.links i k apart)
+    ap (λ (n : Node). over_of n (e.world.links i) e.world.sites) (c.nodes i apart)
+    ∙ ap (λ (sites : ℕ). over_of (d.world.nodes i) (e.world.links i) sites) c.sites
+    ∙ over_same (d.world.nodes i) (d.world.links i) (e.world.links i) d.world.sites (λ k. c.links i k apart)
 
 -- with the facts of the one site in their place
-pub facts_at : (s : ℕ) (d e : Doubted) → ChangesNode s d e → s < d.world.sites → linked_facts e.world ≡ slice_set (linked_facts d.world) s (linked_fact e.world s)
+pub facts_at : (s : ℕ) (d e : Doubted) → ChangesNode s d e → s < d.world.sites → facts_over e.world ≡ slice_set (facts_over d.world) s (fact_over e.world s)
 facts_at s d e c below =
     let start : 0 + s ≡ s = omega arith in
-    ap (λ (n : ℕ). values_from (λ i. linked_fact e.world i) 0 n) c.sites
-    ∙ values_set (λ i. linked_fact d.world i) (λ i. linked_fact e.world i) 0 d.world.sites s below (λ i apart. other_fact s d e c i (λ (is : i ≡ s). apart (is ∙ sym start)))
-    ∙ ap (λ (i : ℕ). slice_set (linked_facts d.world) s (linked_fact e.world i)) start
+    ap (λ (n : ℕ). values_from (λ i. fact_over e.world i) 0 n) c.sites
+    ∙ values_set (λ i. fact_over d.world i) (λ i. fact_over e.world i) 0 d.world.sites s below (λ i apart. other_fact s d e c i (λ (is : i ≡ s). apart (is ∙ sym start)))
+    ∙ ap (λ (i : ℕ). slice_set (facts_over d.world) s (fact_over e.world i)) start
 
 -- ---- a further site
 
@@ -78,26 +88,26 @@ bare_fact : (n : Node) (row : ℕ → Link) (sites : ℕ) → n.state ≡ Bare �
 bare_fact n row sites bare =
     ap (λ (t : SiteState). let f : SiteFacts = record (site_fact n) { links = links_by t (link_facts n row (linked_sites row sites 0 sites)) } in f) bare
 
-pub facts_added : (d e : Doubted) (n : Node) → AddsSite d e n → n.state ≡ Bare → LinksFit d → linked_facts e.world ≡ linked_facts d.world ++ site_fact n ∷ []
-facts_added d e n adds bare fit =
+pub facts_added : (d e : Doubted) (n : Node) → AddsSite d e n → n.state ≡ Bare → is_over_group n ≡ false → LinksFit d → facts_over e.world ≡ facts_over d.world ++ site_fact n ∷ []
+facts_added d e n adds bare none fit =
     let sites : ℕ = d.world.sites in
     let more : e.world.sites ≡ suc sites = adds.sites ∙ (let one : sites + 1 ≡ suc sites = omega arith in one) in
     let start : 0 + sites ≡ sites = omega arith in
-    ap (λ (k : ℕ). values_from (λ i. linked_fact e.world i) 0 k) more
-    ∙ values_from-push (λ i. linked_fact e.world i) 0 sites
-    ∙ ap (λ (fs : List SiteFacts). fs ++ linked_fact e.world (0 + sites) ∷ [])
-    (values_same (λ i. linked_fact d.world i) (λ i. linked_fact e.world i) 0 sites (λ i _ less. old i (λ (is : i ≡ sites). omega (arith, is, less))))
-    ∙ ap (λ (f : SiteFacts). linked_facts d.world ++ f ∷ [])
-    (ap (λ (i : ℕ). linked_fact e.world i) start ∙ ap (λ (m : Node). fact_of m (e.world.links sites) e.world.sites) adds.node ∙ bare_fact n (e.world.links sites) e.world.sites bare)
+    ap (λ (k : ℕ). values_from (λ i. fact_over e.world i) 0 k) more
+    ∙ values_from-push (λ i. fact_over e.world i) 0 sites
+    ∙ ap (λ (fs : List SiteFacts). fs ++ fact_over e.world (0 + sites) ∷ [])
+    (values_same (λ i. fact_over d.world i) (λ i. fact_over e.world i) 0 sites (λ i _ less. old i (λ (is : i ≡ sites). omega (arith, is, less))))
+    ∙ ap (λ (f : SiteFacts). facts_over d.world ++ f ∷ [])
+    (ap (λ (i : ℕ). fact_over e.world i) start ∙ ap (λ (m : Node). over_of m (e.world.links sites) e.world.sites) adds.node ∙ over_apart n (e.world.links sites) e.world.sites none ∙ bare_fact n (e.world.links sites) e.world.sites bare)
   where
-    old : (i : ℕ) → (i ≡ d.world.sites → ⊥) → linked_fact e.world i ≡ linked_fact d.world i
+    old : (i : ℕ) → (i ≡ d.world.sites → ⊥) → fact_over e.world i ≡ fact_over d.world i
     old i apart =
         let row : ℕ → Link = d.world.links i in
         let m : Node = d.world.nodes i in
-        ap (λ (n : Node). fact_of n (e.world.links i) e.world.sites) (adds.nodes i apart)
-        ∙ ap (λ (sites : ℕ). fact_of m (e.world.links i) sites) adds.sites
-        ∙ fact_same m row (e.world.links i) (d.world.sites + 1) (λ k. adds.links i k)
-        ∙ ap (λ (ss : List ℕ). let f : SiteFacts = record (site_fact m) { links = links_by m.state (link_facts m row ss) } in f) (sites_further d.world.sites row (fit.rows i).places)
+        ap (λ (n : Node). over_of n (e.world.links i) e.world.sites) (adds.nodes i apart)
+        ∙ ap (λ (sites : ℕ). over_of m (e.world.links i) sites) adds.sites
+        ∙ over_same m row (e.world.links i) (d.world.sites + 1) (λ k. adds.links i k)
+        ∙ ap (λ (ss : List ℕ). if is_over_group m then fact_of_group m (note_at m) else (let f : SiteFacts = record (site_fact m) { links = links_by m.state (link_facts m row ss) } in f)) (sites_further d.world.sites row (fit.rows i).places)
 
 -- ---- the facts of a site as its node changes
 

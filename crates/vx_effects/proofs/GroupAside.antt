@@ -213,7 +213,7 @@ group_ends_change told d line s fails said new (GroupFails disk next are has spo
 group_ends_change told d line s fails said new (KeptUnread disk next site is are has back says left) =
     ends_by s line next d _ new (unread_changes (d.world.nodes s).state s d) left
 group_ends_change told d line s fails said new (GroupCut next are fused cuts says left) = ends_by s line next d _ new (cut_changes s line d) left
-group_ends_change told d line s fails said new (ImportFails disk next site is are has begun says left) =
+group_ends_change told d line s fails said new (ImportFails why next site is are refuses begun says left) =
     left_by s d new (fuse_lost (noting d.world s next) s)
     (aside_then s d.world (noting d.world s next) (fuse_lost (noting d.world s next) s) (aside_node s d.world _) (aside_node s (noting d.world s next) _)) left
 group_ends_change told d line s fails said new (GroupNotFound why are brings not says left) =

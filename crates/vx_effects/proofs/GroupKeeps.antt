@@ -158,7 +158,7 @@ group_ends_keep told d line s fails said new none (GroupDone next are does left)
 group_ends_keep told d line s fails said new none (GroupLacks why wants free says left) = ends_with s line _ d d new none (keeps_self (d.world.nodes s)) left
 group_ends_keep told d line s fails said new none (GroupFails disk next are has spoils says left) =
     ends_with s line next d _ new none (refused_keep (d.world.nodes s) s line d) left
-group_ends_keep told d line s fails said new none (ImportFails disk next site is are has begun says left) =
+group_ends_keep told d line s fails said new none (ImportFails why next site is are refuses begun says left) =
     let v : World = noting d.world s next in
     subst (λ (x : World). KeepsDisks (d.world.nodes s) (x.nodes s)) (sym left.world)
     (keeps_then (d.world.nodes s) (v.nodes s) ((fuse_lost v s).nodes s) (noting_keeps s d.world next)

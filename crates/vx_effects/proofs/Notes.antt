@@ -1,6 +1,6 @@
 -- What a line notes of the fuses of two sites, and what that leaves as it is.
 use Rattle.std.proofs.Common.{◌≡◌, ◌∙◌, inl, inr, ◌⊎◌, ⊎_elim, ◌+◌, ℕ, zero, suc, List, [], ◌∷◌, refl, ap, sym}
-use Rattle.std.specs.Prelude.{Option}
+use Rattle.std.specs.Prelude.{Option, if◌then◌else◌}
 use Rattle.std.proofs.lemmas.Bool.{cases_eq}
 use Rattle.vx_history.proofs.Updates.{all_updated, at_place}
 use Rattle.vx_history.specs.Doubts.{After, Doubted}
@@ -14,9 +14,12 @@ use Rattle.vx_model.specs.declared.site.SiteState.{SiteState}
 use Rattle.vx_model.specs.declared.site.SiteState.TheVariants.{Bare, Up, Deported, Down}
 use Rattle.vx_events.specs.Effects.{EffectAt}
 use Rattle.vx_events.specs.Facts.{group_by, site_fact, values_from}
-use Rattle.vx_events.specs.LinkedFacts.{link_fact, link_facts, linked_fact, linked_facts, links_by}
+use Rattle.vx_events.specs.GroupLines.{is_over_group}
+use Rattle.vx_events.specs.GroupNotes.{note_at}
+use Rattle.vx_events.specs.LinkedFacts.{link_fact, link_facts, links_by}
 use Rattle.vx_events.specs.LinksFit.{LinksFit}
-use Rattle.vx_effects.specs.Facts.{fact_of}
+use Rattle.vx_events.specs.StepsOver.{fact_of_group, fact_over, facts_over}
+use Rattle.vx_effects.specs.Facts.{fact_of, over_of}
 use Rattle.vx_effects.specs.LinkParts.{burnt, noted_both}
 use Rattle.vx_effects.proofs.Fitting.{updated_other}
 use Rattle.vx_effects.proofs.Leaving.{fit_worked}
@@ -55,10 +58,13 @@ values_alike : {A : Type 0} (f g : ℕ → A) (k n : ℕ) → ((i : ℕ) → g i
 values_alike f g k zero same = refl
 values_alike {A} f g k (suc n) same = ap (λ (x : A). x ∷ values_from g (k + 1) n) (same k) ∙ ap (λ (xs : List A). f k ∷ xs) (values_alike f g (k + 1) n same)
 
-pub worked_shows : (w : World) (s : ℕ) → linked_facts (worked_on w s) ≡ linked_facts w
+pub over_burnt : (n : Node) (row : ℕ → Link) (sites : ℕ) → over_of (burnt n) row sites ≡ over_of n row sites
+over_burnt n row sites = ap (λ (f : SiteFacts). if is_over_group n then fact_of_group n (note_at n) else f) (fact_burnt n row sites)
+
+pub worked_shows : (w : World) (s : ℕ) → facts_over (worked_on w s) ≡ facts_over w
 worked_shows w s =
-    values_alike (λ i. linked_fact w i) (λ i. linked_fact (worked_on w s) i) 0 w.sites
-    (λ i. all_updated (λ (j : ℕ) (n : Node). fact_of n (w.links j) w.sites ≡ fact_of (w.nodes j) (w.links j) w.sites) w.nodes s (burnt (w.nodes s)) (fact_burnt (w.nodes s) (w.links s) w.sites)
+    values_alike (λ i. fact_over w i) (λ i. fact_over (worked_on w s) i) 0 w.sites
+    (λ i. all_updated (λ (j : ℕ) (n : Node). over_of n (w.links j) w.sites ≡ over_of (w.nodes j) (w.links j) w.sites) w.nodes s (burnt (w.nodes s)) (over_burnt (w.nodes s) (w.links s) w.sites)
     (λ j _. refl) i)
 
 -- ---- links

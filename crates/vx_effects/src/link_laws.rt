@@ -17,7 +17,8 @@ ghost use Rattle.vx_history.specs.declared.event.Event.TheVariants.{Link as Link
 ghost use Rattle.vx_history.specs.declared.event.LinkPart.TheVariants.{Joins, Made, Marked, Opened};
 ghost use Rattle.vx_history.specs.declared.event.Said.TheVariants.{Done};
 ghost use Rattle.vx_events.specs.Effects.{EffectAt};
-ghost use Rattle.vx_events.specs.LinkedFacts.{link_fact, linked_facts};
+ghost use Rattle.vx_events.specs.LinkedFacts.{link_fact};
+ghost use Rattle.vx_events.specs.StepsOver.{facts_over};
 ghost use Rattle.vx_events.specs.LinksFit.{LinksFit};
 ghost use Rattle.vx_effects.specs.Facts.{fact_of, marked_fact};
 ghost use Rattle.vx_effects.specs.LinkParts.{burnt, further_fact, joined_fact, kept_over, noted_both};
@@ -68,7 +69,7 @@ pub fn headers_keep_a_link()
 /// What a line notes of two sites changes nothing but their fuses: the tests of a line see what they saw, the links fit, and an event at one of the
 /// two changes the same.
 pub fn notes_burn_fuses()
-    ensures shows { (w : World) (s : ℕ) → linked_facts (worked_on w s) ≡ linked_facts w }
+    ensures shows { (w : World) (s : ℕ) → facts_over (worked_on w s) ≡ facts_over w }
     ensures fits { (d : Doubted) (a b : ℕ) → LinksFit d → LinksFit (noted_both d a b) }
     ensures here { (d : Doubted) (a b s : ℕ) → (s ≡ a) ⊎ (s ≡ b) → (noted_both d a b).world.nodes s ≡ burnt (d.world.nodes s) }
     ensures there { (d : Doubted) (a b s : ℕ) → (s ≡ a → ⊥) → (s ≡ b → ⊥) → (noted_both d a b).world.nodes s ≡ d.world.nodes s }

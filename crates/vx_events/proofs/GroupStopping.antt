@@ -94,7 +94,7 @@ group_stops told d line s fails said new (GroupFails disk next are has spoils sa
 group_stops told d line s fails said new (KeptUnread disk next site is are has back says left) =
     stop_by d new s line next (unread_events (d.world.nodes s) s) (unread_tells (d.world.nodes s).state s) left
 group_stops told d line s fails said new (GroupCut next are fused cuts says left) = stop_by d new s line next (cut_events s line) (cut_tells s line) left
-group_stops told d line s fails said new (ImportFails disk next site is are has begun says left) =
+group_stops told d line s fails said new (ImportFails why next site is are refuses begun says left) =
     let v : World = noting d.world s next in
     record {
       events = [];

@@ -25,7 +25,9 @@ use Rattle.vx_order.specs.Sites.{site_named}
 use Rattle.vx_order.specs.Subject.{first_name, second_name, need_of, halt_of}
 use Rattle.vx_script.specs.declared.line.ScriptLine.TheVariants.{Set, Connect, Cut, Pause, Resume, Tick, Pump, Deliver}
 use Rattle.vx_events.specs.Facts.{site_number}
-use Rattle.vx_events.specs.LinkedFacts.{link_fact, linked_fact, linked_facts, refused_by}
+use Rattle.vx_events.specs.GroupLines.{is_over_group}
+use Rattle.vx_events.specs.LinkedFacts.{link_fact}
+use Rattle.vx_events.specs.StepsOver.{fact_over, facts_over, refused_over}
 use Rattle.vx_events.proofs.LinkTesting.{OnLink, on_link_by}
 use Rattle.vx_events.proofs.Passing.{off, is_site, is_at_work, above}
 use Rattle.vx_events.proofs.Refused.{passes, when_none, neither, lt_false}
@@ -54,56 +56,63 @@ module _ (w : World) (files : Bool) (p s : List ℕ) where
   abbrev b : ℕ
   b = site_number w s
 
-  pub set_agrees : (sync : SyncMode) (prot : Prot) → refused_by w files (Set p s sync prot) ≡ None → (step w (SetAt a b sync)).said ≡ Done
+  pub set_agrees : (sync : SyncMode) (prot : Prot) → refused_over w files (Set p s sync prot) ≡ None → (step w (SetAt a b sync)).said ≡ Done
   unfolding first_name second_name need_of halt_of ask_of
   set_agrees sync prot free =
-      let t = passes (linked_facts w) files (Set p s sync prot) free in
-      ap (λ (o : Outcome). o.said) (passes_link w p s is_origin _ (on_link_by w p s has_writes is_origin (λ n. refl) t.known t.other_known t.up t.running t.link_role t.link))
+      let t = passes (facts_over w) files (Set p s sync prot) free in
+      ap (λ (o : Outcome). o.said) (passes_link w p s is_origin _ (on_link_by w p s has_writes is_origin (λ n. refl) refl t.known t.other_known t.up t.running t.link_role t.link))
 
-  pub connect_agrees : refused_by w files (Connect p s) ≡ None → (step w (ConnectAt a b)).said ≡ Done
+  -- the site of such a line is over no group
+  pub set_apart : (sync : SyncMode) (prot : Prot) → refused_over w files (Set p s sync prot) ≡ None → is_over_group (w.nodes a) ≡ false
+  unfolding first_name second_name need_of halt_of ask_of
+  set_apart sync prot free =
+      let t = passes (facts_over w) files (Set p s sync prot) free in
+      (on_link_by w p s has_writes is_origin (λ n. refl) refl t.known t.other_known t.up t.running t.link_role t.link).apart
+
+  pub connect_agrees : refused_over w files (Connect p s) ≡ None → (step w (ConnectAt a b)).said ≡ Done
   unfolding first_name second_name need_of halt_of ask_of
   connect_agrees free =
-      let t = passes (linked_facts w) files (Connect p s) free in
-      ap (λ (o : Outcome). o.said) (passes_link w p s keeps_links _ (on_link_by w p s sends keeps_links (λ n. refl) t.known t.other_known t.up t.running t.link_role t.link))
+      let t = passes (facts_over w) files (Connect p s) free in
+      ap (λ (o : Outcome). o.said) (passes_link w p s keeps_links _ (on_link_by w p s sends keeps_links (λ n. refl) refl t.known t.other_known t.up t.running t.link_role t.link))
 
-  pub cut_agrees : refused_by w files (Cut p s) ≡ None → (step w (CutAt a b)).said ≡ Done
+  pub cut_agrees : refused_over w files (Cut p s) ≡ None → (step w (CutAt a b)).said ≡ Done
   unfolding first_name second_name need_of halt_of ask_of
   cut_agrees free =
-      let t = passes (linked_facts w) files (Cut p s) free in
-      ap (λ (o : Outcome). o.said) (passes_link w p s keeps_links _ (on_link_by w p s sends keeps_links (λ n. refl) t.known t.other_known t.up t.running t.link_role t.link))
+      let t = passes (facts_over w) files (Cut p s) free in
+      ap (λ (o : Outcome). o.said) (passes_link w p s keeps_links _ (on_link_by w p s sends keeps_links (λ n. refl) refl t.known t.other_known t.up t.running t.link_role t.link))
 
-  pub pause_agrees : refused_by w files (Pause p s) ≡ None → (step w (PauseAt a b)).said ≡ Done
+  pub pause_agrees : refused_over w files (Pause p s) ≡ None → (step w (PauseAt a b)).said ≡ Done
   unfolding first_name second_name need_of halt_of ask_of
   pause_agrees free =
-      let t = passes (linked_facts w) files (Pause p s) free in
-      ap (λ (o : Outcome). o.said) (passes_link w p s keeps_links _ (on_link_by w p s sends keeps_links (λ n. refl) t.known t.other_known t.up t.running t.link_role t.link))
+      let t = passes (facts_over w) files (Pause p s) free in
+      ap (λ (o : Outcome). o.said) (passes_link w p s keeps_links _ (on_link_by w p s sends keeps_links (λ n. refl) refl t.known t.other_known t.up t.running t.link_role t.link))
 
-  pub resume_agrees : refused_by w files (Resume p s) ≡ None → (step w (ResumeAt a b)).said ≡ Done
+  pub resume_agrees : refused_over w files (Resume p s) ≡ None → (step w (ResumeAt a b)).said ≡ Done
   unfolding first_name second_name need_of halt_of ask_of
   resume_agrees free =
-      let t = passes (linked_facts w) files (Resume p s) free in
-      ap (λ (o : Outcome). o.said) (passes_link w p s keeps_links _ (on_link_by w p s sends keeps_links (λ n. refl) t.known t.other_known t.up t.running t.link_role t.link))
+      let t = passes (facts_over w) files (Resume p s) free in
+      ap (λ (o : Outcome). o.said) (passes_link w p s keeps_links _ (on_link_by w p s sends keeps_links (λ n. refl) refl t.known t.other_known t.up t.running t.link_role t.link))
 
-  pub tick_agrees : refused_by w files (Tick p s) ≡ None → (step w (TickAt a b)).said ≡ Done
+  pub tick_agrees : refused_over w files (Tick p s) ≡ None → (step w (TickAt a b)).said ≡ Done
   unfolding first_name second_name need_of halt_of ask_of
   tick_agrees free =
-      let t = passes (linked_facts w) files (Tick p s) free in
-      ap (λ (o : Outcome). o.said) (passes_link w p s keeps_links _ (on_link_by w p s sends keeps_links (λ n. refl) t.known t.other_known t.up t.running t.link_role t.link))
+      let t = passes (facts_over w) files (Tick p s) free in
+      ap (λ (o : Outcome). o.said) (passes_link w p s keeps_links _ (on_link_by w p s sends keeps_links (λ n. refl) refl t.known t.other_known t.up t.running t.link_role t.link))
 
   -- a link that is attached and connected, and not paused
-  live_passes : (o : Outcome) → cut_off (Some (link_fact (w.nodes a) b (w.links a b))) (Some (linked_fact w b)) ≡ None → held_up (Some (link_fact (w.nodes a) b (w.links a b))) ≡ None
+  live_passes : (o : Outcome) → cut_off (Some (link_fact (w.nodes a) b (w.links a b))) (Some (fact_over w b)) ≡ None → held_up (Some (link_fact (w.nodes a) b (w.links a b))) ≡ None
       → when_live w b (w.links a b) o ≡ o
   live_passes o down held =
       let l : LinkOf = w.links a b in
       off (not (l.attached && l.connected)) (LinkDown (SiteNumber b)) w (unless l.paused Paused w o) (when_none (not (l.attached && l.connected)) _ down)
       ∙ off l.paused Paused w o (when_none l.paused Paused held)
 
-  pub pump_agrees : refused_by w files (Pump p s) ≡ None → (step w (PumpAt a b)).said ≡ Done
+  pub pump_agrees : refused_over w files (Pump p s) ≡ None → (step w (PumpAt a b)).said ≡ Done
   unfolding first_name second_name need_of halt_of ask_of
   pump_agrees free =
-      let t = passes (linked_facts w) files (Pump p s) free in
-      let m = on_link_by w p s sends keeps_links (λ n. refl) t.known t.other_known t.up t.running t.link_role t.link in
-      let down = subst (λ (o : Option SiteFacts). cut_off (Some (link_fact (w.nodes a) b (w.links a b))) o ≡ None) m.second (subst (λ (o : Option LinkFacts). cut_off o (site_named (linked_facts w) s) ≡ None) m.towards t.link_up) in
+      let t = passes (facts_over w) files (Pump p s) free in
+      let m = on_link_by w p s sends keeps_links (λ n. refl) refl t.known t.other_known t.up t.running t.link_role t.link in
+      let down = subst (λ (o : Option SiteFacts). cut_off (Some (link_fact (w.nodes a) b (w.links a b))) o ≡ None) m.second (subst (λ (o : Option LinkFacts). cut_off o (site_named (facts_over w) s) ≡ None) m.towards t.link_up) in
       let held = subst (λ (o : Option LinkFacts). held_up o ≡ None) m.towards t.link_goes in
       ap (λ (o : Outcome). o.said) (passes_link w p s keeps_links _ m ∙ live_passes _ down held)
 
@@ -117,7 +126,7 @@ get_below (x ∷ xs) (suc k) h = get_below xs k (omega (arith, h))
 le_fails : (m n : ℕ) → nat_le m n ≡ false → n < m
 le_fails m n e = grind (arith, nat_tests)
 
-pub packet_agrees : (w : World) (files : Bool) (number : ℕ) → refused_by w files (Deliver number) ≡ None → (q : Packet) × (packet_at w.packets number ≡ Some q)
+pub packet_agrees : (w : World) (files : Bool) (number : ℕ) → refused_over w files (Deliver number) ≡ None → (q : Packet) × (packet_at w.packets number ≡ Some q)
 packet_agrees w files zero free = absurd (cc)
 packet_agrees w files (suc k) free =
     let tests = neither (suc k == 0) (nat_lt (length w.packets) (suc k) || nat_le (suc k + MOST_PACKETS) (length w.packets)) (when_none (suc k == 0 || (nat_lt (length w.packets) (suc k) || nat_le (suc k + MOST_PACKETS) (length w.packets))) _ free) in

@@ -37,9 +37,12 @@ use Rattle.vx_order.specs.Tests.{when, before, first_said_no}
 use Rattle.vx_script.specs.declared.line.ScriptLine.TheVariants.{Link}
 use Rattle.vx_events.specs.Durables.{AreDurable}
 use Rattle.vx_events.specs.Facts.{site_number, volume_fact, group_fact, group_by, head_of}
-use Rattle.vx_events.specs.LinkedFacts.{link_fact, link_facts, links_by, links_of_site, linked_fact, linked_facts, refused_by}
+use Rattle.vx_events.specs.GroupLines.{is_over_group}
+use Rattle.vx_events.specs.LinkedFacts.{link_fact, link_facts, links_by, links_of_site, linked_fact}
+use Rattle.vx_events.specs.StepsOver.{fact_over, facts_over, refused_over}
 use Rattle.vx_history.specs.Listed.{IsAmong, AreListed}
 use Rattle.vx_events.proofs.LinkTesting.{Seat, seat_at, shown, up_state}
+use Rattle.vx_events.proofs.OverSeats.{apart_shown, fact_apart}
 use Rattle.vx_events.proofs.Passing.{off, is_site, above}
 use Rattle.vx_events.proofs.Refused.{passes, when_none, neither, not_false, running_by}
 use Rattle.vx_events.proofs.Testing.{none_under}
@@ -231,38 +234,68 @@ module _ (w : World) (whole : AreDurable w) (listed : AreListed w) (p s : List �
       ∙ subst (λ (o : Option RvgFacts). (volumes_agree (Some (linked_fact w a)) (Some (linked_fact w b)) && ring_fits o (Some (group_fact (w.nodes b)))) ≡ true) here.group
       (subst (λ (o : Option RvgFacts). (volumes_agree (Some (linked_fact w a)) (Some (linked_fact w b)) && ring_fits (rvg_of (Some (linked_fact w a))) o) ≡ true) there.group e)
 
-pub join_agrees : (w : World) (files : Bool) (p s : List ℕ) (sync : SyncMode) (prot : Prot) → AreDurable w → AreListed w → refused_by w files (Link p s sync prot) ≡ None
-    → (step w (LinkAt (site_number w p) (site_number w s) sync Joins)).said ≡ Done
+-- both sites of a link that may be made have logged nothing
+both_unused : (first second : Option SiteFacts) (here there : Option ℕ) → can_link here there first second ≡ true → (is_unused (rvg_of first) ≡ true) × (is_unused (rvg_of second) ≡ true)
+both_unused first second here there e =
+    let q = all_of (is_unused (rvg_of first)) _ e in
+    let r = all_of (on_first here (rvg_of first)) _ q.1 in
+    let t = all_of (are_two here there) _ r.1 in
+    let u = all_of (is_unused (rvg_of second)) _ t.1 in
+    (q.0, u.0)
+
+-- neither of the sites of a link that may be made is over a group
+pub join_apart : (w : World) (files : Bool) (p s : List ℕ) (sync : SyncMode) (prot : Prot) → refused_over w files (Link p s sync prot) ≡ None
+    → (is_over_group (w.nodes (site_number w p)) ≡ false) × (is_over_group (w.nodes (site_number w s)) ≡ false)
 unfolding first_name second_name need_of halt_of ask_of first_said_no
-join_agrees w files p s sync prot whole listed free =
-    let t = passes (linked_facts w) files (Link p s sync prot) free in
+join_apart w files p s sync prot free =
+    let t = passes (facts_over w) files (Link p s sync prot) free in
     let a : ℕ = site_number w p in
     let b : ℕ = site_number w s in
     let one = seat_at w p t.known in
     let two = seat_at w s t.other_known in
+    let linking = not_false (can_link (Some a) (Some b) (Some (fact_over w a)) (Some (fact_over w b))) (when_none (not (can_link (Some a) (Some b) (Some (fact_over w a)) (Some (fact_over w b)))) _
+    (subst (λ (o : Option SiteFacts). when (not (can_link (Some a) (Some b) (Some (fact_over w a)) o)) WrongRole ≡ None) two.found
+    (subst (λ (o : Option SiteFacts). when (not (can_link (Some a) (Some b) o (site_named (facts_over w) s))) WrongRole ≡ None) one.found
+    (subst (λ (o : Option ℕ). when (not (can_link (Some a) o (site_named (facts_over w) p) (site_named (facts_over w) s))) WrongRole ≡ None) two.place
+    (subst (λ (o : Option ℕ). when (not (can_link o (place_named (facts_over w) (Some s)) (site_named (facts_over w) p) (site_named (facts_over w) s))) WrongRole ≡ None) one.place t.link_role))))) in
+    let unused = both_unused (Some (fact_over w a)) (Some (fact_over w b)) (Some a) (Some b) linking in
+    (apart_shown w a is_unused refl unused.0, apart_shown w b is_unused refl unused.1)
+
+pub join_agrees : (w : World) (files : Bool) (p s : List ℕ) (sync : SyncMode) (prot : Prot) → AreDurable w → AreListed w → refused_over w files (Link p s sync prot) ≡ None
+    → (step w (LinkAt (site_number w p) (site_number w s) sync Joins)).said ≡ Done
+unfolding first_name second_name need_of halt_of ask_of first_said_no
+join_agrees w files p s sync prot whole listed free =
+    let t = passes (facts_over w) files (Link p s sync prot) free in
+    let a : ℕ = site_number w p in
+    let b : ℕ = site_number w s in
+    let one = seat_at w p t.known in
+    let two = seat_at w s t.other_known in
+    let apart = join_apart w files p s sync prot free in
+    let first : site_named (facts_over w) p ≡ Some (linked_fact w a) = one.found ∙ ap (λ (f : SiteFacts). Some f) (fact_apart w a apart.0) in
+    let second : site_named (facts_over w) s ≡ Some (linked_fact w b) = two.found ∙ ap (λ (f : SiteFacts). Some f) (fact_apart w b apart.1) in
     let ups = neither (not (is_up (w.nodes a).state)) (not (is_up (w.nodes b).state))
     (when_none (not (is_up (w.nodes a).state) || not (is_up (w.nodes b).state)) _
-    (subst (λ (o : Option SiteFacts). when (not (is_up (w.nodes a).state) || site_off o) NotUp ≡ None) two.found (subst (λ (o : Option SiteFacts). when (site_off o || site_off (site_named (linked_facts w) s)) NotUp ≡ None) one.found t.up))) in
+    (subst (λ (o : Option SiteFacts). when (not (is_up (w.nodes a).state) || site_off o) NotUp ≡ None) second (subst (λ (o : Option SiteFacts). when (site_off o || site_off (site_named (facts_over w) s)) NotUp ≡ None) first t.up))) in
     let halts = first_halt (halted_one (Some (linked_fact w a))) (halted_one (Some (linked_fact w b)))
-    (subst (λ (o : Option SiteFacts). before (halted_one (Some (linked_fact w a))) (before (halted_one o) None) ≡ None) two.found
-    (subst (λ (o : Option SiteFacts). before (halted_one o) (before (halted_one (site_named (linked_facts w) s)) None) ≡ None) one.found t.running)) in
+    (subst (λ (o : Option SiteFacts). before (halted_one (Some (linked_fact w a))) (before (halted_one o) None) ≡ None) second
+    (subst (λ (o : Option SiteFacts). before (halted_one o) (before (halted_one (site_named (facts_over w) s)) None) ≡ None) first t.running)) in
     let here = here_by w a ups.0 halts.0 in
     let there = here_by w b ups.1 halts.1 in
     let may = not_false (can_link (Some a) (Some b) (Some (linked_fact w a)) (Some (linked_fact w b))) (when_none (not (can_link (Some a) (Some b) (Some (linked_fact w a)) (Some (linked_fact w b)))) _
-    (subst (λ (o : Option SiteFacts). when (not (can_link (Some a) (Some b) (Some (linked_fact w a)) o)) WrongRole ≡ None) two.found
-    (subst (λ (o : Option SiteFacts). when (not (can_link (Some a) (Some b) o (site_named (linked_facts w) s))) WrongRole ≡ None) one.found
-    (subst (λ (o : Option ℕ). when (not (can_link (Some a) o (site_named (linked_facts w) p) (site_named (linked_facts w) s))) WrongRole ≡ None) two.place
-    (subst (λ (o : Option ℕ). when (not (can_link o (place_named (linked_facts w) (Some s)) (site_named (linked_facts w) p) (site_named (linked_facts w) s))) WrongRole ≡ None) one.place t.link_role))))) in
+    (subst (λ (o : Option SiteFacts). when (not (can_link (Some a) (Some b) (Some (linked_fact w a)) o)) WrongRole ≡ None) second
+    (subst (λ (o : Option SiteFacts). when (not (can_link (Some a) (Some b) o (site_named (facts_over w) s))) WrongRole ≡ None) first
+    (subst (λ (o : Option ℕ). when (not (can_link (Some a) o (site_named (facts_over w) p) (site_named (facts_over w) s))) WrongRole ≡ None) two.place
+    (subst (λ (o : Option ℕ). when (not (can_link o (place_named (facts_over w) (Some s)) (site_named (facts_over w) p) (site_named (facts_over w) s))) WrongRole ≡ None) one.place t.link_role))))) in
     let taken = free_link (link_towards (Some (linked_fact w a)) (Some b)) (linked_fact w b)
-    (subst (λ (o : Option SiteFacts). linked_already (link_towards (Some (linked_fact w a)) (Some b)) o ≡ None) two.found
-    (subst (λ (o : Option SiteFacts). linked_already (link_towards o (Some b)) (site_named (linked_facts w) s) ≡ None) one.found
-    (subst (λ (o : Option ℕ). linked_already (link_towards (site_named (linked_facts w) p) o) (site_named (linked_facts w) s) ≡ None) two.place t.link_free))) in
+    (subst (λ (o : Option SiteFacts). linked_already (link_towards (Some (linked_fact w a)) (Some b)) o ≡ None) second
+    (subst (λ (o : Option SiteFacts). linked_already (link_towards o (Some b)) (site_named (facts_over w) s) ≡ None) first
+    (subst (λ (o : Option ℕ). linked_already (link_towards (site_named (facts_over w) p) o) (site_named (facts_over w) s) ≡ None) two.place t.link_free))) in
     let few = below_limit (link_count (Some (linked_fact w a))) (when_none (nat_le MOST_LINKS (link_count (Some (linked_fact w a)))) _
-    (subst (λ (o : Option SiteFacts). when (nat_le MOST_LINKS (link_count o)) (Limit Links MOST_LINKS) ≡ None) one.found t.link_limit)) in
+    (subst (λ (o : Option SiteFacts). when (nat_le MOST_LINKS (link_count o)) (Limit Links MOST_LINKS) ≡ None) first t.link_limit)) in
     let fits = not_false (volumes_agree (Some (linked_fact w a)) (Some (linked_fact w b)) && ring_fits (rvg_of (Some (linked_fact w a))) (rvg_of (Some (linked_fact w b))))
     (when_none (not (volumes_agree (Some (linked_fact w a)) (Some (linked_fact w b)) && ring_fits (rvg_of (Some (linked_fact w a))) (rvg_of (Some (linked_fact w b))))) _
-    (subst (λ (o : Option SiteFacts). when (not (volumes_agree (Some (linked_fact w a)) o && ring_fits (rvg_of (Some (linked_fact w a))) (rvg_of o))) Size ≡ None) two.found
-    (subst (λ (o : Option SiteFacts). when (not (volumes_agree o (site_named (linked_facts w) s) && ring_fits (rvg_of o) (rvg_of (site_named (linked_facts w) s)))) Size ≡ None) one.found t.link_size))) in
+    (subst (λ (o : Option SiteFacts). when (not (volumes_agree (Some (linked_fact w a)) o && ring_fits (rvg_of (Some (linked_fact w a))) (rvg_of o))) Size ≡ None) second
+    (subst (λ (o : Option SiteFacts). when (not (volumes_agree o (site_named (facts_over w) s) && ring_fits (rvg_of o) (rvg_of (site_named (facts_over w) s)))) Size ≡ None) first t.link_size))) in
     let links : count_links_of w a ≡ link_count (Some (linked_fact w a)) = listed.count a ∙ sym (counted_here w whole listed p s one two here there a here.up) in
     ap (λ (o : Outcome). o.said)
     (joins_step w a b sync (record {

@@ -23,11 +23,13 @@ use Rattle.vx_order.specs.Subject.{first_name, second_name, need_of, halt_of}
 use Rattle.vx_order.specs.Tests.{first_said_no, when}
 use Rattle.vx_script.specs.declared.line.ScriptLine.TheVariants.{Settle}
 use Rattle.vx_events.specs.Facts.{group_fact, site_number}
-use Rattle.vx_events.specs.LinkedFacts.{link_fact, linked_fact, linked_facts, refused_by}
+use Rattle.vx_events.specs.LinkedFacts.{link_fact, linked_fact}
+use Rattle.vx_events.specs.StepsOver.{fact_over, facts_over, refused_over}
 use Rattle.vx_events.specs.LinksFit.{LinksFit, is_plain_mode}
 use Rattle.vx_events.specs.Settles.{CanSettle}
 use Rattle.vx_events.proofs.LinkJoining.{all_of, first_halt, here_by}
 use Rattle.vx_events.proofs.LinkTesting.{on_link_by, seat_at, shown}
+use Rattle.vx_events.proofs.OverSeats.{apart_shown, fact_apart}
 use Rattle.vx_events.proofs.Refused.{neither, not_false, passes, when_none}
 
 -- a plain link that goes by something goes by the log
@@ -54,17 +56,22 @@ ends_on mode bunker f g log none leads =
     let takes = all_of (is_taker false g.role) (same_line g.line f.line) (not_false (takes_from false (Some f) (Some g)) at) in
     (secondary_of g.role takes.0, same_line_equal g.line f.line takes.1)
 
-pub settle_agrees : (d : Doubted) (files : Bool) (p s : List ℕ) → LinksFit d → refused_by d.world files (Settle p s) ≡ None
+-- and so it leads to a site that takes what comes by it
+takes_so : (mode : Mode) (bunker : Bool) (f : RvgFacts) (r : Option RvgFacts) → mode ≡ Log → (not (is_fork mode) && not (takes_from bunker (Some f) r)) ≡ false
+    → takes_from bunker (Some f) r ≡ true
+takes_so mode bunker f r log leads = not_false (takes_from bunker (Some f) r) (subst (λ (m : Mode). (not (is_fork m) && not (takes_from bunker (Some f) r)) ≡ false) log leads)
+
+pub settle_agrees : (d : Doubted) (files : Bool) (p s : List ℕ) → LinksFit d → refused_over d.world files (Settle p s) ≡ None
     → CanSettle d.world (site_number d.world p) (site_number d.world s)
 unfolding first_name second_name need_of halt_of ask_of first_said_no
 settle_agrees d files p s fits free =
     let w : World = d.world in
-    let t = passes (linked_facts w) files (Settle p s) free in
+    let t = passes (facts_over w) files (Settle p s) free in
     let a : ℕ = site_number w p in
     let b : ℕ = site_number w s in
-    let here : Option SiteFacts = site_named (linked_facts w) p in
-    let there : Option SiteFacts = site_named (linked_facts w) s in
-    let to : Option LinkFacts = link_towards here (place_named (linked_facts w) (Some s)) in
+    let here : Option SiteFacts = site_named (facts_over w) p in
+    let there : Option SiteFacts = site_named (facts_over w) s in
+    let to : Option LinkFacts = link_towards here (place_named (facts_over w) (Some s)) in
     let first = seat_at w p t.known in
     let two = seat_at w s t.other_known in
     let ups = neither (site_off here) (site_off there) (when_none (site_off here || site_off there) NotUp t.up) in
@@ -72,19 +79,23 @@ settle_agrees d files p s fits free =
     let astray : Bool = leads_astray to (rvg_of here) (rvg_of there) in
     let ends = neither (not (sends (rvg_of here)) || goes_by_nothing to) astray (when_none ((not (sends (rvg_of here)) || goes_by_nothing to) || astray) WrongRole t.link_role) in
     let roles = neither (not (sends (rvg_of here))) (goes_by_nothing to) ends.0 in
-    let m = on_link_by w p s sends keeps_links (λ n. refl) t.known t.other_known (ap (λ (c : Bool). when c NotUp) ups.0) halts.0 (ap (λ (c : Bool). when c WrongRole) roles.0) t.link in
-    let other = here_by w b (subst (λ (o : Option SiteFacts). site_off o ≡ false) two.found ups.1) (subst (λ (o : Option SiteFacts). halted_one o ≡ None) two.found halts.1) in
+    let m = on_link_by w p s sends keeps_links (λ n. refl) refl t.known t.other_known (ap (λ (c : Bool). when c NotUp) ups.0) halts.0 (ap (λ (c : Bool). when c WrongRole) roles.0) t.link in
     let l : LinkOf = w.links a b in
     let live = subst (λ (o : Option SiteFacts). cut_off to o ≡ None) m.second t.link_up in
     let lives = all_of l.attached l.connected
-    (not_false (l.attached && l.connected) (when_none (not (l.attached && l.connected)) _ (subst (λ (o : Option LinkFacts). cut_off o (Some (linked_fact w b)) ≡ None) m.towards live))) in
+    (not_false (l.attached && l.connected) (when_none (not (l.attached && l.connected)) _ (subst (λ (o : Option LinkFacts). cut_off o (Some (fact_over w b)) ≡ None) m.towards live))) in
     let plain = (fits.rows a).plain b m.linked in
     let mode : l.mode ≡ Log = by_log l.mode plain.mode (subst (λ (o : Option LinkFacts). goes_by_nothing o ≡ false) m.towards roles.1) in
     let f : RvgFacts = group_fact (w.nodes a) in
     let g : RvgFacts = group_fact (w.nodes b) in
+    let first_found : here ≡ Some (linked_fact w a) = first.found ∙ ap (λ (x : SiteFacts). Some x) (fact_apart w a m.apart) in
     let leads = subst (λ (o : Option LinkFacts). leads_astray o (rvg_of here) (rvg_of there) ≡ false) m.towards ends.1 in
-    let leads_by = subst (λ (o : Option RvgFacts). leads_astray (Some (link_fact (w.nodes a) b l)) o (rvg_of there) ≡ false) (ap rvg_of first.found ∙ shown w a m.up) leads in
-    let leads_to = subst (λ (o : Option RvgFacts). leads_astray (Some (link_fact (w.nodes a) b l)) (Some f) o ≡ false) (ap rvg_of two.found ∙ shown w b other.up) leads_by in
+    let leads_by = subst (λ (o : Option RvgFacts). leads_astray (Some (link_fact (w.nodes a) b l)) o (rvg_of there) ≡ false) (ap rvg_of first_found ∙ shown w a m.up) leads in
+    let leads_there = subst (λ (o : Option SiteFacts). leads_astray (Some (link_fact (w.nodes a) b l)) (Some f) (rvg_of o) ≡ false) two.found leads_by in
+    let apart = apart_shown w b (takes_from l.bunker (Some f)) refl (takes_so l.mode l.bunker f (rvg_of (Some (fact_over w b))) mode leads_there) in
+    let two_found : there ≡ Some (linked_fact w b) = two.found ∙ ap (λ (x : SiteFacts). Some x) (fact_apart w b apart) in
+    let other = here_by w b (subst (λ (o : Option SiteFacts). site_off o ≡ false) two_found ups.1) (subst (λ (o : Option SiteFacts). halted_one o ≡ None) two_found halts.1) in
+    let leads_to = subst (λ (o : Option RvgFacts). leads_astray (Some (link_fact (w.nodes a) b l)) (Some f) o ≡ false) (ap rvg_of two_found ∙ shown w b other.up) leads_by in
     let takes = ends_on l.mode l.bunker f g mode plain.bunker leads_to in
     record {
       first = m.here;

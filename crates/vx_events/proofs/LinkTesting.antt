@@ -1,10 +1,9 @@
 -- What is known of two sites and the link between them where no test refuses a line on that link.
 use Rattle.std.proofs.Common.{◌≡◌, ◌∙◌, ◌+◌, ◌<◌, ℕ, zero, suc, List, [], ◌∷◌, length, Bool, true, false, ap, sym, subst, refl, arith}
 use Rattle.std.specs.Prelude.{Option, Some, None, cond, not, ◌==◌, unwrap_or, if◌then◌else◌}
-use Rattle.std.specs.List.{find, position_from}
+use Rattle.std.specs.List.{find}
 use Rattle.std.specs.Str.{bytes_eq}
 use Rattle.std.proofs.lemmas.Bool.Decides.{nat_tests}
-use Rattle.std.proofs.lemmas.Iterator.Adapters.{position_from-zero}
 use Rattle.vx_model.specs.Sites.{is_up}
 use Rattle.vx_model.specs.declared.no.No.TheVariants.{Down as NotUp, Role as WrongRole}
 use Rattle.vx_model.specs.declared.site.Role.{Role}
@@ -21,8 +20,11 @@ use Rattle.vx_order.specs.Sending.{not_linked}
 use Rattle.vx_order.specs.Sites.{site_named, unknown_one, site_off, rvg_of, halted_one}
 use Rattle.vx_order.specs.Tests.{when}
 use Rattle.vx_events.specs.Facts.{site_fact, facts_of, values_from, seat_of, site_number, group_fact, group_by}
+use Rattle.vx_events.specs.GroupLines.{is_over_group}
 use Rattle.vx_events.specs.LinkedFacts.{link_fact, link_facts, links_by, links_of_site, linked_fact, linked_facts}
 use Rattle.vx_events.specs.Plain.{IsUnlinked}
+use Rattle.vx_events.specs.StepsOver.{fact_over, facts_over}
+use Rattle.vx_events.proofs.OverSeats.{apart_shown, fact_apart, seats_over}
 use Rattle.vx_events.proofs.Steps.{no_sites}
 use Rattle.vx_events.proofs.Places.{position_within, some_same, never_some}
 use Rattle.vx_events.proofs.Refused.{when_none, not_false, named, running_by}
@@ -30,34 +32,23 @@ use Rattle.vx_events.proofs.Values.{length-values_from, slice_get-values_from}
 
 -- ---- the numbers of sites
 
--- links have no part in where a site stands
-seats_from : (w : World) (name : List ℕ) (j k n : ℕ)
-    → position_from (λ (site : SiteFacts). bytes_eq site.name name) j (values_from (λ i. linked_fact w i) k n) ≡ position_from (λ (site : SiteFacts). bytes_eq site.name name) j (values_from (λ i. site_fact (w.nodes i)) k n)
-seats_from w name j k zero = refl
-seats_from w name j k (suc n) = ap (λ (o : Option ℕ). cond (bytes_eq (w.nodes k).name name) (Some j) o) (seats_from w name (j + 1) (k + 1) n)
-
-pub seats_same : (w : World) (name : List ℕ) → seat_of (linked_facts w) name ≡ seat_of (facts_of w) name
-seats_same w name =
-    position_from-zero (λ (site : SiteFacts). bytes_eq site.name name) (linked_facts w) ∙ seats_from w name 0 0 w.sites
-    ∙ sym (position_from-zero (λ (site : SiteFacts). bytes_eq site.name name) (facts_of w))
-
 -- a site that a line names
 pub record Seat (w : World) (name : List ℕ) : Type 0 where
   pub below : site_number w name < w.sites
-  pub found : site_named (linked_facts w) name ≡ Some (linked_fact w (site_number w name))
-  pub place : place_named (linked_facts w) (Some name) ≡ Some (site_number w name)
+  pub found : site_named (facts_over w) name ≡ Some (fact_over w (site_number w name))
+  pub place : place_named (facts_over w) (Some name) ≡ Some (site_number w name)
 
-pub seat_at : (w : World) (name : List ℕ) → unknown_one (Some name) (site_named (linked_facts w) name) ≡ None → Seat w name
+pub seat_at : (w : World) (name : List ℕ) → unknown_one (Some name) (site_named (facts_over w) name) ≡ None → Seat w name
 seat_at w name known =
-    let n = named (linked_facts w) name known in
-    let number : site_number w name ≡ n.at.place = ap (λ (o : Option ℕ). unwrap_or o 0) (sym (seats_same w name) ∙ n.at.is) in
-    let inside : n.at.place < length (linked_facts w) = position_within (λ site. bytes_eq site.name name) (linked_facts w) n.at.place n.at.is in
-    let many : length (linked_facts w) ≡ w.sites = length-values_from (λ i. linked_fact w i) 0 w.sites in
+    let n = named (facts_over w) name known in
+    let number : site_number w name ≡ n.at.place = ap (λ (o : Option ℕ). unwrap_or o 0) (sym (seats_over w name) ∙ n.at.is) in
+    let inside : n.at.place < length (facts_over w) = position_within (λ site. bytes_eq site.name name) (facts_over w) n.at.place n.at.is in
+    let many : length (facts_over w) ≡ w.sites = length-values_from (λ i. fact_over w i) 0 w.sites in
     let below : n.at.place < w.sites = omega (arith, many, inside) in
     let start : 0 + n.at.place ≡ site_number w name = omega (arith, number) in
     record {
       below = omega (arith, below, number);
-      found = n.found ∙ sym n.at.there ∙ slice_get-values_from (λ i. linked_fact w i) 0 w.sites n.at.place below ∙ ap (λ (i : ℕ). Some (linked_fact w i)) start;
+      found = n.found ∙ sym n.at.there ∙ slice_get-values_from (λ i. fact_over w i) 0 w.sites n.at.place below ∙ ap (λ (i : ℕ). Some (fact_over w i)) start;
       place = n.at.is ∙ ap (λ (i : ℕ). Some i) (sym number);
     }
 
@@ -118,16 +109,17 @@ up_state Bare e = absurd (cc)
 up_state Deported e = absurd (cc)
 up_state Down e = absurd (cc)
 
--- two sites, of which the first is up, is not halted, and keeps a link to the second
+-- two sites, of which the first is over no group, is up, is not halted, and keeps a link to the second
 pub record OnLink (w : World) (p s : List ℕ) (test : Role → Bool) : Type 0 where
   pub here : site_number w p < w.sites
   pub there : site_number w s < w.sites
+  pub apart : is_over_group (w.nodes (site_number w p)) ≡ false
   pub up : (w.nodes (site_number w p)).state ≡ Up
   pub running : (w.nodes (site_number w p)).halted ≡ None
   pub role : test (w.nodes (site_number w p)).role ≡ true
   pub linked : is_linked (w.links (site_number w p) (site_number w s)) ≡ true
-  pub second : site_named (linked_facts w) s ≡ Some (linked_fact w (site_number w s))
-  pub towards : link_towards (site_named (linked_facts w) p) (place_named (linked_facts w) (Some s))
+  pub second : site_named (facts_over w) s ≡ Some (fact_over w (site_number w s))
+  pub towards : link_towards (site_named (facts_over w) p) (place_named (facts_over w) (Some s))
       ≡ Some (link_fact (w.nodes (site_number w p)) (site_number w s) (w.links (site_number w p) (site_number w s)))
 
 -- the group that a site shows as it is up
@@ -135,33 +127,38 @@ pub shown : (w : World) (i : ℕ) → (w.nodes i).state ≡ Up → rvg_of (Some 
 shown w i up = ap (λ (t : SiteState). if is_up t then group_by t (w.nodes i) else None) up
 
 pub on_link_by : (w : World) (p s : List ℕ) (tests : Option RvgFacts → Bool) (test : Role → Bool) → ((n : Node) → tests (Some (group_fact n)) ≡ test n.role)
-    → unknown_one (Some p) (site_named (linked_facts w) p) ≡ None → unknown_one (Some s) (site_named (linked_facts w) s) ≡ None
-    → when (site_off (site_named (linked_facts w) p)) NotUp ≡ None → halted_one (site_named (linked_facts w) p) ≡ None
-    → when (not (tests (rvg_of (site_named (linked_facts w) p)))) WrongRole ≡ None
-    → not_linked (link_towards (site_named (linked_facts w) p) (place_named (linked_facts w) (Some s))) (site_named (linked_facts w) s) ≡ None
+    → tests None ≡ false → unknown_one (Some p) (site_named (facts_over w) p) ≡ None → unknown_one (Some s) (site_named (facts_over w) s) ≡ None
+    → when (site_off (site_named (facts_over w) p)) NotUp ≡ None → halted_one (site_named (facts_over w) p) ≡ None
+    → when (not (tests (rvg_of (site_named (facts_over w) p)))) WrongRole ≡ None
+    → not_linked (link_towards (site_named (facts_over w) p) (place_named (facts_over w) (Some s))) (site_named (facts_over w) s) ≡ None
     → OnLink w p s test
-on_link_by w p s tests test same known other up running role link =
+on_link_by w p s tests test same none known other up running role link =
     let a : ℕ = site_number w p in
     let b : ℕ = site_number w s in
     let n : Node = w.nodes a in
     let first = seat_at w p known in
     let second = seat_at w s other in
+    let shows : tests (rvg_of (Some (fact_over w a))) ≡ true =
+    not_false (tests (rvg_of (Some (fact_over w a)))) (when_none (not (tests (rvg_of (Some (fact_over w a))))) WrongRole (subst (λ (o : Option SiteFacts). when (not (tests (rvg_of o))) WrongRole ≡ None) first.found role)) in
+    let apart : is_over_group n ≡ false = apart_shown w a tests none shows in
+    let here : site_named (facts_over w) p ≡ Some (linked_fact w a) = first.found ∙ ap (λ (f : SiteFacts). Some f) (fact_apart w a apart) in
     let up_here : n.state ≡ Up =
-    up_state n.state (not_false (is_up n.state) (when_none (not (is_up n.state)) NotUp (subst (λ (o : Option SiteFacts). when (site_off o) NotUp ≡ None) first.found up))) in
+    up_state n.state (not_false (is_up n.state) (when_none (not (is_up n.state)) NotUp (subst (λ (o : Option SiteFacts). when (site_off o) NotUp ≡ None) here up))) in
     let group : rvg_of (Some (linked_fact w a)) ≡ Some (group_fact n) = shown w a up_here in
     let role_here : when (not (tests (Some (group_fact n)))) WrongRole ≡ None =
-    subst (λ (o : Option RvgFacts). when (not (tests o)) WrongRole ≡ None) group (subst (λ (o : Option SiteFacts). when (not (tests (rvg_of o))) WrongRole ≡ None) first.found role) in
-    let towards : link_towards (site_named (linked_facts w) p) (place_named (linked_facts w) (Some s)) ≡ find (λ (x : LinkFacts). x.link.site == b) (links_of_site w a) =
-    ap (λ (o : Option SiteFacts). link_towards o (place_named (linked_facts w) (Some s))) first.found
+    subst (λ (o : Option RvgFacts). when (not (tests o)) WrongRole ≡ None) group (subst (λ (o : Option SiteFacts). when (not (tests (rvg_of o))) WrongRole ≡ None) here role) in
+    let towards : link_towards (site_named (facts_over w) p) (place_named (facts_over w) (Some s)) ≡ find (λ (x : LinkFacts). x.link.site == b) (links_of_site w a) =
+    ap (λ (o : Option SiteFacts). link_towards o (place_named (facts_over w) (Some s))) here
     ∙ ap (λ (o : Option ℕ). link_towards (Some (linked_fact w a)) o) second.place
     ∙ ap (λ (t : SiteState). if is_up t then link_to (links_by t (links_of_site w a)) (Some b) else None) up_here in
-    let linked = linked_none _ _ (subst (λ (o : Option SiteFacts). not_linked (link_towards (site_named (linked_facts w) p) (place_named (linked_facts w) (Some s))) o ≡ None) second.found link) in
+    let linked = linked_none _ _ (subst (λ (o : Option SiteFacts). not_linked (link_towards (site_named (facts_over w) p) (place_named (facts_over w) (Some s))) o ≡ None) second.found link) in
     let is = found_link n (w.links a) (linked_sites (w.links a) w.sites 0 w.sites) b linked.0 (all_linked (w.links a) w.sites 0 w.sites) (sym towards ∙ linked.1) in
     record {
       here = first.below;
       there = second.below;
+      apart = apart;
       up = up_here;
-      running = running_by (linked_fact w a) (group_fact n) (subst (λ (o : Option SiteFacts). halted_one o ≡ None) first.found running)
+      running = running_by (linked_fact w a) (group_fact n) (subst (λ (o : Option SiteFacts). halted_one o ≡ None) here running)
           (ap (λ (t : SiteState). if is_up t then group_by n.state n else None) up_here) (ap (λ (t : SiteState). group_by t n) up_here);
       role = sym (same n) ∙ not_false (tests (Some (group_fact n))) (when_none (not (tests (Some (group_fact n)))) WrongRole role_here);
       linked = is.1;

@@ -18,15 +18,18 @@ use Rattle.vx_order.specs.declared.facts.SiteFacts.{SiteFacts}
 use Rattle.vx_order.specs.declared.facts.RvgFacts.{RvgFacts}
 use Rattle.vx_order.specs.Asks.{ask_of}
 use Rattle.vx_order.specs.Sending.{has_writes, number_unknown, last_number, lacks, unconfirmed_at}
-use Rattle.vx_order.specs.Sites.{site_off, rvg_of, halted_one}
+use Rattle.vx_order.specs.Sites.{site_named, site_off, rvg_of, halted_one}
 use Rattle.vx_order.specs.Subject.{first_name, second_name, need_of, halt_of}
 use Rattle.vx_order.specs.Tests.{when}
 use Rattle.vx_script.specs.declared.line.ScriptLine.TheVariants.{Wait}
 use Rattle.vx_events.specs.Facts.{site_number, group_fact, head_of}
-use Rattle.vx_events.specs.LinkedFacts.{link_fact, link_facts, links_by, links_of_site, linked_fact, linked_facts, refused_by}
+use Rattle.vx_events.specs.GroupLines.{is_over_group}
+use Rattle.vx_events.specs.LinkedFacts.{link_fact, link_facts, links_by, links_of_site, linked_fact}
+use Rattle.vx_events.specs.StepsOver.{fact_over, facts_over, refused_over}
 use Rattle.vx_history.specs.Listed.{IsAmong, AreListed}
 use Rattle.vx_events.proofs.LinkJoining.{IsHere, here_by, all_of, both_hold, by_test}
 use Rattle.vx_events.proofs.LinkTesting.{seat_at}
+use Rattle.vx_events.proofs.OverSeats.{apart_shown, fact_apart}
 use Rattle.vx_events.proofs.Passing.{off, is_site, is_at_work}
 use Rattle.vx_events.proofs.Refused.{passes, when_none, not_false}
 use Rattle.vx_events.proofs.Testing.{none_under}
@@ -89,23 +92,36 @@ module _ (w : World) (listed : AreListed w) (a number : ℕ) (below : a < w.site
       ∙ off (number == 0 || nat_lt n.safe number) (Unknown (ByNumber number)) w confirmed known
       ∙ off (some_below w.sites (λ k. is_unconfirmed number k (w.links a k))) (Unconfirmed number) w o none
 
-pub wait_agrees : (w : World) (files : Bool) (p : List ℕ) (number : ℕ) → AreListed w → refused_by w files (Wait p number) ≡ None
+-- the site of such a line is over no group
+pub wait_apart : (w : World) (files : Bool) (p : List ℕ) (number : ℕ) → refused_over w files (Wait p number) ≡ None → is_over_group (w.nodes (site_number w p)) ≡ false
+unfolding first_name second_name need_of halt_of ask_of
+wait_apart w files p number free =
+    let t = passes (facts_over w) files (Wait p number) free in
+    let a : ℕ = site_number w p in
+    let one = seat_at w p t.known in
+    let shows : has_writes (rvg_of (Some (fact_over w a))) ≡ true =
+    not_false (has_writes (rvg_of (Some (fact_over w a))))
+    (when_none (not (has_writes (rvg_of (Some (fact_over w a))))) WrongRole (subst (λ (o : Option SiteFacts). when (not (has_writes (rvg_of o))) WrongRole ≡ None) one.found t.link_role)) in
+    apart_shown w a has_writes refl shows
+
+pub wait_agrees : (w : World) (files : Bool) (p : List ℕ) (number : ℕ) → AreListed w → refused_over w files (Wait p number) ≡ None
     → ((step w (WaitAt (site_number w p) number)).said ≡ DoneAt number) ⊎ ((step w (WaitAt (site_number w p) number)).said ≡ Pending number)
 unfolding first_name second_name need_of halt_of ask_of
 wait_agrees w files p number listed free =
-    let t = passes (linked_facts w) files (Wait p number) free in
+    let t = passes (facts_over w) files (Wait p number) free in
     let a : ℕ = site_number w p in
     let n : Node = w.nodes a in
     let one = seat_at w p t.known in
-    let here = here_by w a (when_none (not (is_up n.state)) NotUp (subst (λ (o : Option SiteFacts). when (site_off o) NotUp ≡ None) one.found t.up))
-    (subst (λ (o : Option SiteFacts). halted_one o ≡ None) one.found t.running) in
+    let found : site_named (facts_over w) p ≡ Some (linked_fact w a) = one.found ∙ ap (λ (f : SiteFacts). Some f) (fact_apart w a (wait_apart w files p number free)) in
+    let here = here_by w a (when_none (not (is_up n.state)) NotUp (subst (λ (o : Option SiteFacts). when (site_off o) NotUp ≡ None) found t.up))
+    (subst (λ (o : Option SiteFacts). halted_one o ≡ None) found t.running) in
     let role : when (not (has_writes (Some (group_fact n)))) WrongRole ≡ None =
-    subst (λ (o : Option RvgFacts). when (not (has_writes o)) WrongRole ≡ None) here.group (subst (λ (o : Option SiteFacts). when (not (has_writes (rvg_of o))) WrongRole ≡ None) one.found t.link_role) in
+    subst (λ (o : Option RvgFacts). when (not (has_writes o)) WrongRole ≡ None) here.group (subst (λ (o : Option SiteFacts). when (not (has_writes (rvg_of o))) WrongRole ≡ None) found t.link_role) in
     let origin : is_origin n.role ≡ true = not_false (is_origin n.role) (when_none (not (is_origin n.role)) WrongRole role) in
     let head : head_of n ≡ n.safe = ap (λ (b : Bool). if b then n.safe else length n.log) origin in
     let known : number_unknown number (head_of n) ≡ None =
-    subst (λ (o : Option RvgFacts). number_unknown number (last_number o) ≡ None) here.group (subst (λ (o : Option SiteFacts). number_unknown number (last_number (rvg_of o)) ≡ None) one.found t.link) in
+    subst (λ (o : Option RvgFacts). number_unknown number (last_number o) ≡ None) here.group (subst (λ (o : Option SiteFacts). number_unknown number (last_number (rvg_of o)) ≡ None) found t.link) in
     let within : (number == 0 || nat_lt n.safe number) ≡ false = when_none (number == 0 || nat_lt n.safe number) _ (subst (λ (k : ℕ). number_unknown number k ≡ None) head known) in
-    let none = none_unconfirmed w listed a number one.below here (subst (λ (o : Option SiteFacts). unconfirmed_at o number ≡ None) one.found t.confirmed) in
+    let none = none_unconfirmed w listed a number one.below here (subst (λ (o : Option SiteFacts). unconfirmed_at o number ≡ None) found t.confirmed) in
     subst (λ (o : Outcome). (o.said ≡ DoneAt number) ⊎ (o.said ≡ Pending number)) (sym (waits_step w listed a number one.below here origin within none))
     (answers w listed a number one.below here (some_below w.sites (λ k. holds_back number k (w.links a k))))

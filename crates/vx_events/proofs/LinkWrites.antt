@@ -29,9 +29,12 @@ use Rattle.vx_order.specs.Subject.{first_name, halt_of}
 use Rattle.vx_order.specs.Tests.{before}
 use Rattle.vx_script.specs.declared.line.ScriptLine.TheVariants.{Write, Put}
 use Rattle.vx_events.specs.Facts.{site_number, group_by}
-use Rattle.vx_events.specs.LinkedFacts.{link_facts, links_by, links_of_site, linked_fact, linked_facts, refused_by}
+use Rattle.vx_events.specs.GroupLines.{is_over_group}
+use Rattle.vx_events.specs.LinkedFacts.{link_facts, links_by, links_of_site, linked_fact}
+use Rattle.vx_events.specs.StepsOver.{facts_over, refused_over}
 use Rattle.vx_events.specs.Lines.{write_in}
-use Rattle.vx_events.proofs.LinkTesting.{Seat, seat_at}
+use Rattle.vx_events.proofs.LinkTesting.{seat_at}
+use Rattle.vx_events.proofs.OverSeats.{fact_apart}
 use Rattle.vx_events.proofs.Refused.{passes}
 use Rattle.vx_events.proofs.RefusedCalls.{Calling, calling, sized}
 use Rattle.vx_events.proofs.Testing.{found_data, blocks_filled}
@@ -79,8 +82,8 @@ record_is volume span way kind few =
     ∙ ap (λ (b : Bool). if b then Some (span.count + 1) else None) short
 
 -- a site that is up, and the run of blocks of a write that none of its tests refuses
-module _ (w : World) (name : List ℕ) (span : Span) (way : span.way ≡ Writes) (seat : Seat w name) (c : Calling (linked_fact w (site_number w name)) span) (few : span.count ≤ 16)
-    (down : span_down (linked_facts w) (site_named (linked_facts w) name) (Some span) ≡ None) (full : span_full (linked_facts w) (site_named (linked_facts w) name) (Some span) ≡ None) where
+module _ (w : World) (name : List ℕ) (span : Span) (way : span.way ≡ Writes) (found : site_named (facts_over w) name ≡ Some (linked_fact w (site_number w name))) (c : Calling (linked_fact w (site_number w name)) span) (few : span.count ≤ 16)
+    (down : span_down (facts_over w) (site_named (facts_over w) name) (Some span) ≡ None) (full : span_full (facts_over w) (site_named (facts_over w) name) (Some span) ≡ None) where
   abbrev a : ℕ
   a = site_number w name
 
@@ -97,17 +100,17 @@ module _ (w : World) (name : List ℕ) (span : Span) (way : span.way ≡ Writes)
 
   none_down : first_down (plain_links (w.links a) ss) ≡ None
   none_down =
-      down_none (linked_facts w) n (w.links a) ss
-      (sym (ap (λ (t : SiteState). if is_up t then down_link (linked_facts w) (links_by t (links_of_site w a)) else None) c.up)
-      ∙ ap (λ (o : Option ℕ). held_down (linked_facts w) (Some (linked_fact w a)) o) (sym record_there)
-      ∙ ap (λ (o : Option SiteFacts). span_down (linked_facts w) o (Some span)) (sym seat.found) ∙ down)
+      down_none (facts_over w) n (w.links a) ss
+      (sym (ap (λ (t : SiteState). if is_up t then down_link (facts_over w) (links_by t (links_of_site w a)) else None) c.up)
+      ∙ ap (λ (o : Option ℕ). held_down (facts_over w) (Some (linked_fact w a)) o) (sym record_there)
+      ∙ ap (λ (o : Option SiteFacts). span_down (facts_over w) o (Some span)) (sym found) ∙ down)
 
   none_full : first_full (span.count + 1) n.ring (zip (plain_links (w.links a) ss) (log_uses n (w.links a) ss)) ≡ None
   none_full =
-      full_none (linked_facts w) n (w.links a) (span.count + 1) n.ring ss
-      (sym (ap (λ (t : SiteState). if is_up t then full_in (linked_facts w) (span.count + 1) (group_by t n) (links_by t (links_of_site w a)) else None) c.up)
-      ∙ ap (λ (o : Option ℕ). held_full (linked_facts w) (Some (linked_fact w a)) o) (sym record_there)
-      ∙ ap (λ (o : Option SiteFacts). span_full (linked_facts w) o (Some span)) (sym seat.found) ∙ full)
+      full_none (facts_over w) n (w.links a) (span.count + 1) n.ring ss
+      (sym (ap (λ (t : SiteState). if is_up t then full_in (facts_over w) (span.count + 1) (group_by t n) (links_by t (links_of_site w a)) else None) c.up)
+      ∙ ap (λ (o : Option ℕ). held_full (facts_over w) (Some (linked_fact w a)) o) (sym record_there)
+      ∙ ap (λ (o : Option SiteFacts). span_full (facts_over w) o (Some span)) (sym found) ∙ full)
 
   pub let_in : (bytes : List ℕ) → blocks_in bytes ≡ span.count → (cs : List Change) × (admitted w a (write_in w name span.volume span.start bytes) ≡ Goes cs)
   let_in bytes many =
@@ -118,24 +121,26 @@ module _ (w : World) (name : List ℕ) (span : Span) (way : span.way ≡ Writes)
             ∙ ap (λ (o : Option Held). unless_held o (Goes all)) none_full,
       )
 
-pub write_let_in : (w : World) (files : Bool) (name volume : List ℕ) (start count fill : ℕ) → refused_by w files (Write name volume start count fill) ≡ None
+pub write_let_in : (w : World) (files : Bool) (name volume : List ℕ) (start count fill : ℕ) → is_over_group (w.nodes (site_number w name)) ≡ false → refused_over w files (Write name volume start count fill) ≡ None
     → (cs : List Change) × (admitted w (site_number w name) (write_in w name volume start (replicate (512 * count) fill)) ≡ Goes cs)
 unfolding first_name span_of halt_of
-write_let_in w files name volume start count fill free =
-    let p = passes (linked_facts w) files (Write name volume start count fill) free in
+write_let_in w files name volume start count fill apart free =
+    let p = passes (facts_over w) files (Write name volume start count fill) free in
     let span : Span = record { volume = volume; start = start; count = count; way = Writes } in
-    let seat = seat_at w name p.known in
-    let c = calling (linked_fact w (site_number w name)) span (subst (λ (o : Option SiteFacts). span_unknown o (Some span) ≡ None) seat.found p.volume) in
-    let_in w name span refl seat c (sized (rvg_of (Some (linked_fact w (site_number w name)))) (volume_of (Some (linked_fact w (site_number w name))) span.volume) span (subst (λ (o : Option SiteFacts). span_size o (Some span) ≡ None) seat.found p.call_size)).few p.call_up p.call_room
+    let found : site_named (facts_over w) name ≡ Some (linked_fact w (site_number w name)) =
+    (seat_at w name p.known).found ∙ ap (λ (f : SiteFacts). Some f) (fact_apart w (site_number w name) apart) in
+    let c = calling (linked_fact w (site_number w name)) span (subst (λ (o : Option SiteFacts). span_unknown o (Some span) ≡ None) found p.volume) in
+    let_in w name span refl found c (sized (rvg_of (Some (linked_fact w (site_number w name)))) (volume_of (Some (linked_fact w (site_number w name))) span.volume) span (subst (λ (o : Option SiteFacts). span_size o (Some span) ≡ None) found p.call_size)).few p.call_up p.call_room
     (replicate (512 * count) fill) (blocks_filled count fill)
 
-pub put_let_in : (w : World) (files : Bool) (name volume : List ℕ) (start : ℕ) (bytes : List ℕ) → refused_by w files (Put name volume start bytes) ≡ None → length bytes ≡ 512
+pub put_let_in : (w : World) (files : Bool) (name volume : List ℕ) (start : ℕ) (bytes : List ℕ) → is_over_group (w.nodes (site_number w name)) ≡ false → refused_over w files (Put name volume start bytes) ≡ None → length bytes ≡ 512
     → (cs : List Change) × (admitted w (site_number w name) (write_in w name volume start bytes) ≡ Goes cs)
 unfolding first_name span_of halt_of
-put_let_in w files name volume start bytes free one =
-    let p = passes (linked_facts w) files (Put name volume start bytes) free in
+put_let_in w files name volume start bytes apart free one =
+    let p = passes (facts_over w) files (Put name volume start bytes) free in
     let span : Span = record { volume = volume; start = start; count = 1; way = Writes } in
-    let seat = seat_at w name p.known in
-    let c = calling (linked_fact w (site_number w name)) span (subst (λ (o : Option SiteFacts). span_unknown o (Some span) ≡ None) seat.found p.volume) in
-    let_in w name span refl seat c (sized (rvg_of (Some (linked_fact w (site_number w name)))) (volume_of (Some (linked_fact w (site_number w name))) span.volume) span (subst (λ (o : Option SiteFacts). span_size o (Some span) ≡ None) seat.found p.call_size)).few p.call_up p.call_room
+    let found : site_named (facts_over w) name ≡ Some (linked_fact w (site_number w name)) =
+    (seat_at w name p.known).found ∙ ap (λ (f : SiteFacts). Some f) (fact_apart w (site_number w name) apart) in
+    let c = calling (linked_fact w (site_number w name)) span (subst (λ (o : Option SiteFacts). span_unknown o (Some span) ≡ None) found p.volume) in
+    let_in w name span refl found c (sized (rvg_of (Some (linked_fact w (site_number w name)))) (volume_of (Some (linked_fact w (site_number w name))) span.volume) span (subst (λ (o : Option SiteFacts). span_size o (Some span) ≡ None) found p.call_size)).few p.call_up p.call_room
     bytes (omega (arith, one))

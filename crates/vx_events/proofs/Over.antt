@@ -12,6 +12,7 @@ use Rattle.vx_script.specs.declared.line.ScriptLine.{ScriptLine}
 use Rattle.vx_script.specs.declared.line.ScriptLine.TheVariants.{GroupInit, GroupDeport, GroupImport, Volume, PlexDetach, PlexAttach, Disk, Crash, Fuse, Recover, Write, Put, Read, Show, Status, Deliver}
 use Rattle.vx_events.proofs.GroupStopping.{group_stops}
 use Rattle.vx_events.proofs.Noting.{same_like}
+use Rattle.vx_events.proofs.OverSeats.{fact_apart}
 use Rattle.vx_events.specs.Facts.{site_number, values_from}
 use Rattle.vx_events.specs.Fails.{Fails}
 use Rattle.vx_events.specs.GroupEnds.{GroupStops}
@@ -28,14 +29,6 @@ values_same : {A : Type 0} (f g : ℕ → A) → ((i : ℕ) → f i ≡ g i) →
 values_same f g same k zero = refl
 values_same {A} f g same k (suc n) =
     ap (λ (x : A). x ∷ values_from f (k + 1) n) (same k) ∙ ap (λ (xs : List A). g k ∷ xs) (values_same f g same (k + 1) n)
-
--- a site that is over no group is seen as it is beside no group
-pub fact_apart : (w : World) (i : ℕ) → is_over_group (w.nodes i) ≡ false → fact_over w i ≡ linked_fact w i
-fact_apart w i none = ap (λ (b : Bool). if b then fact_of_group (w.nodes i) (note_at (w.nodes i)) else linked_fact w i) none
-
--- and one over a group by what is noted of it
-pub fact_grouped : (w : World) (i : ℕ) → is_over_group (w.nodes i) ≡ true → fact_over w i ≡ fact_of_group (w.nodes i) (note_at (w.nodes i))
-fact_grouped w i over = ap (λ (b : Bool). if b then fact_of_group (w.nodes i) (note_at (w.nodes i)) else linked_fact w i) over
 
 module _ (w : World) (groups : HasNoGroups w) where
   -- no site is over a group

@@ -1,11 +1,11 @@
 -- A line that is done in part.
-use Rattle.std.proofs.Common.{◌≡◌, ℕ, zero, suc, Bool, true, false, List, [], ◌∷◌, ◌++◌, ap, refl, sym, subst}
-use Rattle.std.specs.Prelude.{take, drop}
+use Rattle.std.proofs.Common.{◌≡◌, ◌∙◌, ◌⊎◌, inl, inr, ℕ, zero, suc, Bool, true, false, List, [], ◌∷◌, ◌++◌, ap, refl, sym, subst}
+use Rattle.std.specs.Prelude.{◌||◌, take, drop}
 use Rattle.vx_history.specs.Doubts.{Doubted}
 use Rattle.vx_history.specs.declared.event.Event.{Event}
 use Rattle.vx_script.specs.declared.line.ScriptLine.{ScriptLine}
 use Rattle.vx_events.specs.Lists.{Choice}
-use Rattle.vx_events.specs.Parts.{DonePart, MayStop, PartLeft, StopsShort, StopsInPart, StopsBetween, all_events, first_part, goes_in_parts, part_left}
+use Rattle.vx_events.specs.Parts.{DonePart, FellFirst, MayStop, PartLeft, ReadFirst, StopsShort, StopsInPart, StopsDown, StopsRead, StopsBetween, all_events, crashes_first, first_part, goes_in_parts, may_stop, part_left, reads_first}
 
 -- any line may stop before its first event
 stops_first : (parts : Bool) → MayStop parts []
@@ -44,16 +44,30 @@ part_stops d line c k parts =
       leads = is_left line d (take k es);
     }
 
--- so it is over disks that tell no contents
-pub whole_short : (told : Type 0) (d : Doubted) (line : ScriptLine) (new : Doubted) → goes_in_parts line ≡ false → StopsShort told d line new → new ≡ d
-whole_short told d line new whole (StopsInPart part) = whole_stays d line new whole part
-whole_short told d line new whole (StopsBetween untold p s middle is moves left) =
-    absurd (settles (subst (λ (l : ScriptLine). goes_in_parts l ≡ false) is whole))
-  where
-    settles : true ≡ false → ⊥
-    settles e = absurd (cc)
+-- neither of two tests holds
+neither : (a b : Bool) → (a || b) ≡ false → (a ≡ false) × (b ≡ false)
+neither true b e = absurd (cc)
+neither false b e = (refl, e)
 
--- over disks that tell their contents it is a first part of the events
-pub told_part : (told : Type 0) (d : Doubted) (line : ScriptLine) (new : Doubted) → told → StopsShort told d line new → DonePart d line new
-told_part told d line new tells (StopsInPart part) = part
+never_both : true ≡ false → ⊥
+never_both e = absurd (cc)
+
+-- so it is over disks that tell no contents
+pub whole_short : (told : Type 0) (d : Doubted) (line : ScriptLine) (new : Doubted) → may_stop d.world line ≡ false → StopsShort told d line new → new ≡ d
+whole_short told d line new whole short =
+    let first = neither (goes_in_parts line) (crashes_first d.world line || reads_first d.world line) whole in
+    let later = neither (crashes_first d.world line) (reads_first d.world line) first.1 in
+    by first.0 later.0 later.1 short
+  where
+    by : goes_in_parts line ≡ false → crashes_first d.world line ≡ false → reads_first d.world line ≡ false → StopsShort told d line new → new ≡ d
+    by parts crashes reads (StopsInPart part) = whole_stays d line new parts part
+    by parts crashes reads (StopsDown fell) = absurd (never_both (sym fell.crashes ∙ crashes))
+    by parts crashes reads (StopsRead read) = absurd (never_both (sym read.reads ∙ reads))
+    by parts crashes reads (StopsBetween untold p s middle is moves left) = absurd (never_both (subst (λ (l : ScriptLine). goes_in_parts l ≡ false) is parts))
+
+-- over disks that tell their contents it is a first part of the events, the crash before a recovery, or the reads of an import
+pub told_part : (told : Type 0) (d : Doubted) (line : ScriptLine) (new : Doubted) → told → StopsShort told d line new → DonePart d line new ⊎ FellFirst d line new ⊎ ReadFirst d line new
+told_part told d line new tells (StopsInPart part) = inl part
+told_part told d line new tells (StopsDown fell) = inr (inl fell)
+told_part told d line new tells (StopsRead read) = inr (inr read)
 told_part told d line new tells (StopsBetween untold p s middle is moves left) = absurd (untold tells)

@@ -18,6 +18,7 @@ use Rattle.vx_script.specs.declared.line.ScriptLine.TheVariants.{Site, Raw, Disk
 use Rattle.vx_events.proofs.LinkStopping.{link_stops}
 use Rattle.vx_events.proofs.LinkTesting.{seat_at}
 use Rattle.vx_events.proofs.Noting.{left_like, like_then, same_like}
+use Rattle.vx_events.proofs.OverSeats.{fact_apart}
 use Rattle.vx_events.proofs.Places.{some_same}
 use Rattle.vx_events.proofs.Refused.{Named}
 use Rattle.vx_events.proofs.RefusedCalls.{WriteMay, write_may, put_may}
@@ -26,10 +27,12 @@ use Rattle.vx_events.specs.Doubts.{run_as}
 use Rattle.vx_events.specs.Ends.{Ends, AllDone, DiskFails, HeaderFails, FuseRunsOut, NoNumber, ShowsReceived, FindsLinks, FindsNone, place_of, LeavesOf, BegunOf, WritesAHeader}
 use Rattle.vx_events.specs.Facts.{site_number, group_fact, group_by}
 use Rattle.vx_events.specs.Fails.{AreBorne, Fails}
-use Rattle.vx_events.specs.Lines.{LineStep, StepBy, EndsBy, IsRefusedLine, is_of_links}
+use Rattle.vx_events.specs.Lines.{EndsBy, IsRefusedLine, is_of_links}
 use Rattle.vx_events.specs.LinkEnds.{FirstCame}
 use Rattle.vx_events.specs.LinkLists.{link_events}
-use Rattle.vx_events.specs.LinkedFacts.{linked_fact, linked_facts, refused_by}
+use Rattle.vx_events.specs.GroupLines.{is_over_group}
+use Rattle.vx_events.specs.LinkedFacts.{linked_fact}
+use Rattle.vx_events.specs.StepsOver.{OverBy, StepOver, facts_over, is_for_group, refused_over}
 use Rattle.vx_events.specs.Lists.{Choice, events_of, recovery_of}
 use Rattle.vx_events.specs.Stopping.{CameOf, Whole, Broken, First, Crashed, StopsAs, StopsBy}
 use Rattle.vx_events.specs.declared.said.Said.{Said}
@@ -154,35 +157,35 @@ recovery_no_write Deported s kept h = h
 recovery_no_write Down s kept h = h
 
 -- a site that the tests found up and running
-seen_open : (w : World) (name : List ℕ) (n : Named (linked_facts w) name) → n.facts.state ≡ Up → ((rvg : RvgFacts) → n.facts.rvg ≡ Some rvg → rvg.halted ≡ None)
+seen_open : (w : World) (name : List ℕ) (n : Named (facts_over w) name) → is_over_group (w.nodes (site_number w name)) ≡ false → n.facts.state ≡ Up → ((rvg : RvgFacts) → n.facts.rvg ≡ Some rvg → rvg.halted ≡ None)
     → IsOpen (w.nodes (site_number w name)) × (site_number w name < w.sites)
-seen_open w name n up running =
+seen_open w name n apart up running =
     let s : ℕ = site_number w name in
     let seat = seat_at w name (subst (λ (o : Option SiteFacts). unknown_one (Some name) o ≡ None) (sym n.found) refl) in
-    let same : n.facts ≡ linked_fact w s = some_same (sym n.found ∙ seat.found) in
+    let same : n.facts ≡ linked_fact w s = some_same (sym n.found ∙ seat.found) ∙ fact_apart w s apart in
     let here : (w.nodes s).state ≡ Up = sym (ap (λ (f : SiteFacts). f.state) same) ∙ up in (
       (here, running (group_fact (w.nodes s)) (ap (λ (f : SiteFacts). f.rvg) same ∙ ap (λ (t : SiteState). group_by t (w.nodes s)) here)),
       seat.below,
     )
 
-writes_open : (w : World) (name volume : List ℕ) (start count : ℕ) → WriteMay (linked_facts w) name volume start count → IsOpen (w.nodes (site_number w name)) × (site_number w name < w.sites)
-writes_open w name volume start count may = seen_open w name may.call.site may.call.up may.call.running
+writes_open : (w : World) (name volume : List ℕ) (start count : ℕ) → is_over_group (w.nodes (site_number w name)) ≡ false → WriteMay (facts_over w) name volume start count → IsOpen (w.nodes (site_number w name)) × (site_number w name < w.sites)
+writes_open w name volume start count apart may = seen_open w name may.call.site apart may.call.up may.call.running
 
-open_of : (w : World) (files : Bool) (line : ScriptLine) (c : Choice) → refused_by w files line ≡ None → BeginsWrite (events_of w line c)
+open_of : (w : World) (files : Bool) (line : ScriptLine) (c : Choice) → is_for_group w line ≡ false → refused_over w files line ≡ None → BeginsWrite (events_of w line c)
     → IsOpen (w.nodes (place_of w line)) × (place_of w line < w.sites)
-open_of w files (Site name disks blocks) c free h = absurd h
-open_of w files (Raw site) c free h = absurd h
-open_of w files (DiskLine site disk state) c free h = absurd h
-open_of w files (Crash site pick) c free h = absurd h
-open_of w files (FuseLine site calls pick) c free h = absurd h
-open_of w files (Recover site) c free h = absurd (recovery_no_write (w.nodes (site_number w site)).state (site_number w site) c.kept h)
-open_of w files (Write site volume start count fill) c free h = writes_open w site volume start count (write_may (linked_facts w) files site volume start count fill free)
-open_of w files (Put site volume start bytes) c free h = writes_open w site volume start 1 (put_may (linked_facts w) files site volume start bytes free)
-open_of w files (Read site volume start count) c free h = absurd h
-open_of w files (Show site volume start count) c free h = absurd h
-open_of w files (Apply site to) c free h = absurd h
-open_of w files (Status site) c free h = absurd h
-open_of w files other c free h = absurd h
+open_of w files (Site name disks blocks) c apart free h = absurd h
+open_of w files (Raw site) c apart free h = absurd h
+open_of w files (DiskLine site disk state) c apart free h = absurd h
+open_of w files (Crash site pick) c apart free h = absurd h
+open_of w files (FuseLine site calls pick) c apart free h = absurd h
+open_of w files (Recover site) c apart free h = absurd (recovery_no_write (w.nodes (site_number w site)).state (site_number w site) c.kept h)
+open_of w files (Write site volume start count fill) c apart free h = writes_open w site volume start count apart (write_may (facts_over w) files site volume start count fill free)
+open_of w files (Put site volume start bytes) c apart free h = writes_open w site volume start 1 apart (put_may (facts_over w) files site volume start bytes free)
+open_of w files (Read site volume start count) c apart free h = absurd h
+open_of w files (Show site volume start count) c apart free h = absurd h
+open_of w files (Apply site to) c apart free h = absurd h
+open_of w files (Status site) c apart free h = absurd h
+open_of w files other c apart free h = absurd h
 
 module _ (d : Doubted) (all : List Event) (s kept : ℕ) (fails : Fails) (new : Doubted) where
   -- a fuse that ran out in a write
@@ -249,8 +252,8 @@ module _ (d : Doubted) (all : List Event) (s kept : ℕ) (fails : Fails) (new : 
       absurd (subst (λ (x : Event). WritesAHeader d.world x s) (first_same f (RecoverAt p (Some disk)) leaves) writes)
   header_ended other f disk is may_write leaves writes one like = absurd leaves
 
--- a line that no test refuses
-module _ (told : Type 0) (is_told : told) (d : Doubted) (files : Bool) (line : ScriptLine) (free : refused_by d.world files line ≡ None) where
+-- a line that works on no group, and that no test refuses
+module _ (told : Type 0) (is_told : told) (d : Doubted) (files : Bool) (line : ScriptLine) (apart : is_for_group d.world line ≡ false) (free : refused_over d.world files line ≡ None) where
   abbrev s : ℕ
   s = place_of d.world line
 
@@ -265,7 +268,7 @@ module _ (told : Type 0) (is_told : told) (d : Doubted) (files : Bool) (line : S
   at_of c before e rest split = split_at s before e rest (subst (λ (es : List Event). AllAt s es) split (all_at d.world line c))
 
   opens_if : (c : Choice) (e : Event) → events_of d.world line c ≡ e ∷ [] → BeginsWrite (e ∷ []) → IsOpen (d.world.nodes s) × (s < d.world.sites)
-  opens_if c e is begins = open_of d.world files line c free (subst (λ (es : List Event). BeginsWrite es) (sym is) begins)
+  opens_if c e is begins = open_of d.world files line c apart free (subst (λ (es : List Event). BeginsWrite es) (sym is) begins)
 
   pub ended : (fails : Fails) (said : Said) (new : Doubted) → Ends told d line s fails said new → StopsAs d line s fails new
   ended fails said new (AllDone c taken borne says leads) =
@@ -324,12 +327,15 @@ refused false d line why fails said new is =
       stops = all_stop false d [] fails new is.none (same_like d new is.stays);
     }
 
-by_refusal : (told : Type 0) → told → (d : Doubted) (files : Bool) (line : ScriptLine) (fails : Fails) (said : Said) (new : Doubted) (o : Option No) → refused_by d.world files line ≡ o
-    → StepBy o told d line fails said new → StopsBy (is_of_links line) d line fails new
-by_refusal told is_told d files line fails said new (Some why) is step = refused (is_of_links line) d line why fails said new step
-by_refusal told is_told d files line fails said new None is step = ended_by_kind told is_told d files line is (is_of_links line) fails said new step.ends
+by_refusal : (told : Type 0) → told → (d : Doubted) (files : Bool) (line : ScriptLine) (fails : Fails) (said : Said) (new : Doubted) (o : Option No) → is_for_group d.world line ≡ false
+    → refused_over d.world files line ≡ o → OverBy o false told d line fails said new → StopsBy (is_of_links line) d line fails new
+by_refusal told is_told d files line fails said new (Some why) apart is step = refused (is_of_links line) d line why fails said new step
+by_refusal told is_told d files line fails said new None apart is (inl step) = ended_by_kind told is_told d files line apart is (is_of_links line) fails said new step.ends
+by_refusal told is_told d files line fails said new None apart is (inr kept) = absurd (kept.untold is_told)
 
--- however a line ends over disks that tell their contents
-pub line_stops : (told : Type 0) → told → (d : Doubted) (files : Bool) (line : ScriptLine) (fails : Fails) (said : Said) (new : Doubted) → LineStep told files d line fails said new
-    → StopsBy (is_of_links line) d line fails new
-line_stops told is_told d files line fails said new step = by_refusal told is_told d files line fails said new (refused_by d.world files line) refl step
+-- however a line that works on no group ends over disks that tell their contents
+pub line_stops : (told : Type 0) → told → (d : Doubted) (files : Bool) (line : ScriptLine) (fails : Fails) (said : Said) (new : Doubted) → is_for_group d.world line ≡ false
+    → StepOver told files d line fails said new → StopsBy (is_of_links line) d line fails new
+line_stops told is_told d files line fails said new apart step =
+    by_refusal told is_told d files line fails said new (refused_over d.world files line) apart refl
+    (subst (λ (b : Bool). OverBy (refused_over d.world files line) b told d line fails said new) apart step)

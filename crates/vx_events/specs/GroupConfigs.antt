@@ -1,5 +1,6 @@
 -- What the calls of a line make of the configuration of a group.
-use Rattle.std.specs.Prelude.{◌≡◌, ◌≢◌, ◌⊎◌, ℕ, Bool, true, false, List, [], length, map, Option, Some, None, is_some, slice_get, Contains}
+use Rattle.std.specs.Prelude.{◌≡◌, ◌≢◌, ◌⊎◌, ◌==◌, ℕ, Bool, true, false, List, [], map, Option, Some, None, is_some, slice_get, Contains}
+use Rattle.std.specs.List.{list_any}
 use Rattle.vx_model.specs.declared.site.PlexState.{PlexState}
 use Rattle.vx_model.specs.declared.site.PlexState.TheVariants.{Active, Clean, Stale}
 use Rattle.vx_config.specs.Changes.{stated, with_volumes}
@@ -8,6 +9,7 @@ use Rattle.vx_config.specs.declared.entry.DiskEntry.{DiskEntry}
 use Rattle.vx_config.specs.declared.entry.PlexEntry.{PlexEntry}
 use Rattle.vx_config.specs.declared.entry.VolumeEntry.{VolumeEntry}
 use Rattle.vx_layout.specs.Made.{IsVolumeMade, with_volume}
+use Rattle.vx_layout.specs.Places.{plex_at}
 use Rattle.vx_layout.specs.Space.{IsFound}
 use Rattle.vx_layout.specs.declared.shape.Found.{Found}
 use Rattle.vx_layout.specs.declared.shape.Shape.{Shape}
@@ -20,10 +22,10 @@ Matched R None (Some y) = ⊥
 Matched R (Some x) None = ⊥
 Matched R (Some x) (Some y) = R x y
 
--- a plex is as it was, or STALE where a call failed
+-- A plex is as it was. Where a call failed it may be STALE; and ACTIVE, where it was held back and is the last one of its volume that can be used.
 pub record PlexLoses (fails : Fails) (p q : PlexEntry) : Type 0 where
   pub subdisks : q.subdisks ≡ p.subdisks
-  pub state : (q.state ≡ p.state) ⊎ ((q.state ≡ Stale) × (fails ≢ []))
+  pub state : (q.state ≡ p.state) ⊎ ((q.state ≡ Stale) × (fails ≢ [])) ⊎ ((q.state ≡ Active) × (fails ≢ []))
 
 -- a volume is as it was but for its plexes
 pub record VolumeLoses (fails : Fails) (v u : VolumeEntry) : Type 0 where
@@ -36,19 +38,48 @@ pub record VolumeLoses (fails : Fails) (v u : VolumeEntry) : Type 0 where
   pub fmr : is_some u.fmr ≡ is_some v.fmr
   pub plexes : (k : ℕ) → Matched (PlexLoses fails) (slice_get v.plexes k) (slice_get u.plexes k)
 
--- disk k of site s is held as failed as it was, or where a call on it failed
-pub record DiskLoses (s k : ℕ) (fails : Fails) (a b : DiskEntry) : Type 0 where
+-- disk k of site s is held as failed as it was, or where a call on it failed; it may be held as good again where this says so
+pub record DiskLosesBut (again : Bool) (s k : ℕ) (fails : Fails) (a b : DiskEntry) : Type 0 where
   pub blocks : b.blocks ≡ a.blocks
   pub failed : b.failed ≡ true → (a.failed ≡ true) ⊎ Contains fails (s, k)
-  pub stays : a.failed ≡ true → b.failed ≡ true
+  pub stays : again ≡ false → a.failed ≡ true → b.failed ≡ true
 
--- The configuration d is c, but that disks on which calls of a line at site s failed may be held as failed, and plexes be detached. Serials do not
--- count.
-pub record ConfigLoses (s : ℕ) (fails : Fails) (c d : Config) : Type 0 where
+-- The configuration d is c, but that disks on which calls of a line at site s failed may be held as failed, and plexes be detached; and some disks, as
+-- told here, be held as good again. Serials do not count.
+pub record ConfigLosesBut (again : ℕ → Bool) (s : ℕ) (fails : Fails) (c d : Config) : Type 0 where
   pub site : d.site ≡ c.site
   pub rvg : d.rvg ≡ c.rvg
-  pub disks : (k : ℕ) → Matched (DiskLoses s k fails) (slice_get c.disks k) (slice_get d.disks k)
+  pub disks : (k : ℕ) → Matched (DiskLosesBut (again k) s k fails) (slice_get c.disks k) (slice_get d.disks k)
   pub volumes : (v : ℕ) → Matched (VolumeLoses fails) (slice_get c.volumes v) (slice_get d.volumes v)
+
+-- the same where no disk is held as good again
+abbrev pub ConfigLoses : ℕ → Fails → Config → Config → Type 0
+ConfigLoses s fails c d = ConfigLosesBut (λ k. false) s fails c d
+
+-- a part of a plex lies on the disk
+abbrev pub has_part : Option PlexEntry → ℕ → Bool
+has_part None k = false
+has_part (Some plex) k = list_any (λ s. s.disk == k) plex.subdisks
+
+abbrev pub lies_on_disk : Config → (v p : ℕ) → ℕ → Bool
+lies_on_disk c v p k = has_part (plex_at c v p) k
+
+-- ---- what was found again
+
+-- a plex lies where it lay
+pub record PlexStays (p q : PlexEntry) : Type 0 where
+  pub subdisks : q.subdisks ≡ p.subdisks
+
+-- a volume is as it was but for the states of its plexes
+pub record VolumeStays (v u : VolumeEntry) : Type 0 where
+  pub name : u.name ≡ v.name
+  pub blocks : u.blocks ≡ v.blocks
+  pub ncol : u.ncol ≡ v.ncol
+  pub width : u.width ≡ v.width
+  pub prefer : u.prefer ≡ v.prefer
+  pub drl : is_some u.drl ≡ is_some v.drl
+  pub fmr : is_some u.fmr ≡ is_some v.fmr
+  pub plexes : (k : ℕ) → Matched PlexStays (slice_get v.plexes k) (slice_get u.plexes k)
 
 -- ---- changes
 
@@ -68,13 +99,6 @@ volume_again v = record v { plexes = map plex_again v.plexes }
 abbrev pub opened_again : Config → Config
 opened_again c = with_volumes (map volume_again c.volumes) c
 
-abbrev pub disk_good : DiskEntry → DiskEntry
-disk_good d = record d { failed = false }
-
--- and each disk is held as good
-abbrev pub taken_again : Config → Config
-taken_again c = record (opened_again c) { disks = map disk_good c.disks }
-
 -- a new volume with this name, in the space that the rule gives to it
 pub record AddsVolume (name : List ℕ) (want : Shape) (c d : Config) : Type 0 where
   pub found : Found
@@ -88,11 +112,3 @@ pub record AddsVolume (name : List ℕ) (want : Shape) (c d : Config) : Type 0 w
 pub record PutsPlex (v p : ℕ) (state : PlexState) (c d : Config) : Type 0 where
   pub whole : Bool
   pub is : d ≡ stated v p state whole c
-
--- the first configuration of a group on all disks of a site, so many of so many blocks
-pub record IsFirstConfig (s disks blocks : ℕ) (c : Config) : Type 0 where
-  pub site : c.site ≡ s
-  pub many : length c.disks ≡ disks
-  pub each : (k : ℕ) (d : DiskEntry) → slice_get c.disks k ≡ Some d → (d.blocks ≡ blocks) × (d.failed ≡ false)
-  pub volumes : c.volumes ≡ []
-  pub rvg : c.rvg ≡ None

@@ -23,7 +23,7 @@ use Rattle.vx_script.specs.declared.line.ScriptLine.TheVariants.{GroupInit, Grou
 use Rattle.vx_events.specs.Doubts.{IsAs, run_as}
 use Rattle.vx_events.specs.Ends.{IsNoDevice}
 use Rattle.vx_events.specs.Fails.{Fails}
-use Rattle.vx_events.specs.GroupConfigs.{ConfigLoses, PutsPlex, opened_again}
+use Rattle.vx_events.specs.GroupConfigs.{ConfigLoses, ConfigLosesBut, PutsPlex, lies_on_disk, opened_again}
 use Rattle.vx_events.specs.GroupLines.{cut_events, fuse_lost, group_events, group_noted, noting, plain_number, refused_events, shape_of, unread_events}
 use Rattle.vx_events.specs.GroupNotes.{FirstNote, NotesBack, NotesCut, NotesDoubt, NotesUnread, NotesVolume, NotesWrite, Reconfigures, note_at}
 use Rattle.vx_events.specs.GroupReplies.{AttachCopies, GivesPlain, IsLastPlex, SaysBack}
@@ -41,23 +41,24 @@ write_to note volume start bytes = record { volume = plain_number note volume; s
 
 -- What a line that is done makes of the note of site s, and what it is answered. The disks of the site have so many blocks.
 abbrev pub GroupDoes : (told : Type 0) (s : ℕ) → Node → GroupNode → ScriptLine → Fails → Said → GroupNode → Type 0
-GroupDoes told s n note (GroupInit site) fails said next = FirstNote s n.disks n.blocks fails next × (said ≡ Done)
+GroupDoes told s n note (GroupInit site) fails said next = FirstNote s n.disks n.blocks next × (said ≡ Done)
 GroupDoes told s n note (GroupDeport site) fails said next =
     Reconfigures (λ c d. ConfigLoses s fails (opened_again c) (opened_again d)) NoteSettles note next × (said ≡ Done)
-GroupDoes told s n note (GroupImport site) fails said next = NotesBack told s fails note next × (said ≡ Done)
+GroupDoes told s n note (GroupImport site) fails said next = NotesBack told s n fails note next × (said ≡ Done)
 GroupDoes told s n note (Volume site volume blocks mirrors layout log map policy) fails said next =
     NotesVolume s fails volume (shape_of blocks mirrors layout log map policy) note next × (said ≡ Done)
 GroupDoes told s n note (PlexDetach site volume plex) fails said next =
     Reconfigures (λ c d. (x : Config) × PutsPlex (plain_number note volume) plex Stale c x × ConfigLoses s fails x d) NoteSettles note next × (said ≡ Done)
 GroupDoes told s n note (PlexAttach site volume plex) fails said next =
-    Reconfigures (λ c d. (x : Config) × PutsPlex (plain_number note volume) plex Active c x × ConfigLoses s fails x d) NoteSettles note next
+    Reconfigures (λ c d. (x : Config) × PutsPlex (plain_number note volume) plex Active c x × ConfigLosesBut (lies_on_disk c (plain_number note volume) plex) s fails x d)
+    NoteSettles note next
     × AttachCopies note (plain_number note volume) plex said
 GroupDoes told s n note (WriteLine site volume start count fill) fails said next =
     NotesWrite s fails (write_to note volume start (replicate (512 * count) fill)) note next × (said ≡ Done)
 GroupDoes told s n note (Put site volume start bytes) fails said next = NotesWrite s fails (write_to note volume start bytes) note next × (said ≡ Done)
 GroupDoes told s n note (Read site volume start count) fails said next = (next ≡ note) × GivesPlain told note (plain_number note volume) start count said
 GroupDoes told s n note (Show site volume start count) fails said next = (next ≡ note) × GivesPlain told note (plain_number note volume) start count said
-GroupDoes told s n note (Recover site) fails said next = NotesBack told s fails note next × SaysBack told (record n { state = Up }) note next said
+GroupDoes told s n note (Recover site) fails said next = NotesBack told s n fails note next × SaysBack told (record n { state = Up }) note next said
 GroupDoes told s n note (Disk site disk state) fails said next = (next ≡ note) × (fails ≡ []) × (said ≡ Done)
 GroupDoes told s n note (Crash site pick) fails said next = (next ≡ note) × (fails ≡ []) × (said ≡ Done)
 GroupDoes told s n note (Fuse site calls pick) fails said next = (next ≡ note) × (fails ≡ []) × (said ≡ Done)
@@ -99,8 +100,13 @@ GroupSpoils s note (GroupInit site) fails next = NotesBegun note next
 GroupSpoils s note (GroupDeport site) fails next = Reconfigures (ConfigLoses s fails) NoteUnsettles note next
 GroupSpoils s note (GroupImport site) fails next = NotesBegun note next
 GroupSpoils s note (Volume site volume blocks mirrors layout log map policy) fails next = Reconfigures (ConfigLoses s fails) NoteUnsettles note next
-GroupSpoils s note (PlexDetach site volume plex) fails next = Reconfigures (ConfigLoses s fails) NoteUnsettles note next
-GroupSpoils s note (PlexAttach site volume plex) fails next = Reconfigures (ConfigLoses s fails) NoteUnsettles note next
+GroupSpoils s note (PlexDetach site volume plex) fails next =
+    Reconfigures (λ c d. ConfigLoses s fails c d ⊎ ((x : Config) × PutsPlex (plain_number note volume) plex Stale c x × ConfigLoses s fails x d)) NoteUnsettles note next
+GroupSpoils s note (PlexAttach site volume plex) fails next =
+    Reconfigures
+    (λ c d. ConfigLosesBut (lies_on_disk c (plain_number note volume) plex) s fails c d
+    ⊎ ((x : Config) × PutsPlex (plain_number note volume) plex Active c x × ConfigLosesBut (lies_on_disk c (plain_number note volume) plex) s fails x d))
+    NoteUnsettles note next
 GroupSpoils s note (WriteLine site volume start count fill) fails next = NotesDoubt s fails (write_to note volume start (replicate (512 * count) fill)) note next
 GroupSpoils s note (Put site volume start bytes) fails next = NotesDoubt s fails (write_to note volume start bytes) note next
 GroupSpoils s note (Read site volume start count) fails next = next ≡ note
@@ -113,8 +119,13 @@ abbrev pub GroupCuts : (s : ℕ) → GroupNode → ScriptLine → Fails → Grou
 GroupCuts s note (GroupDeport site) fails next = Reconfigures (ConfigLoses s fails) NoteUnsettles note next
 GroupCuts s note (GroupImport site) fails next = NotesBegun note next
 GroupCuts s note (Volume site volume blocks mirrors layout log map policy) fails next = Reconfigures (ConfigLoses s fails) NoteUnsettles note next
-GroupCuts s note (PlexDetach site volume plex) fails next = Reconfigures (ConfigLoses s fails) NoteUnsettles note next
-GroupCuts s note (PlexAttach site volume plex) fails next = Reconfigures (ConfigLoses s fails) NoteUnsettles note next
+GroupCuts s note (PlexDetach site volume plex) fails next =
+    Reconfigures (λ c d. ConfigLoses s fails c d ⊎ ((x : Config) × PutsPlex (plain_number note volume) plex Stale c x × ConfigLoses s fails x d)) NoteUnsettles note next
+GroupCuts s note (PlexAttach site volume plex) fails next =
+    Reconfigures
+    (λ c d. ConfigLosesBut (lies_on_disk c (plain_number note volume) plex) s fails c d
+    ⊎ ((x : Config) × PutsPlex (plain_number note volume) plex Active c x × ConfigLosesBut (lies_on_disk c (plain_number note volume) plex) s fails x d))
+    NoteUnsettles note next
 GroupCuts s note (WriteLine site volume start count fill) fails next = NotesCut s fails (write_to note volume start (replicate (512 * count) fill)) note next
 GroupCuts s note (Put site volume start bytes) fails next = NotesCut s fails (write_to note volume start bytes) note next
 GroupCuts s note other fails next = ⊥
@@ -131,13 +142,18 @@ BringsUp other = ⊥
 -- want of a serial. Where contents are told, and imports agree, no block of it is damaged or of another format.
 abbrev pub NotFound : (s : ℕ) → GroupNode → Fails → No → Type 0
 NotFound s note fails (Missing disk) = Contains fails (s, disk)
-NotFound s note fails NoConfig = (fails ≢ []) ⊎ ((note.config ≡ []) × (config_of note.config ≡ None))
+NotFound s note fails NoConfig = Unit {0}
 NotFound s note fails (Limit Number most) = most ≡ MOST_NUMBER
 NotFound s note fails why = ⊥
 
 -- nothing is known of what the disks hold
 abbrev pub KnowsNothing : Type 0 → GroupNode → Type 0
 KnowsNothing told note = (told → ⊥) ⊎ (note.loose ≡ true)
+
+-- why an import is refused that has written: a disk failed, or as one that has not
+abbrev pub ImportRefuses : Type 0 → (s : ℕ) → GroupNode → Fails → No → Type 0
+ImportRefuses told s note fails (Device disk) = Contains fails (s, disk)
+ImportRefuses told s note fails why = NotFound s note fails why ⊎ (KnowsNothing told note × IsNoDevice why)
 
 -- what a line says that found a group of which nothing was known
 abbrev pub SaysFound : Node → ScriptLine → GroupNode → Said → Type 0
@@ -163,13 +179,13 @@ pub data GroupEnds (told : Type 0) (d : Doubted) (line : ScriptLine) (s : ℕ) (
   GroupFails : (disk : ℕ) (next : GroupNode) → AreOf s fails → Contains fails (s, disk) → GroupSpoils s (note_at (d.world.nodes s)) line fails next
       → said ≡ Refused (Device disk) → IsLeftOver s line next (run_as false d (refused_events (d.world.nodes s) s line)) new
       → GroupEnds told d line s fails said new
-  -- an import that had written was ended by a failing disk: the disks crashed, and have no fuse
-  ImportFails : (disk : ℕ) (next : GroupNode) (site : List ℕ) → line ≡ GroupImport site → AreOf s fails → Contains fails (s, disk)
-      → NotesBegun (note_at (d.world.nodes s)) next → said ≡ Refused (Device disk) → IsAs d (fuse_lost (noting d.world s next) s) new
+  -- an import was refused that had written: the disks crashed, and have no fuse
+  ImportFails : (why : No) (next : GroupNode) (site : List ℕ) → line ≡ GroupImport site → AreOf s fails → ImportRefuses told s (note_at (d.world.nodes s)) fails why
+      → NotesBegun (note_at (d.world.nodes s)) next → said ≡ Refused why → IsAs d (fuse_lost (noting d.world s next) s) new
       → GroupEnds told d line s fails said new
   -- a recovery came up, and what is kept of a write that was cut could not be read: the site is down
   KeptUnread : (disk : ℕ) (next : GroupNode) (site : List ℕ) → line ≡ Recover site → AreOf s fails → Contains fails (s, disk)
-      → NotesUnread told s fails (note_at (d.world.nodes s)) next → said ≡ Refused (Device disk)
+      → NotesUnread told s (d.world.nodes s) fails (note_at (d.world.nodes s)) next → said ≡ Refused (Device disk)
       → IsLeftOver s line next (run_as false d (unread_events (d.world.nodes s) s)) new → GroupEnds told d line s fails said new
   -- the fuse of the disks ran out
   GroupCut : (next : GroupNode) → AreOf s fails → IsFused (d.world.nodes s).fuse → GroupCuts s (note_at (d.world.nodes s)) line fails next

@@ -1,13 +1,15 @@
 -- How a line changes what a site notes of its group of disks.
-use Rattle.std.specs.Prelude.{◌≡◌, ◌≢◌, ◌⊎◌, ◌==◌, ◌<◌, ℕ, false, List, [], length, Some, None, unwrap_or, Contains, if◌then◌else◌}
+use Rattle.std.specs.Prelude.{◌≡◌, ◌⊎◌, ◌==◌, ◌<◌, ℕ, true, false, List, [], length, Some, None, slice_get, unwrap_or, Contains, if◌then◌else◌}
 use Rattle.vx_model.specs.Content.{Write, zero_block}
 use Rattle.vx_history.specs.Groups.{BlockMay, GroupNode, NoteSettles, NoteUnsettles, note_cut, note_doubt, note_write}
 use Rattle.vx_history.specs.World.{Node, no_volumes}
 use Rattle.vx_config.specs.Checks.{blocks_of}
 use Rattle.vx_config.specs.declared.config.Config.{Config}
+use Rattle.vx_config.specs.declared.entry.DiskEntry.{DiskEntry}
+use Rattle.vx_config.specs.declared.entry.VolumeEntry.{VolumeEntry}
 use Rattle.vx_layout.specs.declared.shape.Shape.{Shape}
 use Rattle.vx_events.specs.Fails.{Fails}
-use Rattle.vx_events.specs.GroupConfigs.{AddsVolume, ConfigLoses, IsFirstConfig, taken_again}
+use Rattle.vx_events.specs.GroupConfigs.{AddsVolume, ConfigLoses, Matched, VolumeStays}
 use Rattle.vx_events.specs.GroupViews.{config_of}
 
 -- nothing is noted of a group yet
@@ -38,15 +40,18 @@ pub record Reconfigures (Change : Config → Config → Type 0) (Keeps : GroupNo
   pub change : Change old now
   pub keeps : Keeps note new
 
--- the first note of a group, whose volumes are still to be made; imports agree but where a call failed
-pub record FirstNote (s disks blocks : ℕ) (fails : Fails) (new : GroupNode) : Type 0 where
-  pub first : Config
+-- The first note of a group on all disks of a site, so many of so many blocks, whose volumes are still to be made. Imports agree but where a disk is held as
+-- failed.
+pub record FirstNote (s disks blocks : ℕ) (new : GroupNode) : Type 0 where
   pub now : Config
-  pub begins : IsFirstConfig s disks blocks first
-  pub loses : ConfigLoses s fails first now
   pub is : config_of new.config ≡ Some now
+  pub site : now.site ≡ s
+  pub many : length now.disks ≡ disks
+  pub each : (k : ℕ) (d : DiskEntry) → slice_get now.disks k ≡ Some d → d.blocks ≡ blocks
+  pub volumes : now.volumes ≡ []
+  pub rvg : now.rvg ≡ None
   pub begun : new.begun ≡ []
-  pub loose : (new.loose ≡ false) ⊎ (fails ≢ [])
+  pub loose : (new.loose ≡ false) ⊎ ((k : ℕ) × (d : DiskEntry) × (slice_get now.disks k ≡ Some d) × (d.failed ≡ true))
   pub size : (v : ℕ) → new.bytes.size v ≡ 0
   pub others : (v b : ℕ) → new.others v b ≡ []
   pub cut : new.cut ≡ None
@@ -94,16 +99,17 @@ pub record NotesCut (s : ℕ) (fails : Fails) (x : Write) (note new : GroupNode)
 
 -- ---- recoveries
 
--- A group came up from its disks, with the configuration that was noted or one that may have been there beside it: its disks are held as good but
--- for those on which a call failed, and each block has what it had and might have, or one of these values.
-pub record NotesBack (told : Type 0) (s : ℕ) (fails : Fails) (note new : GroupNode) : Type 0 where
-  pub found : List ℕ
-  pub one : (found ≡ note.config) ⊎ Contains note.begun found
+-- A group came up from its disks: of all disks of its site, which are held as good but for those on which a call failed. Where contents are told the
+-- volumes that were noted are there but for the states of their plexes, and each block has what it had and might have, or one of these values.
+pub record NotesBack (told : Type 0) (s : ℕ) (n : Node) (fails : Fails) (note new : GroupNode) : Type 0 where
   pub old : Config
   pub now : Config
-  pub was : config_of found ≡ Some old
+  pub was : config_of note.config ≡ Some old
   pub is : config_of new.config ≡ Some now
-  pub loses : ConfigLoses s fails (taken_again old) now
+  pub volumes : told → (v : ℕ) (e : VolumeEntry) → slice_get old.volumes v ≡ Some e → Matched VolumeStays (Some e) (slice_get now.volumes v)
+  pub many : length now.disks ≡ n.disks
+  pub blocks : (k : ℕ) (d : DiskEntry) → slice_get now.disks k ≡ Some d → d.blocks ≡ n.blocks
+  pub failed : (k : ℕ) (d : DiskEntry) → slice_get now.disks k ≡ Some d → d.failed ≡ true → Contains fails (s, k)
   pub begun : new.begun ≡ []
   pub loose : new.loose ≡ false
   pub size : (v : ℕ) → new.bytes.size v ≡ blocks_of now.volumes v
@@ -114,7 +120,7 @@ pub record NotesBack (told : Type 0) (s : ℕ) (fails : Fails) (note new : Group
   pub perhaps : new.perhaps ≡ note.perhaps
 
 -- the same where what is kept of a write that was cut is still to be read
-pub record NotesUnread (told : Type 0) (s : ℕ) (fails : Fails) (note new : GroupNode) : Type 0 where
+pub record NotesUnread (told : Type 0) (s : ℕ) (n : Node) (fails : Fails) (note new : GroupNode) : Type 0 where
   pub middle : GroupNode
-  pub back : NotesBack told s fails note middle
+  pub back : NotesBack told s n fails note middle
   pub is : new ≡ record middle { cut = note.cut }

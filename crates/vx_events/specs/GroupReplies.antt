@@ -58,8 +58,8 @@ pub record IsLastPlex (note : GroupNode) (volume plex : ℕ) : Type 0 where
 
 -- ---- recoveries
 
--- Of a write in which the fuse ran out: for each of its blocks whether it now has what was written, where contents are told. `next` is the note behind the
--- recovery.
+-- Of a write in which the fuse ran out: for each of its blocks whether a value that it may have is what was written, where contents are told. `next` is the
+-- note behind the recovery.
 pub record IsKeptOf (told : Type 0) (x : Write) (next : GroupNode) (kept : Kept) : Type 0 where
   pub volume : VolumeEntry
   pub is_volume : slice_get (volumes_of (config_of next.config)) x.volume ≡ Some volume
@@ -67,7 +67,7 @@ pub record IsKeptOf (told : Type 0) (x : Write) (next : GroupNode) (kept : Kept)
   pub block : kept.block ≡ x.start
   pub many : kept.count ≡ blocks_in x.bytes
   pub each : told → (k : ℕ) → k < blocks_in x.bytes
-      → slice_get kept.bits k ≡ Some (bytes_eq (next.bytes.block x.volume (x.start + k)) (block_of x.bytes k))
+      → (value : List ℕ) × BlockMay next x.volume (x.start + k) value × (slice_get kept.bits k ≡ Some (bytes_eq value (block_of x.bytes k)))
 
 -- it is shown where a write was cut
 abbrev pub ShowsKept : Type 0 → Option Write → GroupNode → Option Kept → Type 0

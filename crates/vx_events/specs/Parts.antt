@@ -1,16 +1,20 @@
 -- What want of memory may leave of a line: a first part of its events. No event is half done.
-use Rattle.std.specs.Prelude.{◌≡◌, ℕ, Bool, true, false, List, [], ◌∷◌, ◌++◌, take}
+use Rattle.std.specs.Prelude.{◌≡◌, ◌&&◌, ◌||◌, ℕ, Bool, true, false, List, [], ◌∷◌, ◌++◌, take}
+use Rattle.vx_model.specs.Sites.{is_up}
 use Rattle.vx_history.specs.Doubts.{Doubted}
+use Rattle.vx_history.specs.Steps.{worked_on}
 use Rattle.vx_history.specs.World.{World}
 use Rattle.vx_history.specs.declared.event.Event.{Event}
+use Rattle.vx_history.specs.declared.event.Event.TheVariants.{Crash as CrashAt}
 use Rattle.vx_script.specs.declared.line.ScriptLine.{ScriptLine}
-use Rattle.vx_script.specs.declared.line.ScriptLine.TheVariants.{Settle}
-use Rattle.vx_events.specs.Doubts.{run_as}
+use Rattle.vx_script.specs.declared.line.ScriptLine.TheVariants.{GroupImport, Recover, Settle}
+use Rattle.vx_events.specs.Doubts.{IsAs, run_as}
 use Rattle.vx_events.specs.Facts.{site_number}
 use Rattle.vx_events.specs.LinkEnds.{AreLeft, link_noted}
 use Rattle.vx_events.specs.LinkFinds.{MovesBetween}
 use Rattle.vx_events.specs.LinkLists.{link_events}
 use Rattle.vx_events.specs.Lists.{Choice, events_of}
+use Rattle.vx_events.specs.StepsOver.{group_place, over_group_at}
 
 -- all events of a line: of each kind one of the two lists is empty
 abbrev pub all_events : World → ScriptLine → Choice → List Event
@@ -40,10 +44,36 @@ pub record DonePart (d : Doubted) (line : ScriptLine) (new : Doubted) : Type 0 w
   pub stops : MayStop (goes_in_parts line) before
   pub leads : PartLeft line d before new
 
--- What want of memory leaves of a line. Over disks that tell no contents a link may be settled by updates of whatever blocks were read: then some of
--- them, and of what answers them, was sent and delivered.
+-- a line that crashes a site and takes memory behind that: a recovery of a group that is up
+abbrev pub crashes_first : World → ScriptLine → Bool
+crashes_first w (Recover site) = over_group_at w site && is_up (w.nodes (site_number w site)).state
+crashes_first w other = false
+
+-- a line that reads the disks of a site and takes memory behind that: an import
+abbrev pub reads_first : World → ScriptLine → Bool
+reads_first w (GroupImport site) = over_group_at w site
+reads_first w other = false
+
+-- whether want of memory may leave a part of the line
+abbrev pub may_stop : World → ScriptLine → Bool
+may_stop w line = goes_in_parts line || (crashes_first w line || reads_first w line)
+
+-- the site of such a line crashed, and nothing else was done
+pub record FellFirst (d : Doubted) (line : ScriptLine) (new : Doubted) : Type 0 where
+  pub crashes : crashes_first d.world line ≡ true
+  pub leads : let last = run_as false d (CrashAt (group_place d.world line) 0 ∷ []) in IsAs last last.world new
+
+-- the fuse of such a site may have let calls pass, and nothing was done
+pub record ReadFirst (d : Doubted) (line : ScriptLine) (new : Doubted) : Type 0 where
+  pub reads : reads_first d.world line ≡ true
+  pub leads : IsAs d (worked_on d.world (group_place d.world line)) new
+
+-- What want of memory leaves of a line: a first part of its events, the crash before a recovery, or the reads of an import. Over disks that tell no contents a link may be settled
+-- by updates of whatever blocks were read: then some of them, and of what answers them, was sent and delivered.
 pub data StopsShort (told : Type 0) (d : Doubted) (line : ScriptLine) (new : Doubted) : Type 0 where
   StopsInPart : DonePart d line new → StopsShort told d line new
+  StopsDown : FellFirst d line new → StopsShort told d line new
+  StopsRead : ReadFirst d line new → StopsShort told d line new
   StopsBetween : (told → ⊥) → (p s : List ℕ) (middle : Doubted) → line ≡ Settle p s → MovesBetween (site_number d.world p) (site_number d.world s) d middle
       → AreLeft line d middle new → StopsShort told d line new
 

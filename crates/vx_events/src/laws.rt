@@ -1,5 +1,5 @@
 // What the tests of a line and those of its event have to do with each other.
-ghost use Rattle.std.specs.Prelude.{◌≡◌, ◌+◌, ◌*◌, ◌<◌, ◌≤◌, ℕ, List, [], Bool, true, false, None, length, min, replicate, IsTrue};
+ghost use Rattle.std.specs.Prelude.{◌≡◌, ◌⊎◌, ◌+◌, ◌*◌, ◌<◌, ◌≤◌, ℕ, List, [], Bool, true, false, None, length, min, replicate, IsTrue};
 ghost use Rattle.vx_model.specs.Content.{Write, blocks_from};
 ghost use Rattle.vx_model.specs.Sites.{is_origin};
 ghost use Rattle.vx_model.specs.declared.limits.TheConstants.{MOST_NUMBER};
@@ -19,7 +19,7 @@ ghost use Rattle.vx_events.specs.GroupEnds.{GroupEnds, GroupStops};
 ghost use Rattle.vx_events.specs.Fails.{AreBorne, Fails};
 ghost use Rattle.vx_events.specs.Lines.{LineStep, is_of_links};
 ghost use Rattle.vx_events.specs.Lists.{Choice};
-ghost use Rattle.vx_events.specs.Parts.{DonePart, StopsShort, first_part, goes_in_parts};
+ghost use Rattle.vx_events.specs.Parts.{DonePart, FellFirst, ReadFirst, StopsShort, first_part, goes_in_parts, may_stop};
 ghost use Rattle.vx_events.specs.Plain.{HasNoGroups, IsUnlinked, IsSizedAs};
 ghost use Rattle.vx_events.specs.StepsOver.{MakesNoGroup, StepOver, is_for_group};
 ghost use Rattle.vx_events.specs.Stopping.{StopsBy};
@@ -60,11 +60,11 @@ pub fn tests_agree()
         → (step w (ApplyAt (site_number w name) to reached)).said ≡ DoneAt reached }
 {}
 
-/// However a line ends over disks that tell their contents, it ends as events of the world do of which one may be ended by a failing disk or
-/// by a fuse. So the laws of what such events keep, where sites may be in doubt, hold of lines of every kind.
+/// However a line that works on no group ends over disks that tell their contents, it ends as events of the world do of which one may be ended by a
+/// failing disk or by a fuse. So the laws of what such events keep, where sites may be in doubt, hold of lines of every kind.
 pub fn lines_are_events()
-    ensures { (d : Doubted) (files : Bool) (line : ScriptLine) (fails : Fails) (said : Said) (new : Doubted) → LineStep (Unit {0}) files d line fails said new
-        → StopsBy (is_of_links line) d line fails new }
+    ensures { (d : Doubted) (files : Bool) (line : ScriptLine) (fails : Fails) (said : Said) (new : Doubted) → is_for_group d.world line ≡ false
+        → StepOver (Unit {0}) files d line fails said new → StopsBy (is_of_links line) d line fails new }
 {}
 
 /// However a line over a group of disks without a replicated volume group ends, it ends as events of the world do, in worlds that differ in notes
@@ -91,10 +91,11 @@ pub fn only_groups_bear()
 {}
 
 /// Where memory runs out within a line that does not go in parts nothing is done, whether disks tell their contents or not; of one that does, any first
-/// part of its events may be, and where disks tell their contents nothing else.
+/// part of its events may be. Of a recovery of a group that is up the crash may be, and an import may have read its disks under a fuse. Where disks tell
+/// their contents nothing else is.
 pub fn memory_leaves_a_part()
     ensures none { (d : Doubted) (line : ScriptLine) (new : Doubted) → goes_in_parts line ≡ false → DonePart d line new → new ≡ d }
     ensures any { (d : Doubted) (line : ScriptLine) (c : Choice) (k : ℕ) → goes_in_parts line ≡ true → DonePart d line (first_part d line c k) }
-    ensures short { (d : Doubted) (line : ScriptLine) (new : Doubted) → goes_in_parts line ≡ false → StopsShort ⊥ d line new → new ≡ d }
-    ensures told { (d : Doubted) (line : ScriptLine) (new : Doubted) → StopsShort (Unit {0}) d line new → DonePart d line new }
+    ensures short { (d : Doubted) (line : ScriptLine) (new : Doubted) → may_stop d.world line ≡ false → StopsShort ⊥ d line new → new ≡ d }
+    ensures told { (d : Doubted) (line : ScriptLine) (new : Doubted) → StopsShort (Unit {0}) d line new → DonePart d line new ⊎ FellFirst d line new ⊎ ReadFirst d line new }
 {}

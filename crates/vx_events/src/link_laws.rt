@@ -1,5 +1,5 @@
 // What the tests of a line of links, its events and its ends have to do with each other.
-ghost use Rattle.std.specs.Prelude.{◌≡◌, ◌⊎◌, ◌*◌, ℕ, List, Bool, Some, None, length, replicate};
+ghost use Rattle.std.specs.Prelude.{◌≡◌, ◌⊎◌, ◌*◌, ℕ, List, Bool, Some, None, false, length, replicate};
 ghost use Rattle.vx_model.specs.declared.link.SyncMode.{SyncMode};
 ghost use Rattle.vx_model.specs.declared.link.Prot.{Prot};
 ghost use Rattle.vx_history.specs.Admission.{Goes};
@@ -17,7 +17,8 @@ ghost use Rattle.vx_history.specs.Listed.{AreListed};
 ghost use Rattle.vx_events.specs.Durables.{AreDurable};
 ghost use Rattle.vx_events.specs.Lines.{write_in};
 ghost use Rattle.vx_events.specs.Facts.{facts_of, site_number};
-ghost use Rattle.vx_events.specs.LinkedFacts.{linked_facts, refused_by};
+ghost use Rattle.vx_events.specs.LinkedFacts.{linked_facts};
+ghost use Rattle.vx_events.specs.StepsOver.{is_for_group, refused_over};
 ghost use Rattle.vx_events.specs.LinksFit.{LinksFit};
 ghost use Rattle.vx_events.specs.Plain.{IsUnlinked};
 ghost use Rattle.vx_events.specs.Settles.{CanSettle};
@@ -28,28 +29,29 @@ ghost use Rattle.vx_events.specs.Settles.{CanSettle};
 /// of the world fit, a line that settles one finds two sites at work, the second a secondary on the line of the first, and the link between them live: it
 /// may be settled.
 pub fn link_tests_agree()
-    ensures set { (w : World) (files : Bool) (p s : List ℕ) (sync : SyncMode) (prot : Prot) → refused_by w files (Set p s sync prot) ≡ None
+    ensures set { (w : World) (files : Bool) (p s : List ℕ) (sync : SyncMode) (prot : Prot) → refused_over w files (Set p s sync prot) ≡ None
         → (step w (SetAt (site_number w p) (site_number w s) sync)).said ≡ Done }
-    ensures connect { (w : World) (files : Bool) (p s : List ℕ) → refused_by w files (Connect p s) ≡ None → (step w (ConnectAt (site_number w p) (site_number w s))).said ≡ Done }
-    ensures cut { (w : World) (files : Bool) (p s : List ℕ) → refused_by w files (Cut p s) ≡ None → (step w (CutAt (site_number w p) (site_number w s))).said ≡ Done }
-    ensures pause { (w : World) (files : Bool) (p s : List ℕ) → refused_by w files (Pause p s) ≡ None → (step w (PauseAt (site_number w p) (site_number w s))).said ≡ Done }
-    ensures resume { (w : World) (files : Bool) (p s : List ℕ) → refused_by w files (Resume p s) ≡ None → (step w (ResumeAt (site_number w p) (site_number w s))).said ≡ Done }
-    ensures tick { (w : World) (files : Bool) (p s : List ℕ) → refused_by w files (Tick p s) ≡ None → (step w (TickAt (site_number w p) (site_number w s))).said ≡ Done }
-    ensures pump { (w : World) (files : Bool) (p s : List ℕ) → refused_by w files (Pump p s) ≡ None → (step w (PumpAt (site_number w p) (site_number w s))).said ≡ Done }
-    ensures link { (w : World) (files : Bool) (p s : List ℕ) (sync : SyncMode) (prot : Prot) → AreDurable w → AreListed w → refused_by w files (Link p s sync prot) ≡ None
+    ensures connect { (w : World) (files : Bool) (p s : List ℕ) → refused_over w files (Connect p s) ≡ None → (step w (ConnectAt (site_number w p) (site_number w s))).said ≡ Done }
+    ensures cut { (w : World) (files : Bool) (p s : List ℕ) → refused_over w files (Cut p s) ≡ None → (step w (CutAt (site_number w p) (site_number w s))).said ≡ Done }
+    ensures pause { (w : World) (files : Bool) (p s : List ℕ) → refused_over w files (Pause p s) ≡ None → (step w (PauseAt (site_number w p) (site_number w s))).said ≡ Done }
+    ensures resume { (w : World) (files : Bool) (p s : List ℕ) → refused_over w files (Resume p s) ≡ None → (step w (ResumeAt (site_number w p) (site_number w s))).said ≡ Done }
+    ensures tick { (w : World) (files : Bool) (p s : List ℕ) → refused_over w files (Tick p s) ≡ None → (step w (TickAt (site_number w p) (site_number w s))).said ≡ Done }
+    ensures pump { (w : World) (files : Bool) (p s : List ℕ) → refused_over w files (Pump p s) ≡ None → (step w (PumpAt (site_number w p) (site_number w s))).said ≡ Done }
+    ensures link { (w : World) (files : Bool) (p s : List ℕ) (sync : SyncMode) (prot : Prot) → AreDurable w → AreListed w → refused_over w files (Link p s sync prot) ≡ None
         → (step w (LinkAt (site_number w p) (site_number w s) sync Joins)).said ≡ Done }
-    ensures wait { (w : World) (files : Bool) (p : List ℕ) (number : ℕ) → AreListed w → refused_by w files (Wait p number) ≡ None
+    ensures wait { (w : World) (files : Bool) (p : List ℕ) (number : ℕ) → AreListed w → refused_over w files (Wait p number) ≡ None
         → ((step w (WaitAt (site_number w p) number)).said ≡ DoneAt number) ⊎ ((step w (WaitAt (site_number w p) number)).said ≡ Pending number) }
-    ensures deliver { (w : World) (files : Bool) (number : ℕ) → refused_by w files (Deliver number) ≡ None → (q : Packet) × (packet_at w.packets number ≡ Some q) }
-    ensures settle { (d : Doubted) (files : Bool) (p s : List ℕ) → LinksFit d → refused_by d.world files (Settle p s) ≡ None → CanSettle d.world (site_number d.world p) (site_number d.world s) }
+    ensures deliver { (w : World) (files : Bool) (number : ℕ) → refused_over w files (Deliver number) ≡ None → (q : Packet) × (packet_at w.packets number ≡ Some q) }
+    ensures settle { (d : Doubted) (files : Bool) (p s : List ℕ) → LinksFit d → refused_over d.world files (Settle p s) ≡ None → CanSettle d.world (site_number d.world p) (site_number d.world s) }
     ensures settles { (w : World) (p s : ℕ) → CanSettle w p s → MaySettle w p s }
 {}
 
-/// A write that no test refuses is let in by the links of its site.
+/// A write to a site over no group that no test refuses is let in by the links of its site.
 pub fn links_let_in()
-    ensures write { (w : World) (files : Bool) (name volume : List ℕ) (start count fill : ℕ) → refused_by w files (Write name volume start count fill) ≡ None
+    ensures write { (w : World) (files : Bool) (name volume : List ℕ) (start count fill : ℕ) → is_for_group w (Write name volume start count fill) ≡ false
+        → refused_over w files (Write name volume start count fill) ≡ None
         → (cs : List Change) × (admitted w (site_number w name) (write_in w name volume start (replicate (512 * count) fill)) ≡ Goes cs) }
-    ensures put { (w : World) (files : Bool) (name volume : List ℕ) (start : ℕ) (bytes : List ℕ) → refused_by w files (Put name volume start bytes) ≡ None → length bytes ≡ 512
+    ensures put { (w : World) (files : Bool) (name volume : List ℕ) (start : ℕ) (bytes : List ℕ) → is_for_group w (Put name volume start bytes) ≡ false → refused_over w files (Put name volume start bytes) ≡ None → length bytes ≡ 512
         → (cs : List Change) × (admitted w (site_number w name) (write_in w name volume start bytes) ≡ Goes cs) }
 {}
 

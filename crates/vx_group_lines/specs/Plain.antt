@@ -1,8 +1,41 @@
--- The lines that write and read blocks of a volume of a disk group.
-use Rattle.std.specs.Prelude.{◌≡◌, ℕ, ◌*◌, ◌<◌, ◌≤◌, List, length}
+-- The lines that go to a disk group, and of these such as write and read blocks of a volume.
+use Rattle.std.specs.Prelude.{◌≡◌, ℕ, ◌*◌, ◌<◌, ◌≤◌, Bool, true, false, List, length}
 use Rattle.vx_model.specs.declared.limits.TheConstants.{MOST_CALL_BLOCKS}
 use Rattle.vx_script.specs.declared.line.ScriptLine.{ScriptLine}
-use Rattle.vx_script.specs.declared.line.ScriptLine.TheVariants.{Read as ReadLine, Show as ShowLine}
+use Rattle.vx_script.specs.declared.line.ScriptLine.TheVariants.{GroupInit, GroupDeport, GroupImport, Volume, PlexDetach, PlexAttach, Disk, Crash, Fuse, Recover, Status, Write as WriteLine, Put as PutLine, Read as ReadLine, Show as ShowLine}
+
+-- whether lines of this kind write or read blocks
+abbrev pub is_block_kind : ScriptLine → Bool
+is_block_kind (WriteLine site volume start count fill) = true
+is_block_kind (PutLine site volume start bytes) = true
+is_block_kind (ReadLine site volume start count) = true
+is_block_kind (ShowLine site volume start count) = true
+is_block_kind other = false
+
+-- whether lines of this kind go to no other site than one over a group, or one of which a group is made
+abbrev pub is_group_line : ScriptLine → Bool
+is_group_line (GroupInit site) = true
+is_group_line (GroupDeport site) = true
+is_group_line (GroupImport site) = true
+is_group_line (Volume site volume blocks mirrors layout log map policy) = true
+is_group_line (PlexDetach site volume plex) = true
+is_group_line (PlexAttach site volume plex) = true
+is_group_line other = false
+
+-- whether lines of this kind may go to a group
+abbrev pub is_group_kind : ScriptLine → Bool
+is_group_kind (GroupInit site) = true
+is_group_kind (GroupDeport site) = true
+is_group_kind (GroupImport site) = true
+is_group_kind (Volume site volume blocks mirrors layout log map policy) = true
+is_group_kind (PlexDetach site volume plex) = true
+is_group_kind (PlexAttach site volume plex) = true
+is_group_kind (Disk site disk state) = true
+is_group_kind (Crash site pick) = true
+is_group_kind (Fuse site calls pick) = true
+is_group_kind (Recover site) = true
+is_group_kind (Status site) = true
+is_group_kind line = is_block_kind line
 
 -- a line that reads so many blocks: a `read`, or a `show`, which over a group is the same
 pub data IsReadOf (line : ScriptLine) (name volume : List ℕ) (start count : ℕ) : Type 0 where

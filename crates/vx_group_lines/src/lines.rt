@@ -1,4 +1,14 @@
 // The lines that go to the group of a site, and their work.
+ghost use Rattle.std.specs.Prelude.{◌≡◌, ◌*◌, IfOk, IsOk, IsSome, min, replicate, false, true};
+ghost use Rattle.vx_history.specs.Doubts.{Doubted};
+ghost use Rattle.vx_events.specs.Facts.{seat_of};
+ghost use Rattle.vx_events.specs.StepsOver.{is_for_group, over_group_at};
+ghost use Rattle.vx_group_lines.specs.Plain.{is_block_kind, is_group_kind, is_group_line};
+ghost use Rattle.vx_yard.specs.OfSites.{AsAsked, HasCalled};
+ghost use Rattle.vx_yard.specs.Standing.{LeadsOverIs, LeadsOverOrStops, StandsFor};
+ghost use Rattle.vx_yard.specs.Working.{IsFree, takes_memory};
+ghost use Rattle.vx_yard.specs.Yards.{IsYardKept, IsTold, in_files};
+
 use crate::deport::deport_line;
 use crate::import::import_line;
 use crate::init::init_line;
@@ -18,13 +28,23 @@ use vx_script::ScriptLine;
 use vx_yard::Yard;
 
 // Whether the disks of a site are a group without a replicated volume group.
-fn is_group<R: Rack>(yard: &Yard<R>, name: &Name) -> bool {
+fn is_group<R: Rack>(yard: &Yard<R>, name: &Name) -> bool
+    requires kept { IsYardKept yard.now }
+    requires named { IsSome (seat_of yard.now.facts.items name.now) }
+    ensures { (d : Doubted) → StandsFor d yard.now → result ≡ over_group_at d.world name.now }
+{
     let site = yard.site_of(name);
     yard.facts[site].grouped && yard.facts[site].rvg.is_none()
 }
 
 /// Whether a line that no test refuses goes to the group of its site.
-pub fn is_of_group<R: Rack>(yard: &Yard<R>, words: &ScriptLine) -> bool {
+pub fn is_of_group<R: Rack>(yard: &Yard<R>, words: &ScriptLine) -> bool
+    requires kept { IsYardKept yard.now }
+    requires free { IsFree yard.now words.now }
+    ensures is { (d : Doubted) → StandsFor d yard.now → result ≡ is_for_group d.world words.now }
+    ensures kind { result ≡ true → is_group_kind words.now ≡ true }
+    ensures always { is_group_line words.now ≡ true → result ≡ true }
+{
     match words {
         ScriptLine::GroupInit { .. }
         | ScriptLine::GroupDeport { .. }
@@ -46,7 +66,9 @@ pub fn is_of_group<R: Rack>(yard: &Yard<R>, words: &ScriptLine) -> bool {
 }
 
 // So many blocks, each byte of which is `fill`, and no more than a line may ask.
-fn filled(alloc: Global, count: u64, fill: u8) -> Result<Vec<u8>, OutOfMemory> {
+fn filled(alloc: Global, count: u64, fill: u8) -> Result<Vec<u8>, OutOfMemory>
+    ensures { IfOk result (λ bytes. bytes.items ≡ replicate (512 * min count MOST_CALL_BLOCKS) fill) }
+{
     let bytes = Vec::from_elem(alloc, fill, BLOCK * count.min(MOST_CALL_BLOCKS) as usize)?;
     Ok(bytes)
 }
@@ -56,7 +78,17 @@ fn work_blocks<R: Rack>(
     yard: &mut Yard<R>,
     alloc: Global,
     words: &ScriptLine,
-) -> Result<Said, OutOfMemory> {
+) -> Result<Said, OutOfMemory>
+    requires kept { IsYardKept yard.old }
+    requires free { IsFree yard.old words.now }
+    requires goes { is_block_kind words.now ≡ true }
+    ensures leads { (d : Doubted) → StandsFor d yard.old → is_for_group d.world words.now ≡ true → LeadsOverIs d words.now yard.old yard.new result }
+    ensures asked { (d : Doubted) → StandsFor d yard.old → is_for_group d.world words.now ≡ true → AsAsked d.world words.now yard.old yard.new }
+    ensures called { (d : Doubted) → StandsFor d yard.old → is_for_group d.world words.now ≡ true → IfOk result (λ said. HasCalled d.world words.now said yard.old yard.new) }
+    ensures whole { takes_memory words.now ≡ false → IsOk result }
+    ensures told { IsTold yard.new → IsTold yard.old }
+    ensures files { in_files yard.new ≡ in_files yard.old }
+{
     match words {
         ScriptLine::Write {
             site,
@@ -93,12 +125,22 @@ fn work_blocks<R: Rack>(
     }
 }
 
-/// Does a line that no test refuses and that goes to the group of its site.
+/// Does a line that no test refuses and that goes to the group of its site. A recovery of a group that is up may want memory behind its crash.
 pub fn work_group<R: Rack>(
     yard: &mut Yard<R>,
     alloc: Global,
     words: &ScriptLine,
-) -> Result<Said, OutOfMemory> {
+) -> Result<Said, OutOfMemory>
+    requires kept { IsYardKept yard.old }
+    requires free { IsFree yard.old words.now }
+    requires goes { is_group_kind words.now ≡ true }
+    ensures leads { (d : Doubted) → StandsFor d yard.old → is_for_group d.world words.now ≡ true → LeadsOverOrStops d words.now yard.old yard.new result }
+    ensures asked { (d : Doubted) → StandsFor d yard.old → is_for_group d.world words.now ≡ true → AsAsked d.world words.now yard.old yard.new }
+    ensures called { (d : Doubted) → StandsFor d yard.old → is_for_group d.world words.now ≡ true → IfOk result (λ said. HasCalled d.world words.now said yard.old yard.new) }
+    ensures whole { takes_memory words.now ≡ false → IsOk result }
+    ensures told { IsTold yard.new → IsTold yard.old }
+    ensures files { in_files yard.new ≡ in_files yard.old }
+{
     match words {
         ScriptLine::GroupInit { site } => init_line(yard, alloc, site),
         ScriptLine::GroupDeport { site } => deport_line(yard, alloc, site),

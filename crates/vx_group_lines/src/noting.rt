@@ -1,9 +1,8 @@
 // What the tests see of a site behind a call on its group, and the reply.
-ghost use Rattle.std.specs.Prelude.{◌≡◌, ◌<◌, ◌≤◌, [], length, map, slice_get, slice_set, Some};
+ghost use Rattle.std.specs.Prelude.{◌≡◌, ◌<◌, [], length, map, slice_get, slice_set, Some};
 ghost use Rattle.vx_config.specs.declared.config.Config.{Config as ConfigValue};
 ghost use Rattle.vx_events.specs.GroupViews.{plain_fact};
 ghost use Rattle.vx_events.specs.declared.said.Said.TheVariants.{Refused};
-ghost use Rattle.vx_model.specs.declared.limits.TheConstants.{MOST_VOLUMES};
 ghost use Rattle.vx_order.specs.declared.facts.SiteFacts.{SiteFacts as Facts};
 ghost use Rattle.vx_yard.specs.GroupFacts.{group_up_facts};
 ghost use Rattle.vx_yard.specs.Loads.{LetGoBy};
@@ -54,7 +53,6 @@ pub(crate) fn note_up<R: Rack>(yard: &mut Yard<R>, site: usize, room: VolumeRoom
     requires facts { site < length yard.old.facts.items }
     requires disk_set { site < length yard.old.disk_sets.items }
     requires empty { room ≡ [] }
-    requires few { (c : ConfigValue) → HasConfig site c yard.old → length c.volumes ≤ MOST_VOLUMES }
     ensures facts { (f : Facts) (c : ConfigValue) → slice_get yard.old.facts.items site ≡ Some f → HasConfig site c yard.old
         → yard.new.facts.items ≡ slice_set yard.old.facts.items site (group_up_facts (map plain_fact c.volumes) f) }
     ensures assemblies { yard.new.assemblies ≡ yard.old.assemblies }

@@ -1,7 +1,7 @@
 // What a status shows of a disk group.
 ghost use Rattle.std.specs.Prelude.{◌≡◌, ◌<◌, ◌≤◌, [], IfOk, map, length, ℕ, option_copied, Some, None, slice_get};
 ghost use Rattle.vx_config.specs.declared.config.Config.{Config as ConfigValue};
-ghost use Rattle.vx_events.specs.GroupViews.{disks_of, volume_view, volumes_of};
+ghost use Rattle.vx_events.specs.GroupViews.{config_disks, volume_view, volumes_of};
 ghost use Rattle.vx_order.specs.declared.facts.SiteFacts.{SiteFacts as Facts};
 ghost use Rattle.vx_group_lines.specs.Noting.{HasConfig, HasNoConfig};
 ghost use Rattle.vx_group_lines.specs.Views.{IsSmall, view_with};
@@ -37,7 +37,7 @@ fn views_of(config: Option<&Config>, room: ViewRoom) -> (DiskViews, VolumeViews)
     requires disks { room.disks ≡ [] }
     requires volumes { room.volumes ≡ [] }
     requires few { IsSmall (option_copied config.entry) }
-    ensures disks { result.0 ≡ disks_of (option_copied config.entry) }
+    ensures disks { result.0 ≡ config_disks (option_copied config.entry) }
     ensures volumes { result.1 ≡ map volume_view (volumes_of (option_copied config.entry)) }
 {
     match config {

@@ -1,7 +1,7 @@
 // The line that makes a volume of a disk group.
 ghost use Rattle.std.specs.Prelude.{◌≡◌, ◌<◌, ◌≤◌, ℕ, IfOk, IfSome, IsSome, true};
 ghost use Rattle.vx_history.specs.Doubts.{Doubted};
-ghost use Rattle.vx_events.specs.GroupLines.{columns_of as columns_in, first_plex, shape_of as shape_is, width_of};
+ghost use Rattle.vx_events.specs.GroupLines.{layout_columns, layout_width, preferred_plex, shape_of as shape_is};
 ghost use Rattle.vx_script.specs.declared.line.Layout.{Layout as LayoutValue};
 ghost use Rattle.vx_script.specs.declared.line.ReadPolicy.{ReadPolicy as PolicyValue};
 ghost use Rattle.vx_script.specs.declared.line.ScriptLine.TheVariants.{Volume};
@@ -26,9 +26,9 @@ use vx_yard::Yard;
 
 // The columns of a layout, and the blocks of their units.
 fn columns_of(layout: &Layout) -> (u32, u32)
-    requires columns { columns_in layout.now ≤ 0xffff_ffff }
-    requires width { width_of layout.now ≤ 0xffff_ffff }
-    ensures { result ≡ (columns_in layout.now, width_of layout.now) }
+    requires columns { layout_columns layout.now ≤ 0xffff_ffff }
+    requires width { layout_width layout.now ≤ 0xffff_ffff }
+    ensures { result ≡ (layout_columns layout.now, layout_width layout.now) }
 {
     match layout {
         Layout::Concat => (1, 0),
@@ -38,8 +38,8 @@ fn columns_of(layout: &Layout) -> (u32, u32)
 
 // The plex that reads begin at.
 fn prefer_of(policy: &ReadPolicy) -> Option<u32>
-    requires { IfSome (first_plex policy.now) (λ plex. plex ≤ 0xffff_ffff) }
-    ensures { result ≡ first_plex policy.now }
+    requires { IfSome (preferred_plex policy.now) (λ plex. plex ≤ 0xffff_ffff) }
+    ensures { result ≡ preferred_plex policy.now }
 {
     match policy {
         ReadPolicy::Round => None,
@@ -57,9 +57,9 @@ pub(crate) fn shape_of(
     policy: &ReadPolicy,
 ) -> Shape
     requires mirrors { mirrors ≤ 0xffff_ffff }
-    requires columns { columns_in layout.now ≤ 0xffff_ffff }
-    requires width { width_of layout.now ≤ 0xffff_ffff }
-    requires prefer { IfSome (first_plex policy.now) (λ plex. plex ≤ 0xffff_ffff) }
+    requires columns { layout_columns layout.now ≤ 0xffff_ffff }
+    requires width { layout_width layout.now ≤ 0xffff_ffff }
+    requires prefer { IfSome (preferred_plex policy.now) (λ plex. plex ≤ 0xffff_ffff) }
     ensures { result ≡ shape_is blocks mirrors layout.now log.now map.now policy.now }
 {
     let (ncol, width) = columns_of(layout);

@@ -18,7 +18,8 @@ use Rattle.vx_diskset.specs.DiskSets.{CrashedAt, Later, halted_at, is_off}
 use Rattle.vx_diskset.specs.Holds.{KeptBeside}
 use Rattle.vx_diskset.specs.Stands.{CutAt, IsReceiverAt, SiteStands}
 use Rattle.vx_diskset.specs.declared.disk_set.DiskSet.{DiskSet}
-use Rattle.vx_diskset.specs.declared.disk_set.DiskSet.TheVariants.{Bare, Spoiled, Up, Receives, Down, Gone}
+use Rattle.vx_diskset.specs.declared.disk_set.DiskSet.TheVariants.{Bare, Spoiled, Up, Receives, Down, OfGroup, Gone}
+use Rattle.vx_diskset.proofs.GroupStands.{apart_bare}
 use Rattle.vx_joins.specs.Joins.{CanJoin, JoinedAs, JoinedAt, joins_in_doubt}
 
 module _ {R : Type 0} {g : Ghosts R} where
@@ -69,4 +70,5 @@ module _ {R : Type 0} {g : Ghosts R} where
   never_joins n (Up rvg) other stands can = other rvg refl
   never_joins n (Receives s) other stands can = let e : true ≡ false = sym can.origin ∙ stands.role in cc
   never_joins n (Down rack) other stands can = let e : IsDown ≡ IsUp = sym stands.state ∙ can.up in cc
+  never_joins {beside} n (OfGroup s) other stands can = let e : IsBare ≡ IsUp = sym (apart_bare beside n s stands can.apart) ∙ can.up in cc
   never_joins n Gone other stands can = stands

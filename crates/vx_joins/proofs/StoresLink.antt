@@ -2,6 +2,7 @@
 use Rattle.std.proofs.Common.{◌≡◌, ◌∙◌, inr, ◌+◌, ◌<◌, ◌≤◌, ◌&&◌, ℕ, zero, suc, Bool, true, false, List, [], ◌∷◌, ap, sym, subst, refl, arith}
 use Rattle.std.specs.Prelude.{Option, Some, None, Result, Ok, Err, eqb, ltb, map, max, slice_get, if◌then◌else◌}
 use Rattle.std.proofs.lemmas.Bool.Decides.{nat_tests}
+use Rattle.vx_events.specs.GroupLines.{is_over_group}
 use Rattle.vx_events.specs.LinksFit.{is_plain_mode}
 use Rattle.vx_model.specs.declared.errors.Stop.{Stop}
 use Rattle.vx_model.specs.declared.errors.Stop.TheVariants.{No as Refused, OutOfMemory}
@@ -226,11 +227,12 @@ hold_more : (q number : ℕ) (x : KeptLink) → (x.site ≡ q → x.stored ≤ n
 hold_more q number x less true same = hold_rises x.mode x.start x.stored number (less (eqb_equal x.site q same))
 hold_more q number x less false same = omega arith
 
-pub can_store : (beside : KeptBeside) (n : Node) (q number : ℕ) → n.state ≡ IsUp → n.halted ≡ None → ((k : ℕ) (x : KeptLink) → slice_get beside.links k ≡ Some x → x.site ≡ q → x.stored ≤ number)
+pub can_store : (beside : KeptBeside) (n : Node) (q number : ℕ) → n.state ≡ IsUp → n.halted ≡ None → is_over_group n ≡ false → ((k : ℕ) (x : KeptLink) → slice_get beside.links k ≡ Some x → x.site ≡ q → x.stored ≤ number)
     → CanKeep beside n (state_with n (links_stored q number beside.links))
-can_store beside n q number up running less = record {
+can_store beside n q number up running apart less = record {
   up = up;
   running = running;
+  apart = apart;
   line = refl;
   role = refl;
   needs = λ k y there needing.

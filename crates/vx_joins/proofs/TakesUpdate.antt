@@ -40,7 +40,8 @@ use Rattle.vx_diskset.specs.Layouts.{units_of}
 use Rattle.vx_diskset.specs.Needs.{TakesAs}
 use Rattle.vx_diskset.specs.Stands.{IsReceiverAt, RoleIs, SiteStands}
 use Rattle.vx_diskset.specs.declared.disk_set.DiskSet.{DiskSet}
-use Rattle.vx_diskset.specs.declared.disk_set.DiskSet.TheVariants.{Bare, Spoiled, Up, Receives, Down, Gone}
+use Rattle.vx_diskset.specs.declared.disk_set.DiskSet.TheVariants.{Bare, Spoiled, Up, Receives, Down, OfGroup, Gone}
+use Rattle.vx_diskset.proofs.GroupStands.{off_or_origin}
 use Rattle.vx_diskset.proofs.BesideLemmas.{site_sure}
 use Rattle.vx_joins.specs.Deliveries.{DeliveredTo}
 
@@ -238,6 +239,7 @@ module _ (w : World) (number : ℕ) (p : Packet) (k : ℕ) (x : Write) (at : pac
     never_heard (Up rvg) fed a f other role stands = ignored_to (Up rvg) fed a f (inr role) stands
     never_heard (Receives s) fed a f other role stands = absurd (other s refl)
     never_heard (Down rack) fed a f other role stands = ignored_to (Down rack) fed a f (inl (inl (ap is_up stands.state))) stands
+    never_heard (OfGroup s) fed a f other role stands = ignored_to (OfGroup s) fed a f (⊎_elim (λ off. inl (inl off)) (λ origin. inr origin) (off_or_origin beside there s stands)) stands
     never_heard Gone fed a f other role stands = absurd stands
 
     -- a receiver that is halted

@@ -1,5 +1,5 @@
 -- What comes of an update at the disks of its target, whatever is in assembly there.
-use Rattle.std.proofs.Common.{◌≡◌, ◌∙◌, ◌⊎◌, inl, inr, ℕ, Bool, length, true, false, List, [], ◌∷◌, ◌++◌, drop, ap, sym, subst, refl, arith}
+use Rattle.std.proofs.Common.{◌≡◌, ◌∙◌, ◌⊎◌, inl, inr, ⊎_elim, ℕ, Bool, length, true, false, List, [], ◌∷◌, ◌++◌, drop, ap, sym, subst, refl, arith}
 use Rattle.std.specs.Prelude.{◌&&◌, None, Option, Some, if◌then◌else◌}
 use Rattle.std.proofs.lemmas.List.{append-nil, drop-append-le, map-append}
 use Rattle.vx_model.specs.Content.{Write}
@@ -34,7 +34,8 @@ use Rattle.vx_secondary.specs.declared.secondary.Secondary.{Secondary}
 use Rattle.vx_diskset.specs.Holds.{KeptBeside}
 use Rattle.vx_diskset.specs.Stands.{IsReceiverAt, RoleIs, SiteStands}
 use Rattle.vx_diskset.specs.declared.disk_set.DiskSet.{DiskSet}
-use Rattle.vx_diskset.specs.declared.disk_set.DiskSet.TheVariants.{Bare, Spoiled, Up, Receives, Down, Gone}
+use Rattle.vx_diskset.specs.declared.disk_set.DiskSet.TheVariants.{Bare, Spoiled, Up, Receives, Down, OfGroup, Gone}
+use Rattle.vx_diskset.proofs.GroupStands.{off_or_origin}
 use Rattle.vx_joins.specs.Deliveries.{IsUnheard, TakesNone, TakesOne, TookTo}
 use Rattle.vx_joins.proofs.TakesUpdate.{halted_off, ignored_is, more_receiver, receives_at, same_receiver}
 
@@ -86,6 +87,7 @@ module _ (w : World) (number : ℕ) (p : Packet) (k : ℕ) (x : Write) (at : pac
     other_took (Up rvg) fed a f other role stands = unheard (Up rvg) fed a f (inr role) stands
     other_took (Receives s) fed a f other role stands = absurd (other s refl)
     other_took (Down rack) fed a f other role stands = unheard (Down rack) fed a f (inl (inl (ap is_up stands.state))) stands
+    other_took (OfGroup s) fed a f other role stands = unheard (OfGroup s) fed a f (⊎_elim (λ off. inl (inl off)) (λ origin. inr origin) (off_or_origin beside there s stands)) stands
     other_took Gone fed a f other role stands = absurd stands
 
     -- a receiver that is halted

@@ -1,5 +1,6 @@
 -- What the disks of a site make of a greeting or an acknowledgement that one of its links hears.
 use Rattle.std.specs.Prelude.{◌≡◌, ℕ, ◌+◌, Bool, true, false, eqb, ltb, List, map, None, Result, Ok, Err, if◌then◌else◌}
+use Rattle.vx_events.specs.GroupLines.{is_over_group}
 use Rattle.vx_events.specs.LinksFit.{is_plain_mode}
 use Rattle.vx_model.specs.declared.errors.Stop.{Stop}
 use Rattle.vx_model.specs.declared.errors.Stop.TheVariants.{No as Refused, OutOfMemory}
@@ -30,6 +31,7 @@ use Rattle.vx_model.specs.declared.link.Mode.TheVariants.{Log, Dcm, Replay, Fork
 pub record IsListening (n : Node) (l : Link) : Type 0 where
   pub up : n.state ≡ IsUp
   pub running : n.halted ≡ None
+  pub apart : is_over_group n ≡ false
   pub keeps : keeps_links n.role ≡ true
   pub linked : is_linked l ≡ true
   pub plain : is_plain_mode l.mode ≡ true

@@ -1,5 +1,6 @@
 // A greeting or an acknowledgement that a link of a site hears, and the header that it may write.
-ghost use Rattle.std.specs.Prelude.{◌≡◌, ◌<◌, ◌≤◌, ◌^◌, ℕ, Err, Some, None, OnErr, length, slice_get, true};
+ghost use Rattle.std.specs.Prelude.{◌≡◌, ◌<◌, ◌≤◌, ◌^◌, ℕ, Err, Some, None, OnErr, length, slice_get, true, false};
+ghost use Rattle.vx_events.specs.GroupLines.{is_over_group};
 ghost use Rattle.vx_model.specs.declared.limits.TheConstants.{LINK_PLACES};
 ghost use Rattle.vx_courier.specs.Together.{AreOne, AssemblyStands};
 ghost use Rattle.vx_courier.specs.UnderWay.{FlightStands};
@@ -71,7 +72,7 @@ fn keep_stored<R: Rack>(
     stored: u64,
 ) -> Result<(), Stop>
     requires state { CanSpellState state.now }
-    ensures kept { (beside : KeptBeside) (n : Node) → SiteStands beside n disks.old → n.state ≡ UpState → n.halted ≡ None → state.now ≡ state_with n beside.links
+    ensures kept { (beside : KeptBeside) (n : Node) → SiteStands beside n disks.old → n.state ≡ UpState → n.halted ≡ None → is_over_group n ≡ false → state.now ≡ state_with n beside.links
         → ((k : ℕ) (x : KeptValue) → slice_get beside.links k ≡ Some x → x.site ≡ to → x.stored ≤ stored) → StoredIs beside n to old stored disks.old disks.new result }
     ensures called { (beside : KeptBeside) (n : Node) → SiteStands beside n disks.old → LeavesFuse NoMore (reply_by result) disks.old disks.new }
     ensures headed { (beside : KeptBeside) (n : Node) → SiteStands beside n disks.old → (result ≡ Err Stop.OutOfMemory → ⊥) → HeadUnder (stored_calls old stored) (reply_by result) disks.old disks.new }

@@ -6,11 +6,13 @@ use Rattle.vx_model.specs.declared.site.SiteState.TheVariants.{Bare as IsBare, D
 use Rattle.vx_history.specs.Doubts.{Doubted}
 use Rattle.vx_history.specs.World.{Node}
 use Rattle.vx_events.specs.Durables.{AreDurable}
+use Rattle.vx_model.specs.Content.{Write}
 use Rattle.vx_disk.specs.declared.shelf.Shelf.{Ghosts}
+use Rattle.vx_diskset.proofs.GroupStands.{up_has_none}
 use Rattle.vx_diskset.specs.Holds.{KeptBeside, beside_of}
 use Rattle.vx_diskset.specs.Stands.{SiteStands}
 use Rattle.vx_diskset.specs.declared.disk_set.DiskSet.{DiskSet}
-use Rattle.vx_diskset.specs.declared.disk_set.DiskSet.TheVariants.{Bare, Spoiled, Up, Receives, Down, Gone}
+use Rattle.vx_diskset.specs.declared.disk_set.DiskSet.TheVariants.{Bare, Spoiled, Up, Receives, Down, OfGroup, Gone}
 use Rattle.vx_yard.specs.Standing.{StandsFor}
 use Rattle.vx_yard.specs.declared.yard.Yard.{Yard}
 
@@ -27,6 +29,7 @@ module _ {R : Type 0} {g : Ghosts R} where
   durable_at beside n (Up rvg) h up none origin = h.durable none
   durable_at beside n (Receives s) h up none origin = let e : true ≡ false = sym origin ∙ h.role in absurd (cc)
   durable_at beside n (Down rack) h up none origin = let e : IsDown ≡ IsUp = sym h.state ∙ up in absurd (cc)
+  durable_at beside n (OfGroup s) h up none origin = let has = up_has_none beside n s h up in omega (arith, ap (λ (xs : List Write). length xs) has.log)
   durable_at beside n Gone h up none origin = absurd h
 
   pub durable_for : (d : Doubted) (y : Yard R g) → StandsFor d y → AreDurable d.world

@@ -13,15 +13,14 @@ use Rattle.vx_script.specs.declared.line.ScriptLine.{ScriptLine}
 use Rattle.vx_script.specs.declared.line.ScriptLine.TheVariants.{Deliver, Settle}
 use Rattle.vx_events.specs.Parts.{StopsInPart}
 use Rattle.vx_events.proofs.Parts.{none_done}
-use Rattle.vx_events.specs.LinkedFacts.{refused_by}
+use Rattle.vx_events.specs.StepsOver.{OverBy, is_for_group, refused_over}
 use Rattle.vx_events.specs.Sent.{sent_between}
-use Rattle.vx_events.specs.Lines.{StepBy}
 use Rattle.vx_events.specs.declared.said.Said.{Said}
 use Rattle.vx_events.specs.declared.said.Said.TheVariants.{Refused}
 use Rattle.vx_yard.specs.Carries.{Carries}
 use Rattle.vx_yard.specs.OfSites.{AsSettled, HasCalled}
 use Rattle.vx_yard.specs.Replies.{text_of}
-use Rattle.vx_yard.specs.Standing.{AnswersFor, AnswersIs, LeadsIs, LeadsOrStops, StandsFor, StaysFor, StepsFor, StopsFor}
+use Rattle.vx_yard.specs.Standing.{AnswersFor, LeadsIs, LeadsOrStops, StandsFor, StaysFor, StepsFor, StopsFor}
 use Rattle.vx_yard.specs.Working.{IsFree, refused_in, takes_memory}
 use Rattle.vx_yard.specs.Yards.{IsTold, count_of, in_files}
 use Rattle.vx_yard.specs.declared.yard.Yard.{Yard}
@@ -47,7 +46,7 @@ memory_taken words line is taken none = absurd (let e : true ≡ false = sym tak
 
 module _ {R : Type 0} {g : Ghosts R} where
   -- a line is refused by what the tests see of the yard
-  tested : (d : Doubted) (y : Yard R g) (line : ScriptLine) → StandsFor d y → Carries d y → refused_by d.world (in_files y) line ≡ refused_in y line
+  pub tested : (d : Doubted) (y : Yard R g) (line : ScriptLine) → StandsFor d y → Carries d y → refused_over d.world (in_files y) line ≡ refused_in y line
   tested d y (Deliver number) stands carries = ap (λ (k : ℕ). packet_unknown k number) (sym (sent_count d y carries))
   tested d y other stands carries = ap (λ (fs : List SiteFacts). line_refusal fs (in_files y) other) (sym stands.facts)
 
@@ -70,28 +69,14 @@ module _ {R : Type 0} {g : Ghosts R} where
   leads_whole d line old new (Ok said) leads = leads
   leads_whole d line old new (Err e) stays = stays_short d line old new stays
 
-  -- a line that no test refuses is answered what it worked
-  pub leads_answer : (d : Doubted) (line : ScriptLine) (old new : Yard R g) (r : Result Said OutOfMemory) → StandsFor d old → Carries d old → IsFree old line → LeadsOrStops d line old new r → AnswersIs d line old new r
-  leads_answer d line old new (Ok said) stands carries free work =
-      let none : refused_by d.world (in_files old) line ≡ None = tested d old line stands carries ∙ free in
-      record {
-        next = work.next;
-        fails = work.fails;
-        step = subst (λ (o : Option No). StepBy o (IsTold new) d line work.fails said work.next) (sym none) work.done;
-        stands = work.stands;
-        carries = work.carries;
-        rose = work.rose;
-      }
-  leads_answer d line old new (Err e) stands carries free work = work
-
   -- one that is refused changes nothing
   pub refusal_answer : (d : Doubted) (line : ScriptLine) (y : Yard R g) (why : No) → StandsFor d y → Carries d y → refused_in y line ≡ Some why → AnswersFor d line (Refused why) y y
   refusal_answer d line y why stands carries is =
-      let some : refused_by d.world (in_files y) line ≡ Some why = tested d y line stands carries ∙ is in
+      let some : refused_over d.world (in_files y) line ≡ Some why = tested d y line stands carries ∙ is in
       record {
         next = d;
         fails = [];
-        step = subst (λ (o : Option No). StepBy o (IsTold y) d line [] (Refused why) d) (sym some) (record { none = refl; says = refl; stays = refl });
+        step = subst (λ (o : Option No). OverBy o (is_for_group d.world line) (IsTold y) d line [] (Refused why) d) (sym some) (record { none = refl; says = refl; stays = refl });
         stands = stands;
         carries = λ was. was;
         rose = rose_none (count_of y) (count_of y) (λ s u. omega arith);

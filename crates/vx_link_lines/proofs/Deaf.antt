@@ -6,7 +6,8 @@ use Rattle.vx_model.specs.Sites.{is_origin, is_up}
 use Rattle.vx_model.specs.declared.site.SiteState.TheVariants.{Bare as IsBare, Up as IsUp, Deported as IsDeported, Down as IsDown}
 use Rattle.vx_history.specs.Doubts.{Doubted, happened}
 use Rattle.vx_events.proofs.Steps.{no_sites}
-use Rattle.vx_events.specs.LinkedFacts.{link_facts, linked_fact, links_by}
+use Rattle.vx_events.specs.GroupLines.{is_over_group}
+use Rattle.vx_events.specs.LinkedFacts.{link_facts, links_by}
 use Rattle.vx_events.specs.LinksFit.{StartsAt}
 use Rattle.vx_history.specs.Sends.{is_linked}
 use Rattle.vx_model.specs.declared.site.SiteState.{SiteState}
@@ -23,7 +24,8 @@ use Rattle.vx_effects.proofs.Leaving.{fit_worked}
 use Rattle.vx_effects.proofs.Packets.{update_effect}
 use Rattle.vx_effects.specs.Facts.{fact_of, received_fact}
 use Rattle.vx_events.proofs.Places.{some_same}
-use Rattle.vx_events.proofs.Values.{slice_get-values_from}
+use Rattle.vx_linked.proofs.Heard.{site_apart}
+use Rattle.vx_yard.proofs.OverGroup.{bare_or, set_notes}
 use Rattle.vx_events.specs.declared.said.Said.TheVariants.{Ignored}
 use Rattle.vx_net.specs.Flights.{Flying}
 use Rattle.vx_order.specs.declared.facts.RvgFacts.{RvgFacts}
@@ -34,7 +36,7 @@ use Rattle.vx_diskset.specs.Asked.{LeavesAlone}
 use Rattle.vx_diskset.specs.Holds.{KeptBeside, beside_of}
 use Rattle.vx_diskset.specs.Stands.{IsToldAt, RoleIs, SiteStands}
 use Rattle.vx_diskset.specs.declared.disk_set.DiskSet.{DiskSet}
-use Rattle.vx_diskset.specs.declared.disk_set.DiskSet.TheVariants.{Bare, Spoiled, Up, Receives as HasRoom, Down, Gone}
+use Rattle.vx_diskset.specs.declared.disk_set.DiskSet.TheVariants.{Bare, Spoiled, Up, Receives as HasRoom, Down, OfGroup, Gone}
 use Rattle.vx_joins.proofs.TakesUpdate.{ignored_is}
 use Rattle.vx_joins.specs.Deliveries.{IsUnheard, TakesNone, TakesOne, TookTo}
 use Rattle.vx_yard.specs.Changes.{last_facts}
@@ -113,10 +115,8 @@ module _ {R : Type 0} {g : Ghosts R} where
   took_ignored w number p k beside e fed a b f h said (IsUnheard more is said_is here from same sends) not = said_is
 
   -- the facts of a site
-  pub fact_at : (d : Doubted) (y : Yard R g) (s : ℕ) (f : SiteFacts) → StandsFor d y → s < d.world.sites → slice_get y.facts.items s ≡ Some f → f ≡ fact_of (d.world.nodes s) (d.world.links s) d.world.sites
-  fact_at d y s f stands below at =
-      let start : 0 + s ≡ s = omega arith in
-      some_same (sym at ∙ ap (λ (fs : List SiteFacts). slice_get fs s) stands.facts ∙ slice_get-values_from (λ i. linked_fact d.world i) 0 d.world.sites s below ∙ ap (λ (i : ℕ). Some (linked_fact d.world i)) start)
+  pub fact_at : (d : Doubted) (y : Yard R g) (s : ℕ) (f : SiteFacts) → StandsFor d y → s < d.world.sites → is_over_group (d.world.nodes s) ≡ false → slice_get y.facts.items s ≡ Some f → f ≡ fact_of (d.world.nodes s) (d.world.links s) d.world.sites
+  fact_at d y s f stands below alone at = some_same (sym at ∙ ap (λ (fs : List SiteFacts). slice_get fs s) stands.facts ∙ site_apart d.world s below alone)
 
   module _ (d : Doubted) (number : ℕ) (p : Packet) (k : ℕ) (x : Write) (at : packet_at d.world.packets number ≡ Some p) (message : p.message ≡ Update k x) where
     -- disks that receive nothing
@@ -126,6 +126,9 @@ module _ {R : Type 0} {g : Ghosts R} where
     ignored_by beside (Up rvg) b is none role stands = ignored_is d.world number p k x at message (inr role)
     ignored_by beside (HasRoom s) b is none role stands = absurd (let e : true ≡ false = sym is ∙ none in cc)
     ignored_by beside (Down rack) b is none role stands = ignored_is d.world number p k x at message (inl (inl (ap is_up stands.state)))
+    ignored_by beside (OfGroup s) b is none role stands = ⊎_elim
+        (λ (bare : (d.world.nodes p.target).state ≡ IsBare). ignored_is d.world number p k x at message (inl (inl (ap is_up bare))))
+        (λ made. ignored_is d.world number p k x at message (inr (ap is_origin (set_notes beside (d.world.nodes p.target) s stands made).1.none.role))) (bare_or (d.world.nodes p.target).state)
     ignored_by beside Gone b is none role stands = absurd stands
 
     pub deaf_leads : (old new : Yard R g) (before after : DiskSet R g) (b : Bool) → StandsFor d old → p.target < d.world.sites → Changed old new p.target before after → LeavesAlone before after → Receives after b → b ≡ false → RoleIs (d.world.nodes p.target) after → SiteStands (beside_of d p.target) (d.world.nodes p.target) after

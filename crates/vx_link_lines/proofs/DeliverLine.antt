@@ -15,7 +15,7 @@ use Rattle.vx_peers.specs.Answers.{is_answer}
 use Rattle.vx_events.proofs.LinkAgreeing.{packet_agrees}
 use Rattle.vx_events.proofs.Places.{never_some, some_same}
 use Rattle.vx_events.proofs.Values.{length-values_from}
-use Rattle.vx_events.specs.LinkedFacts.{linked_fact}
+use Rattle.vx_events.specs.StepsOver.{fact_over}
 use Rattle.vx_yard.specs.Carries.{Carries}
 use Rattle.vx_yard.specs.Standing.{StandsFor}
 use Rattle.vx_yard.specs.declared.yard.Yard.{Yard}
@@ -72,7 +72,7 @@ module _ {R : Type 0} {g : Ghosts R} where
 
   -- as many facts as sites
   pub sites_many : (d : Doubted) (y : Yard R g) → StandsFor d y → length y.facts.items ≡ d.world.sites
-  sites_many d y stands = ap (λ (fs : List SiteFacts). length fs) stands.facts ∙ length-values_from (λ i. linked_fact d.world i) 0 d.world.sites
+  sites_many d y stands = ap (λ (fs : List SiteFacts). length fs) stands.facts ∙ length-values_from (λ i. fact_over d.world i) 0 d.world.sites
 
   pub found : (d : Doubted) (y : Yard R g) (number : ℕ) (r : Option Part) (part : Part) → Carries d y → packet_unknown y.flight.count number ≡ None → r ≡ option_map part_carried (packet_at d.world.packets number) → r ≡ Some part → Found d number part
   found d y number r part carries free of is =

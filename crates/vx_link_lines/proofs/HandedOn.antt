@@ -25,6 +25,7 @@ use Rattle.vx_effects.proofs.Leaving.{fit_worked}
 use Rattle.vx_effects.proofs.Packets.{update_effect, update_hands}
 use Rattle.vx_effects.specs.Facts.{fact_of, received_fact}
 use Rattle.vx_events.specs.Effects.{EffectAt}
+use Rattle.vx_events.specs.GroupLines.{is_over_group}
 use Rattle.vx_events.specs.LinkEnds.{LinksFind}
 use Rattle.vx_events.specs.LinkFinds.{FindsOther, KeepsOther, LosesOther, MayTake, TakesOther, rule_of, target_with}
 use Rattle.vx_events.specs.declared.said.Said.TheVariants.{Ignored, Taken}
@@ -45,6 +46,7 @@ use Rattle.vx_yard.specs.Yards.{IsTold}
 use Rattle.vx_yard.specs.declared.yard.Yard.{Yard}
 use Rattle.vx_yard.proofs.ApplySite.{worked_effect, worked_for}
 use Rattle.vx_yard.proofs.OneSite.{Changed}
+use Rattle.vx_yard.proofs.OverGroup.{receives_apart}
 use Rattle.vx_link_lines.proofs.UpdateLine.{SameSite, carries_handed, done_as, last_shown, leads_new, leads_same, left_at, same_site, stays_ignored, written_site}
 
 -- a site and its packet in another world, of which disks that tell nothing were the source
@@ -101,6 +103,10 @@ module _ {R : Type 0} {g : Ghosts R} where
     effect : EffectAt s d h (o.world.nodes s) (d.world.links s) (d.world.headers s) (d.after s) o.world.packets (o.world.gathering s)
     effect = update_effect d number p k x false at message
 
+    -- a site that receives is over no group
+    apart_by : is_origin n.role ≡ false → is_over_group n ≡ false
+    apart_by receives = receives_apart (beside_of d s) n before (stands.disk_sets.sites s before below changed.there) receives
+
     carried : (event : EventSaid) → DeliveredTo o (beside_of d s) s after feeder a new.flight event → Carries d old → Carries (worked_for h s) new
     carried event is carries =
         let hands = update_hands d.world p x number k at message in
@@ -119,7 +125,7 @@ module _ {R : Type 0} {g : Ghosts R} where
     exact_taken last is receives none many facts =
         let one = node_behind d.world p x number k at message in
         leads_new d number p old new before after stands below changed alone role h (o.world.nodes s) o.world.packets (o.world.gathering s) Taken (received_fact last (fact_of n (d.world.links s) d.world.sites)) effect
-        (fit_worked h s (fit_happened d (DeliverAt number) false stands.links)) (done_as (IsTold new) d number p Taken IsTaken at below (sym is.says) refl) (either_site n (o.world.nodes s) p.source x one) is.stands
+        (fit_worked h s (fit_happened d (DeliverAt number) false stands.links)) (done_as (IsTold new) d number p Taken IsTaken at below (sym is.says) refl) (apart_by receives) (either_site n (o.world.nodes s) p.source x one) is.stands
         (last_shown n (o.world.nodes s) (d.world.links s) d.world.sites p.source last x receives none one many) facts (carried IsTaken is)
 
     -- ---- over disks that tell nothing
@@ -138,7 +144,7 @@ module _ {R : Type 0} {g : Ghosts R} where
           let h' : Doubted = given m o more in
           let noted = worked_effect s d h' m (d.world.links s) (d.world.headers s) (d.after s) (d.world.packets ++ more) o (given_effect d s m o more) in
           leads_new d number p old new before after stands below changed alone role h' m (d.world.packets ++ more) o Taken (received_fact last (fact_of n (d.world.links s) d.world.sites)) (given_effect d s m o more)
-          (fit_worked h' s (fit_finds d (Deliver number) [] Taken h' finds stands.links)) (LinksFind untold h' finds (left_at d h' number p at below)) (either_site n m p.source y one) here
+          (fit_worked h' s (fit_finds d (Deliver number) [] Taken h' finds stands.links)) (LinksFind untold h' finds (left_at d h' number p at below)) (apart_by receives) (either_site n m p.source y one) here
           (last_shown n m (d.world.links s) d.world.sites p.source last y receives none one many) facts
           (λ carries. carries_handed d (worked_for h' s) s feeder a more old new noted.site refl (sends d.world.packets carries.flight) (λ tells. absurd (untold tells)) (fed ∙ ap (λ (i : Node). i.fed_by) (sym noted.is.node))
           handed.assemblies handed.feeders handed.below handed.told carries)

@@ -26,15 +26,16 @@ use Rattle.vx_diskset.specs.Stands.{RoleIs, SiteStands}
 use Rattle.vx_diskset.specs.declared.disk_set.DiskSet.{DiskSet}
 use Rattle.vx_events.proofs.Places.{never_some, some_same}
 use Rattle.vx_events.specs.Effects.{ChangesNode}
-use Rattle.vx_events.specs.LinkedFacts.{linked_fact, linked_facts}
+use Rattle.vx_events.specs.LinkedFacts.{linked_fact}
+use Rattle.vx_events.specs.StepsOver.{facts_over}
 use Rattle.vx_events.specs.Facts.{volume_fact}
 use Rattle.vx_events.specs.declared.said.Said.{Said}
 use Rattle.vx_events.specs.declared.said.Said.TheVariants.{Done, Refused}
 use Rattle.vx_effects.proofs.Effects.{changes_same}
-use Rattle.vx_effects.proofs.Facts.{fact_same, facts_at, halted_is}
+use Rattle.vx_effects.proofs.Facts.{facts_at, halted_is, over_apart, over_same}
 use Rattle.vx_effects.proofs.Leaving.{fit_crashed_as, fit_halved}
 use Rattle.vx_effects.proofs.Notes.{burned_twice}
-use Rattle.vx_effects.specs.Facts.{fact_of, halted_fact, halted_group as halted_there, halted_group}
+use Rattle.vx_effects.specs.Facts.{fact_of, halted_fact, halted_group as halted_there, halted_group, over_of}
 use Rattle.vx_diskset.proofs.Roles.{role_like}
 use Rattle.vx_model.specs.Sites.{is_origin}
 use Rattle.vx_yard.specs.Carries.{Carries}
@@ -51,7 +52,9 @@ use Rattle.vx_yard.proofs.CrashSite.{down_up}
 use Rattle.vx_yard.proofs.FailsStay.{fails_then}
 use Rattle.vx_yard.proofs.FuseStays.{fused_none, fused_on, left_passed}
 use Rattle.vx_effects.proofs.Halves.{may_be, stopped}
-use Rattle.vx_link_lines.proofs.HeaderCalls.{Answered, IsHeader, in_doubt}
+use Rattle.vx_link_lines.proofs.HeaderCalls.{Answered, IsHeader, in_doubt, over_body}
+use Rattle.vx_linked.proofs.Heard.{site_apart}
+use Rattle.vx_events.specs.GroupLines.{is_over_group}
 use Rattle.vx_link_lines.proofs.HeadedWorlds as worlds
 use Rattle.vx_link_lines.proofs.HeadedWorlds.{fused_before, stopped_noted, worked_twice}
 use Rattle.vx_yard.proofs.Lists.{get-set_same, set_same}
@@ -63,12 +66,13 @@ group_halted disk None = refl
 group_halted disk (Some rvg) = refl
 
 -- the facts of a world that differs at one site
-facts_there : (d e : Doubted) (s : ℕ) (n : Node) (row : ℕ → Link) → ChangesNode s d e → s < d.world.sites → e.world.nodes s ≡ n → ((k : ℕ) → e.world.links s k ≡ row k)
-    → linked_facts e.world ≡ slice_set (linked_facts d.world) s (fact_of n row d.world.sites)
-facts_there d e s n row changes below node links =
+facts_there : (d e : Doubted) (s : ℕ) (n : Node) (row : ℕ → Link) → ChangesNode s d e → s < d.world.sites → is_over_group n ≡ false → e.world.nodes s ≡ n → ((k : ℕ) → e.world.links s k ≡ row k)
+    → facts_over e.world ≡ slice_set (facts_over d.world) s (fact_of n row d.world.sites)
+facts_there d e s n row changes below alone node links =
     facts_at s d e changes below
-    ∙ ap (slice_set (linked_facts d.world) s)
-    (ap (λ (m : Node). fact_of m (e.world.links s) e.world.sites) node ∙ ap (λ (k : ℕ). fact_of n (e.world.links s) k) changes.sites ∙ fact_same n row (e.world.links s) d.world.sites links)
+    ∙ ap (slice_set (facts_over d.world) s)
+    (ap (λ (m : Node). over_of m (e.world.links s) e.world.sites) node ∙ ap (λ (k : ℕ). over_of n (e.world.links s) k) changes.sites ∙ over_same n row (e.world.links s) d.world.sites links
+    ∙ over_apart n row d.world.sites alone)
 
 -- a site that went down shows nothing of what a header says
 down_alike : (n m : Node) (a b : ℕ → Link) (sites : ℕ) → m.name ≡ n.name → m.disks ≡ n.disks → m.blocks ≡ n.blocks → m.volumes ≡ n.volumes → down_facts (fact_of m b sites) ≡ down_facts (fact_of n a sites)
@@ -114,7 +118,7 @@ module _ {R : Type 0} {g : Ghosts R} (note : (ℕ → Node) → ℕ → Node) (s
 
   -- ---- it is done
 
-  pub headed_done : RoleIs m after → Answered CrashedAt (beside_of d s) (worked n) (worked m) ls before after (Ok tt) → LeavesFuse NoMore Done before after → new.facts.items ≡ linked_facts (behind d e).world
+  pub headed_done : RoleIs m after → Answered CrashedAt (beside_of d s) (worked n) (worked m) ls before after (Ok tt) → LeavesFuse NoMore Done before after → new.facts.items ≡ facts_over (behind d e).world
       → (Carries start old → Carries (noted_by note (behind d e)) new) → NextFor [] start (noted_by note (behind d e)) old new
   headed_done kind is calls facts carries =
       let w = worlds.done_effect note s notes d e m h.row ls gathered h.effect h.kept h.sure in
@@ -142,11 +146,11 @@ module _ {R : Type 0} {g : Ghosts R} (note : (ℕ → Node) → ℕ → Node) (s
 
   -- the facts of the site as a refusal leaves them
   noted_there : (why : No) (x x' : SiteFacts) → slice_get old.facts.items s ≡ Some x → x' ≡ noted_facts why x → new.facts.items ≡ slice_set old.facts.items s x'
-      → new.facts.items ≡ slice_set (linked_facts start.world) s (noted_facts why (linked_fact start.world s))
+      → new.facts.items ≡ slice_set (facts_over start.world) s (noted_facts why (linked_fact start.world s))
   noted_there why x x' at is facts =
-      let shown : slice_get (linked_facts start.world) s ≡ Some x = ap (λ (fs : List SiteFacts). slice_get fs s) (sym stands.facts) ∙ at in
-      let same : x ≡ linked_fact start.world s = some_same (sym shown ∙ worlds.site_shown start.world s below) in
-      facts ∙ ap (λ (fs : List SiteFacts). slice_set fs s x') stands.facts ∙ ap (slice_set (linked_facts start.world) s) (is ∙ ap (noted_facts why) same)
+      let shown : slice_get (facts_over start.world) s ≡ Some x = ap (λ (fs : List SiteFacts). slice_get fs s) (sym stands.facts) ∙ at in
+      let same : x ≡ linked_fact start.world s = some_same (sym shown ∙ site_apart start.world s below (ap is_over_group here ∙ h.alone)) in
+      facts ∙ ap (λ (fs : List SiteFacts). slice_set fs s x') stands.facts ∙ ap (slice_set (facts_over start.world) s) (is ∙ ap (noted_facts why) same)
 
   -- a disk failed in it
   pub headed_halts : RoleIs n after → (disk : ℕ) (x x' : SiteFacts) → Answered CrashedAt (beside_of d s) (worked n) (worked m) ls before after (Err (Device disk)) → LeavesFuse NoMore (Refused (Device disk)) before after
@@ -170,11 +174,11 @@ module _ {R : Type 0} {g : Ghosts R} (note : (ℕ → Node) → ℕ → Node) (s
               role = subst (λ (k : Node). RoleIs k after) there (role_like n (stopped n disk) after refl kind);
             })
             (noted_there (Device disk) x x' at noted facts
-            ∙ ap (λ (o : Option RvgFacts). slice_set (linked_facts start.world) s (let y : SiteFacts = record (linked_fact start.world s) { rvg = o } in y)) (group_halted disk (linked_fact start.world s).rvg)
-            ∙ ap (slice_set (linked_facts start.world) s)
+            ∙ ap (λ (o : Option RvgFacts). slice_set (facts_over start.world) s (let y : SiteFacts = record (linked_fact start.world s) { rvg = o } in y)) (group_halted disk (linked_fact start.world s).rvg)
+            ∙ ap (slice_set (facts_over start.world) s)
             (ap (λ (k : Node). halted_fact disk (fact_of k (d.world.links s) d.world.sites)) here
             ∙ sym (halted_is (worked n) (d.world.links s) d.world.sites disk) ∙ ap (λ (k : Node). fact_of k (d.world.links s) d.world.sites) (stopped_noted n disk))
-            ∙ sym (facts_there start to s (stopped n disk) (d.world.links s) w.site below w.is.node w.is.links))
+            ∙ sym (facts_there start to s (stopped n disk) (d.world.links s) w.site below h.alone w.is.node w.is.links))
             (λ a some.
             let same : may_be d e s disk ≡ a = some_same (sym w.is.after ∙ some) in
             subst (λ (b : After). IsSameSite (to.world.nodes s) b.node) same
@@ -217,9 +221,9 @@ module _ {R : Type 0} {g : Ghosts R} (note : (ℕ → Node) → ℕ → Node) (s
     where
       by : (count : ℕ) (taken : Bool) (k : Node) (links : ℕ → Link) (ks : List KeptLink) (node_is : (resolved_at (halved d e s 0) s taken).world.nodes s ≡ k)
           (row_is : (j : ℕ) → (resolved_at (halved d e s 0) s taken).world.links s j ≡ links j) (links_are : row_links links d.world.sites ≡ ks) (least : k.safe ≤ count) (most : count ≤ length k.log)
-          → k.state ≡ IsUp → k.failing ≡ n.failing → down_facts (fact_of k links d.world.sites) ≡ down_facts (fact_of n links d.world.sites)
+          → is_over_group k ≡ false → k.state ≡ IsUp → k.failing ≡ n.failing → down_facts (fact_of k links d.world.sites) ≡ down_facts (fact_of n links d.world.sites)
           → SiteStands (record { links = ks; headers = d.world.headers s + 1; doubt = None }) (crashed k count) after → CutFor note d e s old new
-      by count taken k links ks node_is row_is links_are least most up failing shown stood_there =
+      by count taken k links ks node_is row_is links_are least most alone up failing shown stood_there =
           let to : Doubted = noted_by note (crashed_as (halved d e s 0) s count taken) in
           let changes = worlds.fell_changes note s notes d e m h.row ls gathered h.effect h.kept h.sure count taken k links ks node_is row_is links_are least most in
           let node = worlds.fell_node note s notes d e m h.row ls gathered h.effect h.kept h.sure count taken k links ks node_is row_is links_are least most in
@@ -241,9 +245,9 @@ module _ {R : Type 0} {g : Ghosts R} (note : (ℕ → Node) → ℕ → Node) (s
                     role = role_off (record { links = ks; headers = d.world.headers s + 1; doubt = None }) (crashed k count) (to.world.nodes s) after stood_there (λ is_up. down_up is_up);
                   })
                   (noted_there Off x x' at noted facts
-                  ∙ ap (λ (q : Node). slice_set (linked_facts start.world) s (down_facts (fact_of q (d.world.links s) d.world.sites))) here
-                  ∙ ap (slice_set (linked_facts start.world) s) (sym shown)
-                  ∙ sym (facts_there start to s (crashed k count) (to.world.links s) changes below node (λ j. refl)))
+                  ∙ ap (λ (q : Node). slice_set (facts_over start.world) s (down_facts (fact_of q (d.world.links s) d.world.sites))) here
+                  ∙ ap (slice_set (facts_over start.world) s) (sym shown)
+                  ∙ sym (facts_there start to s (crashed k count) (to.world.links s) changes below alone node (λ j. refl)))
                   (λ a some. absurd (never_some (sym (worlds.fell_sure note s notes d e m h.row ls gathered h.effect h.kept h.sure count taken k links ks node_is row_is links_are least most) ∙ some)));
               carries = carries_let s start to old new lets small changes (worlds.fell_sent note s notes d e m h.row ls gathered h.effect h.kept h.sure count taken k links ks node_is row_is links_are least most)
                   (worlds.fell_gathering note s notes d e m h.row ls gathered h.effect h.kept h.sure count taken k links ks node_is row_is links_are least most) (λ is_up. down_up (sym (ap (λ (q : Node). q.state) node) ∙ is_up)) told_then;
@@ -256,13 +260,13 @@ module _ {R : Type 0} {g : Ghosts R} (note : (ℕ → Node) → ℕ → Node) (s
       itself_by q own =
           subst (λ (y : KeptSite). (count : ℕ) → y.node.safe ≤ count → count ≤ length y.node.log → SiteStands (sure_of y) (crashed y.node count) after → CutFor note d e s old new) (sym own)
           (λ count least most stood_there.
-          by count false (stopped n 0) (d.world.links s) (header_links d.world s) (worlds.own_node note s notes d e m h.row ls gathered h.effect h.kept h.sure) (λ j. refl) refl least most h.opens.0 refl refl stood_there)
+          by count false (stopped n 0) (d.world.links s) (header_links d.world s) (worlds.own_node note s notes d e m h.row ls gathered h.effect h.kept h.sure) (λ j. refl) refl least most h.alone h.opens.0 refl refl stood_there)
 
       doubt_by : (q : KeptSite) → (in_doubt (beside_of d s) (worked m) ls 0).doubt ≡ Some q → (count : ℕ) → q.node.safe ≤ count → count ≤ length q.node.log → SiteStands (sure_of q) (crashed q.node count) after → CutFor note d e s old new
       doubt_by q other =
           subst (λ (y : KeptSite). (count : ℕ) → y.node.safe ≤ count → count ≤ length y.node.log → SiteStands (sure_of y) (crashed y.node count) after → CutFor note d e s old new) (some_same other)
           (λ count least most stood_there.
-          by count true (stopped m 0) h.row ls (worlds.other_node note s notes d e m h.row ls gathered h.effect h.kept h.sure) (worlds.other_row note s notes d e m h.row ls gathered h.effect h.kept h.sure) h.kept least most (h.like.state ∙ h.opens.0) h.like.failing
+          by count true (stopped m 0) h.row ls (worlds.other_node note s notes d e m h.row ls gathered h.effect h.kept h.sure) (worlds.other_row note s notes d e m h.row ls gathered h.effect h.kept h.sure) h.kept least most (over_body n m h.like ∙ h.alone) (h.like.state ∙ h.opens.0) h.like.failing
           (down_alike n (stopped m 0) (d.world.links s) h.row d.world.sites h.like.name h.like.disks h.like.blocks h.like.volumes) stood_there)
 
   -- by what was answered

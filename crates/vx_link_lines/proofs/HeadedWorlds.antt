@@ -17,8 +17,6 @@ use Rattle.vx_effects.proofs.Notes.{burned_twice}
 use Rattle.vx_effects.proofs.Rows.{touch_kept}
 use Rattle.vx_events.specs.Effects.{ChangesNode, EffectAt}
 use Rattle.vx_events.proofs.Steps.{kept_is}
-use Rattle.vx_events.proofs.Values.{slice_get-values_from}
-use Rattle.vx_events.specs.LinkedFacts.{linked_fact, linked_facts}
 use Rattle.vx_link_lines.specs.Headed.{NotesAt, behind, noted_by}
 use Rattle.vx_yard.proofs.CrashSite.{beside_sure}
 use Rattle.vx_effects.proofs.Halves.{crashed_effect, halved_effect, may_be, may_be_node, may_be_row, stopped}
@@ -188,9 +186,6 @@ module _ (note : (ℕ → Node) → ℕ → Node) (s : ℕ) (notes : NotesAt s n
       ∙ ap (λ (r : ℕ → Link). r j) (at_place (halved d e s 0).world.links s (may_be d e s 0).row) ∙ may_row 0 j
 
 -- ---- places
-
-pub site_shown : (w : World) (i : ℕ) → i < w.sites → slice_get (linked_facts w) i ≡ Some (linked_fact w i)
-site_shown w i below = let start : 0 + i ≡ i = omega arith in slice_get-values_from (λ j. linked_fact w j) 0 w.sites i below ∙ ap (λ (j : ℕ). Some (linked_fact w j)) start
 
 pub within : {A : Type 0} (xs : List A) (i : ℕ) (x : A) → slice_get xs i ≡ Some x → i < length xs
 within xs i x is = slice_get_within xs i x is

@@ -1,9 +1,10 @@
 -- An event that writes one header of a site's log, and what a call on the disks of the site promises that does it.
-use Rattle.std.proofs.Common.{◌≡◌, ◌≤◌, ◌+◌, ℕ, List}
-use Rattle.std.specs.Prelude.{Option, Some, None, Result, Ok, Err}
+use Rattle.std.proofs.Common.{◌≡◌, ◌∙◌, ◌≤◌, ◌+◌, ℕ, false, List, ap, length}
+use Rattle.std.specs.Prelude.{◌&&◌, eqb, Option, Some, None, is_some, Result, Ok, Err}
+use Rattle.vx_history.specs.Groups.{GroupNode}
 use Rattle.vx_history.specs.Doubts.{Doubted}
 use Rattle.vx_history.specs.Stops.{IsFused, IsOpen, WritesAt}
-use Rattle.vx_history.specs.World.{Gathering, Link, Node}
+use Rattle.vx_history.specs.World.{Gathering, Link, Node, Volume}
 use Rattle.vx_history.specs.declared.event.Event.{Event}
 use Rattle.vx_model.specs.declared.no.No.{No}
 use Rattle.vx_model.specs.declared.no.No.TheVariants.{Device, Limit, Down as IsOff}
@@ -17,6 +18,7 @@ use Rattle.vx_diskset.specs.Stands.{IsToldAt, SiteStands}
 use Rattle.vx_diskset.specs.declared.disk_set.DiskSet.{DiskSet}
 use Rattle.vx_events.specs.Effects.{EffectAt}
 use Rattle.vx_events.specs.Fails.{IsLogDisk}
+use Rattle.vx_events.specs.GroupLines.{is_over_group}
 use Rattle.vx_events.specs.LinksFit.{LinksFit}
 use Rattle.vx_link_lines.specs.Headed.{behind}
 use Rattle.vx_srl.specs.Views.{most_number}
@@ -28,10 +30,17 @@ pub record SameBody (n m : Node) : Type 0 where
   pub disks : m.disks ≡ n.disks
   pub blocks : m.blocks ≡ n.blocks
   pub volumes : m.volumes ≡ n.volumes
+  pub group : m.group ≡ n.group
   pub failing : m.failing ≡ n.failing
   pub fuse : m.fuse ≡ n.fuse
 
--- an event that writes one header of the log of a site, which is this node with these links then
+-- such a site is over a group where that is
+pub over_body : (n m : Node) → SameBody n m → is_over_group m ≡ is_over_group n
+over_body n m like =
+    ap (λ (o : Option GroupNode). is_some o && eqb (length m.volumes) 0) like.group
+    ∙ ap (λ (vs : List Volume). is_some n.group && eqb (length vs) 0) like.volumes
+
+-- an event that writes one header of the log of a site over no group, which is this node with these links then
 pub record IsHeader (d : Doubted) (e : Event) (s : ℕ) (m : Node) (ls : List KeptLink) (gathered : Option Gathering) : Type 0 where
   pub row : ℕ → Link
   pub effect : EffectAt s d (behind d e) m row (d.world.headers s + 1) (d.after s) d.world.packets gathered
@@ -41,6 +50,7 @@ pub record IsHeader (d : Doubted) (e : Event) (s : ℕ) (m : Node) (ls : List Ke
   pub fits : LinksFit (behind d e)
   pub fits_before : LinksFit d
   pub opens : IsOpen (d.world.nodes s)
+  pub alone : is_over_group (d.world.nodes s) ≡ false
   pub writes : WritesAt d.world e s
 
 -- a halted site that may be this node with these links on its disks

@@ -31,6 +31,7 @@ use Rattle.vx_effects.proofs.Answers.{answer_effect}
 use Rattle.vx_effects.proofs.Fitting.{fit_happened}
 use Rattle.vx_events.specs.Effects.{EffectAt}
 use Rattle.vx_events.specs.Fuses.{ring_taken}
+use Rattle.vx_events.specs.GroupLines.{is_over_group}
 use Rattle.vx_events.specs.LinkedFacts.{link_fact, needed_by}
 use Rattle.vx_events.specs.LinksFit.{LinksFit, is_plain_mode, is_plain_mode as goes_plainly}
 use Rattle.vx_joins.specs.Hearings.{IsListening}
@@ -87,6 +88,7 @@ pub listening : (d : Doubted) (t q : ℕ) (f : LinkFacts) → LinksFit d → Hea
 listening d t q f fits h = record {
   up = h.site.up;
   running = h.site.running;
+  apart = h.link.apart;
   keeps = h.site.keeps;
   linked = h.link.linked;
   plain = plain_too (d.world.links t q).mode ((fits.rows t).plain q h.link.linked).mode;
@@ -132,16 +134,17 @@ module _ (d : Doubted) (number : ℕ) (p : Packet) (at : packet_at d.world.packe
   pub heard_rose : ltb (w.links s p.source).stored (o.world.links s p.source).stored ≡ true → EffectAt s d (behind d event) n row (w.headers s + 1) (d.after s) w.packets (o.world.gathering s)
   heard_rose rises = subst (λ (b : Bool). EffectAt s d (behind d event) n row (w.headers s + (if b then 1 else 0)) (d.after s) w.packets (o.world.gathering s)) rises effect
 
-  pub heard_header : ltb (w.links s p.source).stored (o.world.links s p.source).stored ≡ true → LinksFit d → IsOpen n → IsHeader d event s n (header_links o.world s) (o.world.gathering s)
-  heard_header rises fits opens = record {
+  pub heard_header : ltb (w.links s p.source).stored (o.world.links s p.source).stored ≡ true → LinksFit d → IsOpen n → is_over_group n ≡ false → IsHeader d event s n (header_links o.world s) (o.world.gathering s)
+  heard_header rises fits opens alone = record {
     row = row;
     effect = heard_rose rises;
     kept = heard_kept;
     sure = sure_open d s fits opens;
-    like = record { state = refl; name = refl; disks = refl; blocks = refl; volumes = refl; failing = refl; fuse = refl };
+    like = record { state = refl; name = refl; disks = refl; blocks = refl; volumes = refl; group = refl; failing = refl; fuse = refl };
     fits = fit_happened d event false fits;
     fits_before = fits;
     opens = opens;
+    alone = alone;
     writes = (p, at, refl, no_update);
   }
 

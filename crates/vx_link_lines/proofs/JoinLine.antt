@@ -34,7 +34,8 @@ use Rattle.vx_diskset.specs.Stands.{SiteStands}
 use Rattle.vx_diskset.specs.declared.disk_set.DiskSet.{DiskSet}
 use Rattle.vx_effects.proofs.Fitting.{fit_happened}
 use Rattle.vx_effects.proofs.LinkParts.{AreTwo, joins_effect, two_done}
-use Rattle.vx_events.specs.LinkedFacts.{linked_facts}
+use Rattle.vx_events.specs.StepsOver.{facts_over}
+use Rattle.vx_events.specs.GroupLines.{is_over_group}
 use Rattle.vx_events.specs.LinksFit.{LinksFit}
 use Rattle.vx_events.specs.declared.said.Said.{Said}
 use Rattle.vx_events.specs.declared.said.Said.TheVariants.{Refused}
@@ -77,7 +78,7 @@ module _ {R : Type 0} {g : Ghosts R} where
 
 -- ---- the site may come to that line
 
-module _ (d : Doubted) (p s : ℕ) (sync : SyncMode) (fit : LinksFit d) (said : (step d.world (LinkAt p s sync Joins)).said ≡ IsDone) where
+module _ (d : Doubted) (p s : ℕ) (sync : SyncMode) (fit : LinksFit d) (alone : is_over_group (d.world.nodes s) ≡ false) (said : (step d.world (LinkAt p s sync Joins)).said ≡ IsDone) where
   abbrev site : Node
   site = d.world.nodes s
 
@@ -91,6 +92,7 @@ module _ (d : Doubted) (p s : ℕ) (sync : SyncMode) (fit : LinksFit d) (said : 
   can_join = record {
     up = two_sites.up_too;
     running = two_sites.running_too;
+    apart = alone;
     origin = origin_of site.role (and_left (is_primary site.role) (is_empty site.log && no_links) (fresh d p s sync fit said));
     empty = none_logged site.log (and_left (is_empty site.log) no_links (and_right (is_primary site.role) (is_empty site.log && no_links) (fresh d p s sync fit said)));
     unlinked = second_links d p s sync fit said;
@@ -98,13 +100,13 @@ module _ (d : Doubted) (p s : ℕ) (sync : SyncMode) (fit : LinksFit d) (said : 
 
 module _ {R : Type 0} {g : Ghosts R} where
   -- what the call on the disks promises of their fuse
-  pub join_headed : (note : (ℕ → Node) → ℕ → Node) (d : Doubted) (p s : ℕ) (sync : SyncMode) → NotesAt s note → LinksFit d → (step d.world (LinkAt p s sync Joins)).said ≡ IsDone
+  pub join_headed : (note : (ℕ → Node) → ℕ → Node) (d : Doubted) (p s : ℕ) (sync : SyncMode) → NotesAt s note → LinksFit d → is_over_group (d.world.nodes s) ≡ false → (step d.world (LinkAt p s sync Joins)).said ≡ IsDone
       → (old : Yard R g) (before after : DiskSet R g) → StandsFor (noted_by note d) old → s < d.world.sites → slice_get old.disk_sets.items s ≡ Some before → (result : Result (Unit {0}) No)
       → ((beside : KeptBeside) (k : Node) → SiteStands beside k before → CanJoin beside k → HeadUnder 2 (done_by result) before after) → HeadUnder 2 (done_by result) before after
-  join_headed note d p s sync notes fit said old before after stands below at result call =
-      call (beside_of d s) (worked (d.world.nodes s)) (subst (λ (k : Node). SiteStands (beside_of d s) k before) (notes.here d.world.nodes) (stands.disk_sets.sites s before below at)) (can_join d p s sync fit said)
+  join_headed note d p s sync notes fit alone said old before after stands below at result call =
+      call (beside_of d s) (worked (d.world.nodes s)) (subst (λ (k : Node). SiteStands (beside_of d s) k before) (notes.here d.world.nodes) (stands.disk_sets.sites s before below at)) (can_join d p s sync fit alone said)
 
-module _ {R : Type 0} {g : Ghosts R} (note : (ℕ → Node) → ℕ → Node) (d : Doubted) (p s : ℕ) (sync : SyncMode) (notes : NotesAt s note) (fit : LinksFit d) (said : (step d.world (LinkAt p s sync Joins)).said ≡ IsDone)
+module _ {R : Type 0} {g : Ghosts R} (note : (ℕ → Node) → ℕ → Node) (d : Doubted) (p s : ℕ) (sync : SyncMode) (notes : NotesAt s note) (fit : LinksFit d) (alone : is_over_group (d.world.nodes s) ≡ false) (said : (step d.world (LinkAt p s sync Joins)).said ≡ IsDone)
     (old new : Yard R g) (before after : DiskSet R g) (stands : StandsFor (noted_by note d) old) (below : s < d.world.sites) (changed : Changed old new s before after) where
   abbrev w : World
   w = d.world
@@ -127,15 +129,16 @@ module _ {R : Type 0} {g : Ghosts R} (note : (ℕ → Node) → ℕ → Node) (d
     effect = joins_effect d p s sync false said;
     kept = refl;
     sure = sure_open d s fit (two.up_too, two.running_too);
-    like = record { state = refl; name = refl; disks = refl; blocks = refl; volumes = refl; failing = refl; fuse = refl };
+    like = record { state = refl; name = refl; disks = refl; blocks = refl; volumes = refl; group = refl; failing = refl; fuse = refl };
     fits = fit_happened d e false fit;
     fits_before = fit;
     opens = (two.up_too, two.running_too);
+    alone = alone;
     writes = refl;
   }
 
   can : CanJoin (beside_of d s) (worked n)
-  can = can_join d p s sync fit said
+  can = can_join d p s sync fit alone said
 
   stood : SiteStands (beside_of d s) (worked n) before
   stood = subst (λ (k : Node). SiteStands (beside_of d s) k before) (notes.here w.nodes) (stands.disk_sets.sites s before below changed.there)
@@ -151,7 +154,7 @@ module _ {R : Type 0} {g : Ghosts R} (note : (ℕ → Node) → ℕ → Node) (d
     joins : (result : Result (Unit {0}) No) → Joined st result → JoinedAt (beside_of d s) (w.nodes p) p (worked n) before after result
     joins result call = call (beside_of d s) (w.nodes p) p (worked n) stood can is
 
-    pub join_done : Joined st (Ok tt) → Calls (Ok tt) → new.facts.items ≡ linked_facts (behind d e).world → new.flight ≡ old.flight → LetGo s old.assemblies.items new.assemblies.items
+    pub join_done : Joined st (Ok tt) → Calls (Ok tt) → new.facts.items ≡ facts_over (behind d e).world → new.flight ≡ old.flight → LetGo s old.assemblies.items new.assemblies.items
         → new.feeders.items ≡ slice_set old.feeders.items s p → NextFor [] (noted_by note d) (noted_by note (behind d e)) old new
     join_done call calls facts flight lets feeders =
         let f = done_effect note s notes d e m header.row (header_links w s) None header.effect header.kept header.sure in

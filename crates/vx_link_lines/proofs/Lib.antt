@@ -18,6 +18,7 @@ pub mod LinkNames
 pub mod LinkParts
 pub mod NotedBoth
 pub mod NotedYard
+pub mod OverGroups
 pub mod PartLine
 pub mod PumpCalls
 pub mod PumpLine

@@ -1,5 +1,5 @@
 -- The sites that a line names which makes a link are found, and its first event is not refused.
-use Rattle.std.proofs.Common.{◌≡◌, ◌∙◌, ℕ, List, Bool, ap, sym, subst}
+use Rattle.std.proofs.Common.{◌≡◌, ◌∙◌, ℕ, List, Bool, false, ap, sym, subst}
 use Rattle.std.specs.Prelude.{IsSome, Some, None}
 use Rattle.vx_model.specs.declared.link.Prot.{Prot}
 use Rattle.vx_model.specs.declared.link.SyncMode.{SyncMode}
@@ -17,10 +17,12 @@ use Rattle.vx_order.specs.declared.facts.SiteFacts.{SiteFacts}
 use Rattle.vx_script.specs.declared.line.ScriptLine.TheVariants.{Link}
 use Rattle.vx_disk.specs.declared.shelf.Shelf.{Ghosts}
 use Rattle.vx_effects.proofs.LinkParts.{AreTwo, two_done}
-use Rattle.vx_events.proofs.LinkJoining.{join_agrees}
+use Rattle.vx_events.proofs.LinkJoining.{join_agrees, join_apart}
 use Rattle.vx_events.proofs.Refused.{passes}
 use Rattle.vx_events.specs.Facts.{seat_of, site_number}
-use Rattle.vx_events.specs.LinkedFacts.{linked_fact, links_by, links_of_site, refused_by}
+use Rattle.vx_events.specs.GroupLines.{is_over_group}
+use Rattle.vx_events.specs.LinkedFacts.{linked_fact, links_by, links_of_site}
+use Rattle.vx_events.specs.StepsOver.{facts_over, refused_over}
 use Rattle.vx_linked.proofs.Finding.{seat_found}
 use Rattle.vx_link_lines.specs.Linking.{AreLinkStates, IsLinking}
 use Rattle.vx_yard.specs.Standing.{StandsFor}
@@ -30,7 +32,7 @@ use Rattle.vx_link_lines.specs.declared.linking.LinkStates.{LinkStates}
 use Rattle.vx_yard.specs.declared.yard.Yard.{Yard}
 use Rattle.vx_link_lines.proofs.AllDurable.{durable_for}
 use Rattle.vx_yard.proofs.LinkLines.{listed}
-use Rattle.vx_yard.proofs.NamedSite.{SiteAt, site_at}
+use Rattle.vx_yard.proofs.NamedSite.{PlaceAt, place_at}
 
 pub link_first : (sites : List SiteFacts) (files : Bool) (first second : List ℕ) (sync : SyncMode) (prot : Prot) → line_refusal sites files (Link first second sync prot) ≡ None → IsSome (seat_of sites first)
 unfolding first_name second_name need_of halt_of ask_of
@@ -45,15 +47,24 @@ module _ {R : Type 0} {g : Ghosts R} (d : Doubted) (old : Yard R g) (first secon
   abbrev w : World
   w = d.world
 
-  here : SiteAt d old first p
-  here = site_at d old first p stands seat
+  here : PlaceAt d old first p
+  here = place_at d old first p stands seat
 
-  there : SiteAt d old second s
-  there = site_at d old second s stands seat_too
+  there : PlaceAt d old second s
+  there = place_at d old second s stands seat_too
+
+  tested : refused_over w (in_files old) (Link first second sync prot) ≡ None
+  tested = ap (λ (fs : List SiteFacts). line_refusal fs (in_files old) (Link first second sync prot)) (sym stands.facts) ∙ free
+
+  -- neither of the two is over a group
+  pub link_apart : is_over_group (w.nodes p) ≡ false
+  link_apart = subst (λ (k : ℕ). is_over_group (w.nodes k) ≡ false) here.number (join_apart w (in_files old) first second sync prot tested).0
+
+  pub link_apart_too : is_over_group (w.nodes s) ≡ false
+  link_apart_too = subst (λ (k : ℕ). is_over_group (w.nodes k) ≡ false) there.number (join_apart w (in_files old) first second sync prot tested).1
 
   pub link_said : (step w (LinkAt p s sync Joins)).said ≡ IsDone
   link_said =
-      let tested : refused_by w (in_files old) (Link first second sync prot) ≡ None = ap (λ (fs : List SiteFacts). line_refusal fs (in_files old) (Link first second sync prot)) (sym stands.facts) ∙ free in
       subst (λ (k : ℕ). (step w (LinkAt k s sync Joins)).said ≡ IsDone) here.number
       (subst (λ (k : ℕ). (step w (LinkAt (site_number w first) k sync Joins)).said ≡ IsDone) there.number
       (join_agrees w (in_files old) first second sync prot (durable_for d old stands) (listed d stands.links) tested))
@@ -66,4 +77,4 @@ module _ {R : Type 0} {g : Ghosts R} (d : Doubted) (old : Yard R g) (first secon
   link_links f is = ap (λ (x : SiteFacts). x.links) is ∙ ap (λ (t : SiteState). links_by t (links_of_site w p)) link_two.up
 
   pub links_it : (states : LinkStates) → AreLinkStates w p s sync states → IsLinking d first second p s sync states
-  links_it states are = record { below = here.below; below_too = there.below; number = here.number; number_too = there.number; said = link_said; are = are }
+  links_it states are = record { below = here.below; below_too = there.below; apart = link_apart; apart_too = link_apart_too; number = here.number; number_too = there.number; said = link_said; are = are }

@@ -26,6 +26,7 @@ use Rattle.vx_effects.proofs.LinkParts.{AreTwo, made_done, made_effect, marked_e
 use Rattle.vx_effects.proofs.LinkRows.{changed_kept, further_kept}
 use Rattle.vx_events.proofs.Places.{some_same}
 use Rattle.vx_events.specs.Effects.{EffectAt}
+use Rattle.vx_events.specs.GroupLines.{is_over_group}
 use Rattle.vx_effects.proofs.Fitting.{fit_happened}
 use Rattle.vx_events.specs.LinksFit.{LinksFit}
 use Rattle.vx_link_lines.specs.Headed.{behind}
@@ -74,10 +75,11 @@ module _ (d : Doubted) (p s : ℕ) (sync : SyncMode) where
     made_links has =
         sym made_kept ∙ further_kept (w.links p) w.sites s made_link has (two_done w p s sync Made said).0.second (made_done w p s sync said).0 refl
 
-    pub made_can : HasPlaces w.sites (w.links p) → CanKeep (beside_of d p) (worked (w.nodes p)) (state_with (w.nodes p) (header_links (behind d made).world p))
-    made_can has = record {
+    pub made_can : is_over_group (w.nodes p) ≡ false → HasPlaces w.sites (w.links p) → CanKeep (beside_of d p) (worked (w.nodes p)) (state_with (w.nodes p) (header_links (behind d made).world p))
+    made_can alone has = record {
       up = made_opens.0;
       running = made_opens.1;
+      apart = alone;
       line = refl;
       role = refl;
       needs = λ k l is needs. ⊎_elim (λ (old : slice_get (header_links w p) k ≡ Some l). needs_same (worked (w.nodes p)) (header_links w p) k l old needs)
@@ -100,10 +102,11 @@ module _ (d : Doubted) (p s : ℕ) (sync : SyncMode) where
     abbrev pub marked_state : State
     marked_state = record (state_with (w.nodes s) (header_links w s)) { mark = Consistent }
 
-    pub marked_can : CanKeep (beside_of d s) (worked (w.nodes s)) marked_state
-    marked_can = record {
+    pub marked_can : is_over_group (w.nodes s) ≡ false → CanKeep (beside_of d s) (worked (w.nodes s)) marked_state
+    marked_can alone = record {
       up = marked_opens.0;
       running = marked_opens.1;
+      apart = alone;
       line = refl;
       role = refl;
       needs = λ k l is needs. needs_same (worked (w.nodes s)) (header_links w s) k l is needs;
@@ -129,10 +132,11 @@ module _ (d : Doubted) (p s : ℕ) (sync : SyncMode) where
         sym (row_links_same (updated (w.links p) s opened_link) ((behind d opens).world.links p) opened_f.is.links (behind d opens).world.sites
         ∙ ap (λ (k : ℕ). row_links (updated (w.links p) s opened_link) k) opened_f.site.sites)
 
-    pub opened_can : CanKeep (beside_of d p) (worked (w.nodes p)) (state_with (w.nodes p) (header_links (behind d opens).world p))
-    opened_can = record {
+    pub opened_can : is_over_group (w.nodes p) ≡ false → CanKeep (beside_of d p) (worked (w.nodes p)) (state_with (w.nodes p) (header_links (behind d opens).world p))
+    opened_can alone = record {
       up = opened_opens.0;
       running = opened_opens.1;
+      apart = alone;
       line = refl;
       role = refl;
       needs = λ k l is needs.
@@ -143,53 +147,56 @@ module _ (d : Doubted) (p s : ℕ) (sync : SyncMode) where
   -- ---- as events that write a header
 
   module _ (fit : LinksFit d) where
-    pub made_header : (step w made).said ≡ IsDone → IsKeptHeader d made p (state_with (w.nodes p) (header_links (step w made).world p))
-    made_header said = record {
+    pub made_header : is_over_group (w.nodes p) ≡ false → (step w made).said ≡ IsDone → IsKeptHeader d made p (state_with (w.nodes p) (header_links (step w made).world p))
+    made_header alone said = record {
       header = record {
         row = updated (w.links p) s made_link;
         effect = made_f said;
         kept = made_kept said;
         sure = sure_open d p fit (made_opens said);
-        like = record { state = refl; name = refl; disks = refl; blocks = refl; volumes = refl; failing = refl; fuse = refl };
+        like = record { state = refl; name = refl; disks = refl; blocks = refl; volumes = refl; group = refl; failing = refl; fuse = refl };
         fits = fit_happened d made false fit;
         fits_before = fit;
         opens = made_opens said;
+        alone = alone;
         writes = refl;
       };
       role = refl;
-      can = made_can said (fit.rows p).places;
+      can = made_can said alone (fit.rows p).places;
     }
 
-    pub marked_header : (step w marked).said ≡ IsDone → IsKeptHeader d marked s (record (state_with (w.nodes s) (header_links w s)) { mark = Consistent })
-    marked_header said = record {
+    pub marked_header : is_over_group (w.nodes s) ≡ false → (step w marked).said ≡ IsDone → IsKeptHeader d marked s (record (state_with (w.nodes s) (header_links w s)) { mark = Consistent })
+    marked_header alone said = record {
       header = record {
         row = w.links s;
         effect = marked_f said;
         kept = refl;
         sure = sure_open d s fit (marked_opens said);
-        like = record { state = refl; name = refl; disks = refl; blocks = refl; volumes = refl; failing = refl; fuse = refl };
+        like = record { state = refl; name = refl; disks = refl; blocks = refl; volumes = refl; group = refl; failing = refl; fuse = refl };
         fits = fit_happened d marked false fit;
         fits_before = fit;
         opens = marked_opens said;
+        alone = alone;
         writes = refl;
       };
       role = refl;
-      can = marked_can said;
+      can = marked_can said alone;
     }
 
-    pub opened_header : (step w opens).said ≡ IsDone → IsKeptHeader d opens p (state_with (w.nodes p) (header_links (step w opens).world p))
-    opened_header said = record {
+    pub opened_header : is_over_group (w.nodes p) ≡ false → (step w opens).said ≡ IsDone → IsKeptHeader d opens p (state_with (w.nodes p) (header_links (step w opens).world p))
+    opened_header alone said = record {
       header = record {
         row = updated (w.links p) s opened_link;
         effect = opened_f said;
         kept = opened_kept said;
         sure = sure_open d p fit (opened_opens said);
-        like = record { state = refl; name = refl; disks = refl; blocks = refl; volumes = refl; failing = refl; fuse = refl };
+        like = record { state = refl; name = refl; disks = refl; blocks = refl; volumes = refl; group = refl; failing = refl; fuse = refl };
         fits = fit_happened d opens false fit;
         fits_before = fit;
         opens = opened_opens said;
+        alone = alone;
         writes = refl;
       };
       role = refl;
-      can = opened_can said;
+      can = opened_can said alone;
     }

@@ -18,7 +18,7 @@ use Rattle.vx_diskset.specs.Keeps.{CanKeep, KeptAt, done_by, restated}
 use Rattle.vx_diskset.proofs.Roles.{role_like}
 use Rattle.vx_diskset.specs.Stands.{KeepsRole, RoleIs, SiteStands}
 use Rattle.vx_diskset.specs.declared.disk_set.DiskSet.{DiskSet}
-use Rattle.vx_events.specs.LinkedFacts.{linked_facts}
+use Rattle.vx_events.specs.StepsOver.{facts_over}
 use Rattle.vx_events.specs.declared.said.Said.{Said}
 use Rattle.vx_events.specs.declared.said.Said.TheVariants.{Done, Refused}
 use Rattle.vx_yard.specs.Carries.{Carries}
@@ -41,7 +41,7 @@ module _ {R : Type 0} {g : Ghosts R} (note : (ℕ → Node) → ℕ → Node) (s
   header_stood = subst (λ (k : Node). SiteStands (beside_of d s) k before) (notes.here d.world.nodes) (stands.disk_sets.sites s before below at)
 
   module _ (new : Yard R g) (after : DiskSet R g) (changed : Changed old new s before after) where
-    pub header_done : RoleIs m after → Answered CrashedAt (beside_of d s) (worked (d.world.nodes s)) (worked m) ls before after (Ok tt) → LeavesFuse NoMore Done before after → new.facts.items ≡ linked_facts (behind d e).world
+    pub header_done : RoleIs m after → Answered CrashedAt (beside_of d s) (worked (d.world.nodes s)) (worked m) ls before after (Ok tt) → LeavesFuse NoMore Done before after → new.facts.items ≡ facts_over (behind d e).world
         → (Carries (noted_by note d) old → Carries (noted_by note (behind d e)) new) → NextFor [] (noted_by note d) (noted_by note (behind d e)) old new
     header_done kind is calls facts carries = headed_done note s notes d e m ls gathered h old new before after stands below changed kind is calls facts carries
 
@@ -85,7 +85,7 @@ module _ {R : Type 0} {g : Ghosts R} (note : (ℕ → Node) → ℕ → Node) (s
         role_like ((noted_by note d).world.nodes s) n after (ap (λ (k : Node). is_origin k.role) (sym (notes.here d.world.nodes)))
         (role_kept (noted_by note d) old s before after stands below at keeps)
 
-    pub kept_done : KeptAt (beside_of d s) (worked n) st before after (Ok tt) → LeavesFuse NoMore Done before after → new.facts.items ≡ linked_facts (behind d e).world → SameLoad old new
+    pub kept_done : KeptAt (beside_of d s) (worked n) st before after (Ok tt) → LeavesFuse NoMore Done before after → new.facts.items ≡ facts_over (behind d e).world → SameLoad old new
         → NextFor [] (noted_by note d) (noted_by note (behind d e)) old new
     kept_done is calls facts load =
         let w = done_effect note s notes d e (restated n st) h.header.row st.links (d.world.gathering s) h.header.effect h.header.kept h.header.sure in
@@ -101,7 +101,7 @@ module _ {R : Type 0} {g : Ghosts R} (note : (ℕ → Node) → ℕ → Node) (s
         (answered_keep CrashedAt (beside_of d s) (worked n) st before after (Err why) is) calls there shown facts lets
 
     module _ (x : State) (is : x ≡ st) where
-      pub part_done : Keeps after x (Ok tt) → Calls after (Ok tt) → new.facts.items ≡ linked_facts (behind d e).world → SameLoad old new → NextFor [] (noted_by note d) (noted_by note (behind d e)) old new
+      pub part_done : Keeps after x (Ok tt) → Calls after (Ok tt) → new.facts.items ≡ facts_over (behind d e).world → SameLoad old new → NextFor [] (noted_by note d) (noted_by note (behind d e)) old new
       part_done kept_by calls facts load = kept_done (kept after x (Ok tt) is kept_by) (calls (beside_of d s) (worked n) stood) facts load
 
       pub part_refused : (why : No) (said : Said) (f f' : SiteFacts) → said ≡ Refused why → Keeps after x (Err why) → Calls after (Err why) → slice_get old.facts.items s ≡ Some f → f' ≡ noted_facts why f

@@ -15,7 +15,9 @@ use Rattle.vx_events.specs.Facts.{seat_of, site_number}
 use Rattle.vx_events.specs.Fails.{IsLogDisk}
 use Rattle.vx_events.specs.LinkEnds.{LinksDone, LinksFind, LogUnread}
 use Rattle.vx_events.specs.LinkFinds.{FindsOther, IsUnreadable, PumpSends, ReadsNone, SendsOther, SentBy, pumped_with}
-use Rattle.vx_events.specs.LinkedFacts.{link_fact, linked_facts}
+use Rattle.vx_events.specs.GroupLines.{is_over_group}
+use Rattle.vx_events.specs.LinkedFacts.{link_fact}
+use Rattle.vx_events.specs.StepsOver.{facts_over}
 use Rattle.vx_events.specs.Lines.{IsDone}
 use Rattle.vx_events.specs.Sayings.{RepeatsSaid}
 use Rattle.vx_events.specs.declared.said.Said.{Said}
@@ -68,7 +70,7 @@ use Rattle.vx_yard.proofs.CrashLine.{rose_still}
 use Rattle.vx_yard.proofs.FailsStay.{alone_keeps, fails_then}
 use Rattle.vx_yard.proofs.FuseStays.{fused_on}
 use Rattle.vx_yard.proofs.LinkLines.{Relinks, carries_kept, listed, stands_kept, stays_as}
-use Rattle.vx_yard.proofs.NamedSite.{SiteAt, site_at}
+use Rattle.vx_yard.proofs.NamedSite.{SiteAt, place_at, site_at}
 use Rattle.vx_yard.proofs.NoteSite.{comes_same}
 use Rattle.vx_yard.proofs.OneSite.{Changed, role_kept, rose_at, stands_still}
 
@@ -151,13 +153,13 @@ module _ {R : Type 0} {g : Ghosts R} where
       → ((f : FoundLink fs p s) → l ≡ f.link) → FoundLink fs p s → Pumping d y p s here l.link
   pumping d y p s here fs l stands free is same named found =
       let w : World = d.world in
-      let seat = site_at d y p here stands is in
       let a : ℕ = site_number w p in
       let b : ℕ = site_number w s in
       let tested = subst (λ (xs : List SiteFacts). Tested xs p s) stands.facts (pump_tested y.facts.items p s (in_files y, free)) in
       let on : OnLink w p s keeps_links = on_link w p s tested in
-      let there : FoundLink (linked_facts w) p s = subst (λ (xs : List SiteFacts). FoundLink xs p s) (same ∙ stands.facts) found in
-      let names : (f : FoundLink (linked_facts w) p s) → l ≡ f.link = subst (λ (xs : List SiteFacts). (f : FoundLink xs p s) → l ≡ f.link) (same ∙ stands.facts) named in
+      let seat = site_at d y p here stands (subst (λ (k : ℕ). is_over_group (w.nodes k) ≡ false) (place_at d y p here stands is).number on.apart) is in
+      let there : FoundLink (facts_over w) p s = subst (λ (xs : List SiteFacts). FoundLink xs p s) (same ∙ stands.facts) found in
+      let names : (f : FoundLink (facts_over w) p s) → l ≡ f.link = subst (λ (xs : List SiteFacts). (f : FoundLink xs p s) → l ≡ f.link) (same ∙ stands.facts) named in
       let fact : l ≡ link_fact (w.nodes a) b (w.links a b) = names there ∙ link_there w p s there on.up in
       let plain : l.link ≡ plain_link b (w.links a b) = ap (λ (x : LinkFacts). x.link) fact in
       let to : l.link.site ≡ b = ap (λ (x : PlainLink). x.site) plain in
@@ -259,7 +261,7 @@ module _ {R : Type 0} {g : Ghosts R} where
         }
 
     -- it was done over disks that tell nothing
-    pub pump_finds : (p q : List ℕ) (fs : List SiteFacts) → (IsTold new → ⊥) → (more : AnySent d.world (site_number d.world p) (site_number d.world q) old.flight new.flight) → fs ≡ linked_facts (step d.world (PumpAt (site_number d.world p) (site_number d.world q))).world → new.facts.items ≡ fs
+    pub pump_finds : (p q : List ℕ) (fs : List SiteFacts) → (IsTold new → ⊥) → (more : AnySent d.world (site_number d.world p) (site_number d.world q) old.flight new.flight) → fs ≡ facts_over (step d.world (PumpAt (site_number d.world p) (site_number d.world q))).world → new.facts.items ≡ fs
         → Leads d (Pump p q) Done old new
     pump_finds p q fs untold more comes facts =
         let a : ℕ = site_number d.world p in

@@ -45,6 +45,7 @@ use Rattle.vx_events.specs.Doubts.{run_as}
 use Rattle.vx_events.specs.Effects.{ChangesNode, EffectAt}
 use Rattle.vx_events.specs.Ends.{AllDone, Ends, IsLeft, NoNumber}
 use Rattle.vx_events.specs.Facts.{group_by, site_number}
+use Rattle.vx_events.specs.GroupLines.{is_over_group}
 use Rattle.vx_events.specs.LinksFit.{LinksFit}
 use Rattle.vx_events.specs.Lists.{Choice}
 use Rattle.vx_events.specs.Sayings.{RepeatsSaid, Replies}
@@ -82,7 +83,7 @@ use Rattle.vx_yard.proofs.FailsStay.{fails_then}
 use Rattle.vx_yard.proofs.FuseStays.{done_by, fused_on, left_passed}
 use Rattle.vx_yard.proofs.Lists.{get-set_same, set_same}
 use Rattle.vx_yard.proofs.NoteSite.{changes_one, comes_one, with_one}
-use Rattle.vx_yard.proofs.OneSite.{Changed, role_kept, stands_still, told_by}
+use Rattle.vx_yard.proofs.OneSite.{Changed, role_kept, still_apart, told_by}
 use Rattle.vx_yard.proofs.Rows.{fact_like, fact_same}
 
 -- ---- the world behind an apply
@@ -214,11 +215,12 @@ module _ {R : Type 0} {g : Ghosts R} where
             works = tt;
             calls = tt;
           };
-          stands = stands_still d e old new s before after stands here.seat.below changed
+          stands = still_apart d e old new s before after stands here.seat.below changed
               (comes_effect d e s (worked m) packets (d.world.gathering s) after eff (fit_worked h s (fit_happened d (ApplyAt s count number) false stands.links))
               (ap (λ (x : Node). x.name) same) (ap (λ (x : Node). x.disks) same) (ap (λ (x : Node). x.blocks) same) (ap (λ (x : Node). x.volumes) same) (ap (λ (x : Node). x.role) same) stood
               (fails_then n (worked m) before after (ap (λ (x : Node). x.failing) same) (calls_keep NoMore (DoneAt number) before after calls) (stands.failing s before here.seat.below changed.there))
               (fuse (worked m) number (ap (λ (x : Node). burned x.fuse) same) calls) (role_kept d old s before after stands here.seat.below changed.there keeps))
+              here.seat.apart (ap is_over_group eff.is.node ∙ ap is_over_group same ∙ here.seat.apart)
               (fact_same (worked m) (e.world.nodes s) (d.world.links s) (e.world.links s) d.world.sites e.world.sites eff.is.node (λ j. eff.is.links j) eff.site.sites ∙ shown) facts;
           carries = λ carries. carries_sent s d e more old new eff.site eff.gathering (eff.sent ∙ sent)
               (subst (λ (x : Node). Feeds n x) (sym eff.is.node) (feeds_like n (worked m) (ap (λ (x : Node). x.state) same) (ap (λ (x : Node). x.role) same) (ap (λ (x : Node). x.fed_by) same)))
@@ -269,11 +271,12 @@ module _ {R : Type 0} {g : Ghosts R} where
             works = tt;
             calls = tt;
           };
-          stands = stands_still d e old new s before after stands here.seat.below changed
+          stands = still_apart d e old new s before after stands here.seat.below changed
               (comes_one d s (worked n) after refl stands.links (stands_worked (beside_of d s) n after is.2)
               (fails_then n (worked n) before after refl (calls_keep NoMore (Refused (Limit what most)) before after calls) (stands.failing s before here.seat.below changed.there))
               (fused_on (Burnt NoMore (Refused (Limit what most)) (size_in before)) n (worked n) (burned n.fuse) before after refl (λ x y burns left. left_passed n.fuse x.fuse y.fuse burns.fuse left) calls.told
               (stands.fuses s before here.seat.below changed.there)) (role_kept d old s before after stands here.seat.below changed.there keeps))
+              here.seat.apart (ap is_over_group (at_place d.world.nodes s (worked n)) ∙ here.seat.apart)
               (fact_same (worked n) (e.world.nodes s) (d.world.links s) (d.world.links s) d.world.sites d.world.sites (at_place d.world.nodes s (worked n)) (λ j. refl) refl
               ∙ fact_like n (worked n) (d.world.links s) d.world.sites (fuse_fact n (burned n.fuse)) (λ j l. refl))
               (facts ∙ ap (λ (x : SiteFacts). slice_set old.facts.items s x) noted ∙ set_same old.facts.items s f at);

@@ -38,12 +38,13 @@ use Rattle.vx_diskset.specs.declared.disk_set.DiskSet.{DiskSet}
 use Rattle.vx_effects.proofs.Fitting.{fit_happened}
 use Rattle.vx_effects.proofs.Rises.{set_effect}
 use Rattle.vx_effects.proofs.Tests
-use Rattle.vx_events.proofs.LinkAgreeing.{set_agrees}
+use Rattle.vx_events.proofs.LinkAgreeing.{set_agrees, set_apart}
 use Rattle.vx_events.specs.Effects.{EffectAt}
 use Rattle.vx_events.specs.Facts.{seat_of, site_number}
 use Rattle.vx_events.specs.Fuses.{MayPass, header_calls}
+use Rattle.vx_events.specs.GroupLines.{is_over_group}
 use Rattle.vx_events.specs.LinkEnds.{LinkEnds, LinkReplies, LinksDone, link_noted}
-use Rattle.vx_events.specs.LinkedFacts.{linked_facts, refused_by}
+use Rattle.vx_events.specs.StepsOver.{facts_over, refused_over}
 use Rattle.vx_events.specs.LinkLists.{link_events}
 use Rattle.vx_events.specs.Sayings.{RepeatsSaid}
 use Rattle.vx_events.specs.declared.said.Said.{Said}
@@ -58,7 +59,7 @@ use Rattle.vx_yard.specs.declared.yard.Yard.{Yard}
 use Rattle.vx_yard.proofs.Carrying.{LetsGoBy, SameLoad}
 use Rattle.vx_link_lines.proofs.HeadedEnds.{IsBehind, headed_ends}
 use Rattle.vx_yard.proofs.HeadNeeds.{head_passes, head_works, refused_undone}
-use Rattle.vx_yard.proofs.NamedSite.{SiteAt, site_at}
+use Rattle.vx_yard.proofs.NamedSite.{PlaceAt, SiteAt, place_at, site_at}
 use Rattle.vx_link_lines.proofs.NotedYard.{carries_noted, note_one, notes_one, stands_noted, sure_open}
 use Rattle.vx_yard.proofs.OneSite.{Changed}
 use Rattle.vx_link_lines.proofs.PartLine.{IsKeptHeader, kept_done, kept_refused}
@@ -86,15 +87,21 @@ module _ {R : Type 0} {g : Ghosts R} (d : Doubted) (old : Yard R g) (first secon
   abbrev event : Event
   event = SetAt s q sync
 
-  here : SiteAt d old first s
-  here = site_at d old first s stands seat
+  there : PlaceAt d old second q
+  there = place_at d old second q stands seat_too
 
-  there : SiteAt d old second q
-  there = site_at d old second q stands seat_too
+  tested : refused_over w (in_files old) (Set first second sync free_prot) ≡ None
+  tested = ap (λ (fs : List SiteFacts). line_refusal fs (in_files old) (Set first second sync free_prot)) (sym stands.facts) ∙ free
+
+  -- the site of the line is over no group
+  pub set_alone : is_over_group n ≡ false
+  set_alone = subst (λ (k : ℕ). is_over_group (w.nodes k) ≡ false) (place_at d old first s stands seat).number (set_apart w (in_files old) first second sync free_prot tested)
+
+  here : SiteAt d old first s
+  here = site_at d old first s stands set_alone seat
 
   pub set_said : (step w event).said ≡ IsDone
   set_said =
-      let tested : refused_by w (in_files old) (Set first second sync free_prot) ≡ None = ap (λ (fs : List SiteFacts). line_refusal fs (in_files old) (Set first second sync free_prot)) (sym stands.facts) ∙ free in
       subst (λ (k : ℕ). (step w (SetAt k q sync)).said ≡ IsDone) here.number
       (subst (λ (k : ℕ). (step w (SetAt (site_number w first) k sync)).said ≡ IsDone) there.number (set_agrees w (in_files old) first second sync free_prot tested))
 
@@ -115,7 +122,7 @@ module _ {R : Type 0} {g : Ghosts R} (d : Doubted) (old : Yard R g) (first secon
   kept = sym (row_links_same row ((behind d event).world.links s) effect.is.links (behind d event).world.sites ∙ ap (λ (k : ℕ). row_links row k) effect.site.sites)
 
   pub set_can : CanKeep (beside_of d s) (worked n) state
-  set_can = record { up = set_opens.0; running = set_opens.1; line = refl; role = refl; needs = λ k l is needing. set_needs w s q sync (worked n) set_said k l is needing }
+  set_can = record { up = set_opens.0; running = set_opens.1; apart = set_alone; line = refl; role = refl; needs = λ k l is needing. set_needs w s q sync (worked n) set_said k l is needing }
 
   header : IsKeptHeader d event s state
   header = record {
@@ -124,10 +131,11 @@ module _ {R : Type 0} {g : Ghosts R} (d : Doubted) (old : Yard R g) (first secon
       effect = effect;
       kept = kept;
       sure = sure_open d s stands.links set_opens;
-      like = record { state = refl; name = refl; disks = refl; blocks = refl; volumes = refl; failing = refl; fuse = refl };
+      like = record { state = refl; name = refl; disks = refl; blocks = refl; volumes = refl; group = refl; failing = refl; fuse = refl };
       fits = fit_happened d event false stands.links;
       fits_before = stands.links;
       opens = set_opens;
+      alone = set_alone;
       writes = refl;
     };
     role = refl;
@@ -155,10 +163,10 @@ module _ {R : Type 0} {g : Ghosts R} (d : Doubted) (old : Yard R g) (first secon
 
   -- the state that was asked of the disks
   pub set_state_is : (disks : DiskSet R g) (st : State) → slice_get old.disk_sets.items s ≡ Some disks
-      → ((beside : KeptBeside) (m : Node) (v : World) → SiteStands beside m disks → m.state ≡ IsUp → old.facts.items ≡ linked_facts v → HasPlaces v.sites (v.links s) → (step v event).said ≡ IsDone
+      → ((beside : KeptBeside) (m : Node) (v : World) → SiteStands beside m disks → m.state ≡ IsUp → is_over_group m ≡ false → old.facts.items ≡ facts_over v → HasPlaces v.sites (v.links s) → (step v event).said ≡ IsDone
       → st ≡ state_with m (header_links (step v event).world s)) → st ≡ state
   set_state_is disks st there_too is =
-      is (beside_of d s) n w (stands.disk_sets.sites s disks here.below there_too) set_opens.0 stands.facts (stands.links.rows s).places set_said
+      is (beside_of d s) n w (stands.disk_sets.sites s disks here.below there_too) set_opens.0 set_alone stands.facts (stands.links.rows s).places set_said
 
   -- ---- the yard behind it
 
@@ -186,7 +194,7 @@ module _ {R : Type 0} {g : Ghosts R} (d : Doubted) (old : Yard R g) (first secon
     notes v = ap (λ (k : ℕ). worked_on v k) here.number
 
     -- it is done
-    pub set_leads : ((r : R) → IsRack (g.meaning r)) → HeadUnder 2 Done before after → KeptAt (beside_of d s) (worked n) state before after (Ok tt) → LeavesFuse NoMore Done before after → new.facts.items ≡ linked_facts (step w event).world → SameLoad old new → Leads d line Done old new
+    pub set_leads : ((r : R) → IsRack (g.meaning r)) → HeadUnder 2 Done before after → KeptAt (beside_of d s) (worked n) state before after (Ok tt) → LeavesFuse NoMore Done before after → new.facts.items ≡ facts_over (step w event).world → SameLoad old new → Leads d line Done old new
     set_leads racks head is calls facts load =
         let stood : SiteStands (beside_of d s) n before = stands.disk_sets.sites s before here.below at in
         leads_by {fails = []}

@@ -12,7 +12,7 @@ use Rattle.vx_diskset.specs.Holds.{KeptBeside, beside_of}
 use Rattle.vx_diskset.specs.Stands.{RoleIs, SiteStands}
 use Rattle.vx_diskset.specs.declared.disk_set.DiskSet.{DiskSet}
 use Rattle.vx_events.specs.Effects.{ChangesNode}
-use Rattle.vx_events.specs.LinkedFacts.{linked_facts}
+use Rattle.vx_events.specs.StepsOver.{facts_over}
 use Rattle.vx_events.specs.LinksFit.{LinksFit}
 use Rattle.vx_yard.specs.Standing.{IsSameSite, SitesAgree, StandsFor}
 use Rattle.vx_yard.specs.declared.yard.Yard.{Yard}
@@ -31,7 +31,7 @@ module _ {R : Type 0} {g : Ghosts R} where
 
   -- the yard stands for the world that this one comes to
   pub stands_turned : (d e : Doubted) (old new : Yard R g) (s : ℕ) (before after : DiskSet R g) → StandsFor d old → s < d.world.sites → Changed old new s before after → Turned d e s after
-      → new.facts.items ≡ linked_facts e.world → ((a : After) → e.after s ≡ Some a → IsSameSite (e.world.nodes s) a.node) → StandsFor e new
+      → new.facts.items ≡ facts_over e.world → ((a : After) → e.after s ≡ Some a → IsSameSite (e.world.nodes s) a.node) → StandsFor e new
   stands_turned d e old new s before after stands below changed turned facts doubt = record {
     facts = facts;
     disk_sets = subst (λ es. SitesAgree e es) (sym changed.disk_sets) (record {

@@ -1,6 +1,6 @@
 -- What a line leaves that hands the packet of an update to its target.
 use Rattle.std.proofs.Common.{◌≡◌, ◌∙◌, ◌⊎◌, inl, inr, ⊎_elim, ◌+◌, ◌<◌, ℕ, Bool, true, false, List, [], ◌∷◌, ◌++◌, length, ap, sym, subst, refl, arith, length-append}
-use Rattle.std.specs.Prelude.{Option, Some, ltb, slice_get, slice_set, if◌then◌else◌, ◌&&◌}
+use Rattle.std.specs.Prelude.{Option, Some, eqb, is_some, ltb, slice_get, slice_set, if◌then◌else◌, ◌&&◌}
 use Rattle.std.proofs.lemmas.Bool.{cases_eq}
 use Rattle.std.proofs.lemmas.Bool.Decides.{nat_tests}
 use Rattle.vx_model.specs.Content.{Write}
@@ -15,7 +15,8 @@ use Rattle.vx_history.specs.LinkForms.{plain_receiver}
 use Rattle.vx_history.specs.Receiving.{received_step}
 use Rattle.vx_history.specs.Refusals.{Outcome, is_running, says}
 use Rattle.vx_history.specs.Steps.{burned, worked_on}
-use Rattle.vx_history.specs.World.{Fuse, FuseLit, FuseSet, Gathering, Link, Message, NoFuse, Node, Packet, Update, World}
+use Rattle.vx_history.specs.Groups.{GroupNode}
+use Rattle.vx_history.specs.World.{Fuse, FuseLit, FuseSet, Gathering, Link, Message, NoFuse, Node, Packet, Update, Volume, World}
 use Rattle.vx_history.specs.declared.event.Event.TheVariants.{Deliver as DeliverAt}
 use Rattle.vx_history.specs.declared.event.Said.{Said as EventSaid}
 use Rattle.vx_history.specs.declared.event.Said.TheVariants.{Ignored as IsIgnored, Taken as IsTaken}
@@ -28,12 +29,15 @@ use Rattle.vx_courier.specs.UnderWay.{FlightStands}
 use Rattle.vx_disk.specs.Disks.{Untouched}
 use Rattle.vx_disk.specs.declared.shelf.Shelf.{Ghosts}
 use Rattle.vx_effects.proofs.Packets.{received_is}
-use Rattle.vx_effects.specs.Facts.{fact_of, last_group, received_fact}
+use Rattle.vx_effects.proofs.Facts.{over_apart, over_same}
+use Rattle.vx_effects.proofs.Notes.{over_burnt}
+use Rattle.vx_effects.specs.Facts.{fact_of, last_group, over_of, received_fact}
 use Rattle.vx_events.proofs.Places.{some_same}
 use Rattle.vx_events.specs.Effects.{ChangesNode, EffectAt}
 use Rattle.vx_events.specs.Facts.{group_by, group_fact}
 use Rattle.vx_events.specs.LinkEnds.{AreLeft, LinkEnds, LinksDone, link_noted, target_noted}
-use Rattle.vx_events.specs.LinkedFacts.{linked_fact}
+use Rattle.vx_events.specs.GroupLines.{is_over_group}
+use Rattle.vx_events.specs.StepsOver.{fact_over}
 use Rattle.vx_events.specs.LinksFit.{LinksFit}
 use Rattle.vx_events.specs.Sayings.{RepeatsSaid}
 use Rattle.vx_events.specs.declared.said.Said.{Said}
@@ -54,12 +58,11 @@ use Rattle.vx_yard.specs.Yards.{IsTold}
 use Rattle.vx_yard.specs.declared.yard.Yard.{Yard}
 use Rattle.vx_yard.proofs.ApplySite.{comes_effect, worked_effect, worked_for}
 use Rattle.vx_yard.proofs.Carrying.{feeds_same}
-use Rattle.vx_yard.proofs.CrashLine.{fuse_fact, rose_still}
+use Rattle.vx_yard.proofs.CrashLine.{rose_still}
 use Rattle.vx_yard.proofs.FailsStay.{alone_keeps, fails_then}
 use Rattle.vx_yard.proofs.FuseStays.{fused_on}
 use Rattle.vx_yard.proofs.Lists.{get-set_other, get-set_same, length-set}
 use Rattle.vx_yard.proofs.OneSite.{Changed, Comes, stands_at, stands_still}
-use Rattle.vx_yard.proofs.Rows.{fact_like, fact_same}
 
 -- ---- what is noted of the target
 
@@ -129,6 +132,7 @@ pub record SameSite (n k : Node) : Type 0 where
   pub disks : k.disks ≡ n.disks
   pub blocks : k.blocks ≡ n.blocks
   pub volumes : k.volumes ≡ n.volumes
+  pub group : k.group ≡ n.group
   pub role : k.role ≡ n.role
   pub failing : k.failing ≡ n.failing
   pub fuse : k.fuse ≡ n.fuse
@@ -139,6 +143,7 @@ same_site n k is = record {
   disks = ap (λ (m : Node). m.disks) is;
   blocks = ap (λ (m : Node). m.blocks) is;
   volumes = ap (λ (m : Node). m.volumes) is;
+  group = ap (λ (m : Node). m.group) is;
   role = ap (λ (m : Node). m.role) is;
   failing = ap (λ (m : Node). m.failing) is;
   fuse = ap (λ (m : Node). m.fuse) is;
@@ -150,10 +155,15 @@ written_site n k source x is = record {
   disks = ap (λ (m : Node). m.disks) is;
   blocks = ap (λ (m : Node). m.blocks) is;
   volumes = ap (λ (m : Node). m.volumes) is;
+  group = ap (λ (m : Node). m.group) is;
   role = ap (λ (m : Node). m.role) is;
   failing = ap (λ (m : Node). m.failing) is;
   fuse = ap (λ (m : Node). m.fuse) is;
 }
+
+over_site : (n k : Node) → SameSite n k → is_over_group k ≡ is_over_group n
+over_site n k same =
+    ap (λ (o : Option GroupNode). is_some o && eqb (length k.volumes) 0) same.group ∙ ap (λ (vs : List Volume). is_some n.group && eqb (length vs) 0) same.volumes
 
 left_burned : (f : Fuse) (z : Option (ℕ × ℕ)) → LeftAs f z → LeftAs (burned f) z
 left_burned NoFuse z left = tt
@@ -181,10 +191,6 @@ last_shown n m row sites source last x receives none (inl same) many =
 last_shown n m row sites source last x receives none (inr more) many =
     let long : last ≡ length n.log + 1 = many ∙ ap (λ (k : Node). length k.log) more ∙ length-append n.log (x ∷ []) in
     ap (λ (k : ℕ). received_fact k (fact_of n row sites)) long ∙ sym (received_is n row sites source x receives none) ∙ ap (λ (k : Node). fact_of k row sites) (sym more)
-
--- a fuse shows nothing
-worked_shown : (n : Node) (row : ℕ → Link) (sites : ℕ) → fact_of (worked n) row sites ≡ fact_of n row sites
-worked_shown n row sites = fact_like n (worked n) row sites (fuse_fact n (burned n.fuse)) (λ i l. refl)
 
 module _ {R : Type 0} {g : Ghosts R} where
   -- ---- what the yard carries
@@ -242,24 +248,24 @@ module _ {R : Type 0} {g : Ghosts R} where
         (stands.fuses s before below changed.there)) role
 
     -- the facts of the target behind it
-    shown : (h : Doubted) (m : Node) (packets : List Packet) (gathered : Option Gathering) → EffectAt s d h m (d.world.links s) (d.world.headers s) (d.after s) packets gathered → linked_fact (worked_for h s).world s ≡ fact_of m (d.world.links s) d.world.sites
+    shown : (h : Doubted) (m : Node) (packets : List Packet) (gathered : Option Gathering) → EffectAt s d h m (d.world.links s) (d.world.headers s) (d.after s) packets gathered → fact_over (worked_for h s).world s ≡ over_of m (d.world.links s) d.world.sites
     shown h m packets gathered eff =
         let noted = worked_effect s d h m (d.world.links s) (d.world.headers s) (d.after s) packets gathered eff in
-        fact_same (worked m) ((worked_for h s).world.nodes s) (d.world.links s) ((worked_for h s).world.links s) d.world.sites (worked_for h s).world.sites noted.is.node noted.is.links noted.site.sites
-        ∙ worked_shown m (d.world.links s) d.world.sites
+        ap (λ (k : Node). over_of k ((worked_for h s).world.links s) (worked_for h s).world.sites) noted.is.node ∙ ap (λ (k : ℕ). over_of (worked m) ((worked_for h s).world.links s) k) noted.site.sites
+        ∙ over_same (worked m) (d.world.links s) ((worked_for h s).world.links s) d.world.sites noted.is.links ∙ over_burnt m (d.world.links s) d.world.sites
 
     abbrev Ends : Doubted → Said → Type 0
     Ends h said = LinkEnds (IsTold new) d (Deliver number) [] said (worked_for h s)
 
-    -- with other facts
+    -- with other facts, of a site over no group
     pub leads_new : (h : Doubted) (m : Node) (packets : List Packet) (gathered : Option Gathering) (said : Said) (f : SiteFacts) → EffectAt s d h m (d.world.links s) (d.world.headers s) (d.after s) packets gathered → LinksFit (worked_for h s)
-        → Ends h said → SameSite n m → SiteStands (beside_of d s) m after → f ≡ fact_of m (d.world.links s) d.world.sites → new.facts.items ≡ slice_set old.facts.items s f → (Carries d old → Carries (worked_for h s) new)
+        → Ends h said → is_over_group n ≡ false → SameSite n m → SiteStands (beside_of d s) m after → f ≡ fact_of m (d.world.links s) d.world.sites → new.facts.items ≡ slice_set old.facts.items s f → (Carries d old → Carries (worked_for h s) new)
         → Leads d (Deliver number) said old new
-    leads_new h m packets gathered said f eff fits ends same here fact facts carries = record {
+    leads_new h m packets gathered said f eff fits ends apart same here fact facts carries = record {
       next = worked_for h s;
       fails = [];
       done = record { ends = ends; counts = tt; works = tt; calls = tt };
-      stands = stands_at d (worked_for h s) old new s f before after stands below changed (comes_by h m packets gathered eff fits same here) (fact ∙ sym (shown h m packets gathered eff)) facts;
+      stands = stands_at d (worked_for h s) old new s f before after stands below changed (comes_by h m packets gathered eff fits same here) (fact ∙ sym (over_apart m (d.world.links s) d.world.sites (over_site n m same ∙ apart)) ∙ sym (shown h m packets gathered eff)) facts;
       carries = carries;
       rose = rose_still old new s before after changed.there changed.later changed.disk_sets;
     }
@@ -272,7 +278,7 @@ module _ {R : Type 0} {g : Ghosts R} where
       fails = [];
       done = record { ends = ends; counts = tt; works = tt; calls = tt };
       stands = stands_still d (worked_for h s) old new s before after stands below changed (comes_by h m packets gathered eff fits (same_site n m same) here)
-          (shown h m packets gathered eff ∙ ap (λ (k : Node). fact_of k (d.world.links s) d.world.sites) same) facts;
+          (shown h m packets gathered eff ∙ ap (λ (k : Node). over_of k (d.world.links s) d.world.sites) same) facts;
       carries = carries;
       rose = rose_still old new s before after changed.there changed.later changed.disk_sets;
     }

@@ -13,7 +13,7 @@ use Rattle.vx_history.specs.declared.event.Event.{Event}
 use Rattle.vx_disk.specs.declared.shelf.Shelf.{Ghosts}
 use Rattle.vx_diskset.specs.DiskSets.{worked}
 use Rattle.vx_events.specs.Fails.{Fails, IsLogDisk}
-use Rattle.vx_events.specs.LinkedFacts.{linked_facts}
+use Rattle.vx_events.specs.StepsOver.{facts_over}
 use Rattle.vx_events.specs.LinksFit.{LinksFit}
 use Rattle.vx_events.specs.Stamps.{most_stamp_at}
 use Rattle.vx_events.specs.declared.said.Said.{Said}
@@ -32,7 +32,7 @@ noted_by note d = record d { world = record d.world { nodes = note d.world.nodes
 pub record NotesAt (s : ℕ) (note : (ℕ → Node) → ℕ → Node) : Type 0 where
   pub here : (nodes : ℕ → Node) → note nodes s ≡ worked (nodes s)
   pub alike : (nodes new : ℕ → Node) (i : ℕ) → new i ≡ nodes i → note new i ≡ note nodes i
-  pub shows : (w : World) → linked_facts (record w { nodes = note w.nodes }) ≡ linked_facts w
+  pub shows : (w : World) → facts_over (record w { nodes = note w.nodes }) ≡ facts_over w
   pub fits : (d : Doubted) → LinksFit d → LinksFit (noted_by note d)
 
 -- the reply of a part of a line

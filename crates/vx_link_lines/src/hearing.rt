@@ -1,5 +1,5 @@
 // A greeting or an acknowledgement, handed to the site whose link goes to its sender.
-ghost use Rattle.std.specs.Prelude.{◌≡◌, ◌&&◌, ◌<◌, ℕ, IfOk, IfSome, Some, length, true};
+ghost use Rattle.std.specs.Prelude.{◌≡◌, ◌&&◌, ◌<◌, ℕ, IfOk, IfSome, Some, length, true, false};
 ghost use Rattle.vx_model.specs.declared.limits.TheConstants.{MOST_SITES};
 ghost use Rattle.vx_model.specs.declared.site.SiteState.TheVariants.{Up as UpState};
 ghost use Rattle.vx_courier.specs.UnderWay.{FlightStands};
@@ -9,7 +9,9 @@ ghost use Rattle.vx_history.specs.Events.{packet_at};
 ghost use Rattle.vx_history.specs.LinkForms.{plain_link};
 ghost use Rattle.vx_history.specs.World.{Link as LinkOf, Node, Packet, World};
 ghost use Rattle.vx_script.specs.declared.line.ScriptLine.TheVariants.{Deliver};
-ghost use Rattle.vx_events.specs.LinkedFacts.{linked_facts, needed_by};
+ghost use Rattle.vx_events.specs.LinkedFacts.{needed_by};
+ghost use Rattle.vx_events.specs.GroupLines.{is_over_group};
+ghost use Rattle.vx_events.specs.StepsOver.{facts_over};
 ghost use Rattle.vx_events.specs.LinksFit.{LinksFit, is_plain_mode};
 ghost use Rattle.vx_srlfmt.specs.Headers.{CanSpellState};
 ghost use Rattle.vx_peers.specs.Answers.{is_answer};
@@ -64,7 +66,8 @@ fn needed<R: Rack>(disk_set: &DiskSet<R>, link: &Link) -> Option<u64>
 fn state_here<R: Rack>(disks: &DiskSet<R>, sites: &[SiteFacts], here: usize) -> Option<State>
     requires within { here < length sites.now }
     ensures spell { IfSome result (λ state. CanSpellState state) }
-    ensures is { (beside : KeptBeside) (n : Node) (w : World) → SiteStands beside n disks.now → n.state ≡ UpState → sites.now ≡ linked_facts w → here < w.sites → (w.nodes here).state ≡ UpState
+    ensures is { (beside : KeptBeside) (n : Node) (w : World) → SiteStands beside n disks.now → n.state ≡ UpState → is_over_group n ≡ false → sites.now ≡ facts_over w → here < w.sites
+        → (w.nodes here).state ≡ UpState → is_over_group (w.nodes here) ≡ false
         → IfSome result (λ state. state ≡ state_with n (header_links w here)) }
 {
     let Some(kept) = kept_facts(sites[here].links.as_slice()) else {

@@ -1,5 +1,5 @@
 // The line that links a site to another, whose content it becomes a copy of.
-ghost use Rattle.std.specs.Prelude.{◌≡◌, ◌≤◌, ◌<◌, [], ℕ, List, IfOk, IfSome, Some, length, slice_get};
+ghost use Rattle.std.specs.Prelude.{◌≡◌, ◌≤◌, ◌<◌, [], ℕ, List, IfOk, IfSome, Some, false, length, slice_get};
 ghost use Rattle.vx_model.specs.declared.limits.TheConstants.{LINK_PLACES, MOST_LINKS};
 ghost use Rattle.vx_model.specs.declared.link.Prot.{Prot};
 ghost use Rattle.vx_model.specs.declared.site.SiteState.TheVariants.{Up as UpState};
@@ -8,6 +8,7 @@ ghost use Rattle.vx_order.specs.declared.facts.SiteFacts.{SiteFacts as SiteValue
 ghost use Rattle.vx_script.specs.declared.line.ScriptLine.TheVariants.{Link};
 ghost use Rattle.vx_diskset.specs.Holds.{beside_of};
 ghost use Rattle.vx_diskset.specs.Stands.{SiteStands};
+ghost use Rattle.vx_events.specs.GroupLines.{is_over_group};
 ghost use Rattle.vx_events.specs.LinkedFacts.{links_of_site};
 ghost use Rattle.vx_link_lines.specs.Linking.{AreLinkStates, AreSpelled, IsLinking};
 ghost use Rattle.vx_yard.specs.BothSites.{BothSites, LinkBurns};
@@ -54,6 +55,7 @@ fn link_states<R: Rack>(
     ensures spelled { IfSome result (λ states. AreSpelled states) }
     ensures few { IfSome result (λ states. length links.now ≤ MOST_LINKS) }
     ensures is { (d : Doubted) → SiteStands (beside_of d here) (d.world.nodes here) first.now → SiteStands (beside_of d there) (d.world.nodes there) second.now
+        → is_over_group (d.world.nodes here) ≡ false → is_over_group (d.world.nodes there) ≡ false
         → (d.world.nodes here).state ≡ UpState → (d.world.nodes here).halted ≡ None → (d.world.nodes there).state ≡ UpState → links.now ≡ links_of_site d.world here
         → IfSome result (λ states. AreLinkStates d.world here there sync states) }
 {

@@ -4,6 +4,7 @@ ghost use Rattle.vx_courier.specs.UnderWay.{FlightStands};
 ghost use Rattle.vx_diskset.specs.Holds.{KeptBeside};
 ghost use Rattle.vx_diskset.specs.Stands.{SiteStands};
 ghost use Rattle.vx_events.specs.Facts.{seat_of};
+ghost use Rattle.vx_events.specs.GroupLines.{is_over_group};
 ghost use Rattle.vx_history.specs.Doubts.{Doubted};
 ghost use Rattle.vx_history.specs.Sends.{packets_of};
 ghost use Rattle.vx_history.specs.World.{DataAck as AcksFromDisk, Node, Packet};
@@ -35,7 +36,7 @@ use vx_yard::refusing::refused;
 // The line of a site that is up.
 fn line_of<R: Rack>(disk_set: &DiskSet<R>) -> Option<Line>
     ensures counted { IfSome result (λ line. IsCounted line.generation) }
-    ensures is { (beside : KeptBeside) (n : Node) → SiteStands beside n disk_set.now → n.state ≡ Up → IfSome result (λ line. line ≡ n.line) }
+    ensures is { (beside : KeptBeside) (n : Node) → SiteStands beside n disk_set.now → n.state ≡ Up → is_over_group n ≡ false → IfSome result (λ line. line ≡ n.line) }
 {
     match disk_set.state() {
         Some(state) => Some(state.line),

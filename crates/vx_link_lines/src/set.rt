@@ -1,5 +1,5 @@
 // The line that gives a link another setting.
-ghost use Rattle.std.specs.Prelude.{◌≡◌, ◌<◌, IfOk, IfSome, length};
+ghost use Rattle.std.specs.Prelude.{◌≡◌, ◌<◌, IfOk, IfSome, false, length};
 ghost use Rattle.vx_model.specs.declared.link.Prot.{Prot};
 ghost use Rattle.vx_model.specs.declared.site.SiteState.TheVariants.{Up as UpState};
 ghost use Rattle.vx_history.specs.Doubts.{Doubted};
@@ -12,7 +12,8 @@ ghost use Rattle.vx_script.specs.declared.line.ScriptLine.TheVariants.{Set};
 ghost use Rattle.vx_srlfmt.specs.Headers.{CanSpellState};
 ghost use Rattle.vx_diskset.specs.Holds.{KeptBeside, header_links, state_with};
 ghost use Rattle.vx_diskset.specs.Stands.{SiteStands};
-ghost use Rattle.vx_events.specs.LinkedFacts.{linked_facts};
+ghost use Rattle.vx_events.specs.GroupLines.{is_over_group};
+ghost use Rattle.vx_events.specs.StepsOver.{facts_over};
 ghost use Rattle.vx_yard.specs.OfSites.{AsAsked, HasCalled};
 ghost use Rattle.vx_yard.specs.Standing.{LeadsIs, StandsFor};
 ghost use Rattle.vx_yard.specs.Working.{IsFree};
@@ -39,7 +40,7 @@ fn set_state<R: Rack>(
 ) -> Option<State>
     requires within { here < length sites.now }
     ensures spell { IfSome result (λ state. CanSpellState state) }
-    ensures is { (beside : KeptBeside) (n : Node) (w : World) → SiteStands beside n disks.now → n.state ≡ UpState → sites.now ≡ linked_facts w → HasPlaces w.sites (w.links here)
+    ensures is { (beside : KeptBeside) (n : Node) (w : World) → SiteStands beside n disks.now → n.state ≡ UpState → is_over_group n ≡ false → sites.now ≡ facts_over w → HasPlaces w.sites (w.links here)
         → (step w (SetAt here there sync)).said ≡ IsDone → IfSome result (λ state. state ≡ state_with n (header_links (step w (SetAt here there sync)).world here)) }
 {
     let Some(l) = link_between(sites, here, there) else {

@@ -24,10 +24,12 @@ use Rattle.vx_order.specs.Tests.{when}
 use Rattle.vx_order.specs.declared.facts.SiteFacts.{SiteFacts}
 use Rattle.vx_script.specs.declared.line.ScriptLine.TheVariants.{Wait}
 use Rattle.vx_events.specs.Facts.{seat_of, site_number}
-use Rattle.vx_events.specs.LinkedFacts.{link_fact, link_facts, linked_fact, linked_facts, links_by, links_of_site}
+use Rattle.vx_events.specs.LinkedFacts.{link_fact, link_facts, linked_fact, links_by, links_of_site}
+use Rattle.vx_events.specs.StepsOver.{facts_over}
 use Rattle.vx_history.specs.Listed.{AreListed, IsAmong}
 use Rattle.vx_events.proofs.LinkTesting.{AllLinked, all_linked, seat_at, up_state}
-use Rattle.vx_events.proofs.LinkWaiting.{wait_agrees}
+use Rattle.vx_events.proofs.LinkWaiting.{wait_agrees, wait_apart}
+use Rattle.vx_events.proofs.OverSeats.{fact_apart}
 use Rattle.vx_events.proofs.Places.{never_some, some_same}
 use Rattle.vx_events.proofs.Refused.{not_false, passes, when_none}
 use Rattle.vx_linked.specs.Tables.{IsUnrefused}
@@ -176,17 +178,18 @@ said_refused s number (inl is) = ap is_refused is
 said_refused s number (inr is) = ap is_refused is
 
 -- what is said of the facts of the site is what is said of the event
-pub wait_is : (w : World) (sites : List SiteFacts) (from : List ℕ) (number : ℕ) (site : SiteFacts) → sites ≡ linked_facts w → AreListed w → IsUnrefused sites (Wait from number) → site_named sites from ≡ Some site
+pub wait_is : (w : World) (sites : List SiteFacts) (from : List ℕ) (number : ℕ) (site : SiteFacts) → sites ≡ facts_over w → AreListed w → IsUnrefused sites (Wait from number) → site_named sites from ≡ Some site
     → wait_said number site.links ≡ (step w (WaitAt (site_number w from) number)).said
 unfolding first_name second_name need_of halt_of ask_of
 wait_is w sites from number site is listed free found =
     let a : ℕ = site_number w from in
-    let free_here : IsUnrefused (linked_facts w) (Wait from number) = subst (λ (fs : List SiteFacts). IsUnrefused fs (Wait from number)) is free in
-    let t = passes (linked_facts w) free_here.0 (Wait from number) free_here.1 in
+    let free_here : IsUnrefused (facts_over w) (Wait from number) = subst (λ (fs : List SiteFacts). IsUnrefused fs (Wait from number)) is free in
+    let t = passes (facts_over w) free_here.0 (Wait from number) free_here.1 in
     let one = seat_at w from t.known in
-    let same : site ≡ linked_fact w a = some_same (sym found ∙ ap (λ (fs : List SiteFacts). site_named fs from) is ∙ one.found) in
+    let here : site_named (facts_over w) from ≡ Some (linked_fact w a) = one.found ∙ ap (λ (f : SiteFacts). Some f) (fact_apart w a (wait_apart w free_here.0 from number free_here.1)) in
+    let same : site ≡ linked_fact w a = some_same (sym found ∙ ap (λ (fs : List SiteFacts). site_named fs from) is ∙ here) in
     let up : (w.nodes a).state ≡ Up
-    = up_state (w.nodes a).state (not_false (is_up (w.nodes a).state) (when_none (not (is_up (w.nodes a).state)) NotUp (subst (λ (o : Option SiteFacts). when (site_off o) NotUp ≡ None) one.found t.up))) in
+    = up_state (w.nodes a).state (not_false (is_up (w.nodes a).state) (when_none (not (is_up (w.nodes a).state)) NotUp (subst (λ (o : Option SiteFacts). when (site_off o) NotUp ≡ None) here t.up))) in
     let links : site.links ≡ links_of_site w a = ap (λ (f : SiteFacts). f.links) same ∙ ap (λ (st : SiteState). links_by st (links_of_site w a)) up in
     let kept = said_refused _ number (wait_agrees w free_here.0 from number listed free_here.1) in
     ap (wait_said number) links
@@ -194,5 +197,5 @@ wait_is w sites from number site is listed free found =
     ∙ sym (said_then w a number kept)
 
 -- nothing of the facts changes
-pub wait_shows : (w : World) (p number : ℕ) → linked_facts w ≡ linked_facts (step w (WaitAt p number)).world
-wait_shows w p number = wait_by (λ (v : World). linked_facts w ≡ linked_facts v) w p number refl refl
+pub wait_shows : (w : World) (p number : ℕ) → facts_over w ≡ facts_over (step w (WaitAt p number)).world
+wait_shows w p number = wait_by (λ (v : World). facts_over w ≡ facts_over v) w p number refl refl

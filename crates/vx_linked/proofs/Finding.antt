@@ -18,7 +18,7 @@ use Rattle.vx_order.specs.declared.facts.LinkFacts.{LinkFacts}
 use Rattle.vx_order.specs.declared.facts.SiteFacts.{SiteFacts}
 use Rattle.vx_script.specs.declared.line.ScriptLine.TheVariants.{Connect, Cut, Pause, Pump, Resume, Tick}
 use Rattle.vx_events.specs.Facts.{seat_of}
-use Rattle.vx_events.specs.LinkedFacts.{linked_facts}
+use Rattle.vx_events.specs.StepsOver.{facts_over}
 use Rattle.vx_events.proofs.LinkTesting.{OnLink, on_link_by}
 use Rattle.vx_events.proofs.Places.{some_same}
 use Rattle.vx_events.proofs.Refused.{FoundAt, found_at, named, not_false, passes, when_none}
@@ -111,8 +111,8 @@ found sites from to t =
     }
 
 -- what the tests see of a world
-pub on_link : (w : World) (from to : List ℕ) → Tested (linked_facts w) from to → OnLink w from to keeps_links
-on_link w from to t = on_link_by w from to sends keeps_links (λ n. refl) t.known t.other t.up t.running t.role t.linked
+pub on_link : (w : World) (from to : List ℕ) → Tested (facts_over w) from to → OnLink w from to keeps_links
+on_link w from to t = on_link_by w from to sends keeps_links (λ n. refl) refl t.known t.other t.up t.running t.role t.linked
 
 -- the link of that place changed, in the site of that place
 pub changed_so : (g : LinkFacts → LinkFacts) (old : List SiteFacts) (from to : List ℕ) (f : FoundLink old from to) (here there place : ℕ) (site new : SiteFacts)

@@ -1,5 +1,5 @@
 -- What a site greets with, as the tests of a line see it and as the world has it.
-use Rattle.std.proofs.Common.{◌≡◌, ◌∙◌, ℕ, List, [], ◌++◌, length, Bool, true, false, ap, subst, refl}
+use Rattle.std.proofs.Common.{◌≡◌, ◌∙◌, ℕ, List, [], ◌++◌, length, Bool, true, false, ap, sym, subst, refl}
 use Rattle.std.specs.Prelude.{Option, Some, None, not, ◌&&◌, slice_get, if◌then◌else◌}
 use Rattle.vx_courier.specs.UnderWay.{FlightStands}
 use Rattle.vx_history.specs.Events.{greeting_back, greets}
@@ -14,7 +14,11 @@ use Rattle.vx_order.specs.Sites.{rvg_of, site_named}
 use Rattle.vx_order.specs.declared.facts.RvgFacts.{RvgFacts}
 use Rattle.vx_order.specs.declared.facts.SiteFacts.{SiteFacts}
 use Rattle.vx_events.specs.Facts.{group_by, group_fact, seat_of, site_number}
-use Rattle.vx_events.specs.LinkedFacts.{linked_fact, linked_facts}
+use Rattle.vx_events.specs.GroupLines.{is_over_group}
+use Rattle.vx_events.specs.GroupNotes.{note_at}
+use Rattle.vx_events.specs.LinkedFacts.{linked_fact}
+use Rattle.vx_events.specs.StepsOver.{fact_of_group, fact_over, facts_over}
+use Rattle.vx_events.proofs.OverSeats.{fact_apart}
 use Rattle.vx_events.proofs.LinkTesting.{seat_at, shown, up_state}
 use Rattle.vx_linked.specs.Greetings.{Tells, greeter, greeter_of, hello_of, receives_on}
 use Rattle.vx_linked.proofs.Finding.{Tested, on_link, seat_named}
@@ -24,6 +28,16 @@ group_shown Bare n = refl
 group_shown Up n = refl
 group_shown Deported n = refl
 group_shown Down n = refl
+
+none_shown : (u : Bool) → (let o : Option RvgFacts = (if u then None else None) in o) ≡ None
+none_shown true = refl
+none_shown false = refl
+
+greets_not : (up runs origin line : Bool) → origin ≡ true → (up && (runs && (not origin && line))) ≡ false
+greets_not false runs origin line e = refl
+greets_not true false origin line e = refl
+greets_not true true true line e = refl
+greets_not true true false line e = absurd (cc)
 
 by_up : (u : Bool) (a b : RvgFacts) → greeter_of (Some a) (if u then Some b else None) ≡ (if u && receives_on a.line b then Some b else None)
 by_up true a b = refl
@@ -41,7 +55,7 @@ runs_none : (h : Option ℕ) → is_running h ≡ true → h ≡ None
 runs_none None e = refl
 runs_none (Some disk) e = let no : false ≡ true = e in absurd (cc)
 
-module _ (w : World) (from to : List ℕ) (tested : Tested (linked_facts w) from to) where
+module _ (w : World) (from to : List ℕ) (tested : Tested (facts_over w) from to) where
   abbrev a : ℕ
   a = site_number w from
 
@@ -54,13 +68,23 @@ module _ (w : World) (from to : List ℕ) (tested : Tested (linked_facts w) from
   abbrev there : Node
   there = w.nodes b
 
-  greeter_is : greeter (linked_facts w) from to ≡ (if greets here there then Some (group_fact there) else None)
-  greeter_is =
-      ap (λ (o : Option SiteFacts). greeter_of (rvg_of o) (rvg_of (site_named (linked_facts w) to))) (seat_at w from tested.known).found
+  -- a group that is seen of the second site greets as the world has it
+  second_by : (o : Bool) → is_over_group there ≡ o → (is_over_group there ≡ true → is_origin there.role ≡ true)
+      → greeter_of (Some (group_fact here)) (rvg_of (Some (if o then fact_of_group there (note_at there) else linked_fact w b))) ≡ (if greets here there then Some (group_fact there) else None)
+  second_by false apart origin = ap (greeter_of (Some (group_fact here))) (group_shown there.state there) ∙ by_up (is_up there.state) (group_fact here) (group_fact there)
+  second_by true over origin =
+      ap (greeter_of (Some (group_fact here))) (none_shown (is_up there.state))
+      ∙ sym (ap (λ (g : Bool). if g then Some (group_fact there) else None)
+      (greets_not (is_up there.state) (is_running there.halted) (is_origin there.role) (same_line there.line here.line) (origin over)))
+
+  greeter_is : (is_over_group there ≡ true → is_origin there.role ≡ true) → greeter (facts_over w) from to ≡ (if greets here there then Some (group_fact there) else None)
+  greeter_is origin =
+      let m = on_link w from to tested in
+      let first : site_named (facts_over w) from ≡ Some (linked_fact w a) = (seat_at w from tested.known).found ∙ ap (λ (f : SiteFacts). Some f) (fact_apart w a m.apart) in
+      ap (λ (o : Option SiteFacts). greeter_of (rvg_of o) (rvg_of (site_named (facts_over w) to))) first
       ∙ ap (λ (o : Option SiteFacts). greeter_of (rvg_of (Some (linked_fact w a))) (rvg_of o)) (seat_at w to tested.other).found
-      ∙ ap (λ (o : Option RvgFacts). greeter_of o (rvg_of (Some (linked_fact w b)))) (shown w a (on_link w from to tested).up)
-      ∙ ap (greeter_of (Some (group_fact here))) (group_shown there.state there)
-      ∙ by_up (is_up there.state) (group_fact here) (group_fact there)
+      ∙ ap (λ (o : Option RvgFacts). greeter_of o (rvg_of (Some (fact_over w b)))) (shown w a m.up)
+      ∙ second_by (is_over_group there) refl origin
 
   receives_there : greets here there ≡ true → (there.state ≡ Up) × (there.halted ≡ None) × (is_origin there.role ≡ false)
   receives_there e =
@@ -82,10 +106,10 @@ module _ (w : World) (from to : List ℕ) (tested : Tested (linked_facts w) from
           ∙ ap (λ (o : Bool). packets_of b a there.line (Hello there.session (if o then there.safe else length there.log) stored)) role
           ∙ ap (λ (k : ℕ). packets_of b a there.line (Hello there.session (length there.log) k)) (tells.stored_is up runs role)
 
-  pub greeted : (session stored : ℕ) (r : Option RvgFacts) (f : Flying) → Tells there session stored → r ≡ greeter (linked_facts w) from to → FlightStands (w.packets ++ hello_of r b a session stored) f
+  pub greeted : (session stored : ℕ) (r : Option RvgFacts) (f : Flying) → Tells there session stored → r ≡ greeter (facts_over w) from to → FlightStands (w.packets ++ hello_of r b a session stored) f
       → FlightStands (w.packets ++ greeting_back w a b) f
   greeted session stored r f tells is stands =
-      subst (λ (ps : List Packet). FlightStands (w.packets ++ ps) f) (ap (λ (o : Option RvgFacts). hello_of o b a session stored) (is ∙ greeter_is) ∙ hello_is session stored tells) stands
+      subst (λ (ps : List Packet). FlightStands (w.packets ++ ps) f) (ap (λ (o : Option RvgFacts). hello_of o b a session stored) (is ∙ greeter_is tells.origin) ∙ hello_is session stored tells) stands
 
 -- the group that was found is that of the second site
 pub greeter_there : (sites : List SiteFacts) (from to : List ℕ) (here there : ℕ) (first second : SiteFacts) → seat_of sites from ≡ Some here → seat_of sites to ≡ Some there

@@ -20,7 +20,10 @@ use Rattle.vx_model.specs.declared.site.SiteState.TheVariants.{Bare, Up, Deporte
 use Rattle.vx_order.specs.declared.facts.LinkFacts.{LinkFacts}
 use Rattle.vx_order.specs.declared.facts.SiteFacts.{SiteFacts}
 use Rattle.vx_events.specs.Facts.{group_by}
-use Rattle.vx_events.specs.LinkedFacts.{link_fact, link_facts, linked_fact, linked_facts, links_by, links_of_site}
+use Rattle.vx_events.specs.GroupLines.{is_over_group}
+use Rattle.vx_events.specs.LinkedFacts.{link_fact, link_facts, linked_fact, links_by, links_of_site}
+use Rattle.vx_events.specs.StepsOver.{fact_over, facts_over}
+use Rattle.vx_events.proofs.OverSeats.{fact_apart}
 use Rattle.vx_history.specs.Listed.{AreListed, IsAmong}
 use Rattle.vx_events.proofs.LinkTesting.{up_state}
 use Rattle.vx_events.proofs.Places.{never_some}
@@ -57,7 +60,7 @@ module _ (w : World) (number : ℕ) (p : Packet) (e : SEvent) (at : packet_at w.
       ∙ ap (λ (b : Bool). if b && is_linked l then says after (said_of_link r.action) else says w IsIgnored) listening.keeps
       ∙ ap (λ (b : Bool). if b then says after (said_of_link r.action) else says w IsIgnored) linked)
 
-  gathered_shows : (b : Bool) → linked_facts (gathered_if b after p) ≡ linked_facts after
+  gathered_shows : (b : Bool) → facts_over (gathered_if b after p) ≡ facts_over after
   gathered_shows true = refl
   gathered_shows false = refl
 
@@ -65,8 +68,8 @@ module _ (w : World) (number : ℕ) (p : Packet) (e : SEvent) (at : packet_at w.
   gathered_links true = refl
   gathered_links false = refl
 
-  shows : linked_facts (step w (DeliverAt number)).world ≡ linked_facts after
-  shows = ap (λ (o : Outcome). linked_facts o.world) outcome_is ∙ gathered_shows (is_taken (said_of_link r.action))
+  shows : facts_over (step w (DeliverAt number)).world ≡ facts_over after
+  shows = ap (λ (o : Outcome). facts_over o.world) outcome_is ∙ gathered_shows (is_taken (said_of_link r.action))
 
   link_is : (step w (DeliverAt number)).world.links p.target p.source ≡ left
   link_is =
@@ -74,15 +77,15 @@ module _ (w : World) (number : ℕ) (p : Packet) (e : SEvent) (at : packet_at w.
       ∙ gathered_links (is_taken (said_of_link r.action))
       ∙ ap (λ (row : ℕ → Link). row p.source) (at_place w.links p.target (updated (w.links p.target) p.source left)) ∙ at_place (w.links p.target) p.source left
 
-  pub heard_shows : (old new : List SiteFacts) (x : LinkFacts) → old ≡ linked_facts w → Put p.target p.source x old new → x ≡ link_fact n p.source ((step w (DeliverAt number)).world.links p.target p.source)
-      → new ≡ linked_facts (step w (DeliverAt number)).world
+  pub heard_shows : (old new : List SiteFacts) (x : LinkFacts) → old ≡ facts_over w → Put p.target p.source x old new → x ≡ link_fact n p.source ((step w (DeliverAt number)).world.links p.target p.source)
+      → new ≡ facts_over (step w (DeliverAt number)).world
   heard_shows old new x facts put is =
       put_is w p.target p.source old new x left facts put listening.up refl (is ∙ ap (link_fact n p.source) link_is) ∙ sym shows
 
 -- the same by the numbers of the two sites
 pub keeps_so : (w : World) (number : ℕ) (p : Packet) (e : SEvent) (target source : ℕ) → packet_at w.packets number ≡ Some p → p.target ≡ target → p.source ≡ source → heard w p p.message ≡ link_heard w p e
-    → IsHearing (w.nodes target) → is_linked (w.links target source) ≡ true → (old new : List SiteFacts) (x : LinkFacts) → old ≡ linked_facts w → Put target source x old new
-    → x ≡ link_fact (w.nodes target) source ((step w (DeliverAt number)).world.links target source) → new ≡ linked_facts (step w (DeliverAt number)).world
+    → IsHearing (w.nodes target) → is_linked (w.links target source) ≡ true → (old new : List SiteFacts) (x : LinkFacts) → old ≡ facts_over w → Put target source x old new
+    → x ≡ link_fact (w.nodes target) source ((step w (DeliverAt number)).world.links target source) → new ≡ facts_over (step w (DeliverAt number)).world
 keeps_so w number p e target source at t s heard_is listening linked old new x facts put is =
     heard_shows w number p e at heard_is (subst (λ (i : ℕ). IsHearing (w.nodes i)) (sym t) listening)
     (subst (λ (j : ℕ). is_linked (w.links p.target j) ≡ true) (sym s) (subst (λ (i : ℕ). is_linked (w.links i source) ≡ true) (sym t) linked)) old new x facts
@@ -116,16 +119,20 @@ picks false o l e = absurd (never_some e)
 pub between_so : (sites : List SiteFacts) (target source : ℕ) (l : LinkFacts) → hearing sites target source ≡ Some l → fact_between sites target source ≡ Some l
 between_so sites target source l is = (picks (listens (slice_get sites target)) (fact_between sites target source) l is).1
 
-pub site_shown : (w : World) (i : ℕ) → i < w.sites → slice_get (linked_facts w) i ≡ Some (linked_fact w i)
-site_shown w i below = let start : 0 + i ≡ i = omega arith in slice_get-values_from (λ j. linked_fact w j) 0 w.sites i below ∙ ap (λ (j : ℕ). Some (linked_fact w j)) start
+pub site_shown : (w : World) (i : ℕ) → i < w.sites → slice_get (facts_over w) i ≡ Some (fact_over w i)
+site_shown w i below = let start : 0 + i ≡ i = omega arith in slice_get-values_from (λ j. fact_over w j) 0 w.sites i below ∙ ap (λ (j : ℕ). Some (fact_over w j)) start
 
-pub hears_so : (w : World) (sites : List SiteFacts) (target source : ℕ) (l : LinkFacts) → sites ≡ linked_facts w → hearing sites target source ≡ Some l → Hears w target source l
+-- the same of a site over no group
+pub site_apart : (w : World) (i : ℕ) → i < w.sites → is_over_group (w.nodes i) ≡ false → slice_get (facts_over w) i ≡ Some (linked_fact w i)
+site_apart w i below none = site_shown w i below ∙ ap (λ (f : SiteFacts). Some f) (fact_apart w i none)
+
+pub hears_so : (w : World) (sites : List SiteFacts) (target source : ℕ) (l : LinkFacts) → sites ≡ facts_over w → hearing sites target source ≡ Some l → Hears w target source l
 hears_so w sites target source l facts is =
-    let here : hearing (linked_facts w) target source ≡ Some l = ap (λ (fs : List SiteFacts). hearing fs target source) (sym facts) ∙ is in
-    let found = picks (listens (slice_get (linked_facts w) target)) (fact_between (linked_facts w) target source) l here in
+    let here : hearing (facts_over w) target source ≡ Some l = ap (λ (fs : List SiteFacts). hearing fs target source) (sym facts) ∙ is in
+    let found = picks (listens (slice_get (facts_over w) target)) (fact_between (facts_over w) target source) l here in
     let link : IsLinkOf w target source l = between w target source l found.1 in
     let listening : (is_up (w.nodes target).state && (is_running (w.nodes target).halted && keeps_links (w.nodes target).role)) ≡ true
-    = sym (listens_is w target) ∙ ap listens (sym (site_shown w target link.below)) ∙ found.0 in
+    = sym (listens_is w target) ∙ ap listens (sym (site_apart w target link.below link.apart)) ∙ found.0 in
     let up = both (is_up (w.nodes target).state) _ listening in
     let running = both (is_running (w.nodes target).halted) _ up.1 in
     record { site = record { up = link.up; running = runs (w.nodes target).halted running.0; keeps = running.1 }; link = link }
@@ -184,26 +191,34 @@ module _ (w : World) (p : Packet) (e : SEvent) (heard_is : heard w p p.message �
   and_false true b is = is
   and_false false b is = refl
 
-  unlinked : AreListed w → p.source < w.sites → site.state ≡ Up → fact_between (linked_facts w) p.target p.source ≡ None → slice_get (linked_facts w) p.target ≡ Some (linked_fact w p.target) → is_linked there ≡ false
+  unlinked : AreListed w → p.source < w.sites → site.state ≡ Up → fact_between (facts_over w) p.target p.source ≡ None → slice_get (facts_over w) p.target ≡ Some (linked_fact w p.target) → is_linked there ≡ false
   unlinked listed small up none at =
       not_so (is_linked there)
       (λ is. among_found site (w.links p.target) p.source (linked_sites (w.links p.target) w.sites 0 w.sites) (listed.each p.target p.source small is)
       (ap (λ (st : SiteState). find (leads_to p.source) (links_by st (links_of_site w p.target))) (sym up) ∙ ap (λ (o : Option SiteFacts). link_leading o p.source) (sym at) ∙ none))
 
-  pub deaf_so : (sites : List SiteFacts) → sites ≡ linked_facts w → hearing sites p.target p.source ≡ None → p.target < w.sites → p.source < w.sites → AreListed w → handed w p ≡ says w IsIgnored
-  deaf_so sites facts none below small listed =
-      let at = site_shown w p.target below in
-      let here : hearing (linked_facts w) p.target p.source ≡ None = ap (λ (fs : List SiteFacts). hearing fs p.target p.source) (sym facts) ∙ none in
-      let same : listens (slice_get (linked_facts w) p.target) ≡ (is_up site.state && (is_running site.halted && keeps_links site.role)) = ap listens at ∙ listens_is w p.target in
-      by (listens (slice_get (linked_facts w) p.target)) refl same at here
+  -- of a target over no group
+  deaf_apart : hearing (facts_over w) p.target p.source ≡ None → p.target < w.sites → p.source < w.sites → is_over_group site ≡ false → AreListed w → handed w p ≡ says w IsIgnored
+  deaf_apart none below small alone listed =
+      let at = site_apart w p.target below alone in
+      let same : listens (slice_get (facts_over w) p.target) ≡ (is_up site.state && (is_running site.halted && keeps_links site.role)) = ap listens at ∙ listens_is w p.target in
+      by (listens (slice_get (facts_over w) p.target)) refl same at none
     where
-      by : (b : Bool) → listens (slice_get (linked_facts w) p.target) ≡ b → listens (slice_get (linked_facts w) p.target) ≡ (is_up site.state && (is_running site.halted && keeps_links site.role))
-          → slice_get (linked_facts w) p.target ≡ Some (linked_fact w p.target) → (if listens (slice_get (linked_facts w) p.target) then fact_between (linked_facts w) p.target p.source else None) ≡ None → handed w p ≡ says w IsIgnored
+      by : (b : Bool) → listens (slice_get (facts_over w) p.target) ≡ b → listens (slice_get (facts_over w) p.target) ≡ (is_up site.state && (is_running site.halted && keeps_links site.role))
+          → slice_get (facts_over w) p.target ≡ Some (linked_fact w p.target) → (if listens (slice_get (facts_over w) p.target) then fact_between (facts_over w) p.target p.source else None) ≡ None → handed w p ≡ says w IsIgnored
       by true is same at missing =
           let up = both (is_up site.state) _ (sym same ∙ is) in
           not_heard (and_false (keeps_links site.role) (is_linked there)
-          (unlinked listed small (up_state site.state up.0) (ap (λ (b : Bool). if b then fact_between (linked_facts w) p.target p.source else None) (sym is) ∙ missing) at))
+          (unlinked listed small (up_state site.state up.0) (ap (λ (b : Bool). if b then fact_between (facts_over w) p.target p.source else None) (sym is) ∙ missing) at))
       by false is same at missing =
           ⊎_elim (λ (off : (is_up site.state && is_running site.halted) ≡ false). not_handed off)
           (λ (idle : keeps_links site.role ≡ false). not_heard (ap (λ (b : Bool). b && is_linked there) idle))
           (neither (is_up site.state) (is_running site.halted) (keeps_links site.role) (sym same ∙ is))
+
+  pub deaf_so : (sites : List SiteFacts) → sites ≡ facts_over w → hearing sites p.target p.source ≡ None → p.target < w.sites → p.source < w.sites
+      → (is_over_group site ≡ true → is_linked there ≡ false) → AreListed w → handed w p ≡ says w IsIgnored
+  deaf_so sites facts none below small alone listed = by (is_over_group site) refl
+    where
+      by : (b : Bool) → is_over_group site ≡ b → handed w p ≡ says w IsIgnored
+      by true over = not_heard (and_false (keeps_links site.role) (is_linked there) (alone over))
+      by false is = deaf_apart (ap (λ (fs : List SiteFacts). hearing fs p.target p.source) (sym facts) ∙ none) below small is listed

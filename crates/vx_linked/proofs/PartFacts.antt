@@ -38,36 +38,40 @@ use Rattle.vx_events.proofs.Places.{some_same}
 use Rattle.vx_events.specs.Doubts.{sure}
 use Rattle.vx_events.specs.Effects.{EffectAt}
 use Rattle.vx_events.specs.Facts.{group_by, group_fact}
-use Rattle.vx_events.specs.LinkedFacts.{link_fact, link_facts, linked_fact, linked_facts, links_by, links_of_site, needed_by}
-use Rattle.vx_effects.proofs.Facts.{fact_same, facts_at}
+use Rattle.vx_events.specs.GroupLines.{is_over_group}
+use Rattle.vx_events.specs.LinkedFacts.{link_fact, link_facts, linked_fact, links_by, links_of_site, needed_by}
+use Rattle.vx_events.specs.StepsOver.{facts_over}
+use Rattle.vx_effects.proofs.Facts.{facts_at, over_apart, over_same}
 use Rattle.vx_effects.proofs.LinkParts.{joins_done, joins_effect, made_done, made_effect, marked_effect, may_open, opened_done, two_done}
 use Rattle.vx_effects.proofs.LinkRows.{further_is, joined_is, marked_shows}
 use Rattle.vx_effects.proofs.Tests
-use Rattle.vx_effects.specs.Facts.{fact_of, marked_fact}
+use Rattle.vx_effects.specs.Facts.{fact_of, marked_fact, over_of}
 use Rattle.vx_effects.specs.LinkParts.{further_fact, joined_fact}
 use Rattle.vx_linked.specs.Making.{fresh_link, kept_each, opened_link}
 use Rattle.vx_linked.specs.Tables.{HasLinksOf, fact_between, leads_to, link_leading}
-use Rattle.vx_linked.proofs.Heard.{among_found, site_shown}
+use Rattle.vx_linked.proofs.Heard.{among_found, site_apart}
 use Rattle.vx_linked.proofs.Loops.{got}
 
 -- ---- the facts behind an event that changes one site
 
-pub behind : (w : World) (v : Doubted) (s : ℕ) {n : Node} {row : ℕ → Link} {many : ℕ} {packets : List Packet} {gathered : Option Gathering} → s < w.sites
-    → EffectAt s (sure w) v n row many None packets gathered → linked_facts v.world ≡ slice_set (linked_facts w) s (fact_of n row w.sites)
-behind w v s {n} {row} below f =
+pub behind : (w : World) (v : Doubted) (s : ℕ) {n : Node} {row : ℕ → Link} {many : ℕ} {packets : List Packet} {gathered : Option Gathering} → s < w.sites → is_over_group n ≡ false
+    → EffectAt s (sure w) v n row many None packets gathered → facts_over v.world ≡ slice_set (facts_over w) s (fact_of n row w.sites)
+behind w v s {n} {row} below alone f =
     facts_at s (sure w) v f.site below
-    ∙ ap (slice_set (linked_facts w) s)
-    (ap (λ (m : Node). fact_of m (v.world.links s) v.world.sites) f.is.node ∙ ap (λ (k : ℕ). fact_of n (v.world.links s) k) f.site.sites ∙ fact_same n row (v.world.links s) w.sites f.is.links)
+    ∙ ap (slice_set (facts_over w) s)
+    (ap (λ (m : Node). over_of m (v.world.links s) v.world.sites) f.is.node ∙ ap (λ (k : ℕ). over_of n (v.world.links s) k) f.site.sites ∙ over_same n row (v.world.links s) w.sites f.is.links
+    ∙ over_apart n row w.sites alone)
 
 -- the site in a place of the facts
-pub site_of : (w : World) (sites : List SiteFacts) (s : ℕ) (d : SiteFacts) → sites ≡ linked_facts w → s < w.sites → s < length sites → slice_index_or sites s d ≡ linked_fact w s
-site_of w sites s d facts below inside = some_same (sym (got sites s d inside) ∙ ap (λ (fs : List SiteFacts). slice_get fs s) facts ∙ site_shown w s below)
+pub site_of : (w : World) (sites : List SiteFacts) (s : ℕ) (d : SiteFacts) → sites ≡ facts_over w → s < w.sites → is_over_group (w.nodes s) ≡ false → s < length sites
+    → slice_index_or sites s d ≡ linked_fact w s
+site_of w sites s d facts below alone inside = some_same (sym (got sites s d inside) ∙ ap (λ (fs : List SiteFacts). slice_get fs s) facts ∙ site_apart w s below alone)
 
 -- another site in that place
-pub put_site : (w : World) (sites : List SiteFacts) (s : ℕ) (d new : SiteFacts) (g : SiteFacts → SiteFacts) → sites ≡ linked_facts w → s < w.sites → s < length sites
-    → new ≡ g (slice_index_or sites s d) → slice_set sites s new ≡ slice_set (linked_facts w) s (g (linked_fact w s))
-put_site w sites s d new g facts below inside is =
-    ap (λ (fs : List SiteFacts). slice_set fs s new) facts ∙ ap (slice_set (linked_facts w) s) (is ∙ ap g (site_of w sites s d facts below inside))
+pub put_site : (w : World) (sites : List SiteFacts) (s : ℕ) (d new : SiteFacts) (g : SiteFacts → SiteFacts) → sites ≡ facts_over w → s < w.sites → is_over_group (w.nodes s) ≡ false
+    → s < length sites → new ≡ g (slice_index_or sites s d) → slice_set sites s new ≡ slice_set (facts_over w) s (g (linked_fact w s))
+put_site w sites s d new g facts below alone inside is =
+    ap (λ (fs : List SiteFacts). slice_set fs s new) facts ∙ ap (slice_set (facts_over w) s) (is ∙ ap g (site_of w sites s d facts below alone inside))
 
 -- ---- a site that joins
 
@@ -125,31 +129,31 @@ module _ (w : World) (p s : ℕ) (sync : SyncMode) where
       is_false true e = absurd (cc)
       is_false false e = refl
 
-  pub joined_facts : (step w (LinkAt p s sync Joins)).said ≡ Done
-      → linked_facts (step w (LinkAt p s sync Joins)).world ≡ slice_set (linked_facts w) s (joined_fact (w.nodes p).line (w.nodes p).parent (linked_fact w s))
-  joined_facts said =
-      behind w (happened (sure w) (LinkAt p s sync Joins) true) s (two_done w p s sync Joins said).0.second (joins_effect (sure w) p s sync true said)
-      ∙ ap (slice_set (linked_facts w) s) (joined_is (w.nodes p) (w.nodes s) p (w.links s) w.sites (fresh_row said))
+  pub joined_facts : is_over_group (w.nodes s) ≡ false → (step w (LinkAt p s sync Joins)).said ≡ Done
+      → facts_over (step w (LinkAt p s sync Joins)).world ≡ slice_set (facts_over w) s (joined_fact (w.nodes p).line (w.nodes p).parent (linked_fact w s))
+  joined_facts alone said =
+      behind w (happened (sure w) (LinkAt p s sync Joins) true) s (two_done w p s sync Joins said).0.second alone (joins_effect (sure w) p s sync true said)
+      ∙ ap (slice_set (facts_over w) s) (joined_is (w.nodes p) (w.nodes s) p (w.links s) w.sites (fresh_row said))
 
   -- the group of the first one, as the facts have it
   pub group_shown : (step w (LinkAt p s sync Joins)).said ≡ Done → (linked_fact w p).rvg ≡ Some (group_fact (w.nodes p))
   group_shown said = ap (λ (t : SiteState). group_by t (w.nodes p)) (two_done w p s sync Joins said).0.up
 
-  pub made_facts : HasPlaces w.sites (w.links p) → (session : ℕ) → (w.nodes s).session ≡ session → (step w (LinkAt p s sync Made)).said ≡ Done
-      → linked_facts (step w (LinkAt p s sync Made)).world
-      ≡ slice_set (linked_facts w) p (further_fact (let x : LinkFacts = record { link = fresh_link s sync session; used = 0 } in x) (linked_fact w p))
-  made_facts has session is said =
+  pub made_facts : is_over_group (w.nodes p) ≡ false → HasPlaces w.sites (w.links p) → (session : ℕ) → (w.nodes s).session ≡ session → (step w (LinkAt p s sync Made)).said ≡ Done
+      → facts_over (step w (LinkAt p s sync Made)).world
+      ≡ slice_set (facts_over w) p (further_fact (let x : LinkFacts = record { link = fresh_link s sync session; used = 0 } in x) (linked_fact w p))
+  made_facts alone has session is said =
       let l : Link = new_link (count_links_of w p) sync (w.nodes s) in
       let two = (two_done w p s sync Made said).0 in
-      behind w (happened (sure w) (LinkAt p s sync Made) true) p two.first (made_effect (sure w) p s sync true said)
-      ∙ ap (slice_set (linked_facts w) p) (further_is (w.nodes p) (w.links p) w.sites s l two.up has two.second (made_done w p s sync said).0 refl)
-      ∙ ap (λ (k : ℕ). slice_set (linked_facts w) p (further_fact (let x : LinkFacts = record { link = fresh_link s sync k; used = 0 } in x) (linked_fact w p))) is
+      behind w (happened (sure w) (LinkAt p s sync Made) true) p two.first alone (made_effect (sure w) p s sync true said)
+      ∙ ap (slice_set (facts_over w) p) (further_is (w.nodes p) (w.links p) w.sites s l two.up has two.second (made_done w p s sync said).0 refl)
+      ∙ ap (λ (k : ℕ). slice_set (facts_over w) p (further_fact (let x : LinkFacts = record { link = fresh_link s sync k; used = 0 } in x) (linked_fact w p))) is
 
-  pub marked_facts : (step w (LinkAt p s sync Marked)).said ≡ Done
-      → linked_facts (step w (LinkAt p s sync Marked)).world ≡ slice_set (linked_facts w) s (marked_fact Consistent (linked_fact w s))
-  marked_facts said =
-      behind w (happened (sure w) (LinkAt p s sync Marked) true) s (two_done w p s sync Marked said).0.second (marked_effect (sure w) p s sync true said)
-      ∙ ap (slice_set (linked_facts w) s) (marked_shows (w.nodes s) (w.links s) w.sites Consistent)
+  pub marked_facts : is_over_group (w.nodes s) ≡ false → (step w (LinkAt p s sync Marked)).said ≡ Done
+      → facts_over (step w (LinkAt p s sync Marked)).world ≡ slice_set (facts_over w) s (marked_fact Consistent (linked_fact w s))
+  marked_facts alone said =
+      behind w (happened (sure w) (LinkAt p s sync Marked) true) s (two_done w p s sync Marked said).0.second alone (marked_effect (sure w) p s sync true said)
+      ∙ ap (slice_set (facts_over w) s) (marked_shows (w.nodes s) (w.links s) w.sites Consistent)
 
   -- ---- a link that is opened
 
@@ -183,8 +187,8 @@ module _ (w : World) (p s : ℕ) (sync : SyncMode) where
       ∙ ap (λ (k : ℕ). let f : LinkFacts = record { link = opened_link (plain_link s (w.links p s)) k; used = 0 } in f) (sym is)
       ∙ ap (λ (k : ℕ). let f : LinkFacts = record { link = plain_link s opens; used = k } in f) (sym none)
 
-  pub opened_shown : (step w (LinkAt p s sync Opened)).said ≡ Done → linked_facts (step w (LinkAt p s sync Opened)).world ≡ linked_facts (with_link w p s opens)
-  opened_shown said = ap (λ (o : Outcome). linked_facts o.world) ((two_done w p s sync Opened said).1 ∙ (opened_done w p s sync said).1)
+  pub opened_shown : (step w (LinkAt p s sync Opened)).said ≡ Done → facts_over (step w (LinkAt p s sync Opened)).world ≡ facts_over (with_link w p s opens)
+  opened_shown said = ap (λ (o : Outcome). facts_over o.world) ((two_done w p s sync Opened said).1 ∙ (opened_done w p s sync said).1)
 
   -- ---- a link that is set
 
@@ -198,8 +202,8 @@ module _ (w : World) (p s : ℕ) (sync : SyncMode) where
   set_done =
       Tests.link_ends is_set w (λ why e. absurd (let f : Refused why ≡ Done = e in cc)) is_origin p s (done (with_link w p s sets)) (λ up linked _. (up, linked, refl))
 
-  pub set_shown : (step w (SetAt p s sync)).said ≡ Done → linked_facts (step w (SetAt p s sync)).world ≡ linked_facts (with_link w p s sets)
-  set_shown said = ap (λ (o : Outcome). linked_facts o.world) (set_done said).2
+  pub set_shown : (step w (SetAt p s sync)).said ≡ Done → facts_over (step w (SetAt p s sync)).world ≡ facts_over (with_link w p s sets)
+  set_shown said = ap (λ (o : Outcome). facts_over o.world) (set_done said).2
 
   pub opened_linked : (step w (LinkAt p s sync Opened)).said ≡ Done → is_linked (w.links p s) ≡ true
   opened_linked said =
@@ -209,18 +213,18 @@ module _ (w : World) (p s : ℕ) (sync : SyncMode) where
       and_left (is_linked (w.links p s)) rest (and_right (follows w p s) (is_linked (w.links p s) && rest) r1)
 
 -- a link of a site that is up is found
-pub some_between : (w : World) (sites : List SiteFacts) (p s : ℕ) → sites ≡ linked_facts w → p < w.sites → (w.nodes p).state ≡ Up → HasPlaces w.sites (w.links p) → is_linked (w.links p s) ≡ true
+pub some_between : (w : World) (sites : List SiteFacts) (p s : ℕ) → sites ≡ facts_over w → p < w.sites → is_over_group (w.nodes p) ≡ false → (w.nodes p).state ≡ Up → HasPlaces w.sites (w.links p) → is_linked (w.links p s) ≡ true
     → fact_between sites p s ≡ None → ⊥
-some_between w sites p s facts below up has linked none =
+some_between w sites p s facts below alone up has linked none =
     among_found (w.nodes p) (w.links p) s (linked_sites (w.links p) w.sites 0 w.sites) (links_listed w.sites (w.links p) has s linked)
     (ap (λ (t : SiteState). find (leads_to s) (links_by t (links_of_site w p))) (sym up)
-    ∙ ap (λ (o : Option SiteFacts). link_leading o s) (sym (site_shown w p below)) ∙ ap (λ (fs : List SiteFacts). fact_between fs p s) (sym facts) ∙ none)
+    ∙ ap (λ (o : Option SiteFacts). link_leading o s) (sym (site_apart w p below alone)) ∙ ap (λ (fs : List SiteFacts). fact_between fs p s) (sym facts) ∙ none)
 
-pub set_found : (w : World) (p s : ℕ) (sync : SyncMode) (sites : List SiteFacts) → sites ≡ linked_facts w → HasPlaces w.sites (w.links p) → (step w (SetAt p s sync)).said ≡ Done
+pub set_found : (w : World) (p s : ℕ) (sync : SyncMode) (sites : List SiteFacts) → sites ≡ facts_over w → is_over_group (w.nodes p) ≡ false → HasPlaces w.sites (w.links p) → (step w (SetAt p s sync)).said ≡ Done
     → fact_between sites p s ≡ None → ⊥
-set_found w p s sync sites facts has said none =
+set_found w p s sync sites facts alone has said none =
     let d = set_done w p s sync said in
-    some_between w sites p s facts (site_below said) d.0 has d.1 none
+    some_between w sites p s facts (site_below said) alone d.0 has d.1 none
   where
     site_below : (step w (SetAt p s sync)).said ≡ Done → p < w.sites
     site_below e =

@@ -24,7 +24,8 @@ use Rattle.vx_order.specs.declared.facts.LinkFacts.{LinkFacts}
 use Rattle.vx_order.specs.declared.facts.SiteFacts.{SiteFacts}
 use Rattle.vx_script.specs.declared.line.ScriptLine.TheVariants.{Pump as PumpLine}
 use Rattle.vx_events.specs.Facts.{site_number}
-use Rattle.vx_events.specs.LinkedFacts.{linked_facts, needed_by}
+use Rattle.vx_events.specs.LinkedFacts.{needed_by}
+use Rattle.vx_events.specs.StepsOver.{facts_over}
 use Rattle.vx_events.proofs.LinkAgreeing.{pump_agrees}
 use Rattle.vx_linked.specs.Tables.{IsUnrefused, relinked}
 use Rattle.vx_linked.specs.Turns.{ComesBehind, Relinked}
@@ -33,7 +34,7 @@ use Rattle.vx_linked.proofs.Finding.{on_link, pump_tested}
 use Rattle.vx_linked.proofs.Moves.{comes, passed}
 use Rattle.vx_linked.proofs.Shown.{link_there, relinked_is}
 
-module _ (w : World) (from to : List ℕ) (free : IsUnrefused (linked_facts w) (PumpLine from to)) where
+module _ (w : World) (from to : List ℕ) (free : IsUnrefused (facts_over w) (PumpLine from to)) where
   abbrev a : ℕ
   a = site_number w from
 
@@ -70,21 +71,21 @@ module _ (w : World) (from to : List ℕ) (free : IsUnrefused (linked_facts w) (
       let o : Outcome = done (link_event w a b Pump) in
       let paused : Outcome = unless l.paused Paused w o in
       let live : Outcome = when_live w b l o in
-      let on : outcome_of w (PumpAt a b) ≡ live = passed w from to (pump_tested (linked_facts w) from to free) live in
+      let on : outcome_of w (PumpAt a b) ≡ live = passed w from to (pump_tested (facts_over w) from to free) live in
       let said : is_refused (outcome_of w (PumpAt a b)).said ≡ false = ap (λ (s : Said). is_refused s) (pump_agrees w free.0 from to free.1) in
       let r1 = next (outcome_of w (PumpAt a b)) live on said in
       let up = peel (not (l.attached && l.connected)) (LinkDown (SiteNumber b)) w paused r1 in
       let r2 = next live paused up r1 in
       on ∙ up ∙ peel l.paused Paused w o r2
 
-  pump_facts : (new : List SiteFacts) (k : PlainLink) → Relinked from to k (linked_facts w) new → k ≡ plain_link b ((link_event w a b Pump).links a b) → new ≡ linked_facts (link_event w a b Pump)
+  pump_facts : (new : List SiteFacts) (k : PlainLink) → Relinked from to k (facts_over w) new → k ≡ plain_link b ((link_event w a b Pump).links a b) → new ≡ facts_over (link_event w a b Pump)
   pump_facts new k t is =
-      let up = (on_link w from to (pump_tested (linked_facts w) from to free)).up in
+      let up = (on_link w from to (pump_tested (facts_over w) from to free)).up in
       let plain : k ≡ plain_link b next_link = is ∙ ap (plain_link b) link_is in
       t.new_is
-      ∙ ap (λ (x : LinkFacts). relinked (linked_facts w) t.at.here t.at.site t.at.place (record x { link = k })) (link_there w from to t.at up)
-      ∙ ap (λ (j : PlainLink). relinked (linked_facts w) t.at.here t.at.site t.at.place (let x : LinkFacts = record { link = j; used = needed_by n b l } in x)) plain
-      ∙ ap (λ (u : ℕ). relinked (linked_facts w) t.at.here t.at.site t.at.place (let x : LinkFacts = record { link = plain_link b next_link; used = u } in x)) (sym used_same)
+      ∙ ap (λ (x : LinkFacts). relinked (facts_over w) t.at.here t.at.site t.at.place (record x { link = k })) (link_there w from to t.at up)
+      ∙ ap (λ (j : PlainLink). relinked (facts_over w) t.at.here t.at.site t.at.place (let x : LinkFacts = record { link = j; used = needed_by n b l } in x)) plain
+      ∙ ap (λ (u : ℕ). relinked (facts_over w) t.at.here t.at.site t.at.place (let x : LinkFacts = record { link = plain_link b next_link; used = u } in x)) (sym used_same)
       ∙ relinked_is w from to t.at up next_link refl
 
   -- the link as its rule leaves it
@@ -99,10 +100,10 @@ module _ (w : World) (from to : List ℕ) (free : IsUnrefused (linked_facts w) (
           by_test (λ (t : Sent). plain_link b (with_plain l t.link) ≡ t.link) (ltb low high)
           (let t : Sent = record { link = record (plain_link b l) { sent = high }; action = Updates (low + 1) high } in t) (with_nothing (record (plain_link b l) { sent = low })) (λ more. refl) (λ none. refl)
 
-  pub pump_by_rule : (new : List SiteFacts) (k : PlainLink) → Relinked from to k (linked_facts w) new → k ≡ (link_step w a b Pump).link → new ≡ linked_facts (step w (PumpAt a b)).world
+  pub pump_by_rule : (new : List SiteFacts) (k : PlainLink) → Relinked from to k (facts_over w) new → k ≡ (link_step w a b Pump).link → new ≡ facts_over (step w (PumpAt a b)).world
   pump_by_rule new k t is =
-      pump_facts new k t (is ∙ sym again ∙ ap (plain_link b) (sym link_is)) ∙ ap (λ (o : Outcome). linked_facts o.world) (sym outcome_is)
+      pump_facts new k t (is ∙ sym again ∙ ap (plain_link b) (sym link_is)) ∙ ap (λ (o : Outcome). facts_over o.world) (sym outcome_is)
 
-  pub pump_comes : (new : List SiteFacts) (k : PlainLink) (f : Flying) → Relinked from to k (linked_facts w) new → k ≡ plain_link b ((link_event w a b Pump).links a b) → FlightStands (link_event w a b Pump).packets f
+  pub pump_comes : (new : List SiteFacts) (k : PlainLink) (f : Flying) → Relinked from to k (facts_over w) new → k ≡ plain_link b ((link_event w a b Pump).links a b) → FlightStands (link_event w a b Pump).packets f
       → ComesBehind w (PumpAt a b) new f
   pump_comes new k f t is flight = comes w (PumpAt a b) new f (done (link_event w a b Pump)) outcome_is refl (pump_facts new k t is) flight

@@ -1,5 +1,6 @@
 -- The greeting of a receiver as a link to it is connected.
-use Rattle.std.specs.Prelude.{◌≡◌, ℕ, ◌<◌, ◌≤◌, Bool, false, not, ◌&&◌, List, [], Option, Some, None, if◌then◌else◌}
+use Rattle.std.specs.Prelude.{◌≡◌, ℕ, ◌<◌, ◌≤◌, Bool, true, false, not, ◌&&◌, List, [], Option, Some, None, if◌then◌else◌}
+use Rattle.vx_events.specs.GroupLines.{is_over_group}
 use Rattle.vx_history.specs.Refusals.{is_running}
 use Rattle.vx_history.specs.Sends.{packets_of}
 use Rattle.vx_history.specs.World.{Hello, Node, Packet}
@@ -30,8 +31,9 @@ abbrev pub hello_of : Option RvgFacts → (source target session stored : ℕ) �
 hello_of None source target session stored = []
 hello_of (Some r) source target session stored = packets_of source target r.line (Hello session r.last stored)
 
--- the session of a site that is up and receives, and, where it runs, how many writes a crash there keeps
+-- The session of a site that is up and receives, and, where it runs, how many writes a crash there keeps. A site over a group does not receive.
 pub record Tells (n : Node) (session stored : ℕ) : Type 0 where
+  pub origin : is_over_group n ≡ true → is_origin n.role ≡ true
   pub session_is : n.state ≡ Up → is_origin n.role ≡ false → session ≡ n.session
   pub stored_is : n.state ≡ Up → n.halted ≡ None → is_origin n.role ≡ false → stored ≡ n.safe
 

@@ -1,7 +1,9 @@
 -- Events of one link that look at nothing of its site, in memory.
-use Rattle.std.specs.Prelude.{◌≡◌, ℕ, ◌<◌, true, List}
+use Rattle.std.specs.Prelude.{◌≡◌, ℕ, ◌<◌, true, false, List}
 use Rattle.vx_courier.specs.UnderWay.{FlightStands}
-use Rattle.vx_events.specs.LinkedFacts.{link_fact, linked_facts}
+use Rattle.vx_events.specs.GroupLines.{is_over_group}
+use Rattle.vx_events.specs.LinkedFacts.{link_fact}
+use Rattle.vx_events.specs.StepsOver.{facts_over}
 use Rattle.vx_history.specs.Sending.{sent_step}
 use Rattle.vx_history.specs.Sends.{is_linked}
 use Rattle.vx_history.specs.Step.{step}
@@ -18,7 +20,7 @@ use Rattle.vx_linked.specs.Tables.{FoundLink, relinked}
 
 -- what is kept in memory of a world: the facts of its sites with their links, and what is under way
 pub record FactsStandFor (w : World) (sites : List SiteFacts) (f : Flying) : Type 0 where
-  pub facts : sites ≡ linked_facts w
+  pub facts : sites ≡ facts_over w
   pub flight : FlightStands w.packets f
 
 -- the event is done, and this stands for the world behind it
@@ -38,9 +40,10 @@ pub record Turned (e : SEvent) (from to : List ℕ) (old new : List SiteFacts) :
   pub at : FoundLink old from to
   pub new_is : new ≡ relinked old at.here at.site at.place (fact_turned e at.link)
 
--- a site that shows this link to another is up, and the link is that of the world
+-- a site that shows this link to another is up and over no group, and the link is that of the world
 pub record IsLinkOf (w : World) (from to : ℕ) (l : LinkFacts) : Type 0 where
   pub below : from < w.sites
+  pub apart : is_over_group (w.nodes from) ≡ false
   pub up : (w.nodes from).state ≡ Up
   pub linked : is_linked (w.links from to) ≡ true
   pub link_is : l ≡ link_fact (w.nodes from) to (w.links from to)

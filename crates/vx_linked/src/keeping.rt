@@ -2,7 +2,8 @@
 ghost use Rattle.std.specs.Prelude.{◌≡◌, ℕ, ◌<◌, Some, IsSome, length, slice_get};
 ghost use Rattle.std.specs.List.{find};
 ghost use Rattle.std.specs.Option.{option_copied};
-ghost use Rattle.vx_events.specs.LinkedFacts.{link_fact, linked_facts};
+ghost use Rattle.vx_events.specs.LinkedFacts.{link_fact};
+ghost use Rattle.vx_events.specs.StepsOver.{facts_over};
 ghost use Rattle.vx_history.specs.Sends.{with_link};
 ghost use Rattle.vx_history.specs.World.{Link, World};
 ghost use Rattle.vx_order.specs.declared.facts.LinkFacts.{LinkFacts};
@@ -38,7 +39,7 @@ fn find_in(site: Option<&SiteFacts>, to: u32) -> Option<LinkFacts>
 /// the site shows none, as one that is not up.
 pub fn link_between(sites: &[SiteFacts], from: usize, to: u32) -> Option<LinkFacts>
     ensures link { result ≡ fact_between sites.now from to }
-    ensures world { (w : World) (l : LinkFacts) → sites.now ≡ linked_facts w → result ≡ Some l → IsLinkOf w from to l }
+    ensures world { (w : World) (l : LinkFacts) → sites.now ≡ facts_over w → result ≡ Some l → IsLinkOf w from to l }
 {
     find_in(site_at(sites, from), to)
 }
@@ -71,8 +72,8 @@ fn put_in(sites: &mut [SiteFacts], from: usize, to: u32, link: &LinkFacts)
 pub fn put_link(sites: &mut [SiteFacts], from: usize, to: u32, link: &LinkFacts)
     requires linked { IsSome (fact_between sites.old from to) }
     ensures put { Put from to link.now sites.old sites.new }
-    ensures world { (w : World) (l : Link) → sites.old ≡ linked_facts w → l.made ≡ (w.links from to).made → link.now ≡ link_fact (w.nodes from) to l
-        → sites.new ≡ linked_facts (with_link w from to l) }
+    ensures world { (w : World) (l : Link) → sites.old ≡ facts_over w → l.made ≡ (w.links from to).made → link.now ≡ link_fact (w.nodes from) to l
+        → sites.new ≡ facts_over (with_link w from to l) }
 {
     put_in(sites, from, to, link);
 }

@@ -2,7 +2,7 @@
 ghost use Rattle.std.specs.Prelude.{◌≡◌, ◌<◌, Some, length, slice_get};
 ghost use Rattle.vx_courier.specs.UnderWay.{FlightStands};
 ghost use Rattle.vx_events.specs.Facts.{site_number};
-ghost use Rattle.vx_events.specs.LinkedFacts.{linked_facts};
+ghost use Rattle.vx_events.specs.StepsOver.{facts_over};
 ghost use Rattle.vx_history.specs.Events.{link_event, link_step};
 ghost use Rattle.vx_history.specs.LinkForms.{plain_link};
 ghost use Rattle.vx_history.specs.Step.{step};
@@ -36,14 +36,14 @@ pub fn link_named(sites: &[SiteFacts], from: &Name, to: &Name) -> LinkFacts
 pub fn keep_pumped(sites: &mut [SiteFacts], from: &Name, to: &Name, link: &Link)
     requires free { IsUnrefused sites.old (Pump from.now to.now) }
     ensures kept { Relinked from.now to.now link.now sites.old sites.new }
-    ensures world { (w : World) (f : Flying) → sites.old ≡ linked_facts w
+    ensures world { (w : World) (f : Flying) → sites.old ≡ facts_over w
         → link.now ≡ plain_link (site_number w to.now)
         ((link_event w (site_number w from.now) (site_number w to.now) PumpLink).links (site_number w from.now) (site_number w to.now))
         → FlightStands (link_event w (site_number w from.now) (site_number w to.now) PumpLink).packets f
         → ComesBehind w (PumpAt (site_number w from.now) (site_number w to.now)) sites.new f }
     // Whatever was sent: the link is as its rule leaves it.
-    ensures facts { (w : World) → sites.old ≡ linked_facts w → link.now ≡ (link_step w (site_number w from.now) (site_number w to.now) PumpLink).link
-        → sites.new ≡ linked_facts (step w (PumpAt (site_number w from.now) (site_number w to.now))).world }
+    ensures facts { (w : World) → sites.old ≡ facts_over w → link.now ≡ (link_step w (site_number w from.now) (site_number w to.now) PumpLink).link
+        → sites.new ≡ facts_over (step w (PumpAt (site_number w from.now) (site_number w to.now))).world }
 {
     relink(sites, from, to, link);
 }

@@ -2,7 +2,7 @@
 ghost use Rattle.std.specs.Prelude.{◌≡◌, Some};
 ghost use Rattle.std.specs.List.{list_any};
 ghost use Rattle.vx_events.specs.Facts.{site_number};
-ghost use Rattle.vx_events.specs.LinkedFacts.{linked_facts};
+ghost use Rattle.vx_events.specs.StepsOver.{facts_over};
 ghost use Rattle.vx_history.specs.Listed.{AreListed};
 ghost use Rattle.vx_history.specs.Admission.{is_live_link as live};
 ghost use Rattle.vx_history.specs.Refusals.{waits as waited_for};
@@ -63,8 +63,8 @@ fn answer(links: &[LinkFacts], number: u64) -> Said
 pub fn wait(sites: &[SiteFacts], from: &Name, number: u64) -> Said
     requires free { IsUnrefused sites.now (Wait from.now number) }
     ensures said { (site : SiteFacts) → site_named sites.now from.now ≡ Some site → result ≡ wait_said number site.links }
-    ensures world { (w : World) → sites.now ≡ linked_facts w → AreListed w → result ≡ (step w (WaitAt (site_number w from.now) number)).said }
-    ensures facts { (w : World) → sites.now ≡ linked_facts w → sites.now ≡ linked_facts (step w (WaitAt (site_number w from.now) number)).world }
+    ensures world { (w : World) → sites.now ≡ facts_over w → AreListed w → result ≡ (step w (WaitAt (site_number w from.now) number)).said }
+    ensures facts { (w : World) → sites.now ≡ facts_over w → sites.now ≡ facts_over (step w (WaitAt (site_number w from.now) number)).world }
 {
     let here = seat(sites, from);
     answer(sites[here].links.as_slice(), number)

@@ -10,3 +10,4 @@ pub mod SettleTurns
 pub mod StepWent
 pub mod WentOn
 pub mod WentThen
+pub mod Works

@@ -2,10 +2,13 @@
 ghost use Rattle.std.specs.Prelude.{◌≡◌, ◌*◌, IfOk, IsOk, IsSome, min, replicate, false, true};
 ghost use Rattle.vx_history.specs.Doubts.{Doubted};
 ghost use Rattle.vx_events.specs.Parts.{goes_in_parts};
+ghost use Rattle.vx_events.specs.StepsOver.{is_for_group};
+ghost use Rattle.vx_group_lines.specs.Plain.{is_group_line};
+ghost use Rattle.vx_node.specs.Works.{WorksIs};
 ghost use Rattle.vx_yard.specs.Carries.{Carries};
 ghost use Rattle.vx_yard.specs.OfSites.{AsAsked, AsSettled, HasCalled};
 ghost use Rattle.vx_yard.specs.Lines.{is_built};
-ghost use Rattle.vx_yard.specs.Standing.{AnswersIs, GoodFor, LeadsIs, LeadsOrStops, StandsFor};
+ghost use Rattle.vx_yard.specs.Standing.{AnswersIs, GoodFor, StandsFor};
 ghost use Rattle.vx_yard.specs.Working.{IsFree, TakesNoMemory, refused_in, takes_memory};
 ghost use Rattle.vx_yard.specs.Yards.{IsYardKept, IsTold, in_files};
 
@@ -38,11 +41,12 @@ fn filled(alloc: Global, count: u64, fill: u8) -> Result<Vec<u8>, OutOfMemory>
 fn work<R: Rack>(yard: &mut Yard<R>, alloc: Global, words: &ScriptLine) -> Result<Said, OutOfMemory>
     requires built { is_built words.now ≡ true }
     requires whole { goes_in_parts words.now ≡ false }
+    requires other { is_group_line words.now ≡ false }
     requires kept { IsYardKept yard.old }
     requires free { IsFree yard.old words.now }
-    ensures leads { (d : Doubted) → StandsFor d yard.old → Carries d yard.old → GoodFor d yard.old → LeadsIs d words.now yard.old yard.new result }
-    ensures asked { (d : Doubted) → StandsFor d yard.old → AsAsked d.world words.now yard.old yard.new }
-    ensures called { (d : Doubted) → StandsFor d yard.old → Carries d yard.old → GoodFor d yard.old → IfOk result (λ said. HasCalled d.world words.now said yard.old yard.new) }
+    ensures leads { (d : Doubted) → StandsFor d yard.old → is_for_group d.world words.now ≡ false → Carries d yard.old → GoodFor d yard.old → WorksIs d words.now yard.old yard.new result }
+    ensures asked { (d : Doubted) → StandsFor d yard.old → is_for_group d.world words.now ≡ false → AsAsked d.world words.now yard.old yard.new }
+    ensures called { (d : Doubted) → StandsFor d yard.old → is_for_group d.world words.now ≡ false → Carries d yard.old → GoodFor d yard.old → IfOk result (λ said. HasCalled d.world words.now said yard.old yard.new) }
     // Memory is short for no line that takes none.
     ensures whole { takes_memory words.now ≡ false → IsOk result }
     ensures told { IsTold yard.new → IsTold yard.old }
@@ -105,7 +109,7 @@ fn work<R: Rack>(yard: &mut Yard<R>, alloc: Global, words: &ScriptLine) -> Resul
         | ScriptLine::Pump { .. }
         | ScriptLine::Tick { .. }
         | ScriptLine::Wait { .. } => work_link(yard, alloc, words),
-        // A line that goes in parts, or is not built.
+        // A line that goes in parts, works on a group alone, or is not built.
         _ => unreachable!(),
     }
 }
@@ -119,7 +123,7 @@ fn perform<R: Rack>(
     requires built { is_built words.now ≡ true }
     requires kept { IsYardKept yard.old }
     requires free { IsFree yard.old words.now }
-    ensures leads { (d : Doubted) → StandsFor d yard.old → Carries d yard.old → GoodFor d yard.old → LeadsOrStops d words.now yard.old yard.new result }
+    ensures leads { (d : Doubted) → StandsFor d yard.old → Carries d yard.old → GoodFor d yard.old → WorksIs d words.now yard.old yard.new result }
     ensures asked { (d : Doubted) → StandsFor d yard.old → AsAsked d.world words.now yard.old yard.new }
     ensures settled { (d : Doubted) → StandsFor d yard.old → Carries d yard.old → GoodFor d yard.old → AsSettled words.now yard.old yard.new }
     ensures called { (d : Doubted) → StandsFor d yard.old → Carries d yard.old → GoodFor d yard.old → IfOk result (λ said. HasCalled d.world words.now said yard.old yard.new) }

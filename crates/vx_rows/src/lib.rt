@@ -14,6 +14,8 @@ mod files;
 #[cfg(test)]
 mod fuses;
 #[cfg(test)]
+mod groups;
+#[cfg(test)]
 mod halves;
 #[cfg(test)]
 mod lines;
@@ -21,6 +23,10 @@ mod lines;
 mod links;
 #[cfg(test)]
 mod loss;
+#[cfg(test)]
+mod mirror_cuts;
+#[cfg(test)]
+mod mirrors;
 #[cfg(test)]
 mod outages;
 mod racks;

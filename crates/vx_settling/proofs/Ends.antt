@@ -25,7 +25,7 @@ use Rattle.vx_events.specs.Facts.{head_of, site_number}
 use Rattle.vx_events.specs.LinkEnds.{AreLeft, LinkEnds, LinkReplies, LinksDone}
 use Rattle.vx_events.proofs.LinkSettling.{may_settle, settle_agrees}
 use Rattle.vx_events.specs.LinkLists.{link_events}
-use Rattle.vx_events.specs.LinkedFacts.{refused_by}
+use Rattle.vx_events.specs.StepsOver.{refused_over}
 use Rattle.vx_events.specs.LinksFit.{LinksFit}
 use Rattle.vx_events.specs.Settles.{CanSettle}
 use Rattle.vx_events.specs.declared.said.Said.TheVariants.{Settled}
@@ -150,7 +150,7 @@ module _ (d last : Doubted) (p s : List ℕ) (origin : is_origin (d.world.nodes 
       ap (λ (v : World). (v.links a b).stored) last_is ∙ ends.0 ∙ ends.1
 
 -- where no test of the line refuses it in a good world, that is so
-pub free_stored : (d last : Doubted) (files : Bool) (p s : List ℕ) → GoodWorld d.world → LinksFit d → refused_by d.world files (Settle p s) ≡ None → Runs d (link_events d.world (Settle p s)) last
+pub free_stored : (d last : Doubted) (files : Bool) (p s : List ℕ) → GoodWorld d.world → LinksFit d → refused_over d.world files (Settle p s) ≡ None → Runs d (link_events d.world (Settle p s)) last
     → (last.world.links (site_number d.world p) (site_number d.world s)).stored ≡ (d.world.nodes (site_number d.world p)).safe
 free_stored d last files p s good fits free runs =
     let can = settle_agrees d files p s fits free in

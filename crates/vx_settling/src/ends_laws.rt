@@ -17,7 +17,7 @@ ghost use Rattle.vx_events.specs.Facts.{site_number};
 ghost use Rattle.vx_events.specs.Fails.{Fails};
 ghost use Rattle.vx_events.specs.LinkEnds.{AreLeft, LinkEnds, LinkReplies};
 ghost use Rattle.vx_events.specs.LinkLists.{link_events};
-ghost use Rattle.vx_events.specs.LinkedFacts.{refused_by};
+ghost use Rattle.vx_events.specs.StepsOver.{refused_over};
 ghost use Rattle.vx_events.specs.LinksFit.{LinksFit};
 ghost use Rattle.vx_events.specs.Parts.{DonePart, PartLeft};
 ghost use Rattle.vx_events.specs.Settles.{CanSettle};
@@ -47,7 +47,7 @@ pub fn settles_at_the_head()
         → AreLeft (Settle p s) d last new → LinkEnds (told ≡ true) d (Settle p s) [] (Settled (d.world.nodes (site_number d.world p)).safe) new }
     ensures stored { (d last : Doubted) (p s : List ℕ) → GoodWorld d.world → MaySettle d.world (site_number d.world p) (site_number d.world s) → Runs d (link_events d.world (Settle p s)) last
         → (last.world.links (site_number d.world p) (site_number d.world s)).stored ≡ (d.world.nodes (site_number d.world p)).safe }
-    ensures free { (d last : Doubted) (files : Bool) (p s : List ℕ) → GoodWorld d.world → LinksFit d → refused_by d.world files (Settle p s) ≡ None → Runs d (link_events d.world (Settle p s)) last
+    ensures free { (d last : Doubted) (files : Bool) (p s : List ℕ) → GoodWorld d.world → LinksFit d → refused_over d.world files (Settle p s) ≡ None → Runs d (link_events d.world (Settle p s)) last
         → (last.world.links (site_number d.world p) (site_number d.world s)).stored ≡ (d.world.nodes (site_number d.world p)).safe }
 {}
 

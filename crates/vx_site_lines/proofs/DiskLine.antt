@@ -1,5 +1,5 @@
 -- What a line that makes a disk fail, or ends that, comes to.
-use Rattle.std.proofs.Common.{◌≡◌, ℕ, Bool, List, [], ap, sym, subst, refl}
+use Rattle.std.proofs.Common.{◌≡◌, ℕ, Bool, false, List, [], ap, sym, subst, refl}
 use Rattle.std.specs.Prelude.{Some, slice_get}
 use Rattle.vx_history.specs.Doubts.{Doubted}
 use Rattle.vx_history.specs.World.{with_node}
@@ -12,6 +12,7 @@ use Rattle.vx_events.specs.declared.said.Said.TheVariants.{Done}
 use Rattle.vx_yard.specs.declared.yard.Yard.{Yard}
 use Rattle.vx_events.specs.Facts.{seat_of, site_number}
 use Rattle.vx_events.specs.Failing.{is_failing, made_fail}
+use Rattle.vx_events.specs.StepsOver.{over_group_at}
 use Rattle.vx_yard.proofs.CrashLine.{rose_still}
 use Rattle.vx_yard.proofs.FailsStay.{failing_fact}
 use Rattle.vx_diskset.proofs.FailGroup.{stands_failing}
@@ -25,40 +26,54 @@ use Rattle.vx_yard.specs.Working.{IsFree}
 use Rattle.vx_yard.specs.Yards.{IsTold, in_files}
 use Rattle.vx_yard.proofs.FailsStay.{set_on}
 use Rattle.vx_yard.proofs.FuseStays.{fused_set}
-use Rattle.vx_yard.proofs.NamedSite.{asks_at, fact_named, site_at}
+use Rattle.vx_yard.proofs.NamedSite.{apart_at, asks_at, fact_named, named_at}
 use Rattle.vx_yard.proofs.NoteSite.{changes_one, comes_one, none_left, with_one}
 use Rattle.vx_yard.proofs.OneSite.{Changed, role_kept, stands_still, told_by}
 use Rattle.vx_yard.proofs.Rows.{fact_like, fact_same}
 use Rattle.vx_history.proofs.Updates.{at_place}
 use Rattle.vx_order.specs.declared.facts.SiteFacts.{SiteFacts}
-use Rattle.vx_diskset.specs.declared.disk_set.DiskSet.TheVariants.{Bare, Spoiled, Up, Receives, Down, Gone}
+use Rattle.vx_diskset.specs.declared.disk_set.DiskSet.TheVariants.{Bare, Spoiled, Up, Receives, Down, OfGroup, Gone}
 use Rattle.std.proofs.Common.{◌<◌, ◌∙◌, arith}
 use Rattle.vx_yard.proofs.Carrying.{SameLoad, carries_node}
+use Rattle.vx_grouped.specs.GroupSites.{GroupSiteStands, site_disks}
+use Rattle.vx_grouped.specs.declared.group_site.GroupSite.{GroupSite}
+use Rattle.vx_grouped.specs.declared.group_site.GroupSite.TheVariants.{Up as GroupUp, Deported as GroupDeported, Down as GroupDown, Marked, Gone as GroupGone}
+use Rattle.vx_site_lines.proofs.Apart.{fact_stays, over_is}
 
 module _ {R : Type 0} {g : Ghosts R} where
+  -- those of a group have as many
+  group_units : (n : Node) (e : GroupSite R g) → GroupSiteStands n e → (site_disks e).units ≡ n.disks
+  group_units n (GroupUp group) (note, h) = h.at.lies.units
+  group_units n (GroupDeported rack) (note, h) = h.away.lies.units
+  group_units n (GroupDown rack) (note, h) = h.away.lies.units
+  group_units n (Marked rack) h = h.units
+  group_units n GroupGone h = absurd h
+
   units_at : (beside : KeptBeside) (n : Node) (e : DiskSet R g) → SiteStands beside n e → units_in e ≡ n.disks
   units_at beside n (Bare rack) h = h.bare.fitted.units
   units_at beside n (Spoiled rack) h = h.fitted.units
   units_at beside n (Up rvg) h = h.lies.units
   units_at beside n (Receives site) h = h.lies.units
   units_at beside n (Down rack) h = h.lies.units
+  units_at beside n (OfGroup s) h = group_units n s.site h.stands
   units_at beside n Gone h = absurd h
 
   -- the disk that the line names is one of the site's
-  pub disk_set_so : (d : Doubted) (old : Yard R g) (name : List ℕ) (disk : ℕ) (state : DiskState) (on : Bool) (s : ℕ) (before after : DiskSet R g) → StandsFor d old → IsFree old (Disk name disk state)
+  pub disk_set_so : (d : Doubted) (old : Yard R g) (name : List ℕ) (disk : ℕ) (state : DiskState) (on : Bool) (s : ℕ) (before after : DiskSet R g) → StandsFor d old → over_group_at d.world name ≡ false → IsFree old (Disk name disk state)
       → seat_of old.facts.items name ≡ Some s → on ≡ is_failing state → slice_get old.disk_sets.items s ≡ Some before → (disk < units_in before → SetsDisk disk on before after) → SetsDisk disk (is_failing state) before after
-  disk_set_so d old name disk state on s before after stands free seat is there did =
-      let here = site_at d old name s stands seat in
+  disk_set_so d old name disk state on s before after stands apart free seat is there did =
+      let here = named_at d old name s stands apart seat in
       let may = disk_may old.facts.items (in_files old) name disk state free in
       let fact = fact_named d old name s here seat may.0 in
       let units = units_at (beside_of d s) (d.world.nodes s) before (stands.disk_sets.sites s before here.below there) in
       subst (λ (b : Bool). SetsDisk disk b before after) is (did (omega (arith, may.1, units, ap (λ (f : SiteFacts). f.disks) fact)))
 
-  pub disk_leads : (d : Doubted) (old new : Yard R g) (name : List ℕ) (disk : ℕ) (state : DiskState) (s : ℕ) (before after : DiskSet R g) → StandsFor d old → seat_of old.facts.items name ≡ Some s
+  pub disk_leads : (d : Doubted) (old new : Yard R g) (name : List ℕ) (disk : ℕ) (state : DiskState) (s : ℕ) (before after : DiskSet R g) → StandsFor d old → over_group_at d.world name ≡ false → seat_of old.facts.items name ≡ Some s
       → Changed old new s before after → KeepsRole before after → ((beside : KeptBeside) (n : Node) → SiteStands beside n before → SiteStands beside n after) → SetsDisk disk (is_failing state) before after
       → new.facts ≡ old.facts → SameLoad old new → Leads d (Disk name disk state) Done old new
-  disk_leads d old new name disk state s before after stands is changed role keeps sets facts load =
-      let seat = site_at d old name s stands is in
+  disk_leads d old new name disk state s before after stands apart is changed role keeps sets facts load =
+      let seat = named_at d old name s stands apart is in
+      let over = apart_at d old name s stands apart is in
       let on : Bool = is_failing state in
       let m : Node = d.world.nodes s in
       let failing : ℕ → Bool = updated m.failing disk on in
@@ -78,8 +93,9 @@ module _ {R : Type 0} {g : Ghosts R} where
             (comes_one d s n after refl stands.links (stands_failing (beside_of d s) m failing after (keeps (beside_of d s) m there))
             (record { told = λ x at u fails. set_on disk on (disks_told before) (disks_told after) m.failing (stands.failing s before seat.below changed.there).told sets x at u fails })
             (fused_set m n before after disk on refl sets (stands.fuses s before seat.below changed.there)) (role_kept d old s before after stands seat.below changed.there role))
+            (fact_stays d.world (with_one d s n).world s over (over_is n ((with_one d s n).world.nodes s) (at_place d.world.nodes s n) over)
             (fact_same n ((with_one d s n).world.nodes s) (d.world.links s) (d.world.links s) d.world.sites d.world.sites (at_place d.world.nodes s n) (λ k. refl) refl
-            ∙ fact_like m n (d.world.links s) d.world.sites (failing_fact m failing) (λ k l. refl))
+            ∙ fact_like m n (d.world.links s) d.world.sites (failing_fact m failing) (λ k l. refl)))
             (ap (λ fs. fs.items) facts);
         rose = rose_still old new s before after changed.there changed.later changed.disk_sets;
       }

@@ -1,5 +1,5 @@
 -- A line that reads blocks of a site that may keep links.
-use Rattle.std.proofs.Common.{◌≡◌, ◌∙◌, ◌+◌, ◌*◌, ◌<◌, ◌≤◌, ℕ, List, [], ◌∷◌, length, ap, sym, subst, refl, arith, inl, inr}
+use Rattle.std.proofs.Common.{◌≡◌, ◌∙◌, ◌+◌, ◌*◌, ◌<◌, ◌≤◌, ℕ, false, List, [], ◌∷◌, length, ap, sym, subst, refl, arith, inl, inr}
 use Rattle.std.specs.Prelude.{Option, Some, Ok, Err, map, slice_get, unwrap_or}
 use Rattle.std.proofs.lemmas.Option.{slice_get_within}
 use Rattle.vx_history.specs.Doubts.{Doubted}
@@ -26,7 +26,7 @@ use Rattle.vx_diskset.specs.Fuses.{LeftAs}
 use Rattle.vx_diskset.specs.Holds.{KeptBeside, beside_of}
 use Rattle.vx_diskset.specs.Stands.{IsToldAt, KeepsRole, SiteStands}
 use Rattle.vx_diskset.specs.declared.disk_set.DiskSet.{DiskSet}
-use Rattle.vx_diskset.specs.declared.disk_set.DiskSet.TheVariants.{Bare, Spoiled, Up, Receives, Down, Gone}
+use Rattle.vx_diskset.specs.declared.disk_set.DiskSet.TheVariants.{Bare, Spoiled, Up, Receives, Down, OfGroup, Gone}
 use Rattle.vx_events.proofs.Blocks.{shown_are}
 use Rattle.vx_events.proofs.Keeping.{read_stays}
 use Rattle.vx_events.proofs.Places.{some_same}
@@ -37,7 +37,9 @@ use Rattle.vx_events.specs.Fails.{Fails}
 use Rattle.vx_events.proofs.Passing.{IsCall}
 use Rattle.vx_rvg.specs.Contents.{ShowsContent}
 use Rattle.vx_events.specs.Facts.{group_by, group_fact, place_of, seat_of, site_number, volume_fact, volume_number}
+use Rattle.vx_events.specs.GroupLines.{is_over_group}
 use Rattle.vx_events.specs.LinkedFacts.{linked_fact}
+use Rattle.vx_events.specs.StepsOver.{over_group_at}
 use Rattle.vx_events.specs.Lines.{IsDone}
 use Rattle.vx_events.specs.LinksFit.{LinksFit}
 use Rattle.vx_events.specs.Lists.{Choice, events_of}
@@ -54,9 +56,10 @@ use Rattle.vx_yard.proofs.CrashLine.{rose_still}
 use Rattle.vx_yard.proofs.FailsStay.{alone_keeps, fails_then}
 use Rattle.vx_yard.proofs.FuseStays.{fused_on}
 use Rattle.vx_yard.proofs.Lists.{get-set_same}
-use Rattle.vx_yard.proofs.NamedSite.{SiteAt, fact_named, site_at}
+use Rattle.vx_yard.proofs.NamedSite.{SiteAt, apart_at, fact_named, site_at}
 use Rattle.vx_yard.proofs.NoteSite.{comes_same, one_left, only_left}
 use Rattle.vx_yard.proofs.OneSite.{Changed, Comes, beside_same, role_kept, rose_at, stands_still, told_by}
+use Rattle.vx_site_lines.proofs.Apart.{never_up}
 use Rattle.vx_site_lines.proofs.ReadLine.{volume_at}
 use Rattle.vx_yard.proofs.SiteEvents.{first_choice}
 
@@ -119,36 +122,40 @@ record Whole (n : Node) : Type 0 where
   named : (v : ℕ) (x : Volume) → slice_get n.volumes v ≡ Some x → n.base.size v ≡ x.blocks
 
 module _ {R : Type 0} {g : Ghosts R} where
-  whole_at : (beside : KeptBeside) (n : Node) (e : DiskSet R g) → n.state ≡ IsUp → SiteStands beside n e → Whole n
-  whole_at beside n (Bare rack) up h = absurd (let e : IsBare ≡ IsUp = sym (ap (λ (k : Node). k.state) h.bare.is) ∙ up in cc)
-  whole_at beside n (Spoiled rack) up h = absurd (let e : IsBare ≡ IsUp = sym (ap (λ (k : Node). k.state) h.is) ∙ up in cc)
-  whole_at beside n (Up rvg) up h = record { few = h.lies.laid.few; named = h.lies.laid.named }
-  whole_at beside n (Receives site) up h = record { few = h.lies.laid.few; named = h.lies.laid.named }
-  whole_at beside n (Down rack) up h = record { few = h.lies.laid.few; named = h.lies.laid.named }
-  whole_at beside n Gone up h = absurd h
+  whole_at : (beside : KeptBeside) (n : Node) (e : DiskSet R g) → is_over_group n ≡ false → n.state ≡ IsUp → SiteStands beside n e → Whole n
+  whole_at beside n (Bare rack) apart up h = absurd (let e : IsBare ≡ IsUp = sym (ap (λ (k : Node). k.state) h.bare.is) ∙ up in cc)
+  whole_at beside n (Spoiled rack) apart up h = absurd (let e : IsBare ≡ IsUp = sym (ap (λ (k : Node). k.state) h.is) ∙ up in cc)
+  whole_at beside n (Up rvg) apart up h = record { few = h.lies.laid.few; named = h.lies.laid.named }
+  whole_at beside n (Receives site) apart up h = record { few = h.lies.laid.few; named = h.lies.laid.named }
+  whole_at beside n (Down rack) apart up h = record { few = h.lies.laid.few; named = h.lies.laid.named }
+  whole_at beside n (OfGroup s) apart up h = never_up beside n s h apart up
+  whole_at beside n Gone apart up h = absurd h
 
   -- a run of blocks, by the numbers of its site and its volume
   pub record Fetching (d : Doubted) (y : Yard R g) (name volume : List ℕ) (start count s place : ℕ) : Type 0 where
     pub seat : SiteAt d y name s
+    pub apart : is_over_group (d.world.nodes s) ≡ false
     pub volume_is : volume_number (d.world.nodes s) volume ≡ place
     pub some : 1 ≤ count
     pub few : count ≤ 16
     pub can : CanRead (d.world.nodes s) place start count
 
-  pub fetching : (d : Doubted) (y : Yard R g) (name volume : List ℕ) (start count s place : ℕ) (e : DiskSet R g) → StandsFor d y → CallMay y.facts.items name volume start count → seat_of y.facts.items name ≡ Some s
+  pub fetching : (d : Doubted) (y : Yard R g) (name volume : List ℕ) (start count s place : ℕ) (e : DiskSet R g) → StandsFor d y → over_group_at d.world name ≡ false → CallMay y.facts.items name volume start count → seat_of y.facts.items name ≡ Some s
       → slice_get y.disk_sets.items s ≡ Some e → ((f : SiteFacts) → slice_get y.facts.items s ≡ Some f → place_of f.volumes volume ≡ Some place) → Fetching d y name volume start count s place
-  fetching d y name volume start count s place e stands may at there place_is =
-      let here = site_at d y name s stands at in
+  fetching d y name volume start count s place e stands apart may at there place_is =
+      let over = apart_at d y name s stands apart at in
+      let here = site_at d y name s stands over at in
       let n : Node = d.world.nodes s in
       let fact = fact_named d y name s here at may.site in
       let found : place_of (map volume_fact n.volumes) volume ≡ Some place = place_is (linked_fact d.world s) here.fact in
       let where_found : may.at.place ≡ place = some_same (sym may.at.is ∙ ap (λ (k : SiteFacts). place_of k.volumes volume) fact ∙ found) in
       let up : n.state ≡ IsUp = sym (ap (λ (k : SiteFacts). k.state) fact) ∙ may.up in
-      let whole = whole_at (beside_of d s) n e up (stands.disk_sets.sites s e here.below there) in
+      let whole = whole_at (beside_of d s) n e over up (stands.disk_sets.sites s e here.below there) in
       let vol = volume_at n.volumes place may.found
       (ap (λ (k : SiteFacts). slice_get k.volumes place) (sym fact) ∙ ap (λ (i : ℕ). slice_get may.site.facts.volumes i) (sym where_found) ∙ may.at.there) in
       record {
         seat = here;
+        apart = over;
         volume_is = ap (λ (o : Option ℕ). unwrap_or o 0) found;
         some = may.some;
         few = may.few;

@@ -1,15 +1,15 @@
 -- What a line leaves that sets the fuse of a site.
-use Rattle.std.proofs.Common.{◌≡◌, ◌∙◌, ℕ, List, [], ap, sym, subst, refl, Some}
+use Rattle.std.proofs.Common.{◌≡◌, ◌∙◌, ℕ, false, List, [], ap, sym, subst, refl, Some}
 use Rattle.vx_history.specs.Steps.{fused}
 use Rattle.vx_history.specs.World.{Node, FuseSet}
 use Rattle.vx_model.specs.declared.site.SiteState.TheVariants.{Up as IsUp}
 use Rattle.vx_disk.specs.declared.shelf.Shelf.{Ghosts}
-use Rattle.vx_order.specs.declared.facts.SiteFacts.{SiteFacts}
 use Rattle.vx_script.specs.declared.line.ScriptLine.TheVariants.{Fuse}
 use Rattle.vx_diskset.specs.declared.disk_set.DiskSet.{DiskSet}
 use Rattle.vx_events.specs.declared.said.Said.TheVariants.{Done}
 use Rattle.vx_yard.specs.declared.yard.Yard.{Yard}
 use Rattle.vx_events.specs.Facts.{seat_of, site_number}
+use Rattle.vx_events.specs.StepsOver.{over_group_at}
 use Rattle.vx_yard.specs.Working.{IsFree}
 use Rattle.vx_yard.specs.Yards.{in_files}
 use Rattle.vx_yard.proofs.CrashLine.{rose_still, fuse_fact}
@@ -29,25 +29,27 @@ use Rattle.vx_yard.specs.Standing.{Leads, StandsFor}
 use Rattle.vx_yard.specs.Yards.{IsTold}
 use Rattle.vx_yard.proofs.FailsStay.{fails_then, fuse_keeps}
 use Rattle.vx_yard.proofs.FuseStays.{fused_on}
-use Rattle.vx_yard.proofs.NamedSite.{asks_at, fact_named, site_at}
+use Rattle.vx_yard.proofs.NamedSite.{apart_at, asks_at, named_at, place_at}
 use Rattle.vx_yard.proofs.NoteSite.{changes_one, comes_one, none_left, with_one}
 use Rattle.vx_yard.proofs.OneSite.{Changed, role_kept, stands_still, told_by}
 use Rattle.vx_yard.proofs.Rows.{fact_like, fact_same}
 use Rattle.vx_yard.proofs.Carrying.{SameLoad, carries_node}
+use Rattle.vx_site_lines.proofs.Apart.{fact_stays, over_is, state_placed}
 
 module _ {R : Type 0} {g : Ghosts R} where
   -- the site of such a line is up
   pub fuse_up : (d : Doubted) (old : Yard R g) (name : List ℕ) (calls pick s : ℕ) → StandsFor d old → IsFree old (Fuse name calls pick) → seat_of old.facts.items name ≡ Some s → (d.world.nodes s).state ≡ IsUp
   fuse_up d old name calls pick s stands free seat =
       let may = fuse_may old.facts.items (in_files old) name calls pick free in
-      ap (λ (f : SiteFacts). f.state) (sym (fact_named d old name s (site_at d old name s stands seat) seat may.0)) ∙ may.1
+      state_placed d old name s stands seat may.0 ∙ may.1
 
-  pub fuse_leads : (d : Doubted) (old new : Yard R g) (name : List ℕ) (calls pick s : ℕ) (before after : DiskSet R g) → StandsFor d old → IsFree old (Fuse name calls pick) → seat_of old.facts.items name ≡ Some s
+  pub fuse_leads : (d : Doubted) (old new : Yard R g) (name : List ℕ) (calls pick s : ℕ) (before after : DiskSet R g) → StandsFor d old → over_group_at d.world name ≡ false → IsFree old (Fuse name calls pick) → seat_of old.facts.items name ≡ Some s
       → Changed old new s before after → KeepsRole before after → ((beside : KeptBeside) (n : Node) → SiteStands beside n before → n.state ≡ IsUp → SiteStands beside (record n { fuse = FuseSet calls }) after)
       → ((beside : KeptBeside) (n : Node) → SiteStands beside n before → n.state ≡ IsUp → SetsFuse calls pick before after)
       → new.facts ≡ old.facts → SameLoad old new → Leads d (Fuse name calls pick) Done old new
-  fuse_leads d old new name calls pick s before after stands free is changed keeps fuses asked facts load =
-      let seat = site_at d old name s stands is in
+  fuse_leads d old new name calls pick s before after stands apart free is changed keeps fuses asked facts load =
+      let seat = named_at d old name s stands apart is in
+      let over = apart_at d old name s stands apart is in
       let m : Node = d.world.nodes s in
       let n : Node = record m { fuse = FuseSet calls } in
       let there = stands.disk_sets.sites s before seat.below changed.there in
@@ -69,8 +71,9 @@ module _ {R : Type 0} {g : Ghosts R} where
             (fused_on (λ o x. SameBlocks o x × (x.fuse ≡ Some (calls, pick))) m n (FuseSet calls) before after refl
             (λ x y set left. subst (λ (z : Option (ℕ × ℕ)). HasLeft calls z) (sym set.1) (omega arith)) sets (stands.fuses s before seat.below changed.there))
             (role_kept d old s before after stands seat.below changed.there keeps))
+            (fact_stays d.world (with_one d s n).world s over (over_is n ((with_one d s n).world.nodes s) (at_place d.world.nodes s n) over)
             (fact_same n ((with_one d s n).world.nodes s) (d.world.links s) (d.world.links s) d.world.sites d.world.sites (at_place d.world.nodes s n) (λ k. refl) refl
-            ∙ fact_like m n (d.world.links s) d.world.sites (fuse_fact m (FuseSet calls)) (λ k l. refl))
+            ∙ fact_like m n (d.world.links s) d.world.sites (fuse_fact m (FuseSet calls)) (λ k l. refl)))
             (ap (λ fs. fs.items) facts);
         rose = rose_still old new s before after changed.there changed.later changed.disk_sets;
       }
@@ -78,6 +81,6 @@ module _ {R : Type 0} {g : Ghosts R} where
   pub fuse_asks : (d : Doubted) (old new : Yard R g) (name : List ℕ) (calls pick s : ℕ) (before after : DiskSet R g) → StandsFor d old → IsFree old (Fuse name calls pick) → seat_of old.facts.items name ≡ Some s
       → Changed old new s before after → ((beside : KeptBeside) (n : Node) → SiteStands beside n before → n.state ≡ IsUp → SetsFuse calls pick before after) → OfSite (SetsFuse calls pick) (site_number d.world name) old new
   fuse_asks d old new name calls pick s before after stands free is changed asked =
-      let seat = site_at d old name s stands is in
+      let seat = place_at d old name s stands is in
       asks_at (SetsFuse calls pick) d old new name s before after stands is changed.there changed.disk_sets
       (asked (beside_of d s) (d.world.nodes s) (stands.disk_sets.sites s before seat.below changed.there) (fuse_up d old name calls pick s stands free is))

@@ -1,3 +1,4 @@
+pub mod Apart
 pub mod DiskLine
 pub mod FetchLine
 pub mod FuseLine

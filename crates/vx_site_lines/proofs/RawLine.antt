@@ -1,6 +1,6 @@
 -- What a line that makes a raw set comes to.
-use Rattle.std.proofs.Common.{◌≡◌, ◌∙◌, ◌-◌, ℕ, List, ap, sym, subst, refl}
-use Rattle.std.specs.Prelude.{Some, None, slice_get, slice_set, map}
+use Rattle.std.proofs.Common.{◌≡◌, ◌∙◌, ◌-◌, ℕ, List, ap, sym, refl}
+use Rattle.std.specs.Prelude.{None, Some, map}
 use Rattle.vx_history.specs.World.{Node}
 use Rattle.vx_model.specs.Sites.{no_line}
 use Rattle.vx_history.specs.Steps.{raw_set, raw_volumes}
@@ -9,17 +9,10 @@ use Rattle.vx_model.specs.Sizes.{ring_of}
 use Rattle.vx_model.specs.declared.history.Line.{Line}
 use Rattle.vx_model.specs.declared.site.Role.TheVariants.{Primary}
 use Rattle.vx_model.specs.declared.site.Mark.TheVariants.{Consistent}
-use Rattle.vx_disk.specs.declared.shelf.Shelf.{Ghosts}
 use Rattle.vx_order.specs.declared.facts.SiteFacts.{SiteFacts}
 use Rattle.vx_order.specs.declared.facts.VolumeFacts.{VolumeFacts}
-use Rattle.vx_diskset.specs.declared.disk_set.DiskSet.{DiskSet}
-use Rattle.vx_diskset.specs.declared.disk_set.DiskSet.TheVariants.{Gone}
 use Rattle.vx_yard.specs.Changes.{raw_facts}
-use Rattle.vx_diskset.specs.DiskSets.{Later}
 use Rattle.vx_events.specs.Facts.{site_fact, volume_fact}
-use Rattle.vx_yard.specs.Stands.{AreTold}
-use Rattle.vx_yard.proofs.ChangeSite.{told_before}
-use Rattle.vx_yard.proofs.Lists.{set_twice}
 
 raw_fact_by : (site : ℕ) (n : Node) (parent : Line) (low : ℕ) → n.parent ≡ parent → n.low ≡ low → parent ≡ no_line → low ≡ 1
     → raw_facts site (map volume_fact (raw_volumes 1 (n.disks - 2) n.blocks)) (site_fact n) ≡ site_fact (raw_set site n)
@@ -38,7 +31,3 @@ raw_fact_of s n site volumes is table parent low =
     ap (λ (vs : List VolumeFacts). raw_facts s vs site) (table ∙ ap (λ (f : SiteFacts). map volume_fact (raw_volumes 1 (f.disks - 2) f.blocks)) is)
     ∙ ap (λ (f : SiteFacts). raw_facts s (map volume_fact (raw_volumes 1 (n.disks - 2) n.blocks)) f) is
     ∙ raw_fact_by s n n.parent n.low refl refl parent low
-
-module _ {R : Type 0} {g : Ghosts R} where
-  pub raw_told : (es new : List (DiskSet R g)) (s : ℕ) (before after : DiskSet R g) → slice_get es s ≡ Some before → Later before after → new ≡ slice_set (slice_set es s Gone) s after → AreTold new → AreTold es
-  raw_told es new s before after at later twice told = told_before es s before after at later (subst (λ es. AreTold es) (twice ∙ set_twice es s Gone after) told)

@@ -1,8 +1,9 @@
 -- A line that makes a raw set of a bare site, where other sites may keep links.
 use Rattle.std.proofs.Common.{◌≡◌, ◌∙◌, ◌+◌, ◌-◌, ◌<◌, ℕ, true, false, List, [], ◌∷◌, ap, sym, subst, refl, arith}
-use Rattle.std.specs.Prelude.{Bool, Option, Some, None, Result, Ok, Err, map, not, slice_get, slice_set}
+use Rattle.std.specs.Prelude.{◌&&◌, Bool, Option, Some, None, Result, Ok, Err, map, not, eqb, is_some, length, slice_get, slice_set}
 use Rattle.vx_history.proofs.Updates.{at_place}
 use Rattle.vx_history.specs.Doubts.{After, Doubted}
+use Rattle.vx_history.specs.Groups.{GroupNode}
 use Rattle.vx_history.specs.KeptLinks.{kept_links}
 use Rattle.vx_history.specs.Refusals.{Outcome}
 use Rattle.vx_history.specs.Step.{headers_counted, done as is_done, outcome_of}
@@ -29,9 +30,9 @@ use Rattle.vx_diskset.specs.Asked.{FailsAs, FusedAs, SameFailing}
 use Rattle.vx_diskset.specs.DiskSets.{MadeIs}
 use Rattle.vx_diskset.specs.Holds.{KeptBeside, KeptSite, site_alone, beside_of, doubt_of, row_links}
 use Rattle.vx_diskset.specs.Layouts.{CanBeRaw}
-use Rattle.vx_diskset.specs.Stands.{RoleIs, StandsAlone, SiteStands}
+use Rattle.vx_diskset.specs.Stands.{RoleIs, StandsAlone, SiteStands, bare_with}
 use Rattle.vx_diskset.specs.declared.disk_set.DiskSet.{DiskSet}
-use Rattle.vx_diskset.specs.declared.disk_set.DiskSet.TheVariants.{Bare, Spoiled, Up, Receives, Down, Gone}
+use Rattle.vx_diskset.specs.declared.disk_set.DiskSet.TheVariants.{Bare, Spoiled, Up, Receives, Down, OfGroup, Gone}
 use Rattle.vx_effects.proofs.Fitting.{fit_happened}
 use Rattle.vx_events.proofs.Places.{never_some, some_same}
 use Rattle.vx_events.proofs.Refused.{Named, not_false, passes, raw_may, when_none}
@@ -40,6 +41,7 @@ use Rattle.vx_events.specs.Ends.{Ends}
 use Rattle.vx_model.specs.Sites.{is_origin, no_line}
 use Rattle.vx_model.specs.declared.site.Role.TheVariants.{Primary}
 use Rattle.vx_events.specs.Facts.{seat_of, site_fact, site_number, volume_fact}
+use Rattle.vx_events.specs.GroupLines.{is_over_group}
 use Rattle.vx_events.specs.LinkedFacts.{link_facts, linked_fact, links_by}
 use Rattle.vx_events.specs.LinksFit.{IsBlank, LinksFit}
 use Rattle.vx_events.specs.declared.said.Said.{Said}
@@ -56,10 +58,11 @@ use Rattle.vx_yard.proofs.Alike.{apart_place}
 use Rattle.vx_yard.proofs.CrashLine.{rose_still}
 use Rattle.vx_yard.proofs.FailsStay.{fails_then}
 use Rattle.vx_yard.proofs.FuseStays.{fused_none}
-use Rattle.vx_yard.proofs.NamedSite.{SiteAt, fact_named, site_at}
+use Rattle.vx_yard.proofs.NamedSite.{SiteAt, fact_named}
 use Rattle.vx_yard.proofs.NoteSite.{comes_same, one_left, only_left}
 use Rattle.vx_yard.proofs.OneSite.{Changed, Comes, role_off, rose_at, stands_at, stands_still, told_by}
 use Rattle.vx_yard.proofs.Carrying.{Feeds, SameLoad, carries_at, carries_same, feeds_none}
+use Rattle.vx_site_lines.proofs.Apart.{bare_seat, fact_at, over_is, state_placed}
 use Rattle.vx_site_lines.proofs.RawLine.{raw_fact_of}
 use Rattle.vx_yard.proofs.Rows.{fact_from, fact_same}
 use Rattle.vx_yard.proofs.SiteEvents.{first_choice}
@@ -120,6 +123,10 @@ blank_fact d s n blank =
     ap (λ (ls : List LinkFacts). let f : SiteFacts = record (site_fact n) { links = ls } in f)
     (ap (λ (ss : List ℕ). links_by n.state (link_facts n (d.world.links s) ss)) (no_sites (d.world.links s) d.world.sites 0 d.world.sites blank.links) ∙ shows_none n.state)
 
+-- one without a group becomes a raw set without one
+pub raw_apart : (s : ℕ) (n : Node) → n.group ≡ None → is_over_group (raw_set s n) ≡ false
+raw_apart s n none = ap (λ (o : Option GroupNode). is_some o && eqb (length (raw_set s n).volumes) 0) none
+
 raw_outcome : (w : World) (files : Bool) (facts : List SiteFacts) (name : List ℕ) (s : ℕ) → line_refusal facts files (Raw name) ≡ None → s < w.sites → (w.nodes s).state ≡ IsBare
     → ((n : Named facts name) → n.facts ≡ linked_fact w s) → outcome_of w (MakeRaw s) ≡ is_done (raw_made w s)
 unfolding first_name wrong_size
@@ -132,12 +139,15 @@ raw_outcome w files facts name s free below bare named_is =
     raw_step w s below bare (subst (λ (f : SiteFacts). is_raw_shape f.disks f.blocks ≡ true) (named_is may.0) shape)
 
 module _ {R : Type 0} {g : Ghosts R} where
-  pub bare_at : (beside : KeptBeside) (n : Node) (e : DiskSet R g) → SiteStands beside n e → n.state ≡ IsBare → (n.parent ≡ no_line) × (n.low ≡ 1) × (n.fuse ≡ NoFuse)
-  bare_at beside n (Bare rack) stands is = (ap (λ (k : Node). k.parent) stands.bare.is, ap (λ (k : Node). k.low) stands.bare.is, ap (λ (k : Node). k.fuse) stands.bare.is)
-  bare_at beside n (Spoiled rack) stands is = (ap (λ (k : Node). k.parent) stands.is, ap (λ (k : Node). k.low) stands.is, ap (λ (k : Node). k.fuse) stands.is)
+  pub bare_at : (beside : KeptBeside) (n : Node) (e : DiskSet R g) → SiteStands beside n e → n.state ≡ IsBare → (n.parent ≡ no_line) × (n.low ≡ 1) × (n.fuse ≡ NoFuse) × (n.group ≡ None)
+  bare_at beside n (Bare rack) stands is = (ap (λ (k : Node). k.parent) stands.bare.is, ap (λ (k : Node). k.low) stands.bare.is, ap (λ (k : Node). k.fuse) stands.bare.is, ap (λ (k : Node). k.group) stands.bare.is)
+  bare_at beside n (Spoiled rack) stands is = (ap (λ (k : Node). k.parent) stands.is, ap (λ (k : Node). k.low) stands.is, ap (λ (k : Node). k.fuse) stands.is, ap (λ (k : Node). k.group) stands.is)
   bare_at beside n (Up rvg) stands is = absurd (let e : IsBare ≡ IsUp = sym is ∙ stands.state in cc)
   bare_at beside n (Receives site) stands is = absurd (let e : IsBare ≡ IsUp = sym is ∙ stands.state in cc)
   bare_at beside n (Down rack) stands is = absurd (let e : IsBare ≡ IsDown = sym is ∙ stands.state in cc)
+  bare_at beside n (OfGroup s) stands is =
+      let same : n ≡ bare_with n = stands.bare is in
+      (ap (λ (k : Node). k.parent) same, ap (λ (k : Node). k.low) same, ap (λ (k : Node). k.fuse) same, ap (λ (k : Node). k.group) same)
   bare_at beside n Gone stands is = absurd stands
 
   -- what the tests of the line found
@@ -150,10 +160,10 @@ module _ {R : Type 0} {g : Ghosts R} where
 
   raw_site : (d : Doubted) (y : Yard R g) (name : List ℕ) (s : ℕ) (site : SiteFacts) → StandsFor d y → IsFree y (Raw name) → seat_of y.facts.items name ≡ Some s → slice_get y.facts.items s ≡ Some site → IsRawSite d y name s site
   raw_site d y name s site stands free is there =
-      let seat = site_at d y name s stands is in
       let may = raw_may y.facts.items (in_files y) name free in
+      let bare : (d.world.nodes s).state ≡ IsBare = state_placed d y name s stands is may.0 ∙ may.1 in
+      let seat = bare_seat d y name s stands is bare in
       let found = fact_named d y name s seat is may.0 in
-      let bare : (d.world.nodes s).state ≡ IsBare = sym (ap (λ (f : SiteFacts). f.state) found) ∙ may.1 in
       record {
         seat = seat;
         fact = some_same (sym there ∙ seat.fact) ∙ blank_fact d s (d.world.nodes s) (stands.links.bare s bare);
@@ -205,8 +215,9 @@ module _ {R : Type 0} {g : Ghosts R} where
         carries = λ was. carries_at s d e old new was load (record { site = comes.changes; packets = refl; gathering = refl })
             (subst (λ (m : Node). Feeds (d.world.nodes s) m) here (feeds_none (d.world.nodes s) (raw_set s n) (λ up receives. origin_receives receives))) (told_by old new s before after changed);
         stands = stands_at d e old new s (raw_facts s volumes site) before after stands found.seat.below changed comes
+            (fact_at e.world s (raw_facts s volumes site) (over_is (raw_set s n) (e.world.nodes s) (sym here) (raw_apart s n parts.3))
             (raw_fact_of s n site volumes found.fact table parts.0 parts.1 ∙ sym (blank_fact d s (raw_set s n) blank)
-            ∙ sym (fact_same (raw_set s n) (e.world.nodes s) (d.world.links s) (e.world.links s) d.world.sites e.world.sites (sym here) (λ j. refl) refl))
+            ∙ sym (fact_same (raw_set s n) (e.world.nodes s) (d.world.links s) (e.world.links s) d.world.sites e.world.sites (sym here) (λ j. refl) refl)))
             facts;
         rose = rose_still old new s before after changed.there changed.later changed.disk_sets;
       }

@@ -3,56 +3,81 @@ use Rattle.std.proofs.Common.{◌≡◌, ◌∙◌, ◌<◌, ◌≤◌, ℕ, Boo
 use Rattle.std.specs.Prelude.{Option, Some, None, Result, Ok, Err, slice_get}
 use Rattle.vx_model.specs.Sizes.{ring_of}
 use Rattle.vx_model.specs.declared.errors.OutOfMemory.{OutOfMemory}
-use Rattle.vx_model.specs.declared.site.SiteState.TheVariants.{Bare as IsBare, Up as IsUp, Down as IsDown}
+use Rattle.vx_model.specs.declared.site.SiteState.{SiteState}
+use Rattle.vx_model.specs.declared.site.SiteState.TheVariants.{Bare as IsBare, Up as IsUp, Deported, Down as IsDown}
 use Rattle.vx_disk.specs.declared.shelf.Shelf.{Ghosts}
 use Rattle.vx_history.specs.Doubts.{Doubted, happened}
 use Rattle.vx_history.specs.declared.event.Event.TheVariants.{Crash as CrashAt}
-use Rattle.vx_events.proofs.Places.{some_same}
+use Rattle.vx_events.proofs.OverSeats.{over_reads}
+use Rattle.vx_events.proofs.Places.{never_some, some_same}
+use Rattle.vx_events.proofs.Refused.{Named, named, passes}
 use Rattle.vx_events.specs.Facts.{seat_of, site_number}
+use Rattle.vx_events.specs.GroupLines.{is_over_group}
 use Rattle.vx_events.specs.LinksFit.{LinksFit}
 use Rattle.vx_events.specs.Lists.{Choice}
+use Rattle.vx_events.specs.StepsOver.{over_group_at}
 use Rattle.vx_events.specs.declared.said.Said.{Said}
+use Rattle.vx_model.specs.declared.no.No.TheVariants.{Role as WrongRole}
+use Rattle.vx_order.specs.Grouping.{is_deported, recover_role}
+use Rattle.vx_order.specs.Order.{line_refusal}
+use Rattle.vx_order.specs.Shapes.{line_role}
+use Rattle.vx_order.specs.Subject.{first_name}
+use Rattle.vx_order.specs.Tests.{when}
 use Rattle.vx_order.specs.declared.facts.SiteFacts.{SiteFacts}
 use Rattle.vx_script.specs.declared.line.ScriptLine.TheVariants.{Recover}
 use Rattle.vx_site_lines.specs.Rises.{LeadsFrom, RisesFrom, WasDown, WasUp, own_disks}
 use Rattle.vx_yard.specs.Standing.{Falls, Leads, LeadsIs, StandsFor, crash_of}
 use Rattle.vx_yard.specs.Yards.{count_of}
 use Rattle.vx_yard.specs.declared.yard.Yard.{Yard}
-use Rattle.vx_yard.proofs.NamedSite.{site_at}
+use Rattle.vx_yard.proofs.NamedSite.{apart_at, place_at, site_at}
 use Rattle.vx_yard.proofs.RecoverLine.{rose_then}
+use Rattle.vx_site_lines.proofs.Apart.{over_as}
 use Rattle.vx_site_lines.proofs.RiseWorlds.{own_sites}
 use Rattle.vx_yard.proofs.SiteEvents.{first_choice, keeps_k}
+
+-- the site of such a line is not deported
+pub never_deported : (sites : List SiteFacts) (files : Bool) (name : List ℕ) (f : SiteFacts) → line_refusal sites files (Recover name) ≡ None → ((n : Named sites name) → n.facts ≡ f) → f.state ≡ Deported → ⊥
+unfolding first_name line_role
+never_deported sites files name f free is away =
+    let p = passes sites files (Recover name) free in
+    let site = named sites name p.known in
+    let none : recover_role (Some f) ≡ None = subst (λ (x : SiteFacts). recover_role (Some x) ≡ None) (is site) (subst (λ (o : Option SiteFacts). recover_role o ≡ None) site.found p.role) in
+    let said : recover_role (Some f) ≡ Some WrongRole = ap (λ (t : SiteState). when (is_deported t) WrongRole) away in
+    never_some (sym none ∙ said)
 
 module _ {R : Type 0} {g : Ghosts R} where
   -- what the start of a site's group promises of these yards
   abbrev pub Rising : (s ring : ℕ) → Said → Yard R g → Yard R g → Type 0
   Rising s ring said old new =
       (d h : Doubted) (c : Choice) (taken : Bool) (name : List ℕ) → site_number d.world name ≡ s → RisesFrom d s c taken h → LinksFit d → StandsFor (own_disks taken s d.world h) old
-      → s < h.world.sites → ((own_disks taken s d.world h).world.nodes s).state ≡ IsDown → ring ≡ ring_of ((own_disks taken s d.world h).world.nodes s).blocks
+      → s < h.world.sites → ((own_disks taken s d.world h).world.nodes s).state ≡ IsDown → is_over_group ((own_disks taken s d.world h).world.nodes s) ≡ false → ring ≡ ring_of ((own_disks taken s d.world h).world.nodes s).blocks
       → LeadsFrom (own_disks taken s d.world h) d (Recover name) said old new
 
   -- a site that was down
-  pub recover_from_down : (d : Doubted) (old new : Yard R g) (name : List ℕ) (s ring : ℕ) (said : Said) (f : SiteFacts) → StandsFor d old → seat_of old.facts.items name ≡ Some s
+  pub recover_from_down : (d : Doubted) (old new : Yard R g) (name : List ℕ) (s ring : ℕ) (said : Said) (f : SiteFacts) → StandsFor d old → over_group_at d.world name ≡ false → seat_of old.facts.items name ≡ Some s
       → slice_get old.facts.items s ≡ Some f → f.state ≡ IsDown → ring ≡ ring_of f.blocks → Rising s ring said old new → Leads d (Recover name) said old new
-  recover_from_down d old new name s ring said f stands seat at down ring_is rises =
-      let here = site_at d old name s stands seat in
+  recover_from_down d old new name s ring said f stands apart seat at down ring_is rises =
+      let over = apart_at d old name s stands apart seat in
+      let here = site_at d old name s stands over seat in
       let same = some_same (sym at ∙ here.fact) in
       let state : (d.world.nodes s).state ≡ IsDown = sym (ap (λ (x : SiteFacts). x.state) same) ∙ down in
-      let lead = rises d d first_choice false name here.number (WasDown state refl refl) stands.links stands here.below state (ring_is ∙ ap (λ (x : SiteFacts). ring_of x.blocks) same) in
+      let lead = rises d d first_choice false name here.number (WasDown state refl refl) stands.links stands here.below state over (ring_is ∙ ap (λ (x : SiteFacts). ring_of x.blocks) same) in
       record { next = lead.next; fails = lead.fails; done = lead.done; stands = lead.stands; carries = lead.carries; rose = lead.rose }
 
   -- a site that was up crashes first
-  pub recover_from_up : (d : Doubted) (old mid new : Yard R g) (name : List ℕ) (s ring : ℕ) (said : Said) (f : SiteFacts) → StandsFor d old → seat_of old.facts.items name ≡ Some s
+  pub recover_from_up : (d : Doubted) (old mid new : Yard R g) (name : List ℕ) (s ring : ℕ) (said : Said) (f : SiteFacts) → StandsFor d old → over_group_at d.world name ≡ false → seat_of old.facts.items name ≡ Some s
       → slice_get old.facts.items s ≡ Some f → f.state ≡ IsUp → ring ≡ ring_of f.blocks → ((d : Doubted) → StandsFor d old → s < d.world.sites → (d.world.nodes s).state ≡ IsUp → Falls d s old mid)
       → Rising s ring said mid new → Leads d (Recover name) said old new
-  recover_from_up d old mid new name s ring said f stands seat at up ring_is falls rises =
-      let here = site_at d old name s stands seat in
+  recover_from_up d old mid new name s ring said f stands apart seat at up ring_is falls rises =
+      let over = apart_at d old name s stands apart seat in
+      let here = site_at d old name s stands over seat in
       let same = some_same (sym at ∙ here.fact) in
       let state : (d.world.nodes s).state ≡ IsUp = sym (ap (λ (x : SiteFacts). x.state) same) ∙ up in
       let fell = falls d stands here.below state in
       let h : Doubted = happened d (CrashAt s fell.count) fell.taken in
       let lead = rises d h (keeps_k fell.count) fell.taken name here.number (WasUp state refl) stands.links fell.stands
-      (omega (arith, here.below, fell.sites, own_sites s d.world h fell.taken)) fell.down (ring_is ∙ ap (λ (x : SiteFacts). ring_of x.blocks) same ∙ ap ring_of (sym fell.blocks)) in
+      (omega (arith, here.below, fell.sites, own_sites s d.world h fell.taken)) fell.down
+      (over_as (d.world.nodes s) ((crash_of d s fell.count fell.taken).world.nodes s) fell.group fell.volumes over) (ring_is ∙ ap (λ (x : SiteFacts). ring_of x.blocks) same ∙ ap ring_of (sym fell.blocks)) in
       record {
         next = lead.next;
         fails = lead.fails;
@@ -68,5 +93,6 @@ module _ {R : Type 0} {g : Ghosts R} where
       → ((d : Doubted) → site_number d.world name ≡ s → StandsFor d old → s < d.world.sites → (d.world.nodes s).state ≡ IsBare → LeadsIs d (Recover name) old new result)
       → LeadsIs d (Recover name) old new result
   recover_from_bare d old new name s f result stands seat at bare rises =
-      let here = site_at d old name s stands seat in
-      rises d here.number stands here.below (sym (ap (λ (x : SiteFacts). x.state) (some_same (sym at ∙ here.fact))) ∙ bare)
+      let here = place_at d old name s stands seat in
+      rises d here.number stands here.below
+      (sym (over_reads d.world s (λ (x : SiteFacts). x.state) (d.world.nodes s).state refl refl) ∙ sym (ap (λ (x : SiteFacts). x.state) (some_same (sym at ∙ here.fact))) ∙ bare)

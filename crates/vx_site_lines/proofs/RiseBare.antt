@@ -32,6 +32,7 @@ use Rattle.vx_history.specs.declared.event.Event.TheVariants.{Recover as Recover
 use Rattle.vx_effects.proofs.Leaving.{fit_found}
 use Rattle.vx_effects.proofs.Restarts.{found_again, found_fits, found_kept}
 use Rattle.vx_effects.specs.Restarts.{are_fine, row_of_kept}
+use Rattle.vx_events.proofs.OverSeats.{fact_apart}
 use Rattle.vx_events.proofs.Places.{some_same}
 use Rattle.vx_events.proofs.Steps.{bare_step}
 use Rattle.vx_events.specs.Effects.{EffectAt}
@@ -40,6 +41,7 @@ use Rattle.vx_events.specs.Facts.{site_fact, site_number, volume_fact}
 use Rattle.vx_events.specs.Fails.{Fails}
 use Rattle.vx_events.specs.Found.{ComesUpAs, SameDisks}
 use Rattle.vx_events.specs.LinkViews.{linked_view}
+use Rattle.vx_events.specs.GroupLines.{is_over_group}
 use Rattle.vx_events.specs.LinkedFacts.{linked_fact}
 use Rattle.vx_events.specs.Lists.{events_of, recovery_of}
 use Rattle.vx_events.specs.LinksFit.{LinksFit}
@@ -61,13 +63,14 @@ use Rattle.vx_yard.specs.declared.yard.Yard.{Yard}
 use Rattle.vx_yard.proofs.Carrying.{SameLoad, carries_on, carries_same, feeds_same}
 use Rattle.vx_yard.proofs.CrashLine.{rose_still}
 use Rattle.vx_yard.proofs.FailsStay.{fails_then}
+use Rattle.vx_site_lines.proofs.Apart.{bare_over, over_as, over_is}
 use Rattle.vx_site_lines.proofs.FetchLine.{no_more, recounted, recounted_fits}
 use Rattle.vx_yard.proofs.FuseStays.{fused_none}
 use Rattle.vx_yard.proofs.Lists.{get-set_same, set_same, set_twice}
 use Rattle.vx_yard.proofs.NamedSite.{fact_of}
 use Rattle.vx_yard.proofs.NoteSite.{comes_same, one_left}
 use Rattle.vx_yard.proofs.OneSite.{Changed, Comes, beside_same, role_off, rose_at, stands_still, told_by}
-use Rattle.vx_site_lines.proofs.RawSite.{bare_at, bare_sure}
+use Rattle.vx_site_lines.proofs.RawSite.{bare_at, bare_sure, raw_apart}
 use Rattle.vx_site_lines.proofs.RiseLeads.{Replaced, never_told, recover_done}
 use Rattle.vx_site_lines.proofs.RiseLine.{effect_as, plain_of, quiet_is, row_starts, shape_at}
 use Rattle.vx_site_lines.proofs.RiseSite.{ComesUp, IsWhole, SeesDisks, up_carries, up_stands}
@@ -209,18 +212,21 @@ module _ {R : Type 0} {g : Ghosts R} where
       abbrev beside_now : KeptBeside
       beside_now = record { links = row_links row d.world.sites; headers = d.world.headers s; doubt = None }
 
+      apart : is_over_group k ≡ false
+      apart = over_as (raw_set 0 n) k found.same.group found.same.volumes (raw_apart 0 n (bare_at (beside_of d s) n before stood bare).3)
+
       stands_now : SiteStands beside_now k after
-      stands_now = any_links lawful beside_now beside_now found.node found.node.other after found.untold refl found.same.up (found.stands beside_now refl)
+      stands_now = any_links lawful beside_now beside_now found.node found.node.other after found.untold refl found.same.up apart (found.stands beside_now refl)
 
       fact_is : site ≡ linked_fact d.world s
-      fact_is = some_same (sym site_at ∙ fact_of d old s stands below)
+      fact_is = some_same (sym site_at ∙ fact_of d old s stands below) ∙ fact_apart d.world s (bare_over d old s stands below bare)
 
       blocks_is : site.blocks ≡ n.blocks
       blocks_is = ap (λ (x : SiteFacts). x.blocks) fact_is
 
       whole_now : IsWhole k ring
       whole_now =
-          let shape = shape_at beside_now k after stands_now (λ is. let e : IsUp ≡ IsBare = sym found.same.up ∙ is in cc) in
+          let shape = shape_at beside_now k after stands_now apart (λ is. let e : IsUp ≡ IsBare = sym found.same.up ∙ is in cc) in
           record {
             up = found.same.up;
             running = found.same.running;
@@ -244,6 +250,7 @@ module _ {R : Type 0} {g : Ghosts R} where
         plain = plain_of s next row fits_now effect_now.is.links;
         again = found_again s d.world.sites state.links fine;
         whole = whole_now;
+        apart = apart;
         rests = refl;
         stands = stands_now;
         failing = fails_then n k before after found.same.failing same (stands.failing s before below there);
@@ -276,7 +283,7 @@ module _ {R : Type 0} {g : Ghosts R} where
       last_is = rises.last_is.each beside_now found.node after here (found.stands beside_now refl) found.same.up found.same.running
 
       session_is : rises.session ≡ found.node.session
-      session_is = rises.session_is.each beside_now found.node after here (found.stands beside_now refl) found.same.up
+      session_is = rises.session_is.each beside_now found.node after here (found.stands beside_now refl) found.same.up apart
 
       facts_are : new.facts.items ≡ slice_set old.facts.items s (risen_facts state k.safe ring used raw)
       facts_are =
@@ -304,7 +311,7 @@ module _ {R : Type 0} {g : Ghosts R} where
         fails = [];
         done = recover_done (IsTold new) d next s name [] said number
             (FindsLinks (never_told old.disk_sets.items new.disk_sets.items s before after there changed_up.disk_sets found.untold) first_choice false name d (raw_set s n) k row refl (FromBare bare refl refl) comes_as tt
-            (rises.says ∙ ap (λ (v : SiteView). Recovered rises.last v) (rises.shows next stands_next below) ∙ ap (λ (x : ℕ). Recovered x (linked_view next.world s)) last_is)
+            (rises.says ∙ ap (λ (v : SiteView). Recovered rises.last v) (rises.shows next stands_next below (over_is k (next.world.nodes s) effect_now.is.node apart)) ∙ ap (λ (x : ℕ). Recovered x (linked_view next.world s)) last_is)
             (record { world = refl; after = λ i. refl }));
         stands = stands_next;
         carries = λ carries. up_carries d next old new s ring k row raw state used before after stands below changed_up up sees state_is needs rises.session rises.last session_is last_is flies

@@ -17,13 +17,15 @@ use Rattle.vx_diskset.specs.Layouts.{CanBeRaw}
 use Rattle.vx_diskset.specs.Stands.{IsToldAt, SiteStands}
 use Rattle.vx_diskset.specs.Withdrawn.{IsBareOf}
 use Rattle.vx_diskset.specs.declared.disk_set.DiskSet.{DiskSet}
-use Rattle.vx_diskset.specs.declared.disk_set.DiskSet.TheVariants.{Bare, Spoiled, Up, Receives, Down, Gone}
+use Rattle.vx_diskset.specs.declared.disk_set.DiskSet.TheVariants.{Bare, Spoiled, Up, Receives, Down, OfGroup, Gone}
 use Rattle.vx_diskset.proofs.KeepsFailing.{failing_same, failing_then}
 use Rattle.vx_history.specs.Doubts.{Doubted}
-use Rattle.vx_history.specs.Steps.{raw_volumes}
+use Rattle.vx_history.specs.Steps.{raw_set, raw_volumes}
 use Rattle.vx_history.specs.World.{Node}
+use Rattle.vx_events.proofs.OverSeats.{fact_apart}
 use Rattle.vx_events.proofs.Places.{some_same}
 use Rattle.vx_events.specs.Facts.{site_number, volume_fact}
+use Rattle.vx_events.specs.GroupLines.{is_over_group}
 use Rattle.vx_events.specs.LinkedFacts.{linked_fact}
 use Rattle.vx_events.specs.Lists.{Choice}
 use Rattle.vx_events.specs.LinksFit.{LinksFit}
@@ -39,6 +41,8 @@ use Rattle.vx_yard.specs.declared.yard.Yard.{Yard}
 use Rattle.vx_yard.proofs.Kept.{many_sites}
 use Rattle.vx_yard.proofs.Lists.{set_same}
 use Rattle.vx_yard.proofs.NamedSite.{fact_of}
+use Rattle.vx_site_lines.proofs.Apart.{bare_over, over_as}
+use Rattle.vx_site_lines.proofs.RawSite.{bare_at, raw_apart}
 use Rattle.vx_site_lines.proofs.RiseBare.{none_leads, stands_up_bare, stays_bare, untold_none}
 use Rattle.vx_site_lines.proofs.RiseLeads.{Replaced, stays_down, stood_up, withdrawn}
 use Rattle.vx_site_lines.proofs.RiseLine.{shape_at, sure, told_may, told_origin}
@@ -56,9 +60,9 @@ module _ {R : Type 0} {g : Ghosts R} where
 
   module _ (lawful : (r : R) → Lawful (g.meaning r)) (d h : Doubted) (old : Yard R g) (s ring : ℕ) (c : Choice) (taken : Bool) (name : List ℕ) (number : site_number d.world name ≡ s)
       (from : RisesFrom d s c taken h) (fit_d : LinksFit d) (stands : StandsFor (own_disks taken s d.world h) old) (below : s < h.world.sites)
-      (down : ((own_disks taken s d.world h).world.nodes s).state ≡ IsDown) (ring_is : ring ≡ ring_of ((own_disks taken s d.world h).world.nodes s).blocks) (room : ℕ) (room_is : room ≡ ring)
+      (down : ((own_disks taken s d.world h).world.nodes s).state ≡ IsDown) (apart : is_over_group ((own_disks taken s d.world h).world.nodes s) ≡ false) (ring_is : ring ≡ ring_of ((own_disks taken s d.world h).world.nodes s).blocks) (room : ℕ) (room_is : room ≡ ring)
       (before up : DiskSet R g) (there : slice_get old.disk_sets.items s ≡ Some before) (later : Later before up) (same : SameFailing before up) (r : Result (Unit {0}) No)
-      (recovered : (beside : KeptBeside) (n : Node) → SiteStands beside n before → n.state ≡ IsDown → room ≡ n.ring → CameUpByIs beside n before up r) where
+      (recovered : (beside : KeptBeside) (n : Node) → SiteStands beside n before → n.state ≡ IsDown → is_over_group n ≡ false → room ≡ n.ring → CameUpByIs beside n before up r) where
     abbrev mid : Doubted
     mid = own_disks taken s d.world h
 
@@ -70,13 +74,13 @@ module _ {R : Type 0} {g : Ghosts R} where
 
     came_by : CameUpByIs (beside_of mid s) m before up r
     came_by =
-        recovered (beside_of mid s) m stood down
-        (room_is ∙ ring_is ∙ sym (shape_at (beside_of mid s) m before stood (λ bare. let e : IsBare ≡ IsDown = sym bare ∙ down in cc)).1)
+        recovered (beside_of mid s) m stood down apart
+        (room_is ∙ ring_is ∙ sym (shape_at (beside_of mid s) m before stood apart (λ bare. let e : IsBare ≡ IsDown = sym bare ∙ down in cc)).1)
 
     -- it was refused
     pub rises_not : (new : Yard R g) (why : No) → r ≡ Err why → Replaced old new s up → LeadsFrom mid d (Recover name) (Refused why) old new
     rises_not new why is replaced =
-        stays_down lawful d h old s ring c taken name number from fit_d stands below down ring_is before up there later same new replaced why
+        stays_down lawful d h old s ring c taken name number from fit_d stands below down apart ring_is before up there later same new replaced why
         (subst (λ (x : Result (Unit {0}) No). CameUpByIs (beside_of mid s) m before up x) is came_by)
 
     -- it came up
@@ -87,37 +91,43 @@ module _ {R : Type 0} {g : Ghosts R} where
       came : CameUp (beside_of mid s) m up
       came = by.came
 
+      by_apart : is_over_group by.came.node ≡ false
+      by_apart = over_as m by.came.node by.came.same.group by.came.same.volumes apart
+
+      came_apart : is_over_group came.node ≡ false
+      came_apart = over_as m came.node came.same.group came.same.volumes apart
+
       sites_mid : sites ≡ mid.world.sites
       sites_mid = sites_is ∙ many_sites mid old stands
 
       -- and stands up
       pub rises_up : (y new : Yard R g) (state : State) (used : List ℕ) (said : Said) → RisesTo s ring state used said y new
-          → ((beside : KeptBeside) (n : Node) → SiteStands beside n up → n.state ≡ IsUp → n.halted ≡ None → IsRisen s sites n state used)
+          → ((beside : KeptBeside) (n : Node) → SiteStands beside n up → n.state ≡ IsUp → is_over_group n ≡ false → n.halted ≡ None → IsRisen s sites n state used)
           → ((beside : KeptBeside) (n : Node) → SiteStands beside n up → n.state ≡ IsUp → n.halted ≡ None → IsToldAt up → state.links ≡ beside.links)
           → Replaced old y s up → LeadsFrom mid d (Recover name) said old new
       rises_up y new state used said rises risen links replaced =
-          stood_up lawful d h old s ring c taken name number from fit_d stands below down ring_is before up there later same y new replaced sites state used said rises sites_mid by.came by.role
-          (risen (beside_of mid s) by.came.node by.came.stands by.came.same.up by.came.same.running) (λ told. links (beside_of mid s) by.came.node by.came.stands by.came.same.up by.came.same.running told)
+          stood_up lawful d h old s ring c taken name number from fit_d stands below down apart ring_is before up there later same y new replaced sites state used said rises sites_mid by.came by.role
+          (risen (beside_of mid s) by.came.node by.came.stands by.came.same.up by_apart by.came.same.running) (λ told. links (beside_of mid s) by.came.node by.came.stands by.came.same.up by.came.same.running told)
 
       -- and goes down again, as it may not stand up with what its log keeps
       module _ (after : DiskSet R g) (new : Yard R g)
-          (none : (beside : KeptBeside) (n : Node) → SiteStands beside n up → n.state ≡ IsUp → n.halted ≡ None → IsToldAt up
+          (none : (beside : KeptBeside) (n : Node) → SiteStands beside n up → n.state ≡ IsUp → is_over_group n ≡ false → n.halted ≡ None → IsToldAt up
           → ((k : ℕ) (l : KeptLink) → slice_get beside.links k ≡ Some l → is_origin n.role ≡ true) → can_rise s sites (state_with n beside.links) ≡ true → false ≡ true)
           (crashes : (beside : KeptBeside) (n : Node) → SiteStands beside n up → n.state ≡ IsUp → CrashedAt beside n after) (fell : Later up after) (fails : SameFailing up after)
           (replaced : Replaced old new s after) where
         refuted : IsToldAt up → ⊥
         refuted told =
-            let e : false ≡ true = none (beside_of mid s) came.node came.stands came.same.up came.same.running told
-            (told_origin lawful d h old s ring c taken from fit_d stands below down ring_is before up there same came told)
+            let e : false ≡ true = none (beside_of mid s) came.node came.stands came.same.up came_apart came.same.running told
+            (told_origin lawful d h old s ring c taken from fit_d stands below down apart ring_is before up there same came told)
             (ap (λ (n : ℕ). can_rise s n (state_with came.node (header_links mid.world s))) sites_mid
-            ∙ told_may lawful d h old s ring c taken from fit_d stands below down ring_is before up there same came told) in
+            ∙ told_may lawful d h old s ring c taken from fit_d stands below down apart ring_is before up there same came told) in
             cc
 
         pub rises_again : LeadsFrom mid d (Recover name) (Refused NoConfig) old new
         rises_again =
-            withdrawn lawful d h old s ring c taken name number from fit_d stands below down ring_is before after there (later_then before up after later fell)
+            withdrawn lawful d h old s ring c taken name number from fit_d stands below down apart ring_is before after there (later_then before up after later fell)
             (failing_then before up after same fails) new replaced up (beside_of mid s) came.node (λ told. refuted (fell.told told)) came.same
-            (ap (doubt_of mid.world s) (sure lawful d h old s ring c taken from fit_d stands below down ring_is before up there same))
+            (ap (doubt_of mid.world s) (sure lawful d h old s ring c taken from fit_d stands below down apart ring_is before up there same))
             (crashes (beside_of mid s) came.node came.stands came.same.up)
 
   -- ---- a bare site
@@ -128,6 +138,7 @@ module _ {R : Type 0} {g : Ghosts R} where
   bare_of beside n k (Up rvg) h bare disks blocks = absurd (let e : IsBare ≡ IsUp = sym bare ∙ h.state in cc)
   bare_of beside n k (Receives s) h bare disks blocks = absurd (let e : IsBare ≡ IsUp = sym bare ∙ h.state in cc)
   bare_of beside n k (Down rack) h bare disks blocks = absurd (let e : IsBare ≡ IsDown = sym bare ∙ h.state in cc)
+  bare_of beside n k (OfGroup s) h bare disks blocks = record { is = h.bare bare; few = h.few; some = h.some; disks = disks; blocks = blocks }
   bare_of beside n k Gone h bare disks blocks = absurd h
 
   module _ (d : Doubted) (old : Yard R g) (s : ℕ) (name : List ℕ) (number : site_number d.world name ≡ s) (stands : StandsFor d old) (below : s < d.world.sites)
@@ -148,10 +159,10 @@ module _ {R : Type 0} {g : Ghosts R} where
         (r : Result (Unit {0}) No)
         (found : (beside : KeptBeside) (k : Node) → SiteStands beside k before → k.state ≡ IsBare → CanBeRaw k.disks k.blocks → room ≡ ring_of k.blocks → BareUpByIs k before up r) where
       one_is : one ≡ linked_fact d.world s
-      one_is = some_same (sym at_one ∙ fact_of d old s stands below)
+      one_is = some_same (sym at_one ∙ fact_of d old s stands below) ∙ fact_apart d.world s (bare_over d old s stands below bare)
 
       two_is : two ≡ linked_fact d.world s
-      two_is = some_same (sym at_two ∙ fact_of d old s stands below)
+      two_is = some_same (sym at_two ∙ fact_of d old s stands below) ∙ fact_apart d.world s (bare_over d old s stands below bare)
 
       stood_bare : SiteStands (beside_of d s) n before
       stood_bare = stands.disk_sets.sites s before below there
@@ -174,10 +185,16 @@ module _ {R : Type 0} {g : Ghosts R} where
         rose : BareUp n up
         rose = rose_by.came
 
+        rose_by_apart : is_over_group rose_by.came.node ≡ false
+        rose_by_apart = over_as (raw_set 0 n) rose_by.came.node rose_by.came.same.group rose_by.came.same.volumes (raw_apart 0 n (bare_at (beside_of d s) n before stood_bare bare).3)
+
+        rose_apart : is_over_group rose.node ≡ false
+        rose_apart = over_as (raw_set 0 n) rose.node rose.same.group rose.same.volumes (raw_apart 0 n (bare_at (beside_of d s) n before stood_bare bare).3)
+
         -- a site came up of them, and stands up
         pub bare_up : (lawful : (r : R) → Lawful (g.meaning r)) (y new : Yard R g) (three : SiteFacts) (volumes : List VolumeFacts) (ring sites : ℕ) (state : State) (used : List ℕ) (said : Said)
             → RisesTo s ring state used said y new → slice_get old.facts.items s ≡ Some three → volumes ≡ map volume_fact (raw_volumes 1 (one.disks - 2) two.blocks) → ring ≡ ring_of two.blocks
-            → sites ≡ length old.facts.items → ((beside : KeptBeside) (k : Node) → SiteStands beside k up → k.state ≡ IsUp → k.halted ≡ None → IsRisen s sites k state used)
+            → sites ≡ length old.facts.items → ((beside : KeptBeside) (k : Node) → SiteStands beside k up → k.state ≡ IsUp → is_over_group k ≡ false → k.halted ≡ None → IsRisen s sites k state used)
             → y.facts.items ≡ slice_set old.facts.items s (raw_facts s volumes three) → y.disk_sets.items ≡ slice_set old.disk_sets.items s up → y.racks ≡ old.racks → y.flight ≡ old.flight
             → y.assemblies ≡ old.assemblies → y.feeders ≡ old.feeders → Leads d (Recover name) said old new
         bare_up lawful y new three volumes ring sites state used said rises at_three table ring_is sites_is risen facts disk_sets racks flight assemblies feeders =
@@ -186,14 +203,14 @@ module _ {R : Type 0} {g : Ghosts R} where
             (table ∙ ap (λ (f : SiteFacts). map volume_fact (raw_volumes 1 (f.disks - 2) two.blocks)) (some_same (sym at_one ∙ at_three))
             ∙ ap (λ (f : SiteFacts). map volume_fact (raw_volumes 1 (three.disks - 2) f.blocks)) two_three)
             (ring_is ∙ ap (λ (f : SiteFacts). ring_of f.blocks) two_three) facts disk_sets racks flight assemblies feeders rises (sites_is ∙ many_sites d old stands) rose_by.came rose_by.role
-            (risen site_alone rose_by.came.node (rose_by.came.stands site_alone refl) rose_by.came.same.up rose_by.came.same.running)
+            (risen site_alone rose_by.came.node (rose_by.came.stands site_alone refl) rose_by.came.same.up rose_by_apart rose_by.came.same.running)
 
         -- and is bare again, as it may not stand up with what its log keeps
         pub bare_again : (after : DiskSet R g) (new : Yard R g)
-            → ((beside : KeptBeside) (n k : Node) → SiteStands beside k up → k.state ≡ IsUp → IsBareOf n k → (IsToldAt after → ⊥) → (other : KeptBeside) → SiteStands other n after) → Later up after
+            → ((beside : KeptBeside) (n k : Node) → SiteStands beside k up → k.state ≡ IsUp → is_over_group k ≡ false → IsBareOf n k → (IsToldAt after → ⊥) → (other : KeptBeside) → SiteStands other n after) → Later up after
             → SameFailing up after → Replaced old new s after → Leads d (Recover name) (Refused NoConfig) old new
         bare_again after new withdraws fell fails replaced =
             untold_none d old s name number stands below bare before after there (later_then before up after later fell) (failing_then before up after same fails) new replaced
-            (withdraws site_alone n rose.node (rose.stands site_alone refl) rose.same.up (bare_of (beside_of d s) n rose.node before stood_bare bare rose.same.disks rose.same.blocks)
+            (withdraws site_alone n rose.node (rose.stands site_alone refl) rose.same.up rose_apart (bare_of (beside_of d s) n rose.node before stood_bare bare rose.same.disks rose.same.blocks)
             (λ told. rose.untold (fell.told told)) (beside_of d s))
             NoConfig tt (λ told. rose.untold (fell.told told))

@@ -28,6 +28,7 @@ use Rattle.vx_effects.proofs.Fitting.{fit_happened}
 use Rattle.vx_effects.proofs.Leaving.{fit_disks}
 use Rattle.vx_effects.proofs.Rises.{session_effect}
 use Rattle.vx_effects.specs.Restarts.{row_of_kept}
+use Rattle.vx_events.proofs.OverSeats.{fact_apart}
 use Rattle.vx_events.proofs.Places.{never_some, some_same}
 use Rattle.vx_events.specs.Effects.{EffectAt}
 use Rattle.vx_events.specs.Ends.{Ends, IsNoDevice, found_linked}
@@ -35,7 +36,8 @@ use Rattle.vx_events.specs.Facts.{site_number, volume_fact}
 use Rattle.vx_events.specs.Fails.{Fails}
 use Rattle.vx_events.specs.Found.{SameDisks}
 use Rattle.vx_events.specs.LinkViews.{linked_view}
-use Rattle.vx_events.specs.LinkedFacts.{linked_fact, linked_facts}
+use Rattle.vx_events.specs.GroupLines.{is_over_group}
+use Rattle.vx_events.specs.LinkedFacts.{linked_fact}
 use Rattle.vx_events.specs.Lines.{IsDone as IsDoneLine}
 use Rattle.vx_events.specs.Lists.{Choice}
 use Rattle.vx_events.specs.LinksFit.{LinksFit}
@@ -60,6 +62,7 @@ use Rattle.vx_yard.proofs.NamedSite.{fact_of}
 use Rattle.vx_yard.proofs.NoteSite.{comes_same}
 use Rattle.vx_yard.proofs.OneSite.{Changed, Comes, beside_same, role_off, rose_at, stands_still, told_by}
 use Rattle.vx_yard.proofs.RecoverLine.{session_fact, told_or}
+use Rattle.vx_site_lines.proofs.Apart.{fact_stays, over_as, over_is}
 use Rattle.vx_site_lines.proofs.RiseEnds.{begun_ends, found_ends, none_ends, refused_ends, rose_ends, unread_ends}
 use Rattle.vx_site_lines.proofs.RiseLine.{down_h, effect_as, fit_h, found_as, free_h, own_at, own_safe, sure, told_comes, told_kept, told_last, unfused_down, untold_comes, untold_kept}
 use Rattle.vx_site_lines.proofs.RiseSite.{ComesUp, SeesDisks, up_carries, up_stands}
@@ -93,7 +96,7 @@ module _ {R : Type 0} {g : Ghosts R} where
 
   module _ (lawful : (r : R) → Lawful (g.meaning r)) (d h : Doubted) (old : Yard R g) (s ring : ℕ) (c : Choice) (taken : Bool) (name : List ℕ) (number : site_number d.world name ≡ s)
       (from : RisesFrom d s c taken h) (fit_d : LinksFit d)
-      (stands : StandsFor (own_disks taken s d.world h) old) (below : s < h.world.sites) (down : ((own_disks taken s d.world h).world.nodes s).state ≡ IsDown)
+      (stands : StandsFor (own_disks taken s d.world h) old) (below : s < h.world.sites) (down : ((own_disks taken s d.world h).world.nodes s).state ≡ IsDown) (apart : is_over_group ((own_disks taken s d.world h).world.nodes s) ≡ false)
       (ring_is : ring ≡ ring_of ((own_disks taken s d.world h).world.nodes s).blocks) (before after : DiskSet R g) (there : slice_get old.disk_sets.items s ≡ Some before) (later : Later before after)
       (same : SameFailing before after) where
     abbrev mid : Doubted
@@ -114,7 +117,7 @@ module _ {R : Type 0} {g : Ghosts R} where
       f = linked_fact mid.world s
 
       at_y : slice_get y.facts.items s ≡ Some f
-      at_y = ap (λ fs. slice_get fs.items s) replaced.facts ∙ fact_of mid old s stands below_mid
+      at_y = ap (λ fs. slice_get fs.items s) replaced.facts ∙ fact_of mid old s stands below_mid ∙ ap (λ (x : SiteFacts). Some x) (fact_apart mid.world s apart)
 
       changed : Changed old new s before after
       changed = record { there = there; later = later; disk_sets = ap (λ es. es.items) rises.disk_sets ∙ replaced.disk_sets; racks = rises.racks ∙ replaced.racks }
@@ -126,7 +129,7 @@ module _ {R : Type 0} {g : Ghosts R} where
       last_is = rises.last_is.each (beside_of mid s) came.node after here came.stands came.same.up came.same.running
 
       session_is : rises.session ≡ came.node.session
-      session_is = rises.session_is.each (beside_of mid s) came.node after here came.stands came.same.up
+      session_is = rises.session_is.each (beside_of mid s) came.node after here came.stands came.same.up (over_as m came.node came.same.group came.same.volumes apart)
 
       facts_are : new.facts.items ≡ slice_set old.facts.items s (risen_facts state came.node.safe ring used f)
       facts_are =
@@ -160,10 +163,10 @@ module _ {R : Type 0} {g : Ghosts R} where
         row = λ j. restarted_link (come_back (h.world.nodes s)) j (h.world.links s j)
 
         up : ComesUp mid next s ring came.node row after
-        up = told_comes lawful d h old s ring c taken from fit_d stands below down ring_is before after there same came told role
+        up = told_comes lawful d h old s ring c taken from fit_d stands below down apart ring_is before after there same came told role
 
         kept : state.links ≡ row_links row mid.world.sites
-        kept = links told ∙ sym (told_kept lawful d h old s ring c taken from fit_d stands below down ring_is before after there same came told)
+        kept = links told ∙ sym (told_kept lawful d h old s ring c taken from fit_d stands below down apart ring_is before after there same came told)
 
         is : state ≡ state_with came.node (row_links row mid.world.sites)
         is = risen.kept ∙ ap (λ (ls : List KeptLink). state_with came.node ls) kept
@@ -175,7 +178,7 @@ module _ {R : Type 0} {g : Ghosts R} where
         stands_next = up_stands mid next old new s ring came.node row f state used before after stands below_mid changed up (sees came.node came.same) is needs facts_are
 
         view : rises.view ≡ linked_view last.world s
-        view = rises.shows next stands_next (omega (arith, below_mid, up.effect.site.sites)) ∙ own_view taken s d.world last
+        view = rises.shows next stands_next (omega (arith, below_mid, up.effect.site.sites)) (over_is came.node (next.world.nodes s) up.effect.is.node up.apart) ∙ own_view taken s d.world last
 
         told_leads : LeadsFrom mid d (Recover name) said old new
         told_leads = record {
@@ -183,9 +186,9 @@ module _ {R : Type 0} {g : Ghosts R} where
           fails = [];
           done = recover_done (IsTold new) d next s name [] said number
               (rose_ends (IsTold new) d h s c taken name number from rises.last said below
-              (down_h lawful d h old s ring c taken from fit_d stands below down ring_is before after there same)
-              (free_h lawful d h old s ring c taken from fit_d stands below down ring_is before after there same came told)
-              (last_is ∙ told_last lawful d h old s ring c taken from fit_d stands below down ring_is before after there same came told)
+              (down_h lawful d h old s ring c taken from fit_d stands below down apart ring_is before after there same)
+              (free_h lawful d h old s ring c taken from fit_d stands below down apart ring_is before after there same came told)
+              (last_is ∙ told_last lawful d h old s ring c taken from fit_d stands below down apart ring_is before after there same came told)
               (rises.says ∙ ap (λ (v : SiteView). Recovered rises.last v) view));
           stands = stands_next;
           carries = λ carries. up_carries mid next old new s ring came.node row f state used before after stands below_mid changed up (sees came.node came.same) is needs rises.session rises.last
@@ -214,18 +217,18 @@ module _ {R : Type 0} {g : Ghosts R} where
         found_next = own_disks taken s d.world found_last
 
         found_up : ComesUp mid found_next s ring found_node found_row after
-        found_up = untold_comes lawful d h old s ring c taken from fit_d stands below down ring_is before after there same came untold state may risen.kept role
+        found_up = untold_comes lawful d h old s ring c taken from fit_d stands below down apart ring_is before after there same came untold state may risen.kept role
 
         found_is : state ≡ state_with found_node (row_links found_row mid.world.sites)
         found_is =
             risen.kept
             ∙ ap (λ (ls : List KeptLink). state_with found_node ls)
-            (sym (untold_kept lawful d h old s ring c taken from fit_d stands below down ring_is before after there same came untold state may risen.kept))
+            (sym (untold_kept lawful d h old s ring c taken from fit_d stands below down apart ring_is before after there same came untold state may risen.kept))
 
         found_needs : AreNeeds found_node (row_links found_row mid.world.sites) used
         found_needs =
             subst (λ (ls : List KeptLink). AreNeeds found_node ls used)
-            (sym (untold_kept lawful d h old s ring c taken from fit_d stands below down ring_is before after there same came untold state may risen.kept)) (record { each = risen.needs.each })
+            (sym (untold_kept lawful d h old s ring c taken from fit_d stands below down apart ring_is before after there same came untold state may risen.kept)) (record { each = risen.needs.each })
 
         found_sees : SeesDisks found_node f
         found_sees = let x = sees came.node came.same in record { name = x.name; disks = x.disks; blocks = x.blocks; grouped = x.grouped; volumes = x.volumes }
@@ -234,7 +237,7 @@ module _ {R : Type 0} {g : Ghosts R} where
         found_stands = up_stands mid found_next old new s ring found_node found_row f state used before after stands below_mid changed found_up found_sees found_is found_needs facts_are
 
         found_view : rises.view ≡ linked_view found_last.world s
-        found_view = rises.shows found_next found_stands (omega (arith, below_mid, found_up.effect.site.sites)) ∙ own_view taken s d.world found_last
+        found_view = rises.shows found_next found_stands (omega (arith, below_mid, found_up.effect.site.sites)) (over_is found_node (found_next.world.nodes s) found_up.effect.is.node found_up.apart) ∙ own_view taken s d.world found_last
 
         untold_leads : LeadsFrom mid d (Recover name) said old new
         untold_leads = record {
@@ -242,7 +245,7 @@ module _ {R : Type 0} {g : Ghosts R} where
           fails = [];
           done = recover_done (IsTold new) d found_next s name [] said number
               (found_ends (IsTold new) d h s c taken name number from (never_told old.disk_sets.items new.disk_sets.items s before after there changed.disk_sets untold) noted_node found_row said
-              (found_as lawful d h old s ring c taken from fit_d stands below down ring_is before after there same came untold state may risen.kept)
+              (found_as lawful d h old s ring c taken from fit_d stands below down apart ring_is before after there same came untold state may risen.kept)
               (rises.says ∙ ap (λ (v : SiteView). Recovered rises.last v) found_view ∙ ap (λ (k : ℕ). Recovered k (linked_view found_last.world s)) last_is));
           stands = found_stands;
           carries = λ carries. up_carries mid found_next old new s ring found_node found_row f state used before after stands below_mid changed found_up found_sees found_is found_needs rises.session rises.last
@@ -272,7 +275,7 @@ module _ {R : Type 0} {g : Ghosts R} where
       stood_down = stands.disk_sets.sites s before below_mid there
 
       fuse_none : (n : Node) → n.fuse ≡ m.fuse → FusedAs n after
-      fuse_none n fuse = fused_none n after (fuse ∙ unfused_down (beside_of mid s) m before stood_down down)
+      fuse_none n fuse = fused_none n after (fuse ∙ unfused_down (beside_of mid s) m before stood_down apart down)
 
       off : m.state ≡ IsUp → ⊥
       off up = let e : IsDown ≡ IsUp = sym down ∙ up in cc
@@ -313,10 +316,10 @@ module _ {R : Type 0} {g : Ghosts R} where
         free_hn = let e = ap (λ (n : Node). n.session) (own_is s d.world h taken) ∙ own_at taken (d.world.nodes s) (h.world.nodes s) in omega (arith, free, e)
 
         down_hn : (h.world.nodes s).state ≡ IsDown
-        down_hn = down_h lawful d h old s ring c taken from fit_d stands below down ring_is before after there same
+        down_hn = down_h lawful d h old s ring c taken from fit_d stands below down apart ring_is before after there same
 
         sure_h : h.after s ≡ None
-        sure_h = sure lawful d h old s ring c taken from fit_d stands below down ring_is before after there same
+        sure_h = sure lawful d h old s ring c taken from fit_d stands below down apart ring_is before after there same
 
         begun_is : own_node taken (d.world.nodes s) (record (h.world.nodes s) { session = (h.world.nodes s).session + 1 }) ≡ begun
         begun_is =
@@ -334,7 +337,7 @@ module _ {R : Type 0} {g : Ghosts R} where
         begun_fits : LinksFit begun_next
         begun_fits =
             fit_disks taken s d.world begun_last
-            (fit_happened h (RecoverAt s (Some disk)) taken (fit_h lawful d h old s ring c taken from fit_d stands below down ring_is before after there same))
+            (fit_happened h (RecoverAt s (Some disk)) taken (fit_h lawful d h old s ring c taken from fit_d stands below down apart ring_is before after there same))
 
         links_same : (k : ℕ) → begun_next.world.links s k ≡ mid.world.links s k
         links_same k = eff.is.links k ∙ sym (own_links s d.world h taken k)
@@ -361,7 +364,7 @@ module _ {R : Type 0} {g : Ghosts R} where
           next = begun_next;
           fails = (s, disk) ∷ [];
           done = recover_done (IsTold new) d begun_next s name ((s, disk) ∷ []) (Refused (Device disk)) number (begun_ends (IsTold new) d h s c taken name number from disk);
-          stands = stands_still mid begun_next old new s before after stands below_mid changed_down begun_comes begun_fact facts_still;
+          stands = stands_still mid begun_next old new s before after stands below_mid changed_down begun_comes (fact_stays mid.world begun_next.world s apart (over_is begun (begun_next.world.nodes s) eff.is.node apart) begun_fact) facts_still;
           carries = carries_node s mid begun_next begun old new load eff.site eff.sent eff.gathering eff.is.node refl refl refl told_was;
           rose = rose_at old new s disk before after changed_down rose;
         }
@@ -395,6 +398,7 @@ module _ {R : Type 0} {g : Ghosts R} where
           (⊎_elim
           (λ (own : fell.kept ≡ itself b k).
           any_down (sure_of fell.kept) (beside_of mid s) m (crashed fell.kept.node fell.count) before after untold down refl
-          (ap (λ (x : KeptSite). x.node.disks) own ∙ disks.disks) (ap (λ (x : KeptSite). x.node.blocks) own ∙ disks.blocks) stood_down fell.stands)
+          (ap (λ (x : KeptSite). x.node.disks) own ∙ disks.disks) (ap (λ (x : KeptSite). x.node.blocks) own ∙ disks.blocks) apart
+          (over_as k fell.kept.node (ap (λ (x : KeptSite). x.node.group) own) (ap (λ (x : KeptSite). x.node.volumes) own) (over_as m k disks.group disks.volumes apart)) stood_down fell.stands)
           (λ other. absurd (never_some (sym sure ∙ other))) fell.is)
           rose_none_here

@@ -19,7 +19,7 @@ use Rattle.vx_diskset.specs.DiskSets.{CameUp, CameUpIs, CrashedAt, Later, RoseAt
 use Rattle.vx_diskset.specs.Holds.{KeptBeside, beside_of, doubt_of, header_links, row_links, state_with}
 use Rattle.vx_diskset.specs.Stands.{IsToldAt, RoleIs, SiteStands}
 use Rattle.vx_diskset.specs.declared.disk_set.DiskSet.{DiskSet}
-use Rattle.vx_diskset.specs.declared.disk_set.DiskSet.TheVariants.{Bare, Spoiled, Up, Receives, Down, Gone}
+use Rattle.vx_diskset.specs.declared.disk_set.DiskSet.TheVariants.{Bare, Spoiled, Up, Receives, Down, OfGroup, Gone}
 use Rattle.vx_diskset.proofs.TakenBack.{any_down, any_links}
 use Rattle.vx_history.proofs.Updates.{and_left, and_right}
 use Rattle.vx_history.specs.Groups.{GroupNode}
@@ -43,6 +43,7 @@ use Rattle.vx_events.specs.Effects.{EffectAt}
 use Rattle.vx_events.specs.Ends.{IsNoDevice, found_linked}
 use Rattle.vx_events.specs.Found.{ComesUpAs, SameDisks}
 use Rattle.vx_events.specs.LinkViews.{linked_view}
+use Rattle.vx_events.specs.GroupLines.{is_over_group}
 use Rattle.vx_events.specs.LinkedFacts.{linked_fact}
 use Rattle.vx_events.specs.Lists.{Choice}
 use Rattle.vx_events.specs.LinksFit.{LinksFit, is_plain_mode}
@@ -58,6 +59,7 @@ use Rattle.vx_yard.proofs.CrashSite.{beside_sure}
 use Rattle.vx_yard.proofs.FailsStay.{fails_then}
 use Rattle.vx_yard.proofs.FuseStays.{fused_none}
 use Rattle.vx_yard.proofs.OneSite.{Changed}
+use Rattle.vx_site_lines.proofs.Apart.{never_apart, never_down, over_as}
 use Rattle.vx_site_lines.proofs.RiseSite.{AllPlain, ComesUp, IsWhole, SeesDisks}
 use Rattle.vx_site_lines.proofs.RiseWorlds.{behind_disks, come_quiet, found_effect, own_gathering, own_greeting, own_headers, own_is, own_links, own_node, own_packets, own_recovered, own_sites}
 use Rattle.vx_yard.proofs.Rows.{row_links_same}
@@ -168,25 +170,27 @@ plain_of s e row fits is k linked =
 
 module _ {R : Type 0} {g : Ghosts R} where
   -- a site with a group has a log as large as its disks
-  pub shape_at : (beside : KeptBeside) (n : Node) (e : DiskSet R g) → SiteStands beside n e → (n.state ≡ IsBare → ⊥) → (n.low ≡ 1) × (n.ring ≡ ring_of n.blocks)
-  shape_at beside n (Bare rack) h some = absurd (some (ap (λ (x : Node). x.state) h.bare.is))
-  shape_at beside n (Spoiled rack) h some = absurd (some (ap (λ (x : Node). x.state) h.is))
-  shape_at beside n (Up rvg) h some = (h.low, h.lies.laid.ring_is ∙ ap ring_of (h.lies.size 0 (omega (arith, h.lies.can.some))))
-  shape_at beside n (Receives s) h some = (h.low, h.lies.laid.ring_is ∙ ap ring_of (h.lies.size 0 (omega (arith, h.lies.can.some))))
-  shape_at beside n (Down rack) h some = (h.low, h.lies.laid.ring_is ∙ ap ring_of (h.lies.size 0 (omega (arith, h.lies.can.some))))
-  shape_at beside n Gone h some = absurd h
+  pub shape_at : (beside : KeptBeside) (n : Node) (e : DiskSet R g) → SiteStands beside n e → is_over_group n ≡ false → (n.state ≡ IsBare → ⊥) → (n.low ≡ 1) × (n.ring ≡ ring_of n.blocks)
+  shape_at beside n (Bare rack) h apart some = absurd (some (ap (λ (x : Node). x.state) h.bare.is))
+  shape_at beside n (Spoiled rack) h apart some = absurd (some (ap (λ (x : Node). x.state) h.is))
+  shape_at beside n (Up rvg) h apart some = (h.low, h.lies.laid.ring_is ∙ ap ring_of (h.lies.size 0 (omega (arith, h.lies.can.some))))
+  shape_at beside n (Receives s) h apart some = (h.low, h.lies.laid.ring_is ∙ ap ring_of (h.lies.size 0 (omega (arith, h.lies.can.some))))
+  shape_at beside n (Down rack) h apart some = (h.low, h.lies.laid.ring_is ∙ ap ring_of (h.lies.size 0 (omega (arith, h.lies.can.some))))
+  shape_at beside n (OfGroup s) h apart some = never_apart beside n s h apart some
+  shape_at beside n Gone h apart some = absurd h
 
-  pub unfused_down : (beside : KeptBeside) (n : Node) (e : DiskSet R g) → SiteStands beside n e → n.state ≡ IsDown → n.fuse ≡ NoFuse
-  unfused_down beside n (Bare rack) h down = let e : IsBare ≡ IsDown = sym (ap (λ (x : Node). x.state) h.bare.is) ∙ down in absurd (cc)
-  unfused_down beside n (Spoiled rack) h down = let e : IsBare ≡ IsDown = sym (ap (λ (x : Node). x.state) h.is) ∙ down in absurd (cc)
-  unfused_down beside n (Up rvg) h down = let e : IsUp ≡ IsDown = sym h.state ∙ down in absurd (cc)
-  unfused_down beside n (Receives s) h down = let e : IsUp ≡ IsDown = sym h.state ∙ down in absurd (cc)
-  unfused_down beside n (Down rack) h down = h.unfused
-  unfused_down beside n Gone h down = absurd h
+  pub unfused_down : (beside : KeptBeside) (n : Node) (e : DiskSet R g) → SiteStands beside n e → is_over_group n ≡ false → n.state ≡ IsDown → n.fuse ≡ NoFuse
+  unfused_down beside n (Bare rack) h apart down = let e : IsBare ≡ IsDown = sym (ap (λ (x : Node). x.state) h.bare.is) ∙ down in absurd (cc)
+  unfused_down beside n (Spoiled rack) h apart down = let e : IsBare ≡ IsDown = sym (ap (λ (x : Node). x.state) h.is) ∙ down in absurd (cc)
+  unfused_down beside n (Up rvg) h apart down = let e : IsUp ≡ IsDown = sym h.state ∙ down in absurd (cc)
+  unfused_down beside n (Receives s) h apart down = let e : IsUp ≡ IsDown = sym h.state ∙ down in absurd (cc)
+  unfused_down beside n (Down rack) h apart down = h.unfused
+  unfused_down beside n (OfGroup s) h apart down = never_down beside n s h apart down
+  unfused_down beside n Gone h apart down = absurd h
 
   -- the site, from the world behind the crash with which its line began, where it did
   module _ (lawful : (r : R) → Lawful (g.meaning r)) (d h : Doubted) (old : Yard R g) (s ring : ℕ) (c : Choice) (taken : Bool) (from : RisesFrom d s c taken h) (fit_d : LinksFit d)
-      (stands : StandsFor (own_disks taken s d.world h) old) (below : s < h.world.sites) (down : ((own_disks taken s d.world h).world.nodes s).state ≡ IsDown)
+      (stands : StandsFor (own_disks taken s d.world h) old) (below : s < h.world.sites) (down : ((own_disks taken s d.world h).world.nodes s).state ≡ IsDown) (apart : is_over_group ((own_disks taken s d.world h).world.nodes s) ≡ false)
       (ring_is : ring ≡ ring_of ((own_disks taken s d.world h).world.nodes s).blocks) (before after : DiskSet R g) (there : slice_get old.disk_sets.items s ≡ Some before) (same : SameFailing before after) where
     abbrev mid : Doubted
     mid = own_disks taken s d.world h
@@ -227,10 +231,14 @@ module _ {R : Type 0} {g : Ghosts R} where
     beside_is : (row : ℕ → Link) → row_links row mid.world.sites ≡ header_links mid.world s → beside_of mid s ≡ beside_now row
     beside_is row links = beside_sure mid s (row_links row mid.world.sites) (mid.world.headers s) (sym links) refl sure
 
+    -- what came up is over no group either
+    apart_of : (k : Node) → SameDisks m k → is_over_group k ≡ false
+    apart_of k disks = over_as m k disks.group disks.volumes apart
+
     -- what came up has a log as large
     whole_of : (b : KeptBeside) (k : Node) → SameDisks m k → length k.log ≡ k.safe → SiteStands b k after → IsWhole k ring
     whole_of b k disks whole at =
-        let up_shape = shape_at b k after at (λ bare. let e : IsUp ≡ IsBare = sym disks.up ∙ bare in cc) in
+        let up_shape = shape_at b k after at (apart_of k disks) (λ bare. let e : IsUp ≡ IsBare = sym disks.up ∙ bare in cc) in
         record {
           up = disks.up;
           running = disks.running;
@@ -243,7 +251,7 @@ module _ {R : Type 0} {g : Ghosts R} where
     fails_of k disks = fails_then m k before after disks.failing same (stands.failing s before below_mid there)
 
     fuse_of : (k : Node) → SameDisks m k → FusedAs k after
-    fuse_of k disks = fused_none k after (disks.fuse ∙ unfused_down (beside_of mid s) m before stood down)
+    fuse_of k disks = fused_none k after (disks.fuse ∙ unfused_down (beside_of mid s) m before stood apart down)
 
     -- ---- contents are told
 
@@ -291,6 +299,7 @@ module _ {R : Type 0} {g : Ghosts R} where
         plain = plain_of s (own_disks taken s d.world last) row told_fits told_effect.is.links;
         again = restarted_again s h.world.sites (h.world.links s) (fit_h.rows s) (come_back (h.world.nodes s));
         whole = whole_of (beside_of mid s) k came.same came.whole came.stands;
+        apart = apart_of k came.same;
         rests = ap (λ (n : Node). n.fed_by) (came.is told) ∙ stands.links.rests s down ∙ ap (λ (n : Node). n.other) (sym (came.is told));
         stands = subst (λ (b : KeptBeside). SiteStands b k after) (beside_is row told_kept) came.stands;
         failing = fails_of k came.same;
@@ -388,6 +397,7 @@ module _ {R : Type 0} {g : Ghosts R} where
         plain = plain_of s (own_disks taken s d.world last_found) row_found untold_fits untold_effect.is.links;
         again = found_again s mid.world.sites state.links fine;
         whole = whole_of (beside_now row_found) k_found disks_same came.whole stands_now;
+        apart = apart_of k_found disks_same;
         rests = refl;
         stands = stands_now;
         failing = fails_of k_found disks_same;
@@ -396,4 +406,4 @@ module _ {R : Type 0} {g : Ghosts R} where
       }
         where
           stands_now : SiteStands (beside_now row_found) k_found after
-          stands_now = any_links lawful (beside_of mid s) (beside_now row_found) came.node came.node.other after untold refl came.same.up came.stands
+          stands_now = any_links lawful (beside_of mid s) (beside_now row_found) came.node came.node.other after untold refl came.same.up (apart_of came.node came.same) came.stands

@@ -30,6 +30,7 @@ use Rattle.vx_events.proofs.LinkTesting.{AllLinked, all_linked}
 use Rattle.vx_events.proofs.Places.{never_some, some_same}
 use Rattle.vx_events.specs.Effects.{ChangesNode, EffectAt}
 use Rattle.vx_events.specs.Facts.{group_by, group_fact, head_of, site_fact, volume_fact}
+use Rattle.vx_events.specs.GroupLines.{is_over_group}
 use Rattle.vx_events.specs.LinkedFacts.{link_facts, links_by, linked_fact, needed_by}
 use Rattle.vx_events.specs.LinksFit.{LinksFit, RowFits, is_plain_mode}
 use Rattle.vx_order.specs.declared.facts.LinkFacts.{LinkFacts}
@@ -49,6 +50,7 @@ use Rattle.vx_yard.proofs.HoldsRoom.{taken_same}
 use Rattle.vx_yard.proofs.Lists.{get-set_other, get-set_same, length-set}
 use Rattle.vx_yard.proofs.OneSite.{Changed, Comes, stands_at, told_by}
 use Rattle.vx_yard.proofs.Rows.{fact_from, fact_same, row_links_same}
+use Rattle.vx_site_lines.proofs.Apart.{fact_at, over_is}
 
 -- each of these links goes by the log, or by nothing yet
 abbrev pub AllPlain : (ℕ → Link) → Type 0
@@ -158,6 +160,7 @@ module _ {R : Type 0} {g : Ghosts R} where
     pub plain : AllPlain row
     pub again : IsAgain row
     pub whole : IsWhole k ring
+    pub apart : is_over_group k ≡ false
     pub rests : k.fed_by ≡ k.other
     pub stands : SiteStands (record { links = row_links row mid.world.sites; headers = mid.world.headers s; doubt = None }) k after
     pub failing : FailsAs k after
@@ -187,8 +190,9 @@ module _ {R : Type 0} {g : Ghosts R} where
     pub up_stands : new.facts.items ≡ slice_set old.facts.items s (risen_facts state k.safe ring used f) → StandsFor e new
     up_stands facts =
         stands_at mid e old new s (risen_facts state k.safe ring used f) before after stands below changed comes
+        (fact_at e.world s (risen_facts state k.safe ring used f) (over_is k (e.world.nodes s) up.effect.is.node up.apart)
         (ap (λ (x : State). risen_facts x k.safe ring used f) is ∙ risen_fact_is k row mid.world.sites ring used f up.whole sees up.plain up.again needs
-        ∙ sym (fact_same k (e.world.nodes s) row (e.world.links s) mid.world.sites e.world.sites up.effect.is.node up.effect.is.links up.effect.site.sites)) facts
+        ∙ sym (fact_same k (e.world.nodes s) row (e.world.links s) mid.world.sites e.world.sites up.effect.is.node up.effect.is.links up.effect.site.sites))) facts
 
     -- what it carries
     pub up_carries : (session last : ℕ) → session ≡ k.session → last ≡ k.safe → ((ps : List Packet) → FlightStands ps old.flight → FlightStands (ps ++ hello_by s state session last) new.flight)

@@ -39,7 +39,11 @@ use Rattle.vx_events.proofs.Testing.{absent, none_under}
 use Rattle.vx_events.proofs.Values.{length-values_from, values_from-push}
 use Rattle.vx_events.specs.Effects.{AddsSite}
 use Rattle.vx_events.specs.Facts.{site_fact, values_from}
-use Rattle.vx_events.specs.LinkedFacts.{link_facts, linked_fact, linked_facts, links_by}
+use Rattle.vx_events.specs.GroupLines.{is_over_group}
+use Rattle.vx_events.specs.GroupNotes.{note_at}
+use Rattle.vx_events.specs.LinkedFacts.{link_facts, linked_fact, links_by}
+use Rattle.vx_events.specs.StepsOver.{fact_of_group, fact_over, facts_over}
+use Rattle.vx_events.proofs.OverSeats.{name_over}
 use Rattle.vx_events.specs.LinksFit.{LinksFit}
 use Rattle.vx_events.specs.declared.said.Said.{Said}
 use Rattle.vx_events.specs.declared.said.Said.TheVariants.{Done}
@@ -62,6 +66,7 @@ use Rattle.vx_yard.proofs.OneSite.{Changed, at_set, rose_at, told_by}
 use Rattle.vx_yard.proofs.Carrying.{SameLoad, carries_more, carries_same}
 use Rattle.vx_yard.proofs.Rows.{fact_same, row_links_same}
 use Rattle.vx_yard.proofs.SiteEvents.{first_choice}
+use Rattle.vx_site_lines.proofs.Apart.{fact_at, over_is}
 use Rattle.vx_site_lines.proofs.SiteLine.{most_same}
 
 -- ---- links among one site more
@@ -140,21 +145,26 @@ fact_more d e n i adds fits apart =
     ∙ ap (λ (ss : List ℕ). let f : SiteFacts = record (site_fact (d.world.nodes i)) { links = links_by (d.world.nodes i).state (link_facts (d.world.nodes i) (d.world.links i) ss) } in f)
     (linked_more (d.world.links i) d.world.sites (fits.rows i).places)
 
+over_more : (d e : Doubted) (n : Node) (i : ℕ) → AddsSite d e n → LinksFit d → (i ≡ d.world.sites → ⊥) → fact_over e.world i ≡ fact_over d.world i
+over_more d e n i adds fits apart =
+    ap (λ (m : Node). if is_over_group m then fact_of_group m (note_at m) else linked_fact e.world i) (adds.nodes i apart)
+    ∙ ap (λ (f : SiteFacts). if is_over_group (d.world.nodes i) then fact_of_group (d.world.nodes i) (note_at (d.world.nodes i)) else f) (fact_more d e n i adds fits apart)
+
 values_below : (f h : ℕ → SiteFacts) (k m s : ℕ) → k + m ≤ s → ((j : ℕ) → j < s → h j ≡ f j) → values_from h k m ≡ values_from f k m
 values_below f h k zero s past same = refl
 values_below f h k (suc m) s past same =
     ap (λ (x : SiteFacts). x ∷ values_from h (k + 1) m) (same k (omega (arith, past)))
     ∙ ap (λ (xs : List SiteFacts). f k ∷ xs) (values_below f h (k + 1) m s (omega (arith, past)) same)
 
-facts_more : (d e : Doubted) (n : Node) → AddsSite d e n → LinksFit d → linked_facts e.world ≡ linked_facts d.world ++ linked_fact e.world d.world.sites ∷ []
+facts_more : (d e : Doubted) (n : Node) → AddsSite d e n → LinksFit d → facts_over e.world ≡ facts_over d.world ++ fact_over e.world d.world.sites ∷ []
 facts_more d e n adds fits =
     let more : e.world.sites ≡ suc d.world.sites = omega (arith, adds.sites) in
     let start : 0 + d.world.sites ≡ d.world.sites = omega arith in
-    ap (λ (k : ℕ). values_from (λ i. linked_fact e.world i) 0 k) more
-    ∙ values_from-push (λ i. linked_fact e.world i) 0 d.world.sites
-    ∙ ap (λ (fs : List SiteFacts). fs ++ linked_fact e.world (0 + d.world.sites) ∷ [])
-    (values_below (λ i. linked_fact d.world i) (λ i. linked_fact e.world i) 0 d.world.sites d.world.sites (omega arith) (λ j below. fact_more d e n j adds fits (λ same. omega (arith, below, same))))
-    ∙ ap (λ (k : ℕ). linked_facts d.world ++ linked_fact e.world k ∷ []) start
+    ap (λ (k : ℕ). values_from (λ i. fact_over e.world i) 0 k) more
+    ∙ values_from-push (λ i. fact_over e.world i) 0 d.world.sites
+    ∙ ap (λ (fs : List SiteFacts). fs ++ fact_over e.world (0 + d.world.sites) ∷ [])
+    (values_below (λ i. fact_over d.world i) (λ i. fact_over e.world i) 0 d.world.sites d.world.sites (omega arith) (λ j below. over_more d e n j adds fits (λ same. omega (arith, below, same))))
+    ∙ ap (λ (k : ℕ). facts_over d.world ++ fact_over e.world k ∷ []) start
 
 -- the event
 abbrev site_event : Doubted → List ℕ → ℕ → ℕ → Doubted
@@ -180,25 +190,26 @@ site_fits d name disks blocks at fits =
     subst (λ (o : Outcome). LinksFit (record d { world = (headers_counted d.world (MakeSite name disks blocks) o).world })) at (fit_happened d (MakeSite name disks blocks) false fits)
 
 -- no site has the name of a new one
-none_linked : (w : World) (name : List ℕ) (k n : ℕ) → is_some (site_named (values_from (λ i. linked_fact w i) k n) name) ≡ false → (i : ℕ) → i < n → bytes_eq (w.nodes (k + i)).name name ≡ false
+none_linked : (w : World) (name : List ℕ) (k n : ℕ) → is_some (site_named (values_from (λ i. fact_over w i) k n) name) ≡ false → (i : ℕ) → i < n → bytes_eq (w.nodes (k + i)).name name ≡ false
 none_linked w name k zero e i h = absurd (omega (arith, h))
 none_linked w name k (suc n) e zero h =
     let start : k ≡ k + 0 = omega arith in
     subst (λ (j : ℕ). bytes_eq (w.nodes j).name name ≡ false) start
-    (absent (bytes_eq (w.nodes k).name name) (linked_fact w k) (site_named (values_from (λ i. linked_fact w i) (k + 1) n) name) e).0
+    (ap (λ (x : List ℕ). bytes_eq x name) (sym (name_over w k))
+    ∙ (absent (bytes_eq (fact_over w k).name name) (fact_over w k) (site_named (values_from (λ i. fact_over w i) (k + 1) n) name) e).0)
 none_linked w name k (suc n) e (suc i) h =
     let over : k + 1 + i ≡ k + suc i = omega arith in
     subst (λ (j : ℕ). bytes_eq (w.nodes j).name name ≡ false) over
     (none_linked w name (k + 1) n
-    (absent (bytes_eq (w.nodes k).name name) (linked_fact w k) (site_named (values_from (λ i. linked_fact w i) (k + 1) n) name) e).1 i (omega (arith, h)))
+    (absent (bytes_eq (fact_over w k).name name) (fact_over w k) (site_named (values_from (λ i. fact_over w i) (k + 1) n) name) e).1 i (omega (arith, h)))
 
-site_outcome : (w : World) (files : Bool) (name : List ℕ) (disks blocks : ℕ) → line_refusal (linked_facts w) files (Site name disks blocks) ≡ None → outcome_of w (MakeSite name disks blocks) ≡ is_done (site_made w name disks blocks)
+site_outcome : (w : World) (files : Bool) (name : List ℕ) (disks blocks : ℕ) → line_refusal (facts_over w) files (Site name disks blocks) ≡ None → outcome_of w (MakeSite name disks blocks) ≡ is_done (site_made w name disks blocks)
 unfolding taken
 site_outcome w files name disks blocks free =
-    let p = passes (linked_facts w) files (Site name disks blocks) free in
-    let may = site_may (linked_facts w) files name disks blocks free in
-    let many : length (linked_facts w) ≡ w.sites = length-values_from (λ i. linked_fact w i) 0 w.sites in
-    let none : is_some (site_named (linked_facts w) name) ≡ false = when_none (is_some (site_named (linked_facts w) name)) (Exists name) p.free in
+    let p = passes (facts_over w) files (Site name disks blocks) free in
+    let may = site_may (facts_over w) files name disks blocks free in
+    let many : length (facts_over w) ≡ w.sites = length-values_from (λ i. fact_over w i) 0 w.sites in
+    let none : is_some (site_named (facts_over w) name) ≡ false = when_none (is_some (site_named (facts_over w) name)) (Exists name) p.free in
     site_step w name disks blocks
     (none_under w.sites (λ k. bytes_eq (w.nodes k).name name)
     (λ k h. let start : 0 + k ≡ k = omega arith in subst (λ (j : ℕ). bytes_eq (w.nodes j).name name ≡ false) start (none_linked w name 0 w.sites none k h)))
@@ -207,9 +218,9 @@ site_outcome w files name disks blocks free =
 module _ {R : Type 0} {g : Ghosts R} where
   -- the yard with another disk set of a number that no site had
   stands_more : (d e : Doubted) (old new : Yard R g) (n : Node) (f : SiteFacts) (before after : DiskSet R g) → StandsFor d old → d.world.sites < 8 → AddsSite d e n → LinksFit e → Changed old new d.world.sites before after
-      → SiteStands (beside_of e d.world.sites) n after → FailsAs n after → FusedAs n after → is_origin n.role ≡ true → f ≡ linked_fact e.world d.world.sites → new.facts.items ≡ old.facts.items ++ f ∷ [] → StandsFor e new
+      → SiteStands (beside_of e d.world.sites) n after → FailsAs n after → FusedAs n after → is_origin n.role ≡ true → f ≡ fact_over e.world d.world.sites → new.facts.items ≡ old.facts.items ++ f ∷ [] → StandsFor e new
   stands_more d e old new n f before after stands few adds links changed here failing fuse role fact facts = record {
-    facts = facts ∙ ap (λ (fs : List SiteFacts). fs ++ f ∷ []) stands.facts ∙ ap (λ (x : SiteFacts). linked_facts d.world ++ x ∷ []) fact ∙ sym (facts_more d e n adds stands.links);
+    facts = facts ∙ ap (λ (fs : List SiteFacts). fs ++ f ∷ []) stands.facts ∙ ap (λ (x : SiteFacts). facts_over d.world ++ x ∷ []) fact ∙ sym (facts_more d e n adds stands.links);
     disk_sets = subst (λ es. SitesAgree e es) (sym changed.disk_sets) (record {
       eight = length-set old.disk_sets.items s after ∙ stands.disk_sets.eight;
       few = omega (arith, few, adds.sites);
@@ -279,7 +290,8 @@ module _ {R : Type 0} {g : Ghosts R} where
         carries = carries_more d e n old new load adds (λ up. bare_up up) (told_by old new d.world.sites before after changed_there);
         stands = stands_more d e old new n (bare_facts name disks blocks) before after stands (omega (arith, may.few_sites, many)) adds (site_fits d name disks blocks at stands.links) changed_there
             (fits (beside_of e d.world.sites) name) (record { told = λ x at u on. absurd (never_true on) }) (fused_none n after refl) refl
-            (sym (fact_same n (e.world.nodes d.world.sites) (d.world.links d.world.sites) (e.world.links d.world.sites) e.world.sites e.world.sites adds.node (λ k. refl) refl)) facts;
+            (fact_at e.world d.world.sites (bare_facts name disks blocks) (over_is n (e.world.nodes d.world.sites) adds.node refl)
+            (sym (fact_same n (e.world.nodes d.world.sites) (d.world.links d.world.sites) (e.world.links d.world.sites) e.world.sites e.world.sites adds.node (λ k. refl) refl))) facts;
         rose = rose_still old new d.world.sites before after changed_there.there changed_there.later changed_there.disk_sets;
       }
 

@@ -18,13 +18,15 @@ use Rattle.vx_disk.specs.Disks.{Disks}
 use Rattle.vx_disk.specs.Racks.{IsRack}
 use Rattle.vx_disk.specs.declared.shelf.Shelf.{Ghosts}
 use Rattle.vx_ringio.specs.Spends.{Passed}
+use Rattle.vx_diskset.proofs.GroupStands.{up_has_none}
 use Rattle.vx_diskset.specs.Asked.{FailsAs, FusedAs, LeavesFuse, disks_told, size_in}
 use Rattle.vx_diskset.specs.Burning.{Burnt, IsLogged}
 use Rattle.vx_diskset.specs.Holds.{KeptBeside}
 use Rattle.vx_diskset.specs.Stands.{SiteStands}
 use Rattle.vx_diskset.specs.declared.disk_set.DiskSet.{DiskSet}
-use Rattle.vx_diskset.specs.declared.disk_set.DiskSet.TheVariants.{Bare, Spoiled, Up, Receives, Down, Gone}
+use Rattle.vx_diskset.specs.declared.disk_set.DiskSet.TheVariants.{Bare, Spoiled, Up, Receives, Down, OfGroup, Gone}
 use Rattle.vx_events.specs.Fuses.{MayPass}
+use Rattle.vx_events.specs.GroupLines.{is_over_group}
 use Rattle.vx_events.specs.LinkedFacts.{link_facts, linked_fact, links_by}
 use Rattle.vx_events.specs.LinksFit.{RowFits}
 use Rattle.vx_events.specs.Sayings.{is_written}
@@ -35,6 +37,7 @@ use Rattle.vx_linked.specs.Holds.{is_over}
 use Rattle.vx_yard.proofs.ApplySite.{calls_keep}
 use Rattle.vx_yard.proofs.FailsStay.{fails_then, told_disks, works_by, written_burnt}
 use Rattle.vx_yard.proofs.FuseStays.{fused_on, left_passed, left_spent, may_on}
+use Rattle.vx_site_lines.proofs.Apart.{never_up}
 
 -- ---- the links of the site
 
@@ -71,16 +74,18 @@ module _ {R : Type 0} {g : Ghosts R} where
   whole_log beside n (Up rvg) h up runs origin = omega (arith, h.logged, h.durable runs)
   whole_log beside n (Receives site) h up runs origin = absurd (let e : true ≡ false = sym origin ∙ h.role in cc)
   whole_log beside n (Down rack) h up runs origin = absurd (let e : IsDown ≡ IsUp = sym h.state ∙ up in cc)
+  whole_log beside n (OfGroup s) h up runs origin = let none = up_has_none beside n s h up in ap (λ (us : List Write). length us) none.log ∙ sym none.safe
   whole_log beside n Gone h up runs origin = absurd h
 
   -- no ring is greater than a log may be
-  pub small_ring : (beside : KeptBeside) (n : Node) (e : DiskSet R g) → SiteStands beside n e → n.state ≡ IsUp → n.ring ≤ 2 ^ 32
-  small_ring beside n (Bare rack) h up = absurd (let e : IsBare ≡ IsUp = sym (ap (λ (k : Node). k.state) h.bare.is) ∙ up in cc)
-  small_ring beside n (Spoiled rack) h up = absurd (let e : IsBare ≡ IsUp = sym (ap (λ (k : Node). k.state) h.is) ∙ up in cc)
-  small_ring beside n (Up rvg) h up = omega (arith, h.lies.laid.ring_is)
-  small_ring beside n (Receives site) h up = omega (arith, h.lies.laid.ring_is)
-  small_ring beside n (Down rack) h up = absurd (let e : IsDown ≡ IsUp = sym h.state ∙ up in cc)
-  small_ring beside n Gone h up = absurd h
+  pub small_ring : (beside : KeptBeside) (n : Node) (e : DiskSet R g) → SiteStands beside n e → is_over_group n ≡ false → n.state ≡ IsUp → n.ring ≤ 2 ^ 32
+  small_ring beside n (Bare rack) h apart up = absurd (let e : IsBare ≡ IsUp = sym (ap (λ (k : Node). k.state) h.bare.is) ∙ up in cc)
+  small_ring beside n (Spoiled rack) h apart up = absurd (let e : IsBare ≡ IsUp = sym (ap (λ (k : Node). k.state) h.is) ∙ up in cc)
+  small_ring beside n (Up rvg) h apart up = omega (arith, h.lies.laid.ring_is)
+  small_ring beside n (Receives site) h apart up = omega (arith, h.lies.laid.ring_is)
+  small_ring beside n (Down rack) h apart up = absurd (let e : IsDown ≡ IsUp = sym h.state ∙ up in cc)
+  small_ring beside n (OfGroup s) h apart up = never_up beside n s h apart up
+  small_ring beside n Gone h apart up = absurd h
 
   module _ (beside : KeptBeside) (n : Node) (before after : DiskSet R g) (stood : SiteStands beside n before) (said : Said) (burns : LeavesFuse IsLogged said before after) where
     -- which disks are made to fail, in any node behind the write

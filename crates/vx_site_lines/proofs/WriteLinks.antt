@@ -71,6 +71,7 @@ use Rattle.vx_yard.proofs.NoteSite.{changes_one, comes_one, with_one}
 use Rattle.vx_yard.proofs.OneSite.{Changed, role_kept, rose_at, stands_at, told_by}
 use Rattle.vx_yard.proofs.Rows.{fact_like, fact_same}
 use Rattle.vx_yard.proofs.SiteEvents.{first_choice, keeps_k}
+use Rattle.vx_site_lines.proofs.Apart.{fact_at, over_is}
 use Rattle.vx_site_lines.proofs.WriteCalls.{calls_pass, fails_behind, fuse_burned, fuse_spent, links_count, log_works, small_ring, whole_log}
 use Rattle.vx_site_lines.proofs.WriteEnds.{cut_ends, done_ends, half_ends, let_in, none_ends}
 use Rattle.vx_site_lines.proofs.WriteSite.{cut_comes, cut_events, cut_for, half_comes, half_shown, written_comes, written_fact, written_for}
@@ -198,7 +199,7 @@ module _ {R : Type 0} {g : Ghosts R} where
     whole = whole_log (beside_of d s) n before stood to.can.up to.can.running to.can.origin
 
     counted : list_any (is_over (blocks_in bytes + 1)) (linked_fact d.world s).links ≡ false
-    counted = links_count d.world s x to.changes (stands.links.rows s) to.can.up to.goes to.few (small_ring (beside_of d s) n before stood to.can.up)
+    counted = links_count d.world s x to.changes (stands.links.rows s) to.can.up to.goes to.few (small_ring (beside_of d s) n before stood to.apart to.can.up)
 
     lets : n.safe < MOST_NUMBER → IsLetIn d.world s x
     lets free = let_in d.world s x to.changes to.seat.below to.can to.primary to.some to.few free to.goes
@@ -253,7 +254,8 @@ module _ {R : Type 0} {g : Ghosts R} where
         })
         (stands_at d e old new s f' before after stands to.seat.below changed
         (written_comes d s x after stands.links can wrote.2 (fails_behind (beside_of d s) n before after stood (answer_by waited number) burns n refl fits)
-        (fuse_spent (beside_of d s) n before after stood (answer_by waited number) burns x written lit) kind) shown facts)
+        (fuse_spent (beside_of d s) n before after stood (answer_by waited number) burns x written lit) kind)
+        (fact_at e.world s f' (over_is (logged n x) (e.world.nodes s) eff.is.node to.apart) shown) facts)
         (carries_node s d e (logged n x) old new load eff.site eff.sent eff.gathering eff.is.node refl refl refl (told_by old new s before after changed))
         (rose_still old new s before after changed.there changed.later changed.disk_sets))
 
@@ -279,7 +281,8 @@ module _ {R : Type 0} {g : Ghosts R} where
         })
         (stands_at d e old new s f' before after stands to.seat.below changed
         (half_comes d s x disk after stands.links can wrote.0 (fails_behind (beside_of d s) n before after stood (Refused (Device disk)) under.burns n refl fits)
-        (fuse_burned (beside_of d s) n before after stood (Refused (Device disk)) under.burns (halted_with n x disk) refl (λ a b burnt. device_passes IsLogged (size_in before) disk a b burnt) lit) kind) shown facts)
+        (fuse_burned (beside_of d s) n before after stood (Refused (Device disk)) under.burns (halted_with n x disk) refl (λ a b burnt. device_passes IsLogged (size_in before) disk a b burnt) lit) kind)
+        (fact_at e.world s f' (over_is (halted_with n x disk) (e.world.nodes s) eff.is.node to.apart) shown) facts)
         (carries_node s d e (halted_with n x disk) old new load eff.site eff.sent eff.gathering eff.is.node refl refl refl (told_by old new s before after changed))
         (rose_at old new s disk before after changed wrote.1)
 
@@ -304,7 +307,8 @@ module _ {R : Type 0} {g : Ghosts R} where
         (stands_at d e old new s f' before after stands to.seat.below changed
         (comes_one d s (worked n) after refl stands.links wrote.2
         (fails_behind (beside_of d s) n before after stood (Refused (Limit Number MOST_NUMBER)) burns (worked n) refl fits)
-        (fuse_burned (beside_of d s) n before after stood (Refused (Limit Number MOST_NUMBER)) burns (worked n) refl (λ a b burnt. limit_passes IsLogged (size_in before) a b burnt) lit) kind) shown facts)
+        (fuse_burned (beside_of d s) n before after stood (Refused (Limit Number MOST_NUMBER)) burns (worked n) refl (λ a b burnt. limit_passes IsLogged (size_in before) a b burnt) lit) kind)
+        (fact_at e.world s f' (over_is (worked n) (e.world.nodes s) (at_place d.world.nodes s (worked n)) to.apart) shown) facts)
         (carries_node s d e (worked n) old new load (changes_one d s (worked n)) refl refl (at_place d.world.nodes s (worked n)) refl refl refl (told_by old new s before after changed))
         (rose_still old new s before after changed.there changed.later changed.disk_sets))
 
@@ -335,7 +339,8 @@ module _ {R : Type 0} {g : Ghosts R} where
             })
             (stands_at d e old new s f' before after stands to.seat.below changed
             (cut_comes d s x count after stands.links can least most stays (fails_behind (beside_of d s) n before after stood (Refused Off) under.burns n refl fits))
-            (noted ∙ ap down_facts (some_same (sym at ∙ to.seat.fact)) ∙ cut_fact d s x count stands.links can least most) facts)
+            (fact_at e.world s f' (over_is (crashed (half_begun n x) count) (e.world.nodes s) eff.is.node to.apart)
+            (noted ∙ ap down_facts (some_same (sym at ∙ to.seat.fact)) ∙ cut_fact d s x count stands.links can least most)) facts)
             (carries_let s d e old new gone (omega (arith, to.seat.below, stands.disk_sets.few)) eff.site eff.sent eff.gathering (λ up. down_up (sym (ap (λ (q : Node). q.state) eff.is.node) ∙ up))
             (told_by old new s before after changed))
             (rose_still old new s before after changed.there changed.later changed.disk_sets))

@@ -1,5 +1,5 @@
 -- What the tests of a line that writes say of a site which may keep links.
-use Rattle.std.proofs.Common.{◌≡◌, ◌∙◌, ◌*◌, ◌≤◌, ℕ, Bool, List, length, ap, sym, subst, refl, arith}
+use Rattle.std.proofs.Common.{◌≡◌, ◌∙◌, ◌*◌, ◌≤◌, ℕ, Bool, false, List, length, ap, sym, subst, refl, arith}
 use Rattle.std.specs.Prelude.{Option, Some, None, map, replicate, slice_get}
 use Rattle.std.proofs.lemmas.List.{length-replicate}
 use Rattle.vx_model.specs.Content.{Write, blocks_in}
@@ -25,7 +25,9 @@ use Rattle.vx_script.specs.declared.line.ScriptLine.TheVariants.{Write as WriteL
 use Rattle.vx_diskset.specs.DiskSets.{CanWrite}
 use Rattle.vx_diskset.specs.declared.disk_set.DiskSet.{DiskSet}
 use Rattle.vx_events.specs.Facts.{group_by, group_fact, place_of, seat_of, site_number, volume_fact, volume_number}
+use Rattle.vx_events.specs.GroupLines.{is_over_group}
 use Rattle.vx_events.specs.LinkedFacts.{linked_fact}
+use Rattle.vx_events.specs.StepsOver.{over_group_at}
 use Rattle.vx_events.specs.Lines.{write_in}
 use Rattle.vx_events.proofs.LinkWrites.{put_let_in, write_let_in}
 use Rattle.vx_events.proofs.Places.{some_same}
@@ -95,20 +97,21 @@ module _ {R : Type 0} {g : Ghosts R} where
       write_role d.world s y.facts.items (in_files y) name volume start count fill n fact up (subst (λ (l : ScriptLine). IsFree y l) is free)
   primary_by d y line name volume start bytes s n (OfPut is one) free fact up = put_role d.world s y.facts.items (in_files y) name volume start bytes n fact up (subst (λ (l : ScriptLine). IsFree y l) is free)
 
-  let_in_by : (d : Doubted) (y : Yard R g) (line : ScriptLine) (name volume : List ℕ) (start : ℕ) (bytes : List ℕ) (s v : ℕ) → StandsFor d y → IsWriteLine line name volume start bytes → IsFree y line → site_number d.world name ≡ s
+  let_in_by : (d : Doubted) (y : Yard R g) (line : ScriptLine) (name volume : List ℕ) (start : ℕ) (bytes : List ℕ) (s v : ℕ) → StandsFor d y → over_group_at d.world name ≡ false → IsWriteLine line name volume start bytes → IsFree y line → site_number d.world name ≡ s
       → volume_number (d.world.nodes s) volume ≡ v → (cs : List Change) × (admitted d.world s (the_write v start bytes) ≡ Goes cs)
-  let_in_by d y line name volume start bytes s v stands (OfWrite count fill is filled) free number place =
+  let_in_by d y line name volume start bytes s v stands apart (OfWrite count fill is filled) free number place =
       goes_by d.world name volume start bytes (replicate (512 * count) fill) s v number place (sym filled)
-      (write_let_in d.world (in_files y) name volume start count fill
+      (write_let_in d.world (in_files y) name volume start count fill apart
       (subst (λ (fs : List SiteFacts). line_refusal fs (in_files y) (WriteLine name volume start count fill) ≡ None) stands.facts (subst (λ (l : ScriptLine). IsFree y l) is free)))
-  let_in_by d y line name volume start bytes s v stands (OfPut is one) free number place =
+  let_in_by d y line name volume start bytes s v stands apart (OfPut is one) free number place =
       goes_by d.world name volume start bytes bytes s v number place refl
-      (put_let_in d.world (in_files y) name volume start bytes
+      (put_let_in d.world (in_files y) name volume start bytes apart
       (subst (λ (fs : List SiteFacts). line_refusal fs (in_files y) (PutLine name volume start bytes) ≡ None) stands.facts (subst (λ (l : ScriptLine). IsFree y l) is free)) one)
 
   -- where the write goes, and that its site takes it and lets it in
   pub record Writing (d : Doubted) (y : Yard R g) (name volume : List ℕ) (start : ℕ) (bytes : List ℕ) (s v : ℕ) : Type 0 where
     pub seat : SiteAt d y name s
+    pub apart : is_over_group (d.world.nodes s) ≡ false
     pub place : volume_number (d.world.nodes s) volume ≡ v
     pub can : CanWrite (d.world.nodes s) v start (blocks_in bytes)
     pub primary : (d.world.nodes s).role ≡ Primary
@@ -117,11 +120,11 @@ module _ {R : Type 0} {g : Ghosts R} where
     pub changes : List Change
     pub goes : admitted d.world s (the_write v start bytes) ≡ Goes changes
 
-  pub writing : (d : Doubted) (y : Yard R g) (line : ScriptLine) (name volume : List ℕ) (start : ℕ) (bytes : List ℕ) (s v : ℕ) (e : DiskSet R g) → StandsFor d y → IsWriteLine line name volume start bytes → IsFree y line
+  pub writing : (d : Doubted) (y : Yard R g) (line : ScriptLine) (name volume : List ℕ) (start : ℕ) (bytes : List ℕ) (s v : ℕ) (e : DiskSet R g) → StandsFor d y → over_group_at d.world name ≡ false → IsWriteLine line name volume start bytes → IsFree y line
       → seat_of y.facts.items name ≡ Some s → slice_get y.disk_sets.items s ≡ Some e → ((f : SiteFacts) → slice_get y.facts.items s ≡ Some f → place_of f.volumes volume ≡ Some v) → Writing d y name volume start bytes s v
-  writing d y line name volume start bytes s v e stands is free at there place_is =
+  writing d y line name volume start bytes s v e stands apart is free at there place_is =
       let may = may_write y line name volume start bytes is free in
-      let read : Fetching d y name volume start (blocks_in bytes) s v = fetching d y name volume start (blocks_in bytes) s v e stands may.call at there place_is in
+      let read : Fetching d y name volume start (blocks_in bytes) s v = fetching d y name volume start (blocks_in bytes) s v e stands apart may.call at there place_is in
       let n : Node = d.world.nodes s in
       let fact = fact_named d y name s read.seat at may.call.site in
       let rvg = ap (λ (f : SiteFacts). f.rvg) fact ∙ ap (λ (t : SiteState). group_by t n) read.can.up in
@@ -130,9 +133,10 @@ module _ {R : Type 0} {g : Ghosts R} where
       let kind = volume_kind n.volumes v may.call.found
       (ap (λ (f : SiteFacts). slice_get f.volumes v) (sym fact) ∙ ap (λ (i : ℕ). slice_get may.call.site.facts.volumes i) (sym place) ∙ may.call.at.there) in
       let primary = primary_by d y line name volume start bytes s may.call.site is free fact read.can.up in
-      let goes = let_in_by d y line name volume start bytes s v stands is free read.seat.number read.volume_is in
+      let goes = let_in_by d y line name volume start bytes s v stands apart is free read.seat.number read.volume_is in
       record {
         seat = read.seat;
+        apart = read.apart;
         place = read.volume_is;
         can = record {
           origin = ap is_origin primary;

@@ -22,6 +22,7 @@ use Rattle.vx_effects.specs.Restarts.{are_fine, facts_again}
 use Rattle.vx_events.specs.Doubts.{run_as, with_disks}
 use Rattle.vx_events.specs.Fails.{Fails}
 use Rattle.vx_events.specs.Fuses.{ring_taken}
+use Rattle.vx_events.specs.GroupLines.{is_over_group}
 use Rattle.vx_events.specs.Lines.{IsDone as IsDoneLine}
 use Rattle.vx_events.specs.LinkViews.{linked_view}
 use Rattle.vx_events.specs.Lists.{Choice}
@@ -112,7 +113,7 @@ module _ {R : Type 0} {g : Ghosts R} where
     pub each : (beside : KeptBeside) (n : Node) (e : DiskSet R g) → slice_get y.disk_sets.items s ≡ Some e → SiteStands beside n e → n.state ≡ Up → n.halted ≡ None → last ≡ n.safe
 
   pub record SessionAt (s session : ℕ) (y : Yard R g) : Type 0 where
-    pub each : (beside : KeptBeside) (n : Node) (e : DiskSet R g) → slice_get y.disk_sets.items s ≡ Some e → SiteStands beside n e → n.state ≡ Up → session ≡ n.session
+    pub each : (beside : KeptBeside) (n : Node) (e : DiskSet R g) → slice_get y.disk_sets.items s ≡ Some e → SiteStands beside n e → n.state ≡ Up → is_over_group n ≡ false → session ≡ n.session
 
   -- The site came up with this state of its log: the tests see it, the one that it followed feeds it, and it greets that one.
   pub record RisesTo (s ring : ℕ) (state : State) (used : List ℕ) (said : Said) (old new : Yard R g) : Type 0 where
@@ -122,7 +123,7 @@ module _ {R : Type 0} {g : Ghosts R} where
     pub last_is : LastAt s last old
     pub session_is : SessionAt s session old
     pub says : said ≡ Recovered last view
-    pub shows : (d : Doubted) → StandsFor d new → s < d.world.sites → view ≡ linked_view d.world s
+    pub shows : (d : Doubted) → StandsFor d new → s < d.world.sites → is_over_group (d.world.nodes s) ≡ false → view ≡ linked_view d.world s
     pub facts : (f : SiteFacts) → slice_get old.facts.items s ≡ Some f → new.facts.items ≡ slice_set old.facts.items s (risen_facts state last ring used f)
     pub disk_sets : new.disk_sets ≡ old.disk_sets
     pub racks : new.racks ≡ old.racks
@@ -132,7 +133,7 @@ module _ {R : Type 0} {g : Ghosts R} where
 
   -- how such a site stands
   pub record ViewAt (s : ℕ) (view : SiteView) (y : Yard R g) : Type 0 where
-    pub each : (d : Doubted) → StandsFor d y → s < d.world.sites → view ≡ linked_view d.world s
+    pub each : (d : Doubted) → StandsFor d y → s < d.world.sites → is_over_group (d.world.nodes s) ≡ false → view ≡ linked_view d.world s
 
   -- The line was done and answered so, from this yard on, which stands for the world `mid` behind a first event of the line.
   pub record LeadsFrom (mid d : Doubted) (line : ScriptLine) (said : Said) (old new : Yard R g) : Type 0 where

@@ -1,11 +1,12 @@
 // The lines that read blocks.
-ghost use Rattle.std.specs.Prelude.{◌≡◌, ◌≤◌, ◌<◌, ◌*◌, ℕ, Some, length, true};
+ghost use Rattle.std.specs.Prelude.{◌≡◌, ◌≤◌, ◌<◌, ◌*◌, ℕ, Some, length, false, true};
 ghost use Rattle.vx_history.specs.Doubts.{Doubted};
 ghost use Rattle.vx_history.specs.World.{Node};
 ghost use Rattle.vx_model.specs.Sites.{is_origin};
 ghost use Rattle.vx_script.specs.declared.line.ScriptLine.{ScriptLine};
 ghost use Rattle.vx_script.specs.declared.line.ScriptLine.TheVariants.{Read as ReadLine, Show as ShowLine};
 ghost use Rattle.vx_events.specs.Facts.{seat_of, site_number};
+ghost use Rattle.vx_events.specs.StepsOver.{is_for_group, over_group_at};
 ghost use Rattle.vx_yard.specs.OfSites.{AsAsked, OfSite};
 ghost use Rattle.vx_diskset.specs.Asked.{LeavesAlone};
 ghost use Rattle.vx_diskset.specs.DiskSets.{CanRead, Later};
@@ -58,8 +59,8 @@ pub fn read_line<R: Rack>(
     requires room { IsBlockRoom count room.items }
     requires kept { IsYardKept yard.old }
     requires free { IsFree yard.old (ReadLine name.now volume.now start count) }
-    ensures leads { (d : Doubted) → StandsFor d yard.old → Leads d (ReadLine name.now volume.now start count) result yard.old yard.new }
-    ensures asked { (d : Doubted) → StandsFor d yard.old → AsAsked d.world (ReadLine name.now volume.now start count) yard.old yard.new }
+    ensures leads { (d : Doubted) → StandsFor d yard.old → is_for_group d.world (ReadLine name.now volume.now start count) ≡ false → Leads d (ReadLine name.now volume.now start count) result yard.old yard.new }
+    ensures asked { (d : Doubted) → StandsFor d yard.old → is_for_group d.world (ReadLine name.now volume.now start count) ≡ false → AsAsked d.world (ReadLine name.now volume.now start count) yard.old yard.new }
     ensures told { IsTold yard.new → IsTold yard.old }
     ensures files { in_files yard.new ≡ in_files yard.old }
 {
@@ -78,8 +79,8 @@ pub fn show_line<R: Rack>(
     requires room { IsBlockRoom count room.items }
     requires kept { IsYardKept yard.old }
     requires free { IsFree yard.old (ShowLine name.now volume.now start count) }
-    ensures leads { (d : Doubted) → StandsFor d yard.old → Leads d (ShowLine name.now volume.now start count) result yard.old yard.new }
-    ensures asked { (d : Doubted) → StandsFor d yard.old → AsAsked d.world (ShowLine name.now volume.now start count) yard.old yard.new }
+    ensures leads { (d : Doubted) → StandsFor d yard.old → is_for_group d.world (ShowLine name.now volume.now start count) ≡ false → Leads d (ShowLine name.now volume.now start count) result yard.old yard.new }
+    ensures asked { (d : Doubted) → StandsFor d yard.old → is_for_group d.world (ShowLine name.now volume.now start count) ≡ false → AsAsked d.world (ShowLine name.now volume.now start count) yard.old yard.new }
     ensures told { IsTold yard.new → IsTold yard.old }
     ensures files { in_files yard.new ≡ in_files yard.old }
 {
@@ -102,9 +103,9 @@ fn fetch<R: Rack>(
     requires room { IsBlockRoom count room.items }
     requires kept { IsYardKept yard.old }
     requires free { IsReadFree yard.old name.now volume.now start count }
-    ensures leads { (d : Doubted) (line : ScriptLine) → StandsFor d yard.old → IsReadLine line name.now volume.now start count → IsFree yard.old line
+    ensures leads { (d : Doubted) (line : ScriptLine) → StandsFor d yard.old → over_group_at d.world name.now ≡ false → IsReadLine line name.now volume.now start count → IsFree yard.old line
         → ((s : ℕ) → seat_of yard.old.facts.items name.now ≡ Some s → is_origin (d.world.nodes s).role ≡ true) → Leads d line result yard.old yard.new }
-    ensures asked { (d : Doubted) → StandsFor d yard.old → OfSite LeavesAlone (site_number d.world name.now) yard.old yard.new }
+    ensures asked { (d : Doubted) → StandsFor d yard.old → over_group_at d.world name.now ≡ false → OfSite LeavesAlone (site_number d.world name.now) yard.old yard.new }
     ensures told { IsTold yard.new → IsTold yard.old }
     ensures files { in_files yard.new ≡ in_files yard.old }
 {

@@ -1,5 +1,5 @@
 // The line that recovers a site, with the links that the header of its log keeps, and the greeting of one that receives.
-ghost use Rattle.std.specs.Prelude.{◌≡◌, ◌++◌, ◌<◌, ◌≤◌, ℕ, Bool, IfErr, List, Some, [], length, slice_get, slice_set};
+ghost use Rattle.std.specs.Prelude.{◌≡◌, ◌++◌, ◌<◌, ◌≤◌, ℕ, Bool, IfErr, List, Some, [], false, length, slice_get, slice_set};
 ghost use Rattle.vx_courier.specs.UnderWay.{FlightStands};
 ghost use Rattle.vx_history.specs.Doubts.{Doubted};
 ghost use Rattle.vx_history.specs.World.{Packet};
@@ -11,7 +11,9 @@ ghost use Rattle.vx_script.specs.declared.line.ScriptLine.TheVariants.{Recover};
 ghost use Rattle.vx_srlfmt.specs.Headers.{CanSpellState};
 ghost use Rattle.vx_diskset.specs.Asked.{SameFailing};
 ghost use Rattle.vx_events.specs.Facts.{site_number};
+ghost use Rattle.vx_events.specs.GroupLines.{is_over_group};
 ghost use Rattle.vx_events.specs.LinkViews.{linked_view};
+ghost use Rattle.vx_events.specs.StepsOver.{is_for_group};
 ghost use Rattle.vx_events.specs.LinksFit.{LinksFit};
 ghost use Rattle.vx_events.specs.Lists.{Choice};
 ghost use Rattle.vx_yard.specs.OfSites.{AsAsked, OfSite};
@@ -94,7 +96,7 @@ fn show_risen<R: Rack>(yard: &Yard<R>, alloc: Global, site: usize, room: LinkVie
     requires disk_set { site < length yard.now.disk_sets.items }
     requires few { (f : Facts) → slice_get yard.now.facts.items site ≡ Some f → length f.links ≤ LINK_PLACES }
     requires room { room ≡ [] }
-    ensures { (d : Doubted) → StandsFor d yard.now → site < d.world.sites → result ≡ linked_view d.world site }
+    ensures { (d : Doubted) → StandsFor d yard.now → site < d.world.sites → is_over_group (d.world.nodes site) ≡ false → result ≡ linked_view d.world site }
 {
     let links = link_views(room, &yard.facts, yard.facts[site].links.as_slice());
     view_at(yard, alloc, site, links)
@@ -136,7 +138,7 @@ fn rise<R: Rack>(yard: &mut Yard<R>, alloc: Global, site: usize, ring: u64, room
     requires links { room.links ≡ [] }
     requires views { room.views ≡ [] }
     ensures rises { (d h : Doubted) (c : Choice) (taken : Bool) (name : List ℕ) → site_number d.world name ≡ site → RisesFrom d site c taken h → LinksFit d
-        → StandsFor (own_disks taken site d.world h) yard.old → site < h.world.sites → ((own_disks taken site d.world h).world.nodes site).state ≡ DownState
+        → StandsFor (own_disks taken site d.world h) yard.old → site < h.world.sites → ((own_disks taken site d.world h).world.nodes site).state ≡ DownState → is_over_group ((own_disks taken site d.world h).world.nodes site) ≡ false
         → ring ≡ ring_of ((own_disks taken site d.world h).world.nodes site).blocks → room.start.ring ≡ ring
         → LeadsFrom (own_disks taken site d.world h) d (Recover name) result yard.old yard.new }
     ensures failing { OfSite SameFailing site yard.old yard.new }
@@ -241,8 +243,8 @@ pub fn recover_line<R: Rack>(
 ) -> Result<Said, OutOfMemory>
     requires kept { IsYardKept yard.old }
     requires free { IsFree yard.old (Recover name.now) }
-    ensures leads { (d : Doubted) → StandsFor d yard.old → LeadsIs d (Recover name.now) yard.old yard.new result }
-    ensures asked { (d : Doubted) → StandsFor d yard.old → AsAsked d.world (Recover name.now) yard.old yard.new }
+    ensures leads { (d : Doubted) → StandsFor d yard.old → is_for_group d.world (Recover name.now) ≡ false → LeadsIs d (Recover name.now) yard.old yard.new result }
+    ensures asked { (d : Doubted) → StandsFor d yard.old → is_for_group d.world (Recover name.now) ≡ false → AsAsked d.world (Recover name.now) yard.old yard.new }
     // For want of memory nothing is done.
     ensures short { IfErr result (λ e. yard.new.disk_sets ≡ yard.old.disk_sets) }
     ensures told { IsTold yard.new → IsTold yard.old }

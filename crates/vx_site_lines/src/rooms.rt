@@ -1,5 +1,5 @@
 // What a site comes up with, and what it then sends and shows.
-ghost use Rattle.std.specs.Prelude.{◌≡◌, ◌&&◌, ◌++◌, ◌<◌, ◌≤◌, ℕ, IfOk, IfSome, IsSome, List, Some, [], length, slice_get, true};
+ghost use Rattle.std.specs.Prelude.{◌≡◌, ◌&&◌, ◌++◌, ◌<◌, ◌≤◌, ℕ, IfOk, IfSome, IsSome, List, Some, [], false, length, slice_get, true};
 ghost use Rattle.vx_courier.specs.UnderWay.{FlightStands};
 ghost use Rattle.vx_history.specs.World.{Node, Packet};
 ghost use Rattle.vx_model.specs.Sites.{is_origin as is_origin_is};
@@ -9,6 +9,7 @@ ghost use Rattle.vx_model.specs.declared.state.KeptLink.{KeptLink as KeptValue};
 ghost use Rattle.vx_srlfmt.specs.Headers.{CanSpellState};
 ghost use Rattle.vx_diskset.specs.Holds.{KeptBeside, state_with};
 ghost use Rattle.vx_diskset.specs.Stands.{IsToldAt, SiteStands};
+ghost use Rattle.vx_events.specs.GroupLines.{is_over_group};
 ghost use Rattle.vx_site_lines.specs.Rises.{AreNeeds, IsEmptyRiseRoom, IsNeed, IsRisen, can_rise, hello_by, is_by_log, is_none as is_none_is, is_quiet as is_quiet_is};
 ghost use Rattle.vx_site_lines.specs.Seen.{links_seen};
 
@@ -75,7 +76,7 @@ fn needs_log(link: &KeptLink) -> bool
 // The blocks of the log that a link needs. None where the log does not hold them any more.
 fn used_by<R: Rack>(disk_set: &DiskSet<R>, link: &KeptLink) -> Option<u64>
     ensures is { (beside : KeptBeside) (n : Node) → SiteStands beside n disk_set.now → n.state ≡ UpState → n.halted ≡ None → IfSome result (λ blocks. IsNeed n link.now blocks) }
-    ensures some { (beside : KeptBeside) (n : Node) (k : ℕ) → SiteStands beside n disk_set.now → is_origin_is n.role ≡ true → n.state ≡ UpState → n.halted ≡ None → IsToldAt disk_set.now
+    ensures some { (beside : KeptBeside) (n : Node) (k : ℕ) → SiteStands beside n disk_set.now → is_origin_is n.role ≡ true → n.state ≡ UpState → is_over_group n ≡ false → n.halted ≡ None → IsToldAt disk_set.now
         → slice_get beside.links k ≡ Some link.now → IsSome result }
 {
     if needs_log(link) {
@@ -89,7 +90,7 @@ fn used_by<R: Rack>(disk_set: &DiskSet<R>, link: &KeptLink) -> Option<u64>
 fn used_links<R: Rack>(disk_set: &DiskSet<R>, links: &[KeptLink]) -> Option<[u64; LINK_PLACES]>
     requires few { length links.now ≤ LINK_PLACES }
     ensures is { (beside : KeptBeside) (n : Node) → SiteStands beside n disk_set.now → n.state ≡ UpState → n.halted ≡ None → IfSome result (λ used. AreNeeds n links.now used) }
-    ensures some { (beside : KeptBeside) (n : Node) → SiteStands beside n disk_set.now → n.state ≡ UpState → n.halted ≡ None → IsToldAt disk_set.now
+    ensures some { (beside : KeptBeside) (n : Node) → SiteStands beside n disk_set.now → n.state ≡ UpState → is_over_group n ≡ false → n.halted ≡ None → IsToldAt disk_set.now
         → ((k : ℕ) (l : KeptValue) → slice_get links.now k ≡ Some l → is_origin_is n.role ≡ true) → links.now ≡ beside.links → IsSome result }
     ensures long { IfSome result (λ used. length used ≡ LINK_PLACES) }
 {
@@ -112,9 +113,9 @@ pub struct Risen {
 
 /// What the disks of a site that came up have of it. None where it may not come up with that among so many sites.
 pub fn what_rose<R: Rack>(disk_set: &DiskSet<R>, site: u32, sites: u32) -> Option<Risen>
-    ensures is { (beside : KeptBeside) (n : Node) → SiteStands beside n disk_set.now → n.state ≡ UpState → n.halted ≡ None → IfSome result (λ r. IsRisen site sites n r.state r.used) }
+    ensures is { (beside : KeptBeside) (n : Node) → SiteStands beside n disk_set.now → n.state ≡ UpState → is_over_group n ≡ false → n.halted ≡ None → IfSome result (λ r. IsRisen site sites n r.state r.used) }
     ensures told { (beside : KeptBeside) (n : Node) → SiteStands beside n disk_set.now → n.state ≡ UpState → n.halted ≡ None → IsToldAt disk_set.now → IfSome result (λ r. r.state.links ≡ beside.links) }
-    ensures some { (beside : KeptBeside) (n : Node) → SiteStands beside n disk_set.now → n.state ≡ UpState → n.halted ≡ None → IsToldAt disk_set.now
+    ensures some { (beside : KeptBeside) (n : Node) → SiteStands beside n disk_set.now → n.state ≡ UpState → is_over_group n ≡ false → n.halted ≡ None → IsToldAt disk_set.now
         → ((k : ℕ) (l : KeptValue) → slice_get beside.links k ≡ Some l → is_origin_is n.role ≡ true) → can_rise site sites (state_with n beside.links) ≡ true → IsSome result }
     ensures spelled { IfSome result (λ r. CanSpellState r.state) }
 {

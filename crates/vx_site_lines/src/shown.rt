@@ -5,6 +5,7 @@ ghost use Rattle.vx_diskset.specs.DiskSets.{CanRead, Later};
 ghost use Rattle.vx_diskset.specs.Holds.{KeptBeside};
 ghost use Rattle.vx_diskset.specs.Stands.{KeepsRole, SiteStands};
 ghost use Rattle.vx_events.specs.Facts.{seat_of, site_number};
+ghost use Rattle.vx_events.specs.StepsOver.{over_group_at};
 ghost use Rattle.vx_history.specs.Doubts.{Doubted};
 ghost use Rattle.vx_history.specs.World.{Node};
 ghost use Rattle.vx_model.specs.Sites.{is_origin};
@@ -55,8 +56,8 @@ pub(crate) fn show_received<R: Rack>(
     requires room { IsBlockRoom count room.items }
     requires kept { IsYardKept yard.old }
     requires free { IsFree yard.old (ShowLine name.now volume.now start count) }
-    ensures leads { (d : Doubted) (s : ℕ) → StandsFor d yard.old → seat_of yard.old.facts.items name.now ≡ Some s → is_origin (d.world.nodes s).role ≡ false → Leads d (ShowLine name.now volume.now start count) result yard.old yard.new }
-    ensures asked { (d : Doubted) → StandsFor d yard.old → OfSite LeavesAlone (site_number d.world name.now) yard.old yard.new }
+    ensures leads { (d : Doubted) (s : ℕ) → StandsFor d yard.old → over_group_at d.world name.now ≡ false → seat_of yard.old.facts.items name.now ≡ Some s → is_origin (d.world.nodes s).role ≡ false → Leads d (ShowLine name.now volume.now start count) result yard.old yard.new }
+    ensures asked { (d : Doubted) → StandsFor d yard.old → over_group_at d.world name.now ≡ false → OfSite LeavesAlone (site_number d.world name.now) yard.old yard.new }
     ensures flight { yard.new.flight ≡ yard.old.flight }
     ensures told { IsTold yard.new → IsTold yard.old }
     ensures files { in_files yard.new ≡ in_files yard.old }

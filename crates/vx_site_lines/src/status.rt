@@ -1,11 +1,13 @@
 // What the status of a site shows.
-ghost use Rattle.std.specs.Prelude.{◌≡◌, ◌<◌, [], IfOk, Some, length, slice_get};
+ghost use Rattle.std.specs.Prelude.{◌≡◌, ◌<◌, [], IfOk, Some, false, length, slice_get};
 ghost use Rattle.vx_history.specs.Doubts.{Doubted};
 ghost use Rattle.vx_order.specs.declared.facts.SiteFacts.{SiteFacts};
 ghost use Rattle.vx_script.specs.declared.line.ScriptLine.TheVariants.{Status as StatusLine};
 ghost use Rattle.vx_site_lines.specs.Seen.{name_at, group_seen, group_at, link_seen, links_seen, site_seen};
 ghost use Rattle.vx_yard.specs.Standing.{LeadsIs, StandsFor};
+ghost use Rattle.vx_events.specs.GroupLines.{is_over_group};
 ghost use Rattle.vx_events.specs.LinkViews.{linked_view};
+ghost use Rattle.vx_events.specs.StepsOver.{is_for_group};
 ghost use Rattle.vx_yard.specs.Working.{IsFree};
 ghost use Rattle.vx_yard.specs.Yards.{IsYardKept};
 
@@ -114,7 +116,7 @@ pub(crate) fn view_at<R: Rack>(
 ) -> SiteView
     requires site { site < length yard.now.facts.items }
     requires disk_set { site < length yard.now.disk_sets.items }
-    ensures linked { (d : Doubted) (f : SiteFacts) → StandsFor d yard.now → site < d.world.sites → slice_get yard.now.facts.items site ≡ Some f → links ≡ links_seen yard.now.facts.items f.links → result ≡ linked_view d.world site }
+    ensures linked { (d : Doubted) (f : SiteFacts) → StandsFor d yard.now → site < d.world.sites → is_over_group (d.world.nodes site) ≡ false → slice_get yard.now.facts.items site ≡ Some f → links ≡ links_seen yard.now.facts.items f.links → result ≡ linked_view d.world site }
 {
     let session = yard.disk_sets[site].session();
     view(alloc, &yard.facts, session, &yard.facts[site], links)
@@ -124,7 +126,7 @@ pub(crate) fn view_at<R: Rack>(
 pub fn status_line<R: Rack>(yard: &Yard<R>, alloc: Global, name: &Name) -> Result<Said, OutOfMemory>
     requires kept { IsYardKept yard.now }
     requires free { IsFree yard.now (StatusLine name.now) }
-    ensures leads { (d : Doubted) → StandsFor d yard.now → LeadsIs d (StatusLine name.now) yard.now yard.now result }
+    ensures leads { (d : Doubted) → StandsFor d yard.now → is_for_group d.world (StatusLine name.now) ≡ false → LeadsIs d (StatusLine name.now) yard.now yard.now result }
 {
     let site = yard.site_of(name);
     let links = link_views(alloc, &yard.facts, yard.facts[site].links.as_slice())?;

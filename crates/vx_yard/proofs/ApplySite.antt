@@ -1,6 +1,6 @@
 -- A line that applies the log of a site that may keep links.
 use Rattle.std.proofs.Common.{◌≡◌, ◌∙◌, ◌≤◌, ◌⊎◌, ℕ, true, false, List, [], ◌∷◌, length, ap, sym, subst, refl, arith, ⊎_elim}
-use Rattle.std.specs.Prelude.{Option, Some, None, Ok, Err, slice_get, slice_set}
+use Rattle.std.specs.Prelude.{Bool, not, is_some, Option, Some, None, Ok, Err, slice_get, slice_set}
 use Rattle.vx_history.specs.Doubts.{After, Doubted, happened}
 use Rattle.vx_history.specs.Events.{linked_sites}
 use Rattle.vx_history.specs.Refusals.{Outcome}
@@ -13,7 +13,7 @@ use Rattle.vx_history.specs.declared.event.Said.{Said as EventSaid}
 use Rattle.vx_history.specs.declared.event.Said.TheVariants.{DoneAt as IsDoneAt}
 use Rattle.vx_model.specs.Sites.{is_origin}
 use Rattle.vx_model.specs.declared.no.No.{No}
-use Rattle.vx_model.specs.declared.no.No.TheVariants.{Device, Down as Off}
+use Rattle.vx_model.specs.declared.no.No.TheVariants.{Device, Down as Off, Role as WrongRole}
 use Rattle.vx_model.specs.declared.site.SiteState.{SiteState}
 use Rattle.vx_model.specs.declared.site.SiteState.TheVariants.{Bare as IsBare, Up as IsUp, Down as IsDown}
 use Rattle.vx_disk.specs.Disks.{Disks}
@@ -29,13 +29,19 @@ use Rattle.vx_diskset.specs.Holds.{KeptBeside, KeptSite, beside_of, itself, sure
 use Rattle.vx_diskset.proofs.Roles.{role_like}
 use Rattle.vx_diskset.specs.Stands.{KeepsRole, RoleIs, SiteStands}
 use Rattle.vx_diskset.specs.declared.disk_set.DiskSet.{DiskSet}
-use Rattle.vx_diskset.specs.declared.disk_set.DiskSet.TheVariants.{Bare, Spoiled, Up, Receives, Down, Gone}
+use Rattle.vx_diskset.specs.declared.disk_set.DiskSet.TheVariants.{Bare, Spoiled, Up, Receives, Down, OfGroup, Gone}
 use Rattle.vx_effects.proofs.Effects.{changes_then}
 use Rattle.vx_effects.proofs.Fitting.{fit_happened}
 use Rattle.vx_effects.proofs.Leaving.{fit_worked}
 use Rattle.vx_effects.proofs.Rises.{fault_effect, note_effect, reached_effect}
 use Rattle.vx_events.proofs.Places.{never_some, some_same}
-use Rattle.vx_events.proofs.Refused.{apply_may}
+use Rattle.vx_events.proofs.Refused.{Named, apply_may, not_false, passes, when_none}
+use Rattle.vx_events.specs.GroupLines.{is_over_group}
+use Rattle.vx_order.specs.Grouping.{apply_role}
+use Rattle.vx_order.specs.Order.{line_refusal}
+use Rattle.vx_order.specs.Shapes.{line_role}
+use Rattle.vx_order.specs.Sites.{rvg_of}
+use Rattle.vx_order.specs.Subject.{first_name}
 use Rattle.vx_events.proofs.Steps.{apply_step}
 use Rattle.vx_events.specs.Doubts.{run_as}
 use Rattle.vx_events.specs.Effects.{EffectAt}
@@ -61,9 +67,9 @@ use Rattle.vx_yard.proofs.CrashSite.{crash_comes, crash_fact, crash_gathering, c
 use Rattle.vx_yard.proofs.Carrying.{LetsGo, LetsGoBy, SameLoad, carries_let, carries_node}
 use Rattle.vx_yard.proofs.FailsStay.{fails_then}
 use Rattle.vx_yard.proofs.FuseStays.{device_by, done_by, fused_on, left_passed}
-use Rattle.vx_yard.proofs.NamedSite.{SiteAt, fact_named, site_at}
-use Rattle.vx_yard.proofs.OneSite.{Changed, Comes, beside_same, role_kept, rose_at, stands_at, stands_still, told_by}
-use Rattle.vx_yard.proofs.Rows.{fact_from, fact_like, fact_same, shown_by}
+use Rattle.vx_yard.proofs.NamedSite.{SiteAt, fact_named, fact_of, rvg_at}
+use Rattle.vx_yard.proofs.OneSite.{Changed, Comes, beside_same, role_kept, rose_at, stands_apart, stands_at, still_apart, told_by}
+use Rattle.vx_yard.proofs.Rows.{fact_from, fact_like, fact_same, over_same, shown_by}
 use Rattle.vx_yard.proofs.SiteEvents.{first_choice, keeps_k}
 
 -- ---- a line that notes that the fuse may have let calls pass
@@ -94,6 +100,13 @@ halted_fact n row sites disk =
     ap (λ (x : SiteFacts). let f : SiteFacts = record x { links = links_by n.state (link_facts n row ss) } in f) (stopped_fact n disk)
     ∙ ap (λ (ls : List LinkFacts). let f : SiteFacts = record (site_fact (halted_at n disk)) { links = links_by n.state ls } in f) (sym (shown_by n (halted_at n disk) row (λ k l. refl) ss))
 
+-- a line that applies finds a replicated volume group
+apply_has : (sites : List SiteFacts) (files : Bool) (name : List ℕ) (to : ℕ) → line_refusal sites files (Apply name to) ≡ None → (n : Named sites name) → is_some (rvg_of (Some n.facts)) ≡ true
+unfolding first_name line_role
+apply_has sites files name to free n =
+    let p = passes sites files (Apply name to) free in
+    not_false (is_some (rvg_of (Some n.facts))) (when_none (not (is_some (rvg_of (Some n.facts)))) WrongRole (subst (λ (o : Option SiteFacts). apply_role o ≡ None) n.found p.role))
+
 module _ {R : Type 0} {g : Ghosts R} where
   -- a running site is what its node says
   pub sure_at : (beside : KeptBeside) (n : Node) (e : DiskSet R g) → SiteStands beside n e → n.state ≡ IsUp → n.halted ≡ None → beside.doubt ≡ None
@@ -102,6 +115,7 @@ module _ {R : Type 0} {g : Ghosts R} where
   sure_at beside n (Up rvg) h up runs = h.sure runs
   sure_at beside n (Receives site) h up runs = h.sure runs
   sure_at beside n (Down rack) h up runs = absurd (let e : IsDown ≡ IsUp = sym h.state ∙ up in cc)
+  sure_at beside n (OfGroup s) h up runs = h.sure (λ bare. let e : IsBare ≡ IsUp = sym bare ∙ up in cc)
   sure_at beside n Gone h up runs = absurd h
 
   pub calls_keep : (P : Disks → Disks → Type 0) (said : Said) (before after : DiskSet R g) → LeavesFuse P said before after → SameFailing before after
@@ -137,8 +151,8 @@ module _ {R : Type 0} {g : Ghosts R} where
 
   pub can_apply_at : (d : Doubted) (y : Yard R g) (name : List ℕ) (to s : ℕ) → StandsFor d y → IsFree y (Apply name to) → seat_of y.facts.items name ≡ Some s → CanApplyAt d y name s
   can_apply_at d y name to s stands free at =
-      let here = site_at d y name s stands at in
       let may = apply_may y.facts.items (in_files y) name to free in
+      let here = rvg_at d y name s stands at may.site (apply_has y.facts.items (in_files y) name to free may.site) in
       let fact = fact_named d y name s here at may.site in
       let n : Node = d.world.nodes s in
       let up : n.state ≡ IsUp = sym (ap (λ (f : SiteFacts). f.state) fact) ∙ may.up in
@@ -183,8 +197,9 @@ module _ {R : Type 0} {g : Ghosts R} where
             calls = tt;
           };
           carries = carries_node s d e (worked n) old new load eff.site eff.sent eff.gathering eff.is.node refl refl refl (told_by old new s before after changed);
-          stands = stands_still d e old new s before after stands here.seat.below changed
+          stands = still_apart d e old new s before after stands here.seat.below changed
               (comes_effect d e s (worked n) d.world.packets (d.world.gathering s) after eff (fit_worked h s (fit_happened d (ApplyAt s to number) false stands.links)) refl refl refl refl refl is.2 fails fuse kind)
+              here.seat.apart (ap (λ (q : Node). is_over_group q) eff.is.node ∙ here.seat.apart)
               (fact_same (worked n) (e.world.nodes s) (d.world.links s) (e.world.links s) d.world.sites e.world.sites eff.is.node (λ j. eff.is.links j) eff.site.sites
               ∙ fact_like n (worked n) (d.world.links s) d.world.sites (fuse_fact n (burned n.fuse)) (λ j l. refl))
               (ap (λ fs. fs.items) facts);
@@ -218,8 +233,9 @@ module _ {R : Type 0} {g : Ghosts R} where
             calls = tt;
           };
           carries = carries_node s d e m old new load eff.site eff.sent eff.gathering eff.is.node refl refl refl (told_by old new s before after changed);
-          stands = stands_at d e old new s f' before after stands here.seat.below changed
+          stands = stands_apart d e old new s f' before after stands here.seat.below changed
               (comes_effect d e s m d.world.packets (d.world.gathering s) after eff (fit_worked h s (fit_happened d (Fault s disk) false stands.links)) refl refl refl refl refl is.0 (fails_still m (Refused (Device disk)) refl calls) fuse kind)
+              (ap (λ (q : Node). is_over_group q) eff.is.node ∙ here.seat.apart)
               (noted ∙ ap (halted_facts disk) (some_same (sym at ∙ here.seat.fact)) ∙ halted_fact n (d.world.links s) d.world.sites disk
               ∙ sym (fact_same m (e.world.nodes s) (d.world.links s) (e.world.links s) d.world.sites e.world.sites eff.is.node (λ j. eff.is.links j) eff.site.sites))
               facts;
@@ -243,7 +259,7 @@ module _ {R : Type 0} {g : Ghosts R} where
             let e : Doubted = worked_for h s in
             let m : Node = crashed_node n n count in
             let before_noted = crash_comes d s count false n (d.world.links s) refl (λ j. refl) (λ _. refl) here.seat.below here.can.up least most before after stands.links (stands.failing s before here.seat.below changed.there)
-            (calls_keep NoMore (Refused Off) before after calls) stood in
+            (calls_keep NoMore (Refused Off) before after calls) (λ y of. refl) stood in
             let note = note_effect h s (worked (h.world.nodes s)) in
             let node : e.world.nodes s ≡ m = note.is.node ∙ ap (λ (q : Node). worked q) (crash_node d s count false n (d.world.links s) refl (λ j. refl) (λ _. refl) here.seat.below here.can.up least most) in
             let node_h : h.world.nodes s ≡ m = crash_node d s count false n (d.world.links s) refl (λ j. refl) (λ _. refl) here.seat.below here.can.up least most in
@@ -273,8 +289,8 @@ module _ {R : Type 0} {g : Ghosts R} where
                     role = subst (λ (q : Node). RoleIs q after) same before_noted.role;
                     doubt = λ was a there. subst (λ (q : Node). IsSameSite q a.node) same (before_noted.doubt was a there);
                   })
-                  (noted ∙ ap down_facts (some_same (sym at ∙ here.seat.fact)) ∙ crash_fact d s count false n (d.world.links s) refl (λ j. refl) (λ _. refl) here.seat.below here.can.up least most refl refl refl refl
-                  ∙ fact_same (e.world.nodes s) (h.world.nodes s) (h.world.links s) (h.world.links s) h.world.sites h.world.sites same (λ j. refl) refl)
+                  (noted ∙ ap down_facts (some_same (sym at ∙ fact_of d old s stands here.seat.below)) ∙ crash_fact d s count false n (d.world.links s) refl (λ j. refl) (λ _. refl) here.seat.below here.can.up least most refl refl refl refl
+                  ∙ over_same (e.world.nodes s) (h.world.nodes s) (h.world.links s) (h.world.links s) h.world.sites h.world.sites same (λ j. refl) refl)
                   facts;
               rose = rose_still old new s before after changed.there changed.later changed.disk_sets;
             })

@@ -1,6 +1,6 @@
 -- A site that crashes, which may be in doubt.
 use Rattle.std.proofs.Common.{◌≡◌, ◌∙◌, ◌<◌, ◌≤◌, ℕ, Bool, true, false, List, [], ◌∷◌, length, ap, sym, subst, refl, arith, ⊎_elim}
-use Rattle.std.specs.Prelude.{Option, Some, None, map, slice_get, slice_set}
+use Rattle.std.specs.Prelude.{Option, Some, None, slice_get, slice_set}
 use Rattle.vx_history.proofs.Updates.{at_place}
 use Rattle.vx_history.specs.Doubts.{After, Doubted, happened, resolved_at, taken_up}
 use Rattle.vx_history.specs.Events.{kept_of, lost_touch}
@@ -8,7 +8,7 @@ use Rattle.vx_history.specs.Groups.{GroupNode}
 use Rattle.vx_history.specs.Refusals.{Outcome}
 use Rattle.vx_history.specs.Step.{step}
 use Rattle.vx_history.specs.Steps.{crashed}
-use Rattle.vx_history.specs.World.{Link, Node, Volume, World}
+use Rattle.vx_history.specs.World.{Link, Node, World}
 use Rattle.vx_history.specs.declared.event.Event.TheVariants.{Crash as CrashAt}
 use Rattle.vx_history.specs.declared.event.Said.TheVariants.{Done as IsDone}
 use Rattle.vx_model.specs.declared.site.SiteState.TheVariants.{Bare as IsBare, Down as IsDown, Up}
@@ -20,8 +20,10 @@ use Rattle.vx_script.specs.declared.line.ScriptLine.TheVariants.{Crash}
 use Rattle.vx_diskset.specs.Asked.{FailsAs, FusedAs, SameFailing}
 use Rattle.vx_diskset.specs.DiskSets.{CrashedAt}
 use Rattle.vx_diskset.specs.Holds.{KeptBeside, KeptSite, beside_of, doubt_of, itself, row_links, sure_of}
-use Rattle.vx_diskset.specs.Stands.{SiteStands}
+use Rattle.vx_diskset.specs.Stands.{IsGroupSet, SiteStands}
 use Rattle.vx_diskset.specs.declared.disk_set.DiskSet.{DiskSet}
+use Rattle.vx_diskset.specs.declared.disk_set.DiskSet.TheVariants.{OfGroup}
+use Rattle.vx_diskset.specs.declared.group_set.GroupSet.{GroupSet}
 use Rattle.vx_diskset.proofs.FailGroup.{stands_noted}
 use Rattle.vx_effects.proofs.Effects.{changes_same, changes_then, crash_effect, resolved_changes}
 use Rattle.vx_effects.proofs.Fitting.{fit_happened}
@@ -36,12 +38,16 @@ use Rattle.vx_diskset.specs.Asked.{CrashesBy}
 use Rattle.vx_yard.specs.Working.{IsFree}
 use Rattle.vx_yard.specs.Yards.{IsTold, in_files}
 use Rattle.vx_yard.proofs.CrashLine.{rose_still}
-use Rattle.vx_yard.proofs.NamedSite.{fact_named, fact_of, site_at}
+use Rattle.vx_yard.proofs.NamedSite.{fact_of, fact_placed, place_at}
 use Rattle.vx_yard.proofs.SiteEvents.{keeps_k}
 use Rattle.vx_events.specs.Effects.{ChangesNode, EffectAt}
 use Rattle.vx_events.specs.Ends.{AllDone, Ends, IsLeft}
-use Rattle.vx_events.specs.Facts.{seat_of, site_number, volume_fact}
-use Rattle.vx_events.specs.LinkedFacts.{linked_fact}
+use Rattle.vx_events.specs.Facts.{seat_of, site_number}
+use Rattle.vx_events.proofs.OverSeats.{over_reads}
+use Rattle.vx_events.specs.GroupLines.{is_over_group}
+use Rattle.vx_events.specs.StepsOver.{fact_over}
+use Rattle.vx_grouped.specs.GroupSites.{HasNoRvg}
+use Rattle.vx_model.specs.Content.{Write}
 use Rattle.vx_events.specs.Sayings.{RepeatsSaid, Replies}
 use Rattle.vx_events.specs.declared.said.Said.TheVariants.{Done}
 use Rattle.vx_history.specs.declared.event.Event.{Event}
@@ -55,7 +61,8 @@ use Rattle.vx_yard.proofs.FailsStay.{fails_then}
 use Rattle.vx_yard.proofs.FuseStays.{fused_none}
 use Rattle.vx_yard.proofs.OneSite.{Changed, Comes, role_off, stands_at, told_by}
 use Rattle.vx_yard.proofs.Carrying.{LetsGo, carries_let}
-use Rattle.vx_yard.proofs.Rows.{fact_same, row_links_same}
+use Rattle.vx_yard.proofs.OverGroup.{doubt_apart, over_none, set_notes}
+use Rattle.vx_yard.proofs.Rows.{down_over, over_same, row_links_same}
 
 -- the node that it leaves
 abbrev pub crashed_node : (n m : Node) → (count : ℕ) → Node
@@ -167,21 +174,21 @@ module _ (d : Doubted) (s count : ℕ) (taken : Bool) (m : Node) (row : ℕ → 
 
   -- what the tests see of it
   pub crash_fact : m.name ≡ (d.world.nodes s).name → m.disks ≡ (d.world.nodes s).disks → m.blocks ≡ (d.world.nodes s).blocks → m.volumes ≡ (d.world.nodes s).volumes
-      → down_facts (linked_fact d.world s) ≡ linked_fact e.world s
+      → down_facts (fact_over d.world s) ≡ fact_over e.world s
   crash_fact name disks blocks volumes =
-      ap (λ (x : List ℕ). let f : SiteFacts = record (down_facts (linked_fact d.world s)) { name = x } in f) (sym name)
-      ∙ ap (λ (x : ℕ). let f : SiteFacts = record (down_facts (linked_fact d.world s)) { name = m.name; disks = x } in f) (sym disks)
-      ∙ ap (λ (x : ℕ). let f : SiteFacts = record (down_facts (linked_fact d.world s)) { name = m.name; disks = m.disks; blocks = x } in f) (sym blocks)
-      ∙ ap (λ (x : List Volume). let f : SiteFacts = record (down_facts (linked_fact d.world s)) { name = m.name; disks = m.disks; blocks = m.blocks; volumes = map volume_fact x } in f) (sym volumes)
-      ∙ sym (fact_same (crashed_node (d.world.nodes s) m count) (e.world.nodes s) (e.world.links s) (e.world.links s) e.world.sites e.world.sites crash_node (λ k. refl) refl)
+      let n : Node = d.world.nodes s in
+      let c : Node = crashed_node n m count in
+      down_over n c (d.world.links s) (e.world.links s) d.world.sites e.world.sites (record { name = name; disks = disks; blocks = blocks; volumes = volumes; group = refl; state = refl })
+      ∙ sym (over_same c (e.world.nodes s) (e.world.links s) (e.world.links s) e.world.sites e.world.sites crash_node (λ k. refl) refl)
 
 module _ {R : Type 0} {g : Ghosts R} where
   -- the site, whose disks crashed
   pub crash_comes : (d : Doubted) (s count : ℕ) (taken : Bool) (m : Node) (row : ℕ → Link) (node_is : (resolved_at d s taken).world.nodes s ≡ m) (row_is : (k : ℕ) → (resolved_at d s taken).world.links s k ≡ row k)
       (own : taken ≡ false → disk_notes m ≡ disk_notes (d.world.nodes s)) (below : s < d.world.sites) (up : m.state ≡ Up) (least : m.safe ≤ count) (most : count ≤ length m.log) (before after : DiskSet R g)
-      → LinksFit d → FailsAs (d.world.nodes s) before → SameFailing before after → SiteStands (record { links = row_links row d.world.sites; headers = d.world.headers s; doubt = None }) (crashed m count) after
+      → LinksFit d → FailsAs (d.world.nodes s) before → SameFailing before after → ((x : GroupSet R g) → after ≡ OfGroup x → (d.world.nodes s).group ≡ m.group)
+      → SiteStands (record { links = row_links row d.world.sites; headers = d.world.headers s; doubt = None }) (crashed m count) after
       → Comes d (crash_of d s count taken) s after
-  crash_comes d s count taken m row node_is row_is own below up least most before after fits fails same stands =
+  crash_comes d s count taken m row node_is row_is own below up least most before after fits fails same over stands =
       let e : Doubted = crash_of d s count taken in
       let n : Node = crashed_node (d.world.nodes s) m count in
       let here : n ≡ e.world.nodes s = sym (crash_node d s count taken m row node_is row_is own below up least most) in
@@ -192,7 +199,7 @@ module _ {R : Type 0} {g : Ghosts R} where
         links = crash_fits d s count taken m row node_is row_is own below up least most fits;
         stands = subst (λ (k : Node). SiteStands (beside_of e s) k after) here
             (subst (λ (b : KeptBeside). SiteStands b n after) (sym there) (stands_noted (record { links = row_links row d.world.sites; headers = d.world.headers s; doubt = None }) (crashed m count) (d.world.nodes s).failing (d.world.nodes s).group after
-            (λ bare. absurd (down_bare bare)) stands));
+            (λ bare. absurd (down_bare bare)) over stands));
         failing = subst (λ (k : Node). FailsAs k after) here (fails_then (d.world.nodes s) n before after refl same fails);
         fuse = subst (λ (k : Node). FusedAs k after) here (fused_none n after refl);
         role = role_off (record { links = row_links row d.world.sites; headers = d.world.headers s; doubt = None }) (crashed m count) (e.world.nodes s) after stands (λ is_up. down_up is_up);
@@ -207,7 +214,7 @@ module _ {R : Type 0} {g : Ghosts R} where
       n : Node
       n = d.world.nodes s
 
-      was : down_facts f ≡ down_facts (linked_fact d.world s)
+      was : down_facts f ≡ down_facts (fact_over d.world s)
       was = ap down_facts (some_same (sym at ∙ fact_of d old s stands below))
 
       never : true ≡ false → ⊥
@@ -215,6 +222,18 @@ module _ {R : Type 0} {g : Ghosts R} where
 
       small : s < MOST_SITES
       small = omega (arith, below, stands.disk_sets.few)
+
+      no_rvg : is_over_group n ≡ true → HasNoRvg n
+      no_rvg over = over_none (beside_of d s) n before (stands.disk_sets.sites s before below changed.there) over
+
+      -- a site in doubt is over no group
+      doubt_never : (m : Node) (count : ℕ) (links : List KeptLink) (headers : ℕ) → m.volumes ≡ n.volumes → (k : KeptSite) → (beside_of d s).doubt ≡ Some k
+          → SiteStands (record { links = links; headers = headers; doubt = None }) (crashed m count) after → (x : GroupSet R g) → after ≡ OfGroup x → ⊥
+      doubt_never m count links headers same_volumes k other here x of =
+          let beside : KeptBeside = record { links = links; headers = headers; doubt = None } in
+          let it : IsGroupSet beside (crashed m count) x = subst (λ (y : DiskSet R g). SiteStands beside (crashed m count) y) of here in
+          doubt_apart (beside_of d s) n before k (stands.disk_sets.sites s before below changed.there) up other
+          (sym same_volumes ∙ (set_notes beside (crashed m count) x it (λ bare. down_bare bare)).1.none.volumes)
 
       itself_by : (k : KeptSite) → k ≡ itself (beside_of d s) n → (count : ℕ) → k.node.safe ≤ count → count ≤ length k.node.log → SiteStands (sure_of k) (crashed k.node count) after → Falls d s old new
       itself_by k own =
@@ -226,11 +245,14 @@ module _ {R : Type 0} {g : Ghosts R} where
             down = ap (λ (x : Node). x.state) (crash_node d s count false n (d.world.links s) refl (λ j. refl) (λ _. refl) below up least most);
             blocks = ap (λ (x : Node). x.blocks) (crash_node d s count false n (d.world.links s) refl (λ j. refl) (λ _. refl) below up least most);
             sites = (crash_changes d s count false n (d.world.links s) refl (λ j. refl) (λ _. refl) below up least most).sites;
+            plain = λ over. (omega (arith, most, ap (λ (xs : List Write). length xs) (no_rvg over).log), refl);
+            group = ap (λ (x : Node). x.group) (crash_node d s count false n (d.world.links s) refl (λ j. refl) (λ _. refl) below up least most);
+            volumes = ap (λ (x : Node). x.volumes) (crash_node d s count false n (d.world.links s) refl (λ j. refl) (λ _. refl) below up least most);
             carries = carries_let s d (crash_of d s count false) old new lets small (crash_changes d s count false n (d.world.links s) refl (λ j. refl) (λ _. refl) below up least most)
                 (crash_sent d s count false n (d.world.links s) refl (λ j. refl) (λ _. refl) below up least most) (crash_gathering d s count false n (d.world.links s) refl (λ j. refl) (λ _. refl) below up least most)
                 (crash_down d s count false n (d.world.links s) refl (λ j. refl) (λ _. refl) below up least most) (told_by old new s before after changed);
             stands = stands_at d (crash_of d s count false) old new s f' before after stands below changed
-                (crash_comes d s count false n (d.world.links s) refl (λ j. refl) (λ _. refl) below up least most before after stands.links (stands.failing s before below changed.there) same here)
+                (crash_comes d s count false n (d.world.links s) refl (λ j. refl) (λ _. refl) below up least most before after stands.links (stands.failing s before below changed.there) same (λ x of. refl) here)
                 (is ∙ was ∙ crash_fact d s count false n (d.world.links s) refl (λ j. refl) (λ _. refl) below up least most refl refl refl refl) facts;
             rose = rose_still old new s before after changed.there changed.later changed.disk_sets;
           })
@@ -253,12 +275,15 @@ module _ {R : Type 0} {g : Ghosts R} where
             down = ap (λ (x : Node). x.state) (crash_node d s count true a.node a.row node_is row_is (λ e. absurd (never e)) below fits.up_too least most);
             blocks = ap (λ (x : Node). x.blocks) (crash_node d s count true a.node a.row node_is row_is (λ e. absurd (never e)) below fits.up_too least most) ∙ same_site.blocks;
             sites = (crash_changes d s count true a.node a.row node_is row_is (λ e. absurd (never e)) below fits.up_too least most).sites;
+            plain = λ over. absurd (doubt_apart (beside_of d s) n before k (stands.disk_sets.sites s before below changed.there) up other (no_rvg over).volumes);
+            group = ap (λ (x : Node). x.group) (crash_node d s count true a.node a.row node_is row_is (λ e. absurd (never e)) below fits.up_too least most);
+            volumes = ap (λ (x : Node). x.volumes) (crash_node d s count true a.node a.row node_is row_is (λ e. absurd (never e)) below fits.up_too least most) ∙ same_site.volumes;
             carries = carries_let s d (crash_of d s count true) old new lets small (crash_changes d s count true a.node a.row node_is row_is (λ e. absurd (never e)) below fits.up_too least most)
                 (crash_sent d s count true a.node a.row node_is row_is (λ e. absurd (never e)) below fits.up_too least most)
                 (crash_gathering d s count true a.node a.row node_is row_is (λ e. absurd (never e)) below fits.up_too least most)
                 (crash_down d s count true a.node a.row node_is row_is (λ e. absurd (never e)) below fits.up_too least most) (told_by old new s before after changed);
             stands = stands_at d (crash_of d s count true) old new s f' before after stands below changed
-                (crash_comes d s count true a.node a.row node_is row_is (λ e. absurd (never e)) below fits.up_too least most before after stands.links (stands.failing s before below changed.there) same here)
+                (crash_comes d s count true a.node a.row node_is row_is (λ e. absurd (never e)) below fits.up_too least most before after stands.links (stands.failing s before below changed.there) same (λ x of. absurd (doubt_never a.node count (row_links a.row d.world.sites) (d.world.headers s) same_site.volumes k other here x of)) here)
                 (is ∙ was ∙ crash_fact d s count true a.node a.row node_is row_is (λ e. absurd (never e)) below fits.up_too least most same_site.name same_site.disks same_site.blocks same_site.volumes) facts;
             rose = rose_still old new s before after changed.there changed.later changed.disk_sets;
           })
@@ -267,12 +292,13 @@ module _ {R : Type 0} {g : Ghosts R} where
   pub crash_up : (d : Doubted) (old : Yard R g) (name : List ℕ) (pick s : ℕ) → StandsFor d old → IsFree old (Crash name pick) → seat_of old.facts.items name ≡ Some s → (d.world.nodes s).state ≡ Up
   crash_up d old name pick s stands free seat =
       let may = crash_may old.facts.items (in_files old) name pick free in
-      ap (λ (f : SiteFacts). f.state) (sym (fact_named d old name s (site_at d old name s stands seat) seat may.0)) ∙ may.1
+      sym (over_reads d.world s (λ (f : SiteFacts). f.state) (d.world.nodes s).state refl refl)
+      ∙ ap (λ (f : SiteFacts). f.state) (sym (fact_placed d old name s (place_at d old name s stands seat) seat may.0)) ∙ may.1
 
   pub crash_leads : (d : Doubted) (old new : Yard R g) (name : List ℕ) (pick s : ℕ) → StandsFor d old → IsFree old (Crash name pick) → seat_of old.facts.items name ≡ Some s
       → ((d : Doubted) → StandsFor d old → s < d.world.sites → (d.world.nodes s).state ≡ Up → Falls d s old new) → Leads d (Crash name pick) Done old new
   crash_leads d old new name pick s stands free seat fell =
-      let here = site_at d old name s stands seat in
+      let here = place_at d old name s stands seat in
       let f = fell d stands here.below (crash_up d old name pick s stands free seat) in
       let e : Doubted = crash_of d s f.count f.taken in
       let ev : (let es : List Event = CrashAt (site_number d.world name) f.count ∷ [] in es) ≡ CrashAt s f.count ∷ [] = ap (λ (i : ℕ). let es : List Event = CrashAt i f.count ∷ [] in es) here.number in
@@ -297,5 +323,5 @@ module _ {R : Type 0} {g : Ghosts R} where
   pub crash_asks : (d : Doubted) (old new : Yard R g) (name : List ℕ) (pick s : ℕ) → StandsFor d old → IsFree old (Crash name pick) → seat_of old.facts.items name ≡ Some s
       → ((d : Doubted) → StandsFor d old → s < d.world.sites → (d.world.nodes s).state ≡ Up → OfSite (CrashesBy pick) s old new) → OfSite (CrashesBy pick) (site_number d.world name) old new
   crash_asks d old new name pick s stands free seat asks =
-      let here = site_at d old name s stands seat in
+      let here = place_at d old name s stands seat in
       subst (λ (k : ℕ). OfSite (CrashesBy pick) k old new) (sym here.number) (asks d stands here.below (crash_up d old name pick s stands free seat))

@@ -21,7 +21,11 @@ use Rattle.vx_diskset.specs.Holds.{KeptBeside}
 use Rattle.vx_diskset.specs.Stands.{SiteStands}
 use Rattle.vx_ringio.specs.Spends.{Passed}
 use Rattle.vx_diskset.specs.declared.disk_set.DiskSet.{DiskSet}
-use Rattle.vx_diskset.specs.declared.disk_set.DiskSet.TheVariants.{Bare, Spoiled, Up, Receives, Down, Gone}
+use Rattle.vx_diskset.specs.declared.disk_set.DiskSet.TheVariants.{Bare, Spoiled, Up, Receives, Down, OfGroup, Gone}
+use Rattle.vx_grouped.specs.GroupSites.{GroupSiteStands, site_disks}
+use Rattle.vx_grouped.specs.declared.group_site.GroupSite.{GroupSite}
+use Rattle.vx_grouped.specs.declared.group_site.GroupSite.TheVariants.{Up as GroupUp, Deported as GroupAway, Down as GroupDown, Marked, Gone as GroupGone}
+use Rattle.vx_untold.specs.Shades.{shade_rack}
 use Rattle.vx_diskset.proofs.KeepsFailing.{Same, same_on}
 
 -- ---- which disks are made to fail is seen by no test
@@ -79,10 +83,19 @@ module _ {R : Type 0} {g : Ghosts R} where
 
   -- ---- a write is done only where the disk of the log works
 
+  -- those of a group
+  site_told : ((r : R) → IsRack (g.meaning r)) → (n : Node) (s : GroupSite R g) → GroupSiteStands n s → (d : Disks) × ((site_disks s).disks ≡ Some d)
+  site_told racks n (GroupUp laid) h = let rack = shade_rack g.meaning racks laid.shelf in (rack.told, rack.is)
+  site_told racks n (GroupAway idle) h = let rack = shade_rack g.meaning racks idle.rack in (rack.told, rack.is)
+  site_told racks n (GroupDown idle) h = let rack = shade_rack g.meaning racks idle.rack in (rack.told, rack.is)
+  site_told racks n (Marked rack) h = ((racks rack).told, (racks rack).is)
+  site_told racks n GroupGone h = absurd h
+
   pub told_disks : ((r : R) → IsRack (g.meaning r)) → (beside : KeptBeside) (n : Node) (e : DiskSet R g) → SiteStands beside n e → (d : Disks) × (disks_told e ≡ Some d)
   told_disks racks beside n (Bare rack) h = ((racks rack).told, (racks rack).is)
   told_disks racks beside n (Spoiled rack) h = ((racks rack).told, (racks rack).is)
   told_disks racks beside n (Up rvg) h = ((racks rvg.shelf).told, (racks rvg.shelf).is)
   told_disks racks beside n (Receives s) h = ((racks s.rvg.shelf).told, (racks s.rvg.shelf).is)
   told_disks racks beside n (Down rack) h = ((racks rack).told, (racks rack).is)
+  told_disks racks beside n (OfGroup s) h = site_told racks n s.site h.stands
   told_disks racks beside n Gone h = absurd h

@@ -1,7 +1,7 @@
 -- The racks as they come back from their disk sets.
-use Rattle.std.proofs.Common.{◌≡◌, ◌∙◌, ◌++◌, ◌≤◌, inl, ℕ, zero, suc, List, [], ◌∷◌, length, ap, append_assoc, sym, subst, refl, arith, IsTrue}
-use Rattle.std.specs.Prelude.{Option, Some, None, drop, reverse, slice_get, take}
-use Rattle.std.proofs.lemmas.List.{reverse-append}
+use Rattle.std.proofs.Common.{◌≡◌, ◌∙◌, ◌++◌, ◌≤◌, inl, ℕ, zero, suc, List, [], ◌∷◌, length, ap, append_assoc, sym, subst, refl, arith, IsTrue, true, false}
+use Rattle.std.specs.Prelude.{Option, Some, None, drop, map, reverse, slice_get, take}
+use Rattle.std.proofs.lemmas.List.{append-nil, reverse-append}
 use Rattle.std.specs.Option.{option_and_then}
 use Rattle.vx_history.specs.World.{Node}
 use Rattle.vx_model.specs.declared.site.SiteState.TheVariants.{Bare as IsBare, Up as IsUp, Down as IsDown}
@@ -13,14 +13,24 @@ use Rattle.vx_disk.specs.declared.shelf.Shelf.{Ghosts}
 use Rattle.vx_diskset.specs.Lasts.{FoundWith}
 use Rattle.vx_rvg.specs.Views.{Core}
 use Rattle.vx_diskset.specs.declared.disk_set.DiskSet.{DiskSet}
-use Rattle.vx_diskset.specs.declared.disk_set.DiskSet.TheVariants.{Bare, Spoiled, Up, Receives, Down, Gone}
+use Rattle.vx_diskset.specs.declared.disk_set.DiskSet.TheVariants.{Bare, Spoiled, Up, Receives, Down, OfGroup, Gone}
 use Rattle.vx_diskset.specs.Holds.{KeptBeside, HoldsSite, most_header, state_with, beside_of}
 use Rattle.vx_history.specs.Doubts.{Doubted}
-use Rattle.vx_yard.specs.Holds.{RacksHold, RacksTell, rack_count, rack_faults}
+use Rattle.vx_yard.specs.Holds.{GroupsHold, HoldsGroup, NoneOver, RacksHold, RacksTell, rack_count, rack_faults}
+use Rattle.vx_untold.specs.Shades.{shade_meaning, rack_of as shaded}
+use Rattle.vx_untold.specs.declared.shade.Shade.{Shade}
+use Rattle.vx_untold.specs.declared.shade.Shade.TheVariants.{Bright, Dark}
+use Rattle.vx_yard.proofs.HoldsGroups.{set_holds}
+use Rattle.vx_yard.proofs.OverGroup.{apart_bare, both_ways, noted_over, over_is}
 use Rattle.vx_diskset.specs.Layouts.{units_of}
-use Rattle.vx_yard.specs.Racks.{rack_in, racks_in}
+use Rattle.vx_yard.specs.Racks.{rack_in, racks_in, site_rack}
 use Rattle.vx_yard.specs.Stands.{AreTold, fault_count, site_faults}
-use Rattle.vx_diskset.specs.Stands.{IsUnused, IsBareAt, IsUpAt, IsReceiverAt, IsDownAt, IsToldAt, SiteStands}
+use Rattle.vx_grouped.specs.GroupSites.{GroupSiteStands, site_disks}
+use Rattle.vx_grouped.specs.declared.group_site.GroupSite.{GroupSite}
+use Rattle.vx_grouped.specs.declared.group_site.GroupSite.TheVariants.{Up as GroupUp, Deported as GroupAway, Down as GroupDown, Marked, Gone as GroupGone}
+use Rattle.vx_history.specs.Groups.{GroupNode}
+use Rattle.vx_events.specs.GroupLines.{is_over_group}
+use Rattle.vx_diskset.specs.Stands.{IsGroupSet, IsUnused, IsBareAt, IsUpAt, IsReceiverAt, IsDownAt, IsToldAt, SiteStands}
 use Rattle.vx_yard.specs.Standing.{SitesAgree}
 use Rattle.vx_diskset.proofs.CrashGroup.{left_with}
 use Rattle.vx_diskset.proofs.StaysUp.{all_taken, durable_content, told_now}
@@ -53,25 +63,123 @@ down_holds {beside} n m lawful is = record {
 }
 
 -- nothing is made of a bare site
-bare_holds : {beside : KeptBeside} (n : Node) (m : Meaning) → IsBareAt n m → HoldsSite beside n m
-bare_holds n m bare = record {
+bare_has : {beside : KeptBeside} (n : Node) (m : Meaning) → n.state ≡ IsBare → HoldsSite beside n m
+bare_has n m state = record {
   up = λ up. absurd (let e : IsBare ≡ IsUp = sym state ∙ up in cc);
   down = λ down. absurd (let e : IsBare ≡ IsDown = sym state ∙ down in cc);
 }
-  where
-    state : n.state ≡ IsBare
-    state = ap (λ (k : Node). k.state) bare.is
+
+bare_holds : {beside : KeptBeside} (n : Node) (m : Meaning) → IsBareAt n m → HoldsSite beside n m
+bare_holds n m bare = bare_has n m (ap (λ (k : Node). k.state) bare.is)
 
 some_same : {A : Type 0} {a b : A} → Some a ≡ Some b → a ≡ b
 some_same e = cc
 
+-- one more of the last of a list has its image behind the others
+pub put_more : {A B : Type 0} (f : A → B) (sets new : List B) (racks rest : List A) (r : A) → racks ≡ rest ++ r ∷ [] → new ≡ sets ++ f r ∷ [] → new ++ map f (reverse rest) ≡ sets ++ map f (reverse racks)
+put_more {A} {B} f sets new racks rest r front is =
+    ap (λ (xs : List B). xs ++ map f (reverse rest)) is ∙ append_assoc sets (f r ∷ []) (map f (reverse rest))
+    ∙ ap (λ (ys : List A). sets ++ map f ys) (sym (ap (λ (ys : List A). reverse ys) front ∙ reverse-append rest (r ∷ [])))
+
+-- none is left
+pub put_all : {A B : Type 0} (f : A → B) (sets : List B) (racks all : List A) → racks ≡ [] → sets ++ map f (reverse racks) ≡ map f all → sets ≡ map f all
+put_all {A} {B} f sets racks all none whole = sym (append-nil sets) ∙ sym (ap (λ (rs : List A). sets ++ map f (reverse rs)) none) ∙ whole
+
+module _ {R : Type 0} (meaning : R → Meaning) where
+  -- a rack that is seen as it is or as one that tells nothing has the same counts
+  shade_faults : (s : Shade R) (d : ℕ) → (meaning (shaded s)).disk_faults d ≡ (shade_meaning meaning s).disk_faults d
+  shade_faults (Bright rack) d = refl
+  shade_faults (Dark rack) d = refl
+
+  -- one that tells its contents is seen as it is
+  shade_told : (s : Shade R) → IsTrue (shade_meaning meaning s).tells → shade_meaning meaning s ≡ meaning (shaded s)
+  shade_told (Bright rack) tells = refl
+  shade_told (Dark rack) tells = absurd (let e : false ≡ true = tells in cc)
+
 module _ {R : Type 0} {g : Ghosts R} where
+  -- ---- those of a group
+
+  abbrev rack_at : GroupSite R g → Option R
+  rack_at (GroupUp laid) = Some (shaded laid.shelf)
+  rack_at (GroupAway idle) = Some (shaded idle.rack)
+  rack_at (GroupDown idle) = Some (shaded idle.rack)
+  rack_at (Marked rack) = Some rack
+  rack_at GroupGone = None
+
+  abbrev IsAt : GroupSite R g → Type 0
+  IsAt (GroupUp group) = Unit {0}
+  IsAt (GroupAway rack) = Unit {0}
+  IsAt (GroupDown rack) = Unit {0}
+  IsAt (Marked rack) = Unit {0}
+  IsAt GroupGone = ⊥
+
+  first_at : (s : GroupSite R g) (rs : List R) → IsAt s → slice_get (site_rack s ++ rs) zero ≡ rack_at s
+  first_at (GroupUp group) rs there = refl
+  first_at (GroupAway rack) rs there = refl
+  first_at (GroupDown rack) rs there = refl
+  first_at (Marked rack) rs there = refl
+  first_at GroupGone rs there = absurd there
+
+  more_at : (s : GroupSite R g) (rs : List R) (k : ℕ) → IsAt s → slice_get (site_rack s ++ rs) (suc k) ≡ slice_get rs k
+  more_at (GroupUp group) rs k there = refl
+  more_at (GroupAway rack) rs k there = refl
+  more_at (GroupDown rack) rs k there = refl
+  more_at (Marked rack) rs k there = refl
+  more_at GroupGone rs k there = absurd there
+
+  long_at : (s : GroupSite R g) (rs : List R) → IsAt s → length (site_rack s ++ rs) ≡ suc (length rs)
+  long_at (GroupUp group) rs there = refl
+  long_at (GroupAway rack) rs there = refl
+  long_at (GroupDown rack) rs there = refl
+  long_at (Marked rack) rs there = refl
+  long_at GroupGone rs there = absurd there
+
+  few_at : (s : GroupSite R g) → length (site_rack s) ≤ 1
+  few_at (GroupUp group) = omega arith
+  few_at (GroupAway rack) = omega arith
+  few_at (GroupDown rack) = omega arith
+  few_at (Marked rack) = omega arith
+  few_at GroupGone = omega arith
+
+  count_at : (s : GroupSite R g) (d : ℕ) → rack_count g.meaning (rack_at s) d ≡ (site_disks s).disk_faults d
+  count_at (GroupUp laid) d = shade_faults g.meaning laid.shelf d
+  count_at (GroupAway idle) d = shade_faults g.meaning idle.rack d
+  count_at (GroupDown idle) d = shade_faults g.meaning idle.rack d
+  count_at (Marked rack) d = refl
+  count_at GroupGone d = refl
+
+  -- those of which contents are told are seen as they are
+  disks_at : (s : GroupSite R g) (r : R) → IsTrue (site_disks s).tells → rack_at s ≡ Some r → site_disks s ≡ g.meaning r
+  disks_at (GroupUp laid) r tells is = shade_told g.meaning laid.shelf tells ∙ ap g.meaning (some_same is)
+  disks_at (GroupAway idle) r tells is = shade_told g.meaning idle.rack tells ∙ ap g.meaning (some_same is)
+  disks_at (GroupDown idle) r tells is = shade_told g.meaning idle.rack tells ∙ ap g.meaning (some_same is)
+  disks_at (Marked rack) r tells is = ap g.meaning (some_same is)
+  disks_at GroupGone r tells is = absurd (cc)
+
+  -- those of a site over no group
+  told_at : (n : Node) (s : GroupSite R g) → GroupSiteStands n s → is_over_group n ≡ false → ((r : R) → rack_at s ≡ Some r → IsTrue (g.meaning r).tells) → IsTrue (site_disks s).tells
+  told_at n (GroupUp laid) (note, it) apart f = absurd (both_ways (noted_over n note it.noted) apart)
+  told_at n (GroupAway idle) (note, it) apart f = absurd (both_ways (noted_over n note it.noted) apart)
+  told_at n (GroupDown idle) (note, it) apart f = absurd (both_ways (noted_over n note it.noted) apart)
+  told_at n (Marked rack) it apart f = f rack refl
+  told_at n GroupGone it apart f = absurd it
+
+  stood_at : (n : Node) (s : GroupSite R g) → GroupSiteStands n s → IsAt s
+  stood_at n (GroupUp group) h = tt
+  stood_at n (GroupAway rack) h = tt
+  stood_at n (GroupDown rack) h = tt
+  stood_at n (Marked rack) h = tt
+  stood_at n GroupGone h = h
+
+  -- ---- those of any disk set
+
   abbrev rack_of : DiskSet R g → Option R
   rack_of (Bare rack) = Some rack
   rack_of (Spoiled rack) = Some rack
   rack_of (Up rvg) = Some rvg.shelf
   rack_of (Receives s) = Some s.rvg.shelf
   rack_of (Down rack) = Some rack
+  rack_of (OfGroup s) = rack_at s.site
   rack_of Gone = None
 
   abbrev IsThere : DiskSet R g → Type 0
@@ -80,6 +188,7 @@ module _ {R : Type 0} {g : Ghosts R} where
   IsThere (Up rvg) = Unit {0}
   IsThere (Receives s) = Unit {0}
   IsThere (Down rack) = Unit {0}
+  IsThere (OfGroup s) = IsAt s.site
   IsThere Gone = ⊥
 
   abbrev AllThere : List (DiskSet R g) → Type 0
@@ -97,12 +206,14 @@ module _ {R : Type 0} {g : Ghosts R} where
   slice_get-racks_in (Up rvg ∷ es) all zero = refl
   slice_get-racks_in (Receives s ∷ es) all zero = refl
   slice_get-racks_in (Down rack ∷ es) all zero = refl
+  slice_get-racks_in (OfGroup s ∷ es) all zero = first_at s.site (racks_in es) all.0
   slice_get-racks_in (Gone ∷ es) all zero = absurd all.0
   slice_get-racks_in (Bare rack ∷ es) all (suc s) = slice_get-racks_in es all.1 s
   slice_get-racks_in (Spoiled rack ∷ es) all (suc s) = slice_get-racks_in es all.1 s
   slice_get-racks_in (Up rvg ∷ es) all (suc s) = slice_get-racks_in es all.1 s
   slice_get-racks_in (Receives site ∷ es) all (suc s) = slice_get-racks_in es all.1 s
   slice_get-racks_in (Down rack ∷ es) all (suc s) = slice_get-racks_in es all.1 s
+  slice_get-racks_in (OfGroup set ∷ es) all (suc s) = more_at set.site (racks_in es) s all.0 ∙ slice_get-racks_in es all.1 s
   slice_get-racks_in (Gone ∷ es) all (suc s) = absurd all.0
 
   length-racks_in : (es : List (DiskSet R g)) → AllThere es → length (racks_in es) ≡ length es
@@ -112,6 +223,7 @@ module _ {R : Type 0} {g : Ghosts R} where
   length-racks_in (Up rvg ∷ es) all = ap suc (length-racks_in es all.1)
   length-racks_in (Receives s ∷ es) all = ap suc (length-racks_in es all.1)
   length-racks_in (Down rack ∷ es) all = ap suc (length-racks_in es all.1)
+  length-racks_in (OfGroup s ∷ es) all = long_at s.site (racks_in es) all.0 ∙ ap suc (length-racks_in es all.1)
   length-racks_in (Gone ∷ es) all = absurd all.0
 
   unused_there : (e : DiskSet R g) → IsUnused e → IsThere e
@@ -120,6 +232,7 @@ module _ {R : Type 0} {g : Ghosts R} where
   unused_there (Up rvg) h = tt
   unused_there (Receives s) h = tt
   unused_there (Down rack) h = tt
+  unused_there (OfGroup s) h = absurd h
   unused_there Gone h = h
 
   counts_as : (x : Option (DiskSet R g)) (d : ℕ) → rack_count g.meaning (option_and_then rack_of x) d ≡ fault_count x d
@@ -129,15 +242,26 @@ module _ {R : Type 0} {g : Ghosts R} where
   counts_as (Some (Up rvg)) d = refl
   counts_as (Some (Receives s)) d = refl
   counts_as (Some (Down rack)) d = refl
+  counts_as (Some (OfGroup s)) d = count_at s.site d
   counts_as (Some Gone) d = refl
 
-  tells_at : (e : DiskSet R g) → IsThere e → ((r : R) → rack_of e ≡ Some r → IsTrue (g.meaning r).tells) → IsToldAt e
-  tells_at (Bare rack) there f = f rack refl
-  tells_at (Spoiled rack) there f = f rack refl
-  tells_at (Up rvg) there f = f rvg.shelf refl
-  tells_at (Receives s) there f = f s.rvg.shelf refl
-  tells_at (Down rack) there f = f rack refl
-  tells_at Gone there f = there
+  unused_tells : (e : DiskSet R g) → IsUnused e → ((r : R) → rack_of e ≡ Some r → IsTrue (g.meaning r).tells) → IsToldAt e
+  unused_tells (Bare rack) there f = f rack refl
+  unused_tells (Spoiled rack) there f = absurd there
+  unused_tells (Up rvg) there f = absurd there
+  unused_tells (Receives s) there f = absurd there
+  unused_tells (Down rack) there f = absurd there
+  unused_tells (OfGroup s) there f = absurd there
+  unused_tells Gone there f = absurd there
+
+  tells_at : (beside : KeptBeside) (n : Node) (e : DiskSet R g) → SiteStands beside n e → is_over_group n ≡ false → ((r : R) → rack_of e ≡ Some r → IsTrue (g.meaning r).tells) → IsToldAt e
+  tells_at beside n (Bare rack) there apart f = f rack refl
+  tells_at beside n (Spoiled rack) there apart f = f rack refl
+  tells_at beside n (Up rvg) there apart f = f rvg.shelf refl
+  tells_at beside n (Receives s) there apart f = f s.rvg.shelf refl
+  tells_at beside n (Down rack) there apart f = f rack refl
+  tells_at beside n (OfGroup s) there apart f = told_at n s.site there.stands apart f
+  tells_at beside n Gone there apart f = absurd there
 
   -- ---- sites that may keep links and be in doubt
 
@@ -147,42 +271,67 @@ module _ {R : Type 0} {g : Ghosts R} where
   stood_there beside n (Up rvg) h = tt
   stood_there beside n (Receives s) h = tt
   stood_there beside n (Down rack) h = tt
+  stood_there beside n (OfGroup s) h = stood_at n s.site h.stands
   stood_there beside n Gone h = h
 
   agree_there : (d : Doubted) (es : List (DiskSet R g)) → SitesAgree d es → (s : ℕ) (e : DiskSet R g) → slice_get es s ≡ Some e → IsThere e
   agree_there d es agree s e at =
       ⊎_elim (λ below. stood_there (beside_of d s) (d.world.nodes s) e (agree.sites s e below at)) (λ past. unused_there e (agree.others s e past at)) (cases_lt s d.world.sites)
 
-  beside_holds : (lawful : (r : R) → Lawful (g.meaning r)) (beside : KeptBeside) (n : Node) (x : Option (DiskSet R g)) (r : R) → ((e : DiskSet R g) → x ≡ Some e → SiteStands beside n e) → option_and_then rack_of x ≡ Some r → HoldsSite beside n (g.meaning r)
-  beside_holds lawful beside n None r stands is = absurd (cc)
-  beside_holds lawful beside n (Some (Bare rack)) r stands is =
+  beside_holds : (lawful : (r : R) → Lawful (g.meaning r)) (beside : KeptBeside) (n : Node) (x : Option (DiskSet R g)) (r : R) → is_over_group n ≡ false → ((e : DiskSet R g) → x ≡ Some e → SiteStands beside n e) → option_and_then rack_of x ≡ Some r → HoldsSite beside n (g.meaning r)
+  beside_holds lawful beside n None r apart stands is = absurd (cc)
+  beside_holds lawful beside n (Some (Bare rack)) r apart stands is =
       subst (λ (k : R). HoldsSite beside n (g.meaning k)) (some_same is) (bare_holds n (g.meaning rack) (stands (Bare rack) refl).bare)
-  beside_holds lawful beside n (Some (Spoiled rack)) r stands is =
+  beside_holds lawful beside n (Some (Spoiled rack)) r apart stands is =
       subst (λ (k : R). HoldsSite beside n (g.meaning k)) (some_same is) (bare_holds n (g.meaning rack) (stands (Spoiled rack) refl))
-  beside_holds lawful beside n (Some (Up rvg)) r stands is =
+  beside_holds lawful beside n (Some (Up rvg)) r apart stands is =
       subst (λ (k : R). HoldsSite beside n (g.meaning k)) (some_same is) (up_holds n rvg.core (g.meaning rvg.shelf) (stands (Up rvg) refl))
-  beside_holds lawful beside n (Some (Receives s)) r stands is =
+  beside_holds lawful beside n (Some (Receives s)) r apart stands is =
       subst (λ (k : R). HoldsSite beside n (g.meaning k)) (some_same is) (receiver_holds n s.rvg.core s.waiting (g.meaning s.rvg.shelf) (stands (Receives s) refl))
-  beside_holds lawful beside n (Some (Down rack)) r stands is =
+  beside_holds lawful beside n (Some (Down rack)) r apart stands is =
       subst (λ (k : R). HoldsSite beside n (g.meaning k)) (some_same is) (down_holds n (g.meaning rack) (lawful rack) (stands (Down rack) refl))
-  beside_holds lawful beside n (Some Gone) r stands is = absurd (cc)
+  beside_holds lawful beside n (Some (OfGroup s)) r apart stands is =
+      bare_has {beside = beside} n (g.meaning r) (apart_bare beside n s (stands (OfGroup s) refl) apart)
+  beside_holds lawful beside n (Some Gone) r apart stands is = absurd (cc)
+
+  beside_group : (lawful : (r : R) → Lawful (g.meaning r)) (beside : KeptBeside) (n : Node) (x : Option (DiskSet R g)) (r : R) (note : GroupNode) → is_over_group n ≡ true → n.group ≡ Some note → ((e : DiskSet R g) → x ≡ Some e → IsToldAt e)
+      → ((e : DiskSet R g) → x ≡ Some e → SiteStands beside n e) → option_and_then rack_of x ≡ Some r → HoldsGroup note (g.meaning r)
+  beside_group lawful beside n None r note over noted told stands is = absurd (cc)
+  beside_group lawful beside n (Some e) r note over noted told stands is =
+      let of = over_is beside n e (stands e refl) over in
+      let it : IsGroupSet beside n of.0 = subst (λ (k : DiskSet R g). SiteStands beside n k) of.1 (stands e refl) in
+      subst (λ (m : Meaning). HoldsGroup note m) (disks_at of.0.site r (subst (λ (k : DiskSet R g). IsToldAt k) of.1 (told e refl)) (ap (λ (k : DiskSet R g). rack_of k) (sym of.1) ∙ is)) (set_holds lawful beside n of.0 note it over noted)
 
   pub racks_keep : (lawful : (r : R) → Lawful (g.meaning r)) (d : Doubted) (es : List (DiskSet R g)) → SitesAgree d es → RacksHold g.meaning d (racks_in es)
   racks_keep lawful d es agree =
       let there = all_there es (agree_there d es agree) in
       record {
         eight = length-racks_in es there ∙ agree.eight;
-        each = λ s r below at. beside_holds lawful (beside_of d s) (d.world.nodes s) (slice_get es s) r (λ e is. agree.sites s e below is) (sym (slice_get-racks_in es there s) ∙ at);
+        each = λ s r below apart at. beside_holds lawful (beside_of d s) (d.world.nodes s) (slice_get es s) r apart (λ e is. agree.sites s e below is) (sym (slice_get-racks_in es there s) ∙ at);
+      }
+
+  pub groups_hold : (lawful : (r : R) → Lawful (g.meaning r)) (d : Doubted) (es : List (DiskSet R g)) → SitesAgree d es → AreTold es → GroupsHold g.meaning d (racks_in es)
+  groups_hold lawful d es agree told =
+      let there = all_there es (agree_there d es agree) in
+      record {
+        each = λ s r note below over noted at.
+            beside_group lawful (beside_of d s) (d.world.nodes s) (slice_get es s) r note over noted (λ e is. told.each s e is) (λ e is. agree.sites s e below is) (sym (slice_get-racks_in es there s) ∙ at);
       }
 
   pub racks_counted : (d : Doubted) (es : List (DiskSet R g)) → SitesAgree d es → (s u : ℕ) → rack_faults g.meaning (racks_in es) s u ≡ site_faults es s u
   racks_counted d es agree s u = ap (λ (r : Option R). rack_count g.meaning r u) (slice_get-racks_in es (all_there es (agree_there d es agree)) s) ∙ counts_as (slice_get es s) u
 
-  pub racks_told : (d : Doubted) (es : List (DiskSet R g)) → SitesAgree d es → RacksTell g.meaning (racks_in es) → AreTold es
-  racks_told d es agree tell = record {
-    each = λ s e at. tells_at e (agree_there d es agree s e at)
-        (λ r is. tell.each s r (slice_get-racks_in es (all_there es (agree_there d es agree)) s ∙ ap (λ (x : Option (DiskSet R g)). option_and_then rack_of x) at ∙ is));
-  }
+  pub racks_told : (d : Doubted) (es : List (DiskSet R g)) → SitesAgree d es → NoneOver d → RacksTell g.meaning (racks_in es) → AreTold es
+  racks_told d es agree none tell = record { each = each }
+    where
+      found : (s : ℕ) (e : DiskSet R g) → slice_get es s ≡ Some e → (r : R) → rack_of e ≡ Some r → IsTrue (g.meaning r).tells
+      found s e at r is = tell.each s r (slice_get-racks_in es (all_there es (agree_there d es agree)) s ∙ ap (λ (x : Option (DiskSet R g)). option_and_then rack_of x) at ∙ is)
+
+      each : (s : ℕ) (e : DiskSet R g) → slice_get es s ≡ Some e → IsToldAt e
+      each s e at = ⊎_elim
+          (λ below. tells_at (beside_of d s) (d.world.nodes s) e (agree.sites s e below at) (none.each s below) (found s e at))
+          (λ past. unused_tells e (agree.others s e past at) (found s e at))
+          (cases_lt s d.world.sites)
 
   -- one disk set gives one rack at most
   pub rack_few : (e : DiskSet R g) → length (rack_in e) ≤ 1
@@ -191,7 +340,12 @@ module _ {R : Type 0} {g : Ghosts R} where
   rack_few (Up rvg) = omega arith
   rack_few (Receives s) = omega arith
   rack_few (Down rack) = omega arith
+  rack_few (OfGroup s) = few_at s.site
   rack_few Gone = omega arith
+
+  -- all were given back
+  pub given_all : (racks : List R) (sets all : List (DiskSet R g)) → sets ≡ [] → racks ++ racks_in (reverse sets) ≡ racks_in all → racks ≡ racks_in all
+  given_all racks sets all none whole = sym (append-nil racks) ∙ sym (ap (λ (es : List (DiskSet R g)). racks ++ racks_in (reverse es)) none) ∙ whole
 
   pub given_back : (racks new : List R) (sets rest : List (DiskSet R g)) (e : DiskSet R g) → sets ≡ rest ++ e ∷ [] → new ≡ racks ++ rack_in e → new ++ racks_in (reverse rest) ≡ racks ++ racks_in (reverse sets)
   given_back racks new sets rest e front is =

@@ -1,13 +1,15 @@
 -- A site whose group has room in which updates wait, and one whose group has none.
 use Rattle.std.proofs.Common.{◌≡◌, ◌∙◌, Bool, true, false, ap, sym}
 use Rattle.vx_model.specs.Sites.{is_origin}
+use Rattle.vx_model.specs.declared.site.Role.{Role}
 use Rattle.vx_model.specs.declared.site.SiteState.TheVariants.{Bare as IsBare, Up as IsUp, Down as IsDown}
 use Rattle.vx_history.specs.World.{Node}
 use Rattle.vx_disk.specs.declared.shelf.Shelf.{Ghosts}
 use Rattle.vx_diskset.specs.Holds.{KeptBeside}
 use Rattle.vx_diskset.specs.Stands.{RoleIs, SiteStands}
 use Rattle.vx_diskset.specs.declared.disk_set.DiskSet.{DiskSet}
-use Rattle.vx_diskset.specs.declared.disk_set.DiskSet.TheVariants.{Bare, Spoiled, Up, Receives as HasRoom, Down, Gone}
+use Rattle.vx_diskset.specs.declared.disk_set.DiskSet.TheVariants.{Bare, Spoiled, Up, Receives as HasRoom, Down, OfGroup, Gone}
+use Rattle.vx_diskset.proofs.GroupStands.{up_has_none}
 use Rattle.vx_yard.specs.Deliveries.{Receives}
 
 module _ {R : Type 0} {g : Ghosts R} where
@@ -18,6 +20,7 @@ module _ {R : Type 0} {g : Ghosts R} where
   room_origin beside n (Up rvg) b is none role stands up = role
   room_origin beside n (HasRoom s) b is none role stands up = absurd (let e : true ≡ false = sym is ∙ none in cc)
   room_origin beside n (Down rack) b is none role stands up = absurd (let e : IsDown ≡ IsUp = sym stands.state ∙ up in cc)
+  room_origin beside n (OfGroup s) b is none role stands up = ap (λ (r : Role). is_origin r) (up_has_none beside n s stands up).role
   room_origin beside n Gone b is none role stands up = absurd stands
 
   -- a group with that room is that of a site that is up and receives
@@ -27,4 +30,5 @@ module _ {R : Type 0} {g : Ghosts R} where
   room_receives beside n (Up rvg) b is yes_ stands = absurd (let e : false ≡ true = sym is ∙ yes_ in cc)
   room_receives beside n (HasRoom s) b is yes_ stands = (stands.state, stands.role)
   room_receives beside n (Down rack) b is yes_ stands = absurd (let e : false ≡ true = sym is ∙ yes_ in cc)
+  room_receives beside n (OfGroup s) b is yes_ stands = absurd (let e : false ≡ true = sym is ∙ yes_ in cc)
   room_receives beside n Gone b is yes_ stands = absurd (let e : false ≡ true = sym is ∙ yes_ in cc)

@@ -8,6 +8,7 @@ pub mod CrashSite
 pub mod FailsStay
 pub mod FuseStays
 pub mod HeadNeeds
+pub mod HoldsGroups
 pub mod HoldsRoom
 pub mod IntoRacks
 pub mod Kept
@@ -18,8 +19,10 @@ pub mod Lists
 pub mod NamedSite
 pub mod NewYard
 pub mod NoteSite
+pub mod NotedFew
 pub mod OfSites
 pub mod OneSite
+pub mod OverGroup
 pub mod RawTable
 pub mod RecoverLine
 pub mod Rows

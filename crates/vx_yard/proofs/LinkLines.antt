@@ -14,9 +14,9 @@ use Rattle.vx_diskset.specs.declared.disk_set.DiskSet.{DiskSet}
 use Rattle.vx_effects.proofs.Fitting.{fit_happened}
 use Rattle.vx_events.proofs.LinkWaiting.{wait_agrees}
 use Rattle.vx_events.specs.Facts.{seat_of, site_number}
+use Rattle.vx_events.specs.GroupLines.{is_over_group}
 use Rattle.vx_events.specs.LinkEnds.{LinksDone}
-use Rattle.vx_events.specs.LinkedFacts.{refused_by}
-use Rattle.vx_events.specs.StepsOver.{facts_over}
+use Rattle.vx_events.specs.StepsOver.{facts_over, refused_over}
 use Rattle.vx_events.specs.Lines.{IsDone}
 use Rattle.vx_events.specs.LinksFit.{LinksFit}
 use Rattle.vx_events.specs.Sayings.{RepeatsSaid}
@@ -36,6 +36,8 @@ use Rattle.vx_linked.specs.Greetings.{Tells}
 use Rattle.vx_linked.specs.Turns.{ComesBehind, FactsStandFor as LinksStand}
 use Rattle.vx_model.specs.declared.errors.OutOfMemory.{OutOfMemory}
 use Rattle.vx_model.specs.declared.limits.TheConstants.{MOST_SITES}
+use Rattle.vx_model.specs.Sites.{is_origin}
+use Rattle.vx_model.specs.declared.site.Role.{Role}
 use Rattle.vx_model.specs.declared.site.SiteState.TheVariants.{Up}
 use Rattle.vx_net.specs.Flights.{Flying}
 use Rattle.vx_order.specs.Order.{line_refusal}
@@ -51,8 +53,9 @@ use Rattle.vx_yard.specs.Yards.{IsTold, count_of, in_files}
 use Rattle.vx_yard.specs.declared.yard.Yard.{Yard}
 use Rattle.vx_yard.proofs.Carrying.{feeds_same}
 use Rattle.vx_yard.proofs.ChangeSite.{rose_none}
-use Rattle.vx_yard.proofs.NamedSite.{site_at}
+use Rattle.vx_yard.proofs.NamedSite.{place_at}
 use Rattle.vx_yard.proofs.OneSite.{doubt_same}
+use Rattle.vx_yard.proofs.OverGroup.{over_none, receives_apart}
 
 -- what the world has of a site beside its node stays
 beside_kept : (d : Doubted) (v : World) (s : ℕ) → LeavesDisks d.world v → beside_of (record d { world = v }) s ≡ beside_of d s
@@ -128,7 +131,7 @@ repeated v number x one = ⊎_elim
     (λ (is : x ≡ IsDoneAt number). subst (λ (y : EventSaid). RepeatsSaid v 0 y (reply_of y)) (sym is) refl)
     (λ (is : x ≡ IsPending number). subst (λ (y : EventSaid). RepeatsSaid v 0 y (reply_of y)) (sym is) refl) one
 
-pub wait_done : (told : Type 0) (files : Bool) (d : Doubted) (p : List ℕ) (number : ℕ) → AreListed d.world → refused_by d.world files (Wait p number) ≡ None
+pub wait_done : (told : Type 0) (files : Bool) (d : Doubted) (p : List ℕ) (number : ℕ) → AreListed d.world → refused_over d.world files (Wait p number) ≡ None
     → IsDone told d (Wait p number) [] (reply_of (step d.world (WaitAt (site_number d.world p) number)).said) (record d { world = (step d.world (WaitAt (site_number d.world p) number)).world })
 wait_done told files d p number listed free =
     let v : World = (step d.world (WaitAt (site_number d.world p) number)).world in
@@ -247,15 +250,16 @@ module _ {R : Type 0} {g : Ghosts R} where
 
   -- the session and the last durable write of the site that may greet
   pub tells : (d : Doubted) (y : Yard R g) (name : List ℕ) (s session stored : ℕ) (e f : DiskSet R g) → StandsFor d y → seat_of y.facts.items name ≡ Some s → slice_get y.disk_sets.items s ≡ Some e
-      → slice_get y.disk_sets.items s ≡ Some f → ((beside : KeptBeside) (n : Node) → SiteStands beside n e → n.state ≡ Up → session ≡ n.session)
+      → slice_get y.disk_sets.items s ≡ Some f → ((beside : KeptBeside) (n : Node) → SiteStands beside n e → n.state ≡ Up → is_over_group n ≡ false → session ≡ n.session)
       → ((beside : KeptBeside) (n : Node) → SiteStands beside n f → n.state ≡ Up → n.halted ≡ None → stored ≡ n.safe) → Tells (d.world.nodes (site_number d.world name)) session stored
   tells d y name s session stored e f stands is there too session_is stored_is =
-      let at = site_at d y name s stands is in
+      let at = place_at d y name s stands is in
       let here = stands.disk_sets.sites s e at.below there in
       let same = stands.disk_sets.sites s f at.below too in
       subst (λ (k : ℕ). Tells (d.world.nodes k) session stored) (sym at.number) (record {
-        session_is = λ up receives. session_is (beside_of d s) (d.world.nodes s) here up;
+        session_is = λ up receives. session_is (beside_of d s) (d.world.nodes s) here up (receives_apart (beside_of d s) (d.world.nodes s) e here receives);
         stored_is = λ up runs receives. stored_is (beside_of d s) (d.world.nodes s) same up runs;
+        origin = λ over. ap (λ (r : Role). is_origin r) (over_none (beside_of d s) (d.world.nodes s) e here over).role;
       })
 
   -- ---- the lines
@@ -301,7 +305,7 @@ module _ {R : Type 0} {g : Ghosts R} where
       brings_by d (step d.world (TickAt a b)).world (Tick p s) Done old new [] stands carries (tick_leaves d.world a b) (tick_sends d.world a b ∙ sym (append-nil d.world.packets))
       (fit_happened d (TickAt a b) false stands.links) (tick_done (IsTold new) d p s comes.said) relinks (facts ∙ comes.stands.facts) comes.stands.flight
 
-  pub wait_brings : (d : Doubted) (y : Yard R g) (p : List ℕ) (number : ℕ) (said : Said) (o : EventSaid) (fs : List SiteFacts) → StandsFor d y → Carries d y → (files : Bool) → refused_by d.world files (Wait p number) ≡ None
+  pub wait_brings : (d : Doubted) (y : Yard R g) (p : List ℕ) (number : ℕ) (said : Said) (o : EventSaid) (fs : List SiteFacts) → StandsFor d y → Carries d y → (files : Bool) → refused_over d.world files (Wait p number) ≡ None
       → o ≡ (step d.world (WaitAt (site_number d.world p) number)).said → fs ≡ y.facts.items → fs ≡ facts_over (step d.world (WaitAt (site_number d.world p) number)).world → said ≡ reply_of o
       → Leads d (Wait p number) said y y
   wait_brings d y p number said o fs stands carries files free is same facts replied =
@@ -314,5 +318,5 @@ module _ {R : Type 0} {g : Ghosts R} where
       (record { disk_sets = refl; racks = refl; assemblies = refl; feeders = refl }) (sym same ∙ facts) (subst (λ (ps : List Packet). FlightStands ps y.flight) (sym sends) carries.flight))
 
   -- no test of the line refuses it, as the world sees it
-  pub wait_free : (d : Doubted) (y : Yard R g) (p : List ℕ) (number : ℕ) → StandsFor d y → IsFree y (Wait p number) → refused_by d.world (in_files y) (Wait p number) ≡ None
+  pub wait_free : (d : Doubted) (y : Yard R g) (p : List ℕ) (number : ℕ) → StandsFor d y → IsFree y (Wait p number) → refused_over d.world (in_files y) (Wait p number) ≡ None
   wait_free d y p number stands free = subst (λ (fs : List SiteFacts). line_refusal fs (in_files y) (Wait p number) ≡ None) stands.facts free

@@ -1,17 +1,17 @@
 -- The site that a line names, in a yard whose sites may keep links.
-use Rattle.std.proofs.Common.{◌≡◌, ◌∙◌, ◌+◌, ◌<◌, ℕ, false, List, [], length, ap, sym, subst, refl, arith}
-use Rattle.std.specs.Prelude.{Option, Some, slice_get, slice_set, unwrap_or}
+use Rattle.std.proofs.Common.{◌≡◌, ◌∙◌, ◌+◌, ◌<◌, ℕ, true, false, List, [], length, ap, sym, subst, refl, arith}
+use Rattle.std.specs.Prelude.{Option, Some, is_some, slice_get, slice_set, unwrap_or}
 use Rattle.std.specs.Str.{bytes_eq}
 use Rattle.vx_history.specs.Doubts.{Doubted}
 use Rattle.vx_disk.specs.declared.shelf.Shelf.{Ghosts}
+use Rattle.vx_order.specs.Sites.{rvg_of}
 use Rattle.vx_order.specs.declared.facts.SiteFacts.{SiteFacts}
 use Rattle.vx_diskset.specs.declared.disk_set.DiskSet.{DiskSet}
 use Rattle.vx_events.specs.Facts.{seat_of, site_number}
 use Rattle.vx_events.specs.GroupLines.{is_over_group}
 use Rattle.vx_events.specs.LinkedFacts.{linked_fact}
-use Rattle.vx_events.specs.StepsOver.{fact_over, facts_over}
-use Rattle.vx_events.proofs.Over.{fact_apart}
-use Rattle.vx_events.proofs.OverSeats.{seats_over}
+use Rattle.vx_events.specs.StepsOver.{fact_over, facts_over, over_group_at}
+use Rattle.vx_events.proofs.OverSeats.{apart_shown, fact_apart, seats_over}
 use Rattle.vx_events.proofs.Places.{position_within, some_same}
 use Rattle.vx_events.proofs.Refused.{Named}
 use Rattle.vx_events.proofs.Values.{length-values_from, slice_get-values_from}
@@ -60,11 +60,19 @@ module _ {R : Type 0} {g : Ghosts R} where
     pub below : s < d.world.sites
     pub number : site_number d.world name ≡ s
     pub fact : slice_get y.facts.items s ≡ Some (linked_fact d.world s)
+    pub apart : is_over_group (d.world.nodes s) ≡ false
 
   pub site_at : (d : Doubted) (y : Yard R g) (name : List ℕ) (s : ℕ) → StandsFor d y → is_over_group (d.world.nodes s) ≡ false → seat_of y.facts.items name ≡ Some s → SiteAt d y name s
   site_at d y name s stands apart is =
       let at = place_at d y name s stands is in
-      record { below = at.below; number = at.number; fact = at.fact ∙ ap (λ (f : SiteFacts). Some f) (fact_apart d.world s apart) }
+      record { below = at.below; number = at.number; fact = at.fact ∙ ap (λ (f : SiteFacts). Some f) (fact_apart d.world s apart); apart = apart }
+
+  -- the same by the name
+  pub apart_at : (d : Doubted) (y : Yard R g) (name : List ℕ) (s : ℕ) → StandsFor d y → over_group_at d.world name ≡ false → seat_of y.facts.items name ≡ Some s → is_over_group (d.world.nodes s) ≡ false
+  apart_at d y name s stands apart is = ap (λ (k : ℕ). is_over_group (d.world.nodes k)) (sym (place_at d y name s stands is).number) ∙ apart
+
+  pub named_at : (d : Doubted) (y : Yard R g) (name : List ℕ) (s : ℕ) → StandsFor d y → over_group_at d.world name ≡ false → seat_of y.facts.items name ≡ Some s → SiteAt d y name s
+  named_at d y name s stands apart is = site_at d y name s stands (apart_at d y name s stands apart is) is
 
   -- what the tests found of it
   pub fact_named : (d : Doubted) (y : Yard R g) (name : List ℕ) (s : ℕ) → SiteAt d y name s → seat_of y.facts.items name ≡ Some s → (n : Named y.facts.items name) → n.facts ≡ linked_fact d.world s
@@ -77,6 +85,12 @@ module _ {R : Type 0} {g : Ghosts R} where
   fact_placed d y name s seat is n =
       let place : n.at.place ≡ s = some_same (sym n.at.is ∙ is) in
       some_same (sym n.at.there ∙ ap (slice_get y.facts.items) place ∙ seat.fact)
+
+  -- one in whose facts the tests found a replicated volume group
+  pub rvg_at : (d : Doubted) (y : Yard R g) (name : List ℕ) (s : ℕ) → StandsFor d y → seat_of y.facts.items name ≡ Some s → (n : Named y.facts.items name) → is_some (rvg_of (Some n.facts)) ≡ true → SiteAt d y name s
+  rvg_at d y name s stands seat n has =
+      site_at d y name s stands
+      (apart_shown d.world s (λ o. is_some o) refl (ap (λ (f : SiteFacts). is_some (rvg_of (Some f))) (sym (fact_placed d y name s (place_at d y name s stands seat) seat n)) ∙ has)) seat
 
   -- what a line asked of the rack of its site
   pub asks_at : (Did : DiskSet R g → DiskSet R g → Type 0) (d : Doubted) (old new : Yard R g) (name : List ℕ) (s : ℕ) (before after : DiskSet R g) → StandsFor d old → seat_of old.facts.items name ≡ Some s

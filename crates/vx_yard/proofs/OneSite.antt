@@ -1,5 +1,5 @@
 -- A yard of which one site has another disk set, and other facts.
-use Rattle.std.proofs.Common.{◌≡◌, ◌∙◌, ◌+◌, ◌<◌, ℕ, List, [], ◌∷◌, length, ap, sym, subst, refl, arith, ⊎_elim}
+use Rattle.std.proofs.Common.{◌≡◌, ◌∙◌, ◌+◌, ◌<◌, ℕ, false, List, [], ◌∷◌, length, ap, sym, subst, refl, arith, ⊎_elim}
 use Rattle.std.specs.Prelude.{Option, Some, None, slice_get, slice_set}
 use Rattle.std.specs.Vec.{vec_capacity}
 use Rattle.std.proofs.lemmas.Bool.{cases_eq}
@@ -14,11 +14,14 @@ use Rattle.vx_diskset.specs.DiskSets.{Later, RoseAt}
 use Rattle.vx_diskset.specs.Holds.{KeptBeside, KeptSite, beside_of, doubt_of, row_links}
 use Rattle.vx_diskset.specs.Stands.{KeepsRole, RoleIs, SiteStands}
 use Rattle.vx_diskset.specs.declared.disk_set.DiskSet.{DiskSet}
-use Rattle.vx_diskset.specs.declared.disk_set.DiskSet.TheVariants.{Bare, Spoiled, Up, Receives, Down, Gone}
+use Rattle.vx_diskset.specs.declared.disk_set.DiskSet.TheVariants.{Bare, Spoiled, Up, Receives, Down, OfGroup, Gone}
 use Rattle.vx_model.specs.declared.site.SiteState.TheVariants.{Up as IsUp}
 use Rattle.vx_events.specs.Effects.{ChangesNode}
 use Rattle.vx_events.specs.Facts.{values_from}
+use Rattle.vx_events.specs.GroupLines.{is_over_group}
+use Rattle.vx_events.specs.LinkedFacts.{linked_fact}
 use Rattle.vx_events.specs.StepsOver.{fact_over, facts_over}
+use Rattle.vx_events.proofs.OverSeats.{fact_apart}
 use Rattle.vx_events.specs.LinksFit.{LinksFit}
 use Rattle.vx_events.proofs.Places.{some_same}
 use Rattle.vx_events.proofs.Values.{slice_get-values_from}
@@ -89,6 +92,7 @@ module _ {R : Type 0} {g : Ghosts R} where
   role_off beside n k (Up rvg) stands off = absurd (off stands.state)
   role_off beside n k (Receives site) stands off = tt
   role_off beside n k (Down rack) stands off = tt
+  role_off beside n k (OfGroup s) stands off = tt
   role_off beside n k Gone stands off = tt
 
   -- what stands at a place, where one was changed
@@ -157,6 +161,17 @@ module _ {R : Type 0} {g : Ghosts R} where
       ap (λ (fs : List SiteFacts). slice_get fs s) stands.facts ∙ slice_get-values_from (λ i. fact_over d.world i) 0 d.world.sites s below ∙ ap (λ (i : ℕ). Some (fact_over d.world i)) start
       ∙ ap (λ (x : SiteFacts). Some x) (sym fact) in
       stands_at d e old new s (fact_over e.world s) before after stands below changed comes refl (facts ∙ sym (set_same old.facts.items s (fact_over e.world s) there))
+
+  -- the same of a site that is over no group
+  pub stands_apart : (d e : Doubted) (old new : Yard R g) (s : ℕ) (f : SiteFacts) (before after : DiskSet R g) → StandsFor d old → s < d.world.sites → Changed old new s before after → Comes d e s after
+      → is_over_group (e.world.nodes s) ≡ false → f ≡ linked_fact e.world s → new.facts.items ≡ slice_set old.facts.items s f → StandsFor e new
+  stands_apart d e old new s f before after stands below changed comes apart fact facts =
+      stands_at d e old new s f before after stands below changed comes (fact ∙ sym (fact_apart e.world s apart)) facts
+
+  pub still_apart : (d e : Doubted) (old new : Yard R g) (s : ℕ) (before after : DiskSet R g) → StandsFor d old → s < d.world.sites → Changed old new s before after → Comes d e s after
+      → is_over_group (d.world.nodes s) ≡ false → is_over_group (e.world.nodes s) ≡ false → linked_fact e.world s ≡ linked_fact d.world s → new.facts.items ≡ old.facts.items → StandsFor e new
+  still_apart d e old new s before after stands below changed comes was apart fact facts =
+      stands_still d e old new s before after stands below changed comes (fact_apart e.world s apart ∙ fact ∙ sym (fact_apart d.world s was)) facts
 
   -- one call failed, on a disk of the site
   pub rose_at : (old new : Yard R g) (s disk : ℕ) (before after : DiskSet R g) → Changed old new s before after → RoseAt before after disk → RoseAll ((s, disk) ∷ []) (count_of old) (count_of new)

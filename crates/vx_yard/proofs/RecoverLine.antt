@@ -6,8 +6,9 @@ use Rattle.vx_model.specs.declared.site.SiteState.TheVariants.{Bare as IsBare, U
 use Rattle.vx_disk.specs.declared.shelf.Shelf.{Ghosts}
 use Rattle.vx_order.specs.declared.facts.SiteFacts.{SiteFacts}
 use Rattle.vx_diskset.specs.declared.disk_set.DiskSet.{DiskSet}
-use Rattle.vx_diskset.specs.declared.disk_set.DiskSet.TheVariants.{Bare, Spoiled, Up, Receives, Down, Gone}
+use Rattle.vx_diskset.specs.declared.disk_set.DiskSet.TheVariants.{Bare, Spoiled, Up, Receives, Down, OfGroup, Gone}
 use Rattle.vx_events.specs.Facts.{site_fact, group_by}
+use Rattle.vx_grouped.specs.GroupSites.{site_disks}
 use Rattle.vx_events.specs.Fails.{Fails}
 use Rattle.vx_yard.specs.Stands.{RoseAll, RoseBy, times}
 use Rattle.vx_diskset.specs.Stands.{IsToldAt}
@@ -39,4 +40,5 @@ module _ {R : Type 0} {g : Ghosts R} where
   told_or (Up rvg) = true_or (g.meaning rvg.shelf).tells
   told_or (Receives s) = true_or (g.meaning s.rvg.shelf).tells
   told_or (Down rack) = true_or (g.meaning rack).tells
+  told_or (OfGroup s) = true_or (site_disks s.site).tells
   told_or Gone = inr (λ none. none)

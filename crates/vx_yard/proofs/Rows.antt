@@ -1,18 +1,25 @@
 -- Rows of links that are the same link by link.
-use Rattle.std.proofs.Common.{◌≡◌, ◌∙◌, ◌+◌, ℕ, zero, suc, List, [], ◌∷◌, ap, refl}
-use Rattle.std.specs.Prelude.{Option, Some, if◌then◌else◌}
+use Rattle.std.proofs.Common.{◌≡◌, ◌∙◌, ◌+◌, ℕ, zero, suc, Bool, true, false, List, [], ◌∷◌, length, ap, refl, sym}
+use Rattle.std.specs.Prelude.{◌&&◌, eqb, Option, Some, is_some, map, unwrap_or, if◌then◌else◌}
+use Rattle.vx_history.specs.Groups.{GroupNode}
 use Rattle.vx_history.specs.Events.{is_in_place, link_in_place, linked_sites, put_before}
 use Rattle.vx_history.specs.KeptLinks.{kept_link, kept_links}
-use Rattle.vx_history.specs.World.{Link, Node}
+use Rattle.vx_history.specs.World.{Link, Node, Volume}
+use Rattle.vx_model.specs.declared.site.SiteState.{SiteState}
+use Rattle.vx_model.specs.declared.site.SiteState.TheVariants.{Down as IsDown}
 use Rattle.vx_model.specs.declared.state.KeptLink.{KeptLink}
 use Rattle.vx_order.specs.declared.facts.LinkFacts.{LinkFacts}
+use Rattle.vx_order.specs.declared.facts.RvgFacts.{RvgFacts}
 use Rattle.vx_order.specs.declared.facts.SiteFacts.{SiteFacts}
+use Rattle.vx_order.specs.declared.facts.VolumeFacts.{VolumeFacts}
 use Rattle.vx_diskset.specs.Holds.{row_links}
-use Rattle.vx_events.specs.Facts.{site_fact}
+use Rattle.vx_events.specs.Facts.{group_by, site_fact, volume_fact}
 use Rattle.vx_events.specs.GroupLines.{is_over_group}
-use Rattle.vx_events.specs.GroupNotes.{note_at}
+use Rattle.vx_events.specs.GroupNotes.{no_note, note_at}
+use Rattle.vx_events.specs.GroupViews.{noted_table}
 use Rattle.vx_events.specs.StepsOver.{fact_of_group}
 use Rattle.vx_events.specs.LinkedFacts.{needed_by, link_fact, link_facts, links_by}
+use Rattle.vx_yard.specs.Changes.{down_facts}
 
 module _ (row new : ℕ → Link) (same : (k : ℕ) → new k ≡ row k) where
   in_place_same : (place n : ℕ) → link_in_place new place n ≡ link_in_place row place n
@@ -59,6 +66,49 @@ pub over_same : (n m : Node) (row new : ℕ → Link) (sites many : ℕ) → m �
 over_same n m row new sites many node same count =
     ap (λ (k : Node). over_from k new many) node
     ∙ ap (λ (f : SiteFacts). if is_over_group n then fact_of_group n (note_at n) else f) (fact_same n n row new sites many refl same count)
+
+-- a site that is over no group
+pub apart_same : (n m : Node) (row new : ℕ → Link) (sites many : ℕ) → is_over_group n ≡ false → m ≡ n → ((k : ℕ) → new k ≡ row k) → many ≡ sites → over_from m new many ≡ fact_from n row sites
+apart_same n m row new sites many apart node same count =
+    over_same n m row new sites many node same count ∙ ap (λ (b : Bool). if b then fact_of_group n (note_at n) else fact_from n row sites) apart
+
+-- ---- a site that went down
+
+facts_is : (f k : SiteFacts) → f.name ≡ k.name → f.state ≡ k.state → f.disks ≡ k.disks → f.blocks ≡ k.blocks → f.grouped ≡ k.grouped → f.volumes ≡ k.volumes → f.rvg ≡ k.rvg → f.links ≡ k.links → f ≡ k
+facts_is f k name state disks blocks grouped volumes rvg links =
+    ap (λ (x : List ℕ). let y : SiteFacts = record f { name = x } in y) name
+    ∙ ap (λ (x : SiteState). let y : SiteFacts = record f { name = k.name; state = x } in y) state
+    ∙ ap (λ (x : ℕ). let y : SiteFacts = record f { name = k.name; state = k.state; disks = x } in y) disks
+    ∙ ap (λ (x : ℕ). let y : SiteFacts = record f { name = k.name; state = k.state; disks = k.disks; blocks = x } in y) blocks
+    ∙ ap (λ (x : Bool). let y : SiteFacts = record f { name = k.name; state = k.state; disks = k.disks; blocks = k.blocks; grouped = x } in y) grouped
+    ∙ ap (λ (x : List VolumeFacts). let y : SiteFacts = record k { volumes = x; rvg = f.rvg; links = f.links } in y) volumes
+    ∙ ap (λ (x : Option RvgFacts). let y : SiteFacts = record k { rvg = x; links = f.links } in y) rvg
+    ∙ ap (λ (x : List LinkFacts). let y : SiteFacts = record k { links = x } in y) links
+
+-- the parts of a node that the tests see of a site that is down
+pub record IsDownOf (n c : Node) : Type 0 where
+  pub name : c.name ≡ n.name
+  pub disks : c.disks ≡ n.disks
+  pub blocks : c.blocks ≡ n.blocks
+  pub volumes : c.volumes ≡ n.volumes
+  pub group : c.group ≡ n.group
+  pub state : c.state ≡ IsDown
+
+module _ (n c : Node) (row new : ℕ → Link) (sites many : ℕ) (is : IsDownOf n c) where
+  down_by : (b : Bool) → down_facts (if b then fact_of_group n (note_at n) else fact_from n row sites) ≡ (if b then fact_of_group c (note_at c) else fact_from c new many)
+  down_by true = facts_is (down_facts (fact_of_group n (note_at n))) (fact_of_group c (note_at c)) (sym is.name) (sym is.state) (sym is.disks) (sym is.blocks) refl
+      (ap (λ (o : Option GroupNode). noted_table (unwrap_or o no_note)) (sym is.group)) refl refl
+  down_by false = facts_is (down_facts (fact_from n row sites)) (fact_from c new many) (sym is.name) (sym is.state) (sym is.disks) (sym is.blocks) refl
+      (ap (λ (vs : List Volume). map volume_fact vs) (sym is.volumes))
+      (ap (λ (t : SiteState). group_by t c) (sym is.state))
+      (ap (λ (t : SiteState). links_by t (link_facts c new (linked_sites new many 0 many))) (sym is.state))
+
+  over_down : is_over_group c ≡ is_over_group n
+  over_down = ap (λ (o : Option GroupNode). is_some o && eqb (length c.volumes) 0) is.group ∙ ap (λ (vs : List Volume). is_some n.group && eqb (length vs) 0) is.volumes
+
+  -- the tests see the same of it, but that it is down
+  pub down_over : down_facts (over_from n row sites) ≡ over_from c new many
+  down_over = down_by (is_over_group n) ∙ ap (λ (b : Bool). if b then fact_of_group c (note_at c) else fact_from c new many) (sym over_down)
 
 -- another node, of which the tests see the same
 pub shown_by : (n m : Node) (row : ℕ → Link) → ((s : ℕ) (l : Link) → needed_by m s l ≡ needed_by n s l) → (ss : List ℕ) → link_facts m row ss ≡ link_facts n row ss

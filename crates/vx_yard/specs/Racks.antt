@@ -3,15 +3,16 @@ use Rattle.std.specs.Prelude.{List, [], ◌∷◌, ◌++◌}
 use Rattle.vx_disk.specs.declared.shelf.Shelf.{Ghosts}
 use Rattle.vx_diskset.specs.declared.disk_set.DiskSet.{DiskSet}
 use Rattle.vx_diskset.specs.declared.disk_set.DiskSet.TheVariants.{Bare, Spoiled, Up, Receives, Down, OfGroup, Gone}
+use Rattle.vx_untold.specs.Shades.{rack_of}
 use Rattle.vx_grouped.specs.declared.group_site.GroupSite.{GroupSite}
 use Rattle.vx_grouped.specs.declared.group_site.GroupSite.TheVariants.{Up as GroupUp, Deported, Down as GroupDown, Marked, Gone as GroupGone}
 
 module _ {R : Type 0} {g : Ghosts R} where
   -- that of a site whose disks are a group
   abbrev pub site_rack : GroupSite R g → List R
-  site_rack (GroupUp group) = group.shelf ∷ []
-  site_rack (Deported rack) = rack ∷ []
-  site_rack (GroupDown rack) = rack ∷ []
+  site_rack (GroupUp laid) = rack_of laid.shelf ∷ []
+  site_rack (Deported idle) = rack_of idle.rack ∷ []
+  site_rack (GroupDown idle) = rack_of idle.rack ∷ []
   site_rack (Marked rack) = rack ∷ []
   site_rack GroupGone = []
 

@@ -1,7 +1,7 @@
 -- What a yard stands for, where sites may keep links and be in doubt, and what a line leads it to. One record serves all lines: a line that
 -- looks at packets, or at what every world keeps, has a promise for those worlds alone that the yard carries (`Carries`), or that are good
 -- where contents are told (`GoodFor`).
-use Rattle.std.specs.Prelude.{◌≡◌, ◌≢◌, ◌⊎◌, ℕ, Bool, ◌≤◌, ◌<◌, List, [], ◌++◌, length, Option, Some, None, slice_get, Result, Ok, Err}
+use Rattle.std.specs.Prelude.{◌≡◌, ◌≢◌, ◌⊎◌, ℕ, Bool, true, false, ◌≤◌, ◌<◌, List, [], ◌++◌, length, Option, Some, None, slice_get, Result, Ok, Err}
 use Rattle.std.specs.Vec.{vec_capacity}
 use Rattle.vx_model.specs.declared.errors.OutOfMemory.{OutOfMemory}
 use Rattle.vx_model.specs.declared.limits.TheConstants.{MOST_SITES}
@@ -11,8 +11,8 @@ use Rattle.vx_history.specs.World.{Node}
 use Rattle.vx_history.specs.declared.event.Event.TheVariants.{Crash as CrashAt}
 use Rattle.vx_history.specs.declared.event.Said.TheVariants.{Done as IsDone}
 use Rattle.vx_model.specs.declared.site.SiteState.TheVariants.{Down as IsDown}
-use Rattle.vx_events.specs.Doubts.{IsAs, doubt_chosen, run_as, with_disks}
-use Rattle.vx_events.specs.GroupLines.{refused_events}
+use Rattle.vx_events.specs.Doubts.{doubt_chosen, with_disks}
+use Rattle.vx_events.specs.GroupLines.{is_over_group}
 use Rattle.vx_disk.specs.declared.shelf.Shelf.{Ghosts}
 use Rattle.std.specs.Io.KnownBytes.{Appends}
 use Rattle.vx_script.specs.declared.line.ScriptLine.{ScriptLine}
@@ -24,7 +24,7 @@ use Rattle.vx_events.specs.Fails.{Fails}
 use Rattle.vx_events.specs.GroupEnds.{GroupEnds}
 use Rattle.vx_events.specs.Lines.{IsDone as IsDoneLine}
 use Rattle.vx_events.specs.Parts.{StopsShort}
-use Rattle.vx_events.specs.StepsOver.{StepOver, facts_over, group_place}
+use Rattle.vx_events.specs.StepsOver.{FindsKept, StepOver, facts_over, group_place}
 use Rattle.vx_world.specs.Lines.{GoodDoubted}
 use Rattle.vx_yard.specs.Carries.{Carries}
 use Rattle.vx_yard.specs.OfSites.{HasCalled}
@@ -104,6 +104,15 @@ module _ {R : Type 0} {g : Ghosts R} where
     pub carries : Carries d old → Carries next new
     pub rose : RoseAll fails (count_of old) (count_of new)
 
+  -- the same of a recovery of a bare site that looked for a group on disks of which nothing is told
+  pub record LeadsFound (d : Doubted) (line : ScriptLine) (said : Said) (old new : Yard R g) : Type 0 where
+    pub next : Doubted
+    pub fails : Fails
+    pub done : FindsKept (IsTold new) d line (group_place d.world line) fails said next
+    pub stands : StandsFor next new
+    pub carries : Carries d old → Carries next new
+    pub rose : RoseAll fails (count_of old) (count_of new)
+
   -- nothing of a line was done
   pub record StaysFor (d : Doubted) (old new : Yard R g) : Type 0 where
     pub stands : StandsFor d new
@@ -127,22 +136,18 @@ module _ {R : Type 0} {g : Ghosts R} where
   LeadsOverIs d line old new (Ok said) = LeadsOver d line said old new
   LeadsOverIs d line old new (Err e) = StaysFor d old new
 
-  -- memory ran out in the import of a recovery, behind the crash of a site that was up; or nothing was done
-  pub record CrashesFor (d : Doubted) (line : ScriptLine) (old new : Yard R g) : Type 0 where
-    pub next : Doubted
-    pub is : IsAs (run_as false d (refused_events (d.world.nodes (group_place d.world line)) (group_place d.world line) line)) (run_as false d (refused_events (d.world.nodes (group_place d.world line)) (group_place d.world line) line)).world next
-    pub stands : StandsFor next new
-    pub carries : Carries d old → Carries next new
-    pub rose : RoseAll [] (count_of old) (count_of new)
-
-  abbrev pub LeadsOverOrCrashes : Doubted → ScriptLine → Yard R g → Yard R g → Result Said OutOfMemory → Type 0
-  LeadsOverOrCrashes d line old new (Ok said) = LeadsOver d line said old new
-  LeadsOverOrCrashes d line old new (Err e) = CrashesFor d line old new
+  abbrev pub LeadsFoundIs : Doubted → ScriptLine → Yard R g → Yard R g → Result Said OutOfMemory → Type 0
+  LeadsFoundIs d line old new (Ok said) = LeadsFound d line said old new
+  LeadsFoundIs d line old new (Err e) = StaysFor d old new
 
   -- the line was done, or memory ran out within it
   abbrev pub LeadsOrStops : Doubted → ScriptLine → Yard R g → Yard R g → Result Said OutOfMemory → Type 0
   LeadsOrStops d line old new (Ok said) = Leads d line said old new
   LeadsOrStops d line old new (Err e) = StopsFor d line old new
+
+  abbrev pub LeadsOverOrStops : Doubted → ScriptLine → Yard R g → Yard R g → Result Said OutOfMemory → Type 0
+  LeadsOverOrStops d line old new (Ok said) = LeadsOver d line said old new
+  LeadsOverOrStops d line old new (Err e) = StopsFor d line old new
 
   -- the site crashed, as it was or as it might be
   pub record Falls (d : Doubted) (s : ℕ) (old new : Yard R g) : Type 0 where
@@ -151,6 +156,10 @@ module _ {R : Type 0} {g : Ghosts R} where
     pub said : (step (doubt_chosen taken d (CrashAt s count)).world (CrashAt s count)).said ≡ IsDone
     pub down : ((crash_of d s count taken).world.nodes s).state ≡ IsDown
     pub blocks : ((crash_of d s count taken).world.nodes s).blocks ≡ (d.world.nodes s).blocks
+    pub volumes : ((crash_of d s count taken).world.nodes s).volumes ≡ (d.world.nodes s).volumes
+    pub group : ((crash_of d s count taken).world.nodes s).group ≡ (d.world.nodes s).group
+    -- a site over a group has no write that a crash could keep, and is never in doubt
+    pub plain : is_over_group (d.world.nodes s) ≡ true → (count ≡ 0) × (taken ≡ false)
     pub sites : (crash_of d s count taken).world.sites ≡ d.world.sites
     pub stands : StandsFor (crash_of d s count taken) new
     pub carries : Carries d old → Carries (crash_of d s count taken) new

@@ -1,11 +1,22 @@
 // The racks of the disk sets, as they come back.
 ghost use Rattle.std.specs.Prelude.{◌≡◌, ◌≤◌, ◌<◌, ◌++◌, [], map, vec_len};
 ghost use Rattle.std.specs.Vec.{vec_capacity};
+ghost use Rattle.vx_untold.specs.Shades.{rack_of};
 ghost use Rattle.vx_yard.specs.Racks.{rack_in, racks_in, site_rack};
 
 use crate::DiskSet;
 use vx_disk::Rack;
 use vx_grouped::GroupSite;
+use vx_untold::Shade;
+
+// The rack, whether its contents are told or not.
+fn rack_from<R: Rack>(shade: Shade<R>) -> R
+    ensures { result ≡ rack_of shade }
+{
+    match shade {
+        Shade::Bright(rack) | Shade::Dark(rack) => rack,
+    }
+}
 
 // Adds the rack of a site whose disks are a group.
 fn give_site<R: Rack>(racks: &mut Vec<R>, site: GroupSite<R>)
@@ -13,11 +24,13 @@ fn give_site<R: Rack>(racks: &mut Vec<R>, site: GroupSite<R>)
     ensures room { vec_capacity racks.old ≤ vec_capacity racks.new }
 {
     match site {
-        GroupSite::Up(group) => {
-            let (rack, _) = group.apart();
-            let _ = racks.push(rack);
+        GroupSite::Up(laid) => {
+            let _ = racks.push(rack_from(laid.shelf));
         }
-        GroupSite::Deported(rack) | GroupSite::Down(rack) | GroupSite::Marked(rack) => {
+        GroupSite::Deported(idle) | GroupSite::Down(idle) => {
+            let _ = racks.push(rack_from(idle.rack));
+        }
+        GroupSite::Marked(rack) => {
             let _ = racks.push(rack);
         }
         GroupSite::Gone => {}

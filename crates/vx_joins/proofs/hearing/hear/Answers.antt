@@ -30,7 +30,7 @@ returns-in-Err-clause-heard g c = λ d p site at target answers one flight liste
     let listens = (let l : Listens (d.world.nodes p.target) (d.world.links p.target p.source) c.last-safe.result c.args.state.now.line =
     record { up = listening.up; running = listening.running; keeps = listening.keeps; linked = listening.linked; safe_is = safe; line_is = line } in l) in
     let heard = c.heard_link-heard.ensures d.world p p.target at refl answers flight listens link in
-    let stored = c.in-Err.ensures.kept (beside_of d p.target) (d.world.nodes p.target) stands listening.up listening.running state (none_above d c.args.number p at answers f flight c.last-safe.result c.args.state.now.line listens listening.plain c.args.link.now c.heard_link-heard.result link heard) in
+    let stored = c.in-Err.ensures.kept (beside_of d p.target) (d.world.nodes p.target) stands listening.up listening.running listening.apart state (none_above d c.args.number p at answers f flight c.last-safe.result c.args.state.now.line listens listening.plain c.args.link.now c.heard_link-heard.result link heard) in
     heard_not d c.args.number p at answers f flight c.last-safe.result c.args.state.now.line listens listening.plain c.args.disks.now c.keep_stored.new.disks c.args.link.now a c.in-Err.stop
     (stored_as d c.args.number p at answers f flight c.last-safe.result c.args.state.now.line listens listening.plain c.args.disks.now c.keep_stored.new.disks c.args.link.now c.heard_link-heard.result (Err c.in-Err.stop) link heard stored))
     listening link stands state
@@ -50,7 +50,7 @@ returns-in-Ok-clause-heard g c = λ d p site at target answers one flight listen
     let listens = (let l : Listens (d.world.nodes p.target) (d.world.links p.target p.source) c.last-safe.result c.args.state.now.line =
     record { up = listening.up; running = listening.running; keeps = listening.keeps; linked = listening.linked; safe_is = safe; line_is = line } in l) in
     let heard = c.heard_link-heard.ensures d.world p p.target at refl answers flight listens link in
-    let stored = c.in-Ok.ensures.kept (beside_of d p.target) (d.world.nodes p.target) stands listening.up listening.running state (none_above d c.args.number p at answers f flight c.last-safe.result c.args.state.now.line listens listening.plain c.args.link.now c.heard_link-heard.result link heard) in
+    let stored = c.in-Ok.ensures.kept (beside_of d p.target) (d.world.nodes p.target) stands listening.up listening.running listening.apart state (none_above d c.args.number p at answers f flight c.last-safe.result c.args.state.now.line listens listening.plain c.args.link.now c.heard_link-heard.result link heard) in
     let answered = c.deliver_answer.ensures.exact d.world p p.target at refl answers one flight listens link assembly in
     heard_ok d c.args.number p at answers f flight c.last-safe.result c.args.state.now.line listens listening.plain c.args.disks.now c.keep_stored.new.disks moved new said
     (stored_as d c.args.number p at answers f flight c.last-safe.result c.args.state.now.line listens listening.plain c.args.disks.now c.keep_stored.new.disks c.args.link.now c.heard_link-heard.result (Ok tt) link heard stored)
@@ -75,7 +75,7 @@ returns-in-Err-clause-part g c = λ d p site at target answers flight listening 
     let listens = (let l : Listens (d.world.nodes p.target) (d.world.links p.target p.source) c.last-safe.result c.args.state.now.line =
     record { up = listening.up; running = listening.running; keeps = listening.keeps; linked = listening.linked; safe_is = safe; line_is = line } in l) in
     let heard = c.heard_link-heard.ensures d.world p p.target at refl answers flight listens link in
-    let stored = c.in-Err.ensures.kept (beside_of d p.target) (d.world.nodes p.target) stands listening.up listening.running state (none_above d c.args.number p at answers f flight c.last-safe.result c.args.state.now.line listens listening.plain c.args.link.now c.heard_link-heard.result link heard) in
+    let stored = c.in-Err.ensures.kept (beside_of d p.target) (d.world.nodes p.target) stands listening.up listening.running listening.apart state (none_above d c.args.number p at answers f flight c.last-safe.result c.args.state.now.line listens listening.plain c.args.link.now c.heard_link-heard.result link heard) in
     part_heard_not d c.args.number p at answers f flight c.last-safe.result c.args.state.now.line listens listening.plain c.args.disks.now c.keep_stored.new.disks c.args.link.now c.in-Err.stop
     (stored_as d c.args.number p at answers f flight c.last-safe.result c.args.state.now.line listens listening.plain c.args.disks.now c.keep_stored.new.disks c.args.link.now c.heard_link-heard.result (Err c.in-Err.stop) link heard stored))
     listening link stands state
@@ -94,7 +94,7 @@ returns-in-Ok-clause-part g c = λ d p site at target answers flight listening l
     let listens = (let l : Listens (d.world.nodes p.target) (d.world.links p.target p.source) c.last-safe.result c.args.state.now.line =
     record { up = listening.up; running = listening.running; keeps = listening.keeps; linked = listening.linked; safe_is = safe; line_is = line } in l) in
     let heard = c.heard_link-heard.ensures d.world p p.target at refl answers flight listens link in
-    let stored = c.in-Ok.ensures.kept (beside_of d p.target) (d.world.nodes p.target) stands listening.up listening.running state (none_above d c.args.number p at answers f flight c.last-safe.result c.args.state.now.line listens listening.plain c.args.link.now c.heard_link-heard.result link heard) in
+    let stored = c.in-Ok.ensures.kept (beside_of d p.target) (d.world.nodes p.target) stands listening.up listening.running listening.apart state (none_above d c.args.number p at answers f flight c.last-safe.result c.args.state.now.line listens listening.plain c.args.link.now c.heard_link-heard.result link heard) in
     let answered = c.deliver_answer.ensures.part d.world p p.target at refl answers flight listens link in
     part_heard_ok d c.args.number p at answers f flight c.last-safe.result c.args.state.now.line listens listening.plain c.args.disks.now c.keep_stored.new.disks moved said
     (stored_as d c.args.number p at answers f flight c.last-safe.result c.args.state.now.line listens listening.plain c.args.disks.now c.keep_stored.new.disks c.args.link.now c.heard_link-heard.result (Ok tt) link heard stored)

@@ -9,19 +9,19 @@ use Rattle.vx_joins.proofs.StoresLink.{called_none, can_store, stored_more, stor
 use Rattle.vx_joins.proofs.hearing.keep_stored.Goals as goal
 
 pub returns-then-stored-old-clause-kept : goal.returns-then-stored-old-clause-kept
-returns-then-stored-old-clause-kept g c = λ beside n stands up running state less. stored_same beside n c.args.to c.args.old c.args.stored c.args.disks.now c.args.disks.now (omega (arith, c.if-stored-old.true)) stands
+returns-then-stored-old-clause-kept g c = λ beside n stands up running apart state less. stored_same beside n c.args.to c.args.old c.args.stored c.args.disks.now c.args.disks.now (omega (arith, c.if-stored-old.true)) stands
 
 pub returns-in-Ok-clause-kept : goal.returns-in-Ok-clause-kept
-returns-in-Ok-clause-kept g c = λ beside n stands up running state less.
+returns-in-Ok-clause-kept g c = λ beside n stands up running apart state less.
     let is = c.state_stored-kept.ensures.is ∙ ap (λ (s : State). record s { links = links_stored c.args.to c.args.stored s.links }) state in
     stored_more beside n c.args.to c.args.old c.args.stored c.state_stored-kept.result c.args.disks.now c.keep.new.self (omega (arith, c.if-stored-old.false)) is
-    (c.in-Ok.ensures.kept beside n stands (subst (λ (s : State). CanKeep beside n s) (sym is) (can_store beside n c.args.to c.args.stored up running less)))
+    (c.in-Ok.ensures.kept beside n stands (subst (λ (s : State). CanKeep beside n s) (sym is) (can_store beside n c.args.to c.args.stored up running apart less)))
 
 pub returns-in-Err-clause-kept : goal.returns-in-Err-clause-kept
-returns-in-Err-clause-kept g c = λ beside n stands up running state less.
+returns-in-Err-clause-kept g c = λ beside n stands up running apart state less.
     let is = c.state_stored-kept.ensures.is ∙ ap (λ (s : State). record s { links = links_stored c.args.to c.args.stored s.links }) state in
     stored_not beside n c.args.to c.args.old c.args.stored c.state_stored-kept.result c.args.disks.now c.keep.new.self c.in-Err.no is
-    (c.in-Err.ensures.kept beside n stands (subst (λ (s : State). CanKeep beside n s) (sym is) (can_store beside n c.args.to c.args.stored up running less)))
+    (c.in-Err.ensures.kept beside n stands (subst (λ (s : State). CanKeep beside n s) (sym is) (can_store beside n c.args.to c.args.stored up running apart less)))
 
 pub returns-then-stored-old-clause-called : goal.returns-then-stored-old-clause-called
 returns-then-stored-old-clause-called g c = λ beside n stands. called_none c.args.disks.now

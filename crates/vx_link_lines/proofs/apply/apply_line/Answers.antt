@@ -39,7 +39,7 @@ returns-in-Ok-clause-leads g c = λ d stands carries.
     applied d y _ c.args.name.now c.args.to s c.index_mut.result.now c.apply.new.self stands here (record { there = at; later = c.in-Ok.ensures.later; disk_sets = refl; racks = refl }) c.in-Ok.ensures.role c.in-Ok.number
     (room_leads d y c.args.name.now s stands seat c.index.result.now c.receives.result (get_at y.disk_sets.items s c.index.result.now c.site_of-site.ensures.disk_set c.index.ensures) c.receives.ensures c.if-receives.false
     (apply_may y.facts.items (in_files y) c.args.name.now c.args.to c.requires.free).site (apply_may y.facts.items (in_files y) c.args.name.now c.args.to c.requires.free).up s seat)
-    (c.in-Ok.ensures.applied (beside_of d s) (d.world.nodes s) there here.can) (c.in-Ok.ensures.called (beside_of d s) (d.world.nodes s) there) refl
+    (c.in-Ok.ensures.applied (beside_of d s) (d.world.nodes s) there here.can here.seat.apart) (c.in-Ok.ensures.called (beside_of d s) (d.world.nodes s) there) refl
     (record { flight = refl; assemblies = refl; feeders = refl })
 
 pub returns-in-Err-clause-leads : goal.returns-in-Err-clause-leads
@@ -51,7 +51,7 @@ returns-in-Err-clause-leads g c = λ d stands carries.
     let here = can_apply_at d y c.args.name.now c.args.to s stands c.requires.free seat in
     let there = stands.disk_sets.sites s c.index_mut.result.now here.seat.below at in
     apply_refused d y _ c.args.name.now c.args.to s c.index_mut.result.now c.apply.new.self stands here (record { there = at; later = c.in-Err.ensures.later; disk_sets = refl; racks = refl }) c.in-Err.ensures.role c.in-Err.no c.refused.result
-    c.index_mut-in-Err.result.now c.refused.new.facts c.refused.ensures.said (c.in-Err.ensures.blames (beside_of d s) (d.world.nodes s) there) (c.in-Err.ensures.applied (beside_of d s) (d.world.nodes s) there here.can) (c.in-Err.ensures.called (beside_of d s) (d.world.nodes s) there)
+    c.index_mut-in-Err.result.now c.refused.new.facts c.refused.ensures.said (c.in-Err.ensures.blames (beside_of d s) (d.world.nodes s) there) (c.in-Err.ensures.applied (beside_of d s) (d.world.nodes s) there here.can here.seat.apart) (c.in-Err.ensures.called (beside_of d s) (d.world.nodes s) there)
     (get_at y.facts.items s c.index_mut-in-Err.result.now (c.site_of-site.ensures.fact) c.index_mut-in-Err.ensures.value) c.refused.ensures.noted refl
     (record { flight = refl; assemblies = c.let_go_if_down.ensures; feeders = refl })
 

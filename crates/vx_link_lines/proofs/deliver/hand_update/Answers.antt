@@ -15,6 +15,7 @@ use Rattle.vx_joins.proofs.UpdatesFit.{are_one, update_fits}
 use Rattle.vx_joins.specs.Deliveries.{DeliveredTo, TookTo}
 use Rattle.vx_world.proofs.Doubting.{world_good}
 use Rattle.vx_link_lines.proofs.Behind.{behind_ignored, behind_short, behind_taken}
+use Rattle.vx_yard.proofs.OverGroup.{receives_apart}
 use Rattle.vx_yard.proofs.ChangeSite.{told_before}
 use Rattle.vx_link_lines.proofs.Deaf.{deaf_leads, fact_at, last_received, none_start, took_ignored}
 use Rattle.vx_yard.proofs.Leads.{room_receives}
@@ -89,7 +90,7 @@ returns-in-Taken-clause-leads g c = λ d p k x stands carries good at to below m
     let took = c.in_ok-said.ensures.took d p k x at to message carries.flight here role fed in
     let last = c.received-last.result in
     let seen = c.index_mut-in-Taken.result.now in
-    let shown = fact_at d old t seen stands below (get_at old.facts.items t seen c.requires.site c.index_mut-in-Taken.ensures.value) in
+    let shown = fact_at d old t seen stands below (receives_apart (beside_of d t) (d.world.nodes t) before here opens.1) (get_at old.facts.items t seen c.requires.site c.index_mut-in-Taken.ensures.value) in
     let same_after = some_same (sym (get-set_same old.disk_sets.items t after c.requires.disk_set)
     ∙ get_at (slice_set old.disk_sets.items t after) t c.index-in-Taken.result.now (omega (arith, c.requires.disk_set, length-set old.disk_sets.items t after)) c.index-in-Taken.ensures) in
     behind_taken d c.args.number p k x old _ before after feeder was a stands at message c.deliver_update.ensures.still t to last

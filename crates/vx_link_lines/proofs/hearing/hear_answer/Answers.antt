@@ -28,6 +28,7 @@ use Rattle.vx_yard.proofs.ChangeSite.{told_before}
 use Rattle.vx_link_lines.proofs.HeardLine.{deaf_to, heard_by, refused_by, stays_same, stop_is, stop_none, unheard_stays}
 use Rattle.vx_link_lines.proofs.DeliverCalls.{deaf_calls, deaf_head, heard_head, never_short, never_stopped, refused_head}
 use Rattle.vx_link_lines.proofs.HeardWorld.{answer_says, hears_as, listening, shown_by}
+use Rattle.vx_link_lines.proofs.OverGroups.{over_unlinked}
 use Rattle.vx_yard.proofs.LinkLines.{listed}
 use Rattle.vx_yard.proofs.Lists.{get_at, set_same}
 use Rattle.vx_yard.specs.OfSites.{heard_calls}
@@ -42,7 +43,8 @@ returns-in_default-clause-leads g c = λ d p stands carries good at to from belo
     let t = c.args.target in
     let e = get_there y.disk_sets.items t c.requires.disk_set in
     let is = deaf_to d c.args.number p at answers stands.links
-    (λ small. c.in_default.ensures.deaf d.world p (event_for p.message) (c.deref.ensures.value ∙ stands.facts) refl to from below (subst (λ (i : ℕ). i < d.world.sites) from small) (listed d stands.links)
+    (λ small. c.in_default.ensures.deaf d.world p (event_for p.message) (c.deref.ensures.value ∙ stands.facts) refl to from below (subst (λ (i : ℕ). i < d.world.sites) from small)
+    (λ over. over_unlinked d y c.args.target c.args.source (get_there y.disk_sets.items c.args.target c.requires.disk_set).0 stands below (get_there y.disk_sets.items c.args.target c.requires.disk_set).1 over) (listed d stands.links)
     (hears_as d c.args.number p at answers p.message answers)) in
     unheard_stays d c.args.number p y e.0 at stands (subst (λ (i : ℕ). i < d.world.sites) (sym to) below) (subst (λ (i : ℕ). slice_get y.disk_sets.items i ≡ Some e.0) (sym to) e.1) is
 
@@ -164,7 +166,7 @@ returns-in-Some-refusal-clause-leads g c = λ d p stands carries good at to from
     let listens = listening d t q c.in-Some.l stands.links hears in
     let link : c.in-Some.l.link ≡ plain_link q (d.world.links t q) = ap (λ (x : LinkFacts). x.link) hears.link.link_is in
     let state = c.in-Some-state_here.ensures.is (beside_of d t) (d.world.nodes t) d.world
-    (stands.disk_sets.sites t c.index.result.now below (get_at old.disk_sets.items t c.index.result.now c.requires.disk_set c.index.ensures)) listens.up (c.deref-2.ensures.value ∙ stands.facts) below listens.up in
+    (stands.disk_sets.sites t c.index.result.now below (get_at old.disk_sets.items t c.index.result.now c.requires.disk_set c.index.ensures)) listens.up listens.apart (c.deref-2.ensures.value ∙ stands.facts) below listens.up listens.apart in
     let stop = stop_is c.in-Err.stop no (sym c.refusal.ensures ∙ c.in-Some-refusal.is) in
     let as_stop = ap (λ (x : Stop). let r : Result EventSaid Stop = Err x in r) stop in
     let seen = c.index_mut-in-Some-refusal.result.now in
@@ -173,6 +175,7 @@ returns-in-Some-refusal-clause-leads g c = λ d p stands carries good at to from
       changed = record { there = there; later = c.hear-said.ensures.later; disk_sets = refl; racks = refl };
       keeps = c.hear-said.ensures.role;
       opens = (listens.up, listens.running);
+      alone = listens.apart;
       rises = c.in-Err.ensures.rises d p t no at to answers carries.flight listens link here state as_stop;
       stops = subst (λ (x : Stop). PartHeardAt d t q c.args.number before after c.hear-said.new.link old.flight (Err x)) stop (c.in-Err.ensures.part d p t at to answers carries.flight listens link here state);
       calls = subst (λ (x : Stop). LeavesFuse NoMore (reply_by (let r : Result EventSaid Stop = Err x in r)) before after) stop (c.in-Err.ensures.called (beside_of d t) (d.world.nodes t) here);
@@ -204,7 +207,7 @@ returns-in-Ok-clause-leads g c = λ d p stands carries good at to from below ans
     let listens = listening d t q c.in-Some.l stands.links hears in
     let link : c.in-Some.l.link ≡ plain_link q (d.world.links t q) = ap (λ (x : LinkFacts). x.link) hears.link.link_is in
     let state = c.in-Some-state_here.ensures.is (beside_of d t) n d.world
-    (stands.disk_sets.sites t c.index.result.now below (get_at old.disk_sets.items t c.index.result.now c.requires.disk_set c.index.ensures)) listens.up (c.deref-2.ensures.value ∙ stands.facts) below listens.up in
+    (stands.disk_sets.sites t c.index.result.now below (get_at old.disk_sets.items t c.index.result.now c.requires.disk_set c.index.ensures)) listens.up listens.apart (c.deref-2.ensures.value ∙ stands.facts) below listens.up listens.apart in
     let part = c.in-Ok.ensures.part d p t at to answers carries.flight listens link here state in
     let asked = stands.disk_sets.sites t c.index-2.result.now below (get_at old.disk_sets.items t c.index-2.result.now c.requires.disk_set c.index-2.ensures) in
     let needs = c.in-Some-heard_needs.ensures.is d p stands.links at answers carries.flight (subst (λ (i : ℕ). IsListening (d.world.nodes i) (d.world.links i q)) (sym to) listens)
@@ -217,6 +220,7 @@ returns-in-Ok-clause-leads g c = λ d p stands carries good at to from below ans
       changed = record { there = there; later = c.hear-said.ensures.later; disk_sets = refl; racks = refl };
       keeps = c.hear-said.ensures.role;
       opens = (listens.up, listens.running);
+      alone = listens.apart;
       says = part.0.says;
       calls = c.in-Ok.ensures.called (beside_of d t) n here;
       facts = with_items_is old.facts c.keep_heard.new.sites (c.keep_heard.auto.sites ∙ c.deref_mut.ensures.len)
@@ -236,7 +240,8 @@ pub returns-in_default-clause-called : goal.returns-in_default-clause-called
 returns-in_default-clause-called g c = λ d p stands carries at to from below answers.
     let y = c.args.yard.now in
     let is = deaf_to d c.args.number p at answers stands.links
-    (λ small. c.in_default.ensures.deaf d.world p (event_for p.message) (c.deref.ensures.value ∙ stands.facts) refl to from below (subst (λ (i : ℕ). i < d.world.sites) from small) (listed d stands.links)
+    (λ small. c.in_default.ensures.deaf d.world p (event_for p.message) (c.deref.ensures.value ∙ stands.facts) refl to from below (subst (λ (i : ℕ). i < d.world.sites) from small)
+    (λ over. over_unlinked d y c.args.target c.args.source (get_there y.disk_sets.items c.args.target c.requires.disk_set).0 stands below (get_there y.disk_sets.items c.args.target c.requires.disk_set).1 over) (listed d stands.links)
     (hears_as d c.args.number p at answers p.message answers)) in
     site_still (HeadUnder (heard_calls d.world c.args.number c.args.target c.args.source) Ignored) c.args.target y _ (λ e. deaf_head (heard_calls d.world c.args.number c.args.target c.args.source) e (deaf_calls d.world c.args.number c.args.target c.args.source is)) c.requires.disk_set refl
 
@@ -263,7 +268,7 @@ returns-in-Ok-clause-called g c = λ d p stands carries at to from below answers
     let listens = listening d t q c.in-Some.l stands.links hears in
     let link : c.in-Some.l.link ≡ plain_link q (d.world.links t q) = ap (λ (x : LinkFacts). x.link) hears.link.link_is in
     let state = c.in-Some-state_here.ensures.is (beside_of d t) n d.world
-    (stands.disk_sets.sites t c.index.result.now below (get_at old.disk_sets.items t c.index.result.now c.requires.disk_set c.index.ensures)) listens.up (c.deref-2.ensures.value ∙ stands.facts) below listens.up in
+    (stands.disk_sets.sites t c.index.result.now below (get_at old.disk_sets.items t c.index.result.now c.requires.disk_set c.index.ensures)) listens.up listens.apart (c.deref-2.ensures.value ∙ stands.facts) below listens.up listens.apart in
     let part = c.in-Ok.ensures.part d p t at to answers carries.flight listens link here state in
     let head = c.in-Ok.ensures.headed d p t at to answers carries.flight listens link here state (λ is. never_stopped c.in-Ok.said is) in
     let said = subst (λ (x : EventSaid). (x ≡ IsTaken) ⊎ (x ≡ IsIgnored)) (sym part.0.says) (answer_says d c.args.number p at answers) in
@@ -291,7 +296,7 @@ returns-in-Some-refusal-clause-called g c = λ d p stands carries at to from bel
     let listens = listening d t q c.in-Some.l stands.links hears in
     let link : c.in-Some.l.link ≡ plain_link q (d.world.links t q) = ap (λ (x : LinkFacts). x.link) hears.link.link_is in
     let state = c.in-Some-state_here.ensures.is (beside_of d t) n d.world
-    (stands.disk_sets.sites t c.index.result.now below (get_at old.disk_sets.items t c.index.result.now c.requires.disk_set c.index.ensures)) listens.up (c.deref-2.ensures.value ∙ stands.facts) below listens.up in
+    (stands.disk_sets.sites t c.index.result.now below (get_at old.disk_sets.items t c.index.result.now c.requires.disk_set c.index.ensures)) listens.up listens.apart (c.deref-2.ensures.value ∙ stands.facts) below listens.up listens.apart in
     let stop = stop_is c.in-Err.stop no (sym c.refusal.ensures ∙ c.in-Some-refusal.is) in
     let head = c.in-Err.ensures.headed d p t at to answers carries.flight listens link here state (λ is. never_short c.in-Err.stop no stop is) in
     record {

@@ -32,24 +32,24 @@ returns-in-Err-clause-told g c =
     told_before es c.args.there c.index_mut.result.now c.join.new.disks (get_at es c.args.there c.index_mut.result.now c.requires.disk_set c.index_mut.ensures.value) c.in-Err.ensures.later
 
 pub returns-in-Ok-clause-heads : goal.returns-in-Ok-clause-heads
-returns-in-Ok-clause-heads g c = λ d note sync notes stands fit below said is.
+returns-in-Ok-clause-heads g c = λ d note sync notes stands fit below first alone said is.
     let old = c.args.yard.now in
     let s = c.args.there in
     let before = c.index_mut.result.now in
     let at = get_at old.disk_sets.items s before c.requires.disk_set c.index_mut.ensures.value in
     let shown = c.deref_mut.ensures.value ∙ stands.facts ∙ notes.shows d.world in
-    join_done note d c.args.here s sync notes fit said old _ before c.join.new.disks stands below (record { there = at; later = c.in-Ok.ensures.later; disk_sets = refl; racks = refl }) c.args.state.now is
+    join_done note d c.args.here s sync notes fit alone said old _ before c.join.new.disks stands below (record { there = at; later = c.in-Ok.ensures.later; disk_sets = refl; racks = refl }) c.args.state.now is
     (λ beside a q k stood can so. c.in-Ok.ensures.joined beside a q k stood can so) (λ beside k stood. c.in-Ok.ensures.called beside k stood)
-    (with_items_is old.facts c.keep_joined.new.sites (c.keep_joined.auto.sites ∙ c.deref_mut.ensures.len) ∙ c.keep_joined.ensures.world d.world sync shown said)
+    (with_items_is old.facts c.keep_joined.new.sites (c.keep_joined.auto.sites ∙ c.deref_mut.ensures.len) ∙ c.keep_joined.ensures.world d.world sync shown first alone said)
     refl c.let_go.ensures c.set_feeder.ensures
 
 pub returns-in-Err-clause-heads : goal.returns-in-Err-clause-heads
-returns-in-Err-clause-heads g c = λ d note sync notes stands fit below said is.
+returns-in-Err-clause-heads g c = λ d note sync notes stands fit below first alone said is.
     let old = c.args.yard.now in
     let s = c.args.there in
     let before = c.index_mut.result.now in
     let at = get_at old.disk_sets.items s before c.requires.disk_set c.index_mut.ensures.value in
-    join_refused note d c.args.here s sync notes fit said old _ before c.join.new.disks stands below (record { there = at; later = c.in-Err.ensures.later; disk_sets = refl; racks = refl }) c.args.state.now is
+    join_refused note d c.args.here s sync notes fit alone said old _ before c.join.new.disks stands below (record { there = at; later = c.in-Err.ensures.later; disk_sets = refl; racks = refl }) c.args.state.now is
     c.in-Err.no c.refused.result c.index_mut-in-Err.result.now c.refused.new.facts c.refused.ensures.said
     (λ beside a q k stood can so. c.in-Err.ensures.joined beside a q k stood can so) (λ beside k stood. c.in-Err.ensures.called beside k stood)
     (get_at old.facts.items s c.index_mut-in-Err.result.now c.requires.facts c.index_mut-in-Err.ensures.value) c.refused.ensures.noted refl
@@ -84,7 +84,7 @@ returns-in-Err-clause-asked g c = λ d stands below.
     }
 
 pub returns-in-Ok-clause-called : goal.returns-in-Ok-clause-called
-returns-in-Ok-clause-called g c = λ d note sync notes stands fit below said.
+returns-in-Ok-clause-called g c = λ d note sync notes stands fit below alone said.
     let old = c.args.yard.now in
     let s = c.args.there in
     let before = c.index_mut.result.now in
@@ -94,11 +94,11 @@ returns-in-Ok-clause-called g c = λ d note sync notes stands fit below said.
       after = c.join.new.disks;
       there = at;
       disk_sets = refl;
-      did = join_headed note d c.args.here s sync notes fit said old before c.join.new.disks stands below at (Ok tt) (λ beside k stood can. c.in-Ok.ensures.headed beside k stood can);
+      did = join_headed note d c.args.here s sync notes fit alone said old before c.join.new.disks stands below at (Ok tt) (λ beside k stood can. c.in-Ok.ensures.headed beside k stood can);
     }
 
 pub returns-in-Err-clause-called : goal.returns-in-Err-clause-called
-returns-in-Err-clause-called g c = λ d note sync notes stands fit below said.
+returns-in-Err-clause-called g c = λ d note sync notes stands fit below alone said.
     let old = c.args.yard.now in
     let s = c.args.there in
     let before = c.index_mut.result.now in
@@ -109,7 +109,7 @@ returns-in-Err-clause-called g c = λ d note sync notes stands fit below said.
       there = at;
       disk_sets = refl;
       did = subst (λ (answer : Said). HeadUnder 2 answer before c.join.new.disks) (sym c.refused.ensures.said)
-          (join_headed note d c.args.here s sync notes fit said old before c.join.new.disks stands below at (Err c.in-Err.no) (λ beside k stood can. c.in-Err.ensures.headed beside k stood can));
+          (join_headed note d c.args.here s sync notes fit alone said old before c.join.new.disks stands below at (Err c.in-Err.no) (λ beside k stood can. c.in-Err.ensures.headed beside k stood can));
     }
 
 pub returns-in-Ok-clause-many : goal.returns-in-Ok-clause-many

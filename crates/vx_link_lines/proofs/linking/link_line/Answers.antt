@@ -5,7 +5,7 @@ use Rattle.vx_order.specs.declared.facts.SiteFacts.{SiteFacts}
 use Rattle.vx_events.proofs.Places.{some_same}
 use Rattle.vx_yard.specs.Yards.{in_files}
 use Rattle.vx_link_lines.proofs.LinkEnding.{called_named}
-use Rattle.vx_link_lines.proofs.LinkNames.{link_first, link_links, link_second, link_two, links_it}
+use Rattle.vx_link_lines.proofs.LinkNames.{link_apart, link_apart_too, link_first, link_links, link_second, link_two, links_it}
 use Rattle.vx_yard.proofs.Lists.{get_at}
 use Rattle.vx_yard.proofs.NamedSite.{site_at, unbegun_for}
 use Rattle.vx_yard.proofs.OfSites.{all_still}
@@ -37,13 +37,13 @@ returns-clause-leads g c = λ d prot stands.
     let free = c.requires.free in
     let seat = c.site_of-here.ensures.seat in
     let seat_too = c.site_of-there.ensures.seat in
-    let here = site_at d y first p stands seat in
-    let there = site_at d y second s stands seat_too in
+    let here = site_at d y first p stands (link_apart d y first second c.args.sync free.0 p s stands free.1 seat seat_too) seat in
+    let there = site_at d y second s stands (link_apart_too d y first second c.args.sync free.0 p s stands free.1 seat seat_too) seat_too in
     let one = get_at y.disk_sets.items p c.index.result.now c.site_of-here.ensures.disk_set c.index.ensures in
     let other = get_at y.disk_sets.items s c.index-2.result.now c.site_of-there.ensures.disk_set c.index-2.ensures in
     let fact = get_at y.facts.items p c.index-3.result.now c.site_of-here.ensures.fact c.index-3.ensures in
     let two = link_two d y first second c.args.sync free.0 p s stands free.1 seat seat_too in
-    let are = c.in-Some.ensures.is d (stands.disk_sets.sites p c.index.result.now here.below one) (stands.disk_sets.sites s c.index-2.result.now there.below other) two.up two.running two.up_too
+    let are = c.in-Some.ensures.is d (stands.disk_sets.sites p c.index.result.now here.below one) (stands.disk_sets.sites s c.index-2.result.now there.below other) here.apart there.apart two.up two.running two.up_too
     (c.as_slice.ensures ∙ link_links d y first second c.args.sync free.0 p s stands free.1 seat seat_too c.index-3.result.now (some_same (sym fact ∙ here.fact))) in
     c.link_parts.ensures.leads d first second prot stands (links_it d y first second c.args.sync free.0 p s stands free.1 seat seat_too c.in-Some.states are)
 
@@ -57,13 +57,13 @@ returns-clause-asked g c = λ d prot stands.
     let free = c.requires.free in
     let seat = c.site_of-here.ensures.seat in
     let seat_too = c.site_of-there.ensures.seat in
-    let here = site_at d y first p stands seat in
-    let there = site_at d y second s stands seat_too in
+    let here = site_at d y first p stands (link_apart d y first second c.args.sync free.0 p s stands free.1 seat seat_too) seat in
+    let there = site_at d y second s stands (link_apart_too d y first second c.args.sync free.0 p s stands free.1 seat seat_too) seat_too in
     let one = get_at y.disk_sets.items p c.index.result.now c.site_of-here.ensures.disk_set c.index.ensures in
     let other = get_at y.disk_sets.items s c.index-2.result.now c.site_of-there.ensures.disk_set c.index-2.ensures in
     let fact = get_at y.facts.items p c.index-3.result.now c.site_of-here.ensures.fact c.index-3.ensures in
     let two = link_two d y first second c.args.sync free.0 p s stands free.1 seat seat_too in
-    let are = c.in-Some.ensures.is d (stands.disk_sets.sites p c.index.result.now here.below one) (stands.disk_sets.sites s c.index-2.result.now there.below other) two.up two.running two.up_too
+    let are = c.in-Some.ensures.is d (stands.disk_sets.sites p c.index.result.now here.below one) (stands.disk_sets.sites s c.index-2.result.now there.below other) here.apart there.apart two.up two.running two.up_too
     (c.as_slice.ensures ∙ link_links d y first second c.args.sync free.0 p s stands free.1 seat seat_too c.index-3.result.now (some_same (sym fact ∙ here.fact))) in
     c.link_parts.ensures.asked d first second prot stands (links_it d y first second c.args.sync free.0 p s stands free.1 seat seat_too c.in-Some.states are)
 
@@ -77,13 +77,13 @@ returns-clause-called g c = λ d prot stands.
     let free = c.requires.free in
     let seat = c.site_of-here.ensures.seat in
     let seat_too = c.site_of-there.ensures.seat in
-    let here = site_at d y first p stands seat in
-    let there = site_at d y second s stands seat_too in
+    let here = site_at d y first p stands (link_apart d y first second c.args.sync free.0 p s stands free.1 seat seat_too) seat in
+    let there = site_at d y second s stands (link_apart_too d y first second c.args.sync free.0 p s stands free.1 seat seat_too) seat_too in
     let one = get_at y.disk_sets.items p c.index.result.now c.site_of-here.ensures.disk_set c.index.ensures in
     let other = get_at y.disk_sets.items s c.index-2.result.now c.site_of-there.ensures.disk_set c.index-2.ensures in
     let fact = get_at y.facts.items p c.index-3.result.now c.site_of-here.ensures.fact c.index-3.ensures in
     let two = link_two d y first second c.args.sync free.0 p s stands free.1 seat seat_too in
-    let are = c.in-Some.ensures.is d (stands.disk_sets.sites p c.index.result.now here.below one) (stands.disk_sets.sites s c.index-2.result.now there.below other) two.up two.running two.up_too
+    let are = c.in-Some.ensures.is d (stands.disk_sets.sites p c.index.result.now here.below one) (stands.disk_sets.sites s c.index-2.result.now there.below other) here.apart there.apart two.up two.running two.up_too
     (c.as_slice.ensures ∙ link_links d y first second c.args.sync free.0 p s stands free.1 seat seat_too c.index-3.result.now (some_same (sym fact ∙ here.fact))) in
     let it = links_it d y first second c.args.sync free.0 p s stands free.1 seat seat_too c.in-Some.states are in
     called_named d first second prot p s c.args.sync c.in-Some.states it y stands c.link_parts.result c.link_parts.new.yard (c.link_parts.ensures.called d first second prot stands it)

@@ -64,7 +64,7 @@ open_link-requires-clause-state g c κs within = c.requires.states.opened
 
 pub returns-in-Err-clause-leads : goal.returns-in-Err-clause-leads
 returns-in-Err-clause-leads g c = λ d first second prot stands l.
-    ends_one d first second prot c.args.here c.args.there c.args.sync c.args.states.now l c.args.yard.now stands c.join_site.new.yard c.in-Err.said (λ e note notes stood fit below said is. c.in-Err.ensures.heads e note c.args.sync notes stood fit below said is)
+    ends_one d first second prot c.args.here c.args.there c.args.sync c.args.states.now l c.args.yard.now stands c.join_site.new.yard c.in-Err.said (λ e note notes stood fit below first alone said is. c.in-Err.ensures.heads e note c.args.sync notes stood fit below first alone said is)
 
 pub returns-in-Err-clause-asked : goal.returns-in-Err-clause-asked
 returns-in-Err-clause-asked g c = λ d first second prot stands l.
@@ -75,12 +75,12 @@ returns-in-Err-clause-told g c = λ told. (c.in-Err.ensures.told told)
 
 pub returns-in-Err-make_link-clause-leads : goal.returns-in-Err-make_link-clause-leads
 returns-in-Err-make_link-clause-leads g c = λ d first second prot stands l.
-    let one = comes_one d first second prot c.args.here c.args.there c.args.sync c.args.states.now l c.args.yard.now stands c.join_site.new.yard (λ e note notes stood fit below said is. c.in-Ok.ensures.heads e note c.args.sync notes stood fit below said is) in
-    ends_two d first second prot c.args.here c.args.there c.args.sync c.args.states.now l c.args.yard.now stands c.join_site.new.yard c.make_link.new.yard c.in-Err-make_link.said one (λ e note notes stood fit below session said is. c.in-Err-make_link.ensures.heads e note notes stood fit below session said is)
+    let one = comes_one d first second prot c.args.here c.args.there c.args.sync c.args.states.now l c.args.yard.now stands c.join_site.new.yard (λ e note notes stood fit below first alone said is. c.in-Ok.ensures.heads e note c.args.sync notes stood fit below first alone said is) in
+    ends_two d first second prot c.args.here c.args.there c.args.sync c.args.states.now l c.args.yard.now stands c.join_site.new.yard c.make_link.new.yard c.in-Err-make_link.said one (λ e note notes stood fit below alone session said is. c.in-Err-make_link.ensures.heads e note notes stood fit below alone session said is)
 
 pub returns-in-Err-make_link-clause-asked : goal.returns-in-Err-make_link-clause-asked
 returns-in-Err-make_link-clause-asked g c = λ d first second prot stands l.
-    let one = comes_one d first second prot c.args.here c.args.there c.args.sync c.args.states.now l c.args.yard.now stands c.join_site.new.yard (λ e note notes stood fit below said is. c.in-Ok.ensures.heads e note c.args.sync notes stood fit below said is) in
+    let one = comes_one d first second prot c.args.here c.args.there c.args.sync c.args.states.now l c.args.yard.now stands c.join_site.new.yard (λ e note notes stood fit below first alone said is. c.in-Ok.ensures.heads e note c.args.sync notes stood fit below first alone said is) in
     (all_then c.args.yard.now c.join_site.new.yard c.make_link.new.yard
     (all_of_site c.args.there c.args.yard.now c.join_site.new.yard (c.in-Ok.ensures.asked d stands l.below_too))
     (all_of_site c.args.here c.join_site.new.yard c.make_link.new.yard (c.in-Err-make_link.ensures.asked _ one.stands (below_one d first second prot c.args.here c.args.there c.args.sync c.args.states.now l c.args.yard.now stands c.args.here l.below))))
@@ -90,14 +90,14 @@ returns-in-Err-make_link-clause-told g c = λ told. (c.in-Ok.ensures.told (c.in-
 
 pub returns-in-Err-mark_site-clause-leads : goal.returns-in-Err-mark_site-clause-leads
 returns-in-Err-mark_site-clause-leads g c = λ d first second prot stands l.
-    let one = comes_one d first second prot c.args.here c.args.there c.args.sync c.args.states.now l c.args.yard.now stands c.join_site.new.yard (λ e note notes stood fit below said is. c.in-Ok.ensures.heads e note c.args.sync notes stood fit below said is) in
-    let two = comes_two d first second prot c.args.here c.args.there c.args.sync c.args.states.now l c.args.yard.now stands c.join_site.new.yard c.make_link.new.yard one (λ e note notes stood fit below session said is. c.in-Ok-make_link.ensures.heads e note notes stood fit below session said is) in
-    ends_three d first second prot c.args.here c.args.there c.args.sync c.args.states.now l c.args.yard.now stands c.make_link.new.yard c.mark_site.new.yard c.in-Err-mark_site.said two (λ e note notes stood fit below said is. c.in-Err-mark_site.ensures.heads e note c.args.here c.args.sync notes stood fit below said is)
+    let one = comes_one d first second prot c.args.here c.args.there c.args.sync c.args.states.now l c.args.yard.now stands c.join_site.new.yard (λ e note notes stood fit below first alone said is. c.in-Ok.ensures.heads e note c.args.sync notes stood fit below first alone said is) in
+    let two = comes_two d first second prot c.args.here c.args.there c.args.sync c.args.states.now l c.args.yard.now stands c.join_site.new.yard c.make_link.new.yard one (λ e note notes stood fit below alone session said is. c.in-Ok-make_link.ensures.heads e note notes stood fit below alone session said is) in
+    ends_three d first second prot c.args.here c.args.there c.args.sync c.args.states.now l c.args.yard.now stands c.make_link.new.yard c.mark_site.new.yard c.in-Err-mark_site.said two (λ e note notes stood fit below alone said is. c.in-Err-mark_site.ensures.heads e note c.args.here c.args.sync notes stood fit below alone said is)
 
 pub returns-in-Err-mark_site-clause-asked : goal.returns-in-Err-mark_site-clause-asked
 returns-in-Err-mark_site-clause-asked g c = λ d first second prot stands l.
-    let one = comes_one d first second prot c.args.here c.args.there c.args.sync c.args.states.now l c.args.yard.now stands c.join_site.new.yard (λ e note notes stood fit below said is. c.in-Ok.ensures.heads e note c.args.sync notes stood fit below said is) in
-    let two = comes_two d first second prot c.args.here c.args.there c.args.sync c.args.states.now l c.args.yard.now stands c.join_site.new.yard c.make_link.new.yard one (λ e note notes stood fit below session said is. c.in-Ok-make_link.ensures.heads e note notes stood fit below session said is) in
+    let one = comes_one d first second prot c.args.here c.args.there c.args.sync c.args.states.now l c.args.yard.now stands c.join_site.new.yard (λ e note notes stood fit below first alone said is. c.in-Ok.ensures.heads e note c.args.sync notes stood fit below first alone said is) in
+    let two = comes_two d first second prot c.args.here c.args.there c.args.sync c.args.states.now l c.args.yard.now stands c.join_site.new.yard c.make_link.new.yard one (λ e note notes stood fit below alone session said is. c.in-Ok-make_link.ensures.heads e note notes stood fit below alone session said is) in
     (all_then c.args.yard.now c.make_link.new.yard c.mark_site.new.yard
     (all_then c.args.yard.now c.join_site.new.yard c.make_link.new.yard
     (all_of_site c.args.there c.args.yard.now c.join_site.new.yard (c.in-Ok.ensures.asked d stands l.below_too))
@@ -109,16 +109,16 @@ returns-in-Err-mark_site-clause-told g c = λ told. (c.in-Ok.ensures.told (c.in-
 
 pub returns-in-Err-open_link-clause-leads : goal.returns-in-Err-open_link-clause-leads
 returns-in-Err-open_link-clause-leads g c = λ d first second prot stands l.
-    let one = comes_one d first second prot c.args.here c.args.there c.args.sync c.args.states.now l c.args.yard.now stands c.join_site.new.yard (λ e note notes stood fit below said is. c.in-Ok.ensures.heads e note c.args.sync notes stood fit below said is) in
-    let two = comes_two d first second prot c.args.here c.args.there c.args.sync c.args.states.now l c.args.yard.now stands c.join_site.new.yard c.make_link.new.yard one (λ e note notes stood fit below session said is. c.in-Ok-make_link.ensures.heads e note notes stood fit below session said is) in
-    let three = comes_three d first second prot c.args.here c.args.there c.args.sync c.args.states.now l c.args.yard.now stands c.make_link.new.yard c.mark_site.new.yard two (λ e note notes stood fit below said is. c.in-Ok-mark_site.ensures.heads e note c.args.here c.args.sync notes stood fit below said is) in
-    ends_four d first second prot c.args.here c.args.there c.args.sync c.args.states.now l c.args.yard.now stands c.mark_site.new.yard c.open_link.new.yard c.in-Err-open_link.said three (λ e note notes stood fit below last said is. c.in-Err-open_link.ensures.heads e note c.args.sync notes stood fit below last said is)
+    let one = comes_one d first second prot c.args.here c.args.there c.args.sync c.args.states.now l c.args.yard.now stands c.join_site.new.yard (λ e note notes stood fit below first alone said is. c.in-Ok.ensures.heads e note c.args.sync notes stood fit below first alone said is) in
+    let two = comes_two d first second prot c.args.here c.args.there c.args.sync c.args.states.now l c.args.yard.now stands c.join_site.new.yard c.make_link.new.yard one (λ e note notes stood fit below alone session said is. c.in-Ok-make_link.ensures.heads e note notes stood fit below alone session said is) in
+    let three = comes_three d first second prot c.args.here c.args.there c.args.sync c.args.states.now l c.args.yard.now stands c.make_link.new.yard c.mark_site.new.yard two (λ e note notes stood fit below alone said is. c.in-Ok-mark_site.ensures.heads e note c.args.here c.args.sync notes stood fit below alone said is) in
+    ends_four d first second prot c.args.here c.args.there c.args.sync c.args.states.now l c.args.yard.now stands c.mark_site.new.yard c.open_link.new.yard c.in-Err-open_link.said three (λ e note notes stood fit below alone last said is. c.in-Err-open_link.ensures.heads e note c.args.sync notes stood fit below alone last said is)
 
 pub returns-in-Err-open_link-clause-asked : goal.returns-in-Err-open_link-clause-asked
 returns-in-Err-open_link-clause-asked g c = λ d first second prot stands l.
-    let one = comes_one d first second prot c.args.here c.args.there c.args.sync c.args.states.now l c.args.yard.now stands c.join_site.new.yard (λ e note notes stood fit below said is. c.in-Ok.ensures.heads e note c.args.sync notes stood fit below said is) in
-    let two = comes_two d first second prot c.args.here c.args.there c.args.sync c.args.states.now l c.args.yard.now stands c.join_site.new.yard c.make_link.new.yard one (λ e note notes stood fit below session said is. c.in-Ok-make_link.ensures.heads e note notes stood fit below session said is) in
-    let three = comes_three d first second prot c.args.here c.args.there c.args.sync c.args.states.now l c.args.yard.now stands c.make_link.new.yard c.mark_site.new.yard two (λ e note notes stood fit below said is. c.in-Ok-mark_site.ensures.heads e note c.args.here c.args.sync notes stood fit below said is) in
+    let one = comes_one d first second prot c.args.here c.args.there c.args.sync c.args.states.now l c.args.yard.now stands c.join_site.new.yard (λ e note notes stood fit below first alone said is. c.in-Ok.ensures.heads e note c.args.sync notes stood fit below first alone said is) in
+    let two = comes_two d first second prot c.args.here c.args.there c.args.sync c.args.states.now l c.args.yard.now stands c.join_site.new.yard c.make_link.new.yard one (λ e note notes stood fit below alone session said is. c.in-Ok-make_link.ensures.heads e note notes stood fit below alone session said is) in
+    let three = comes_three d first second prot c.args.here c.args.there c.args.sync c.args.states.now l c.args.yard.now stands c.make_link.new.yard c.mark_site.new.yard two (λ e note notes stood fit below alone said is. c.in-Ok-mark_site.ensures.heads e note c.args.here c.args.sync notes stood fit below alone said is) in
     (all_then c.args.yard.now c.mark_site.new.yard c.open_link.new.yard
     (all_then c.args.yard.now c.make_link.new.yard c.mark_site.new.yard
     (all_then c.args.yard.now c.join_site.new.yard c.make_link.new.yard
@@ -132,21 +132,21 @@ returns-in-Err-open_link-clause-told g c = λ told. (c.in-Ok.ensures.told (c.in-
 
 pub returns-in-Ok-open_link-clause-leads : goal.returns-in-Ok-open_link-clause-leads
 returns-in-Ok-open_link-clause-leads g c = λ d first second prot stands l.
-    let one = comes_one d first second prot c.args.here c.args.there c.args.sync c.args.states.now l c.args.yard.now stands c.join_site.new.yard (λ e note notes stood fit below said is. c.in-Ok.ensures.heads e note c.args.sync notes stood fit below said is) in
-    let two = comes_two d first second prot c.args.here c.args.there c.args.sync c.args.states.now l c.args.yard.now stands c.join_site.new.yard c.make_link.new.yard one (λ e note notes stood fit below session said is. c.in-Ok-make_link.ensures.heads e note notes stood fit below session said is) in
-    let three = comes_three d first second prot c.args.here c.args.there c.args.sync c.args.states.now l c.args.yard.now stands c.make_link.new.yard c.mark_site.new.yard two (λ e note notes stood fit below said is. c.in-Ok-mark_site.ensures.heads e note c.args.here c.args.sync notes stood fit below said is) in
+    let one = comes_one d first second prot c.args.here c.args.there c.args.sync c.args.states.now l c.args.yard.now stands c.join_site.new.yard (λ e note notes stood fit below first alone said is. c.in-Ok.ensures.heads e note c.args.sync notes stood fit below first alone said is) in
+    let two = comes_two d first second prot c.args.here c.args.there c.args.sync c.args.states.now l c.args.yard.now stands c.join_site.new.yard c.make_link.new.yard one (λ e note notes stood fit below alone session said is. c.in-Ok-make_link.ensures.heads e note notes stood fit below alone session said is) in
+    let three = comes_three d first second prot c.args.here c.args.there c.args.sync c.args.states.now l c.args.yard.now stands c.make_link.new.yard c.mark_site.new.yard two (λ e note notes stood fit below alone said is. c.in-Ok-mark_site.ensures.heads e note c.args.here c.args.sync notes stood fit below alone said is) in
     let racks = (g.met.R.Rack g.world.𝓛 g.world.𝓜 g.world.𝓡 ((λ s x. x), (λ x. x), (λ x. x), λ x. x)).rack in
-    let first_part = under_one d first second prot c.args.here c.args.there c.args.sync c.args.states.now l c.args.yard.now stands c.join_site.new.yard (Ok tt) (λ e note notes stood fit below said. c.in-Ok.ensures.called e note c.args.sync notes stood fit below said) in
+    let first_part = under_one d first second prot c.args.here c.args.there c.args.sync c.args.states.now l c.args.yard.now stands c.join_site.new.yard (Ok tt) (λ e note notes stood fit below alone said. c.in-Ok.ensures.called e note c.args.sync notes stood fit below alone said) in
     let second_part = under_two d first second prot c.args.here c.args.there c.args.sync c.args.states.now l c.args.yard.now stands c.join_site.new.yard c.make_link.new.yard Done first_part (c.in-Ok-make_link.ensures.called _ one.stands (below_one d first second prot c.args.here c.args.there c.args.sync c.args.states.now l c.args.yard.now stands c.args.here l.below)) in
     let third_part = under_three d first second prot c.args.here c.args.there c.args.sync c.args.states.now l c.args.yard.now stands c.make_link.new.yard c.mark_site.new.yard Done second_part (c.in-Ok-mark_site.ensures.called _ two.stands (below_two d first second prot c.args.here c.args.there c.args.sync c.args.states.now l c.args.yard.now stands c.args.there l.below_too)) in
     let both = burns_done d first second prot c.args.here c.args.there c.args.sync c.args.states.now l c.args.yard.now stands c.mark_site.new.yard c.open_link.new.yard third_part (c.in-Ok-open_link.ensures.called _ three.stands (below_three d first second prot c.args.here c.args.there c.args.sync c.args.states.now l c.args.yard.now stands c.args.here l.below)) in
-    ends_done d first second prot c.args.here c.args.there c.args.sync c.args.states.now l c.args.yard.now stands racks c.mark_site.new.yard c.open_link.new.yard three (λ e note notes stood fit below last said is. c.in-Ok-open_link.ensures.heads e note c.args.sync notes stood fit below last said is) both
+    ends_done d first second prot c.args.here c.args.there c.args.sync c.args.states.now l c.args.yard.now stands racks c.mark_site.new.yard c.open_link.new.yard three (λ e note notes stood fit below alone last said is. c.in-Ok-open_link.ensures.heads e note c.args.sync notes stood fit below alone last said is) both
 
 pub returns-in-Ok-open_link-clause-asked : goal.returns-in-Ok-open_link-clause-asked
 returns-in-Ok-open_link-clause-asked g c = λ d first second prot stands l.
-    let one = comes_one d first second prot c.args.here c.args.there c.args.sync c.args.states.now l c.args.yard.now stands c.join_site.new.yard (λ e note notes stood fit below said is. c.in-Ok.ensures.heads e note c.args.sync notes stood fit below said is) in
-    let two = comes_two d first second prot c.args.here c.args.there c.args.sync c.args.states.now l c.args.yard.now stands c.join_site.new.yard c.make_link.new.yard one (λ e note notes stood fit below session said is. c.in-Ok-make_link.ensures.heads e note notes stood fit below session said is) in
-    let three = comes_three d first second prot c.args.here c.args.there c.args.sync c.args.states.now l c.args.yard.now stands c.make_link.new.yard c.mark_site.new.yard two (λ e note notes stood fit below said is. c.in-Ok-mark_site.ensures.heads e note c.args.here c.args.sync notes stood fit below said is) in
+    let one = comes_one d first second prot c.args.here c.args.there c.args.sync c.args.states.now l c.args.yard.now stands c.join_site.new.yard (λ e note notes stood fit below first alone said is. c.in-Ok.ensures.heads e note c.args.sync notes stood fit below first alone said is) in
+    let two = comes_two d first second prot c.args.here c.args.there c.args.sync c.args.states.now l c.args.yard.now stands c.join_site.new.yard c.make_link.new.yard one (λ e note notes stood fit below alone session said is. c.in-Ok-make_link.ensures.heads e note notes stood fit below alone session said is) in
+    let three = comes_three d first second prot c.args.here c.args.there c.args.sync c.args.states.now l c.args.yard.now stands c.make_link.new.yard c.mark_site.new.yard two (λ e note notes stood fit below alone said is. c.in-Ok-mark_site.ensures.heads e note c.args.here c.args.sync notes stood fit below alone said is) in
     (all_then c.args.yard.now c.mark_site.new.yard c.open_link.new.yard
     (all_then c.args.yard.now c.make_link.new.yard c.mark_site.new.yard
     (all_then c.args.yard.now c.join_site.new.yard c.make_link.new.yard
@@ -160,41 +160,41 @@ returns-in-Ok-open_link-clause-told g c = λ told. (c.in-Ok.ensures.told (c.in-O
 
 pub returns-in-Err-clause-called : goal.returns-in-Err-clause-called
 returns-in-Err-clause-called g c = λ d first second prot stands l.
-    burns_one d first second prot c.args.here c.args.there c.args.sync c.args.states.now l c.args.yard.now stands c.join_site.new.yard c.in-Err.said (λ e note notes stood fit below said is. c.in-Err.ensures.heads e note c.args.sync notes stood fit below said is) (λ e note notes stood fit below said. c.in-Err.ensures.called e note c.args.sync notes stood fit below said)
+    burns_one d first second prot c.args.here c.args.there c.args.sync c.args.states.now l c.args.yard.now stands c.join_site.new.yard c.in-Err.said (λ e note notes stood fit below first alone said is. c.in-Err.ensures.heads e note c.args.sync notes stood fit below first alone said is) (λ e note notes stood fit below alone said. c.in-Err.ensures.called e note c.args.sync notes stood fit below alone said)
 
 pub returns-in-Err-make_link-clause-called : goal.returns-in-Err-make_link-clause-called
 returns-in-Err-make_link-clause-called g c = λ d first second prot stands l.
-    let one = comes_one d first second prot c.args.here c.args.there c.args.sync c.args.states.now l c.args.yard.now stands c.join_site.new.yard (λ e note notes stood fit below said is. c.in-Ok.ensures.heads e note c.args.sync notes stood fit below said is) in
-    let first_part = under_one d first second prot c.args.here c.args.there c.args.sync c.args.states.now l c.args.yard.now stands c.join_site.new.yard (Ok tt) (λ e note notes stood fit below said. c.in-Ok.ensures.called e note c.args.sync notes stood fit below said) in
-    burns_two d first second prot c.args.here c.args.there c.args.sync c.args.states.now l c.args.yard.now stands c.join_site.new.yard c.make_link.new.yard c.in-Err-make_link.said one (λ e note notes stood fit below session said is. c.in-Err-make_link.ensures.heads e note notes stood fit below session said is) first_part
+    let one = comes_one d first second prot c.args.here c.args.there c.args.sync c.args.states.now l c.args.yard.now stands c.join_site.new.yard (λ e note notes stood fit below first alone said is. c.in-Ok.ensures.heads e note c.args.sync notes stood fit below first alone said is) in
+    let first_part = under_one d first second prot c.args.here c.args.there c.args.sync c.args.states.now l c.args.yard.now stands c.join_site.new.yard (Ok tt) (λ e note notes stood fit below alone said. c.in-Ok.ensures.called e note c.args.sync notes stood fit below alone said) in
+    burns_two d first second prot c.args.here c.args.there c.args.sync c.args.states.now l c.args.yard.now stands c.join_site.new.yard c.make_link.new.yard c.in-Err-make_link.said one (λ e note notes stood fit below alone session said is. c.in-Err-make_link.ensures.heads e note notes stood fit below alone session said is) first_part
     (c.in-Err-make_link.ensures.called _ one.stands (below_one d first second prot c.args.here c.args.there c.args.sync c.args.states.now l c.args.yard.now stands c.args.here l.below))
 
 pub returns-in-Err-mark_site-clause-called : goal.returns-in-Err-mark_site-clause-called
 returns-in-Err-mark_site-clause-called g c = λ d first second prot stands l.
-    let one = comes_one d first second prot c.args.here c.args.there c.args.sync c.args.states.now l c.args.yard.now stands c.join_site.new.yard (λ e note notes stood fit below said is. c.in-Ok.ensures.heads e note c.args.sync notes stood fit below said is) in
-    let two = comes_two d first second prot c.args.here c.args.there c.args.sync c.args.states.now l c.args.yard.now stands c.join_site.new.yard c.make_link.new.yard one (λ e note notes stood fit below session said is. c.in-Ok-make_link.ensures.heads e note notes stood fit below session said is) in
-    let first_part = under_one d first second prot c.args.here c.args.there c.args.sync c.args.states.now l c.args.yard.now stands c.join_site.new.yard (Ok tt) (λ e note notes stood fit below said. c.in-Ok.ensures.called e note c.args.sync notes stood fit below said) in
+    let one = comes_one d first second prot c.args.here c.args.there c.args.sync c.args.states.now l c.args.yard.now stands c.join_site.new.yard (λ e note notes stood fit below first alone said is. c.in-Ok.ensures.heads e note c.args.sync notes stood fit below first alone said is) in
+    let two = comes_two d first second prot c.args.here c.args.there c.args.sync c.args.states.now l c.args.yard.now stands c.join_site.new.yard c.make_link.new.yard one (λ e note notes stood fit below alone session said is. c.in-Ok-make_link.ensures.heads e note notes stood fit below alone session said is) in
+    let first_part = under_one d first second prot c.args.here c.args.there c.args.sync c.args.states.now l c.args.yard.now stands c.join_site.new.yard (Ok tt) (λ e note notes stood fit below alone said. c.in-Ok.ensures.called e note c.args.sync notes stood fit below alone said) in
     let second_part = under_two d first second prot c.args.here c.args.there c.args.sync c.args.states.now l c.args.yard.now stands c.join_site.new.yard c.make_link.new.yard Done first_part (c.in-Ok-make_link.ensures.called _ one.stands (below_one d first second prot c.args.here c.args.there c.args.sync c.args.states.now l c.args.yard.now stands c.args.here l.below)) in
-    burns_three d first second prot c.args.here c.args.there c.args.sync c.args.states.now l c.args.yard.now stands c.make_link.new.yard c.mark_site.new.yard c.in-Err-mark_site.said two (λ e note notes stood fit below said is. c.in-Err-mark_site.ensures.heads e note c.args.here c.args.sync notes stood fit below said is) second_part
+    burns_three d first second prot c.args.here c.args.there c.args.sync c.args.states.now l c.args.yard.now stands c.make_link.new.yard c.mark_site.new.yard c.in-Err-mark_site.said two (λ e note notes stood fit below alone said is. c.in-Err-mark_site.ensures.heads e note c.args.here c.args.sync notes stood fit below alone said is) second_part
     (c.in-Err-mark_site.ensures.called _ two.stands (below_two d first second prot c.args.here c.args.there c.args.sync c.args.states.now l c.args.yard.now stands c.args.there l.below_too))
 
 pub returns-in-Err-open_link-clause-called : goal.returns-in-Err-open_link-clause-called
 returns-in-Err-open_link-clause-called g c = λ d first second prot stands l.
-    let one = comes_one d first second prot c.args.here c.args.there c.args.sync c.args.states.now l c.args.yard.now stands c.join_site.new.yard (λ e note notes stood fit below said is. c.in-Ok.ensures.heads e note c.args.sync notes stood fit below said is) in
-    let two = comes_two d first second prot c.args.here c.args.there c.args.sync c.args.states.now l c.args.yard.now stands c.join_site.new.yard c.make_link.new.yard one (λ e note notes stood fit below session said is. c.in-Ok-make_link.ensures.heads e note notes stood fit below session said is) in
-    let three = comes_three d first second prot c.args.here c.args.there c.args.sync c.args.states.now l c.args.yard.now stands c.make_link.new.yard c.mark_site.new.yard two (λ e note notes stood fit below said is. c.in-Ok-mark_site.ensures.heads e note c.args.here c.args.sync notes stood fit below said is) in
-    let first_part = under_one d first second prot c.args.here c.args.there c.args.sync c.args.states.now l c.args.yard.now stands c.join_site.new.yard (Ok tt) (λ e note notes stood fit below said. c.in-Ok.ensures.called e note c.args.sync notes stood fit below said) in
+    let one = comes_one d first second prot c.args.here c.args.there c.args.sync c.args.states.now l c.args.yard.now stands c.join_site.new.yard (λ e note notes stood fit below first alone said is. c.in-Ok.ensures.heads e note c.args.sync notes stood fit below first alone said is) in
+    let two = comes_two d first second prot c.args.here c.args.there c.args.sync c.args.states.now l c.args.yard.now stands c.join_site.new.yard c.make_link.new.yard one (λ e note notes stood fit below alone session said is. c.in-Ok-make_link.ensures.heads e note notes stood fit below alone session said is) in
+    let three = comes_three d first second prot c.args.here c.args.there c.args.sync c.args.states.now l c.args.yard.now stands c.make_link.new.yard c.mark_site.new.yard two (λ e note notes stood fit below alone said is. c.in-Ok-mark_site.ensures.heads e note c.args.here c.args.sync notes stood fit below alone said is) in
+    let first_part = under_one d first second prot c.args.here c.args.there c.args.sync c.args.states.now l c.args.yard.now stands c.join_site.new.yard (Ok tt) (λ e note notes stood fit below alone said. c.in-Ok.ensures.called e note c.args.sync notes stood fit below alone said) in
     let second_part = under_two d first second prot c.args.here c.args.there c.args.sync c.args.states.now l c.args.yard.now stands c.join_site.new.yard c.make_link.new.yard Done first_part (c.in-Ok-make_link.ensures.called _ one.stands (below_one d first second prot c.args.here c.args.there c.args.sync c.args.states.now l c.args.yard.now stands c.args.here l.below)) in
     let third_part = under_three d first second prot c.args.here c.args.there c.args.sync c.args.states.now l c.args.yard.now stands c.make_link.new.yard c.mark_site.new.yard Done second_part (c.in-Ok-mark_site.ensures.called _ two.stands (below_two d first second prot c.args.here c.args.there c.args.sync c.args.states.now l c.args.yard.now stands c.args.there l.below_too)) in
-    burns_four d first second prot c.args.here c.args.there c.args.sync c.args.states.now l c.args.yard.now stands c.mark_site.new.yard c.open_link.new.yard c.in-Err-open_link.said three (λ e note notes stood fit below last said is. c.in-Err-open_link.ensures.heads e note c.args.sync notes stood fit below last said is) third_part
+    burns_four d first second prot c.args.here c.args.there c.args.sync c.args.states.now l c.args.yard.now stands c.mark_site.new.yard c.open_link.new.yard c.in-Err-open_link.said three (λ e note notes stood fit below alone last said is. c.in-Err-open_link.ensures.heads e note c.args.sync notes stood fit below alone last said is) third_part
     (c.in-Err-open_link.ensures.called _ three.stands (below_three d first second prot c.args.here c.args.there c.args.sync c.args.states.now l c.args.yard.now stands c.args.here l.below))
 
 pub returns-in-Ok-open_link-clause-called : goal.returns-in-Ok-open_link-clause-called
 returns-in-Ok-open_link-clause-called g c = λ d first second prot stands l.
-    let one = comes_one d first second prot c.args.here c.args.there c.args.sync c.args.states.now l c.args.yard.now stands c.join_site.new.yard (λ e note notes stood fit below said is. c.in-Ok.ensures.heads e note c.args.sync notes stood fit below said is) in
-    let two = comes_two d first second prot c.args.here c.args.there c.args.sync c.args.states.now l c.args.yard.now stands c.join_site.new.yard c.make_link.new.yard one (λ e note notes stood fit below session said is. c.in-Ok-make_link.ensures.heads e note notes stood fit below session said is) in
-    let three = comes_three d first second prot c.args.here c.args.there c.args.sync c.args.states.now l c.args.yard.now stands c.make_link.new.yard c.mark_site.new.yard two (λ e note notes stood fit below said is. c.in-Ok-mark_site.ensures.heads e note c.args.here c.args.sync notes stood fit below said is) in
-    let first_part = under_one d first second prot c.args.here c.args.there c.args.sync c.args.states.now l c.args.yard.now stands c.join_site.new.yard (Ok tt) (λ e note notes stood fit below said. c.in-Ok.ensures.called e note c.args.sync notes stood fit below said) in
+    let one = comes_one d first second prot c.args.here c.args.there c.args.sync c.args.states.now l c.args.yard.now stands c.join_site.new.yard (λ e note notes stood fit below first alone said is. c.in-Ok.ensures.heads e note c.args.sync notes stood fit below first alone said is) in
+    let two = comes_two d first second prot c.args.here c.args.there c.args.sync c.args.states.now l c.args.yard.now stands c.join_site.new.yard c.make_link.new.yard one (λ e note notes stood fit below alone session said is. c.in-Ok-make_link.ensures.heads e note notes stood fit below alone session said is) in
+    let three = comes_three d first second prot c.args.here c.args.there c.args.sync c.args.states.now l c.args.yard.now stands c.make_link.new.yard c.mark_site.new.yard two (λ e note notes stood fit below alone said is. c.in-Ok-mark_site.ensures.heads e note c.args.here c.args.sync notes stood fit below alone said is) in
+    let first_part = under_one d first second prot c.args.here c.args.there c.args.sync c.args.states.now l c.args.yard.now stands c.join_site.new.yard (Ok tt) (λ e note notes stood fit below alone said. c.in-Ok.ensures.called e note c.args.sync notes stood fit below alone said) in
     let second_part = under_two d first second prot c.args.here c.args.there c.args.sync c.args.states.now l c.args.yard.now stands c.join_site.new.yard c.make_link.new.yard Done first_part (c.in-Ok-make_link.ensures.called _ one.stands (below_one d first second prot c.args.here c.args.there c.args.sync c.args.states.now l c.args.yard.now stands c.args.here l.below)) in
     let third_part = under_three d first second prot c.args.here c.args.there c.args.sync c.args.states.now l c.args.yard.now stands c.make_link.new.yard c.mark_site.new.yard Done second_part (c.in-Ok-mark_site.ensures.called _ two.stands (below_two d first second prot c.args.here c.args.there c.args.sync c.args.states.now l c.args.yard.now stands c.args.there l.below_too)) in
     burns_done d first second prot c.args.here c.args.there c.args.sync c.args.states.now l c.args.yard.now stands c.mark_site.new.yard c.open_link.new.yard third_part (c.in-Ok-open_link.ensures.called _ three.stands (below_three d first second prot c.args.here c.args.there c.args.sync c.args.states.now l c.args.yard.now stands c.args.here l.below))

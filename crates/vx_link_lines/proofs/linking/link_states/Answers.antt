@@ -45,17 +45,17 @@ returns-clause-few g c =
     omega (arith, c.in-Some-kept_facts.ensures.few, ap (λ (ls : List KeptLink). length ls) c.in-Some-kept_facts.ensures.links, many)
 
 pub returns-clause-is : goal.returns-clause-is
-returns-clause-is g c = λ d stood stood_too up runs up_too links.
+returns-clause-is g c = λ d stood stood_too alone alone_too up runs up_too links.
     let p = c.args.here in
     let s = c.args.there in
     let kept = c.in-Some-kept_facts.kept in
     let session = c.session-session.result in
     let last = c.last-last.result in
     states_are d.world p s c.args.sync c.in-Some.state.now c.in-Some-state.other.now c.join_state-joined.result c.in-Some-with_links.made c.mark_state-marked.result c.in-Some-with_links-2.open session last kept
-    c.kept_further-further.result c.kept_with-over.result (c.in-Some.ensures.is (beside_of d p) (d.world.nodes p) stood up).0 (c.in-Some-state.ensures.is (beside_of d s) (d.world.nodes s) stood_too up_too).0
+    c.kept_further-further.result c.kept_with-over.result (c.in-Some.ensures.is (beside_of d p) (d.world.nodes p) stood up alone).0 (c.in-Some-state.ensures.is (beside_of d s) (d.world.nodes s) stood_too up_too alone_too).0
     (c.in-Some-kept_facts.ensures.world d.world p links) (c.kept_further-further.ensures.links ∙ ap (λ (l : PlainLink). kept ++ kept_plain l ∷ []) c.new_link-link.ensures)
     (c.kept_with-over.ensures.links
     ∙ ap (λ (l : PlainLink). kept_over (kept_plain l) c.as_slice.result.now) (c.opened-log_link.ensures ∙ ap (λ (l : PlainLink). opened_link l last) c.new_link-link.ensures)
     ∙ ap (λ (ls : List KeptLink). kept_over (kept_plain (opened_link (fresh_link s c.args.sync session) last)) ls) c.as_slice.ensures.links)
-    c.join_state-joined.ensures.is c.mark_state-marked.ensures.is c.in-Some-with_links.ensures.is c.in-Some-with_links-2.ensures.is (c.session-session.ensures.is (beside_of d s) (d.world.nodes s) stood_too up_too)
+    c.join_state-joined.ensures.is c.mark_state-marked.ensures.is c.in-Some-with_links.ensures.is c.in-Some-with_links-2.ensures.is (c.session-session.ensures.is (beside_of d s) (d.world.nodes s) stood_too up_too alone_too)
     (c.last-last.ensures.is (beside_of d p) (d.world.nodes p) stood up runs)

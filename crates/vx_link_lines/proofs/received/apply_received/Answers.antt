@@ -45,7 +45,7 @@ returns-in-Ok-clause-leads g c = λ d s stands carries seat receives.
     let to = c.index-to.result.now in
     let fed = carries.feeders t to (get_at old.feeders.items t to (omega (arith, here.seat.below, stands.disk_sets.few, c.requires.kept.numbers)) c.index-to.ensures) here.can.up other in
     let same_before = some_same (sym (get_at es t c.index.result.now c.site_of-site.ensures.disk_set c.index.ensures) ∙ there) in
-    let line = c.in-Some.ensures.is (beside_of d t) n (subst (λ e. SiteStands (beside_of d t) n e) (sym same_before) stood) here.can.up in
+    let line = c.in-Some.ensures.is (beside_of d t) n (subst (λ e. SiteStands (beside_of d t) n e) (sym same_before) stood) here.can.up here.seat.apart in
     let same_after = some_same (sym (get-set_same es t after c.site_of-site.ensures.disk_set)
     ∙ get_at (slice_set es t after) t c.index-in-Ok.result.now (omega (arith, c.site_of-site.ensures.disk_set, length-set es t after)) c.index-in-Ok.ensures) in
     received_done d old _ c.args.name.now c.args.count t before after stands here (record { there = there; later = c.apply_waiting.ensures.later; disk_sets = refl; racks = refl }) c.apply_waiting.ensures.role other c.in-Ok.reached c.last-number.result

@@ -17,13 +17,13 @@ use Rattle.vx_link_lines.proofs.SetLink.{set_links, state_so}
 use Rattle.vx_link_lines.proofs.set.set_state.Goals as goal
 
 pub returns-clause-is : goal.returns-clause-is
-returns-clause-is g c = λ beside n w stood up facts has said.
+returns-clause-is g c = λ beside n w stood up alone facts has said.
     let found = c.link_between.ensures.world w c.in-Some.l facts c.in-Some.is in
     let here : (slice_index_or c.args.sites.now c.args.here c.index-sites-here.result).links ≡ links_of_site w c.args.here =
-    ap (λ (f : SiteFacts). f.links) (site_of w c.args.sites.now c.args.here _ facts found.below c.requires.within)
+    ap (λ (f : SiteFacts). f.links) (site_of w c.args.sites.now c.args.here _ facts found.below found.apart c.requires.within)
     ∙ ap (λ (t : SiteState). links_by t (links_of_site w c.args.here)) found.up in
     let kept = c.in-Some-kept_facts.ensures.world w c.args.here (c.as_slice.ensures ∙ here) in
-    let state = (c.in-Some-state.ensures.is beside n stood up).0 in
+    let state = (c.in-Some-state.ensures.is beside n stood up alone).0 in
     let links : c.kept_with.result ≡ header_links (step w (SetAt c.args.here c.args.there c.args.sync)).world c.args.here =
     c.kept_with.ensures.links
     ∙ ap (λ (l : PlainLink). kept_over (kept_plain l) c.as_slice-2.result.now) c.with_setting-link.ensures

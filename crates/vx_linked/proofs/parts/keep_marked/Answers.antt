@@ -9,7 +9,7 @@ use Rattle.vx_linked.proofs.parts.keep_marked.Goals as goal
 
 pub returns : goal.returns
 returns c = record {
-  world = λ w here sync facts said.
+  world = λ w here sync facts alone said.
       let two = (two_done w here c.args.there sync Marked said).0 in
-      put_site w c.args.sites.now c.args.there _ c.mark_site.new.site (marked_fact Consistent) facts two.second c.requires.second c.mark_site.ensures ∙ sym (marked_facts w here c.args.there sync said);
+      put_site w c.args.sites.now c.args.there _ c.mark_site.new.site (marked_fact Consistent) facts two.second alone c.requires.second c.mark_site.ensures ∙ sym (marked_facts w here c.args.there sync alone said);
 }

@@ -9,7 +9,7 @@ use Rattle.vx_linked.proofs.parts.keep_opened.Goals as goal
 
 pub returns-in-Some : goal.returns-in-Some
 returns-in-Some c = record {
-  world = λ w sync facts has last said.
+  world = λ w sync facts alone has last said.
       let link = (c.link_between.ensures.world w c.in-Some.l facts c.in-Some.is).link_is in
       c.put_link.ensures.world w (opens w c.args.here c.args.there sync) facts refl
       (opened_fact w c.args.here c.args.there sync said c.args.last last c.opened-link.result (c.opened-link.ensures ∙ ap (λ (x : LinkFacts). opened_link x.link c.args.last) link))
@@ -18,7 +18,7 @@ returns-in-Some c = record {
 
 pub returns-in_default : goal.returns-in_default
 returns-in_default c = record {
-  world = λ w sync facts has last said.
+  world = λ w sync facts alone has last said.
       let two = (two_done w c.args.here c.args.there sync Opened said).0 in
-      absurd (some_between w c.args.sites.now c.args.here c.args.there facts two.first two.up has (opened_linked w c.args.here c.args.there sync said) (sym c.link_between.ensures.link ∙ c.in_default.is));
+      absurd (some_between w c.args.sites.now c.args.here c.args.there facts two.first alone two.up has (opened_linked w c.args.here c.args.there sync said) (sym c.link_between.ensures.link ∙ c.in_default.is));
 }

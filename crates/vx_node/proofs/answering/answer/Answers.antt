@@ -3,12 +3,13 @@ use Rattle.std.proofs.Common.{◌∙◌, ⊎_elim, false, refl, sym, subst, true
 use Rattle.std.specs.Prelude.{◌≡◌, IsSome, Option, None, Some}
 use Rattle.vx_model.specs.declared.no.No.{No}
 use Rattle.vx_yard.specs.Working.{refused_in}
-use Rattle.vx_link_lines.proofs.AnswerFor.{leads_answer, refusal_answer}
+use Rattle.vx_link_lines.proofs.AnswerFor.{refusal_answer}
+use Rattle.vx_node.proofs.Works.{works_answer}
 use Rattle.vx_node.proofs.answering.answer.Goals as goal
 
 pub returns-in-None-clause-leads : goal.returns-in-None-clause-leads
 returns-in-None-clause-leads g c = λ d stands carries good.
-    leads_answer d c.args.words.now c.args.yard.now c.perform.new.yard c.perform.result stands carries (sym c.refusal.ensures ∙ c.in-None.is) (c.perform.ensures.leads d stands carries good)
+    works_answer d c.args.words.now c.args.yard.now c.perform.new.yard c.perform.result stands carries (sym c.refusal.ensures ∙ c.in-None.is) (c.perform.ensures.leads d stands carries good)
 
 pub returns-in-None-clause-settled : goal.returns-in-None-clause-settled
 returns-in-None-clause-settled g c = λ d stands carries good free. c.perform.ensures.settled d stands carries good

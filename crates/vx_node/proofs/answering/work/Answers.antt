@@ -1,19 +1,21 @@
 -- The work of a line that no test refuses.
-use Rattle.std.proofs.Common.{subst, sym, refl}
+use Rattle.std.proofs.Common.{◌≡◌, false, subst, sym, refl}
 use Rattle.std.proofs.lemmas.Result.{err_from_is_err_and}
 use Rattle.vx_link_lines.proofs.AnswerFor.{if_ok, memory_taken}
 use Rattle.vx_yard.proofs.NamedSite.{unbegun_by, unbegun_site}
-use Rattle.std.specs.Prelude.{IfOk, Result}
+use Rattle.std.specs.Prelude.{IfOk, Ok, Result}
 use Rattle.vx_model.specs.declared.errors.OutOfMemory.{OutOfMemory}
 use Rattle.vx_events.specs.declared.said.Said.{Said}
 use Rattle.vx_yard.specs.Standing.{Leads, LeadsIs}
 use Rattle.vx_yard.specs.Working.{IsFree}
 use Rattle.vx_yard.specs.Yards.{in_files}
 use Rattle.vx_events.proofs.Refused.{site_may}
+use Rattle.vx_events.specs.StepsOver.{is_for_group}
 use Rattle.vx_yard.specs.OfSites.{AsAsked, HasCalled}
 use Rattle.vx_events.proofs.RefusedCalls.{read_may, show_may, write_may}
 use Rattle.vx_diskset.specs.Asked.{LeavesAlone, SameFailing}
 use Rattle.vx_diskset.proofs.KeepsFailing.{alone_same, failing_same}
+use Rattle.vx_node.proofs.Works.{works_whole}
 use Rattle.vx_node.proofs.answering.work.Goals as goal
 
 pub make_site-requires-clause-free : goal.make_site-requires-clause-free
@@ -65,155 +67,184 @@ make_site-requires-clause-large g c = λ κs lives.
     (site_may c.args.yard.now.facts.items (in_files c.args.yard.now) c.in-Site.site c.in-Site.disks c.in-Site.blocks (subst (λ line. IsFree c.args.yard.now line) c.in-Site.is c.requires.free)).some_blocks
 
 pub returns-in-Site-clause-leads : goal.returns-in-Site-clause-leads
-returns-in-Site-clause-leads g c = λ d stands carries good. subst (λ line. LeadsIs d line c.args.yard.now c.make_site.new.yard c.make_site.result) (sym c.in-Site.is) (c.make_site.ensures.leads d stands)
+returns-in-Site-clause-leads g c = λ d stands apart carries good.
+    works_whole d c.args.words.now c.args.yard.now c.make_site.new.yard c.make_site.result apart
+    (subst (λ line. LeadsIs d line c.args.yard.now c.make_site.new.yard c.make_site.result) (sym c.in-Site.is) (c.make_site.ensures.leads d stands))
 
 pub returns-in-Site-clause-asked : goal.returns-in-Site-clause-asked
-returns-in-Site-clause-asked g c = λ d stands. subst (λ line. AsAsked d.world line c.args.yard.now c.make_site.new.yard) (sym c.in-Site.is) (c.make_site.ensures.asked d stands)
+returns-in-Site-clause-asked g c = λ d stands apart. subst (λ line. AsAsked d.world line c.args.yard.now c.make_site.new.yard) (sym c.in-Site.is) (c.make_site.ensures.asked d stands)
 
 pub returns-in-Raw-clause-leads : goal.returns-in-Raw-clause-leads
-returns-in-Raw-clause-leads g c = λ d stands carries good. subst (λ line. LeadsIs d line c.args.yard.now c.make_raw.new.yard c.make_raw.result) (sym c.in-Raw.is) (c.make_raw.ensures.leads d stands)
+returns-in-Raw-clause-leads g c = λ d stands apart carries good.
+    works_whole d c.args.words.now c.args.yard.now c.make_raw.new.yard c.make_raw.result apart
+    (subst (λ line. LeadsIs d line c.args.yard.now c.make_raw.new.yard c.make_raw.result) (sym c.in-Raw.is) (c.make_raw.ensures.leads d stands))
 
 pub returns-in-Raw-clause-asked : goal.returns-in-Raw-clause-asked
-returns-in-Raw-clause-asked g c = λ d stands. subst (λ line. AsAsked d.world line c.args.yard.now c.make_raw.new.yard) (sym c.in-Raw.is) (c.make_raw.ensures.asked d stands)
+returns-in-Raw-clause-asked g c = λ d stands apart. subst (λ line. AsAsked d.world line c.args.yard.now c.make_raw.new.yard) (sym c.in-Raw.is) (c.make_raw.ensures.asked d stands)
 
 pub returns-in-Disk-clause-leads : goal.returns-in-Disk-clause-leads
-returns-in-Disk-clause-leads g c = λ d stands carries good. subst (λ line. Leads d line c.set_disk.result c.args.yard.now c.set_disk.new.yard) (sym c.in-Disk.is) (c.set_disk.ensures.leads d stands)
+returns-in-Disk-clause-leads g c = λ d stands apart carries good.
+    works_whole d c.args.words.now c.args.yard.now c.set_disk.new.yard (Ok c.set_disk.result) apart
+    (subst (λ line. Leads d line c.set_disk.result c.args.yard.now c.set_disk.new.yard) (sym c.in-Disk.is) (c.set_disk.ensures.leads d stands (subst (λ line. is_for_group d.world line ≡ false) c.in-Disk.is apart)))
 
 pub returns-in-Disk-clause-asked : goal.returns-in-Disk-clause-asked
-returns-in-Disk-clause-asked g c = λ d stands. subst (λ line. AsAsked d.world line c.args.yard.now c.set_disk.new.yard) (sym c.in-Disk.is) (c.set_disk.ensures.asked d stands)
+returns-in-Disk-clause-asked g c = λ d stands apart. subst (λ line. AsAsked d.world line c.args.yard.now c.set_disk.new.yard) (sym c.in-Disk.is) (c.set_disk.ensures.asked d stands (subst (λ line. is_for_group d.world line ≡ false) c.in-Disk.is apart))
 
 pub returns-in-Crash-clause-leads : goal.returns-in-Crash-clause-leads
-returns-in-Crash-clause-leads g c = λ d stands carries good. subst (λ line. Leads d line c.crash_line.result c.args.yard.now c.crash_line.new.yard) (sym c.in-Crash.is) (c.crash_line.ensures.leads d stands)
+returns-in-Crash-clause-leads g c = λ d stands apart carries good.
+    works_whole d c.args.words.now c.args.yard.now c.crash_line.new.yard (Ok c.crash_line.result) apart
+    (subst (λ line. Leads d line c.crash_line.result c.args.yard.now c.crash_line.new.yard) (sym c.in-Crash.is) (c.crash_line.ensures.leads d stands (subst (λ line. is_for_group d.world line ≡ false) c.in-Crash.is apart)))
 
 pub returns-in-Crash-clause-asked : goal.returns-in-Crash-clause-asked
-returns-in-Crash-clause-asked g c = λ d stands. subst (λ line. AsAsked d.world line c.args.yard.now c.crash_line.new.yard) (sym c.in-Crash.is) (c.crash_line.ensures.asked d stands)
+returns-in-Crash-clause-asked g c = λ d stands apart. subst (λ line. AsAsked d.world line c.args.yard.now c.crash_line.new.yard) (sym c.in-Crash.is) (c.crash_line.ensures.asked d stands (subst (λ line. is_for_group d.world line ≡ false) c.in-Crash.is apart))
 
 pub returns-in-Fuse-clause-leads : goal.returns-in-Fuse-clause-leads
-returns-in-Fuse-clause-leads g c = λ d stands carries good. subst (λ line. Leads d line c.fuse_line.result c.args.yard.now c.fuse_line.new.yard) (sym c.in-Fuse.is) (c.fuse_line.ensures.leads d stands)
+returns-in-Fuse-clause-leads g c = λ d stands apart carries good.
+    works_whole d c.args.words.now c.args.yard.now c.fuse_line.new.yard (Ok c.fuse_line.result) apart
+    (subst (λ line. Leads d line c.fuse_line.result c.args.yard.now c.fuse_line.new.yard) (sym c.in-Fuse.is) (c.fuse_line.ensures.leads d stands (subst (λ line. is_for_group d.world line ≡ false) c.in-Fuse.is apart)))
 
 pub returns-in-Fuse-clause-asked : goal.returns-in-Fuse-clause-asked
-returns-in-Fuse-clause-asked g c = λ d stands. subst (λ line. AsAsked d.world line c.args.yard.now c.fuse_line.new.yard) (sym c.in-Fuse.is) (c.fuse_line.ensures.asked d stands)
+returns-in-Fuse-clause-asked g c = λ d stands apart. subst (λ line. AsAsked d.world line c.args.yard.now c.fuse_line.new.yard) (sym c.in-Fuse.is) (c.fuse_line.ensures.asked d stands (subst (λ line. is_for_group d.world line ≡ false) c.in-Fuse.is apart))
 
 pub returns-in_ok-room-in-Read-clause-leads : goal.returns-in_ok-room-in-Read-clause-leads
-returns-in_ok-room-in-Read-clause-leads g c = λ d stands carries good. subst (λ line. Leads d line c.read_line.result c.args.yard.now c.read_line.new.yard) (sym c.in-Read.is) (c.read_line.ensures.leads d stands)
+returns-in_ok-room-in-Read-clause-leads g c = λ d stands apart carries good.
+    works_whole d c.args.words.now c.args.yard.now c.read_line.new.yard (Ok c.read_line.result) apart
+    (subst (λ line. Leads d line c.read_line.result c.args.yard.now c.read_line.new.yard) (sym c.in-Read.is) (c.read_line.ensures.leads d stands (subst (λ line. is_for_group d.world line ≡ false) c.in-Read.is apart)))
 
 pub returns-in_ok-room-in-Read-clause-asked : goal.returns-in_ok-room-in-Read-clause-asked
-returns-in_ok-room-in-Read-clause-asked g c = λ d stands. subst (λ line. AsAsked d.world line c.args.yard.now c.read_line.new.yard) (sym c.in-Read.is) (c.read_line.ensures.asked d stands)
+returns-in_ok-room-in-Read-clause-asked g c = λ d stands apart. subst (λ line. AsAsked d.world line c.args.yard.now c.read_line.new.yard) (sym c.in-Read.is) (c.read_line.ensures.asked d stands (subst (λ line. is_for_group d.world line ≡ false) c.in-Read.is apart))
 
 pub returns-in_ok-room-in-Show-clause-leads : goal.returns-in_ok-room-in-Show-clause-leads
-returns-in_ok-room-in-Show-clause-leads g c = λ d stands carries good. subst (λ line. Leads d line c.show_line.result c.args.yard.now c.show_line.new.yard) (sym c.in-Show.is) (c.show_line.ensures.leads d stands)
+returns-in_ok-room-in-Show-clause-leads g c = λ d stands apart carries good.
+    works_whole d c.args.words.now c.args.yard.now c.show_line.new.yard (Ok c.show_line.result) apart
+    (subst (λ line. Leads d line c.show_line.result c.args.yard.now c.show_line.new.yard) (sym c.in-Show.is) (c.show_line.ensures.leads d stands (subst (λ line. is_for_group d.world line ≡ false) c.in-Show.is apart)))
 
 pub returns-in_ok-room-in-Show-clause-asked : goal.returns-in_ok-room-in-Show-clause-asked
-returns-in_ok-room-in-Show-clause-asked g c = λ d stands. subst (λ line. AsAsked d.world line c.args.yard.now c.show_line.new.yard) (sym c.in-Show.is) (c.show_line.ensures.asked d stands)
+returns-in_ok-room-in-Show-clause-asked g c = λ d stands apart. subst (λ line. AsAsked d.world line c.args.yard.now c.show_line.new.yard) (sym c.in-Show.is) (c.show_line.ensures.asked d stands (subst (λ line. is_for_group d.world line ≡ false) c.in-Show.is apart))
 
 pub returns-in-Apply-clause-leads : goal.returns-in-Apply-clause-leads
-returns-in-Apply-clause-leads g c = λ d stands carries good. subst (λ line. LeadsIs d line c.args.yard.now c.apply_line.new.yard c.apply_line.result) (sym c.in-Apply.is) (c.apply_line.ensures.leads d stands carries)
+returns-in-Apply-clause-leads g c = λ d stands apart carries good.
+    works_whole d c.args.words.now c.args.yard.now c.apply_line.new.yard c.apply_line.result apart
+    (subst (λ line. LeadsIs d line c.args.yard.now c.apply_line.new.yard c.apply_line.result) (sym c.in-Apply.is) (c.apply_line.ensures.leads d stands carries))
 
 pub returns-in-Apply-clause-asked : goal.returns-in-Apply-clause-asked
-returns-in-Apply-clause-asked g c = λ d stands. subst (λ line. AsAsked d.world line c.args.yard.now c.apply_line.new.yard) (sym c.in-Apply.is) (c.apply_line.ensures.asked d stands)
+returns-in-Apply-clause-asked g c = λ d stands apart. subst (λ line. AsAsked d.world line c.args.yard.now c.apply_line.new.yard) (sym c.in-Apply.is) (c.apply_line.ensures.asked d stands)
 
 pub returns-in-Apply-clause-called : goal.returns-in-Apply-clause-called
-returns-in-Apply-clause-called g c = λ d stands carries good. subst (λ line. IfOk c.apply_line.result (λ said. HasCalled d.world line said c.args.yard.now c.apply_line.new.yard)) (sym c.in-Apply.is) (c.apply_line.ensures.called d stands)
+returns-in-Apply-clause-called g c = λ d stands apart carries good. subst (λ line. IfOk c.apply_line.result (λ said. HasCalled d.world line said c.args.yard.now c.apply_line.new.yard)) (sym c.in-Apply.is) (c.apply_line.ensures.called d stands)
 
 pub returns-in-Status-clause-leads : goal.returns-in-Status-clause-leads
-returns-in-Status-clause-leads g c = λ d stands carries good. subst (λ line. LeadsIs d line c.args.yard.now c.args.yard.now c.status_line.result) (sym c.in-Status.is) (c.status_line.ensures.leads d stands)
+returns-in-Status-clause-leads g c = λ d stands apart carries good.
+    works_whole d c.args.words.now c.args.yard.now c.args.yard.now c.status_line.result apart
+    (subst (λ line. LeadsIs d line c.args.yard.now c.args.yard.now c.status_line.result) (sym c.in-Status.is) (c.status_line.ensures.leads d stands (subst (λ line. is_for_group d.world line ≡ false) c.in-Status.is apart)))
 
 pub returns-in-Status-clause-asked : goal.returns-in-Status-clause-asked
-returns-in-Status-clause-asked g c = λ d stands. subst (λ line. AsAsked d.world line c.args.yard.now c.args.yard.now) (sym c.in-Status.is) refl
+returns-in-Status-clause-asked g c = λ d stands apart. subst (λ line. AsAsked d.world line c.args.yard.now c.args.yard.now) (sym c.in-Status.is) refl
 
 pub returns-in-Recover-clause-leads : goal.returns-in-Recover-clause-leads
-returns-in-Recover-clause-leads g c = λ d stands carries good. subst (λ line. LeadsIs d line c.args.yard.now c.recover_line.new.yard c.recover_line.result) (sym c.in-Recover.is) (c.recover_line.ensures.leads d stands)
+returns-in-Recover-clause-leads g c = λ d stands apart carries good.
+    works_whole d c.args.words.now c.args.yard.now c.recover_line.new.yard c.recover_line.result apart
+    (subst (λ line. LeadsIs d line c.args.yard.now c.recover_line.new.yard c.recover_line.result) (sym c.in-Recover.is) (c.recover_line.ensures.leads d stands (subst (λ line. is_for_group d.world line ≡ false) c.in-Recover.is apart)))
 
 pub returns-in-Recover-clause-asked : goal.returns-in-Recover-clause-asked
-returns-in-Recover-clause-asked g c = λ d stands. subst (λ line. AsAsked d.world line c.args.yard.now c.recover_line.new.yard) (sym c.in-Recover.is) (c.recover_line.ensures.asked d stands)
+returns-in-Recover-clause-asked g c = λ d stands apart. subst (λ line. AsAsked d.world line c.args.yard.now c.recover_line.new.yard) (sym c.in-Recover.is) (c.recover_line.ensures.asked d stands (subst (λ line. is_for_group d.world line ≡ false) c.in-Recover.is apart))
 
 pub returns-in-Recover-clause-called : goal.returns-in-Recover-clause-called
-returns-in-Recover-clause-called g c = λ d stands carries good. if_ok (λ said. HasCalled d.world c.args.words.now said c.args.yard.now c.recover_line.new.yard) c.recover_line.result (λ said. subst (λ line. HasCalled d.world line said c.args.yard.now c.recover_line.new.yard) (sym c.in-Recover.is) tt)
+returns-in-Recover-clause-called g c = λ d stands apart carries good. if_ok (λ said. HasCalled d.world c.args.words.now said c.args.yard.now c.recover_line.new.yard) c.recover_line.result (λ said. subst (λ line. HasCalled d.world line said c.args.yard.now c.recover_line.new.yard) (sym c.in-Recover.is) tt)
 
 pub returns-in_ok-bytes-in-Write-clause-leads : goal.returns-in_ok-bytes-in-Write-clause-leads
-returns-in_ok-bytes-in-Write-clause-leads g c = λ d stands carries good. subst (λ line. Leads d line c.write_line.result c.args.yard.now c.write_line.new.yard) (sym c.in-Write.is) (c.write_line.ensures.leads d stands)
+returns-in_ok-bytes-in-Write-clause-leads g c = λ d stands apart carries good.
+    works_whole d c.args.words.now c.args.yard.now c.write_line.new.yard (Ok c.write_line.result) apart
+    (subst (λ line. Leads d line c.write_line.result c.args.yard.now c.write_line.new.yard) (sym c.in-Write.is) (c.write_line.ensures.leads d stands (subst (λ line. is_for_group d.world line ≡ false) c.in-Write.is apart)))
 
 pub returns-in_ok-bytes-in-Write-clause-asked : goal.returns-in_ok-bytes-in-Write-clause-asked
-returns-in_ok-bytes-in-Write-clause-asked g c = λ d stands. subst (λ line. AsAsked d.world line c.args.yard.now c.write_line.new.yard) (sym c.in-Write.is) (c.write_line.ensures.asked d stands)
+returns-in_ok-bytes-in-Write-clause-asked g c = λ d stands apart. subst (λ line. AsAsked d.world line c.args.yard.now c.write_line.new.yard) (sym c.in-Write.is) (c.write_line.ensures.asked d stands (subst (λ line. is_for_group d.world line ≡ false) c.in-Write.is apart))
 
 pub returns-in_ok-bytes-in-Write-clause-called : goal.returns-in_ok-bytes-in-Write-clause-called
-returns-in_ok-bytes-in-Write-clause-called g c = λ d stands carries good. subst (λ line. HasCalled d.world line c.write_line.result c.args.yard.now c.write_line.new.yard) (sym c.in-Write.is) (c.write_line.ensures.called d stands)
+returns-in_ok-bytes-in-Write-clause-called g c = λ d stands apart carries good. subst (λ line. HasCalled d.world line c.write_line.result c.args.yard.now c.write_line.new.yard) (sym c.in-Write.is) (c.write_line.ensures.called d stands (subst (λ line. is_for_group d.world line ≡ false) c.in-Write.is apart))
 
 pub returns-in_err-bytes-in-Write-clause-leads : goal.returns-in_err-bytes-in-Write-clause-leads
-returns-in_err-bytes-in-Write-clause-leads g c = λ d stands carries good.
+returns-in_err-bytes-in-Write-clause-leads g c = λ d stands apart carries good.
     let p = err_from_is_err_and c.from_residual.result c.from_residual.ensures.1 in
-    unbegun_by d c.args.words.now c.args.yard.now _ c.from_residual.result p.0 p.1 refl refl refl (record { flight = refl; assemblies = refl; feeders = refl }) stands
+    works_whole d c.args.words.now c.args.yard.now _ c.from_residual.result apart
+    (unbegun_by d c.args.words.now c.args.yard.now _ c.from_residual.result p.0 p.1 refl refl refl (record { flight = refl; assemblies = refl; feeders = refl }) stands)
 
 pub returns-in_err-bytes-in-Write-clause-asked : goal.returns-in_err-bytes-in-Write-clause-asked
-returns-in_err-bytes-in-Write-clause-asked g c = λ d stands.
+returns-in_err-bytes-in-Write-clause-asked g c = λ d stands apart.
     let y = c.args.yard.now in
     let free = subst (λ line. IsFree y line) c.in-Write.is c.requires.free in
     subst (λ line. AsAsked d.world line y y) (sym c.in-Write.is)
     (unbegun_site SameFailing d y c.in-Write.site failing_same stands (write_may y.facts.items (in_files y) c.in-Write.site c.in-Write.volume c.in-Write.block c.in-Write.count c.in-Write.fill free).call.site)
 
 pub returns-in_err-bytes-in-Write-clause-called : goal.returns-in_err-bytes-in-Write-clause-called
-returns-in_err-bytes-in-Write-clause-called g c = λ d stands carries good.
+returns-in_err-bytes-in-Write-clause-called g c = λ d stands apart carries good.
     let p = err_from_is_err_and c.from_residual.result c.from_residual.ensures.1 in
     subst (λ (r : Result Said OutOfMemory). IfOk r (λ said. HasCalled d.world c.args.words.now said c.args.yard.now c.args.yard.now)) (sym p.1) tt
 
 pub returns-in-Put-clause-leads : goal.returns-in-Put-clause-leads
-returns-in-Put-clause-leads g c = λ d stands carries good. subst (λ line. Leads d line c.put_line.result c.args.yard.now c.put_line.new.yard) (sym c.in-Put.is) (c.put_line.ensures.leads d stands)
+returns-in-Put-clause-leads g c = λ d stands apart carries good.
+    works_whole d c.args.words.now c.args.yard.now c.put_line.new.yard (Ok c.put_line.result) apart
+    (subst (λ line. Leads d line c.put_line.result c.args.yard.now c.put_line.new.yard) (sym c.in-Put.is) (c.put_line.ensures.leads d stands (subst (λ line. is_for_group d.world line ≡ false) c.in-Put.is apart)))
 
 pub returns-in-Put-clause-asked : goal.returns-in-Put-clause-asked
-returns-in-Put-clause-asked g c = λ d stands. subst (λ line. AsAsked d.world line c.args.yard.now c.put_line.new.yard) (sym c.in-Put.is) (c.put_line.ensures.asked d stands)
+returns-in-Put-clause-asked g c = λ d stands apart. subst (λ line. AsAsked d.world line c.args.yard.now c.put_line.new.yard) (sym c.in-Put.is) (c.put_line.ensures.asked d stands (subst (λ line. is_for_group d.world line ≡ false) c.in-Put.is apart))
 
 pub returns-in-Put-clause-called : goal.returns-in-Put-clause-called
-returns-in-Put-clause-called g c = λ d stands carries good. subst (λ line. HasCalled d.world line c.put_line.result c.args.yard.now c.put_line.new.yard) (sym c.in-Put.is) (c.put_line.ensures.called d stands)
+returns-in-Put-clause-called g c = λ d stands apart carries good. subst (λ line. HasCalled d.world line c.put_line.result c.args.yard.now c.put_line.new.yard) (sym c.in-Put.is) (c.put_line.ensures.called d stands (subst (λ line. is_for_group d.world line ≡ false) c.in-Put.is apart))
 
 pub returns-in-Site-clause-called : goal.returns-in-Site-clause-called
-returns-in-Site-clause-called g c = λ d stands carries good. if_ok (λ said. HasCalled d.world c.args.words.now said c.args.yard.now c.make_site.new.yard) c.make_site.result (λ said. subst (λ line. HasCalled d.world line said c.args.yard.now c.make_site.new.yard) (sym c.in-Site.is) tt)
+returns-in-Site-clause-called g c = λ d stands apart carries good. if_ok (λ said. HasCalled d.world c.args.words.now said c.args.yard.now c.make_site.new.yard) c.make_site.result (λ said. subst (λ line. HasCalled d.world line said c.args.yard.now c.make_site.new.yard) (sym c.in-Site.is) tt)
 
 pub returns-in-Raw-clause-called : goal.returns-in-Raw-clause-called
-returns-in-Raw-clause-called g c = λ d stands carries good. if_ok (λ said. HasCalled d.world c.args.words.now said c.args.yard.now c.make_raw.new.yard) c.make_raw.result (λ said. subst (λ line. HasCalled d.world line said c.args.yard.now c.make_raw.new.yard) (sym c.in-Raw.is) tt)
+returns-in-Raw-clause-called g c = λ d stands apart carries good. if_ok (λ said. HasCalled d.world c.args.words.now said c.args.yard.now c.make_raw.new.yard) c.make_raw.result (λ said. subst (λ line. HasCalled d.world line said c.args.yard.now c.make_raw.new.yard) (sym c.in-Raw.is) tt)
 
 pub returns-in-Disk-clause-called : goal.returns-in-Disk-clause-called
-returns-in-Disk-clause-called g c = λ d stands carries good. subst (λ line. HasCalled d.world line c.set_disk.result c.args.yard.now c.set_disk.new.yard) (sym c.in-Disk.is) tt
+returns-in-Disk-clause-called g c = λ d stands apart carries good. subst (λ line. HasCalled d.world line c.set_disk.result c.args.yard.now c.set_disk.new.yard) (sym c.in-Disk.is) tt
 
 pub returns-in-Crash-clause-called : goal.returns-in-Crash-clause-called
-returns-in-Crash-clause-called g c = λ d stands carries good. subst (λ line. HasCalled d.world line c.crash_line.result c.args.yard.now c.crash_line.new.yard) (sym c.in-Crash.is) tt
+returns-in-Crash-clause-called g c = λ d stands apart carries good. subst (λ line. HasCalled d.world line c.crash_line.result c.args.yard.now c.crash_line.new.yard) (sym c.in-Crash.is) tt
 
 pub returns-in-Fuse-clause-called : goal.returns-in-Fuse-clause-called
-returns-in-Fuse-clause-called g c = λ d stands carries good. subst (λ line. HasCalled d.world line c.fuse_line.result c.args.yard.now c.fuse_line.new.yard) (sym c.in-Fuse.is) tt
+returns-in-Fuse-clause-called g c = λ d stands apart carries good. subst (λ line. HasCalled d.world line c.fuse_line.result c.args.yard.now c.fuse_line.new.yard) (sym c.in-Fuse.is) tt
 
 pub returns-in_ok-room-in-Read-clause-called : goal.returns-in_ok-room-in-Read-clause-called
-returns-in_ok-room-in-Read-clause-called g c = λ d stands carries good. subst (λ line. HasCalled d.world line c.read_line.result c.args.yard.now c.read_line.new.yard) (sym c.in-Read.is) tt
+returns-in_ok-room-in-Read-clause-called g c = λ d stands apart carries good. subst (λ line. HasCalled d.world line c.read_line.result c.args.yard.now c.read_line.new.yard) (sym c.in-Read.is) tt
 
 pub returns-in_ok-room-in-Show-clause-called : goal.returns-in_ok-room-in-Show-clause-called
-returns-in_ok-room-in-Show-clause-called g c = λ d stands carries good. subst (λ line. HasCalled d.world line c.show_line.result c.args.yard.now c.show_line.new.yard) (sym c.in-Show.is) tt
+returns-in_ok-room-in-Show-clause-called g c = λ d stands apart carries good. subst (λ line. HasCalled d.world line c.show_line.result c.args.yard.now c.show_line.new.yard) (sym c.in-Show.is) tt
 
 pub returns-in-Status-clause-called : goal.returns-in-Status-clause-called
-returns-in-Status-clause-called g c = λ d stands carries good. if_ok (λ said. HasCalled d.world c.args.words.now said c.args.yard.now c.args.yard.now) c.status_line.result (λ said. subst (λ line. HasCalled d.world line said c.args.yard.now c.args.yard.now) (sym c.in-Status.is) tt)
+returns-in-Status-clause-called g c = λ d stands apart carries good. if_ok (λ said. HasCalled d.world c.args.words.now said c.args.yard.now c.args.yard.now) c.status_line.result (λ said. subst (λ line. HasCalled d.world line said c.args.yard.now c.args.yard.now) (sym c.in-Status.is) tt)
 
 pub returns-in_err-room-in-Read-clause-leads : goal.returns-in_err-room-in-Read-clause-leads
-returns-in_err-room-in-Read-clause-leads g c = λ d stands carries good.
-    let p = err_from_is_err_and c.from_residual-in_err-room-in-Read.result c.from_residual-in_err-room-in-Read.ensures.1 in unbegun_by d c.args.words.now c.args.yard.now _ c.from_residual-in_err-room-in-Read.result p.0 p.1 refl refl refl (record { flight = refl; assemblies = refl; feeders = refl }) stands
+returns-in_err-room-in-Read-clause-leads g c = λ d stands apart carries good.
+    let p = err_from_is_err_and c.from_residual-in_err-room-in-Read.result c.from_residual-in_err-room-in-Read.ensures.1 in
+    works_whole d c.args.words.now c.args.yard.now _ c.from_residual-in_err-room-in-Read.result apart
+    (unbegun_by d c.args.words.now c.args.yard.now _ c.from_residual-in_err-room-in-Read.result p.0 p.1 refl refl refl (record { flight = refl; assemblies = refl; feeders = refl }) stands)
 
 pub returns-in_err-room-in-Read-clause-called : goal.returns-in_err-room-in-Read-clause-called
-returns-in_err-room-in-Read-clause-called g c = λ d stands carries good.
+returns-in_err-room-in-Read-clause-called g c = λ d stands apart carries good.
     if_ok (λ said. HasCalled d.world c.args.words.now said c.args.yard.now c.args.yard.now) c.from_residual-in_err-room-in-Read.result (λ said. subst (λ line. HasCalled d.world line said c.args.yard.now c.args.yard.now) (sym c.in-Read.is) tt)
 
 pub returns-in_err-room-in-Read-clause-asked : goal.returns-in_err-room-in-Read-clause-asked
-returns-in_err-room-in-Read-clause-asked g c = λ d stands.
+returns-in_err-room-in-Read-clause-asked g c = λ d stands apart.
     let y = c.args.yard.now in
     let free = subst (λ line. IsFree y line) c.in-Read.is c.requires.free in
     subst (λ line. AsAsked d.world line y y) (sym c.in-Read.is)
     (unbegun_site LeavesAlone d y c.in-Read.site alone_same stands (read_may y.facts.items (in_files y) c.in-Read.site c.in-Read.volume c.in-Read.block c.in-Read.count free).site)
 
 pub returns-in_err-room-in-Show-clause-leads : goal.returns-in_err-room-in-Show-clause-leads
-returns-in_err-room-in-Show-clause-leads g c = λ d stands carries good.
-    let p = err_from_is_err_and c.from_residual-in_err-room-in-Show.result c.from_residual-in_err-room-in-Show.ensures.1 in unbegun_by d c.args.words.now c.args.yard.now _ c.from_residual-in_err-room-in-Show.result p.0 p.1 refl refl refl (record { flight = refl; assemblies = refl; feeders = refl }) stands
+returns-in_err-room-in-Show-clause-leads g c = λ d stands apart carries good.
+    let p = err_from_is_err_and c.from_residual-in_err-room-in-Show.result c.from_residual-in_err-room-in-Show.ensures.1 in
+    works_whole d c.args.words.now c.args.yard.now _ c.from_residual-in_err-room-in-Show.result apart
+    (unbegun_by d c.args.words.now c.args.yard.now _ c.from_residual-in_err-room-in-Show.result p.0 p.1 refl refl refl (record { flight = refl; assemblies = refl; feeders = refl }) stands)
 
 pub returns-in_err-room-in-Show-clause-called : goal.returns-in_err-room-in-Show-clause-called
-returns-in_err-room-in-Show-clause-called g c = λ d stands carries good.
+returns-in_err-room-in-Show-clause-called g c = λ d stands apart carries good.
     if_ok (λ said. HasCalled d.world c.args.words.now said c.args.yard.now c.args.yard.now) c.from_residual-in_err-room-in-Show.result (λ said. subst (λ line. HasCalled d.world line said c.args.yard.now c.args.yard.now) (sym c.in-Show.is) tt)
 
 pub returns-in_err-room-in-Show-clause-asked : goal.returns-in_err-room-in-Show-clause-asked
-returns-in_err-room-in-Show-clause-asked g c = λ d stands.
+returns-in_err-room-in-Show-clause-asked g c = λ d stands apart.
     let y = c.args.yard.now in
     let free = subst (λ line. IsFree y line) c.in-Show.is c.requires.free in
     subst (λ line. AsAsked d.world line y y) (sym c.in-Show.is)
@@ -223,26 +254,29 @@ pub work_link-requires-clause-free : goal.work_link-requires-clause-free
 work_link-requires-clause-free g c = λ κs lives. c.requires.free
 
 pub returns-in-Set-clause-leads : goal.returns-in-Set-clause-leads
-returns-in-Set-clause-leads g c = λ d stands carries good. c.work_link.ensures.leads d stands carries
+returns-in-Set-clause-leads g c = λ d stands apart carries good.
+    works_whole d c.args.words.now c.args.yard.now c.work_link.new.yard c.work_link.result apart
+    (c.work_link.ensures.leads d stands carries)
 
 pub returns-in-Set-clause-asked : goal.returns-in-Set-clause-asked
-returns-in-Set-clause-asked g c = λ d stands. c.work_link.ensures.asked d stands
+returns-in-Set-clause-asked g c = λ d stands apart. c.work_link.ensures.asked d stands
 
 pub returns-in-Set-clause-called : goal.returns-in-Set-clause-called
-returns-in-Set-clause-called g c = λ d stands carries good. c.work_link.ensures.called d stands
+returns-in-Set-clause-called g c = λ d stands apart carries good. c.work_link.ensures.called d stands
 
 pub deliver_line-requires-clause-free : goal.deliver_line-requires-clause-free
 deliver_line-requires-clause-free g c = λ κs lives. subst (λ line. IsFree c.args.yard.now line) c.in-Deliver.is c.requires.free
 
 pub returns-in-Deliver-clause-leads : goal.returns-in-Deliver-clause-leads
-returns-in-Deliver-clause-leads g c = λ d stands carries good.
-    subst (λ line. LeadsIs d line c.args.yard.now c.deliver_line.new.yard c.deliver_line.result) (sym c.in-Deliver.is) (c.deliver_line.ensures.leads d stands carries good)
+returns-in-Deliver-clause-leads g c = λ d stands apart carries good.
+    works_whole d c.args.words.now c.args.yard.now c.deliver_line.new.yard c.deliver_line.result apart
+    (subst (λ line. LeadsIs d line c.args.yard.now c.deliver_line.new.yard c.deliver_line.result) (sym c.in-Deliver.is) (c.deliver_line.ensures.leads d stands carries good))
 
 pub returns-in-Deliver-clause-asked : goal.returns-in-Deliver-clause-asked
-returns-in-Deliver-clause-asked g c = λ d stands. subst (λ line. AsAsked d.world line c.args.yard.now c.deliver_line.new.yard) (sym c.in-Deliver.is) (c.deliver_line.ensures.asked d stands)
+returns-in-Deliver-clause-asked g c = λ d stands apart. subst (λ line. AsAsked d.world line c.args.yard.now c.deliver_line.new.yard) (sym c.in-Deliver.is) (c.deliver_line.ensures.asked d stands)
 
 pub returns-in-Deliver-clause-called : goal.returns-in-Deliver-clause-called
-returns-in-Deliver-clause-called g c = λ d stands carries good. subst (λ line. IfOk c.deliver_line.result (λ said. HasCalled d.world line said c.args.yard.now c.deliver_line.new.yard)) (sym c.in-Deliver.is) (c.deliver_line.ensures.called d stands carries)
+returns-in-Deliver-clause-called g c = λ d stands apart carries good. subst (λ line. IfOk c.deliver_line.result (λ said. HasCalled d.world line said c.args.yard.now c.deliver_line.new.yard)) (sym c.in-Deliver.is) (c.deliver_line.ensures.called d stands carries)
 
 pub returns-in-Site-clause-whole : goal.returns-in-Site-clause-whole
 returns-in-Site-clause-whole g c = λ none. memory_taken c.args.words.now _ c.in-Site.is refl none

@@ -12,11 +12,11 @@ pub site_of-site-requires-clause-named : goal.site_of-site-requires-clause-named
 site_of-site-requires-clause-named g c = λ κs within. named_some c.args.yard.now c.args.name.now ((crash_may c.args.yard.now.facts.items (in_files c.args.yard.now) c.args.name.now c.args.pick c.requires.free).0)
 
 pub returns-clause-leads : goal.returns-clause-leads
-returns-clause-leads g c = λ d stands.
+returns-clause-leads g c = λ d stands apart.
     let is : seat_of c.args.yard.now.facts.items c.args.name.now ≡ Some c.site_of-site.result = c.site_of-site.ensures.seat in
     crash_leads d c.args.yard.now c.go_down.new.yard c.args.name.now c.args.pick c.site_of-site.result stands c.requires.free is c.go_down.ensures.falls
 
 pub returns-clause-asked : goal.returns-clause-asked
-returns-clause-asked g c = λ d stands.
+returns-clause-asked g c = λ d stands apart.
     let is : seat_of c.args.yard.now.facts.items c.args.name.now ≡ Some c.site_of-site.result = c.site_of-site.ensures.seat in
     crash_asks d c.args.yard.now c.go_down.new.yard c.args.name.now c.args.pick c.site_of-site.result stands c.requires.free is c.go_down.ensures.asked

@@ -9,7 +9,7 @@ use Rattle.vx_diskset.specs.Asked.{SameFailing}
 use Rattle.vx_diskset.specs.declared.disk_set.DiskSet.TheVariants.{Gone}
 use Rattle.vx_diskset.proofs.KeepsFailing.{failing_same}
 use Rattle.vx_yard.proofs.Lists.{get_at, set_twice}
-use Rattle.vx_site_lines.proofs.RawLine.{raw_told}
+use Rattle.vx_yard.proofs.ChangeSite.{raw_told}
 use Rattle.vx_events.proofs.Refused.{raw_may}
 use Rattle.vx_events.proofs.Places.{some_same}
 use Rattle.vx_yard.proofs.Seats.{named_some}

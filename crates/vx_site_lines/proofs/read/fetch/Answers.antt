@@ -38,12 +38,12 @@ returns-in-Err-clause-told g c = told_before c.args.yard.now.disk_sets.items c.s
     (get_at c.args.yard.now.disk_sets.items c.site_of-site.result c.index_mut.result.now c.site_of-site.ensures.disk_set c.index_mut.ensures.value) c.in-Err.ensures.later
 
 pub returns-in-Ok-clause-leads : goal.returns-in-Ok-clause-leads
-returns-in-Ok-clause-leads g c = λ d line stands is free origin.
+returns-in-Ok-clause-leads g c = λ d line stands apart is free origin.
     let y = c.args.yard.now in
     let seat : seat_of y.facts.items c.args.name.now ≡ Some c.site_of-site.result = c.site_of-site.ensures.seat in
     let disk_set = get_at y.disk_sets.items c.site_of-site.result c.index_mut.result.now c.site_of-site.ensures.disk_set c.index_mut.ensures.value in
     let may = may_read y c.args.name.now c.args.volume.now c.args.start c.args.count c.requires.free in
-    let read = fetching d y c.args.name.now c.args.volume.now c.args.start c.args.count c.site_of-site.result c.volume_of-place.result c.index_mut.result.now stands may seat disk_set c.volume_of-place.ensures.place in
+    let read = fetching d y c.args.name.now c.args.volume.now c.args.start c.args.count c.site_of-site.result c.volume_of-place.result c.index_mut.result.now stands apart may seat disk_set c.volume_of-place.ensures.place in
     let there = stands.disk_sets.sites c.site_of-site.result c.index_mut.result.now read.seat.below disk_set in
     fetched_leads d y _ c.args.name.now c.args.volume.now c.args.start c.args.count c.site_of-site.result c.volume_of-place.result c.index_mut.result.now c.blocks_of.new.disk_set stands read
     (record { there = disk_set; later = c.in-Ok.ensures.later; disk_sets = refl; racks = refl }) c.in-Ok.ensures.still c.in-Ok.ensures.role refl (record { flight = refl; assemblies = refl; feeders = refl })
@@ -51,12 +51,12 @@ returns-in-Ok-clause-leads g c = λ d line stands is free origin.
     (c.in-Ok.ensures.read (beside_of d c.site_of-site.result) (d.world.nodes c.site_of-site.result) there read.can)
 
 pub returns-in-Err-clause-leads : goal.returns-in-Err-clause-leads
-returns-in-Err-clause-leads g c = λ d line stands is free origin.
+returns-in-Err-clause-leads g c = λ d line stands apart is free origin.
     let y = c.args.yard.now in
     let seat : seat_of y.facts.items c.args.name.now ≡ Some c.site_of-site.result = c.site_of-site.ensures.seat in
     let disk_set = get_at y.disk_sets.items c.site_of-site.result c.index_mut.result.now c.site_of-site.ensures.disk_set c.index_mut.ensures.value in
     let may = may_read y c.args.name.now c.args.volume.now c.args.start c.args.count c.requires.free in
-    let read = fetching d y c.args.name.now c.args.volume.now c.args.start c.args.count c.site_of-site.result c.volume_of-place.result c.index_mut.result.now stands may seat disk_set c.volume_of-place.ensures.place in
+    let read = fetching d y c.args.name.now c.args.volume.now c.args.start c.args.count c.site_of-site.result c.volume_of-place.result c.index_mut.result.now stands apart may seat disk_set c.volume_of-place.ensures.place in
     let there = stands.disk_sets.sites c.site_of-site.result c.index_mut.result.now read.seat.below disk_set in
     fetch_stops d line y _ c.args.name.now c.args.volume.now c.args.start c.args.count c.site_of-site.result c.volume_of-place.result c.in-Err.no c.index_mut.result.now c.blocks_of.new.disk_set is stands read
     (record { there = disk_set; later = c.in-Err.ensures.later; disk_sets = refl; racks = refl }) c.in-Err.ensures.still c.in-Err.ensures.role
@@ -64,11 +64,11 @@ returns-in-Err-clause-leads g c = λ d line stands is free origin.
     (record { flight = refl; assemblies = refl; feeders = refl })
 
 pub returns-in-Ok-clause-asked : goal.returns-in-Ok-clause-asked
-returns-in-Ok-clause-asked g c = λ d stands.
+returns-in-Ok-clause-asked g c = λ d stands apart.
     asks_at LeavesAlone d c.args.yard.now _ c.args.name.now c.site_of-site.result c.index_mut.result.now c.blocks_of.new.disk_set stands c.site_of-site.ensures.seat
     (get_at c.args.yard.now.disk_sets.items c.site_of-site.result c.index_mut.result.now c.site_of-site.ensures.disk_set c.index_mut.ensures.value) refl c.in-Ok.ensures.still
 
 pub returns-in-Err-clause-asked : goal.returns-in-Err-clause-asked
-returns-in-Err-clause-asked g c = λ d stands.
+returns-in-Err-clause-asked g c = λ d stands apart.
     asks_at LeavesAlone d c.args.yard.now _ c.args.name.now c.site_of-site.result c.index_mut.result.now c.blocks_of.new.disk_set stands c.site_of-site.ensures.seat
     (get_at c.args.yard.now.disk_sets.items c.site_of-site.result c.index_mut.result.now c.site_of-site.ensures.disk_set c.index_mut.ensures.value) refl c.in-Err.ensures.still

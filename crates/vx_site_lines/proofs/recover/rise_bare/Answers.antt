@@ -9,7 +9,7 @@ use Rattle.vx_diskset.proofs.KeepsFailing.{failing_same, failing_then}
 use Rattle.vx_yard.proofs.Lists.{get_at, set_twice}
 use Rattle.vx_yard.proofs.NamedSite.{unbegun_by}
 use Rattle.vx_yard.proofs.OfSites.{site_still}
-use Rattle.vx_site_lines.proofs.RawLine.{raw_told}
+use Rattle.vx_yard.proofs.ChangeSite.{raw_told}
 use Rattle.vx_site_lines.proofs.RiseCases.{bare_again, bare_not, bare_refused, bare_up, later_then}
 use Rattle.vx_site_lines.proofs.recover.rise_bare.Goals as goal
 

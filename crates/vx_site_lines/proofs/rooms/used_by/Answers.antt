@@ -4,6 +4,14 @@ use Rattle.vx_site_lines.proofs.RiseNeeds.{holds_log, need_if}
 use Rattle.vx_site_lines.proofs.RecoverSite.{recover_from_down}
 use Rattle.vx_site_lines.proofs.RiseBare.{stands_up_bare}
 use Rattle.vx_site_lines.proofs.RiseLeads.{stood_up}
+use Rattle.vx_site_lines.proofs.RawSite.{raw_leads, raw_stops}
+use Rattle.vx_site_lines.proofs.SiteMore.{site_leads, site_stops}
+use Rattle.vx_site_lines.proofs.WriteLinks.{write_leads, write_stops}
+use Rattle.vx_site_lines.proofs.DiskLine.{disk_leads}
+use Rattle.vx_site_lines.proofs.FuseLine.{fuse_leads}
+use Rattle.vx_site_lines.proofs.ShownLine.{shown_leads}
+use Rattle.vx_site_lines.proofs.StatusLinks.{status_leads}
+use Rattle.vx_site_lines.proofs.RiseCases.{bare_up}
 use Rattle.vx_site_lines.proofs.rooms.used_by.Goals as goal
 
 pub returns-then-needs_log-clause-is : goal.returns-then-needs_log-clause-is
@@ -11,6 +19,6 @@ returns-then-needs_log-clause-is g c = λ beside n stands up running.
     need_if n c.args.link.now c.needs_log.result c.used.result c.needs_log.ensures c.if-needs_log.true (c.used.ensures.is beside n stands up running)
 
 pub returns-then-needs_log-clause-some : goal.returns-then-needs_log-clause-some
-returns-then-needs_log-clause-some g c = λ beside n k stands origin up running told at.
+returns-then-needs_log-clause-some g c = λ beside n k stands origin up apart running told at.
     let holds = holds_log c.args.link.now c.needs_log.result c.needs_log.ensures c.if-needs_log.true in
-    c.used.ensures.some beside n k c.args.link.now stands origin up running told at holds.0 (omega (arith, holds.1))
+    c.used.ensures.some beside n k c.args.link.now stands origin up apart running told at holds.0 (omega (arith, holds.1))

@@ -9,10 +9,10 @@ pub loop-k-init : goal.loop-k-init
 loop-k-init g c = (refl, λ beside n stands up running. needs_none n _ _)
 
 pub returns-in_default-clause-some : goal.returns-in_default-clause-some
-returns-in_default-clause-some g c = λ beside n stands up running told origins is.
+returns-in_default-clause-some g c = λ beside n stands up apart running told origins is.
     let at = got c.args.links.now c.loop-k.k _ c.loop-k-test.true in
     sym (ap is_some c.in_default.is)
-    ∙ c.used_by.ensures.some beside n c.loop-k.k stands (origins c.loop-k.k _ at) up running told (ap (λ ls. slice_get ls c.loop-k.k) (sym is) ∙ at)
+    ∙ c.used_by.ensures.some beside n c.loop-k.k stands (origins c.loop-k.k _ at) up apart running told (ap (λ ls. slice_get ls c.loop-k.k) (sym is) ∙ at)
 
 pub loop-k-preserved : goal.loop-k-preserved
 loop-k-preserved g c = (

@@ -35,14 +35,14 @@ returns-in-Ok-clause-told g c = told_before c.args.yard.now.disk_sets.items c.si
     (get_at c.args.yard.now.disk_sets.items c.site_of-site.result c.index_mut.result.now c.site_of-site.ensures.disk_set c.index_mut.ensures.value) c.in-Ok.ensures.later
 
 pub returns-in-Ok-clause-leads : goal.returns-in-Ok-clause-leads
-returns-in-Ok-clause-leads g c = λ d s stands seat receives.
+returns-in-Ok-clause-leads g c = λ d s stands apart seat receives.
     let y = c.args.yard.now in
     let t = c.site_of-site.result in
     let before = c.index_mut.result.now in
     let after = c.shown_of.new.disk_set in
     let disk_set = get_at y.disk_sets.items t before c.site_of-site.ensures.disk_set c.index_mut.ensures.value in
     let may = may_read y c.args.name.now c.args.volume.now c.args.start c.args.count (inr c.requires.free) in
-    let read = fetching d y c.args.name.now c.args.volume.now c.args.start c.args.count t c.volume_of-place.result before stands may c.site_of-site.ensures.seat disk_set c.volume_of-place.ensures.place in
+    let read = fetching d y c.args.name.now c.args.volume.now c.args.start c.args.count t c.volume_of-place.result before stands apart may c.site_of-site.ensures.seat disk_set c.volume_of-place.ensures.place in
     let there = stands.disk_sets.sites t before read.seat.below disk_set in
     let other = subst (λ i. is_origin (d.world.nodes i).role ≡ false) (some_same (sym seat ∙ c.site_of-site.ensures.seat)) receives in
     shown_leads d y _ c.args.name.now c.args.volume.now c.args.start c.args.count t c.volume_of-place.result before after stands read (record { there = disk_set; later = c.in-Ok.ensures.later; disk_sets = refl; racks = refl }) c.in-Ok.ensures.still c.in-Ok.ensures.role refl
@@ -53,24 +53,24 @@ returns-in-Err-clause-told g c = told_before c.args.yard.now.disk_sets.items c.s
     (get_at c.args.yard.now.disk_sets.items c.site_of-site.result c.index_mut.result.now c.site_of-site.ensures.disk_set c.index_mut.ensures.value) c.in-Err.ensures.later
 
 pub returns-in-Err-clause-leads : goal.returns-in-Err-clause-leads
-returns-in-Err-clause-leads g c = λ d s stands seat receives.
+returns-in-Err-clause-leads g c = λ d s stands apart seat receives.
     let y = c.args.yard.now in
     let t = c.site_of-site.result in
     let before = c.index_mut.result.now in
     let after = c.shown_of.new.disk_set in
     let disk_set = get_at y.disk_sets.items t before c.site_of-site.ensures.disk_set c.index_mut.ensures.value in
     let may = may_read y c.args.name.now c.args.volume.now c.args.start c.args.count (inr c.requires.free) in
-    let read = fetching d y c.args.name.now c.args.volume.now c.args.start c.args.count t c.volume_of-place.result before stands may c.site_of-site.ensures.seat disk_set c.volume_of-place.ensures.place in
+    let read = fetching d y c.args.name.now c.args.volume.now c.args.start c.args.count t c.volume_of-place.result before stands apart may c.site_of-site.ensures.seat disk_set c.volume_of-place.ensures.place in
     let there = stands.disk_sets.sites t before read.seat.below disk_set in
     shown_stops d y _ c.args.name.now c.args.volume.now c.args.start c.args.count t c.volume_of-place.result before after stands read (record { there = disk_set; later = c.in-Err.ensures.later; disk_sets = refl; racks = refl }) c.in-Err.ensures.still c.in-Err.ensures.role refl
     (record { flight = refl; assemblies = refl; feeders = refl }) c.in-Err.no (c.in-Err.ensures.shows (beside_of d t) (d.world.nodes t) there read.can)
 
 pub returns-in-Ok-clause-asked : goal.returns-in-Ok-clause-asked
-returns-in-Ok-clause-asked g c = λ d stands.
+returns-in-Ok-clause-asked g c = λ d stands apart.
     asks_at LeavesAlone d c.args.yard.now _ c.args.name.now c.site_of-site.result c.index_mut.result.now c.shown_of.new.disk_set stands c.site_of-site.ensures.seat
     (get_at c.args.yard.now.disk_sets.items c.site_of-site.result c.index_mut.result.now c.site_of-site.ensures.disk_set c.index_mut.ensures.value) refl c.in-Ok.ensures.still
 
 pub returns-in-Err-clause-asked : goal.returns-in-Err-clause-asked
-returns-in-Err-clause-asked g c = λ d stands.
+returns-in-Err-clause-asked g c = λ d stands apart.
     asks_at LeavesAlone d c.args.yard.now _ c.args.name.now c.site_of-site.result c.index_mut.result.now c.shown_of.new.disk_set stands c.site_of-site.ensures.seat
     (get_at c.args.yard.now.disk_sets.items c.site_of-site.result c.index_mut.result.now c.site_of-site.ensures.disk_set c.index_mut.ensures.value) refl c.in-Err.ensures.still

@@ -15,12 +15,12 @@ site_of-site-requires-clause-named g c = λ κs within. named_some c.args.yard.n
 
 pub returns : goal.returns
 returns g c = record {
-  leads = λ d stands.
+  leads = λ d stands apart.
       let facts = c.args.yard.now.facts.items in
       let s = c.site_of-site.result in
       let at = get_at facts s c.index.result.now c.site_of-site.ensures.fact c.index.ensures in
-      status_leads d c.args.yard.now c.args.name.now s c.view_at.result stands c.site_of-site.ensures.seat
-      (λ below. c.view_at.ensures.linked d c.index.result.now stands below at
+      status_leads d c.args.yard.now c.args.name.now s c.view_at.result stands apart c.site_of-site.ensures.seat
+      (λ below over. c.view_at.ensures.linked d c.index.result.now stands below over at
       (c.in_ok-links.ensures ∙ ap (λ (ls : List LinkFacts). links_seen c.deref.result.now ls) c.as_slice.ensures
       ∙ ap (λ (fs : List SiteFacts). links_seen fs c.index.result.now.links) c.deref.ensures.value));
 }

@@ -9,7 +9,7 @@ use Rattle.vx_events.specs.declared.said.Said.{Said}
 use Rattle.vx_linked.specs.Holds.{awaits_one}
 use Rattle.vx_yard.proofs.ChangeSite.{told_before}
 use Rattle.vx_yard.proofs.Lists.{get_at}
-use Rattle.vx_yard.proofs.NamedSite.{asks_at, site_at}
+use Rattle.vx_yard.proofs.NamedSite.{asks_at, place_at}
 use Rattle.vx_yard.proofs.Seats.{named_some, volume_there}
 use Rattle.vx_site_lines.proofs.WriteLinks.{answers_under, next_after, room_as, write_leads, write_stops}
 use Rattle.vx_site_lines.proofs.WriteTests.{may_write, writing}
@@ -26,14 +26,14 @@ volume_of-place-requires-clause-named g c = λ κs within f at.
     (may_write c.args.yard.now free.0 c.args.name.now c.args.volume.now c.args.start c.args.bytes.now free.1 free.2).call c.site_of-site.ensures.seat at
 
 pub returns-in-Ok-clause-leads : goal.returns-in-Ok-clause-leads
-returns-in-Ok-clause-leads g c = λ d line stands is free.
+returns-in-Ok-clause-leads g c = λ d line stands apart is free.
     let y = c.args.yard.now in
     let s = c.site_of-site.result in
     let seat : seat_of y.facts.items c.args.name.now ≡ Some c.site_of-site.result = c.site_of-site.ensures.seat in
     let at = get_at y.disk_sets.items s c.index_mut.result.now c.site_of-site.ensures.disk_set c.index_mut.ensures.value in
     let f = get_at y.facts.items s c.index-2.result.now c.site_of-site.ensures.fact c.index-2.ensures in
     let now = get_at y.facts.items s c.index_mut-in-Ok.result.now c.site_of-site.ensures.fact c.index_mut-in-Ok.ensures.value in
-    let to = writing d y line c.args.name.now c.args.volume.now c.args.start c.args.bytes.now s c.volume_of-place.result c.index_mut.result.now stands is free seat at c.volume_of-place.ensures.place in
+    let to = writing d y line c.args.name.now c.args.volume.now c.args.start c.args.bytes.now s c.volume_of-place.result c.index_mut.result.now stands apart is free seat at c.volume_of-place.ensures.place in
     let there = stands.disk_sets.sites s c.index_mut.result.now to.seat.below at in
     let racks = (g.met.R.Rack g.world.𝓛 g.world.𝓜 g.world.𝓡 ((λ s x. x), (λ x. x), (λ x. x), λ x. x)).rack in
     write_leads racks d y _ line c.args.name.now c.args.volume.now c.args.start c.args.bytes.now s c.volume_of-place.result c.index_mut.result.now c.write_keeping.new.self stands is to (record { there = at; later = c.in-Ok.ensures.later; disk_sets = refl; racks = refl }) c.in-Ok.ensures.role
@@ -43,7 +43,7 @@ returns-in-Ok-clause-leads g c = λ d line stands is free.
     (c.in-Ok.ensures.called (beside_of d s) (d.world.nodes s) there) c.note_written.ensures.said now c.note_written.ensures.noted refl (record { flight = refl; assemblies = refl; feeders = refl })
 
 pub returns-in-Err-clause-leads : goal.returns-in-Err-clause-leads
-returns-in-Err-clause-leads g c = λ d line stands is free.
+returns-in-Err-clause-leads g c = λ d line stands apart is free.
     let y = c.args.yard.now in
     let s = c.site_of-site.result in
     let seat : seat_of y.facts.items c.args.name.now ≡ Some c.site_of-site.result = c.site_of-site.ensures.seat in
@@ -51,7 +51,7 @@ returns-in-Err-clause-leads g c = λ d line stands is free.
     let first = get_at y.disk_sets.items s c.index.result.now c.site_of-site.ensures.disk_set c.index.ensures in
     let f = get_at y.facts.items s c.index-2.result.now c.site_of-site.ensures.fact c.index-2.ensures in
     let now = get_at y.facts.items s c.index_mut-in-Err.result.now c.site_of-site.ensures.fact c.index_mut-in-Err.ensures.value in
-    let to = writing d y line c.args.name.now c.args.volume.now c.args.start c.args.bytes.now s c.volume_of-place.result c.index_mut.result.now stands is free seat at c.volume_of-place.ensures.place in
+    let to = writing d y line c.args.name.now c.args.volume.now c.args.start c.args.bytes.now s c.volume_of-place.result c.index_mut.result.now stands apart is free seat at c.volume_of-place.ensures.place in
     let there = stands.disk_sets.sites s c.index_mut.result.now to.seat.below at in
     let racks = (g.met.R.Rack g.world.𝓛 g.world.𝓜 g.world.𝓡 ((λ s x. x), (λ x. x), (λ x. x), λ x. x)).rack in
     write_stops racks d y _ line c.args.name.now c.args.volume.now c.args.start c.args.bytes.now s c.volume_of-place.result c.index_mut.result.now c.write_keeping.new.self stands is to (record { there = at; later = c.in-Err.ensures.later; disk_sets = refl; racks = refl }) c.in-Err.ensures.role
@@ -72,22 +72,22 @@ returns-in-Err-clause-told g c = told_before c.args.yard.now.disk_sets.items c.s
     (get_at c.args.yard.now.disk_sets.items c.site_of-site.result c.index_mut.result.now c.site_of-site.ensures.disk_set c.index_mut.ensures.value) c.in-Err.ensures.later
 
 pub returns-in-Ok-clause-called : goal.returns-in-Ok-clause-called
-returns-in-Ok-clause-called g c = λ d stands.
+returns-in-Ok-clause-called g c = λ d stands apart.
     let y = c.args.yard.now in
     let s = c.site_of-site.result in
     let seat : seat_of y.facts.items c.args.name.now ≡ Some c.site_of-site.result = c.site_of-site.ensures.seat in
     let at = get_at y.disk_sets.items s c.index_mut.result.now c.site_of-site.ensures.disk_set c.index_mut.ensures.value in
-    let there = stands.disk_sets.sites s c.index_mut.result.now (site_at d y c.args.name.now s stands seat).below at in
+    let there = stands.disk_sets.sites s c.index_mut.result.now (place_at d y c.args.name.now s stands seat).below at in
     asks_at (WritesUnder c.args.bytes.now c.note_written.result) d y _ c.args.name.now s c.index_mut.result.now c.write_keeping.new.self stands seat at refl
     (subst (λ (r : Said). WritesUnder c.args.bytes.now r c.index_mut.result.now c.write_keeping.new.self) (sym c.note_written.ensures.said)
     (answers_under (awaits_one c.index_mut-in-Ok.result.now) c.in-Ok.number c.args.bytes.now c.index_mut.result.now c.write_keeping.new.self (c.in-Ok.ensures.called (beside_of d s) (d.world.nodes s) there)))
 
 pub returns-in-Err-clause-called : goal.returns-in-Err-clause-called
-returns-in-Err-clause-called g c = λ d stands.
+returns-in-Err-clause-called g c = λ d stands apart.
     let y = c.args.yard.now in
     let s = c.site_of-site.result in
     let seat : seat_of y.facts.items c.args.name.now ≡ Some c.site_of-site.result = c.site_of-site.ensures.seat in
     let at = get_at y.disk_sets.items s c.index_mut.result.now c.site_of-site.ensures.disk_set c.index_mut.ensures.value in
-    let there = stands.disk_sets.sites s c.index_mut.result.now (site_at d y c.args.name.now s stands seat).below at in
+    let there = stands.disk_sets.sites s c.index_mut.result.now (place_at d y c.args.name.now s stands seat).below at in
     asks_at (WritesUnder c.args.bytes.now c.note_unwritten.result) d y _ c.args.name.now s c.index_mut.result.now c.write_keeping.new.self stands seat at refl
     (subst (λ (r : Said). WritesUnder c.args.bytes.now r c.index_mut.result.now c.write_keeping.new.self) (sym c.note_unwritten.ensures.said) (c.in-Err.ensures.called (beside_of d s) (d.world.nodes s) there))

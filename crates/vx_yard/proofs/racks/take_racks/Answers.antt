@@ -2,7 +2,7 @@
 use Rattle.std.proofs.Common.{◌≡◌, ◌∙◌, ◌++◌, ◌∷◌, ◌<◌, [], length, length-append, ap, arith, rules, vec_len}
 use Rattle.std.specs.Vec.{vec_capacity}
 use Rattle.vx_yard.specs.Racks.{rack_in}
-use Rattle.vx_yard.proofs.IntoRacks.{given_back, rack_few}
+use Rattle.vx_yard.proofs.IntoRacks.{given_all, given_back, rack_few}
 use Rattle.vx_yard.proofs.racks.take_racks.Goals as goal
 
 pub loop-disk_set-preserved : goal.loop-disk_set-preserved
@@ -30,3 +30,8 @@ loop-disk_set-preserved g c = λ none room.
       );
       whole = given_back c.loop-disk_set.racks.items c.give_back.new.racks.items c.loop-disk_set.disk_sets.items c.pop.new.self.items c.in-Some.disk_set front is ∙ was.whole;
     }
+
+pub returns : goal.returns
+returns g c = λ none room.
+    let done : c.loop-disk_set.disk_sets.items ≡ [] = search rules in
+    given_all c.loop-disk_set.racks.items c.loop-disk_set.disk_sets.items c.args.disk_sets.items done (c.loop-disk_set.invariant none room).whole

@@ -7,12 +7,12 @@ use Rattle.vx_diskset.proofs.Roles.{role_then}
 use Rattle.vx_diskset.proofs.disk_set.DiskSet.apply.Goals as goal
 
 pub returns-then-is_off-clause-applied : goal.returns-then-is_off-clause-applied
-returns-then-is_off-clause-applied g c = λ beside n stands can raw.
-    applied_off n c.args.to c.args.self.now c.apply_up.new.self c.fall.new.self c.in-Err.no (sym c.is_off.ensures ∙ c.if-is_off.true) (c.in-Err.ensures.applied beside n stands can raw) (c.fall.ensures.falls beside n)
+returns-then-is_off-clause-applied g c = λ beside n stands can apart.
+    applied_off n c.args.to c.args.self.now c.apply_up.new.self c.fall.new.self c.in-Err.no (sym c.is_off.ensures ∙ c.if-is_off.true) (c.in-Err.ensures.applied beside n stands can apart) (c.fall.ensures.falls beside n)
 
 pub returns-else-is_off-clause-applied : goal.returns-else-is_off-clause-applied
-returns-else-is_off-clause-applied g c = λ beside n stands can raw.
-    applied_on beside n c.args.to c.args.self.now c.apply_up.new.self c.in-Err.no (sym c.is_off.ensures ∙ c.if-is_off.false) (c.in-Err.ensures.applied beside n stands can raw)
+returns-else-is_off-clause-applied g c = λ beside n stands can apart.
+    applied_on beside n c.args.to c.args.self.now c.apply_up.new.self c.in-Err.no (sym c.is_off.ensures ∙ c.if-is_off.false) (c.in-Err.ensures.applied beside n stands can apart)
 
 pub returns-then-is_off-clause-called : goal.returns-then-is_off-clause-called
 returns-then-is_off-clause-called g c = λ beside n stands.

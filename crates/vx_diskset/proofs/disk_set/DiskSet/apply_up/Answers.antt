@@ -4,7 +4,7 @@ use Rattle.vx_diskset.specs.declared.disk_set.DiskSet.TheVariants.{Up}
 use Rattle.vx_diskset.proofs.Blamed.{blamed_receiver, blamed_up}
 use Rattle.vx_diskset.proofs.CallsBurn.{called_by, called_up, is_done}
 use Rattle.std.proofs.Common.{refl}
-use Rattle.vx_diskset.proofs.GroupStands.{never_raw_up}
+use Rattle.vx_diskset.proofs.GroupStands.{never_apart}
 use Rattle.vx_diskset.proofs.Receiving.{applied_received, durable_of, receiver_as}
 use Rattle.vx_diskset.proofs.disk_set.DiskSet.apply_up.Goals as goal
 
@@ -15,7 +15,7 @@ returns-in-Up-clause-called g c = λ beside n stands.
     (is_done c.apply_group.result (g.R.Shelf.meaning c.in-Up.rvg.shelf) (g.R.Shelf.meaning c.apply_group.new.rvg.shelf) c.apply_group.ensures.spends) c.apply_group.ensures.spends)
 
 pub returns-in-Receives-clause-applied : goal.returns-in-Receives-clause-applied
-returns-in-Receives-clause-applied g c = λ beside n stands can raw.
+returns-in-Receives-clause-applied g c = λ beside n stands can apart.
     let lawful = (g.met.R.Shelf g.world.𝓛 g.world.𝓜 g.world.𝓡 ((λ s x. x), (λ x. x), (λ x. x), λ x. x)).lawful in
     applied_received beside n c.args.self.now c.in-Receives.site
     (record { rvg = c.apply_group-in-Receives.new.rvg; waiting = c.in-Receives.site.waiting; waits = c.apply_group-in-Receives.ensures.waiting c.in-Receives.site.waiting c.in-Receives.site.waits }) c.in-Receives.is stands can.running refl c.args.to c.apply_group-in-Receives.result
@@ -29,5 +29,5 @@ returns-in-Receives-clause-blames g c = λ beside n stands.
     blamed_receiver c.apply_group-in-Receives.result beside n c.args.self.now c.in-Receives.site c.in-Receives.is stands c.apply_group-in-Receives.ensures.blames
 
 pub returns-in-OfGroup-clause-applied : goal.returns-in-OfGroup-clause-applied
-returns-in-OfGroup-clause-applied g c = λ beside n stands can raw.
-    never_raw_up beside n c.args.self.now _ c.in-OfGroup.is stands raw can.up
+returns-in-OfGroup-clause-applied g c = λ beside n stands can apart.
+    never_apart beside n c.args.self.now _ c.in-OfGroup.is stands can.up apart

@@ -5,6 +5,7 @@ use Rattle.vx_diskset.proofs.CrashGroup.{crashed_at, cut_crashed, held_crashed}
 use Rattle.vx_diskset.proofs.Asking.{crash_did}
 use Rattle.vx_diskset.proofs.KeepsFailing.{stopped_up}
 use Rattle.vx_diskset.proofs.Receiving.{receiver_held}
+use Rattle.vx_diskset.proofs.OverGroups.{set_crashed, set_fell, set_stopped, set_told}
 use Rattle.vx_diskset.proofs.disk_set.DiskSet.crash.Goals as goal
 
 pub returns-in-Up-clause-crashed : goal.returns-in-Up-clause-crashed
@@ -40,3 +41,17 @@ returns-in-Receives-clause-cut g c = λ beside n cut.
     let is_rack = (g.met.R.Rack g.world.𝓛 g.world.𝓜 g.world.𝓡 ((λ s x. x), (λ x. x), (λ x. x), λ x. x)).rack in
     held_crashed n c.in-Receives.site.rvg.shelf c.into_shelf-rack-in-Receives.result c.crash-in-Receives.new.self (c.into_shelf-rack-in-Receives.ensures ∙ ap (λ r. r.shelf) c.into_rvg.ensures)
     (subst (λ e. CutAt beside n e) c.in-Receives.is cut) (lawful c.crash-in-Receives.new.self) (is_rack c.crash-in-Receives.new.self) c.crash-in-Receives.ensures.stopped
+
+pub returns-in-OfGroup-clause-crashed : goal.returns-in-OfGroup-clause-crashed
+returns-in-OfGroup-clause-crashed g c = λ beside n stands state.
+    set_crashed beside n c.args.self c.in-OfGroup.group c.crash-in-OfGroup.result c.in-OfGroup.is (λ note. c.crash-in-OfGroup.ensures.crashed n note) stands state
+
+pub returns-in-OfGroup-clause-asked : goal.returns-in-OfGroup-clause-asked
+returns-in-OfGroup-clause-asked g c = λ beside n stands state.
+    set_told beside n c.args.pick c.args.self c.in-OfGroup.group c.crash-in-OfGroup.result c.in-OfGroup.is (λ note. c.crash-in-OfGroup.ensures.asked n note) stands state
+
+pub returns-in-OfGroup-clause-stopped : goal.returns-in-OfGroup-clause-stopped
+returns-in-OfGroup-clause-stopped g c = set_stopped c.args.pick c.args.self c.in-OfGroup.group c.crash-in-OfGroup.result c.in-OfGroup.is c.crash-in-OfGroup.ensures.stopped
+
+pub returns-in-OfGroup-clause-later : goal.returns-in-OfGroup-clause-later
+returns-in-OfGroup-clause-later g c = set_fell c.args.pick c.args.self c.in-OfGroup.group c.crash-in-OfGroup.result c.in-OfGroup.is c.crash-in-OfGroup.ensures.stopped

@@ -6,6 +6,7 @@ use Rattle.vx_diskset.proofs.StartBare.{clean_read}
 use Rattle.vx_diskset.proofs.MakeGroup.{bare_still, up_still, fuse_still}
 use Rattle.vx_diskset.proofs.StartGroup.{down_still}
 use Rattle.vx_diskset.proofs.Receiving.{receiver_still, wait_as}
+use Rattle.vx_diskset.proofs.OverGroups.{set_alike, set_later}
 use Rattle.vx_diskset.proofs.disk_set.DiskSet.fail.Goals as goal
 
 pub invariant_of-rvg : goal.invariant_of-rvg
@@ -41,3 +42,9 @@ invariant_of-site g c = (
     tt,
   ),
 )
+
+pub returns-in-OfGroup-clause-stands : goal.returns-in-OfGroup-clause-stands
+returns-in-OfGroup-clause-stands g c = λ beside n stands. set_alike beside n c.args.self.now c.in-OfGroup.group c.fail-in-OfGroup.new.self c.in-OfGroup.is c.fail-in-OfGroup.ensures.stands stands
+
+pub returns-in-OfGroup-clause-later : goal.returns-in-OfGroup-clause-later
+returns-in-OfGroup-clause-later g c = set_later c.args.self.now c.in-OfGroup.group c.fail-in-OfGroup.new.self c.in-OfGroup.is c.fail-in-OfGroup.ensures.later

@@ -4,6 +4,7 @@ use Rattle.vx_diskset.specs.Stands.{SiteStands}
 use Rattle.vx_diskset.proofs.Asking.{fuse_did}
 use Rattle.vx_diskset.proofs.FuseGroup.{up_fused}
 use Rattle.vx_diskset.proofs.Receiving.{receiver_fused}
+use Rattle.vx_diskset.proofs.OverGroups.{set_asked, set_fused, set_later}
 use Rattle.vx_diskset.proofs.disk_set.DiskSet.fuse.Goals as goal
 
 pub returns-in-Up-clause-fused : goal.returns-in-Up-clause-fused
@@ -19,3 +20,14 @@ returns-in-Receives-clause-fused g c = λ beside n stands state.
     let is_rack = (g.met.R.Rack g.world.𝓛 g.world.𝓜 g.world.𝓡 ((λ s x. x), (λ x. x), (λ x. x), λ x. x)).rack in
     receiver_fused n c.in-Receives.site.rvg.core c.in-Receives.site.waiting _ _ c.args.calls c.args.pick (is_rack c.fuse-in-Receives.new.self) c.fuse-in-Receives.ensures.alike c.fuse-in-Receives.ensures.down c.fuse-in-Receives.ensures.disks
     (subst (λ e. SiteStands beside n e) c.in-Receives.is stands)
+
+pub returns-in-OfGroup-clause-fused : goal.returns-in-OfGroup-clause-fused
+returns-in-OfGroup-clause-fused g c = λ beside n stands state.
+    set_fused beside n c.args.calls c.args.self.now c.in-OfGroup.group c.fuse-in-OfGroup.new.self c.in-OfGroup.is (λ note. c.fuse-in-OfGroup.ensures.fused n note) stands state
+
+pub returns-in-OfGroup-clause-asked : goal.returns-in-OfGroup-clause-asked
+returns-in-OfGroup-clause-asked g c = λ beside n stands state.
+    set_asked beside n c.args.calls c.args.pick c.args.self.now c.in-OfGroup.group c.fuse-in-OfGroup.new.self c.in-OfGroup.is (λ note. c.fuse-in-OfGroup.ensures.asked n note) stands state
+
+pub returns-in-OfGroup-clause-later : goal.returns-in-OfGroup-clause-later
+returns-in-OfGroup-clause-later g c = set_later c.args.self.now c.in-OfGroup.group c.fuse-in-OfGroup.new.self c.in-OfGroup.is c.fuse-in-OfGroup.ensures.later

@@ -32,4 +32,4 @@ returns-in-Receives-clause-kept g c = λ beside n stands can.
     kept_received beside n c.args.self.now c.in-Receives.site
     (record { rvg = c.keep_group-in-Receives.new.rvg; waiting = c.in-Receives.site.waiting; waits = c.keep_group-in-Receives.ensures.waiting c.in-Receives.site.waiting c.in-Receives.site.waits }) c.in-Receives.is stands can.running refl c.args.state.now can.role c.keep_group-in-Receives.result
     (c.keep_group-in-Receives.ensures.kept beside (durable_of n) (receiver_as beside n c.args.self.now c.in-Receives.site c.in-Receives.is stands can.running (lawful c.in-Receives.site.rvg.shelf))
-    (record { up = can.up; running = can.running; raw = can.raw; line = can.line; role = can.role; needs = can.needs }))
+    (record { up = can.up; running = can.running; apart = can.apart; line = can.line; role = can.role; needs = can.needs }))

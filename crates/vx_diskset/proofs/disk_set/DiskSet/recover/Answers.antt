@@ -16,13 +16,13 @@ start_in-requires g c =
     record { placed = needs.0; large = needs.1; room = needs.2 }
 
 pub returns-in-Ok-clause-recovered : goal.returns-in-Ok-clause-recovered
-returns-in-Ok-clause-recovered g c = λ beside n stands down raw ring.
+returns-in-Ok-clause-recovered g c = λ beside n stands down apart ring.
     let lawful = (g.met.R.Shelf g.world.𝓛 g.world.𝓜 g.world.𝓡 ((λ s x. x), (λ x. x), (λ x. x), λ x. x)).lawful in
     came_at n c.units.result c.raw_units-units.result c.in-Down.rack c.revive.new.self c.in-Ok.rvg c.raw_units-units.ensures c.units.ensures (subst (λ e. SiteStands beside n e) c.in-Down.is stands)
     c.revive.ensures.alike c.revive.ensures.up c.revive.ensures.armed (lawful c.revive.new.self) (lawful c.in-Ok.rvg.shelf) c.in-Ok.ensures.starts c.in-Ok.ensures.moves
 
 pub returns-in-Err-clause-recovered : goal.returns-in-Err-clause-recovered
-returns-in-Err-clause-recovered g c = λ beside n stands down raw ring.
+returns-in-Err-clause-recovered g c = λ beside n stands down apart ring.
     let lawful = (g.met.R.Shelf g.world.𝓛 g.world.𝓜 g.world.𝓡 ((λ s x. x), (λ x. x), (λ x. x), λ x. x)).lawful in
     let is_rack = (g.met.R.Rack g.world.𝓛 g.world.𝓜 g.world.𝓡 ((λ s x. x), (λ x. x), (λ x. x), λ x. x)).rack in
     refused_at n c.units.result c.raw_units-units.result c.args.self c.in-Down.rack c.revive.new.self c.in-Err.rack c.crash.new.self c.in-Err.no c.in-Down.is c.raw_units-units.ensures c.units.ensures
@@ -41,6 +41,6 @@ returns-in-Err-clause-failing g c = subst (λ e. SameFailing e (Down c.crash.new
 })
 
 pub returns-then-not-can_start-clause-recovered : goal.returns-then-not-can_start-clause-recovered
-returns-then-not-can_start-clause-recovered g c = λ beside n stands down raw ring.
+returns-then-not-can_start-clause-recovered g c = λ beside n stands down apart ring.
     absurd (never_both c.can_start.result
     (c.can_start.ensures.all (can_start n (g.R.Shelf.meaning c.in-Down.rack) c.args.room.ring (subst (λ e. SiteStands beside n e) c.in-Down.is stands) ring)) c.if-not-can_start.true)

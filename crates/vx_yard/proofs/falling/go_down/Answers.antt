@@ -1,13 +1,13 @@
 -- `go_down`: clauses told, failing, falls and asked.
 use Rattle.std.proofs.Common.{◌∙◌, ap, sym, refl}
 use Rattle.std.specs.Prelude.{Some, slice_set}
-use Rattle.vx_site_lines.proofs.RawLine.{raw_told}
+use Rattle.vx_yard.proofs.ChangeSite.{raw_told}
 use Rattle.vx_diskset.specs.declared.disk_set.DiskSet.TheVariants.{Gone}
 use Rattle.vx_yard.proofs.Lists.{get_at, set_twice}
 use Rattle.vx_diskset.proofs.KeepsFailing.{failing_stopped}
 use Rattle.vx_diskset.specs.Holds.{beside_of}
 use Rattle.vx_yard.proofs.CrashSite.{falls}
-use Rattle.vx_site_lines.proofs.crash.go_down.Goals as goal
+use Rattle.vx_yard.proofs.falling.go_down.Goals as goal
 
 pub returns-clause-told : goal.returns-clause-told
 returns-clause-told g c =

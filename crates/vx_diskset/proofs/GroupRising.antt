@@ -1,0 +1,176 @@
+-- A group that comes up again, and what is kept of the write that the fuse cut.
+use Rattle.std.proofs.Common.{◌≡◌, ◌∙◌, inl, inr, ℕ, Bool, true, false, List, ap, length, refl, subst, sym, IsTrue}
+use Rattle.std.specs.Prelude.{Option, Some, None, Result, Ok, Err, is_ok}
+use Rattle.vx_model.specs.declared.errors.Stop.{Stop}
+use Rattle.vx_model.specs.declared.errors.Stop.TheVariants.{No as Refused, OutOfMemory}
+use Rattle.vx_model.specs.declared.no.No.{No}
+use Rattle.vx_model.specs.declared.no.No.TheVariants.{Device, Down as IsOff}
+use Rattle.vx_disk.specs.Counts.{Rose}
+use Rattle.vx_disk.specs.Racks.{IsRack}
+use Rattle.vx_disk.specs.Shelf.{Meaning}
+use Rattle.vx_disk.specs.declared.shelf.Shelf.{Ghosts}
+use Rattle.vx_history.specs.Groups.{GroupNode}
+use Rattle.vx_history.specs.Steps.{crashed}
+use Rattle.vx_history.specs.World.{Node}
+use Rattle.vx_grouped.specs.GroupSites.{DownNoted, FitsPlain, UpNoted, site_disks, with_note}
+use Rattle.vx_grouped.specs.SiteEnds.{MayCrashSite, burned_site, stops_down}
+use Rattle.vx_grouped.specs.SiteKeeps.{PlainKept}
+use Rattle.vx_grouped.specs.SiteReturns.{ImportRefused, SiteImports, SiteRecovers, as_imported, returned_with}
+use Rattle.vx_grouped.specs.SiteReturns.{ReturnSince}
+use Rattle.vx_untold.specs.Shades.{shade_meaning}
+use Rattle.vx_diskset.specs.Asked.{FuseGoesOn, SameFailing}
+use Rattle.vx_diskset.specs.DiskSets.{Later}
+use Rattle.vx_grouped.specs.declared.group_site.GroupSite.{GroupSite}
+use Rattle.vx_grouped.specs.declared.group_site.GroupSite.TheVariants.{Up, Deported, Down, Marked, Gone}
+use Rattle.vx_grouped.proofs.SettleLemmas.{fuse_burned}
+use Rattle.vx_grouped.proofs.SiteLemmas.{up_burned}
+use Rattle.vx_diskset.specs.GroupCalls.{AtSite, cut_in}
+use Rattle.vx_diskset.specs.Recovers.{CameBack, CutFits, KeptIs, LooksKept, RecoversGroup, RisesSince, RisesWith, still_cut}
+use Rattle.vx_diskset.specs.declared.disk_set.DiskSet.{DiskSet}
+use Rattle.vx_diskset.specs.declared.disk_set.DiskSet.TheVariants.{Bare, Spoiled, Up as UpSet, Receives, Down as DownSet, OfGroup, Gone as GoneSet}
+use Rattle.vx_diskset.specs.declared.group_set.CutWrite.{CutWrite}
+use Rattle.vx_diskset.specs.declared.group_set.GroupSet.{GroupSet}
+use Rattle.vx_diskset.specs.declared.group_set.KeptWrite.{KeptWrite}
+use Rattle.vx_diskset.proofs.GroupCalling.{IsSettled, OnGroup, away_settled, down_settled, failing_risen, fuse_risen, has_group, later_risen, on_group, rises_fell, rises_then, up_settled}
+
+module _ {R : Type 0} {g : Ghosts R} where
+  -- ---- what is read at a group that is up
+
+  pub up_again : (n : Node) (note : GroupNode) (s : GroupSite R g) → UpNoted n note s → UpNoted (burned_site n) note s
+  up_again n note (Up group) it =
+      let m = shade_meaning g.meaning group.shelf in
+      up_burned n note group.core m it.noted it.spells (fuse_burned n.fuse m m (λ none. none) it.fuse) it.at
+  up_again n note (Deported idle) it = absurd it
+  up_again n note (Down idle) it = absurd it
+  up_again n note (Marked rack) it = absurd it
+  up_again n note Gone it = absurd it
+
+  pub looked_none : (n : Node) (note : GroupNode) (s : GroupSite R g) → UpNoted n note s → LooksKept n note None s s (Ok None)
+  looked_none n note s it = (up_again n note s it, refl)
+
+  -- a volume that is not there any more
+  pub looked_lost : (n : Node) (note : GroupNode) (x : CutWrite) (s : GroupSite R g) → UpNoted n note s → (FitsPlain note x.volume x.block (length x.bytes) → ⊥) → LooksKept n note (Some x) s s (Ok None)
+  looked_lost n note x s it lost = (up_again n note s it, lost)
+
+  module _ (n : Node) (note : GroupNode) (x : CutWrite) (old new : GroupSite R g) (bytes : List ℕ) (same : bytes ≡ x.bytes) where
+    pub looked_bits : (bits : List Bool) → PlainKept n note x.volume x.block bytes old new (Ok bits) → LooksKept n note (Some x) old new (Ok (Some (record { write = x; bits = bits })))
+    looked_bits bits it = subst (λ (b : List ℕ). PlainKept n note x.volume x.block b old new (Ok bits) → LooksKept n note (Some x) old new (Ok (Some (record { write = x; bits = bits })))) (sym same) (λ was. (was.1, (refl, was.0))) it
+
+    pub looked_unread : (no : No) → FitsPlain note x.volume x.block (length x.bytes) → PlainKept n note x.volume x.block bytes old new (Err no) → LooksKept n note (Some x) old new (Err no)
+    looked_unread (Device disk) fits it = (it.0, fits, it.1)
+    looked_unread other fits it = absurd it
+
+  -- ---- the site behind it
+
+  -- a group on which a write is cut again
+  pub down_cut : (n : Node) (note : GroupNode) (cut : Option CutWrite) (s : GroupSite R g) → DownNoted (crashed (burned_site n) 0) note s → DownNoted (crashed (with_note (still_cut cut note) n) 0) (still_cut cut note) s
+  down_cut n note cut (Up group) it = absurd it
+  down_cut n note cut (Deported idle) it = absurd it
+  down_cut n note cut (Down idle) it = record {
+    noted = record { is = refl; none = record { role = it.noted.none.role; volumes = it.noted.none.volumes; log = it.noted.none.log; safe = it.noted.none.safe; running = it.noted.none.running } };
+    unfused = it.unfused;
+    stopped = it.stopped;
+    last = it.last;
+    spells = it.spells;
+    away = record {
+      state = it.away.state;
+      config = it.away.config;
+      lies = record { units = it.away.lies.units; size = it.away.lies.size; can = it.away.lies.can; sizes = it.away.lies.sizes; finds = it.away.lies.finds; volumes = it.away.lies.volumes; has = it.away.lies.has };
+    };
+  }
+  down_cut n note cut (Marked rack) it = absurd it
+  down_cut n note cut Gone it = absurd it
+
+  -- a crash raises no count
+  crash_counts : (pick : ℕ) (mid new : GroupSite R g) → MayCrashSite pick mid new → (d : ℕ) → (site_disks new).disk_faults d ≡ (site_disks mid).disk_faults d
+  crash_counts pick (Up group) new it d = it.0.counts.disk_faults d
+  crash_counts pick (Deported idle) new it d = ap (λ (s : GroupSite R g). (site_disks s).disk_faults d) it
+  crash_counts pick (Down idle) new it d = ap (λ (s : GroupSite R g). (site_disks s).disk_faults d) it
+  crash_counts pick (Marked rack) new it d = ap (λ (s : GroupSite R g). (site_disks s).disk_faults d) it
+  crash_counts pick Gone new it d = ap (λ (s : GroupSite R g). (site_disks s).disk_faults d) it
+
+  pub rises_crash : (m : Meaning) (pick : ℕ) (mid new : GroupSite R g) → RisesSince m (site_disks mid) → MayCrashSite pick mid new → RisesSince m (site_disks new)
+  rises_crash m pick (Up group) new since it = rises_fell m (shade_meaning g.meaning group.shelf) (site_disks new) pick since it.0 it.1
+  rises_crash m pick (Deported idle) new since it = subst (λ (s : GroupSite R g). RisesSince m (site_disks s)) (sym it) since
+  rises_crash m pick (Down idle) new since it = subst (λ (s : GroupSite R g). RisesSince m (site_disks s)) (sym it) since
+  rises_crash m pick (Marked rack) new since it = subst (λ (s : GroupSite R g). RisesSince m (site_disks s)) (sym it) since
+  rises_crash m pick Gone new since it = subst (λ (s : GroupSite R g). RisesSince m (site_disks s)) (sym it) since
+
+  pub rises_kept : (n : Node) (note : GroupNode) (cut : Option CutWrite) (old mid : GroupSite R g) (kept : Option KeptWrite) → LooksKept n note cut old mid (Ok kept)
+      → RisesWith n note cut old (let s : GroupSet R g = record { site = mid; cut = None } in OfGroup s) (Ok kept)
+  rises_kept n note cut old mid kept it = (it.0, refl, it.1)
+
+  pub rises_unread : (n : Node) (note : GroupNode) (cut : Option CutWrite) (old mid new : GroupSite R g) (pick : ℕ) (no : No) → LooksKept n note cut old mid (Err no)
+      → ((k : Node) (next : GroupNode) → UpNoted k next mid → DownNoted (crashed k 0) next new) → MayCrashSite pick mid new
+      → RisesWith n note cut old (let s : GroupSet R g = record { site = new; cut = cut } in OfGroup s) (Err (Refused no))
+  rises_unread n note cut old mid new pick (Device disk) it crash fell = (
+    down_cut n note cut new (crash (burned_site n) note it.0),
+    refl,
+    it.1,
+    subst (λ (k : ℕ). Rose ((site_disks old).disk_faults disk) k) (sym (crash_counts pick mid new fell disk)) it.2,
+  )
+  rises_unread n note cut old mid new pick other it crash fell = absurd it
+
+  -- ---- a recovery
+
+  pub came_back : (n : Node) (note : GroupNode) (s : GroupSet R g) (middle : GroupSite R g) (new : DiskSet R g) (r : Result (Option KeptWrite) Stop) → SiteRecovers n note s.site middle (Ok tt)
+      → ((k : Node) (next : GroupNode) → UpNoted k next middle → RisesWith k next s.cut middle new r) → RecoversGroup n note (OfGroup s) new r
+  came_back n note s middle new (Ok kept) came rises = record { middle = middle; came = came; rises = rises }
+  came_back n note s middle new (Err stop) came rises = inr (record { middle = middle; came = came; rises = rises })
+
+  pub risen_on : (m : Meaning) (middle : GroupSite R g) (new : DiskSet R g) → ReturnSince m (site_disks middle) → AtSite (λ e. RisesSince (site_disks middle) (site_disks e)) new → AtSite (λ e. RisesSince m (site_disks e)) new
+  risen_on m middle (Bare rack) one two = absurd two
+  risen_on m middle (Spoiled rack) one two = absurd two
+  risen_on m middle (UpSet rvg) one two = absurd two
+  risen_on m middle (Receives s) one two = absurd two
+  risen_on m middle (DownSet rack) one two = absurd two
+  risen_on m middle (OfGroup s) one two = rises_then m (site_disks middle) (site_disks s.site) one two
+  risen_on m middle GoneSet one two = absurd two
+
+  -- ---- the disks of the site behind it
+
+  module _ (old new : DiskSet R g) (o : GroupSet R g) (is : old ≡ OfGroup o) (since : AtSite (λ e. RisesSince (site_disks o.site) (site_disks e)) new) where
+    now : OnGroup new (λ e. RisesSince (site_disks o.site) (site_disks e))
+    now = on_group (λ e. RisesSince (site_disks o.site) (site_disks e)) new since
+
+    pub rise_failing : SameFailing old new
+    rise_failing = failing_risen old new (site_disks o.site) (site_disks now.set.site) (has_group old o is) (has_group new now.set now.is) now.has
+
+    pub rise_later : Later old new
+    rise_later = later_risen old new (site_disks o.site) (site_disks now.set.site) (has_group old o is) (has_group new now.set now.is) now.has
+
+    pub rise_fuse : AtSite IsSettled new → FuseGoesOn old new
+    rise_fuse at =
+        let settled : IsSettled now.set.site = subst (λ (x : DiskSet R g). AtSite IsSettled x) now.is at in
+        fuse_risen old new (site_disks o.site) (site_disks now.set.site) (has_group old o is) (has_group new now.set now.is) now.has settled.rack settled.at
+
+  module _ (rackful : (r : R) → IsRack (g.meaning r)) where
+    at_settled : (P : GroupSite R g → Type 0) (new : DiskSet R g) → ((s : GroupSite R g) → P s → IsSettled s) → AtSite P new → AtSite IsSettled new
+    at_settled P new each it = let on = on_group P new it in subst (λ (x : DiskSet R g). AtSite IsSettled x) (sym on.is) (each on.set.site on.has)
+
+    refused_settled : (off : Bool) (n : Node) (note : GroupNode) (m : Meaning) (stop : Stop) (s : GroupSite R g) → ImportRefused off n note m s stop → IsSettled s
+    refused_settled true n note m stop s it = down_settled rackful (crashed (returned_with note n) 0) note s it.0
+    refused_settled false n note m stop s it = away_settled rackful (burned_site n) note s it.0
+
+    imported_settled : (n : Node) (note : GroupNode) (o s : GroupSite R g) (r : Result (Unit {0}) Stop) → SiteImports n note o s r → IsSettled s
+    imported_settled n note o s (Ok done) it = up_settled rackful (returned_with it.0.0 n) it.0.0 s it.0.2
+    imported_settled n note o s (Err stop) it = refused_settled (stops_down stop) n note (as_imported o) stop s it
+
+    pub import_settled : (n : Node) (note : GroupNode) (o : GroupSite R g) (new : DiskSet R g) (r : Result (Unit {0}) Stop) → AtSite (λ e. SiteImports n note o e r) new → AtSite IsSettled new
+    import_settled n note o new r it = at_settled (λ e. SiteImports n note o e r) new (λ s at. imported_settled n note o s r at) it
+
+    risen_settled : (n : Node) (note : GroupNode) (cut : Option CutWrite) (old : GroupSite R g) (new : DiskSet R g) (r : Result (Option KeptWrite) Stop) → RisesWith n note cut old new r → AtSite IsSettled new
+    risen_settled n note cut old new (Ok kept) it = at_settled (UpNoted (burned_site n) note) new (λ s at. up_settled rackful (burned_site n) note s at) it.0
+    risen_settled n note cut old new (Err (Refused (Device disk))) it =
+        at_settled (DownNoted (crashed (with_note (still_cut cut note) n) 0) (still_cut cut note)) new (λ s at. down_settled rackful (crashed (with_note (still_cut cut note) n) 0) (still_cut cut note) s at) it.0
+    risen_settled n note cut old new (Err other) it = absurd it
+
+    back_settled : (n : Node) (note : GroupNode) (o : GroupSet R g) (new : DiskSet R g) (r : Result (Option KeptWrite) Stop) → CameBack n note o.cut o.site new r → AtSite IsSettled new
+    back_settled n note o new r it =
+        let came = it.came in
+        risen_settled (returned_with came.0 n) came.0 o.cut it.middle new r (it.rises (returned_with came.0 n) came.0 came.2)
+
+    pub recover_settled : (n : Node) (note : GroupNode) (o : GroupSet R g) (new : DiskSet R g) (r : Result (Option KeptWrite) Stop) → RecoversGroup n note (OfGroup o) new r → AtSite IsSettled new
+    recover_settled n note o new (Ok kept) it = back_settled n note o new (Ok kept) it
+    recover_settled n note o new (Err stop) (inl it) = at_settled (λ e. SiteRecovers n note o.site e (Err stop)) new (λ s at. down_settled rackful n note s at.0) it.refused
+    recover_settled n note o new (Err stop) (inr it) = back_settled n note o new (Err stop) it

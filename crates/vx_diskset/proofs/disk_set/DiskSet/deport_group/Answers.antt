@@ -1,0 +1,30 @@
+-- `deport_group`: what it leaves of the disks of the site.
+use Rattle.std.proofs.Common.{◌∙◌, ap, subst, sym}
+use Rattle.vx_grouped.specs.GroupSites.{UpNoted}
+use Rattle.vx_grouped.specs.SiteEnds.{SiteDeported}
+use Rattle.vx_diskset.specs.Asked.{FuseGoesOn}
+use Rattle.vx_diskset.specs.GroupCalls.{CalledOn, cut_in}
+use Rattle.vx_diskset.specs.declared.disk_set.DiskSet.TheVariants.{OfGroup}
+use Rattle.vx_diskset.proofs.GroupCalling.{at_none, at_sites, deported_settled, group_failing, group_fuse, group_later, on_sites}
+use Rattle.vx_diskset.proofs.disk_set.DiskSet.deport_group.Goals as goal
+
+pub returns-in-OfGroup-clause-deported : goal.returns-in-OfGroup-clause-deported
+returns-in-OfGroup-clause-deported g c = λ n note. on_sites (UpNoted n note) (λ o e. SiteDeported n note o e c.deport-site.result.1) c.args.self.now c.in-OfGroup.group (record c.in-OfGroup.group { site = c.deport-site.result.0 }) (sym c.replace.ensures.value ∙ c.in-OfGroup.is) (c.deport-site.ensures.deported n note)
+
+pub returns-in-OfGroup-clause-cut : goal.returns-in-OfGroup-clause-cut
+returns-in-OfGroup-clause-cut g c = sym (ap (λ x. cut_in x) (sym c.replace.ensures.value ∙ c.in-OfGroup.is))
+
+pub returns-in-OfGroup-clause-fuse : goal.returns-in-OfGroup-clause-fuse
+returns-in-OfGroup-clause-fuse g c = λ n note.
+    let is_rack = (g.met.R.Rack g.world.𝓛 g.world.𝓜 g.world.𝓡 ((λ s x. x), (λ x. x), (λ x. x), λ x. x)).rack in
+    at_sites (UpNoted n note) (FuseGoesOn c.args.self.now (OfGroup (record c.in-OfGroup.group { site = c.deport-site.result.0 }))) c.args.self.now c.in-OfGroup.group (sym c.replace.ensures.value ∙ c.in-OfGroup.is)
+    (λ it. group_fuse c.args.self.now c.in-OfGroup.group (record c.in-OfGroup.group { site = c.deport-site.result.0 }) (sym c.replace.ensures.value ∙ c.in-OfGroup.is) c.deport-site.ensures.since (deported_settled is_rack n note c.in-OfGroup.group.site c.deport-site.result.0 c.deport-site.result.1 (c.deport-site.ensures.deported n note it)))
+
+pub returns-in-OfGroup-clause-failing : goal.returns-in-OfGroup-clause-failing
+returns-in-OfGroup-clause-failing g c = group_failing c.args.self.now c.in-OfGroup.group (record c.in-OfGroup.group { site = c.deport-site.result.0 }) (sym c.replace.ensures.value ∙ c.in-OfGroup.is) c.deport-site.ensures.since
+
+pub returns-in-OfGroup-clause-later : goal.returns-in-OfGroup-clause-later
+returns-in-OfGroup-clause-later g c = group_later c.args.self.now c.in-OfGroup.group (record c.in-OfGroup.group { site = c.deport-site.result.0 }) (sym c.replace.ensures.value ∙ c.in-OfGroup.is) c.deport-site.ensures.since
+
+pub returns-in-OfGroup-clause-since : goal.returns-in-OfGroup-clause-since
+returns-in-OfGroup-clause-since g c = subst (λ x. CalledOn x (OfGroup (record c.in-OfGroup.group { site = c.deport-site.result.0 }))) (sym (sym c.replace.ensures.value ∙ c.in-OfGroup.is)) c.deport-site.ensures.since

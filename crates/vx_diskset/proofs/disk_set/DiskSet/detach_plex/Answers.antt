@@ -1,0 +1,48 @@
+-- `detach_plex`: what it leaves of the disks of the site.
+use Rattle.std.proofs.Common.{◌≡◌, ◌∙◌, refl, subst, sym, ap}
+use Rattle.vx_grouped.specs.GroupSites.{UpNoted}
+use Rattle.vx_diskset.specs.Asked.{FuseGoesOn}
+use Rattle.vx_diskset.specs.GroupCalls.{CalledOn, OnSites, cut_in}
+use Rattle.vx_diskset.specs.declared.disk_set.DiskSet.TheVariants.{OfGroup}
+use Rattle.vx_diskset.proofs.GroupCalling.{at_none, at_sites, group_failing, group_fuse, group_later, on_sites, det_settled, others_on}
+use Rattle.vx_grouped.specs.SiteEnds.{DetCalled, refuses_det, is_plex_on}
+use Rattle.std.specs.Prelude.{Err, None, Ok, Some, false, IfOk, IsTrue}
+use Rattle.vx_model.specs.declared.errors.Stop.TheVariants.{No as Refused}
+use Rattle.vx_diskset.proofs.disk_set.DiskSet.detach_plex.Goals as goal
+
+pub returns-in-OfGroup-clause-called : goal.returns-in-OfGroup-clause-called
+returns-in-OfGroup-clause-called g c = λ n note. on_sites (UpNoted n note) (λ o e. DetCalled n note c.args.volume c.args.plex o e c.det.result) c.args.self.now c.in-OfGroup.group (record c.in-OfGroup.group { site = c.det.new.self }) c.in-OfGroup.is (c.det.ensures.called n note)
+
+pub returns-in_default-clause-called : goal.returns-in_default-clause-called
+returns-in_default-clause-called g c = λ n note. at_none (UpNoted n note) _ c.args.self.now c.in_default.not-OfGroup
+
+pub returns-in-OfGroup-clause-fuse : goal.returns-in-OfGroup-clause-fuse
+returns-in-OfGroup-clause-fuse g c = λ n note.
+    let is_rack = (g.met.R.Rack g.world.𝓛 g.world.𝓜 g.world.𝓡 ((λ s x. x), (λ x. x), (λ x. x), λ x. x)).rack in
+    at_sites (UpNoted n note) (FuseGoesOn c.args.self.now (OfGroup (record c.in-OfGroup.group { site = c.det.new.self }))) c.args.self.now c.in-OfGroup.group c.in-OfGroup.is (λ it. group_fuse c.args.self.now c.in-OfGroup.group (record c.in-OfGroup.group { site = c.det.new.self }) c.in-OfGroup.is c.det.ensures.since (det_settled is_rack n note c.args.volume c.args.plex c.in-OfGroup.group.site c.det.new.self c.det.result (c.det.ensures.called n note it)))
+
+pub returns-in_default-clause-fuse : goal.returns-in_default-clause-fuse
+returns-in_default-clause-fuse g c = λ n note. at_none (UpNoted n note) (FuseGoesOn c.args.self.now c.args.self.now) c.args.self.now c.in_default.not-OfGroup
+
+pub returns-in-OfGroup-clause-failing : goal.returns-in-OfGroup-clause-failing
+returns-in-OfGroup-clause-failing g c = group_failing c.args.self.now c.in-OfGroup.group (record c.in-OfGroup.group { site = c.det.new.self }) c.in-OfGroup.is c.det.ensures.since
+
+pub returns-in-OfGroup-clause-later : goal.returns-in-OfGroup-clause-later
+returns-in-OfGroup-clause-later g c = group_later c.args.self.now c.in-OfGroup.group (record c.in-OfGroup.group { site = c.det.new.self }) c.in-OfGroup.is c.det.ensures.since
+
+pub returns-in-OfGroup-clause-since : goal.returns-in-OfGroup-clause-since
+returns-in-OfGroup-clause-since g c = subst (λ x. CalledOn x (OfGroup (record c.in-OfGroup.group { site = c.det.new.self }))) (sym c.in-OfGroup.is) c.det.ensures.since
+
+pub returns-in-OfGroup-clause-refused : goal.returns-in-OfGroup-clause-refused
+returns-in-OfGroup-clause-refused g c = λ n note no up is.
+    at_sites (UpNoted n note) (c.det.result ≡ Err (Refused no)) c.args.self.now c.in-OfGroup.group c.in-OfGroup.is
+    (λ it. at_sites (λ o. refuses_det o c.args.volume c.args.plex ≡ Some no) (c.det.result ≡ Err (Refused no)) c.args.self.now c.in-OfGroup.group c.in-OfGroup.is (λ at. c.det.ensures.refused n note no it at) is) up
+
+pub returns-in_default-clause-refused : goal.returns-in_default-clause-refused
+returns-in_default-clause-refused g c = λ n note no up is. at_none (UpNoted n note) _ c.args.self.now c.in_default.not-OfGroup up
+
+pub returns-in-OfGroup-clause-others : goal.returns-in-OfGroup-clause-others
+returns-in-OfGroup-clause-others g c = others_on c.det.result c.args.self.now c.in-OfGroup.group (record c.in-OfGroup.group { site = c.det.new.self }) c.in-OfGroup.is c.args.volume c.args.plex c.det.ensures.others
+
+pub returns-in-OfGroup-clause-cut : goal.returns-in-OfGroup-clause-cut
+returns-in-OfGroup-clause-cut g c = sym (ap (λ x. cut_in x) c.in-OfGroup.is)

@@ -1,0 +1,30 @@
+-- `import_group`: what it leaves of the disks of the site.
+use Rattle.std.proofs.Common.{ap, subst, sym, ◌∙◌}
+use Rattle.vx_grouped.specs.GroupSites.{AwayNoted}
+use Rattle.vx_grouped.specs.SiteReturns.{SiteImports}
+use Rattle.vx_diskset.specs.Asked.{FuseGoesOn}
+use Rattle.vx_diskset.specs.GroupCalls.{OnSites, cut_in}
+use Rattle.vx_diskset.specs.Recovers.{cut_past}
+use Rattle.vx_diskset.proofs.GroupCalling.{at_none, at_sites}
+use Rattle.vx_diskset.proofs.GroupRising.{import_settled, rise_failing, rise_fuse, rise_later}
+use Rattle.vx_diskset.proofs.disk_set.DiskSet.import_group.Goals as goal
+
+pub returns-in-OfGroup-clause-imported : goal.returns-in-OfGroup-clause-imported
+returns-in-OfGroup-clause-imported g c = λ n note away.
+    subst (λ x. OnSites (λ o e. SiteImports n note o e c.import_in.result.1) x c.import_in.result.0) (sym c.in-OfGroup.is)
+    (c.import_in.ensures.imported n note (at_sites (AwayNoted n note) (AwayNoted n note c.in-OfGroup.group.site) c.args.self c.in-OfGroup.group c.in-OfGroup.is (λ it. it) away))
+
+pub returns-in-OfGroup-clause-cut : goal.returns-in-OfGroup-clause-cut
+returns-in-OfGroup-clause-cut g c = c.import_in.ensures.cut ∙ ap (λ x. cut_past c.import_in.result.1 x) (sym c.in-OfGroup.is)
+
+pub returns-in-OfGroup-clause-fuse : goal.returns-in-OfGroup-clause-fuse
+returns-in-OfGroup-clause-fuse g c = λ n note.
+    let is_rack = (g.met.R.Rack g.world.𝓛 g.world.𝓜 g.world.𝓡 ((λ s x. x), (λ x. x), (λ x. x), λ x. x)).rack in
+    at_sites (AwayNoted n note) (FuseGoesOn c.args.self c.import_in.result.0) c.args.self c.in-OfGroup.group c.in-OfGroup.is
+    (λ it. rise_fuse c.args.self c.import_in.result.0 c.in-OfGroup.group c.in-OfGroup.is c.import_in.ensures.since (import_settled is_rack n note c.in-OfGroup.group.site c.import_in.result.0 c.import_in.result.1 (c.import_in.ensures.imported n note it)))
+
+pub returns-in-OfGroup-clause-failing : goal.returns-in-OfGroup-clause-failing
+returns-in-OfGroup-clause-failing g c = rise_failing c.args.self c.import_in.result.0 c.in-OfGroup.group c.in-OfGroup.is c.import_in.ensures.since
+
+pub returns-in-OfGroup-clause-later : goal.returns-in-OfGroup-clause-later
+returns-in-OfGroup-clause-later g c = rise_later c.args.self c.import_in.result.0 c.in-OfGroup.group c.in-OfGroup.is c.import_in.ensures.since

@@ -1,0 +1,50 @@
+-- `make_volume`: what it leaves of the disks of the site.
+use Rattle.std.proofs.Common.{◌≡◌, ◌∙◌, refl, subst, sym, ap}
+use Rattle.vx_grouped.specs.GroupSites.{UpNoted}
+use Rattle.vx_diskset.specs.Asked.{FuseGoesOn}
+use Rattle.vx_diskset.specs.GroupCalls.{CalledOn, OnSites, cut_in}
+use Rattle.vx_diskset.specs.declared.disk_set.DiskSet.TheVariants.{OfGroup}
+use Rattle.vx_diskset.proofs.GroupCalling.{at_none, at_sites, group_failing, group_fuse, group_later, on_sites, added_settled}
+use Rattle.vx_grouped.specs.SiteAdds.{SiteAdded, VolumeIn, refuses_volume}
+use Rattle.std.specs.Prelude.{Err, None, Ok, Some, false, IfOk, IsTrue}
+use Rattle.vx_model.specs.declared.errors.Stop.TheVariants.{No as Refused}
+use Rattle.vx_diskset.proofs.disk_set.DiskSet.make_volume.Goals as goal
+
+pub returns-in-OfGroup-clause-made : goal.returns-in-OfGroup-clause-made
+returns-in-OfGroup-clause-made g c = λ n note. on_sites (UpNoted n note) (λ o e. SiteAdded n note c.args.name.now c.args.want.now o e c.make_volume.result) c.args.self.now c.in-OfGroup.group (record c.in-OfGroup.group { site = c.make_volume.new.self }) c.in-OfGroup.is (c.make_volume.ensures.made n note)
+
+pub returns-in_default-clause-made : goal.returns-in_default-clause-made
+returns-in_default-clause-made g c = λ n note. at_none (UpNoted n note) _ c.args.self.now c.in_default.not-OfGroup
+
+pub returns-in-OfGroup-clause-fuse : goal.returns-in-OfGroup-clause-fuse
+returns-in-OfGroup-clause-fuse g c = λ n note.
+    let is_rack = (g.met.R.Rack g.world.𝓛 g.world.𝓜 g.world.𝓡 ((λ s x. x), (λ x. x), (λ x. x), λ x. x)).rack in
+    at_sites (UpNoted n note) (FuseGoesOn c.args.self.now (OfGroup (record c.in-OfGroup.group { site = c.make_volume.new.self }))) c.args.self.now c.in-OfGroup.group c.in-OfGroup.is (λ it. group_fuse c.args.self.now c.in-OfGroup.group (record c.in-OfGroup.group { site = c.make_volume.new.self }) c.in-OfGroup.is c.make_volume.ensures.since (added_settled is_rack n note c.args.name.now c.args.want.now c.in-OfGroup.group.site c.make_volume.new.self c.make_volume.result (c.make_volume.ensures.made n note it)))
+
+pub returns-in_default-clause-fuse : goal.returns-in_default-clause-fuse
+returns-in_default-clause-fuse g c = λ n note. at_none (UpNoted n note) (FuseGoesOn c.args.self.now c.args.self.now) c.args.self.now c.in_default.not-OfGroup
+
+pub returns-in-OfGroup-clause-failing : goal.returns-in-OfGroup-clause-failing
+returns-in-OfGroup-clause-failing g c = group_failing c.args.self.now c.in-OfGroup.group (record c.in-OfGroup.group { site = c.make_volume.new.self }) c.in-OfGroup.is c.make_volume.ensures.since
+
+pub returns-in-OfGroup-clause-later : goal.returns-in-OfGroup-clause-later
+returns-in-OfGroup-clause-later g c = group_later c.args.self.now c.in-OfGroup.group (record c.in-OfGroup.group { site = c.make_volume.new.self }) c.in-OfGroup.is c.make_volume.ensures.since
+
+pub returns-in-OfGroup-clause-since : goal.returns-in-OfGroup-clause-since
+returns-in-OfGroup-clause-since g c = subst (λ x. CalledOn x (OfGroup (record c.in-OfGroup.group { site = c.make_volume.new.self }))) (sym c.in-OfGroup.is) c.make_volume.ensures.since
+
+pub returns-in-OfGroup-clause-refused : goal.returns-in-OfGroup-clause-refused
+returns-in-OfGroup-clause-refused g c = λ n note no up is.
+    at_sites (UpNoted n note) (c.make_volume.result ≡ Err (Refused no)) c.args.self.now c.in-OfGroup.group c.in-OfGroup.is
+    (λ it. at_sites (λ o. refuses_volume o c.args.name.now c.args.want.now ≡ Some no) (c.make_volume.result ≡ Err (Refused no)) c.args.self.now c.in-OfGroup.group c.in-OfGroup.is (λ at. c.make_volume.ensures.refused n note no it at) is) up
+
+pub returns-in_default-clause-refused : goal.returns-in_default-clause-refused
+returns-in_default-clause-refused g c = λ n note no up is. at_none (UpNoted n note) _ c.args.self.now c.in_default.not-OfGroup up
+
+pub returns-in-OfGroup-clause-cut : goal.returns-in-OfGroup-clause-cut
+returns-in-OfGroup-clause-cut g c = sym (ap (λ x. cut_in x) c.in-OfGroup.is)
+
+pub returns-in-OfGroup-clause-volume : goal.returns-in-OfGroup-clause-volume
+returns-in-OfGroup-clause-volume g c = λ n note.
+    at_sites (UpNoted n note) (IfOk c.make_volume.result (λ vol. OnSites (VolumeIn c.args.name.now c.args.want.now vol) c.args.self.now (OfGroup (record c.in-OfGroup.group { site = c.make_volume.new.self })))) c.args.self.now c.in-OfGroup.group c.in-OfGroup.is
+    (λ it. subst (λ x. IfOk c.make_volume.result (λ vol. OnSites (VolumeIn c.args.name.now c.args.want.now vol) x (OfGroup (record c.in-OfGroup.group { site = c.make_volume.new.self })))) (sym c.in-OfGroup.is) (c.make_volume.ensures.volume n note it))

@@ -1,0 +1,8 @@
+-- `begin_on`: the group that is begun on a rack.
+use Rattle.vx_diskset.proofs.group_starts.begin_on.Goals as goal
+
+pub returns-clause-begun : goal.returns-clause-begun
+returns-clause-begun g c = c.begin_group-group.ensures.begun
+
+pub returns-clause-since : goal.returns-clause-since
+returns-clause-since g c = c.begin_group-group.ensures.since

@@ -1,0 +1,20 @@
+-- `import_in`: what an import leaves of the disks of the site.
+use Rattle.std.proofs.Common.{subst}
+use Rattle.vx_grouped.specs.GroupSites.{site_disks}
+use Rattle.vx_diskset.proofs.GroupCalling.{rises_returned}
+use Rattle.vx_grouped.specs.SiteReturns.{SiteImports}
+use Rattle.vx_diskset.proofs.group_starts.import_in.Goals as goal
+
+pub returns-in-Ok-clause-imported : goal.returns-in-Ok-clause-imported
+returns-in-Ok-clause-imported g c = λ n note away.
+    subst (λ r. SiteImports n note c.args.group.site c.import-site.result.0 r) c.in-Ok.is (c.import-site.ensures.imported n note away)
+
+pub returns-in-Err-clause-imported : goal.returns-in-Err-clause-imported
+returns-in-Err-clause-imported g c = λ n note away.
+    subst (λ r. SiteImports n note c.args.group.site c.import-site.result.0 r) c.in-Err.is (c.import-site.ensures.imported n note away)
+
+pub returns-in-Ok-clause-since : goal.returns-in-Ok-clause-since
+returns-in-Ok-clause-since g c = rises_returned (site_disks c.args.group.site) (site_disks c.import-site.result.0) c.import-site.ensures.since
+
+pub returns-in-Err-clause-since : goal.returns-in-Err-clause-since
+returns-in-Err-clause-since g c = rises_returned (site_disks c.args.group.site) (site_disks c.import-site.result.0) c.import-site.ensures.since

@@ -1,0 +1,28 @@
+-- `kept_at`: what is read of a write that is cut.
+use Rattle.std.proofs.Common.{◌∙◌, ap, length, subst, sym}
+use Rattle.vx_grouped.specs.GroupSites.{FitsPlain}
+use Rattle.vx_grouped.specs.SiteKeeps.{PlainKept}
+use Rattle.vx_diskset.proofs.GroupRising.{looked_bits, looked_lost, looked_unread}
+use Rattle.vx_diskset.proofs.group_starts.kept_at.Goals as goal
+
+pub returns-in-Ok-clause-looks : goal.returns-in-Ok-clause-looks
+returns-in-Ok-clause-looks g c = λ n note up.
+    looked_bits n note c.args.write.now c.args.site.now c.kept.new.self c.as_bytes-bytes.result.now c.as_bytes-bytes.ensures.bytes c.in-Ok.bits
+    (subst (λ r. PlainKept n note c.args.write.now.volume c.args.write.now.block c.as_bytes-bytes.result.now c.args.site.now c.kept.new.self r) c.in-Ok.is
+    (c.kept.ensures.kept n note up (c.fits.ensures.is n note up c.if-fits.true)))
+
+pub returns-in-Err-clause-looks : goal.returns-in-Err-clause-looks
+returns-in-Err-clause-looks g c = λ n note up.
+    let fits = c.fits.ensures.is n note up c.if-fits.true in
+    looked_unread n note c.args.write.now c.args.site.now c.kept.new.self c.as_bytes-bytes.result.now c.as_bytes-bytes.ensures.bytes c.in-Err.no
+    (subst (λ xs. FitsPlain note c.args.write.now.volume c.args.write.now.block (length xs)) c.as_bytes-bytes.ensures.bytes fits)
+    (subst (λ r. PlainKept n note c.args.write.now.volume c.args.write.now.block c.as_bytes-bytes.result.now c.args.site.now c.kept.new.self r) c.in-Err.is
+    (c.kept.ensures.kept n note up fits))
+
+pub returns-else-fits-clause-looks : goal.returns-else-fits-clause-looks
+returns-else-fits-clause-looks g c = λ n note up.
+    looked_lost n note c.args.write.now c.args.site.now up
+    (λ fits.
+    let long = ap (λ xs. length xs) c.as_bytes-bytes.ensures.bytes in
+    let clash = sym (c.fits.ensures.all n note up (subst (λ k. FitsPlain note c.args.write.now.volume c.args.write.now.block k) (sym long) fits)) ∙ c.if-fits.false in
+    cc)

@@ -1,0 +1,14 @@
+-- `look_kept`: what is read where a write may be cut.
+use Rattle.std.proofs.Common.{subst, sym}
+use Rattle.std.specs.Prelude.{None, Ok}
+use Rattle.vx_diskset.specs.Recovers.{LooksKept}
+use Rattle.vx_diskset.proofs.GroupRising.{looked_none}
+use Rattle.vx_diskset.proofs.group_starts.look_kept.Goals as goal
+
+pub returns-in-Some-clause-looks : goal.returns-in-Some-clause-looks
+returns-in-Some-clause-looks g c = λ n note up.
+    subst (λ x. LooksKept n note x c.args.site.now c.kept_at.new.site c.kept_at.result) (sym c.in-Some.is) (c.kept_at.ensures.looks n note up)
+
+pub returns-in-None-clause-looks : goal.returns-in-None-clause-looks
+returns-in-None-clause-looks g c = λ n note up.
+    subst (λ x. LooksKept n note x c.args.site.now c.args.site.now (Ok None)) (sym c.in-None.is) (looked_none n note c.args.site.now up)

@@ -1,0 +1,89 @@
+-- How the group of a site that crashed comes up again, and what it says of the write that the fuse cut.
+use Rattle.std.specs.Prelude.{◌≡◌, ◌⊎◌, ℕ, ◌≤◌, IsTrue, IsFalse, List, length, Option, Some, None, Result, Ok, Err}
+use Rattle.vx_model.specs.Content.{Write}
+use Rattle.vx_model.specs.declared.errors.Stop.{Stop}
+use Rattle.vx_model.specs.declared.errors.Stop.TheVariants.{No as Refused}
+use Rattle.vx_model.specs.declared.no.No.{No}
+use Rattle.vx_model.specs.declared.no.No.TheVariants.{Device}
+use Rattle.vx_disk.specs.Counts.{Rose}
+use Rattle.vx_disk.specs.Disks.{Disks}
+use Rattle.vx_disk.specs.Shelf.{Meaning}
+use Rattle.vx_disk.specs.declared.shelf.Shelf.{Ghosts}
+use Rattle.vx_history.specs.Groups.{GroupNode}
+use Rattle.vx_history.specs.Steps.{crashed}
+use Rattle.vx_history.specs.World.{Node}
+use Rattle.vx_grouped.specs.GroupSites.{DownNoted, FitsPlain, UpNoted, site_disks, with_note}
+use Rattle.vx_grouped.specs.Keepings.{KeepsPlain}
+use Rattle.vx_grouped.specs.SiteReturns.{FailsFused}
+use Rattle.vx_watched.specs.Since.{is_rack}
+use Rattle.vx_grouped.specs.SiteEnds.{burned_site}
+use Rattle.vx_grouped.specs.SiteReturns.{SiteRecovers}
+use Rattle.vx_grouped.specs.declared.group_site.GroupSite.{GroupSite}
+use Rattle.vx_diskset.specs.GroupCalls.{AtSite, cut_in}
+use Rattle.vx_diskset.specs.GroupSets.{cut_value}
+use Rattle.vx_diskset.specs.declared.disk_set.DiskSet.{DiskSet}
+use Rattle.vx_diskset.specs.declared.disk_set.DiskSet.TheVariants.{OfGroup}
+use Rattle.vx_diskset.specs.declared.group_set.CutWrite.{CutWrite}
+use Rattle.vx_diskset.specs.declared.group_set.KeptWrite.{KeptWrite}
+
+-- the note of a site on which this write is still cut
+abbrev pub still_cut : Option CutWrite → GroupNode → GroupNode
+still_cut cut note = record note { cut = cut_value cut }
+
+-- What is said of the write that was cut: of each of its blocks whether it has what was to be written. Nothing, where its volume is not there any more.
+abbrev pub KeptIs : GroupNode → Meaning → Option CutWrite → Option KeptWrite → Type 0
+KeptIs note m None kept = kept ≡ None
+KeptIs note m (Some x) None = FitsPlain note x.volume x.block (length x.bytes) → ⊥
+KeptIs note m (Some x) (Some k) = (k.write ≡ x) × KeepsPlain note m x.volume x.block x.bytes k.bits
+
+-- the write that was cut lies in its volume
+abbrev pub CutFits : GroupNode → Option CutWrite → Type 0
+CutFits note None = Unit {0}
+CutFits note (Some x) = FitsPlain note x.volume x.block (length x.bytes)
+
+-- Disks behind an import, and what was read and crashed of them then: the same are made to fail, and contents are told no more than before. While they are
+-- up, a fuse that is set was set before, and has no more calls left.
+pub record RisesSince (old new : Meaning) : Type 0 where
+  pub tells : IsTrue new.tells → IsTrue old.tells
+  pub counts : (d : ℕ) → old.disk_faults d ≤ new.disk_faults d
+  pub rack : is_rack new.disks ≡ is_rack old.disks
+  pub failing : (o n : Disks) → old.disks ≡ Some o → new.disks ≡ Some n → (u : ℕ) → n.failing u ≡ o.failing u
+  pub passes : (o n : Disks) → old.disks ≡ Some o → new.disks ≡ Some n → IsFalse new.down → FailsFused o n
+
+module _ {R : Type 0} {g : Ghosts R} where
+  -- what was read of the write that was cut, at a group that is up
+  abbrev pub LooksKept : Node → GroupNode → Option CutWrite → GroupSite R g → GroupSite R g → Result (Option KeptWrite) No → Type 0
+  LooksKept n note cut old new (Ok kept) = UpNoted (burned_site n) note new × KeptIs note (site_disks old) cut kept
+  LooksKept n note cut old new (Err (Device disk)) = UpNoted (burned_site n) note new × CutFits note cut × Rose ((site_disks old).disk_faults disk) ((site_disks new).disk_faults disk)
+  LooksKept n note cut old new (Err other) = ⊥
+
+  -- A group that came up says what is kept of the write that was cut, which is cut no longer. Where a disk failed in that, it is down again, and the write
+  -- is cut still.
+  abbrev pub RisesWith : Node → GroupNode → Option CutWrite → GroupSite R g → DiskSet R g → Result (Option KeptWrite) Stop → Type 0
+  RisesWith n note cut old new (Ok kept) = AtSite (UpNoted (burned_site n) note) new × (cut_in new ≡ None) × KeptIs note (site_disks old) cut kept
+  RisesWith n note cut old new (Err (Refused (Device disk))) =
+      AtSite (DownNoted (crashed (with_note (still_cut cut note) n) 0) (still_cut cut note)) new × (cut_in new ≡ cut_value cut) × CutFits note cut
+      × AtSite (λ e. Rose ((site_disks old).disk_faults disk) ((site_disks e).disk_faults disk)) new
+  RisesWith n note cut old new (Err other) = ⊥
+
+  -- the group came up, and then this was said
+  pub record CameBack (n : Node) (note : GroupNode) (cut : Option CutWrite) (old : GroupSite R g) (new : DiskSet R g) (r : Result (Option KeptWrite) Stop) : Type 0 where
+    pub middle : GroupSite R g
+    pub came : SiteRecovers n note old middle (Ok tt)
+    pub rises : (k : Node) (next : GroupNode) → UpNoted k next middle → RisesWith k next cut middle new r
+
+  -- a recovery that was refused in its import leaves the write that was cut
+  pub record StaysBack (n : Node) (note : GroupNode) (old : GroupSite R g) (cut : Option CutWrite) (new : DiskSet R g) (stop : Stop) : Type 0 where
+    pub refused : AtSite (λ e. SiteRecovers n note old e (Err stop)) new
+    pub cut_stays : cut_in new ≡ cut_value cut
+
+  -- A recovery of the group of a site that crashed.
+  abbrev pub RecoversGroup : Node → GroupNode → DiskSet R g → DiskSet R g → Result (Option KeptWrite) Stop → Type 0
+  RecoversGroup n note (OfGroup s) new (Ok kept) = CameBack n note s.cut s.site new (Ok kept)
+  RecoversGroup n note (OfGroup s) new (Err stop) = StaysBack n note s.site s.cut new stop ⊎ CameBack n note s.cut s.site new (Err stop)
+  RecoversGroup n note old new r = ⊥
+
+  -- the write that is cut behind an import: none, where it came up
+  abbrev pub cut_past : {T : Type 0} → Result T Stop → DiskSet R g → Option Write
+  cut_past (Ok done) old = None
+  cut_past (Err stop) old = cut_in old

@@ -1,0 +1,150 @@
+-- What lines lead to that called the group of a site that is up: refused, or done.
+use Rattle.std.proofs.Common.{◌≡◌, ◌∙◌, ◌⊎◌, ◌+◌, ◌<◌, ◌≤◌, ℕ, Bool, true, false, List, [], ◌∷◌, length, ap, sym, subst, refl, arith, inl, inr, ⊎_elim}
+use Rattle.std.specs.Prelude.{Option, Some, None, Contains, slice_get, slice_set, Result, Ok, Err}
+use Rattle.vx_model.specs.declared.errors.OutOfMemory.{OutOfMemory}
+use Rattle.vx_model.specs.declared.errors.Stop.{Stop}
+use Rattle.vx_model.specs.declared.errors.Stop.TheVariants.{No as StopsBy, OutOfMemory as MemoryStop}
+use Rattle.vx_model.specs.declared.no.No.{No}
+use Rattle.vx_model.specs.declared.no.No.TheVariants.{Down as IsOff, Device}
+use Rattle.vx_disk.specs.Shelf.{Meaning}
+use Rattle.vx_disk.specs.declared.shelf.Shelf.{Ghosts}
+use Rattle.vx_config.specs.declared.config.Config.{Config}
+use Rattle.vx_history.specs.Doubts.{Doubted}
+use Rattle.vx_history.specs.Groups.{GroupNode, NoteSettles, NoteUnsettles}
+use Rattle.vx_history.specs.Steps.{burned}
+use Rattle.vx_history.specs.World.{Node}
+use Rattle.vx_order.specs.declared.facts.SiteFacts.{SiteFacts}
+use Rattle.vx_script.specs.declared.line.ScriptLine.{ScriptLine}
+use Rattle.vx_grouped.specs.GroupSites.{UpNoted, site_disks, with_note}
+use Rattle.vx_grouped.specs.SiteEnds.{ConfigGoes, SiteCalled, burned_site}
+use Rattle.vx_grouped.specs.declared.group_site.GroupSite.{GroupSite}
+use Rattle.vx_diskset.specs.GroupCalls.{AtSite, OnSites}
+use Rattle.vx_diskset.specs.declared.disk_set.DiskSet.{DiskSet}
+use Rattle.vx_events.specs.Fails.{Fails}
+use Rattle.vx_events.specs.GroupEnds.{GroupCut, GroupCuts, GroupDoes, GroupDone, GroupEnds, GroupFails, GroupLacks, GroupSpoils, GroupWants}
+use Rattle.vx_events.specs.GroupNotes.{note_at}
+use Rattle.vx_events.specs.StepsOver.{fact_of_group}
+use Rattle.vx_events.specs.declared.said.Said.{Said}
+use Rattle.vx_events.specs.declared.said.Said.TheVariants.{Refused}
+use Rattle.vx_yard.proofs.Carrying.{SameLoad}
+use Rattle.vx_yard.proofs.Lists.{set_same}
+use Rattle.vx_yard.specs.Standing.{LeadsOver, LeadsOverIs, StandsFor}
+use Rattle.vx_yard.specs.Writes.{noted_facts}
+use Rattle.vx_yard.specs.Yards.{IsTold}
+use Rattle.vx_yard.specs.declared.yard.Yard.{Yard}
+use Rattle.vx_group_lines.proofs.GroupCalls.{Called, SetThen, calls, calls_all, calls_are, calls_named, calls_names, calls_none, note_uncut, sets_then}
+use Rattle.vx_group_lines.proofs.GroupEnding.{Broke, Calling, FellOff, IsCalling, IsQuiet, Means, Midway, SameTable, Wanted, called_why, lets_on, load_on, off_leads, up_leads, world_off, world_up}
+use Rattle.vx_group_lines.proofs.GroupMarks.{group_noted_at}
+use Rattle.vx_group_lines.proofs.Losing.{Names}
+use Rattle.vx_group_lines.specs.Noting.{IsNotedRefusal, KeepsRest}
+
+-- a change of a configuration, with the disks before and behind it
+abbrev pub Turns : Type 1
+Turns = Meaning → Meaning → Config → Config → Type 0
+
+module _ {R : Type 0} {g : Ghosts R} where
+  burned_noted : (n : Node) (note : GroupNode) (e : GroupSite R g) → n.group ≡ Some note → UpNoted (burned_site n) note e → UpNoted (with_note note n) note e
+  burned_noted n note e is noted = subst (λ (o : Option GroupNode). let m : Node = record n { group = o; fuse = burned n.fuse } in UpNoted m note e) is noted
+
+  module _ (d : Doubted) (line : ScriptLine) (old new : Yard R g) (name : List ℕ) (s : ℕ) (before after : DiskSet R g) (stands : StandsFor d old) (it : Calling d line old new name s before after) where
+    abbrev n : Node
+    n = d.world.nodes s
+
+    abbrev note : GroupNode
+    note = note_at (d.world.nodes s)
+
+    abbrev was_site : GroupSite R g
+    was_site = it.call.at.set.site
+
+    -- the calls of a disk set that comes of this one
+    abbrev many_of : Config → ℕ → ℕ
+    many_of was disk = (site_disks it.call.at.set.site).units + length was.disks + disk + 1
+
+    -- ---- done
+
+    pub done_leads : {T : Type 0} (Done Lost : Turns) (Lacks : GroupSite R g → No → Type 0) (said : Said) (value : T) → Means s note NoteSettles Done (λ fails next. GroupDoes (IsTold new) s n note line fails said next) → SameTable note Done
+        → OnSites (λ o e. SiteCalled {T = T} (Done (site_disks o) (site_disks e)) (Lost (site_disks o) (site_disks e)) (Lacks o) n note o e (Ok value)) before after
+        → new.facts.items ≡ old.facts.items → SameLoad old new → LeadsOver d line said old new
+    done_leads {T} Done Lost Lacks said value means table on facts load =
+        let P : GroupSite R g → GroupSite R g → Type 0 = λ o e. SiteCalled {T = T} (Done (site_disks o) (site_disks e)) (Lost (site_disks o) (site_disks e)) (Lacks o) n note o e (Ok value) in
+        let then : SetThen (P was_site) after = sets_then P before after it.call.at.set it.call.at.is_set on in
+        let next : GroupNode = then.holds.0 in
+        let goes : ConfigGoes (Done (site_disks was_site) (site_disks then.set.site)) note next was_site then.set.site = then.holds.3 in
+        let many : ℕ = many_of goes.was 0 in
+        let names : Names s many (calls s old new many) (site_disks was_site) (site_disks then.set.site)
+        = calls_names d old new name s before after stands it.call it.call.at.set then.set it.call.at.is_set then.is many (omega arith) in
+        up_leads d line old new name s before after stands it said (calls s old new many) next then.set then.is then.holds.2 then.holds.1.same.cut
+        (table.same many (site_disks was_site) (site_disks then.set.site) s (calls s old new many) next goes.was goes.now names goes.noted goes.noted_now goes.change) facts load
+        (GroupDone next (calls_are d old new name s before after stands it.call many)
+        (means.ends many (calls s old new many) (site_disks was_site) (site_disks then.set.site) next goes.was goes.now names goes.noted goes.noted_now (omega arith) goes.change then.holds.1) (it.is_line.done next))
+        (calls_all d old new name s before after stands it.call many)
+
+    -- ---- refused
+
+    module _ (mid : Yard R g) (half : Midway old mid) (result : Result Said OutOfMemory) where
+      abbrev f : SiteFacts
+      f = fact_of_group (d.world.nodes s) (note_at (d.world.nodes s))
+
+      facts_same : (x : SiteFacts) → x ≡ f → new.facts.items ≡ slice_set mid.facts.items s x → new.facts.items ≡ old.facts.items
+      facts_same x is facts =
+          facts ∙ ap (λ (fs : List SiteFacts). slice_set fs s x) half.facts ∙ ap (λ (y : SiteFacts). slice_set old.facts.items s y) is ∙ set_same old.facts.items s f it.call.at.fact
+
+      broke_leads : (Lost : Turns) (why : No) (disk : ℕ) (next : SetThen (λ e. Broke (Lost (site_disks was_site) (site_disks e)) n note was_site e disk) after) → Means s note NoteUnsettles Lost (λ fails k. GroupSpoils s note line fails k)
+          → SameTable note Lost → why ≡ Device disk → IsNotedRefusal s f why mid new result → LeadsOverIs d line old new result
+      broke_leads Lost why disk then spoils table is refusal =
+          let r : IsNotedRefusal s f (Device disk) mid new result = subst (λ (w : No). IsNotedRefusal s f w mid new result) is refusal in
+          let b = then.holds in
+          let many : ℕ = many_of b.goes.was disk in
+          let names : Names s many (calls s old new many) (site_disks was_site) (site_disks then.set.site)
+          = calls_names d old new name s before after stands it.call it.call.at.set then.set it.call.at.is_set then.is many (omega arith) in
+          subst (λ (x : Result Said OutOfMemory). LeadsOverIs d line old new x) (sym r.said)
+          (up_leads d line old new name s before after stands it (Refused (Device disk)) (calls s old new many) b.next then.set then.is b.noted b.keeps.same.cut
+          (table.same many (site_disks was_site) (site_disks then.set.site) s (calls s old new many) b.next b.goes.was b.goes.now names b.goes.noted b.goes.noted_now b.goes.change)
+          (facts_same (noted_facts (Device disk) f) refl r.facts) (load_on old mid new half r.same r.assemblies)
+          (GroupFails disk b.next (calls_are d old new name s before after stands it.call many)
+          (calls_named d old new name s before after stands it.call it.call.at.set then.set it.call.at.is_set then.is many disk (omega arith) b.rose)
+          (spoils.ends many (calls s old new many) (site_disks was_site) (site_disks then.set.site) b.next b.goes.was b.goes.now names b.goes.noted b.goes.noted_now (omega arith) b.goes.change b.keeps) refl (it.is_line.broke b.next))
+          (calls_all d old new name s before after stands it.call many))
+
+      off_ends : (Lost : Turns) (why : No) (next : SetThen (λ e. FellOff (Lost (site_disks was_site) (site_disks e)) n note was_site e) after) → Means s note NoteUnsettles Lost (λ fails k. GroupCuts s note line fails k)
+          → SameTable note Lost → why ≡ IsOff → IsNotedRefusal s f why mid new result → LeadsOverIs d line old new result
+      off_ends Lost why then cuts table is refusal =
+          let r : IsNotedRefusal s f IsOff mid new result = subst (λ (w : No). IsNotedRefusal s f w mid new result) is refusal in
+          let b = then.holds in
+          let many : ℕ = many_of b.goes.was 0 in
+          let names : Names s many (calls s old new many) (site_disks was_site) (site_disks then.set.site)
+          = calls_names d old new name s before after stands it.call it.call.at.set then.set it.call.at.is_set then.is many (omega arith) in
+          subst (λ (x : Result Said OutOfMemory). LeadsOverIs d line old new x) (sym r.said)
+          (off_leads d line old new name s before after stands it (Refused IsOff) (calls s old new many) b.next then.set then.is b.noted b.keeps.same.cut
+          (note_uncut d old new name s before after stands it.call it.up)
+          (table.same many (site_disks was_site) (site_disks then.set.site) s (calls s old new many) b.next b.goes.was b.goes.now names b.goes.noted b.goes.noted_now b.goes.change)
+          (noted_facts IsOff f) refl (r.facts ∙ ap (λ (fs : List SiteFacts). slice_set fs s (noted_facts IsOff f)) half.facts) (lets_on old mid new s half r.same r.assemblies)
+          (GroupCut b.next (calls_are d old new name s before after stands it.call many) b.fused
+          (cuts.ends many (calls s old new many) (site_disks was_site) (site_disks then.set.site) b.next b.goes.was b.goes.now names b.goes.noted b.goes.noted_now (omega arith) b.goes.change b.keeps) refl (it.is_line.off b.next))
+          (calls_all d old new name s before after stands it.call many))
+
+      lacks_leads : (Lacks : No → Type 0) (why : No) (next : SetThen (λ e. Wanted Lacks n note e why) after) → (Lacks why → GroupWants note line why) → IsNotedRefusal s f why mid new result → LeadsOverIs d line old new result
+      lacks_leads Lacks why then wants refusal =
+          let w = then.holds in
+          subst (λ (x : Result Said OutOfMemory). LeadsOverIs d line old new x) (sym refusal.said)
+          (up_leads d line old new name s before after stands it (Refused why) [] note then.set then.is
+          (burned_noted n note then.set.site (group_noted_at d old name s before it.call.at) w.noted) refl refl
+          (facts_same (noted_facts why f) (w.quiet.facts f) refusal.facts) (load_on old mid new half refusal.same (w.quiet.loads s mid.assemblies.items new.assemblies.items refusal.assemblies))
+          (GroupLacks why (wants w.lacks) refl refl (it.is_line.lacks note)) (calls_none d old new name s before after stands it.call))
+
+      pub refused_leads : (T : Type 0) (Done Lost : Turns) (Lacks : GroupSite R g → No → Type 0) → Means s note NoteUnsettles Lost (λ fails k. GroupSpoils s note line fails k) → Means s note NoteUnsettles Lost (λ fails k. GroupCuts s note line fails k)
+          → SameTable note Lost → ((why : No) → Lacks it.call.at.set.site why → GroupWants note line why) → (why : No)
+          → OnSites (λ o e. SiteCalled {T = T} (Done (site_disks o) (site_disks e)) (Lost (site_disks o) (site_disks e)) (Lacks o) n note o e (Err (StopsBy why))) before after
+          → IsNotedRefusal s (fact_of_group (d.world.nodes s) (note_at (d.world.nodes s))) why mid new result → LeadsOverIs d line old new result
+      refused_leads T Done Lost Lacks spoils cuts table wants why on refusal =
+          let P : GroupSite R g → GroupSite R g → Type 0
+          = λ o e. SiteCalled {T = T} (Done (site_disks o) (site_disks e)) (Lost (site_disks o) (site_disks e)) (Lacks o) n note o e (Err (StopsBy why)) in
+          let then : SetThen (P was_site) after = sets_then P before after it.call.at.set it.call.at.is_set on in
+          by_why then (called_why T (Done (site_disks was_site) (site_disks then.set.site)) (Lost (site_disks was_site) (site_disks then.set.site)) (Lacks was_site) n note was_site then.set.site why then.holds)
+        where
+          by_why : (then : SetThen (λ e. SiteCalled {T = T} (Done (site_disks was_site) (site_disks e)) (Lost (site_disks was_site) (site_disks e)) (Lacks was_site) n note was_site e (Err (StopsBy why))) after)
+              → ((disk : ℕ) × (why ≡ Device disk) × Broke (Lost (site_disks was_site) (site_disks then.set.site)) n note was_site then.set.site disk)
+              ⊎ ((why ≡ IsOff) × FellOff (Lost (site_disks was_site) (site_disks then.set.site)) n note was_site then.set.site) ⊎ Wanted (Lacks was_site) n note then.set.site why → LeadsOverIs d line old new result
+          by_why then (inl (disk, is, b)) = broke_leads Lost why disk (record { set = then.set; is = then.is; holds = b }) spoils table is refusal
+          by_why then (inr (inl (is, b))) = off_ends Lost why (record { set = then.set; is = then.is; holds = b }) cuts table is refusal
+          by_why then (inr (inr w)) = lacks_leads (Lacks was_site) why (record { set = then.set; is = then.is; holds = w }) (wants why) refusal

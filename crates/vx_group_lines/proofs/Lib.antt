@@ -1,0 +1,12 @@
+pub mod Arriving
+pub mod Fails
+pub mod GroupAt
+pub mod GroupLeads
+pub mod Tests
+pub mod GroupMarks
+pub mod Losing
+pub mod GroupStatus
+pub mod GroupCalls
+pub mod Changing
+pub mod GroupEnding
+pub mod GroupDone

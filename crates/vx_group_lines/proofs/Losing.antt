@@ -1,0 +1,215 @@
+-- How what a call makes of the configuration of a group is seen in the world, whose lines name the failed calls.
+use Rattle.std.proofs.Common.{◌≡◌, ◌≢◌, ◌⊎◌, ◌∙◌, ◌+◌, ◌<◌, ◌≤◌, ℕ, zero, suc, Bool, true, false, List, [], ◌∷◌, map, length, ap, sym, subst, refl, arith, inl, inr, ⊎_elim}
+use Rattle.std.specs.Prelude.{Option, Some, None, Contains, option_map, slice_get}
+use Rattle.std.proofs.lemmas.Option.{slice_get-map, slice_get_within}
+use Rattle.vx_model.specs.declared.site.PlexState.{PlexState}
+use Rattle.vx_model.specs.declared.site.PlexState.TheVariants.{Active, Clean, Stale}
+use Rattle.vx_disk.specs.Counts.{Rose}
+use Rattle.vx_disk.specs.Shelf.{Meaning}
+use Rattle.vx_config.specs.Changes.{changed_at, stated, with_plex, with_state}
+use Rattle.vx_config.specs.Checks.{runs}
+use Rattle.vx_config.specs.declared.config.Config.{Config}
+use Rattle.vx_config.specs.declared.entry.DiskEntry.{DiskEntry}
+use Rattle.vx_config.specs.declared.entry.PlexEntry.{PlexEntry}
+use Rattle.vx_config.specs.declared.entry.VolumeEntry.{VolumeEntry}
+use Rattle.vx_kept.specs.Cleans.{at_serial}
+use Rattle.vx_layout.specs.Places.{plex_at}
+use Rattle.vx_layout.specs.Space.{IsFound, IsSpaceShort}
+use Rattle.vx_layout.specs.declared.shape.Found.{Found}
+use Rattle.vx_layout.specs.declared.shape.Shape.{Shape}
+use Rattle.vx_volume.specs.Plexes.{uses, uses_or}
+use Rattle.vx_grouped.specs.ConfigMoves.{AnyRose, AnyState, ConfigMoves, DiskMoves, OpensSame, Placed, PlexMoves, StateMoves, VolumeMoves, opened_state}
+use Rattle.vx_order.specs.declared.facts.VolumeFacts.{VolumeFacts}
+use Rattle.vx_events.specs.Fails.{Fails}
+use Rattle.vx_events.specs.GroupConfigs.{ConfigLosesBut, DiskLosesBut, Matched, PlexLoses, VolumeLoses, has_part, lies_on_disk, live_again, opened_again, plex_again, volume_again}
+use Rattle.vx_events.specs.GroupViews.{plain_fact}
+use Rattle.vx_group_lines.proofs.Fails.{contains_some}
+
+-- ---- lists, place by place
+
+pub placed_as : {A : Type 0} (P Q : A → A → Type 0) (o p : Option A) → ((x y : A) → o ≡ Some x → p ≡ Some y → P x y → Q x y) → Placed P o p → Matched Q o p
+placed_as P Q None None step it = tt
+placed_as P Q None (Some y) step it = it
+placed_as P Q (Some x) None step it = it
+placed_as P Q (Some x) (Some y) step it = step x y refl refl it
+
+placed_map : {A : Type 0} (f : A → A) (P Q : A → A → Type 0) (o p : Option A) → ((x y : A) → P x y → Q (f x) (f y)) → Placed P o p → Matched Q (option_map f o) (option_map f p)
+placed_map f P Q None None step it = tt
+placed_map f P Q None (Some y) step it = it
+placed_map f P Q (Some x) None step it = it
+placed_map f P Q (Some x) (Some y) step it = step x y it
+
+at_map : {A : Type 0} (f : A → A) (P Q : A → A → Type 0) (xs ys : List A) (k : ℕ) → ((x y : A) → P x y → Q (f x) (f y)) → Placed P (slice_get xs k) (slice_get ys k) → Matched Q (slice_get (map f xs) k) (slice_get (map f ys) k)
+at_map {A} f P Q xs ys k step it =
+    subst (λ (o : Option A). Matched Q o (slice_get (map f ys) k)) (sym (slice_get-map f xs k))
+    (subst (λ (p : Option A). Matched Q (option_map f (slice_get xs k)) p) (sym (slice_get-map f ys k))
+    (placed_map f P Q (slice_get xs k) (slice_get ys k) step it))
+
+pub same_length : {A : Type 0} (P : A → A → Type 0) (xs ys : List A) → ((k : ℕ) → Placed P (slice_get xs k) (slice_get ys k)) → length ys ≡ length xs
+same_length P [] [] each = refl
+same_length P [] (y ∷ ys) each = absurd (each 0)
+same_length P (x ∷ xs) [] each = absurd (each 0)
+same_length P (x ∷ xs) (y ∷ ys) each = ap suc (same_length P xs ys (λ k. each (suc k)))
+
+pub same_map : {A B : Type 0} (f : A → B) (P : A → A → Type 0) → ((x y : A) → P x y → f y ≡ f x) → (xs ys : List A) → ((k : ℕ) → Placed P (slice_get xs k) (slice_get ys k)) → map f ys ≡ map f xs
+same_map f P step [] [] each = refl
+same_map f P step [] (y ∷ ys) each = absurd (each 0)
+same_map f P step (x ∷ xs) [] each = absurd (each 0)
+same_map {A} {B} f P step (x ∷ xs) (y ∷ ys) each =
+    ap (λ (b : B). b ∷ map f ys) (step x y (each 0)) ∙ ap (λ (bs : List B). f x ∷ bs) (same_map f P step xs ys (λ k. each (suc k)))
+
+-- ---- states of plexes, and disks
+
+-- the calls that a line names have each of the first n disks whose count rose
+pub record Names (s n : ℕ) (fails : Fails) (old new : Meaning) : Type 0 where
+  pub many : old.units ≤ n
+  pub each : (k : ℕ) → k < n → Rose (old.disk_faults k) (new.disk_faults k) → Contains fails (s, k)
+
+pub names_some : (s n : ℕ) (fails : Fails) (old new : Meaning) → Names s n fails old new → AnyRose old new → fails ≢ []
+names_some s n fails old new names any = contains_some fails (s, any.disk) (names.each any.disk (omega (arith, any.below, names.many)) any.rose)
+
+-- what becomes of a state
+abbrev pub StateLoses : Fails → PlexState → PlexState → Type 0
+StateLoses fails p q = (q ≡ p) ⊎ ((q ≡ Stale) × (fails ≢ [])) ⊎ ((q ≡ Active) × (fails ≢ []))
+
+pub state_loses : (s n : ℕ) (fails : Fails) (old new : Meaning) → Names s n fails old new → (p q : PlexState) → StateMoves old new p q → StateLoses fails p q
+state_loses s n fails old new names p q (inl same) = inl same
+state_loses s n fails old new names p q (inr (inl is, any)) = inr (inl (is, names_some s n fails old new names any))
+state_loses s n fails old new names p q (inr (inr is, any)) = inr (inr (is, names_some s n fails old new names any))
+
+opened_live : (p : PlexState) → live_again p ≡ opened_state p
+opened_live Active = refl
+opened_live Clean = refl
+opened_live Stale = refl
+
+pub opens_loses : (fails : Fails) (p q : PlexState) → OpensSame p q → StateLoses fails (live_again p) (live_again q)
+opens_loses fails p q same = inl (opened_live q ∙ same ∙ sym (opened_live p))
+
+any_live : (fails : Fails) (p q : PlexState) → fails ≢ [] → StateLoses fails p (live_again q)
+any_live fails p Active some = inr (inr (refl, some))
+any_live fails p Clean some = inr (inr (refl, some))
+any_live fails p Stale some = inr (inl (refl, some))
+
+pub any_loses : (fails : Fails) → fails ≢ [] → (p q : PlexState) → AnyState p q → StateLoses fails (live_again p) (live_again q)
+any_loses fails some p q it = any_live fails (live_again p) q some
+
+disk_loses : (again : ℕ → Bool) (s n k : ℕ) (fails : Fails) (old new : Meaning) → Names s n fails old new → k < n → (a b : DiskEntry) → DiskMoves again old new k a b → DiskLosesBut (again k) s k fails a b
+disk_loses again s n k fails old new names below a b it = record {
+  blocks = it.blocks;
+  failed = λ is. ⊎_elim (λ (was : a.failed ≡ true). inl was) (λ (rose : Rose (old.disk_faults k) (new.disk_faults k)). inr (names.each k below rose)) (it.failed is);
+  stays = it.stays;
+}
+
+-- ---- configurations
+
+module _ (By : PlexState → PlexState → Type 0) (fails : Fails) where
+  plex_loses : ((p q : PlexState) → By p q → StateLoses fails p q) → (p q : PlexEntry) → PlexMoves By p q → PlexLoses fails p q
+  plex_loses step p q it = record { subdisks = it.subdisks; state = step p.state q.state it.state }
+
+  volume_loses : ((p q : PlexState) → By p q → StateLoses fails p q) → (v u : VolumeEntry) → VolumeMoves By v u → VolumeLoses fails v u
+  volume_loses step v u it = record {
+    name = it.name;
+    blocks = it.blocks;
+    ncol = it.ncol;
+    width = it.width;
+    prefer = it.prefer;
+    drl = it.drl;
+    fmr = it.fmr;
+    plexes = λ k. placed_as (PlexMoves By) (PlexLoses fails) (slice_get v.plexes k) (slice_get u.plexes k) (λ p q _ _ moves. plex_loses step p q moves) (it.plexes k);
+  }
+
+  -- what a call makes of it
+  pub config_loses : (again : ℕ → Bool) (s n : ℕ) (old new : Meaning) (c d : Config) → ((p q : PlexState) → By p q → StateLoses fails p q) → Names s n fails old new → length c.disks ≤ n
+      → ConfigMoves again By old new c d → ConfigLosesBut again s fails c d
+  config_loses again s n old new c d step names many it = record {
+    site = it.parts.site;
+    rvg = it.parts.rvg;
+    disks = λ k. placed_as (DiskMoves again old new k) (DiskLosesBut (again k) s k fails) (slice_get c.disks k) (slice_get d.disks k)
+        (λ a b there _ moves. disk_loses again s n k fails old new names (omega (arith, many, slice_get_within c.disks k a there)) a b moves) (it.disks k);
+    volumes = λ v. placed_as (VolumeMoves By) (VolumeLoses fails) (slice_get c.volumes v) (slice_get d.volumes v) (λ x y _ _ moves. volume_loses step x y moves) (it.volumes v);
+  }
+
+  -- under another serial
+  pub serial_loses : (again : ℕ → Bool) (s : ℕ) (c d : Config) → ConfigLosesBut again s fails c d → ConfigLosesBut again s fails (at_serial 0 c) (at_serial 0 d)
+  serial_loses again s c d it = record { site = it.site; rvg = it.rvg; disks = it.disks; volumes = it.volumes }
+
+  -- ---- behind a deport, with what stopped cleanly taking part again
+
+  plex_opens : ((p q : PlexState) → By p q → StateLoses fails (live_again p) (live_again q)) → (p q : PlexEntry) → PlexMoves By p q → PlexLoses fails (plex_again p) (plex_again q)
+  plex_opens step p q it = record { subdisks = it.subdisks; state = step p.state q.state it.state }
+
+  volume_opens : ((p q : PlexState) → By p q → StateLoses fails (live_again p) (live_again q)) → (v u : VolumeEntry) → VolumeMoves By v u → VolumeLoses fails (volume_again v) (volume_again u)
+  volume_opens step v u it = record {
+    name = it.name;
+    blocks = it.blocks;
+    ncol = it.ncol;
+    width = it.width;
+    prefer = it.prefer;
+    drl = it.drl;
+    fmr = it.fmr;
+    plexes = λ k. at_map plex_again (PlexMoves By) (PlexLoses fails) v.plexes u.plexes k (plex_opens step) (it.plexes k);
+  }
+
+  pub opened_loses : (again : ℕ → Bool) (s n : ℕ) (old new : Meaning) (c d : Config) → ((p q : PlexState) → By p q → StateLoses fails (live_again p) (live_again q)) → Names s n fails old new → length c.disks ≤ n
+      → ConfigMoves again By old new c d → ConfigLosesBut again s fails (opened_again (at_serial 0 c)) (opened_again (at_serial 0 d))
+  opened_loses again s n old new c d step names many it = record {
+    site = it.parts.site;
+    rvg = it.parts.rvg;
+    disks = λ k. placed_as (DiskMoves again old new k) (DiskLosesBut (again k) s k fails) (slice_get c.disks k) (slice_get d.disks k)
+        (λ a b there _ moves. disk_loses again s n k fails old new names (omega (arith, many, slice_get_within c.disks k a there)) a b moves) (it.disks k);
+    volumes = λ v. at_map volume_again (VolumeMoves By) (VolumeLoses fails) c.volumes d.volumes v (volume_opens step) (it.volumes v);
+  }
+
+-- ---- what the tests see of volumes
+
+fact_moves : (By : PlexState → PlexState → Type 0) (v u : VolumeEntry) → VolumeMoves By v u → plain_fact u ≡ plain_fact v
+fact_moves By v u it =
+    ap (λ (x : List ℕ). let f : VolumeFacts = record (plain_fact u) { name = x } in f) it.name
+    ∙ ap (λ (x : ℕ). let f : VolumeFacts = record (plain_fact u) { name = v.name; blocks = x } in f) it.blocks
+    ∙ ap (λ (x : ℕ). let f : VolumeFacts = record (plain_fact v) { plexes = x } in f) (same_length (PlexMoves By) v.plexes u.plexes it.plexes)
+
+pub facts_move : (again : ℕ → Bool) (By : PlexState → PlexState → Type 0) (old new : Meaning) (c d : Config) → ConfigMoves again By old new c d → map plain_fact d.volumes ≡ map plain_fact c.volumes
+facts_move again By old new c d it = same_map plain_fact (VolumeMoves By) (fact_moves By) c.volumes d.volumes it.volumes
+
+changed_length : {A : Type 0} (f : A → A) (k : ℕ) (xs : List A) → length (changed_at f k xs) ≡ length xs
+changed_length f k [] = refl
+changed_length f zero (x ∷ xs) = refl
+changed_length f (suc k) (x ∷ xs) = ap suc (changed_length f k xs)
+
+changed_map : {A B : Type 0} (f : A → A) (r : A → B) → ((x : A) → r (f x) ≡ r x) → (k : ℕ) (xs : List A) → map r (changed_at f k xs) ≡ map r xs
+changed_map f r same k [] = refl
+changed_map {A} {B} f r same zero (x ∷ xs) = ap (λ (b : B). b ∷ map r xs) (same x)
+changed_map {A} {B} f r same (suc k) (x ∷ xs) = ap (λ (bs : List B). r x ∷ bs) (changed_map f r same k xs)
+
+-- a plex in another state is not seen
+pub facts_stated : (v p : ℕ) (state : PlexState) (whole : Bool) (c : Config) → map plain_fact (stated v p state whole c).volumes ≡ map plain_fact c.volumes
+facts_stated v p state whole c =
+    changed_map (with_plex p state whole) plain_fact
+    (λ x. ap (λ (k : ℕ). let f : VolumeFacts = record (plain_fact x) { plexes = k } in f) (changed_length (with_state state whole) p x.plexes)) v c.volumes
+
+-- ---- other words for the same
+
+pub found_zero : (c : Config) (want : Shape) (found : Found) → IsFound c want found → IsFound (at_serial 0 c) want found
+unfolding runs
+found_zero c want found it = record { many = it.many; plexes = it.plexes; logs = it.logs }
+
+pub short_zero : (c : Config) (want : Shape) (need have : ℕ) → IsSpaceShort c want need have → IsSpaceShort (at_serial 0 c) want need have
+unfolding runs
+short_zero c want need have it = record { plexes = it.plexes; are = it.are; next = it.next }
+
+uses_part : (o : Option PlexEntry) (k : ℕ) → uses_or k o ≡ has_part o k
+uses_part None k = refl
+uses_part (Some p) k = refl
+
+pub uses_is : (c : Config) (v p k : ℕ) → uses c v p k ≡ lies_on_disk c v p k
+unfolding uses
+uses_is c v p k = uses_part (plex_at c v p) k
+
+-- disks that may be held as good again, by another test
+pub again_as : (first second : ℕ → Bool) (s : ℕ) (fails : Fails) (c d : Config) → ((k : ℕ) → first k ≡ second k) → ConfigLosesBut first s fails c d → ConfigLosesBut second s fails c d
+again_as first second s fails c d same it = record {
+  site = it.site;
+  rvg = it.rvg;
+  disks = λ k. subst (λ (b : Bool). Matched (DiskLosesBut b s k fails) (slice_get c.disks k) (slice_get d.disks k)) (same k) (it.disks k);
+  volumes = it.volumes;
+}

@@ -1,0 +1,43 @@
+-- Each case of a line that makes a disk of a group fail, or ends that.
+use Rattle.std.proofs.Common.{◌≡◌, refl}
+use Rattle.std.specs.Prelude.{Some}
+use Rattle.vx_events.proofs.Refused.{disk_may}
+use Rattle.vx_events.specs.Facts.{seat_of}
+use Rattle.vx_yard.proofs.ChangeSite.{told_before}
+use Rattle.vx_yard.proofs.Lists.{get_at}
+use Rattle.vx_yard.proofs.NamedSite.{asks_at}
+use Rattle.vx_yard.proofs.Seats.{named_some}
+use Rattle.vx_yard.specs.Yards.{in_files}
+use Rattle.vx_diskset.specs.Asked.{SetsDisk}
+use Rattle.vx_events.specs.Failing.{is_failing}
+use Rattle.vx_group_lines.proofs.GroupMarks.{disk_leads, disk_of_site}
+use Rattle.vx_group_lines.proofs.marks.disk_line.Goals as goal
+
+pub site_of-site-requires-clause-named : goal.site_of-site-requires-clause-named
+site_of-site-requires-clause-named g c = λ κs within. named_some c.args.yard.now c.args.name.now ((disk_may c.args.yard.now.facts.items (in_files c.args.yard.now) c.args.name.now c.args.disk c.args.state c.requires.free).0)
+
+pub returns-clause-told : goal.returns-clause-told
+returns-clause-told g c =
+    let disk_sets = c.args.yard.now.disk_sets.items in
+    told_before disk_sets c.site_of-site.result c.index_mut.result.now c.fail.new.self
+    (get_at disk_sets c.site_of-site.result c.index_mut.result.now c.site_of-site.ensures.disk_set c.index_mut.ensures.value) c.fail.ensures.later
+
+pub returns-clause-leads : goal.returns-clause-leads
+returns-clause-leads g c = λ d stands over.
+    let disk_sets = c.args.yard.now.disk_sets.items in
+    let s = c.site_of-site.result in
+    let is : seat_of c.args.yard.now.facts.items c.args.name.now ≡ Some c.site_of-site.result = c.site_of-site.ensures.seat in
+    let at = get_at disk_sets s c.index_mut.result.now c.site_of-site.ensures.disk_set c.index_mut.ensures.value in
+    disk_leads d c.args.yard.now _ c.args.name.now c.args.disk c.args.state s c.index_mut.result.now c.fail.new.self stands is over
+    (record { there = at; later = c.fail.ensures.later; disk_sets = refl; racks = refl }) c.fail.ensures.stands
+    (disk_of_site d c.args.yard.now c.args.name.now c.args.disk c.args.state c.is_failing.result s c.index_mut.result.now c.fail.new.self stands c.requires.free is over c.is_failing.ensures at c.fail.ensures.asked) refl
+    (record { flight = refl; assemblies = refl; feeders = refl })
+
+pub returns-clause-asked : goal.returns-clause-asked
+returns-clause-asked g c = λ d stands over.
+    let disk_sets = c.args.yard.now.disk_sets.items in
+    let s = c.site_of-site.result in
+    let is : seat_of c.args.yard.now.facts.items c.args.name.now ≡ Some c.site_of-site.result = c.site_of-site.ensures.seat in
+    let at = get_at disk_sets s c.index_mut.result.now c.site_of-site.ensures.disk_set c.index_mut.ensures.value in
+    asks_at (SetsDisk c.args.disk (is_failing c.args.state)) d c.args.yard.now _ c.args.name.now s c.index_mut.result.now c.fail.new.self stands is at refl
+    (disk_of_site d c.args.yard.now c.args.name.now c.args.disk c.args.state c.is_failing.result s c.index_mut.result.now c.fail.new.self stands c.requires.free is over c.is_failing.ensures at c.fail.ensures.asked)

@@ -1,0 +1,131 @@
+-- Which sites are over a group, as their disks stand.
+use Rattle.std.proofs.Common.{◌≡◌, ◌∙◌, ◌≤◌, ◌⊎◌, inl, inr, ⊎_elim, ℕ, ◌-◌, Bool, true, false, List, [], length, ap, subst, sym, refl, arith}
+use Rattle.std.specs.Prelude.{◌&&◌, eqb, Option, Some, None, is_some}
+use Rattle.std.proofs.lemmas.Bool.Decides.{nat_tests}
+use Rattle.vx_history.specs.Groups.{GroupNode}
+use Rattle.vx_history.specs.World.{Node, Volume}
+use Rattle.vx_model.specs.Sites.{is_origin}
+use Rattle.vx_model.specs.declared.site.Role.{Role}
+use Rattle.vx_model.specs.declared.site.SiteState.{SiteState}
+use Rattle.vx_model.specs.declared.site.SiteState.TheVariants.{Bare as IsBare, Up as IsUp, Deported as IsDeported, Down as IsDown}
+use Rattle.vx_disk.specs.Shelf.{Meaning}
+use Rattle.vx_disk.specs.declared.shelf.Shelf.{Ghosts}
+use Rattle.vx_grouped.specs.GroupSites.{GroupSiteStands, HasNoRvg, NotesGroup}
+use Rattle.vx_grouped.specs.declared.group_site.GroupSite.{GroupSite}
+use Rattle.vx_grouped.specs.declared.group_site.GroupSite.TheVariants.{Up as GroupUp, Deported as GroupAway, Down as GroupDown, Marked, Gone as GroupGone}
+use Rattle.vx_diskset.specs.Holds.{KeptBeside, KeptSite}
+use Rattle.vx_diskset.specs.Layouts.{LiesOn}
+use Rattle.vx_diskset.specs.Stands.{IsGroupSet, SiteStands, bare_with}
+use Rattle.vx_diskset.specs.declared.disk_set.DiskSet.{DiskSet}
+use Rattle.vx_diskset.specs.declared.disk_set.DiskSet.TheVariants.{Bare, Spoiled, Up, Receives, Down, OfGroup, Gone}
+use Rattle.vx_diskset.specs.declared.group_set.GroupSet.{GroupSet}
+use Rattle.vx_events.proofs.Places.{never_some}
+use Rattle.vx_events.proofs.Values.{length-values_from}
+use Rattle.vx_events.specs.GroupLines.{is_over_group}
+
+-- a site that notes a group is over it
+pub noted_over : (n : Node) (note : GroupNode) → NotesGroup n note → is_over_group n ≡ true
+noted_over n note it =
+    ap (λ (o : Option GroupNode). is_some o && eqb (length n.volumes) 0) it.is ∙ ap (λ (vs : List Volume). eqb (length vs) 0) it.none.volumes
+
+-- a bare site is over none
+pub bare_apart : (n : Node) → n ≡ bare_with n → is_over_group n ≡ false
+bare_apart n is = ap (λ (k : Node). is_over_group k) is
+
+not_zero : (k : ℕ) → 1 ≤ k → eqb k 0 ≡ false
+not_zero k some = grind (arith, nat_tests)
+
+some_apart : (k : ℕ) (b : Bool) → 1 ≤ k → (b && eqb k 0) ≡ false
+some_apart k true some = not_zero k some
+some_apart k false some = refl
+
+laid_many : (n : Node) (m : Meaning) → LiesOn n m → 1 ≤ length n.volumes
+laid_many n m lies = let many : length n.volumes ≡ n.disks - 2 = sym lies.laid.count ∙ length-values_from (λ k. k) 1 (n.disks - 2) in omega (arith, many, lies.can.some)
+
+-- nor one with a raw set
+pub laid_apart : (n : Node) (m : Meaning) → LiesOn n m → is_over_group n ≡ false
+laid_apart n m lies = some_apart (length n.volumes) (is_some n.group) (laid_many n m lies)
+
+laid_some : (n : Node) (m : Meaning) → LiesOn n m → n.volumes ≡ [] → ⊥
+laid_some n m lies none = omega (arith, laid_many n m lies, ap (λ (vs : List Volume). length vs) none)
+
+pub both_ways : {b : Bool} → b ≡ true → b ≡ false → ⊥
+both_ways over apart = let e : true ≡ false = sym over ∙ apart in cc
+
+pub bare_or : (t : SiteState) → (t ≡ IsBare) ⊎ (t ≡ IsBare → ⊥)
+bare_or IsBare = inl refl
+bare_or IsUp = inr (λ e. cc)
+bare_or IsDeported = inr (λ e. cc)
+bare_or IsDown = inr (λ e. cc)
+
+module _ {R : Type 0} {g : Ghosts R} where
+  site_over : (n : Node) (s : GroupSite R g) → GroupSiteStands n s → (n.state ≡ IsBare → ⊥) → is_over_group n ≡ true
+  site_over n (GroupUp group) (note, it) made = noted_over n note it.noted
+  site_over n (GroupAway rack) (note, it) made = noted_over n note it.noted
+  site_over n (GroupDown rack) (note, it) made = noted_over n note it.noted
+  site_over n (Marked rack) it made = absurd (made it.state)
+  site_over n GroupGone it made = absurd it
+
+  -- a site with a group that is not bare is over it
+  pub set_over : (beside : KeptBeside) (n : Node) (s : GroupSet R g) → IsGroupSet beside n s → (n.state ≡ IsBare → ⊥) → is_over_group n ≡ true
+  set_over beside n s it made = site_over n s.site it.stands made
+
+  made_by : (n : Node) (s : GroupSite R g) → GroupSiteStands n s → (n.state ≡ IsBare → ⊥) → (note : GroupNode) × NotesGroup n note
+  made_by n (GroupUp group) (note, it) made = (note, it.noted)
+  made_by n (GroupAway rack) (note, it) made = (note, it.noted)
+  made_by n (GroupDown rack) (note, it) made = (note, it.noted)
+  made_by n (Marked rack) it made = absurd (made it.state)
+  made_by n GroupGone it made = absurd it
+
+  -- and notes it
+  pub set_notes : (beside : KeptBeside) (n : Node) (s : GroupSet R g) → IsGroupSet beside n s → (n.state ≡ IsBare → ⊥) → (note : GroupNode) × NotesGroup n note
+  set_notes beside n s it made = made_by n s.site it.stands made
+
+  -- one that is over none is bare
+  pub apart_bare : (beside : KeptBeside) (n : Node) (s : GroupSet R g) → IsGroupSet beside n s → is_over_group n ≡ false → n.state ≡ IsBare
+  apart_bare beside n s it apart = ⊎_elim (λ (bare : n.state ≡ IsBare). bare) (λ made. absurd (both_ways (set_over beside n s it made) apart)) (bare_or n.state)
+
+  -- other disks are those of a site over no group
+  pub raw_apart : (beside : KeptBeside) (n : Node) (e : DiskSet R g) → SiteStands beside n e → ((s : GroupSet R g) → e ≡ OfGroup s → ⊥) → is_over_group n ≡ false
+  raw_apart beside n (Bare rack) it other = bare_apart n it.bare.is
+  raw_apart beside n (Spoiled rack) it other = bare_apart n it.is
+  raw_apart beside n (Up rvg) it other = laid_apart n (g.meaning rvg.shelf) it.lies
+  raw_apart beside n (Receives s) it other = laid_apart n (g.meaning s.rvg.shelf) it.lies
+  raw_apart beside n (Down rack) it other = laid_apart n (g.meaning rack) it.lies
+  raw_apart beside n (OfGroup s) it other = absurd (other s refl)
+  raw_apart beside n Gone it other = absurd it
+
+  -- the disks of a site over a group are a group
+  pub over_is : (beside : KeptBeside) (n : Node) (e : DiskSet R g) → SiteStands beside n e → is_over_group n ≡ true → (s : GroupSet R g) × (e ≡ OfGroup s)
+  over_is beside n (Bare rack) it over = absurd (both_ways over (bare_apart n it.bare.is))
+  over_is beside n (Spoiled rack) it over = absurd (both_ways over (bare_apart n it.is))
+  over_is beside n (Up rvg) it over = absurd (both_ways over (laid_apart n (g.meaning rvg.shelf) it.lies))
+  over_is beside n (Receives s) it over = absurd (both_ways over (laid_apart n (g.meaning s.rvg.shelf) it.lies))
+  over_is beside n (Down rack) it over = absurd (both_ways over (laid_apart n (g.meaning rack) it.lies))
+  over_is beside n (OfGroup s) it over = (s, refl)
+  over_is beside n Gone it over = absurd it
+
+  -- and such a site has no replicated volume group
+  pub over_none : (beside : KeptBeside) (n : Node) (e : DiskSet R g) → SiteStands beside n e → is_over_group n ≡ true → HasNoRvg n
+  over_none beside n e it over =
+      let of = over_is beside n e it over in
+      let set : IsGroupSet beside n of.0 = subst (λ (x : DiskSet R g). SiteStands beside n x) of.1 it in
+      (set_notes beside n of.0 set (λ bare. both_ways over (bare_apart n (set.bare bare)))).1.none
+
+  -- one that receives is over no group
+  pub receives_apart : (beside : KeptBeside) (n : Node) (e : DiskSet R g) → SiteStands beside n e → is_origin n.role ≡ false → is_over_group n ≡ false
+  receives_apart beside n e it receives = by (is_over_group n) refl
+    where
+      by : (b : Bool) → is_over_group n ≡ b → is_over_group n ≡ false
+      by false is = is
+      by true is = absurd (both_ways (ap (λ (r : Role). is_origin r) (over_none beside n e it is).role) receives)
+
+  -- a site that may be another has a volume of a replicated volume group
+  pub doubt_apart : (beside : KeptBeside) (n : Node) (e : DiskSet R g) (k : KeptSite) → SiteStands beside n e → n.state ≡ IsUp → beside.doubt ≡ Some k → n.volumes ≡ [] → ⊥
+  doubt_apart beside n (Bare rack) k it up doubt none = let e : IsBare ≡ IsUp = sym (ap (λ (x : Node). x.state) it.bare.is) ∙ up in cc
+  doubt_apart beside n (Spoiled rack) k it up doubt none = let e : IsBare ≡ IsUp = sym (ap (λ (x : Node). x.state) it.is) ∙ up in cc
+  doubt_apart beside n (Up rvg) k it up doubt none = laid_some n (g.meaning rvg.shelf) it.lies none
+  doubt_apart beside n (Receives s) k it up doubt none = laid_some n (g.meaning s.rvg.shelf) it.lies none
+  doubt_apart beside n (Down rack) k it up doubt none = laid_some n (g.meaning rack) it.lies none
+  doubt_apart beside n (OfGroup s) k it up doubt none = never_some (sym (it.sure (λ bare. let e : IsBare ≡ IsUp = sym bare ∙ up in cc)) ∙ doubt)
+  doubt_apart beside n Gone k it up doubt none = it
