@@ -63,11 +63,11 @@ module _ {R : Type 0} {g : Ghosts R} where
   found_later rack s since =
       later_risen (Bare rack) (OfGroup s) (g.meaning rack) (site_disks s.site) (has_bare (Bare rack) rack refl) (has_group (OfGroup s) s refl) (rises_returned (g.meaning rack) (site_disks s.site) since)
 
-  pub back_failing : (rack new : R) → CalledSince (g.meaning rack) (g.meaning new) → SameFailing (Bare rack) (Bare new)
+  pub back_failing : (rack new : R) → CalledSince (g.meaning rack) (g.meaning new) → SameFailing {g = g} (Bare rack) (Bare new)
   back_failing rack new since =
       failing_risen (Bare rack) (Bare new) (g.meaning rack) (g.meaning new) (has_bare (Bare rack) rack refl) (has_bare (Bare new) new refl) (rises_called (g.meaning rack) (g.meaning new) since)
 
-  pub back_later : (rack new : R) → CalledSince (g.meaning rack) (g.meaning new) → Later (Bare rack) (Bare new)
+  pub back_later : (rack new : R) → CalledSince (g.meaning rack) (g.meaning new) → Later {g = g} (Bare rack) (Bare new)
   back_later rack new since =
       later_risen (Bare rack) (Bare new) (g.meaning rack) (g.meaning new) (has_bare (Bare rack) rack refl) (has_bare (Bare new) new refl) (rises_called (g.meaning rack) (g.meaning new) since)
 

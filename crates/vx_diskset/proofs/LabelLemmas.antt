@@ -81,6 +81,7 @@ no_front n m clean = record { each = λ u low. front_at u (cases_lt 0 u) (subst 
   where
     some : 0 < n.blocks
     some = omega (arith, clean.bare.some)
+
     front_at : (u : ℕ) → (0 < u) ⊎ (u ≤ 0) → u < n.disks → Keeps m u 0 zero_block
     front_at u (inl past) low = clean.bare.blank u 0 past low some
     front_at u (inr none) low = subst (λ (k : ℕ). Keeps m k 0 zero_block) (omega (arith, none)) (clean.front 0 some)

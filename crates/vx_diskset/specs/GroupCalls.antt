@@ -4,11 +4,12 @@ use Rattle.vx_model.specs.Content.{Write}
 use Rattle.vx_model.specs.declared.errors.Stop.{Stop}
 use Rattle.vx_disk.specs.Shelf.{Meaning}
 use Rattle.vx_disk.specs.declared.shelf.Shelf.{Ghosts}
+use Rattle.vx_config.specs.declared.config.Config.{Config}
 use Rattle.vx_history.specs.World.{Node}
 use Rattle.vx_watched.specs.Empty.{no_shelf}
 use Rattle.vx_watched.specs.Since.{CalledSince}
 use Rattle.vx_grouped.specs.Begins.{BeginsGroup}
-use Rattle.vx_grouped.specs.GroupSites.{site_disks}
+use Rattle.vx_grouped.specs.GroupSites.{site_config, site_disks}
 use Rattle.vx_grouped.specs.declared.group_site.GroupSite.{GroupSite}
 use Rattle.vx_diskset.specs.GroupSets.{cut_value}
 use Rattle.vx_diskset.specs.declared.disk_set.DiskSet.{DiskSet}
@@ -29,6 +30,11 @@ module _ {R : Type 0} {g : Ghosts R} where
   abbrev pub cut_in : DiskSet R g → Option Write
   cut_in (OfGroup s) = cut_value s.cut
   cut_in other = None
+
+  -- the configuration of a group that is up
+  abbrev pub config_in : DiskSet R g → Option Config
+  config_in (OfGroup s) = site_config s.site
+  config_in other = None
 
   -- whatever calls were made of them, those on the disks of a group are accounted for
   abbrev pub CalledOn : DiskSet R g → DiskSet R g → Type 0

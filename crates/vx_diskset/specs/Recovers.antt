@@ -70,6 +70,7 @@ module _ {R : Type 0} {g : Ghosts R} where
   pub record CameBack (n : Node) (note : GroupNode) (cut : Option CutWrite) (old : GroupSite R g) (new : DiskSet R g) (r : Result (Option KeptWrite) Stop) : Type 0 where
     pub middle : GroupSite R g
     pub came : SiteRecovers n note old middle (Ok tt)
+    pub since : AtSite (λ x. RisesSince (site_disks middle) (site_disks x)) new
     pub rises : (k : Node) (next : GroupNode) → UpNoted k next middle → RisesWith k next cut middle new r
 
   -- a recovery that was refused in its import leaves the write that was cut

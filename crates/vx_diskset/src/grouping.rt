@@ -1,7 +1,7 @@
 // The calls on the group of a site that is up.
 ghost use Rattle.std.specs.Prelude.{◌≡◌, ◌≤◌, ◌<◌, ◌%◌, ℕ, false, Err, IfOk, IfSome, IsTrue, None, Ok, OnOk, Some, length, option_copied};
 ghost use Rattle.vx_grouped.specs.Ends.{plain_write};
-ghost use Rattle.vx_grouped.specs.GroupSites.{FitsPlain, UpNoted, site_config, site_disks};
+ghost use Rattle.vx_grouped.specs.GroupSites.{FitsPlain, UpNoted, site_disks};
 ghost use Rattle.vx_grouped.specs.SiteAdds.{SiteAdded, VolumeIn, refuses_volume};
 ghost use Rattle.vx_grouped.specs.SiteEnds.{AttCalled, DetCalled, PlainRead, PlainWrote, RegionsOf, SiteDeported, is_plex_on, refuses_att, refuses_det};
 ghost use Rattle.vx_history.specs.Groups.{GroupNode};
@@ -12,7 +12,7 @@ ghost use Rattle.vx_model.specs.declared.no.No.{No as NoValue};
 ghost use Rattle.vx_watched.specs.Since.{CalledSince};
 ghost use Rattle.vx_diskset.specs.Asked.{FuseGoesOn, SameFailing};
 ghost use Rattle.vx_diskset.specs.DiskSets.{Later};
-ghost use Rattle.vx_diskset.specs.GroupCalls.{AtSite, CalledOn, OnSites, cut_in};
+ghost use Rattle.vx_diskset.specs.GroupCalls.{AtSite, CalledOn, OnSites, config_in, cut_in};
 ghost use Rattle.vx_diskset.specs.GroupSets.{cut_behind, cut_value};
 
 use crate::DiskSet;
@@ -58,7 +58,7 @@ fn write_set<R: Rack>(
 impl<R: Rack> DiskSet<R> {
     /// The configuration of the group of a site that is up.
     pub fn config(&self) -> Option<&Config>
-        ensures { (n : Node) (note : GroupNode) → AtSite (UpNoted n note) self.now → AtSite (λ s. option_copied result ≡ site_config s) self.now }
+        ensures { option_copied result ≡ config_in self.now }
     {
         match self {
             DiskSet::OfGroup(group) => group.site.config(),

@@ -10,3 +10,7 @@ pub mod GroupCalls
 pub mod Changing
 pub mod GroupEnding
 pub mod GroupDone
+pub mod GroupShown
+pub mod Choosing
+pub mod Returning
+pub mod Rising

@@ -18,7 +18,7 @@ use Rattle.vx_layout.specs.Space.{IsFound, IsSpaceShort}
 use Rattle.vx_layout.specs.declared.shape.Found.{Found}
 use Rattle.vx_layout.specs.declared.shape.Shape.{Shape}
 use Rattle.vx_volume.specs.Plexes.{uses, uses_or}
-use Rattle.vx_grouped.specs.ConfigMoves.{AnyRose, AnyState, ConfigMoves, DiskMoves, OpensSame, Placed, PlexMoves, StateMoves, VolumeMoves, opened_state}
+use Rattle.vx_grouped.specs.ConfigMoves.{AnyRose, AnyState, ConfigMoves, DiskMoves, OpensSame, InBoth, PlexMoves, StateMoves, VolumeMoves, opened_state}
 use Rattle.vx_order.specs.declared.facts.VolumeFacts.{VolumeFacts}
 use Rattle.vx_events.specs.Fails.{Fails}
 use Rattle.vx_events.specs.GroupConfigs.{ConfigLosesBut, DiskLosesBut, Matched, PlexLoses, VolumeLoses, has_part, lies_on_disk, live_again, opened_again, plex_again, volume_again}
@@ -27,31 +27,31 @@ use Rattle.vx_group_lines.proofs.Fails.{contains_some}
 
 -- ---- lists, place by place
 
-pub placed_as : {A : Type 0} (P Q : A → A → Type 0) (o p : Option A) → ((x y : A) → o ≡ Some x → p ≡ Some y → P x y → Q x y) → Placed P o p → Matched Q o p
+pub placed_as : {A : Type 0} (P Q : A → A → Type 0) (o p : Option A) → ((x y : A) → o ≡ Some x → p ≡ Some y → P x y → Q x y) → InBoth P o p → Matched Q o p
 placed_as P Q None None step it = tt
 placed_as P Q None (Some y) step it = it
 placed_as P Q (Some x) None step it = it
 placed_as P Q (Some x) (Some y) step it = step x y refl refl it
 
-placed_map : {A : Type 0} (f : A → A) (P Q : A → A → Type 0) (o p : Option A) → ((x y : A) → P x y → Q (f x) (f y)) → Placed P o p → Matched Q (option_map f o) (option_map f p)
+placed_map : {A : Type 0} (f : A → A) (P Q : A → A → Type 0) (o p : Option A) → ((x y : A) → P x y → Q (f x) (f y)) → InBoth P o p → Matched Q (option_map f o) (option_map f p)
 placed_map f P Q None None step it = tt
 placed_map f P Q None (Some y) step it = it
 placed_map f P Q (Some x) None step it = it
 placed_map f P Q (Some x) (Some y) step it = step x y it
 
-at_map : {A : Type 0} (f : A → A) (P Q : A → A → Type 0) (xs ys : List A) (k : ℕ) → ((x y : A) → P x y → Q (f x) (f y)) → Placed P (slice_get xs k) (slice_get ys k) → Matched Q (slice_get (map f xs) k) (slice_get (map f ys) k)
+at_map : {A : Type 0} (f : A → A) (P Q : A → A → Type 0) (xs ys : List A) (k : ℕ) → ((x y : A) → P x y → Q (f x) (f y)) → InBoth P (slice_get xs k) (slice_get ys k) → Matched Q (slice_get (map f xs) k) (slice_get (map f ys) k)
 at_map {A} f P Q xs ys k step it =
     subst (λ (o : Option A). Matched Q o (slice_get (map f ys) k)) (sym (slice_get-map f xs k))
     (subst (λ (p : Option A). Matched Q (option_map f (slice_get xs k)) p) (sym (slice_get-map f ys k))
     (placed_map f P Q (slice_get xs k) (slice_get ys k) step it))
 
-pub same_length : {A : Type 0} (P : A → A → Type 0) (xs ys : List A) → ((k : ℕ) → Placed P (slice_get xs k) (slice_get ys k)) → length ys ≡ length xs
+pub same_length : {A : Type 0} (P : A → A → Type 0) (xs ys : List A) → ((k : ℕ) → InBoth P (slice_get xs k) (slice_get ys k)) → length ys ≡ length xs
 same_length P [] [] each = refl
 same_length P [] (y ∷ ys) each = absurd (each 0)
 same_length P (x ∷ xs) [] each = absurd (each 0)
 same_length P (x ∷ xs) (y ∷ ys) each = ap suc (same_length P xs ys (λ k. each (suc k)))
 
-pub same_map : {A B : Type 0} (f : A → B) (P : A → A → Type 0) → ((x y : A) → P x y → f y ≡ f x) → (xs ys : List A) → ((k : ℕ) → Placed P (slice_get xs k) (slice_get ys k)) → map f ys ≡ map f xs
+pub same_map : {A B : Type 0} (f : A → B) (P : A → A → Type 0) → ((x y : A) → P x y → f y ≡ f x) → (xs ys : List A) → ((k : ℕ) → InBoth P (slice_get xs k) (slice_get ys k)) → map f ys ≡ map f xs
 same_map f P step [] [] each = refl
 same_map f P step [] (y ∷ ys) each = absurd (each 0)
 same_map f P step (x ∷ xs) [] each = absurd (each 0)

@@ -1,3 +1,4 @@
 pub mod Noting
 pub mod Plain
+pub mod Rises
 pub mod Views

@@ -1,5 +1,5 @@
 -- The lines that go to a disk group, and of these such as write and read blocks of a volume.
-use Rattle.std.specs.Prelude.{◌≡◌, ℕ, ◌*◌, ◌<◌, ◌≤◌, Bool, true, false, List, length}
+use Rattle.std.specs.Prelude.{◌≡◌, ℕ, ◌*◌, ◌<◌, ◌≤◌, Bool, true, false, List, length, Option, Some, None}
 use Rattle.vx_model.specs.declared.limits.TheConstants.{MOST_CALL_BLOCKS}
 use Rattle.vx_script.specs.declared.line.ScriptLine.{ScriptLine}
 use Rattle.vx_script.specs.declared.line.ScriptLine.TheVariants.{GroupInit, GroupDeport, GroupImport, Volume, PlexDetach, PlexAttach, Disk, Crash, Fuse, Recover, Status, Write as WriteLine, Put as PutLine, Read as ReadLine, Show as ShowLine}
@@ -21,6 +21,19 @@ is_group_line (Volume site volume blocks mirrors layout log map policy) = true
 is_group_line (PlexDetach site volume plex) = true
 is_group_line (PlexAttach site volume plex) = true
 is_group_line other = false
+
+-- the site of any other line that goes to a group where its site is over one
+abbrev pub plain_site : ScriptLine → Option (List ℕ)
+plain_site (Disk site disk state) = Some site
+plain_site (Crash site pick) = Some site
+plain_site (Fuse site calls pick) = Some site
+plain_site (Recover site) = Some site
+plain_site (Status site) = Some site
+plain_site (WriteLine site volume start count fill) = Some site
+plain_site (PutLine site volume start bytes) = Some site
+plain_site (ReadLine site volume start count) = Some site
+plain_site (ShowLine site volume start count) = Some site
+plain_site other = None
 
 -- whether lines of this kind may go to a group
 abbrev pub is_group_kind : ScriptLine → Bool

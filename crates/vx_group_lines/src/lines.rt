@@ -1,9 +1,9 @@
 // The lines that go to the group of a site, and their work.
-ghost use Rattle.std.specs.Prelude.{◌≡◌, ◌*◌, IfOk, IsOk, IsSome, min, replicate, false, true};
+ghost use Rattle.std.specs.Prelude.{◌≡◌, ◌*◌, IfOk, IsOk, IsSome, min, option_copied, replicate, false, true};
 ghost use Rattle.vx_history.specs.Doubts.{Doubted};
 ghost use Rattle.vx_events.specs.Facts.{seat_of};
 ghost use Rattle.vx_events.specs.StepsOver.{is_for_group, over_group_at};
-ghost use Rattle.vx_group_lines.specs.Plain.{is_block_kind, is_group_kind, is_group_line};
+ghost use Rattle.vx_group_lines.specs.Plain.{is_block_kind, is_group_kind, is_group_line, plain_site};
 ghost use Rattle.vx_yard.specs.OfSites.{AsAsked, HasCalled};
 ghost use Rattle.vx_yard.specs.Standing.{LeadsOverIs, LeadsOverOrStops, StandsFor};
 ghost use Rattle.vx_yard.specs.Working.{IsFree, takes_memory};
@@ -37,6 +37,39 @@ fn is_group<R: Rack>(yard: &Yard<R>, name: &Name) -> bool
     yard.facts[site].grouped && yard.facts[site].rvg.is_none()
 }
 
+// Whether such a line goes to a group, whatever its site is.
+fn is_word_of_group(words: &ScriptLine) -> bool
+    ensures { result ≡ is_group_line words.now }
+{
+    match words {
+        ScriptLine::GroupInit { .. } => true,
+        ScriptLine::GroupDeport { .. } => true,
+        ScriptLine::GroupImport { .. } => true,
+        ScriptLine::Volume { .. } => true,
+        ScriptLine::PlexDetach { .. } => true,
+        ScriptLine::PlexAttach { .. } => true,
+        _ => false,
+    }
+}
+
+// The site of any other line that goes to a group where its site is over one.
+fn site_named(words: &ScriptLine) -> Option<&Name>
+    ensures { option_copied result ≡ plain_site words.now }
+{
+    match words {
+        ScriptLine::Write { site, .. } => Some(site),
+        ScriptLine::Put { site, .. } => Some(site),
+        ScriptLine::Read { site, .. } => Some(site),
+        ScriptLine::Show { site, .. } => Some(site),
+        ScriptLine::Disk { site, .. } => Some(site),
+        ScriptLine::Crash { site, .. } => Some(site),
+        ScriptLine::Fuse { site, .. } => Some(site),
+        ScriptLine::Recover { site } => Some(site),
+        ScriptLine::Status { site } => Some(site),
+        _ => None,
+    }
+}
+
 /// Whether a line that no test refuses goes to the group of its site.
 pub fn is_of_group<R: Rack>(yard: &Yard<R>, words: &ScriptLine) -> bool
     requires kept { IsYardKept yard.now }
@@ -45,23 +78,12 @@ pub fn is_of_group<R: Rack>(yard: &Yard<R>, words: &ScriptLine) -> bool
     ensures kind { result ≡ true → is_group_kind words.now ≡ true }
     ensures always { is_group_line words.now ≡ true → result ≡ true }
 {
-    match words {
-        ScriptLine::GroupInit { .. }
-        | ScriptLine::GroupDeport { .. }
-        | ScriptLine::GroupImport { .. }
-        | ScriptLine::Volume { .. }
-        | ScriptLine::PlexDetach { .. }
-        | ScriptLine::PlexAttach { .. } => true,
-        ScriptLine::Write { site, .. }
-        | ScriptLine::Put { site, .. }
-        | ScriptLine::Read { site, .. }
-        | ScriptLine::Show { site, .. }
-        | ScriptLine::Disk { site, .. }
-        | ScriptLine::Crash { site, .. }
-        | ScriptLine::Fuse { site, .. }
-        | ScriptLine::Recover { site }
-        | ScriptLine::Status { site } => is_group(yard, site),
-        _ => false,
+    if is_word_of_group(words) {
+        return true;
+    }
+    match site_named(words) {
+        Some(site) => is_group(yard, site),
+        None => false,
     }
 }
 

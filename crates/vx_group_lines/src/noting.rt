@@ -1,7 +1,7 @@
 // What the tests see of a site behind a call on its group, and the reply.
-ghost use Rattle.std.specs.Prelude.{◌≡◌, ◌<◌, [], length, map, slice_get, slice_set, Some};
+ghost use Rattle.std.specs.Prelude.{◌≡◌, ◌<◌, [], length, map, option_copied, slice_get, slice_set, Some};
 ghost use Rattle.vx_config.specs.declared.config.Config.{Config as ConfigValue};
-ghost use Rattle.vx_events.specs.GroupViews.{plain_fact};
+ghost use Rattle.vx_events.specs.GroupViews.{plain_fact, volumes_of};
 ghost use Rattle.vx_events.specs.declared.said.Said.TheVariants.{Refused};
 ghost use Rattle.vx_order.specs.declared.facts.SiteFacts.{SiteFacts as Facts};
 ghost use Rattle.vx_yard.specs.GroupFacts.{group_up_facts};
@@ -10,11 +10,12 @@ ghost use Rattle.vx_yard.specs.Writes.{noted_facts};
 ghost use Rattle.vx_group_lines.specs.Noting.{HasConfig, KeepsRest, reply_noted};
 
 use std::alloc::Global;
+use vx_config::Config;
 use vx_disk::Rack;
 use vx_events::Said;
 use vx_group_facts::volumes_seen;
 use vx_model::{No, OutOfMemory, Stop};
-use vx_order::VolumeRoom;
+use vx_order::{VolumeRoom, VolumeTable};
 use vx_yard::Yard;
 use vx_yard::group_facts::come_up_group;
 use vx_yard::load::let_go_if_down;
@@ -48,6 +49,17 @@ pub(crate) fn group_stopped<R: Rack>(
     }
 }
 
+// The volumes of a configuration as the tests see them; none where there is no configuration.
+fn table_of(config: Option<&Config>, room: VolumeRoom) -> VolumeTable
+    requires empty { room ≡ [] }
+    ensures { result ≡ map plain_fact (volumes_of (option_copied config.entry)) }
+{
+    match config {
+        Some(config) => volumes_seen(room, config.volumes.as_slice()),
+        None => room.into_table(),
+    }
+}
+
 /// The tests see the volumes of a group that is up.
 pub(crate) fn note_up<R: Rack>(yard: &mut Yard<R>, site: usize, room: VolumeRoom)
     requires facts { site < length yard.old.facts.items }
@@ -58,9 +70,6 @@ pub(crate) fn note_up<R: Rack>(yard: &mut Yard<R>, site: usize, room: VolumeRoom
     ensures assemblies { yard.new.assemblies ≡ yard.old.assemblies }
     ensures same { KeepsRest yard.old yard.new }
 {
-    let volumes = match yard.disk_sets[site].config() {
-        Some(config) => volumes_seen(room, config.volumes.as_slice()),
-        None => room.into_table(),
-    };
+    let volumes = table_of(yard.disk_sets[site].config(), room);
     come_up_group(&mut yard.facts[site], volumes);
 }

@@ -1,9 +1,20 @@
 // The line that recovers a site whose disks are a group.
-ghost use Rattle.std.specs.Prelude.{◌≡◌, true};
+ghost use Rattle.std.specs.Prelude.{◌≡◌, ◌<◌, [], IfOk, Some, length, map, slice_get, slice_set, true};
+ghost use Rattle.vx_config.specs.declared.config.Config.{Config as ConfigValue};
+ghost use Rattle.vx_diskset.specs.Asked.{SameFailing};
+ghost use Rattle.vx_events.specs.GroupLines.{is_over_group};
+ghost use Rattle.vx_events.specs.GroupViews.{plain_fact};
+ghost use Rattle.vx_events.specs.declared.said.Said.TheVariants.{Resumed};
+ghost use Rattle.vx_group_lines.specs.Noting.{HasConfig, KeepsRest};
+ghost use Rattle.vx_group_lines.specs.Rises.{RisesIs, kept_shown};
+ghost use Rattle.vx_group_lines.specs.Views.{view_with};
+ghost use Rattle.vx_model.specs.declared.site.SiteState.TheVariants.{Down as DownState};
+ghost use Rattle.vx_order.specs.declared.facts.SiteFacts.{SiteFacts as Facts};
+ghost use Rattle.vx_yard.specs.GroupFacts.{group_up_facts};
 ghost use Rattle.vx_history.specs.Doubts.{Doubted};
 ghost use Rattle.vx_script.specs.declared.line.ScriptLine.TheVariants.{Recover};
 ghost use Rattle.vx_events.specs.StepsOver.{is_for_group};
-ghost use Rattle.vx_yard.specs.OfSites.{AsAsked};
+ghost use Rattle.vx_yard.specs.OfSites.{AsAsked, OfSite};
 ghost use Rattle.vx_yard.specs.Standing.{LeadsOverOrStops, StandsFor};
 ghost use Rattle.vx_yard.specs.Working.{IsFree};
 ghost use Rattle.vx_yard.specs.Yards.{IsYardKept, IsTold, in_files};
@@ -30,7 +41,9 @@ struct RiseRoom {
 }
 
 impl RiseRoom {
-    fn new(alloc: Global) -> Result<RiseRoom, OutOfMemory> {
+    fn new(alloc: Global) -> Result<RiseRoom, OutOfMemory>
+        ensures { IfOk result (λ room. (room.volumes ≡ []) × (room.views.disks ≡ []) × (room.views.volumes ≡ [])) }
+    {
         Ok(RiseRoom {
             volumes: VolumeRoom::new(alloc)?,
             views: ViewRoom::new(alloc)?,
@@ -39,7 +52,9 @@ impl RiseRoom {
 }
 
 // What is kept of a write, with the name of its volume. Nothing is said of a volume that the group has not.
-fn shown(facts: &SiteFacts, kept: &KeptWrite) -> Option<Kept> {
+fn shown(facts: &SiteFacts, kept: &KeptWrite) -> Option<Kept>
+    ensures { result ≡ kept_shown facts.now.volumes (Some kept.now) }
+{
     match facts.volumes.as_slice().get(kept.write.volume as usize) {
         Some(volume) => Some(Kept {
             volume: volume.name,
@@ -51,7 +66,9 @@ fn shown(facts: &SiteFacts, kept: &KeptWrite) -> Option<Kept> {
     }
 }
 
-fn shown_if(facts: &SiteFacts, kept: Option<KeptWrite>) -> Option<Kept> {
+fn shown_if(facts: &SiteFacts, kept: Option<KeptWrite>) -> Option<Kept>
+    ensures { result ≡ kept_shown facts.now.volumes kept }
+{
     match kept {
         Some(kept) => shown(facts, &kept),
         None => None,
@@ -65,7 +82,19 @@ fn stand_up<R: Rack>(
     site: usize,
     room: RiseRoom,
     kept: Option<KeptWrite>,
-) -> Said {
+) -> Said
+    requires facts { site < length yard.old.facts.items }
+    requires disk_set { site < length yard.old.disk_sets.items }
+    requires volumes { room.volumes ≡ [] }
+    requires disks { room.views.disks ≡ [] }
+    requires views { room.views.volumes ≡ [] }
+    ensures facts { (f : Facts) (c : ConfigValue) → slice_get yard.old.facts.items site ≡ Some f → HasConfig site c yard.old
+        → yard.new.facts.items ≡ slice_set yard.old.facts.items site (group_up_facts (map plain_fact c.volumes) f) }
+    ensures assemblies { yard.new.assemblies ≡ yard.old.assemblies }
+    ensures same { KeepsRest yard.old yard.new }
+    ensures said { (f : Facts) (c : ConfigValue) → slice_get yard.old.facts.items site ≡ Some f → HasConfig site c yard.old
+        → result ≡ Resumed (view_with (group_up_facts (map plain_fact c.volumes) f) (Some c)) (kept_shown (map plain_fact c.volumes) kept) }
+{
     note_up(yard, site, room.volumes);
     let kept = shown_if(&yard.facts[site], kept);
     Said::Resumed(view_at(yard, alloc, site, room.views), kept)
@@ -77,7 +106,17 @@ fn rise<R: Rack>(
     alloc: Global,
     site: usize,
     room: RiseRoom,
-) -> Result<Said, OutOfMemory> {
+) -> Result<Said, OutOfMemory>
+    requires facts { site < length yard.old.facts.items }
+    requires disk_set { site < length yard.old.disk_sets.items }
+    requires volumes { room.volumes ≡ [] }
+    requires disks { room.views.disks ≡ [] }
+    requires views { room.views.volumes ≡ [] }
+    ensures rises { (e : Doubted) → StandsFor e yard.old → site < e.world.sites → is_over_group (e.world.nodes site) ≡ true → (e.world.nodes site).state ≡ DownState → RisesIs e site yard.old yard.new result }
+    ensures failing { OfSite SameFailing site yard.old yard.new }
+    ensures told { IsTold yard.new → IsTold yard.old }
+    ensures files { in_files yard.new ≡ in_files yard.old }
+{
     let disk_set = mem::replace(&mut yard.disk_sets[site], DiskSet::Gone);
     let (disk_set, came) = disk_set.recover_group(alloc);
     yard.disk_sets[site] = disk_set;

@@ -36,7 +36,7 @@ impl ViewRoom {
 fn views_of(config: Option<&Config>, room: ViewRoom) -> (DiskViews, VolumeViews)
     requires disks { room.disks ≡ [] }
     requires volumes { room.volumes ≡ [] }
-    requires few { IsSmall (option_copied config.entry) }
+    requires few { IsSmall (option_copied config) }
     ensures disks { result.0 ≡ config_disks (option_copied config.entry) }
     ensures volumes { result.1 ≡ map volume_view (volumes_of (option_copied config.entry)) }
 {

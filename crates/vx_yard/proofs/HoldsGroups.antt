@@ -1,6 +1,6 @@
 -- What the disks of a site over a group hold of it.
-use Rattle.std.proofs.Common.{◌≡◌, ◌∙◌, ◌<◌, inl, ℕ, zero, suc, List, [], ◌∷◌, length, ap, subst, sym, arith, IsTrue}
-use Rattle.std.specs.Prelude.{Option, Some, None, true, false}
+use Rattle.std.proofs.Common.{◌≡◌, ◌∙◌, ◌<◌, inl, ℕ, zero, suc, List, [], ◌∷◌, length, subst, sym, arith, IsTrue}
+use Rattle.std.specs.Prelude.{Some, true}
 use Rattle.vx_model.specs.declared.site.SiteState.TheVariants.{Bare as IsBare}
 use Rattle.vx_history.specs.Groups.{BlockMay, GroupNode}
 use Rattle.vx_history.specs.World.{Node}

@@ -1,12 +1,12 @@
 -- Whatever a site notes as the configuration of its group, it has no more volumes than a group may have.
-use Rattle.std.proofs.Common.{◌≡◌, ◌∙◌, ◌≤◌, ◌<◌, ℕ, zero, suc, ◌+◌, Bool, true, false, cond, List, [], ◌∷◌, length, ap, sym, refl, arith}
-use Rattle.std.specs.Prelude.{◌&&◌, ◌==◌, Option, Some, None, Ok, Err, map, nat_le}
+use Rattle.std.proofs.Common.{◌≡◌, ◌∙◌, ◌≤◌, ℕ, zero, suc, Bool, true, false, cond, List, [], ◌∷◌, length, ap, sym, refl, arith}
+use Rattle.std.specs.Prelude.{◌&&◌, ◌==◌, Option, Ok, Err, nat_le}
 use Rattle.std.proofs.lemmas.Bool.{leb-true}
 use Rattle.std.proofs.lemmas.List.{length-map}
 use Rattle.vx_model.specs.declared.limits.TheConstants.{MOST_DISKS, MOST_VOLUMES}
 use Rattle.vx_model.specs.declared.units.Units.{Units}
 use Rattle.vx_history.specs.Groups.{GroupNode}
-use Rattle.vx_config.specs.Forms.{Reading, ◌>>=◌, Form, counted, made_of, number, optional, pair, read_many, within}
+use Rattle.vx_config.specs.Forms.{Reading, ◌>>=◌, Form, counted, number, optional, pair, read_many, within}
 use Rattle.vx_config.specs.Table.{behind_version, config, disk, format_1, greatest, units, volume}
 use Rattle.vx_config.specs.declared.config.Config.{Config}
 use Rattle.vx_config.specs.declared.entry.DiskEntry.{DiskEntry}

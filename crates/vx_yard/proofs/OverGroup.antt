@@ -1,6 +1,6 @@
 -- Which sites are over a group, as their disks stand.
 use Rattle.std.proofs.Common.{◌≡◌, ◌∙◌, ◌≤◌, ◌⊎◌, inl, inr, ⊎_elim, ℕ, ◌-◌, Bool, true, false, List, [], length, ap, subst, sym, refl, arith}
-use Rattle.std.specs.Prelude.{◌&&◌, eqb, Option, Some, None, is_some}
+use Rattle.std.specs.Prelude.{◌&&◌, eqb, Option, Some, is_some}
 use Rattle.std.proofs.lemmas.Bool.Decides.{nat_tests}
 use Rattle.vx_history.specs.Groups.{GroupNode}
 use Rattle.vx_history.specs.World.{Node, Volume}

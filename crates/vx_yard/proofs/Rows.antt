@@ -1,4 +1,4 @@
--- Rows of links that are the same link by link.
+-- Rows of links that are the same link by link, and what the tests see of a site with them, which may be over a group.
 use Rattle.std.proofs.Common.{◌≡◌, ◌∙◌, ◌+◌, ℕ, zero, suc, Bool, true, false, List, [], ◌∷◌, length, ap, refl, sym}
 use Rattle.std.specs.Prelude.{◌&&◌, eqb, Option, Some, is_some, map, unwrap_or, if◌then◌else◌}
 use Rattle.vx_history.specs.Groups.{GroupNode}

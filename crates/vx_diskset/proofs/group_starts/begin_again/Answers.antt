@@ -9,15 +9,17 @@ use Rattle.vx_diskset.proofs.GroupBegun.{marked_only}
 use Rattle.vx_diskset.proofs.group_starts.begin_again.Goals as goal
 
 pub returns-in-Marked-clause-begun : goal.returns-in-Marked-clause-begun
-returns-in-Marked-clause-begun g c = λ n stands state can.
-    (subst (λ s. AtSite (λ e. BeginsGroup c.args.site n (site_disks s) e c.begin_on.result.1) c.begin_on.result.0) (sym c.in-Marked.is)
-    (c.begin_on.ensures.begun n (subst (λ s. CanBegin n (site_disks s)) c.in-Marked.is can)), c.begin_on.ensures.cut)
+returns-in-Marked-clause-begun g c = λ n stands state can. (
+  subst (λ s. AtSite (λ e. BeginsGroup c.args.site n (site_disks s) e c.begin_on.result.1) c.begin_on.result.0) (sym c.in-Marked.is)
+      (c.begin_on.ensures.begun n (subst (λ s. CanBegin n (site_disks s)) c.in-Marked.is can)),
+  c.begin_on.ensures.cut,
+)
 
 pub returns-in-Marked-clause-since : goal.returns-in-Marked-clause-since
 returns-in-Marked-clause-since g c = subst (λ s. AtSite (λ e. CalledSince (site_disks s) (site_disks e)) c.begin_on.result.0) (sym c.in-Marked.is) c.begin_on.ensures.since
 
-pub returns-in-other-clause-begun : goal.returns-in-other-clause-begun
-returns-in-other-clause-begun g c = λ n stands state can. marked_only n c.args.marked stands state (λ rack is. c.in-other.not-Marked rack is)
+pub returns-in_default-clause-begun : goal.returns-in_default-clause-begun
+returns-in_default-clause-begun g c = λ n stands state can. marked_only n c.args.marked stands state (λ rack is. c.in_default.not-Marked rack is)
 
-pub returns-in-other-clause-since : goal.returns-in-other-clause-since
-returns-in-other-clause-since g c = since_none (site_disks c.args.marked)
+pub returns-in_default-clause-since : goal.returns-in_default-clause-since
+returns-in_default-clause-since g c = since_none (site_disks c.args.marked)

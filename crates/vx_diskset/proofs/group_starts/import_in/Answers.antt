@@ -1,5 +1,5 @@
 -- `import_in`: what an import leaves of the disks of the site.
-use Rattle.std.proofs.Common.{subst}
+use Rattle.std.proofs.Common.{refl, subst}
 use Rattle.vx_grouped.specs.GroupSites.{site_disks}
 use Rattle.vx_diskset.proofs.GroupCalling.{rises_returned}
 use Rattle.vx_grouped.specs.SiteReturns.{SiteImports}
@@ -18,3 +18,9 @@ returns-in-Ok-clause-since g c = rises_returned (site_disks c.args.group.site) (
 
 pub returns-in-Err-clause-since : goal.returns-in-Err-clause-since
 returns-in-Err-clause-since g c = rises_returned (site_disks c.args.group.site) (site_disks c.import-site.result.0) c.import-site.ensures.since
+
+pub returns-in-Ok-clause-cut : goal.returns-in-Ok-clause-cut
+returns-in-Ok-clause-cut g c = refl
+
+pub returns-in-Err-clause-cut : goal.returns-in-Err-clause-cut
+returns-in-Err-clause-cut g c = refl

@@ -1,6 +1,7 @@
 -- `kept_at`: what is read of a write that is cut.
 use Rattle.std.proofs.Common.{◌∙◌, ap, length, subst, sym}
-use Rattle.vx_grouped.specs.GroupSites.{FitsPlain}
+use Rattle.vx_watched.proofs.SinceLemmas.{since_none}
+use Rattle.vx_grouped.specs.GroupSites.{FitsPlain, site_disks}
 use Rattle.vx_grouped.specs.SiteKeeps.{PlainKept}
 use Rattle.vx_diskset.proofs.GroupRising.{looked_bits, looked_lost, looked_unread}
 use Rattle.vx_diskset.proofs.group_starts.kept_at.Goals as goal
@@ -26,3 +27,12 @@ returns-else-fits-clause-looks g c = λ n note up.
     let long = ap (λ xs. length xs) c.as_bytes-bytes.ensures.bytes in
     let clash = sym (c.fits.ensures.all n note up (subst (λ k. FitsPlain note c.args.write.now.volume c.args.write.now.block k) (sym long) fits)) ∙ c.if-fits.false in
     cc)
+
+pub returns-in-Ok-clause-since : goal.returns-in-Ok-clause-since
+returns-in-Ok-clause-since g c = c.kept.ensures.since
+
+pub returns-in-Err-clause-since : goal.returns-in-Err-clause-since
+returns-in-Err-clause-since g c = c.kept.ensures.since
+
+pub returns-else-fits-clause-since : goal.returns-else-fits-clause-since
+returns-else-fits-clause-since g c = since_none (site_disks c.args.site.now)

@@ -3,6 +3,8 @@ use Rattle.std.proofs.Common.{subst, sym}
 use Rattle.std.specs.Prelude.{None, Ok}
 use Rattle.vx_diskset.specs.Recovers.{LooksKept}
 use Rattle.vx_diskset.proofs.GroupRising.{looked_none}
+use Rattle.vx_grouped.specs.GroupSites.{site_disks}
+use Rattle.vx_watched.proofs.SinceLemmas.{since_none}
 use Rattle.vx_diskset.proofs.group_starts.look_kept.Goals as goal
 
 pub returns-in-Some-clause-looks : goal.returns-in-Some-clause-looks
@@ -12,3 +14,9 @@ returns-in-Some-clause-looks g c = λ n note up.
 pub returns-in-None-clause-looks : goal.returns-in-None-clause-looks
 returns-in-None-clause-looks g c = λ n note up.
     subst (λ x. LooksKept n note x c.args.site.now c.args.site.now (Ok None)) (sym c.in-None.is) (looked_none n note c.args.site.now up)
+
+pub returns-in-Some-clause-since : goal.returns-in-Some-clause-since
+returns-in-Some-clause-since g c = c.kept_at.ensures.since
+
+pub returns-in-None-clause-since : goal.returns-in-None-clause-since
+returns-in-None-clause-since g c = since_none (site_disks c.args.site.now)

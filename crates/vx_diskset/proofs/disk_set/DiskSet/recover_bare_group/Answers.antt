@@ -21,5 +21,5 @@ returns-in-Bare-clause-failing g c = subst (λ e. SameFailing e c.find_on.result
 pub returns-in-Bare-clause-later : goal.returns-in-Bare-clause-later
 returns-in-Bare-clause-later g c = subst (λ e. Later e c.find_on.result.0) (sym c.in-Bare.is) c.find_on.ensures.later
 
-pub returns-in-other-clause-found : goal.returns-in-other-clause-found
-returns-in-other-clause-found g c = λ beside n stands state untold. other_finds c.args.site n state beside c.args.self stands
+pub returns-in_default-clause-found : goal.returns-in_default-clause-found
+returns-in_default-clause-found g c = λ beside n stands state untold. other_finds c.args.site n state beside c.args.self stands

@@ -1,0 +1,74 @@
+-- What an import of the disks of a site takes up, as its note has it.
+use Rattle.std.proofs.Common.{◌≡◌, ◌∙◌, ◌<◌, ℕ, List, length, ap, sym, subst, refl, arith, IsTrue}
+use Rattle.std.specs.Prelude.{Contains, Option, Some, None, slice_get}
+use Rattle.std.proofs.lemmas.Option.{slice_get_within}
+use Rattle.vx_model.specs.declared.site.PlexState.{PlexState}
+use Rattle.vx_disk.specs.Counts.{Rose}
+use Rattle.vx_disk.specs.Shelf.{Meaning}
+use Rattle.vx_disk.specs.declared.shelf.Shelf.{Ghosts}
+use Rattle.vx_config.specs.declared.config.Config.{Config}
+use Rattle.vx_config.specs.declared.entry.DiskEntry.{DiskEntry}
+use Rattle.vx_config.specs.declared.entry.PlexEntry.{PlexEntry}
+use Rattle.vx_config.specs.declared.entry.VolumeEntry.{VolumeEntry}
+use Rattle.vx_kept.specs.Cleans.{at_serial}
+use Rattle.vx_history.specs.Groups.{GroupNode}
+use Rattle.vx_history.specs.World.{Node}
+use Rattle.vx_grouped.specs.ConfigMoves.{AnyState, InBoth, PlexMoves, VolumeMoves}
+use Rattle.vx_grouped.specs.GroupSites.{site_disks}
+use Rattle.vx_grouped.specs.SiteReturns.{ConfigReturns, NoteReturns}
+use Rattle.vx_grouped.specs.declared.group_site.GroupSite.{GroupSite}
+use Rattle.vx_events.specs.Fails.{Fails}
+use Rattle.vx_events.specs.GroupConfigs.{Matched, PlexStays, VolumeStays}
+use Rattle.vx_events.specs.GroupNotes.{NotesBack}
+use Rattle.vx_group_lines.proofs.GroupStatus.{config_is}
+use Rattle.vx_group_lines.proofs.Losing.{placed_as}
+
+plex_stays : (p q : PlexEntry) → PlexMoves AnyState p q → PlexStays p q
+plex_stays p q it = record { subdisks = it.subdisks }
+
+volume_stays : (v u : VolumeEntry) → VolumeMoves AnyState v u → VolumeStays v u
+volume_stays v u it = record {
+  name = it.name;
+  blocks = it.blocks;
+  ncol = it.ncol;
+  width = it.width;
+  prefer = it.prefer;
+  drl = it.drl;
+  fmr = it.fmr;
+  plexes = λ k. placed_as (PlexMoves AnyState) PlexStays (slice_get v.plexes k) (slice_get u.plexes k) (λ p q _ _ moves. plex_stays p q moves) (it.plexes k);
+}
+
+-- as many disks of as many blocks as the site has
+pub record SitsOn (n : Node) (m : Meaning) : Type 0 where
+  pub units : m.units ≡ n.disks
+  pub size : (u : ℕ) → u < n.disks → m.size u ≡ n.blocks
+
+module _ {R : Type 0} {g : Ghosts R} where
+  -- the note of a group that came up from these disks
+  pub back_of : (told : Type 0) (s : ℕ) (n : Node) (note next : GroupNode) (old : Meaning) (e : GroupSite R g) (fails : Fails) → (told → IsTrue (site_disks e).tells) → SitsOn n old
+      → NoteReturns (IsTrue (site_disks e).tells) note next → ConfigReturns note next old e
+      → ((k : ℕ) → k < n.disks → Rose (old.disk_faults k) ((site_disks e).disk_faults k) → Contains fails (s, k)) → NotesBack told s n fails note next
+  back_of told s n note next old e fails tells sits back config names = record {
+    old = at_serial 0 config.was;
+    now = at_serial 0 config.now;
+    was = config_is note.config config.was config.noted.is config.noted.spells;
+    is = config_is next.config config.now config.noted_now.is config.noted_now.spells;
+    volumes = λ yes_ v entry at.
+        subst (λ (o : Option VolumeEntry). Matched VolumeStays o (slice_get config.now.volumes v)) at
+        (placed_as (VolumeMoves AnyState) VolumeStays (slice_get config.was.volumes v) (slice_get config.now.volumes v) (λ x y _ _ moves. volume_stays x y moves)
+        (config.change.volumes (tells yes_) v (slice_get_within config.was.volumes v entry at)));
+    many = config.change.count ∙ sits.units;
+    blocks = λ k disk at. config.change.blocks k disk at ∙ sits.size k (within k disk at);
+    failed = λ k disk at is. names k (within k disk at) (config.change.failed k disk at is);
+    begun = back.begun;
+    loose = back.loose;
+    size = λ v. config.sizes v;
+    block = λ v b. back.block v b;
+    may = λ yes_ v b low. back.may (tells yes_) v b low;
+    cut = back.cut;
+    missed = back.missed;
+    perhaps = back.perhaps;
+  }
+    where
+      within : (k : ℕ) (disk : DiskEntry) → slice_get config.now.disks k ≡ Some disk → k < n.disks
+      within k disk at = omega (arith, slice_get_within config.now.disks k disk at, config.change.count, sits.units)
