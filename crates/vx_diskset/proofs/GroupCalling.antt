@@ -15,6 +15,7 @@ use Rattle.vx_disk.specs.declared.shelf.Shelf.{Ghosts}
 use Rattle.vx_history.specs.Groups.{GroupNode, note_cut, note_doubt, note_write}
 use Rattle.vx_history.specs.Steps.{crashed}
 use Rattle.vx_history.specs.World.{Node}
+use Rattle.vx_watched.proofs.SinceLemmas.{since_none}
 use Rattle.vx_watched.specs.Since.{CalledSince, fuse_calls, is_rack}
 use Rattle.vx_grouped.specs.Added.{note_added}
 use Rattle.vx_grouped.specs.GroupSites.{AwayNoted, DownNoted, GroupSiteStands, UpNoted, deported_with, site_disks, with_note}
@@ -31,7 +32,7 @@ use Rattle.vx_grouped.specs.declared.group_site.GroupSite.{GroupSite}
 use Rattle.vx_grouped.specs.declared.group_site.GroupSite.TheVariants.{Up, Deported, Down, Marked, Gone}
 use Rattle.vx_diskset.specs.Asked.{FuseGoesOn, SameFailing, disks_told}
 use Rattle.vx_diskset.specs.DiskSets.{Later}
-use Rattle.vx_diskset.specs.GroupCalls.{AtSite, OnSites}
+use Rattle.vx_diskset.specs.GroupCalls.{AtSite, CalledOn, OnSites}
 use Rattle.vx_diskset.specs.Stands.{IsToldAt, faults_at}
 use Rattle.vx_diskset.specs.declared.disk_set.DiskSet.{DiskSet}
 use Rattle.vx_diskset.specs.declared.disk_set.DiskSet.TheVariants.{Bare, Spoiled, Up as UpSet, Receives, Down as DownSet, OfGroup, Gone as GoneSet}
@@ -191,6 +192,16 @@ module _ {R : Type 0} {g : Ghosts R} where
 
   pub group_later : (old : DiskSet R g) (o s : GroupSet R g) → old ≡ OfGroup o → CalledSince (site_disks o.site) (site_disks s.site) → Later old (OfGroup s)
   group_later old o s is since = later_risen old (OfGroup s) (site_disks o.site) (site_disks s.site) (has_group old o is) (has_group (OfGroup s) s refl) (rises_called (site_disks o.site) (site_disks s.site) since)
+
+  -- where nothing was called
+  pub called_rest : (e : DiskSet R g) → CalledOn e e
+  called_rest (Bare rack) = tt
+  called_rest (Spoiled rack) = tt
+  called_rest (UpSet rvg) = tt
+  called_rest (Receives s) = tt
+  called_rest (DownSet rack) = tt
+  called_rest (OfGroup s) = since_none (site_disks s.site)
+  called_rest GoneSet = tt
 
   -- ---- facts of the site of a group hold of its disk set
 

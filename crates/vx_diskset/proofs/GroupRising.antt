@@ -114,9 +114,9 @@ module _ {R : Type 0} {g : Ghosts R} where
   -- ---- a recovery
 
   pub came_back : (n : Node) (note : GroupNode) (s : GroupSet R g) (middle : GroupSite R g) (new : DiskSet R g) (r : Result (Option KeptWrite) Stop) → SiteRecovers n note s.site middle (Ok tt)
-      → ((k : Node) (next : GroupNode) → UpNoted k next middle → RisesWith k next s.cut middle new r) → RecoversGroup n note (OfGroup s) new r
-  came_back n note s middle new (Ok kept) came rises = record { middle = middle; came = came; rises = rises }
-  came_back n note s middle new (Err stop) came rises = inr (record { middle = middle; came = came; rises = rises })
+      → AtSite (λ x. RisesSince (site_disks middle) (site_disks x)) new → ((k : Node) (next : GroupNode) → UpNoted k next middle → RisesWith k next s.cut middle new r) → RecoversGroup n note (OfGroup s) new r
+  came_back n note s middle new (Ok kept) came since rises = record { middle = middle; came = came; since = since; rises = rises }
+  came_back n note s middle new (Err stop) came since rises = inr (record { middle = middle; came = came; since = since; rises = rises })
 
   pub risen_on : (m : Meaning) (middle : GroupSite R g) (new : DiskSet R g) → ReturnSince m (site_disks middle) → AtSite (λ e. RisesSince (site_disks middle) (site_disks e)) new → AtSite (λ e. RisesSince m (site_disks e)) new
   risen_on m middle (Bare rack) one two = absurd two

@@ -9,7 +9,7 @@ use Rattle.vx_diskset.proofs.group_starts.recover_in.Goals as goal
 pub returns-in-Ok-clause-recovered : goal.returns-in-Ok-clause-recovered
 returns-in-Ok-clause-recovered g c = λ n note down.
     came_back n note c.args.group c.import-site.result.0 c.stand_up.result.0 c.stand_up.result.1
-    (subst (λ r. SiteRecovers n note c.args.group.site c.import-site.result.0 r) c.in-Ok.is (c.import-site.ensures.recovered n note down)) c.stand_up.ensures.rises
+    (subst (λ r. SiteRecovers n note c.args.group.site c.import-site.result.0 r) c.in-Ok.is (c.import-site.ensures.recovered n note down)) c.stand_up.ensures.since c.stand_up.ensures.rises
 
 pub returns-in-Ok-clause-since : goal.returns-in-Ok-clause-since
 returns-in-Ok-clause-since g c = risen_on (site_disks c.args.group.site) c.import-site.result.0 c.stand_up.result.0 c.import-site.ensures.since c.stand_up.ensures.since

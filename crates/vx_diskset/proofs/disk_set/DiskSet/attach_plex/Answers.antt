@@ -4,7 +4,7 @@ use Rattle.vx_grouped.specs.GroupSites.{UpNoted}
 use Rattle.vx_diskset.specs.Asked.{FuseGoesOn}
 use Rattle.vx_diskset.specs.GroupCalls.{CalledOn, OnSites, AtSite, cut_in}
 use Rattle.vx_diskset.specs.declared.disk_set.DiskSet.TheVariants.{OfGroup}
-use Rattle.vx_diskset.proofs.GroupCalling.{at_none, at_sites, group_failing, group_fuse, group_later, on_sites, att_settled, others_on}
+use Rattle.vx_diskset.proofs.GroupCalling.{at_none, at_sites, called_rest, group_failing, group_fuse, group_later, on_sites, att_settled, others_on}
 use Rattle.vx_grouped.specs.SiteEnds.{AttCalled, RegionsOf, is_plex_on, refuses_att}
 use Rattle.std.specs.Prelude.{Err, None, Ok, Some, false, IfOk, IsTrue, OnOk}
 use Rattle.vx_model.specs.declared.errors.Stop.TheVariants.{No as Refused}
@@ -32,6 +32,9 @@ returns-in-OfGroup-clause-later g c = group_later c.args.self.now c.in-OfGroup.g
 
 pub returns-in-OfGroup-clause-since : goal.returns-in-OfGroup-clause-since
 returns-in-OfGroup-clause-since g c = subst (λ x. CalledOn x (OfGroup (record c.in-OfGroup.group { site = c.att.new.self }))) (sym c.in-OfGroup.is) c.att.ensures.since
+
+pub returns-in_default-clause-since : goal.returns-in_default-clause-since
+returns-in_default-clause-since g c = called_rest c.args.self.now
 
 pub returns-in-OfGroup-clause-refused : goal.returns-in-OfGroup-clause-refused
 returns-in-OfGroup-clause-refused g c = λ n note no up is.

@@ -2,10 +2,11 @@
 use Rattle.std.proofs.Common.{◌∙◌, ap, subst, sym}
 use Rattle.vx_grouped.specs.GroupSites.{UpNoted}
 use Rattle.vx_grouped.specs.SiteEnds.{SiteDeported}
-use Rattle.vx_diskset.specs.Asked.{FuseGoesOn}
+use Rattle.vx_diskset.specs.Asked.{FuseGoesOn, SameFailing}
+use Rattle.vx_diskset.proofs.KeepsFailing.{failing_same}
 use Rattle.vx_diskset.specs.GroupCalls.{CalledOn, cut_in}
 use Rattle.vx_diskset.specs.declared.disk_set.DiskSet.TheVariants.{OfGroup}
-use Rattle.vx_diskset.proofs.GroupCalling.{at_none, at_sites, deported_settled, group_failing, group_fuse, group_later, on_sites}
+use Rattle.vx_diskset.proofs.GroupCalling.{at_none, at_sites, called_rest, deported_settled, group_failing, group_fuse, group_later, on_sites}
 use Rattle.vx_diskset.proofs.disk_set.DiskSet.deport_group.Goals as goal
 
 pub returns-in-OfGroup-clause-deported : goal.returns-in-OfGroup-clause-deported
@@ -28,3 +29,18 @@ returns-in-OfGroup-clause-later g c = group_later c.args.self.now c.in-OfGroup.g
 
 pub returns-in-OfGroup-clause-since : goal.returns-in-OfGroup-clause-since
 returns-in-OfGroup-clause-since g c = subst (λ x. CalledOn x (OfGroup (record c.in-OfGroup.group { site = c.deport-site.result.0 }))) (sym (sym c.replace.ensures.value ∙ c.in-OfGroup.is)) c.deport-site.ensures.since
+
+pub returns-in_default-clause-deported : goal.returns-in_default-clause-deported
+returns-in_default-clause-deported g c = λ n note. at_none (UpNoted n note) _ c.args.self.now (λ o is. c.in_default.not-OfGroup o (c.replace.ensures.value ∙ is))
+
+pub returns-in_default-clause-cut : goal.returns-in_default-clause-cut
+returns-in_default-clause-cut g c = ap (λ x. cut_in x) c.replace.ensures.value
+
+pub returns-in_default-clause-fuse : goal.returns-in_default-clause-fuse
+returns-in_default-clause-fuse g c = λ n note. at_none (UpNoted n note) _ c.args.self.now (λ o is. c.in_default.not-OfGroup o (c.replace.ensures.value ∙ is))
+
+pub returns-in_default-clause-failing : goal.returns-in_default-clause-failing
+returns-in_default-clause-failing g c = subst (λ x. SameFailing c.args.self.now x) (sym c.replace.ensures.value) (failing_same c.args.self.now)
+
+pub returns-in_default-clause-since : goal.returns-in_default-clause-since
+returns-in_default-clause-since g c = subst (λ x. CalledOn c.args.self.now x) (sym c.replace.ensures.value) (called_rest c.args.self.now)

@@ -4,7 +4,7 @@ use Rattle.vx_grouped.specs.GroupSites.{UpNoted}
 use Rattle.vx_diskset.specs.Asked.{FuseGoesOn}
 use Rattle.vx_diskset.specs.GroupCalls.{CalledOn, OnSites, cut_in}
 use Rattle.vx_diskset.specs.declared.disk_set.DiskSet.TheVariants.{OfGroup}
-use Rattle.vx_diskset.proofs.GroupCalling.{at_none, at_sites, group_failing, group_fuse, group_later, on_sites, read_settled}
+use Rattle.vx_diskset.proofs.GroupCalling.{at_none, at_sites, called_rest, group_failing, group_fuse, group_later, on_sites, read_settled}
 use Rattle.vx_grouped.specs.SiteEnds.{PlainRead}
 use Rattle.vx_diskset.proofs.disk_set.DiskSet.read_plain.Goals as goal
 
@@ -31,6 +31,9 @@ returns-in-OfGroup-clause-later g c = group_later c.args.self.now c.in-OfGroup.g
 
 pub returns-in-OfGroup-clause-since : goal.returns-in-OfGroup-clause-since
 returns-in-OfGroup-clause-since g c = subst (λ x. CalledOn x (OfGroup (record c.in-OfGroup.group { site = c.read.new.self }))) (sym c.in-OfGroup.is) c.read.ensures.since
+
+pub returns-in_default-clause-since : goal.returns-in_default-clause-since
+returns-in_default-clause-since g c = called_rest c.args.self.now
 
 pub returns-in-OfGroup-clause-cut : goal.returns-in-OfGroup-clause-cut
 returns-in-OfGroup-clause-cut g c = sym (ap (λ x. cut_in x) c.in-OfGroup.is)

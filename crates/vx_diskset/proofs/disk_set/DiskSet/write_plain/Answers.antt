@@ -7,7 +7,7 @@ use Rattle.vx_diskset.specs.Asked.{FuseGoesOn}
 use Rattle.vx_diskset.specs.GroupCalls.{CalledOn, cut_in}
 use Rattle.vx_diskset.specs.GroupSets.{cut_behind}
 use Rattle.vx_diskset.specs.declared.disk_set.DiskSet.TheVariants.{OfGroup}
-use Rattle.vx_diskset.proofs.GroupCalling.{at_none, at_sites, group_failing, group_fuse, group_later, on_sites, wrote_settled}
+use Rattle.vx_diskset.proofs.GroupCalling.{at_none, at_sites, called_rest, group_failing, group_fuse, group_later, on_sites, wrote_settled}
 use Rattle.vx_diskset.proofs.disk_set.DiskSet.write_plain.Goals as goal
 
 pub returns-in-OfGroup-clause-wrote : goal.returns-in-OfGroup-clause-wrote
@@ -37,3 +37,6 @@ returns-in-OfGroup-clause-later g c = group_later c.args.self.now c.in-OfGroup.g
 
 pub returns-in-OfGroup-clause-since : goal.returns-in-OfGroup-clause-since
 returns-in-OfGroup-clause-since g c = subst (λ x. CalledOn x (OfGroup c.write_set.new.group)) (sym c.in-OfGroup.is) c.write_set.ensures.since
+
+pub returns-in_default-clause-since : goal.returns-in_default-clause-since
+returns-in_default-clause-since g c = called_rest c.args.self.now
