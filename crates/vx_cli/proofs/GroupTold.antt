@@ -11,7 +11,7 @@ use Rattle.vx_report.specs.declared.view.Kept.{Kept}
 use Rattle.vx_script.specs.declared.line.ScriptLine.{ScriptLine}
 use Rattle.vx_script.specs.declared.line.ScriptLine.TheVariants.{GroupImport, Read, Recover, Show}
 use Rattle.vx_events.specs.Fails.{Fails}
-use Rattle.vx_events.specs.GroupEnds.{GroupDoes, GroupEnds, GroupDone, GroupLacks, GroupFails, ImportFails, KeptUnread, GroupCut, GroupNotFound, FindsGroup, FindsNoGroup, ImportRefuses, KnowsNothing}
+use Rattle.vx_events.specs.GroupEnds.{GroupDoes, GroupEnds, GroupDone, GroupLacks, GroupFails, InitFails, ImportFails, KeptUnread, GroupCut, GroupNotFound, FindsGroup, FindsNoGroup, ImportRefuses, KnowsNothing}
 use Rattle.vx_events.specs.GroupNotes.{NotesBack, NotesUnread}
 use Rattle.vx_events.specs.GroupReplies.{GivesPlain, IsKeptOf, SaysBack, ShowsKept}
 use Rattle.vx_events.specs.StepsOver.{FindsKept}
@@ -74,6 +74,7 @@ module _ {T U : Type 0} (f : U → T) where
   group_told d line s fails said new (GroupDone next of does left) = GroupDone next of (does_told s (d.world.nodes s) _ line fails said next does) left
   group_told d line s fails said new (GroupLacks why wants none says left) = GroupLacks why wants none says left
   group_told d line s fails said new (GroupFails disk next of has spoils says left) = GroupFails disk next of has spoils says left
+  group_told d line s fails said new (InitFails disk site is of has says left) = InitFails disk site is of has says left
   group_told d line s fails said new (ImportFails why next site is of refuses begun says left) =
       ImportFails why next site is of (refuses_told s _ fails why refuses) begun says left
   group_told d line s fails said new (KeptUnread disk next site is of has unread says left) = KeptUnread disk next site is of has (unread_told s (d.world.nodes s) fails _ next unread) says left

@@ -19,7 +19,7 @@ use Rattle.vx_events.proofs.Keeping.{past, past_site, past_work}
 use Rattle.vx_events.specs.Doubts.{IsAs, run_as}
 use Rattle.vx_events.specs.Effects.{ChangesNode}
 use Rattle.vx_events.specs.Fails.{Fails}
-use Rattle.vx_events.specs.GroupEnds.{GroupEnds, GroupDone, GroupLacks, GroupFails, ImportFails, KeptUnread, GroupCut, GroupNotFound, FindsGroup, FindsNoGroup, IsLeftOver}
+use Rattle.vx_events.specs.GroupEnds.{GroupEnds, GroupDone, GroupLacks, GroupFails, InitFails, ImportFails, KeptUnread, GroupCut, GroupNotFound, FindsGroup, FindsNoGroup, IsLeftOver}
 use Rattle.vx_events.specs.GroupLines.{crash_first, cut_events, fuse_lost, group_events, group_noted, group_recovery, noting, refused_events}
 use Rattle.vx_events.specs.declared.said.Said.{Said}
 use Rattle.vx_effects.proofs.Effects.{Turns, changes_same, changes_then, crash_turns}
@@ -210,6 +210,7 @@ group_ends_change told d line s fails said new (GroupDone next are does left) =
 group_ends_change told d line s fails said new (GroupLacks why wants none says left) = ends_by s line _ d d new (changes_same s d) left
 group_ends_change told d line s fails said new (GroupFails disk next are has spoils says left) =
     ends_by s line next d _ new (refused_change (d.world.nodes s) s line d) left
+group_ends_change told d line s fails said new (InitFails disk site is are has says left) = left_by s d new d.world (aside_same s d.world) left
 group_ends_change told d line s fails said new (KeptUnread disk next site is are has back says left) =
     ends_by s line next d _ new (unread_changes (d.world.nodes s).state s d) left
 group_ends_change told d line s fails said new (GroupCut next are fused cuts says left) = ends_by s line next d _ new (cut_changes s line d) left

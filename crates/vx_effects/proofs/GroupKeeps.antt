@@ -20,7 +20,7 @@ use Rattle.vx_events.proofs.Keeping.{past, past_site, past_work}
 use Rattle.vx_events.specs.Doubts.{IsAs, run_as}
 use Rattle.vx_events.specs.Effects.{KeepsDisks}
 use Rattle.vx_events.specs.Fails.{Fails}
-use Rattle.vx_events.specs.GroupEnds.{GroupEnds, GroupDone, GroupLacks, GroupFails, ImportFails, KeptUnread, GroupCut, GroupNotFound, FindsGroup, FindsNoGroup, IsLeftOver}
+use Rattle.vx_events.specs.GroupEnds.{GroupEnds, GroupDone, GroupLacks, GroupFails, InitFails, ImportFails, KeptUnread, GroupCut, GroupNotFound, FindsGroup, FindsNoGroup, IsLeftOver}
 use Rattle.vx_events.specs.GroupLines.{MakesNoFailure, crash_first, cut_events, fuse_lost, group_events, group_noted, group_recovery, noting, refused_events, unread_events}
 use Rattle.vx_events.specs.declared.said.Said.{Said}
 use Rattle.vx_effects.proofs.Effects.{crash_turns}
@@ -158,6 +158,8 @@ group_ends_keep told d line s fails said new none (GroupDone next are does left)
 group_ends_keep told d line s fails said new none (GroupLacks why wants free says left) = ends_with s line _ d d new none (keeps_self (d.world.nodes s)) left
 group_ends_keep told d line s fails said new none (GroupFails disk next are has spoils says left) =
     ends_with s line next d _ new none (refused_keep (d.world.nodes s) s line d) left
+group_ends_keep told d line s fails said new none (InitFails disk site is are has says left) =
+    subst (λ (x : World). KeepsDisks (d.world.nodes s) (x.nodes s)) (sym left.world) (keeps_self (d.world.nodes s))
 group_ends_keep told d line s fails said new none (ImportFails why next site is are refuses begun says left) =
     let v : World = noting d.world s next in
     subst (λ (x : World). KeepsDisks (d.world.nodes s) (x.nodes s)) (sym left.world)

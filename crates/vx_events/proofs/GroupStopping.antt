@@ -18,7 +18,7 @@ use Rattle.vx_events.proofs.Stopping.{runs_as}
 use Rattle.vx_events.specs.Doubts.{run_as}
 use Rattle.vx_events.specs.Failing.{is_failing}
 use Rattle.vx_events.specs.Fails.{Fails}
-use Rattle.vx_events.specs.GroupEnds.{GroupEnds, GroupDone, GroupLacks, GroupFails, ImportFails, KeptUnread, GroupCut, GroupNotFound, FindsGroup, FindsNoGroup, GroupStops, IsLeftOver}
+use Rattle.vx_events.specs.GroupEnds.{GroupEnds, GroupDone, GroupLacks, GroupFails, InitFails, ImportFails, KeptUnread, GroupCut, GroupNotFound, FindsGroup, FindsNoGroup, GroupStops, IsLeftOver}
 use Rattle.vx_events.specs.GroupLines.{unread_events, crash_first, cut_events, fuse_lost, group_events, group_noted, group_recovery, noting, refused_events}
 use Rattle.vx_events.specs.declared.said.Said.{Said}
 
@@ -91,6 +91,7 @@ group_stops told d line s fails said new (GroupDone next are does left) =
 group_stops told d line s fails said new (GroupLacks why wants none says left) = stop_by d new s line _ [] refl left
 group_stops told d line s fails said new (GroupFails disk next are has spoils says left) =
     stop_by d new s line next (refused_events (d.world.nodes s) s line) (refused_tell (d.world.nodes s) s line) left
+group_stops told d line s fails said new (InitFails disk site is are has says left) = record { events = []; stops = EventsDone d refl refl (as_like d new d.world (like_self d.world) left) }
 group_stops told d line s fails said new (KeptUnread disk next site is are has back says left) =
     stop_by d new s line next (unread_events (d.world.nodes s) s) (unread_tells (d.world.nodes s).state s) left
 group_stops told d line s fails said new (GroupCut next are fused cuts says left) = stop_by d new s line next (cut_events s line) (cut_tells s line) left

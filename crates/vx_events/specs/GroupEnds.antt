@@ -96,7 +96,6 @@ pub record NotesBegun (note next : GroupNode) : Type 0 where
 
 -- what a failed call of a line that ends it leaves of the note
 abbrev pub GroupSpoils : (s : ℕ) → GroupNode → ScriptLine → Fails → GroupNode → Type 0
-GroupSpoils s note (GroupInit site) fails next = NotesBegun note next
 GroupSpoils s note (GroupDeport site) fails next = Reconfigures (ConfigLoses s fails) NoteUnsettles note next
 GroupSpoils s note (GroupImport site) fails next = NotesBegun note next
 GroupSpoils s note (Volume site volume blocks mirrors layout log map policy) fails next = Reconfigures (ConfigLoses s fails) NoteUnsettles note next
@@ -179,6 +178,9 @@ pub data GroupEnds (told : Type 0) (d : Doubted) (line : ScriptLine) (s : ℕ) (
   GroupFails : (disk : ℕ) (next : GroupNode) → AreOf s fails → Contains fails (s, disk) → GroupSpoils s (note_at (d.world.nodes s)) line fails next
       → said ≡ Refused (Device disk) → IsLeftOver s line next (run_as false d (refused_events (d.world.nodes s) s line)) new
       → GroupEnds told d line s fails said new
+  -- no group was made, as calls on disks failed: the site is bare as it was
+  InitFails : (disk : ℕ) (site : List ℕ) → line ≡ GroupInit site → AreOf s fails → Contains fails (s, disk) → said ≡ Refused (Device disk)
+      → IsAs d d.world new → GroupEnds told d line s fails said new
   -- an import was refused that had written: the disks crashed, and have no fuse
   ImportFails : (why : No) (next : GroupNode) (site : List ℕ) → line ≡ GroupImport site → AreOf s fails → ImportRefuses told s (note_at (d.world.nodes s)) fails why
       → NotesBegun (note_at (d.world.nodes s)) next → said ≡ Refused why → IsAs d (fuse_lost (noting d.world s next) s) new
