@@ -14,3 +14,5 @@ pub mod GroupShown
 pub mod Choosing
 pub mod Returning
 pub mod Rising
+pub mod GroupVolume
+pub mod VolumeLine
