@@ -2,14 +2,16 @@
 use Rattle.std.proofs.Common.{◌≡◌, ◌⊎◌, inl, inr, refl, ℕ, List, [], ◌∷◌, Option, Some, None, Result, Ok, Err, Bool, true, false, sym, subst}
 use Rattle.vx_history.specs.Doubts.{Doubted}
 use Rattle.vx_history.specs.Steps.{burned, worked_on}
+use Rattle.vx_history.specs.World.{NoFuse}
 use Rattle.vx_history.specs.declared.event.Event.{Event}
 use Rattle.vx_history.specs.declared.event.Event.TheVariants.{Crash as CrashAt}
 use Rattle.vx_script.specs.declared.line.ScriptLine.{ScriptLine}
 use Rattle.vx_world.specs.Lines.{GoodDoubted}
 use Rattle.vx_world.proofs.Doubting.{like_good, runs_good}
 use Rattle.vx_world.proofs.Lining.{line_good}
-use Rattle.vx_events.specs.Doubts.{run_as}
+use Rattle.vx_events.specs.Doubts.{IsAs, run_as}
 use Rattle.vx_events.specs.Fails.{Fails}
+use Rattle.vx_events.specs.GroupLines.{fuse_lost}
 use Rattle.vx_events.specs.Lines.{is_of_links}
 use Rattle.vx_events.specs.Parts.{DonePart, FellFirst, PartLeft, ReadFirst, StopsShort}
 use Rattle.vx_events.specs.StepsOver.{group_place, is_for_group}
@@ -48,11 +50,16 @@ fell_good d line new good fell =
     let last : Doubted = run_as false d es in
     like_good last new (runs_good es d last good (runs_as false d es)) (as_like last new last.world (like_self last.world) fell.leads)
 
--- or of which only the reads were done
+-- or of which only the reads were done, or the fuse is lost
 read_good : (d : Doubted) (line : ScriptLine) (new : Doubted) → GoodDoubted d → ReadFirst d line new → GoodDoubted new
-read_good d line new good read =
-    let s : ℕ = group_place d.world line in
-    like_good d new good (as_like d new (worked_on d.world s) (like_noted d.world s (burned (d.world.nodes s).fuse)) read.leads)
+read_good d line new good read = by read.leads
+  where
+    s : ℕ
+    s = group_place d.world line
+
+    by : IsAs d (worked_on d.world s) new ⊎ IsAs d (fuse_lost d.world s) new → GoodDoubted new
+    by (inl worked) = like_good d new good (as_like d new (worked_on d.world s) (like_noted d.world s (burned (d.world.nodes s).fuse)) worked)
+    by (inr lost) = like_good d new good (as_like d new (fuse_lost d.world s) (like_noted d.world s NoFuse) lost)
 
 pub part_good : {told : Type 0} → told → (d : Doubted) (line : ScriptLine) (new : Doubted) → GoodDoubted d → StopsShort told d line new → GoodDoubted new
 part_good {told} is d line new good short = by (told_part told d line new is short)

@@ -26,7 +26,7 @@ use Rattle.vx_config.specs.Table.{greatest}
 use Rattle.vx_config.specs.declared.config.Config.{Config}
 use Rattle.vx_untold.specs.Shades.{shade_meaning, shade_rack}
 use Rattle.vx_layout.specs.declared.shape.Shape.{Shape}
-use Rattle.vx_grouped.specs.SiteReturns.{FailsFused, ReturnSince}
+use Rattle.vx_grouped.specs.SiteReturns.{ReturnSince}
 use Rattle.vx_diskset.specs.Recovers.{RisesSince}
 use Rattle.vx_grouped.specs.declared.group_site.GroupSite.{GroupSite}
 use Rattle.vx_grouped.specs.declared.group_site.GroupSite.TheVariants.{Up, Deported, Down, Marked, Gone}
@@ -73,28 +73,6 @@ rises_returned m m' since = record {
   failing = λ x y was is. (since.told x y was is).failing;
   passes = λ x y was is up. since.told x y was is;
 }
-
--- behind an import, and what came then
-module _ (m middle m' : Meaning) (one : ReturnSince m middle) (two : RisesSince middle m') where
-  between : (o : Option Disks) → middle.disks ≡ o → is_rack o ≡ is_rack m.disks → (x z : Disks) → m.disks ≡ Some x → (P : Disks → Disks → Type 0) → ((y : Disks) → middle.disks ≡ Some y → P x z) → P x z
-  between None there same x z was P each = absurd (let e : true ≡ false = ap (λ (d : Option Disks). is_rack d) (sym was) ∙ sym same in cc)
-  between (Some y) there same x z was P each = each y there
-
-  pub rises_then : RisesSince m m'
-  rises_then = record {
-    tells = λ told. one.tells (two.tells told);
-    counts = λ d. omega (arith, one.counts d, two.counts d);
-    rack = two.rack ∙ one.rack;
-    failing = λ x z was is u. between middle.disks refl one.rack x z was (λ a c. c.failing u ≡ a.failing u) (λ y there. two.failing y z there is u ∙ (one.told x y was there).failing u);
-    passes = λ x z was is up. between middle.disks refl one.rack x z was FailsFused (λ y there.
-        let first = one.told x y was there in
-        let second = two.passes y z there is up in
-        record {
-          failing = λ u. second.failing u ∙ first.failing u;
-          set = λ on. first.set (second.set on);
-          left = λ on. omega (arith, second.left on, first.left (second.set on));
-        });
-  }
 
 -- and behind a crash
 module _ (m middle m' : Meaning) (pick : ℕ) (since : RisesSince m middle) (fell : Stopped middle m') where

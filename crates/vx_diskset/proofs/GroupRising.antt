@@ -1,10 +1,10 @@
 -- A group that comes up again, and what is kept of the write that the fuse cut.
-use Rattle.std.proofs.Common.{◌≡◌, ◌∙◌, inl, inr, ℕ, Bool, true, false, List, ap, length, refl, subst, sym, IsTrue}
-use Rattle.std.specs.Prelude.{Option, Some, None, Result, Ok, Err, is_ok}
+use Rattle.std.proofs.Common.{◌≡◌, ℕ, Bool, true, false, List, ap, length, refl, subst, sym}
+use Rattle.std.specs.Prelude.{Option, Some, None, Result, Ok, Err}
 use Rattle.vx_model.specs.declared.errors.Stop.{Stop}
-use Rattle.vx_model.specs.declared.errors.Stop.TheVariants.{No as Refused, OutOfMemory}
+use Rattle.vx_model.specs.declared.errors.Stop.TheVariants.{No as Refused}
 use Rattle.vx_model.specs.declared.no.No.{No}
-use Rattle.vx_model.specs.declared.no.No.TheVariants.{Device, Down as IsOff}
+use Rattle.vx_model.specs.declared.no.No.TheVariants.{Device}
 use Rattle.vx_disk.specs.Counts.{Rose}
 use Rattle.vx_disk.specs.Racks.{IsRack}
 use Rattle.vx_disk.specs.Shelf.{Meaning}
@@ -15,8 +15,7 @@ use Rattle.vx_history.specs.World.{Node}
 use Rattle.vx_grouped.specs.GroupSites.{DownNoted, FitsPlain, UpNoted, site_disks, with_note}
 use Rattle.vx_grouped.specs.SiteEnds.{MayCrashSite, burned_site, stops_down}
 use Rattle.vx_grouped.specs.SiteKeeps.{PlainKept}
-use Rattle.vx_grouped.specs.SiteReturns.{ImportRefused, SiteImports, SiteRecovers, as_imported, returned_with}
-use Rattle.vx_grouped.specs.SiteReturns.{ReturnSince}
+use Rattle.vx_grouped.specs.SiteReturns.{ImportRefused, SiteImports, as_imported, returned_with}
 use Rattle.vx_untold.specs.Shades.{shade_meaning}
 use Rattle.vx_diskset.specs.Asked.{FuseGoesOn, SameFailing}
 use Rattle.vx_diskset.specs.DiskSets.{Later}
@@ -24,14 +23,14 @@ use Rattle.vx_grouped.specs.declared.group_site.GroupSite.{GroupSite}
 use Rattle.vx_grouped.specs.declared.group_site.GroupSite.TheVariants.{Up, Deported, Down, Marked, Gone}
 use Rattle.vx_grouped.proofs.SettleLemmas.{fuse_burned}
 use Rattle.vx_grouped.proofs.SiteLemmas.{up_burned}
-use Rattle.vx_diskset.specs.GroupCalls.{AtSite, cut_in}
-use Rattle.vx_diskset.specs.Recovers.{CameBack, CutFits, KeptIs, LooksKept, RecoversGroup, RisesSince, RisesWith, still_cut}
+use Rattle.vx_diskset.specs.GroupCalls.{AtSite}
+use Rattle.vx_diskset.specs.Recovers.{LooksKept, RisesSince, RisesWith, still_cut}
 use Rattle.vx_diskset.specs.declared.disk_set.DiskSet.{DiskSet}
-use Rattle.vx_diskset.specs.declared.disk_set.DiskSet.TheVariants.{Bare, Spoiled, Up as UpSet, Receives, Down as DownSet, OfGroup, Gone as GoneSet}
+use Rattle.vx_diskset.specs.declared.disk_set.DiskSet.TheVariants.{OfGroup}
 use Rattle.vx_diskset.specs.declared.group_set.CutWrite.{CutWrite}
 use Rattle.vx_diskset.specs.declared.group_set.GroupSet.{GroupSet}
 use Rattle.vx_diskset.specs.declared.group_set.KeptWrite.{KeptWrite}
-use Rattle.vx_diskset.proofs.GroupCalling.{IsSettled, OnGroup, away_settled, down_settled, failing_risen, fuse_risen, has_group, later_risen, on_group, rises_fell, rises_then, up_settled}
+use Rattle.vx_diskset.proofs.GroupCalling.{IsSettled, OnGroup, away_settled, down_settled, failing_risen, fuse_risen, has_group, later_risen, on_group, rises_fell, up_settled}
 
 module _ {R : Type 0} {g : Ghosts R} where
   -- ---- what is read at a group that is up
@@ -111,22 +110,6 @@ module _ {R : Type 0} {g : Ghosts R} where
   )
   rises_unread n note cut old mid new pick other it crash fell = absurd it
 
-  -- ---- a recovery
-
-  pub came_back : (n : Node) (note : GroupNode) (s : GroupSet R g) (middle : GroupSite R g) (new : DiskSet R g) (r : Result (Option KeptWrite) Stop) → SiteRecovers n note s.site middle (Ok tt)
-      → AtSite (λ x. RisesSince (site_disks middle) (site_disks x)) new → ((k : Node) (next : GroupNode) → UpNoted k next middle → RisesWith k next s.cut middle new r) → RecoversGroup n note (OfGroup s) new r
-  came_back n note s middle new (Ok kept) came since rises = record { middle = middle; came = came; since = since; rises = rises }
-  came_back n note s middle new (Err stop) came since rises = inr (record { middle = middle; came = came; since = since; rises = rises })
-
-  pub risen_on : (m : Meaning) (middle : GroupSite R g) (new : DiskSet R g) → ReturnSince m (site_disks middle) → AtSite (λ e. RisesSince (site_disks middle) (site_disks e)) new → AtSite (λ e. RisesSince m (site_disks e)) new
-  risen_on m middle (Bare rack) one two = absurd two
-  risen_on m middle (Spoiled rack) one two = absurd two
-  risen_on m middle (UpSet rvg) one two = absurd two
-  risen_on m middle (Receives s) one two = absurd two
-  risen_on m middle (DownSet rack) one two = absurd two
-  risen_on m middle (OfGroup s) one two = rises_then m (site_disks middle) (site_disks s.site) one two
-  risen_on m middle GoneSet one two = absurd two
-
   -- ---- the disks of the site behind it
 
   module _ (old new : DiskSet R g) (o : GroupSet R g) (is : old ≡ OfGroup o) (since : AtSite (λ e. RisesSince (site_disks o.site) (site_disks e)) new) where
@@ -158,19 +141,3 @@ module _ {R : Type 0} {g : Ghosts R} where
 
     pub import_settled : (n : Node) (note : GroupNode) (o : GroupSite R g) (new : DiskSet R g) (r : Result (Unit {0}) Stop) → AtSite (λ e. SiteImports n note o e r) new → AtSite IsSettled new
     import_settled n note o new r it = at_settled (λ e. SiteImports n note o e r) new (λ s at. imported_settled n note o s r at) it
-
-    risen_settled : (n : Node) (note : GroupNode) (cut : Option CutWrite) (old : GroupSite R g) (new : DiskSet R g) (r : Result (Option KeptWrite) Stop) → RisesWith n note cut old new r → AtSite IsSettled new
-    risen_settled n note cut old new (Ok kept) it = at_settled (UpNoted (burned_site n) note) new (λ s at. up_settled rackful (burned_site n) note s at) it.0
-    risen_settled n note cut old new (Err (Refused (Device disk))) it =
-        at_settled (DownNoted (crashed (with_note (still_cut cut note) n) 0) (still_cut cut note)) new (λ s at. down_settled rackful (crashed (with_note (still_cut cut note) n) 0) (still_cut cut note) s at) it.0
-    risen_settled n note cut old new (Err other) it = absurd it
-
-    back_settled : (n : Node) (note : GroupNode) (o : GroupSet R g) (new : DiskSet R g) (r : Result (Option KeptWrite) Stop) → CameBack n note o.cut o.site new r → AtSite IsSettled new
-    back_settled n note o new r it =
-        let came = it.came in
-        risen_settled (returned_with came.0 n) came.0 o.cut it.middle new r (it.rises (returned_with came.0 n) came.0 came.2)
-
-    pub recover_settled : (n : Node) (note : GroupNode) (o : GroupSet R g) (new : DiskSet R g) (r : Result (Option KeptWrite) Stop) → RecoversGroup n note (OfGroup o) new r → AtSite IsSettled new
-    recover_settled n note o new (Ok kept) it = back_settled n note o new (Ok kept) it
-    recover_settled n note o new (Err stop) (inl it) = at_settled (λ e. SiteRecovers n note o.site e (Err stop)) new (λ s at. down_settled rackful n note s at.0) it.refused
-    recover_settled n note o new (Err stop) (inr it) = back_settled n note o new (Err stop) it

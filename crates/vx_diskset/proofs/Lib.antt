@@ -43,4 +43,3 @@ pub mod Worked
 pub mod WriteGroup
 pub mod WriteLeaves
 pub mod Zeroes
-mod GroupCalling

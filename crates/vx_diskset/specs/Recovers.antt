@@ -1,5 +1,5 @@
 -- How the group of a site that crashed comes up again, and what it says of the write that the fuse cut.
-use Rattle.std.specs.Prelude.{◌≡◌, ◌⊎◌, ℕ, ◌≤◌, IsTrue, IsFalse, List, length, Option, Some, None, Result, Ok, Err}
+use Rattle.std.specs.Prelude.{◌≡◌, ℕ, ◌≤◌, IsTrue, IsFalse, length, Option, Some, None, Result, Ok, Err}
 use Rattle.vx_model.specs.Content.{Write}
 use Rattle.vx_model.specs.declared.errors.Stop.{Stop}
 use Rattle.vx_model.specs.declared.errors.Stop.TheVariants.{No as Refused}
@@ -66,23 +66,21 @@ module _ {R : Type 0} {g : Ghosts R} where
       × AtSite (λ e. Rose ((site_disks old).disk_faults disk) ((site_disks e).disk_faults disk)) new
   RisesWith n note cut old new (Err other) = ⊥
 
-  -- the group came up, and then this was said
-  pub record CameBack (n : Node) (note : GroupNode) (cut : Option CutWrite) (old : GroupSite R g) (new : DiskSet R g) (r : Result (Option KeptWrite) Stop) : Type 0 where
-    pub middle : GroupSite R g
-    pub came : SiteRecovers n note old middle (Ok tt)
-    pub since : AtSite (λ x. RisesSince (site_disks middle) (site_disks x)) new
-    pub rises : (k : Node) (next : GroupNode) → UpNoted k next middle → RisesWith k next cut middle new r
-
   -- a recovery that was refused in its import leaves the write that was cut
   pub record StaysBack (n : Node) (note : GroupNode) (old : GroupSite R g) (cut : Option CutWrite) (new : DiskSet R g) (stop : Stop) : Type 0 where
     pub refused : AtSite (λ e. SiteRecovers n note old e (Err stop)) new
     pub cut_stays : cut_in new ≡ cut_value cut
 
-  -- A recovery of the group of a site that crashed.
-  abbrev pub RecoversGroup : Node → GroupNode → DiskSet R g → DiskSet R g → Result (Option KeptWrite) Stop → Type 0
-  RecoversGroup n note (OfGroup s) new (Ok kept) = CameBack n note s.cut s.site new (Ok kept)
-  RecoversGroup n note (OfGroup s) new (Err stop) = StaysBack n note s.site s.cut new stop ⊎ CameBack n note s.cut s.site new (Err stop)
-  RecoversGroup n note old new r = ⊥
+  -- A recovery of the group of a site that crashed, as far as its import: the write that was cut is handed out.
+  abbrev pub RaisesGroup : Node → GroupNode → DiskSet R g → DiskSet R g → Result (Option CutWrite) Stop → Type 0
+  RaisesGroup n note (OfGroup s) new (Ok cut) = AtSite (λ e. SiteRecovers n note s.site e (Ok tt)) new × (cut_in new ≡ None) × (cut ≡ s.cut)
+  RaisesGroup n note (OfGroup s) new (Err stop) = StaysBack n note s.site s.cut new stop
+  RaisesGroup n note old new r = ⊥
+
+  -- and what is read then of that write
+  abbrev pub LooksAt : Node → GroupNode → Option CutWrite → DiskSet R g → DiskSet R g → Result (Option KeptWrite) Stop → Type 0
+  LooksAt n note cut (OfGroup s) new r = RisesWith n note cut s.site new r
+  LooksAt n note cut old new r = ⊥
 
   -- the write that is cut behind an import: none, where it came up
   abbrev pub cut_past : {T : Type 0} → Result T Stop → DiskSet R g → Option Write

@@ -12,7 +12,7 @@ ghost use Rattle.vx_diskset.specs.Asked.{FuseGoesOn, SameFailing};
 ghost use Rattle.vx_diskset.specs.DiskSets.{Later};
 ghost use Rattle.vx_diskset.specs.GroupCalls.{AtSite, InitIs, OnSites, cut_in};
 ghost use Rattle.vx_diskset.specs.Holds.{KeptBeside};
-ghost use Rattle.vx_diskset.specs.Recovers.{LooksKept, RecoversGroup, RisesSince, RisesWith, cut_past};
+ghost use Rattle.vx_diskset.specs.Recovers.{LooksAt, LooksKept, RaisesGroup, RisesSince, RisesWith, cut_past};
 ghost use Rattle.vx_diskset.specs.Stands.{SiteStands};
 
 use crate::group_set::{CutWrite, KeptWrite};
@@ -125,18 +125,18 @@ fn import_in<R: Rack>(group: GroupSet<R>, alloc: Global) -> (DiskSet<R>, Result<
     }
 }
 
-// The same of a site that crashed, with what is kept of the write that its crash cut.
-fn recover_in<R: Rack>(
+// The same of a site that crashed, which hands out the write that its crash cut.
+fn raise_in<R: Rack>(
     group: GroupSet<R>,
     alloc: Global,
-) -> (DiskSet<R>, Result<Option<KeptWrite>, Stop>)
-    ensures recovered { (n : Node) (note : GroupNode) → DownNoted n note group.site → RecoversGroup n note (DiskSet.OfGroup group) result.0 result.1 }
+) -> (DiskSet<R>, Result<Option<CutWrite>, Stop>)
+    ensures raised { (n : Node) (note : GroupNode) → DownNoted n note group.site → RaisesGroup n note (DiskSet.OfGroup group) result.0 result.1 }
     ensures since { AtSite (λ e. RisesSince (site_disks group.site) (site_disks e)) result.0 }
 {
     let cut = group.cut;
     let (site, answer) = group.site.import(alloc);
     match answer {
-        Ok(()) => stand_up(site, cut),
+        Ok(()) => (DiskSet::OfGroup(GroupSet { site, cut: None }), Ok(cut)),
         Err(stop) => (DiskSet::OfGroup(GroupSet { site, cut }), Err(stop)),
     }
 }
@@ -172,15 +172,26 @@ impl<R: Rack> DiskSet<R> {
         }
     }
 
-    /// Imports the group of a site that crashed, and says what is kept of the write that its crash cut. Where it is refused, the site stays down.
-    pub fn recover_group(self, alloc: Global) -> (DiskSet<R>, Result<Option<KeptWrite>, Stop>)
-        ensures recovered { (n : Node) (note : GroupNode) → AtSite (DownNoted n note) self → RecoversGroup n note self result.0 result.1 }
-        ensures fuse { (n : Node) (note : GroupNode) → AtSite (DownNoted n note) self → FuseGoesOn self result.0 }
+    /// Imports the group of a site that crashed, and hands out the write that its crash cut. Where it is refused, the site stays down.
+    pub fn raise_group(self, alloc: Global) -> (DiskSet<R>, Result<Option<CutWrite>, Stop>)
+        ensures raised { (n : Node) (note : GroupNode) → AtSite (DownNoted n note) self → RaisesGroup n note self result.0 result.1 }
         ensures failing { SameFailing self result.0 }
         ensures later { Later self result.0 }
     {
         match self {
-            DiskSet::OfGroup(group) => recover_in(group, alloc),
+            DiskSet::OfGroup(group) => raise_in(group, alloc),
+            other => (other, Err(Stop::No(No::Role))),
+        }
+    }
+
+    /// Says what is kept of a write that was cut, of a group that came up. Where a disk fails in that, the site is down again, and the write is cut still.
+    pub fn look_at_cut(self, cut: Option<CutWrite>) -> (DiskSet<R>, Result<Option<KeptWrite>, Stop>)
+        ensures looks { (n : Node) (note : GroupNode) → AtSite (UpNoted n note) self → LooksAt n note cut self result.0 result.1 }
+        ensures failing { SameFailing self result.0 }
+        ensures later { Later self result.0 }
+    {
+        match self {
+            DiskSet::OfGroup(group) => stand_up(group.site, cut),
             other => (other, Err(Stop::No(No::Role))),
         }
     }

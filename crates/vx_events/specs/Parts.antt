@@ -1,5 +1,5 @@
 -- What want of memory may leave of a line: a first part of its events. No event is half done.
-use Rattle.std.specs.Prelude.{◌≡◌, ◌&&◌, ◌||◌, ℕ, Bool, true, false, List, [], ◌∷◌, ◌++◌, take}
+use Rattle.std.specs.Prelude.{◌≡◌, ◌⊎◌, ◌&&◌, ◌||◌, ℕ, Bool, true, false, List, [], ◌∷◌, ◌++◌, take}
 use Rattle.vx_model.specs.Sites.{is_up}
 use Rattle.vx_history.specs.Doubts.{Doubted}
 use Rattle.vx_history.specs.Steps.{worked_on}
@@ -10,6 +10,7 @@ use Rattle.vx_script.specs.declared.line.ScriptLine.{ScriptLine}
 use Rattle.vx_script.specs.declared.line.ScriptLine.TheVariants.{GroupImport, Recover, Settle}
 use Rattle.vx_events.specs.Doubts.{IsAs, run_as}
 use Rattle.vx_events.specs.Facts.{site_number}
+use Rattle.vx_events.specs.GroupLines.{fuse_lost}
 use Rattle.vx_events.specs.LinkEnds.{AreLeft, link_noted}
 use Rattle.vx_events.specs.LinkFinds.{MovesBetween}
 use Rattle.vx_events.specs.LinkLists.{link_events}
@@ -63,10 +64,10 @@ pub record FellFirst (d : Doubted) (line : ScriptLine) (new : Doubted) : Type 0 
   pub crashes : crashes_first d.world line ≡ true
   pub leads : let last = run_as false d (CrashAt (group_place d.world line) 0 ∷ []) in IsAs last last.world new
 
--- the fuse of such a site may have let calls pass, and nothing was done
+-- the fuse of such a site may have let calls pass, or is lost where the group had come up, and nothing else was done
 pub record ReadFirst (d : Doubted) (line : ScriptLine) (new : Doubted) : Type 0 where
   pub reads : reads_first d.world line ≡ true
-  pub leads : IsAs d (worked_on d.world (group_place d.world line)) new
+  pub leads : IsAs d (worked_on d.world (group_place d.world line)) new ⊎ IsAs d (fuse_lost d.world (group_place d.world line)) new
 
 -- What want of memory leaves of a line: a first part of its events, the crash before a recovery, or the reads of an import. Over disks that tell no contents a link may be settled
 -- by updates of whatever blocks were read: then some of them, and of what answers them, was sent and delivered.

@@ -191,7 +191,7 @@ module _ {R : Type 0} {g : Ghosts R} where
         → Names s many (calls s old new many) (site_disks set.site) (site_disks next.site)
     calls_names set next was is many enough = record { many = enough; each = λ k below rose. calls_named set next was is many k below rose }
 
-    sized : Sized n
+    pub sized : Sized n
     sized = sized_of (beside_of d s) n call.at.set call.at.stands
 
     -- nothing is cut, and so it is noted
@@ -207,16 +207,16 @@ module _ {R : Type 0} {g : Ghosts R} where
     pub set_uncut : n.state ≡ IsUp → cut_value call.at.set.cut ≡ None
     set_uncut up = uncut (beside_of d s) n call.at.set call.at.stands (λ down. let e : IsUp ≡ IsDown = sym up ∙ down in absurd (cc))
 
-    cut_of : (next : GroupSet R g) → after ≡ OfGroup next → (cut : Option Write) → cut_in after ≡ cut → cut_value next.cut ≡ cut
+    pub cut_of : (next : GroupSet R g) → after ≡ OfGroup next → (cut : Option Write) → cut_in after ≡ cut → cut_value next.cut ≡ cut
     cut_of next is cut same = ap (λ (x : DiskSet R g). cut_in x) (sym is) ∙ same
 
     before_cut : cut_in before ≡ cut_value call.at.set.cut
     before_cut = ap (λ (x : DiskSet R g). cut_in x) call.at.is_set
 
-    called_to : (next : GroupSet R g) → after ≡ OfGroup next → Changed old new s before (OfGroup next)
+    pub called_to : (next : GroupSet R g) → after ≡ OfGroup next → Changed old new s before (OfGroup next)
     called_to next is = subst (λ (x : DiskSet R g). Changed old new s before x) is call.changed
 
-    failing_to : (m : Node) (next : GroupSet R g) → after ≡ OfGroup next → m.failing ≡ n.failing → FailsAs m (OfGroup next)
+    pub failing_to : (m : Node) (next : GroupSet R g) → after ≡ OfGroup next → m.failing ≡ n.failing → FailsAs m (OfGroup next)
     failing_to m next is same =
         subst (λ (x : DiskSet R g). FailsAs m x) is (fails_then n m before after same call.failing (stands.failing s before call.at.below call.changed.there))
 

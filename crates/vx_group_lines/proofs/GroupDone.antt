@@ -21,7 +21,9 @@ use Rattle.vx_grouped.specs.declared.group_site.GroupSite.{GroupSite}
 use Rattle.vx_diskset.specs.GroupCalls.{AtSite, OnSites}
 use Rattle.vx_diskset.specs.declared.disk_set.DiskSet.{DiskSet}
 use Rattle.vx_events.specs.Fails.{Fails}
-use Rattle.vx_events.specs.GroupEnds.{GroupCut, GroupCuts, GroupDoes, GroupDone, GroupEnds, GroupFails, GroupLacks, GroupSpoils, GroupWants}
+use Rattle.vx_events.specs.GroupEnds.{GroupCut, GroupCuts, GroupDoes, GroupDone, GroupEnds, GroupFails, GroupLacks, GroupSpoils, GroupWants, IsLeftOver}
+use Rattle.vx_events.specs.Doubts.{run_as}
+use Rattle.vx_events.specs.GroupLines.{group_events}
 use Rattle.vx_events.specs.GroupNotes.{note_at}
 use Rattle.vx_events.specs.StepsOver.{fact_of_group}
 use Rattle.vx_events.specs.declared.said.Said.{Said}
@@ -33,7 +35,7 @@ use Rattle.vx_yard.specs.Writes.{noted_facts}
 use Rattle.vx_yard.specs.Yards.{IsTold}
 use Rattle.vx_yard.specs.declared.yard.Yard.{Yard}
 use Rattle.vx_group_lines.proofs.GroupCalls.{Called, SetThen, calls, calls_all, calls_are, calls_named, calls_names, calls_none, note_uncut, sets_then}
-use Rattle.vx_group_lines.proofs.GroupEnding.{Broke, Calling, FellOff, IsCalling, IsQuiet, Means, Midway, SameTable, Wanted, called_why, lets_on, load_on, off_leads, up_leads, world_off, world_up}
+use Rattle.vx_group_lines.proofs.GroupEnding.{Broke, Calling, FellOff, IsCalling, IsQuiet, LeftDone, Means, Midway, SameTable, Wanted, called_why, lets_on, load_on, off_leads, up_leads, world_off, world_up}
 use Rattle.vx_group_lines.proofs.GroupMarks.{group_noted_at}
 use Rattle.vx_group_lines.proofs.Losing.{Names}
 use Rattle.vx_group_lines.specs.Noting.{IsNotedRefusal, KeepsRest}
@@ -62,10 +64,10 @@ module _ {R : Type 0} {g : Ghosts R} where
 
     -- ---- done
 
-    pub done_leads : {T : Type 0} (Done Lost : Turns) (Lacks : GroupSite R g → No → Type 0) (said : Said) (value : T) → Means s note NoteSettles Done (λ fails next. GroupDoes (IsTold new) s n note line fails said next) → SameTable note Done
+    pub done_leads : {T : Type 0} (Done Lost : Turns) (Lacks : GroupSite R g → No → Type 0) (said : Said) (value : T) → ((k : GroupNode) → LeftDone d s line k → IsLeftOver s line k (run_as false d (group_events (d.world.nodes s) s line)) (world_up d s k)) → Means s note NoteSettles Done (λ fails next. GroupDoes (IsTold new) s n note line fails said next) → SameTable note Done
         → OnSites (λ o e. SiteCalled {T = T} (Done (site_disks o) (site_disks e)) (Lost (site_disks o) (site_disks e)) (Lacks o) n note o e (Ok value)) before after
         → new.facts.items ≡ old.facts.items → SameLoad old new → LeadsOver d line said old new
-    done_leads {T} Done Lost Lacks said value means table on facts load =
+    done_leads {T} Done Lost Lacks said value leaves means table on facts load =
         let P : GroupSite R g → GroupSite R g → Type 0 = λ o e. SiteCalled {T = T} (Done (site_disks o) (site_disks e)) (Lost (site_disks o) (site_disks e)) (Lacks o) n note o e (Ok value) in
         let then : SetThen (P was_site) after = sets_then P before after it.call.at.set it.call.at.is_set on in
         let next : GroupNode = then.holds.0 in
@@ -76,7 +78,7 @@ module _ {R : Type 0} {g : Ghosts R} where
         up_leads d line old new name s before after stands it said (calls s old new many) next then.set then.is then.holds.2 then.holds.1.same.cut
         (table.same many (site_disks was_site) (site_disks then.set.site) s (calls s old new many) next goes.was goes.now names goes.noted goes.noted_now goes.change) facts load
         (GroupDone next (calls_are d old new name s before after stands it.call many)
-        (means.ends many (calls s old new many) (site_disks was_site) (site_disks then.set.site) next goes.was goes.now names goes.noted goes.noted_now (omega arith) goes.change then.holds.1) (it.is_line.done next))
+        (means.ends many (calls s old new many) (site_disks was_site) (site_disks then.set.site) next goes.was goes.now names goes.noted goes.noted_now (omega arith) goes.change then.holds.1) (leaves next (it.is_line.done next)))
         (calls_all d old new name s before after stands it.call many)
 
     -- ---- refused

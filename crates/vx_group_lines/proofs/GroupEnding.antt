@@ -19,6 +19,7 @@ use Rattle.vx_history.specs.World.{Node}
 use Rattle.vx_history.specs.declared.event.Event.TheVariants.{Crash as CrashAt}
 use Rattle.vx_order.specs.declared.facts.SiteFacts.{SiteFacts}
 use Rattle.vx_script.specs.declared.line.ScriptLine.{ScriptLine}
+use Rattle.vx_script.specs.declared.line.ScriptLine.TheVariants.{GroupDeport}
 use Rattle.vx_packet.specs.Assemblies.{Assembled}
 use Rattle.vx_watched.specs.Since.{CalledSince}
 use Rattle.vx_grouped.specs.GroupNotes.{NotesConfig}
@@ -70,10 +71,15 @@ world_up d s k = record d { world = worked_on (noting d.world s k) s }
 abbrev pub world_off : Doubted → ℕ → GroupNode → Doubted
 world_off d s k = let e : Doubted = happened d (CrashAt s 0) false in record e { world = worked_on (noting e.world s k) s }
 
--- a line with no event of its own, which notes that it may have written
+-- what a line leaves that has no event of its own; a deport has one
+abbrev pub LeftDone : Doubted → ℕ → ScriptLine → GroupNode → Type 0
+LeftDone d s (GroupDeport site) k = Unit {0}
+LeftDone d s line k = IsLeftOver s line k (run_as false d (group_events (d.world.nodes s) s line)) (world_up d s k)
+
+-- a line whose refusals have no event of their own, which notes that it may have written
 pub record IsCalling (d : Doubted) (s : ℕ) (line : ScriptLine) : Type 0 where
   pub place : group_place d.world line ≡ s
-  pub done : (k : GroupNode) → IsLeftOver s line k (run_as false d (group_events (d.world.nodes s) s line)) (world_up d s k)
+  pub done : (k : GroupNode) → LeftDone d s line k
   pub broke : (k : GroupNode) → IsLeftOver s line k (run_as false d (refused_events (d.world.nodes s) s line)) (world_up d s k)
   pub lacks : (k : GroupNode) → IsLeftOver s line k d (world_up d s k)
   pub off : (k : GroupNode) → IsLeftOver s line k (run_as false d (cut_events s line)) (world_off d s k)

@@ -16,3 +16,9 @@ pub mod Returning
 pub mod Rising
 pub mod GroupVolume
 pub mod VolumeLine
+pub mod Resuming
+pub mod GroupPlex
+pub mod GroupAttach
+pub mod GroupNamed
+pub mod GroupDeports
+pub mod GroupImports

@@ -1,12 +1,9 @@
 -- What a recovery of a site that is down leads a yard to, where its group comes up.
-use Rattle.std.proofs.Common.{◌≡◌, ◌∙◌, ◌⊎◌, inl, inr, ⊎_elim, ◌+◌, ◌*◌, ◌/◌, ◌<◌, ◌≤◌, ℕ, zero, suc, Bool, true, false, List, [], ◌∷◌, ◌++◌, length, map, ap, sym, subst, refl, arith, IsTrue}
-use Rattle.std.specs.Prelude.{Contains, Option, Some, None, slice_get, bytes_eq, Result, Ok, Err}
-use Rattle.std.proofs.lemmas.Option.{slice_get_within}
-use Rattle.vx_model.specs.Content.{Write, block_of, blocks_in}
-use Rattle.vx_model.specs.declared.limits.TheConstants.{MOST_DISKS}
+use Rattle.std.proofs.Common.{◌≡◌, ◌∙◌, ◌⊎◌, ⊎_elim, ◌+◌, ◌/◌, ◌<◌, ℕ, zero, suc, Bool, true, false, List, [], ◌∷◌, ◌++◌, length, map, ap, sym, subst, refl, arith, IsTrue}
+use Rattle.std.specs.Prelude.{Option, Some, None, slice_get}
+use Rattle.vx_model.specs.Content.{Write}
 use Rattle.vx_model.specs.declared.site.SiteState.{SiteState}
-use Rattle.vx_model.specs.declared.site.SiteState.TheVariants.{Bare as IsBare, Up as IsUp, Deported as IsDeported, Down as IsDown}
-use Rattle.vx_disk.specs.Counts.{Rose}
+use Rattle.vx_model.specs.declared.site.SiteState.TheVariants.{Up as IsUp, Down as IsDown}
 use Rattle.vx_disk.specs.Shelf.{Meaning}
 use Rattle.vx_disk.specs.declared.shelf.Shelf.{Ghosts}
 use Rattle.vx_config.specs.Checks.{blocks_of}
@@ -14,28 +11,21 @@ use Rattle.vx_config.specs.declared.config.Config.{Config}
 use Rattle.vx_config.specs.declared.entry.VolumeEntry.{VolumeEntry}
 use Rattle.vx_kept.specs.Cleans.{at_serial}
 use Rattle.vx_history.specs.Doubts.{Doubted, happened}
-use Rattle.vx_history.specs.Groups.{BlockMay, GroupNode}
-use Rattle.vx_history.specs.Sound.{is_at_rest}
+use Rattle.vx_history.specs.Groups.{GroupNode}
 use Rattle.vx_history.specs.Steps.{burned, group_up}
 use Rattle.vx_history.specs.World.{Fuse as FuseOf, Node, NoFuse}
 use Rattle.vx_history.specs.declared.event.Event.TheVariants.{Crash as CrashAt, Group as GroupAt}
-use Rattle.vx_order.specs.declared.facts.SiteFacts.{SiteFacts}
 use Rattle.vx_order.specs.declared.facts.VolumeFacts.{VolumeFacts}
 use Rattle.vx_report.specs.declared.view.Kept.{Kept}
-use Rattle.vx_report.specs.declared.view.SiteView.{SiteView}
-use Rattle.vx_script.specs.declared.line.ScriptLine.TheVariants.{Recover}
 use Rattle.vx_grouped.proofs.ReadyLemmas.{imported_same}
 use Rattle.vx_grouped.specs.Ends.{plain_write}
 use Rattle.vx_grouped.specs.GroupSites.{DownNoted, FitsPlain, UpNoted, site_config, site_disks}
 use Rattle.vx_grouped.specs.SiteEnds.{burned_site}
-use Rattle.vx_grouped.specs.SiteReturns.{NoteReturns, as_imported, returned_with}
+use Rattle.vx_grouped.specs.SiteReturns.{as_imported, returned_with}
 use Rattle.vx_grouped.specs.declared.group_site.GroupSite.{GroupSite}
 use Rattle.vx_grouped.specs.declared.group_site.GroupSite.TheVariants.{Up as SiteUp, Deported as SiteAway, Down as SiteDown, Marked, Gone as SiteGone}
-use Rattle.vx_diskset.specs.Asked.{FailsAs, FusedAs}
-use Rattle.vx_diskset.specs.GroupCalls.{AtSite, cut_in}
-use Rattle.vx_diskset.specs.GroupSets.{cut_value, noted_cut}
-use Rattle.vx_diskset.specs.Holds.{beside_of}
-use Rattle.vx_diskset.specs.Recovers.{CameBack, KeptIs, RisesSince}
+use Rattle.vx_diskset.specs.GroupSets.{cut_value}
+use Rattle.vx_diskset.specs.Recovers.{CutFits, KeptIs}
 use Rattle.vx_diskset.specs.Stands.{IsToldAt}
 use Rattle.vx_diskset.specs.declared.disk_set.DiskSet.{DiskSet}
 use Rattle.vx_diskset.specs.declared.disk_set.DiskSet.TheVariants.{OfGroup}
@@ -44,32 +34,15 @@ use Rattle.vx_diskset.specs.declared.group_set.GroupSet.{GroupSet}
 use Rattle.vx_diskset.specs.declared.group_set.KeptWrite.{KeptWrite}
 use Rattle.vx_events.proofs.Places.{some_same}
 use Rattle.vx_events.specs.Doubts.{run_as}
-use Rattle.vx_events.specs.Fails.{Fails}
-use Rattle.vx_events.specs.GroupEnds.{FindsGroup, GroupDone, GroupEnds}
-use Rattle.vx_events.specs.GroupLines.{group_recovery}
-use Rattle.vx_events.specs.GroupNotes.{NotesBack, note_at}
-use Rattle.vx_events.specs.GroupReplies.{IsKeptOf, SaysBack, ShowsKept}
-use Rattle.vx_events.specs.GroupViews.{config_of, grouped_view, noted_table, plain_fact, volumes_of}
-use Rattle.vx_events.specs.StepsOver.{fact_of_group}
-use Rattle.vx_events.specs.declared.said.Said.{Said}
-use Rattle.vx_events.specs.declared.said.Said.TheVariants.{Resumed}
-use Rattle.vx_yard.proofs.Carrying.{SameLoad}
-use Rattle.vx_yard.proofs.FuseStays.{fused_none}
-use Rattle.vx_yard.proofs.Lists.{get-set_same}
-use Rattle.vx_yard.specs.GroupFacts.{group_up_facts}
-use Rattle.vx_yard.specs.Standing.{StandsFor}
+use Rattle.vx_events.specs.GroupLines.{crash_first, group_recovery, unread_events}
+use Rattle.vx_events.specs.GroupReplies.{ShowsKept}
+use Rattle.vx_events.specs.GroupViews.{config_of, plain_fact, volumes_of}
 use Rattle.vx_yard.specs.Yards.{IsTold}
 use Rattle.vx_yard.specs.declared.yard.Yard.{Yard}
-use Rattle.vx_group_lines.specs.Rises.{ComesDown, RisesFor, kept_of_volume, kept_shown}
-use Rattle.vx_group_lines.specs.Views.{view_with}
-use Rattle.vx_group_lines.proofs.Arriving.{Arrives, arrives_noted, arrives_up, noted_at}
-use Rattle.vx_group_lines.proofs.GroupAt.{GroupAt, down_noted, down_notes, up_notes}
-use Rattle.vx_group_lines.proofs.GroupCalls.{Called, calls, calls_all, calls_are, calls_named, called_to, cut_of, failing_to, set_then, sized}
-use Rattle.vx_group_lines.proofs.GroupLeads.{Follows, Sized, follows_on, up_set}
-use Rattle.vx_group_lines.proofs.GroupMarks.{begins_at, group_noted_at}
-use Rattle.vx_group_lines.proofs.GroupShown.{view_up}
-use Rattle.vx_group_lines.proofs.GroupStatus.{config_is, table_is}
-use Rattle.vx_group_lines.proofs.Returning.{SitsOn, back_of}
+use Rattle.vx_group_lines.specs.Rises.{ComesDown, kept_of_volume, kept_shown}
+use Rattle.vx_group_lines.proofs.GroupAt.{GroupAt}
+use Rattle.vx_group_lines.proofs.GroupStatus.{config_is}
+use Rattle.vx_group_lines.proofs.Returning.{SitsOn}
 
 -- ---- the events
 
@@ -83,7 +56,50 @@ module _ (d e : Doubted) (s : ℕ) (comes : ComesDown d e s) where
       ap (λ (t : SiteState). run_as false d (group_recovery t s)) up.0 ∙ ap (λ (x : Doubted). happened x (GroupAt s) false) (sym up.1))
       comes.how
 
+  -- a recovery that came up and went down again
+  pub unread_as : run_as false d (unread_events (d.world.nodes s) s) ≡ happened (happened e (GroupAt s) false) (CrashAt s 0) false
+  unread_as = ⊎_elim
+      (λ (down : ((d.world.nodes s).state ≡ IsDown) × (e ≡ d)).
+      ap (λ (t : SiteState). run_as false d (group_recovery t s ++ CrashAt s 0 ∷ [])) down.0
+      ∙ ap (λ (x : Doubted). happened (happened x (GroupAt s) false) (CrashAt s 0) false) (sym down.1))
+      (λ (up : ((d.world.nodes s).state ≡ IsUp) × (e ≡ happened d (CrashAt s 0) false)).
+      ap (λ (t : SiteState). run_as false d (group_recovery t s ++ CrashAt s 0 ∷ [])) up.0
+      ∙ ap (λ (x : Doubted). happened (happened x (GroupAt s) false) (CrashAt s 0) false) (sym up.1))
+      comes.how
+
+  -- and one that did not
+  pub refused_as : run_as false d (crash_first (d.world.nodes s).state s) ≡ e
+  refused_as = ⊎_elim
+      (λ (down : ((d.world.nodes s).state ≡ IsDown) × (e ≡ d)). ap (λ (t : SiteState). run_as false d (crash_first t s)) down.0 ∙ sym down.1)
+      (λ (up : ((d.world.nodes s).state ≡ IsUp) × (e ≡ happened d (CrashAt s 0) false)). ap (λ (t : SiteState). run_as false d (crash_first t s)) up.0 ∙ sym up.1)
+      comes.how
+
 -- ---- the write that was cut
+
+-- the write that was cut lies in its volume
+abbrev fits_write : GroupNode → Option Write → Type 0
+fits_write note None = Unit {0}
+fits_write note (Some w) = FitsPlain note w.volume w.start (length w.bytes)
+
+fits_all : (note : GroupNode) (o : Option CutWrite) → ((x : CutWrite) → o ≡ Some x → FitsPlain note x.volume x.block (length x.bytes)) → fits_write note (cut_value o)
+fits_all note None fits = tt
+fits_all note (Some x) fits = fits x refl
+
+fits_each : (note : GroupNode) (o : Option CutWrite) → fits_write note (cut_value o) → (x : CutWrite) → o ≡ Some x → FitsPlain note x.volume x.block (length x.bytes)
+fits_each note None it x is = absurd (cc)
+fits_each note (Some y) it x is = subst (λ (z : CutWrite). FitsPlain note z.volume z.block (length z.bytes)) (some_same is) it
+
+cut_fits : (note : GroupNode) (o : Option CutWrite) → CutFits note o → fits_write note (cut_value o)
+cut_fits note None it = tt
+cut_fits note (Some x) it = it
+
+-- two of the same value
+pub fits_as : (note : GroupNode) (o k : Option CutWrite) → cut_value k ≡ cut_value o → ((x : CutWrite) → o ≡ Some x → FitsPlain note x.volume x.block (length x.bytes))
+    → (x : CutWrite) → k ≡ Some x → FitsPlain note x.volume x.block (length x.bytes)
+fits_as note o k same fits x is = fits_each note k (subst (λ (w : Option Write). fits_write note w) (sym same) (fits_all note o fits)) x is
+
+pub fits_by : (note : GroupNode) (o k : Option CutWrite) → cut_value k ≡ cut_value o → CutFits note o → (x : CutWrite) → k ≡ Some x → FitsPlain note x.volume x.block (length x.bytes)
+fits_by note o k same fits x is = fits_each note k (subst (λ (w : Option Write). fits_write note w) (sym same) (cut_fits note o fits)) x is
 
 -- a place with blocks is that of a volume
 some_entry : (vs : List VolumeEntry) (v : ℕ) → 0 < blocks_of vs v → (entry : VolumeEntry) × (slice_get vs v ≡ Some entry)
@@ -104,8 +120,7 @@ module _ (told : Type 0) (next : GroupNode) (m : Meaning) (c : Config) (tells : 
       let entry = some_entry c.volumes x.volume some in
       let write : k.write ≡ x = is.0 in
       let view : Kept = record { volume = entry.0.name; block = k.write.block; count = length k.write.bytes / 512; bits = k.bits } in
-      let found : slice_get (map plain_fact c.volumes) k.write.volume ≡ Some (plain_fact entry.0) = ap (λ (y : CutWrite). slice_get (map plain_fact c.volumes) y.volume) write ∙ at_map c.volumes x.volume entry.0 entry.1 in
-      (
+      let found : slice_get (map plain_fact c.volumes) k.write.volume ≡ Some (plain_fact entry.0) = ap (λ (y : CutWrite). slice_get (map plain_fact c.volumes) y.volume) write ∙ at_map c.volumes x.volume entry.0 entry.1 in (
         view,
         ap (λ (o : Option VolumeFacts). kept_of_volume o k) found,
         record {
@@ -118,11 +133,11 @@ module _ (told : Type 0) (next : GroupNode) (m : Meaning) (c : Config) (tells : 
         },
       )
 
-  shows_cut : told → (o : Option CutWrite) (kept : Option KeptWrite) → ((x : CutWrite) → o ≡ Some x → FitsPlain next x.volume x.block (length x.bytes)) → KeptIs next m o kept
+  pub shows_cut : (o : Option CutWrite) (kept : Option KeptWrite) → ((x : CutWrite) → o ≡ Some x → FitsPlain next x.volume x.block (length x.bytes)) → KeptIs next m o kept
       → ShowsKept told (cut_value o) next (kept_shown (map plain_fact c.volumes) kept)
-  shows_cut yes_ None kept fits is = ap (λ (k : Option KeptWrite). kept_shown (map plain_fact c.volumes) k) is
-  shows_cut yes_ (Some x) None fits is = absurd (is (fits x refl))
-  shows_cut yes_ (Some x) (Some k) fits is = shows_one x k (fits x refl) is
+  shows_cut None kept fits is = ap (λ (k : Option KeptWrite). kept_shown (map plain_fact c.volumes) k) is
+  shows_cut (Some x) None fits is = absurd (is (fits x refl))
+  shows_cut (Some x) (Some k) fits is = shows_one x k (fits x refl) is
 
 -- ---- the node
 
@@ -130,16 +145,16 @@ module _ (told : Type 0) (next : GroupNode) (m : Meaning) (c : Config) (tells : 
 still_none : (f : FuseOf) → f ≡ NoFuse → burned (burned f) ≡ f
 still_none f is = ap (λ (x : FuseOf). burned (burned x)) is ∙ sym is
 
-abbrev risen_node : GroupNode → Node → Node
+abbrev pub risen_node : GroupNode → Node → Node
 risen_node next n = record (group_up n) { group = Some next }
 
-risen_is : (n : Node) (next : GroupNode) → n.fuse ≡ NoFuse → burned_site (returned_with next n) ≡ risen_node next n
+pub risen_is : (n : Node) (next : GroupNode) → n.fuse ≡ NoFuse → burned_site (returned_with next n) ≡ risen_node next n
 risen_is n next none = ap (λ (x : FuseOf). let k : Node = record (risen_node next n) { fuse = x } in k) (still_none n.fuse none)
 
-some_config : {c d : Config} → Some (at_serial 0 c) ≡ Some (at_serial 0 d) → c.volumes ≡ d.volumes
+pub some_config : {c d : Config} → Some (at_serial 0 c) ≡ Some (at_serial 0 d) → c.volumes ≡ d.volumes
 some_config {c} {d} is = ap (λ (x : Config). x.volumes) (some_same is)
 
-bool_by : {P : Type 0} (b : Bool) → (b ≡ true → P) → (b ≡ false → P) → P
+pub bool_by : {P : Type 0} (b : Bool) → (b ≡ true → P) → (b ≡ false → P) → P
 bool_by true yes_ no_ = yes_ refl
 bool_by false yes_ no_ = no_ refl
 
@@ -157,14 +172,14 @@ module _ {R : Type 0} {g : Ghosts R} where
   has_up n note (Marked rack) it = absurd it
   has_up n note SiteGone it = absurd it
 
-  unfused_down : (n : Node) (note : GroupNode) (e : GroupSite R g) → DownNoted n note e → n.fuse ≡ NoFuse
+  pub unfused_down : (n : Node) (note : GroupNode) (e : GroupSite R g) → DownNoted n note e → n.fuse ≡ NoFuse
   unfused_down n note (SiteUp laid) it = absurd it
   unfused_down n note (SiteAway idle) it = absurd it
   unfused_down n note (SiteDown idle) it = it.unfused
   unfused_down n note (Marked rack) it = absurd it
   unfused_down n note SiteGone it = absurd it
 
-  sits_down : (n : Node) (note : GroupNode) (e : GroupSite R g) → DownNoted n note e → SitsOn n (as_imported e)
+  pub sits_down : (n : Node) (note : GroupNode) (e : GroupSite R g) → DownNoted n note e → SitsOn n (as_imported e)
   sits_down n note (SiteUp laid) it = absurd it
   sits_down n note (SiteAway idle) it = absurd it
   sits_down n note (SiteDown idle) it =
@@ -173,5 +188,5 @@ module _ {R : Type 0} {g : Ghosts R} where
   sits_down n note (Marked rack) it = absurd it
   sits_down n note SiteGone it = absurd it
 
-  told_of : (y : Yard R g) (s : ℕ) (e : DiskSet R g) (set : GroupSet R g) → slice_get y.disk_sets.items s ≡ Some e → e ≡ OfGroup set → IsTold y → IsTrue (site_disks set.site).tells
+  pub told_of : (y : Yard R g) (s : ℕ) (e : DiskSet R g) (set : GroupSet R g) → slice_get y.disk_sets.items s ≡ Some e → e ≡ OfGroup set → IsTold y → IsTrue (site_disks set.site).tells
   told_of y s e set there is told = subst (λ (x : DiskSet R g). IsToldAt x) is (told.each s e there)

@@ -1,23 +1,42 @@
 -- How the group of a site comes up in a recovery.
-use Rattle.std.specs.Prelude.{◌≡◌, ◌⊎◌, ℕ, ◌/◌, List, length, Option, Some, None, slice_get, false, Result, Ok, Err}
+use Rattle.std.specs.Prelude.{◌≡◌, ◌⊎◌, ℕ, ◌/◌, List, length, map, Option, Some, None, slice_get, slice_set, false, Result, Ok, Err}
 use Rattle.vx_model.specs.declared.errors.OutOfMemory.{OutOfMemory}
+use Rattle.vx_model.specs.declared.errors.Stop.{Stop}
 use Rattle.vx_model.specs.declared.site.SiteState.TheVariants.{Down, Up}
 use Rattle.vx_history.specs.Doubts.{Doubted, happened}
+use Rattle.vx_history.specs.Groups.{GroupNode}
+use Rattle.vx_history.specs.World.{Node}
 use Rattle.vx_history.specs.declared.event.Event.TheVariants.{Crash as CrashAt}
 use Rattle.vx_disk.specs.declared.shelf.Shelf.{Ghosts}
+use Rattle.vx_config.specs.declared.config.Config.{Config}
+use Rattle.vx_grouped.specs.GroupSites.{UpNoted, site_config}
+use Rattle.vx_diskset.specs.Asked.{SameFailing}
+use Rattle.vx_diskset.specs.DiskSets.{Later}
+use Rattle.vx_diskset.specs.GroupCalls.{AtSite}
+use Rattle.vx_diskset.specs.Recovers.{LooksAt}
+use Rattle.vx_diskset.specs.declared.disk_set.DiskSet.{DiskSet}
+use Rattle.vx_diskset.specs.declared.group_set.CutWrite.{CutWrite}
 use Rattle.vx_diskset.specs.declared.group_set.KeptWrite.{KeptWrite}
+use Rattle.vx_order.specs.declared.facts.SiteFacts.{SiteFacts}
 use Rattle.vx_order.specs.declared.facts.VolumeFacts.{VolumeFacts}
 use Rattle.vx_report.specs.declared.view.Kept.{Kept}
 use Rattle.vx_script.specs.declared.line.ScriptLine.TheVariants.{Recover}
 use Rattle.vx_events.specs.Fails.{Fails}
 use Rattle.vx_events.specs.GroupEnds.{GroupEnds}
 use Rattle.vx_events.specs.GroupNotes.{note_at}
+use Rattle.vx_events.specs.GroupViews.{plain_fact}
 use Rattle.vx_events.specs.declared.said.Said.{Said}
+use Rattle.vx_events.specs.declared.said.Said.TheVariants.{Resumed}
 use Rattle.vx_yard.specs.Carries.{Carries}
+use Rattle.vx_yard.specs.Changes.{down_facts}
+use Rattle.vx_yard.specs.GroupFacts.{group_up_facts}
+use Rattle.vx_yard.specs.Loads.{LetGo}
+use Rattle.vx_yard.specs.Replies.{reply_to}
 use Rattle.vx_yard.specs.Standing.{StandsFor, StaysFor}
 use Rattle.vx_yard.specs.Stands.{RoseAll}
 use Rattle.vx_yard.specs.Yards.{IsTold, count_of}
 use Rattle.vx_yard.specs.declared.yard.Yard.{Yard}
+use Rattle.vx_group_lines.specs.Views.{view_with}
 
 -- ---- what is shown of a write that was cut
 
@@ -41,6 +60,36 @@ pub record ComesDown (d e : Doubted) (s : ℕ) : Type 0 where
   pub note : note_at (e.world.nodes s) ≡ note_at (d.world.nodes s)
 
 module _ {R : Type 0} {g : Ghosts R} where
+  -- ---- what is read of a write that was cut
+
+  -- What the tests see of a site that came up with this configuration, and the reply, by what was read.
+  abbrev pub StandsSo : (s : ℕ) → SiteFacts → Config → (after : DiskSet R g) → Result (Option KeptWrite) Stop → (old new : Yard R g) → Result Said OutOfMemory → Type 0
+  StandsSo s f c after (Ok kept) old new result =
+      (new.facts.items ≡ slice_set old.facts.items s (group_up_facts (map plain_fact c.volumes) f)) × (new.assemblies ≡ old.assemblies)
+      × ((k : Config) → AtSite (λ x. site_config x ≡ Some k) after
+      → result ≡ Ok (Resumed (view_with (group_up_facts (map plain_fact c.volumes) f) (Some k)) (kept_shown (map plain_fact c.volumes) kept)))
+  StandsSo s f c after (Err stop) old new result =
+      (new.facts.items ≡ slice_set old.facts.items s (down_facts (group_up_facts (map plain_fact c.volumes) f))) × LetGo s old.assemblies.items new.assemblies.items
+      × (result ≡ reply_to stop)
+
+  -- a look at the write that was cut, at a site that came up
+  pub record StoodUp (s : ℕ) (cut : Option CutWrite) (old new : Yard R g) (result : Result Said OutOfMemory) : Type 0 where
+    pub before : DiskSet R g
+    pub after : DiskSet R g
+    pub answer : Result (Option KeptWrite) Stop
+    pub there : slice_get old.disk_sets.items s ≡ Some before
+    pub disk_sets : new.disk_sets.items ≡ slice_set old.disk_sets.items s after
+    pub looks : (n : Node) (note : GroupNode) → AtSite (UpNoted n note) before → LooksAt n note cut before after answer
+    pub failing : SameFailing before after
+    pub later : Later before after
+    pub racks : new.racks ≡ old.racks
+    pub flight : new.flight ≡ old.flight
+    pub feeders : new.feeders ≡ old.feeders
+    pub dir : new.dir ≡ old.dir
+    pub so : (f : SiteFacts) (c : Config) → slice_get old.facts.items s ≡ Some f → AtSite (λ x. site_config x ≡ Some c) before → StandsSo s f c after answer old new result
+
+  -- ---- the recovery
+
   -- A recovery of a site that is down in world e, whether it crashed in the same line or not, and whatever its name: it was answered so.
   pub record RisesFor (e : Doubted) (s : ℕ) (said : Said) (old new : Yard R g) : Type 0 where
     pub next : Doubted

@@ -33,7 +33,7 @@ pub fn detach_line<R: Rack>(
 {
     let site = yard.site_of(name);
     let place = yard.volume_of(site, volume);
-    match yard.disk_sets[site].detach_plex(place as u32, plex as u32) {
+    match yard.disk_sets[site].detach_plex(place as u32, plex.min(0xffff_ffff) as u32) {
         Ok(()) => Ok(Said::Done),
         Err(stop) => group_stopped(yard, alloc, site, stop),
     }
@@ -57,7 +57,7 @@ pub fn attach_line<R: Rack>(
 {
     let site = yard.site_of(name);
     let place = yard.volume_of(site, volume);
-    match yard.disk_sets[site].attach_plex(place as u32, plex as u32) {
+    match yard.disk_sets[site].attach_plex(place as u32, plex.min(0xffff_ffff) as u32) {
         Ok(copied) => Ok(Said::DoneAt(copied)),
         Err(stop) => group_stopped(yard, alloc, site, stop),
     }

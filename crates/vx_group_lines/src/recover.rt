@@ -1,16 +1,14 @@
 // The line that recovers a site whose disks are a group.
-ghost use Rattle.std.specs.Prelude.{◌≡◌, ◌<◌, [], IfOk, Some, length, map, slice_get, slice_set, true};
-ghost use Rattle.vx_config.specs.declared.config.Config.{Config as ConfigValue};
+ghost use Rattle.std.specs.Prelude.{◌≡◌, ◌<◌, [], IfOk, Some, length, slice_get, slice_set, true};
 ghost use Rattle.vx_diskset.specs.Asked.{SameFailing};
 ghost use Rattle.vx_events.specs.GroupLines.{is_over_group};
-ghost use Rattle.vx_events.specs.GroupViews.{plain_fact};
-ghost use Rattle.vx_events.specs.declared.said.Said.TheVariants.{Resumed};
-ghost use Rattle.vx_group_lines.specs.Noting.{HasConfig, KeepsRest};
-ghost use Rattle.vx_group_lines.specs.Rises.{RisesIs, kept_shown};
-ghost use Rattle.vx_group_lines.specs.Views.{view_with};
+ghost use Rattle.vx_group_lines.specs.Noting.{KeepsRest};
+ghost use Rattle.vx_group_lines.specs.Rises.{RisesIs, StoodUp, kept_shown};
 ghost use Rattle.vx_model.specs.declared.site.SiteState.TheVariants.{Down as DownState};
 ghost use Rattle.vx_order.specs.declared.facts.SiteFacts.{SiteFacts as Facts};
-ghost use Rattle.vx_yard.specs.GroupFacts.{group_up_facts};
+ghost use Rattle.vx_yard.specs.Changes.{down_facts};
+ghost use Rattle.vx_yard.specs.Loads.{LetGo};
+ghost use Rattle.vx_yard.specs.Replies.{reply_to};
 ghost use Rattle.vx_history.specs.Doubts.{Doubted};
 ghost use Rattle.vx_script.specs.declared.line.ScriptLine.TheVariants.{Recover};
 ghost use Rattle.vx_events.specs.StepsOver.{is_for_group};
@@ -24,14 +22,16 @@ use crate::views::{ViewRoom, view_at};
 use std::alloc::Global;
 use std::mem;
 use vx_disk::Rack;
-use vx_diskset::{DiskSet, KeptWrite};
+use vx_diskset::{CutWrite, DiskSet, KeptWrite};
 use vx_events::Said;
 use vx_model::limits::BLOCK;
-use vx_model::{Name, OutOfMemory, SiteState};
+use vx_model::{Name, OutOfMemory, SiteState, Stop};
 use vx_order::{SiteFacts, VolumeRoom};
 use vx_report::Kept;
-use vx_yard::Yard;
 use vx_yard::falling::go_down;
+use vx_yard::load::let_go;
+use vx_yard::refusing::stopped;
+use vx_yard::{Yard, facts};
 
 // What a recovery needs of memory beside its import.
 #[derive(Drop)]
@@ -75,29 +75,50 @@ fn shown_if(facts: &SiteFacts, kept: Option<KeptWrite>) -> Option<Kept>
     }
 }
 
-// A group that came up says how it stands, and what is kept.
+// A group that came up goes down again, as what is kept of its write cannot be read.
+fn fall_again<R: Rack>(
+    yard: &mut Yard<R>,
+    alloc: Global,
+    site: usize,
+    stop: Stop,
+) -> Result<Said, OutOfMemory>
+    requires facts { site < length yard.old.facts.items }
+    ensures facts { (f : Facts) → slice_get yard.old.facts.items site ≡ Some f → yard.new.facts.items ≡ slice_set yard.old.facts.items site (down_facts f) }
+    ensures assemblies { LetGo site yard.old.assemblies.items yard.new.assemblies.items }
+    ensures same { KeepsRest yard.old yard.new }
+    ensures said { result ≡ reply_to stop }
+{
+    let_go(&mut yard.assemblies, site);
+    facts::go_down(alloc, &mut yard.facts[site]);
+    stopped(stop)
+}
+
+// A group that came up says how it stands, and what is kept of the write that was cut. Where a disk fails in that, the site is down again.
 fn stand_up<R: Rack>(
     yard: &mut Yard<R>,
     alloc: Global,
     site: usize,
     room: RiseRoom,
-    kept: Option<KeptWrite>,
-) -> Said
+    cut: Option<CutWrite>,
+) -> Result<Said, OutOfMemory>
     requires facts { site < length yard.old.facts.items }
     requires disk_set { site < length yard.old.disk_sets.items }
     requires volumes { room.volumes ≡ [] }
     requires disks { room.views.disks ≡ [] }
     requires views { room.views.volumes ≡ [] }
-    ensures facts { (f : Facts) (c : ConfigValue) → slice_get yard.old.facts.items site ≡ Some f → HasConfig site c yard.old
-        → yard.new.facts.items ≡ slice_set yard.old.facts.items site (group_up_facts (map plain_fact c.volumes) f) }
-    ensures assemblies { yard.new.assemblies ≡ yard.old.assemblies }
-    ensures same { KeepsRest yard.old yard.new }
-    ensures said { (f : Facts) (c : ConfigValue) → slice_get yard.old.facts.items site ≡ Some f → HasConfig site c yard.old
-        → result ≡ Resumed (view_with (group_up_facts (map plain_fact c.volumes) f) (Some c)) (kept_shown (map plain_fact c.volumes) kept) }
+    ensures stood { StoodUp site cut yard.old yard.new result }
 {
     note_up(yard, site, room.volumes);
-    let kept = shown_if(&yard.facts[site], kept);
-    Said::Resumed(view_at(yard, alloc, site, room.views), kept)
+    let disk_set = mem::replace(&mut yard.disk_sets[site], DiskSet::Gone);
+    let (disk_set, looked) = disk_set.look_at_cut(cut);
+    yard.disk_sets[site] = disk_set;
+    match looked {
+        Ok(kept) => {
+            let kept = shown_if(&yard.facts[site], kept);
+            Ok(Said::Resumed(view_at(yard, alloc, site, room.views), kept))
+        }
+        Err(stop) => fall_again(yard, alloc, site, stop),
+    }
 }
 
 // Imports the group of a site that is down, and says how it stands.
@@ -118,10 +139,10 @@ fn rise<R: Rack>(
     ensures files { in_files yard.new ≡ in_files yard.old }
 {
     let disk_set = mem::replace(&mut yard.disk_sets[site], DiskSet::Gone);
-    let (disk_set, came) = disk_set.recover_group(alloc);
+    let (disk_set, came) = disk_set.raise_group(alloc);
     yard.disk_sets[site] = disk_set;
     match came {
-        Ok(kept) => Ok(stand_up(yard, alloc, site, room, kept)),
+        Ok(cut) => stand_up(yard, alloc, site, room, cut),
         Err(stop) => group_stopped(yard, alloc, site, stop),
     }
 }

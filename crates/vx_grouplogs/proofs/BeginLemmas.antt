@@ -55,7 +55,6 @@ module _ (c : Config) (sound : is_sound c ≡ true) (v : ℕ) (some : 0 < blocks
   pub begin_on : (d : Dirty) → DrlLoaded c v d → MapOn d.map m' → VolumeOn c v (record { drl = Some d; fmr = None }) m'
   begin_on d loaded on = record {
     fits = record { drl = λ e is. let same : d ≡ e = cc in subst (λ (x : Dirty). DrlFits c v x) same (record { log = loaded.log; regions = loaded.regions }); fmr = λ f is. absurd (let clash : None ≡ Some f = is in cc) };
-    plain = refl;
     stands = record { drl = λ e is. let same : d ≡ e = cc in subst (λ (x : Dirty). MapOn x.map m') same on; fmr = λ f is. absurd (let clash : None ≡ Some f = is in cc) };
     memory = record { so = λ e is. record { one = λ b x y off one two. begin_alike.one b x y refl one two } };
     disk = λ trusted. alike_covers c v m' begin_alike;

@@ -1,4 +1,8 @@
 pub mod LogPlaces
+pub mod LogShape
+pub mod KnowActs
+pub mod FreshLemmas
+pub mod MapLemmas
 pub mod CoverLemmas
 pub mod GroupLemmas
 pub mod LoadedLemmas

@@ -22,7 +22,6 @@ use Rattle.vx_grouplogs.specs.On.{VolumeOn}
 pub on_gone : (c : Config) (v : ℕ) (m : Meaning) → (log_trusted c v DrlLog ≡ true → DiskCovers c v m) → VolumeOn c v (record { drl = None; fmr = None }) m
 on_gone c v m disk = record {
   fits = record { drl = λ d is. absurd (let clash : None ≡ Some d = is in cc); fmr = λ f is. absurd (let clash : None ≡ Some f = is in cc) };
-  plain = refl;
   stands = record { drl = λ d is. absurd (let clash : None ≡ Some d = is in cc); fmr = λ f is. absurd (let clash : None ≡ Some f = is in cc) };
   memory = record { so = λ d is. absurd (let clash : None ≡ Some d = is in cc) };
   disk = disk;
@@ -32,7 +31,6 @@ on_gone c v m disk = record {
 pub on_others : (c : Config) (v : ℕ) (m m' : Meaning) → KeepsOthers c v m m' → (w : ℕ) (l : Logs) → (w ≡ v → ⊥) → VolumeOn c w l m → VolumeOn c w l m'
 on_others c v m m' others w l apart on = record {
   fits = on.fits;
-  plain = on.plain;
   stands = others.stands w l apart on.fits on.stands;
   memory = others.memory w l apart on.memory;
   disk = λ trusted. others.covers w apart (on.disk trusted);
@@ -40,20 +38,9 @@ on_others c v m m' others w l apart on = record {
 
 -- ---- marks
 
-no_fmr : (those : ℕ → Bool) (first last : ℕ) (lost : Bool) (o n : Option Missed) (m m' : Meaning) → o ≡ None → FmrEnds those false first last lost o n m m' → n ≡ None
-no_fmr those first last lost None None m m' none ends = refl
-no_fmr those first last lost None (Some g) m m' none ends = absurd ends
-no_fmr those first last lost (Some f) n m m' none ends = absurd (let clash : Some f ≡ None = none in cc)
-
-pub marked_plain : (c : Config) (v first last : ℕ) (lost : Lost) (l l' : Logs) (m m' : Meaning) → l.fmr ≡ None → MarkedLogs c v first last lost l l' m m' → l'.fmr ≡ None
-marked_plain c v first last lost l l' m m' plain marked = no_fmr (stale c v) first last lost.fmr l.fmr l'.fmr m m' plain marked.fmr
-
 pub mark_down : (c : Config) (v first last : ℕ) (l l' : Logs) (m m' : Meaning) (no : No) → MarksLogs c v first last l l' m m' (Err no) → IsTrue m'.down
 mark_down c v first last l l' m m' refusal.Down down = down
 mark_down c v first last l l' m m' other none = absurd none
-
-pub still_plain : (c : Config) (v first last : ℕ) (o : Option Missed) → o ≡ None → StaleStill c v first last o
-still_plain c v first last o none = subst (λ (q : Option Missed). StaleStill c v first last q) (sym none) tt
 
 -- ---- marks that are taken off
 

@@ -7,91 +7,39 @@ use Rattle.vx_bitmap.specs.Maps.{Map, MapOn, map_block_count}
 use Rattle.vx_config.specs.Checks.{blocks_of as blocks_in, is_sound}
 use Rattle.vx_config.specs.declared.config.Config.{Config}
 use Rattle.vx_config.specs.declared.entry.LogEntry.{LogEntry}
-use Rattle.vx_config.specs.declared.entry.Subdisk.{Subdisk}
-use Rattle.vx_config.specs.declared.entry.VolumeLog.TheVariants.{Drl as DrlLog}
+use Rattle.vx_config.specs.declared.entry.VolumeLog.{VolumeLog}
+use Rattle.vx_config.specs.declared.entry.VolumeLog.TheVariants.{Drl as DrlLog, Fmr as FmrLog}
 use Rattle.vx_disk.specs.Shelf.{Meaning, Values}
 use Rattle.vx_drl.specs.Dirty.{Dirty, is_dirty}
-use Rattle.vx_fmr.specs.Missed.{Missed}
 use Rattle.vx_kept.specs.Groups.{OnSome}
-use Rattle.vx_kept.specs.LogRuns.{log_place, log_trusted, run_or}
+use Rattle.vx_kept.specs.LogRuns.{log_trusted}
 use Rattle.vx_kept.specs.PlexActs.{PlexActs}
 use Rattle.vx_kept.proofs.Narrower.{stand_apart}
 use Rattle.vx_kept.proofs.Steps.{inside_same}
 use Rattle.vx_layout.specs.Places.{place}
-use Rattle.vx_logs.specs.Held.{DrlFits, LogsFit, LogsStand}
 use Rattle.vx_logs.specs.Writes.{first_region, last_region}
 use Rattle.vx_logs.specs.declared.logs.Logs.{Logs}
 use Rattle.vx_maplog.specs.Logs.{LogLoaded, log_of}
-use Rattle.vx_maplog.specs.declared.reading.TheConstants.{MOST_MAP_BLOCKS}
-use Rattle.vx_model.specs.Sizes.{map_blocks, regions_of as regions_in}
 use Rattle.vx_volume.specs.Plexes.{DisksFit, InRun, Inside, active}
 use Rattle.vx_volume.specs.Volumes.{OnPlexes}
 use Rattle.vx_grouplogs.specs.Covering.{AlikeBut, DiskCovers, MemoryCovers, OnLogs}
 use Rattle.vx_grouplogs.specs.Marking.{HoldRegions}
 use Rattle.vx_grouplogs.specs.On.{MayTouch, SparesVolume, VolumeOn}
 use Rattle.vx_grouplogs.proofs.CoverLemmas.{low_of, region_inside, region_low, some_of}
+use Rattle.vx_grouplogs.proofs.LogShape.{fits_same, run_back}
 use Rattle.vx_grouplogs.proofs.LogPlaces.{entry_blocks, log_public, logs_above, logs_beside, map_on}
-
--- ---- an entry with the same run
-
-pub record SameRun (o : Option LogEntry) (e : LogEntry) : Type 0 where
-  pub entry : LogEntry
-  pub is : o ≡ Some entry
-  pub disk : entry.disk ≡ e.disk
-  pub start : entry.start ≡ e.start
-  pub blocks : entry.blocks ≡ e.blocks
-
-one_run : (s t : Subdisk) → Some s ≡ Some t → s ≡ t
-one_run s t is = cc
-
-same_run : (o p : Option LogEntry) (e : LogEntry) → run_or o ≡ run_or p → p ≡ Some e → SameRun o e
-same_run o p e same at = by o refl (same ∙ ap run_or at)
-  where
-    by : (q : Option LogEntry) → o ≡ q → run_or q ≡ run_or (Some e) → SameRun o e
-    by None is none = absurd cc
-    by (Some f) is run =
-        let one = one_run (record { disk = f.disk; start = f.start; blocks = f.blocks }) (record { disk = e.disk; start = e.start; blocks = e.blocks }) run in
-        record { entry = f; is = is; disk = ap (λ (s : Subdisk). s.disk) one; start = ap (λ (s : Subdisk). s.start) one; blocks = ap (λ (s : Subdisk). s.blocks) one }
-
-pub run_in : (c d : Config) (v : ℕ) → log_place d v DrlLog ≡ log_place c v DrlLog → (e : LogEntry) → log_of c v DrlLog ≡ Some e → SameRun (log_of d v DrlLog) e
-unfolding log_place
-run_in c d v same e is = same_run (log_of d v DrlLog) (log_of c v DrlLog) e same is
-
-pub run_back : (c d : Config) (v : ℕ) → log_place d v DrlLog ≡ log_place c v DrlLog → (e : LogEntry) → log_of d v DrlLog ≡ Some e → SameRun (log_of c v DrlLog) e
-unfolding log_place
-run_back c d v same e is = same_run (log_of c v DrlLog) (log_of d v DrlLog) e (sym same) is
 
 -- ---- calls that spare the volume
 
 module _ (W : Values) (c d : Config) (sound : is_sound c ≡ true) (v : ℕ) (l : Logs) (m m' : Meaning) (fit : DisksFit c.disks m) (acts : PlexActs W c d m m') (spares : SparesVolume W c v l) (on : VolumeOn c v l m) where
-  fits_on : (e : Dirty) → l.drl ≡ Some e → DrlFits d v e
-  fits_on e is =
-      let it = on.fits.drl e is in
-      let run = run_in c d v (acts.shape.logs v DrlLog) it.log.entry it.log.is in
-      let blocks = acts.shape.blocks v in
-      record {
-        log = record {
-          entry = run.entry;
-          is = run.is;
-          run = record {
-            there = it.log.run.there ∙ sym run.disk;
-            begins = it.log.run.begins ∙ sym run.start;
-            long = it.log.run.long ∙ ap (λ (n : ℕ). 512 * (1 * map_blocks n)) (sym blocks);
-            few = subst (λ (n : ℕ). 1 * map_blocks n ≤ MOST_MAP_BLOCKS) (sym blocks) it.log.run.few;
-          };
-        };
-        regions = it.regions ∙ ap regions_in (sym blocks);
-      }
-
-  map_stays : (e : Dirty) → l.drl ≡ Some e → MapOn e.map m → MapOn e.map m'
-  map_stays e is stood = record {
+  map_stays : (log : VolumeLog) (map : Map) → LogLoaded c v log map → MapOn map m → MapOn map m'
+  map_stays log map it stood = record {
     each = λ k lt. record {
       only = λ x left.
-          let log = (on.fits.drl e is).log in
-          let there = map_on c sound v (some_of c v DrlLog e.map k log lt) m fit DrlLog e.map log e.map.unit (e.map.first + k) x (record { there = refl; first = omega arith; last = omega (arith, lt) }) in
-          elim (acts.acts.leaves e.map.unit (e.map.first + k) x (logs_above c sound v e.map.unit (e.map.first + k) x there) left) [
+          let there = map_on c sound v (some_of c v log map k it lt) m fit log map it map.unit (map.first + k) x (record { there = refl; first = omega arith; last = omega (arith, lt) }) in
+          elim (acts.acts.leaves map.unit (map.first + k) x (logs_above c sound v map.unit (map.first + k) x there) left) [
             | inl was ↦ (stood.each k lt).only x was
-            | inr put ↦ absurd (spares.logs e.map.unit (e.map.first + k) x put there)
+            | inr put ↦ absurd (spares.logs map.unit (map.first + k) x put there)
           ];
     };
   }
@@ -161,7 +109,7 @@ module _ (W : Values) (c d : Config) (sound : is_sound c ≡ true) (v : ℕ) (l 
   disk_on told = record {
     so = λ e b p q x y z is in_d on_p on_q left off at_p at_q.
         let trusted = acts.shape.trusted v DrlLog told in
-        let run = run_back c d v (acts.shape.logs v DrlLog) e is in
+        let run = run_back c d v DrlLog (acts.shape.logs v DrlLog) e is in
         let inside = inside_same d c acts.shape v b in_d in
         let left' : m'.leaves run.entry.disk (run.entry.start + (b / 64) / 4096) z = subst (λ (n : ℕ). m'.leaves run.entry.disk (n + (b / 64) / 4096) z) (sym run.start) (subst (λ (u : ℕ). m'.leaves u (e.start + (b / 64) / 4096) z) (sym run.disk) left) in
         let was = log_left trusted run.entry run.is b inside z left' in
@@ -172,9 +120,8 @@ module _ (W : Values) (c d : Config) (sound : is_sound c ≡ true) (v : ℕ) (l 
 
   pub on_acts : VolumeOn d v l m'
   on_acts = record {
-    fits = record { drl = fits_on; fmr = λ f is. absurd (let clash : None ≡ Some f = sym on.plain ∙ is in cc) };
-    plain = on.plain;
-    stands = record { drl = λ e is. map_stays e is (on.stands.drl e is); fmr = λ f is. absurd (let clash : None ≡ Some f = sym on.plain ∙ is in cc) };
+    fits = fits_same c d v (acts.shape.frames v) (acts.shape.blocks v) (acts.shape.logs v) l on.fits;
+    stands = record { drl = λ e is. map_stays DrlLog e.map (on.fits.drl e is).log (on.stands.drl e is); fmr = λ f is. map_stays FmrLog f.map (on.fits.fmr f is).log (on.stands.fmr f is) };
     memory = memory_on;
     disk = disk_on;
   }

@@ -5,3 +5,4 @@ pub mod Clearing
 pub mod Loading
 pub mod On
 pub mod Zeroing
+pub mod Mapping

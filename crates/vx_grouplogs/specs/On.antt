@@ -21,7 +21,6 @@ pub record ReadsOne (c : Config) (v : ℕ) (m : Meaning) : Type 0 where
 -- has the one on the disk, whatever a crash leaves, where it is not held as lost. It may be in memory no more, and not yet be held as lost.
 pub record VolumeOn (c : Config) (v : ℕ) (l : Logs) (m : Meaning) : Type 0 where
   pub fits : LogsFit c v l
-  pub plain : l.fmr ≡ None
   pub stands : LogsStand l m
   pub memory : MemoryCovers c v l m
   pub disk : log_trusted c v Drl ≡ true → DiskCovers c v m

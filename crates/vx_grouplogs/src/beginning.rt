@@ -1,5 +1,5 @@
 // A dirty region log that begins without marks.
-ghost use Rattle.std.specs.Prelude.{◌≡◌, ◌<◌, ℕ, IsTrue};
+ghost use Rattle.std.specs.Prelude.{◌≡◌, ◌<◌, ℕ, IsTrue, None};
 ghost use Rattle.vx_config.specs.Checks.{blocks_of as blocks_of_is, is_sound};
 ghost use Rattle.vx_disk.specs.Shelf.{Goes};
 ghost use Rattle.vx_grouplogs.specs.Covering.{AllAlike, OnLogs};
@@ -34,6 +34,7 @@ pub fn begin_run<S: Shelf>(alloc: Global, logs: &mut Logs, config: &Config, vol:
     ensures on { VolumeOn config.now vol logs.new (S.meaning shelf.new) }
     ensures alike { AllAlike config.now vol (S.meaning shelf.new) }
     ensures others { (w : ℕ) (l : LogsValue) → (w ≡ vol → ⊥) → VolumeOn config.now w l (S.meaning shelf.old) → VolumeOn config.now w l (S.meaning shelf.new) }
+    ensures plain { logs.new.fmr ≡ None }
     ensures off { NoMarks (regions_in (blocks_of_is config.now.volumes vol)) logs.new }
 {
     logs.drl = None;

@@ -7,6 +7,7 @@ mod beginning;
 mod clearing;
 mod guarding;
 mod loading;
+mod mapping;
 mod running;
 #[cfg(test)]
 mod tests;
@@ -16,4 +17,5 @@ pub use beginning::begin_run;
 pub use clearing::clear_marks;
 pub use guarding::{clear_run, guard_run};
 pub use loading::{Loaded, load_marks};
+pub use mapping::begin_maps;
 pub use running::mark_run;

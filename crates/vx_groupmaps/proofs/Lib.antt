@@ -7,3 +7,4 @@ pub mod TakenLemmas
 pub mod BetweenLemmas
 pub mod FlushLemmas
 pub mod FillLemmas
+pub mod KnowLemmas

@@ -5,3 +5,4 @@ pub mod Loading
 pub mod Between
 pub mod Flushing
 pub mod Filling
+pub mod Knowing

@@ -7,7 +7,7 @@ use Rattle.std.specs.Prelude.{IfOk, Result, Ok, Err, not}
 use Rattle.vx_disk.specs.Causes.{Cause}
 use Rattle.vx_disk.specs.declared.shelf.ShelfError.{ShelfError}
 use Rattle.vx_disk.specs.declared.shelf.ShelfError.TheVariants.{Fault, Down}
-use Rattle.vx_disk.specs.Shelf.{Fits, Flushed, Goes, Lawful, Meaning, Nothing, Values}
+use Rattle.vx_disk.specs.Shelf.{Fits, Flushed, Goes, Lawful, Meaning, Nothing, Values, Wrote}
 use Rattle.vx_disk.proofs.Runs.{then_nothing}
 use Rattle.vx_kept.specs.Commits.{Member}
 use Rattle.vx_kept.specs.Groups.{OnSome, OutsideVolumes}
@@ -19,7 +19,12 @@ use Rattle.vx_kept.proofs.StateLemmas.{same_shape, stated_shape, then_shape}
 use Rattle.vx_kept.proofs.Steps.{inside_same}
 use Rattle.vx_logs.specs.Writes.{first_region, last_region}
 use Rattle.vx_logs.specs.declared.logs.Logs.{Logs}
+use Rattle.vx_layout.specs.Places.{HasBlock, place}
+use Rattle.vx_layout.proofs.Placing.{sound_apart}
 use Rattle.vx_volume.specs.Plexes.{DisksFit, InRun, Inside}
+use Rattle.vx_volume.proofs.PlaceLemmas.{has_of}
+use Rattle.vx_groupmaps.specs.Knowing.{MapsKnowBy}
+use Rattle.vx_groupmaps.specs.Missing.{none_spared}
 use Rattle.vx_volume.specs.Volumes.{OnPlexes}
 use Rattle.vx_group.specs.Calls.{GroupNarrows}
 use Rattle.vx_group.specs.Holding.{GroupStands, active_at, config_by, wide}
@@ -34,22 +39,34 @@ use Rattle.vx_grouplogs.specs.Keeps.{KeepsGroup}
 use Rattle.vx_grouplogs.specs.Marking.{HoldRegions, MarksFewer, MarksOnly, NoMarks}
 use Rattle.vx_model.specs.Sizes.{regions_of as regions_in}
 use Rattle.vx_grouplogs.specs.On.{ReadsOne, SparesVolume, VolumeOn}
+use Rattle.vx_grouplogs.proofs.KnowActs.{know_acts, know_idle, know_logs}
 use Rattle.vx_grouplogs.proofs.LogPlaces.{logs_above}
 use Rattle.vx_grouplogs.proofs.OnLemmas.{on_acts, spares_marked, spares_none, spares_other}
-use Rattle.vx_logged.specs.Logged.{EachOn, LogKept, LogOn, MayWrite, OthersOn}
+use Rattle.vx_logged.specs.Logged.{EachOn, Known, KnownBy, LogKept, LogOn, MayWrite, Narrowed, OthersOn}
 
 -- ---- calls that write no block of a plex or a log
 
 pub each_same : (c : GroupCore) (m : Meaning) → EachOn c c m m
-each_same c m = record { each = λ w l on. on }
+each_same c m = record { each = λ w l on. on; maps = λ w spare l know. know }
 
 pub each_then : (c d e : GroupCore) (m m1 m2 : Meaning) → EachOn c d m m1 → EachOn d e m1 m2 → EachOn c e m m2
-each_then c d e m m1 m2 one two = record { each = λ w l on. two.each w l (one.each w l on) }
+each_then c d e m m1 m2 one two = record { each = λ w l on. two.each w l (one.each w l on); maps = λ w spare l know. two.maps w spare l (one.maps w spare l know) }
 
 pub each_on : (c d : GroupCore) (m m' : Meaning) → GroupStands c m → PlexActs Nothing (wide c).config (wide d).config m m' → EachOn c d m m'
 each_on c d m m' stands acts = record {
   each = λ w l on. on_acts Nothing (wide c).config (wide d).config (sound_of (wide c) m stands.stands) w l m m' (fit_of (wide c) m stands.stands) acts (spares_none Nothing (wide c).config w l (λ u b x none. none)) on;
+  maps = λ w spare l know. know_idle (wide c).config (wide d).config (sound_of (wide c) m stands.stands) w spare l m m' acts know;
 }
+
+-- calls in a row that detach plexes and lose logs alone
+pub narrowed_then : (c d e : GroupCore) → Narrowed c d → Narrowed d e → Narrowed c e
+narrowed_then c d e one two = record { less = λ w log is. one.less w log (two.less w log is); on = λ w p is. one.on w p (two.on w p is) }
+
+pub narrowed_acts : (W : Values) (c d : GroupCore) (m m' : Meaning) → PlexActs W (wide c).config (wide d).config m m' → Narrowed c d
+narrowed_acts W c d m m' acts = record { less = acts.shape.trusted; on = acts.on }
+
+pub narrowed_same : (c : GroupCore) → Narrowed c c
+narrowed_same c = record { less = λ w log is. is; on = λ w p is. is }
 
 -- the configuration in memory has the places of that with the plex that is held back
 pub inner_wide : (c : GroupCore) (m : Meaning) → GroupStands c m → SameShape c.inner.config (wide c).config
@@ -108,14 +125,23 @@ module _ (core : GroupCore) (v : ℕ) (m m' : Meaning) (none : core.held ≡ Non
         held = stands.held;
       }
 
-  pub inner_others : ((w : ℕ) (l : Logs) → (w ≡ v → ⊥) → VolumeOn core.inner.config w l m → VolumeOn core.inner.config w l m') → OthersOn v core core m m'
-  inner_others others = record { each = λ w l apart on. to_wide w l (others w l apart (to_inner w l on)) }
+  pub know_inner : (w : ℕ) (spare : ℕ → ℕ → Bool) (l : Logs) → KnownBy core w spare l m → MapsKnowBy core.inner.config w spare l m
+  know_inner w spare l know = subst (λ (c : Config). MapsKnowBy c w spare l m) config_is know
+
+  pub know_wide : (w : ℕ) (spare : ℕ → ℕ → Bool) (l : Logs) → MapsKnowBy core.inner.config w spare l m' → KnownBy core w spare l m'
+  know_wide w spare l know = subst (λ (c : Config). MapsKnowBy c w spare l m') (sym config_is) know
+
+  pub inner_others : Goes (OnLogs core.inner.config v) m m' → ((w : ℕ) (l : Logs) → (w ≡ v → ⊥) → VolumeOn core.inner.config w l m → VolumeOn core.inner.config w l m') → OthersOn v core core m m'
+  inner_others goes others = record {
+    each = λ w l apart on. to_wide w l (others w l apart (to_inner w l on));
+    maps = λ w l apart know. know_wide w none_spared l (know_logs core.inner.config inner_sound v m m' goes w none_spared l (know_inner w none_spared l know));
+  }
 
 pub others_each : (v : ℕ) (c d : GroupCore) (m m' : Meaning) → EachOn c d m m' → OthersOn v c d m m'
-others_each v c d m m' on = record { each = λ w l apart was. on.each w l was }
+others_each v c d m m' on = record { each = λ w l apart was. on.each w l was; maps = λ w l apart know. on.maps w none_spared l know }
 
 pub others_then : (v : ℕ) (c d e : GroupCore) (m m1 m2 : Meaning) → OthersOn v c d m m1 → OthersOn v d e m1 m2 → OthersOn v c e m m2
-others_then v c d e m m1 m2 one two = record { each = λ w l apart on. two.each w l apart (one.each w l apart on) }
+others_then v c d e m m1 m2 one two = record { each = λ w l apart on. two.each w l apart (one.each w l apart on); maps = λ w l apart know. two.maps w l apart (one.maps w l apart know) }
 
 -- ---- a write
 
@@ -124,10 +150,17 @@ module _ (c d : GroupCore) (v block : ℕ) (bytes : List ℕ) (m m' : Meaning) (
   within : (k : ℕ) → InRun block (length bytes / 512) k → Inside (wide c).config v k
   within k run = record { volume = fits.exists; within = omega (arith, run.last, fits.within) }
 
+  -- a block of a plex that gets a value is one of the run
+  pub put_at : (w p b : ℕ) (x : List ℕ) → HasBlock (wide c).config w p b → OnPlexes (wide c).config v block (length bytes / 512) bytes (place (wide c).config w p b).0 (place (wide c).config w p b).1 x → (w ≡ v) × InRun block (length bytes / 512) b
+  put_at w p b x has put =
+      let one = (sound_apart (wide c).config (sound_of (wide c) m stands.stands)).one w p b v put.plex put.put.number has (has_of (wide c).config v put.plex put.put.number put.is_on (within put.put.number put.put.run)) (sym put.put.at) in
+      (one.0, subst (λ (k : ℕ). InRun block (length bytes / 512) k) (sym one.2) put.put.run)
+
   pub write_others : OthersOn v c d m m'
   write_others = record {
     each = λ w l apart on. on_acts (OnPlexes (wide c).config v block (length bytes / 512) bytes) (wide c).config (wide d).config (sound_of (wide c) m stands.stands) w l m m' (fit_of (wide c) m stands.stands) acts
         (spares_other (wide c).config (sound_of (wide c) m stands.stands) v block (length bytes / 512) bytes within w l apart) on;
+    maps = λ w l apart know. know_acts (OnPlexes (wide c).config v block (length bytes / 512) bytes) (wide c).config (wide d).config (sound_of (wide c) m stands.stands) w none_spared l m m' acts (λ p b x has put. apart (put_at w p b x has put).0) know;
   }
 
   pub write_here : (l : Logs) → MayWrite c v (first_region block) (last_region block (length bytes / 512)) l → LogOn c v l m → LogOn d v l m'
@@ -161,6 +194,31 @@ flushed_alike c d v m m' acts flushed reads = record { one = λ b x y off one tw
 
 pub flushed_then : (v : ℕ) (a b c : Meaning) → Flushed v a b → Goes Nothing b c → Flushed v a c
 flushed_then v a b c flushed goes = record { each = λ k x left. flushed.each k x (⊎_elim (λ was. was) (λ none. absurd none) (goes.leaves v k x left)) }
+
+-- what was written is read still
+pub wrote_nothing : (unit block : ℕ) (bytes : List ℕ) (a b c : Meaning) → Wrote unit block bytes a b → Goes Nothing b c → (IsTrue c.down → ⊥) → Wrote unit block bytes a c
+wrote_nothing unit block bytes a b c wrote goes up = record {
+  each = λ u k x is. elim (goes.reads u k x is) [
+    | inl (inl was) ↦ wrote.each u k x was
+    | inl (inr none) ↦ absurd none
+    | inr down ↦ absurd (up down)
+  ];
+}
+
+-- a log stands where that of missed regions is in memory no more
+pub drop_map : (core : GroupCore) (v : ℕ) (l : Logs) (m : Meaning) → LogOn core v l m → LogOn core v (record { drl = l.drl; fmr = None }) m
+drop_map core v l m on = record {
+  fits = record { drl = on.fits.drl; fmr = λ f is. absurd (let clash : None ≡ Some f = is in cc) };
+  stands = record { drl = on.stands.drl; fmr = λ f is. absurd (let clash : None ≡ Some f = is in cc) };
+  memory = record { so = on.memory.so };
+  disk = on.disk;
+}
+
+-- marks in a row
+pub only_then : (n n' first last : ℕ) (l k j : Logs) → n' ≡ n → MarksOnly n first last l k → MarksOnly n' first last k j → MarksOnly n first last l j
+only_then n n' first last l k j same one two = record {
+  each = λ r lt is. elim (two.each r (omega (arith, lt, same)) is) [ inl was ↦ one.each r lt was | inr now ↦ inr now ];
+}
 
 -- a refusal, whatever an Ok would answer
 pub cause_to : (T U : Type 0) (v : ℕ) (error : ShelfError) (a c : Meaning) → Cause {T = T} a c v (Err error) → Cause {T = U} a c v (Err error)

@@ -23,7 +23,7 @@ use Rattle.vx_group.specs.declared.group_core.GroupCore.{GroupCore}
 use Rattle.vx_group.proofs.HoldLemmas.{wide_shape}
 use Rattle.vx_grouplogs.specs.On.{VolumeOn}
 use Rattle.vx_grouplogs.proofs.GroupLemmas.{image_covers}
-use Rattle.vx_grouplogs.proofs.OnLemmas.{run_back}
+use Rattle.vx_grouplogs.proofs.LogShape.{run_back}
 use Rattle.vx_logged.specs.Logged.{LogOn}
 use Rattle.vx_logged.specs.Tells.{ImageTells, LogTells}
 
@@ -37,7 +37,7 @@ module _ (c x : Config) (v : ℕ) (l : Logs) (m : Meaning) (i : Image) (lt : v <
   image_tells = record {
     so = λ e p q b in_use inside live_p live_q off.
         let trusted = kin.shape.trusted v Drl lt (used_trusted x v e in_use) in
-        let run = run_back c x v (kin.shape.logs v Drl lt) e in_use.is in
+        let run = run_back c x v Drl (kin.shape.logs v Drl lt) e in_use.is in
         let there : Inside c v b = record { volume = lt; within = omega (arith, inside.within, kin.shape.blocks v lt) } in
         let off' : logged_in run.entry i (b / 64) ≡ false =
         ap (λ (u : ℕ). is_marked (i u (run.entry.start + (b / 64) / 4096)) ((b / 64) % 4096)) run.disk ∙ ap (λ (n : ℕ). is_marked (i e.disk (n + (b / 64) / 4096)) ((b / 64) % 4096)) run.start ∙ off in

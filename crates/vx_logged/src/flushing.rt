@@ -7,7 +7,8 @@ ghost use Rattle.vx_group.specs.Stands.{inner_meaning};
 ghost use Rattle.vx_config.specs.Checks.{blocks_of as blocks_of_is};
 ghost use Rattle.vx_grouplogs.specs.Marking.{MarksFewer};
 ghost use Rattle.vx_grouplogs.specs.On.{ReadsOne};
-ghost use Rattle.vx_logged.specs.Logged.{LogOn, OthersOn};
+ghost use Rattle.vx_groupmaps.specs.Knowing.{MapsStay};
+ghost use Rattle.vx_logged.specs.Logged.{Known, LogOn, OthersOn};
 ghost use Rattle.vx_model.specs.Sizes.{regions_of as regions_in};
 
 use crate::clearing::clear_group;
@@ -35,6 +36,8 @@ pub fn flush_cleared<S: Shelf>(
     ensures log { LogOn core.old vol logs.old (S.meaning shelf.old) → LogOn core.new vol logs.new (S.meaning shelf.new) }
     ensures others { OthersOn vol core.old core.new (S.meaning shelf.old) (S.meaning shelf.new) }
     ensures fewer { MarksFewer (regions_in (blocks_of_is (wide core.old).config.volumes vol)) logs.old logs.new }
+    ensures maps { Known core.old vol logs.old (S.meaning shelf.old) → Known core.new vol logs.new (S.meaning shelf.new) }
+    ensures stay { MapsStay logs.old logs.new }
     ensures trust { OnOk result (core.old.inner.committed ≡ true → core.new.inner.committed ≡ true) }
     ensures agreed { IfErr result (λ e. core.old.inner.committed ≡ true → core.new.inner.agreed ≡ true) }
     ensures cause { Cause (inner_meaning (wide core.old) (S.meaning shelf.old)) (inner_meaning (wide core.new) (S.meaning shelf.new)) vol result }

@@ -1,13 +1,12 @@
 // A log of a group that is in memory no more, and is committed as lost.
-ghost use Rattle.std.specs.Prelude.{◌≡◌, ◌+◌, ◌<◌, ◌≤◌, false, true, IfErr, IfOk, None, OnOk};
+ghost use Rattle.std.specs.Prelude.{◌≡◌, ◌+◌, ◌<◌, ◌≤◌, false, true, IfErr, IfOk, OnOk};
 ghost use Rattle.vx_config.specs.Table.{greatest};
-ghost use Rattle.vx_config.specs.declared.entry.VolumeLog.TheVariants.{Drl as DrlLog};
 ghost use Rattle.vx_disk.specs.Causes.{Cause};
 ghost use Rattle.vx_disk.specs.Shelf.{Goes, Nothing};
 ghost use Rattle.vx_group.specs.Holding.{GroupStands, wide};
 ghost use Rattle.vx_group.specs.Stands.{inner_meaning};
 ghost use Rattle.vx_kept.specs.LogRuns.{log_trusted};
-ghost use Rattle.vx_logged.specs.Logged.{EachOn, LogKept};
+ghost use Rattle.vx_logged.specs.Logged.{EachOn, LogKept, MapKept, Narrowed};
 
 use vx_config::{Config, VolumeLog};
 use vx_disk::{Shelf, ShelfError};
@@ -15,32 +14,32 @@ use vx_group::{GroupCore, lose_group};
 use vx_logs::Logs;
 use vx_maplog::log_of;
 
-// Whether a volume has a dirty region log that is not held as lost.
+// Whether a volume has a log that is not held as lost.
 #[tactic(auto, unfolding(vx_kept::specs::LogRuns::log_trusted))]
-fn is_trusted(config: &Config, vol: u32) -> bool
-    ensures trusted { result ≡ log_trusted config.now vol DrlLog }
+fn is_trusted(config: &Config, vol: u32, log: VolumeLog) -> bool
+    ensures trusted { result ≡ log_trusted config.now vol log }
 {
-    match log_of(config, vol, VolumeLog::Drl) {
+    match log_of(config, vol, log) {
         Some(entry) => !entry.lost,
         None => false,
     }
 }
 
-/// Commits that the log of a volume is lost, where it is in memory no more and not held as lost, and answers whether the log may be gone by
-/// further: not where a commit is wanted and no serial is left. All volumes read as before, and each log stands.
-pub fn keep_log<S: Shelf>(
+// Commits that a log of a volume is lost, where it is in memory no more and not held as lost, and answers whether the log may be gone by further.
+fn keep_one<S: Shelf>(
     shelf: &mut S,
     core: &mut GroupCore,
-    logs: &Logs,
+    has: bool,
     vol: u32,
+    log: VolumeLog,
 ) -> Result<bool, ShelfError>
     requires stands { GroupStands core.old (S.meaning shelf.old) }
     requires there { vol < (inner_meaning (wide core.old) (S.meaning shelf.old)).units }
-    requires none { core.old.held ≡ None }
     ensures stands { GroupStands core.new (S.meaning shelf.new) }
     ensures goes { Goes Nothing (inner_meaning (wide core.old) (S.meaning shelf.old)) (inner_meaning (wide core.new) (S.meaning shelf.new)) }
     ensures logs { EachOn core.old core.new (S.meaning shelf.old) (S.meaning shelf.new) }
-    ensures kept { IfOk result (λ done. done ≡ true → LogKept core.new vol logs.now) }
+    ensures narrow { Narrowed core.old core.new }
+    ensures kept { IfOk result (λ done. done ≡ true → log_trusted (wide core.new).config vol log ≡ true → has ≡ true) }
     ensures full { IfOk result (λ done. done ≡ false → greatest ≤ core.old.inner.config.serial + 9) }
     ensures trust { OnOk result (core.old.inner.committed ≡ true → core.new.inner.committed ≡ true) }
     ensures agreed { IfErr result (λ e. core.old.inner.committed ≡ true → core.new.inner.agreed ≡ true) }
@@ -49,11 +48,87 @@ pub fn keep_log<S: Shelf>(
     if shelf.is_down() {
         return Err(ShelfError::Down);
     }
-    if logs.drl.is_some() {
+    if has {
         return Ok(true);
     }
-    if !is_trusted(&core.inner.config, vol) {
+    if !is_trusted(&core.inner.config, vol, log) {
         return Ok(true);
     }
-    lose_group(shelf, core, vol, VolumeLog::Drl)
+    lose_group(shelf, core, vol, log)
+}
+
+/// Commits that the dirty region log of a volume is lost, where it is in memory no more and not held as lost, and answers whether the log may be
+/// gone by further: not where a commit is wanted and no serial is left. All volumes read as before, and each log stands.
+pub fn keep_log<S: Shelf>(
+    shelf: &mut S,
+    core: &mut GroupCore,
+    logs: &Logs,
+    vol: u32,
+) -> Result<bool, ShelfError>
+    requires stands { GroupStands core.old (S.meaning shelf.old) }
+    requires there { vol < (inner_meaning (wide core.old) (S.meaning shelf.old)).units }
+    ensures stands { GroupStands core.new (S.meaning shelf.new) }
+    ensures goes { Goes Nothing (inner_meaning (wide core.old) (S.meaning shelf.old)) (inner_meaning (wide core.new) (S.meaning shelf.new)) }
+    ensures logs { EachOn core.old core.new (S.meaning shelf.old) (S.meaning shelf.new) }
+    ensures narrow { Narrowed core.old core.new }
+    ensures kept { IfOk result (λ done. done ≡ true → LogKept core.new vol logs.now) }
+    ensures full { IfOk result (λ done. done ≡ false → greatest ≤ core.old.inner.config.serial + 9) }
+    ensures trust { OnOk result (core.old.inner.committed ≡ true → core.new.inner.committed ≡ true) }
+    ensures agreed { IfErr result (λ e. core.old.inner.committed ≡ true → core.new.inner.agreed ≡ true) }
+    ensures cause { Cause (inner_meaning (wide core.old) (S.meaning shelf.old)) (inner_meaning (wide core.new) (S.meaning shelf.new)) vol result }
+{
+    keep_one(shelf, core, logs.drl.is_some(), vol, VolumeLog::Drl)
+}
+
+/// The same of its log of missed regions.
+pub fn keep_map<S: Shelf>(
+    shelf: &mut S,
+    core: &mut GroupCore,
+    logs: &Logs,
+    vol: u32,
+) -> Result<bool, ShelfError>
+    requires stands { GroupStands core.old (S.meaning shelf.old) }
+    requires there { vol < (inner_meaning (wide core.old) (S.meaning shelf.old)).units }
+    ensures stands { GroupStands core.new (S.meaning shelf.new) }
+    ensures goes { Goes Nothing (inner_meaning (wide core.old) (S.meaning shelf.old)) (inner_meaning (wide core.new) (S.meaning shelf.new)) }
+    ensures logs { EachOn core.old core.new (S.meaning shelf.old) (S.meaning shelf.new) }
+    ensures narrow { Narrowed core.old core.new }
+    ensures kept { IfOk result (λ done. done ≡ true → MapKept core.new vol logs.now) }
+    ensures trust { OnOk result (core.old.inner.committed ≡ true → core.new.inner.committed ≡ true) }
+    ensures agreed { IfErr result (λ e. core.old.inner.committed ≡ true → core.new.inner.agreed ≡ true) }
+    ensures cause { Cause (inner_meaning (wide core.old) (S.meaning shelf.old)) (inner_meaning (wide core.new) (S.meaning shelf.new)) vol result }
+{
+    keep_one(shelf, core, logs.fmr.is_some(), vol, VolumeLog::Fmr)
+}
+
+/// The same of both logs; the answer is that of the dirty region log.
+pub fn keep_logs<S: Shelf>(
+    shelf: &mut S,
+    core: &mut GroupCore,
+    logs: &Logs,
+    vol: u32,
+) -> Result<bool, ShelfError>
+    requires stands { GroupStands core.old (S.meaning shelf.old) }
+    requires there { vol < (inner_meaning (wide core.old) (S.meaning shelf.old)).units }
+    ensures stands { GroupStands core.new (S.meaning shelf.new) }
+    ensures goes { Goes Nothing (inner_meaning (wide core.old) (S.meaning shelf.old)) (inner_meaning (wide core.new) (S.meaning shelf.new)) }
+    ensures logs { EachOn core.old core.new (S.meaning shelf.old) (S.meaning shelf.new) }
+    ensures narrow { Narrowed core.old core.new }
+    ensures kept { IfOk result (λ done. done ≡ true → LogKept core.new vol logs.now) }
+    ensures full { IfOk result (λ done. done ≡ false → greatest ≤ core.old.inner.config.serial + 9) }
+    ensures trust { OnOk result (core.old.inner.committed ≡ true → core.new.inner.committed ≡ true) }
+    ensures agreed { IfErr result (λ e. core.old.inner.committed ≡ true → core.new.inner.agreed ≡ true) }
+    ensures cause { Cause (inner_meaning (wide core.old) (S.meaning shelf.old)) (inner_meaning (wide core.new) (S.meaning shelf.new)) vol result }
+{
+    let done = match keep_log(shelf, core, logs, vol) {
+        Ok(done) => done,
+        Err(error) => return Err(error),
+    };
+    if !done {
+        return Ok(false);
+    }
+    match keep_map(shelf, core, logs, vol) {
+        Ok(_) => Ok(true),
+        Err(error) => Err(error),
+    }
 }

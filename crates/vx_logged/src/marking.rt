@@ -1,5 +1,5 @@
 // Marks of a group before a write.
-ghost use Rattle.std.specs.Prelude.{◌≡◌, ◌+◌, ◌<◌, ◌≤◌, false, true, IfErr, IfOk, OnOk};
+ghost use Rattle.std.specs.Prelude.{◌≡◌, ◌+◌, ◌<◌, ◌≤◌, ℕ, Bool, false, true, IfErr, IfOk, OnOk};
 ghost use Rattle.vx_config.specs.Table.{greatest};
 ghost use Rattle.vx_config.specs.Checks.{blocks_of as blocks_of_is};
 ghost use Rattle.vx_disk.specs.Causes.{Cause};
@@ -7,19 +7,20 @@ ghost use Rattle.vx_disk.specs.Shelf.{Goes, Nothing};
 ghost use Rattle.vx_group.specs.Holding.{GroupStands, wide};
 ghost use Rattle.vx_group.specs.Stands.{inner_meaning};
 ghost use Rattle.vx_grouplogs.specs.Marking.{MarksOnly};
-ghost use Rattle.vx_logged.specs.Logged.{LogOn, MayWrite, OthersOn};
+ghost use Rattle.vx_groupmaps.specs.Knowing.{MapsNote, or_off};
+ghost use Rattle.vx_logged.specs.Logged.{Known, KnownBy, LogOn, MayWrite, Narrowed, OthersOn, are_off};
 ghost use Rattle.vx_logs.specs.Writes.{first_region, last_region};
 ghost use Rattle.vx_model.specs.Sizes.{regions_of as regions_in};
 
-use crate::keeping::keep_log;
+use crate::keeping::keep_logs;
 use crate::readying::ready_group;
 use vx_disk::{Shelf, ShelfError};
 use vx_group::GroupCore;
 use vx_grouplogs::guard_run;
 use vx_logs::Logs;
 
-/// Marks the regions of a run of blocks of a volume durably before a write, and answers whether they may be written so. A log of which the
-/// disk fails is committed as lost. All volumes read as before; whatever is answered, each log stands, and no other region was marked. The
+/// Marks the regions of a run of blocks of a volume durably before a write, as dirty, and as missed by each plex that is not ACTIVE, and answers
+/// whether they may be written so. A log of which the disk fails is committed as lost. All volumes read as before; whatever is answered, each log stands, and no other region was marked. The
 /// answer is false only where no serial is left.
 pub fn mark_group<S: Shelf>(
     shelf: &mut S,
@@ -39,6 +40,10 @@ pub fn mark_group<S: Shelf>(
     ensures log { LogOn core.new vol logs.new (S.meaning shelf.new) }
     ensures others { OthersOn vol core.old core.new (S.meaning shelf.old) (S.meaning shelf.new) }
     ensures adds { MarksOnly (regions_in (blocks_of_is (wide core.old).config.volumes vol)) (first_region block) (last_region block count) logs.old logs.new }
+    ensures narrow { Narrowed core.old core.new }
+    ensures maps { Known core.old vol logs.old (S.meaning shelf.old) → Known core.new vol logs.new (S.meaning shelf.new) }
+    ensures knows { (spare : ℕ → ℕ → Bool) → KnownBy core.old vol (or_off (wide core.old).config vol (first_region block) (last_region block count) spare) logs.old (S.meaning shelf.old) → IfOk result (λ done. done ≡ true → KnownBy core.new vol spare logs.new (S.meaning shelf.new)) }
+    ensures notes { MapsNote (are_off core.new vol) (first_region block) (last_region block count) logs.old logs.new }
     ensures may { IfOk result (λ done. done ≡ true → MayWrite core.new vol (first_region block) (last_region block count) logs.new) }
     ensures full { IfOk result (λ done. done ≡ false → greatest ≤ core.old.inner.config.serial + 18) }
     ensures trust { OnOk result (core.old.inner.committed ≡ true → core.new.inner.committed ≡ true) }
@@ -56,5 +61,5 @@ pub fn mark_group<S: Shelf>(
         Ok(()) => {}
         Err(_) => return Err(ShelfError::Down),
     }
-    keep_log(shelf, core, logs, vol)
+    keep_logs(shelf, core, logs, vol)
 }

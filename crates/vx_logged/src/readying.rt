@@ -5,7 +5,7 @@ ghost use Rattle.vx_disk.specs.Causes.{Cause};
 ghost use Rattle.vx_disk.specs.Shelf.{Goes, Nothing};
 ghost use Rattle.vx_group.specs.Holding.{GroupStands, wide};
 ghost use Rattle.vx_group.specs.Stands.{inner_meaning};
-ghost use Rattle.vx_logged.specs.Logged.{EachOn};
+ghost use Rattle.vx_logged.specs.Logged.{EachOn, Narrowed};
 
 use vx_disk::{Shelf, ShelfError};
 use vx_group::{GroupCore, give_up, release};
@@ -21,6 +21,7 @@ pub fn ready_group<S: Shelf>(
     ensures stands { GroupStands core.new (S.meaning shelf.new) }
     ensures goes { Goes Nothing (inner_meaning (wide core.old) (S.meaning shelf.old)) (inner_meaning (wide core.new) (S.meaning shelf.new)) }
     ensures logs { EachOn core.old core.new (S.meaning shelf.old) (S.meaning shelf.new) }
+    ensures narrow { Narrowed core.old core.new }
     ensures none { IfOk result (λ done. done ≡ true → core.new.held ≡ None) }
     ensures few { OnOk result (core.new.inner.config.serial ≤ core.old.inner.config.serial + 9) }
     ensures full { IfOk result (λ done. done ≡ false → greatest ≤ core.old.inner.config.serial) }

@@ -7,7 +7,9 @@ ghost use Rattle.vx_group.specs.Holding.{GroupStands, wide};
 ghost use Rattle.vx_group.specs.Stands.{inner_meaning};
 ghost use Rattle.vx_config.specs.Checks.{blocks_of as blocks_of_is};
 ghost use Rattle.vx_grouplogs.specs.Marking.{MarksOnly};
-ghost use Rattle.vx_logged.specs.Logged.{LogOn, OthersOn};
+ghost use Rattle.vx_groupmaps.specs.Knowing.{MapsNote, or_off};
+ghost use Rattle.vx_groupmaps.specs.Missing.{none_spared};
+ghost use Rattle.vx_logged.specs.Logged.{Known, KnownBy, LogOn, Narrowed, OthersOn, are_off};
 ghost use Rattle.vx_logs.specs.Writes.{first_region, last_region};
 ghost use Rattle.vx_model.specs.Sizes.{regions_of as regions_in};
 
@@ -16,9 +18,53 @@ use vx_disk::{Shelf, ShelfError};
 use vx_group::{GroupCore, write_group};
 use vx_logs::Logs;
 
-/// Writes a run of blocks of a volume, of which the regions are marked durably in its log before a plex is written. A log of which the disk
-/// fails is committed as lost before a plex is written; the write fails for it only where that commit is refused. Where no serial is left
-/// logs are stopped: the write is made without a mark, and of no log anything is promised from then on.
+// Writes a run of blocks of a volume, of which the regions are marked durably in its logs before a plex is written.
+fn write_first<S: Shelf>(
+    shelf: &mut S,
+    core: &mut GroupCore,
+    logs: &mut Logs,
+    stopped: &mut bool,
+    vol: u32,
+    block: u64,
+    bytes: &[u8],
+) -> Result<(), ShelfError>
+    requires stands { GroupStands core.old (S.meaning shelf.old) }
+    requires fits { Fits (inner_meaning (wide core.old) (S.meaning shelf.old)) vol block (length bytes.now) }
+    requires log { stopped.old ≡ false → LogOn core.old vol logs.old (S.meaning shelf.old) }
+    ensures stands { GroupStands core.new (S.meaning shelf.new) }
+    ensures goes { Goes (Written vol block bytes.now) (inner_meaning (wide core.old) (S.meaning shelf.old)) (inner_meaning (wide core.new) (S.meaning shelf.new)) }
+    ensures ok { OnOk result (Wrote vol block bytes.now (inner_meaning (wide core.old) (S.meaning shelf.old)) (inner_meaning (wide core.new) (S.meaning shelf.new))) }
+    ensures log { stopped.new ≡ false → LogOn core.new vol logs.new (S.meaning shelf.new) }
+    ensures others { OthersOn vol core.old core.new (S.meaning shelf.old) (S.meaning shelf.new) }
+    ensures adds { MarksOnly (regions_in (blocks_of_is (wide core.old).config.volumes vol)) (first_region block) (last_region block (length bytes.now / 512)) logs.old logs.new }
+    ensures narrow { Narrowed core.old core.new }
+    ensures written { stopped.new ≡ false → OnOk result (Known core.old vol logs.old (S.meaning shelf.old) → KnownBy core.new vol (or_off (wide core.new).config vol (first_region block) (last_region block (length bytes.now / 512)) none_spared) logs.new (S.meaning shelf.new)) }
+    ensures notes { MapsNote (are_off core.new vol) (first_region block) (last_region block (length bytes.now / 512)) logs.old logs.new }
+    ensures stays { stopped.old ≡ true → stopped.new ≡ true }
+    ensures full { stopped.old ≡ false → stopped.new ≡ true → greatest ≤ core.old.inner.config.serial + 18 }
+    ensures trust { OnOk result (core.old.inner.committed ≡ true → core.new.inner.committed ≡ true) }
+    ensures agreed { IfErr result (λ e. core.old.inner.committed ≡ true → core.new.inner.agreed ≡ true) }
+    ensures cause { Cause (inner_meaning (wide core.old) (S.meaning shelf.old)) (inner_meaning (wide core.new) (S.meaning shelf.new)) vol result }
+{
+    if *stopped {
+        return write_group(shelf, core, vol, block, bytes);
+    }
+    let count = (bytes.len() / 512) as u64;
+    let done = match mark_group(shelf, core, logs, vol, block, count) {
+        Ok(done) => done,
+        Err(error) => return Err(error),
+    };
+    *stopped = !done;
+    write_group(shelf, core, vol, block, bytes)
+}
+
+/// Writes a run of blocks of a volume, of which the regions are marked durably before a plex is written: as dirty, and as missed by each plex that
+/// is not ACTIVE. A plex that fails in the write misses its regions from then on. A log of which the disk fails is committed as lost, and the
+/// write fails for it only where that commit is refused. Where no serial is left logs are stopped: the write is made without a mark, and of no
+/// log anything is promised from then on.
+///
+/// Behind it the maps in memory have of each plex each region in which it may read another value than one that is ACTIVE, where they had; what
+/// they have besides what they had are regions of the write, of plexes that are not ACTIVE. Behind a refusal no map is in memory.
 pub fn write_marked<S: Shelf>(
     shelf: &mut S,
     core: &mut GroupCore,
@@ -37,20 +83,35 @@ pub fn write_marked<S: Shelf>(
     ensures log { stopped.new ≡ false → LogOn core.new vol logs.new (S.meaning shelf.new) }
     ensures others { OthersOn vol core.old core.new (S.meaning shelf.old) (S.meaning shelf.new) }
     ensures adds { MarksOnly (regions_in (blocks_of_is (wide core.old).config.volumes vol)) (first_region block) (last_region block (length bytes.now / 512)) logs.old logs.new }
+    ensures maps { stopped.new ≡ false → Known core.old vol logs.old (S.meaning shelf.old) → Known core.new vol logs.new (S.meaning shelf.new) }
+    ensures notes { MapsNote (are_off core.new vol) (first_region block) (last_region block (length bytes.now / 512)) logs.old logs.new }
     ensures stays { stopped.old ≡ true → stopped.new ≡ true }
     ensures full { stopped.old ≡ false → stopped.new ≡ true → greatest ≤ core.old.inner.config.serial + 18 }
     ensures trust { OnOk result (core.old.inner.committed ≡ true → core.new.inner.committed ≡ true) }
     ensures agreed { IfErr result (λ e. core.old.inner.committed ≡ true → core.new.inner.agreed ≡ true) }
     ensures cause { Cause (inner_meaning (wide core.old) (S.meaning shelf.old)) (inner_meaning (wide core.new) (S.meaning shelf.new)) vol result }
 {
+    match write_first(shelf, core, logs, stopped, vol, block, bytes) {
+        Ok(()) => {}
+        Err(error) => {
+            logs.fmr = None;
+            return Err(error);
+        }
+    }
     if *stopped {
-        return write_group(shelf, core, vol, block, bytes);
+        return Ok(());
     }
     let count = (bytes.len() / 512) as u64;
-    let done = match mark_group(shelf, core, logs, vol, block, count) {
-        Ok(done) => done,
-        Err(error) => return Err(error),
-    };
-    *stopped = !done;
-    write_group(shelf, core, vol, block, bytes)
+    match mark_group(shelf, core, logs, vol, block, count) {
+        Ok(done) => {
+            if !done {
+                logs.fmr = None;
+            }
+            Ok(())
+        }
+        Err(error) => {
+            logs.fmr = None;
+            Err(error)
+        }
+    }
 }

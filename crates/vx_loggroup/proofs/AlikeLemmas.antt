@@ -16,7 +16,8 @@ use Rattle.vx_group.specs.declared.group_core.Held.{Held}
 use Rattle.vx_group.proofs.HoldLemmas.{wide_shape}
 use Rattle.vx_grouplogs.specs.Marking.{MarksFewer, MarksOnly}
 use Rattle.vx_grouplogs.specs.On.{ReadsOne}
-use Rattle.vx_logged.specs.Logged.{EachOn, LogOn, OthersOn}
+use Rattle.vx_groupmaps.specs.Missing.{none_spared}
+use Rattle.vx_logged.specs.Logged.{EachOn, Known, LogOn, OthersOn}
 use Rattle.vx_logged.proofs.StandLemmas.{each_on, same_fewer, same_only}
 use Rattle.vx_logs.specs.declared.logs.Logs.{Logs}
 use Rattle.vx_loggroup.specs.LoggedVolumes.{LoggedStands, OthersStand, VolumeStands, is_alike}
@@ -61,6 +62,7 @@ pub others_stand : (W : Values) (v : ℕ) (c : GroupCore) (s : Bool) (d : GroupC
 others_stand W v c s d t m m' goes off stays others = record {
   each = λ w l a apart was. record {
     on = λ going. others.each w l apart (was.on (stays going));
+    maps = λ going. others.maps w l apart (was.maps (stays going));
     alike = λ is up. reads_goes W c d m m' goes w (λ b x put. off w b x apart put) up (was.alike is (λ down. up (goes.falls down)));
   };
 }
@@ -83,6 +85,7 @@ all_whole c d ls a s m m' stands group goes each = record {
       let was = stands.each w l is in
       record {
         on = λ going. each.each w l (was.on going);
+        maps = λ going. each.maps w none_spared l (was.maps going);
         alike = λ same_at up. reads_goes Nothing c d m m' goes w (λ b x none. none) up (was.alike same_at (λ down. up (goes.falls down)));
       };
 }
@@ -111,9 +114,10 @@ set_stands W c d ls a a' s t v l m m' stands group goes off stays others same he
 }
 
 -- a call that writes no block of a volume, on the volume itself
-pub here_stands : (c d : GroupCore) (v : ℕ) (l k : Logs) (a s : Bool) (m m' : Meaning) → VolumeStands c v l a s m → Goes Nothing (inner_meaning (wide c) m) (inner_meaning (wide d) m') → (LogOn c v l m → LogOn d v k m') → VolumeStands d v k a s m'
-here_stands c d v l k a s m m' was goes on = record {
+pub here_stands : (c d : GroupCore) (v : ℕ) (l k : Logs) (a s : Bool) (m m' : Meaning) → VolumeStands c v l a s m → Goes Nothing (inner_meaning (wide c) m) (inner_meaning (wide d) m') → (LogOn c v l m → LogOn d v k m') → (Known c v l m → Known d v k m') → VolumeStands d v k a s m'
+here_stands c d v l k a s m m' was goes on maps = record {
   on = λ going. on (was.on going);
+  maps = λ going. maps (was.maps going);
   alike = λ is up. reads_goes Nothing c d m m' goes v (λ b x none. none) up (was.alike is (λ down. up (goes.falls down)));
 }
 
@@ -122,7 +126,7 @@ pub stop_stands : (c : GroupCore) (ls : List Logs) (a : List Bool) (t : Bool) (m
 stop_stands c ls a t m stands = record {
   group = stands.group;
   many = stands.many;
-  each = λ v l is. let was = stands.each v l is in record { on = λ going. was.on refl; alike = was.alike };
+  each = λ v l is. let was = stands.each v l is in record { on = λ going. was.on refl; maps = λ going. was.maps refl; alike = was.alike };
 }
 
 -- ---- the regions that logs have

@@ -1,5 +1,6 @@
 pub mod SetLemmas
 pub mod AlikeLemmas
+pub mod KnownLemmas
 pub mod StayLemmas
 pub mod ClearLemmas
 pub mod OpenLemmas
@@ -7,4 +8,5 @@ pub mod DeportedLogs
 pub mod FactLemmas
 pub mod CrashedLogs
 pub mod TrustedLogs
+pub mod BegunLemmas
 pub mod MadeLogs

@@ -1,6 +1,7 @@
 -- What is kept of the volumes of a group with logs, behind a volume that is made, or not.
 use Rattle.std.proofs.Common.{◌≡◌, ◌∙◌, inl, inr, ℕ, zero, suc, ◌+◌, ◌<◌, Bool, true, false, IsTrue, Option, Some, None, List, [], ◌∷◌, ◌++◌, length, refl, sym, ap, subst, arith}
-use Rattle.std.specs.Prelude.{Err, Ok, slice_get, take}
+use Rattle.std.specs.Prelude.{Err, Ok, is_some, slice_get, take}
+use Rattle.vx_config.specs.Checks.{blocks_of as blocks_in, blocks_or_none}
 use Rattle.std.proofs.lemmas.Option.{slice_get_within}
 use Rattle.vx_config.specs.declared.config.Config.{Config}
 use Rattle.vx_config.specs.declared.entry.VolumeEntry.{VolumeEntry}
@@ -8,36 +9,44 @@ use Rattle.vx_config.specs.declared.entry.VolumeLog.TheVariants.{Drl}
 use Rattle.vx_disk.specs.Shelf.{Goes, Lawful, Meaning, Nothing}
 use Rattle.vx_disk.proofs.Runs.{then_nothing}
 use Rattle.vx_kept.specs.Groups.{OnSome, group_meaning}
-use Rattle.vx_kept.specs.Keeping.{SameShape}
+use Rattle.vx_kept.specs.Keeping.{SameShape, frame_at}
 use Rattle.vx_kept.specs.LogRuns.{log_trusted, trusted_or}
 use Rattle.vx_kept.proofs.Chosen.{active_volumes, alike_shape}
 use Rattle.vx_kept.proofs.StateLemmas.{same_shape}
+use Rattle.vx_layout.specs.Places.{HasBlock, has_plex, place, place_or, plex_in}
 use Rattle.vx_layout.specs.declared.shape.Shape.{Shape}
+use Rattle.vx_layout.proofs.Placing.{sound_apart}
 use Rattle.vx_logs.specs.declared.logs.Logs.{Logs}
 use Rattle.vx_maplog.specs.Logs.{log_or}
 use Rattle.vx_model.specs.declared.errors.Stop.{Stop}
 use Rattle.vx_model.specs.declared.errors.Stop.TheVariants.{No as Refused, OutOfMemory}
 use Rattle.vx_model.specs.declared.no.No.{No}
 use Rattle.vx_volume.specs.Plexes.{Inside}
+use Rattle.vx_volume.proofs.PlaceLemmas.{has_of}
 use Rattle.vx_group.specs.Calls.{GroupStays}
 use Rattle.vx_group.specs.Holding.{GroupStands, config_by, wide}
-use Rattle.vx_group.specs.Makes.{AreZero, MakeEnds, MakesBeside, make_refusal}
+use Rattle.vx_group.specs.Makes.{AreZero, MakeEnds, MakesBeside, ZerosOn, make_refusal}
 use Rattle.vx_group.specs.Stands.{inner_meaning, volume_faults}
 use Rattle.vx_group.specs.declared.group_core.GroupCore.{GroupCore}
 use Rattle.vx_group.specs.declared.group_core.Held.{Held}
 use Rattle.vx_group.specs.declared.inner.Inner.{Inner}
-use Rattle.vx_group.proofs.HoldLemmas.{active_at_volumes, narrow_sound, wide_none}
+use Rattle.vx_group.proofs.HoldLemmas.{active_at_volumes, narrow_sound, wide_none, wide_shape}
 use Rattle.vx_group.proofs.Standing.{fit_of, sound_of}
 use Rattle.vx_group.proofs.TrustingLemmas.{places_Goes}
-use Rattle.vx_grouplogs.specs.Covering.{AllAlike}
+use Rattle.vx_groupmaps.specs.Knowing.{MapsKnow, MapsKnowBy}
+use Rattle.vx_groupmaps.specs.Missing.{none_spared}
+use Rattle.vx_grouplogs.specs.Covering.{AllAlike, OnLogs}
 use Rattle.vx_grouplogs.specs.On.{ReadsOne, VolumeOn}
 use Rattle.vx_grouplogs.proofs.LogPlaces.{log_public, logs_beside}
 use Rattle.vx_grouplogs.proofs.OnCalls.{on_gone}
-use Rattle.vx_grouplogs.proofs.SeenLemmas.{KeepsVolume, OnDrl, drl_logs, drl_same, on_seen}
-use Rattle.vx_logged.proofs.StandLemmas.{inner_wide}
+use Rattle.vx_grouplogs.proofs.KnowActs.{know_none}
+use Rattle.vx_grouplogs.proofs.LogShape.{has_back}
+use Rattle.vx_grouplogs.proofs.SeenLemmas.{KeepsVolume, logs_same, on_seen}
+use Rattle.vx_logged.proofs.StandLemmas.{inner_wide, wide_both}
 use Rattle.vx_logimport.proofs.ReadLemmas.{each_more}
 use Rattle.vx_loggroup.specs.LoggedVolumes.{LoggedStands, VolumeStands, is_alike}
 use Rattle.vx_loggroup.proofs.AlikeLemmas.{all_whole}
+use Rattle.vx_loggroup.proofs.KnownLemmas.{know_seen, some_read}
 use Rattle.vx_loggroup.proofs.StayLemmas.{each_seen}
 
 -- ---- lists with one item more
@@ -56,32 +65,63 @@ long_one [] y = refl
 long_one (x ∷ xs) y = let more = long_one xs y in omega (arith, more)
 
 -- a volume with a log is there
-drl_low : (c : Config) (v u b : ℕ) → OnDrl c v u b → v < length c.volumes
-drl_low c v u b at = by (slice_get c.volumes v) refl
+logs_low : (c : Config) (v u b : ℕ) (x : List ℕ) → OnLogs c v u b x → v < length c.volumes
+logs_low c v u b x at = by (slice_get c.volumes v) refl
   where
     by : (o : Option VolumeEntry) → slice_get c.volumes v ≡ o → v < length c.volumes
-    by None none = absurd (let clash : None ≡ Some at.entry = sym (ap (log_or Drl) none) ∙ at.is in cc)
+    by None none = absurd (let clash : None ≡ Some at.entry = sym (ap (log_or at.log) none) ∙ at.is in cc)
+    by (Some x) is = slice_get_within c.volumes v x is
+
+-- so is one with a plex
+has_low : (c : Config) (v p b : ℕ) → HasBlock c v p b → v < length c.volumes
+unfolding has_plex
+has_low c v p b has = by (slice_get c.volumes v) refl
+  where
+    by : (o : Option VolumeEntry) → slice_get c.volumes v ≡ o → v < length c.volumes
+    by None none = absurd (let clash : false ≡ true = sym (ap (λ (o : Option VolumeEntry). is_some (plex_in o p)) none) ∙ has.plex in cc)
     by (Some x) is = slice_get_within c.volumes v x is
 
 -- ---- the logs of the volumes that stood
 
 -- their blocks are left alone
-pub made_logs : (c : GroupCore) (m m' : Meaning) → GroupStands c m → MakesBeside c.inner.config m m' → (v u b : ℕ) (x : List ℕ) → OnDrl c.inner.config v u b → m'.leaves u b x → m.leaves u b x
-made_logs c m m' stands (inl acts) v u b x at left = elim (acts.leaves u b x (omega (arith, log_public c.inner.config (narrow_sound c m stands) v Drl at.entry at.is, at.run.first)) left) [
+pub made_logs : (c : GroupCore) (m m' : Meaning) → GroupStands c m → MakesBeside c.inner.config m m' → (v u b : ℕ) (x : List ℕ) → OnLogs c.inner.config v u b x → m'.leaves u b x → m.leaves u b x
+made_logs c m m' stands (inl acts) v u b x at left = elim (acts.leaves u b x (omega (arith, log_public c.inner.config (narrow_sound c m stands) v at.log at.entry at.is, at.run.first)) left) [
   | inl was ↦ was
   | inr none ↦ absurd none
 ]
-made_logs c m m' stands (inr begins) v u b x at left = elim (begins.acts.leaves u b x (omega (arith, log_public c.inner.config (narrow_sound c m stands) v Drl at.entry at.is, at.run.first)) left) [
+made_logs c m m' stands (inr begins) v u b x at left = elim (begins.acts.leaves u b x (omega (arith, log_public c.inner.config (narrow_sound c m stands) v at.log at.entry at.is, at.run.first)) left) [
   | inl was ↦ was
-  | inr put ↦ absurd (logs_beside begins.next begins.sound v (length c.inner.config.volumes) put.plex put.number u b x put.inside put.is_on put.at (drl_logs begins.next v u b x next))
+  | inr put ↦ absurd (logs_beside begins.next begins.sound v (length c.inner.config.volumes) put.plex put.number u b x put.inside put.is_on put.at next)
 ]
   where
-    next : OnDrl begins.next v u b
+    next : OnLogs begins.next v u b x
     next = record {
+      log = at.log;
       entry = at.entry;
-      is = ap (λ (vs : List VolumeEntry). log_or Drl (slice_get vs v)) begins.is ∙ ap (log_or Drl) (get_front c.inner.config.volumes (begins.volume ∷ []) v (drl_low c.inner.config v u b at)) ∙ at.is;
+      is = ap (λ (vs : List VolumeEntry). log_or at.log (slice_get vs v)) begins.is ∙ ap (log_or at.log) (get_front c.inner.config.volumes (begins.volume ∷ []) v (logs_low c.inner.config v u b x at)) ∙ at.is;
       run = at.run;
     }
+
+-- what the maps of a volume that stood know
+module _ (c : GroupCore) (d : Config) (m m' : Meaning) (stands : GroupStands c m) (v : ℕ) (frames : frame_at d v ≡ frame_at (wide c).config v) (blocks : blocks_in d.volumes v ≡ blocks_in (wide c).config.volumes v) (places : (p b : ℕ) → place d v p b ≡ place (wide c).config v p b)
+    (some : (b : ℕ) (y : List ℕ) → (IsTrue m'.down → ⊥) → OnSome d m'.reads v b y → OnSome (wide c).config m.reads v b y) where
+  pub made_know : (spare : ℕ → ℕ → Bool) (l : Logs) → MakesBeside c.inner.config m m' → MapsKnowBy (wide c).config v spare l m → MapsKnowBy d v spare l m'
+  unfolding has_plex place
+  made_know spare l (inl acts) know = know_seen Nothing (wide c).config d (sound_of (wide c) m stands.stands) v frames blocks places m m' (record { so = acts.reads; falls = acts.falls }) some spare l (λ f is p b x has clear none. none) know
+  made_know spare l (inr begins) know = know_seen (ZerosOn begins.next (length c.inner.config.volumes)) (wide c).config d (sound_of (wide c) m stands.stands) v frames blocks places m m' (record { so = begins.acts.reads; falls = begins.acts.falls }) some spare l
+      (λ f is p b x has clear put. off p b x has put) know
+    where
+      off : (p b : ℕ) (x : List ℕ) → HasBlock (wide c).config v p b → ZerosOn begins.next (length c.inner.config.volumes) (place (wide c).config v p b).0 (place (wide c).config v p b).1 x → ⊥
+      off p b x has put =
+          let shape = inner_wide c m stands in
+          let has_c = has_back c.inner.config (wide c).config v ((wide_shape c).frames v) ((wide_shape c).blocks v) p b has in
+          let low = has_low c.inner.config v p b has_c in
+          let same : slice_get begins.next.volumes v ≡ slice_get c.inner.config.volumes v = ap (λ (vs : List VolumeEntry). slice_get vs v) begins.is ∙ get_front c.inner.config.volumes (begins.volume ∷ []) v low in
+          let has_n : HasBlock begins.next v p b = record { plex = ap (λ (o : Option VolumeEntry). is_some (plex_in o p)) same ∙ has_c.plex; block = let n = ap blocks_or_none same in let block = has_c.block in omega (arith, block, n) } in
+          let at : place begins.next v p b ≡ place begins.next (length c.inner.config.volumes) put.plex put.number = ap (λ (o : Option VolumeEntry). place_or o p b) same ∙ shape.place v p b ∙ sym put.at in
+          let one = (sound_apart begins.next begins.sound).one v p b (length c.inner.config.volumes) put.plex put.number has_n (has_of begins.next (length c.inner.config.volumes) put.plex put.number put.is_on put.inside) at in
+          let equal = one.0 in
+          omega (arith, low, equal)
 
 -- ---- none was made
 
@@ -91,7 +131,8 @@ by_volumes None c d same = same
 by_volumes (Some h) c d same = active_at_volumes h.vol h.plex c d same
 
 pub none_made : (c d : GroupCore) (ls : List Logs) (a : List Bool) (s : Bool) (m m' : Meaning) → LoggedStands c ls a s m → GroupStands d m' → GroupStays c d m m' → MakesBeside c.inner.config m m' → d.inner.config.volumes ≡ c.inner.config.volumes → LoggedStands d ls a s m'
-none_made c d ls a s m m' stands group stays beside volumes = all_whole c d ls a s m m' stands group goes (each_seen c d m m' stands.group shape goes (made_logs c m m' stands.group beside))
+none_made c d ls a s m m' stands group stays beside volumes = all_whole c d ls a s m m' stands group goes (each_seen c d m m' stands.group shape goes (made_logs c m m' stands.group beside)
+    (λ v spare l know. let both = wide_both c d m stands.group shape in made_know c (wide d).config m m' stands.group v (both.frames v) (both.blocks v) (both.place v) (some_read c d m m' both goes v) spare l beside know))
   where
     shape : SameShape d.inner.config c.inner.config
     shape = alike_shape d.inner.config c.inner.config c.inner.config volumes (same_shape c.inner.config)
@@ -125,7 +166,8 @@ module _ (c d : GroupCore) (m m' : Meaning) (stands : GroupStands c m) (stays : 
     made_keeps = record {
       inside = λ b is. inside_wide b (inside_front b is);
       blocks = stays.shape.blocks v lt ∙ (inner_wide c m stands).blocks v;
-      logs = stays.shape.logs v Drl lt ∙ (inner_wide c m stands).logs v Drl;
+      logs = λ log. stays.shape.logs v log lt ∙ (inner_wide c m stands).logs v log;
+      frames = stays.shape.frames v lt ∙ (inner_wide c m stands).frames v;
     }
 
     made_trusted : log_trusted d.inner.config v Drl ≡ true → log_trusted (wide c).config v Drl ≡ true
@@ -158,9 +200,11 @@ module _ (c d : GroupCore) (m m' : Meaning) (stands : GroupStands c m) (stays : 
     made_volume_stands l a s beside was = record {
       on = λ going. subst (λ (x : Config). VolumeOn x v l m') (sym config_now) (on_seen v (wide c).config d.inner.config (sound_of (wide c) m stands.stands) l m m' (fit_of (wide c) m stands.stands) made_keeps
           (record {
-            logs = λ u b x at left. made_logs c m m' stands beside v u b x (drl_same (wide c).config c.inner.config v u b ((inner_wide c m stands).logs v Drl) at) left;
+            logs = λ u b x at left. made_logs c m m' stands beside v u b x (logs_same (wide c).config c.inner.config v u b x ((inner_wide c m stands).logs v) at) left;
             some = some_front;
           }) (was.on going) made_trusted);
+      maps = λ going. subst (λ (x : Config). MapsKnow x v l m') (sym config_now)
+          (made_know c d.inner.config m m' stands v made_keeps.frames made_keeps.blocks (λ p b. stays.shape.place v p b lt ∙ (inner_wide c m stands).place v p b) (λ b x up is. reads_front b x up is) none_spared l beside (was.maps going));
       alike = λ is up. subst (λ (x : Config). ReadsOne x v m') (sym config_now) (record { one = λ b x y one two. (was.alike is (λ down. up (goes_front.falls down))).one b x y (reads_front b x up one) (reads_front b y up two) });
     }
 
@@ -173,6 +217,7 @@ module _ (c d : GroupCore) (m m' : Meaning) (stands : GroupStands c m) (stays : 
     pub fresh_stands : Lawful m' → (s : Bool) → log_trusted d.inner.config v Drl ≡ false → VolumeStands d v (record { drl = None; fmr = None }) true s m'
     fresh_stands law s lost = record {
       on = λ going. subst (λ (x : Config). VolumeOn x v (record { drl = None; fmr = None }) m') (sym config_now) (on_gone d.inner.config v m' (λ trusted. absurd (let clash : true ≡ false = sym trusted ∙ lost in cc)));
+      maps = λ going. know_none (wide d).config v none_spared (record { drl = None; fmr = None }) m' refl;
       alike = λ is up. record { one = λ b x y one two. made_alike.one b x y refl (left b x one) (left b y two) };
     }
       where

@@ -17,6 +17,8 @@ use Rattle.vx_kept.specs.Groups.{OnSome}
 use Rattle.vx_logimport.specs.Marked.{LogRead, ResumedBy, dirty_logs}
 use Rattle.vx_logimport.specs.declared.importing.Marked.{Marked}
 use Rattle.vx_logs.specs.declared.logs.Logs.{Logs}
+use Rattle.vx_groupmaps.specs.Missing.{none_spared}
+use Rattle.vx_grouplogs.proofs.KnowActs.{know_none}
 use Rattle.vx_loggroup.specs.LoggedVolumes.{LoggedStands, is_alike}
 use Rattle.vx_loggroup.specs.Opens.{SomeFailed}
 
@@ -53,6 +55,7 @@ module _ (old m1 : Meaning) (k : Marked) (law : Lawful m1) (it : ResumedBy old k
         let lt = slice_get_within k.logs.items v l is in
         record {
           on = λ going. subst (λ (x : Logs). VolumeOn k.core.config v x m1) (logs_at k.logs.items v l is (it.logs.plain v l is)) (it.stand v (low_of v lt));
+          maps = λ going. know_none k.core.config v none_spared l m1 (it.logs.plain v l is);
           alike = λ same_at up. alike_reads k.core.config v m1 law (opened_same v lt same_at);
         };
   }

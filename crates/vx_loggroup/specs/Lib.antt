@@ -3,3 +3,4 @@ pub mod Facts
 pub mod Marks
 pub mod Opens
 pub mod Made
+pub mod Attaching

@@ -4,16 +4,18 @@ use Rattle.vx_disk.specs.Shelf.{Meaning}
 use Rattle.vx_group.specs.Holding.{GroupStands, wide}
 use Rattle.vx_group.specs.declared.group_core.GroupCore.{GroupCore}
 use Rattle.vx_grouplogs.specs.On.{ReadsOne}
-use Rattle.vx_logged.specs.Logged.{LogOn}
+use Rattle.vx_logged.specs.Logged.{Known, LogOn}
 use Rattle.vx_logs.specs.declared.logs.Logs.{Logs}
 
 -- of each volume whether its plexes are said to be alike
 abbrev pub is_alike : List Bool → ℕ → Bool
 is_alike alike v = slice_index_or alike v false
 
--- The log of a volume stands, until logs are stopped for want of a serial; and where its plexes are said to be alike each block of it reads as one value.
+-- The logs of a volume stand, and the maps know what its plexes miss, until logs are stopped for want of a serial; and where its plexes are said to be
+-- alike each block of it reads as one value.
 pub record VolumeStands (core : GroupCore) (v : ℕ) (l : Logs) (same stopped : Bool) (m : Meaning) : Type 0 where
   pub on : stopped ≡ false → LogOn core v l m
+  pub maps : stopped ≡ false → Known core v l m
   pub alike : same ≡ true → (IsTrue m.down → ⊥) → ReadsOne (wide core).config v m
 
 -- So it is of each volume of a group that stands.

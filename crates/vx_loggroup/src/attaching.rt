@@ -1,21 +1,60 @@
 // A plex of a group with logs that is attached.
+ghost use Rattle.std.specs.Option.{option_copied};
 ghost use Rattle.std.specs.Prelude.{◌≡◌, ◌⊎◌, ◌<◌, false, IfOk, IsTrue, None, Ok, OnOk, Some, Err, length, true, ℕ};
-ghost use Rattle.vx_group.specs.Attaches.{GroupAttachEnds, att_refusal, copied_regions};
+ghost use Rattle.vx_group.specs.Attaches.{GroupAttachEnds, att_refusal, missed_regions};
 ghost use Rattle.vx_group.specs.Calls.{GroupAttaches};
 ghost use Rattle.vx_group.specs.Dets.{DetStops};
 ghost use Rattle.vx_group.specs.Regains.{HoldsPlex, Regains};
+ghost use Rattle.vx_loggroup.specs.Attaching.{fmr_at, map_by};
 ghost use Rattle.vx_loggroup.specs.LoggedVolumes.{LoggedStands};
 ghost use Rattle.vx_model.specs.declared.errors.Stop.TheVariants.{No as Refused};
 ghost use Rattle.vx_model.specs.declared.no.No.{No as NoValue};
 ghost use Rattle.vx_volume.specs.Plexes.{active};
 
+use vx_config::Config;
 use vx_disk::Shelf;
+use vx_fmr::Fmr;
 use vx_group::{GroupCore, att_in};
 use vx_logs::Logs;
 use vx_model::Stop;
 use vx_model::limits::MOST_VOLUMES;
+use vx_volume::plex_count;
 
-/// Attaches a plex, as a group does without logs, and answers how many regions were copied: all of the volume.
+// The maps of a volume in memory, where there are any.
+fn fmr_of(logs: &[Logs], vol: usize) -> Option<&Fmr>
+    ensures { option_copied result ≡ fmr_at logs.now vol }
+{
+    match logs.get(vol) {
+        Some(l) => l.fmr.as_ref(),
+        None => None,
+    }
+}
+
+// The maps by which a plex is attached.
+fn map_of<'a>(
+    logs: &'a [Logs],
+    config: &Config,
+    stopped: bool,
+    down: bool,
+    vol: u32,
+    plex: u32,
+) -> Option<&'a Fmr>
+    ensures by { option_copied result ≡ map_by logs.now config.now stopped down vol plex }
+{
+    if stopped {
+        return None;
+    }
+    if down {
+        return None;
+    }
+    if plex_count(config, vol) <= plex {
+        return None;
+    }
+    fmr_of(logs, vol as usize)
+}
+
+/// Attaches a plex, as a group does without logs, and answers how many regions were copied: those that it has missed by its map, or all of the
+/// volume where no map is in memory. It writes blocks of these regions of the plex alone, and no map changes.
 pub fn att_whole<S: Shelf>(
     shelf: &mut S,
     core: &mut GroupCore,
@@ -29,8 +68,8 @@ pub fn att_whole<S: Shelf>(
     ensures stands { LoggedStands core.new logs.now.items alike.now stopped (S.meaning shelf.new) }
     ensures refused { (no : NoValue) → att_refusal core.old.inner.config vol plex ≡ Some no → (result ≡ Err (Refused no)) × (core.new ≡ core.old) × (shelf.new ≡ shelf.old) }
     ensures already { att_refusal core.old.inner.config vol plex ≡ None → IsTrue (active core.old.inner.config vol plex) → (result ≡ Ok 0) × (core.new ≡ core.old) × (shelf.new ≡ shelf.old) }
-    ensures count { active core.old.inner.config vol plex ≡ false → IfOk result (λ n. n ≡ copied_regions core.old.inner.config vol) }
-    ensures attaches { GroupAttaches vol plex None core.old core.new (S.meaning shelf.old) (S.meaning shelf.new) }
+    ensures count { active core.old.inner.config vol plex ≡ false → IfOk result (λ n. n ≡ missed_regions core.old.inner.config vol plex (map_by logs.now.items core.old.inner.config stopped (S.meaning shelf.old).down vol plex)) }
+    ensures attaches { GroupAttaches vol plex (map_by logs.now.items core.old.inner.config stopped (S.meaning shelf.old).down vol plex) core.old core.new (S.meaning shelf.old) (S.meaning shelf.new) }
     ensures ends { active core.old.inner.config vol plex ≡ false → GroupAttachEnds vol plex core.new.inner.config (S.meaning shelf.new) result }
     ensures regains { Regains core.old.inner.config core.new.inner.config vol plex (S.meaning shelf.old) (S.meaning shelf.new) }
     ensures held { active core.old.inner.config vol plex ≡ false → OnOk result (HoldsPlex (λ s. S.meaning s) core.old.inner.config core.new.inner.config vol plex shelf.new) }
@@ -38,6 +77,15 @@ pub fn att_whole<S: Shelf>(
     ensures cause { att_refusal core.old.inner.config vol plex ≡ None → DetStops (S.meaning shelf.old) (S.meaning shelf.new) result }
 {
     // What is kept of the volumes stays as it is.
-    let _kept = (logs.len(), alike.len(), stopped);
-    att_in(shelf, core, vol, plex, None)
+    let _kept = (logs.len(), alike.len());
+    let down = shelf.is_down();
+    let fmr = map_of(
+        logs.as_slice(),
+        &core.inner.config,
+        stopped,
+        down,
+        vol,
+        plex,
+    );
+    att_in(shelf, core, vol, plex, fmr)
 }

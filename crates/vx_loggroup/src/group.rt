@@ -6,7 +6,7 @@ ghost use Rattle.vx_disk.specs.Causes.{Calls, Cause, CountsOnly, Names, OnDisks,
 ghost use Rattle.vx_disk.specs.Disks.{Untouched};
 ghost use Rattle.vx_disk.specs.Racks.{Stopped};
 ghost use Rattle.vx_disk.specs.Shelf.{DisksFlushed, DisksWrote, Fits, Flushed, Goes, Nothing, Read, Written, Wrote};
-ghost use Rattle.vx_group.specs.Attaches.{GroupAttachEnds, att_refusal, copied_regions};
+ghost use Rattle.vx_group.specs.Attaches.{GroupAttachEnds, att_refusal, missed_regions};
 ghost use Rattle.vx_group.specs.Calls.{GivesBack, GroupAttaches, GroupCreated, GroupDeported, GroupNarrows, IsFull};
 ghost use Rattle.vx_group.specs.Deports.{DeportStops, GroupCanImport};
 ghost use Rattle.vx_group.specs.Dets.{DetStops, det_refusal, margin};
@@ -16,6 +16,7 @@ ghost use Rattle.vx_group.specs.Makes.{make_refusal};
 ghost use Rattle.vx_group.specs.Regains.{HoldsPlex, Regains};
 ghost use Rattle.vx_group.specs.Resumes.{CanImport};
 ghost use Rattle.vx_group.specs.Stands.{inner_meaning};
+ghost use Rattle.vx_loggroup.specs.Attaching.{map_by};
 ghost use Rattle.vx_loggroup.specs.Facts.{LoggedFact};
 ghost use Rattle.vx_loggroup.specs.LoggedVolumes.{LoggedStands};
 ghost use Rattle.vx_loggroup.specs.Made.{LoggedMakes};
@@ -170,13 +171,14 @@ impl<S: Shelf> LoggedGroup<S> {
         )
     }
 
-    /// Attaches a plex, as a group does without logs, and answers how many regions were copied: all of the volume, and none where the plex is
-    /// ACTIVE already.
+    /// Attaches a plex, as a group does without logs, and answers how many regions were copied: those that the plex has missed by its map, or all of
+    /// the volume where no map is in memory, and none where the plex is ACTIVE already. Of the plex it writes blocks of these regions alone, and
+    /// whatever it answers, no map changes.
     pub fn att(&mut self, vol: u32, plex: u32) -> Result<u64, Stop>
         ensures refused { (no : NoValue) → att_refusal self.old.core.inner.config vol plex ≡ Some no → (result ≡ Err (Refused no)) × (self.new.core ≡ self.old.core) × (self.new.shelf ≡ self.old.shelf) }
         ensures already { att_refusal self.old.core.inner.config vol plex ≡ None → IsTrue (active self.old.core.inner.config vol plex) → (result ≡ Ok 0) × (self.new.core ≡ self.old.core) × (self.new.shelf ≡ self.old.shelf) }
-        ensures count { active self.old.core.inner.config vol plex ≡ false → IfOk result (λ n. n ≡ copied_regions self.old.core.inner.config vol) }
-        ensures attaches { GroupAttaches vol plex None self.old.core self.new.core (S.meaning self.old.shelf) (S.meaning self.new.shelf) }
+        ensures count { active self.old.core.inner.config vol plex ≡ false → IfOk result (λ n. n ≡ missed_regions self.old.core.inner.config vol plex (map_by self.old.logs.items self.old.core.inner.config self.old.stopped (S.meaning self.old.shelf).down vol plex)) }
+        ensures attaches { GroupAttaches vol plex (map_by self.old.logs.items self.old.core.inner.config self.old.stopped (S.meaning self.old.shelf).down vol plex) self.old.core self.new.core (S.meaning self.old.shelf) (S.meaning self.new.shelf) }
         ensures ends { active self.old.core.inner.config vol plex ≡ false → GroupAttachEnds vol plex self.new.core.inner.config (S.meaning self.new.shelf) result }
         ensures regains { Regains self.old.core.inner.config self.new.core.inner.config vol plex (S.meaning self.old.shelf) (S.meaning self.new.shelf) }
         ensures held { active self.old.core.inner.config vol plex ≡ false → OnOk result (HoldsPlex (λ s. S.meaning s) self.old.core.inner.config self.new.core.inner.config vol plex self.new.shelf) }

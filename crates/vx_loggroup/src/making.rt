@@ -10,7 +10,7 @@ ghost use Rattle.vx_model.specs.declared.limits.TheConstants.{MOST_VOLUMES};
 ghost use Rattle.vx_model.specs.declared.no.No.{No as NoValue};
 
 use crate::alike::set_alike;
-use crate::beginning::begin_log;
+use crate::beginning::begin_both;
 use std::alloc::Global;
 use vx_disk::Shelf;
 use vx_group::{GroupCore, make_in};
@@ -20,7 +20,7 @@ use vx_maplog::blocks_of;
 use vx_model::limits::MOST_VOLUMES;
 use vx_model::{Name, Stop};
 
-// Begins the log of a volume of which the plexes are alike.
+// Begins the logs of a volume of which the plexes are alike.
 fn begin_at<S: Shelf>(
     alloc: Global,
     shelf: &mut S,
@@ -40,11 +40,12 @@ fn begin_at<S: Shelf>(
     if blocks_of(&core.inner.config, vol) == 0 {
         return;
     }
-    begin_log(alloc, shelf, core, &mut logs[vol as usize], vol);
+    begin_both(alloc, shelf, core, &mut logs[vol as usize], vol);
 }
 
 /// Makes a volume, as a group does without logs, and answers its number. Where it has a dirty region log, this begins without marks, and a commit
-/// of its own says then that it is trusted; where it cannot begin, it stays lost.
+/// of its own says then that it is trusted; where it cannot begin, it stays lost. So it is with its log of missed regions, of which no plex has
+/// missed any.
 ///
 /// Answers what the making of a volume of a group answers, and that memory ran out before any other refusal. It takes memory.
 pub fn make_whole<S: Shelf>(

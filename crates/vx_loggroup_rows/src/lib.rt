@@ -4,4 +4,6 @@
 #![tactic(auto)]
 
 #[cfg(test)]
+mod misses;
+#[cfg(test)]
 mod recovers;

@@ -180,7 +180,6 @@ module _ (old m1 : Meaning) (plan : Plan) (taken : IsTaken old m1 plan) (law : L
   on_none : (v : ℕ) → VolumeOn opened v (dirty_logs None) m1
   on_none v = record {
     fits = record { drl = λ d is. absurd (let clash : None ≡ Some d = is in cc); fmr = λ f is. absurd (let clash : None ≡ Some f = is in cc) };
-    plain = refl;
     stands = record { drl = λ d is. absurd (let clash : None ≡ Some d = is in cc); fmr = λ f is. absurd (let clash : None ≡ Some f = is in cc) };
     memory = record { so = λ d is. absurd (let clash : None ≡ Some d = is in cc) };
     disk = disk_of v;
@@ -190,7 +189,6 @@ module _ (old m1 : Meaning) (plan : Plan) (taken : IsTaken old m1 plan) (law : L
   on_read v None m2 read = on_none v
   on_read v (Some g) m2 read = record {
     fits = record { drl = λ d is. subst (λ (h : Dirty). DrlFits opened v h) (some_is g d is) read.1; fmr = λ f is. absurd (let clash : None ≡ Some f = is in cc) };
-    plain = refl;
     stands = record { drl = λ d is. subst (λ (h : Dirty). MapOn h.map m1) (some_is g d is) (map_of v g m2 read); fmr = λ f is. absurd (let clash : None ≡ Some f = is in cc) };
     memory = record { so = λ d is. subst (λ (h : Dirty). AlikeBut opened v (is_dirty h) m1) (some_is g d is) (alike_of v g m2 read) };
     disk = disk_of v;

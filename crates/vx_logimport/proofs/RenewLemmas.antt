@@ -77,7 +77,6 @@ module _ (core d : Inner) (flags : List Bool) (logs : List Logs) (m1 new : Meani
   by_alike : (v : ℕ) → AllAlike d.config v new → VolumeOn d.config v (dirty_logs None) new
   by_alike v alike = record {
     fits = record { drl = λ g is. absurd (let clash : None ≡ Some g = is in cc); fmr = λ f is. absurd (let clash : None ≡ Some f = is in cc) };
-    plain = refl;
     stands = record { drl = λ g is. absurd (let clash : None ≡ Some g = is in cc); fmr = λ f is. absurd (let clash : None ≡ Some f = is in cc) };
     memory = record { so = λ g is. absurd (let clash : None ≡ Some g = is in cc) };
     disk = λ trusted. record {

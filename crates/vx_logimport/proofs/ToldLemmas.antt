@@ -24,7 +24,7 @@ use Rattle.vx_group.specs.Resumes.{AtRest}
 use Rattle.vx_group.specs.declared.group_core.GroupCore.{GroupCore}
 use Rattle.vx_group.proofs.HoldLemmas.{wide_shape}
 use Rattle.vx_grouplogs.specs.On.{VolumeOn}
-use Rattle.vx_grouplogs.proofs.OnLemmas.{run_back}
+use Rattle.vx_grouplogs.proofs.LogShape.{run_back}
 use Rattle.vx_logimport.specs.Covers.{ConfigCovers, DisksTell, LogSettled}
 
 in_use_trusted : (x : Config) (v : ℕ) (e : LogEntry) → InUse x v Drl e → log_trusted x v Drl ≡ true
@@ -51,7 +51,7 @@ module _ (c x : Config) (v : ℕ) (l : Logs) (m : Meaning) (lt : v < length c.vo
   covers_of = record {
     so = λ e p q b y z w in_use inside live_p live_q left off at_p at_q.
         let trusted = kin.shape.trusted v Drl lt (in_use_trusted x v e in_use) in
-        let run = run_back c x v (kin.shape.logs v Drl lt) e in_use.is in
+        let run = run_back c x v Drl (kin.shape.logs v Drl lt) e in_use.is in
         let there : Inside c v b = record { volume = lt; within = omega (arith, inside.within, kin.shape.blocks v lt) } in
         let left' : m.leaves run.entry.disk (run.entry.start + (b / 64) / 4096) w = subst (λ (n : ℕ). m.leaves run.entry.disk (n + (b / 64) / 4096) w) (sym run.start) (subst (λ (u : ℕ). m.leaves u (e.start + (b / 64) / 4096) w) (sym run.disk) left) in
         (on.disk trusted).so run.entry b p q y z w run.is there (kin.on v p lt live_p) (kin.on v q lt live_q) left' off
@@ -62,7 +62,7 @@ module _ (c x : Config) (v : ℕ) (l : Logs) (m : Meaning) (lt : v < length c.vo
     -- a block of the log has what it has in memory
     only_one : (d : Dirty) → l.drl ≡ Some d → (e : LogEntry) (k : ℕ) (y : List ℕ) → log_of x v Drl ≡ Some e → k < map_blocks (blocks_of x.volumes v) → m.leaves e.disk (e.start + k) y → y ≡ block_of d.map.bytes k
     only_one d at e k y is low left =
-        let run = run_back c x v (kin.shape.logs v Drl lt) e is in
+        let run = run_back c x v Drl (kin.shape.logs v Drl lt) e is in
         let log = (on.fits.drl d at).log in
         let same : run.entry ≡ log.entry = the_entry (log_of c v Drl) log.entry run.entry log.is run.is in
         let unit : e.disk ≡ d.map.unit = sym run.disk ∙ ap (λ (n : LogEntry). n.disk) same ∙ sym log.run.there in

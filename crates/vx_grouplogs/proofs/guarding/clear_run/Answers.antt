@@ -1,6 +1,7 @@
 -- The log of a volume behind marks that were taken off.
-use Rattle.std.proofs.Common.{◌∙◌, refl}
+use Rattle.std.proofs.Common.{None, refl}
 use Rattle.vx_grouplogs.proofs.DirtyLemmas.{gone_fewer, marks_fewer, marks_off}
+use Rattle.vx_grouplogs.proofs.KnowActs.{know_logs, know_none, know_same}
 use Rattle.vx_grouplogs.proofs.OnCalls.{clear_down, on_gone, on_others}
 use Rattle.vx_grouplogs.proofs.guarding.clear_run.Goals as goal
 
@@ -9,7 +10,6 @@ returns-in-Ok-clause-on g c =
     let on = c.requires.on in
     record {
       fits = c.clear_marks.ensures.fits;
-      plain = c.in-Ok.ensures.clears.1 ∙ on.plain;
       stands = c.in-Ok.ensures.stands on.stands;
       memory = c.clear_marks.ensures.memory c.requires.alike;
       disk = λ trusted. c.clear_marks.ensures.covers c.requires.alike;
@@ -45,3 +45,14 @@ returns-in-Ok-clause-off g c =
 
 pub returns-in-Err-clause-fewer : goal.returns-in-Err-clause-fewer
 returns-in-Err-clause-fewer g c = gone_fewer _ c.args.logs.now _ refl
+
+pub returns-in-Ok-clause-maps : goal.returns-in-Ok-clause-maps
+returns-in-Ok-clause-maps g c = λ spare know.
+    know_same c.args.config.now c.args.vol spare c.args.logs.now c.clear_marks.new.logs (g.S.Shelf.meaning c.clear_marks.new.shelf) c.in-Ok.ensures.clears.1
+    (know_logs c.args.config.now c.requires.checked c.args.vol (g.S.Shelf.meaning c.args.shelf.now) (g.S.Shelf.meaning c.clear_marks.new.shelf) c.clear_marks.ensures.goes c.args.vol spare c.args.logs.now know)
+
+pub returns-in-Ok-clause-same : goal.returns-in-Ok-clause-same
+returns-in-Ok-clause-same g c = c.in-Ok.ensures.clears.1
+
+pub returns-in-Err-clause-maps : goal.returns-in-Err-clause-maps
+returns-in-Err-clause-maps g c = λ spare know. know_none c.args.config.now c.args.vol spare (record { drl = None; fmr = None }) (g.S.Shelf.meaning c.clear_marks.new.shelf) refl

@@ -1,5 +1,5 @@
 -- Marks that are taken off.
-use Rattle.std.proofs.Common.{◌≡◌, ◌+◌, ◌<◌, ◌≤◌, ℕ, Bool, false, true, ap, subst, sym, arith}
+use Rattle.std.proofs.Common.{◌≡◌, ◌+◌, ◌<◌, ◌≤◌, ℕ, Bool, false, true, ap, refl, subst, sym, arith}
 use Rattle.vx_config.specs.declared.config.Config.{Config}
 use Rattle.vx_disk.specs.Shelf.{Nothing}
 use Rattle.vx_disk.proofs.Causing.{Cause_both}
@@ -10,7 +10,9 @@ use Rattle.vx_group.proofs.LostLemmas.{if_ok_from}
 use Rattle.vx_group.proofs.TrustLemmas.{err_from, ok_from}
 use Rattle.vx_grouplogs.specs.Covering.{AllAlike}
 use Rattle.vx_grouplogs.specs.Marking.{MarksFewer, NoMarks}
-use Rattle.vx_logged.proofs.StandLemmas.{alike_goes, config_is, if_ok_any, inner_fit, inner_others, inner_sound, logs_Stands, logs_goes, no_regions, others_each, others_then, same_fewer, same_regions, to_inner, to_wide}
+use Rattle.vx_groupmaps.specs.Missing.{none_spared}
+use Rattle.vx_groupmaps.proofs.KnowLemmas.{note_none, note_same}
+use Rattle.vx_logged.proofs.StandLemmas.{alike_goes, config_is, if_ok_any, inner_fit, inner_others, inner_sound, know_inner, know_wide, logs_Stands, logs_goes, no_regions, others_each, others_then, same_fewer, same_regions, to_inner, to_wide}
 use Rattle.vx_logged.proofs.clearing.clear_group.Goals as goal
 
 pub clear_run-requires-clause-checked : goal.clear_run-requires-clause-checked
@@ -40,10 +42,6 @@ keep_log-requires-clause-stands g c =
 pub keep_log-requires-clause-there : goal.keep_log-requires-clause-there
 keep_log-requires-clause-there g c =
     omega (arith, c.requires.there, c.ready_group.ensures.goes.units)
-
-pub keep_log-requires-clause-none : goal.keep_log-requires-clause-none
-keep_log-requires-clause-none g c =
-    c.in-Ok.ensures.none c.if-not-ready.false
 
 pub returns-in-Err-clear_run-clause-stands : goal.returns-in-Err-clear_run-clause-stands
 returns-in-Err-clear_run-clause-stands g c =
@@ -91,11 +89,11 @@ returns-clause-log g c =
 
 pub returns-in-Err-clear_run-clause-others : goal.returns-in-Err-clear_run-clause-others
 returns-in-Err-clear_run-clause-others g c =
-    others_then c.args.vol c.args.core.now c.ready_group.new.core c.ready_group.new.core (g.S.Shelf.meaning c.args.shelf.now) (g.S.Shelf.meaning c.ready_group.new.shelf) (g.S.Shelf.meaning c.clear_run.new.shelf) (others_each c.args.vol c.args.core.now c.ready_group.new.core (g.S.Shelf.meaning c.args.shelf.now) (g.S.Shelf.meaning c.ready_group.new.shelf) c.ready_group.ensures.logs) (inner_others c.ready_group.new.core c.args.vol (g.S.Shelf.meaning c.ready_group.new.shelf) (g.S.Shelf.meaning c.clear_run.new.shelf) (c.in-Ok.ensures.none c.if-not-ready.false) c.ready_group.ensures.stands c.clear_run.ensures.others)
+    others_then c.args.vol c.args.core.now c.ready_group.new.core c.ready_group.new.core (g.S.Shelf.meaning c.args.shelf.now) (g.S.Shelf.meaning c.ready_group.new.shelf) (g.S.Shelf.meaning c.clear_run.new.shelf) (others_each c.args.vol c.args.core.now c.ready_group.new.core (g.S.Shelf.meaning c.args.shelf.now) (g.S.Shelf.meaning c.ready_group.new.shelf) c.ready_group.ensures.logs) (inner_others c.ready_group.new.core c.args.vol (g.S.Shelf.meaning c.ready_group.new.shelf) (g.S.Shelf.meaning c.clear_run.new.shelf) (c.in-Ok.ensures.none c.if-not-ready.false) c.ready_group.ensures.stands c.clear_run.ensures.goes c.clear_run.ensures.others)
 
 pub returns-clause-others : goal.returns-clause-others
 returns-clause-others g c =
-    others_then c.args.vol c.args.core.now c.ready_group.new.core c.keep_log.new.core (g.S.Shelf.meaning c.args.shelf.now) (g.S.Shelf.meaning c.clear_run.new.shelf) (g.S.Shelf.meaning c.keep_log.new.shelf) (others_then c.args.vol c.args.core.now c.ready_group.new.core c.ready_group.new.core (g.S.Shelf.meaning c.args.shelf.now) (g.S.Shelf.meaning c.ready_group.new.shelf) (g.S.Shelf.meaning c.clear_run.new.shelf) (others_each c.args.vol c.args.core.now c.ready_group.new.core (g.S.Shelf.meaning c.args.shelf.now) (g.S.Shelf.meaning c.ready_group.new.shelf) c.ready_group.ensures.logs) (inner_others c.ready_group.new.core c.args.vol (g.S.Shelf.meaning c.ready_group.new.shelf) (g.S.Shelf.meaning c.clear_run.new.shelf) (c.in-Ok.ensures.none c.if-not-ready.false) c.ready_group.ensures.stands c.clear_run.ensures.others)) (others_each c.args.vol c.ready_group.new.core c.keep_log.new.core (g.S.Shelf.meaning c.clear_run.new.shelf) (g.S.Shelf.meaning c.keep_log.new.shelf) c.keep_log.ensures.logs)
+    others_then c.args.vol c.args.core.now c.ready_group.new.core c.keep_log.new.core (g.S.Shelf.meaning c.args.shelf.now) (g.S.Shelf.meaning c.clear_run.new.shelf) (g.S.Shelf.meaning c.keep_log.new.shelf) (others_then c.args.vol c.args.core.now c.ready_group.new.core c.ready_group.new.core (g.S.Shelf.meaning c.args.shelf.now) (g.S.Shelf.meaning c.ready_group.new.shelf) (g.S.Shelf.meaning c.clear_run.new.shelf) (others_each c.args.vol c.args.core.now c.ready_group.new.core (g.S.Shelf.meaning c.args.shelf.now) (g.S.Shelf.meaning c.ready_group.new.shelf) c.ready_group.ensures.logs) (inner_others c.ready_group.new.core c.args.vol (g.S.Shelf.meaning c.ready_group.new.shelf) (g.S.Shelf.meaning c.clear_run.new.shelf) (c.in-Ok.ensures.none c.if-not-ready.false) c.ready_group.ensures.stands c.clear_run.ensures.goes c.clear_run.ensures.others)) (others_each c.args.vol c.ready_group.new.core c.keep_log.new.core (g.S.Shelf.meaning c.clear_run.new.shelf) (g.S.Shelf.meaning c.keep_log.new.shelf) c.keep_log.ensures.logs)
 
 pub returns-then-not-ready-clause-full : goal.returns-then-not-ready-clause-full
 returns-then-not-ready-clause-full g c =
@@ -151,3 +149,34 @@ returns-clause-fewer g c = subst (λ (n : ℕ). MarksFewer n c.args.logs.now c.c
 
 pub returns-clause-off : goal.returns-clause-off
 returns-clause-off g c = if_ok_any c.keep_log.result (λ (done : Bool) is many. subst (λ (n : ℕ). NoMarks n c.clear_run.new.logs) (same_regions c.args.core.now c.ready_group.new.core c.args.vol (g.S.Shelf.meaning c.args.shelf.now) (g.S.Shelf.meaning c.ready_group.new.shelf) (c.in-Ok.ensures.none c.if-not-ready.false) c.ready_group.ensures.goes) (c.in-Ok-clear_run.ensures.off many))
+
+pub returns-in-Err-clause-maps : goal.returns-in-Err-clause-maps
+returns-in-Err-clause-maps g c = c.ready_group.ensures.logs.maps c.args.vol none_spared c.args.logs.now
+
+pub returns-in-Err-clause-stay : goal.returns-in-Err-clause-stay
+returns-in-Err-clause-stay g c = note_same _ _ _ c.args.logs.now c.args.logs.now refl
+
+pub returns-then-not-ready-clause-maps : goal.returns-then-not-ready-clause-maps
+returns-then-not-ready-clause-maps g c = c.ready_group.ensures.logs.maps c.args.vol none_spared c.args.logs.now
+
+pub returns-then-not-ready-clause-stay : goal.returns-then-not-ready-clause-stay
+returns-then-not-ready-clause-stay g c = note_same _ _ _ c.args.logs.now c.args.logs.now refl
+
+pub returns-then-blocks-eq0-clause-maps : goal.returns-then-blocks-eq0-clause-maps
+returns-then-blocks-eq0-clause-maps g c = c.ready_group.ensures.logs.maps c.args.vol none_spared c.args.logs.now
+
+pub returns-then-blocks-eq0-clause-stay : goal.returns-then-blocks-eq0-clause-stay
+returns-then-blocks-eq0-clause-stay g c = note_same _ _ _ c.args.logs.now c.args.logs.now refl
+
+pub returns-in-Err-clear_run-clause-maps : goal.returns-in-Err-clear_run-clause-maps
+returns-in-Err-clear_run-clause-maps g c = λ know. know_wide c.ready_group.new.core c.args.vol (g.S.Shelf.meaning c.ready_group.new.shelf) (g.S.Shelf.meaning c.clear_run.new.shelf) (c.in-Ok.ensures.none c.if-not-ready.false) c.ready_group.ensures.stands c.args.vol none_spared c.clear_run.new.logs (c.clear_run.ensures.maps none_spared (know_inner c.ready_group.new.core c.args.vol (g.S.Shelf.meaning c.ready_group.new.shelf) (g.S.Shelf.meaning c.ready_group.new.shelf) (c.in-Ok.ensures.none c.if-not-ready.false) c.ready_group.ensures.stands c.args.vol none_spared c.args.logs.now (c.ready_group.ensures.logs.maps c.args.vol none_spared c.args.logs.now know)))
+
+pub returns-in-Err-clear_run-clause-stay : goal.returns-in-Err-clear_run-clause-stay
+returns-in-Err-clear_run-clause-stay g c = note_none _ _ _ c.args.logs.now c.clear_run.new.logs c.in-Err-clear_run.ensures.gone
+
+pub returns-clause-maps : goal.returns-clause-maps
+returns-clause-maps g c = λ know. c.keep_log.ensures.logs.maps c.args.vol none_spared c.clear_run.new.logs
+    (know_wide c.ready_group.new.core c.args.vol (g.S.Shelf.meaning c.ready_group.new.shelf) (g.S.Shelf.meaning c.clear_run.new.shelf) (c.in-Ok.ensures.none c.if-not-ready.false) c.ready_group.ensures.stands c.args.vol none_spared c.clear_run.new.logs (c.clear_run.ensures.maps none_spared (know_inner c.ready_group.new.core c.args.vol (g.S.Shelf.meaning c.ready_group.new.shelf) (g.S.Shelf.meaning c.ready_group.new.shelf) (c.in-Ok.ensures.none c.if-not-ready.false) c.ready_group.ensures.stands c.args.vol none_spared c.args.logs.now (c.ready_group.ensures.logs.maps c.args.vol none_spared c.args.logs.now know))))
+
+pub returns-clause-stay : goal.returns-clause-stay
+returns-clause-stay g c = note_same _ _ _ c.args.logs.now c.clear_run.new.logs c.in-Ok-clear_run.ensures.same

@@ -1,5 +1,5 @@
 -- A flush, and marks that are taken off behind it.
-use Rattle.std.proofs.Common.{ℕ, Bool, Err, ap, subst, arith}
+use Rattle.std.proofs.Common.{ℕ, Bool, Err, ap, refl, subst, arith}
 use Rattle.vx_disk.specs.Shelf.{Nothing}
 use Rattle.vx_disk.proofs.Causing.{Cause_both}
 use Rattle.vx_disk.proofs.Runs.{then_nothing}
@@ -7,6 +7,8 @@ use Rattle.vx_group.specs.Holding.{wide}
 use Rattle.vx_group.specs.Stands.{inner_meaning}
 use Rattle.vx_grouplogs.specs.Marking.{MarksFewer}
 use Rattle.vx_model.specs.Sizes.{regions_of as regions_in}
+use Rattle.vx_groupmaps.specs.Missing.{none_spared}
+use Rattle.vx_groupmaps.proofs.KnowLemmas.{note_same}
 use Rattle.vx_logged.proofs.StandLemmas.{cause_to, each_on, flushed_alike, flushed_then, others_each, others_then, same_fewer}
 use Rattle.vx_logged.proofs.flushing.flush_cleared.Goals as goal
 
@@ -94,3 +96,21 @@ returns-in-Ok-clear_group-clause-fewer g c = subst (λ (n : ℕ). MarksFewer n c
 
 pub returns-in-Err-clear_group-clause-fewer : goal.returns-in-Err-clear_group-clause-fewer
 returns-in-Err-clear_group-clause-fewer g c = subst (λ (n : ℕ). MarksFewer n c.args.logs.now c.clear_group.new.logs) (ap regions_in (c.flush_group.ensures.goes.size c.args.vol)) c.clear_group.ensures.fewer
+
+pub returns-in-Err-clause-maps : goal.returns-in-Err-clause-maps
+returns-in-Err-clause-maps g c = (each_on c.args.core.now c.flush_group.new.core (g.S.Shelf.meaning c.args.shelf.now) (g.S.Shelf.meaning c.flush_group.new.shelf) c.requires.stands c.flush_group.ensures.acts).maps c.args.vol none_spared c.args.logs.now
+
+pub returns-in-Err-clause-stay : goal.returns-in-Err-clause-stay
+returns-in-Err-clause-stay g c = note_same _ _ _ c.args.logs.now c.args.logs.now refl
+
+pub returns-then-not-sure-clause-maps : goal.returns-then-not-sure-clause-maps
+returns-then-not-sure-clause-maps g c = (each_on c.args.core.now c.flush_group.new.core (g.S.Shelf.meaning c.args.shelf.now) (g.S.Shelf.meaning c.flush_group.new.shelf) c.requires.stands c.flush_group.ensures.acts).maps c.args.vol none_spared c.args.logs.now
+
+pub returns-then-not-sure-clause-stay : goal.returns-then-not-sure-clause-stay
+returns-then-not-sure-clause-stay g c = note_same _ _ _ c.args.logs.now c.args.logs.now refl
+
+pub returns-in-Ok-clear_group-clause-maps : goal.returns-in-Ok-clear_group-clause-maps
+returns-in-Ok-clear_group-clause-maps g c = λ know. c.clear_group.ensures.maps ((each_on c.args.core.now c.flush_group.new.core (g.S.Shelf.meaning c.args.shelf.now) (g.S.Shelf.meaning c.flush_group.new.shelf) c.requires.stands c.flush_group.ensures.acts).maps c.args.vol none_spared c.args.logs.now know)
+
+pub returns-in-Err-clear_group-clause-maps : goal.returns-in-Err-clear_group-clause-maps
+returns-in-Err-clear_group-clause-maps g c = λ know. c.clear_group.ensures.maps ((each_on c.args.core.now c.flush_group.new.core (g.S.Shelf.meaning c.args.shelf.now) (g.S.Shelf.meaning c.flush_group.new.shelf) c.requires.stands c.flush_group.ensures.acts).maps c.args.vol none_spared c.args.logs.now know)

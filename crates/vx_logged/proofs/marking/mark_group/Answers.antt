@@ -1,5 +1,5 @@
 -- Marks of a group before a write.
-use Rattle.std.proofs.Common.{◌≡◌, ◌+◌, ◌<◌, ◌≤◌, ℕ, Bool, false, true, ap, subst, sym, arith}
+use Rattle.std.proofs.Common.{◌≡◌, ◌+◌, ◌<◌, ◌≤◌, ℕ, Bool, false, true, ap, refl, subst, sym, arith}
 use Rattle.vx_config.specs.Checks.{blocks_of}
 use Rattle.vx_config.specs.declared.config.Config.{Config}
 use Rattle.vx_disk.specs.Shelf.{Nothing}
@@ -11,7 +11,13 @@ use Rattle.vx_grouplogs.specs.Marking.{MarksOnly}
 use Rattle.vx_logs.specs.Writes.{first_region, last_region}
 use Rattle.vx_group.proofs.LostLemmas.{if_ok_from}
 use Rattle.vx_group.proofs.TrustLemmas.{err_from, ok_from}
-use Rattle.vx_logged.proofs.StandLemmas.{config_is, inner_fit, inner_others, inner_sound, logs_Stands, logs_goes, others_each, others_then, same_only, same_regions, to_inner, to_wide}
+use Rattle.vx_groupmaps.specs.Knowing.{or_off, or_stale}
+use Rattle.vx_groupmaps.specs.Missing.{none_spared}
+use Rattle.vx_groupmaps.proofs.KnowLemmas.{know_less, note_more, note_same}
+use Rattle.vx_logs.specs.Held.{stale}
+use Rattle.vx_logged.specs.Logged.{are_off}
+use Rattle.vx_logged.proofs.MissLemmas.{know_stale, stale_are_off}
+use Rattle.vx_logged.proofs.StandLemmas.{config_is, if_ok_any, inner_fit, inner_others, inner_sound, know_inner, know_wide, logs_Stands, logs_goes, narrowed_same, narrowed_then, others_each, others_then, same_only, same_regions, to_inner, to_wide}
 use Rattle.vx_logged.proofs.marking.mark_group.Goals as goal
 
 pub guard_run-requires-clause-checked : goal.guard_run-requires-clause-checked
@@ -30,17 +36,13 @@ pub guard_run-requires-clause-within : goal.guard_run-requires-clause-within
 guard_run-requires-clause-within g c =
     subst (λ (x : Config). c.args.block + c.args.count ≤ blocks_of x.volumes c.args.vol) (config_is c.ready_group.new.core c.args.vol (g.S.Shelf.meaning c.ready_group.new.shelf) (g.S.Shelf.meaning c.ready_group.new.shelf) (c.in-Ok.ensures.none c.if-not-ready.false) c.ready_group.ensures.stands) (let same = c.ready_group.ensures.goes.size c.args.vol in omega (arith, c.requires.within, same))
 
-pub keep_log-requires-clause-stands : goal.keep_log-requires-clause-stands
-keep_log-requires-clause-stands g c =
+pub keep_logs-requires-clause-stands : goal.keep_logs-requires-clause-stands
+keep_logs-requires-clause-stands g c =
     logs_Stands c.ready_group.new.core c.args.vol (g.S.Shelf.meaning c.ready_group.new.shelf) (g.S.Shelf.meaning c.guard_run.new.shelf) (c.in-Ok.ensures.none c.if-not-ready.false) c.ready_group.ensures.stands c.guard_run.ensures.goes (g.met.S.Shelf.lawful c.ready_group.new.shelf) (g.met.S.Shelf.lawful c.guard_run.new.shelf)
 
-pub keep_log-requires-clause-there : goal.keep_log-requires-clause-there
-keep_log-requires-clause-there g c =
+pub keep_logs-requires-clause-there : goal.keep_logs-requires-clause-there
+keep_logs-requires-clause-there g c =
     omega (arith, c.requires.there, c.ready_group.ensures.goes.units)
-
-pub keep_log-requires-clause-none : goal.keep_log-requires-clause-none
-keep_log-requires-clause-none g c =
-    c.in-Ok.ensures.none c.if-not-ready.false
 
 pub returns-in-Err-guard_run-clause-stands : goal.returns-in-Err-guard_run-clause-stands
 returns-in-Err-guard_run-clause-stands g c =
@@ -52,7 +54,7 @@ returns-in-Err-guard_run-clause-goes g c =
 
 pub returns-clause-goes : goal.returns-clause-goes
 returns-clause-goes g c =
-    then_nothing Nothing (inner_meaning (wide c.args.core.now) (g.S.Shelf.meaning c.args.shelf.now)) (inner_meaning (wide c.ready_group.new.core) (g.S.Shelf.meaning c.guard_run.new.shelf)) (inner_meaning (wide c.keep_log.new.core) (g.S.Shelf.meaning c.keep_log.new.shelf)) (then_nothing Nothing (inner_meaning (wide c.args.core.now) (g.S.Shelf.meaning c.args.shelf.now)) (inner_meaning (wide c.ready_group.new.core) (g.S.Shelf.meaning c.ready_group.new.shelf)) (inner_meaning (wide c.ready_group.new.core) (g.S.Shelf.meaning c.guard_run.new.shelf)) c.ready_group.ensures.goes (logs_goes c.ready_group.new.core c.args.vol (g.S.Shelf.meaning c.ready_group.new.shelf) (g.S.Shelf.meaning c.guard_run.new.shelf) (c.in-Ok.ensures.none c.if-not-ready.false) c.ready_group.ensures.stands c.guard_run.ensures.group)) c.keep_log.ensures.goes
+    then_nothing Nothing (inner_meaning (wide c.args.core.now) (g.S.Shelf.meaning c.args.shelf.now)) (inner_meaning (wide c.ready_group.new.core) (g.S.Shelf.meaning c.guard_run.new.shelf)) (inner_meaning (wide c.keep_logs.new.core) (g.S.Shelf.meaning c.keep_logs.new.shelf)) (then_nothing Nothing (inner_meaning (wide c.args.core.now) (g.S.Shelf.meaning c.args.shelf.now)) (inner_meaning (wide c.ready_group.new.core) (g.S.Shelf.meaning c.ready_group.new.shelf)) (inner_meaning (wide c.ready_group.new.core) (g.S.Shelf.meaning c.guard_run.new.shelf)) c.ready_group.ensures.goes (logs_goes c.ready_group.new.core c.args.vol (g.S.Shelf.meaning c.ready_group.new.shelf) (g.S.Shelf.meaning c.guard_run.new.shelf) (c.in-Ok.ensures.none c.if-not-ready.false) c.ready_group.ensures.stands c.guard_run.ensures.group)) c.keep_logs.ensures.goes
 
 pub returns-in-Err-clause-log : goal.returns-in-Err-clause-log
 returns-in-Err-clause-log g c =
@@ -76,15 +78,15 @@ returns-in-Err-guard_run-clause-log g c =
 
 pub returns-clause-log : goal.returns-clause-log
 returns-clause-log g c =
-    c.keep_log.ensures.logs.each c.args.vol c.guard_run.new.logs (to_wide c.ready_group.new.core c.args.vol (g.S.Shelf.meaning c.ready_group.new.shelf) (g.S.Shelf.meaning c.guard_run.new.shelf) (c.in-Ok.ensures.none c.if-not-ready.false) c.ready_group.ensures.stands c.args.vol c.guard_run.new.logs c.guard_run.ensures.on)
+    c.keep_logs.ensures.logs.each c.args.vol c.guard_run.new.logs (to_wide c.ready_group.new.core c.args.vol (g.S.Shelf.meaning c.ready_group.new.shelf) (g.S.Shelf.meaning c.guard_run.new.shelf) (c.in-Ok.ensures.none c.if-not-ready.false) c.ready_group.ensures.stands c.args.vol c.guard_run.new.logs c.guard_run.ensures.on)
 
 pub returns-in-Err-guard_run-clause-others : goal.returns-in-Err-guard_run-clause-others
 returns-in-Err-guard_run-clause-others g c =
-    others_then c.args.vol c.args.core.now c.ready_group.new.core c.ready_group.new.core (g.S.Shelf.meaning c.args.shelf.now) (g.S.Shelf.meaning c.ready_group.new.shelf) (g.S.Shelf.meaning c.guard_run.new.shelf) (others_each c.args.vol c.args.core.now c.ready_group.new.core (g.S.Shelf.meaning c.args.shelf.now) (g.S.Shelf.meaning c.ready_group.new.shelf) c.ready_group.ensures.logs) (inner_others c.ready_group.new.core c.args.vol (g.S.Shelf.meaning c.ready_group.new.shelf) (g.S.Shelf.meaning c.guard_run.new.shelf) (c.in-Ok.ensures.none c.if-not-ready.false) c.ready_group.ensures.stands c.guard_run.ensures.others)
+    others_then c.args.vol c.args.core.now c.ready_group.new.core c.ready_group.new.core (g.S.Shelf.meaning c.args.shelf.now) (g.S.Shelf.meaning c.ready_group.new.shelf) (g.S.Shelf.meaning c.guard_run.new.shelf) (others_each c.args.vol c.args.core.now c.ready_group.new.core (g.S.Shelf.meaning c.args.shelf.now) (g.S.Shelf.meaning c.ready_group.new.shelf) c.ready_group.ensures.logs) (inner_others c.ready_group.new.core c.args.vol (g.S.Shelf.meaning c.ready_group.new.shelf) (g.S.Shelf.meaning c.guard_run.new.shelf) (c.in-Ok.ensures.none c.if-not-ready.false) c.ready_group.ensures.stands c.guard_run.ensures.goes c.guard_run.ensures.others)
 
 pub returns-clause-others : goal.returns-clause-others
 returns-clause-others g c =
-    others_then c.args.vol c.args.core.now c.ready_group.new.core c.keep_log.new.core (g.S.Shelf.meaning c.args.shelf.now) (g.S.Shelf.meaning c.guard_run.new.shelf) (g.S.Shelf.meaning c.keep_log.new.shelf) (others_then c.args.vol c.args.core.now c.ready_group.new.core c.ready_group.new.core (g.S.Shelf.meaning c.args.shelf.now) (g.S.Shelf.meaning c.ready_group.new.shelf) (g.S.Shelf.meaning c.guard_run.new.shelf) (others_each c.args.vol c.args.core.now c.ready_group.new.core (g.S.Shelf.meaning c.args.shelf.now) (g.S.Shelf.meaning c.ready_group.new.shelf) c.ready_group.ensures.logs) (inner_others c.ready_group.new.core c.args.vol (g.S.Shelf.meaning c.ready_group.new.shelf) (g.S.Shelf.meaning c.guard_run.new.shelf) (c.in-Ok.ensures.none c.if-not-ready.false) c.ready_group.ensures.stands c.guard_run.ensures.others)) (others_each c.args.vol c.ready_group.new.core c.keep_log.new.core (g.S.Shelf.meaning c.guard_run.new.shelf) (g.S.Shelf.meaning c.keep_log.new.shelf) c.keep_log.ensures.logs)
+    others_then c.args.vol c.args.core.now c.ready_group.new.core c.keep_logs.new.core (g.S.Shelf.meaning c.args.shelf.now) (g.S.Shelf.meaning c.guard_run.new.shelf) (g.S.Shelf.meaning c.keep_logs.new.shelf) (others_then c.args.vol c.args.core.now c.ready_group.new.core c.ready_group.new.core (g.S.Shelf.meaning c.args.shelf.now) (g.S.Shelf.meaning c.ready_group.new.shelf) (g.S.Shelf.meaning c.guard_run.new.shelf) (others_each c.args.vol c.args.core.now c.ready_group.new.core (g.S.Shelf.meaning c.args.shelf.now) (g.S.Shelf.meaning c.ready_group.new.shelf) c.ready_group.ensures.logs) (inner_others c.ready_group.new.core c.args.vol (g.S.Shelf.meaning c.ready_group.new.shelf) (g.S.Shelf.meaning c.guard_run.new.shelf) (c.in-Ok.ensures.none c.if-not-ready.false) c.ready_group.ensures.stands c.guard_run.ensures.goes c.guard_run.ensures.others)) (others_each c.args.vol c.ready_group.new.core c.keep_logs.new.core (g.S.Shelf.meaning c.guard_run.new.shelf) (g.S.Shelf.meaning c.keep_logs.new.shelf) c.keep_logs.ensures.logs)
 
 pub returns-then-not-ready-clause-full : goal.returns-then-not-ready-clause-full
 returns-then-not-ready-clause-full g c =
@@ -92,15 +94,15 @@ returns-then-not-ready-clause-full g c =
 
 pub returns-clause-full : goal.returns-clause-full
 returns-clause-full g c =
-    if_ok_from c.keep_log.result (λ (done : Bool) full is. let few = c.in-Ok.ensures.few in let here = full is in omega (arith, few, here)) c.keep_log.ensures.full
+    if_ok_from c.keep_logs.result (λ (done : Bool) full is. let few = c.in-Ok.ensures.few in let here = full is in omega (arith, few, here)) c.keep_logs.ensures.full
 
 pub returns-clause-trust : goal.returns-clause-trust
 returns-clause-trust g c =
-    ok_from c.keep_log.result (λ keeps is. keeps (c.in-Ok.ensures.trust is)) c.keep_log.ensures.trust
+    ok_from c.keep_logs.result (λ keeps is. keeps (c.in-Ok.ensures.trust is)) c.keep_logs.ensures.trust
 
 pub returns-clause-agreed : goal.returns-clause-agreed
 returns-clause-agreed g c =
-    err_from c.keep_log.result (λ keeps is. keeps (c.in-Ok.ensures.trust is)) c.keep_log.ensures.agreed
+    err_from c.keep_logs.result (λ keeps is. keeps (c.in-Ok.ensures.trust is)) c.keep_logs.ensures.agreed
 
 pub returns-in-Err-guard_run-clause-agreed : goal.returns-in-Err-guard_run-clause-agreed
 returns-in-Err-guard_run-clause-agreed g c =
@@ -113,8 +115,8 @@ returns-in-Err-guard_run-clause-cause g c =
 pub returns-clause-cause : goal.returns-clause-cause
 returns-clause-cause g c =
     let goes = then_nothing Nothing (inner_meaning (wide c.args.core.now) (g.S.Shelf.meaning c.args.shelf.now)) (inner_meaning (wide c.ready_group.new.core) (g.S.Shelf.meaning c.ready_group.new.shelf)) (inner_meaning (wide c.ready_group.new.core) (g.S.Shelf.meaning c.guard_run.new.shelf)) c.ready_group.ensures.goes (logs_goes c.ready_group.new.core c.args.vol (g.S.Shelf.meaning c.ready_group.new.shelf) (g.S.Shelf.meaning c.guard_run.new.shelf) (c.in-Ok.ensures.none c.if-not-ready.false) c.ready_group.ensures.stands c.guard_run.ensures.group) in
-    Cause_both (inner_meaning (wide c.args.core.now) (g.S.Shelf.meaning c.args.shelf.now)) (inner_meaning (wide c.ready_group.new.core) (g.S.Shelf.meaning c.guard_run.new.shelf)) (inner_meaning (wide c.keep_log.new.core) (g.S.Shelf.meaning c.keep_log.new.shelf)) c.args.vol c.keep_log.result
-    (record { before = c.in-Ok.ensures.cause.before; after = λ down. c.in-Ok.ensures.cause.after (c.in-Ok-guard_run.ensures.up down) }) goes.faults goes.disk_faults c.keep_log.ensures.cause
+    Cause_both (inner_meaning (wide c.args.core.now) (g.S.Shelf.meaning c.args.shelf.now)) (inner_meaning (wide c.ready_group.new.core) (g.S.Shelf.meaning c.guard_run.new.shelf)) (inner_meaning (wide c.keep_logs.new.core) (g.S.Shelf.meaning c.keep_logs.new.shelf)) c.args.vol c.keep_logs.result
+    (record { before = c.in-Ok.ensures.cause.before; after = λ down. c.in-Ok.ensures.cause.after (c.in-Ok-guard_run.ensures.up down) }) goes.faults goes.disk_faults c.keep_logs.ensures.cause
 
 pub returns-then-not-ready-clause-may : goal.returns-then-not-ready-clause-may
 returns-then-not-ready-clause-may g c =
@@ -122,7 +124,7 @@ returns-then-not-ready-clause-may g c =
 
 pub returns-clause-may : goal.returns-clause-may
 returns-clause-may g c =
-    if_ok_from c.keep_log.result (λ (done : Bool) kept is. record { some = kept is; held = c.in-Ok-guard_run.ensures.held }) c.keep_log.ensures.kept
+    if_ok_from c.keep_logs.result (λ (done : Bool) kept is. record { some = kept is; held = c.in-Ok-guard_run.ensures.held }) c.keep_logs.ensures.kept
 
 pub returns-in-Err-clause-adds : goal.returns-in-Err-clause-adds
 returns-in-Err-clause-adds g c = same_only _ _ _ c.args.logs.now
@@ -137,3 +139,56 @@ returns-in-Err-guard_run-clause-adds g c =
 pub returns-clause-adds : goal.returns-clause-adds
 returns-clause-adds g c =
     subst (λ (n : ℕ). MarksOnly n (first_region c.args.block) (last_region c.args.block c.args.count) c.args.logs.now c.guard_run.new.logs) (same_regions c.args.core.now c.ready_group.new.core c.args.vol (g.S.Shelf.meaning c.args.shelf.now) (g.S.Shelf.meaning c.ready_group.new.shelf) (c.in-Ok.ensures.none c.if-not-ready.false) c.ready_group.ensures.goes) c.guard_run.ensures.adds
+
+pub returns-in-Err-clause-narrow : goal.returns-in-Err-clause-narrow
+returns-in-Err-clause-narrow g c = c.ready_group.ensures.narrow
+
+pub returns-then-not-ready-clause-narrow : goal.returns-then-not-ready-clause-narrow
+returns-then-not-ready-clause-narrow g c = c.ready_group.ensures.narrow
+
+pub returns-in-Err-guard_run-clause-narrow : goal.returns-in-Err-guard_run-clause-narrow
+returns-in-Err-guard_run-clause-narrow g c = c.ready_group.ensures.narrow
+
+pub returns-clause-narrow : goal.returns-clause-narrow
+returns-clause-narrow g c = narrowed_then c.args.core.now c.ready_group.new.core c.keep_logs.new.core c.ready_group.ensures.narrow c.keep_logs.ensures.narrow
+
+pub returns-in-Err-clause-maps : goal.returns-in-Err-clause-maps
+returns-in-Err-clause-maps g c = c.ready_group.ensures.logs.maps c.args.vol none_spared c.args.logs.now
+
+pub returns-then-not-ready-clause-maps : goal.returns-then-not-ready-clause-maps
+returns-then-not-ready-clause-maps g c = c.ready_group.ensures.logs.maps c.args.vol none_spared c.args.logs.now
+
+pub returns-in-Err-guard_run-clause-maps : goal.returns-in-Err-guard_run-clause-maps
+returns-in-Err-guard_run-clause-maps g c = λ know.
+    know_wide c.ready_group.new.core c.args.vol (g.S.Shelf.meaning c.ready_group.new.shelf) (g.S.Shelf.meaning c.guard_run.new.shelf) (c.in-Ok.ensures.none c.if-not-ready.false) c.ready_group.ensures.stands c.args.vol (none_spared) c.guard_run.new.logs
+    (c.guard_run.ensures.knows (none_spared) (know_less c.ready_group.new.core.inner.config c.args.vol none_spared (or_stale c.ready_group.new.core.inner.config c.args.vol (first_region c.args.block) (last_region c.args.block c.args.count) none_spared) c.args.logs.now (g.S.Shelf.meaning c.ready_group.new.shelf) (λ p k has clear. refl) (know_inner c.ready_group.new.core c.args.vol (g.S.Shelf.meaning c.ready_group.new.shelf) (g.S.Shelf.meaning c.ready_group.new.shelf) (c.in-Ok.ensures.none c.if-not-ready.false) c.ready_group.ensures.stands c.args.vol none_spared c.args.logs.now (c.ready_group.ensures.logs.maps c.args.vol none_spared c.args.logs.now know))))
+
+pub returns-clause-maps : goal.returns-clause-maps
+returns-clause-maps g c = λ know. c.keep_logs.ensures.logs.maps c.args.vol none_spared c.guard_run.new.logs
+    (know_wide c.ready_group.new.core c.args.vol (g.S.Shelf.meaning c.ready_group.new.shelf) (g.S.Shelf.meaning c.guard_run.new.shelf) (c.in-Ok.ensures.none c.if-not-ready.false) c.ready_group.ensures.stands c.args.vol (none_spared) c.guard_run.new.logs
+    (c.guard_run.ensures.knows (none_spared) (know_less c.ready_group.new.core.inner.config c.args.vol none_spared (or_stale c.ready_group.new.core.inner.config c.args.vol (first_region c.args.block) (last_region c.args.block c.args.count) none_spared) c.args.logs.now (g.S.Shelf.meaning c.ready_group.new.shelf) (λ p k has clear. refl) (know_inner c.ready_group.new.core c.args.vol (g.S.Shelf.meaning c.ready_group.new.shelf) (g.S.Shelf.meaning c.ready_group.new.shelf) (c.in-Ok.ensures.none c.if-not-ready.false) c.ready_group.ensures.stands c.args.vol none_spared c.args.logs.now (c.ready_group.ensures.logs.maps c.args.vol none_spared c.args.logs.now know)))))
+
+pub returns-then-not-ready-clause-knows : goal.returns-then-not-ready-clause-knows
+returns-then-not-ready-clause-knows g c = λ spare know is. absurd (let clash : false ≡ true = is in cc)
+
+pub returns-clause-knows : goal.returns-clause-knows
+returns-clause-knows g c = λ spare know. if_ok_any c.keep_logs.result (λ (done : Bool) is.
+    c.keep_logs.ensures.logs.maps c.args.vol spare c.guard_run.new.logs
+    (know_wide c.ready_group.new.core c.args.vol (g.S.Shelf.meaning c.ready_group.new.shelf) (g.S.Shelf.meaning c.guard_run.new.shelf) (c.in-Ok.ensures.none c.if-not-ready.false) c.ready_group.ensures.stands c.args.vol (spare) c.guard_run.new.logs
+    (c.guard_run.ensures.knows (spare) (know_stale c.args.core.now c.ready_group.new.core c.args.vol (first_region c.args.block) (last_region c.args.block c.args.count) spare c.args.logs.now (g.S.Shelf.meaning c.ready_group.new.shelf) c.ready_group.ensures.stands c.ready_group.ensures.narrow (c.in-Ok.ensures.none c.if-not-ready.false) (c.ready_group.ensures.logs.maps c.args.vol (or_off (wide c.args.core.now).config c.args.vol (first_region c.args.block) (last_region c.args.block c.args.count) spare) c.args.logs.now know)))))
+
+pub returns-in-Err-clause-notes : goal.returns-in-Err-clause-notes
+returns-in-Err-clause-notes g c = note_same _ _ _ c.args.logs.now c.args.logs.now refl
+
+pub returns-then-not-ready-clause-notes : goal.returns-then-not-ready-clause-notes
+returns-then-not-ready-clause-notes g c = note_same _ _ _ c.args.logs.now c.args.logs.now refl
+
+pub returns-in-Err-guard_run-clause-notes : goal.returns-in-Err-guard_run-clause-notes
+returns-in-Err-guard_run-clause-notes g c =
+    note_more (stale c.ready_group.new.core.inner.config c.args.vol) (are_off c.ready_group.new.core c.args.vol) (first_region c.args.block) (last_region c.args.block c.args.count) c.args.logs.now c.guard_run.new.logs
+    (stale_are_off c.ready_group.new.core c.ready_group.new.core c.args.vol (c.in-Ok.ensures.none c.if-not-ready.false) (narrowed_same c.ready_group.new.core)) c.guard_run.ensures.notes
+
+pub returns-clause-notes : goal.returns-clause-notes
+returns-clause-notes g c =
+    note_more (stale c.ready_group.new.core.inner.config c.args.vol) (are_off c.keep_logs.new.core c.args.vol) (first_region c.args.block) (last_region c.args.block c.args.count) c.args.logs.now c.guard_run.new.logs
+    (stale_are_off c.ready_group.new.core c.keep_logs.new.core c.args.vol (c.in-Ok.ensures.none c.if-not-ready.false) c.keep_logs.ensures.narrow) c.guard_run.ensures.notes

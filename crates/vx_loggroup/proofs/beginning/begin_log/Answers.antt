@@ -37,7 +37,7 @@ pub returns-then-is_none-clause-log : goal.returns-then-is_none-clause-log
 returns-then-is_none-clause-log g c = (to_wide c.args.core.now c.args.vol (g.S.Shelf.meaning c.args.shelf.now) (g.S.Shelf.meaning c.begin_run.new.shelf) c.requires.none c.requires.stands c.args.vol c.begin_run.new.logs c.begin_run.ensures.on)
 
 pub returns-then-is_none-clause-others : goal.returns-then-is_none-clause-others
-returns-then-is_none-clause-others g c = inner_others c.args.core.now c.args.vol (g.S.Shelf.meaning c.args.shelf.now) (g.S.Shelf.meaning c.begin_run.new.shelf) c.requires.none c.requires.stands c.begin_run.ensures.others
+returns-then-is_none-clause-others g c = inner_others c.args.core.now c.args.vol (g.S.Shelf.meaning c.args.shelf.now) (g.S.Shelf.meaning c.begin_run.new.shelf) c.requires.none c.requires.stands c.begin_run.ensures.goes c.begin_run.ensures.others
 
 pub returns-then-is_none-clause-off : goal.returns-then-is_none-clause-off
 returns-then-is_none-clause-off g c = subst (λ (x : Config). NoMarks (region_count x c.args.vol) c.begin_run.new.logs) (sym (config_is c.args.core.now c.args.vol (g.S.Shelf.meaning c.args.shelf.now) (g.S.Shelf.meaning c.args.shelf.now) c.requires.none c.requires.stands)) c.begin_run.ensures.off
@@ -49,10 +49,10 @@ pub returns-in-Ok-clause-goes : goal.returns-in-Ok-clause-goes
 returns-in-Ok-clause-goes g c = then_nothing Nothing (inner_meaning (wide c.args.core.now) (g.S.Shelf.meaning c.args.shelf.now)) (inner_meaning (wide c.args.core.now) (g.S.Shelf.meaning c.begin_run.new.shelf)) (inner_meaning (wide c.trust_group.new.core) (g.S.Shelf.meaning c.trust_group.new.shelf)) (logs_goes c.args.core.now c.args.vol (g.S.Shelf.meaning c.args.shelf.now) (g.S.Shelf.meaning c.begin_run.new.shelf) c.requires.none c.requires.stands c.begin_run.ensures.group) c.trust_group.ensures.goes
 
 pub returns-in-Ok-clause-log : goal.returns-in-Ok-clause-log
-returns-in-Ok-clause-log g c = trusted_here c.args.vol c.args.core.now c.trust_group.new.core (g.S.Shelf.meaning c.begin_run.new.shelf) (g.S.Shelf.meaning c.trust_group.new.shelf) (logs_Stands c.args.core.now c.args.vol (g.S.Shelf.meaning c.args.shelf.now) (g.S.Shelf.meaning c.begin_run.new.shelf) c.requires.none c.requires.stands c.begin_run.ensures.goes (g.met.S.Shelf.lawful c.args.shelf.now) (g.met.S.Shelf.lawful c.begin_run.new.shelf)) c.trust_group.ensures.acts (sound_lost c.args.vol Drl false (wide c.args.core.now).config ∙ sound_of (wide c.args.core.now) (g.S.Shelf.meaning c.args.shelf.now) c.requires.stands.stands) c.begin_run.new.logs (subst (λ (x : Config). AllAlike x c.args.vol (g.S.Shelf.meaning c.begin_run.new.shelf)) (sym (config_is c.args.core.now c.args.vol (g.S.Shelf.meaning c.args.shelf.now) (g.S.Shelf.meaning c.args.shelf.now) c.requires.none c.requires.stands)) c.begin_run.ensures.alike) (to_wide c.args.core.now c.args.vol (g.S.Shelf.meaning c.args.shelf.now) (g.S.Shelf.meaning c.begin_run.new.shelf) c.requires.none c.requires.stands c.args.vol c.begin_run.new.logs c.begin_run.ensures.on)
+returns-in-Ok-clause-log g c = trusted_here c.args.vol Drl c.args.core.now c.trust_group.new.core (g.S.Shelf.meaning c.begin_run.new.shelf) (g.S.Shelf.meaning c.trust_group.new.shelf) (logs_Stands c.args.core.now c.args.vol (g.S.Shelf.meaning c.args.shelf.now) (g.S.Shelf.meaning c.begin_run.new.shelf) c.requires.none c.requires.stands c.begin_run.ensures.goes (g.met.S.Shelf.lawful c.args.shelf.now) (g.met.S.Shelf.lawful c.begin_run.new.shelf)) c.trust_group.ensures.acts (sound_lost c.args.vol Drl false (wide c.args.core.now).config ∙ sound_of (wide c.args.core.now) (g.S.Shelf.meaning c.args.shelf.now) c.requires.stands.stands) c.begin_run.new.logs (subst (λ (x : Config). AllAlike x c.args.vol (g.S.Shelf.meaning c.begin_run.new.shelf)) (sym (config_is c.args.core.now c.args.vol (g.S.Shelf.meaning c.args.shelf.now) (g.S.Shelf.meaning c.args.shelf.now) c.requires.none c.requires.stands)) c.begin_run.ensures.alike) (to_wide c.args.core.now c.args.vol (g.S.Shelf.meaning c.args.shelf.now) (g.S.Shelf.meaning c.begin_run.new.shelf) c.requires.none c.requires.stands c.args.vol c.begin_run.new.logs c.begin_run.ensures.on)
 
 pub returns-in-Ok-clause-others : goal.returns-in-Ok-clause-others
-returns-in-Ok-clause-others g c = others_then c.args.vol c.args.core.now c.args.core.now c.trust_group.new.core (g.S.Shelf.meaning c.args.shelf.now) (g.S.Shelf.meaning c.begin_run.new.shelf) (g.S.Shelf.meaning c.trust_group.new.shelf) (inner_others c.args.core.now c.args.vol (g.S.Shelf.meaning c.args.shelf.now) (g.S.Shelf.meaning c.begin_run.new.shelf) c.requires.none c.requires.stands c.begin_run.ensures.others) (trusted_others c.args.vol c.args.core.now c.trust_group.new.core (g.S.Shelf.meaning c.begin_run.new.shelf) (g.S.Shelf.meaning c.trust_group.new.shelf) (logs_Stands c.args.core.now c.args.vol (g.S.Shelf.meaning c.args.shelf.now) (g.S.Shelf.meaning c.begin_run.new.shelf) c.requires.none c.requires.stands c.begin_run.ensures.goes (g.met.S.Shelf.lawful c.args.shelf.now) (g.met.S.Shelf.lawful c.begin_run.new.shelf)) c.trust_group.ensures.acts (sound_lost c.args.vol Drl false (wide c.args.core.now).config ∙ sound_of (wide c.args.core.now) (g.S.Shelf.meaning c.args.shelf.now) c.requires.stands.stands))
+returns-in-Ok-clause-others g c = others_then c.args.vol c.args.core.now c.args.core.now c.trust_group.new.core (g.S.Shelf.meaning c.args.shelf.now) (g.S.Shelf.meaning c.begin_run.new.shelf) (g.S.Shelf.meaning c.trust_group.new.shelf) (inner_others c.args.core.now c.args.vol (g.S.Shelf.meaning c.args.shelf.now) (g.S.Shelf.meaning c.begin_run.new.shelf) c.requires.none c.requires.stands c.begin_run.ensures.goes c.begin_run.ensures.others) (trusted_others c.args.vol Drl c.args.core.now c.trust_group.new.core (g.S.Shelf.meaning c.begin_run.new.shelf) (g.S.Shelf.meaning c.trust_group.new.shelf) (logs_Stands c.args.core.now c.args.vol (g.S.Shelf.meaning c.args.shelf.now) (g.S.Shelf.meaning c.begin_run.new.shelf) c.requires.none c.requires.stands c.begin_run.ensures.goes (g.met.S.Shelf.lawful c.args.shelf.now) (g.met.S.Shelf.lawful c.begin_run.new.shelf)) c.trust_group.ensures.acts (sound_lost c.args.vol Drl false (wide c.args.core.now).config ∙ sound_of (wide c.args.core.now) (g.S.Shelf.meaning c.args.shelf.now) c.requires.stands.stands))
 
 pub returns-in-Ok-clause-off : goal.returns-in-Ok-clause-off
 returns-in-Ok-clause-off g c = subst (λ (x : Config). NoMarks (region_count x c.args.vol) c.begin_run.new.logs) (sym (config_is c.args.core.now c.args.vol (g.S.Shelf.meaning c.args.shelf.now) (g.S.Shelf.meaning c.args.shelf.now) c.requires.none c.requires.stands)) c.begin_run.ensures.off
@@ -61,10 +61,10 @@ pub returns-in-Err-clause-goes : goal.returns-in-Err-clause-goes
 returns-in-Err-clause-goes g c = then_nothing Nothing (inner_meaning (wide c.args.core.now) (g.S.Shelf.meaning c.args.shelf.now)) (inner_meaning (wide c.args.core.now) (g.S.Shelf.meaning c.begin_run.new.shelf)) (inner_meaning (wide c.trust_group.new.core) (g.S.Shelf.meaning c.trust_group.new.shelf)) (logs_goes c.args.core.now c.args.vol (g.S.Shelf.meaning c.args.shelf.now) (g.S.Shelf.meaning c.begin_run.new.shelf) c.requires.none c.requires.stands c.begin_run.ensures.group) c.trust_group.ensures.goes
 
 pub returns-in-Err-clause-log : goal.returns-in-Err-clause-log
-returns-in-Err-clause-log g c = trusted_here c.args.vol c.args.core.now c.trust_group.new.core (g.S.Shelf.meaning c.begin_run.new.shelf) (g.S.Shelf.meaning c.trust_group.new.shelf) (logs_Stands c.args.core.now c.args.vol (g.S.Shelf.meaning c.args.shelf.now) (g.S.Shelf.meaning c.begin_run.new.shelf) c.requires.none c.requires.stands c.begin_run.ensures.goes (g.met.S.Shelf.lawful c.args.shelf.now) (g.met.S.Shelf.lawful c.begin_run.new.shelf)) c.trust_group.ensures.acts (sound_lost c.args.vol Drl false (wide c.args.core.now).config ∙ sound_of (wide c.args.core.now) (g.S.Shelf.meaning c.args.shelf.now) c.requires.stands.stands) c.begin_run.new.logs (subst (λ (x : Config). AllAlike x c.args.vol (g.S.Shelf.meaning c.begin_run.new.shelf)) (sym (config_is c.args.core.now c.args.vol (g.S.Shelf.meaning c.args.shelf.now) (g.S.Shelf.meaning c.args.shelf.now) c.requires.none c.requires.stands)) c.begin_run.ensures.alike) (to_wide c.args.core.now c.args.vol (g.S.Shelf.meaning c.args.shelf.now) (g.S.Shelf.meaning c.begin_run.new.shelf) c.requires.none c.requires.stands c.args.vol c.begin_run.new.logs c.begin_run.ensures.on)
+returns-in-Err-clause-log g c = trusted_here c.args.vol Drl c.args.core.now c.trust_group.new.core (g.S.Shelf.meaning c.begin_run.new.shelf) (g.S.Shelf.meaning c.trust_group.new.shelf) (logs_Stands c.args.core.now c.args.vol (g.S.Shelf.meaning c.args.shelf.now) (g.S.Shelf.meaning c.begin_run.new.shelf) c.requires.none c.requires.stands c.begin_run.ensures.goes (g.met.S.Shelf.lawful c.args.shelf.now) (g.met.S.Shelf.lawful c.begin_run.new.shelf)) c.trust_group.ensures.acts (sound_lost c.args.vol Drl false (wide c.args.core.now).config ∙ sound_of (wide c.args.core.now) (g.S.Shelf.meaning c.args.shelf.now) c.requires.stands.stands) c.begin_run.new.logs (subst (λ (x : Config). AllAlike x c.args.vol (g.S.Shelf.meaning c.begin_run.new.shelf)) (sym (config_is c.args.core.now c.args.vol (g.S.Shelf.meaning c.args.shelf.now) (g.S.Shelf.meaning c.args.shelf.now) c.requires.none c.requires.stands)) c.begin_run.ensures.alike) (to_wide c.args.core.now c.args.vol (g.S.Shelf.meaning c.args.shelf.now) (g.S.Shelf.meaning c.begin_run.new.shelf) c.requires.none c.requires.stands c.args.vol c.begin_run.new.logs c.begin_run.ensures.on)
 
 pub returns-in-Err-clause-others : goal.returns-in-Err-clause-others
-returns-in-Err-clause-others g c = others_then c.args.vol c.args.core.now c.args.core.now c.trust_group.new.core (g.S.Shelf.meaning c.args.shelf.now) (g.S.Shelf.meaning c.begin_run.new.shelf) (g.S.Shelf.meaning c.trust_group.new.shelf) (inner_others c.args.core.now c.args.vol (g.S.Shelf.meaning c.args.shelf.now) (g.S.Shelf.meaning c.begin_run.new.shelf) c.requires.none c.requires.stands c.begin_run.ensures.others) (trusted_others c.args.vol c.args.core.now c.trust_group.new.core (g.S.Shelf.meaning c.begin_run.new.shelf) (g.S.Shelf.meaning c.trust_group.new.shelf) (logs_Stands c.args.core.now c.args.vol (g.S.Shelf.meaning c.args.shelf.now) (g.S.Shelf.meaning c.begin_run.new.shelf) c.requires.none c.requires.stands c.begin_run.ensures.goes (g.met.S.Shelf.lawful c.args.shelf.now) (g.met.S.Shelf.lawful c.begin_run.new.shelf)) c.trust_group.ensures.acts (sound_lost c.args.vol Drl false (wide c.args.core.now).config ∙ sound_of (wide c.args.core.now) (g.S.Shelf.meaning c.args.shelf.now) c.requires.stands.stands))
+returns-in-Err-clause-others g c = others_then c.args.vol c.args.core.now c.args.core.now c.trust_group.new.core (g.S.Shelf.meaning c.args.shelf.now) (g.S.Shelf.meaning c.begin_run.new.shelf) (g.S.Shelf.meaning c.trust_group.new.shelf) (inner_others c.args.core.now c.args.vol (g.S.Shelf.meaning c.args.shelf.now) (g.S.Shelf.meaning c.begin_run.new.shelf) c.requires.none c.requires.stands c.begin_run.ensures.goes c.begin_run.ensures.others) (trusted_others c.args.vol Drl c.args.core.now c.trust_group.new.core (g.S.Shelf.meaning c.begin_run.new.shelf) (g.S.Shelf.meaning c.trust_group.new.shelf) (logs_Stands c.args.core.now c.args.vol (g.S.Shelf.meaning c.args.shelf.now) (g.S.Shelf.meaning c.begin_run.new.shelf) c.requires.none c.requires.stands c.begin_run.ensures.goes (g.met.S.Shelf.lawful c.args.shelf.now) (g.met.S.Shelf.lawful c.begin_run.new.shelf)) c.trust_group.ensures.acts (sound_lost c.args.vol Drl false (wide c.args.core.now).config ∙ sound_of (wide c.args.core.now) (g.S.Shelf.meaning c.args.shelf.now) c.requires.stands.stands))
 
 pub returns-in-Err-clause-off : goal.returns-in-Err-clause-off
 returns-in-Err-clause-off g c = subst (λ (x : Config). NoMarks (region_count x c.args.vol) c.begin_run.new.logs) (sym (config_is c.args.core.now c.args.vol (g.S.Shelf.meaning c.args.shelf.now) (g.S.Shelf.meaning c.args.shelf.now) c.requires.none c.requires.stands)) c.begin_run.ensures.off

@@ -23,7 +23,7 @@ returns-clause-stands g c =
     set_stands Nothing c.args.core.now c.clear_group.new.core c.args.logs.now.items c.args.alike.now c.args.alike.now false false c.args.vol c.clear_group.new.logs (g.S.Shelf.meaning c.args.shelf.now) (g.S.Shelf.meaning c.clear_group.new.shelf) c.requires.stands c.clear_group.ensures.stands c.clear_group.ensures.goes
     (λ w b x apart none. none) (λ off. off) c.clear_group.ensures.others (λ w apart. refl)
     (here_stands c.args.core.now c.clear_group.new.core c.args.vol c.index_mut.result.now c.clear_group.new.logs (is_alike c.args.alike.now c.args.vol) false (g.S.Shelf.meaning c.args.shelf.now) (g.S.Shelf.meaning c.clear_group.new.shelf)
-    (c.requires.stands.each c.args.vol c.index_mut.result.now (item_of c.args.logs.now.items c.args.vol c.index_mut.result.now c.index_mut.ensures.value (index_low c.args.core.now c.args.logs.now.items c.args.alike.now false (g.S.Shelf.meaning c.args.shelf.now) c.args.vol c.requires.stands c.requires.there))) c.clear_group.ensures.goes (λ on. c.clear_group.ensures.log))
+    (c.requires.stands.each c.args.vol c.index_mut.result.now (item_of c.args.logs.now.items c.args.vol c.index_mut.result.now c.index_mut.ensures.value (index_low c.args.core.now c.args.logs.now.items c.args.alike.now false (g.S.Shelf.meaning c.args.shelf.now) c.args.vol c.requires.stands c.requires.there))) c.clear_group.ensures.goes (λ on. c.clear_group.ensures.log) c.clear_group.ensures.maps)
 
 pub returns-clause-marks : goal.returns-clause-marks
 returns-clause-marks g c = clears_set (wide c.args.core.now).config c.args.vol c.args.logs.now.items c.index_mut.result.now c.clear_group.new.logs (item_of c.args.logs.now.items c.args.vol c.index_mut.result.now c.index_mut.ensures.value (index_low c.args.core.now c.args.logs.now.items c.args.alike.now false (g.S.Shelf.meaning c.args.shelf.now) c.args.vol c.requires.stands c.requires.there)) c.clear_group.ensures.fewer

@@ -23,7 +23,7 @@ returns-clause-stands g c =
     set_stands Nothing c.args.core.now c.flush_cleared.new.core c.args.logs.now.items c.args.alike.now c.args.alike.now c.args.stopped c.args.stopped c.args.vol c.flush_cleared.new.logs (g.S.Shelf.meaning c.args.shelf.now) (g.S.Shelf.meaning c.flush_cleared.new.shelf) c.requires.stands c.flush_cleared.ensures.stands c.flush_cleared.ensures.goes
     (λ w b x apart none. none) (λ off. off) c.flush_cleared.ensures.others (λ w apart. refl)
     (here_stands c.args.core.now c.flush_cleared.new.core c.args.vol c.index_mut.result.now c.flush_cleared.new.logs (is_alike c.args.alike.now c.args.vol) c.args.stopped (g.S.Shelf.meaning c.args.shelf.now) (g.S.Shelf.meaning c.flush_cleared.new.shelf)
-    (c.requires.stands.each c.args.vol c.index_mut.result.now (item_of c.args.logs.now.items c.args.vol c.index_mut.result.now c.index_mut.ensures.value (index_low c.args.core.now c.args.logs.now.items c.args.alike.now c.args.stopped (g.S.Shelf.meaning c.args.shelf.now) c.args.vol c.requires.stands c.requires.there))) c.flush_cleared.ensures.goes c.flush_cleared.ensures.log)
+    (c.requires.stands.each c.args.vol c.index_mut.result.now (item_of c.args.logs.now.items c.args.vol c.index_mut.result.now c.index_mut.ensures.value (index_low c.args.core.now c.args.logs.now.items c.args.alike.now c.args.stopped (g.S.Shelf.meaning c.args.shelf.now) c.args.vol c.requires.stands c.requires.there))) c.flush_cleared.ensures.goes c.flush_cleared.ensures.log c.flush_cleared.ensures.maps)
 
 pub returns-clause-marks : goal.returns-clause-marks
 returns-clause-marks g c = clears_set (wide c.args.core.now).config c.args.vol c.args.logs.now.items c.index_mut.result.now c.flush_cleared.new.logs (item_of c.args.logs.now.items c.args.vol c.index_mut.result.now c.index_mut.ensures.value (index_low c.args.core.now c.args.logs.now.items c.args.alike.now c.args.stopped (g.S.Shelf.meaning c.args.shelf.now) c.args.vol c.requires.stands c.requires.there)) c.flush_cleared.ensures.fewer

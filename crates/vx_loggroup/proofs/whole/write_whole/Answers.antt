@@ -19,6 +19,7 @@ returns-in-Ok-clause-stands g c =
     (λ w b x apart put. apart put.covers.there) (going_back c.args.stopped.now c.write_marked.new.stopped c.write_marked.ensures.stays) c.write_marked.ensures.others (λ w apart. refl)
     (record {
       on = c.write_marked.ensures.log;
+      maps = λ going. c.write_marked.ensures.maps going ((c.requires.stands.each c.args.vol c.index_mut.result.now (item_of c.args.logs.now.items c.args.vol c.index_mut.result.now c.index_mut.ensures.value (index_low c.args.core.now c.args.logs.now.items c.args.alike.now c.args.stopped.now (g.S.Shelf.meaning c.args.shelf.now) c.args.vol c.requires.stands c.requires.fits.exists))).maps (going_back c.args.stopped.now c.write_marked.new.stopped c.write_marked.ensures.stays going));
       alike = λ is up. reads_wrote (Written c.args.vol c.args.block c.args.bytes.now) c.args.core.now c.write_marked.new.core (g.S.Shelf.meaning c.args.shelf.now) (g.S.Shelf.meaning c.write_marked.new.shelf) c.write_marked.ensures.goes c.args.vol c.args.block c.args.bytes.now c.in-Ok.ensures.ok
           ((c.requires.stands.each c.args.vol c.index_mut.result.now (item_of c.args.logs.now.items c.args.vol c.index_mut.result.now c.index_mut.ensures.value (index_low c.args.core.now c.args.logs.now.items c.args.alike.now c.args.stopped.now (g.S.Shelf.meaning c.args.shelf.now) c.args.vol c.requires.stands c.requires.fits.exists))).alike is (λ down. up (c.write_marked.ensures.goes.falls down)));
     })
@@ -29,6 +30,7 @@ returns-in-Err-clause-stands g c =
     (λ w b x apart put. apart put.covers.there) (going_back c.args.stopped.now c.write_marked.new.stopped c.write_marked.ensures.stays) c.write_marked.ensures.others c.set_alike.ensures.others
     (record {
       on = c.write_marked.ensures.log;
+      maps = λ going. c.write_marked.ensures.maps going ((c.requires.stands.each c.args.vol c.index_mut.result.now (item_of c.args.logs.now.items c.args.vol c.index_mut.result.now c.index_mut.ensures.value (index_low c.args.core.now c.args.logs.now.items c.args.alike.now c.args.stopped.now (g.S.Shelf.meaning c.args.shelf.now) c.args.vol c.requires.stands c.requires.fits.exists))).maps (going_back c.args.stopped.now c.write_marked.new.stopped c.write_marked.ensures.stays going));
       alike = λ is up. absurd (let clash : false ≡ true = sym c.set_alike.ensures.here ∙ is in cc);
     })
 

@@ -4,7 +4,6 @@ use Rattle.vx_diskset.specs.declared.disk_set.DiskSet.TheVariants.{Up}
 use Rattle.vx_diskset.proofs.Blamed.{blamed_receiver, blamed_up}
 use Rattle.vx_diskset.proofs.CallsBurn.{called_by, called_up, is_done}
 use Rattle.std.proofs.Common.{refl}
-use Rattle.vx_diskset.proofs.GroupStands.{never_apart}
 use Rattle.vx_diskset.proofs.Receiving.{applied_received, durable_of, receiver_as}
 use Rattle.vx_diskset.proofs.disk_set.DiskSet.apply_up.Goals as goal
 
@@ -27,7 +26,3 @@ returns-in-Up-clause-blames g c = λ beside n stands. blamed_up c.apply_group.re
 pub returns-in-Receives-clause-blames : goal.returns-in-Receives-clause-blames
 returns-in-Receives-clause-blames g c = λ beside n stands.
     blamed_receiver c.apply_group-in-Receives.result beside n c.args.self.now c.in-Receives.site c.in-Receives.is stands c.apply_group-in-Receives.ensures.blames
-
-pub returns-in-OfGroup-clause-applied : goal.returns-in-OfGroup-clause-applied
-returns-in-OfGroup-clause-applied g c = λ beside n stands can apart.
-    never_apart beside n c.args.self.now _ c.in-OfGroup.is stands can.up apart

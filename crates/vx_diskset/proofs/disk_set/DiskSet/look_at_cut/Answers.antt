@@ -1,0 +1,18 @@
+-- `look_at_cut`: what it says, and leaves of the disks of the site.
+use Rattle.std.proofs.Common.{subst, sym}
+use Rattle.vx_grouped.specs.GroupSites.{UpNoted}
+use Rattle.vx_diskset.specs.Recovers.{LooksAt}
+use Rattle.vx_diskset.proofs.GroupCalling.{at_sites}
+use Rattle.vx_diskset.proofs.GroupRising.{rise_failing, rise_later}
+use Rattle.vx_diskset.proofs.disk_set.DiskSet.look_at_cut.Goals as goal
+
+pub returns-in-OfGroup-clause-looks : goal.returns-in-OfGroup-clause-looks
+returns-in-OfGroup-clause-looks g c = λ n note up.
+    subst (λ x. LooksAt n note c.args.cut x c.stand_up.result.0 c.stand_up.result.1) (sym c.in-OfGroup.is)
+    (c.stand_up.ensures.rises n note (at_sites (UpNoted n note) (UpNoted n note c.in-OfGroup.group.site) c.args.self c.in-OfGroup.group c.in-OfGroup.is (λ it. it) up))
+
+pub returns-in-OfGroup-clause-failing : goal.returns-in-OfGroup-clause-failing
+returns-in-OfGroup-clause-failing g c = rise_failing c.args.self c.stand_up.result.0 c.in-OfGroup.group c.in-OfGroup.is c.stand_up.ensures.since
+
+pub returns-in-OfGroup-clause-later : goal.returns-in-OfGroup-clause-later
+returns-in-OfGroup-clause-later g c = rise_later c.args.self c.stand_up.result.0 c.in-OfGroup.group c.in-OfGroup.is c.stand_up.ensures.since

@@ -1,0 +1,187 @@
+-- The line that attaches a plex.
+use Rattle.std.proofs.Common.{◌≡◌, ◌≢◌, ◌∙◌, ◌⊎◌, ◌+◌, ◌-◌, ◌<◌, ◌≤◌, ℕ, zero, suc, Bool, true, false, List, [], length, ap, sym, subst, refl, arith, inl, inr, ⊎_elim}
+use Rattle.std.specs.Prelude.{Option, Some, None, Contains, not, ◌&&◌, ◌||◌, ◌==◌, nat_le, nat_lt, if◌then◌else◌, slice_get, slice_set, Result, Ok, Err, IsTrue, option_map}
+use Rattle.std.proofs.lemmas.Bool.{cases_eq}
+use Rattle.std.proofs.lemmas.Bool.Decides.{nat_tests}
+use Rattle.std.proofs.lemmas.Option.{slice_get-map, slice_get_within}
+use Rattle.vx_model.specs.declared.errors.OutOfMemory.{OutOfMemory}
+use Rattle.vx_model.specs.declared.errors.Stop.{Stop}
+use Rattle.vx_model.specs.declared.errors.Stop.TheVariants.{No as StopsBy, OutOfMemory as MemoryStop}
+use Rattle.vx_model.specs.declared.no.Counted.TheVariants.{Number as Numbers}
+use Rattle.vx_model.specs.declared.no.Named.TheVariants.{Number}
+use Rattle.vx_model.specs.declared.no.No.{No}
+use Rattle.vx_model.specs.declared.no.No.TheVariants.{LastPlex, Limit, Unknown}
+use Rattle.vx_model.specs.declared.site.PlexState.{PlexState}
+use Rattle.vx_model.specs.declared.site.PlexState.TheVariants.{Active, Clean, Stale}
+use Rattle.vx_model.specs.declared.site.SiteState.TheVariants.{Up as IsUp}
+use Rattle.vx_disk.specs.Shelf.{Meaning}
+use Rattle.vx_disk.specs.declared.shelf.Shelf.{Ghosts}
+use Rattle.std.specs.Int.{div_ceil}
+use Rattle.vx_config.specs.Checks.{blocks_of, plexes_of, plexes_or}
+use Rattle.vx_model.specs.declared.limits.TheConstants.{MOST_NUMBER, REGION}
+use Rattle.vx_config.specs.Table.{greatest}
+use Rattle.vx_config.specs.declared.config.Config.{Config}
+use Rattle.vx_config.specs.declared.entry.PlexEntry.{PlexEntry}
+use Rattle.vx_config.specs.declared.entry.VolumeEntry.{VolumeEntry}
+use Rattle.vx_history.specs.Doubts.{Doubted}
+use Rattle.vx_history.specs.Groups.{GroupNode, NoteSettles, NoteUnsettles}
+use Rattle.vx_history.specs.World.{Node}
+use Rattle.vx_kept.specs.Cleans.{at_serial}
+use Rattle.vx_layout.specs.Places.{plex_at}
+use Rattle.vx_volume.specs.Plexes.{active, active_or}
+use Rattle.vx_group.specs.Dets.{any_below, det_refusal, is_other, margin}
+use Rattle.vx_group.specs.Attaches.{att_refusal, copied_regions}
+use Rattle.vx_order.specs.declared.facts.SiteFacts.{SiteFacts}
+use Rattle.vx_order.specs.declared.facts.VolumeFacts.{VolumeFacts}
+use Rattle.vx_script.specs.declared.line.ScriptLine.{ScriptLine}
+use Rattle.vx_script.specs.declared.line.ScriptLine.TheVariants.{PlexAttach, PlexDetach}
+use Rattle.vx_grouped.specs.ConfigMoves.{AttDone, AttFails, DetDone, DetFails, none_again}
+use Rattle.vx_grouped.specs.GroupNotes.{NotesConfig}
+use Rattle.vx_grouped.specs.GroupSites.{UpNoted, site_disks}
+use Rattle.vx_grouped.specs.SiteEnds.{AttCalled, DetCalled, RegionsOf, SiteCalled, is_plex_on, refuses_att, refuses_det}
+use Rattle.vx_grouped.specs.declared.group_site.GroupSite.{GroupSite}
+use Rattle.vx_grouped.specs.declared.group_site.GroupSite.TheVariants.{Up as SiteUp, Deported as SiteAway, Down as SiteDown, Marked, Gone as SiteGone}
+use Rattle.vx_diskset.specs.GroupCalls.{AtSite, OnSites}
+use Rattle.vx_diskset.specs.declared.disk_set.DiskSet.{DiskSet}
+use Rattle.vx_diskset.specs.declared.disk_set.DiskSet.TheVariants.{OfGroup}
+use Rattle.vx_diskset.specs.declared.group_set.GroupSet.{GroupSet}
+use Rattle.vx_volume.specs.Plexes.{uses}
+use Rattle.vx_events.proofs.Places.{some_same}
+use Rattle.vx_events.specs.Fails.{Fails}
+use Rattle.vx_events.specs.Facts.{place_of}
+use Rattle.vx_events.specs.GroupConfigs.{ConfigLoses, ConfigLosesBut, lies_on_disk}
+use Rattle.vx_events.specs.GroupEnds.{GroupCuts, GroupDoes, GroupSpoils, GroupWants}
+use Rattle.vx_events.specs.GroupLines.{plain_number}
+use Rattle.vx_events.specs.GroupNotes.{note_at}
+use Rattle.vx_events.specs.GroupReplies.{AttachCopies, IsLastPlex, entry_state, plex_entry_state, plex_state, volume_regions}
+use Rattle.vx_events.specs.GroupViews.{config_of, noted_table, plain_fact, state_of_plex, volumes_of}
+use Rattle.vx_events.specs.StepsOver.{fact_of_group}
+use Rattle.vx_events.specs.declared.said.Said.{Said}
+use Rattle.vx_events.specs.declared.said.Said.TheVariants.{Done, DoneAt}
+use Rattle.vx_yard.proofs.Carrying.{SameLoad}
+use Rattle.vx_yard.specs.Standing.{LeadsOver, LeadsOverIs, StandsFor}
+use Rattle.vx_yard.specs.Yards.{IsTold}
+use Rattle.vx_yard.specs.declared.yard.Yard.{Yard}
+use Rattle.vx_group_lines.proofs.Changing.{PutsOr, att_done, att_table, att_to, det_table, det_to, notes_config, notes_table, reconfigures, stated_table, stated_to}
+use Rattle.vx_group_lines.proofs.GroupCalls.{sets_then}
+use Rattle.vx_group_lines.proofs.GroupDone.{done_leads, refused_leads}
+use Rattle.vx_group_lines.proofs.GroupEnding.{Calling, Means, Midway, SameTable}
+use Rattle.vx_group_lines.proofs.GroupPlex.{att_wants, on_state, state_on}
+use Rattle.vx_group_lines.specs.Noting.{IsNotedRefusal, KeepsRest, reply_noted}
+
+-- the regions of a volume, by its note
+regions_by : (note : GroupNode) (c : Config) (v k : ℕ) → NotesConfig note c → k ≡ copied_regions c v → k ≡ volume_regions note v
+regions_by note c v k noted is = is ∙ ap (λ (o : Option Config). div_ceil (blocks_of (volumes_of o) v) REGION) (sym (notes_config note c noted))
+
+module _ {R : Type 0} {g : Ghosts R} where
+  -- how many regions are copied
+  att_copies : (n : Node) (note : GroupNode) (e : GroupSite R g) (v plex k : ℕ) → UpNoted n note e → (IsTrue (is_plex_on e v plex) → k ≡ 0) → (is_plex_on e v plex ≡ false → RegionsOf e v k) → AttachCopies note v plex (DoneAt k)
+  att_copies n note (SiteUp group) v plex k it none all =
+      let noted : NotesConfig note group.core.inner.config = record { is = it.at.lies.config; spells = it.spells } in
+      by_on (active group.core.inner.config v plex) refl noted
+    where
+      by_on : (b : Bool) → active group.core.inner.config v plex ≡ b → NotesConfig note group.core.inner.config → AttachCopies note v plex (DoneAt k)
+      by_on true on noted = record {
+        count = k;
+        says = refl;
+        few = omega (arith, none on);
+        none = λ _. none on;
+        all = λ off _. absurd (off (state_on note group.core.inner.config v plex noted on));
+      }
+      by_on false on noted =
+          let is : k ≡ volume_regions note v = regions_by note group.core.inner.config v k noted (all on) in
+          record {
+            count = k;
+            says = refl;
+            few = omega (arith, is);
+            none = λ takes. absurd (let e : false ≡ true = sym on ∙ on_state note group.core.inner.config v plex noted takes in cc);
+            all = λ _ _. is;
+          }
+  att_copies n note (SiteAway idle) v plex k it none all = absurd it
+  att_copies n note (SiteDown idle) v plex k it none all = absurd it
+  att_copies n note (Marked rack) v plex k it none all = absurd it
+  att_copies n note SiteGone v plex k it none all = absurd it
+
+  pub att_at : (n : Node) (note : GroupNode) {v w p q : ℕ} → v ≡ w → p ≡ q → (r : Result ℕ Stop) (before after : DiskSet R g) → OnSites (λ o e. AttCalled n note v p o e r) before after
+      → OnSites (λ o e. AttCalled n note w q o e r) before after
+  att_at n note {v} {w} {p} {q} number plex r before after it =
+      subst (λ (k : ℕ). OnSites (λ (o e : GroupSite R g). AttCalled n note k q o e r) before after) number
+      (subst (λ (k : ℕ). OnSites (λ (o e : GroupSite R g). AttCalled n note v k o e r) before after) plex it)
+
+  -- nothing is copied to one that takes part
+  zero_by : (site : GroupSite R g) (v p count : ℕ) (o : Option No) → refuses_att site v p ≡ o → ((no : No) → refuses_att site v p ≡ Some no → (let r : Result ℕ Stop = Ok count in r) ≡ Err (StopsBy no))
+      → (refuses_att site v p ≡ None → IsTrue (is_plex_on site v p) → (let r : Result ℕ Stop = Ok count in r) ≡ Ok 0) → IsTrue (is_plex_on site v p) → count ≡ 0
+  zero_by site v p count None is refused already on = let e = already is on in cc
+  zero_by site v p count (Some no) is refused already on = absurd (let e = refused no is in cc)
+
+  pub att_zero : (before : DiskSet R g) (set : GroupSet R g) {v w p q : ℕ} (count : ℕ) → before ≡ OfGroup set → v ≡ w → p ≡ q → ((no : No) → AtSite (λ o. refuses_att o v p ≡ Some no) before → (let r : Result ℕ Stop = Ok count in r) ≡ Err (StopsBy no))
+      → (AtSite (λ o. refuses_att o v p ≡ None) before → AtSite (λ o. IsTrue (is_plex_on o v p)) before → (let r : Result ℕ Stop = Ok count in r) ≡ Ok 0) → IsTrue (is_plex_on set.site w q) → count ≡ 0
+  att_zero before set {v} {w} {p} {q} count is number plex refused already =
+      subst (λ (k : ℕ). IsTrue (is_plex_on set.site k q) → count ≡ 0) number
+      (subst (λ (k : ℕ). IsTrue (is_plex_on set.site v k) → count ≡ 0) plex
+      (λ on. zero_by set.site v p count (refuses_att set.site v p) refl
+      (λ no at. refused no (subst (λ (x : DiskSet R g). AtSite (λ (o : GroupSite R g). refuses_att o v p ≡ Some no) x) (sym is) at))
+      (λ at on. already (subst (λ (x : DiskSet R g). AtSite (λ (o : GroupSite R g). refuses_att o v p ≡ None) x) (sym is) at) (subst (λ (x : DiskSet R g). AtSite (λ (o : GroupSite R g). IsTrue (is_plex_on o v p)) x) (sym is) on)) on))
+
+  pub att_all : (before : DiskSet R g) (set : GroupSet R g) {v w p q : ℕ} (count : ℕ) → before ≡ OfGroup set → v ≡ w → p ≡ q → (AtSite (λ o. is_plex_on o v p ≡ false) before → AtSite (λ o. RegionsOf o v count) before)
+      → is_plex_on set.site w q ≡ false → RegionsOf set.site w count
+  att_all before set {v} {w} {p} {q} count is number plex all =
+      subst (λ (k : ℕ). is_plex_on set.site k q ≡ false → RegionsOf set.site k count) number
+      (subst (λ (k : ℕ). is_plex_on set.site v k ≡ false → RegionsOf set.site v count) plex
+      (λ off. subst (λ (x : DiskSet R g). AtSite (λ (o : GroupSite R g). RegionsOf o v count) x) is (all (subst (λ (x : DiskSet R g). AtSite (λ (o : GroupSite R g). is_plex_on o v p ≡ false) x) (sym is) off))))
+
+  module _ (d : Doubted) (old new : Yard R g) (name volume : List ℕ) (plex s : ℕ) (before after : DiskSet R g) (found : VolumeFacts) (stands : StandsFor d old)
+      (it : Calling d (PlexAttach name volume plex) old new name s before after)
+      (at : slice_get (noted_table (note_at (d.world.nodes s))) (plain_number (note_at (d.world.nodes s)) volume) ≡ Some found) (below : plex < found.plexes)
+      (is_up : UpNoted (d.world.nodes s) (note_at (d.world.nodes s)) it.call.at.set.site) where
+    abbrev n : Node
+    n = d.world.nodes s
+
+    abbrev note : GroupNode
+    note = note_at (d.world.nodes s)
+
+    abbrev v : ℕ
+    v = plain_number (note_at (d.world.nodes s)) volume
+
+    att_table_is : SameTable note (λ o e. AttFails v plex o e)
+    att_table_is = record { same = λ many o e t fails next was now names noted noted_now change. att_table t many fails o e note next names v plex was now noted noted_now change }
+
+    pub att_ends : (count : ℕ) → OnSites (λ o e. AttCalled n note v plex o e (Ok count)) before after → (IsTrue (is_plex_on it.call.at.set.site v plex) → count ≡ 0) → (is_plex_on it.call.at.set.site v plex ≡ false → RegionsOf it.call.at.set.site v count)
+        → new.facts.items ≡ old.facts.items → SameLoad old new → LeadsOver d (PlexAttach name volume plex) (DoneAt count) old new
+    att_ends count on none all facts load =
+        done_leads d (PlexAttach name volume plex) old new name s before after stands it (λ o e. AttDone v plex o e) (λ o e. AttFails v plex o e) (λ o which. refuses_att o v plex ≡ Some which) (DoneAt count) count (λ k h. h)
+        (record {
+          ends = λ many fails o e next was now names noted noted_now enough change keeps. (
+            reconfigures s many fails o e note next names (λ c x. PutsOr s fails (λ k. lies_on_disk c v plex k) v plex Active c x) (λ a b. NoteSettles a b) was now noted noted_now
+                (att_done s many fails o e note next names v plex was now enough change) keeps,
+            att_copies n note it.call.at.set.site v plex count is_up none all,
+          );
+        })
+        (record { same = λ many o e t fails next was now names noted noted_now change. stated_table t many fails o e note next names (λ k. uses was v plex k) v plex Active was now noted noted_now change })
+        on facts load
+
+    pub att_refused : (mid : Yard R g) (result : Result Said OutOfMemory) → Midway old mid → (why : No) → OnSites (λ o e. AttCalled n note v plex o e (Err (StopsBy why))) before after
+        → IsNotedRefusal s (fact_of_group (d.world.nodes s) (note_at (d.world.nodes s))) why mid new result → LeadsOverIs d (PlexAttach name volume plex) old new result
+    att_refused mid result half why on refusal =
+        refused_leads d (PlexAttach name volume plex) old new name s before after stands it mid half result ℕ (λ o e. AttDone v plex o e) (λ o e. AttFails v plex o e) (λ o which. refuses_att o v plex ≡ Some which)
+        (record {
+          ends = λ many fails o e next was now names noted noted_now enough change keeps.
+              reconfigures s many fails o e note next names
+              (λ c x. ConfigLosesBut (λ k. lies_on_disk c v plex k) s fails c x ⊎ PutsOr s fails (λ k. lies_on_disk c v plex k) v plex Active c x) (λ a b. NoteUnsettles a b) was now noted noted_now
+              (att_to s many fails o e note next names v plex was now enough change) keeps;
+        })
+        (record {
+          ends = λ many fails o e next was now names noted noted_now enough change keeps.
+              reconfigures s many fails o e note next names
+              (λ c x. ConfigLosesBut (λ k. lies_on_disk c v plex k) s fails c x ⊎ PutsOr s fails (λ k. lies_on_disk c v plex k) v plex Active c x) (λ a b. NoteUnsettles a b) was now noted noted_now
+              (att_to s many fails o e note next names v plex was now enough change) keeps;
+        })
+        att_table_is (λ which is. att_wants n note it.call.at.set.site name volume plex found which is_up at below is) why on refusal
+
+    att_memory : OnSites (λ o e. AttCalled n note v plex o e (Err MemoryStop)) before after → ⊥
+    att_memory on = (sets_then (λ o e. AttCalled n note v plex o e (Err MemoryStop)) before after it.call.at.set it.call.at.is_set on).holds
+
+    pub att_stopped : (mid : Yard R g) (result : Result Said OutOfMemory) → Midway old mid → (stop : Stop) → OnSites (λ o e. AttCalled n note v plex o e (Err stop)) before after
+        → reply_noted s (fact_of_group (d.world.nodes s) (note_at (d.world.nodes s))) stop mid new result → LeadsOverIs d (PlexAttach name volume plex) old new result
+    att_stopped mid result half (StopsBy why) on refusal = att_refused mid result half why on refusal
+    att_stopped mid result half MemoryStop on refusal = absurd (att_memory on)

@@ -1,0 +1,166 @@
+-- The line that deports the group of a site.
+use Rattle.std.proofs.Common.{◌≡◌, ◌≢◌, ◌∙◌, ◌⊎◌, ◌+◌, ◌<◌, ◌≤◌, ℕ, Bool, true, false, List, [], length, map, ap, sym, subst, refl, arith, inl, inr, ⊎_elim}
+use Rattle.std.specs.Prelude.{Option, Some, None, IsTrue, IsFalse, slice_get, slice_set, Result, Ok, Err}
+use Rattle.vx_model.specs.declared.errors.OutOfMemory.{OutOfMemory}
+use Rattle.vx_model.specs.declared.errors.Stop.{Stop}
+use Rattle.vx_model.specs.declared.errors.Stop.TheVariants.{No as StopsBy, OutOfMemory as MemoryStop}
+use Rattle.vx_model.specs.declared.limits.TheConstants.{MOST_NUMBER}
+use Rattle.vx_model.specs.declared.no.Counted.TheVariants.{Number as Numbers}
+use Rattle.vx_model.specs.declared.no.No.{No}
+use Rattle.vx_model.specs.declared.no.No.TheVariants.{Limit}
+use Rattle.vx_model.specs.declared.site.SiteState.TheVariants.{Up as IsUp, Down as IsDown, Deported as IsDeported}
+use Rattle.vx_disk.specs.Shelf.{Meaning}
+use Rattle.vx_disk.specs.declared.shelf.Shelf.{Ghosts}
+use Rattle.vx_config.specs.Table.{greatest}
+use Rattle.vx_config.specs.declared.config.Config.{Config}
+use Rattle.vx_history.specs.Doubts.{Doubted, happened}
+use Rattle.vx_history.specs.Groups.{GroupNode, NoteSettles, NoteUnsettles}
+use Rattle.vx_history.specs.Steps.{worked_on}
+use Rattle.vx_history.specs.World.{Node}
+use Rattle.vx_history.specs.declared.event.Event.TheVariants.{Deport as DeportAt}
+use Rattle.vx_kept.specs.Cleans.{at_serial}
+use Rattle.vx_order.specs.declared.facts.SiteFacts.{SiteFacts}
+use Rattle.vx_order.specs.declared.facts.VolumeFacts.{VolumeFacts}
+use Rattle.vx_script.specs.declared.line.ScriptLine.{ScriptLine}
+use Rattle.vx_script.specs.declared.line.ScriptLine.TheVariants.{GroupDeport}
+use Rattle.vx_grouped.specs.ConfigMoves.{AnyState, CleansPlexes, ConfigMoves, LosesSome, OpensSame, none_again}
+use Rattle.vx_grouped.specs.GroupNotes.{NotesConfig}
+use Rattle.vx_grouped.specs.GroupSites.{AwayNoted, HasNoRvg, UpNoted, deported_with, site_disks, with_note}
+use Rattle.vx_grouped.specs.SiteEnds.{ConfigGoes, SiteDeported}
+use Rattle.vx_grouped.specs.declared.group_site.GroupSite.{GroupSite}
+use Rattle.vx_grouped.specs.declared.group_site.GroupSite.TheVariants.{Up as SiteUp, Deported as SiteAway, Down as SiteDown, Marked, Gone as SiteGone}
+use Rattle.vx_diskset.specs.Asked.{FailsAs, FusedAs}
+use Rattle.vx_diskset.specs.GroupCalls.{OnSites, cut_in}
+use Rattle.vx_diskset.specs.GroupSets.{cut_value}
+use Rattle.vx_diskset.specs.Holds.{beside_of}
+use Rattle.vx_diskset.specs.declared.disk_set.DiskSet.{DiskSet}
+use Rattle.vx_diskset.specs.declared.disk_set.DiskSet.TheVariants.{OfGroup}
+use Rattle.vx_diskset.specs.declared.group_set.GroupSet.{GroupSet}
+use Rattle.vx_events.specs.Fails.{Fails}
+use Rattle.vx_events.specs.GroupConfigs.{ConfigLoses, opened_again}
+use Rattle.vx_events.specs.GroupEnds.{GroupDone, GroupWants}
+use Rattle.vx_events.specs.GroupLines.{noting}
+use Rattle.vx_events.specs.GroupNotes.{note_at}
+use Rattle.vx_events.specs.GroupViews.{noted_table}
+use Rattle.vx_events.specs.StepsOver.{fact_of_group}
+use Rattle.vx_events.specs.declared.said.Said.{Said}
+use Rattle.vx_events.specs.declared.said.Said.TheVariants.{Done}
+use Rattle.vx_yard.proofs.Carrying.{LetsGo}
+use Rattle.vx_yard.proofs.OneSite.{Changed}
+use Rattle.vx_yard.proofs.FailsStay.{fails_then}
+use Rattle.vx_yard.proofs.OverGroup.{set_notes}
+use Rattle.vx_yard.specs.GroupFacts.{deported_facts}
+use Rattle.vx_yard.specs.Standing.{LeadsOver, LeadsOverIs, StandsFor}
+use Rattle.vx_yard.specs.Yards.{IsTold}
+use Rattle.vx_yard.specs.declared.yard.Yard.{Yard}
+use Rattle.vx_group_lines.proofs.Arriving.{arrives_away, arrives_worked}
+use Rattle.vx_group_lines.proofs.Changing.{moves_table, moves_to, notes_table, reconfigures}
+use Rattle.vx_group_lines.proofs.Fails.{contains_some}
+use Rattle.vx_group_lines.proofs.GroupAt.{away_notes}
+use Rattle.vx_group_lines.proofs.GroupCalls.{SetThen, calls, calls_all, calls_are, calls_names, fused_since, note_uncut, set_uncut, sets_then}
+use Rattle.vx_group_lines.proofs.GroupDone.{refused_leads}
+use Rattle.vx_group_lines.proofs.GroupEnding.{Calling, Midway, since_at}
+use Rattle.vx_group_lines.proofs.GroupLeads.{away_set, follows_off, leads_by, sized_of}
+use Rattle.vx_group_lines.proofs.GroupMarks.{begins_at}
+use Rattle.vx_group_lines.proofs.Losing.{Names, any_loses, facts_move, opened_loses, opens_loses}
+use Rattle.vx_group_lines.specs.Noting.{IsNotedRefusal, reply_noted}
+
+-- the facts of a site whose group was deported
+away_seen : (n : Node) (note k : GroupNode) → noted_table k ≡ noted_table note → deported_facts (fact_of_group n note) ≡ fact_of_group (deported_with k n) k
+away_seen n note k same = ap (λ (vs : List VolumeFacts). let f : SiteFacts = record (deported_facts (fact_of_group n note)) { volumes = vs } in f) (sym same)
+
+-- the disk that failed in a deport, if one did
+abbrev failed_disk : {o e : Meaning} {c d : Config} → CleansPlexes o e c d → ℕ
+failed_disk (inl moves) = 0
+failed_disk (inr (any, moves)) = any.0
+
+module _ (s many : ℕ) (fails : Fails) (o e : Meaning) (note next : GroupNode) (names : Names s many fails o e) where
+  cleans_to : (was now : Config) → length was.disks ≤ many → (it : CleansPlexes o e was now) → failed_disk it < many → ConfigLoses s fails (opened_again (at_serial 0 was)) (opened_again (at_serial 0 now))
+  cleans_to was now enough (inl moves) below = opened_loses OpensSame fails none_again s many o e was now (λ p q it. opens_loses fails p q it) names enough moves
+  cleans_to was now enough (inr (any, moves)) below =
+      opened_loses AnyState fails none_again s many o e was now (λ p q it. any_loses fails (contains_some fails (s, any.0) (names.each any.0 below any.1)) p q it) names enough moves
+
+  cleans_table : (was now : Config) → NotesConfig note was → NotesConfig next now → CleansPlexes o e was now → noted_table next ≡ noted_table note
+  cleans_table was now noted noted_now (inl moves) = notes_table next now noted_now ∙ facts_move none_again OpensSame o e was now moves ∙ sym (notes_table note was noted)
+  cleans_table was now noted noted_now (inr (any, moves)) = notes_table next now noted_now ∙ facts_move none_again AnyState o e was now moves ∙ sym (notes_table note was noted)
+
+limit_wants : (note : GroupNode) (name : List ℕ) (why : No) → why ≡ Limit Numbers greatest → GroupWants note (GroupDeport name) why
+limit_wants note name why is = subst (λ (w : No). GroupWants note (GroupDeport name) w) (sym is) (tt, refl)
+
+module _ {R : Type 0} {g : Ghosts R} where
+  site_away : (n : Node) (note : GroupNode) (e : GroupSite R g) → AwayNoted n note e → IsTrue (site_disks e).down → ⊥
+  site_away n note (SiteUp group) it = absurd it
+  site_away n note (SiteAway idle) it = it.up
+  site_away n note (SiteDown idle) it = absurd it
+  site_away n note (Marked rack) it = absurd it
+  site_away n note SiteGone it = absurd it
+
+  module _ (d : Doubted) (old new : Yard R g) (name : List ℕ) (s : ℕ) (before after : DiskSet R g) (stands : StandsFor d old) (it : Calling d (GroupDeport name) old new name s before after) where
+    abbrev n : Node
+    n = d.world.nodes s
+
+    abbrev note : GroupNode
+    note = note_at (d.world.nodes s)
+
+    abbrev was_site : GroupSite R g
+    was_site = it.call.at.set.site
+
+    pub deport_done : OnSites (λ o e. SiteDeported n note o e (Ok (tt {0}))) before after → new.facts.items ≡ slice_set old.facts.items s (deported_facts (fact_of_group (d.world.nodes s) (note_at (d.world.nodes s)))) → LetsGo old new s
+        → LeadsOver d (GroupDeport name) Done old new
+    deport_done on facts lets =
+        let P : GroupSite R g → GroupSite R g → Type 0 = λ o e. SiteDeported n note o e (Ok (tt {0})) in
+        let then : SetThen (P was_site) after = sets_then P before after it.call.at.set it.call.at.is_set on in
+        let next : GroupNode = then.holds.0 in
+        let goes : ConfigGoes (CleansPlexes (site_disks was_site) (site_disks then.set.site)) note next was_site then.set.site = then.holds.3 in
+        let away : AwayNoted (deported_with next n) next then.set.site = then.holds.2 in
+        let many : ℕ = (site_disks was_site).units + length goes.was.disks + failed_disk goes.change + 1 in
+        let fails : Fails = calls s old new many in
+        let names : Names s many fails (site_disks was_site) (site_disks then.set.site)
+        = calls_names d old new name s before after stands it.call it.call.at.set then.set it.call.at.is_set then.is many (omega arith) in
+        let none : HasNoRvg n = (set_notes (beside_of d s) n it.call.at.set it.call.at.stands it.call.at.made).1.none in
+        let sized = sized_of (beside_of d s) n it.call.at.set it.call.at.stands in
+        let m : Node = deported_with next n in
+        let e : Doubted = happened d (DeportAt s) false in
+        let last : Doubted = record e { world = worked_on (noting e.world s next) s } in
+        let clear : cut_value then.set.cut ≡ None = ap (λ (x : DiskSet R g). cut_in x) (sym then.is) ∙ it.cut ∙ ap (λ (x : DiskSet R g). cut_in x) it.call.at.is_set ∙ set_uncut d old new name s before after stands it.call it.up in
+        leads_by d last (GroupDeport name) s fails Done old new it.is_line.place
+        (GroupDone next (calls_are d old new name s before after stands it.call many) (
+          reconfigures s many fails (site_disks was_site) (site_disks then.set.site) note next names (λ c x. ConfigLoses s fails (opened_again c) (opened_again x)) (λ a b. NoteSettles a b) goes.was goes.now goes.noted goes.noted_now
+              (cleans_to s many fails (site_disks was_site) (site_disks then.set.site) note next names goes.was goes.now (omega arith) goes.change (omega arith)) then.holds.1,
+          refl,
+        )
+        (record { world = refl; after = λ i. refl }))
+        (follows_off d last s m next (deported_facts (fact_of_group n note)) old new before then.set stands it.call.at.below
+        (subst (λ (x : DiskSet R g). Changed old new s before x) then.is it.call.changed)
+        (arrives_worked d e s _ next None (arrives_away d d s n (d.world.gathering s) (begins_at d old name s before stands it.call.at) it.call.at.below it.up none.running none.log none.safe))
+        (λ up. let w : IsDeported ≡ IsUp = up in absurd (cc))
+        (away_notes m next then.set.site away).0
+        (away_set m next then.set (record { few = sized.few; some = sized.some }) away clear (then.holds.1.same.cut ∙ note_uncut d old new name s before after stands it.call it.up))
+        (subst (λ (x : DiskSet R g). FailsAs m x) then.is (fails_then n m before after refl it.call.failing (stands.failing s before it.call.at.below it.call.changed.there)))
+        (fused_since n m it.call.at.set then.set refl (since_at before after it.call.at.set then.set it.call.at.is_set then.is it.since) (site_away m next then.set.site away)
+        (subst (λ (x : DiskSet R g). FusedAs n x) it.call.at.is_set (stands.fuses s before it.call.at.below it.call.changed.there)))
+        (away_seen n note next (cleans_table s many fails (site_disks was_site) (site_disks then.set.site) note next names goes.was goes.now goes.noted goes.noted_now goes.change)) facts lets)
+        (calls_all d old new name s before after stands it.call many)
+
+    pub deport_refused : (mid : Yard R g) (result : Result Said OutOfMemory) → Midway old mid → (why : No) → OnSites (λ o e. SiteDeported n note o e (Err (StopsBy why))) before after
+        → IsNotedRefusal s (fact_of_group (d.world.nodes s) (note_at (d.world.nodes s))) why mid new result → LeadsOverIs d (GroupDeport name) old new result
+    deport_refused mid result half why on refusal =
+        refused_leads d (GroupDeport name) old new name s before after stands it mid half result (Unit {0}) (λ o e c x. ⊥) (λ o e. LosesSome o e) (λ o which. which ≡ Limit Numbers greatest)
+        (record {
+          ends = λ many fails o e next was now names noted noted_now enough change keeps.
+              reconfigures s many fails o e note next names (λ c x. ConfigLoses s fails c x) (λ a b. NoteUnsettles a b) was now noted noted_now (moves_to s many fails o e note next names none_again was now enough change) keeps;
+        })
+        (record {
+          ends = λ many fails o e next was now names noted noted_now enough change keeps.
+              reconfigures s many fails o e note next names (λ c x. ConfigLoses s fails c x) (λ a b. NoteUnsettles a b) was now noted noted_now (moves_to s many fails o e note next names none_again was now enough change) keeps;
+        })
+        (record { same = λ many o e t fails next was now names noted noted_now change. moves_table t many fails o e note next names none_again was now noted noted_now change })
+        (λ which is. limit_wants note name which is) why on refusal
+
+    deport_memory : OnSites (λ o e. SiteDeported n note o e (Err MemoryStop)) before after → ⊥
+    deport_memory on = (sets_then (λ o e. SiteDeported n note o e (Err MemoryStop)) before after it.call.at.set it.call.at.is_set on).holds
+
+    pub deport_stopped : (mid : Yard R g) (result : Result Said OutOfMemory) → Midway old mid → (stop : Stop) → OnSites (λ o e. SiteDeported n note o e (Err stop)) before after
+        → reply_noted s (fact_of_group (d.world.nodes s) (note_at (d.world.nodes s))) stop mid new result → LeadsOverIs d (GroupDeport name) old new result
+    deport_stopped mid result half (StopsBy why) on refusal = deport_refused mid result half why on refusal
+    deport_stopped mid result half MemoryStop on refusal = absurd (deport_memory on)

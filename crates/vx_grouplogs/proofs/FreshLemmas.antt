@@ -1,0 +1,31 @@
+-- Plexes that are not STALE, where each one that takes part is ACTIVE.
+use Rattle.std.proofs.Common.{◌≡◌, ◌∙◌, ℕ, Bool, true, false, Option, Some, None, IsTrue, refl, sym, ap}
+use Rattle.std.specs.Prelude.{is_some}
+use Rattle.vx_config.specs.Checks.{is_stale}
+use Rattle.vx_config.specs.declared.config.Config.{Config}
+use Rattle.vx_config.specs.declared.entry.PlexEntry.{PlexEntry}
+use Rattle.vx_kept.specs.Choice.{live, live_or}
+use Rattle.vx_kept.specs.Keeping.{AllOn}
+use Rattle.vx_layout.specs.Places.{HasBlock, has_plex, plex_at}
+use Rattle.vx_logs.specs.Held.{stale, stale_or}
+use Rattle.vx_model.specs.declared.site.PlexState.{PlexState}
+use Rattle.vx_model.specs.declared.site.PlexState.TheVariants.{Active, Clean, Stale}
+use Rattle.vx_volume.specs.Plexes.{active}
+
+-- a plex that there is takes part, or is STALE
+live_or_stale : (c : Config) (v p b : ℕ) → HasBlock c v p b → stale c v p ≡ false → IsTrue (live c v p)
+unfolding has_plex stale live
+live_or_stale c v p b has off = by (plex_at c v p) has.plex off
+  where
+    by_state : (s : PlexState) (a : PlexEntry) → a.state ≡ s → is_stale a.state ≡ false → IsTrue (live_or (Some a))
+    by_state Active a is off = ap (λ (s : PlexState). live_or (Some (record { state = s; whole = a.whole; subdisks = a.subdisks }))) is
+    by_state Clean a is off = ap (λ (s : PlexState). live_or (Some (record { state = s; whole = a.whole; subdisks = a.subdisks }))) is
+    by_state Stale a is off = absurd (let clash : true ≡ false = sym (ap is_stale is) ∙ off in cc)
+
+    by : (o : Option PlexEntry) → is_some o ≡ true → stale_or o ≡ false → IsTrue (live_or o)
+    by None some off = absurd (let clash : false ≡ true = some in cc)
+    by (Some a) some off = by_state a.state a refl off
+
+-- where each plex that takes part is ACTIVE, one that there is and is not STALE is
+pub fresh_active : (c : Config) (v p b : ℕ) → AllOn c → HasBlock c v p b → stale c v p ≡ false → IsTrue (active c v p)
+fresh_active c v p b all has off = all.each v p (live_or_stale c v p b has off)

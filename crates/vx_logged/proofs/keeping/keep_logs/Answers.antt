@@ -1,0 +1,31 @@
+-- Both logs of a volume, each committed as lost where it is wanted.
+use Rattle.std.proofs.Common.{◌≡◌, Bool, true, false}
+use Rattle.vx_disk.specs.Shelf.{Nothing}
+use Rattle.vx_disk.proofs.Causing.{Cause_both}
+use Rattle.vx_disk.proofs.Runs.{then_nothing}
+use Rattle.vx_group.specs.Holding.{wide}
+use Rattle.vx_group.specs.Stands.{inner_meaning}
+use Rattle.vx_config.specs.declared.entry.VolumeLog.TheVariants.{Drl}
+use Rattle.vx_logged.proofs.StandLemmas.{each_then, narrowed_then}
+use Rattle.vx_logged.proofs.keeping.keep_logs.Goals as goal
+
+pub returns-in-Ok-keep_map-clause-goes : goal.returns-in-Ok-keep_map-clause-goes
+returns-in-Ok-keep_map-clause-goes g c = then_nothing Nothing (inner_meaning (wide c.args.core.now) (g.S.Shelf.meaning c.args.shelf.now)) (inner_meaning (wide c.keep_log.new.core) (g.S.Shelf.meaning c.keep_log.new.shelf)) (inner_meaning (wide c.keep_map.new.core) (g.S.Shelf.meaning c.keep_map.new.shelf)) c.keep_log.ensures.goes c.keep_map.ensures.goes
+
+pub returns-in-Ok-keep_map-clause-logs : goal.returns-in-Ok-keep_map-clause-logs
+returns-in-Ok-keep_map-clause-logs g c = each_then c.args.core.now c.keep_log.new.core c.keep_map.new.core (g.S.Shelf.meaning c.args.shelf.now) (g.S.Shelf.meaning c.keep_log.new.shelf) (g.S.Shelf.meaning c.keep_map.new.shelf) c.keep_log.ensures.logs c.keep_map.ensures.logs
+
+pub returns-in-Ok-keep_map-clause-narrow : goal.returns-in-Ok-keep_map-clause-narrow
+returns-in-Ok-keep_map-clause-narrow g c = narrowed_then c.args.core.now c.keep_log.new.core c.keep_map.new.core c.keep_log.ensures.narrow c.keep_map.ensures.narrow
+
+pub returns-in-Ok-keep_map-clause-kept : goal.returns-in-Ok-keep_map-clause-kept
+returns-in-Ok-keep_map-clause-kept g c = λ is told none. c.in-Ok.ensures.kept c.if-not-done.false (c.keep_map.ensures.narrow.less c.args.vol Drl told) none
+
+pub returns-in-Err-keep_map-clause-goes : goal.returns-in-Err-keep_map-clause-goes
+returns-in-Err-keep_map-clause-goes g c = then_nothing Nothing (inner_meaning (wide c.args.core.now) (g.S.Shelf.meaning c.args.shelf.now)) (inner_meaning (wide c.keep_log.new.core) (g.S.Shelf.meaning c.keep_log.new.shelf)) (inner_meaning (wide c.keep_map.new.core) (g.S.Shelf.meaning c.keep_map.new.shelf)) c.keep_log.ensures.goes c.keep_map.ensures.goes
+
+pub returns-in-Err-keep_map-clause-logs : goal.returns-in-Err-keep_map-clause-logs
+returns-in-Err-keep_map-clause-logs g c = each_then c.args.core.now c.keep_log.new.core c.keep_map.new.core (g.S.Shelf.meaning c.args.shelf.now) (g.S.Shelf.meaning c.keep_log.new.shelf) (g.S.Shelf.meaning c.keep_map.new.shelf) c.keep_log.ensures.logs c.keep_map.ensures.logs
+
+pub returns-in-Err-keep_map-clause-narrow : goal.returns-in-Err-keep_map-clause-narrow
+returns-in-Err-keep_map-clause-narrow g c = narrowed_then c.args.core.now c.keep_log.new.core c.keep_map.new.core c.keep_log.ensures.narrow c.keep_map.ensures.narrow

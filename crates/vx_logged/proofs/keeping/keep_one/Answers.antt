@@ -1,0 +1,46 @@
+-- A log that is committed as lost, where it is wanted.
+use Rattle.std.proofs.Common.{◌≡◌, ◌∙◌, Bool, true, false, sym}
+use Rattle.vx_kept.specs.LogRuns.{log_trusted}
+use Rattle.vx_group.proofs.HoldLemmas.{wide_shape}
+use Rattle.vx_group.proofs.LostLemmas.{if_ok_from}
+use Rattle.vx_logged.proofs.StandLemmas.{each_on, each_same}
+use Rattle.vx_logged.proofs.keeping.keep_one.Goals as goal
+
+pub returns-then-is_down-clause-logs : goal.returns-then-is_down-clause-logs
+returns-then-is_down-clause-logs g c =
+    each_same c.args.core.now (g.S.Shelf.meaning c.args.shelf.now)
+
+pub returns-then-has-clause-logs : goal.returns-then-has-clause-logs
+returns-then-has-clause-logs g c =
+    each_same c.args.core.now (g.S.Shelf.meaning c.args.shelf.now)
+
+pub returns-then-not-is_trusted-clause-logs : goal.returns-then-not-is_trusted-clause-logs
+returns-then-not-is_trusted-clause-logs g c =
+    each_same c.args.core.now (g.S.Shelf.meaning c.args.shelf.now)
+
+pub returns-clause-logs : goal.returns-clause-logs
+returns-clause-logs g c =
+    each_on c.args.core.now c.lose_group.new.core (g.S.Shelf.meaning c.args.shelf.now) (g.S.Shelf.meaning c.lose_group.new.shelf) c.requires.stands c.lose_group.ensures.acts
+
+pub returns-then-not-is_trusted-clause-kept : goal.returns-then-not-is_trusted-clause-kept
+returns-then-not-is_trusted-clause-kept g c =
+    λ is told.
+    let off : log_trusted c.args.core.now.inner.config c.args.vol c.args.log ≡ false = sym c.is_trusted.ensures.trusted ∙ c.if-not-is_trusted.true in
+    let here = (wide_shape c.args.core.now).trusted c.args.vol c.args.log told in
+    absurd (let clash : false ≡ true = sym off ∙ here in cc)
+
+pub returns-clause-kept : goal.returns-clause-kept
+returns-clause-kept g c =
+    if_ok_from c.lose_group.result (λ (done : Bool) gone is told. absurd (let clash : false ≡ true = sym (gone is) ∙ told in cc)) c.lose_group.ensures.lost
+
+pub returns-then-is_down-clause-narrow : goal.returns-then-is_down-clause-narrow
+returns-then-is_down-clause-narrow g c = record { less = λ w log is. is; on = λ w p is. is }
+
+pub returns-then-has-clause-narrow : goal.returns-then-has-clause-narrow
+returns-then-has-clause-narrow g c = record { less = λ w log is. is; on = λ w p is. is }
+
+pub returns-then-not-is_trusted-clause-narrow : goal.returns-then-not-is_trusted-clause-narrow
+returns-then-not-is_trusted-clause-narrow g c = record { less = λ w log is. is; on = λ w p is. is }
+
+pub returns-clause-narrow : goal.returns-clause-narrow
+returns-clause-narrow g c = record { less = λ w log is. c.lose_group.ensures.acts.shape.trusted w log is; on = λ w p is. c.lose_group.ensures.acts.on w p is }

@@ -1,0 +1,143 @@
+-- A write that is marked first.
+use Rattle.std.proofs.Common.{◌≡◌, ◌∙◌, ◌/◌, true, false, length, refl, sym, arith}
+use Rattle.vx_disk.specs.Shelf.{Written}
+use Rattle.vx_disk.proofs.Causing.{Cause_both}
+use Rattle.vx_disk.proofs.Runs.{none_written, nothing_then}
+use Rattle.vx_group.specs.Holding.{wide}
+use Rattle.vx_group.specs.Stands.{inner_meaning}
+use Rattle.vx_group.proofs.CallLemmas.{nothing_Wrote}
+use Rattle.vx_group.proofs.TrustLemmas.{err_from, ok_from}
+use Rattle.vx_groupmaps.proofs.KnowLemmas.{note_more, note_same}
+use Rattle.vx_logs.specs.Writes.{first_region, last_region}
+use Rattle.vx_logged.specs.Logged.{are_off}
+use Rattle.vx_logged.proofs.MissLemmas.{know_wrote, more_off}
+use Rattle.vx_logged.proofs.StandLemmas.{fits_later, narrowed_acts, narrowed_then, not_false, not_true, others_then, same_only, write_here, write_others}
+use Rattle.vx_logged.proofs.writing.write_first.Goals as goal
+
+pub mark_group-requires-clause-there : goal.mark_group-requires-clause-there
+mark_group-requires-clause-there g c =
+    c.requires.fits.exists
+
+pub mark_group-requires-clause-some : goal.mark_group-requires-clause-some
+mark_group-requires-clause-some g c =
+    omega (arith, c.requires.fits.some, c.requires.fits.whole)
+
+pub mark_group-requires-clause-within : goal.mark_group-requires-clause-within
+mark_group-requires-clause-within g c =
+    omega (arith, c.requires.fits.within)
+
+pub mark_group-requires-clause-log : goal.mark_group-requires-clause-log
+mark_group-requires-clause-log g c =
+    c.requires.log c.if-stopped.false
+
+pub write_group-requires-2-clause-fits : goal.write_group-requires-2-clause-fits
+write_group-requires-2-clause-fits g c =
+    fits_later c.args.core.now c.mark_group.new.core c.args.vol c.args.block (length c.args.bytes.now) (g.S.Shelf.meaning c.args.shelf.now) (g.S.Shelf.meaning c.mark_group.new.shelf) c.mark_group.ensures.goes c.requires.fits
+
+pub returns-then-stopped-clause-log : goal.returns-then-stopped-clause-log
+returns-then-stopped-clause-log g c =
+    λ is. absurd (let clash : true ≡ false = sym c.if-stopped.true ∙ is in cc)
+
+pub returns-then-stopped-clause-full : goal.returns-then-stopped-clause-full
+returns-then-stopped-clause-full g c =
+    λ off is. absurd (let clash : true ≡ false = sym c.if-stopped.true ∙ off in cc)
+
+pub returns-then-stopped-clause-others : goal.returns-then-stopped-clause-others
+returns-then-stopped-clause-others g c =
+    write_others c.args.core.now c.write_group.new.core c.args.vol c.args.block c.args.bytes.now (g.S.Shelf.meaning c.args.shelf.now) (g.S.Shelf.meaning c.write_group.new.shelf) c.requires.stands c.requires.fits c.write_group.ensures.acts
+
+pub returns-in-Err-clause-goes : goal.returns-in-Err-clause-goes
+returns-in-Err-clause-goes g c =
+    none_written (Written c.args.vol c.args.block c.args.bytes.now) (inner_meaning (wide c.args.core.now) (g.S.Shelf.meaning c.args.shelf.now)) (inner_meaning (wide c.mark_group.new.core) (g.S.Shelf.meaning c.mark_group.new.shelf)) c.mark_group.ensures.goes
+
+pub returns-in-Err-clause-log : goal.returns-in-Err-clause-log
+returns-in-Err-clause-log g c =
+    λ is. c.mark_group.ensures.log
+
+pub returns-in-Err-clause-stays : goal.returns-in-Err-clause-stays
+returns-in-Err-clause-stays g c =
+    λ is. is
+
+pub returns-in-Err-clause-full : goal.returns-in-Err-clause-full
+returns-in-Err-clause-full g c =
+    λ off is. absurd (let clash : true ≡ false = sym is ∙ off in cc)
+
+pub returns-clause-goes : goal.returns-clause-goes
+returns-clause-goes g c =
+    nothing_then (Written c.args.vol c.args.block c.args.bytes.now) (inner_meaning (wide c.args.core.now) (g.S.Shelf.meaning c.args.shelf.now)) (inner_meaning (wide c.mark_group.new.core) (g.S.Shelf.meaning c.mark_group.new.shelf)) (inner_meaning (wide c.write_group-2.new.core) (g.S.Shelf.meaning c.write_group-2.new.shelf)) c.mark_group.ensures.goes c.write_group-2.ensures.goes
+
+pub returns-clause-ok : goal.returns-clause-ok
+returns-clause-ok g c =
+    ok_from c.write_group-2.result (λ wrote. nothing_Wrote c.args.vol c.args.block c.args.bytes.now (inner_meaning (wide c.args.core.now) (g.S.Shelf.meaning c.args.shelf.now)) (inner_meaning (wide c.mark_group.new.core) (g.S.Shelf.meaning c.mark_group.new.shelf)) (inner_meaning (wide c.write_group-2.new.core) (g.S.Shelf.meaning c.write_group-2.new.shelf)) c.mark_group.ensures.goes c.in-Ok.ensures.cause.after wrote) c.write_group-2.ensures.ok
+
+pub returns-clause-log : goal.returns-clause-log
+returns-clause-log g c =
+    λ is.
+    let done = not_false c.in-Ok.done is in
+    write_here c.mark_group.new.core c.write_group-2.new.core c.args.vol c.args.block c.args.bytes.now (g.S.Shelf.meaning c.mark_group.new.shelf) (g.S.Shelf.meaning c.write_group-2.new.shelf) c.mark_group.ensures.stands (fits_later c.args.core.now c.mark_group.new.core c.args.vol c.args.block (length c.args.bytes.now) (g.S.Shelf.meaning c.args.shelf.now) (g.S.Shelf.meaning c.mark_group.new.shelf) c.mark_group.ensures.goes c.requires.fits) c.write_group-2.ensures.acts c.mark_group.new.logs
+    (c.in-Ok.ensures.may done) c.mark_group.ensures.log
+
+pub returns-clause-others : goal.returns-clause-others
+returns-clause-others g c =
+    others_then c.args.vol c.args.core.now c.mark_group.new.core c.write_group-2.new.core (g.S.Shelf.meaning c.args.shelf.now) (g.S.Shelf.meaning c.mark_group.new.shelf) (g.S.Shelf.meaning c.write_group-2.new.shelf) c.mark_group.ensures.others
+    (write_others c.mark_group.new.core c.write_group-2.new.core c.args.vol c.args.block c.args.bytes.now (g.S.Shelf.meaning c.mark_group.new.shelf) (g.S.Shelf.meaning c.write_group-2.new.shelf) c.mark_group.ensures.stands (fits_later c.args.core.now c.mark_group.new.core c.args.vol c.args.block (length c.args.bytes.now) (g.S.Shelf.meaning c.args.shelf.now) (g.S.Shelf.meaning c.mark_group.new.shelf) c.mark_group.ensures.goes c.requires.fits) c.write_group-2.ensures.acts)
+
+pub returns-clause-stays : goal.returns-clause-stays
+returns-clause-stays g c =
+    λ is. absurd (let clash : true ≡ false = sym is ∙ c.if-stopped.false in cc)
+
+pub returns-clause-full : goal.returns-clause-full
+returns-clause-full g c =
+    λ off is. c.in-Ok.ensures.full (not_true c.in-Ok.done is)
+
+pub returns-clause-trust : goal.returns-clause-trust
+returns-clause-trust g c =
+    ok_from c.write_group-2.result (λ keeps is. keeps (c.in-Ok.ensures.trust is)) c.write_group-2.ensures.trust
+
+pub returns-clause-agreed : goal.returns-clause-agreed
+returns-clause-agreed g c =
+    err_from c.write_group-2.result (λ keeps is. keeps (c.in-Ok.ensures.trust is)) c.write_group-2.ensures.agreed
+
+pub returns-clause-cause : goal.returns-clause-cause
+returns-clause-cause g c =
+    Cause_both (inner_meaning (wide c.args.core.now) (g.S.Shelf.meaning c.args.shelf.now)) (inner_meaning (wide c.mark_group.new.core) (g.S.Shelf.meaning c.mark_group.new.shelf)) (inner_meaning (wide c.write_group-2.new.core) (g.S.Shelf.meaning c.write_group-2.new.shelf)) c.args.vol c.write_group-2.result c.in-Ok.ensures.cause c.mark_group.ensures.goes.faults c.mark_group.ensures.goes.disk_faults c.write_group-2.ensures.cause
+
+pub returns-then-stopped-clause-adds : goal.returns-then-stopped-clause-adds
+returns-then-stopped-clause-adds g c = same_only _ _ _ c.args.logs.now
+
+pub returns-in-Err-clause-adds : goal.returns-in-Err-clause-adds
+returns-in-Err-clause-adds g c = c.mark_group.ensures.adds
+
+pub returns-clause-adds : goal.returns-clause-adds
+returns-clause-adds g c = c.mark_group.ensures.adds
+
+pub returns-then-stopped-clause-narrow : goal.returns-then-stopped-clause-narrow
+returns-then-stopped-clause-narrow g c = narrowed_acts _ c.args.core.now c.write_group.new.core (g.S.Shelf.meaning c.args.shelf.now) (g.S.Shelf.meaning c.write_group.new.shelf) c.write_group.ensures.acts
+
+pub returns-in-Err-clause-narrow : goal.returns-in-Err-clause-narrow
+returns-in-Err-clause-narrow g c = c.mark_group.ensures.narrow
+
+pub returns-clause-narrow : goal.returns-clause-narrow
+returns-clause-narrow g c = narrowed_then c.args.core.now c.mark_group.new.core c.write_group-2.new.core c.mark_group.ensures.narrow (narrowed_acts _ c.mark_group.new.core c.write_group-2.new.core (g.S.Shelf.meaning c.mark_group.new.shelf) (g.S.Shelf.meaning c.write_group-2.new.shelf) c.write_group-2.ensures.acts)
+
+pub returns-then-stopped-clause-written : goal.returns-then-stopped-clause-written
+returns-then-stopped-clause-written g c = λ off. absurd (let clash : true ≡ false = sym c.if-stopped.true ∙ off in cc)
+
+pub returns-in-Err-clause-written : goal.returns-in-Err-clause-written
+returns-in-Err-clause-written g c = λ off. tt
+
+pub returns-clause-written : goal.returns-clause-written
+returns-clause-written g c = λ off. ok_from c.write_group-2.result (λ wrote know.
+    know_wrote c.mark_group.new.core c.write_group-2.new.core c.args.vol c.args.block c.args.bytes.now (g.S.Shelf.meaning c.mark_group.new.shelf) (g.S.Shelf.meaning c.write_group-2.new.shelf) c.mark_group.ensures.stands
+    (fits_later c.args.core.now c.mark_group.new.core c.args.vol c.args.block (length c.args.bytes.now) (g.S.Shelf.meaning c.args.shelf.now) (g.S.Shelf.meaning c.mark_group.new.shelf) c.mark_group.ensures.goes c.requires.fits) c.write_group-2.ensures.acts c.mark_group.new.logs
+    (c.mark_group.ensures.maps know) wrote) c.write_group-2.ensures.ok
+
+pub returns-then-stopped-clause-notes : goal.returns-then-stopped-clause-notes
+returns-then-stopped-clause-notes g c = note_same _ _ _ c.args.logs.now c.args.logs.now refl
+
+pub returns-in-Err-clause-notes : goal.returns-in-Err-clause-notes
+returns-in-Err-clause-notes g c = c.mark_group.ensures.notes
+
+pub returns-clause-notes : goal.returns-clause-notes
+returns-clause-notes g c = note_more (are_off c.mark_group.new.core c.args.vol) (are_off c.write_group-2.new.core c.args.vol) (first_region c.args.block) (last_region c.args.block (length c.args.bytes.now / 512)) c.args.logs.now c.mark_group.new.logs
+    (more_off c.mark_group.new.core c.write_group-2.new.core c.args.vol (narrowed_acts _ c.mark_group.new.core c.write_group-2.new.core (g.S.Shelf.meaning c.mark_group.new.shelf) (g.S.Shelf.meaning c.write_group-2.new.shelf) c.write_group-2.ensures.acts)) c.mark_group.ensures.notes

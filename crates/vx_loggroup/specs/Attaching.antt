@@ -1,0 +1,18 @@
+-- Which map of missed regions an attach goes by.
+use Rattle.std.specs.Prelude.{ℕ, Bool, nat_le, if◌then◌else◌, Option, Some, None, List, slice_get}
+use Rattle.vx_config.specs.Checks.{plexes_of}
+use Rattle.vx_config.specs.declared.config.Config.{Config}
+use Rattle.vx_fmr.specs.Missed.{Missed}
+use Rattle.vx_logs.specs.declared.logs.Logs.{Logs}
+
+abbrev pub fmr_or : Option Logs → Option Missed
+fmr_or None = None
+fmr_or (Some l) = l.fmr
+
+-- the maps of a volume in memory, where there are any
+abbrev pub fmr_at : List Logs → ℕ → Option Missed
+fmr_at logs v = fmr_or (slice_get logs v)
+
+-- The maps of the volume, where the plex is there: none while logs are stopped, or where the shelf is down.
+abbrev pub map_by : List Logs → Config → Bool → Bool → ℕ → ℕ → Option Missed
+map_by logs c stopped down v p = if stopped then None else (if down then None else (if nat_le (plexes_of c v) p then None else fmr_at logs v))

@@ -1,0 +1,215 @@
+// What a plex of a volume misses while it is detached, and what an attach of it copies.
+use std::alloc::Global;
+use std::test::*;
+use vx_config::{Config, PlexState};
+use vx_disk::{MemShelf, Rack, Shelf};
+use vx_group_rows::Untold;
+use vx_layout::Shape;
+use vx_loggroup::LoggedGroup;
+use vx_model::{Name, OutOfMemory};
+
+type Disks = Untold<MemShelf>;
+
+// 256 blocks on two plexes, with maps of missed regions, and without.
+const MAPPED: Shape = Shape {
+    blocks: 256,
+    mirrors: 2,
+    ncol: 1,
+    width: 0,
+    drl: false,
+    fmr: true,
+    prefer: None,
+};
+
+const PLAIN: Shape = Shape {
+    blocks: 256,
+    mirrors: 2,
+    ncol: 1,
+    width: 0,
+    drl: false,
+    fmr: false,
+    prefer: None,
+};
+
+// The same on three plexes, with both logs.
+const LOGGED: Shape = Shape {
+    blocks: 256,
+    mirrors: 3,
+    ncol: 1,
+    width: 0,
+    drl: true,
+    fmr: true,
+    prefer: None,
+};
+
+// A group on three disks, of which these calls fail, with such a volume.
+fn group_of(
+    alloc: Global,
+    fails: &[u64],
+    want: &Shape,
+) -> Result<LoggedGroup<Disks>, OutOfMemory>
+    requires { want.now.prefer ≡ None }
+{
+    let mut shelf = match MemShelf::new(alloc, fails) {
+        Ok(shelf) => shelf,
+        Err(_) => return Err(OutOfMemory),
+    };
+    if shelf.fit(alloc, None, 7, 3, 1024).is_err() {
+        return Err(OutOfMemory);
+    }
+    let shelf = Untold { shelf };
+    if shelf.units() == 0 || shelf.units() > 8 {
+        return Err(OutOfMemory);
+    }
+    match LoggedGroup::create(alloc, shelf, 7) {
+        Ok(group) => {
+            let mut group = group;
+            match group.make_volume(alloc, &Name::new(b"v"), want) {
+                Ok(_) => Ok(group),
+                Err(_) => Err(OutOfMemory),
+            }
+        }
+        Err(_) => Err(OutOfMemory),
+    }
+}
+
+// Writes one block of these bytes, and answers whether that is done.
+fn put(group: &mut LoggedGroup<Disks>, block: u64, byte: u8) -> bool {
+    if group.units() == 0 || block >= group.size(0) {
+        return false;
+    }
+    group.write(0, block, &[byte; 512]).is_ok()
+}
+
+// The first byte of a block of the volume.
+fn read(group: &mut LoggedGroup<Disks>, block: u64) -> Option<u8> {
+    if group.units() == 0 || block >= group.size(0) {
+        return None;
+    }
+    let mut bytes = [0; 512];
+    match group.read(0, block, &mut bytes) {
+        Ok(()) => Some(bytes[0]),
+        Err(_) => None,
+    }
+}
+
+// How many regions an attach of a plex copies.
+fn att(group: &mut LoggedGroup<Disks>, plex: u32) -> Option<u64> {
+    match group.att(0, plex) {
+        Ok(copied) => Some(copied),
+        Err(_) => None,
+    }
+}
+
+// Whether a plex of the volume is ACTIVE.
+fn is_active(config: &Config, plex: usize) -> bool {
+    match config.volumes.as_slice().get(0) {
+        Some(volume) => match volume.plexes.as_slice().get(plex) {
+            Some(entry) => entry.state == PlexState::Active,
+            None => false,
+        },
+        None => false,
+    }
+}
+
+// Whether the maps of the volume are held as lost.
+fn is_lost(config: &Config) -> Option<bool> {
+    match config.volumes.as_slice().get(0) {
+        Some(volume) => match volume.fmr {
+            Some(entry) => Some(entry.lost),
+            None => None,
+        },
+        None => None,
+    }
+}
+
+#[test]
+fn maps_of_a_new_volume_are_trusted(rt: HostRuntime) -> Result<(), Fail> {
+    let alloc = rt.alloc();
+    let group = group_of(alloc, &[], &MAPPED)?;
+    assert_eq!(rt; is_lost(group.config()), Some(false));
+    Ok(())
+}
+
+#[test]
+fn an_attach_copies_the_regions_that_were_written(rt: HostRuntime) -> Result<(), Fail> {
+    let alloc = rt.alloc();
+    let mut group = group_of(alloc, &[], &MAPPED)?;
+    assert!(rt; put(&mut group, 10, 0xaa));
+    assert!(rt; group.det(0, 1).is_ok());
+    assert!(rt; put(&mut group, 70, 0xbb));
+    assert!(rt; put(&mut group, 71, 0xbb));
+    assert!(rt; put(&mut group, 200, 0xcc));
+    assert_eq!(rt; att(&mut group, 1), Some(2));
+    assert_eq!(rt; att(&mut group, 1), Some(0));
+    assert!(rt; group.det(0, 0).is_ok());
+    assert_eq!(rt; read(&mut group, 10), Some(0xaa));
+    assert_eq!(rt; read(&mut group, 70), Some(0xbb));
+    assert_eq!(rt; read(&mut group, 200), Some(0xcc));
+    Ok(())
+}
+
+#[test]
+fn without_maps_an_attach_copies_all(rt: HostRuntime) -> Result<(), Fail> {
+    let alloc = rt.alloc();
+    let mut group = group_of(alloc, &[], &PLAIN)?;
+    assert!(rt; group.det(0, 1).is_ok());
+    assert!(rt; put(&mut group, 70, 0xbb));
+    assert_eq!(rt; att(&mut group, 1), Some(4));
+    Ok(())
+}
+
+#[test]
+fn a_plex_that_fails_in_a_write_misses_it(rt: HostRuntime) -> Result<(), Fail> {
+    let alloc = rt.alloc();
+    let mut seen = 0;
+    for call in 80..140 {
+        let mut group = group_of(alloc, &[call], &MAPPED)?;
+        if put(&mut group, 70, 0xbb) && !is_active(group.config(), 1) {
+            seen += 1;
+            assert_eq!(rt; read(&mut group, 70), Some(0xbb));
+            assert_eq!(rt; att(&mut group, 1), Some(1));
+        }
+    }
+    assert_eq!(rt; seen, 1);
+    Ok(())
+}
+
+// Writes a block while the third plex is detached, as this call fails, and attaches the plex then. Answers how many regions were copied; none,
+// where the detach or the attach is refused.
+fn failing(alloc: Global, call: u64) -> Result<Option<u64>, OutOfMemory> {
+    let mut group = group_of(alloc, &[call], &LOGGED)?;
+    if group.det(0, 2).is_err() {
+        return Ok(None);
+    }
+    if !put(&mut group, 70, 0xbb) || read(&mut group, 70) != Some(0xbb) {
+        return Ok(Some(99));
+    }
+    let copied = att(&mut group, 2);
+    if copied.is_some() {
+        let other = group.det(0, 0).is_ok() && group.det(0, 1).is_ok();
+        if other && read(&mut group, 70) != Some(0xbb) {
+            return Ok(Some(99));
+        }
+    }
+    Ok(copied)
+}
+
+#[test]
+fn a_write_is_done_whichever_of_its_calls_fails(rt: HostRuntime) -> Result<(), Fail> {
+    let alloc = rt.alloc();
+    let mut some = 0;
+    let mut all = 0;
+    for call in 120..200 {
+        match failing(alloc, call)? {
+            Some(1) => some += 1,
+            Some(4) => all += 1,
+            Some(_) => assert!(rt; false),
+            None => {}
+        }
+    }
+    // Where the log of missed regions is lost all regions are copied.
+    assert!(rt; some > 0);
+    assert!(rt; all > 0);
+    Ok(())
+}
