@@ -266,11 +266,11 @@ module _ {R : Type 0} {g : Ghosts R} where
         = subst (λ (x : DiskSet R g). FailsAs n x) it_is.is (fails_then n n before after refl it.call.failing (stands.failing s before it.call.at.below it.call.changed.there)) in
         let left : FusedAs (record n { fuse = burned n.fuse }) (OfGroup it_is.set)
         = fused_since n (record n { fuse = burned n.fuse }) it.call.at.set it_is.set refl (since_at before after it.call.at.set it_is.set it.call.at.is_set it_is.is it.since) (site_up n note it_is.set.site up)
-          (subst (λ (x : DiskSet R g). FusedAs n x) it.call.at.is_set (stands.fuses s before it.call.at.below it.call.changed.there)) in
+        (subst (λ (x : DiskSet R g). FusedAs n x) it.call.at.is_set (stands.fuses s before it.call.at.below it.call.changed.there)) in
         let follows = follows_on d d s n note (fact_of_group n note) old new before it_is.set stands it.call.at.below (subst (λ (x : DiskSet R g). Changed old new s before x) it_is.is it.call.changed)
-            (begins_at d old name s before stands it.call.at) (up_notes n note it_is.set.site up).0
-            (up_set n note it_is.set (sized_of (beside_of d s) n it.call.at.set it.call.at.stands) up uncut (note_uncut d old new name s before after stands it.call it.up)) failing
-            (record { told = λ x at. unburned n.fuse x.fuse (left.told x at) }) refl (facts ∙ sym (set_same old.facts.items s (fact_of_group n note) it.call.at.fact)) load in
+        (begins_at d old name s before stands it.call.at) (up_notes n note it_is.set.site up).0
+        (up_set n note it_is.set (sized_of (beside_of d s) n it.call.at.set it.call.at.stands) up uncut (note_uncut d old new name s before after stands it.call it.up)) failing
+        (record { told = λ x at. unburned n.fuse x.fuse (left.told x at) }) refl (facts ∙ sym (set_same old.facts.items s (fact_of_group n note) it.call.at.fact)) load in
         record { stands = follows.stands; carries = follows.carries; rose = calls_none d old new name s before after stands it.call }
 
     module _ (mid : Yard R g) (half : Midway old mid) (result : Result Said OutOfMemory) (is_up : UpNoted (d.world.nodes s) (note_at (d.world.nodes s)) it.call.at.set.site)
