@@ -234,20 +234,20 @@ module _ {R : Type 0} {g : Ghosts R} where
         → ((c : Config) → AtSite (λ e. site_config e ≡ Some c) after → new.facts.items ≡ slice_set old.facts.items s (group_up_facts (map plain_fact c.volumes) (fact_of_group (d.world.nodes s) (note_at (d.world.nodes s)))))
         → SameLoad old new → LeadsOver d (Volume name volume blocks mirrors layout log map_of policy) Done old new
     volume_done vol on facts load =
-        let then : SetThen (λ e. SiteAdded n note volume want was_site e (Ok vol)) after = sets_then (λ o e. SiteAdded n note volume want o e (Ok vol)) before after it.call.at.set it.call.at.is_set on in
-        let next : GroupNode = then.holds.0 in
+        let it_is : SetThen (λ e. SiteAdded n note volume want was_site e (Ok vol)) after = sets_then (λ o e. SiteAdded n note volume want o e (Ok vol)) before after it.call.at.set it.call.at.is_set on in
+        let next : GroupNode = it_is.holds.0 in
         let k : GroupNode = note_added vol want.blocks next in
-        let goes : ConfigGoes (VolumeAdded volume want vol (site_disks was_site) (site_disks then.set.site)) note next was_site then.set.site = then.holds.3 in
+        let goes : ConfigGoes (VolumeAdded volume want vol (site_disks was_site) (site_disks it_is.set.site)) note next was_site it_is.set.site = it_is.holds.3 in
         let many : ℕ = many_of goes.was in
-        let names : Names s many (calls s old new many) (site_disks was_site) (site_disks then.set.site)
-        = calls_names d old new name s before after stands it.call it.call.at.set then.set it.call.at.is_set then.is many (omega arith) in
+        let names : Names s many (calls s old new many) (site_disks was_site) (site_disks it_is.set.site)
+        = calls_names d old new name s before after stands it.call it.call.at.set it_is.set it.call.at.is_set it_is.is many (omega arith) in
         let noted_k : NotesConfig k goes.now = record { is = goes.noted_now.is; spells = goes.noted_now.spells } in
         let f : SiteFacts = group_up_facts (map plain_fact goes.now.volumes) (fact_of_group (d.world.nodes s) (note_at (d.world.nodes s))) in
-        turned_leads d (Volume name volume blocks mirrors layout log map_of policy) old new name s before after stands it Done (calls s old new many) k then.set then.is then.holds.2 then.holds.1.same.cut f
+        turned_leads d (Volume name volume blocks mirrors layout log map_of policy) old new name s before after stands it Done (calls s old new many) k it_is.set it_is.is it_is.holds.2 it_is.holds.1.same.cut f
         (seen_up k goes.now noted_k)
-        (facts goes.now (subst (λ (x : DiskSet R g). AtSite (λ e. site_config e ≡ Some goes.now) x) (sym then.is) (config_now goes.now (with_note k n) k then.set.site then.holds.2 goes.has))) load
+        (facts goes.now (subst (λ (x : DiskSet R g). AtSite (λ e. site_config e ≡ Some goes.now) x) (sym it_is.is) (config_now goes.now (with_note k n) k it_is.set.site it_is.holds.2 goes.has))) load
         (GroupDone k (calls_are d old new name s before after stands it.call many)
-        (does many (calls s old new many) next then.set.site vol goes.was goes.now names goes.noted goes.noted_now (omega arith) goes.change then.holds.1, refl) (it.is_line.done k))
+        (does many (calls s old new many) next it_is.set.site vol goes.was goes.now names goes.noted goes.noted_now (omega arith) goes.change it_is.holds.1, refl) (it.is_line.done k))
         (calls_all d old new name s before after stands it.call many)
       where
         seen_up : (k : GroupNode) (c : Config) → NotesConfig k c → group_up_facts (map plain_fact c.volumes) (fact_of_group (d.world.nodes s) (note_at (d.world.nodes s))) ≡ fact_of_group (with_note k (d.world.nodes s)) k
@@ -258,18 +258,18 @@ module _ {R : Type 0} {g : Ghosts R} where
     -- memory ran out, and nothing was
     pub volume_stays : OnSites (λ o e. SiteAdded n note volume want o e (Err MemoryStop)) before after → new.facts.items ≡ old.facts.items → SameLoad old new → StaysFor d old new
     volume_stays on facts load =
-        let then : SetThen (λ e. UpNoted n note e) after = sets_then (λ o e. SiteAdded n note volume want o e (Err MemoryStop)) before after it.call.at.set it.call.at.is_set on in
-        let up : UpNoted n note then.set.site = then.holds in
-        let uncut : cut_value then.set.cut ≡ None
-        = ap (λ (x : DiskSet R g). cut_in x) (sym then.is) ∙ it.cut ∙ ap (λ (x : DiskSet R g). cut_in x) it.call.at.is_set ∙ set_uncut d old new name s before after stands it.call it.up in
-        let failing : FailsAs n (OfGroup then.set)
-        = subst (λ (x : DiskSet R g). FailsAs n x) then.is (fails_then n n before after refl it.call.failing (stands.failing s before it.call.at.below it.call.changed.there)) in
-        let left : FusedAs (record n { fuse = burned n.fuse }) (OfGroup then.set)
-        = fused_since n (record n { fuse = burned n.fuse }) it.call.at.set then.set refl (since_at before after it.call.at.set then.set it.call.at.is_set then.is it.since) (site_up n note then.set.site up)
+        let it_is : SetThen (λ e. UpNoted n note e) after = sets_then (λ o e. SiteAdded n note volume want o e (Err MemoryStop)) before after it.call.at.set it.call.at.is_set on in
+        let up : UpNoted n note it_is.set.site = it_is.holds in
+        let uncut : cut_value it_is.set.cut ≡ None
+        = ap (λ (x : DiskSet R g). cut_in x) (sym it_is.is) ∙ it.cut ∙ ap (λ (x : DiskSet R g). cut_in x) it.call.at.is_set ∙ set_uncut d old new name s before after stands it.call it.up in
+        let failing : FailsAs n (OfGroup it_is.set)
+        = subst (λ (x : DiskSet R g). FailsAs n x) it_is.is (fails_then n n before after refl it.call.failing (stands.failing s before it.call.at.below it.call.changed.there)) in
+        let left : FusedAs (record n { fuse = burned n.fuse }) (OfGroup it_is.set)
+        = fused_since n (record n { fuse = burned n.fuse }) it.call.at.set it_is.set refl (since_at before after it.call.at.set it_is.set it.call.at.is_set it_is.is it.since) (site_up n note it_is.set.site up)
         (subst (λ (x : DiskSet R g). FusedAs n x) it.call.at.is_set (stands.fuses s before it.call.at.below it.call.changed.there)) in
-        let follows = follows_on d d s n note (fact_of_group n note) old new before then.set stands it.call.at.below (subst (λ (x : DiskSet R g). Changed old new s before x) then.is it.call.changed)
-        (begins_at d old name s before stands it.call.at) (up_notes n note then.set.site up).0
-        (up_set n note then.set (sized_of (beside_of d s) n it.call.at.set it.call.at.stands) up uncut (note_uncut d old new name s before after stands it.call it.up)) failing
+        let follows = follows_on d d s n note (fact_of_group n note) old new before it_is.set stands it.call.at.below (subst (λ (x : DiskSet R g). Changed old new s before x) it_is.is it.call.changed)
+        (begins_at d old name s before stands it.call.at) (up_notes n note it_is.set.site up).0
+        (up_set n note it_is.set (sized_of (beside_of d s) n it.call.at.set it.call.at.stands) up uncut (note_uncut d old new name s before after stands it.call it.up)) failing
         (record { told = λ x at. unburned n.fuse x.fuse (left.told x at) }) refl (facts ∙ sym (set_same old.facts.items s (fact_of_group n note) it.call.at.fact)) load in
         record { stands = follows.stands; carries = follows.carries; rose = calls_none d old new name s before after stands it.call }
 

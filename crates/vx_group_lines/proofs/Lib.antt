@@ -13,6 +13,8 @@ pub mod GroupPlain
 pub mod GroupWrite
 pub mod GroupRead
 pub mod GroupInit
+pub mod GroupEnding
+pub mod GroupDone
 pub mod GroupShown
 pub mod Choosing
 pub mod Returning
@@ -20,10 +22,8 @@ pub mod Rising
 pub mod GroupNamed
 pub mod GroupDeports
 pub mod GroupImports
-pub mod Resuming
-pub mod GroupEnding
-pub mod GroupDone
-pub mod GroupPlex
-pub mod GroupAttach
 pub mod GroupVolume
 pub mod VolumeLine
+pub mod Resuming
+pub mod GroupPlex
+pub mod GroupAttach

@@ -121,10 +121,14 @@ module _ {R : Type 0} {g : Ghosts R} where
     line_stopped new stop result made reply =
         let said : reply_noted s (fact_of_group (d.world.nodes s) (note_at (d.world.nodes s))) stop mid new result
         = reply (fact_of_group (d.world.nodes s) (note_at (d.world.nodes s))) (ap (λ (fs : List SiteFacts). slice_get fs s) half.facts ∙ at.fact) in
-        volume_stopped d old new name volume blocks mirrors layout log map_of policy want is_want s before after stands
-        (calling new (rest_by s (fact_of_group (d.world.nodes s) (note_at (d.world.nodes s))) stop mid new result said)) mid half result (up_noted n at.set.site at.stands.stands up)
-        (subst (λ (f : SiteFacts). find (λ (v : VolumeFacts). bytes_eq v.name volume) f.volumes ≡ None) fact may.free) (subst (λ (f : SiteFacts). length f.volumes < MOST_VOLUMES) fact may.few) may.plexes may.shape
-        stop (made n note is_up) said
+        by_calling (calling new (rest_by s (fact_of_group (d.world.nodes s) (note_at (d.world.nodes s))) stop mid new result said)) said
+      where
+        by_calling : Calling d (Volume name volume blocks mirrors layout log map_of policy) old new name s before after → reply_noted s (fact_of_group (d.world.nodes s) (note_at (d.world.nodes s))) stop mid new result
+            → LeadsOverIs d (Volume name volume blocks mirrors layout log map_of policy) old new result
+        by_calling it said =
+            volume_stopped d old new name volume blocks mirrors layout log map_of policy want is_want s before after stands it mid half result (up_noted (d.world.nodes s) it.call.at.set.site it.call.at.stands.stands up)
+            (subst (λ (f : SiteFacts). find (λ (v : VolumeFacts). bytes_eq v.name volume) f.volumes ≡ None) fact may.free) (subst (λ (f : SiteFacts). length f.volumes < MOST_VOLUMES) fact may.few) may.plexes may.shape
+            stop (made (d.world.nodes s) (note_at (d.world.nodes s)) is_up) said
 
   -- ---- by what is known of the yard between the call and the reply
 
