@@ -1,15 +1,13 @@
 -- What a line that makes a group of a bare site leads a yard to.
-use Rattle.std.proofs.Common.{◌≡◌, ◌⊎◌, ◌∙◌, ◌+◌, ◌<◌, ◌≤◌, ℕ, zero, suc, Bool, true, false, List, [], ◌∷◌, map, length, ap, sym, subst, refl, arith, inl, inr}
+use Rattle.std.proofs.Common.{◌≡◌, ◌⊎◌, ◌∙◌, ◌<◌, ◌≤◌, ℕ, zero, suc, Bool, true, false, List, [], ◌∷◌, map, ap, sym, subst, refl, arith, inl, inr}
 use Rattle.std.specs.Prelude.{Option, Some, None, Result, Ok, Err, slice_get, slice_set, if◌then◌else◌}
 use Rattle.vx_model.specs.declared.errors.OutOfMemory.{OutOfMemory as MemoryError}
 use Rattle.vx_model.specs.declared.errors.Stop.{Stop}
 use Rattle.vx_model.specs.declared.errors.Stop.TheVariants.{No as Refused, OutOfMemory}
 use Rattle.vx_model.specs.declared.limits.TheConstants.{LEAST_BLOCKS, MOST_DISKS}
-use Rattle.vx_model.specs.declared.no.No.{No}
 use Rattle.vx_model.specs.declared.no.No.TheVariants.{Device}
 use Rattle.vx_model.specs.declared.site.SiteState.{SiteState}
 use Rattle.vx_model.specs.declared.site.SiteState.TheVariants.{Bare as IsBare, Up as IsUp, Down as IsDown}
-use Rattle.vx_model.specs.declared.state.KeptLink.{KeptLink}
 use Rattle.vx_config.specs.declared.config.Config.{Config}
 use Rattle.vx_config.specs.declared.entry.DiskEntry.{DiskEntry}
 use Rattle.vx_config.specs.declared.entry.VolumeEntry.{VolumeEntry}
@@ -32,7 +30,7 @@ use Rattle.vx_grouped.specs.Begins.{BeginsGroup, HoldsFailed, IsEmptyGroup, IsFi
 use Rattle.vx_grouped.specs.GroupSites.{UpNoted, site_disks}
 use Rattle.vx_grouped.specs.declared.group_site.GroupSite.{GroupSite}
 use Rattle.vx_grouped.specs.declared.group_site.GroupSite.TheVariants.{Up as SiteUp, Deported as SiteAway, Down as SiteDown, Marked, Gone as SiteGone}
-use Rattle.vx_diskset.specs.Asked.{FailsAs, FusedAs, SameFailing}
+use Rattle.vx_diskset.specs.Asked.{FailsAs, SameFailing}
 use Rattle.vx_diskset.specs.GroupCalls.{AtSite, InitIs, bare_disks, cut_in}
 use Rattle.vx_diskset.specs.GroupSets.{cut_value}
 use Rattle.vx_diskset.specs.Holds.{KeptBeside, beside_of, header_links}
@@ -40,15 +38,13 @@ use Rattle.vx_diskset.specs.Stands.{RoleIs, SiteStands, bare_with, faults_at}
 use Rattle.vx_diskset.specs.declared.disk_set.DiskSet.{DiskSet}
 use Rattle.vx_diskset.specs.declared.disk_set.DiskSet.TheVariants.{Bare, Spoiled, Up as RaisedSet, Receives, Down as DownSet, OfGroup, Gone as GoneSet}
 use Rattle.vx_events.proofs.OverSeats.{fact_apart}
-use Rattle.vx_events.proofs.Refused.{Named}
 use Rattle.vx_events.proofs.Steps.{no_sites}
 use Rattle.vx_events.specs.Facts.{seat_of, site_number}
-use Rattle.vx_events.specs.GroupConfigs.{ConfigLoses}
-use Rattle.vx_events.specs.GroupEnds.{GroupDone, GroupEnds, InitFails}
+use Rattle.vx_events.specs.GroupEnds.{GroupDone, InitFails}
 use Rattle.vx_events.specs.GroupLines.{is_over_group}
 use Rattle.vx_events.specs.GroupNotes.{FirstNote, note_at}
-use Rattle.vx_events.specs.GroupViews.{config_of, noted_table, plain_fact, volumes_of}
-use Rattle.vx_events.specs.LinkedFacts.{link_facts, linked_fact, links_by, links_of_site}
+use Rattle.vx_events.specs.GroupViews.{config_of, noted_table, plain_fact}
+use Rattle.vx_events.specs.LinkedFacts.{linked_fact, links_by, links_of_site}
 use Rattle.vx_events.specs.LinksFit.{IsBlank, LinksFit}
 use Rattle.vx_events.specs.StepsOver.{fact_of_group, fact_over}
 use Rattle.vx_events.specs.declared.said.Said.{Said}
@@ -65,12 +61,12 @@ use Rattle.vx_yard.specs.GroupFacts.{group_up_facts}
 use Rattle.vx_yard.specs.Replies.{reply_to}
 use Rattle.vx_yard.specs.Standing.{LeadsOver, LeadsOverIs, StandsFor}
 use Rattle.vx_yard.specs.Working.{IsFree}
-use Rattle.vx_yard.specs.Yards.{IsShaped, IsTold, IsYardKept, in_files}
+use Rattle.vx_yard.specs.Yards.{IsShaped, IsYardKept, in_files}
 use Rattle.vx_yard.specs.declared.yard.Yard.{Yard}
-use Rattle.vx_group_lines.proofs.Arriving.{Arrives, arrives_made, arrives_none, arrives_noted, noted_at}
+use Rattle.vx_group_lines.proofs.Arriving.{arrives_made, arrives_none, arrives_noted, noted_at}
 use Rattle.vx_group_lines.proofs.GroupAt.{up_notes}
 use Rattle.vx_group_lines.proofs.GroupCalls.{SetThen, set_then}
-use Rattle.vx_group_lines.proofs.GroupLeads.{Follows, follows_on, leads_by, up_set}
+use Rattle.vx_group_lines.proofs.GroupLeads.{follows_on, leads_by, up_set}
 use Rattle.vx_group_lines.proofs.GroupStatus.{config_is, table_is}
 use Rattle.vx_group_lines.proofs.Tests.{InitMay, init_may}
 

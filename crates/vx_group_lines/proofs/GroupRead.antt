@@ -1,24 +1,20 @@
 -- What a read of a volume of a group leads a yard to.
-use Rattle.std.proofs.Common.{◌≡◌, ◌∙◌, ◌+◌, ◌-◌, ◌*◌, ◌<◌, ◌≤◌, ℕ, Bool, true, false, List, [], ◌∷◌, length, take, drop, ap, sym, subst, refl, arith}
-use Rattle.std.specs.Prelude.{Option, Some, None, Ok, Err, Contains, IsTrue, slice_get, slice_set}
+use Rattle.std.proofs.Common.{◌≡◌, ◌∙◌, ◌+◌, ◌-◌, ◌*◌, ◌<◌, ℕ, Bool, true, List, length, take, drop, ap, sym, subst, refl, arith}
+use Rattle.std.specs.Prelude.{Option, Some, Ok, Err, Contains, IsTrue, slice_get, slice_set}
 use Rattle.std.proofs.lemmas.Option.{slice_get_within}
 use Rattle.vx_model.specs.Content.{block_of}
 use Rattle.vx_model.specs.declared.no.No.{No}
 use Rattle.vx_model.specs.declared.no.No.TheVariants.{Device}
-use Rattle.vx_disk.specs.Counts.{Rose}
-use Rattle.vx_disk.specs.Shelf.{Covers, Meaning, piece}
+use Rattle.vx_disk.specs.Shelf.{Meaning}
 use Rattle.vx_disk.specs.declared.shelf.Shelf.{Ghosts}
 use Rattle.vx_history.specs.Doubts.{Doubted}
 use Rattle.vx_history.specs.Groups.{BlockMay, GroupNode}
 use Rattle.vx_history.specs.Steps.{burned, worked_on}
 use Rattle.vx_history.specs.World.{Node, World}
-use Rattle.vx_order.specs.declared.facts.SiteFacts.{SiteFacts}
 use Rattle.vx_script.specs.declared.line.ScriptLine.{ScriptLine}
-use Rattle.vx_script.specs.declared.line.ScriptLine.TheVariants.{Read as ReadLine, Show as ShowLine}
 use Rattle.vx_grouped.specs.GroupSites.{UpNoted, site_disks, with_note}
 use Rattle.vx_grouped.specs.Plain.{ReadsPlain}
 use Rattle.vx_grouped.specs.SiteEnds.{PlainRead, burned_site}
-use Rattle.vx_grouped.specs.declared.group_site.GroupSite.{GroupSite}
 use Rattle.vx_diskset.specs.Asked.{FusedAs, SameFailing}
 use Rattle.vx_diskset.specs.GroupCalls.{CalledOn, OnSites, cut_in}
 use Rattle.vx_diskset.specs.Stands.{IsToldAt}
@@ -33,7 +29,6 @@ use Rattle.vx_events.specs.GroupEnds.{AreOf, GroupDone, GroupEnds, GroupFails}
 use Rattle.vx_events.specs.GroupLines.{noting, plain_number}
 use Rattle.vx_events.specs.GroupNotes.{note_at}
 use Rattle.vx_events.specs.GroupReplies.{GivesPlain}
-use Rattle.vx_events.specs.GroupViews.{noted_table}
 use Rattle.vx_events.specs.StepsOver.{fact_of_group, group_place, is_for_group, over_group_at}
 use Rattle.vx_events.specs.declared.said.Said.{Said}
 use Rattle.vx_events.specs.declared.said.Said.TheVariants.{Got, Refused}

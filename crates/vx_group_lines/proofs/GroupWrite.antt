@@ -1,28 +1,23 @@
 -- What a write to a volume of a group leads a yard to.
-use Rattle.std.proofs.Common.{◌≡◌, ◌∙◌, ◌+◌, ◌*◌, ◌/◌, ◌%◌, ◌<◌, ◌≤◌, ℕ, Bool, true, false, List, [], ◌∷◌, length, ap, sym, subst, refl, arith}
-use Rattle.std.specs.Prelude.{Option, Some, None, Ok, Err, Contains, replicate, slice_get, slice_set}
+use Rattle.std.proofs.Common.{◌≡◌, ◌∙◌, ◌+◌, ◌*◌, ◌≤◌, ℕ, Bool, true, false, List, length, ap, sym, subst, refl, arith}
+use Rattle.std.specs.Prelude.{Option, Some, Ok, Err, Contains, replicate, slice_get, slice_set}
 use Rattle.std.proofs.lemmas.List.{length-replicate}
 use Rattle.vx_model.specs.Content.{Write, blocks_in}
 use Rattle.vx_model.specs.declared.no.No.{No}
 use Rattle.vx_model.specs.declared.no.No.TheVariants.{Device, Down as IsOff}
-use Rattle.vx_disk.specs.Counts.{Rose}
 use Rattle.vx_disk.specs.Shelf.{Meaning}
 use Rattle.vx_disk.specs.declared.shelf.Shelf.{Ghosts}
-use Rattle.vx_config.specs.declared.config.Config.{Config}
 use Rattle.vx_history.specs.Doubts.{Doubted, happened}
-use Rattle.vx_history.specs.Groups.{GroupNode, NoteSame, NoteSettles, NoteUnsettles, note_cut, note_doubt, note_write}
-use Rattle.vx_history.specs.Steps.{burned, crashed, worked_on}
+use Rattle.vx_history.specs.Groups.{GroupNode, NoteSettles, NoteUnsettles, note_cut, note_doubt, note_write}
+use Rattle.vx_history.specs.Steps.{worked_on}
 use Rattle.vx_history.specs.Stops.{IsFused}
 use Rattle.vx_history.specs.World.{Node, World}
 use Rattle.vx_history.specs.declared.event.Event.TheVariants.{Crash as CrashAt}
-use Rattle.vx_order.specs.declared.facts.SiteFacts.{SiteFacts}
 use Rattle.vx_script.specs.declared.line.ScriptLine.{ScriptLine}
-use Rattle.vx_script.specs.declared.line.ScriptLine.TheVariants.{Write as WriteLine, Put as PutLine}
 use Rattle.vx_grouped.specs.ConfigMoves.{LosesSome, none_again}
 use Rattle.vx_grouped.specs.Ends.{plain_write}
-use Rattle.vx_grouped.specs.GroupSites.{DownNoted, FitsPlain, UpNoted, site_disks, with_note}
+use Rattle.vx_grouped.specs.GroupSites.{FitsPlain, UpNoted, site_disks, with_note}
 use Rattle.vx_grouped.specs.SiteEnds.{ConfigGoes, PlainWrote}
-use Rattle.vx_grouped.specs.declared.group_site.GroupSite.{GroupSite}
 use Rattle.vx_diskset.specs.Asked.{FuseGoesOn, FusedAs, SameFailing}
 use Rattle.vx_diskset.specs.GroupCalls.{CalledOn, OnSites, cut_in}
 use Rattle.vx_diskset.specs.GroupSets.{cut_behind, cut_value}

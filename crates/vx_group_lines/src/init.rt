@@ -1,5 +1,5 @@
 // The line that makes a disk group of a bare site.
-ghost use Rattle.std.specs.Prelude.{◌≡◌, IfOk, true};
+ghost use Rattle.std.specs.Prelude.{◌≡◌, true};
 ghost use Rattle.vx_history.specs.Doubts.{Doubted};
 ghost use Rattle.vx_script.specs.declared.line.ScriptLine.TheVariants.{GroupInit};
 ghost use Rattle.vx_events.specs.StepsOver.{is_for_group};

@@ -1,6 +1,6 @@
 -- Each case of a line that makes a group of a bare site.
-use Rattle.std.proofs.Common.{◌≡◌, ◌∙◌, ◌<◌, ℕ, ap, sym, subst, refl, arith}
-use Rattle.std.specs.Prelude.{[], slice_get, slice_set, Some, IfErr}
+use Rattle.std.proofs.Common.{◌≡◌, ◌∙◌, ◌<◌, ap, sym, subst, refl, arith}
+use Rattle.std.specs.Prelude.{[], slice_set, Some, IfErr}
 use Rattle.vx_model.specs.declared.errors.Stop.{Stop}
 use Rattle.vx_order.specs.declared.facts.SiteFacts.{SiteFacts}
 use Rattle.vx_diskset.proofs.KeepsFailing.{failing_same}
@@ -11,7 +11,6 @@ use Rattle.vx_diskset.specs.Stands.{SiteStands}
 use Rattle.vx_diskset.specs.declared.disk_set.DiskSet.TheVariants.{Gone}
 use Rattle.vx_events.proofs.Places.{some_same}
 use Rattle.vx_events.specs.Facts.{seat_of}
-use Rattle.vx_events.specs.LinkedFacts.{linked_fact}
 use Rattle.vx_yard.proofs.ChangeSite.{raw_told}
 use Rattle.vx_yard.proofs.Lists.{get_at, set_twice}
 use Rattle.vx_yard.proofs.NamedSite.{asks_at, unbegun_site}

@@ -1,5 +1,5 @@
 -- Each case of a line that reads a volume of a group.
-use Rattle.std.proofs.Common.{◌≡◌, ◌∙◌, ℕ, length, ap, subst, refl}
+use Rattle.std.proofs.Common.{◌≡◌, ◌∙◌, refl}
 use Rattle.std.specs.Prelude.{Some}
 use Rattle.vx_events.specs.Facts.{seat_of}
 use Rattle.vx_events.specs.GroupNotes.{note_at}
