@@ -12,12 +12,24 @@ use Rattle.vx_script.specs.declared.line.Layout.TheVariants.{Concat, Stripe}
 use Rattle.vx_script.specs.declared.line.ReadPolicy.{ReadPolicy}
 use Rattle.vx_script.specs.declared.line.ReadPolicy.TheVariants.{Round, Prefer}
 use Rattle.vx_script.specs.declared.line.ScriptLine.{ScriptLine}
-use Rattle.vx_script.specs.declared.line.ScriptLine.TheVariants.{GroupInit, GroupDeport, GroupImport, Volume, PlexDetach, PlexAttach, Disk, Crash, Fuse, Recover, Status}
+use Rattle.vx_script.specs.declared.line.ScriptLine.TheVariants.{GroupInit, GroupDeport, GroupImport, Volume, PlexDetach, PlexAttach, Disk, Crash, Fuse, Recover, Status, Write as WriteLine, Put as PutLine, Read as ReadLine, Show as ShowLine}
 use Rattle.vx_script.specs.declared.line.DiskState.{DiskState}
 use Rattle.vx_script.specs.declared.line.VolumeLog.{VolumeLog}
 use Rattle.vx_script.specs.declared.line.VolumeMap.{VolumeMap}
-use Rattle.vx_yard.specs.Working.{takes_memory}
-use Rattle.vx_group_lines.specs.Plain.{is_block_kind, is_group_kind}
+use Rattle.vx_history.specs.Doubts.{Doubted}
+use Rattle.vx_disk.specs.declared.shelf.Shelf.{Ghosts}
+use Rattle.vx_diskset.proofs.KeepsFailing.{alone_same, failing_same}
+use Rattle.vx_diskset.specs.declared.disk_set.DiskSet.{DiskSet}
+use Rattle.vx_events.proofs.RefusedCalls.{CallMay, read_may, show_may}
+use Rattle.vx_events.specs.StepsOver.{over_group_at}
+use Rattle.vx_yard.proofs.NamedSite.{unbegun_site}
+use Rattle.vx_yard.specs.OfSites.{AsAsked, ReadsBy}
+use Rattle.vx_yard.specs.Standing.{StandsFor}
+use Rattle.vx_yard.specs.Working.{IsFree, takes_memory}
+use Rattle.vx_yard.specs.Yards.{in_files}
+use Rattle.vx_yard.specs.declared.yard.Yard.{Yard}
+use Rattle.vx_group_lines.specs.Plain.IsReadOf.{ByRead, ByShow}
+use Rattle.vx_group_lines.specs.Plain.{IsReadAt, IsReadOf, is_block_kind, is_group_kind}
 
 -- ---- answers
 
@@ -60,18 +72,15 @@ more_by a b e = grind (arith, nat_tests)
 layout_by : (layout : Layout) → is_layout layout ≡ true → (layout_columns layout ≤ 8) × (layout_width layout ≤ 0xffff_ffff)
 layout_by Concat e = (omega arith, omega arith)
 layout_by (Stripe columns width) e =
-    let one = both_parts (nat_le 1 columns) (nat_le columns 8 && nat_le 1 width && nat_lt width (2 ^ 32)) e in
-    let two = both_parts (nat_le columns 8) (nat_le 1 width && nat_lt width (2 ^ 32)) one.1 in
-    let three = both_parts (nat_le 1 width) (nat_lt width (2 ^ 32)) two.1 in
-    let below : width < 2 ^ 32 = lt_by width (2 ^ 32) three.1 in
-    (le_by columns 8 two.0, omega (arith, below))
+    let one = both_parts (nat_le 1 columns && nat_le columns 8 && nat_le 1 width) (nat_lt width (2 ^ 32)) e in
+    let two = both_parts (nat_le 1 columns && nat_le columns 8) (nat_le 1 width) one.0 in
+    let three = both_parts (nat_le 1 columns) (nat_le columns 8) two.0 in
+    let below : width < 2 ^ 32 = lt_by width (2 ^ 32) one.1 in
+    (le_by columns 8 three.1, omega (arith, below))
 
 pub shape_layout : (blocks mirrors : ℕ) (layout : Layout) → is_volume_shape blocks mirrors layout ≡ true → (layout_columns layout ≤ 8) × (layout_width layout ≤ 0xffff_ffff)
 shape_layout blocks mirrors layout e =
-    let one = both_parts (nat_le 1 blocks) (nat_le blocks (2 ^ 40) && nat_le 1 mirrors && is_layout layout) e in
-    let two = both_parts (nat_le blocks (2 ^ 40)) (nat_le 1 mirrors && is_layout layout) one.1 in
-    let three = both_parts (nat_le 1 mirrors) (is_layout layout) two.1 in
-    layout_by layout three.1
+    layout_by layout (both_parts (nat_le 1 blocks && nat_le blocks (2 ^ 40) && nat_le 1 mirrors) (is_layout layout) e).1
 
 pub prefers_below : (policy : ReadPolicy) (mirrors : ℕ) → preferred_unknown policy mirrors ≡ None → IfSome (preferred_plex policy) (λ p. p < mirrors)
 prefers_below Round mirrors e = tt
@@ -100,3 +109,34 @@ rest_blocks (Fuse a b c) is w0 w1 w2 w3 w4 w5 w6 w7 w8 w9 w10 = absurd (w8 a b c
 rest_blocks (Recover a) is w0 w1 w2 w3 w4 w5 w6 w7 w8 w9 w10 = absurd (w9 a refl)
 rest_blocks (Status a) is w0 w1 w2 w3 w4 w5 w6 w7 w8 w9 w10 = absurd (w10 a refl)
 rest_blocks other is w0 w1 w2 w3 w4 w5 w6 w7 w8 w9 w10 = is
+
+pub rest_none : (line : ScriptLine) → is_block_kind line ≡ true → ((a b : List ℕ) (c d e : ℕ) → line ≡ WriteLine a b c d e → ⊥) → ((a b : List ℕ) (c : ℕ) (d : List ℕ) → line ≡ PutLine a b c d → ⊥)
+    → ((a b : List ℕ) (c d : ℕ) → line ≡ ReadLine a b c d → ⊥) → ((a b : List ℕ) (c d : ℕ) → line ≡ ShowLine a b c d → ⊥) → ⊥
+rest_none (WriteLine a b c d e) is w p r s = w a b c d e refl
+rest_none (PutLine a b c d) is w p r s = p a b c d refl
+rest_none (ReadLine a b c d) is w p r s = r a b c d refl
+rest_none (ShowLine a b c d) is w p r s = s a b c d refl
+rest_none other is w p r s = absurd (cc)
+
+-- ---- a line that reads
+
+module _ {R : Type 0} {g : Ghosts R} (y : Yard R g) (name volume : List ℕ) (start count : ℕ) where
+  call_by : (line : ScriptLine) → IsReadOf line name volume start count → IsFree y line → CallMay y.facts.items name volume start count
+  call_by line (ByRead is) free = read_may y.facts.items (in_files y) name volume start count (subst (λ (l : ScriptLine). IsFree y l) is free)
+  call_by line (ByShow is) free = show_may y.facts.items (in_files y) name volume start count (subst (λ (l : ScriptLine). IsFree y l) is free)
+
+  pub reads_may : IsReadAt y name volume start count → CallMay y.facts.items name volume start count
+  reads_may (line, (is, free)) = call_by line is free
+
+  none_read : (b : Bool) (e : DiskSet R g) → ReadsBy b e e
+  none_read true e = failing_same e
+  none_read false e = alone_same e
+
+  -- one for which memory was short
+  pub reads_none : (d : Doubted) (line : ScriptLine) → StandsFor d y → IsReadOf line name volume start count → IsFree y line → AsAsked d.world line y y
+  reads_none d line stands (ByRead is) free =
+      subst (λ (l : ScriptLine). AsAsked d.world l y y) (sym is)
+      (unbegun_site (ReadsBy (over_group_at d.world name)) d y name (none_read (over_group_at d.world name)) stands (call_by line (ByRead is) free).site)
+  reads_none d line stands (ByShow is) free =
+      subst (λ (l : ScriptLine). AsAsked d.world l y y) (sym is)
+      (unbegun_site (ReadsBy (over_group_at d.world name)) d y name (none_read (over_group_at d.world name)) stands (call_by line (ByShow is) free).site)

@@ -72,6 +72,10 @@ pub record IsRoomFor (count : ℕ) (room : List ℕ) : Type 0 where
   pub size : length room ≡ 512 * count
 
 module _ {R : Type 0} {g : Ghosts R} where
+  -- so many blocks that a line may read, which no test refuses
+  abbrev pub IsReadAt : Yard R g → List ℕ → List ℕ → ℕ → ℕ → Type 0
+  IsReadAt y name volume start count = (line : ScriptLine) × IsReadOf line name volume start count × IsFree y line
+
   -- a run of blocks that a line may read, which no test refuses
   abbrev pub IsReadFree : Yard R g → List ℕ → List ℕ → ℕ → Type 0
   IsReadFree y name volume start = (line : ScriptLine) × (count : ℕ) × IsReadOf line name volume start count × IsFree y line

@@ -1,5 +1,5 @@
 // The lines that go to the group of a site, and their work.
-ghost use Rattle.std.specs.Prelude.{◌≡◌, ◌*◌, IfOk, IsOk, IsSome, min, option_copied, replicate, false, true};
+ghost use Rattle.std.specs.Prelude.{◌≡◌, IfOk, IsOk, IsSome, option_copied, false, true};
 ghost use Rattle.vx_history.specs.Doubts.{Doubted};
 ghost use Rattle.vx_events.specs.Facts.{seat_of};
 ghost use Rattle.vx_events.specs.StepsOver.{is_for_group, over_group_at};
@@ -9,20 +9,18 @@ ghost use Rattle.vx_yard.specs.Standing.{LeadsOverIs, LeadsOverOrStops, StandsFo
 ghost use Rattle.vx_yard.specs.Working.{IsFree, takes_memory};
 ghost use Rattle.vx_yard.specs.Yards.{IsYardKept, IsTold, in_files};
 
+use crate::blocks::{put_line, read_line, write_line};
 use crate::deport::deport_line;
 use crate::import::import_line;
 use crate::init::init_line;
 use crate::marks::{crash_line, disk_line, fuse_line};
 use crate::plex::{attach_line, detach_line};
-use crate::read::read_plain;
 use crate::recover::recover_line;
 use crate::status::status_line;
 use crate::volume::{shape_of, volume_line};
-use crate::write::write_plain;
 use std::alloc::Global;
 use vx_disk::Rack;
 use vx_events::Said;
-use vx_model::limits::{BLOCK, MOST_CALL_BLOCKS};
 use vx_model::{Name, OutOfMemory};
 use vx_script::ScriptLine;
 use vx_yard::Yard;
@@ -57,98 +55,35 @@ fn site_named(words: &ScriptLine) -> Option<&Name>
     ensures { option_copied result ≡ plain_site words.now }
 {
     match words {
-        ScriptLine::Write { site, .. } => Some(site),
-        ScriptLine::Put { site, .. } => Some(site),
-        ScriptLine::Read { site, .. } => Some(site),
-        ScriptLine::Show { site, .. } => Some(site),
-        ScriptLine::Disk { site, .. } => Some(site),
-        ScriptLine::Crash { site, .. } => Some(site),
-        ScriptLine::Fuse { site, .. } => Some(site),
-        ScriptLine::Recover { site } => Some(site),
-        ScriptLine::Status { site } => Some(site),
-        _ => None,
-    }
-}
-
-/// Whether a line that no test refuses goes to the group of its site.
-pub fn is_of_group<R: Rack>(yard: &Yard<R>, words: &ScriptLine) -> bool
-    requires kept { IsYardKept yard.now }
-    requires free { IsFree yard.now words.now }
-    ensures is { (d : Doubted) → StandsFor d yard.now → result ≡ is_for_group d.world words.now }
-    ensures kind { result ≡ true → is_group_kind words.now ≡ true }
-    ensures always { is_group_line words.now ≡ true → result ≡ true }
-{
-    if is_word_of_group(words) {
-        return true;
-    }
-    match site_named(words) {
-        Some(site) => is_group(yard, site),
-        None => false,
-    }
-}
-
-// So many blocks, each byte of which is `fill`, and no more than a line may ask.
-fn filled(alloc: Global, count: u64, fill: u8) -> Result<Vec<u8>, OutOfMemory>
-    ensures { IfOk result (λ bytes. bytes.items ≡ replicate (512 * min count MOST_CALL_BLOCKS) fill) }
-{
-    let bytes = Vec::from_elem(alloc, fill, BLOCK * count.min(MOST_CALL_BLOCKS) as usize)?;
-    Ok(bytes)
-}
-
-#[tactic(none)]
-// The lines that write and read a volume.
-fn work_blocks<R: Rack>(
-    yard: &mut Yard<R>,
-    alloc: Global,
-    words: &ScriptLine,
-) -> Result<Said, OutOfMemory>
-    requires kept { IsYardKept yard.old }
-    requires free { IsFree yard.old words.now }
-    requires goes { is_block_kind words.now ≡ true }
-    ensures leads { (d : Doubted) → StandsFor d yard.old → is_for_group d.world words.now ≡ true → LeadsOverIs d words.now yard.old yard.new result }
-    ensures asked { (d : Doubted) → StandsFor d yard.old → is_for_group d.world words.now ≡ true → AsAsked d.world words.now yard.old yard.new }
-    ensures called { (d : Doubted) → StandsFor d yard.old → is_for_group d.world words.now ≡ true → IfOk result (λ said. HasCalled d.world words.now said yard.old yard.new) }
-    ensures whole { takes_memory words.now ≡ false → IsOk result }
-    ensures told { IsTold yard.new → IsTold yard.old }
-    ensures files { in_files yard.new ≡ in_files yard.old }
-{
-    match words {
         ScriptLine::Write {
             site,
             volume,
             block,
             count,
             fill,
-        } => {
-            let bytes = filled(alloc, *count, *fill)?;
-            Ok(write_plain(yard, alloc, site, volume, *block, &bytes))
-        }
+        } => write_line(yard, alloc, site, volume, *block, *count, *fill),
         ScriptLine::Put {
             site,
             volume,
             block,
             bytes,
-        } => Ok(write_plain(yard, alloc, site, volume, *block, bytes.as_bytes())),
+        } => Ok(put_line(yard, alloc, site, volume, *block, bytes)),
         ScriptLine::Read {
             site,
             volume,
             block,
             count,
-        }
-        | ScriptLine::Show {
+        } => read_line(yard, alloc, site, volume, *block, *count),
+        ScriptLine::Show {
             site,
             volume,
             block,
             count,
-        } => {
-            let room = filled(alloc, *count, 0)?;
-            Ok(read_plain(yard, site, volume, *block, room))
-        }
+        } => read_line(yard, alloc, site, volume, *block, *count),
         _ => unreachable!(),
     }
 }
 
-#[tactic(none)]
 /// Does a line that no test refuses and that goes to the group of its site. A recovery of a group that is up may want memory behind its crash.
 pub fn work_group<R: Rack>(
     yard: &mut Yard<R>,

@@ -169,17 +169,17 @@ returns-in-Status-clause-called g c = λ d stands group. ok_any (λ said. HasCal
 pub returns-in-Status-clause-whole : goal.returns-in-Status-clause-whole
 returns-in-Status-clause-whole g c = λ none. memory_short c.args.words.now _ c.in-Status.is refl none
 
-pub shape_of-requires-clause-mirrors : goal.shape_of-requires-clause-mirrors
-shape_of-requires-clause-mirrors g c = λ κs lives. omega (arith, (volume_may c.args.yard.now.facts.items (in_files c.args.yard.now) c.in-Volume.site c.in-Volume.volume c.in-Volume.blocks c.in-Volume.mirrors c.in-Volume.layout c.in-Volume.log c.in-Volume.map c.in-Volume.policy (subst (λ line. IsFree c.args.yard.now line) c.in-Volume.is c.requires.free)).plexes)
+pub shape_of-want-requires-in-Volume-clause-mirrors : goal.shape_of-want-requires-in-Volume-clause-mirrors
+shape_of-want-requires-in-Volume-clause-mirrors g c = λ κs lives. omega (arith, (volume_may c.args.yard.now.facts.items (in_files c.args.yard.now) c.in-Volume.site c.in-Volume.volume c.in-Volume.blocks c.in-Volume.mirrors c.in-Volume.layout c.in-Volume.log c.in-Volume.map c.in-Volume.policy (subst (λ line. IsFree c.args.yard.now line) c.in-Volume.is c.requires.free)).plexes)
 
-pub shape_of-requires-clause-columns : goal.shape_of-requires-clause-columns
-shape_of-requires-clause-columns g c = λ κs lives. omega (arith, (shape_layout c.in-Volume.blocks c.in-Volume.mirrors c.in-Volume.layout (volume_may c.args.yard.now.facts.items (in_files c.args.yard.now) c.in-Volume.site c.in-Volume.volume c.in-Volume.blocks c.in-Volume.mirrors c.in-Volume.layout c.in-Volume.log c.in-Volume.map c.in-Volume.policy (subst (λ line. IsFree c.args.yard.now line) c.in-Volume.is c.requires.free)).shape).0)
+pub shape_of-want-requires-in-Volume-clause-columns : goal.shape_of-want-requires-in-Volume-clause-columns
+shape_of-want-requires-in-Volume-clause-columns g c = λ κs lives. omega (arith, (shape_layout c.in-Volume.blocks c.in-Volume.mirrors c.in-Volume.layout (volume_may c.args.yard.now.facts.items (in_files c.args.yard.now) c.in-Volume.site c.in-Volume.volume c.in-Volume.blocks c.in-Volume.mirrors c.in-Volume.layout c.in-Volume.log c.in-Volume.map c.in-Volume.policy (subst (λ line. IsFree c.args.yard.now line) c.in-Volume.is c.requires.free)).shape).0)
 
-pub shape_of-requires-clause-width : goal.shape_of-requires-clause-width
-shape_of-requires-clause-width g c = λ κs lives. (shape_layout c.in-Volume.blocks c.in-Volume.mirrors c.in-Volume.layout (volume_may c.args.yard.now.facts.items (in_files c.args.yard.now) c.in-Volume.site c.in-Volume.volume c.in-Volume.blocks c.in-Volume.mirrors c.in-Volume.layout c.in-Volume.log c.in-Volume.map c.in-Volume.policy (subst (λ line. IsFree c.args.yard.now line) c.in-Volume.is c.requires.free)).shape).1
+pub shape_of-want-requires-in-Volume-clause-width : goal.shape_of-want-requires-in-Volume-clause-width
+shape_of-want-requires-in-Volume-clause-width g c = λ κs lives. (shape_layout c.in-Volume.blocks c.in-Volume.mirrors c.in-Volume.layout (volume_may c.args.yard.now.facts.items (in_files c.args.yard.now) c.in-Volume.site c.in-Volume.volume c.in-Volume.blocks c.in-Volume.mirrors c.in-Volume.layout c.in-Volume.log c.in-Volume.map c.in-Volume.policy (subst (λ line. IsFree c.args.yard.now line) c.in-Volume.is c.requires.free)).shape).1
 
-pub shape_of-requires-clause-prefer : goal.shape_of-requires-clause-prefer
-shape_of-requires-clause-prefer g c = λ κs lives. let may = volume_may c.args.yard.now.facts.items (in_files c.args.yard.now) c.in-Volume.site c.in-Volume.volume c.in-Volume.blocks c.in-Volume.mirrors c.in-Volume.layout c.in-Volume.log c.in-Volume.map c.in-Volume.policy (subst (λ line. IsFree c.args.yard.now line) c.in-Volume.is c.requires.free) in prefers_few c.in-Volume.policy c.in-Volume.mirrors may.plexes may.prefer
+pub shape_of-want-requires-in-Volume-clause-prefer : goal.shape_of-want-requires-in-Volume-clause-prefer
+shape_of-want-requires-in-Volume-clause-prefer g c = λ κs lives. let may = volume_may c.args.yard.now.facts.items (in_files c.args.yard.now) c.in-Volume.site c.in-Volume.volume c.in-Volume.blocks c.in-Volume.mirrors c.in-Volume.layout c.in-Volume.log c.in-Volume.map c.in-Volume.policy (subst (λ line. IsFree c.args.yard.now line) c.in-Volume.is c.requires.free) in prefers_few c.in-Volume.policy c.in-Volume.mirrors may.plexes may.prefer
 
 pub volume_line-requires-clause-named : goal.volume_line-requires-clause-named
 volume_line-requires-clause-named g c = λ κs lives. named_some c.args.yard.now c.in-Volume.site (volume_may c.args.yard.now.facts.items (in_files c.args.yard.now) c.in-Volume.site c.in-Volume.volume c.in-Volume.blocks c.in-Volume.mirrors c.in-Volume.layout c.in-Volume.log c.in-Volume.map c.in-Volume.policy (subst (λ line. IsFree c.args.yard.now line) c.in-Volume.is c.requires.free)).may.site
