@@ -55,6 +55,53 @@ fn site_named(words: &ScriptLine) -> Option<&Name>
     ensures { option_copied result ≡ plain_site words.now }
 {
     match words {
+        ScriptLine::Write { site, .. } => Some(site),
+        ScriptLine::Put { site, .. } => Some(site),
+        ScriptLine::Read { site, .. } => Some(site),
+        ScriptLine::Show { site, .. } => Some(site),
+        ScriptLine::Disk { site, .. } => Some(site),
+        ScriptLine::Crash { site, .. } => Some(site),
+        ScriptLine::Fuse { site, .. } => Some(site),
+        ScriptLine::Recover { site } => Some(site),
+        ScriptLine::Status { site } => Some(site),
+        _ => None,
+    }
+}
+
+/// Whether a line that no test refuses goes to the group of its site.
+pub fn is_of_group<R: Rack>(yard: &Yard<R>, words: &ScriptLine) -> bool
+    requires kept { IsYardKept yard.now }
+    requires free { IsFree yard.now words.now }
+    ensures is { (d : Doubted) → StandsFor d yard.now → result ≡ is_for_group d.world words.now }
+    ensures kind { result ≡ true → is_group_kind words.now ≡ true }
+    ensures always { is_group_line words.now ≡ true → result ≡ true }
+{
+    if is_word_of_group(words) {
+        return true;
+    }
+    match site_named(words) {
+        Some(site) => is_group(yard, site),
+        None => false,
+    }
+}
+
+// The lines that write and read a volume.
+fn work_blocks<R: Rack>(
+    yard: &mut Yard<R>,
+    alloc: Global,
+    words: &ScriptLine,
+) -> Result<Said, OutOfMemory>
+    requires kept { IsYardKept yard.old }
+    requires free { IsFree yard.old words.now }
+    requires goes { is_block_kind words.now ≡ true }
+    ensures leads { (d : Doubted) → StandsFor d yard.old → is_for_group d.world words.now ≡ true → LeadsOverIs d words.now yard.old yard.new result }
+    ensures asked { (d : Doubted) → StandsFor d yard.old → is_for_group d.world words.now ≡ true → AsAsked d.world words.now yard.old yard.new }
+    ensures called { (d : Doubted) → StandsFor d yard.old → is_for_group d.world words.now ≡ true → IfOk result (λ said. HasCalled d.world words.now said yard.old yard.new) }
+    ensures whole { takes_memory words.now ≡ false → IsOk result }
+    ensures told { IsTold yard.new → IsTold yard.old }
+    ensures files { in_files yard.new ≡ in_files yard.old }
+{
+    match words {
         ScriptLine::Write {
             site,
             volume,
