@@ -48,12 +48,12 @@ module _ {R : Type 0} {g : Ghosts R} where
   -- what a run of a yard came to, with the racks that come back from it
   pub run_is : (files : Bool) (racks : List R) (status : Status) (old new : Yard R g) (left now_left w0 w1 : Option (List ℕ)) (f0 f1 : ℕ → ℕ → ℕ)
       → YardComes 0 (sure empty_world) [] left status old new now_left w0 w1 → in_files old ≡ files
-      → ((d : Doubted) → StandsFor d new → RacksHold g.meaning d racks) → ((w : Doubted) → StandsFor w new → RacksTell g.meaning racks → NoneOver w → IsTold new)
+      → ((d : Doubted) → StandsFor d new → RacksHold g.meaning d racks) → ((w : Doubted) → StandsFor w new → NoneOver w → RacksTell g.meaning racks → IsTold new)
       → ((s d : ℕ) → count_of old s d ≡ f0 s d) → ((w : Doubted) → StandsFor w new → (s d : ℕ) → f1 s d ≡ count_of new s d)
       → RunIs (λ d. ToldBy g.meaning racks d) files (LeavesRacks g.meaning racks) status left now_left w0 w1 f0 f1
   run_is files racks status old new left now_left w0 w1 f0 f1 comes kept holds told counts after =
       let o = comes.outcome in
-      let tells : ToldBy g.meaning racks o.world → IsTold new = λ t. told o.world o.leaves.stands t.0 t.1 in
+      let tells : ToldBy g.meaning racks o.world → IsTold new = λ t. told o.world o.leaves.stands t.1 t.0 in
       record {
         input = comes.bytes;
         has = subst (MayHave left) (sym comes.ahead.is) comes.ahead.has;
@@ -82,7 +82,7 @@ module _ {R : Type 0} {g : Ghosts R} where
 module _ {R : Type 0} (meaning : R → Meaning) where
   -- the racks of a world without sites hold it
   fresh_leave : (racks : List R) → AreFresh meaning racks → LeavesRacks meaning racks (sure empty_world)
-  fresh_leave racks fresh = record { good = λ _. begins_good; holds = record { eight = fresh.eight; each = λ s r below apart at. absurd (omega arith); groups = λ s r note below over is at. absurd (omega arith) } }
+  fresh_leave racks fresh = record { good = λ _. begins_good; holds = record { eight = fresh.eight; each = λ s r below apart at. absurd (omega arith) } }
 
   -- memory ran out before the run began
   pub run_stops : (T : Doubted → Type 0) (files : Bool) (racks now : List R) (left w0 : Option (List ℕ)) → AreFresh meaning racks → now ≡ racks

@@ -1,20 +1,19 @@
 -- What the events of a line over a group, and what it notes of its site, leave of the world.
-use Rattle.std.proofs.Common.{◌≡◌, ◌∙◌, ◌<◌, ℕ, false, true, List, [], ap, sym, subst, refl, arith}
+use Rattle.std.proofs.Common.{◌≡◌, ◌∙◌, ◌<◌, ℕ, false, true, List, [], ap, subst, refl, arith}
 use Rattle.std.specs.Prelude.{Option, Some, None}
 use Rattle.vx_model.specs.declared.site.Role.TheVariants.{Primary}
 use Rattle.vx_model.specs.declared.site.SiteState.TheVariants.{Bare, Up}
-use Rattle.vx_model.specs.declared.state.KeptLink.{KeptLink}
 use Rattle.vx_history.proofs.Updates.{at_place}
 use Rattle.vx_history.specs.Doubts.{After, Doubted, happened}
 use Rattle.vx_history.specs.Events.{kept_of, lost_touch}
 use Rattle.vx_history.specs.Groups.{GroupNode}
 use Rattle.vx_history.specs.Sound.{is_at_rest}
 use Rattle.vx_history.specs.Steps.{burned, crashed, deported_site, group_set, group_up, worked_on}
-use Rattle.vx_history.specs.World.{Gathering, Link, Node, NoFuse, Packet, World, with_node}
+use Rattle.vx_history.specs.World.{Gathering, Link, Node, NoFuse, Packet, with_node}
 use Rattle.vx_history.specs.declared.event.Event.TheVariants.{Crash as CrashAt, Deport as DeportAt, Group as GroupAt}
 use Rattle.vx_diskset.specs.Holds.{header_links, row_links}
 use Rattle.vx_effects.proofs.Effects.{changes_same, changes_then, crash_effect}
-use Rattle.vx_effects.proofs.Fitting.{fit_happened, updated_other}
+use Rattle.vx_effects.proofs.Fitting.{fit_happened}
 use Rattle.vx_effects.proofs.Groups.{again_effect, deport_effect, group_effect}
 use Rattle.vx_effects.proofs.Leaving.{fit_note}
 use Rattle.vx_effects.proofs.Moves.{Rests}

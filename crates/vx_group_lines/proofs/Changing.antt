@@ -1,17 +1,16 @@
 -- How the configuration of a group goes from one note to the next, in the words of its lines.
-use Rattle.std.proofs.Common.{◌≡◌, ◌∙◌, ◌⊎◌, ◌<◌, ◌≤◌, ℕ, Bool, false, List, [], map, length, ap, sym, subst, refl, arith, inl, inr, ⊎_elim}
-use Rattle.std.specs.Prelude.{Option, Some, None}
+use Rattle.std.proofs.Common.{◌≡◌, ◌∙◌, ◌⊎◌, ◌≤◌, ℕ, Bool, false, map, length, sym, refl, inl, inr}
+use Rattle.std.specs.Prelude.{Some}
 use Rattle.vx_model.specs.declared.site.PlexState.{PlexState}
 use Rattle.vx_model.specs.declared.site.PlexState.TheVariants.{Active, Stale}
 use Rattle.vx_disk.specs.Shelf.{Meaning}
 use Rattle.vx_config.specs.Changes.{stated}
 use Rattle.vx_config.specs.declared.config.Config.{Config}
-use Rattle.vx_history.specs.Groups.{GroupNode, NoteSame}
+use Rattle.vx_history.specs.Groups.{GroupNode}
 use Rattle.vx_kept.specs.Cleans.{at_serial}
 use Rattle.vx_volume.specs.Plexes.{uses}
-use Rattle.vx_grouped.specs.ConfigMoves.{AttDone, AttFails, CleansPlexes, ConfigMoves, DetDone, DetFails, LosesSome, Restated, StateMoves, none_again}
+use Rattle.vx_grouped.specs.ConfigMoves.{AttDone, AttFails, ConfigMoves, DetFails, Restated, StateMoves, none_again}
 use Rattle.vx_grouped.specs.GroupNotes.{NotesConfig}
-use Rattle.vx_order.specs.declared.facts.VolumeFacts.{VolumeFacts}
 use Rattle.vx_events.specs.Fails.{Fails}
 use Rattle.vx_events.specs.GroupConfigs.{ConfigLoses, ConfigLosesBut, PutsPlex, lies_on_disk}
 use Rattle.vx_events.specs.GroupNotes.{Reconfigures}

@@ -1,6 +1,6 @@
 -- Which lines go to the group of their site.
 use Rattle.std.proofs.Common.{◌≡◌, ◌∙◌, ℕ, Bool, true, false, List, ap, sym, subst, refl}
-use Rattle.std.specs.Prelude.{Option, Some, None, IsSome, is_none, slice_get, if◌then◌else◌}
+use Rattle.std.specs.Prelude.{Option, Some, None, IsSome, is_none, is_some, not, slice_get, if◌then◌else◌}
 use Rattle.vx_model.specs.declared.errors.OutOfMemory.{OutOfMemory}
 use Rattle.std.specs.Prelude.{Result, Ok, Err}
 use Rattle.vx_history.specs.Doubts.{Doubted}
@@ -32,6 +32,12 @@ use Rattle.vx_group_lines.specs.Plain.{is_group_line, plain_site}
 use Rattle.vx_group_lines.proofs.Tests.{UpMay, attach_may, deport_may, detach_may, import_may, volume_may}
 
 -- ---- what the tests see of a site over a group
+
+pub none_is : {A : Type 0} (o : Option A) (b : Bool) → is_some o ≡ not b → b ≡ is_none o
+none_is None false e = absurd (cc)
+none_is None true e = refl
+none_is (Some x) false e = refl
+none_is (Some x) true e = absurd (cc)
 
 grouped_by : (w : World) (s : ℕ) (b : Bool) → (let f : SiteFacts = if b then fact_of_group (w.nodes s) (note_at (w.nodes s)) else linked_fact w s in f).grouped ≡ b
 grouped_by w s true = refl

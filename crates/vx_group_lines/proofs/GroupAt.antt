@@ -1,9 +1,6 @@
 -- The group of the site that a line names.
-use Rattle.std.proofs.Common.{◌≡◌, ◌∙◌, ◌<◌, ◌≤◌, ℕ, Bool, true, false, List, [], length, ap, sym, subst, refl, arith}
+use Rattle.std.proofs.Common.{◌≡◌, ◌∙◌, ◌<◌, ℕ, true, List, ap, sym, subst, refl}
 use Rattle.std.specs.Prelude.{Option, Some, None, slice_get, unwrap_or}
-use Rattle.vx_model.specs.Content.{Write}
-use Rattle.vx_model.specs.declared.limits.TheConstants.{LEAST_BLOCKS, MOST_DISKS}
-use Rattle.vx_model.specs.declared.site.SiteState.{SiteState}
 use Rattle.vx_model.specs.declared.site.SiteState.TheVariants.{Bare as IsBare, Up as IsUp, Deported as IsDeported, Down as IsDown}
 use Rattle.vx_disk.specs.declared.shelf.Shelf.{Ghosts}
 use Rattle.vx_history.specs.Doubts.{Doubted}
@@ -16,18 +13,17 @@ use Rattle.vx_grouped.specs.declared.group_site.GroupSite.{GroupSite}
 use Rattle.vx_grouped.specs.declared.group_site.GroupSite.TheVariants.{Up, Deported, Down, Marked, Gone}
 use Rattle.vx_diskset.specs.GroupCalls.{AtSite}
 use Rattle.vx_diskset.specs.GroupSets.{cut_value}
-use Rattle.vx_diskset.specs.Holds.{KeptBeside, beside_of, doubt_of}
-use Rattle.vx_diskset.specs.Stands.{CutLies, IsGroupSet, SiteStands, bare_with}
+use Rattle.vx_diskset.specs.Holds.{KeptBeside, beside_of}
+use Rattle.vx_diskset.specs.Stands.{CutLies, IsGroupSet, SiteStands}
 use Rattle.vx_diskset.specs.declared.disk_set.DiskSet.{DiskSet}
 use Rattle.vx_diskset.specs.declared.disk_set.DiskSet.TheVariants.{Bare, Spoiled, Up as RaisedSet, Receives, Down as DownSet, OfGroup, Gone as GoneSet}
 use Rattle.vx_diskset.specs.declared.group_set.CutWrite.{CutWrite}
 use Rattle.vx_diskset.specs.declared.group_set.GroupSet.{GroupSet}
 use Rattle.vx_events.proofs.OverSeats.{fact_grouped}
-use Rattle.vx_events.proofs.Places.{some_same}
 use Rattle.vx_events.specs.Facts.{seat_of}
 use Rattle.vx_events.specs.GroupLines.{is_over_group}
 use Rattle.vx_events.specs.GroupNotes.{no_note, note_at}
-use Rattle.vx_events.specs.StepsOver.{fact_of_group, fact_over, over_group_at}
+use Rattle.vx_events.specs.StepsOver.{fact_of_group, over_group_at}
 use Rattle.vx_yard.proofs.NamedSite.{fact_of, place_at}
 use Rattle.vx_yard.proofs.OverGroup.{bare_apart, both_ways, over_is}
 use Rattle.vx_yard.specs.Standing.{StandsFor}

@@ -1,67 +1,59 @@
 -- What calls on the group of a site that is up lead its yard to, where it stays up and where its fuse runs out.
-use Rattle.std.proofs.Common.{◌≡◌, ◌∙◌, ◌<◌, ◌≤◌, ℕ, Bool, true, false, List, [], ◌∷◌, length, ap, sym, subst, refl, arith}
+use Rattle.std.proofs.Common.{◌≡◌, ◌∙◌, ◌<◌, ◌≤◌, ℕ, Bool, true, false, List, [], length, ap, sym, subst, refl, arith}
 use Rattle.std.specs.Prelude.{Option, Some, None, Contains, IsTrue, IsFalse, slice_get, slice_set}
 use Rattle.std.proofs.lemmas.Option.{slice_get_within}
 use Rattle.vx_model.specs.Content.{Write}
-use Rattle.vx_model.specs.declared.no.No.{No}
 use Rattle.vx_model.specs.declared.site.SiteState.{SiteState}
 use Rattle.vx_model.specs.declared.site.SiteState.TheVariants.{Up as IsUp, Down as IsDown}
 use Rattle.vx_disk.specs.Counts.{Rose}
-use Rattle.vx_disk.specs.Disks.{Disks, is_set}
-use Rattle.vx_disk.specs.Shelf.{Meaning}
+use Rattle.vx_disk.specs.Disks.{Disks}
 use Rattle.vx_disk.specs.declared.shelf.Shelf.{Ghosts}
 use Rattle.vx_history.specs.Doubts.{Doubted, happened}
-use Rattle.vx_history.specs.Groups.{GroupNode, NoteSame}
+use Rattle.vx_history.specs.Groups.{GroupNode}
 use Rattle.vx_history.specs.Steps.{burned, crashed, worked_on}
 use Rattle.vx_history.specs.World.{Fuse as FuseOf, Node, NoFuse, FuseSet, FuseLit}
 use Rattle.vx_history.specs.declared.event.Event.TheVariants.{Crash as CrashAt}
 use Rattle.vx_order.specs.declared.facts.SiteFacts.{SiteFacts}
 use Rattle.vx_order.specs.declared.facts.VolumeFacts.{VolumeFacts}
-use Rattle.vx_script.specs.declared.line.ScriptLine.{ScriptLine}
 use Rattle.vx_watched.specs.Since.{CalledSince, FuseGoes, is_rack}
-use Rattle.vx_grouped.specs.GroupSites.{DownNoted, FitsPlain, HasNoRvg, NotesGroup, UpNoted, site_disks, with_note}
+use Rattle.vx_grouped.specs.GroupSites.{DownNoted, FitsPlain, HasNoRvg, UpNoted, site_disks, with_note}
 use Rattle.vx_grouped.specs.declared.group_site.GroupSite.{GroupSite}
 use Rattle.vx_grouped.specs.declared.group_site.GroupSite.TheVariants.{Up as SiteUp, Deported as SiteAway, Down as SiteDown, Marked, Gone as SiteGone}
 use Rattle.vx_diskset.specs.Asked.{FailsAs, FusedAs, SameFailing, disks_told}
-use Rattle.vx_diskset.specs.DiskSets.{Later}
 use Rattle.vx_diskset.specs.Fuses.{HasLeft, LeftAs}
-use Rattle.vx_diskset.specs.GroupCalls.{AtSite, CalledOn, OnSites, cut_in}
+use Rattle.vx_diskset.specs.GroupCalls.{AtSite, OnSites, cut_in}
 use Rattle.vx_diskset.specs.GroupSets.{cut_value}
 use Rattle.vx_diskset.specs.Holds.{beside_of}
-use Rattle.vx_diskset.specs.Stands.{IsGroupSet, faults_at}
+use Rattle.vx_diskset.specs.Stands.{faults_at}
 use Rattle.vx_diskset.specs.declared.disk_set.DiskSet.{DiskSet}
 use Rattle.vx_diskset.specs.declared.disk_set.DiskSet.TheVariants.{Bare, Spoiled, Up as RaisedSet, Receives, Down as DownSet, OfGroup, Gone as GoneSet}
 use Rattle.vx_diskset.specs.declared.group_set.CutWrite.{CutWrite}
 use Rattle.vx_diskset.specs.declared.group_set.GroupSet.{GroupSet}
-use Rattle.vx_events.proofs.Places.{some_same}
-use Rattle.vx_events.specs.Facts.{site_fact}
 use Rattle.vx_events.specs.Fails.{Fails}
-use Rattle.vx_events.specs.GroupEnds.{AreOf, GroupEnds}
+use Rattle.vx_events.specs.GroupEnds.{AreOf}
 use Rattle.vx_events.specs.GroupLines.{noting}
 use Rattle.vx_events.specs.GroupNotes.{note_at}
 use Rattle.vx_events.specs.GroupViews.{noted_table}
-use Rattle.vx_events.specs.StepsOver.{fact_of_group, group_place}
-use Rattle.vx_events.specs.declared.said.Said.{Said}
+use Rattle.vx_events.specs.StepsOver.{fact_of_group}
 use Rattle.vx_yard.proofs.Carrying.{LetsGo, SameLoad}
 use Rattle.vx_yard.proofs.ChangeSite.{counts_later}
 use Rattle.vx_yard.proofs.CrashLine.{rose_still}
 use Rattle.vx_yard.proofs.FailsStay.{fails_then}
 use Rattle.vx_yard.proofs.FuseStays.{fused_none}
-use Rattle.vx_yard.proofs.Lists.{get-set_same, set_same}
+use Rattle.vx_yard.proofs.Lists.{get-set_same}
 use Rattle.vx_yard.proofs.OneSite.{Changed}
 use Rattle.vx_yard.proofs.OverGroup.{set_notes}
 use Rattle.vx_yard.specs.Changes.{down_facts}
-use Rattle.vx_yard.specs.Standing.{LeadsOver, StandsFor}
+use Rattle.vx_yard.specs.Standing.{StandsFor}
 use Rattle.vx_yard.specs.Stands.{RoseAll, fault_count}
-use Rattle.vx_yard.specs.Yards.{IsTold, count_of}
+use Rattle.vx_yard.specs.Yards.{count_of}
 use Rattle.vx_yard.specs.declared.yard.Yard.{Yard}
-use Rattle.vx_group_lines.proofs.Arriving.{Arrives, arrives_crash, arrives_worked}
+use Rattle.vx_group_lines.proofs.Arriving.{arrives_crash, arrives_worked}
 use Rattle.vx_group_lines.proofs.Fails.{all_rose, calls_name, calls_of, failed_calls}
-use Rattle.vx_group_lines.proofs.GroupAt.{GroupAt, down_notes, no_value, note_is, uncut, up_noted, up_notes}
-use Rattle.vx_group_lines.proofs.GroupLeads.{Follows, Sets, Sized, down_set, follows_off, follows_on, leads_by, sized_of, up_set}
+use Rattle.vx_group_lines.proofs.GroupAt.{GroupAt, down_notes, uncut, up_noted, up_notes}
+use Rattle.vx_group_lines.proofs.GroupLeads.{Follows, Sized, down_set, follows_off, follows_on, sized_of, up_set}
 use Rattle.vx_group_lines.proofs.GroupMarks.{begins_at, group_noted_at}
 use Rattle.vx_group_lines.proofs.Losing.{Names}
-use Rattle.vx_group_lines.specs.Noting.{KeepsRest}
 
 -- ---- fuses
 

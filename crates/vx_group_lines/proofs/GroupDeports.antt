@@ -1,14 +1,13 @@
 -- The line that deports the group of a site.
-use Rattle.std.proofs.Common.{◌≡◌, ◌≢◌, ◌∙◌, ◌⊎◌, ◌+◌, ◌<◌, ◌≤◌, ℕ, Bool, true, false, List, [], length, map, ap, sym, subst, refl, arith, inl, inr, ⊎_elim}
-use Rattle.std.specs.Prelude.{Option, Some, None, IsTrue, IsFalse, slice_get, slice_set, Result, Ok, Err}
+use Rattle.std.proofs.Common.{◌≡◌, ◌∙◌, ◌+◌, ◌<◌, ◌≤◌, ℕ, false, List, length, ap, sym, subst, refl, arith, inl, inr}
+use Rattle.std.specs.Prelude.{None, IsTrue, slice_set, Result, Ok, Err}
 use Rattle.vx_model.specs.declared.errors.OutOfMemory.{OutOfMemory}
 use Rattle.vx_model.specs.declared.errors.Stop.{Stop}
 use Rattle.vx_model.specs.declared.errors.Stop.TheVariants.{No as StopsBy, OutOfMemory as MemoryStop}
-use Rattle.vx_model.specs.declared.limits.TheConstants.{MOST_NUMBER}
 use Rattle.vx_model.specs.declared.no.Counted.TheVariants.{Number as Numbers}
 use Rattle.vx_model.specs.declared.no.No.{No}
 use Rattle.vx_model.specs.declared.no.No.TheVariants.{Limit}
-use Rattle.vx_model.specs.declared.site.SiteState.TheVariants.{Up as IsUp, Down as IsDown, Deported as IsDeported}
+use Rattle.vx_model.specs.declared.site.SiteState.TheVariants.{Up as IsUp, Deported as IsDeported}
 use Rattle.vx_disk.specs.Shelf.{Meaning}
 use Rattle.vx_disk.specs.declared.shelf.Shelf.{Ghosts}
 use Rattle.vx_config.specs.Table.{greatest}
@@ -21,11 +20,10 @@ use Rattle.vx_history.specs.declared.event.Event.TheVariants.{Deport as DeportAt
 use Rattle.vx_kept.specs.Cleans.{at_serial}
 use Rattle.vx_order.specs.declared.facts.SiteFacts.{SiteFacts}
 use Rattle.vx_order.specs.declared.facts.VolumeFacts.{VolumeFacts}
-use Rattle.vx_script.specs.declared.line.ScriptLine.{ScriptLine}
 use Rattle.vx_script.specs.declared.line.ScriptLine.TheVariants.{GroupDeport}
-use Rattle.vx_grouped.specs.ConfigMoves.{AnyState, CleansPlexes, ConfigMoves, LosesSome, OpensSame, none_again}
+use Rattle.vx_grouped.specs.ConfigMoves.{AnyState, CleansPlexes, LosesSome, OpensSame, none_again}
 use Rattle.vx_grouped.specs.GroupNotes.{NotesConfig}
-use Rattle.vx_grouped.specs.GroupSites.{AwayNoted, HasNoRvg, UpNoted, deported_with, site_disks, with_note}
+use Rattle.vx_grouped.specs.GroupSites.{AwayNoted, HasNoRvg, deported_with, site_disks}
 use Rattle.vx_grouped.specs.SiteEnds.{ConfigGoes, SiteDeported}
 use Rattle.vx_grouped.specs.declared.group_site.GroupSite.{GroupSite}
 use Rattle.vx_grouped.specs.declared.group_site.GroupSite.TheVariants.{Up as SiteUp, Deported as SiteAway, Down as SiteDown, Marked, Gone as SiteGone}
@@ -34,8 +32,6 @@ use Rattle.vx_diskset.specs.GroupCalls.{OnSites, cut_in}
 use Rattle.vx_diskset.specs.GroupSets.{cut_value}
 use Rattle.vx_diskset.specs.Holds.{beside_of}
 use Rattle.vx_diskset.specs.declared.disk_set.DiskSet.{DiskSet}
-use Rattle.vx_diskset.specs.declared.disk_set.DiskSet.TheVariants.{OfGroup}
-use Rattle.vx_diskset.specs.declared.group_set.GroupSet.{GroupSet}
 use Rattle.vx_events.specs.Fails.{Fails}
 use Rattle.vx_events.specs.GroupConfigs.{ConfigLoses, opened_again}
 use Rattle.vx_events.specs.GroupEnds.{GroupDone, GroupWants}
@@ -51,7 +47,6 @@ use Rattle.vx_yard.proofs.FailsStay.{fails_then}
 use Rattle.vx_yard.proofs.OverGroup.{set_notes}
 use Rattle.vx_yard.specs.GroupFacts.{deported_facts}
 use Rattle.vx_yard.specs.Standing.{LeadsOver, LeadsOverIs, StandsFor}
-use Rattle.vx_yard.specs.Yards.{IsTold}
 use Rattle.vx_yard.specs.declared.yard.Yard.{Yard}
 use Rattle.vx_group_lines.proofs.Arriving.{arrives_away, arrives_worked}
 use Rattle.vx_group_lines.proofs.Changing.{moves_table, moves_to, notes_table, reconfigures}

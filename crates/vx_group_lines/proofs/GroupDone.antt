@@ -1,9 +1,8 @@
 -- What lines lead to that called the group of a site that is up: refused, or done.
-use Rattle.std.proofs.Common.{◌≡◌, ◌∙◌, ◌⊎◌, ◌+◌, ◌<◌, ◌≤◌, ℕ, Bool, true, false, List, [], ◌∷◌, length, ap, sym, subst, refl, arith, inl, inr, ⊎_elim}
-use Rattle.std.specs.Prelude.{Option, Some, None, Contains, slice_get, slice_set, Result, Ok, Err}
+use Rattle.std.proofs.Common.{◌≡◌, ◌∙◌, ◌⊎◌, ◌+◌, ℕ, false, List, [], length, ap, sym, subst, refl, arith, inl, inr}
+use Rattle.std.specs.Prelude.{Option, Some, slice_set, Result, Ok, Err}
 use Rattle.vx_model.specs.declared.errors.OutOfMemory.{OutOfMemory}
-use Rattle.vx_model.specs.declared.errors.Stop.{Stop}
-use Rattle.vx_model.specs.declared.errors.Stop.TheVariants.{No as StopsBy, OutOfMemory as MemoryStop}
+use Rattle.vx_model.specs.declared.errors.Stop.TheVariants.{No as StopsBy}
 use Rattle.vx_model.specs.declared.no.No.{No}
 use Rattle.vx_model.specs.declared.no.No.TheVariants.{Down as IsOff, Device}
 use Rattle.vx_disk.specs.Shelf.{Meaning}
@@ -18,10 +17,9 @@ use Rattle.vx_script.specs.declared.line.ScriptLine.{ScriptLine}
 use Rattle.vx_grouped.specs.GroupSites.{UpNoted, site_disks, with_note}
 use Rattle.vx_grouped.specs.SiteEnds.{ConfigGoes, SiteCalled, burned_site}
 use Rattle.vx_grouped.specs.declared.group_site.GroupSite.{GroupSite}
-use Rattle.vx_diskset.specs.GroupCalls.{AtSite, OnSites}
+use Rattle.vx_diskset.specs.GroupCalls.{OnSites}
 use Rattle.vx_diskset.specs.declared.disk_set.DiskSet.{DiskSet}
-use Rattle.vx_events.specs.Fails.{Fails}
-use Rattle.vx_events.specs.GroupEnds.{GroupCut, GroupCuts, GroupDoes, GroupDone, GroupEnds, GroupFails, GroupLacks, GroupSpoils, GroupWants, IsLeftOver}
+use Rattle.vx_events.specs.GroupEnds.{GroupCut, GroupCuts, GroupDoes, GroupDone, GroupFails, GroupLacks, GroupSpoils, GroupWants, IsLeftOver}
 use Rattle.vx_events.specs.Doubts.{run_as}
 use Rattle.vx_events.specs.GroupLines.{group_events}
 use Rattle.vx_events.specs.GroupNotes.{note_at}
@@ -34,11 +32,11 @@ use Rattle.vx_yard.specs.Standing.{LeadsOver, LeadsOverIs, StandsFor}
 use Rattle.vx_yard.specs.Writes.{noted_facts}
 use Rattle.vx_yard.specs.Yards.{IsTold}
 use Rattle.vx_yard.specs.declared.yard.Yard.{Yard}
-use Rattle.vx_group_lines.proofs.GroupCalls.{Called, SetThen, calls, calls_all, calls_are, calls_named, calls_names, calls_none, note_uncut, sets_then}
-use Rattle.vx_group_lines.proofs.GroupEnding.{Broke, Calling, FellOff, IsCalling, IsQuiet, LeftDone, Means, Midway, SameTable, Wanted, called_why, lets_on, load_on, off_leads, up_leads, world_off, world_up}
+use Rattle.vx_group_lines.proofs.GroupCalls.{SetThen, calls, calls_all, calls_are, calls_named, calls_names, calls_none, note_uncut, sets_then}
+use Rattle.vx_group_lines.proofs.GroupEnding.{Broke, Calling, FellOff, LeftDone, Means, Midway, SameTable, Wanted, called_why, lets_on, load_on, off_leads, up_leads, world_up}
 use Rattle.vx_group_lines.proofs.GroupMarks.{group_noted_at}
 use Rattle.vx_group_lines.proofs.Losing.{Names}
-use Rattle.vx_group_lines.specs.Noting.{IsNotedRefusal, KeepsRest}
+use Rattle.vx_group_lines.specs.Noting.{IsNotedRefusal}
 
 -- a change of a configuration, with the disks before and behind it
 abbrev pub Turns : Type 1

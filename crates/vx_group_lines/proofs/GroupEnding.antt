@@ -1,19 +1,17 @@
 -- How a line ends that called the group of a site that is up, and wrote to no volume of it.
-use Rattle.std.proofs.Common.{◌≡◌, ◌∙◌, ◌⊎◌, ◌+◌, ◌<◌, ◌≤◌, ℕ, Bool, true, false, List, [], ◌∷◌, length, ap, sym, subst, refl, arith, inl, inr, ⊎_elim}
-use Rattle.std.specs.Prelude.{Option, Some, None, Contains, slice_get, slice_set, Result, Ok, Err}
-use Rattle.vx_model.specs.declared.errors.OutOfMemory.{OutOfMemory}
-use Rattle.vx_model.specs.declared.errors.Stop.{Stop}
-use Rattle.vx_model.specs.declared.errors.Stop.TheVariants.{No as StopsBy, OutOfMemory as MemoryStop}
+use Rattle.std.proofs.Common.{◌≡◌, ◌∙◌, ◌⊎◌, ◌≤◌, ℕ, false, List, length, ap, sym, subst, refl, inl, inr}
+use Rattle.std.specs.Prelude.{Some, None, slice_set, Err}
+use Rattle.vx_model.specs.declared.errors.Stop.TheVariants.{No as StopsBy}
 use Rattle.vx_model.specs.declared.no.No.{No}
 use Rattle.vx_model.specs.declared.no.No.TheVariants.{Unknown, Exists, Range, Size, Role, Down as IsOff, Device, Missing, NoConfig, LastPlex, Space, LogFull, Stalled, LinkDown, Unconfirmed, Inconsistent, Behind, Replaying, Limit, Halted, Gap, Damaged, Paused, Unsettled, Format}
-use Rattle.vx_model.specs.declared.site.SiteState.TheVariants.{Up as IsUp, Down as IsDown}
+use Rattle.vx_model.specs.declared.site.SiteState.TheVariants.{Up as IsUp}
 use Rattle.vx_disk.specs.Counts.{Rose}
 use Rattle.vx_disk.specs.Shelf.{Meaning}
 use Rattle.vx_disk.specs.declared.shelf.Shelf.{Ghosts}
 use Rattle.vx_config.specs.declared.config.Config.{Config}
 use Rattle.vx_history.specs.Doubts.{Doubted, happened}
-use Rattle.vx_history.specs.Groups.{GroupNode, NoteSettles, NoteUnsettles}
-use Rattle.vx_history.specs.Steps.{burned, crashed, worked_on}
+use Rattle.vx_history.specs.Groups.{GroupNode, NoteUnsettles}
+use Rattle.vx_history.specs.Steps.{crashed, worked_on}
 use Rattle.vx_history.specs.Stops.{IsFused}
 use Rattle.vx_history.specs.World.{Node}
 use Rattle.vx_history.specs.declared.event.Event.TheVariants.{Crash as CrashAt}
@@ -27,37 +25,33 @@ use Rattle.vx_grouped.specs.GroupSites.{DownNoted, UpNoted, site_disks, with_not
 use Rattle.vx_grouped.specs.SiteEnds.{ConfigGoes, SiteCalled, burned_site}
 use Rattle.vx_grouped.specs.declared.group_site.GroupSite.{GroupSite}
 use Rattle.vx_diskset.specs.Asked.{FusedAs}
-use Rattle.vx_diskset.specs.GroupCalls.{AtSite, CalledOn, OnSites, cut_in}
+use Rattle.vx_diskset.specs.GroupCalls.{CalledOn, cut_in}
 use Rattle.vx_diskset.specs.GroupSets.{cut_value}
 use Rattle.vx_diskset.specs.declared.disk_set.DiskSet.{DiskSet}
 use Rattle.vx_diskset.specs.declared.disk_set.DiskSet.TheVariants.{OfGroup}
-use Rattle.vx_diskset.specs.declared.group_set.CutWrite.{CutWrite}
 use Rattle.vx_diskset.specs.declared.group_set.GroupSet.{GroupSet}
 use Rattle.vx_events.specs.Doubts.{run_as}
 use Rattle.vx_events.specs.Fails.{Fails}
-use Rattle.vx_events.specs.GroupEnds.{GroupCuts, GroupDoes, GroupEnds, GroupSpoils, GroupWants, IsLeftOver}
+use Rattle.vx_events.specs.GroupEnds.{GroupEnds, IsLeftOver}
 use Rattle.vx_events.specs.GroupLines.{cut_events, group_events, noting, refused_events}
 use Rattle.vx_events.specs.GroupNotes.{note_at}
 use Rattle.vx_events.specs.GroupViews.{noted_table}
 use Rattle.vx_events.specs.StepsOver.{fact_of_group, group_place}
 use Rattle.vx_events.specs.declared.said.Said.{Said}
-use Rattle.vx_events.specs.declared.said.Said.TheVariants.{Refused}
 use Rattle.vx_yard.proofs.Carrying.{LetsGo, SameLoad}
 use Rattle.vx_yard.proofs.Lists.{set_same}
-use Rattle.vx_yard.proofs.OneSite.{Changed}
 use Rattle.vx_yard.specs.Loads.{LetGoBy}
-use Rattle.vx_yard.specs.Standing.{LeadsOver, LeadsOverIs, StandsFor}
+use Rattle.vx_yard.specs.Standing.{LeadsOver, StandsFor}
 use Rattle.vx_yard.specs.Stands.{RoseAll}
 use Rattle.vx_yard.specs.Writes.{noted_facts}
 use Rattle.vx_yard.specs.Yards.{IsTold, count_of}
 use Rattle.vx_yard.specs.declared.yard.Yard.{Yard}
-use Rattle.vx_group_lines.proofs.Changing.{notes_config}
-use Rattle.vx_group_lines.proofs.GroupAt.{GroupAt, no_value}
-use Rattle.vx_group_lines.proofs.GroupCalls.{Called, SetThen, calls, calls_all, calls_are, calls_named, calls_names, calls_none, down_seen, fused_since, off_follows, seen_as, sets_then, set_uncut, site_up, up_follows}
+use Rattle.vx_group_lines.proofs.GroupAt.{no_value}
+use Rattle.vx_group_lines.proofs.GroupCalls.{Called, down_seen, fused_since, off_follows, seen_as, set_uncut, site_up, up_follows}
 use Rattle.vx_group_lines.proofs.GroupLeads.{leads_by}
 use Rattle.vx_group_lines.proofs.GroupMarks.{none_at}
 use Rattle.vx_group_lines.proofs.Losing.{Names}
-use Rattle.vx_group_lines.specs.Noting.{IsNotedRefusal, KeepsRest, reply_noted}
+use Rattle.vx_group_lines.specs.Noting.{KeepsRest}
 
 -- a refusal of which the tests see nothing, and at which no site lets anything go
 pub record IsQuiet (why : No) : Type 0 where

@@ -1,11 +1,10 @@
 -- The line that imports a group that was deported.
-use Rattle.std.proofs.Common.{◌≡◌, ◌≢◌, ◌∙◌, ◌⊎◌, ◌+◌, ◌<◌, ◌≤◌, ℕ, Bool, true, false, List, [], ◌∷◌, length, map, ap, sym, subst, refl, arith, inl, inr, ⊎_elim, IsTrue}
+use Rattle.std.proofs.Common.{◌≡◌, ◌∙◌, ◌⊎◌, ◌+◌, ◌<◌, ℕ, Bool, true, false, List, map, ap, sym, subst, refl, arith, inl, inr, IsTrue}
 use Rattle.std.specs.Prelude.{Contains, Option, Some, None, IsFalse, slice_get, slice_set, Result, Ok, Err}
 use Rattle.std.proofs.lemmas.Option.{slice_get_within}
 use Rattle.vx_model.specs.declared.errors.OutOfMemory.{OutOfMemory}
 use Rattle.vx_model.specs.declared.errors.Stop.{Stop}
 use Rattle.vx_model.specs.declared.errors.Stop.TheVariants.{No as StopsBy, OutOfMemory as MemoryStop}
-use Rattle.vx_model.specs.declared.limits.TheConstants.{MOST_NUMBER}
 use Rattle.vx_model.specs.declared.no.Counted.{Counted}
 use Rattle.vx_model.specs.declared.no.Counted.TheVariants.{Number as Numbers}
 use Rattle.vx_model.specs.declared.no.No.{No}
@@ -22,27 +21,24 @@ use Rattle.vx_history.specs.Doubts.{Doubted, happened}
 use Rattle.vx_history.specs.Groups.{GroupNode}
 use Rattle.vx_history.specs.Steps.{burned, crashed, group_up, worked_on}
 use Rattle.vx_history.specs.Stops.{IsFused}
-use Rattle.vx_history.specs.World.{Fuse as FuseOf, Node, NoFuse, World}
+use Rattle.vx_history.specs.World.{Node, NoFuse, World}
 use Rattle.vx_history.specs.declared.event.Event.TheVariants.{Crash as CrashAt, Group as GroupAt_}
 use Rattle.vx_history.specs.Sound.{is_at_rest}
-use Rattle.vx_kept.specs.Cleans.{at_serial}
 use Rattle.vx_order.specs.declared.facts.SiteFacts.{SiteFacts}
 use Rattle.vx_order.specs.declared.facts.VolumeFacts.{VolumeFacts}
-use Rattle.vx_script.specs.declared.line.ScriptLine.{ScriptLine}
 use Rattle.vx_script.specs.declared.line.ScriptLine.TheVariants.{GroupImport}
 use Rattle.vx_untold.specs.Shades.{shade_meaning}
 use Rattle.vx_untold.specs.declared.shade.Shade.{Shade}
 use Rattle.vx_untold.specs.declared.shade.Shade.TheVariants.{Bright, Dark}
-use Rattle.vx_watched.specs.Since.{FuseGoes, is_rack}
+use Rattle.vx_watched.specs.Since.{is_rack}
 use Rattle.vx_grouped.proofs.ReadyLemmas.{imported_same}
-use Rattle.vx_grouped.specs.GroupNotes.{NotesConfig}
-use Rattle.vx_grouped.specs.GroupSites.{AwayNoted, DownNoted, GroupAway, HasNoRvg, UpNoted, site_config, site_disks, with_note}
+use Rattle.vx_grouped.specs.GroupSites.{AwayNoted, DownNoted, HasNoRvg, UpNoted, site_config, site_disks, with_note}
 use Rattle.vx_grouped.specs.Readies.{ready_of}
 use Rattle.vx_grouped.specs.SiteEnds.{HasNow, burned_site, stops_down}
 use Rattle.vx_grouped.specs.SiteReturns.{ConfigReturns, ImportRefused, ImportWhy, KeepsFuse, NoteReturns, SiteImports, as_imported, returned_with}
 use Rattle.vx_grouped.specs.declared.group_site.GroupSite.{GroupSite}
 use Rattle.vx_grouped.specs.declared.group_site.GroupSite.TheVariants.{Up as SiteUp, Deported as SiteAway, Down as SiteDown, Marked, Gone as SiteGone}
-use Rattle.vx_diskset.specs.Asked.{FailsAs, FusedAs, SameFailing, disks_told}
+use Rattle.vx_diskset.specs.Asked.{FusedAs, SameFailing, disks_told}
 use Rattle.vx_diskset.specs.GroupCalls.{AtSite, OnSites, cut_in}
 use Rattle.vx_diskset.specs.GroupSets.{cut_value, noted_cut}
 use Rattle.vx_diskset.specs.Holds.{beside_of}
@@ -50,38 +46,36 @@ use Rattle.vx_diskset.specs.Stands.{IsToldAt}
 use Rattle.vx_diskset.specs.declared.disk_set.DiskSet.{DiskSet}
 use Rattle.vx_diskset.specs.declared.disk_set.DiskSet.TheVariants.{OfGroup}
 use Rattle.vx_diskset.specs.declared.group_set.GroupSet.{GroupSet}
-use Rattle.vx_events.proofs.Places.{some_same}
 use Rattle.vx_events.specs.Ends.{IsNoDevice}
 use Rattle.vx_events.specs.Fails.{Fails}
-use Rattle.vx_events.specs.GroupEnds.{FindsNoGroup, GroupCut, GroupDone, GroupEnds, GroupFails, GroupNotFound, ImportFails, ImportRefuses, KnowsNothing, NotFound, NotesBegun}
+use Rattle.vx_events.specs.Parts.{StopsRead}
+use Rattle.vx_events.specs.GroupEnds.{AreOf, FindsNoGroup, GroupCut, GroupDone, GroupEnds, GroupFails, GroupNotFound, ImportFails, ImportRefuses, KnowsNothing, NotFound}
 use Rattle.vx_events.specs.GroupLines.{fuse_lost, noting}
 use Rattle.vx_events.specs.GroupNotes.{note_at}
-use Rattle.vx_events.specs.GroupViews.{noted_table, plain_fact}
-use Rattle.vx_events.specs.StepsOver.{fact_of_group, group_place}
+use Rattle.vx_events.specs.GroupViews.{plain_fact}
+use Rattle.vx_events.specs.StepsOver.{fact_of_group, group_place, over_group_at}
 use Rattle.vx_events.specs.declared.said.Said.{Said}
 use Rattle.vx_events.specs.declared.said.Said.TheVariants.{Done, Refused}
-use Rattle.vx_packet.specs.Assemblies.{Assembled}
 use Rattle.vx_yard.proofs.Carrying.{LetsGo, SameLoad}
 use Rattle.vx_yard.proofs.FuseStays.{fused_none}
 use Rattle.vx_yard.proofs.Lists.{get-set_same, set_same}
 use Rattle.vx_yard.proofs.OverGroup.{set_notes}
 use Rattle.vx_yard.specs.Changes.{down_facts}
 use Rattle.vx_yard.specs.GroupFacts.{group_up_facts}
-use Rattle.vx_yard.specs.Loads.{LetGoBy}
-use Rattle.vx_yard.specs.Standing.{LeadsOver, LeadsOverIs, StandsFor}
-use Rattle.vx_yard.specs.Stands.{RoseAll}
+use Rattle.vx_yard.specs.Standing.{LeadsOver, LeadsOverIs, LeadsOverOrStops, StandsFor, StopsFor}
 use Rattle.vx_yard.specs.Writes.{noted_facts}
-use Rattle.vx_yard.specs.Yards.{IsTold, count_of}
+use Rattle.vx_yard.specs.Yards.{IsTold}
 use Rattle.vx_yard.specs.declared.yard.Yard.{Yard}
 use Rattle.vx_group_lines.proofs.Arriving.{Arrives, arrives_crash, arrives_unfused, arrives_up, arrives_worked}
 use Rattle.vx_group_lines.proofs.Changing.{notes_table}
-use Rattle.vx_group_lines.proofs.GroupAt.{GroupAt, away_notes, down_notes, no_value, uncut, up_notes}
+use Rattle.vx_group_lines.proofs.Choosing.{or_stops}
+use Rattle.vx_group_lines.proofs.GroupAt.{away_notes, down_notes, no_value, uncut, up_notes}
 use Rattle.vx_group_lines.proofs.GroupCalls.{Called, SetThen, called_to, calls, calls_all, calls_are, calls_named, calls_none, cut_of, failing_to, fused_goes, sets_then, sized}
 use Rattle.vx_group_lines.proofs.GroupEnding.{IsQuiet, Midway, load_on, lets_on}
 use Rattle.vx_group_lines.proofs.GroupLeads.{Follows, away_set, down_set, follows_off, follows_on, leads_by, up_set}
-use Rattle.vx_group_lines.proofs.GroupMarks.{begins_at, group_noted_at, none_as}
+use Rattle.vx_group_lines.proofs.GroupMarks.{begins_at, group_noted_at, none_as, noting_same}
 use Rattle.vx_group_lines.proofs.Returning.{SitsOn, back_of}
-use Rattle.vx_group_lines.specs.Noting.{IsNotedRefusal, KeepsRest, reply_noted}
+use Rattle.vx_group_lines.specs.Noting.{IsNotedRefusal, reply_noted}
 
 -- ---- the disks as an import sees them
 
@@ -104,43 +98,50 @@ limit_most s note fails what most is most_is = subst (λ (w : Counted). NotFound
 quiet_limit : (what : Counted) (most : ℕ) → IsQuiet (Limit what most)
 quiet_limit what most = record { facts = λ f. refl; loads = λ s a b h. h }
 
-module _ (told : Type 0) (s : ℕ) (note : GroupNode) (fails : Fails) (told_new : Type 0) (tells : told → told_new) (o e : Meaning) (names : (k : ℕ) → Rose (o.disk_faults k) (e.disk_faults k) → Contains fails (s, k)) where
+module _ (told : Type 0) (s : ℕ) (note : GroupNode) (fails : Fails) (told_new : Type 0) (tells : told → told_new) (o e : Meaning) where
   -- every reason but a device and a fuse
-  why_is : (why : No) → ImportWhy told_new o e (StopsBy why) → ((disk : ℕ) → why ≡ Device disk → ⊥) → (why ≡ IsOff → ⊥) → Why told s note fails why
-  why_is (Device disk) it not_device not_off = absurd (not_device disk refl)
-  why_is IsOff it not_device not_off = absurd (not_off refl)
-  why_is (Missing disk) it not_device not_off = record { quiet = record { facts = λ f. refl; loads = λ s a b h. h }; known = inl (names disk it); refuses = inl (names disk it) }
-  why_is NoConfig it not_device not_off = record { quiet = record { facts = λ f. refl; loads = λ s a b h. h }; known = inl tt; refuses = inl tt }
-  why_is (Limit what most) it not_device not_off =
+  pub why_is : (why : No) → ((k : ℕ) → why ≡ Missing k → Rose (o.disk_faults k) (e.disk_faults k) → Contains fails (s, k)) → ImportWhy told_new o e (StopsBy why) → ((disk : ℕ) → why ≡ Device disk → ⊥) → (why ≡ IsOff → ⊥)
+      → Why told s note fails why
+  why_is (Device disk) names it not_device not_off = absurd (not_device disk refl)
+  why_is IsOff names it not_device not_off = absurd (not_off refl)
+  why_is (Missing disk) names it not_device not_off = record { quiet = record { facts = λ f. refl; loads = λ s a b h. h }; known = inl (names disk refl it); refuses = inl (names disk refl it) }
+  why_is NoConfig names it not_device not_off = record { quiet = record { facts = λ f. refl; loads = λ s a b h. h }; known = inl tt; refuses = inl tt }
+  why_is (Limit what most) names it not_device not_off =
       record { quiet = quiet_limit what most; known = inl (limit_most s note fails what most it.0 it.1); refuses = inl (limit_most s note fails what most it.0 it.1) }
-  why_is (Damaged unit block stored computed) it not_device not_off = record {
+  why_is (Damaged unit block stored computed) names it not_device not_off = record {
     quiet = record { facts = λ f. refl; loads = λ s a b h. h };
     known = inr (inl (λ yes_. it (tells yes_)), tt);
     refuses = inr (inl (λ yes_. it (tells yes_)), tt);
   }
-  why_is (Format version) it not_device not_off = record {
+  why_is (Format version) names it not_device not_off = record {
     quiet = record { facts = λ f. refl; loads = λ s a b h. h };
     known = inr (inl (λ yes_. it (tells yes_)), tt);
     refuses = inr (inl (λ yes_. it (tells yes_)), tt);
   }
-  why_is (Unknown what) it not_device not_off = absurd it
-  why_is (Exists name) it not_device not_off = absurd it
-  why_is Range it not_device not_off = absurd it
-  why_is Size it not_device not_off = absurd it
-  why_is Role it not_device not_off = absurd it
-  why_is LastPlex it not_device not_off = absurd it
-  why_is (Space need have) it not_device not_off = absurd it
-  why_is (LogFull link) it not_device not_off = absurd it
-  why_is (Stalled link) it not_device not_off = absurd it
-  why_is (LinkDown link) it not_device not_off = absurd it
-  why_is (Unconfirmed number) it not_device not_off = absurd it
-  why_is Inconsistent it not_device not_off = absurd it
-  why_is (Behind stored head) it not_device not_off = absurd it
-  why_is (Replaying link) it not_device not_off = absurd it
-  why_is (Halted disk) it not_device not_off = absurd it
-  why_is (Gap low need) it not_device not_off = absurd it
-  why_is Paused it not_device not_off = absurd it
-  why_is (Unsettled stored head) it not_device not_off = absurd it
+  why_is (Unknown what) names it not_device not_off = absurd it
+  why_is (Exists name) names it not_device not_off = absurd it
+  why_is Range names it not_device not_off = absurd it
+  why_is Size names it not_device not_off = absurd it
+  why_is Role names it not_device not_off = absurd it
+  why_is LastPlex names it not_device not_off = absurd it
+  why_is (Space need have) names it not_device not_off = absurd it
+  why_is (LogFull link) names it not_device not_off = absurd it
+  why_is (Stalled link) names it not_device not_off = absurd it
+  why_is (LinkDown link) names it not_device not_off = absurd it
+  why_is (Unconfirmed number) names it not_device not_off = absurd it
+  why_is Inconsistent names it not_device not_off = absurd it
+  why_is (Behind stored head) names it not_device not_off = absurd it
+  why_is (Replaying link) names it not_device not_off = absurd it
+  why_is (Halted disk) names it not_device not_off = absurd it
+  why_is (Gap low need) names it not_device not_off = absurd it
+  why_is Paused names it not_device not_off = absurd it
+  why_is (Unsettled stored head) names it not_device not_off = absurd it
+
+-- the disk of a reason
+abbrev why_disk : No → ℕ
+why_disk (Device disk) = disk
+why_disk (Missing disk) = disk
+why_disk other = 0
 
 -- the node of a deported site whose fuse is lost
 abbrev pub unfused_with : GroupNode → Node → Node
@@ -217,6 +218,43 @@ module _ {R : Type 0} {g : Ghosts R} where
       (subst (λ (y : DiskSet R g). WithDisks (disks_told y) (disks_told after) (λ o x. (u : ℕ) → x.failing u ≡ o.failing u)) was failing.told)))
       (λ o x at now. keeps.goes o x (imported_disks set.site ∙ at) now) (subst (λ (y : DiskSet R g). FusedAs n y) was h)
 
+  -- what a refused import left, by its reason
+  abbrev pub StaysAway : Node → GroupNode → Meaning → GroupSite R g → Type 0
+  StaysAway n note old e = AwayNoted (burned_site n) note e × (IsFalse (site_disks e).armed ⊎ KeepsFuse old (site_disks e))
+
+  abbrev pub ImportCases : Node → GroupNode → Meaning → GroupSite R g → No → Type 0
+  ImportCases n note old e why =
+      ((disk : ℕ) × (why ≡ Device disk) × StaysAway n note old e × Rose (old.disk_faults disk) ((site_disks e).disk_faults disk))
+      ⊎ ((why ≡ IsOff) × DownNoted (crashed (returned_with note n) 0) note e × IsFused n.fuse)
+      ⊎ (StaysAway n note old e × ImportWhy (IsTrue (site_disks e).tells) old (site_disks e) (StopsBy why) × ((disk : ℕ) → why ≡ Device disk → ⊥) × (why ≡ IsOff → ⊥))
+
+  import_cases : (n : Node) (note : GroupNode) (old : Meaning) (e : GroupSite R g) (why : No) → ImportRefused (stops_down (StopsBy why)) n note old e (StopsBy why) → ImportCases n note old e why
+  import_cases n note old e (Device disk) it = inl (disk, refl, (it.0, it.1), it.2)
+  import_cases n note old e IsOff it = inr (inl (refl, it.0, it.1))
+  import_cases n note old e (Unknown what) it = inr (inr ((it.0, it.1), it.2, (λ k w. absurd (cc)), λ w. absurd (cc)))
+  import_cases n note old e (Exists name) it = inr (inr ((it.0, it.1), it.2, (λ k w. absurd (cc)), λ w. absurd (cc)))
+  import_cases n note old e Range it = inr (inr ((it.0, it.1), it.2, (λ k w. absurd (cc)), λ w. absurd (cc)))
+  import_cases n note old e Size it = inr (inr ((it.0, it.1), it.2, (λ k w. absurd (cc)), λ w. absurd (cc)))
+  import_cases n note old e Role it = inr (inr ((it.0, it.1), it.2, (λ k w. absurd (cc)), λ w. absurd (cc)))
+  import_cases n note old e (Missing disk) it = inr (inr ((it.0, it.1), it.2, (λ k w. absurd (cc)), λ w. absurd (cc)))
+  import_cases n note old e NoConfig it = inr (inr ((it.0, it.1), it.2, (λ k w. absurd (cc)), λ w. absurd (cc)))
+  import_cases n note old e LastPlex it = inr (inr ((it.0, it.1), it.2, (λ k w. absurd (cc)), λ w. absurd (cc)))
+  import_cases n note old e (Space need have) it = inr (inr ((it.0, it.1), it.2, (λ k w. absurd (cc)), λ w. absurd (cc)))
+  import_cases n note old e (LogFull link) it = inr (inr ((it.0, it.1), it.2, (λ k w. absurd (cc)), λ w. absurd (cc)))
+  import_cases n note old e (Stalled link) it = inr (inr ((it.0, it.1), it.2, (λ k w. absurd (cc)), λ w. absurd (cc)))
+  import_cases n note old e (LinkDown link) it = inr (inr ((it.0, it.1), it.2, (λ k w. absurd (cc)), λ w. absurd (cc)))
+  import_cases n note old e (Unconfirmed number) it = inr (inr ((it.0, it.1), it.2, (λ k w. absurd (cc)), λ w. absurd (cc)))
+  import_cases n note old e Inconsistent it = inr (inr ((it.0, it.1), it.2, (λ k w. absurd (cc)), λ w. absurd (cc)))
+  import_cases n note old e (Behind stored head) it = inr (inr ((it.0, it.1), it.2, (λ k w. absurd (cc)), λ w. absurd (cc)))
+  import_cases n note old e (Replaying link) it = inr (inr ((it.0, it.1), it.2, (λ k w. absurd (cc)), λ w. absurd (cc)))
+  import_cases n note old e (Limit what most) it = inr (inr ((it.0, it.1), it.2, (λ k w. absurd (cc)), λ w. absurd (cc)))
+  import_cases n note old e (Halted disk) it = inr (inr ((it.0, it.1), it.2, (λ k w. absurd (cc)), λ w. absurd (cc)))
+  import_cases n note old e (Gap low need) it = inr (inr ((it.0, it.1), it.2, (λ k w. absurd (cc)), λ w. absurd (cc)))
+  import_cases n note old e (Damaged unit block stored computed) it = inr (inr ((it.0, it.1), it.2, (λ k w. absurd (cc)), λ w. absurd (cc)))
+  import_cases n note old e Paused it = inr (inr ((it.0, it.1), it.2, (λ k w. absurd (cc)), λ w. absurd (cc)))
+  import_cases n note old e (Unsettled stored head) it = inr (inr ((it.0, it.1), it.2, (λ k w. absurd (cc)), λ w. absurd (cc)))
+  import_cases n note old e (Format version) it = inr (inr ((it.0, it.1), it.2, (λ k w. absurd (cc)), λ w. absurd (cc)))
+
   module _ (d : Doubted) (old new : Yard R g) (name : List ℕ) (s : ℕ) (before after : DiskSet R g) (stands : StandsFor d old) (call : Called d old new name s before after)
       (place : group_place d.world (GroupImport name) ≡ s) (away : (d.world.nodes s).state ≡ IsDeported) (noted : AwayNoted (d.world.nodes s) (note_at (d.world.nodes s)) call.at.set.site) where
     abbrev n : Node
@@ -285,11 +323,6 @@ module _ {R : Type 0} {g : Ghosts R} where
     -- ---- refused
 
     -- the disks are by themselves still, and their fuse as it was
-    stays_leads : (said : Said) (fails : Fails) (next : GroupSet R g) → after ≡ OfGroup next → AwayNoted (burned_site n) note next.site → KeepsFuse (as_imported was_site) (site_disks next.site) → cut_in after ≡ cut_in before
-        → Follows d (record d { world = worked_on (noting d.world s note) s }) old new → GroupEnds (IsTold new) d (GroupImport name) s fails said (record d { world = worked_on (noting d.world s note) s }) → RoseAll fails (count_of old) (count_of new)
-        → LeadsOver d (GroupImport name) said old new
-    stays_leads said fails next is away_is keeps cut follows ends rose = leads_by d (record d { world = worked_on (noting d.world s note) s }) (GroupImport name) s fails said old new place ends follows rose
-
     pub stays_follows : (next : GroupSet R g) → after ≡ OfGroup next → AwayNoted (burned_site n) note next.site → KeepsFuse (as_imported was_site) (site_disks next.site) → cut_in after ≡ cut_in before
         → new.facts.items ≡ old.facts.items → SameLoad old new → Follows d (record d { world = worked_on (noting d.world s note) s }) old new
     stays_follows next is away_is keeps cut facts load =
@@ -339,3 +372,99 @@ module _ {R : Type 0} {g : Ghosts R} where
         (λ x at. let no : Some x ≡ None = sym at ∙ no_value next.cut clear in absurd (cc)))
         (failing_to d old new name s before after stands call m next is refl) (fused_none m (OfGroup next) refl) refl facts lets)
         (calls_all d old new name s before after stands call n.disks)
+
+    -- ---- by the reply
+
+    module _ (mid : Yard R g) (half : Midway old mid) (result : Result Said OutOfMemory) (cut : cut_in after ≡ cut_in before) where
+      facts_still : (x : SiteFacts) → x ≡ fact_of_group (d.world.nodes s) (note_at (d.world.nodes s)) → new.facts.items ≡ slice_set mid.facts.items s x → new.facts.items ≡ old.facts.items
+      facts_still x is facts =
+          facts ∙ ap (λ (fs : List SiteFacts). slice_set fs s x) half.facts ∙ ap (λ (y : SiteFacts). slice_set old.facts.items s y) is
+          ∙ set_same old.facts.items s (fact_of_group (d.world.nodes s) (note_at (d.world.nodes s))) call.at.fact
+
+      -- it was refused, and the disks are by themselves
+      away_leads : (why : No) (many : ℕ) (next : GroupSet R g) → after ≡ OfGroup next → StaysAway n note (as_imported was_site) next.site → new.facts.items ≡ old.facts.items → SameLoad old new
+          → GroupEnds (IsTold new) d (GroupImport name) s (calls s old new many) (Refused why) (record d { world = worked_on (noting d.world s note) s })
+          → GroupEnds (IsTold new) d (GroupImport name) s (calls s old new many) (Refused why) (record d { world = fuse_lost (noting d.world s note) s })
+          → LeadsOver d (GroupImport name) (Refused why) old new
+      away_leads why many next is (away_is, inl unarmed) facts load keeps lost =
+          leads_by d (record d { world = fuse_lost (noting d.world s note) s }) (GroupImport name) s (calls s old new many) (Refused why) old new place lost
+          (lost_follows next is away_is unarmed cut facts load) (calls_all d old new name s before after stands call many)
+      away_leads why many next is (away_is, inr fuse) facts load keeps lost =
+          leads_by d (record d { world = worked_on (noting d.world s note) s }) (GroupImport name) s (calls s old new many) (Refused why) old new place keeps
+          (stays_follows next is away_is fuse cut facts load) (calls_all d old new name s before after stands call many)
+
+      known_ends : (why : No) (fails : Fails) → AreOf s fails → NotFound s note fails why ⊎ (KnowsNothing (IsTold new) note × IsNoDevice why)
+          → GroupEnds (IsTold new) d (GroupImport name) s fails (Refused why) (record d { world = worked_on (noting d.world s note) s })
+      known_ends why fails of (inl none) = GroupNotFound why of tt none refl (record { world = refl; after = λ i. refl })
+      known_ends why fails of (inr (nothing, device)) = FindsNoGroup note why of tt nothing device refl (record { world = refl; after = λ i. refl })
+
+      by_case : (why : No) (next : GroupSet R g) → after ≡ OfGroup next → ImportCases n note (as_imported was_site) next.site why
+          → IsNotedRefusal s (fact_of_group (d.world.nodes s) (note_at (d.world.nodes s))) why mid new result → LeadsOverIs d (GroupImport name) old new result
+      by_case why next is (inl (disk, device, stays, rose)) refusal =
+          let r : IsNotedRefusal s (fact_of_group n note) (Device disk) mid new result = subst (λ (w : No). IsNotedRefusal s (fact_of_group n note) w mid new result) device refusal in
+          let many : ℕ = disk + 1 in
+          let of = calls_are d old new name s before after stands call many in
+          let has : Contains (calls s old new many) (s, disk) = names_at next is many disk (omega arith) rose in
+          subst (λ (x : Result Said OutOfMemory). LeadsOverIs d (GroupImport name) old new x) (sym r.said)
+          (away_leads (Device disk) many next is stays (facts_still (noted_facts (Device disk) (fact_of_group n note)) refl r.facts) (load_on old mid new half r.same r.assemblies)
+          (GroupFails disk note of has (record { config = refl; keeps = inl refl }) refl (record { world = refl; after = λ i. refl }))
+          (ImportFails (Device disk) note name refl of has (record { config = refl; keeps = inl refl }) refl (record { world = refl; after = λ i. refl })))
+      by_case why next is (inr (inl (off, down, fused))) refusal =
+          let r : IsNotedRefusal s (fact_of_group n note) IsOff mid new result = subst (λ (w : No). IsNotedRefusal s (fact_of_group n note) w mid new result) off refusal in
+          subst (λ (x : Result Said OutOfMemory). LeadsOverIs d (GroupImport name) old new x) (sym r.said)
+          (import_off next is down fused cut (r.facts ∙ ap (λ (fs : List SiteFacts). slice_set fs s (down_facts (fact_of_group n note))) half.facts) (lets_on old mid new s half r.same r.assemblies))
+      by_case why next is (inr (inr (stays, it, not_device, not_off))) refusal =
+          let many : ℕ = why_disk why + 1 in
+          let of = calls_are d old new name s before after stands call many in
+          let w : Why (IsTold new) s note (calls s old new many) why
+          = why_is (IsTold new) s note (calls s old new many) (IsTrue (site_disks next.site).tells) (tells_at next is) (as_imported was_site) (site_disks next.site) why
+          (λ k missing rose. names_at next is many k (omega (arith, ap (λ (x : No). why_disk x) missing)) rose) it not_device not_off in
+          subst (λ (x : Result Said OutOfMemory). LeadsOverIs d (GroupImport name) old new x) (sym refusal.said)
+          (away_leads why many next is stays (facts_still (noted_facts why (fact_of_group n note)) (w.quiet.facts (fact_of_group n note)) refusal.facts)
+          (load_on old mid new half refusal.same (w.quiet.loads s mid.assemblies.items new.assemblies.items refusal.assemblies))
+          (known_ends why (calls s old new many) of w.known)
+          (ImportFails why note name refl of w.refuses (record { config = refl; keeps = inl refl }) refl (record { world = refl; after = λ i. refl })))
+
+      -- memory ran out: nothing was done, but the fuse may have burned, or be lost
+      memory_stops : (next : GroupSet R g) → after ≡ OfGroup next → StaysAway n note (as_imported was_site) next.site → over_group_at d.world name ≡ true → new ≡ mid → StopsFor d (GroupImport name) old new
+      memory_stops next is (away_is, inl unarmed) over same =
+          let follows = lost_follows next is away_is unarmed cut (ap (λ (y : Yard R g). y.facts.items) same ∙ half.facts) (subst (λ (y : Yard R g). SameLoad old y) (sym same) half.load) in
+          record {
+            next = record d { world = fuse_lost (noting d.world s note) s };
+            part = StopsRead (record {
+              reads = over;
+              leads = inr (record {
+                world = ap (λ (v : World). fuse_lost v s) (noting_same d.world s note (group_noted_at d old name s before call.at)) ∙ ap (λ (k : ℕ). fuse_lost d.world k) (sym place);
+                after = λ i. refl;
+              });
+            });
+            stands = follows.stands;
+            carries = follows.carries;
+            rose = calls_none d old new name s before after stands call;
+          }
+      memory_stops next is (away_is, inr fuse) over same =
+          let follows = stays_follows next is away_is fuse cut (ap (λ (y : Yard R g). y.facts.items) same ∙ half.facts) (subst (λ (y : Yard R g). SameLoad old y) (sym same) half.load) in
+          record {
+            next = record d { world = worked_on (noting d.world s note) s };
+            part = StopsRead (record {
+              reads = over;
+              leads = inl (record {
+                world = ap (λ (v : World). worked_on v s) (noting_same d.world s note (group_noted_at d old name s before call.at)) ∙ ap (λ (k : ℕ). worked_on d.world k) (sym place);
+                after = λ i. refl;
+              });
+            });
+            stands = follows.stands;
+            carries = follows.carries;
+            rose = calls_none d old new name s before after stands call;
+          }
+
+      pub import_stopped : (stop : Stop) → OnSites (λ o e. SiteImports n note o e (Err stop)) before after → over_group_at d.world name ≡ true
+          → reply_noted s (fact_of_group (d.world.nodes s) (note_at (d.world.nodes s))) stop mid new result → LeadsOverOrStops d (GroupImport name) old new result
+      import_stopped (StopsBy why) on over refusal =
+          let P : GroupSite R g → GroupSite R g → Type 0 = λ o e. SiteImports n note o e (Err (StopsBy why)) in
+          let then : SetThen (P was_site) after = sets_then P before after call.at.set call.at.is_set on in
+          or_stops d (GroupImport name) old new result (by_case why then.set then.is (import_cases n note (as_imported was_site) then.set.site why then.holds) refusal)
+      import_stopped MemoryStop on over refusal =
+          let P : GroupSite R g → GroupSite R g → Type 0 = λ o e. SiteImports n note o e (Err MemoryStop) in
+          let then : SetThen (P was_site) after = sets_then P before after call.at.set call.at.is_set on in
+          subst (λ (x : Result Said OutOfMemory). LeadsOverOrStops d (GroupImport name) old new x) (sym refusal.1) (memory_stops then.set then.is (then.holds.0, then.holds.1) over refusal.0)

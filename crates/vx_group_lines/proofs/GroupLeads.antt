@@ -1,44 +1,40 @@
 -- What a line over a group leads a yard to, by what its call left of the disks of the site.
-use Rattle.std.proofs.Common.{◌≡◌, ◌∙◌, ◌<◌, ◌≤◌, ℕ, Bool, true, false, List, [], length, ap, sym, subst, refl, arith}
-use Rattle.std.specs.Prelude.{Option, Some, None, slice_get, slice_set}
+use Rattle.std.proofs.Common.{◌≡◌, ◌∙◌, ◌<◌, ◌≤◌, ℕ, true, false, [], length, ap, sym, subst, arith}
+use Rattle.std.specs.Prelude.{Option, Some, None, slice_set}
 use Rattle.vx_model.specs.Sites.{is_origin}
-use Rattle.vx_model.specs.declared.limits.TheConstants.{LEAST_BLOCKS, MOST_DISKS, MOST_SITES}
-use Rattle.vx_model.specs.declared.no.No.{No}
-use Rattle.vx_model.specs.declared.no.No.TheVariants.{Down as IsOff}
+use Rattle.vx_model.specs.declared.limits.TheConstants.{LEAST_BLOCKS, MOST_DISKS}
 use Rattle.vx_model.specs.declared.site.Role.{Role}
 use Rattle.vx_model.specs.declared.site.Role.TheVariants.{Primary}
 use Rattle.vx_model.specs.declared.site.SiteState.TheVariants.{Bare as IsBare, Up as IsUp, Deported as IsDeported, Down as IsDown}
 use Rattle.vx_disk.specs.declared.shelf.Shelf.{Ghosts}
 use Rattle.vx_history.specs.Doubts.{After, Doubted}
 use Rattle.vx_history.specs.Groups.{GroupNode}
-use Rattle.vx_history.specs.World.{Gathering, Node, Volume}
+use Rattle.vx_history.specs.World.{Gathering, Node}
 use Rattle.vx_order.specs.declared.facts.SiteFacts.{SiteFacts}
 use Rattle.vx_script.specs.declared.line.ScriptLine.{ScriptLine}
 use Rattle.vx_grouped.specs.Ends.{plain_write}
 use Rattle.vx_grouped.specs.GroupSites.{AwayNoted, DownNoted, FitsPlain, NotesGroup, UpNoted}
 use Rattle.vx_diskset.specs.Asked.{FailsAs, FusedAs}
 use Rattle.vx_diskset.specs.GroupSets.{cut_value, noted_cut}
-use Rattle.vx_diskset.specs.Holds.{KeptBeside, KeptSite, beside_of, doubt_of}
-use Rattle.vx_diskset.specs.Stands.{CutLies, IsGroupSet, RoleIs, SiteStands, bare_with}
+use Rattle.vx_diskset.specs.Holds.{KeptBeside, beside_of, doubt_of}
+use Rattle.vx_diskset.specs.Stands.{CutLies, IsGroupSet, SiteStands, bare_with}
 use Rattle.vx_diskset.specs.declared.disk_set.DiskSet.{DiskSet}
 use Rattle.vx_diskset.specs.declared.disk_set.DiskSet.TheVariants.{OfGroup}
 use Rattle.vx_diskset.specs.declared.group_set.CutWrite.{CutWrite}
 use Rattle.vx_diskset.specs.declared.group_set.GroupSet.{GroupSet}
 use Rattle.vx_events.proofs.OverSeats.{fact_grouped}
 use Rattle.vx_events.proofs.Places.{never_some}
-use Rattle.vx_events.specs.Effects.{ChangesNode}
 use Rattle.vx_events.specs.Fails.{Fails}
 use Rattle.vx_events.specs.GroupEnds.{GroupEnds}
 use Rattle.vx_events.specs.GroupLines.{is_over_group}
-use Rattle.vx_events.specs.GroupNotes.{no_note, note_at}
-use Rattle.vx_events.specs.GroupViews.{noted_table}
+use Rattle.vx_events.specs.GroupNotes.{note_at}
 use Rattle.vx_events.specs.StepsOver.{fact_of_group, fact_over, group_place}
 use Rattle.vx_events.specs.declared.said.Said.{Said}
 use Rattle.vx_yard.proofs.Carrying.{Feeds, LetsGo, SameLoad, carries_at, carries_let, feeds_none}
 use Rattle.vx_yard.proofs.OneSite.{Changed, Comes, stands_at, told_by}
 use Rattle.vx_yard.proofs.OverGroup.{noted_over}
 use Rattle.vx_yard.specs.Carries.{Carries}
-use Rattle.vx_yard.specs.Standing.{IsSameSite, LeadsOver, StandsFor}
+use Rattle.vx_yard.specs.Standing.{LeadsOver, StandsFor}
 use Rattle.vx_yard.specs.Stands.{RoseAll}
 use Rattle.vx_yard.specs.Yards.{IsTold, count_of}
 use Rattle.vx_yard.specs.declared.yard.Yard.{Yard}

@@ -1,9 +1,8 @@
 -- What lines come to that make a disk of a group fail, crash its site, or set its fuse.
 use Rattle.std.proofs.Common.{◌≡◌, ◌∙◌, ◌<◌, ℕ, Bool, true, false, List, [], ap, sym, subst, refl, arith}
 use Rattle.std.proofs.Math.Path.{fun_ext}
-use Rattle.std.specs.Prelude.{Option, Some, None, slice_get, slice_set}
-use Rattle.vx_model.specs.declared.site.SiteState.{SiteState}
-use Rattle.vx_model.specs.declared.site.SiteState.TheVariants.{Bare as IsBare, Up as IsUp}
+use Rattle.std.specs.Prelude.{Option, Some, None, slice_get}
+use Rattle.vx_model.specs.declared.site.SiteState.TheVariants.{Up as IsUp}
 use Rattle.vx_disk.specs.declared.shelf.Shelf.{Ghosts}
 use Rattle.vx_history.specs.Doubts.{After, Doubted, happened}
 use Rattle.vx_history.specs.Groups.{GroupNode}
@@ -21,7 +20,7 @@ use Rattle.vx_disk.specs.Disks.{SameBlocks}
 use Rattle.vx_diskset.specs.Fuses.{HasLeft}
 use Rattle.vx_yard.proofs.CrashSite.{crash_up}
 use Rattle.vx_diskset.proofs.FailGroup.{stands_failing}
-use Rattle.vx_diskset.specs.Asked.{CrashesBy, FailsAs, FusedAs, SetsDisk, SetsFuse, disks_told, units_in}
+use Rattle.vx_diskset.specs.Asked.{FailsAs, FusedAs, SetsDisk, SetsFuse, disks_told, units_in}
 use Rattle.vx_diskset.specs.Holds.{KeptBeside, beside_of, doubt_of}
 use Rattle.vx_diskset.specs.Stands.{IsGroupSet, SiteStands}
 use Rattle.vx_diskset.specs.declared.disk_set.DiskSet.{DiskSet}
@@ -29,8 +28,7 @@ use Rattle.vx_diskset.specs.declared.disk_set.DiskSet.TheVariants.{OfGroup}
 use Rattle.vx_diskset.specs.declared.group_set.GroupSet.{GroupSet}
 use Rattle.vx_effects.proofs.Effects.{updated_self}
 use Rattle.vx_events.proofs.Places.{never_some}
-use Rattle.vx_events.proofs.Refused.{crash_may, disk_may, fuse_may}
-use Rattle.vx_events.specs.Doubts.{IsAs}
+use Rattle.vx_events.proofs.Refused.{disk_may, fuse_may}
 use Rattle.vx_events.specs.Facts.{seat_of, site_number}
 use Rattle.vx_events.specs.Failing.{is_failing, made_fail}
 use Rattle.vx_events.specs.GroupEnds.{GroupDone, GroupEnds}
@@ -45,15 +43,15 @@ use Rattle.vx_yard.proofs.FuseStays.{fused_on, fused_set}
 use Rattle.vx_yard.proofs.Lists.{set_same}
 use Rattle.vx_yard.proofs.NamedSite.{asks_at, named_same, place_at}
 use Rattle.vx_yard.proofs.OneSite.{Changed}
-use Rattle.vx_yard.proofs.OverGroup.{both_ways, over_is}
+use Rattle.vx_yard.proofs.OverGroup.{over_is}
 use Rattle.vx_yard.specs.OfSites.{OfSite}
 use Rattle.vx_yard.specs.Standing.{Falls, LeadsOver, StandsFor, crash_of}
 use Rattle.vx_yard.specs.Working.{IsFree}
 use Rattle.vx_yard.specs.Yards.{IsTold, in_files}
 use Rattle.vx_yard.specs.declared.yard.Yard.{Yard}
 use Rattle.vx_group_lines.proofs.Arriving.{Arrives, IsStill, arrives_none, arrives_with, with_at}
-use Rattle.vx_group_lines.proofs.GroupAt.{GroupAt, group_at, group_by, note_is}
-use Rattle.vx_group_lines.proofs.GroupLeads.{Follows, Sets, follows_on, leads_by}
+use Rattle.vx_group_lines.proofs.GroupAt.{GroupAt, group_at, note_is}
+use Rattle.vx_group_lines.proofs.GroupLeads.{Sets, follows_on, leads_by}
 use Rattle.vx_yard.proofs.OverGroup.{set_notes}
 
 -- ---- a note that stays

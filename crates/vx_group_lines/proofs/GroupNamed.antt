@@ -1,12 +1,11 @@
 -- The group, and the plex of it, that a line names; and what a reply to a refusal leaves.
-use Rattle.std.proofs.Common.{◌≡◌, ◌∙◌, ◌<◌, ◌≤◌, ℕ, Bool, true, List, length, ap, sym, subst, refl, arith}
-use Rattle.std.specs.Prelude.{Option, Some, None, IfOk, IsSome, is_some, min, slice_get, slice_set, unwrap_or, Result, Ok, Err}
+use Rattle.std.proofs.Common.{◌≡◌, ◌∙◌, ◌<◌, ◌≤◌, ℕ, true, List, ap, sym, subst, arith}
+use Rattle.std.specs.Prelude.{Option, Some, IfOk, IsSome, is_some, min, slice_get, unwrap_or, Result, Ok, Err}
 use Rattle.std.specs.Str.{bytes_eq}
 use Rattle.vx_model.specs.declared.errors.OutOfMemory.{OutOfMemory}
 use Rattle.vx_model.specs.declared.errors.Stop.{Stop}
 use Rattle.vx_model.specs.declared.errors.Stop.TheVariants.{No as StopsBy, OutOfMemory as MemoryStop}
-use Rattle.vx_model.specs.declared.site.SiteState.TheVariants.{Up as IsUp}
-use Rattle.vx_config.specs.declared.config.Config.{Config}
+use Rattle.vx_model.specs.declared.site.SiteState.TheVariants.{Up as IsUp, Deported as IsDeported}
 use Rattle.vx_disk.specs.declared.shelf.Shelf.{Ghosts}
 use Rattle.vx_group.proofs.HoldLemmas.{narrow_sound}
 use Rattle.vx_history.specs.Doubts.{Doubted}
@@ -14,15 +13,15 @@ use Rattle.vx_history.specs.Groups.{GroupNode}
 use Rattle.vx_history.specs.World.{Node}
 use Rattle.vx_order.specs.declared.facts.SiteFacts.{SiteFacts}
 use Rattle.vx_order.specs.declared.facts.VolumeFacts.{VolumeFacts}
+use Rattle.vx_script.specs.declared.line.ScriptLine.{ScriptLine}
 use Rattle.vx_untold.specs.Shades.{shade_meaning}
 use Rattle.vx_volume.proofs.PlaceLemmas.{count_few}
-use Rattle.vx_grouped.specs.GroupSites.{UpNoted}
+use Rattle.vx_grouped.specs.GroupSites.{AwayNoted, UpNoted}
 use Rattle.vx_grouped.specs.declared.group_site.GroupSite.{GroupSite}
 use Rattle.vx_grouped.specs.declared.group_site.GroupSite.TheVariants.{Up as SiteUp, Deported as SiteAway, Down as SiteDown, Marked, Gone as SiteGone}
 use Rattle.vx_diskset.specs.GroupCalls.{AtSite}
 use Rattle.vx_diskset.specs.declared.disk_set.DiskSet.{DiskSet}
-use Rattle.vx_events.proofs.Places.{some_same}
-use Rattle.vx_events.proofs.Refused.{FoundAt, Named}
+use Rattle.vx_events.proofs.Refused.{FoundAt}
 use Rattle.vx_events.specs.Facts.{place_of, seat_of}
 use Rattle.vx_events.specs.GroupLines.{plain_number}
 use Rattle.vx_events.specs.GroupNotes.{note_at}
@@ -30,13 +29,13 @@ use Rattle.vx_events.specs.GroupViews.{noted_table}
 use Rattle.vx_events.specs.StepsOver.{fact_of_group, over_group_at}
 use Rattle.vx_events.specs.declared.said.Said.{Said}
 use Rattle.vx_yard.proofs.NamedSite.{named_same}
-use Rattle.vx_yard.specs.Standing.{StandsFor}
+use Rattle.vx_yard.specs.Standing.{LeadsIs, LeadsOverIs, StandsFor}
 use Rattle.vx_yard.specs.declared.yard.Yard.{Yard}
 use Rattle.vx_yard.specs.Yards.{in_files}
-use Rattle.vx_group_lines.proofs.GroupAt.{GroupAt, group_at, up_noted}
+use Rattle.vx_group_lines.proofs.GroupAt.{GroupAt, away_noted, group_at, up_noted}
 use Rattle.vx_group_lines.proofs.GroupCalls.{at_up}
 use Rattle.vx_group_lines.proofs.GroupPlex.{HasPlex, has_plex_at}
-use Rattle.vx_group_lines.proofs.Tests.{PlexMay, UpMay}
+use Rattle.vx_group_lines.proofs.Tests.{AwayMay, PlexMay, UpMay}
 use Rattle.vx_group_lines.specs.Noting.{reply_noted}
 
 -- whatever is answered
@@ -116,3 +115,28 @@ module _ {R : Type 0} {g : Ghosts R} where
   pub reply_same : (s : ℕ) (f : SiteFacts) (stop : Stop) (mid new : Yard R g) (r : Result Said OutOfMemory) → reply_noted s f stop mid new r → ReplySame mid new
   reply_same s f (StopsBy why) mid new r it = record { disk_sets = it.same.disk_sets; racks = it.same.racks; files = ap (λ o. is_some o) it.same.dir }
   reply_same s f MemoryStop mid new r it = record { disk_sets = ap (λ (y : Yard R g). y.disk_sets) it.0; racks = ap (λ (y : Yard R g). y.racks) it.0; files = ap (λ (y : Yard R g). in_files y) it.0 }
+
+  -- memory was wanted before anything was done
+  pub unbegun_over : (d : Doubted) (line : ScriptLine) (y new : Yard R g) (r : Result Said OutOfMemory) (e : OutOfMemory) → r ≡ Err e → LeadsIs d line y new r → LeadsOverIs d line y new r
+  unbegun_over d line y new r e is stays =
+      subst (λ (x : Result Said OutOfMemory). LeadsOverIs d line y new x) (sym is) (subst (λ (x : Result Said OutOfMemory). LeadsIs d line y new x) is stays)
+
+  -- a group that was deported, at the site of this name
+  pub record AwayAt (d : Doubted) (y : Yard R g) (name : List ℕ) (s : ℕ) (before : DiskSet R g) : Type 0 where
+    pub at : GroupAt d y name s before
+    pub away : (d.world.nodes s).state ≡ IsDeported
+    pub is_away : AwayNoted (d.world.nodes s) (note_at (d.world.nodes s)) at.set.site
+    pub noted : AtSite (AwayNoted (d.world.nodes s) (note_at (d.world.nodes s))) before
+
+  pub away_named : (d : Doubted) (y : Yard R g) (name : List ℕ) (s : ℕ) (before : DiskSet R g) → StandsFor d y → seat_of y.facts.items name ≡ Some s → over_group_at d.world name ≡ true → slice_get y.disk_sets.items s ≡ Some before
+      → AwayMay y.facts.items name → AwayAt d y name s before
+  away_named d y name s before stands seat over there may =
+      let at : GroupAt d y name s before = group_at d y name s before stands seat over there in
+      let away : (d.world.nodes s).state ≡ IsDeported = ap (λ (f : SiteFacts). f.state) (sym (named_same y name s (fact_of_group (d.world.nodes s) (note_at (d.world.nodes s))) may.site seat at.fact)) ∙ may.away in
+      let is_away : AwayNoted (d.world.nodes s) (note_at (d.world.nodes s)) at.set.site = away_noted (d.world.nodes s) at.set.site at.stands.stands away in
+      record {
+        at = at;
+        away = away;
+        is_away = is_away;
+        noted = subst (λ (x : DiskSet R g). AtSite (AwayNoted (d.world.nodes s) (note_at (d.world.nodes s))) x) (sym at.is_set) is_away;
+      }

@@ -1,6 +1,6 @@
 -- The line that detaches a plex, and what refuses one that attaches it.
-use Rattle.std.proofs.Common.{◌≡◌, ◌≢◌, ◌∙◌, ◌⊎◌, ◌+◌, ◌-◌, ◌<◌, ◌≤◌, ℕ, zero, suc, Bool, true, false, List, [], length, ap, sym, subst, refl, arith, inl, inr, ⊎_elim}
-use Rattle.std.specs.Prelude.{Option, Some, None, Contains, not, ◌&&◌, ◌||◌, ◌==◌, nat_le, nat_lt, if◌then◌else◌, slice_get, slice_set, Result, Ok, Err, IsTrue, option_map}
+use Rattle.std.proofs.Common.{◌≡◌, ◌∙◌, ◌⊎◌, ◌-◌, ◌<◌, ℕ, zero, suc, Bool, true, false, List, length, ap, sym, subst, refl, arith, inl, inr, ⊎_elim}
+use Rattle.std.specs.Prelude.{Option, Some, None, not, ◌&&◌, ◌||◌, ◌==◌, nat_le, nat_lt, if◌then◌else◌, slice_get, Result, Ok, Err, option_map}
 use Rattle.std.proofs.lemmas.Bool.{cases_eq}
 use Rattle.std.proofs.lemmas.Bool.Decides.{nat_tests}
 use Rattle.std.proofs.lemmas.Option.{slice_get-map, slice_get_within}
@@ -13,12 +13,9 @@ use Rattle.vx_model.specs.declared.no.No.{No}
 use Rattle.vx_model.specs.declared.no.No.TheVariants.{LastPlex, Limit, Unknown}
 use Rattle.vx_model.specs.declared.site.PlexState.{PlexState}
 use Rattle.vx_model.specs.declared.site.PlexState.TheVariants.{Active, Clean, Stale}
-use Rattle.vx_model.specs.declared.site.SiteState.TheVariants.{Up as IsUp}
-use Rattle.vx_disk.specs.Shelf.{Meaning}
 use Rattle.vx_disk.specs.declared.shelf.Shelf.{Ghosts}
-use Rattle.std.specs.Int.{div_ceil}
-use Rattle.vx_config.specs.Checks.{blocks_of, plexes_of, plexes_or}
-use Rattle.vx_model.specs.declared.limits.TheConstants.{MOST_NUMBER, REGION}
+use Rattle.vx_config.specs.Checks.{plexes_of, plexes_or}
+use Rattle.vx_model.specs.declared.limits.TheConstants.{MOST_NUMBER}
 use Rattle.vx_config.specs.Table.{greatest}
 use Rattle.vx_config.specs.declared.config.Config.{Config}
 use Rattle.vx_config.specs.declared.entry.PlexEntry.{PlexEntry}
@@ -26,45 +23,38 @@ use Rattle.vx_config.specs.declared.entry.VolumeEntry.{VolumeEntry}
 use Rattle.vx_history.specs.Doubts.{Doubted}
 use Rattle.vx_history.specs.Groups.{GroupNode, NoteSettles, NoteUnsettles}
 use Rattle.vx_history.specs.World.{Node}
-use Rattle.vx_kept.specs.Cleans.{at_serial}
 use Rattle.vx_layout.specs.Places.{plex_at}
 use Rattle.vx_volume.specs.Plexes.{active, active_or}
 use Rattle.vx_group.specs.Dets.{any_below, det_refusal, is_other, margin}
-use Rattle.vx_group.specs.Attaches.{att_refusal, copied_regions}
-use Rattle.vx_order.specs.declared.facts.SiteFacts.{SiteFacts}
+use Rattle.vx_group.specs.Attaches.{att_refusal}
 use Rattle.vx_order.specs.declared.facts.VolumeFacts.{VolumeFacts}
-use Rattle.vx_script.specs.declared.line.ScriptLine.{ScriptLine}
 use Rattle.vx_script.specs.declared.line.ScriptLine.TheVariants.{PlexAttach, PlexDetach}
-use Rattle.vx_grouped.specs.ConfigMoves.{AttDone, AttFails, DetDone, DetFails, none_again}
+use Rattle.vx_grouped.specs.ConfigMoves.{DetDone, DetFails, none_again}
 use Rattle.vx_grouped.specs.GroupNotes.{NotesConfig}
-use Rattle.vx_grouped.specs.GroupSites.{UpNoted, site_disks}
-use Rattle.vx_grouped.specs.SiteEnds.{AttCalled, DetCalled, RegionsOf, SiteCalled, is_plex_on, refuses_att, refuses_det}
+use Rattle.vx_grouped.specs.GroupSites.{UpNoted}
+use Rattle.vx_grouped.specs.SiteEnds.{DetCalled, refuses_att, refuses_det}
 use Rattle.vx_grouped.specs.declared.group_site.GroupSite.{GroupSite}
 use Rattle.vx_grouped.specs.declared.group_site.GroupSite.TheVariants.{Up as SiteUp, Deported as SiteAway, Down as SiteDown, Marked, Gone as SiteGone}
-use Rattle.vx_diskset.specs.GroupCalls.{AtSite, OnSites}
+use Rattle.vx_diskset.specs.GroupCalls.{OnSites}
 use Rattle.vx_diskset.specs.declared.disk_set.DiskSet.{DiskSet}
-use Rattle.vx_volume.specs.Plexes.{uses}
 use Rattle.vx_events.proofs.Places.{some_same}
-use Rattle.vx_events.specs.Fails.{Fails}
-use Rattle.vx_events.specs.Facts.{place_of}
-use Rattle.vx_events.specs.GroupConfigs.{ConfigLoses, ConfigLosesBut, lies_on_disk}
-use Rattle.vx_events.specs.GroupEnds.{GroupCuts, GroupDoes, GroupSpoils, GroupWants}
+use Rattle.vx_events.specs.GroupConfigs.{ConfigLoses}
+use Rattle.vx_events.specs.GroupEnds.{GroupWants}
 use Rattle.vx_events.specs.GroupLines.{plain_number}
 use Rattle.vx_events.specs.GroupNotes.{note_at}
-use Rattle.vx_events.specs.GroupReplies.{AttachCopies, IsLastPlex, entry_state, plex_entry_state, plex_state, volume_regions}
-use Rattle.vx_events.specs.GroupViews.{config_of, noted_table, plain_fact, state_of_plex, volumes_of}
+use Rattle.vx_events.specs.GroupReplies.{IsLastPlex, entry_state, plex_entry_state, plex_state}
+use Rattle.vx_events.specs.GroupViews.{noted_table, plain_fact, volumes_of}
 use Rattle.vx_events.specs.StepsOver.{fact_of_group}
 use Rattle.vx_events.specs.declared.said.Said.{Said}
-use Rattle.vx_events.specs.declared.said.Said.TheVariants.{Done, DoneAt}
+use Rattle.vx_events.specs.declared.said.Said.TheVariants.{Done}
 use Rattle.vx_yard.proofs.Carrying.{SameLoad}
 use Rattle.vx_yard.specs.Standing.{LeadsOver, LeadsOverIs, StandsFor}
-use Rattle.vx_yard.specs.Yards.{IsTold}
 use Rattle.vx_yard.specs.declared.yard.Yard.{Yard}
-use Rattle.vx_group_lines.proofs.Changing.{PutsOr, att_done, att_table, att_to, det_table, det_to, notes_config, notes_table, reconfigures, stated_table, stated_to}
+use Rattle.vx_group_lines.proofs.Changing.{PutsOr, det_table, det_to, notes_config, notes_table, reconfigures, stated_table, stated_to}
 use Rattle.vx_group_lines.proofs.GroupCalls.{sets_then}
 use Rattle.vx_group_lines.proofs.GroupDone.{done_leads, refused_leads}
-use Rattle.vx_group_lines.proofs.GroupEnding.{Calling, Means, Midway, SameTable}
-use Rattle.vx_group_lines.specs.Noting.{IsNotedRefusal, KeepsRest, reply_noted}
+use Rattle.vx_group_lines.proofs.GroupEnding.{Calling, Midway, SameTable}
+use Rattle.vx_group_lines.specs.Noting.{IsNotedRefusal, reply_noted}
 
 -- ---- tests in order
 

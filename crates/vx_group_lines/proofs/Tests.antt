@@ -1,10 +1,10 @@
 -- What is known of a line of a disk group that no test refuses.
-use Rattle.std.proofs.Common.{◌≡◌, ◌∙◌, ◌+◌, ◌<◌, ◌≤◌, ℕ, List, length, ap, subst, sym, refl, arith, Bool, true, false}
-use Rattle.std.specs.Prelude.{◌^◌, Option, Some, None, not, ◌&&◌, is_some, nat_le, nat_lt, slice_get, if◌then◌else◌}
+use Rattle.std.proofs.Common.{◌≡◌, ◌∙◌, ◌<◌, ◌≤◌, ℕ, List, length, ap, subst, sym, refl, arith, Bool, true, false}
+use Rattle.std.specs.Prelude.{Option, Some, None, not, ◌&&◌, nat_le, nat_lt, if◌then◌else◌}
 use Rattle.std.specs.List.{find}
 use Rattle.std.specs.Str.{bytes_eq}
 use Rattle.std.proofs.lemmas.Bool.Decides.{nat_tests}
-use Rattle.vx_model.specs.declared.limits.TheConstants.{MOST_COLUMNS, MOST_PLEXES, MOST_VOLUMES}
+use Rattle.vx_model.specs.declared.limits.TheConstants.{MOST_PLEXES, MOST_VOLUMES}
 use Rattle.vx_model.specs.declared.no.No.{No}
 use Rattle.vx_model.specs.declared.site.SiteState.{SiteState}
 use Rattle.vx_model.specs.declared.site.SiteState.TheVariants.{Bare, Up, Deported, Down}
@@ -23,7 +23,7 @@ use Rattle.vx_order.specs.Volumes.{is_volume_shape, plex_unknown, preferred_unkn
 use Rattle.vx_order.specs.declared.facts.SiteFacts.{SiteFacts}
 use Rattle.vx_order.specs.declared.facts.VolumeFacts.{VolumeFacts}
 use Rattle.vx_order.specs.declared.grouping.TheConstants.{LEAST_GROUP_BLOCKS}
-use Rattle.vx_events.proofs.Refused.{FoundAt, Named, Passes, found_at, lt_false, named, not_false, passes, when_none}
+use Rattle.vx_events.proofs.Refused.{FoundAt, Named, found_at, lt_false, named, not_false, passes, when_none}
 
 bare_by : (state : SiteState) → is_bare state ≡ true → state ≡ Bare
 bare_by Bare e = refl

@@ -1,8 +1,18 @@
 -- The lines that go to a disk group, and of these such as write and read blocks of a volume.
-use Rattle.std.specs.Prelude.{◌≡◌, ℕ, ◌*◌, ◌<◌, ◌≤◌, Bool, true, false, List, length, Option, Some, None}
+use Rattle.std.specs.Prelude.{◌≡◌, ℕ, ◌*◌, ◌<◌, ◌≤◌, Bool, true, false, List, [], length, Option, Some, None, Result, Ok, Err}
 use Rattle.vx_model.specs.declared.limits.TheConstants.{MOST_CALL_BLOCKS}
+use Rattle.vx_model.specs.declared.no.No.{No}
+use Rattle.vx_disk.specs.declared.shelf.Shelf.{Ghosts}
+use Rattle.vx_history.specs.Groups.{GroupNode}
+use Rattle.vx_history.specs.World.{Node}
+use Rattle.vx_grouped.specs.GroupSites.{UpNoted, site_disks}
+use Rattle.vx_grouped.specs.Plain.{ReadsPlain}
+use Rattle.vx_grouped.specs.SiteEnds.{PlainRead, burned_site}
+use Rattle.vx_grouped.specs.declared.group_site.GroupSite.{GroupSite}
 use Rattle.vx_script.specs.declared.line.ScriptLine.{ScriptLine}
 use Rattle.vx_script.specs.declared.line.ScriptLine.TheVariants.{GroupInit, GroupDeport, GroupImport, Volume, PlexDetach, PlexAttach, Disk, Crash, Fuse, Recover, Status, Write as WriteLine, Put as PutLine, Read as ReadLine, Show as ShowLine}
+use Rattle.vx_yard.specs.Working.{IsFree}
+use Rattle.vx_yard.specs.declared.yard.Yard.{Yard}
 
 -- whether lines of this kind write or read blocks
 abbrev pub is_block_kind : ScriptLine → Bool
@@ -60,3 +70,17 @@ pub record IsRoomFor (count : ℕ) (room : List ℕ) : Type 0 where
   pub some : 0 < count
   pub few : count ≤ MOST_CALL_BLOCKS
   pub size : length room ≡ 512 * count
+
+module _ {R : Type 0} {g : Ghosts R} where
+  -- so many blocks that a line may read, which no test refuses
+  abbrev pub IsReadAt : Yard R g → List ℕ → List ℕ → ℕ → ℕ → Type 0
+  IsReadAt y name volume start count = (line : ScriptLine) × IsReadOf line name volume start count × IsFree y line
+
+  -- a run of blocks that a line may read, which no test refuses
+  abbrev pub IsReadFree : Yard R g → List ℕ → List ℕ → ℕ → Type 0
+  IsReadFree y name volume start = (line : ScriptLine) × (count : ℕ) × IsReadOf line name volume start count × IsFree y line
+
+  -- the blocks of a read of a volume, or the disk that failed
+  abbrev pub GavePlain : Node → GroupNode → (volume start : ℕ) → GroupSite R g → GroupSite R g → Result (List ℕ) No → Type 0
+  GavePlain n note volume start old new (Ok bytes) = ReadsPlain note (site_disks old) volume start bytes × UpNoted (burned_site n) note new
+  GavePlain n note volume start old new (Err why) = PlainRead n note volume start [] old new (Err why)

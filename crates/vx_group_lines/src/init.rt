@@ -1,5 +1,5 @@
 // The line that makes a disk group of a bare site.
-ghost use Rattle.std.specs.Prelude.{◌≡◌, IfOk, true};
+ghost use Rattle.std.specs.Prelude.{◌≡◌, true};
 ghost use Rattle.vx_history.specs.Doubts.{Doubted};
 ghost use Rattle.vx_script.specs.declared.line.ScriptLine.TheVariants.{GroupInit};
 ghost use Rattle.vx_events.specs.StepsOver.{is_for_group};
@@ -32,6 +32,10 @@ pub fn init_line<R: Rack>(
     ensures files { in_files yard.new ≡ in_files yard.old }
 {
     let site = yard.site_of(name);
+    // A site has disks: a line makes none without. Of none no group is made.
+    if yard.facts[site].disks == 0 {
+        return Err(OutOfMemory);
+    }
     let disk_set = mem::replace(&mut yard.disk_sets[site], DiskSet::Gone);
     let (disk_set, made) = disk_set.init_group(alloc, site as u32);
     yard.disk_sets[site] = disk_set;

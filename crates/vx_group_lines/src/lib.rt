@@ -4,6 +4,7 @@
 //! A line has a file by its word (`init`, `volume` ..). What it does on the disks of the site is in `vx_diskset`.
 #![tactic(auto)]
 
+mod blocks;
 mod deport;
 mod import;
 mod init;

@@ -1,5 +1,5 @@
 // The lines that go to the group of a site, and their work.
-ghost use Rattle.std.specs.Prelude.{◌≡◌, ◌*◌, IfOk, IsOk, IsSome, min, option_copied, replicate, false, true};
+ghost use Rattle.std.specs.Prelude.{◌≡◌, IfOk, IsOk, IsSome, option_copied, false, true};
 ghost use Rattle.vx_history.specs.Doubts.{Doubted};
 ghost use Rattle.vx_events.specs.Facts.{seat_of};
 ghost use Rattle.vx_events.specs.StepsOver.{is_for_group, over_group_at};
@@ -9,20 +9,18 @@ ghost use Rattle.vx_yard.specs.Standing.{LeadsOverIs, LeadsOverOrStops, StandsFo
 ghost use Rattle.vx_yard.specs.Working.{IsFree, takes_memory};
 ghost use Rattle.vx_yard.specs.Yards.{IsYardKept, IsTold, in_files};
 
+use crate::blocks::{put_line, read_line, write_line};
 use crate::deport::deport_line;
 use crate::import::import_line;
 use crate::init::init_line;
 use crate::marks::{crash_line, disk_line, fuse_line};
 use crate::plex::{attach_line, detach_line};
-use crate::read::read_plain;
 use crate::recover::recover_line;
 use crate::status::status_line;
 use crate::volume::{shape_of, volume_line};
-use crate::write::write_plain;
 use std::alloc::Global;
 use vx_disk::Rack;
 use vx_events::Said;
-use vx_model::limits::{BLOCK, MOST_CALL_BLOCKS};
 use vx_model::{Name, OutOfMemory};
 use vx_script::ScriptLine;
 use vx_yard::Yard;
@@ -87,14 +85,6 @@ pub fn is_of_group<R: Rack>(yard: &Yard<R>, words: &ScriptLine) -> bool
     }
 }
 
-// So many blocks, each byte of which is `fill`, and no more than a line may ask.
-fn filled(alloc: Global, count: u64, fill: u8) -> Result<Vec<u8>, OutOfMemory>
-    ensures { IfOk result (λ bytes. bytes.items ≡ replicate (512 * min count MOST_CALL_BLOCKS) fill) }
-{
-    let bytes = Vec::from_elem(alloc, fill, BLOCK * count.min(MOST_CALL_BLOCKS) as usize)?;
-    Ok(bytes)
-}
-
 // The lines that write and read a volume.
 fn work_blocks<R: Rack>(
     yard: &mut Yard<R>,
@@ -118,31 +108,25 @@ fn work_blocks<R: Rack>(
             block,
             count,
             fill,
-        } => {
-            let bytes = filled(alloc, *count, *fill)?;
-            Ok(write_plain(yard, alloc, site, volume, *block, &bytes))
-        }
+        } => write_line(yard, alloc, site, volume, *block, *count, *fill),
         ScriptLine::Put {
             site,
             volume,
             block,
             bytes,
-        } => Ok(write_plain(yard, alloc, site, volume, *block, bytes.as_bytes())),
+        } => Ok(put_line(yard, alloc, site, volume, *block, bytes)),
         ScriptLine::Read {
             site,
             volume,
             block,
             count,
-        }
-        | ScriptLine::Show {
+        } => read_line(yard, alloc, site, volume, *block, *count),
+        ScriptLine::Show {
             site,
             volume,
             block,
             count,
-        } => {
-            let room = filled(alloc, *count, 0)?;
-            Ok(read_plain(yard, site, volume, *block, room))
-        }
+        } => read_line(yard, alloc, site, volume, *block, *count),
         _ => unreachable!(),
     }
 }

@@ -1,9 +1,14 @@
 // The lines that read blocks of a volume of a disk group.
-ghost use Rattle.std.specs.Prelude.{◌≡◌, ℕ, IsSome, true};
+ghost use Rattle.std.specs.Prelude.{◌≡◌, ℕ, IfOk, length, true};
 ghost use Rattle.vx_history.specs.Doubts.{Doubted};
 ghost use Rattle.vx_script.specs.declared.line.ScriptLine.{ScriptLine};
-ghost use Rattle.vx_group_lines.specs.Plain.{IsReadOf, IsRoomFor};
-ghost use Rattle.vx_events.specs.Facts.{seat_of};
+ghost use Rattle.vx_history.specs.Groups.{GroupNode};
+ghost use Rattle.vx_history.specs.World.{Node};
+ghost use Rattle.vx_grouped.specs.GroupSites.{FitsPlain, UpNoted};
+ghost use Rattle.vx_diskset.specs.Asked.{SameFailing};
+ghost use Rattle.vx_diskset.specs.DiskSets.{Later};
+ghost use Rattle.vx_diskset.specs.GroupCalls.{AtSite, CalledOn, OnSites, cut_in};
+ghost use Rattle.vx_group_lines.specs.Plain.{GavePlain, IsReadFree, IsReadOf, IsRoomFor};
 ghost use Rattle.vx_events.specs.StepsOver.{is_for_group};
 ghost use Rattle.vx_yard.specs.OfSites.{AsAsked};
 ghost use Rattle.vx_yard.specs.Standing.{LeadsOver, StandsFor};
@@ -22,7 +27,14 @@ fn blocks_of<R: Rack>(
     volume: u32,
     start: u64,
     mut room: Vec<u8>,
-) -> Result<Bytes, No> {
+) -> Result<Bytes, No>
+    ensures read { (n : Node) (note : GroupNode) → AtSite (UpNoted n note) disk_set.old → FitsPlain note volume start (length room.items) → OnSites (λ o e. GavePlain n note volume start o e result) disk_set.old disk_set.new }
+    ensures size { IfOk result (λ bytes. length bytes ≡ length room.items) }
+    ensures cut { cut_in disk_set.new ≡ cut_in disk_set.old }
+    ensures failing { SameFailing disk_set.old disk_set.new }
+    ensures later { Later disk_set.old disk_set.new }
+    ensures since { CalledOn disk_set.old disk_set.new }
+{
     disk_set.read_plain(volume, start, &mut room)?;
     Ok(Bytes::new(room))
 }
@@ -36,7 +48,7 @@ pub fn read_plain<R: Rack>(
     room: Vec<u8>,
 ) -> Said
     requires kept { IsYardKept yard.old }
-    requires named { IsSome (seat_of yard.old.facts.items name.now) }
+    requires free { IsReadFree yard.old name.now volume.now start }
     ensures leads { (d : Doubted) (line : ScriptLine) (count : ℕ) → StandsFor d yard.old → IsReadOf line name.now volume.now start count → IsRoomFor count room.items → IsFree yard.old line → is_for_group d.world line ≡ true → LeadsOver d line result yard.old yard.new }
     ensures asked { (d : Doubted) (line : ScriptLine) (count : ℕ) → StandsFor d yard.old → IsReadOf line name.now volume.now start count → IsRoomFor count room.items → IsFree yard.old line → is_for_group d.world line ≡ true → AsAsked d.world line yard.old yard.new }
     ensures told { IsTold yard.new → IsTold yard.old }

@@ -1,4 +1,6 @@
 // What a plex of a volume misses while it is detached, and what an attach of it copies.
+ghost use Rattle.std.specs.Prelude.{◌≡◌, None};
+
 use std::alloc::Global;
 use std::test::*;
 use vx_config::{Config, PlexState};
@@ -43,11 +45,7 @@ const LOGGED: Shape = Shape {
 };
 
 // A group on three disks, of which these calls fail, with such a volume.
-fn group_of(
-    alloc: Global,
-    fails: &[u64],
-    want: &Shape,
-) -> Result<LoggedGroup<Disks>, OutOfMemory>
+fn group_of(alloc: Global, fails: &[u64], want: &Shape) -> Result<LoggedGroup<Disks>, OutOfMemory>
     requires { want.now.prefer ≡ None }
 {
     let mut shelf = match MemShelf::new(alloc, fails) {
@@ -162,11 +160,11 @@ fn without_maps_an_attach_copies_all(rt: HostRuntime) -> Result<(), Fail> {
 #[test]
 fn a_plex_that_fails_in_a_write_misses_it(rt: HostRuntime) -> Result<(), Fail> {
     let alloc = rt.alloc();
-    let mut seen = 0;
+    let mut seen: u64 = 0;
     for call in 80..140 {
         let mut group = group_of(alloc, &[call], &MAPPED)?;
         if put(&mut group, 70, 0xbb) && !is_active(group.config(), 1) {
-            seen += 1;
+            seen = seen.wrapping_add(1);
             assert_eq!(rt; read(&mut group, 70), Some(0xbb));
             assert_eq!(rt; att(&mut group, 1), Some(1));
         }
@@ -198,18 +196,18 @@ fn failing(alloc: Global, call: u64) -> Result<Option<u64>, OutOfMemory> {
 #[test]
 fn a_write_is_done_whichever_of_its_calls_fails(rt: HostRuntime) -> Result<(), Fail> {
     let alloc = rt.alloc();
-    let mut some = 0;
-    let mut all = 0;
+    let mut some = false;
+    let mut all = false;
     for call in 120..200 {
         match failing(alloc, call)? {
-            Some(1) => some += 1,
-            Some(4) => all += 1,
+            Some(1) => some = true,
+            Some(4) => all = true,
             Some(_) => assert!(rt; false),
             None => {}
         }
     }
     // Where the log of missed regions is lost all regions are copied.
-    assert!(rt; some > 0);
-    assert!(rt; all > 0);
+    assert!(rt; some);
+    assert!(rt; all);
     Ok(())
 }

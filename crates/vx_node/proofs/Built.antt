@@ -1,5 +1,5 @@
 -- The one line that goes in parts settles a link.
-use Rattle.std.proofs.Common.{◌≡◌, ℕ, List, false, refl}
+use Rattle.std.proofs.Common.{◌≡◌, ◌∙◌, ℕ, Bool, List, true, false, refl, sym}
 use Rattle.vx_script.specs.declared.line.ScriptLine.{ScriptLine}
 use Rattle.vx_script.specs.declared.line.ScriptLine.TheVariants.{Settle}
 use Rattle.vx_events.specs.Parts.{goes_in_parts}
@@ -7,3 +7,8 @@ use Rattle.vx_events.specs.Parts.{goes_in_parts}
 pub goes_whole : (line : ScriptLine) → ((p s : List ℕ) → line ≡ Settle p s → ⊥) → goes_in_parts line ≡ false
 goes_whole (Settle p s) not = absurd (not p s refl)
 goes_whole other not = refl
+
+-- a line that goes to no group is none that goes to one alone
+pub not_alone : (alone goes : Bool) → (alone ≡ true → goes ≡ true) → goes ≡ false → alone ≡ false
+not_alone true goes always not = sym (always refl) ∙ not
+not_alone false goes always not = refl

@@ -18,7 +18,6 @@ use Rattle.vx_events.proofs.Parts.{none_done}
 use Rattle.vx_events.proofs.Places.{some_same}
 use Rattle.vx_events.specs.Facts.{seat_of, site_number}
 use Rattle.vx_events.specs.LinkLists.{link_events}
-use Rattle.vx_events.specs.LinkedFacts.{linked_facts}
 use Rattle.vx_events.specs.Parts.{StopsInPart}
 use Rattle.vx_events.specs.Settles.{CanSettle}
 use Rattle.vx_events.specs.declared.said.Said.{Said}
@@ -43,7 +42,7 @@ use Rattle.vx_node.specs.declared.going.Went.TheVariants.{Ended, On, Short}
 use Rattle.vx_yard.specs.declared.yard.Yard.{Yard}
 use Rattle.vx_yard.proofs.Carrying.{sent_count}
 use Rattle.vx_yard.proofs.ChangeSite.{rose_none}
-use Rattle.vx_yard.proofs.NamedSite.{site_at}
+use Rattle.vx_yard.proofs.NamedSite.{place_at}
 use Rattle.vx_yard.proofs.OfSites.{all_then}
 use Rattle.vx_yard.proofs.SettleCalls.{settle_then}
 use Rattle.vx_node.proofs.SettleParts.{apart_at}
@@ -56,8 +55,8 @@ module _ {R : Type 0} {g : Ghosts R} where
   -- what no test refuses may be settled
   pub begins : (d : Doubted) (y : Yard R g) (first second : List ℕ) (a b : ℕ) → StandsFor d y → Carries d y → GoodFor d y → IsFree y (Settle first second) → seat_of y.facts.items first ≡ Some a → seat_of y.facts.items second ≡ Some b → SettlesFor first second a b d y
   begins d y first second a b stands carries good free one two =
-      let here = site_at d y first a stands one in
-      let there = site_at d y second b stands two in
+      let here = place_at d y first a stands one in
+      let there = place_at d y second b stands two in
       let can : CanSettle d.world (site_number d.world first) (site_number d.world second)
       = settle_agrees d (in_files y) first second stands.links (subst (λ (fs : List SiteFacts). line_refusal fs (in_files y) (Settle first second) ≡ None) stands.facts free) in
       record {

@@ -1,5 +1,5 @@
 -- What a line that no test refuses is answered: one that works on a group of disks, or another.
-use Rattle.std.proofs.Common.{◌≡◌, ◌∙◌, Bool, true, false, inl, inr, sym, subst}
+use Rattle.std.proofs.Common.{◌≡◌, ◌∙◌, Bool, true, false, inl, sym, subst}
 use Rattle.std.specs.Prelude.{Option, None, Result, Ok, Err}
 use Rattle.vx_history.specs.Doubts.{Doubted}
 use Rattle.vx_model.specs.declared.errors.OutOfMemory.{OutOfMemory}
@@ -8,10 +8,10 @@ use Rattle.vx_disk.specs.declared.shelf.Shelf.{Ghosts}
 use Rattle.vx_script.specs.declared.line.ScriptLine.{ScriptLine}
 use Rattle.vx_events.specs.StepsOver.{OverBy, WorksOver, is_for_group, refused_over}
 use Rattle.vx_events.specs.declared.said.Said.{Said}
-use Rattle.vx_link_lines.proofs.AnswerFor.{leads_whole, stays_short, tested}
+use Rattle.vx_link_lines.proofs.AnswerFor.{leads_whole, tested}
 use Rattle.vx_node.specs.Works.{WorksIs}
 use Rattle.vx_yard.specs.Carries.{Carries}
-use Rattle.vx_yard.specs.Standing.{AnswersIs, LeadsFoundIs, LeadsIs, LeadsOrStops, LeadsOverOrStops, StandsFor}
+use Rattle.vx_yard.specs.Standing.{AnswersIs, LeadsIs, LeadsOrStops, LeadsOverOrStops, StandsFor}
 use Rattle.vx_yard.specs.Working.{IsFree}
 use Rattle.vx_yard.specs.Yards.{IsTold, in_files}
 use Rattle.vx_yard.specs.declared.yard.Yard.{Yard}
@@ -31,18 +31,6 @@ module _ {R : Type 0} {g : Ghosts R} where
 
   pub works_whole : (d : Doubted) (line : ScriptLine) (old new : Yard R g) (r : Result Said OutOfMemory) → is_for_group d.world line ≡ false → LeadsIs d line old new r → WorksIs d line old new r
   works_whole d line old new r plain leads = works_plain d line old new r plain (leads_whole d line old new r leads)
-
-  -- a recovery of a bare site that looked for a group on disks of which nothing is told
-  pub works_found : (d : Doubted) (line : ScriptLine) (old new : Yard R g) (r : Result Said OutOfMemory) → is_for_group d.world line ≡ false → LeadsFoundIs d line old new r → WorksIs d line old new r
-  works_found d line old new (Ok said) plain leads = record {
-    next = leads.next;
-    fails = leads.fails;
-    works = subst (λ (b : Bool). WorksOver b (IsTold new) d line leads.fails said leads.next) (sym plain) (inr leads.done);
-    stands = leads.stands;
-    carries = leads.carries;
-    rose = leads.rose;
-  }
-  works_found d line old new (Err e) plain stays = stays_short d line old new stays
 
   -- one that works on a group
   pub works_over : (d : Doubted) (line : ScriptLine) (old new : Yard R g) (r : Result Said OutOfMemory) → is_for_group d.world line ≡ true → LeadsOverOrStops d line old new r → WorksIs d line old new r

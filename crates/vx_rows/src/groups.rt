@@ -34,7 +34,12 @@ fn nothing_is_kept_of_a_write_that_was_not_begun(rt: HostRuntime) -> Result<(), 
         b"site a 2 1024\ndg a init\nvol a v 256 mirrors=2 layout=concat log=none fmr=off rdpol=round\nfuse a 0 0\nwrite a v 0 1 11\nrecover a\n";
     let answer = answers(&rt, rt.alloc(), script)?;
     assert!(rt; answer.status == Status::Done);
-    assert!(rt; answer.text.as_slice().starts_with(b"done\ndone\ndone\ndone\nno 6 down\nrecovered\n"));
+    assert!(rt;
+        answer
+            .text
+            .as_slice()
+            .starts_with(b"done\ndone\ndone\ndone\nno 6 down\nrecovered\n")
+    );
     assert!(rt; answer.text.as_slice().ends_with(b"\nkept v 0 0\n"));
     Ok(())
 }

@@ -3,12 +3,14 @@ use crate::answers::answers;
 use crate::mirrors::{CLOSING, LINES, MADE, Mirror, lines};
 use std::alloc::Global;
 use std::str::from_utf8;
+use std::sync::Wait;
 use std::test::Fail;
+use std::thread::Threads;
 use vx_cli::Status;
 use vx_model::OutOfMemory;
 
-// The lengths of fuses: from none to more calls than any line makes.
-const LENGTHS: u64 = 40;
+// So many lengths of fuses. What a longer one cuts is cut by a shorter one before a later line.
+const LENGTHS: u64 = 20;
 
 // The lines, with a fuse behind the first `place` of them.
 fn script(alloc: Global, place: usize, calls: u64, pick: u64) -> Result<String, OutOfMemory> {
@@ -43,12 +45,16 @@ fn may_come(text: &str, place: usize) -> bool {
     may && replies.ends()
 }
 
-fn are_right(rt: &HostRuntime, place: usize, pick: u64) -> Result<bool, Fail> {
-    let alloc = rt.alloc();
+fn are_right<H: Threads + Wait + Sync>(
+    handle: &H,
+    alloc: Global,
+    place: usize,
+    pick: u64,
+) -> Result<bool, OutOfMemory> {
     let mut right = true;
     for calls in 0..LENGTHS {
         let script = script(alloc, place, calls, pick)?;
-        let answer = answers(rt, alloc, script.as_bytes())?;
+        let answer = answers(handle, alloc, script.as_bytes())?;
         let is_right = match from_utf8(&answer.text) {
             Ok(text) => may_come(text, place),
             Err(_) => false,
@@ -63,8 +69,9 @@ fn are_right(rt: &HostRuntime, place: usize, pick: u64) -> Result<bool, Fail> {
 // Of what is not settled the crash keeps none.
 #[test]
 fn fuses_that_keep_nothing(rt: HostRuntime) -> Result<(), Fail> {
+    let alloc = rt.alloc();
     for place in 0..LINES {
-        assert!(rt; are_right(&rt, place, 0)?);
+        assert!(rt; are_right(&rt, alloc, place, 0)?);
     }
     Ok(())
 }
@@ -72,8 +79,9 @@ fn fuses_that_keep_nothing(rt: HostRuntime) -> Result<(), Fail> {
 // It keeps all of it.
 #[test]
 fn fuses_that_keep_all(rt: HostRuntime) -> Result<(), Fail> {
+    let alloc = rt.alloc();
     for place in 0..LINES {
-        assert!(rt; are_right(&rt, place, 18446744073709551615)?);
+        assert!(rt; are_right(&rt, alloc, place, 18446744073709551615)?);
     }
     Ok(())
 }

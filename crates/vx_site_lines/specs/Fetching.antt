@@ -17,5 +17,5 @@ IsReadLine line name volume start count = (line ≡ Read name volume start count
 
 module _ {R : Type 0} {g : Ghosts R} where
   -- blocks that a line may read, whichever of the two it is
-  abbrev pub IsReadFree : Yard R g → List ℕ → List ℕ → ℕ → ℕ → Type 0
-  IsReadFree y name volume start count = IsFree y (Read name volume start count) ⊎ IsFree y (Show name volume start count)
+  abbrev pub IsFetchFree : Yard R g → List ℕ → List ℕ → ℕ → ℕ → Type 0
+  IsFetchFree y name volume start count = IsFree y (Read name volume start count) ⊎ IsFree y (Show name volume start count)

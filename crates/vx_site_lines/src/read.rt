@@ -13,7 +13,7 @@ ghost use Rattle.vx_diskset.specs.DiskSets.{CanRead, Later};
 ghost use Rattle.vx_diskset.specs.Fetching.{GaveAt};
 ghost use Rattle.vx_diskset.specs.Holds.{KeptBeside};
 ghost use Rattle.vx_diskset.specs.Stands.{KeepsRole, SiteStands};
-ghost use Rattle.vx_site_lines.specs.Fetching.{IsReadFree, IsReadLine, IsBlockRoom};
+ghost use Rattle.vx_site_lines.specs.Fetching.{IsFetchFree, IsReadLine, IsBlockRoom};
 ghost use Rattle.vx_yard.specs.Standing.{Leads, StandsFor};
 ghost use Rattle.vx_yard.specs.Working.{IsFree};
 ghost use Rattle.vx_yard.specs.Yards.{IsYardKept, IsTold, in_files};
@@ -102,7 +102,7 @@ fn fetch<R: Rack>(
 ) -> Said
     requires room { IsBlockRoom count room.items }
     requires kept { IsYardKept yard.old }
-    requires free { IsReadFree yard.old name.now volume.now start count }
+    requires free { IsFetchFree yard.old name.now volume.now start count }
     ensures leads { (d : Doubted) (line : ScriptLine) → StandsFor d yard.old → over_group_at d.world name.now ≡ false → IsReadLine line name.now volume.now start count → IsFree yard.old line
         → ((s : ℕ) → seat_of yard.old.facts.items name.now ≡ Some s → is_origin (d.world.nodes s).role ≡ true) → Leads d line result yard.old yard.new }
     ensures asked { (d : Doubted) → StandsFor d yard.old → over_group_at d.world name.now ≡ false → OfSite LeavesAlone (site_number d.world name.now) yard.old yard.new }

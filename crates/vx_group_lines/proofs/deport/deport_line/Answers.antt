@@ -1,11 +1,10 @@
 -- Each case of a line that deports a group.
-use Rattle.std.proofs.Common.{◌≡◌, ◌∙◌, ℕ, ap, sym, subst, refl}
-use Rattle.std.specs.Prelude.{Some, Ok, Err, slice_set}
+use Rattle.std.proofs.Common.{◌∙◌, ap, sym, subst, refl}
+use Rattle.std.specs.Prelude.{slice_set}
 use Rattle.vx_events.proofs.Places.{some_same}
 use Rattle.vx_yard.specs.GroupFacts.{deported_facts}
 use Rattle.vx_script.specs.declared.line.ScriptLine.TheVariants.{GroupDeport}
 use Rattle.vx_diskset.specs.Asked.{FuseGoesOn, SameFailing}
-use Rattle.vx_events.specs.Facts.{seat_of}
 use Rattle.vx_events.specs.GroupNotes.{note_at}
 use Rattle.vx_events.specs.StepsOver.{fact_of_group}
 use Rattle.vx_yard.proofs.ChangeSite.{told_before}
@@ -14,7 +13,7 @@ use Rattle.vx_yard.proofs.NamedSite.{asks_at, place_at}
 use Rattle.vx_yard.proofs.Seats.{named_some}
 use Rattle.vx_yard.proofs.WriteLine.{get_there}
 use Rattle.vx_yard.specs.OfSites.{HasCalled}
-use Rattle.vx_yard.specs.Yards.{IsTold, in_files}
+use Rattle.vx_yard.specs.Yards.{in_files}
 use Rattle.vx_yard.specs.Stands.{AreTold}
 use Rattle.vx_group_lines.proofs.GroupNamed.{if_ok, reply_same, up_named}
 use Rattle.vx_group_lines.proofs.GroupDeports.{deport_done, deport_stopped}

@@ -1,11 +1,8 @@
 -- Each case of a line that attaches a plex.
-use Rattle.std.proofs.Common.{◌≡◌, ◌∙◌, ℕ, ap, sym, subst, refl}
-use Rattle.std.specs.Prelude.{Some, Ok, Err}
+use Rattle.std.proofs.Common.{◌∙◌, ap, subst, refl}
+use Rattle.std.specs.Prelude.{Ok, Err}
 use Rattle.vx_script.specs.declared.line.ScriptLine.TheVariants.{PlexAttach}
 use Rattle.vx_diskset.specs.Asked.{FuseGoesOn, SameFailing}
-use Rattle.vx_diskset.specs.GroupCalls.{OnSites}
-use Rattle.vx_grouped.specs.SiteEnds.{AttCalled}
-use Rattle.vx_events.specs.Facts.{seat_of}
 use Rattle.vx_events.specs.GroupNotes.{note_at}
 use Rattle.vx_events.specs.StepsOver.{fact_of_group}
 use Rattle.vx_yard.proofs.ChangeSite.{told_before}
@@ -14,11 +11,11 @@ use Rattle.vx_yard.proofs.NamedSite.{asks_at, place_at}
 use Rattle.vx_yard.proofs.Seats.{named_some}
 use Rattle.vx_yard.proofs.WriteLine.{get_there}
 use Rattle.vx_yard.specs.OfSites.{HasCalled}
-use Rattle.vx_yard.specs.Yards.{IsTold, in_files}
+use Rattle.vx_yard.specs.Yards.{in_files}
 use Rattle.vx_yard.specs.Stands.{AreTold}
 use Rattle.vx_group_lines.proofs.GroupNamed.{if_ok, plain_is, plain_there, plex_fits, plex_named, reply_same, up_named}
 use Rattle.vx_group_lines.proofs.GroupAttach.{att_all, att_at, att_ends, att_stopped, att_zero}
-use Rattle.vx_group_lines.proofs.Tests.{PlexMay, attach_may}
+use Rattle.vx_group_lines.proofs.Tests.{attach_may}
 use Rattle.vx_group_lines.proofs.plex.attach_line.Goals as goal
 
 pub site_of-site-requires-clause-named : goal.site_of-site-requires-clause-named

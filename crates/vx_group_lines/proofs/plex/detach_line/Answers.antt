@@ -1,11 +1,8 @@
 -- Each case of a line that detaches a plex.
-use Rattle.std.proofs.Common.{◌≡◌, ◌∙◌, ℕ, ap, sym, subst, refl}
-use Rattle.std.specs.Prelude.{Some, Ok, Err}
+use Rattle.std.proofs.Common.{◌∙◌, ap, subst, refl}
+use Rattle.std.specs.Prelude.{Ok, Err}
 use Rattle.vx_script.specs.declared.line.ScriptLine.TheVariants.{PlexDetach}
 use Rattle.vx_diskset.specs.Asked.{FuseGoesOn, SameFailing}
-use Rattle.vx_diskset.specs.GroupCalls.{OnSites}
-use Rattle.vx_grouped.specs.SiteEnds.{DetCalled}
-use Rattle.vx_events.specs.Facts.{seat_of}
 use Rattle.vx_events.specs.GroupNotes.{note_at}
 use Rattle.vx_events.specs.StepsOver.{fact_of_group}
 use Rattle.vx_yard.proofs.ChangeSite.{told_before}
@@ -14,11 +11,11 @@ use Rattle.vx_yard.proofs.NamedSite.{asks_at, place_at}
 use Rattle.vx_yard.proofs.Seats.{named_some}
 use Rattle.vx_yard.proofs.WriteLine.{get_there}
 use Rattle.vx_yard.specs.OfSites.{HasCalled}
-use Rattle.vx_yard.specs.Yards.{IsTold, in_files}
+use Rattle.vx_yard.specs.Yards.{in_files}
 use Rattle.vx_yard.specs.Stands.{AreTold}
 use Rattle.vx_group_lines.proofs.GroupNamed.{if_ok, plain_is, plain_there, plex_fits, plex_named, reply_same, up_named}
 use Rattle.vx_group_lines.proofs.GroupPlex.{det_at, det_done, det_stopped}
-use Rattle.vx_group_lines.proofs.Tests.{PlexMay, detach_may}
+use Rattle.vx_group_lines.proofs.Tests.{detach_may}
 use Rattle.vx_group_lines.proofs.plex.detach_line.Goals as goal
 
 pub site_of-site-requires-clause-named : goal.site_of-site-requires-clause-named

@@ -6,7 +6,7 @@ use Rattle.vx_order.specs.declared.facts.SiteFacts.{SiteFacts}
 use Rattle.vx_diskset.specs.Holds.{beside_of}
 use Rattle.vx_events.specs.Facts.{seat_of}
 use Rattle.vx_yard.proofs.Lists.{get_at}
-use Rattle.vx_yard.proofs.NamedSite.{site_at}
+use Rattle.vx_yard.proofs.NamedSite.{place_at}
 use Rattle.vx_node.proofs.settle.waits_at.Goals as goal
 
 pub returns : goal.returns
@@ -14,7 +14,7 @@ returns g c = λ d stands s number up none.
     let y = c.args.yard.now in
     let site = c.in-Some.site in
     let seat : seat_of y.facts.items c.args.name.now ≡ Some site = ap (λ (fs : List SiteFacts). seat_of fs c.args.name.now) (sym c.deref.ensures.value) ∙ sym c.seat.ensures ∙ c.in-Some.is in
-    let at = site_at d y c.args.name.now site stands seat in
+    let at = place_at d y c.args.name.now site stands seat in
     let same : s ≡ site = sym number ∙ at.number in
     let there = get_at y.disk_sets.items site c.index.result.now (omega (arith, c.if-site-len.false, c.len.ensures)) c.index.ensures in
     let up_here = subst (λ (k : ℕ). (d.world.nodes k).state ≡ Up) same up in

@@ -4,14 +4,6 @@ use Rattle.vx_site_lines.proofs.RiseNeeds.{holds_log, need_if}
 use Rattle.vx_site_lines.proofs.RecoverSite.{recover_from_down}
 use Rattle.vx_site_lines.proofs.RiseBare.{stands_up_bare}
 use Rattle.vx_site_lines.proofs.RiseLeads.{stood_up}
-use Rattle.vx_site_lines.proofs.RawSite.{raw_leads, raw_stops}
-use Rattle.vx_site_lines.proofs.SiteMore.{site_leads, site_stops}
-use Rattle.vx_site_lines.proofs.WriteLinks.{write_leads, write_stops}
-use Rattle.vx_site_lines.proofs.DiskLine.{disk_leads}
-use Rattle.vx_site_lines.proofs.FuseLine.{fuse_leads}
-use Rattle.vx_site_lines.proofs.ShownLine.{shown_leads}
-use Rattle.vx_site_lines.proofs.StatusLinks.{status_leads}
-use Rattle.vx_site_lines.proofs.RiseCases.{bare_up}
 use Rattle.vx_site_lines.proofs.rooms.used_by.Goals as goal
 
 pub returns-then-needs_log-clause-is : goal.returns-then-needs_log-clause-is

@@ -1,0 +1,254 @@
+-- What a line that makes a group of a bare site leads a yard to.
+use Rattle.std.proofs.Common.{◌≡◌, ◌⊎◌, ◌∙◌, ◌<◌, ◌≤◌, ℕ, zero, suc, Bool, true, false, List, [], ◌∷◌, map, ap, sym, subst, refl, arith, inl, inr}
+use Rattle.std.specs.Prelude.{Option, Some, None, Result, Ok, Err, slice_get, slice_set, if◌then◌else◌}
+use Rattle.vx_model.specs.declared.errors.OutOfMemory.{OutOfMemory as MemoryError}
+use Rattle.vx_model.specs.declared.errors.Stop.{Stop}
+use Rattle.vx_model.specs.declared.errors.Stop.TheVariants.{No as Refused, OutOfMemory}
+use Rattle.vx_model.specs.declared.limits.TheConstants.{LEAST_BLOCKS, MOST_DISKS}
+use Rattle.vx_model.specs.declared.no.No.TheVariants.{Device}
+use Rattle.vx_model.specs.declared.site.SiteState.{SiteState}
+use Rattle.vx_model.specs.declared.site.SiteState.TheVariants.{Bare as IsBare, Up as IsUp, Down as IsDown}
+use Rattle.vx_config.specs.declared.config.Config.{Config}
+use Rattle.vx_config.specs.declared.entry.DiskEntry.{DiskEntry}
+use Rattle.vx_config.specs.declared.entry.VolumeEntry.{VolumeEntry}
+use Rattle.vx_copies.specs.Marks.{failed_at}
+use Rattle.vx_copyio.specs.Labelling.{least_blocks}
+use Rattle.vx_disk.specs.Counts.{Rose}
+use Rattle.vx_disk.specs.declared.shelf.Shelf.{Ghosts}
+use Rattle.vx_history.specs.Doubts.{After, Doubted, happened}
+use Rattle.vx_history.specs.Groups.{GroupNode}
+use Rattle.vx_history.specs.KeptLinks.{kept_links}
+use Rattle.vx_history.specs.Steps.{group_set}
+use Rattle.vx_history.specs.World.{Node, NoFuse, World}
+use Rattle.vx_history.specs.declared.event.Event.TheVariants.{Group as MakeGroup}
+use Rattle.vx_kept.specs.Cleans.{at_serial}
+use Rattle.vx_kept.specs.Trusts.{HasFailed}
+use Rattle.vx_order.specs.declared.facts.SiteFacts.{SiteFacts}
+use Rattle.vx_order.specs.declared.facts.VolumeFacts.{VolumeFacts}
+use Rattle.vx_script.specs.declared.line.ScriptLine.TheVariants.{GroupInit}
+use Rattle.vx_grouped.specs.Begins.{BeginsGroup, HoldsFailed, IsEmptyGroup, IsFirstNote, group_begun}
+use Rattle.vx_grouped.specs.GroupSites.{UpNoted, site_disks}
+use Rattle.vx_grouped.specs.declared.group_site.GroupSite.{GroupSite}
+use Rattle.vx_grouped.specs.declared.group_site.GroupSite.TheVariants.{Up as SiteUp, Deported as SiteAway, Down as SiteDown, Marked, Gone as SiteGone}
+use Rattle.vx_diskset.specs.Asked.{FailsAs, SameFailing}
+use Rattle.vx_diskset.specs.GroupCalls.{AtSite, InitIs, bare_disks, cut_in}
+use Rattle.vx_diskset.specs.GroupSets.{cut_value}
+use Rattle.vx_diskset.specs.Holds.{KeptBeside, beside_of, header_links}
+use Rattle.vx_diskset.specs.Stands.{RoleIs, SiteStands, bare_with, faults_at}
+use Rattle.vx_diskset.specs.declared.disk_set.DiskSet.{DiskSet}
+use Rattle.vx_diskset.specs.declared.disk_set.DiskSet.TheVariants.{Bare, Spoiled, Up as RaisedSet, Receives, Down as DownSet, OfGroup, Gone as GoneSet}
+use Rattle.vx_events.proofs.OverSeats.{fact_apart}
+use Rattle.vx_events.proofs.Steps.{no_sites}
+use Rattle.vx_events.specs.Facts.{seat_of, site_number}
+use Rattle.vx_events.specs.GroupEnds.{GroupDone, InitFails}
+use Rattle.vx_events.specs.GroupLines.{is_over_group}
+use Rattle.vx_events.specs.GroupNotes.{FirstNote, note_at}
+use Rattle.vx_events.specs.GroupViews.{config_of, noted_table, plain_fact}
+use Rattle.vx_events.specs.LinkedFacts.{linked_fact, links_by, links_of_site}
+use Rattle.vx_events.specs.LinksFit.{IsBlank, LinksFit}
+use Rattle.vx_events.specs.StepsOver.{fact_of_group, fact_over}
+use Rattle.vx_events.specs.declared.said.Said.{Said}
+use Rattle.vx_events.specs.declared.said.Said.TheVariants.{Done, Refused as SaidNo}
+use Rattle.vx_yard.proofs.Carrying.{SameLoad, carries_same}
+use Rattle.vx_yard.proofs.CrashLine.{rose_still}
+use Rattle.vx_yard.proofs.FailsStay.{fails_then}
+use Rattle.vx_yard.proofs.FuseStays.{fused_none}
+use Rattle.vx_yard.proofs.NamedSite.{fact_placed, place_at}
+use Rattle.vx_yard.proofs.NoteSite.{comes_same}
+use Rattle.vx_yard.proofs.OneSite.{Changed, rose_at, stands_still, told_by}
+use Rattle.vx_yard.proofs.OverGroup.{bare_apart}
+use Rattle.vx_yard.specs.GroupFacts.{group_up_facts}
+use Rattle.vx_yard.specs.Replies.{reply_to}
+use Rattle.vx_yard.specs.Standing.{LeadsOver, LeadsOverIs, StandsFor}
+use Rattle.vx_yard.specs.Working.{IsFree}
+use Rattle.vx_yard.specs.Yards.{IsShaped, IsYardKept, in_files}
+use Rattle.vx_yard.specs.declared.yard.Yard.{Yard}
+use Rattle.vx_group_lines.proofs.Arriving.{arrives_made, arrives_none, arrives_noted, noted_at}
+use Rattle.vx_group_lines.proofs.GroupAt.{up_notes}
+use Rattle.vx_group_lines.proofs.GroupCalls.{SetThen, set_then}
+use Rattle.vx_group_lines.proofs.GroupLeads.{follows_on, leads_by, up_set}
+use Rattle.vx_group_lines.proofs.GroupStatus.{config_is, table_is}
+use Rattle.vx_group_lines.proofs.Tests.{InitMay, init_may}
+
+-- ---- a bare site
+
+over_state : (n : Node) (w : World) (s : ℕ) (b : Bool) → n ≡ w.nodes s → (if b then fact_of_group (w.nodes s) (note_at (w.nodes s)) else linked_fact w s).state ≡ n.state
+over_state n w s true is = ap (λ (k : Node). k.state) (sym is)
+over_state n w s false is = ap (λ (k : Node). k.state) (sym is)
+
+never_up : IsBare ≡ IsUp → ⊥
+never_up e = cc
+
+never_down : IsBare ≡ IsDown → ⊥
+never_down e = cc
+
+bare_sure : (d : Doubted) (s : ℕ) → (d.world.nodes s).state ≡ IsBare → LinksFit d → d.after s ≡ None
+bare_sure d s bare fits = by (d.after s) refl
+  where
+    by : (o : Option After) → d.after s ≡ o → o ≡ None
+    by None is = refl
+    by (Some a) is = absurd (never_up (sym bare ∙ (fits.doubts s a is).up))
+
+blank_links : (d : Doubted) (s : ℕ) → IsBlank d.world s → header_links d.world s ≡ []
+blank_links d s blank = ap (λ (ss : List ℕ). kept_links (d.world.links s) ss) (no_sites (d.world.links s) d.world.sites 0 d.world.sites blank.links)
+
+-- what the tests see of it as a group without volumes
+made_fact : (w : World) (s : ℕ) (note : GroupNode) → (w.nodes s).state ≡ IsBare → noted_table note ≡ [] → group_up_facts [] (linked_fact w s) ≡ fact_of_group (group_begun note s (w.nodes s)) note
+made_fact w s note bare none =
+    ap (λ (t : SiteState). let f : SiteFacts = record (group_up_facts [] (linked_fact w s)) { links = links_by t (links_of_site w s) } in f) bare
+    ∙ ap (λ (vs : List VolumeFacts). let f : SiteFacts = record (fact_of_group (group_begun note s (w.nodes s)) note) { volumes = vs } in f) (sym none)
+
+-- the disk that is held as failed
+failed_entry : (disks : List DiskEntry) (k : ℕ) → failed_at disks k ≡ true → (d : DiskEntry) × (slice_get disks k ≡ Some d) × (d.failed ≡ true)
+failed_entry [] k is = absurd (cc)
+failed_entry (d ∷ ds) zero is = (d, refl, is)
+failed_entry (d ∷ ds) (suc k) is = failed_entry ds k is
+
+module _ {R : Type 0} {g : Ghosts R} where
+  bare_is : (beside : KeptBeside) (n : Node) (e : DiskSet R g) → SiteStands beside n e → n.state ≡ IsBare → n ≡ bare_with n
+  bare_is beside n (Bare rack) it bare = it.bare.is
+  bare_is beside n (Spoiled rack) it bare = it.is
+  bare_is beside n (RaisedSet rvg) it bare = absurd (never_up (sym bare ∙ it.state))
+  bare_is beside n (Receives s) it bare = absurd (never_up (sym bare ∙ it.state))
+  bare_is beside n (DownSet rack) it bare = absurd (never_down (sym bare ∙ it.state))
+  bare_is beside n (OfGroup s) it bare = it.bare bare
+  bare_is beside n GoneSet it bare = absurd it
+
+  -- the counts of its disks
+  bare_counts : (beside : KeptBeside) (n : Node) (e : DiskSet R g) → SiteStands beside n e → n.state ≡ IsBare → (k : ℕ) → (bare_disks e).disk_faults k ≡ faults_at e k
+  bare_counts beside n (Bare rack) it bare k = refl
+  bare_counts beside n (Spoiled rack) it bare k = refl
+  bare_counts beside n (RaisedSet rvg) it bare k = absurd (never_up (sym bare ∙ it.state))
+  bare_counts beside n (Receives s) it bare k = absurd (never_up (sym bare ∙ it.state))
+  bare_counts beside n (DownSet rack) it bare k = absurd (never_down (sym bare ∙ it.state))
+  bare_counts beside n (OfGroup s) it bare k = refl
+  bare_counts beside n GoneSet it bare k = absurd it
+
+  -- what the tests of the line found
+  pub record IsInitSite (d : Doubted) (y : Yard R g) (name : List ℕ) (s : ℕ) (e : DiskSet R g) : Type 0 where
+    pub below : s < d.world.sites
+    pub number : site_number d.world name ≡ s
+    pub bare : (d.world.nodes s).state ≡ IsBare
+    pub is : (d.world.nodes s) ≡ bare_with (d.world.nodes s)
+    pub stood : SiteStands (beside_of d s) (d.world.nodes s) e
+    pub fact : slice_get y.facts.items s ≡ Some (linked_fact d.world s)
+    pub few : (d.world.nodes s).disks ≤ MOST_DISKS
+    pub some : LEAST_BLOCKS ≤ (d.world.nodes s).blocks
+    pub large : least_blocks ≤ (d.world.nodes s).blocks
+
+  pub init_site : (d : Doubted) (y : Yard R g) (name : List ℕ) (s : ℕ) (e : DiskSet R g) → StandsFor d y → IsYardKept y → IsFree y (GroupInit name) → seat_of y.facts.items name ≡ Some s → slice_get y.disk_sets.items s ≡ Some e → IsInitSite d y name s e
+  init_site d y name s e stands kept free seat there =
+      let may : InitMay y.facts.items name = init_may y.facts.items (in_files y) name free in
+      let place = place_at d y name s stands seat in
+      let n : Node = d.world.nodes s in
+      let found : may.site.facts ≡ fact_over d.world s = fact_placed d y name s place seat may.site in
+      let bare : n.state ≡ IsBare = sym (over_state n d.world s (is_over_group n) refl) ∙ ap (λ (f : SiteFacts). f.state) (sym found) ∙ may.bare in
+      let stood = stands.disk_sets.sites s e place.below there in
+      let is : n ≡ bare_with n = bare_is (beside_of d s) n e stood bare in
+      let seen : fact_over d.world s ≡ linked_fact d.world s = fact_apart d.world s (bare_apart n is) in
+      let fact : slice_get y.facts.items s ≡ Some (linked_fact d.world s) = place.fact ∙ ap (λ (f : SiteFacts). Some f) seen in
+      let shaped : IsShaped (linked_fact d.world s) = kept.each s (linked_fact d.world s) fact in
+      record {
+        below = place.below;
+        number = place.number;
+        bare = bare;
+        is = is;
+        stood = stood;
+        fact = fact;
+        few = shaped.disks bare;
+        some = shaped.blocks;
+        large = omega (arith, may.large, ap (λ (f : SiteFacts). f.blocks) (found ∙ seen));
+      }
+
+  -- ---- the note of the group
+
+  first_note : (n m : Node) (note : GroupNode) (site : ℕ) (e : GroupSite R g) → IsFirstNote note → UpNoted m note e → IsEmptyGroup site n e → (note.loose ≡ false) ⊎ HoldsFailed e → FirstNote site n.disks n.blocks note × (noted_table note ≡ [])
+  first_note n m note site (SiteUp group) first up empty loose =
+      let c : Config = group.core.inner.config in
+      let is : config_of note.config ≡ Some (at_serial 0 c) = config_is note.config c up.at.lies.config up.spells in (
+        record {
+          now = at_serial 0 c;
+          is = is;
+          site = empty.site_is;
+          many = empty.many;
+          each = λ k d at. empty.each k d at;
+          volumes = empty.volumes;
+          rvg = empty.rvg;
+          begun = first.begun;
+          loose = by loose;
+          size = first.size;
+          others = first.others;
+          cut = first.cut;
+          perhaps = first.perhaps;
+        },
+        table_is note c is ∙ ap (λ (vs : List VolumeEntry). map plain_fact vs) empty.volumes,
+      )
+    where
+      by : (note.loose ≡ false) ⊎ HasFailed group.core.inner.config.disks → (note.loose ≡ false) ⊎ ((k : ℕ) × (d : DiskEntry) × (slice_get group.core.inner.config.disks k ≡ Some d) × (d.failed ≡ true))
+      by (inl tight) = inl tight
+      by (inr some) = let found = failed_entry group.core.inner.config.disks some.disk some.failed in inr (some.disk, found.0, found.1, found.2)
+  first_note n m note site (SiteAway idle) first up empty loose = absurd up
+  first_note n m note site (SiteDown idle) first up empty loose = absurd up
+  first_note n m note site (Marked rack) first up empty loose = absurd up
+  first_note n m note site SiteGone first up empty loose = absurd up
+
+  -- ---- the line
+
+  module _ (d : Doubted) (old new : Yard R g) (name : List ℕ) (s : ℕ) (before after : DiskSet R g) (stands : StandsFor d old) (site : IsInitSite d old name s before) (changed : Changed old new s before after) (failing : SameFailing before after)
+      (load : SameLoad old new) where
+    abbrev n : Node
+    n = d.world.nodes s
+
+    unfused : n.fuse ≡ NoFuse
+    unfused = ap (λ (k : Node). k.fuse) site.is
+
+    fails_as : FailsAs n after
+    fails_as = fails_then n n before after refl failing (stands.failing s before site.below changed.there)
+
+    pub init_done : (done : Unit {0}) → InitIs s n before after (Ok done) → new.facts.items ≡ slice_set old.facts.items s (group_up_facts [] (linked_fact d.world s)) → LeadsOver d (GroupInit name) Done old new
+    init_done done begun facts =
+        let to : SetThen (λ e. BeginsGroup s n (bare_disks before) e (Ok done)) after = set_then (λ e. BeginsGroup s n (bare_disks before) e (Ok done)) after begun.0 in
+        let note : GroupNode = to.holds.0 in
+        let m : Node = group_begun note s n in
+        let first = first_note n m note s to.set.site to.holds.1 to.holds.2 to.holds.3 to.holds.4 in
+        let h : Doubted = happened d (MakeGroup s) false in
+        let e : Doubted = noted_at h s note in
+        let cut : cut_value to.set.cut ≡ None = ap (λ (x : DiskSet R g). cut_in x) (sym to.is) ∙ begun.1 in
+        let fails : FailsAs m (OfGroup to.set) = subst (λ (x : DiskSet R g). FailsAs m x) to.is (fails_then n m before after refl failing (stands.failing s before site.below changed.there)) in
+        leads_by d e (GroupInit name) s [] Done old new site.number
+        (GroupDone note tt (first.0, refl) (record { world = refl; after = λ i. refl }))
+        (follows_on d e s m note (group_up_facts [] (linked_fact d.world s)) old new before to.set stands site.below
+        (subst (λ (x : DiskSet R g). Changed old new s before x) to.is changed)
+        (arrives_noted d h s (group_set s n) note (d.world.gathering s)
+        (arrives_made d d s n (d.world.gathering s)
+        (arrives_none d s stands.links (bare_sure d s site.bare stands.links) (blank_links d s (stands.links.bare s site.bare))) site.below site.bare))
+        (up_notes m note to.set.site to.holds.2).0
+        (up_set m note to.set (record { few = site.few; some = site.some }) to.holds.2 cut to.holds.1.cut) fails (fused_none m (OfGroup to.set) unfused)
+        (made_fact d.world s note site.bare first.1) facts load)
+        (rose_still old new s before after changed.there changed.later changed.disk_sets)
+
+    -- it is bare as it was
+    still : (Q : GroupSite R g → Type 0) → AtSite Q after → SiteStands (beside_of d s) n after → new.facts ≡ old.facts → StandsFor d new
+    still Q at here facts =
+        let to : SetThen Q after = set_then Q after at in
+        stands_still d d old new s before after stands site.below changed
+        (comes_same d s after stands.links here fails_as (fused_none n after unfused) (subst (λ (x : DiskSet R g). RoleIs n x) (sym to.is) tt)) refl (ap (λ fs. fs.items) facts)
+
+    pub init_stops : (stop : Stop) (said : Result Said MemoryError) → said ≡ reply_to stop → InitIs s n before after (Err stop) → SiteStands (beside_of d s) n after → new.facts ≡ old.facts → LeadsOverIs d (GroupInit name) old new said
+    init_stops stop said says begun here facts = subst (λ (r : Result Said MemoryError). LeadsOverIs d (GroupInit name) old new r) (sym says) (by stop begun)
+      where
+        by : (stop : Stop) → InitIs s n before after (Err stop) → LeadsOverIs d (GroupInit name) old new (reply_to stop)
+        by OutOfMemory begun = record {
+          stands = still (λ e. BeginsGroup s n (bare_disks before) e (Err OutOfMemory)) begun.0 here facts;
+          carries = carries_same d old new load (told_by old new s before after changed);
+          rose = rose_still old new s before after changed.there changed.later changed.disk_sets;
+        }
+        by (Refused (Device disk)) begun =
+            let to : SetThen (λ e. BeginsGroup s n (bare_disks before) e (Err (Refused (Device disk)))) after = set_then (λ e. BeginsGroup s n (bare_disks before) e (Err (Refused (Device disk)))) after begun.0 in
+            let rose : Rose (faults_at before disk) (faults_at after disk) = subst (λ (x : DiskSet R g). Rose (faults_at before disk) (faults_at x disk)) (sym to.is)
+            (subst (λ (k : ℕ). Rose k ((site_disks to.set.site).disk_faults disk)) (bare_counts (beside_of d s) n before site.stood site.bare disk) to.holds.1) in
+            leads_by d d (GroupInit name) s ((s, disk) ∷ []) (SaidNo (Device disk)) old new site.number
+            (InitFails disk name refl (refl, tt) (0, omega arith, refl) refl (record { world = refl; after = λ i. refl }))
+            (record { stands = still (λ e. BeginsGroup s n (bare_disks before) e (Err (Refused (Device disk)))) begun.0 here facts; carries = carries_same d old new load (told_by old new s before after changed) })
+            (rose_at old new s disk before after changed rose)
+        by (Refused other) begun = absurd (set_then (λ e. BeginsGroup s n (bare_disks before) e (Err (Refused other))) after begun.0).holds

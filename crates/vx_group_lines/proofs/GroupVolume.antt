@@ -1,0 +1,314 @@
+-- The line that makes a volume of a disk group.
+use Rattle.std.proofs.Common.{◌≡◌, ◌∙◌, ◌⊎◌, ◌+◌, ◌-◌, ◌^◌, ◌<◌, ◌≤◌, ℕ, Bool, true, false, List, [], ◌∷◌, map, length, ap, sym, subst, refl, arith, inl, inr, ⊎_elim}
+use Rattle.std.specs.Prelude.{Option, Some, None, find, not, ◌&&◌, ◌||◌, ◌==◌, nat_le, nat_lt, bytes_eq, if◌then◌else◌, slice_get, slice_set, Result, Ok, Err}
+use Rattle.std.specs.List.{list_any}
+use Rattle.std.proofs.lemmas.Bool.{eqb-true}
+use Rattle.std.proofs.lemmas.Bool.Decides.{nat_tests}
+use Rattle.std.proofs.lemmas.List.{length-map}
+use Rattle.vx_model.specs.declared.errors.OutOfMemory.{OutOfMemory}
+use Rattle.vx_model.specs.declared.errors.Stop.{Stop}
+use Rattle.vx_model.specs.declared.errors.Stop.TheVariants.{No as StopsBy, OutOfMemory as MemoryStop}
+use Rattle.vx_model.specs.declared.limits.TheConstants.{MOST_COLUMNS, MOST_NUMBER, MOST_PLEXES, MOST_VOLUMES}
+use Rattle.vx_model.specs.declared.no.Counted.TheVariants.{Number as Numbers, Plexes, Subdisks, Volumes}
+use Rattle.vx_model.specs.declared.no.No.{No}
+use Rattle.vx_model.specs.declared.no.No.TheVariants.{Exists, Limit, Size, Space}
+use Rattle.vx_model.specs.declared.site.SiteState.TheVariants.{Up as IsUp}
+use Rattle.vx_disk.specs.declared.shelf.Shelf.{Ghosts}
+use Rattle.vx_config.specs.Table.{greatest}
+use Rattle.vx_config.specs.declared.config.Config.{Config}
+use Rattle.vx_config.specs.declared.entry.VolumeEntry.{VolumeEntry}
+use Rattle.vx_history.specs.Doubts.{Doubted}
+use Rattle.vx_history.specs.Groups.{GroupNode, NoteSettles, NoteUnsettles}
+use Rattle.vx_history.specs.Steps.{burned}
+use Rattle.vx_history.specs.World.{Fuse as FuseOf, FuseLit, FuseSet, Node, NoFuse}
+use Rattle.vx_kept.specs.Cleans.{at_serial}
+use Rattle.vx_layout.specs.Made.{with_volume}
+use Rattle.vx_layout.specs.Space.{IsSpaceShort}
+use Rattle.vx_layout.specs.declared.shape.Shape.{Shape}
+use Rattle.vx_group.specs.Dets.{margin}
+use Rattle.vx_group.specs.Makes.{has_name, is_shape, make_refusal}
+use Rattle.vx_order.specs.Volumes.{is_layout, is_volume_shape}
+use Rattle.vx_order.specs.declared.facts.SiteFacts.{SiteFacts}
+use Rattle.vx_order.specs.declared.facts.VolumeFacts.{VolumeFacts}
+use Rattle.vx_script.specs.declared.line.Layout.{Layout}
+use Rattle.vx_script.specs.declared.line.Layout.TheVariants.{Concat, Stripe}
+use Rattle.vx_script.specs.declared.line.ReadPolicy.{ReadPolicy}
+use Rattle.vx_script.specs.declared.line.ScriptLine.TheVariants.{Volume}
+use Rattle.vx_script.specs.declared.line.VolumeLog.{VolumeLog}
+use Rattle.vx_script.specs.declared.line.VolumeMap.{VolumeMap}
+use Rattle.vx_grouped.specs.Added.{note_added}
+use Rattle.vx_grouped.specs.ConfigMoves.{LosesSome, VolumeAdded, none_again}
+use Rattle.vx_grouped.specs.GroupNotes.{NotesConfig}
+use Rattle.vx_grouped.specs.GroupSites.{UpNoted, site_config, site_disks, with_note}
+use Rattle.vx_grouped.specs.SiteAdds.{IsRoomShort, LacksVolume, SiteAdded}
+use Rattle.vx_grouped.specs.SiteEnds.{ConfigGoes, HasNow}
+use Rattle.vx_grouped.specs.declared.group_site.GroupSite.{GroupSite}
+use Rattle.vx_grouped.specs.declared.group_site.GroupSite.TheVariants.{Up as SiteUp, Deported as SiteAway, Down as SiteDown, Marked, Gone as SiteGone}
+use Rattle.vx_diskset.specs.Asked.{FailsAs, FusedAs}
+use Rattle.vx_diskset.specs.Fuses.{HasLeft, LeftAs}
+use Rattle.vx_diskset.specs.GroupCalls.{AtSite, OnSites, cut_in}
+use Rattle.vx_diskset.specs.GroupSets.{cut_value}
+use Rattle.vx_diskset.specs.Holds.{beside_of}
+use Rattle.vx_diskset.specs.declared.disk_set.DiskSet.{DiskSet}
+use Rattle.vx_diskset.specs.declared.disk_set.DiskSet.TheVariants.{OfGroup}
+use Rattle.vx_diskset.specs.declared.group_set.GroupSet.{GroupSet}
+use Rattle.vx_events.specs.Fails.{Fails}
+use Rattle.vx_events.specs.GroupConfigs.{ConfigLoses}
+use Rattle.vx_events.specs.GroupEnds.{GroupCuts, GroupDone, GroupSpoils, GroupWants}
+use Rattle.vx_events.specs.GroupLines.{shape_of}
+use Rattle.vx_events.specs.GroupNotes.{AddsZeros, NotesVolume, note_at}
+use Rattle.vx_events.specs.GroupViews.{config_of, noted_table, plain_fact}
+use Rattle.vx_events.specs.StepsOver.{fact_of_group}
+use Rattle.vx_events.specs.declared.said.Said.{Said}
+use Rattle.vx_events.specs.declared.said.Said.TheVariants.{Done}
+use Rattle.vx_yard.proofs.Carrying.{SameLoad}
+use Rattle.vx_yard.proofs.FailsStay.{fails_then}
+use Rattle.vx_yard.proofs.Lists.{set_same}
+use Rattle.vx_yard.proofs.OneSite.{Changed}
+use Rattle.vx_yard.specs.GroupFacts.{group_up_facts}
+use Rattle.vx_yard.specs.Standing.{LeadsOver, LeadsOverIs, StandsFor, StaysFor}
+use Rattle.vx_yard.specs.declared.yard.Yard.{Yard}
+use Rattle.vx_group_lines.proofs.Changing.{moves_table, moves_to, notes_config, notes_table, reconfigures}
+use Rattle.vx_group_lines.proofs.GroupAt.{up_notes}
+use Rattle.vx_group_lines.proofs.GroupCalls.{Called, SetThen, calls, calls_all, calls_are, calls_names, calls_none, fused_since, note_uncut, set_uncut, sets_then, site_up}
+use Rattle.vx_group_lines.proofs.GroupDone.{refused_leads}
+use Rattle.vx_group_lines.proofs.GroupEnding.{Calling, IsCalling, Midway, since_at, turned_leads}
+use Rattle.vx_group_lines.proofs.GroupLeads.{follows_on, sized_of, up_set}
+use Rattle.vx_group_lines.proofs.GroupMarks.{begins_at}
+use Rattle.vx_group_lines.proofs.Losing.{Names, found_zero, short_zero}
+use Rattle.vx_group_lines.specs.Noting.{reply_noted}
+
+-- ---- tests in order
+
+some_is : {A : Type 0} (x y : A) → Some x ≡ Some y → x ≡ y
+some_is x y is = cc
+
+some_first : {A : Type 0} (b : Bool) (x y : A) (o : Option A) → (if b then Some x else o) ≡ Some y → ((b ≡ true) × (x ≡ y)) ⊎ ((b ≡ false) × (o ≡ Some y))
+some_first true x y o is = inl (refl, some_is x y is)
+some_first false x y o is = inr (refl, is)
+
+both_true : (a b : Bool) → a ≡ true → b ≡ true → (a && b) ≡ true
+both_true true b one two = two
+both_true false b one two = absurd (let no_one : false ≡ true = one in cc)
+
+both_of : (a b : Bool) → (a && b) ≡ true → (a ≡ true) × (b ≡ true)
+both_of true b is = (refl, is)
+both_of false b is = absurd (let no_one : false ≡ true = is in cc)
+
+never_both : (b : Bool) → b ≡ true → b ≡ false → ⊥
+never_both b on off = let no_one : true ≡ false = sym on ∙ off in cc
+
+past_of : (n v : ℕ) → v < n → nat_le n v ≡ true → ⊥
+past_of n v below past = grind (arith, nat_tests)
+
+over_of : (n v : ℕ) → v ≤ n → nat_lt n v ≡ true → ⊥
+over_of n v below past = grind (arith, nat_tests)
+
+not_on : (b : Bool) → b ≡ true → not b ≡ true → ⊥
+not_on true on is = let no_one : false ≡ true = is in cc
+not_on false on is = let no_one : false ≡ true = on in cc
+
+-- ---- the shape that a line asks for
+
+some_width : (w : ℕ) → nat_le 1 w ≡ true → (w == 0) ≡ false
+some_width w le = by (w == 0) refl
+  where
+    by : (b : Bool) → (w == 0) ≡ b → (w == 0) ≡ false
+    by true is = absurd (let none : w ≡ 0 = eqb-true w 0 is in let no_one : false ≡ true = subst (λ (k : ℕ). nat_le 1 k ≡ true) none le in cc)
+    by false is = is
+
+or_first : (a b : Bool) → a ≡ false → (not a || b) ≡ true
+or_first true b off = absurd (let no_one : true ≡ false = off in cc)
+or_first false b off = refl
+
+shape_fits : (blocks mirrors : ℕ) (layout : Layout) (log : VolumeLog) (map : VolumeMap) (policy : ReadPolicy) → is_volume_shape blocks mirrors layout ≡ true → is_shape (shape_of blocks mirrors layout log map policy) ≡ true
+shape_fits blocks mirrors Concat log map policy it =
+    let first = (both_of (nat_le 1 blocks && nat_le blocks (2 ^ 40) && nat_le 1 mirrors) true it).0 in
+    ap (λ (b : Bool). b && true && true && true) first
+shape_fits blocks mirrors (Stripe columns width) log map policy it =
+    let parts = both_of (nat_le 1 blocks && nat_le blocks (2 ^ 40) && nat_le 1 mirrors) (is_layout (Stripe columns width)) it in
+    let three = both_of (nat_le 1 columns && nat_le columns MOST_COLUMNS && nat_le 1 width) (nat_lt width (2 ^ 32)) parts.1 in
+    let two = both_of (nat_le 1 columns && nat_le columns MOST_COLUMNS) (nat_le 1 width) three.0 in
+    let one = both_of (nat_le 1 columns) (nat_le columns MOST_COLUMNS) two.0 in
+    both_true (nat_le 1 blocks && nat_le blocks (2 ^ 40) && nat_le 1 mirrors && nat_le 1 columns && nat_le columns MOST_COLUMNS) (not (width == 0) || columns == 1)
+    (both_true (nat_le 1 blocks && nat_le blocks (2 ^ 40) && nat_le 1 mirrors && nat_le 1 columns) (nat_le columns MOST_COLUMNS)
+    (both_true (nat_le 1 blocks && nat_le blocks (2 ^ 40) && nat_le 1 mirrors) (nat_le 1 columns) parts.0 one.0) one.1)
+    (or_first (width == 0) (columns == 1) (some_width width two.1))
+
+-- ---- what refuses a volume
+
+none_by : (name : List ℕ) (v : VolumeEntry) (rest : Option VolumeFacts) (any : Bool) → (rest ≡ None → any ≡ false) → (b : Bool) → bytes_eq v.name name ≡ b → (if b then Some (plain_fact v) else rest) ≡ None → (bytes_eq v.name name || any) ≡ false
+none_by name v rest any off true is none = absurd (let no_one : Some (plain_fact v) ≡ None = none in cc)
+none_by name v rest any off false is none = ap (λ (b : Bool). b || any) is ∙ off none
+
+-- no volume has the name
+none_named : (name : List ℕ) (vs : List VolumeEntry) → find (λ (v : VolumeFacts). bytes_eq v.name name) (map plain_fact vs) ≡ None → list_any (has_name name) vs ≡ false
+none_named name [] none = refl
+none_named name (v ∷ vs) none =
+    none_by name v (find (λ (v : VolumeFacts). bytes_eq v.name name) (map plain_fact vs)) (list_any (has_name name) vs) (none_named name vs) (bytes_eq v.name name) refl none
+
+-- what is left of the tests of a volume that those of the line let through: want of a serial
+volume_why : (c : Config) (name : List ℕ) (want : Shape) (why : No) → list_any (has_name name) c.volumes ≡ false → length c.volumes < MOST_VOLUMES → want.mirrors ≤ MOST_PLEXES → is_shape want ≡ true
+    → make_refusal c name want ≡ Some why → why ≡ Limit Numbers MOST_NUMBER
+volume_why c name want why free few plexes shape is = ⊎_elim
+    (λ first. absurd (never_both (list_any (has_name name) c.volumes) first.0 free))
+    (λ one. ⊎_elim
+    (λ full. absurd (past_of MOST_VOLUMES (length c.volumes) few full.0))
+    (λ two. ⊎_elim
+    (λ many. absurd (over_of MOST_PLEXES want.mirrors plexes many.0))
+    (λ three. ⊎_elim
+    (λ last. sym last.1)
+    (λ four. ⊎_elim
+    (λ odd. absurd (not_on (is_shape want) shape odd.0))
+    (λ none. absurd (let no_one : None ≡ Some why = none.1 in cc))
+    (some_first (not (is_shape want)) Size why None four.1))
+    (some_first (nat_lt (greatest - margin) c.serial) (Limit Numbers greatest) why _ three.1))
+    (some_first (nat_lt MOST_PLEXES want.mirrors) (Limit Plexes MOST_PLEXES) why _ two.1))
+    (some_first (nat_le MOST_VOLUMES (length c.volumes)) (Limit Volumes MOST_VOLUMES) why _ one.1))
+    (some_first (list_any (has_name name) c.volumes) (Exists name) why _ is)
+
+module _ (note : GroupNode) (c : Config) (noted : NotesConfig note c) (name volume : List ℕ) (blocks mirrors : ℕ) (layout : Layout) (log : VolumeLog) (map : VolumeMap) (policy : ReadPolicy) (want : Shape) (is_want : want ≡ shape_of blocks mirrors layout log map policy) where
+  room_wants : (why : No) → IsRoomShort c volume want why → GroupWants note (Volume name volume blocks mirrors layout log map policy) why
+  room_wants (Space need have) short = record {
+    config = at_serial 0 c;
+    is = notes_config note c noted;
+    short = subst (λ (w : Shape). IsSpaceShort (at_serial 0 c) w need have) is_want (short_zero c want need have short);
+  }
+  room_wants (Limit Subdisks most) it = it.1
+  room_wants other it = absurd it
+
+-- ---- fuses
+
+unburned : (f : FuseOf) (y : Option (ℕ × ℕ)) → LeftAs (burned f) y → LeftAs f y
+unburned NoFuse y left = left
+unburned (FuseSet calls) y left = left
+unburned (FuseLit most) y left = left
+
+-- the volume begins as zeros
+adds_zeros : (v volume blocks : ℕ) (note : GroupNode) → v ≡ volume → AddsZeros volume blocks note (note_added v blocks note)
+adds_zeros v volume blocks note same =
+    subst (λ (k : ℕ). AddsZeros k blocks note (note_added v blocks note)) same (record { size = λ k. refl; block = λ k b. refl; others = λ k b. refl; same = refl })
+
+module _ {R : Type 0} {g : Ghosts R} where
+  config_now : (c : Config) (n : Node) (note : GroupNode) (e : GroupSite R g) → UpNoted n note e → HasNow c e → site_config e ≡ Some c
+  config_now c n note (SiteUp group) up has = ap (λ (x : Config). Some x) has
+  config_now c n note (SiteAway idle) up has = absurd up
+  config_now c n note (SiteDown idle) up has = absurd up
+  config_now c n note (Marked rack) up has = absurd up
+  config_now c n note SiteGone up has = absurd up
+
+  module _ (d : Doubted) (old new : Yard R g) (name volume : List ℕ) (blocks mirrors : ℕ) (layout : Layout) (log : VolumeLog) (map_of : VolumeMap) (policy : ReadPolicy) (want : Shape)
+      (is_want : want ≡ shape_of blocks mirrors layout log map_of policy) (s : ℕ) (before after : DiskSet R g) (stands : StandsFor d old)
+      (it : Calling d (Volume name volume blocks mirrors layout log map_of policy) old new name s before after) where
+    abbrev n : Node
+    n = d.world.nodes s
+
+    abbrev note : GroupNode
+    note = note_at (d.world.nodes s)
+
+    abbrev was_site : GroupSite R g
+    was_site = it.call.at.set.site
+
+    -- it is made
+    does : (many : ℕ) (fails : Fails) (next : GroupNode) (e : GroupSite R g) (vol : ℕ) (was now : Config) → Names s many fails (site_disks was_site) (site_disks e) → NotesConfig note was → NotesConfig next now → length was.disks ≤ many
+        → VolumeAdded volume want vol (site_disks was_site) (site_disks e) was now → NoteSettles note next
+        → NotesVolume s fails volume (shape_of blocks mirrors layout log map_of policy) note (note_added vol want.blocks next)
+    does many fails next e vol was now names noted noted_now enough added keeps =
+        subst (λ (w : Shape). NotesVolume s fails volume w note (note_added vol want.blocks next)) is_want (record {
+          old = at_serial 0 was;
+          made = with_volume (at_serial 0 was) added.volume;
+          now = at_serial 0 now;
+          was = notes_config note was noted;
+          adds = record { found = added.found; space = found_zero was want added.found added.space; volume = added.volume; made = added.is_volume.made; named = added.is_volume.named; is = refl };
+          loses = moves_to s many fails (site_disks was_site) (site_disks e) note next names none_again (with_volume was added.volume) now enough added.moves;
+          is = notes_config next now noted_now;
+          middle = next;
+          settles = keeps;
+          zeros = adds_zeros vol (length was.volumes) want.blocks next added.number;
+        })
+
+    abbrev many_of : Config → ℕ
+    many_of was = (site_disks it.call.at.set.site).units + length was.disks
+
+    pub volume_done : (vol : ℕ) → OnSites (λ o e. SiteAdded n note volume want o e (Ok vol)) before after
+        → ((c : Config) → AtSite (λ e. site_config e ≡ Some c) after → new.facts.items ≡ slice_set old.facts.items s (group_up_facts (map plain_fact c.volumes) (fact_of_group (d.world.nodes s) (note_at (d.world.nodes s)))))
+        → SameLoad old new → LeadsOver d (Volume name volume blocks mirrors layout log map_of policy) Done old new
+    volume_done vol on facts load =
+        let it_is : SetThen (λ e. SiteAdded n note volume want was_site e (Ok vol)) after = sets_then (λ o e. SiteAdded n note volume want o e (Ok vol)) before after it.call.at.set it.call.at.is_set on in
+        let next : GroupNode = it_is.holds.0 in
+        let k : GroupNode = note_added vol want.blocks next in
+        let goes : ConfigGoes (VolumeAdded volume want vol (site_disks was_site) (site_disks it_is.set.site)) note next was_site it_is.set.site = it_is.holds.3 in
+        let many : ℕ = many_of goes.was in
+        let names : Names s many (calls s old new many) (site_disks was_site) (site_disks it_is.set.site)
+        = calls_names d old new name s before after stands it.call it.call.at.set it_is.set it.call.at.is_set it_is.is many (omega arith) in
+        let noted_k : NotesConfig k goes.now = record { is = goes.noted_now.is; spells = goes.noted_now.spells } in
+        let f : SiteFacts = group_up_facts (map plain_fact goes.now.volumes) (fact_of_group (d.world.nodes s) (note_at (d.world.nodes s))) in
+        turned_leads d (Volume name volume blocks mirrors layout log map_of policy) old new name s before after stands it Done (calls s old new many) k it_is.set it_is.is it_is.holds.2 it_is.holds.1.same.cut f
+        (seen_up k goes.now noted_k)
+        (facts goes.now (subst (λ (x : DiskSet R g). AtSite (λ e. site_config e ≡ Some goes.now) x) (sym it_is.is) (config_now goes.now (with_note k n) k it_is.set.site it_is.holds.2 goes.has))) load
+        (GroupDone k (calls_are d old new name s before after stands it.call many)
+        (does many (calls s old new many) next it_is.set.site vol goes.was goes.now names goes.noted goes.noted_now (omega arith) goes.change it_is.holds.1, refl) (it.is_line.done k))
+        (calls_all d old new name s before after stands it.call many)
+      where
+        seen_up : (k : GroupNode) (c : Config) → NotesConfig k c → group_up_facts (map plain_fact c.volumes) (fact_of_group (d.world.nodes s) (note_at (d.world.nodes s))) ≡ fact_of_group (with_note k (d.world.nodes s)) k
+        seen_up k c noted =
+            ap (λ (vs : List VolumeFacts). group_up_facts vs (fact_of_group (d.world.nodes s) (note_at (d.world.nodes s)))) (sym (notes_table k c noted))
+            ∙ ap (λ t. let f : SiteFacts = record (fact_of_group (d.world.nodes s) k) { state = t } in f) (sym it.up)
+
+    -- memory ran out, and nothing was
+    pub volume_stays : OnSites (λ o e. SiteAdded n note volume want o e (Err MemoryStop)) before after → new.facts.items ≡ old.facts.items → SameLoad old new → StaysFor d old new
+    volume_stays on facts load =
+        let it_is : SetThen (λ e. UpNoted n note e) after = sets_then (λ o e. SiteAdded n note volume want o e (Err MemoryStop)) before after it.call.at.set it.call.at.is_set on in
+        let up : UpNoted n note it_is.set.site = it_is.holds in
+        let uncut : cut_value it_is.set.cut ≡ None
+        = ap (λ (x : DiskSet R g). cut_in x) (sym it_is.is) ∙ it.cut ∙ ap (λ (x : DiskSet R g). cut_in x) it.call.at.is_set ∙ set_uncut d old new name s before after stands it.call it.up in
+        let failing : FailsAs n (OfGroup it_is.set)
+        = subst (λ (x : DiskSet R g). FailsAs n x) it_is.is (fails_then n n before after refl it.call.failing (stands.failing s before it.call.at.below it.call.changed.there)) in
+        let left : FusedAs (record n { fuse = burned n.fuse }) (OfGroup it_is.set)
+        = fused_since n (record n { fuse = burned n.fuse }) it.call.at.set it_is.set refl (since_at before after it.call.at.set it_is.set it.call.at.is_set it_is.is it.since) (site_up n note it_is.set.site up)
+        (subst (λ (x : DiskSet R g). FusedAs n x) it.call.at.is_set (stands.fuses s before it.call.at.below it.call.changed.there)) in
+        let follows = follows_on d d s n note (fact_of_group n note) old new before it_is.set stands it.call.at.below (subst (λ (x : DiskSet R g). Changed old new s before x) it_is.is it.call.changed)
+        (begins_at d old name s before stands it.call.at) (up_notes n note it_is.set.site up).0
+        (up_set n note it_is.set (sized_of (beside_of d s) n it.call.at.set it.call.at.stands) up uncut (note_uncut d old new name s before after stands it.call it.up)) failing
+        (record { told = λ x at. unburned n.fuse x.fuse (left.told x at) }) refl (facts ∙ sym (set_same old.facts.items s (fact_of_group n note) it.call.at.fact)) load in
+        record { stands = follows.stands; carries = follows.carries; rose = calls_none d old new name s before after stands it.call }
+
+    module _ (mid : Yard R g) (half : Midway old mid) (result : Result Said OutOfMemory) (is_up : UpNoted (d.world.nodes s) (note_at (d.world.nodes s)) it.call.at.set.site)
+        (free : find (λ (v : VolumeFacts). bytes_eq v.name volume) (noted_table (note_at (d.world.nodes s))) ≡ None) (few : length (noted_table (note_at (d.world.nodes s))) < MOST_VOLUMES) (plexes : mirrors ≤ MOST_PLEXES)
+        (shape : is_volume_shape blocks mirrors layout ≡ true) where
+      volume_wants : (e : GroupSite R g) → UpNoted n note e → (why : No) → LacksVolume e volume want why → GroupWants note (Volume name volume blocks mirrors layout log map_of policy) why
+      volume_wants (SiteUp group) up why (inl is) =
+          let c : Config = group.core.inner.config in
+          let noted : NotesConfig note c = record { is = up.at.lies.config; spells = up.spells } in
+          let table : noted_table note ≡ map plain_fact c.volumes = notes_table note c noted in
+          let named : list_any (has_name volume) c.volumes ≡ false
+          = none_named volume c.volumes (ap (λ (fs : List VolumeFacts). find (λ (v : VolumeFacts). bytes_eq v.name volume) fs) (sym table) ∙ free) in
+          let count : length (noted_table note) ≡ length c.volumes = ap (λ (fs : List VolumeFacts). length fs) table ∙ length-map c.volumes plain_fact in
+          let mirrored : want.mirrors ≡ mirrors = ap (λ (w : Shape). w.mirrors) is_want in
+          let fits : is_shape want ≡ true = ap is_shape is_want ∙ shape_fits blocks mirrors layout log map_of policy shape in
+          subst (λ (w : No). GroupWants note (Volume name volume blocks mirrors layout log map_of policy) w)
+          (sym (volume_why c volume want why named (omega (arith, few, count)) (omega (arith, plexes, mirrored)) fits is)) (tt, refl)
+      volume_wants (SiteUp group) up why (inr room) =
+          room_wants note group.core.inner.config (record { is = up.at.lies.config; spells = up.spells }) name volume blocks mirrors layout log map_of policy want is_want why room.1
+      volume_wants (SiteAway idle) up why lacks = absurd up
+      volume_wants (SiteDown idle) up why lacks = absurd up
+      volume_wants (Marked rack) up why lacks = absurd up
+      volume_wants SiteGone up why lacks = absurd up
+
+      pub volume_stopped : (stop : Stop) → OnSites (λ o e. SiteAdded n note volume want o e (Err stop)) before after
+          → reply_noted s (fact_of_group (d.world.nodes s) (note_at (d.world.nodes s))) stop mid new result → LeadsOverIs d (Volume name volume blocks mirrors layout log map_of policy) old new result
+      volume_stopped (StopsBy why) on refusal =
+          refused_leads d (Volume name volume blocks mirrors layout log map_of policy) old new name s before after stands it mid half result ℕ (λ o e c x. ⊥) (λ o e. LosesSome o e) (λ o which. LacksVolume o volume want which)
+          (record {
+            ends = λ many fails o e next was now names noted noted_now enough change keeps.
+                reconfigures s many fails o e note next names (λ c x. ConfigLoses s fails c x) (λ a b. NoteUnsettles a b) was now noted noted_now (moves_to s many fails o e note next names none_again was now enough change) keeps;
+          })
+          (record {
+            ends = λ many fails o e next was now names noted noted_now enough change keeps.
+                reconfigures s many fails o e note next names (λ c x. ConfigLoses s fails c x) (λ a b. NoteUnsettles a b) was now noted noted_now (moves_to s many fails o e note next names none_again was now enough change) keeps;
+          })
+          (record { same = λ many o e t fails next was now names noted noted_now change. moves_table t many fails o e note next names none_again was now noted noted_now change })
+          (λ which lacks. volume_wants it.call.at.set.site is_up which lacks) why on refusal
+      volume_stopped MemoryStop on refusal =
+          subst (λ (x : Result Said OutOfMemory). LeadsOverIs d (Volume name volume blocks mirrors layout log map_of policy) old new x) (sym refusal.1)
+          (volume_stays on (ap (λ (y : Yard R g). y.facts.items) refusal.0 ∙ half.facts) (subst (λ (y : Yard R g). SameLoad old y) (sym refusal.0) half.load))
