@@ -126,7 +126,7 @@ module _ {R : Type 0} {g : Ghosts R} (y : Yard R g) (name volume : List ℕ) (st
   call_by line (ByShow is) free = show_may y.facts.items (in_files y) name volume start count (subst (λ (l : ScriptLine). IsFree y l) is free)
 
   pub reads_may : IsReadAt y name volume start count → CallMay y.facts.items name volume start count
-  reads_may (line, (is, free)) = call_by line is free
+  reads_may (line, is, free) = call_by line is free
 
   none_read : (b : Bool) (e : DiskSet R g) → ReadsBy b e e
   none_read true e = failing_same e

@@ -5,7 +5,7 @@ use Rattle.vx_group_lines.proofs.WorkLines.{filled_is, filled_length, reads_may,
 use Rattle.vx_group_lines.proofs.blocks.read_line.Goals as goal
 
 pub read_plain-requires-clause-free : goal.read_plain-requires-clause-free
-read_plain-requires-clause-free g c = λ κs within. (c.requires.free.0, (c.args.count, c.requires.free.1))
+read_plain-requires-clause-free g c = λ κs within. (c.requires.free.0, c.args.count, c.requires.free.1, c.requires.free.2)
 
 pub returns-in-Ok-clause-leads : goal.returns-in-Ok-clause-leads
 returns-in-Ok-clause-leads g c = λ d line stands is free group.
