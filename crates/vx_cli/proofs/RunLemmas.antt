@@ -91,7 +91,7 @@ module _ {R : Type 0} (meaning : R → Meaning) where
       let some = ahead_some [] left in let at = some.1 in
       let here : (o : RunOutcome (T (sure empty_world)) files (LeavesRacks meaning racks) 0 (sure empty_world) at.rest OutOfMemory left w0 w0 (rack_faults meaning racks) (rack_faults meaning racks)) × (o.world ≡ sure empty_world)
       = here_at 0 (sure empty_world) at.rest OutOfMemory left w0 w0 (rack_faults meaning racks) (rack_faults meaning racks) [] (omega arith)
-            (record { sent = []; unsent = []; texts = refl; last = omega arith; is = refl }) (appends_none w0) (rose_none (rack_faults meaning racks)) (fresh_leave racks fresh) in
+      (record { sent = []; unsent = []; texts = refl; last = omega arith; is = refl }) (appends_none w0) (rose_none (rack_faults meaning racks)) (fresh_leave racks fresh) in
       subst (λ (rs : List R). RunIs T files (LeavesRacks meaning rs) OutOfMemory left left w0 w0 (rack_faults meaning racks) (rack_faults meaning rs)) (sym same)
       (record {
         input = at.rest;
