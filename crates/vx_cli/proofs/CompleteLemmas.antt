@@ -178,6 +178,12 @@ module _ (told : Type 0) (files : Bool) where
     long_is input WriteFault left w0 w1 f0 f1 o long uncut = absurd uncut
     long_is input OutOfMemory left w0 w1 f0 f1 o long uncut = absurd uncut
 
+-- over the bytes that the source told
+record Over (Told : Doubted → Type 0) (files : Bool) (Leaves : Doubted → Type 0) (input : List ℕ) (status : Status) (left w0 w1 : Option (List ℕ)) (f0 f1 : ℕ → ℕ → ℕ) : Type 0 where
+  final : Doubted
+  outcome : RunOutcome (Told final) files Leaves 0 (sure empty_world) input status left w0 w1 f0 f1
+  same : outcome.world ≡ final
+
 module _ (Told : Doubted → Type 0) (files : Bool) {Leaves : Doubted → Type 0} where
   -- a run that was done, of which no call failed
   clean_done : (input : List ℕ) (left w0 w1 : Option (List ℕ)) (f0 f1 : ℕ → ℕ → ℕ) (final : Doubted) (o : RunOutcome (Told final) files Leaves 0 (sure empty_world) input Done left w0 w1 f0 f1)
@@ -205,16 +211,15 @@ module _ (Told : Doubted → Type 0) (files : Bool) {Leaves : Doubted → Type 0
   clean_is input WriteFault left w0 w1 f0 f1 final o same script read write still = absurd (write refl)
   clean_is input OutOfMemory left w0 w1 f0 f1 final o same script read write still = inr refl
 
-  -- over the bytes that the source told
-  record Over (input : List ℕ) (status : Status) (left w0 w1 : Option (List ℕ)) (f0 f1 : ℕ → ℕ → ℕ) : Type 0 where
-    final : Doubted
-    outcome : RunOutcome (Told final) files Leaves 0 (sure empty_world) input status left w0 w1 f0 f1
-    same : outcome.world ≡ final
-
-  over : (status : Status) (left now_left w0 w1 : Option (List ℕ)) (f0 f1 : ℕ → ℕ → ℕ) (input : List ℕ) → RunIs Told files Leaves status left now_left w0 w1 f0 f1 → left ≡ Some input → Over input status now_left w0 w1 f0 f1
+  over : (status : Status) (left now_left w0 w1 : Option (List ℕ)) (f0 f1 : ℕ → ℕ → ℕ) (input : List ℕ) → RunIs Told files Leaves status left now_left w0 w1 f0 f1 → left ≡ Some input → Over Told files Leaves input status now_left w0 w1 f0 f1
   over status left now_left w0 w1 f0 f1 input run e =
       let same : run.input ≡ input = subst (λ (l : Option (List ℕ)). MayHave l run.input) e run.has in
-      subst (λ (bytes : List ℕ). Over bytes status now_left w0 w1 f0 f1) same (record { final = run.final; outcome = run.outcome; same = run.ends })
+      subst (λ (bytes : List ℕ). Over Told files Leaves bytes status now_left w0 w1 f0 f1) same (record { final = run.final; outcome = run.outcome; same = run.ends })
+
+  -- the run that the words ask for
+  pub run_asked : (status : Status) (left now_left w0 w1 : Option (List ℕ)) (f0 f1 : ℕ → ℕ → ℕ) → RunIs Told files Leaves status left now_left w0 w1 f0 f1
+      → (wanted : Bool) → wanted ≡ files → RunIs Told wanted Leaves status left now_left w0 w1 f0 f1
+  run_asked status left now_left w0 w1 f0 f1 run wanted same = subst (λ (b : Bool). RunIs Told b Leaves status left now_left w0 w1 f0 f1) (sym same) run
 
   pub run_complete : (status : Status) (left now_left w0 w1 : Option (List ℕ)) (f0 f1 : ℕ → ℕ → ℕ) → RunIs Told files Leaves status left now_left w0 w1 f0 f1
       → (input : List ℕ) → left ≡ Some input → IsGoodScript input → IsUncut status → status ≡ Done

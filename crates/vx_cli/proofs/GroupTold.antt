@@ -12,7 +12,7 @@ use Rattle.vx_script.specs.declared.line.ScriptLine.{ScriptLine}
 use Rattle.vx_script.specs.declared.line.ScriptLine.TheVariants.{GroupImport, Read, Recover, Show}
 use Rattle.vx_events.specs.Fails.{Fails}
 use Rattle.vx_events.specs.GroupEnds.{GroupDoes, GroupEnds, GroupDone, GroupLacks, GroupFails, InitFails, ImportFails, KeptUnread, GroupCut, GroupNotFound, FindsGroup, FindsNoGroup, ImportRefuses, KnowsNothing}
-use Rattle.vx_events.specs.GroupNotes.{NotesBack, NotesUnread}
+use Rattle.vx_events.specs.GroupNotes.{NotesBack, NotesUnread, note_at}
 use Rattle.vx_events.specs.GroupReplies.{GivesPlain, IsKeptOf, SaysBack, ShowsKept}
 use Rattle.vx_events.specs.StepsOver.{FindsKept}
 use Rattle.vx_events.specs.declared.said.Said.{Said}
@@ -71,17 +71,17 @@ module _ {T U : Type 0} (f : U → T) where
   refuses_told s note fails other (inr x) = inr (nothing_told note x.0, x.1)
 
   pub group_told : (d : Doubted) (line : ScriptLine) (s : ℕ) (fails : Fails) (said : Said) (new : Doubted) → GroupEnds T d line s fails said new → GroupEnds U d line s fails said new
-  group_told d line s fails said new (GroupDone next of does left) = GroupDone next of (does_told s (d.world.nodes s) _ line fails said next does) left
+  group_told d line s fails said new (GroupDone next of does left) = GroupDone next of (does_told s (d.world.nodes s) (note_at (d.world.nodes s)) line fails said next does) left
   group_told d line s fails said new (GroupLacks why wants none says left) = GroupLacks why wants none says left
   group_told d line s fails said new (GroupFails disk next of has spoils says left) = GroupFails disk next of has spoils says left
   group_told d line s fails said new (InitFails disk site is of has says left) = InitFails disk site is of has says left
   group_told d line s fails said new (ImportFails why next site is of refuses begun says left) =
-      ImportFails why next site is of (refuses_told s _ fails why refuses) begun says left
-  group_told d line s fails said new (KeptUnread disk next site is of has unread says left) = KeptUnread disk next site is of has (unread_told s (d.world.nodes s) fails _ next unread) says left
+      ImportFails why next site is of (refuses_told s (note_at (d.world.nodes s)) fails why refuses) begun says left
+  group_told d line s fails said new (KeptUnread disk next site is of has unread says left) = KeptUnread disk next site is of has (unread_told s (d.world.nodes s) fails (note_at (d.world.nodes s)) next unread) says left
   group_told d line s fails said new (GroupCut next of fused cuts says left) = GroupCut next of fused cuts says left
   group_told d line s fails said new (GroupNotFound why of brings not says left) = GroupNotFound why of brings not says left
-  group_told d line s fails said new (FindsGroup next of brings knows says left) = FindsGroup next of brings (nothing_told _ knows) says left
-  group_told d line s fails said new (FindsNoGroup next why of brings knows other says left) = FindsNoGroup next why of brings (nothing_told _ knows) other says left
+  group_told d line s fails said new (FindsGroup next of brings knows says left) = FindsGroup next of brings (nothing_told (note_at (d.world.nodes s)) knows) says left
+  group_told d line s fails said new (FindsNoGroup next why of brings knows other says left) = FindsNoGroup next why of brings (nothing_told (note_at (d.world.nodes s)) knows) other says left
 
   pub finds_told : (d : Doubted) (line : ScriptLine) (s : ℕ) (fails : Fails) (said : Said) (new : Doubted) → FindsKept T d line s fails said new → FindsKept U d line s fails said new
   finds_told d line s fails said new x = record { untold = λ u. x.untold (f u); site = x.site; recovers = x.recovers; bare = x.bare; ends = group_told d line s fails said new x.ends }

@@ -19,9 +19,9 @@ use Rattle.vx_cli.specs.declared.status.Status.{Status}
 use Rattle.vx_cli.specs.declared.status.Status.TheVariants.{OutOfMemory}
 use Rattle.vx_cli.specs.Reading.{MayHave}
 use Rattle.vx_cli.specs.Runs.{RunsLines, LeavesRacks, ToldBy, fails_of_lines}
-use Rattle.vx_cli.specs.Ends.{RunIs}
+use Rattle.vx_cli.specs.Ends.{RunIs, RunOutcome}
 use Rattle.vx_cli.specs.Turns.{YardComes}
-use Rattle.vx_cli.proofs.EndsLemmas.{ends_here}
+use Rattle.vx_cli.proofs.EndsLemmas.{here_at}
 use Rattle.vx_cli.proofs.ReaderLemmas.{ahead_some}
 use Rattle.vx_cli.proofs.StepLemmas.{last_told, line_told, rose_none, rose_same}
 
@@ -89,12 +89,14 @@ module _ {R : Type 0} (meaning : R → Meaning) where
       → RunIs T files (LeavesRacks meaning now) OutOfMemory left left w0 w0 (rack_faults meaning racks) (rack_faults meaning now)
   run_stops T files racks now left w0 fresh same =
       let some = ahead_some [] left in let at = some.1 in
+      let here : (o : RunOutcome (T (sure empty_world)) files (LeavesRacks meaning racks) 0 (sure empty_world) at.rest OutOfMemory left w0 w0 (rack_faults meaning racks) (rack_faults meaning racks)) × (o.world ≡ sure empty_world)
+      = here_at 0 (sure empty_world) at.rest OutOfMemory left w0 w0 (rack_faults meaning racks) (rack_faults meaning racks) [] (omega arith)
+      (record { sent = []; unsent = []; texts = refl; last = omega arith; is = refl }) (appends_none w0) (rose_none (rack_faults meaning racks)) (fresh_leave racks fresh) in
       subst (λ (rs : List R). RunIs T files (LeavesRacks meaning rs) OutOfMemory left left w0 w0 (rack_faults meaning racks) (rack_faults meaning rs)) (sym same)
       (record {
         input = at.rest;
         has = at.has;
         final = sure empty_world;
-        ends = refl;
-        outcome = ends_here 0 (sure empty_world) at.rest OutOfMemory left w0 w0 (rack_faults meaning racks) (rack_faults meaning racks) [] (omega arith)
-            (record { sent = []; unsent = []; texts = refl; last = omega arith; is = refl }) (appends_none w0) (rose_none (rack_faults meaning racks)) (fresh_leave racks fresh);
+        outcome = here.0;
+        ends = here.1;
       })

@@ -11,10 +11,8 @@ use Rattle.vx_group_lines.proofs.blocks.put_line.Goals as goal
 pub write_plain-requires-clause-free : goal.write_plain-requires-clause-free
 write_plain-requires-clause-free g c = λ κs within. (
   PutLine c.args.name.now c.args.volume.now c.args.start c.as_bytes.result.now,
-  (
-    OfPut refl (ap (λ (bs : List ℕ). length bs) c.as_bytes.ensures.bytes ∙ c.as_bytes.ensures.whole),
-    subst (λ (bs : List ℕ). IsFree c.args.yard.now (PutLine c.args.name.now c.args.volume.now c.args.start bs)) (sym c.as_bytes.ensures.bytes) c.requires.free,
-  ),
+  OfPut refl (ap (λ (bs : List ℕ). length bs) c.as_bytes.ensures.bytes ∙ c.as_bytes.ensures.whole),
+  subst (λ (bs : List ℕ). IsFree c.args.yard.now (PutLine c.args.name.now c.args.volume.now c.args.start bs)) (sym c.as_bytes.ensures.bytes) c.requires.free,
 )
 
 pub write_plain-requires-clause-some : goal.write_plain-requires-clause-some

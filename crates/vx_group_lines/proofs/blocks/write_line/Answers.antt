@@ -1,5 +1,5 @@
 -- `write_line`: what it hands on, and where memory is short.
-use Rattle.std.proofs.Common.{arith, refl}
+use Rattle.std.proofs.Common.{◌∙◌, arith, refl}
 use Rattle.vx_script.specs.declared.line.ScriptLine.TheVariants.{Write as WriteLine}
 use Rattle.vx_diskset.specs.Asked.{SameFailing}
 use Rattle.vx_diskset.proofs.KeepsFailing.{failing_same}
@@ -28,22 +28,22 @@ write_plain-requires-clause-whole g c = λ κs within.
 pub write_plain-requires-clause-free : goal.write_plain-requires-clause-free
 write_plain-requires-clause-free g c = λ κs within.
     let may = write_may c.args.yard.now.facts.items (in_files c.args.yard.now) c.args.name.now c.args.volume.now c.args.start c.args.count c.args.fill c.requires.free in
-    (WriteLine c.args.name.now c.args.volume.now c.args.start c.args.count c.args.fill, (OfWrite c.args.count c.args.fill refl (filled_is c.args.count c.args.fill _ may.call.few c.in-Ok.ensures), c.requires.free))
+    (WriteLine c.args.name.now c.args.volume.now c.args.start c.args.count c.args.fill, OfWrite c.args.count c.args.fill refl (c.deref.ensures.value ∙ filled_is c.args.count c.args.fill _ may.call.few c.in-Ok.ensures), c.requires.free)
 
 pub returns-in-Ok-clause-leads : goal.returns-in-Ok-clause-leads
 returns-in-Ok-clause-leads g c = λ d stands group.
     let may = write_may c.args.yard.now.facts.items (in_files c.args.yard.now) c.args.name.now c.args.volume.now c.args.start c.args.count c.args.fill c.requires.free in
-    c.write_plain.ensures.leads d (WriteLine c.args.name.now c.args.volume.now c.args.start c.args.count c.args.fill) stands (OfWrite c.args.count c.args.fill refl (filled_is c.args.count c.args.fill _ may.call.few c.in-Ok.ensures)) c.requires.free group
+    c.write_plain.ensures.leads d (WriteLine c.args.name.now c.args.volume.now c.args.start c.args.count c.args.fill) stands (OfWrite c.args.count c.args.fill refl (c.deref.ensures.value ∙ filled_is c.args.count c.args.fill _ may.call.few c.in-Ok.ensures)) c.requires.free group
 
 pub returns-in-Ok-clause-asked : goal.returns-in-Ok-clause-asked
 returns-in-Ok-clause-asked g c = λ d stands group.
     let may = write_may c.args.yard.now.facts.items (in_files c.args.yard.now) c.args.name.now c.args.volume.now c.args.start c.args.count c.args.fill c.requires.free in
-    c.write_plain.ensures.asked d (WriteLine c.args.name.now c.args.volume.now c.args.start c.args.count c.args.fill) stands (OfWrite c.args.count c.args.fill refl (filled_is c.args.count c.args.fill _ may.call.few c.in-Ok.ensures)) c.requires.free group
+    c.write_plain.ensures.asked d (WriteLine c.args.name.now c.args.volume.now c.args.start c.args.count c.args.fill) stands (OfWrite c.args.count c.args.fill refl (c.deref.ensures.value ∙ filled_is c.args.count c.args.fill _ may.call.few c.in-Ok.ensures)) c.requires.free group
 
 pub returns-in-Ok-clause-called : goal.returns-in-Ok-clause-called
 returns-in-Ok-clause-called g c = λ d stands group.
     let may = write_may c.args.yard.now.facts.items (in_files c.args.yard.now) c.args.name.now c.args.volume.now c.args.start c.args.count c.args.fill c.requires.free in
-    c.write_plain.ensures.called d (WriteLine c.args.name.now c.args.volume.now c.args.start c.args.count c.args.fill) stands (OfWrite c.args.count c.args.fill refl (filled_is c.args.count c.args.fill _ may.call.few c.in-Ok.ensures)) c.requires.free group
+    c.write_plain.ensures.called d (WriteLine c.args.name.now c.args.volume.now c.args.start c.args.count c.args.fill) stands (OfWrite c.args.count c.args.fill refl (c.deref.ensures.value ∙ filled_is c.args.count c.args.fill _ may.call.few c.in-Ok.ensures)) c.requires.free group
 
 pub returns-in-Err-clause-leads : goal.returns-in-Err-clause-leads
 returns-in-Err-clause-leads g c = λ d stands group. unbegun_for d c.args.yard.now stands

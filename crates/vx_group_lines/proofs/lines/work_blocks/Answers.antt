@@ -37,7 +37,7 @@ pub returns-in-Put-clause-called : goal.returns-in-Put-clause-called
 returns-in-Put-clause-called g c = λ d stands group. subst (λ line. HasCalled d.world line c.put_line.result c.args.yard.now c.put_line.new.yard) (sym c.in-Put.is) (c.put_line.ensures.called d stands (subst (λ line. is_for_group d.world line ≡ true) c.in-Put.is group))
 
 pub read_line-requires-clause-free : goal.read_line-requires-clause-free
-read_line-requires-clause-free g c = λ κs lives. (c.args.words.now, (ByRead c.in-Read.is, c.requires.free))
+read_line-requires-clause-free g c = λ κs lives. (c.args.words.now, ByRead c.in-Read.is, c.requires.free)
 
 pub returns-in-Read-clause-leads : goal.returns-in-Read-clause-leads
 returns-in-Read-clause-leads g c = λ d stands group. c.read_line.ensures.leads d c.args.words.now stands (ByRead c.in-Read.is) c.requires.free group
@@ -52,7 +52,7 @@ pub returns-in-Read-clause-whole : goal.returns-in-Read-clause-whole
 returns-in-Read-clause-whole g c = λ none. memory_short c.args.words.now _ c.in-Read.is refl none
 
 pub read_line-requires-in-Show-clause-free : goal.read_line-requires-in-Show-clause-free
-read_line-requires-in-Show-clause-free g c = λ κs lives. (c.args.words.now, (ByShow c.in-Show.is, c.requires.free))
+read_line-requires-in-Show-clause-free g c = λ κs lives. (c.args.words.now, ByShow c.in-Show.is, c.requires.free)
 
 pub returns-in-Show-clause-leads : goal.returns-in-Show-clause-leads
 returns-in-Show-clause-leads g c = λ d stands group. c.read_line-in-Show.ensures.leads d c.args.words.now stands (ByShow c.in-Show.is) c.requires.free group

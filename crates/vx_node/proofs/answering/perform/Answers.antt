@@ -57,19 +57,19 @@ returns-then-is_of_group-clause-called g c = λ d stands carries good. c.work_gr
 pub returns-then-is_of_group-clause-whole : goal.returns-then-is_of_group-clause-whole
 returns-then-is_of_group-clause-whole g c = λ none. c.work_group.ensures.whole none
 
-pub returns-in_default-clause-leads : goal.returns-in_default-clause-leads
-returns-in_default-clause-leads g c = λ d stands carries good.
+pub returns-else-is_of_group-clause-leads : goal.returns-else-is_of_group-clause-leads
+returns-else-is_of_group-clause-leads g c = λ d stands carries good.
     let not = sym (c.is_of_group.ensures.is d stands) ∙ c.if-is_of_group.false in
     c.work.ensures.leads d stands not carries good
 
-pub returns-in_default-clause-asked : goal.returns-in_default-clause-asked
-returns-in_default-clause-asked g c = λ d stands. c.work.ensures.asked d stands (sym (c.is_of_group.ensures.is d stands) ∙ c.if-is_of_group.false)
+pub returns-else-is_of_group-clause-asked : goal.returns-else-is_of_group-clause-asked
+returns-else-is_of_group-clause-asked g c = λ d stands. c.work.ensures.asked d stands (sym (c.is_of_group.ensures.is d stands) ∙ c.if-is_of_group.false)
 
-pub returns-in_default-clause-settled : goal.returns-in_default-clause-settled
-returns-in_default-clause-settled g c = λ d stands carries good. other_settled c.args.words.now c.args.yard.now c.work.new.yard (λ p s is. c.in_default.not-Settle p s is)
+pub returns-else-is_of_group-clause-settled : goal.returns-else-is_of_group-clause-settled
+returns-else-is_of_group-clause-settled g c = λ d stands carries good. other_settled c.args.words.now c.args.yard.now c.work.new.yard (λ p s is. c.in_default.not-Settle p s is)
 
-pub returns-in_default-clause-called : goal.returns-in_default-clause-called
-returns-in_default-clause-called g c = λ d stands carries good. c.work.ensures.called d stands (sym (c.is_of_group.ensures.is d stands) ∙ c.if-is_of_group.false) carries good
+pub returns-else-is_of_group-clause-called : goal.returns-else-is_of_group-clause-called
+returns-else-is_of_group-clause-called g c = λ d stands carries good. c.work.ensures.called d stands (sym (c.is_of_group.ensures.is d stands) ∙ c.if-is_of_group.false) carries good
 
-pub returns-in_default-clause-whole : goal.returns-in_default-clause-whole
-returns-in_default-clause-whole g c = λ none. c.work.ensures.whole none
+pub returns-else-is_of_group-clause-whole : goal.returns-else-is_of_group-clause-whole
+returns-else-is_of_group-clause-whole g c = λ none. c.work.ensures.whole none

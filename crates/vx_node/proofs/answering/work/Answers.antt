@@ -1,5 +1,5 @@
 -- The work of a line that no test refuses.
-use Rattle.std.proofs.Common.{◌≡◌, false, subst, sym, refl}
+use Rattle.std.proofs.Common.{◌≡◌, Bool, false, subst, sym, refl}
 use Rattle.std.proofs.lemmas.Result.{err_from_is_err_and}
 use Rattle.vx_link_lines.proofs.AnswerFor.{if_ok, memory_taken}
 use Rattle.vx_yard.proofs.NamedSite.{unbegun_by, unbegun_site}
@@ -10,8 +10,9 @@ use Rattle.vx_yard.specs.Standing.{Leads, LeadsIs}
 use Rattle.vx_yard.specs.Working.{IsFree}
 use Rattle.vx_yard.specs.Yards.{in_files}
 use Rattle.vx_events.proofs.Refused.{site_may}
-use Rattle.vx_events.specs.StepsOver.{is_for_group}
-use Rattle.vx_yard.specs.OfSites.{AsAsked, HasCalled}
+use Rattle.vx_events.specs.Facts.{site_number}
+use Rattle.vx_events.specs.StepsOver.{is_for_group, over_group_at}
+use Rattle.vx_yard.specs.OfSites.{AsAsked, HasCalled, OfSite, ReadsBy}
 use Rattle.vx_events.proofs.RefusedCalls.{read_may, show_may, write_may}
 use Rattle.vx_diskset.specs.Asked.{LeavesAlone, SameFailing}
 use Rattle.vx_diskset.proofs.KeepsFailing.{alone_same, failing_same}
@@ -230,8 +231,10 @@ pub returns-in_err-room-in-Read-clause-asked : goal.returns-in_err-room-in-Read-
 returns-in_err-room-in-Read-clause-asked g c = λ d stands apart.
     let y = c.args.yard.now in
     let free = subst (λ line. IsFree y line) c.in-Read.is c.requires.free in
+    let over : over_group_at d.world c.in-Read.site ≡ false = subst (λ line. is_for_group d.world line ≡ false) c.in-Read.is apart in
     subst (λ line. AsAsked d.world line y y) (sym c.in-Read.is)
-    (unbegun_site LeavesAlone d y c.in-Read.site alone_same stands (read_may y.facts.items (in_files y) c.in-Read.site c.in-Read.volume c.in-Read.block c.in-Read.count free).site)
+    (subst (λ (b : Bool). OfSite (ReadsBy b) (site_number d.world c.in-Read.site) y y) (sym over)
+    (unbegun_site LeavesAlone d y c.in-Read.site alone_same stands (read_may y.facts.items (in_files y) c.in-Read.site c.in-Read.volume c.in-Read.block c.in-Read.count free).site))
 
 pub returns-in_err-room-in-Show-clause-leads : goal.returns-in_err-room-in-Show-clause-leads
 returns-in_err-room-in-Show-clause-leads g c = λ d stands apart carries good.
@@ -247,8 +250,10 @@ pub returns-in_err-room-in-Show-clause-asked : goal.returns-in_err-room-in-Show-
 returns-in_err-room-in-Show-clause-asked g c = λ d stands apart.
     let y = c.args.yard.now in
     let free = subst (λ line. IsFree y line) c.in-Show.is c.requires.free in
+    let over : over_group_at d.world c.in-Show.site ≡ false = subst (λ line. is_for_group d.world line ≡ false) c.in-Show.is apart in
     subst (λ line. AsAsked d.world line y y) (sym c.in-Show.is)
-    (unbegun_site LeavesAlone d y c.in-Show.site alone_same stands (show_may y.facts.items (in_files y) c.in-Show.site c.in-Show.volume c.in-Show.block c.in-Show.count free).site)
+    (subst (λ (b : Bool). OfSite (ReadsBy b) (site_number d.world c.in-Show.site) y y) (sym over)
+    (unbegun_site LeavesAlone d y c.in-Show.site alone_same stands (show_may y.facts.items (in_files y) c.in-Show.site c.in-Show.volume c.in-Show.block c.in-Show.count free).site))
 
 pub work_link-requires-clause-free : goal.work_link-requires-clause-free
 work_link-requires-clause-free g c = λ κs lives. c.requires.free
