@@ -51,8 +51,7 @@ import_line-requires-clause-free g c = λ κs lives. subst (λ line. IsFree c.ar
 
 pub returns-in-GroupImport-clause-leads : goal.returns-in-GroupImport-clause-leads
 returns-in-GroupImport-clause-leads g c = λ d stands group.
-    or_stops d c.args.words.now c.args.yard.now c.import_line.new.yard c.import_line.result
-    (subst (λ line. LeadsOverIs d line c.args.yard.now c.import_line.new.yard c.import_line.result) (sym c.in-GroupImport.is) (c.import_line.ensures.leads d stands (subst (λ line. is_for_group d.world line ≡ true) c.in-GroupImport.is group)))
+    subst (λ line. LeadsOverOrStops d line c.args.yard.now c.import_line.new.yard c.import_line.result) (sym c.in-GroupImport.is) (c.import_line.ensures.leads d stands (subst (λ line. is_for_group d.world line ≡ true) c.in-GroupImport.is group))
 
 pub returns-in-GroupImport-clause-asked : goal.returns-in-GroupImport-clause-asked
 returns-in-GroupImport-clause-asked g c = λ d stands group. subst (λ line. AsAsked d.world line c.args.yard.now c.import_line.new.yard) (sym c.in-GroupImport.is) (c.import_line.ensures.asked d stands (subst (λ line. is_for_group d.world line ≡ true) c.in-GroupImport.is group))
@@ -170,16 +169,16 @@ pub returns-in-Status-clause-whole : goal.returns-in-Status-clause-whole
 returns-in-Status-clause-whole g c = λ none. memory_short c.args.words.now _ c.in-Status.is refl none
 
 pub shape_of-want-requires-in-Volume-clause-mirrors : goal.shape_of-want-requires-in-Volume-clause-mirrors
-shape_of-want-requires-in-Volume-clause-mirrors g c = λ κs lives. omega (arith, (volume_may c.args.yard.now.facts.items (in_files c.args.yard.now) c.in-Volume.site c.in-Volume.volume c.in-Volume.blocks c.in-Volume.mirrors c.in-Volume.layout c.in-Volume.log c.in-Volume.map c.in-Volume.policy (subst (λ line. IsFree c.args.yard.now line) c.in-Volume.is c.requires.free)).plexes)
+shape_of-want-requires-in-Volume-clause-mirrors g c = omega (arith, (volume_may c.args.yard.now.facts.items (in_files c.args.yard.now) c.in-Volume.site c.in-Volume.volume c.in-Volume.blocks c.in-Volume.mirrors c.in-Volume.layout c.in-Volume.log c.in-Volume.map c.in-Volume.policy (subst (λ line. IsFree c.args.yard.now line) c.in-Volume.is c.requires.free)).plexes)
 
 pub shape_of-want-requires-in-Volume-clause-columns : goal.shape_of-want-requires-in-Volume-clause-columns
-shape_of-want-requires-in-Volume-clause-columns g c = λ κs lives. omega (arith, (shape_layout c.in-Volume.blocks c.in-Volume.mirrors c.in-Volume.layout (volume_may c.args.yard.now.facts.items (in_files c.args.yard.now) c.in-Volume.site c.in-Volume.volume c.in-Volume.blocks c.in-Volume.mirrors c.in-Volume.layout c.in-Volume.log c.in-Volume.map c.in-Volume.policy (subst (λ line. IsFree c.args.yard.now line) c.in-Volume.is c.requires.free)).shape).0)
+shape_of-want-requires-in-Volume-clause-columns g c = omega (arith, (shape_layout c.in-Volume.blocks c.in-Volume.mirrors c.in-Volume.layout (volume_may c.args.yard.now.facts.items (in_files c.args.yard.now) c.in-Volume.site c.in-Volume.volume c.in-Volume.blocks c.in-Volume.mirrors c.in-Volume.layout c.in-Volume.log c.in-Volume.map c.in-Volume.policy (subst (λ line. IsFree c.args.yard.now line) c.in-Volume.is c.requires.free)).shape).0)
 
 pub shape_of-want-requires-in-Volume-clause-width : goal.shape_of-want-requires-in-Volume-clause-width
-shape_of-want-requires-in-Volume-clause-width g c = λ κs lives. (shape_layout c.in-Volume.blocks c.in-Volume.mirrors c.in-Volume.layout (volume_may c.args.yard.now.facts.items (in_files c.args.yard.now) c.in-Volume.site c.in-Volume.volume c.in-Volume.blocks c.in-Volume.mirrors c.in-Volume.layout c.in-Volume.log c.in-Volume.map c.in-Volume.policy (subst (λ line. IsFree c.args.yard.now line) c.in-Volume.is c.requires.free)).shape).1
+shape_of-want-requires-in-Volume-clause-width g c = (shape_layout c.in-Volume.blocks c.in-Volume.mirrors c.in-Volume.layout (volume_may c.args.yard.now.facts.items (in_files c.args.yard.now) c.in-Volume.site c.in-Volume.volume c.in-Volume.blocks c.in-Volume.mirrors c.in-Volume.layout c.in-Volume.log c.in-Volume.map c.in-Volume.policy (subst (λ line. IsFree c.args.yard.now line) c.in-Volume.is c.requires.free)).shape).1
 
 pub shape_of-want-requires-in-Volume-clause-prefer : goal.shape_of-want-requires-in-Volume-clause-prefer
-shape_of-want-requires-in-Volume-clause-prefer g c = λ κs lives. let may = volume_may c.args.yard.now.facts.items (in_files c.args.yard.now) c.in-Volume.site c.in-Volume.volume c.in-Volume.blocks c.in-Volume.mirrors c.in-Volume.layout c.in-Volume.log c.in-Volume.map c.in-Volume.policy (subst (λ line. IsFree c.args.yard.now line) c.in-Volume.is c.requires.free) in prefers_few c.in-Volume.policy c.in-Volume.mirrors may.plexes may.prefer
+shape_of-want-requires-in-Volume-clause-prefer g c = let may = volume_may c.args.yard.now.facts.items (in_files c.args.yard.now) c.in-Volume.site c.in-Volume.volume c.in-Volume.blocks c.in-Volume.mirrors c.in-Volume.layout c.in-Volume.log c.in-Volume.map c.in-Volume.policy (subst (λ line. IsFree c.args.yard.now line) c.in-Volume.is c.requires.free) in prefers_few c.in-Volume.policy c.in-Volume.mirrors may.plexes may.prefer
 
 pub volume_line-requires-clause-named : goal.volume_line-requires-clause-named
 volume_line-requires-clause-named g c = λ κs lives. named_some c.args.yard.now c.in-Volume.site (volume_may c.args.yard.now.facts.items (in_files c.args.yard.now) c.in-Volume.site c.in-Volume.volume c.in-Volume.blocks c.in-Volume.mirrors c.in-Volume.layout c.in-Volume.log c.in-Volume.map c.in-Volume.policy (subst (λ line. IsFree c.args.yard.now line) c.in-Volume.is c.requires.free)).may.site
