@@ -24,10 +24,6 @@ mod links;
 #[cfg(test)]
 mod loss;
 #[cfg(test)]
-mod mirror_cuts;
-#[cfg(test)]
-mod mirrors;
-#[cfg(test)]
 mod outages;
 mod racks;
 #[cfg(test)]
