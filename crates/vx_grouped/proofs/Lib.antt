@@ -33,3 +33,4 @@ pub mod WhyLemmas
 pub mod SinceReturns
 pub mod ReadyLemmas
 pub mod FindLemmas
+pub mod TraceLemmas
