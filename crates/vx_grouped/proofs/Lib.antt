@@ -34,3 +34,4 @@ pub mod SinceReturns
 pub mod ReadyLemmas
 pub mod FindLemmas
 pub mod TraceLemmas
+pub mod LitLemmas

@@ -199,7 +199,7 @@ module _ {R : Type 0} {g : Ghosts R} (n : Node) (note : GroupNode) (name : List 
 
   module _ (idle : Idle R g) (stopped : Stopped (laid_disks new) (idle_disks idle))
       (away : (k : Node) (next : GroupNode) → GroupLies k next new.core (laid_disks new) → IsAwayAt (record k { state = IsDown }) next new.core.inner.config (idle_disks idle))
-        (same : idle.agreed ≡ new.core.inner.agreed) (fell : TellsLess (laid_below new) (idle_below idle)) where
+      (same : idle.agreed ≡ new.core.inner.agreed) (fell : TellsLess (laid_below new) (idle_below idle)) where
     pub made_cut : (stop : Stop) → stops_down stop ≡ true → MakesVolume name want group.core (laid_disks group) new.core (laid_disks new) (Err stop) → SiteAdded n note name want (Up group) (Down idle) (Err stop)
     made_cut (Refused why) off works =
         called_cut ℕ n note group new up since less spells (λ c d. ⊥) (LosesSome (laid_disks group) (idle_disks idle)) (LacksVolume (Up group) name want) idle stopped away same fell (Refused why) off (works.leaves n note up.at)

@@ -138,7 +138,7 @@ module _ {R : Type 0} {g : Ghosts R} (n : Node) (note : GroupNode) (v p : ℕ) (
 
   module _ (idle : Idle R g) (stopped : Stopped (laid_disks new) (idle_disks idle))
       (away : (k : Node) (next : GroupNode) → GroupLies k next new.core (laid_disks new) → IsAwayAt (record k { state = IsDown }) next new.core.inner.config (idle_disks idle))
-        (same : idle.agreed ≡ new.core.inner.agreed) (fell : TellsLess (laid_below new) (idle_below idle)) where
+      (same : idle.agreed ≡ new.core.inner.agreed) (fell : TellsLess (laid_below new) (idle_below idle)) where
     pub det_site_cut : (stop : Stop) → stops_down stop ≡ true → PlexDets v p group.core (laid_disks group) new.core (laid_disks new) (Err stop) → DetCalled n note v p (Up group) (Down idle) (Err stop)
     det_site_cut stop off works =
         called_cut (Unit {0}) n note group new up since less (spells_det (Err stop) works) (DetDone v p (laid_disks group) (idle_disks idle)) (DetFails v p (laid_disks group) (idle_disks idle)) (λ which. refuses_det (Up group) v p ≡ Some which)
