@@ -1,5 +1,5 @@
 -- How a line changes what a site notes of its group of disks.
-use Rattle.std.specs.Prelude.{◌≡◌, ◌⊎◌, ◌==◌, ◌<◌, ◌||◌, ℕ, true, false, List, [], length, Some, None, slice_get, unwrap_or, Contains, if◌then◌else◌}
+use Rattle.std.specs.Prelude.{◌≡◌, ◌⊎◌, ◌==◌, ◌<◌, ℕ, true, false, List, [], length, Some, None, slice_get, unwrap_or, Contains, if◌then◌else◌}
 use Rattle.vx_model.specs.Content.{Write, zero_block}
 use Rattle.vx_history.specs.Groups.{BlockMay, GroupNode, NoteSettles, NoteUnsettles, note_cut, note_doubt, note_write}
 use Rattle.vx_history.specs.World.{Node, no_volumes}
@@ -110,14 +110,14 @@ pub record NotesCut (s : ℕ) (fails : Fails) (x : Write) (note new : GroupNode)
 -- ---- recoveries
 
 -- A group came up from its disks: of all disks of its site, which are held as good but for those on which a call failed. Of disks that may not have
--- agreed nothing is known then. Where contents are known the volumes that were noted are there but for the states of their plexes, and each block has
+-- agreed nothing may be known then. Where contents are known the volumes that were noted are there but for the states of their plexes, and each block has
 -- what it had and might have, or one of these values.
 pub record NotesBack (told : Type 0) (s : ℕ) (n : Node) (fails : Fails) (note new : GroupNode) : Type 0 where
   pub old : Config
   pub now : Config
   pub was : config_of note.config ≡ Some old
   pub is : config_of new.config ≡ Some now
-  pub dark : new.dark ≡ (note.dark || note.loose)
+  pub dark : (new.dark ≡ note.dark) ⊎ ((new.dark ≡ true) × (note.loose ≡ true))
   pub volumes : IsKnown told new → (v : ℕ) (e : VolumeEntry) → slice_get old.volumes v ≡ Some e → Matched VolumeStays (Some e) (slice_get now.volumes v)
   pub many : length now.disks ≡ n.disks
   pub blocks : (k : ℕ) (d : DiskEntry) → slice_get now.disks k ≡ Some d → d.blocks ≡ n.blocks
