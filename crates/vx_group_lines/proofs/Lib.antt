@@ -26,6 +26,7 @@ pub mod GroupImports
 pub mod GroupVolume
 pub mod VolumeLine
 pub mod Resuming
+pub mod Recovering
 pub mod Founding
 pub mod GroupPlex
 pub mod GroupAttach

@@ -17,7 +17,7 @@ use Rattle.vx_events.specs.Lines.{IsDone as IsDoneLine}
 use Rattle.vx_events.specs.Lists.{events_of, recovery_of}
 use Rattle.vx_events.specs.declared.said.Said.{Said}
 use Rattle.vx_yard.proofs.SiteEvents.{first_choice}
-use Rattle.vx_grouped.specs.GroupSites.{site_disks}
+use Rattle.vx_grouped.specs.GroupSites.{site_below}
 use Rattle.vx_events.specs.Fails.{Fails}
 use Rattle.vx_yard.specs.Stands.{RoseAll, RoseBy, times}
 use Rattle.vx_diskset.specs.Stands.{IsToldAt}
@@ -64,5 +64,5 @@ module _ {R : Type 0} {g : Ghosts R} where
   told_or (Up rvg) = true_or (g.meaning rvg.shelf).tells
   told_or (Receives s) = true_or (g.meaning s.rvg.shelf).tells
   told_or (Down rack) = true_or (g.meaning rack).tells
-  told_or (OfGroup s) = true_or (site_disks s.site).tells
+  told_or (OfGroup s) = true_or (site_below s.site).tells
   told_or Gone = inr (λ none. none)
