@@ -23,8 +23,8 @@ fails_of_lines [] = []
 fails_of_lines (fails ∷ failures) = fails ++ fails_of_lines failures
 
 module _ {R : Type 0} (meaning : R → Meaning) where
-  -- The world at the end of a run: the racks hold it, and where they tell their contents the groups of its sites. Then it is good, as every world is that comes about, whichever
-  -- of the sites in doubt are as they may be on their disks.
+  -- The world at the end of a run: the racks hold it. Where they tell their contents they hold the groups of its sites too, and it is good, as every world
+  -- is that comes about, whichever of the sites in doubt are as they may be on their disks.
   pub record LeavesRacks (racks : List R) (d : Doubted) : Type 0 where
     pub good : RacksTell meaning racks → GoodDoubted d
     pub holds : RacksHold meaning d racks
