@@ -18,6 +18,7 @@ pub mod GroupEnding
 pub mod GroupDone
 pub mod GroupShown
 pub mod Choosing
+pub mod Dimming
 pub mod Returning
 pub mod Rising
 pub mod GroupNamed

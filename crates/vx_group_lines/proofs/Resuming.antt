@@ -179,20 +179,36 @@ module _ {R : Type 0} {g : Ghosts R} where
 
     -- ---- it is down still
 
-    stays : (set : GroupSet R g) → after ≡ OfGroup set → DownNoted n note set.site → cut_in after ≡ cut_value call.at.set.cut → new.facts.items ≡ old.facts.items → SameLoad old new → Follows e e old new
-    stays set is holds cut facts load =
+    dims : Bool
+    dims = is_dimmed call.at.set.site
+
+    loose : is_dimmed call.at.set.site ≡ true → (note_at (e.world.nodes s)).loose ≡ true
+    loose is = loose_down n note site is_down is
+
+    -- the note behind a refusal that came before the first write, or behind it
+    abbrev left_note : Bool → GroupNode
+    left_note late = dimmed_by late (is_dimmed call.at.set.site) (note_at (e.world.nodes s))
+
+    abbrev left_node : Bool → Node
+    left_node late = record (e.world.nodes s) { group = Some (left_note late) }
+
+    stays : (late : Bool) (set : GroupSet R g) → after ≡ OfGroup set → DownNoted (left_node late) (left_note late) set.site → cut_in after ≡ cut_value call.at.set.cut → new.facts.items ≡ old.facts.items → SameLoad old new
+        → Follows e (noted_at e s (left_note late)) old new
+    stays late set is holds cut facts load =
+        let k : GroupNode = left_note late in
+        let m : Node = left_node late in
         let same : cut_value set.cut ≡ cut_value call.at.set.cut = ap (λ (x : DiskSet R g). cut_in x) (sym is) ∙ cut in
-        follows_on e e s n note (fact_of_group n note) old new before set begin.stands begin.below (turned set is) starts (down_notes n note set.site holds).0
-        (down_set n note set sized holds (same ∙ was_cut) (fits_as note call.at.set.cut set.cut same was_fits)) (still_fails n set is refl)
-        (fused_none n (OfGroup set) (unfused_down n note site is_down)) refl (facts ∙ sym (set_same old.facts.items s (fact_of_group n note) call.at.fact)) load
+        follows_on e (noted_at e s k) s m k (fact_of_group n note) old new before set begin.stands begin.below (turned set is) (arrives_noted e e s n k (e.world.gathering s) starts) (down_notes m k set.site holds).0
+        (down_set m k set (record { few = sized.few; some = sized.some }) holds (same ∙ was_cut) (fits_as k call.at.set.cut set.cut same (λ x at. fits_note k note refl x (was_fits x at)))) (still_fails m set is refl)
+        (fused_none m (OfGroup set) (unfused_down n note site is_down)) refl (facts ∙ sym (set_same old.facts.items s (fact_of_group n note) call.at.fact)) load
 
     -- what a recovery notes that is refused
-    left_for : (d : Doubted) (comes : ComesDown d e s) → IsAs e (noting e.world s (note_at (d.world.nodes s))) e
-    left_for d comes = record { world = sym (noting_same e.world s note noted) ∙ ap (λ (k : GroupNode). noting e.world s k) comes.note; after = λ i. refl }
+    left_last : (late : Bool) (d : Doubted) (comes : ComesDown d e s)
+        → let last = run_as false d (crash_first (d.world.nodes s).state s) in IsAs last (noting last.world s (left_note late)) (noted_at e s (left_note late))
+    left_last late d comes = subst (λ (x : Doubted). IsAs x (noting x.world s (left_note late)) (noted_at e s (left_note late))) (sym (refused_as d e s comes)) (record { world = refl; after = λ i. refl })
 
-    left_last : (d : Doubted) (comes : ComesDown d e s)
-        → let last = run_as false d (crash_first (d.world.nodes s).state s) in IsAs last (noting last.world s (note_at (d.world.nodes s))) e
-    left_last d comes = subst (λ (x : Doubted). IsAs x (noting x.world s (note_at (d.world.nodes s))) e) (sym (refused_as d e s comes)) (left_for d comes)
+    left_notes : (late : Bool) (d : Doubted) → ComesDown d e s → NotesRefused (note_at (d.world.nodes s)) (left_note late)
+    left_notes late d comes = subst (λ (k : GroupNode). NotesRefused k (left_note late)) comes.note (notes_refused late dims note)
 
     -- the tests see the same
     quiet : (mid : Yard R g) → mid.facts.items ≡ old.facts.items → new.facts.items ≡ slice_set mid.facts.items s (fact_of_group (e.world.nodes s) (note_at (e.world.nodes s))) → new.facts.items ≡ old.facts.items
@@ -209,12 +225,12 @@ module _ {R : Type 0} {g : Ghosts R} where
     -- ---- it is refused
 
     -- an answer that the tests see nothing of
-    answered : (many : ℕ) (why : No) (set : GroupSet R g) → after ≡ OfGroup set → DownNoted n note set.site → cut_in after ≡ cut_value call.at.set.cut → new.facts.items ≡ old.facts.items → SameLoad old new
-        → ((d : Doubted) (name : List ℕ) → ComesDown d e s → GroupEnds (IsTold new) d (Recover name) s (calls s old new many) (Refused why) e) → RisesFor e s (Refused why) old new
-    answered many why set is holds cut facts load ends =
-        let follows = stays set is holds cut facts load in
+    answered : (late : Bool) (many : ℕ) (why : No) (set : GroupSet R g) → after ≡ OfGroup set → DownNoted (left_node late) (left_note late) set.site → cut_in after ≡ cut_value call.at.set.cut → new.facts.items ≡ old.facts.items → SameLoad old new
+        → ((d : Doubted) (name : List ℕ) → ComesDown d e s → GroupEnds (IsTold new) d (Recover name) s (calls s old new many) (Refused why) (noted_at e s (left_note late))) → RisesFor e s (Refused why) old new
+    answered late many why set is holds cut facts load ends =
+        let follows = stays late set is holds cut facts load in
         record {
-          next = e;
+          next = noted_at e s (left_note late);
           fails = calls s old new many;
           done = ends;
           stands = follows.stands;
@@ -222,54 +238,75 @@ module _ {R : Type 0} {g : Ghosts R} where
           rose = calls_all e old new [] s before after begin.stands call many;
         }
 
+    -- a call on a disk failed in it
+    named_by : (set : GroupSet R g) → after ≡ OfGroup set → (disk : ℕ) → Rose ((as_imported call.at.set.site).disk_faults disk) ((site_disks set.site).disk_faults disk) → Contains (calls s old new (suc disk)) (s, disk)
+    named_by set is disk rose =
+        calls_named e old new [] s before after begin.stands call call.at.set set call.at.is_set is (suc disk) disk (omega arith)
+        (rose_up ((site_disks call.at.set.site).disk_faults disk) ((as_imported call.at.set.site).disk_faults disk) ((site_disks set.site).disk_faults disk) ((site_disks set.site).disk_faults disk)
+        ((imported_same {R = R} {g = g} call.at.set.site).counts disk) rose (omega arith))
+
+    -- none was found, and nothing was written
+    not_found : (many : ℕ) (why : No) (d : Doubted) (name : List ℕ) → ComesDown d e s → IsNoDevice why → NotFound s (note_at (d.world.nodes s)) (calls s old new many) why → ((k : GroupNode) → NotFoundLeaves why k k)
+        → GroupEnds (IsTold new) d (Recover name) s (calls s old new many) (Refused why) (noted_at e s (left_note false))
+    not_found many why d name comes other none same = by dims refl
+      where
+        by : (b : Bool) → is_dimmed call.at.set.site ≡ b → GroupEnds (IsTold new) d (Recover name) s (calls s old new many) (Refused why) (noted_at e s (left_note false))
+        by true is =
+            FindsNoGroup (left_note false) why (calls_are e old new [] s before after begin.stands call many) tt
+            (inr (inl (ap (λ (k : GroupNode). k.loose) (sym comes.note) ∙ loose is))) other (left_notes false d comes) refl (left_last false d comes)
+        by false is =
+            let kept : left_note false ≡ note_at (d.world.nodes s) = ap (λ (b : Bool). dimmed_by false b note) is ∙ comes.note in
+            GroupNotFound why (left_note false) (calls_are e old new [] s before after begin.stands call many) tt none
+            (subst (λ (k : GroupNode). NotFoundLeaves why (note_at (d.world.nodes s)) k) (sym kept) (same (note_at (d.world.nodes s)))) refl (left_last false d comes)
+
+    -- what was found no disk has that tells its contents
+    strange : (many : ℕ) (why : No) (set : GroupSet R g) → after ≡ OfGroup set → DownNoted (left_node false) (left_note false) set.site → (IsTrue (site_disks set.site).tells → ⊥) → IsNoDevice why → (d : Doubted) (name : List ℕ) → ComesDown d e s
+        → GroupEnds (IsTold new) d (Recover name) s (calls s old new many) (Refused why) (noted_at e s (left_note false))
+    strange many why set is holds never other d name comes =
+        FindsNoGroup (left_note false) why (calls_are e old new [] s before after begin.stands call many) tt
+        (subst (λ (k : GroupNode). KnowsNothing (IsTold new) k) comes.note
+        (knows_none (IsTold new) dims note loose (λ told bright. never (lit_down (left_node false) (left_note false) set.site holds bright (told_of new s after set there_now is told)))))
+        other (left_notes false d comes) refl (left_last false d comes)
+
+    abbrev Left : Stop → GroupSite R g → Type 0
+    Left stop x = DownNoted (left_node (not (stops_early stop))) (left_note (not (stops_early stop))) x
+
     -- why
-    by_why : (why : No) (set : GroupSet R g) → after ≡ OfGroup set → DownNoted n note set.site → cut_in after ≡ cut_value call.at.set.cut → ImportWhy (IsTrue (site_disks set.site).tells) (as_imported call.at.set.site) (site_disks set.site) (StopsBy why)
+    by_why : (why : No) (set : GroupSet R g) → after ≡ OfGroup set → Left (StopsBy why) set.site → cut_in after ≡ cut_value call.at.set.cut → ImportWhy (IsTrue (site_disks set.site).tells) (as_imported call.at.set.site) (site_disks set.site) (StopsBy why)
         → (mid : Yard R g) → mid.facts.items ≡ old.facts.items → SameLoad old mid → (result : Result Said OutOfMemory) → IsNotedRefusal s (fact_of_group n note) why mid new result → RisesIs e s old new result
     by_why (Device disk) set is holds cut rose mid facts load result it =
         subst (λ (r : Result Said OutOfMemory). RisesIs e s old new r) (sym it.said)
-        (answered (suc disk) (Device disk) set is holds cut (quiet mid facts it.facts) (loaded mid load it.same it.assemblies)
-        (λ d name comes. GroupFails disk (note_at (d.world.nodes s)) (calls_are e old new [] s before after begin.stands call (suc disk))
-        (calls_named e old new [] s before after begin.stands call call.at.set set call.at.is_set is (suc disk) disk (omega arith)
-        (rose_up ((site_disks call.at.set.site).disk_faults disk) ((as_imported call.at.set.site).disk_faults disk) ((site_disks set.site).disk_faults disk) ((site_disks set.site).disk_faults disk)
-        ((imported_same {R = R} {g = g} call.at.set.site).counts disk) rose (omega arith)))
-        (record { config = refl; keeps = inl refl }) refl (left_last d comes)))
+        (answered true (suc disk) (Device disk) set is holds cut (quiet mid facts it.facts) (loaded mid load it.same it.assemblies)
+        (λ d name comes. GroupFails disk (left_note true) (calls_are e old new [] s before after begin.stands call (suc disk)) (named_by set is disk rose) (left_notes true d comes) refl (left_last true d comes)))
     by_why (Lacks disk) set is holds cut rose mid facts load result it =
         subst (λ (r : Result Said OutOfMemory). RisesIs e s old new r) (sym it.said)
-        (answered (suc disk) (Lacks disk) set is holds cut (quiet mid facts it.facts) (loaded mid load it.same it.assemblies)
-        (λ d name comes. GroupNotFound (Lacks disk) (calls_are e old new [] s before after begin.stands call (suc disk)) tt
-        (calls_named e old new [] s before after begin.stands call call.at.set set call.at.is_set is (suc disk) disk (omega arith)
-        (rose_up ((site_disks call.at.set.site).disk_faults disk) ((as_imported call.at.set.site).disk_faults disk) ((site_disks set.site).disk_faults disk) ((site_disks set.site).disk_faults disk)
-        ((imported_same {R = R} {g = g} call.at.set.site).counts disk) rose (omega arith)))
-        refl (left_last d comes)))
+        (answered false (suc disk) (Lacks disk) set is holds cut (quiet mid facts it.facts) (loaded mid load it.same it.assemblies)
+        (λ d name comes. not_found (suc disk) (Lacks disk) d name comes tt (named_by set is disk rose) (λ k. refl)))
     by_why NoConfig set is holds cut rose mid facts load result it =
         subst (λ (r : Result Said OutOfMemory). RisesIs e s old new r) (sym it.said)
-        (answered 0 NoConfig set is holds cut (quiet mid facts it.facts) (loaded mid load it.same it.assemblies)
-        (λ d name comes. GroupNotFound NoConfig (calls_are e old new [] s before after begin.stands call 0) tt tt refl (left_last d comes)))
+        (answered false 0 NoConfig set is holds cut (quiet mid facts it.facts) (loaded mid load it.same it.assemblies) (λ d name comes. not_found 0 NoConfig d name comes tt tt (λ k. refl)))
     by_why (Limit what most) set is holds cut rose mid facts load result it =
         subst (λ (r : Result Said OutOfMemory). RisesIs e s old new r) (sym it.said)
         (subst (λ (w : Counted). RisesFor e s (Refused (Limit w most)) old new) (sym rose.0)
-        (answered 0 (Limit Numbers most) set is holds cut (quiet mid facts it.facts) (loaded mid load it.same it.assemblies)
-        (λ d name comes. GroupNotFound (Limit Numbers most) (calls_are e old new [] s before after begin.stands call 0) tt rose.1 refl (left_last d comes))))
-    by_why (Damaged unit block stored computed) set is holds cut rose mid facts load result it =
+        (answered true 0 (Limit Numbers most) set is holds cut (quiet mid facts it.facts) (loaded mid load it.same it.assemblies)
+        (λ d name comes. GroupNotFound (Limit Numbers most) (left_note true) (calls_are e old new [] s before after begin.stands call 0) tt rose.1 (left_notes true d comes) refl (left_last true d comes))))
+    by_why (Damaged unit block stored computed) set is holds cut never mid facts load result it =
         subst (λ (r : Result Said OutOfMemory). RisesIs e s old new r) (sym it.said)
-        (answered 0 (Damaged unit block stored computed) set is holds cut (quiet mid facts it.facts) (loaded mid load it.same it.assemblies)
-        (λ d name comes. FindsNoGroup (note_at (d.world.nodes s)) (Damaged unit block stored computed) (calls_are e old new [] s before after begin.stands call 0) tt
-        (inl (λ told. rose (told_of new s after set there_now is told))) tt refl (left_last d comes)))
-    by_why (Format version) set is holds cut rose mid facts load result it =
+        (answered false 0 (Damaged unit block stored computed) set is holds cut (quiet mid facts it.facts) (loaded mid load it.same it.assemblies)
+        (strange 0 (Damaged unit block stored computed) set is holds never tt))
+    by_why (Format version) set is holds cut never mid facts load result it =
         subst (λ (r : Result Said OutOfMemory). RisesIs e s old new r) (sym it.said)
-        (answered 0 (Format version) set is holds cut (quiet mid facts it.facts) (loaded mid load it.same it.assemblies)
-        (λ d name comes. FindsNoGroup (note_at (d.world.nodes s)) (Format version) (calls_are e old new [] s before after begin.stands call 0) tt
-        (inl (λ told. rose (told_of new s after set there_now is told))) tt refl (left_last d comes)))
+        (answered false 0 (Format version) set is holds cut (quiet mid facts it.facts) (loaded mid load it.same it.assemblies) (strange 0 (Format version) set is holds never tt))
     by_why other set is holds cut rose mid facts load result it = absurd rose
 
-    by_stop : (stop : Stop) (set : GroupSet R g) → after ≡ OfGroup set → DownNoted n note set.site → cut_in after ≡ cut_value call.at.set.cut → ImportWhy (IsTrue (site_disks set.site).tells) (as_imported call.at.set.site) (site_disks set.site) stop
+    by_stop : (stop : Stop) (set : GroupSet R g) → after ≡ OfGroup set → Left stop set.site → cut_in after ≡ cut_value call.at.set.cut → ImportWhy (IsTrue (site_disks set.site).tells) (as_imported call.at.set.site) (site_disks set.site) stop
         → (mid : Yard R g) → mid.facts.items ≡ old.facts.items → SameLoad old mid → (result : Result Said OutOfMemory) → reply_noted s (fact_of_group n note) stop mid new result → RisesIs e s old new result
     by_stop (StopsBy why) set is holds cut because mid facts load result it = by_why why set is holds cut because mid facts load result it
     by_stop MemoryStop set is holds cut because mid facts load result it =
         let same : SameLoad old new = subst (λ (y : Yard R g). SameLoad old y) (sym it.0) load in
-        let follows = stays set is holds cut (ap (λ (y : Yard R g). y.facts.items) it.0 ∙ facts) same in
+        let follows = stays false set is holds cut (ap (λ (y : Yard R g). y.facts.items) it.0 ∙ facts) same in
         subst (λ (r : Result Said OutOfMemory). RisesIs e s old new r) (sym it.1)
-        (record { stands = follows.stands; carries = follows.carries; rose = calls_none e old new [] s before after begin.stands call })
+        (record { note = left_note false; notes = notes_refused false dims note; stands = follows.stands; carries = follows.carries; rose = calls_none e old new [] s before after begin.stands call })
 
     -- a recovery that was refused in its import
     pub stays_back : (stop : Stop) → RaisesGroup n note before after (Err stop) → (mid : Yard R g) → mid.facts.items ≡ old.facts.items → SameLoad old mid → (result : Result Said OutOfMemory)
