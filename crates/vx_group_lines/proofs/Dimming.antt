@@ -1,8 +1,11 @@
 -- What an import that was refused leaves of the note of a site: nothing, or that it is not known any more what its disks hold.
-use Rattle.std.proofs.Common.{◌≡◌, ◌∙◌, ◌⊎◌, inl, inr, Bool, true, false, refl, sym}
+use Rattle.std.proofs.Common.{◌≡◌, ◌⊎◌, inl, inr, ℕ, Bool, true, false, refl}
+use Rattle.vx_model.specs.declared.no.No.{No}
 use Rattle.vx_history.specs.Groups.{GroupNode}
 use Rattle.vx_grouped.specs.GroupNotes.{note_dimmed}
-use Rattle.vx_events.specs.GroupEnds.{KnowsNothing}
+use Rattle.vx_events.specs.Ends.{IsNoDevice}
+use Rattle.vx_events.specs.Fails.{Fails}
+use Rattle.vx_events.specs.GroupEnds.{KnowsNothing, NotFound, NotFoundLeaves}
 use Rattle.vx_events.specs.GroupNotes.{NotesRefused}
 
 -- the note behind an import of disks that may disagree, or not, which was refused behind its first write, or before
@@ -22,3 +25,17 @@ knows_none told false note loose never = by note.dark refl
     by : (b : Bool) → note.dark ≡ b → KnowsNothing told note
     by true is = inr (inr is)
     by false is = inl (λ yes_. never yes_ is)
+
+-- what a group that came up notes of it
+pub dark_moves : (dims : Bool) (note next : GroupNode) → (dims ≡ true → note.loose ≡ true) → next.dark ≡ (note_dimmed dims note).dark → (next.dark ≡ note.dark) ⊎ ((next.dark ≡ true) × (note.loose ≡ true))
+dark_moves true note next loose is = inr (is, loose refl)
+dark_moves false note next loose is = inl is
+
+-- why none was found before the first write, and what is left of the note
+abbrev pub KnownBy : (told : Type 0) (late dims : Bool) (s : ℕ) → GroupNode → Fails → No → Type 0
+KnownBy told late dims s note fails why = (NotFound s note fails why × NotFoundLeaves why note (dimmed_by late dims note)) ⊎ (KnowsNothing told note × IsNoDevice why)
+
+pub early_known : (told : Type 0) (dims : Bool) (s : ℕ) (note : GroupNode) (fails : Fails) (why : No) → (dims ≡ true → note.loose ≡ true) → NotFound s note fails why → IsNoDevice why → ((k : GroupNode) → NotFoundLeaves why k k)
+    → KnownBy told false dims s note fails why
+early_known told true s note fails why loose none other same = inr (inr (inl (loose refl)), other)
+early_known told false s note fails why loose none other same = inl (none, same note)

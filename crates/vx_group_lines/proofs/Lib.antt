@@ -26,6 +26,7 @@ pub mod GroupDeports
 pub mod GroupImports
 pub mod GroupVolume
 pub mod VolumeLine
+pub mod Raising
 pub mod Resuming
 pub mod Recovering
 pub mod Founding
