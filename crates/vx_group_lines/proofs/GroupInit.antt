@@ -113,6 +113,7 @@ module _ {R : Type 0} {g : Ghosts R} where
           size = first.size;
           others = first.others;
           cut = first.cut;
+          dark = first.dark;
           perhaps = first.perhaps;
         },
         table_is note c is ∙ ap (λ (vs : List VolumeEntry). map plain_fact vs) empty.volumes,
