@@ -91,7 +91,7 @@ pub fn only_groups_bear()
 {}
 
 /// Where memory runs out within a line that does not go in parts nothing is done, whether disks tell their contents or not; of one that does, any first
-/// part of its events may be. Of a recovery of a group that is up the crash may be, and an import may have read its disks under a fuse. Where disks tell
+/// part of its events may be. Of a recovery of a group that is up the crash may be, an import may have read its disks under a fuse, and of disks that may not agree nothing may be known behind either. Where disks tell
 /// their contents nothing else is.
 pub fn memory_leaves_a_part()
     ensures none { (d : Doubted) (line : ScriptLine) (new : Doubted) → goes_in_parts line ≡ false → DonePart d line new → new ≡ d }
