@@ -6,7 +6,7 @@ use Rattle.vx_grouped.specs.GroupNotes.{note_dimmed}
 use Rattle.vx_events.specs.Ends.{IsNoDevice}
 use Rattle.vx_events.specs.Fails.{Fails}
 use Rattle.vx_events.specs.GroupEnds.{KnowsNothing, NotFound, NotFoundLeaves}
-use Rattle.vx_events.specs.GroupNotes.{NotesRefused}
+use Rattle.vx_events.specs.GroupNotes.{NotesRefused, NotesShort}
 
 -- the note behind an import of disks that may disagree, or not, which was refused behind its first write, or before
 abbrev pub dimmed_by : (late dims : Bool) → GroupNode → GroupNode
@@ -16,6 +16,11 @@ pub notes_refused : (late dims : Bool) (note : GroupNode) → NotesRefused note 
 notes_refused true dims note = inr refl
 notes_refused false true note = inr refl
 notes_refused false false note = inl refl
+
+-- what want of memory leaves of it
+pub notes_short : (dims : Bool) (note : GroupNode) → (dims ≡ true → note.loose ≡ true) → NotesShort note (dimmed_by false dims note)
+notes_short true note loose = inr (loose refl, refl)
+notes_short false note loose = inl refl
 
 -- Where an import finds what no disk that tells its contents could have, nothing was known of them.
 pub knows_none : (told : Type 0) (dims : Bool) (note : GroupNode) → (dims ≡ true → note.loose ≡ true) → (told → (dimmed_by false dims note).dark ≡ false → ⊥) → KnowsNothing told note

@@ -50,7 +50,7 @@ use Rattle.vx_events.specs.Fails.{Fails}
 use Rattle.vx_events.specs.Parts.{StopsRead, StopsShort}
 use Rattle.vx_events.specs.GroupEnds.{AreOf, FindsNoGroup, GroupCut, GroupDone, GroupEnds, GroupFails, GroupNotFound, ImportFails, ImportRefuses, KnowsNothing, NotFound}
 use Rattle.vx_events.specs.GroupLines.{fuse_lost, noting}
-use Rattle.vx_events.specs.GroupNotes.{note_at, NotesRefused}
+use Rattle.vx_events.specs.GroupNotes.{note_at, NotesShort}
 use Rattle.vx_events.specs.GroupViews.{plain_fact}
 use Rattle.vx_events.specs.StepsOver.{fact_of_group, group_place, over_group_at}
 use Rattle.vx_events.specs.declared.said.Said.{Said}
@@ -77,7 +77,7 @@ use Rattle.vx_group_lines.proofs.Returning.{SitsOn, back_of}
 use Rattle.vx_group_lines.specs.Noting.{IsNotedRefusal, reply_noted}
 use Rattle.vx_grouped.specs.GroupNotes.{note_dimmed}
 use Rattle.vx_events.specs.Doubts.{IsAs}
-use Rattle.vx_group_lines.proofs.Dimming.{KnownBy, dimmed_by, early_known, knows_none, notes_refused}
+use Rattle.vx_group_lines.proofs.Dimming.{KnownBy, dimmed_by, early_known, knows_none, notes_refused, notes_short}
 
 -- ---- the disks as an import sees them
 
@@ -457,7 +457,7 @@ module _ {R : Type 0} {g : Ghosts R} where
       memory_part new_is over leads = StopsRead (record {
         reads = over;
         next = left false;
-        notes = subst (λ (k : ℕ). NotesRefused (note_at (d.world.nodes k)) (left false)) (sym place) (notes_refused false dims note);
+        notes = subst (λ (k : ℕ). NotesShort (note_at (d.world.nodes k)) (left false)) (sym place) (notes_short dims note loose);
         leads = subst (λ (k : ℕ). IsAs d (worked_on (noting d.world k (left false)) k) new_is ⊎ IsAs d (fuse_lost (noting d.world k (left false)) k) new_is) (sym place) leads;
       })
 

@@ -56,7 +56,7 @@ use Rattle.vx_group_lines.proofs.GroupLeads.{Follows, Sized, down_set, follows_o
 use Rattle.vx_group_lines.proofs.GroupMarks.{begins_at, group_noted_at}
 use Rattle.vx_group_lines.proofs.Rising.{fits_as, refused_as, told_of, unfused_down}
 use Rattle.vx_events.specs.Ends.{IsNoDevice}
-use Rattle.vx_group_lines.proofs.Dimming.{dimmed_by, knows_none, notes_refused, early_known}
+use Rattle.vx_group_lines.proofs.Dimming.{dimmed_by, knows_none, notes_refused, early_known, notes_short}
 
 -- ---- counts
 
@@ -259,7 +259,7 @@ module _ {R : Type 0} {g : Ghosts R} where
         let same : SameLoad old new = subst (λ (y : Yard R g). SameLoad old y) (sym it.0) load in
         let follows = stays false set is holds cut (ap (λ (y : Yard R g). y.facts.items) it.0 ∙ facts) same in
         subst (λ (r : Result Said OutOfMemory). RisesIs e s old new r) (sym it.1)
-        (record { note = left_note false; notes = notes_refused false dims note; stands = follows.stands; carries = follows.carries; rose = calls_none e old new [] s before after begin.stands call })
+        (record { note = left_note false; notes = notes_short dims note loose; stands = follows.stands; carries = follows.carries; rose = calls_none e old new [] s before after begin.stands call })
 
     -- a recovery that was refused in its import
     pub stays_back : (stop : Stop) → RaisesGroup n note before after (Err stop) → (mid : Yard R g) → mid.facts.items ≡ old.facts.items → SameLoad old mid → (result : Result Said OutOfMemory)

@@ -1,6 +1,6 @@
 -- What a line that recovers a site over a group leads a yard to.
-use Rattle.std.proofs.Common.{◌≡◌, ◌∙◌, inl, inr, ◌<◌, ℕ, Bool, true, false, List, [], map, ap, sym, subst, refl, arith}
-use Rattle.std.specs.Prelude.{is_some, Option, Some, None, slice_get, slice_set, Result, Ok, Err}
+use Rattle.std.proofs.Common.{◌≡◌, ◌∙◌, inl, inr, ◌<◌, ℕ, Bool, true, false, List, [], map, ap, sym, subst, refl, arith, ⊎_elim}
+use Rattle.std.specs.Prelude.{is_some, Option, Some, None, slice_get, slice_set, Result, Ok, Err, ◌&&◌, ◌||◌, eqb, unwrap_or}
 use Rattle.std.proofs.lemmas.Option.{slice_get_within}
 use Rattle.vx_model.specs.declared.errors.OutOfMemory.{OutOfMemory}
 use Rattle.vx_model.specs.declared.errors.Stop.{Stop}
@@ -12,7 +12,7 @@ use Rattle.vx_config.specs.declared.config.Config.{Config}
 use Rattle.vx_history.specs.Doubts.{Doubted, happened}
 use Rattle.vx_history.specs.Groups.{GroupNode}
 use Rattle.vx_history.specs.Steps.{crashed}
-use Rattle.vx_history.specs.World.{Node}
+use Rattle.vx_history.specs.World.{Node, World}
 use Rattle.vx_history.specs.declared.event.Event.TheVariants.{Crash as CrashAt}
 use Rattle.vx_order.specs.declared.facts.SiteFacts.{SiteFacts}
 use Rattle.vx_report.specs.declared.view.Kept.{Kept}
@@ -36,7 +36,7 @@ use Rattle.vx_events.proofs.Places.{some_same}
 use Rattle.vx_events.specs.Doubts.{IsAs, run_as}
 use Rattle.vx_events.specs.GroupEnds.{GroupEnds}
 use Rattle.vx_events.specs.GroupLines.{is_over_group, noting, crash_first}
-use Rattle.vx_events.specs.GroupNotes.{note_at, NotesRefused}
+use Rattle.vx_events.specs.GroupNotes.{note_at, NotesShort, no_note}
 use Rattle.vx_events.specs.GroupViews.{plain_fact}
 use Rattle.vx_events.specs.StepsOver.{fact_of_group, group_place}
 use Rattle.vx_events.specs.Parts.{StopsDown, StopsInPart, StopsShort, raises_first}
@@ -63,25 +63,57 @@ use Rattle.vx_group_lines.specs.Views.{view_with}
 use Rattle.vx_group_lines.proofs.Arriving.{Arrives, arrives_crash, noted_at}
 use Rattle.vx_group_lines.proofs.GroupAt.{GroupAt, down_noted, group_by, up_noted, up_notes, lit_up}
 use Rattle.vx_group_lines.proofs.GroupCalls.{Called, calls, set_then}
-use Rattle.vx_group_lines.proofs.GroupMarks.{begins_at}
+use Rattle.vx_group_lines.proofs.GroupMarks.{begins_at, noting_same}
 use Rattle.vx_group_lines.proofs.Rising.{has_up, refused_as}
 use Rattle.vx_group_lines.proofs.Raising.{Begins, RaisedTo, later_then, stays_back}
 use Rattle.vx_group_lines.proofs.Resuming.{looked}
+use Rattle.vx_model.specs.Sites.{is_up}
 
--- the line is a recovery of a group
-raises_over : (d : Doubted) (name : List ℕ) (s : ℕ) → group_place d.world (Recover name) ≡ s → is_over_group (d.world.nodes s) ≡ true → raises_first d.world (Recover name) ≡ true
-raises_over d name s place over = ap (λ (k : ℕ). is_over_group (d.world.nodes k)) place ∙ over
+-- the site of the line is over a group, which notes it
+over_noted : (n : Node) → is_over_group n ≡ true → n.group ≡ Some (note_at n)
+over_noted n over = by n.group refl
+  where
+    by : (o : Option GroupNode) → n.group ≡ o → n.group ≡ Some (note_at n)
+    by None is = absurd (let e : false ≡ true = sym (ap (λ (x : Option GroupNode). is_some x && eqb (length n.volumes) 0) is) ∙ over in cc)
+    by (Some note) is = is ∙ ap (λ (x : Option GroupNode). Some (unwrap_or x no_note)) (sym is)
 
--- what want of memory leaves of it
-stops_low : (told : Type 0) (d e : Doubted) (name : List ℕ) (s : ℕ) (next : GroupNode) → group_place d.world (Recover name) ≡ s → is_over_group (d.world.nodes s) ≡ true → ComesDown d e s → NotesRefused (note_at (e.world.nodes s)) next
-    → StopsShort told d (Recover name) (noted_at e s next)
-stops_low told d e name s next place over comes notes = StopsDown (record {
-  raises = raises_over d name s place over;
-  next = next;
-  notes = subst (λ (k : ℕ). NotesRefused (note_at (d.world.nodes k)) next) (sym place) (subst (λ (k : GroupNode). NotesRefused k next) comes.note notes);
-  leads = subst (λ (k : ℕ). let last = run_as false d (crash_first (d.world.nodes k).state k) in IsAs last (noting last.world k next) (noted_at e s next)) (sym place)
-      (subst (λ (x : Doubted). IsAs x (noting x.world s next) (noted_at e s next)) (sym (refused_as d e s comes)) (record { world = refl; after = λ i. refl }));
-})
+or_true : (a b : Bool) → b ≡ true → (a || b) ≡ true
+or_true true b is = refl
+or_true false b is = is
+
+module _ (told : Type 0) (d e : Doubted) (name : List ℕ) (s : ℕ) (next : GroupNode) (place : group_place d.world (Recover name) ≡ s) (over : is_over_group (d.world.nodes s) ≡ true) (comes : ComesDown d e s) (notes : NotesShort (note_at (e.world.nodes s)) next) where
+  -- it crashed first, or may not agree
+  raises_so : (is_up (d.world.nodes s).state || (note_at (d.world.nodes s)).loose) ≡ true → raises_first d.world (Recover name) ≡ true
+  raises_so is =
+      ap (λ (k : ℕ). is_over_group (d.world.nodes k) && (is_up (d.world.nodes k).state || (note_at (d.world.nodes k)).loose)) place
+      ∙ ap (λ (b : Bool). b && (is_up (d.world.nodes s).state || (note_at (d.world.nodes s)).loose)) over ∙ is
+
+  fell : (is_up (d.world.nodes s).state || (note_at (d.world.nodes s)).loose) ≡ true → StopsShort told d (Recover name) (noted_at e s next)
+  fell is = StopsDown (record {
+    raises = raises_so is;
+    next = next;
+    notes = subst (λ (k : ℕ). NotesShort (note_at (d.world.nodes k)) next) (sym place) (subst (λ (k : GroupNode). NotesShort k next) comes.note notes);
+    leads = subst (λ (k : ℕ). let last = run_as false d (crash_first (d.world.nodes k).state k) in IsAs last (noting last.world k next) (noted_at e s next)) (sym place)
+        (subst (λ (x : Doubted). IsAs x (noting x.world s next) (noted_at e s next)) (sym (refused_as d e s comes)) (record { world = refl; after = λ i. refl }));
+  })
+
+  -- a site that was down is as it was
+  whole : e ≡ d → next ≡ note_at (e.world.nodes s) → StopsShort told d (Recover name) (noted_at e s next)
+  whole same is =
+      let kept : noted_at e s next ≡ d =
+      ap (λ (x : Doubted). noted_at x s next) same ∙ ap (λ (k : GroupNode). noted_at d s k) (is ∙ comes.note)
+      ∙ ap (λ (w : World). let x : Doubted = record d { world = w } in x) (noting_same d.world s (note_at (d.world.nodes s)) (over_noted (d.world.nodes s) over)) in
+      subst (λ (x : Doubted). StopsShort told d (Recover name) x) (sym kept) (StopsInPart (none_done d (Recover name)))
+
+  -- what want of memory leaves of it
+  stops_low : StopsShort told d (Recover name) (noted_at e s next)
+  stops_low = ⊎_elim
+      (λ (down : ((d.world.nodes s).state ≡ IsDown) × (e ≡ d)).
+      ⊎_elim (λ same. whole down.1 same)
+      (λ dark. fell (or_true (is_up (d.world.nodes s).state) (note_at (d.world.nodes s)).loose (ap (λ (k : GroupNode). k.loose) (sym comes.note) ∙ dark.0))) notes)
+      (λ (up : ((d.world.nodes s).state ≡ IsUp) × (e ≡ happened d (CrashAt s 0) false)).
+      fell (ap (λ (t : SiteState). is_up t || (note_at (d.world.nodes s)).loose) up.0))
+      comes.how
 
 -- a site that was down
 pub down_first : (d : Doubted) (s : ℕ) → (d.world.nodes s).state ≡ IsDown → ComesDown d d s

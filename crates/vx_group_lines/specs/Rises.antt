@@ -24,7 +24,7 @@ use Rattle.vx_script.specs.declared.line.ScriptLine.TheVariants.{Recover}
 use Rattle.vx_events.specs.Fails.{Fails}
 use Rattle.vx_events.specs.GroupEnds.{GroupEnds}
 use Rattle.vx_events.specs.GroupLines.{noting}
-use Rattle.vx_events.specs.GroupNotes.{NotesRefused, note_at}
+use Rattle.vx_events.specs.GroupNotes.{NotesShort, note_at}
 use Rattle.vx_events.specs.GroupViews.{plain_fact}
 use Rattle.vx_events.specs.declared.said.Said.{Said}
 use Rattle.vx_events.specs.declared.said.Said.TheVariants.{Resumed}
@@ -103,7 +103,7 @@ module _ {R : Type 0} {g : Ghosts R} where
   -- memory ran out in it: the site is down as it was, but that it may not be known any more what its disks hold
   pub record StaysLow (e : Doubted) (s : ℕ) (old new : Yard R g) : Type 0 where
     pub note : GroupNode
-    pub notes : NotesRefused (note_at (e.world.nodes s)) note
+    pub notes : NotesShort (note_at (e.world.nodes s)) note
     pub stands : StandsFor (record e { world = noting e.world s note }) new
     pub carries : Carries e old → Carries (record e { world = noting e.world s note }) new
     pub rose : RoseAll [] (count_of old) (count_of new)
