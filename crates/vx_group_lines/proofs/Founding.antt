@@ -162,6 +162,7 @@ module _ {R : Type 0} {g : Ghosts R} where
           site = name;
           recovers = refl;
           bare = site.bare;
+          shows = refl;
           ends = ends;
         }));
         stands = follows.stands;
