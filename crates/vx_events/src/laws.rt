@@ -16,6 +16,8 @@ ghost use Rattle.vx_script.specs.declared.line.ScriptLine.{ScriptLine};
 ghost use Rattle.vx_script.specs.declared.line.ScriptLine.TheVariants.{Site, Raw, Crash, Write as WriteLine, Put, Read, Show, Apply};
 ghost use Rattle.vx_events.specs.Facts.{facts_of, site_number, volume_number};
 ghost use Rattle.vx_events.specs.GroupEnds.{GroupEnds, GroupStops};
+ghost use Rattle.vx_events.specs.GroupNotes.{note_at};
+ghost use Rattle.vx_events.specs.Known.{MayDarken};
 ghost use Rattle.vx_events.specs.Fails.{AreBorne, Fails};
 ghost use Rattle.vx_events.specs.Lines.{LineStep, is_of_links};
 ghost use Rattle.vx_events.specs.Lists.{Choice};
@@ -72,6 +74,13 @@ pub fn lines_are_events()
 pub fn group_lines_are_events()
     ensures { (tells : Bool) (d : Doubted) (line : ScriptLine) (s : ℕ) (fails : Fails) (said : Said) (new : Doubted) → GroupEnds (IsTrue tells) d line s fails said new
         → GroupStops d new }
+{}
+
+/// It stays known what the disks of a group hold, but for a recovery or an import of disks that may not agree, and for one that is refused. So it is known
+/// from the making of the group on.
+pub fn known_disks_stay_known()
+    ensures { (d : Doubted) (line : ScriptLine) (s : ℕ) (fails : Fails) (said : Said) (new : Doubted) → GroupEnds (Unit {0}) d line s fails said new
+        → (note_at (d.world.nodes s)).dark ≡ false → (MayDarken (note_at (d.world.nodes s)) line said → ⊥) → (note_at (new.world.nodes s)).dark ≡ false }
 {}
 
 /// In a world without groups of disks, over disks that tell their contents, a line that makes none does what it does there. A line that works on a group, and is refused or not, ends as
