@@ -6,8 +6,6 @@
 #[cfg(test)]
 mod cuts;
 #[cfg(test)]
-mod failing;
-#[cfg(test)]
 mod fused;
 #[cfg(test)]
 mod kept;
