@@ -9,7 +9,7 @@ use Rattle.vx_grouped.proofs.TraceLemmas.{carried_both, carried_in, carried_off,
 use Rattle.vx_grouped.proofs.site_returning.import_traced.Goals as goal
 
 pub import_from-came-requires-clause-can : goal.import_from-came-requires-clause-can
-import_from-came-requires-clause-can g c = carried_on (λ m. CanImport m) c.args.rack c.traced.result c.traced.ensures c.requires.can
+import_from-came-requires-clause-can g c = λ κs within. carried_on (λ m. CanImport m) c.args.rack c.traced.result c.traced.ensures c.requires.can
 
 pub returns-in-Ok-clause-leaves : goal.returns-in-Ok-clause-leaves
 returns-in-Ok-clause-leaves g c = λ n note last lies.
