@@ -70,10 +70,10 @@ abbrev pub DeportSince : {S G : Type 0} → Meaning → (S → Meaning) → (G �
 DeportSince old meaning shelf (Ok s) = CalledSince old (meaning s)
 DeportSince old meaning shelf (Err (g, stop)) = CalledSince old (meaning (shelf g))
 
--- and what its rack tells
-abbrev pub DeportTells : {S G : Type 0} → Meaning → (S → Meaning) → (G → S) → Result S (G × Stop) → Type 0
-DeportTells old below shelf (Ok s) = TellsLess old (below s)
-DeportTells old below shelf (Err (g, stop)) = TellsLess old (below (shelf g))
+-- and of its rack, which tells no more than it did
+abbrev pub DeportShows : {S G : Type 0} → Meaning → (S → Meaning) → (G → Meaning) → Result S (G × Stop) → Type 0
+DeportShows old below back (Ok s) = TellsLess old (below s)
+DeportShows old below back (Err (g, stop)) = TellsLess old (back g)
 
 -- a deport is refused for want of serials, or for a device
 abbrev pub DeportRefuses : {S G : Type 0} → Meaning → (S → Meaning) → (G → S) → Result S (G × Stop) → Type 0

@@ -7,7 +7,7 @@ ghost use Rattle.vx_grouped.specs.Ends.{DeportLeaves};
 ghost use Rattle.vx_grouped.specs.GroupNotes.{IsGroupAt};
 ghost use Rattle.vx_grouped.specs.GroupSites.{GroupUp, UpNoted, site_below, site_disks};
 ghost use Rattle.vx_grouped.specs.SiteEnds.{SiteDeported};
-ghost use Rattle.vx_grouped.specs.Watches.{DeportRefuses, DeportSince, DeportTells};
+ghost use Rattle.vx_grouped.specs.Watches.{DeportRefuses, DeportShows, DeportSince};
 ghost use Rattle.vx_untold.specs.Shades.{rack_of, shade_meaning};
 ghost use Rattle.vx_watched.specs.Since.{CalledSince};
 ghost use Rattle.vx_watched.specs.Traces.{TellsLess};
@@ -56,7 +56,7 @@ fn deport_traced<C: Begun, R: Rack>(laid: Laid<R>) -> Result<Shade<R>, (Laid<R>,
     ensures moves { DeportMoves laid.core (shade_meaning (λ s. R.meaning s) laid.shelf) (λ s. shade_meaning (λ s. R.meaning s) s) (λ g. g.core) (λ g. g.shelf) result }
     ensures refusals { DeportRefuses (shade_meaning (λ s. R.meaning s) laid.shelf) (λ s. shade_meaning (λ s. R.meaning s) s) (λ g. g.shelf) result }
     ensures since { DeportSince (shade_meaning (λ s. R.meaning s) laid.shelf) (λ s. shade_meaning (λ s. R.meaning s) s) (λ g. g.shelf) result }
-    ensures told { DeportTells C.first (λ s. R.meaning (rack_of s)) (λ g. g.shelf) result }
+    ensures told { DeportShows C.first (λ s. R.meaning (rack_of s)) (λ g. R.meaning (rack_of g.shelf)) result }
 {
     match deport_from::<Brand, Shade<Traced<R, C>>>(trace::<C, R>(laid)) {
         Ok(rack) => Ok(untraced(rack)),
@@ -73,7 +73,7 @@ fn deport_watched<R: Rack>(laid: Laid<R>) -> Result<Shade<R>, (Laid<R>, Stop)>
     ensures moves { DeportMoves laid.core (shade_meaning (λ s. R.meaning s) laid.shelf) (λ s. shade_meaning (λ s. R.meaning s) s) (λ g. g.core) (λ g. g.shelf) result }
     ensures refusals { DeportRefuses (shade_meaning (λ s. R.meaning s) laid.shelf) (λ s. shade_meaning (λ s. R.meaning s) s) (λ g. g.shelf) result }
     ensures since { DeportSince (shade_meaning (λ s. R.meaning s) laid.shelf) (λ s. shade_meaning (λ s. R.meaning s) s) (λ g. g.shelf) result }
-    ensures told { DeportTells (R.meaning (rack_of laid.shelf)) (λ s. R.meaning (rack_of s)) (λ g. g.shelf) result }
+    ensures told { DeportShows (R.meaning (rack_of laid.shelf)) (λ s. R.meaning (rack_of s)) (λ g. R.meaning (rack_of g.shelf)) result }
 {
     deport_traced::<Brand, R>(laid)
 }
