@@ -7,7 +7,7 @@ ghost use Rattle.vx_disk.specs.Disks.{Untouched};
 ghost use Rattle.vx_disk.specs.Racks.{Stopped};
 ghost use Rattle.vx_disk.specs.Shelf.{DisksFlushed, DisksWrote, Fits, Flushed, Goes, Nothing, Read, Written, Wrote};
 ghost use Rattle.vx_group.specs.Attaches.{GroupAttachEnds, att_refusal, missed_regions};
-ghost use Rattle.vx_group.specs.Calls.{GivesBack, GroupAttaches, GroupCreated, GroupDeported, GroupNarrows, IsFull};
+ghost use Rattle.vx_group.specs.Calls.{GivesBack, GroupAttaches, GroupCreated, GroupDeported, IsFull};
 ghost use Rattle.vx_group.specs.Deports.{DeportStops, GroupCanImport};
 ghost use Rattle.vx_group.specs.Dets.{DetStops, det_refusal, margin};
 ghost use Rattle.vx_group.specs.Holding.{wide};
@@ -17,6 +17,7 @@ ghost use Rattle.vx_group.specs.Regains.{HoldsPlex, Regains};
 ghost use Rattle.vx_group.specs.Resumes.{CanImport};
 ghost use Rattle.vx_group.specs.Stands.{inner_meaning};
 ghost use Rattle.vx_loggroup.specs.Attaching.{map_by};
+ghost use Rattle.vx_loggroup.specs.Detaching.{DetachedBy, MapsBegin};
 ghost use Rattle.vx_loggroup.specs.Facts.{LoggedFact};
 ghost use Rattle.vx_loggroup.specs.LoggedVolumes.{LoggedStands};
 ghost use Rattle.vx_loggroup.specs.Made.{LoggedMakes};
@@ -33,7 +34,8 @@ ghost use Rattle.vx_volume.specs.Plexes.{active};
 use crate::attaching::att_whole;
 use crate::crashing::crash_whole;
 use crate::deporting::deport_whole;
-use crate::keeping::{det_whole, read_whole};
+use crate::detaching::det_whole;
+use crate::keeping::read_whole;
 use crate::making::make_whole;
 use crate::opening::{Opened, open_logged};
 use crate::whole::{flush_whole, write_whole};
@@ -148,14 +150,15 @@ impl<S: Shelf> LoggedGroup<S> {
         )
     }
 
-    /// Detaches a plex, as a group does without logs.
+    /// Detaches a plex, as a group does without logs. Where no write of the volume failed since the import, the map of the plex begins then: it has
+    /// missed no region yet.
     pub fn det(&mut self, vol: u32, plex: u32) -> Result<(), Stop>
         ensures refused { (no : NoValue) → det_refusal self.old.core.inner.config vol plex ≡ Some no → (result ≡ Err (Refused no)) × (self.new.core ≡ self.old.core) × (self.new.shelf ≡ self.old.shelf) }
         ensures goes { Goes Nothing (inner_meaning (wide self.old.core) (S.meaning self.old.shelf)) (inner_meaning (wide self.new.core) (S.meaning self.new.shelf)) }
-        ensures narrows { GroupNarrows self.old.core self.new.core (S.meaning self.old.shelf) (S.meaning self.new.shelf) }
+        ensures narrows { DetachedBy (λ s. S.meaning s) vol self.old.core self.new.core (S.meaning self.old.shelf) (S.meaning self.new.shelf) }
         ensures off { OnOk result (active self.new.core.inner.config vol plex ≡ false) }
         ensures others { (w p : ℕ) → (w ≡ vol → p ≡ plex → ⊥) → active self.new.core.inner.config w p ≡ active self.old.core.inner.config w p }
-        ensures logs { self.new.logs.items ≡ self.old.logs.items }
+        ensures maps { MapsBegin vol plex self.old.logs.items self.new.logs.items }
         ensures trust { OnOk result (self.old.core.inner.committed ≡ true → self.new.core.inner.committed ≡ true) }
         ensures agreed { IfErr result (λ e. self.old.core.inner.committed ≡ true → self.new.core.inner.agreed ≡ true) }
         ensures cause { det_refusal self.old.core.inner.config vol plex ≡ None → DetStops (S.meaning self.old.shelf) (S.meaning self.new.shelf) result }
@@ -163,7 +166,7 @@ impl<S: Shelf> LoggedGroup<S> {
         det_whole(
             &mut self.shelf,
             &mut self.core,
-            &self.logs,
+            &mut self.logs,
             &self.alike,
             self.stopped,
             vol,
