@@ -11,6 +11,7 @@ mod flushing;
 mod keeping;
 mod marking;
 mod readying;
+mod refusing;
 mod writing;
 
 pub use clearing::clear_group;

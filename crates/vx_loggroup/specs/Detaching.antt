@@ -1,5 +1,5 @@
 -- A plex of a group with logs that is detached: its map begins then.
-use Rattle.std.specs.Prelude.{◌≡◌, ℕ, ◌/◌, ◌<◌, true, IsTrue, None, Some, List, slice_get}
+use Rattle.std.specs.Prelude.{◌≡◌, ℕ, ◌/◌, ◌<◌, true, false, IsTrue, Option, None, Some, List, slice_get}
 use Rattle.vx_config.specs.declared.config.Config.{Config}
 use Rattle.vx_disk.specs.Shelf.{Goes, Meaning}
 use Rattle.vx_fmr.specs.Missed.{Missed, OthersSame, SameMissedShape, has_missed}
@@ -8,6 +8,7 @@ use Rattle.vx_group.specs.declared.group_core.GroupCore.{GroupCore}
 use Rattle.vx_groupmaps.specs.Missing.{OnMaps}
 use Rattle.vx_layout.specs.Places.{HasBlock, place}
 use Rattle.vx_logs.specs.declared.logs.Logs.{Logs}
+use Rattle.vx_model.specs.declared.limits.TheConstants.{REGION}
 use Rattle.vx_volume.specs.Plexes.{Inside, active}
 
 -- a plex reads in each block what each plex that is ACTIVE reads, where the shelf is up
@@ -30,6 +31,10 @@ pub record LogsBegin (plex : ℕ) (l k : Logs) : Type 0 where
 pub record MapsBegin (v plex : ℕ) (old new : List Logs) : Type 0 where
   pub others : (w : ℕ) → (w ≡ v → ⊥) → slice_get new w ≡ slice_get old w
   pub here : (l k : Logs) → slice_get old v ≡ Some l → slice_get new v ≡ Some k → LogsBegin plex l k
+
+-- the map of a plex, where there is one, has no region of the volume
+pub record MapIsEmpty (c : Config) (v p : ℕ) (o : Option Missed) : Type 0 where
+  pub so : (f : Missed) → o ≡ Some f → (b : ℕ) → Inside c v b → has_missed f p (b / REGION) ≡ false
 
 -- There was a moment behind the commits; since then only blocks of the volume's log of missed regions were written.
 pub record DetachedBy {S : Type 0} (meaning : S → Meaning) (v : ℕ) (c d : GroupCore) (old new : Meaning) : Type 0 where

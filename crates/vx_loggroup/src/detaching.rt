@@ -3,11 +3,16 @@ ghost use Rattle.std.specs.Prelude.{◌≡◌, ◌<◌, ℕ, Err, false, IfErr, 
 ghost use Rattle.vx_disk.specs.Shelf.{Goes, Nothing};
 ghost use Rattle.vx_group.specs.Dets.{DetStops, det_refusal};
 ghost use Rattle.vx_config.specs.Checks.{blocks_of as blocks_of_is, plexes_of};
+ghost use Rattle.vx_copies.specs.Commits.{MoreFailed};
+ghost use Rattle.vx_group.specs.Creates.{SameUnits};
 ghost use Rattle.vx_group.specs.Holding.{GroupStands, wide};
+ghost use Rattle.vx_group.specs.Loses.{SameParts};
+ghost use Rattle.vx_kept.specs.Keeping.{frame_at};
+ghost use Rattle.vx_loggroup.specs.Attaching.{fmr_at};
 ghost use Rattle.vx_group.specs.Stands.{inner_meaning};
 ghost use Rattle.vx_groupmaps.specs.Missing.{OnMaps};
 ghost use Rattle.vx_logged.specs.Logged.{Known, LogOn, OthersOn};
-ghost use Rattle.vx_loggroup.specs.Detaching.{DetachedBy, LogsBegin, MapsBegin, ReadsAs};
+ghost use Rattle.vx_loggroup.specs.Detaching.{DetachedBy, LogsBegin, MapIsEmpty, MapsBegin, ReadsAs};
 ghost use Rattle.vx_loggroup.specs.LoggedVolumes.{LoggedStands, is_alike as is_alike_is};
 ghost use Rattle.vx_model.specs.declared.limits.TheConstants.{MOST_VOLUMES};
 ghost use Rattle.vx_model.specs.declared.errors.Stop.TheVariants.{No as Refused};
@@ -131,6 +136,12 @@ pub fn det_whole<S: Shelf>(
     ensures refused { (no : NoValue) → det_refusal core.old.inner.config vol plex ≡ Some no → (result ≡ Err (Refused no)) × (core.new ≡ core.old) × (shelf.new ≡ shelf.old) }
     ensures goes { Goes Nothing (inner_meaning (wide core.old) (S.meaning shelf.old)) (inner_meaning (wide core.new) (S.meaning shelf.new)) }
     ensures narrows { DetachedBy (λ s. S.meaning s) vol core.old core.new (S.meaning shelf.old) (S.meaning shelf.new) }
+    ensures parts { SameParts core.old.inner.config core.new.inner.config }
+    ensures disks { MoreFailed (S.meaning shelf.old) (S.meaning shelf.new) core.old.inner.config.disks core.new.inner.config.disks }
+    ensures frames { (v : ℕ) → frame_at core.new.inner.config v ≡ frame_at core.old.inner.config v }
+    ensures below { SameUnits (S.meaning shelf.old) (S.meaning shelf.new) }
+    ensures on { (v p : ℕ) → IsTrue (active core.new.inner.config v p) → IsTrue (active core.old.inner.config v p) }
+    ensures begins { OnOk result (stopped ≡ false → core.new.held ≡ None → is_alike_is alike.now vol ≡ true → IsTrue (active core.old.inner.config vol plex) → MapIsEmpty core.new.inner.config vol plex (fmr_at logs.new.items vol)) }
     ensures off { OnOk result (active core.new.inner.config vol plex ≡ false) }
     ensures others { (w p : ℕ) → (w ≡ vol → p ≡ plex → ⊥) → active core.new.inner.config w p ≡ active core.old.inner.config w p }
     ensures maps { MapsBegin vol plex logs.old.items logs.new.items }
