@@ -80,3 +80,6 @@ returns-then-core-ge-MOST_NUMBER-sub-9-clause-still g c = λ none w p. refl
 
 pub returns-clause-below : goal.returns-clause-below
 returns-clause-below g c = acts_units Nothing _ (g.S.Shelf.meaning c.args.shelf.now) (g.S.Shelf.meaning c.lose_group.new.shelf) c.lose_group.ensures.acts.acts
+
+pub returns-clause-rises : goal.returns-clause-rises
+returns-clause-rises g c = c.lose_group.ensures.acts.acts.faults
