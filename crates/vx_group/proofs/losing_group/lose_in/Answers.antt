@@ -1,5 +1,5 @@
 -- A log that is lost in a call on its volume.
-use Rattle.std.proofs.Common.{ℕ, Bool, List, ap, subst, arith}
+use Rattle.std.proofs.Common.{ℕ, Bool, List, ap, refl, subst, arith}
 use Rattle.vx_disk.specs.Shelf.{Nothing}
 use Rattle.vx_group.specs.Blames.{CountsRise}
 use Rattle.vx_group.specs.Stands.{volume_faults}
@@ -59,3 +59,9 @@ returns-in-Ok-clause-loses g c =
 pub returns-in-Err-clause-loses : goal.returns-in-Err-clause-loses
 returns-in-Err-clause-loses g c =
     loses_plexes c.args.core.now.config c.lose_log.new.core.config (g.S.Shelf.meaning c.args.shelf.now) (g.S.Shelf.meaning c.lose_log.new.shelf) c.lose_log.ensures.narrows.shape.frames c.lose_log.ensures.plexes c.lose_log.ensures.failing c.lose_log.ensures.parts
+
+pub returns-then-is_down-clause-plexes : goal.returns-then-is_down-clause-plexes
+returns-then-is_down-clause-plexes g c = λ w p. refl
+
+pub returns-then-core-ge-MOST_NUMBER-clause-plexes : goal.returns-then-core-ge-MOST_NUMBER-clause-plexes
+returns-then-core-ge-MOST_NUMBER-clause-plexes g c = λ w p. refl
