@@ -22,7 +22,7 @@ use Rattle.vx_logged.specs.Logged.{EachOn, Known, LogOn, OthersOn}
 use Rattle.vx_logged.proofs.StandLemmas.{each_on, same_fewer, same_only}
 use Rattle.vx_logs.specs.declared.logs.Logs.{Logs}
 use Rattle.vx_loggroup.specs.LoggedVolumes.{LoggedStands, OthersStand, VolumeStands, is_alike}
-use Rattle.vx_loggroup.specs.Marks.{ClearsVolume, MarksVolume, NotesVolume, region_count}
+use Rattle.vx_loggroup.specs.Marks.{ClearsVolume, MarksVolume, NotesMaps, region_count}
 use Rattle.vx_loggroup.proofs.SetLemmas.{set_each, set_here, set_other}
 
 module _ (W : Values) (c d : GroupCore) (m m' : Meaning) (goes : Goes W (inner_meaning (wide c) m) (inner_meaning (wide d) m')) where
@@ -150,7 +150,7 @@ marks_set c v first last ls l k is marks = record {
 }
 
 -- which regions of maps are noted then
-pub notes_set : (those : ℕ → Bool) (v first last : ℕ) (ls : List Logs) (l k : Logs) → slice_get ls v ≡ Some l → MapsNote those first last l k → NotesVolume those v first last ls (set ls v k)
+pub notes_set : (those : ℕ → Bool) (v first last : ℕ) (ls : List Logs) (l k : Logs) → slice_get ls v ≡ Some l → MapsNote those first last l k → NotesMaps those v first last ls (set ls v k)
 notes_set those v first last ls l k is notes = record {
   here = λ x y f g was now at on.
       let old : l ≡ x = same_item (slice_get ls v) l x is was in
