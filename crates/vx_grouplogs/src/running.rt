@@ -5,7 +5,6 @@ ghost use Rattle.vx_disk.specs.Shelf.{Goes};
 ghost use Rattle.vx_grouplogs.specs.Covering.{DiskCovers, KeepsOthers, MemoryCovers, OnLogs};
 ghost use Rattle.vx_grouplogs.specs.Keeps.{KeepsGroup};
 ghost use Rattle.vx_grouplogs.specs.Marking.{HoldRegions};
-ghost use Rattle.vx_groupmaps.specs.Missing.{HoldMissed};
 ghost use Rattle.vx_logs.specs.Dirtying.{DrlHolds};
 ghost use Rattle.vx_logs.specs.Held.{LogsFit, LogsStand};
 ghost use Rattle.vx_logs.specs.Writes.{MarksLogs, StaleStill, first_region, last_region};
@@ -41,7 +40,6 @@ pub fn mark_run<S: Shelf>(
     ensures others { KeepsOthers config.now vol (S.meaning shelf.old) (S.meaning shelf.new) }
     ensures marks { MarksLogs config.now vol (first_region block) (last_region block count) logs.old logs.new (S.meaning shelf.old) (S.meaning shelf.new) result }
     ensures held { OnOk result (HoldRegions (first_region block) (last_region block count) logs.new) }
-    ensures missed { OnOk result (HoldMissed config.now vol (first_region block) (last_region block count) logs.new) }
     ensures fits { LogsFit config.now vol logs.new }
     ensures stands { OnOk result (LogsStand logs.old (S.meaning shelf.old) → LogsStand logs.new (S.meaning shelf.new)) }
     ensures memory { OnOk result (MemoryCovers config.now vol logs.old (S.meaning shelf.old) → MemoryCovers config.now vol logs.new (S.meaning shelf.new)) }

@@ -6,7 +6,7 @@ ghost use Rattle.vx_disk.specs.Causes.{DeviceCause};
 ghost use Rattle.vx_disk.specs.Shelf.{Goes};
 ghost use Rattle.vx_groupmaps.specs.Refusing.{all_plexes, AreMissedMaps, first_plexes, MapBlocks};
 ghost use Rattle.vx_logs.specs.Held.{LogsFit};
-ghost use Rattle.vx_logs.specs.Noting.{FmrAnswers, FmrKeeps, FmrNoted, IsMissedMap, NotedAt, SameFmr, is_one};
+ghost use Rattle.vx_logs.specs.Noting.{FmrAnswers, FmrAt, FmrKeeps, FmrNoted, IsMissedMap, NotedAt, SameFmr, is_one, this_plex};
 ghost use Rattle.vx_logs.specs.Writes.{first_region, last_region};
 ghost use Rattle.vx_model.specs.declared.limits.TheConstants.{MOST_PLEXES, REGION};
 ghost use Rattle.vx_volume.specs.Plexes.{DisksFit};
@@ -18,6 +18,26 @@ use vx_logs::Logs;
 use vx_model::No;
 use vx_model::limits::REGION;
 use vx_volume::{blocks_of, plex_count};
+
+// Notes a run of regions in the map of a plex.
+fn miss_one<S: Shelf>(
+    map: &mut Fmr,
+    shelf: &mut S,
+    plex: u32,
+    first: u64,
+    last: u64,
+) -> Result<(), No>
+    requires has { IsMissedMap last map.old (S.meaning shelf.old) }
+    requires exists { plex < map.old.plexes }
+    requires some { first ≤ last }
+    ensures writes { Goes (NotedAt (this_plex plex) false first last map.old (S.meaning shelf.old)) (S.meaning shelf.old) (S.meaning shelf.new) }
+    ensures ok { OnOk result (FmrNoted (this_plex plex) false first last map.old map.new (S.meaning shelf.old) (S.meaning shelf.new)) }
+    ensures same { SameFmr map.old map.new }
+    ensures unit { UnitCause map.old.map.unit (S.meaning shelf.old) (S.meaning shelf.new) result }
+    ensures cause { IfErr result (DeviceCause (S.meaning shelf.old) (S.meaning shelf.new)) }
+{
+    map.note(shelf, plex, first, last)
+}
 
 // Notes a run of regions in the maps of the first plexes.
 fn miss_first<S: Shelf>(
@@ -38,7 +58,7 @@ fn miss_first<S: Shelf>(
     ensures cause { IfErr result (DeviceCause (S.meaning shelf.old) (S.meaning shelf.new)) }
 {
     for plex in 0..plexes {
-        match map.note(shelf, plex, first, last) {
+        match miss_one(map, shelf, plex, first, last) {
             Ok(()) => {}
             Err(no) => return Err(no),
         }
@@ -57,7 +77,7 @@ fn miss_maps<S: Shelf>(
     requires has { AreMissedMaps plexes last fmr.old (S.meaning shelf.old) }
     requires few { plexes ≤ MOST_PLEXES }
     requires some { first ≤ last }
-    ensures goes { Goes (MapBlocks fmr.old) (S.meaning shelf.old) (S.meaning shelf.new) }
+    ensures writes { Goes (FmrAt (is_one all_plexes) false first last fmr.old (S.meaning shelf.old)) (S.meaning shelf.old) (S.meaning shelf.new) }
     ensures answers { FmrAnswers (first_plexes plexes) false first last fmr.old fmr.new (S.meaning shelf.old) (S.meaning shelf.new) result }
     ensures keeps { FmrKeeps fmr.old fmr.new }
 {

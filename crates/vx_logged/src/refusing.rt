@@ -39,11 +39,10 @@ fn miss_all<S: Shelf>(
     ensures notes { MapsNote all_those (first_region block) (last_region block count) logs.old logs.new }
 {
     match miss_run(logs, &core.inner.config, vol, shelf, block, count) {
-        Ok(_) => {}
-        Err(_) => {
-            logs.fmr = None;
-        }
+        Ok(_) => return,
+        Err(_) => {}
     }
+    logs.fmr = None;
 }
 
 /// Notes the regions of a run of blocks of a volume as missed by each of its plexes, where logs are not stopped: behind a write that was refused

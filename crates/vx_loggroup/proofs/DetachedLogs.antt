@@ -1,5 +1,5 @@
 -- The map of a plex that was detached, as it begins.
-use Rattle.std.proofs.Common.{◌≡◌, ◌∙◌, inl, inr, ℕ, ◌/◌, ◌<◌, Bool, true, false, Option, Some, None, List, IsTrue, length, refl, sym, ap, subst, arith}
+use Rattle.std.proofs.Common.{◌≡◌, ◌∙◌, inl, inr, ℕ, ◌/◌, ◌<◌, ◌≤◌, Bool, true, false, Option, Some, None, List, IsTrue, length, refl, sym, ap, subst, arith}
 use Rattle.std.specs.Prelude.{IfErr, OnOk, Result, Ok, Err, slice_get}
 use Rattle.std.proofs.lemmas.Option.{slice_get_within}
 use Rattle.vx_config.specs.declared.entry.VolumeEntry.{VolumeEntry}
@@ -7,7 +7,12 @@ use Rattle.std.proofs.Math.ListN.{set}
 use Rattle.std.proofs.lemmas.Bool.{cases_eq}
 use Rattle.vx_config.specs.Checks.{blocks_of as blocks_in, is_sound}
 use Rattle.vx_config.specs.declared.config.Config.{Config}
+use Rattle.vx_disk.specs.Causes.{Cause, DeviceCause, refusal_of}
+use Rattle.vx_disk.specs.Counts.{Rose}
 use Rattle.vx_disk.specs.Shelf.{Goes, Meaning, Nothing}
+use Rattle.vx_disk.specs.declared.shelf.ShelfError.{ShelfError}
+use Rattle.vx_disk.specs.declared.shelf.ShelfError.TheVariants.{Fault, Down as Fell}
+use Rattle.vx_disk.proofs.Causing.{Rose_before}
 use Rattle.vx_fmr.specs.Missed.{FmrLoaded, Missed, OthersSame, has_missed}
 use Rattle.vx_group.specs.Calls.{GroupNarrows}
 use Rattle.vx_group.specs.Dets.{DetStops}
@@ -31,13 +36,14 @@ use Rattle.vx_kept.proofs.Steps.{inside_same}
 use Rattle.vx_layout.specs.Places.{HasBlock, place, plex_in}
 use Rattle.vx_logs.specs.declared.logs.Logs.{Logs}
 use Rattle.vx_model.specs.declared.errors.Stop.{Stop}
-use Rattle.vx_model.specs.declared.errors.Stop.TheVariants.{No as Refused}
+use Rattle.vx_model.specs.declared.errors.Stop.TheVariants.{No as Refused, OutOfMemory}
 use Rattle.vx_model.specs.declared.no.No.{No}
-use Rattle.vx_model.specs.declared.no.No.TheVariants.{Down as DownNo}
+use Rattle.vx_model.specs.declared.no.No.TheVariants.{Device, Down as DownNo}
 use Rattle.vx_volume.specs.Plexes.{Inside, active, active_or}
 use Rattle.vx_volume.proofs.PlaceLemmas.{has_of}
 use Rattle.vx_logged.proofs.StandLemmas.{inner_wide}
-use Rattle.vx_loggroup.specs.Detaching.{BeginsMap, LogsBegin, MapsBegin, ReadsAs}
+use Rattle.vx_loggroup.specs.Attaching.{fmr_at, fmr_or}
+use Rattle.vx_loggroup.specs.Detaching.{BeginsMap, LogsBegin, MapIsEmpty, MapsBegin, ReadsAlike}
 use Rattle.vx_loggroup.proofs.AlikeLemmas.{same_item}
 use Rattle.vx_loggroup.proofs.SetLemmas.{set_here, set_other}
 
@@ -51,7 +57,7 @@ module _ (c : Config) (sound : is_sound c ≡ true) (v : ℕ) (some : 0 < blocks
   off_maps : (p b : ℕ) (x : List ℕ) → HasBlock c v p b → OnMaps c v (place c v p b).0 (place c v p b).1 x → ⊥
   off_maps p b x has on = logs_off_plex c sound v v p b x has (maps_logs c v (place c v p b).0 (place c v p b).1 x on)
 
-  pub begun_knows : ReadsAs c v plex m → MapsKnow c v l m → MapsKnow c v k m'
+  pub begun_knows : ReadsAlike c v plex m → MapsKnow c v l m → MapsKnow c v k m'
   begun_knows reads know = record { so = λ g is up. by g up l.fmr k.fmr refl is ends }
     where
       known : (f g : Missed) → l.fmr ≡ Some f → (IsTrue m'.down → ⊥) → MapEmptied plex f g m m' → PlexesKnow c v (or_spared none_spared (has_missed g)) m'.reads
@@ -77,6 +83,16 @@ module _ (c : Config) (sound : is_sound c ≡ true) (v : ℕ) (some : 0 < blocks
       by g up None (Some h) at is ends = absurd ends
       by g up (Some f) None at is ends = absurd cc
       by g up (Some f) (Some h) at is ends = let same : h ≡ g = cc in subst (λ (x : Missed). PlexesKnow c v (or_spared none_spared (has_missed x)) m'.reads) same (known f h at up ends.1)
+
+  -- it has no region then
+  pub begun_empty : MapIsEmpty c v plex k.fmr
+  begun_empty = record { so = λ g is b inside. by g b inside l.fmr k.fmr refl is ends }
+    where
+      by : (g : Missed) (b : ℕ) → Inside c v b → (o n : Option Missed) → l.fmr ≡ o → n ≡ Some g → EmptyEnds plex gone o n m m' → has_missed g plex (b / 64) ≡ false
+      by g b inside None None at is ends = absurd cc
+      by g b inside None (Some h) at is ends = absurd ends
+      by g b inside (Some f) None at is ends = absurd cc
+      by g b inside (Some f) (Some h) at is ends = let same : h ≡ g = cc in subst (λ (x : Missed). has_missed x plex (b / 64) ≡ false) same (ends.1.none (b / 64) (region_low c sound v some f (loaded f at) b inside))
 
   pub begun_maps : k.drl ≡ l.drl → LogsBegin plex l k
   begun_maps same = record { drl = same; gone = λ none. by_none l.fmr k.fmr none ends; here = λ f g at is. by f g l.fmr k.fmr at is ends }
@@ -131,9 +147,24 @@ begin_none v plex ls = record {
       fewer = λ r lt low on. on;
     })
 
+pub empty_set : (c : Config) (v plex : ℕ) (ls : List Logs) (k : Logs) → MapIsEmpty c v plex k.fmr → MapIsEmpty c v plex (fmr_at (set ls v k) v)
+empty_set c v plex ls k empty = record { so = λ f is b inside. by (slice_get (set ls v k) v) refl f is b inside }
+  where
+    by : (o : Option Logs) → slice_get (set ls v k) v ≡ o → (f : Missed) → fmr_or o ≡ Some f → (b : ℕ) → Inside c v b → has_missed f plex (b / 64) ≡ false
+    by None at f is b inside = absurd (let clash : None ≡ Some f = is in cc)
+    by (Some y) at f is b inside = empty.so f (ap (λ (x : Logs). x.fmr) (set_here ls v k y at) ∙ is) b inside
+
+-- a volume without blocks has no region
+pub empty_none : (c : Config) (v plex : ℕ) (o : Option Missed) → blocks_in c.volumes v ≡ 0 → MapIsEmpty c v plex o
+empty_none c v plex o none = record { so = λ f is b inside. absurd (let within = inside.within in omega (arith, within, none)) }
+
+-- by a configuration whose volumes lie alike
+pub empty_later : (c d : Config) (v plex : ℕ) (o : Option Missed) → ((b : ℕ) → Inside d v b → Inside c v b) → MapIsEmpty c v plex o → MapIsEmpty d v plex o
+empty_later c d v plex o back empty = record { so = λ f is b inside. empty.so f is b (back b inside) }
+
 -- ---- a plex that was ACTIVE
 
-pub was_alike : (c d : GroupCore) (v p : ℕ) (m m' : Meaning) → GroupStands c m → GroupNarrows c d m m' → IsTrue (active c.inner.config v p) → ((IsTrue m.down → ⊥) → ReadsOne (wide c).config v m) → ReadsAs d.inner.config v p m'
+pub was_alike : (c d : GroupCore) (v p : ℕ) (m m' : Meaning) → GroupStands c m → GroupNarrows c d m m' → IsTrue (active c.inner.config v p) → ((IsTrue m.down → ⊥) → ReadsOne (wide c).config v m) → ReadsAlike d.inner.config v p m'
 was_alike c d v p m m' stands narrows was one = record {
   so = λ up q b x y has on inside at_p at_q.
       let shape = narrows.shape in
@@ -156,6 +187,23 @@ was_alike c d v p m m' stands narrows was one = record {
 pub down_stops : (m m1 m2 : Meaning) (r : Result (Unit {0}) Stop) → IfErr r (λ stop. (stop ≡ Refused DownNo) × IsTrue m2.down) → DetStops m m2 r
 down_stops m m1 m2 (Ok x) why = tt
 down_stops m m1 m2 (Err stop) why = subst (λ (s : Stop). DetStops {T = Unit {0}} m m2 (Err s)) (sym why.0) why.1
+
+-- a refusal of a commit
+pub det_cause : (T U : Type 0) (a m m' : Meaning) (v : ℕ) (i j : Meaning) → i.disk_faults ≡ m.disk_faults → j.disk_faults ≡ m'.disk_faults → j.down ≡ m'.down → ((u : ℕ) → a.disk_faults u ≤ m.disk_faults u) → (e : ShelfError) → Cause {T = T} i j v (Err e) → DetStops {T = U} a m' (Err (Refused (refusal_of e)))
+det_cause T U a m m' v i j one two down rises (Fault disk) cause =
+    Rose_before (a.disk_faults disk) (m.disk_faults disk) (m'.disk_faults disk) (rises disk) (subst (λ (f : ℕ → ℕ). Rose (m.disk_faults disk) (f disk)) two (subst (λ (f : ℕ → ℕ). Rose (f disk) (j.disk_faults disk)) one cause.0.disk_count))
+det_cause T U a m m' v i j one two down rises Fell cause = sym down ∙ cause
+
+det_before : (a m m' : Meaning) → ((u : ℕ) → a.disk_faults u ≤ m.disk_faults u) → (why : No) → DeviceCause m m' why → DeviceCause a m' why
+det_before a m m' rises (Device disk) rose = Rose_before (a.disk_faults disk) (m.disk_faults disk) (m'.disk_faults disk) (rises disk) rose
+det_before a m m' rises DownNo down = down
+det_before a m m' rises other none = absurd none
+
+-- a refusal behind calls before it
+pub det_later : {T : Type 0} (a m m' : Meaning) → ((u : ℕ) → a.disk_faults u ≤ m.disk_faults u) → (r : Result T Stop) → DetStops m m' r → DetStops a m' r
+det_later a m m' rises (Ok x) stops = tt
+det_later a m m' rises (Err (Refused why)) stops = det_before a m m' rises why stops
+det_later a m m' rises (Err OutOfMemory) stops = stops
 
 -- ---- answers
 

@@ -1,18 +1,15 @@
 -- A plex of a group with logs that is detached: its map begins then.
 use Rattle.std.specs.Prelude.{◌≡◌, ℕ, ◌/◌, ◌<◌, true, false, IsTrue, Option, None, Some, List, slice_get}
 use Rattle.vx_config.specs.declared.config.Config.{Config}
-use Rattle.vx_disk.specs.Shelf.{Goes, Meaning}
+use Rattle.vx_disk.specs.Shelf.{Meaning}
 use Rattle.vx_fmr.specs.Missed.{Missed, OthersSame, SameMissedShape, has_missed}
-use Rattle.vx_group.specs.Calls.{GroupNarrows}
-use Rattle.vx_group.specs.declared.group_core.GroupCore.{GroupCore}
-use Rattle.vx_groupmaps.specs.Missing.{OnMaps}
 use Rattle.vx_layout.specs.Places.{HasBlock, place}
 use Rattle.vx_logs.specs.declared.logs.Logs.{Logs}
 use Rattle.vx_model.specs.declared.limits.TheConstants.{REGION}
 use Rattle.vx_volume.specs.Plexes.{Inside, active}
 
 -- a plex reads in each block what each plex that is ACTIVE reads, where the shelf is up
-pub record ReadsAs (c : Config) (v p : ℕ) (m : Meaning) : Type 0 where
+pub record ReadsAlike (c : Config) (v p : ℕ) (m : Meaning) : Type 0 where
   pub so : (IsTrue m.down → ⊥) → (q b : ℕ) (x y : List ℕ) → HasBlock c v p b → IsTrue (active c v q) → Inside c v b → m.reads (place c v p b).0 (place c v p b).1 x → m.reads (place c v q b).0 (place c v q b).1 y → x ≡ y
 
 -- the maps of the other plexes are as they were, and that of this one has no region that it had not
@@ -35,9 +32,3 @@ pub record MapsBegin (v plex : ℕ) (old new : List Logs) : Type 0 where
 -- the map of a plex, where there is one, has no region of the volume
 pub record MapIsEmpty (c : Config) (v p : ℕ) (o : Option Missed) : Type 0 where
   pub so : (f : Missed) → o ≡ Some f → (b : ℕ) → Inside c v b → has_missed f p (b / REGION) ≡ false
-
--- There was a moment behind the commits; since then only blocks of the volume's log of missed regions were written.
-pub record DetachedBy {S : Type 0} (meaning : S → Meaning) (v : ℕ) (c d : GroupCore) (old new : Meaning) : Type 0 where
-  pub moment : S
-  pub narrows : GroupNarrows c d old (meaning moment)
-  pub goes : Goes (OnMaps d.inner.config v) (meaning moment) new

@@ -21,12 +21,12 @@ ghost use Rattle.vx_group.specs.Regains.{HoldsPlex, Regains};
 ghost use Rattle.vx_group.specs.Resumes.{CanImport};
 ghost use Rattle.vx_group.specs.Stands.{inner_meaning};
 ghost use Rattle.vx_loggroup.specs.Attaching.{fmr_at, map_by};
-ghost use Rattle.vx_loggroup.specs.Detaching.{DetachedBy, MapIsEmpty, MapsBegin};
+ghost use Rattle.vx_loggroup.specs.Detaching.{MapIsEmpty, MapsBegin};
 ghost use Rattle.vx_loggroup.specs.Facts.{LoggedFact};
 ghost use Rattle.vx_loggroup.specs.LoggedVolumes.{LoggedStands, is_alike};
 ghost use Rattle.vx_loggroup.specs.Made.{LoggedMakes};
-ghost use Rattle.vx_logged.specs.Behind.{MarksFirst, those_missing};
-ghost use Rattle.vx_loggroup.specs.Marks.{ClearsVolume, MarksVolume, NotesVolume};
+ghost use Rattle.vx_logged.specs.Behind.{MarkedBefore, those_missing};
+ghost use Rattle.vx_loggroup.specs.Marks.{ClearsVolume, MarksVolume, NotesMaps};
 ghost use Rattle.vx_loggroup.specs.Opens.{DeportTells, LoggedImported};
 ghost use Rattle.vx_logimport.specs.Covers.{DisksTell};
 ghost use Rattle.vx_logs.specs.Writes.{first_region, last_region};
@@ -160,13 +160,12 @@ impl<S: Shelf> LoggedGroup<S> {
     pub fn det(&mut self, vol: u32, plex: u32) -> Result<(), Stop>
         ensures refused { (no : NoValue) → det_refusal self.old.core.inner.config vol plex ≡ Some no → (result ≡ Err (Refused no)) × (self.new.core ≡ self.old.core) × (self.new.shelf ≡ self.old.shelf) }
         ensures goes { Goes Nothing (inner_meaning (wide self.old.core) (S.meaning self.old.shelf)) (inner_meaning (wide self.new.core) (S.meaning self.new.shelf)) }
-        ensures narrows { DetachedBy (λ s. S.meaning s) vol self.old.core self.new.core (S.meaning self.old.shelf) (S.meaning self.new.shelf) }
         ensures parts { SameParts self.old.core.inner.config self.new.core.inner.config }
         ensures disks { MoreFailed (S.meaning self.old.shelf) (S.meaning self.new.shelf) self.old.core.inner.config.disks self.new.core.inner.config.disks }
         ensures frames { (v : ℕ) → frame_at self.new.core.inner.config v ≡ frame_at self.old.core.inner.config v }
         ensures below { SameUnits (S.meaning self.old.shelf) (S.meaning self.new.shelf) }
         ensures on { (v p : ℕ) → IsTrue (active self.new.core.inner.config v p) → IsTrue (active self.old.core.inner.config v p) }
-        ensures begins { OnOk result (self.old.stopped ≡ false → self.new.core.held ≡ None → is_alike self.old.alike vol ≡ true → IsTrue (active self.old.core.inner.config vol plex) → MapIsEmpty self.new.core.inner.config vol plex (fmr_at self.new.logs.items vol)) }
+        ensures begins { OnOk result (self.old.stopped ≡ false → self.new.core.held ≡ None → is_alike self.old.alike vol ≡ true → IsTrue (active self.old.core.inner.config vol plex) → MapIsEmpty self.old.core.inner.config vol plex (fmr_at self.new.logs.items vol)) }
         ensures off { OnOk result (active self.new.core.inner.config vol plex ≡ false) }
         ensures others { (w p : ℕ) → (w ≡ vol → p ≡ plex → ⊥) → active self.new.core.inner.config w p ≡ active self.old.core.inner.config w p }
         ensures maps { MapsBegin vol plex self.old.logs.items self.new.logs.items }
@@ -350,8 +349,8 @@ impl<S: Shelf> Shelf for LoggedGroup<S> {
         ensures works { OnOk result (Works (inner_meaning (wide self.old.core) (S.meaning self.old.shelf)).disks unit) }
         ensures disks { OnDisks (inner_meaning (wide self.old.core) (S.meaning self.old.shelf)).disks (inner_meaning (wide self.new.core) (S.meaning self.new.shelf)).disks (λ o n. Calls (inner_meaning (wide self.old.core) (S.meaning self.old.shelf)) (DisksWrote unit block bytes.now) o n result) }
         ensures marks { MarksVolume (wide self.old.core).config unit (first_region block) (last_region block (length bytes.now / 512)) self.old.logs.items self.new.logs.items }
-        ensures notes { NotesVolume (those_missing self.new.core unit result) unit (first_region block) (last_region block (length bytes.now / 512)) self.old.logs.items self.new.logs.items }
-        ensures marked { self.new.stopped ≡ false → MarksFirst (λ s. S.meaning s) unit block bytes.now (first_region block) (last_region block (length bytes.now / 512)) self.old.core self.new.core (S.meaning self.old.shelf) (S.meaning self.new.shelf) }
+        ensures notes { NotesMaps (those_missing self.new.core unit result) unit (first_region block) (last_region block (length bytes.now / 512)) self.old.logs.items self.new.logs.items }
+        ensures marked { self.new.stopped ≡ false → MarkedBefore (λ s. S.meaning s) unit block bytes.now (first_region block) (last_region block (length bytes.now / 512)) self.old.core self.new.core (S.meaning self.old.shelf) (S.meaning self.new.shelf) }
         ensures full { self.old.stopped ≡ false → self.new.stopped ≡ true → greatest ≤ self.old.core.inner.config.serial + 18 }
         ensures trust { OnOk result (self.old.core.inner.committed ≡ true → self.new.core.inner.committed ≡ true) }
         ensures agreed { IfErr result (λ e. self.old.core.inner.committed ≡ true → self.new.core.inner.agreed ≡ true) }

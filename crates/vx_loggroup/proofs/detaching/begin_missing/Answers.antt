@@ -5,9 +5,11 @@ use Rattle.vx_disk.specs.Shelf.{Nothing}
 use Rattle.vx_group.specs.Holding.{wide}
 use Rattle.vx_group.specs.Stands.{inner_meaning}
 use Rattle.vx_group.proofs.MendLemmas.{same_Goes}
+use Rattle.vx_group.proofs.TrustLemmas.{ok_from}
+use Rattle.vx_loggroup.specs.Attaching.{fmr_at}
 use Rattle.vx_loggroup.specs.LoggedVolumes.{is_alike}
 use Rattle.vx_loggroup.proofs.AlikeLemmas.{here_stands, set_stands}
-use Rattle.vx_loggroup.proofs.DetachedLogs.{begin_none, begin_set}
+use Rattle.vx_loggroup.proofs.DetachedLogs.{begin_none, begin_set, empty_none, empty_set}
 use Rattle.vx_loggroup.proofs.SetLemmas.{item_of}
 use Rattle.vx_loggroup.proofs.detaching.begin_missing.Goals as goal
 
@@ -44,11 +46,8 @@ returns-then-blocks_of-eq0-clause-goes g c = same_Goes (inner_meaning (wide c.ar
 pub returns-then-blocks_of-eq0-clause-below : goal.returns-then-blocks_of-eq0-clause-below
 returns-then-blocks_of-eq0-clause-below g c = none_written _ (g.S.Shelf.meaning c.args.shelf.now) (g.S.Shelf.meaning c.args.shelf.now) (same_Goes (g.S.Shelf.meaning c.args.shelf.now))
 
-pub returns-then-plex_count-le-clause-maps : goal.returns-then-plex_count-le-clause-maps
-returns-then-plex_count-le-clause-maps g c = begin_none c.args.vol c.args.plex c.args.logs.now.items
+pub returns-then-blocks_of-eq0-clause-empty : goal.returns-then-blocks_of-eq0-clause-empty
+returns-then-blocks_of-eq0-clause-empty g c = empty_none c.args.core.now.inner.config c.args.vol c.args.plex (fmr_at c.args.logs.now.items c.args.vol) (let is = c.blocks_of.ensures in let zero = c.if-blocks_of-eq0.true in omega (arith, is, zero))
 
-pub returns-then-plex_count-le-clause-goes : goal.returns-then-plex_count-le-clause-goes
-returns-then-plex_count-le-clause-goes g c = same_Goes (inner_meaning (wide c.args.core.now) (g.S.Shelf.meaning c.args.shelf.now))
-
-pub returns-then-plex_count-le-clause-below : goal.returns-then-plex_count-le-clause-below
-returns-then-plex_count-le-clause-below g c = none_written _ (g.S.Shelf.meaning c.args.shelf.now) (g.S.Shelf.meaning c.args.shelf.now) (same_Goes (g.S.Shelf.meaning c.args.shelf.now))
+pub returns-clause-empty : goal.returns-clause-empty
+returns-clause-empty g c = ok_from c.begin_one.result (empty_set c.args.core.now.inner.config c.args.vol c.args.plex c.args.logs.now.items c.begin_one.new.one) c.begin_one.ensures.empty

@@ -9,7 +9,7 @@ use Rattle.vx_grouplogs.proofs.OnCalls.{on_others}
 use Rattle.vx_groupmaps.specs.Missing.{none_spared}
 use Rattle.vx_groupmaps.proofs.BeginLemmas.{down_of}
 use Rattle.vx_logged.proofs.StandLemmas.{inner_fit, inner_others, inner_sound, know_inner, know_wide, logs_Stands, logs_goes, to_inner, to_wide}
-use Rattle.vx_loggroup.proofs.DetachedLogs.{as_logs, begun_knows, begun_maps, none_begins}
+use Rattle.vx_loggroup.proofs.DetachedLogs.{as_logs, begun_empty, begun_knows, begun_maps, none_begins}
 use Rattle.vx_loggroup.proofs.detaching.begin_one.Goals as goal
 
 pub begin_map-requires-clause-checked : goal.begin_map-requires-clause-checked
@@ -50,6 +50,9 @@ returns-in-Ok-clause-known g c = know_wide c.args.core.now c.args.vol (g.S.Shelf
 
 pub returns-in-Ok-clause-begins : goal.returns-in-Ok-clause-begins
 returns-in-Ok-clause-begins g c = begun_maps c.args.core.now.inner.config (inner_sound c.args.core.now c.args.vol (g.S.Shelf.meaning c.args.shelf.now) (g.S.Shelf.meaning c.args.shelf.now) c.requires.none c.requires.stands) c.args.vol c.requires.some c.args.plex c.args.one.now c.begin_map.new.logs (g.S.Shelf.meaning c.args.shelf.now) (g.S.Shelf.meaning c.begin_map.new.shelf) c.begin_map.ensures.goes (to_inner c.args.core.now c.args.vol (g.S.Shelf.meaning c.args.shelf.now) (g.S.Shelf.meaning c.args.shelf.now) c.requires.none c.requires.stands c.args.vol c.args.one.now c.requires.log).fits.fmr _ c.in-Ok.ensures.answers.0 c.begin_map.ensures.drl
+
+pub returns-in-Ok-clause-empty : goal.returns-in-Ok-clause-empty
+returns-in-Ok-clause-empty g c = begun_empty c.args.core.now.inner.config (inner_sound c.args.core.now c.args.vol (g.S.Shelf.meaning c.args.shelf.now) (g.S.Shelf.meaning c.args.shelf.now) c.requires.none c.requires.stands) c.args.vol c.requires.some c.args.plex c.args.one.now c.begin_map.new.logs (g.S.Shelf.meaning c.args.shelf.now) (g.S.Shelf.meaning c.begin_map.new.shelf) c.begin_map.ensures.goes (to_inner c.args.core.now c.args.vol (g.S.Shelf.meaning c.args.shelf.now) (g.S.Shelf.meaning c.args.shelf.now) c.requires.none c.requires.stands c.args.vol c.args.one.now c.requires.log).fits.fmr _ c.in-Ok.ensures.answers.0
 
 pub returns-in-Err-clause-log : goal.returns-in-Err-clause-log
 returns-in-Err-clause-log g c = to_wide c.args.core.now c.args.vol (g.S.Shelf.meaning c.args.shelf.now) (g.S.Shelf.meaning c.begin_map.new.shelf) c.requires.none c.requires.stands c.args.vol (record { drl = c.begin_map.new.logs.drl; fmr = None })
