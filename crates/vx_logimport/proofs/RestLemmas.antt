@@ -10,7 +10,7 @@ use Rattle.vx_copies.specs.Answers.{returned}
 use Rattle.vx_copyfmt.specs.Imports.{Found}
 use Rattle.vx_disk.specs.Shelf.{Each, Image, Lawful, Meaning}
 use Rattle.vx_layout.specs.Places.{HasBlock, place}
-use Rattle.vx_logs.specs.Held.{InUse}
+use Rattle.vx_logs.specs.Held.{InUse, is_used, used_or}
 use Rattle.vx_logs.specs.Marks.{stride_of}
 use Rattle.vx_model.specs.Sizes.{map_blocks}
 use Rattle.vx_maplog.specs.Logs.{log_of}
@@ -45,6 +45,14 @@ kept_trusted o e is used = by e.lost (sym (ap trusted_or is) ∙ used)
 pub trusted_in_use : (c : Config) (v : ℕ) (e : LogEntry) → log_of c v Fmr ≡ Some e → log_trusted c v Fmr ≡ true → InUse c v Fmr e
 unfolding log_trusted
 trusted_in_use c v e is used = record { is = is; kept = kept_trusted (log_of c v Fmr) e is used }
+
+-- by the test of the code
+pub used_in_use : (c : Config) (v : ℕ) (e : LogEntry) → log_of c v Fmr ≡ Some e → is_used c v Fmr ≡ true → InUse c v Fmr e
+used_in_use c v e is used = record { is = is; kept = by e.lost (sym (ap used_or is) ∙ used) }
+  where
+    by : (b : Bool) → not b ≡ true → b ≡ false
+    by true off = absurd (let clash : false ≡ true = off in cc)
+    by false off = refl
 
 pub in_use_trusts : (c : Config) (v : ℕ) (e : LogEntry) → InUse c v Fmr e → log_trusted c v Fmr ≡ true
 unfolding log_trusted
