@@ -25,8 +25,8 @@ ghost use Rattle.vx_loggroup.specs.Detaching.{MapIsEmpty, MapsBegin};
 ghost use Rattle.vx_loggroup.specs.Facts.{LoggedFact};
 ghost use Rattle.vx_loggroup.specs.LoggedVolumes.{LoggedStands, is_alike};
 ghost use Rattle.vx_loggroup.specs.Made.{LoggedMakes};
-ghost use Rattle.vx_logged.specs.Behind.{MarksFirst, those_missing};
-ghost use Rattle.vx_loggroup.specs.Marks.{ClearsVolume, MarksVolume, NotesVolume};
+ghost use Rattle.vx_logged.specs.Behind.{MarkedBefore, those_missing};
+ghost use Rattle.vx_loggroup.specs.Marks.{ClearsVolume, MarksVolume, NotesMaps};
 ghost use Rattle.vx_loggroup.specs.Opens.{DeportTells, LoggedImported};
 ghost use Rattle.vx_logimport.specs.Covers.{DisksTell};
 ghost use Rattle.vx_logs.specs.Writes.{first_region, last_region};
@@ -349,8 +349,8 @@ impl<S: Shelf> Shelf for LoggedGroup<S> {
         ensures works { OnOk result (Works (inner_meaning (wide self.old.core) (S.meaning self.old.shelf)).disks unit) }
         ensures disks { OnDisks (inner_meaning (wide self.old.core) (S.meaning self.old.shelf)).disks (inner_meaning (wide self.new.core) (S.meaning self.new.shelf)).disks (λ o n. Calls (inner_meaning (wide self.old.core) (S.meaning self.old.shelf)) (DisksWrote unit block bytes.now) o n result) }
         ensures marks { MarksVolume (wide self.old.core).config unit (first_region block) (last_region block (length bytes.now / 512)) self.old.logs.items self.new.logs.items }
-        ensures notes { NotesVolume (those_missing self.new.core unit result) unit (first_region block) (last_region block (length bytes.now / 512)) self.old.logs.items self.new.logs.items }
-        ensures marked { self.new.stopped ≡ false → MarksFirst (λ s. S.meaning s) unit block bytes.now (first_region block) (last_region block (length bytes.now / 512)) self.old.core self.new.core (S.meaning self.old.shelf) (S.meaning self.new.shelf) }
+        ensures notes { NotesMaps (those_missing self.new.core unit result) unit (first_region block) (last_region block (length bytes.now / 512)) self.old.logs.items self.new.logs.items }
+        ensures marked { self.new.stopped ≡ false → MarkedBefore (λ s. S.meaning s) unit block bytes.now (first_region block) (last_region block (length bytes.now / 512)) self.old.core self.new.core (S.meaning self.old.shelf) (S.meaning self.new.shelf) }
         ensures full { self.old.stopped ≡ false → self.new.stopped ≡ true → greatest ≤ self.old.core.inner.config.serial + 18 }
         ensures trust { OnOk result (self.old.core.inner.committed ≡ true → self.new.core.inner.committed ≡ true) }
         ensures agreed { IfErr result (λ e. self.old.core.inner.committed ≡ true → self.new.core.inner.agreed ≡ true) }
