@@ -20,6 +20,7 @@ mod keeping;
 mod making;
 mod opening;
 mod racking;
+mod shelving;
 mod trusting;
 mod whole;
 
