@@ -6,3 +6,5 @@ pub mod Made
 pub mod Attaching
 pub mod Detaching
 pub mod Taking
+pub mod Fresh
+pub mod Resting

@@ -15,6 +15,7 @@ use Rattle.vx_logimport.specs.Rests.{LogsTell, rests}
 use Rattle.vx_logimport.specs.declared.importing.Marked.{Marked}
 use Rattle.vx_logimport.specs.declared.rested.Rested.{Rested}
 use Rattle.vx_logs.specs.declared.logs.Logs.{Logs}
+use Rattle.vx_loggroup.specs.Fresh.{FreshStands}
 use Rattle.vx_loggroup.specs.LoggedVolumes.{LoggedStands, is_alike}
 use Rattle.vx_loggroup.specs.Marks.{MarksAreOff}
 use Rattle.vx_loggroup.specs.Taking.{LogsSettle}
@@ -29,6 +30,7 @@ pub record AreSettled (c : GroupCore) (alike : List Bool) (old : Meaning) (o : O
   pub up : IsTrue new.down → ⊥
   pub off : o.stopped ≡ false → MarksAreOff (wide c).config alike (length o.logs.items) o.logs.items
   pub stands : LoggedStands o.core o.logs.items o.alike o.stopped new
+  pub begins : FreshStands o.core o.fresh new
 
 -- refused, a group stands as it did, but for logs that are lost, and imports agree where the newest configuration was committed
 pub record NotSettled (c : GroupCore) (old new : Meaning) (stop : Stop) : Type 0 where
@@ -63,7 +65,7 @@ pub record IsOpened {S : Type 0} (meaning : S → Meaning) (rested : Rested) (ol
 
 -- how it ends, with each log standing
 abbrev pub OpensLogged : {S : Type 0} → (S → Meaning) → Rested → Meaning → Meaning → Result Opened Stop → Type 0
-OpensLogged meaning rested old new (Ok o) = IsOpened meaning rested old o.core o.logs.items o.alike o.stopped new × LoggedStands o.core o.logs.items o.alike o.stopped new
+OpensLogged meaning rested old new (Ok o) = IsOpened meaning rested old o.core o.logs.items o.alike o.stopped new × LoggedStands o.core o.logs.items o.alike o.stopped new × FreshStands o.core o.fresh new
 OpensLogged meaning rested old new (Err stop) = ImportStops old new stop
 
 -- the same of a group; else the shelf is handed back
@@ -77,5 +79,5 @@ RestTells None m = Unit {0}
 RestTells (Some r) m = LogsTell r m
 
 abbrev pub DeportTells : {S G : Type 0} → (S → Meaning) → Result (S × Option Rested) (G × Stop) → Type 0
-DeportTells meaning (Ok (s, r)) = RestTells r (meaning s)
+DeportTells meaning (Ok x) = RestTells x.1 (meaning x.0)
 DeportTells meaning (Err e) = Unit {0}
