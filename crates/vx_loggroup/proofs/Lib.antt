@@ -11,3 +11,5 @@ pub mod TrustedLogs
 pub mod BegunLemmas
 pub mod DetachedLogs
 pub mod MadeLogs
+pub mod StillLemmas
+pub mod TakenMaps
