@@ -13,3 +13,5 @@ pub mod DetachedLogs
 pub mod MadeLogs
 pub mod StillLemmas
 pub mod TakenMaps
+pub mod SettleLemmas
+pub mod RestLemmas
