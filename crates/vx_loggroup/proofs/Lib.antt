@@ -11,3 +11,4 @@ pub mod TrustedLogs
 pub mod BegunLemmas
 pub mod DetachedLogs
 pub mod MadeLogs
+pub mod FreshLemmas
