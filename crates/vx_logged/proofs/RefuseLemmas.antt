@@ -97,10 +97,9 @@ module _ (c : Config) (sound : is_sound c ≡ true) (v : ℕ) (some : 0 < blocks
 
   -- a log of which the maps are these, or are in memory no more
   missed_on : (o : Option Missed) → ((f : Missed) → o ≡ Some f → FmrLoaded c v f) → ((f : Missed) → o ≡ Some f → MapOn f.map m') → k.fmr ≡ o → VolumeOn c v k m'
-  missed_on o loaded stand is = subst (λ (j : Logs). VolumeOn c v j m') same (on_mapped c sound v some m m' fit missed_goes l o loaded stand on)
-    where
-      same : record { drl = l.drl; fmr = o } ≡ k
-      same = ap (λ (d : Option Dirty). record { drl = d; fmr = o }) (sym drl) ∙ ap (λ (n : Option Missed). record { drl = k.drl; fmr = n }) (sym is)
+  missed_on o loaded stand is =
+      subst (λ (n : Option Missed). VolumeOn c v (record { drl = k.drl; fmr = n }) m') (sym is)
+      (subst (λ (d : Option Dirty). VolumeOn c v (record { drl = d; fmr = o }) m') (sym drl) (on_mapped c sound v some m m' fit missed_goes l o loaded stand on))
 
   pub none_on : k.fmr ≡ None → VolumeOn c v k m'
   none_on is = missed_on None (λ (f : Missed) at. absurd (let clash : None ≡ Some f = at in cc)) (λ (f : Missed) at. absurd (let clash : None ≡ Some f = at in cc)) is

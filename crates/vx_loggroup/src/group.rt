@@ -25,7 +25,7 @@ ghost use Rattle.vx_loggroup.specs.Detaching.{MapIsEmpty, MapsBegin};
 ghost use Rattle.vx_loggroup.specs.Facts.{LoggedFact};
 ghost use Rattle.vx_loggroup.specs.LoggedVolumes.{LoggedStands, is_alike};
 ghost use Rattle.vx_loggroup.specs.Made.{LoggedMakes};
-ghost use Rattle.vx_logged.specs.Behind.{MarkedBefore, those_missing};
+ghost use Rattle.vx_logged.specs.Behind.{MarkedBefore, none_missing, those_missing};
 ghost use Rattle.vx_loggroup.specs.Marks.{ClearsVolume, MarksVolume, NotesMaps};
 ghost use Rattle.vx_loggroup.specs.Opens.{DeportTells, LoggedImported};
 ghost use Rattle.vx_logimport.specs.Covers.{DisksTell};
@@ -377,6 +377,7 @@ impl<S: Shelf> Shelf for LoggedGroup<S> {
         ensures works { OnOk result (Works (inner_meaning (wide self.old.core) (S.meaning self.old.shelf)).disks unit) }
         ensures disks { OnDisks (inner_meaning (wide self.old.core) (S.meaning self.old.shelf)).disks (inner_meaning (wide self.new.core) (S.meaning self.new.shelf)).disks (λ o n. Calls (inner_meaning (wide self.old.core) (S.meaning self.old.shelf)) (DisksFlushed unit) o n result) }
         ensures marks { ClearsVolume (wide self.old.core).config unit self.old.logs.items self.new.logs.items }
+        ensures maps { NotesMaps none_missing unit 0 0 self.old.logs.items self.new.logs.items }
         ensures trust { OnOk result (self.old.core.inner.committed ≡ true → self.new.core.inner.committed ≡ true) }
         ensures agreed { IfErr result (λ e. self.old.core.inner.committed ≡ true → self.new.core.inner.agreed ≡ true) }
     {
