@@ -12,3 +12,5 @@ pub mod BegunLemmas
 pub mod DetachedLogs
 pub mod MadeLogs
 pub mod FreshLemmas
+pub mod RackLemmas
+pub mod DetFresh

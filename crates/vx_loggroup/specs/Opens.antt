@@ -13,6 +13,7 @@ use Rattle.vx_logimport.specs.Covers.{DisksTell}
 use Rattle.vx_logimport.specs.Marked.{ResumedBy}
 use Rattle.vx_logimport.specs.declared.importing.Marked.{Marked}
 use Rattle.vx_logs.specs.declared.logs.Logs.{Logs}
+use Rattle.vx_loggroup.specs.Fresh.{FreshStands}
 use Rattle.vx_loggroup.specs.LoggedVolumes.{LoggedStands}
 use Rattle.vx_loggroup.specs.Marks.{MarksAreOff}
 use Rattle.vx_loggroup.specs.declared.opening.Opened.{Opened}
@@ -34,7 +35,7 @@ pub record IsOpened {S : Type 0} (meaning : S → Meaning) (old : Meaning) (core
 
 -- how it ends, with each log standing
 abbrev pub OpensLogged : {S : Type 0} → (S → Meaning) → Meaning → Meaning → Result Opened Stop → Type 0
-OpensLogged meaning old new (Ok o) = IsOpened meaning old o.core o.logs.items o.alike o.stopped new × LoggedStands o.core o.logs.items o.alike o.stopped new
+OpensLogged meaning old new (Ok o) = IsOpened meaning old o.core o.logs.items o.alike o.stopped new × LoggedStands o.core o.logs.items o.alike o.stopped new × FreshStands o.core o.fresh new
 OpensLogged meaning old new (Err stop) = ImportStops old new stop
 
 -- the same of a group; else the shelf is handed back

@@ -10,6 +10,7 @@ use Rattle.vx_group.specs.Stands.{inner_meaning}
 use Rattle.vx_group.proofs.CallLemmas.{not_down}
 use Rattle.vx_group.proofs.LoseLemmas.{along_same}
 use Rattle.vx_group.proofs.Standing.{sound_of}
+use Rattle.vx_group.proofs.TrustingLemmas.{trusting_active}
 use Rattle.vx_group.proofs.UnitLemmas.{acts_units, goes_units}
 use Rattle.vx_groupmaps.specs.Missing.{none_spared}
 use Rattle.vx_grouplogs.specs.Covering.{AllAlike}
@@ -37,7 +38,7 @@ pub returns-then-is_down-clause-stands : goal.returns-then-is_down-clause-stands
 returns-then-is_down-clause-stands g c = (logs_Stands c.args.core.now c.args.vol (g.S.Shelf.meaning c.args.shelf.now) (g.S.Shelf.meaning c.begin_run.new.shelf) c.requires.none c.requires.stands c.begin_run.ensures.goes (g.met.S.Shelf.lawful c.args.shelf.now) (g.met.S.Shelf.lawful c.begin_run.new.shelf))
 
 pub returns-then-is_down-clause-begins : goal.returns-then-is_down-clause-begins
-returns-then-is_down-clause-begins g c = (record { goes = logs_goes c.args.core.now c.args.vol (g.S.Shelf.meaning c.args.shelf.now) (g.S.Shelf.meaning c.begin_run.new.shelf) c.requires.none c.requires.stands c.begin_run.ensures.group; loses = along_same c.args.core.now.inner.config (g.S.Shelf.meaning c.args.shelf.now) (g.S.Shelf.meaning c.begin_run.new.shelf) c.begin_run.ensures.goes.faults; still = λ w p. refl; units = goes_units _ (g.S.Shelf.meaning c.args.shelf.now) (g.S.Shelf.meaning c.begin_run.new.shelf) c.begin_run.ensures.goes; others = inner_others c.args.core.now c.args.vol (g.S.Shelf.meaning c.args.shelf.now) (g.S.Shelf.meaning c.begin_run.new.shelf) c.requires.none c.requires.stands c.begin_run.ensures.goes c.begin_run.ensures.others })
+returns-then-is_down-clause-begins g c = (record { goes = logs_goes c.args.core.now c.args.vol (g.S.Shelf.meaning c.args.shelf.now) (g.S.Shelf.meaning c.begin_run.new.shelf) c.requires.none c.requires.stands c.begin_run.ensures.group; loses = along_same c.args.core.now.inner.config (g.S.Shelf.meaning c.args.shelf.now) (g.S.Shelf.meaning c.begin_run.new.shelf) c.begin_run.ensures.goes.faults; still = λ w p. refl; on = λ w p is. is; units = goes_units _ (g.S.Shelf.meaning c.args.shelf.now) (g.S.Shelf.meaning c.begin_run.new.shelf) c.begin_run.ensures.goes; others = inner_others c.args.core.now c.args.vol (g.S.Shelf.meaning c.args.shelf.now) (g.S.Shelf.meaning c.begin_run.new.shelf) c.requires.none c.requires.stands c.begin_run.ensures.goes c.begin_run.ensures.others })
 
 pub returns-then-is_down-clause-first : goal.returns-then-is_down-clause-first
 returns-then-is_down-clause-first g c = (first_begun (region_count (wide c.args.core.now).config c.args.vol) c.args.one.now c.begin_run.new.logs c.requires.waits.0 c.requires.waits.1 (subst (λ (x : Config). NoMarks (region_count x c.args.vol) c.begin_run.new.logs) (sym (config_is c.args.core.now c.args.vol (g.S.Shelf.meaning c.args.shelf.now) (g.S.Shelf.meaning c.args.shelf.now) c.requires.none c.requires.stands)) c.begin_run.ensures.off))
@@ -55,7 +56,7 @@ pub returns-then-is_none-clause-stands : goal.returns-then-is_none-clause-stands
 returns-then-is_none-clause-stands g c = (logs_Stands c.args.core.now c.args.vol (g.S.Shelf.meaning c.args.shelf.now) (g.S.Shelf.meaning c.begin_run.new.shelf) c.requires.none c.requires.stands c.begin_run.ensures.goes (g.met.S.Shelf.lawful c.args.shelf.now) (g.met.S.Shelf.lawful c.begin_run.new.shelf))
 
 pub returns-then-is_none-clause-begins : goal.returns-then-is_none-clause-begins
-returns-then-is_none-clause-begins g c = (record { goes = logs_goes c.args.core.now c.args.vol (g.S.Shelf.meaning c.args.shelf.now) (g.S.Shelf.meaning c.begin_run.new.shelf) c.requires.none c.requires.stands c.begin_run.ensures.group; loses = along_same c.args.core.now.inner.config (g.S.Shelf.meaning c.args.shelf.now) (g.S.Shelf.meaning c.begin_run.new.shelf) c.begin_run.ensures.goes.faults; still = λ w p. refl; units = goes_units _ (g.S.Shelf.meaning c.args.shelf.now) (g.S.Shelf.meaning c.begin_run.new.shelf) c.begin_run.ensures.goes; others = inner_others c.args.core.now c.args.vol (g.S.Shelf.meaning c.args.shelf.now) (g.S.Shelf.meaning c.begin_run.new.shelf) c.requires.none c.requires.stands c.begin_run.ensures.goes c.begin_run.ensures.others })
+returns-then-is_none-clause-begins g c = (record { goes = logs_goes c.args.core.now c.args.vol (g.S.Shelf.meaning c.args.shelf.now) (g.S.Shelf.meaning c.begin_run.new.shelf) c.requires.none c.requires.stands c.begin_run.ensures.group; loses = along_same c.args.core.now.inner.config (g.S.Shelf.meaning c.args.shelf.now) (g.S.Shelf.meaning c.begin_run.new.shelf) c.begin_run.ensures.goes.faults; still = λ w p. refl; on = λ w p is. is; units = goes_units _ (g.S.Shelf.meaning c.args.shelf.now) (g.S.Shelf.meaning c.begin_run.new.shelf) c.begin_run.ensures.goes; others = inner_others c.args.core.now c.args.vol (g.S.Shelf.meaning c.args.shelf.now) (g.S.Shelf.meaning c.begin_run.new.shelf) c.requires.none c.requires.stands c.begin_run.ensures.goes c.begin_run.ensures.others })
 
 pub returns-then-is_none-clause-first : goal.returns-then-is_none-clause-first
 returns-then-is_none-clause-first g c = (first_begun (region_count (wide c.args.core.now).config c.args.vol) c.args.one.now c.begin_run.new.logs c.requires.waits.0 c.requires.waits.1 (subst (λ (x : Config). NoMarks (region_count x c.args.vol) c.begin_run.new.logs) (sym (config_is c.args.core.now c.args.vol (g.S.Shelf.meaning c.args.shelf.now) (g.S.Shelf.meaning c.args.shelf.now) c.requires.none c.requires.stands)) c.begin_run.ensures.off))
@@ -76,15 +77,16 @@ pub returns-then-is_none-clause-cause : goal.returns-then-is_none-clause-cause
 returns-then-is_none-clause-cause g c = record { before = c.requires.up; after = not_down c.is_down.result (g.S.Shelf.meaning c.begin_run.new.shelf).down c.is_down.ensures c.if-is_down.false }
 
 pub returns-clause-begins : goal.returns-clause-begins
-returns-clause-begins g c = 
-    begins_then c.args.vol c.args.core.now c.args.core.now c.trust_first.new.core (g.S.Shelf.meaning c.args.shelf.now) (g.S.Shelf.meaning c.begin_run.new.shelf) (g.S.Shelf.meaning c.trust_first.new.shelf) (record { goes = logs_goes c.args.core.now c.args.vol (g.S.Shelf.meaning c.args.shelf.now) (g.S.Shelf.meaning c.begin_run.new.shelf) c.requires.none c.requires.stands c.begin_run.ensures.group; loses = along_same c.args.core.now.inner.config (g.S.Shelf.meaning c.args.shelf.now) (g.S.Shelf.meaning c.begin_run.new.shelf) c.begin_run.ensures.goes.faults; still = λ w p. refl; units = goes_units _ (g.S.Shelf.meaning c.args.shelf.now) (g.S.Shelf.meaning c.begin_run.new.shelf) c.begin_run.ensures.goes; others = inner_others c.args.core.now c.args.vol (g.S.Shelf.meaning c.args.shelf.now) (g.S.Shelf.meaning c.begin_run.new.shelf) c.requires.none c.requires.stands c.begin_run.ensures.goes c.begin_run.ensures.others })
+returns-clause-begins g c =
+    begins_then c.args.vol c.args.core.now c.args.core.now c.trust_first.new.core (g.S.Shelf.meaning c.args.shelf.now) (g.S.Shelf.meaning c.begin_run.new.shelf) (g.S.Shelf.meaning c.trust_first.new.shelf) (record { goes = logs_goes c.args.core.now c.args.vol (g.S.Shelf.meaning c.args.shelf.now) (g.S.Shelf.meaning c.begin_run.new.shelf) c.requires.none c.requires.stands c.begin_run.ensures.group; loses = along_same c.args.core.now.inner.config (g.S.Shelf.meaning c.args.shelf.now) (g.S.Shelf.meaning c.begin_run.new.shelf) c.begin_run.ensures.goes.faults; still = λ w p. refl; on = λ w p is. is; units = goes_units _ (g.S.Shelf.meaning c.args.shelf.now) (g.S.Shelf.meaning c.begin_run.new.shelf) c.begin_run.ensures.goes; others = inner_others c.args.core.now c.args.vol (g.S.Shelf.meaning c.args.shelf.now) (g.S.Shelf.meaning c.begin_run.new.shelf) c.requires.none c.requires.stands c.begin_run.ensures.goes c.begin_run.ensures.others })
     (record {
-  goes = c.trust_first.ensures.goes;
-  loses = c.trust_first.ensures.loses;
-  still = c.trust_first.ensures.still;
-  units = acts_units Nothing _ (g.S.Shelf.meaning c.begin_run.new.shelf) (g.S.Shelf.meaning c.trust_first.new.shelf) c.trust_first.ensures.acts.acts;
-  others = trusted_others c.args.vol Drl c.args.core.now c.trust_first.new.core (g.S.Shelf.meaning c.begin_run.new.shelf) (g.S.Shelf.meaning c.trust_first.new.shelf) (logs_Stands c.args.core.now c.args.vol (g.S.Shelf.meaning c.args.shelf.now) (g.S.Shelf.meaning c.begin_run.new.shelf) c.requires.none c.requires.stands c.begin_run.ensures.goes (g.met.S.Shelf.lawful c.args.shelf.now) (g.met.S.Shelf.lawful c.begin_run.new.shelf)) c.trust_first.ensures.acts (sound_lost c.args.vol Drl false (wide c.args.core.now).config ∙ sound_of (wide c.args.core.now) (g.S.Shelf.meaning c.args.shelf.now) c.requires.stands.stands);
-})
+      goes = c.trust_first.ensures.goes;
+      loses = c.trust_first.ensures.loses;
+      still = c.trust_first.ensures.still;
+      on = λ w p is. sym (trusting_active c.args.vol Drl (wide c.args.core.now).config w p) ∙ c.trust_first.ensures.acts.on w p is;
+      units = acts_units Nothing _ (g.S.Shelf.meaning c.begin_run.new.shelf) (g.S.Shelf.meaning c.trust_first.new.shelf) c.trust_first.ensures.acts.acts;
+      others = trusted_others c.args.vol Drl c.args.core.now c.trust_first.new.core (g.S.Shelf.meaning c.begin_run.new.shelf) (g.S.Shelf.meaning c.trust_first.new.shelf) (logs_Stands c.args.core.now c.args.vol (g.S.Shelf.meaning c.args.shelf.now) (g.S.Shelf.meaning c.begin_run.new.shelf) c.requires.none c.requires.stands c.begin_run.ensures.goes (g.met.S.Shelf.lawful c.args.shelf.now) (g.met.S.Shelf.lawful c.begin_run.new.shelf)) c.trust_first.ensures.acts (sound_lost c.args.vol Drl false (wide c.args.core.now).config ∙ sound_of (wide c.args.core.now) (g.S.Shelf.meaning c.args.shelf.now) c.requires.stands.stands);
+    })
 
 pub returns-clause-first : goal.returns-clause-first
 returns-clause-first g c = (first_begun (region_count (wide c.args.core.now).config c.args.vol) c.args.one.now c.begin_run.new.logs c.requires.waits.0 c.requires.waits.1 (subst (λ (x : Config). NoMarks (region_count x c.args.vol) c.begin_run.new.logs) (sym (config_is c.args.core.now c.args.vol (g.S.Shelf.meaning c.args.shelf.now) (g.S.Shelf.meaning c.args.shelf.now) c.requires.none c.requires.stands)) c.begin_run.ensures.off))
@@ -100,4 +102,4 @@ returns-clause-alike g c = alike_goes c.args.core.now c.trust_first.new.core c.a
 
 pub returns-clause-cause : goal.returns-clause-cause
 returns-clause-cause g c = Cause_both (inner_meaning (wide c.args.core.now) (g.S.Shelf.meaning c.args.shelf.now)) (inner_meaning (wide c.args.core.now) (g.S.Shelf.meaning c.begin_run.new.shelf)) (inner_meaning (wide c.trust_first.new.core) (g.S.Shelf.meaning c.trust_first.new.shelf)) c.args.vol c.trust_first.result (record { before = c.requires.up; after = not_down c.is_down.result (g.S.Shelf.meaning c.begin_run.new.shelf).down c.is_down.ensures c.if-is_down.false })
-    (record { goes = logs_goes c.args.core.now c.args.vol (g.S.Shelf.meaning c.args.shelf.now) (g.S.Shelf.meaning c.begin_run.new.shelf) c.requires.none c.requires.stands c.begin_run.ensures.group; loses = along_same c.args.core.now.inner.config (g.S.Shelf.meaning c.args.shelf.now) (g.S.Shelf.meaning c.begin_run.new.shelf) c.begin_run.ensures.goes.faults; still = λ w p. refl; units = goes_units _ (g.S.Shelf.meaning c.args.shelf.now) (g.S.Shelf.meaning c.begin_run.new.shelf) c.begin_run.ensures.goes; others = inner_others c.args.core.now c.args.vol (g.S.Shelf.meaning c.args.shelf.now) (g.S.Shelf.meaning c.begin_run.new.shelf) c.requires.none c.requires.stands c.begin_run.ensures.goes c.begin_run.ensures.others }).goes.faults (record { goes = logs_goes c.args.core.now c.args.vol (g.S.Shelf.meaning c.args.shelf.now) (g.S.Shelf.meaning c.begin_run.new.shelf) c.requires.none c.requires.stands c.begin_run.ensures.group; loses = along_same c.args.core.now.inner.config (g.S.Shelf.meaning c.args.shelf.now) (g.S.Shelf.meaning c.begin_run.new.shelf) c.begin_run.ensures.goes.faults; still = λ w p. refl; units = goes_units _ (g.S.Shelf.meaning c.args.shelf.now) (g.S.Shelf.meaning c.begin_run.new.shelf) c.begin_run.ensures.goes; others = inner_others c.args.core.now c.args.vol (g.S.Shelf.meaning c.args.shelf.now) (g.S.Shelf.meaning c.begin_run.new.shelf) c.requires.none c.requires.stands c.begin_run.ensures.goes c.begin_run.ensures.others }).goes.disk_faults c.trust_first.ensures.cause
+    (record { goes = logs_goes c.args.core.now c.args.vol (g.S.Shelf.meaning c.args.shelf.now) (g.S.Shelf.meaning c.begin_run.new.shelf) c.requires.none c.requires.stands c.begin_run.ensures.group; loses = along_same c.args.core.now.inner.config (g.S.Shelf.meaning c.args.shelf.now) (g.S.Shelf.meaning c.begin_run.new.shelf) c.begin_run.ensures.goes.faults; still = λ w p. refl; on = λ w p is. is; units = goes_units _ (g.S.Shelf.meaning c.args.shelf.now) (g.S.Shelf.meaning c.begin_run.new.shelf) c.begin_run.ensures.goes; others = inner_others c.args.core.now c.args.vol (g.S.Shelf.meaning c.args.shelf.now) (g.S.Shelf.meaning c.begin_run.new.shelf) c.requires.none c.requires.stands c.begin_run.ensures.goes c.begin_run.ensures.others }).goes.faults (record { goes = logs_goes c.args.core.now c.args.vol (g.S.Shelf.meaning c.args.shelf.now) (g.S.Shelf.meaning c.begin_run.new.shelf) c.requires.none c.requires.stands c.begin_run.ensures.group; loses = along_same c.args.core.now.inner.config (g.S.Shelf.meaning c.args.shelf.now) (g.S.Shelf.meaning c.begin_run.new.shelf) c.begin_run.ensures.goes.faults; still = λ w p. refl; on = λ w p is. is; units = goes_units _ (g.S.Shelf.meaning c.args.shelf.now) (g.S.Shelf.meaning c.begin_run.new.shelf) c.begin_run.ensures.goes; others = inner_others c.args.core.now c.args.vol (g.S.Shelf.meaning c.args.shelf.now) (g.S.Shelf.meaning c.begin_run.new.shelf) c.requires.none c.requires.stands c.begin_run.ensures.goes c.begin_run.ensures.others }).goes.disk_faults c.trust_first.ensures.cause

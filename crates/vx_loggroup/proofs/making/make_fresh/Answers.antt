@@ -83,7 +83,7 @@ returns-in-Ok-make_in-clause-stands g c = subst (λ (ls : List Logs). LoggedStan
     (subst (λ (n : ℕ). AreZero c.make_in.new.core.inner.config n (g.S.Shelf.meaning c.make_in.new.shelf)) (c.in-Ok-make_in.ensures.ends (sym c.refuse_volume.ensures ∙ c.in_default.is)).number (c.in-Ok-make_in.ensures.ends (sym c.refuse_volume.ensures ∙ c.in_default.is)).begins) (g.met.S.Shelf.lawful c.make_in.new.shelf) (subst (λ (n : ℕ). is_alike c.set_alike.new.alike n ≡ true) (c.in-Ok-make_in.ensures.ends (sym c.refuse_volume.ensures ∙ c.in_default.is)).number c.set_alike.ensures.here) (λ w apart. c.set_alike.ensures.others w (λ same. apart (same ∙ (c.in-Ok-make_in.ensures.ends (sym c.refuse_volume.ensures ∙ c.in_default.is)).number))))
 
 pub returns-in-Ok-make_in-clause-fresh : goal.returns-in-Ok-make_in-clause-fresh
-returns-in-Ok-make_in-clause-fresh g c = 
+returns-in-Ok-make_in-clause-fresh g c =
     fresh_made c.args.core.now c.make_in.new.core c.args.fresh.now c.set_alike-2.new.alike (g.S.Shelf.meaning c.args.shelf.now) (g.S.Shelf.meaning c.make_in.new.shelf) (c.in-Ok-make_in.ensures.ends (sym c.refuse_volume.ensures ∙ c.in_default.is)).volume c.requires.stands.group c.make_in.ensures.stays c.in-Ok-make_in.ensures.held (c.in-Ok-make_in.ensures.ends (sym c.refuse_volume.ensures ∙ c.in_default.is)).volumes (subst (λ (n : ℕ). AreZero c.make_in.new.core.inner.config n (g.S.Shelf.meaning c.make_in.new.shelf)) (c.in-Ok-make_in.ensures.ends (sym c.refuse_volume.ensures ∙ c.in_default.is)).number (c.in-Ok-make_in.ensures.ends (sym c.refuse_volume.ensures ∙ c.in_default.is)).begins) (λ w apart. c.set_alike-2.ensures.others w (λ same. apart (same ∙ (c.in-Ok-make_in.ensures.ends (sym c.refuse_volume.ensures ∙ c.in_default.is)).number))) c.requires.fresh
 
 pub returns-in-Ok-make_in-clause-below : goal.returns-in-Ok-make_in-clause-below
@@ -93,7 +93,7 @@ pub returns-in-Err-make_in-clause-below : goal.returns-in-Err-make_in-clause-bel
 returns-in-Err-make_in-clause-below g c = beside_units c.args.core.now.inner.config (g.S.Shelf.meaning c.args.shelf.now) (g.S.Shelf.meaning c.make_in.new.shelf) c.make_in.ensures.beside
 
 pub returns-in-Err-make_in-clause-stands : goal.returns-in-Err-make_in-clause-stands
-returns-in-Err-make_in-clause-stands g c = 
+returns-in-Err-make_in-clause-stands g c =
     subst (λ (ls : List Logs). LoggedStands c.make_in.new.core ls c.args.alike.now c.args.stopped (g.S.Shelf.meaning c.make_in.new.shelf)) (sym (c.pop.ensures.rest ∙ ap (take (vec_len c.push.new.self - 1)) c.in-Ok.ensures.items ∙ take_front c.args.logs.now.items ((record { drl = None; fmr = None }) ∷ []) (vec_len c.push.new.self - 1) (let long = ap length c.in-Ok.ensures.items ∙ long_one c.args.logs.now.items (record { drl = None; fmr = None }) in omega (arith, c.push.new.self.ok, long))))
     (none_made c.args.core.now c.make_in.new.core c.args.logs.now.items c.args.alike.now c.args.stopped (g.S.Shelf.meaning c.args.shelf.now) (g.S.Shelf.meaning c.make_in.new.shelf) c.requires.stands c.make_in.ensures.stands c.make_in.ensures.stays c.make_in.ensures.beside (refused_volumes c.args.name.now c.args.want.now c.args.core.now c.make_in.new.core (g.S.Shelf.meaning c.args.shelf.now) (g.S.Shelf.meaning c.make_in.new.shelf) c.in-Err-make_in.stop (λ why is. (c.make_in.ensures.refused why is).1) c.in-Err-make_in.ensures.ends))
 

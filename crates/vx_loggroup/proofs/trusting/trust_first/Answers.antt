@@ -41,12 +41,12 @@ pub returns-in-Ok-clause-cause : goal.returns-in-Ok-clause-cause
 returns-in-Ok-clause-cause g c = record { before = not_down c.is_down.result (g.S.Shelf.meaning c.args.shelf.now).down c.is_down.ensures c.if-is_down.false; after = c.in-Ok.ensures.cause }
 
 pub returns-in-Err-clause-goes : goal.returns-in-Err-clause-goes
-returns-in-Err-clause-goes g c = 
+returns-in-Err-clause-goes g c =
     then_nothing Nothing (inner_meaning (wide c.args.core.now) (g.S.Shelf.meaning c.args.shelf.now)) (inner_meaning (wide c.trust_group.new.core) (g.S.Shelf.meaning c.trust_group.new.shelf)) (inner_meaning (wide (record { inner = record { config = c.trust_group.new.core.inner.config; good = c.trust_group.new.core.inner.good; room = c.trust_group.new.core.inner.room; unsettled = c.trust_group.new.core.inner.unsettled; committed = c.trust_group.new.core.inner.committed; agreed = c.trust_group.new.core.inner.agreed; next = c.trust_group.new.core.inner.next; faults = c.give_up.new.faults; unsure = c.give_up.new.unsure }; held = c.trust_group.new.core.held })) (g.S.Shelf.meaning c.trust_group.new.shelf)) c.trust_group.ensures.goes
     (counted_Goes (wide c.trust_group.new.core).config (volume_faults c.trust_group.new.core.inner.faults) (volume_faults c.give_up.new.faults) (g.S.Shelf.meaning c.trust_group.new.shelf) (counts_less c.in-Err.error c.args.vol (volume_faults c.trust_group.new.core.inner.faults) (volume_faults c.give_up.new.faults) c.give_up.ensures.counts))
 
 pub returns-in-Err-clause-cause : goal.returns-in-Err-clause-cause
-returns-in-Err-clause-cause g c = 
+returns-in-Err-clause-cause g c =
     cause_by (Unit {0}) c.in-Err.error (wide c.args.core.now).config (wide c.trust_group.new.core).config c.args.vol (volume_faults c.args.core.now.inner.faults) (volume_faults c.give_up.new.faults) (g.S.Shelf.meaning c.args.shelf.now) (g.S.Shelf.meaning c.trust_group.new.shelf)
     (not_down c.is_down.result (g.S.Shelf.meaning c.args.shelf.now).down c.is_down.ensures c.if-is_down.false) (error_to Bool (Unit {0}) c.in-Err.error (g.S.Shelf.meaning c.args.shelf.now) (g.S.Shelf.meaning c.trust_group.new.shelf) c.in-Err.ensures.cause)
     (subst (λ (f : List ℕ). CountsRise c.in-Err.error c.args.vol (volume_faults f) (volume_faults c.give_up.new.faults)) c.trust_group.ensures.faults c.give_up.ensures.counts)
