@@ -14,4 +14,6 @@ pub mod MadeLogs
 pub mod StillLemmas
 pub mod TakenMaps
 pub mod SettleLemmas
-pub mod RestLemmas
+pub mod FreshLemmas
+pub mod RackLemmas
+pub mod DetFresh

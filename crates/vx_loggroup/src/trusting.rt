@@ -41,12 +41,7 @@ pub fn trust_first<S: Shelf>(
     match trust_group(shelf, core, vol, log) {
         Ok(_) => Ok(()),
         Err(error) => {
-            give_up(
-                &mut core.inner.faults,
-                &mut core.inner.unsure,
-                vol,
-                error,
-            );
+            give_up(&mut core.inner.faults, &mut core.inner.unsure, vol, error);
             Err(error)
         }
     }
