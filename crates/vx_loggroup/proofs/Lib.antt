@@ -17,3 +17,7 @@ pub mod SettleLemmas
 pub mod FreshLemmas
 pub mod RackLemmas
 pub mod DetFresh
+pub mod RestingLemmas
+pub mod RestedLogs
+pub mod RestTells
+pub mod CloseLemmas

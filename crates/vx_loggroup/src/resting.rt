@@ -5,7 +5,7 @@ ghost use Rattle.vx_config.specs.declared.entry.VolumeLog.TheVariants.{Drl as Dr
 ghost use Rattle.vx_disk.specs.Shelf.{Goes, Nothing};
 ghost use Rattle.vx_kept.specs.Cleans.{is_unsure};
 ghost use Rattle.vx_kept.specs.LogRuns.{log_trusted};
-ghost use Rattle.vx_loggroup.specs.Resting.{DisksSettle, NoneTouched, SomeUnsure, VolumeRests, in_disks};
+ghost use Rattle.vx_loggroup.specs.Resting.{DiskEnds, DisksSettle, NoneTouched, SomeUnsure, VolumeRests, in_disks};
 ghost use Rattle.vx_logimport.specs.Rests.{rests};
 ghost use Rattle.vx_logs.specs.declared.logs.Logs.{Logs as LogsValue};
 ghost use Rattle.vx_model.specs.declared.limits.TheConstants.{MOST_DISKS, MOST_VOLUMES};
@@ -17,6 +17,19 @@ use vx_logs::Logs;
 use vx_maplog::log_of;
 use vx_model::limits::{MOST_DISKS, MOST_VOLUMES};
 use vx_volume::{plex_count, uses};
+
+// Flushes a disk, and answers whether it did not fail.
+fn flush_disk<S: Shelf>(shelf: &mut S, disk: u32) -> Result<bool, ShelfError>
+    requires inside { disk < (S.meaning shelf.old).units }
+    ensures goes { Goes Nothing (S.meaning shelf.old) (S.meaning shelf.new) }
+    ensures ends { DiskEnds disk (S.meaning shelf.old) (S.meaning shelf.new) result }
+{
+    match shelf.flush(disk) {
+        Ok(()) => Ok(true),
+        Err(ShelfError::Fault { .. }) => Ok(false),
+        Err(ShelfError::Down) => Err(ShelfError::Down),
+    }
+}
 
 /// Flushes each disk of a configuration, and answers which failed. Refusal only where the shelf is down.
 pub fn flush_disks<S: Shelf>(
@@ -32,10 +45,9 @@ pub fn flush_disks<S: Shelf>(
 {
     let mut failed = [false; MOST_DISKS as usize];
     for disk in 0..config.disks.as_slice().len() {
-        match shelf.flush(disk as u32) {
-            Ok(()) => {}
-            Err(ShelfError::Fault { .. }) => failed[disk] = true,
-            Err(ShelfError::Down) => return Err(ShelfError::Down),
+        match flush_disk(shelf, disk as u32) {
+            Ok(done) => failed[disk] = !done,
+            Err(error) => return Err(error),
         }
     }
     Ok(failed)
