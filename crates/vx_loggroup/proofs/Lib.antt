@@ -21,3 +21,4 @@ pub mod RestingLemmas
 pub mod RestedLogs
 pub mod RestTells
 pub mod CloseLemmas
+pub mod AlikeFlags

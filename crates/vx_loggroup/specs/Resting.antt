@@ -27,6 +27,7 @@ DiskEnds u old new (Err error) = IsTrue new.down
 pub record DisksSettle (n : ℕ) (failed : List Bool) (old new : Meaning) : Type 0 where
   pub goes : Goes Nothing old new
   pub up : IsTrue new.down → ⊥
+  pub long : length failed ≡ MOST_DISKS
   pub settled : (u b : ℕ) (x : List ℕ) → u < n → in_disks failed u ≡ false → new.leaves u b x → old.reads u b x
   pub failing : (u : ℕ) → in_disks failed u ≡ true → AnyFailed old new
 
