@@ -10,6 +10,7 @@ use Rattle.vx_config.specs.declared.entry.VolumeLog.TheVariants.{Drl}
 use Rattle.vx_logged.proofs.RefuseLemmas.{map_said}
 use Rattle.vx_logged.proofs.StandLemmas.{each_then, narrowed_then}
 use Rattle.vx_group.proofs.LoseLemmas.{then_along}
+use Rattle.vx_group.proofs.UnitLemmas.{then_units}
 use Rattle.vx_logged.proofs.keeping.keep_logs.Goals as goal
 
 pub returns-in-Ok-keep_map-clause-goes : goal.returns-in-Ok-keep_map-clause-goes
@@ -47,3 +48,9 @@ returns-in-Err-keep_map-clause-loses g c = then_along c.args.core.now.inner.conf
 
 pub returns-in-Err-keep_map-clause-cause : goal.returns-in-Err-keep_map-clause-cause
 returns-in-Err-keep_map-clause-cause g c = Cause_both {T = Bool} (inner_meaning (wide c.args.core.now) (g.S.Shelf.meaning c.args.shelf.now)) (inner_meaning (wide c.keep_log.new.core) (g.S.Shelf.meaning c.keep_log.new.shelf)) (inner_meaning (wide c.keep_map.new.core) (g.S.Shelf.meaning c.keep_map.new.shelf)) c.args.vol (Err c.in-Err-keep_map.error) c.in-Ok.ensures.cause c.keep_log.ensures.goes.faults c.keep_log.ensures.goes.disk_faults c.in-Err-keep_map.ensures.cause
+
+pub returns-in-Ok-keep_map-clause-below : goal.returns-in-Ok-keep_map-clause-below
+returns-in-Ok-keep_map-clause-below g c = then_units (g.S.Shelf.meaning c.args.shelf.now) (g.S.Shelf.meaning c.keep_log.new.shelf) (g.S.Shelf.meaning c.keep_map.new.shelf) c.keep_log.ensures.below c.keep_map.ensures.below
+
+pub returns-in-Err-keep_map-clause-below : goal.returns-in-Err-keep_map-clause-below
+returns-in-Err-keep_map-clause-below g c = then_units (g.S.Shelf.meaning c.args.shelf.now) (g.S.Shelf.meaning c.keep_log.new.shelf) (g.S.Shelf.meaning c.keep_map.new.shelf) c.keep_log.ensures.below c.keep_map.ensures.below
