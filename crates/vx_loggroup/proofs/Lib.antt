@@ -11,3 +11,6 @@ pub mod TrustedLogs
 pub mod BegunLemmas
 pub mod DetachedLogs
 pub mod MadeLogs
+pub mod FreshLemmas
+pub mod RackLemmas
+pub mod DetFresh

@@ -3,7 +3,7 @@ use Rattle.std.proofs.Common.{Bool, inl, inr, refl}
 use Rattle.std.specs.Prelude.{not}
 use Rattle.vx_logged.proofs.StandLemmas.{not_false}
 use Rattle.vx_loggroup.proofs.AlikeLemmas.{stop_stands}
-use Rattle.vx_loggroup.proofs.OpenLemmas.{failed_by, opened_full, opened_same, opened_stands}
+use Rattle.vx_loggroup.proofs.OpenLemmas.{failed_by, opened_fresh, opened_full, opened_same, opened_stands}
 use Rattle.vx_loggroup.proofs.opening.open_logged.Goals as goal
 
 pub clear_all-requires-clause-stands : goal.clear_all-requires-clause-stands
@@ -27,6 +27,7 @@ returns-in-Ok-clear_all g c = (
     off = λ going. inl (c.in-Ok-clear_all.ensures.off (not_false c.in-Ok-clear_all.done going));
   },
   stop_stands c.clear_all.new.core c.clear_all.new.logs.items c.in-Ok.marked.stopped (not c.in-Ok-clear_all.done) (g.S.Shelf.meaning c.clear_all.new.shelf) c.clear_all.ensures.stands,
+  opened_fresh (g.S.Shelf.meaning c.args.shelf.now) (g.S.Shelf.meaning c.import_marked.new.shelf) (g.S.Shelf.meaning c.clear_all.new.shelf) c.in-Ok.marked (g.met.S.Shelf.lawful c.import_marked.new.shelf) c.in-Ok.ensures c.clear_all.new.core c.clear_all.ensures.goes,
 )
 
 pub returns-in-Err-clear_all : goal.returns-in-Err-clear_all
@@ -41,4 +42,5 @@ returns-in-Err-clear_all g c = (
     off = λ going. inr (failed_by Bool (g.S.Shelf.meaning c.import_marked.new.shelf) (g.S.Shelf.meaning c.clear_all.new.shelf) c.in-Err-clear_all.field-0 c.in-Err-clear_all.ensures.cause);
   },
   c.clear_all.ensures.stands,
+  opened_fresh (g.S.Shelf.meaning c.args.shelf.now) (g.S.Shelf.meaning c.import_marked.new.shelf) (g.S.Shelf.meaning c.clear_all.new.shelf) c.in-Ok.marked (g.met.S.Shelf.lawful c.import_marked.new.shelf) c.in-Ok.ensures c.clear_all.new.core c.clear_all.ensures.goes,
 )
