@@ -22,3 +22,4 @@ pub mod RestedLogs
 pub mod RestTells
 pub mod CloseLemmas
 pub mod AlikeFlags
+pub mod TouchLemmas

@@ -31,6 +31,10 @@ pub record DisksSettle (n : ℕ) (failed : List Bool) (old new : Meaning) : Type
   pub settled : (u b : ℕ) (x : List ℕ) → u < n → in_disks failed u ≡ false → new.leaves u b x → old.reads u b x
   pub failing : (u : ℕ) → in_disks failed u ≡ true → AnyFailed old new
 
+-- a plex uses none of these disks below n
+pub record UsesNone (c : Config) (v p n : ℕ) (failed : List Bool) : Type 0 where
+  pub each : (u : ℕ) → u < n → uses c v p u ≡ true → in_disks failed u ≡ false
+
 -- no plex of the volume uses one of these disks
 pub record NoneTouched (c : Config) (v : ℕ) (failed : List Bool) : Type 0 where
   pub each : (p u : ℕ) → p < plexes_of c v → u < MOST_DISKS → uses c v p u ≡ true → in_disks failed u ≡ false

@@ -5,7 +5,7 @@ ghost use Rattle.vx_config.specs.declared.entry.VolumeLog.TheVariants.{Drl as Dr
 ghost use Rattle.vx_disk.specs.Shelf.{Goes, Nothing};
 ghost use Rattle.vx_kept.specs.Cleans.{is_unsure};
 ghost use Rattle.vx_kept.specs.LogRuns.{log_trusted};
-ghost use Rattle.vx_loggroup.specs.Resting.{DiskEnds, DisksSettle, NoneTouched, SomeUnsure, VolumeRests, in_disks};
+ghost use Rattle.vx_loggroup.specs.Resting.{DiskEnds, DisksSettle, NoneTouched, SomeUnsure, UsesNone, VolumeRests, in_disks};
 ghost use Rattle.vx_logimport.specs.Rests.{rests};
 ghost use Rattle.vx_logs.specs.declared.logs.Logs.{Logs as LogsValue};
 ghost use Rattle.vx_model.specs.declared.limits.TheConstants.{MOST_DISKS, MOST_VOLUMES};
@@ -53,6 +53,24 @@ pub fn flush_disks<S: Shelf>(
     Ok(failed)
 }
 
+// Whether a plex uses a disk, where it is one of these.
+fn disk_touches(
+    config: &Config,
+    vol: u32,
+    plex: u32,
+    disk: u32,
+    failed: &[bool; MOST_DISKS as usize],
+) -> bool
+    requires inside { disk < MOST_DISKS }
+    ensures off { result ≡ false → uses_is config.now vol plex disk ≡ true → in_disks failed.now disk ≡ false }
+    ensures some { in_disks failed.now disk ≡ false → result ≡ false }
+{
+    if !failed[disk as usize] {
+        return false;
+    }
+    uses(config, vol, plex, disk)
+}
+
 // Whether a plex uses one of these disks.
 fn plex_touches(
     config: &Config,
@@ -60,14 +78,12 @@ fn plex_touches(
     plex: u32,
     failed: &[bool; MOST_DISKS as usize],
 ) -> bool
-    ensures off { result ≡ false → (u : ℕ) → u < MOST_DISKS → uses_is config.now vol plex u ≡ true → in_disks failed.now u ≡ false }
+    ensures off { result ≡ false → UsesNone config.now vol plex MOST_DISKS failed.now }
     ensures some { ((u : ℕ) → in_disks failed.now u ≡ false) → result ≡ false }
 {
     for disk in 0..MOST_DISKS {
-        if failed[disk as usize] {
-            if uses(config, vol, plex, disk) {
-                return true;
-            }
+        if disk_touches(config, vol, plex, disk, failed) {
+            return true;
         }
     }
     false

@@ -10,6 +10,7 @@ use Rattle.vx_copies.specs.Answers.{returned}
 use Rattle.vx_copyfmt.specs.Imports.{Found}
 use Rattle.vx_disk.specs.Shelf.{Each, Image, Lawful, Meaning}
 use Rattle.vx_layout.specs.Places.{HasBlock, place}
+use Rattle.vx_layout.proofs.Placing.{sound_apart}
 use Rattle.vx_logs.specs.Held.{InUse, is_used, used_or}
 use Rattle.vx_logs.specs.Marks.{stride_of}
 use Rattle.vx_model.specs.Sizes.{map_blocks}

@@ -3,4 +3,4 @@ use Rattle.vx_loggroup.proofs.AlikeFlags.{FlagsSoFar}
 use Rattle.vx_loggroup.proofs.taking.alike_of.Given as goal
 
 abbrev pub invariant-loop-vol : goal.invariant-loop-vol
-invariant-loop-vol g l = FlagsSoFar l.stopped.now l.rested.now l.vol l.alike
+invariant-loop-vol l = FlagsSoFar l.stopped l.rested l.vol l.alike
