@@ -1,15 +1,16 @@
 -- Which volumes touch disks that failed, and what they have then.
 use Rattle.std.proofs.Common.{◌≡◌, ◌∙◌, inl, inr, ℕ, ◌+◌, ◌<◌, ◌≤◌, Bool, true, false, Option, None, Some, List, length, set, get_or-set_same, get_or-set_other, length-set, refl, sym, ap, subst, arith}
-use Rattle.std.specs.Prelude.{slice_get}
+use Rattle.std.specs.Prelude.{not, slice_get}
 use Rattle.std.proofs.lemmas.Bool.{cases_eq}
 use Rattle.vx_config.specs.declared.config.Config.{Config}
 use Rattle.vx_config.specs.declared.entry.VolumeLog.TheVariants.{Drl, Fmr}
+use Rattle.vx_group.specs.Blames.{MarkedUnsure}
 use Rattle.vx_kept.specs.Cleans.{is_unsure}
 use Rattle.vx_kept.specs.LogRuns.{log_trusted}
 use Rattle.vx_logimport.specs.Rests.{rests}
 use Rattle.vx_logs.specs.declared.logs.Logs.{Logs}
 use Rattle.vx_volume.specs.Plexes.{uses}
-use Rattle.vx_loggroup.specs.Resting.{SomeUnsure, UsesNone, VolumeRests, in_disks}
+use Rattle.vx_loggroup.specs.Resting.{NoneTouched, SomeUnsure, UsesNone, VolumeRests, in_disks}
 
 pub uses_none : (c : Config) (v p : ℕ) (failed : List Bool) → UsesNone c v p 0 failed
 uses_none c v p failed = record { each = λ u lt used. absurd (omega (arith, lt)) }
@@ -93,3 +94,27 @@ one_kept c ls n l was is here = record {
     | inr apart ↦ was.each v k (omega (arith, lt, apart)) at trusted none
   ];
 }
+
+-- ---- one volume
+
+pub marked_unsure : (v : ℕ) (old new : List Bool) (failed : List Bool) → MarkedUnsure v old new → (((u : ℕ) → in_disks failed u ≡ false) → ⊥) → SomeUnsure old new failed
+marked_unsure v old new failed marked some = record {
+  more = λ w off. elim (cases_eq w v) [
+    | inl same ↦ absurd (let clash : true ≡ false = sym marked.here ∙ subst (λ (n : ℕ). is_unsure new n ≡ false) same off in cc)
+    | inr apart ↦ sym (marked.others w apart) ∙ off
+  ];
+  none = λ off. absurd (some off);
+}
+
+pub none_rests : (c : Config) (unsure : List Bool) (v : ℕ) (l : Logs) (failed : List Bool) (trusted : Bool) → trusted ≡ log_trusted c v Fmr → l.fmr ≡ None → not trusted ≡ true → VolumeRests c unsure v l failed
+none_rests c unsure v l failed trusted is none off = record {
+  has = λ told gone. by trusted off (is ∙ told);
+  off = λ f has sure. absurd (let clash : None ≡ Some f = sym none ∙ has in cc);
+}
+  where
+    by : (t : Bool) → not t ≡ true → t ≡ true → ⊥
+    by true off on = absurd (let clash : false ≡ true = off in cc)
+    by false off on = absurd (let clash : false ≡ true = on in cc)
+
+pub has_rests : (c : Config) (unsure : List Bool) (v : ℕ) (l : Logs) (failed : List Bool) → (l.fmr ≡ None → ⊥) → (is_unsure unsure v ≡ false → NoneTouched c v failed) → VolumeRests c unsure v l failed
+has_rests c unsure v l failed some none = record { has = λ told gone. some gone; off = λ f has sure. none sure }

@@ -3,6 +3,7 @@ ghost use Rattle.std.specs.Prelude.{◌≡◌, ◌<◌, ◌≤◌, ℕ, false, I
 ghost use Rattle.vx_config.specs.declared.entry.VolumeLog.{VolumeLog as VolumeLogValue};
 ghost use Rattle.vx_config.specs.declared.entry.VolumeLog.TheVariants.{Drl as DrlLog};
 ghost use Rattle.vx_disk.specs.Shelf.{Goes, Nothing};
+ghost use Rattle.vx_group.specs.Blames.{MarkedUnsure};
 ghost use Rattle.vx_kept.specs.Cleans.{is_unsure};
 ghost use Rattle.vx_kept.specs.LogRuns.{log_trusted};
 ghost use Rattle.vx_loggroup.specs.Resting.{DiskEnds, DisksSettle, NoneTouched, SomeUnsure, UsesNone, VolumeRests, in_disks};
@@ -113,6 +114,14 @@ fn is_trusted(config: &Config, vol: u32, log: VolumeLog) -> bool
     }
 }
 
+// Marks a volume as unsure.
+fn mark(unsure: &mut [bool; MOST_VOLUMES], vol: u32)
+    requires inside { vol < MOST_VOLUMES }
+    ensures { MarkedUnsure vol unsure.old unsure.new }
+{
+    unsure[vol as usize] = true;
+}
+
 // Marks a volume with maps in memory as unsure, where a plex of it uses one of these disks, and answers whether the maps of the volume are in
 // memory where its log is not held as lost.
 fn rest_one(
@@ -130,9 +139,10 @@ fn rest_one(
     if one.fmr.is_none() {
         return !is_trusted(config, vol, VolumeLog::Fmr);
     }
-    if touches(config, vol, failed) {
-        unsure[vol as usize] = true;
+    if !touches(config, vol, failed) {
+        return true;
     }
+    mark(unsure, vol);
     true
 }
 
