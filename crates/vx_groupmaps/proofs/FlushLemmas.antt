@@ -1,6 +1,6 @@
 -- Plexes that go by their maps, made durable one after the other.
 use Rattle.std.proofs.Common.{◌≡◌, ◌∙◌, inl, inr, ℕ, ◌+◌, ◌-◌, ◌<◌, ◌≤◌, Bool, true, false, Option, Some, None, List, [], ◌∷◌, length, set, suc, get_or-set_same, get_or-set_other, length-set, IsTrue, refl, sym, ap, subst, arith}
-use Rattle.std.specs.Prelude.{◌||◌, Err, is_some, nat_lt, slice_get, sum_by, if◌then◌else◌}
+use Rattle.std.specs.Prelude.{◌||◌, Err, nat_lt, slice_get, sum_by, if◌then◌else◌}
 use Rattle.std.specs.List.{list_any}
 use Rattle.std.proofs.lemmas.Bool.{cases_eq, cases_lt, eq-eqb, eqb-true, lt-ltb}
 use Rattle.std.proofs.lemmas.List.Sums.{sum_by-cons}
@@ -16,7 +16,7 @@ use Rattle.vx_disk.specs.declared.shelf.ShelfError.{ShelfError}
 use Rattle.vx_disk.specs.declared.shelf.ShelfError.TheVariants.{Fault}
 use Rattle.vx_disk.proofs.Causing.{Rose_after, Rose_before}
 use Rattle.vx_disk.proofs.Runs.{same_Goes}
-use Rattle.vx_layout.specs.Places.{disk_blocks, has_plex, linear, located, place, place_in, place_or, plex_at, plex_in, subdisk_blocks}
+use Rattle.vx_layout.specs.Places.{disk_blocks, linear, located, place, place_in, place_or, plex_at, plex_in, subdisk_blocks}
 use Rattle.vx_layout.proofs.Pairs.{all_at}
 use Rattle.vx_layout.proofs.Placing.{filled, from_sound, linear_within, region_of, subdisk_region}
 use Rattle.vx_volume.specs.Plexes.{Inside, lies_on, uses, uses_or}
@@ -31,7 +31,7 @@ use Rattle.vx_groupmaps.proofs.MapPlaces.{mapped_few}
 
 -- ---- the disks of one plex
 
--- a plex that is there
+-- a plex that goes by its map is there
 record MappedPlex (c : Config) (v p : ℕ) : Type 0 where
   volume : VolumeEntry
   plex : PlexEntry
@@ -50,18 +50,6 @@ mapped_plex c v p is = by_volume (slice_get c.volumes v) refl
     by_volume None at = absurd (let clash : false ≡ true = ap (λ (o : Option VolumeEntry). mapped_or (plex_in o p)) (sym at) ∙ is in cc)
     by_volume (Some x) at = by_plex x at (slice_get x.plexes p) refl (ap (λ (o : Option VolumeEntry). mapped_or (plex_in o p)) (sym at) ∙ is)
 
-there_plex : (c : Config) (v p : ℕ) → IsTrue (has_plex c v p) → MappedPlex c v p
-unfolding has_plex
-there_plex c v p is = by_volume (slice_get c.volumes v) refl
-  where
-    by_plex : (x : VolumeEntry) → slice_get c.volumes v ≡ Some x → (o : Option PlexEntry) → slice_get x.plexes p ≡ o → is_some o ≡ true → MappedPlex c v p
-    by_plex x at None at_p on = absurd (let clash : false ≡ true = on in cc)
-    by_plex x at (Some a) at_p on = record { volume = x; plex = a; at_v = at; at_p = at_p }
-
-    by_volume : (o : Option VolumeEntry) → slice_get c.volumes v ≡ o → MappedPlex c v p
-    by_volume None at = absurd (let clash : false ≡ true = ap (λ (o : Option VolumeEntry). is_some (plex_in o p)) (sym at) ∙ is in cc)
-    by_volume (Some x) at = by_plex x at (slice_get x.plexes p) refl (ap (λ (o : Option VolumeEntry). is_some (plex_in o p)) (sym at) ∙ is)
-
 found_on : (ss : List Subdisk) (k : ℕ) → k < sum_by subdisk_blocks ss → list_any (lies_on (located ss k).0) ss ≡ true
 found_on [] k lt = absurd (omega (arith, lt))
 found_on (s ∷ ss) k lt = by (nat_lt k s.blocks) refl (λ out. found_on ss (k - s.blocks) (let cons = sum_by-cons subdisk_blocks s ss in omega (arith, lt, cons, out)))
@@ -74,10 +62,10 @@ found_on (s ∷ ss) k lt = by (nat_lt k s.blocks) refl (λ out. found_on ss (k -
     by true is more = ap (λ (b : Bool). b || list_any (lies_on s.disk) ss) (eq-eqb s.disk s.disk refl)
     by false is more = or_true (lies_on (located ss (k - s.blocks)).0 s) _ (more (elim (cases_lt k s.blocks) [ inl lt ↦ absurd (let clash : true ≡ false = sym (lt-ltb k s.blocks lt) ∙ is in cc) | inr le ↦ le ]))
 
-module _ (c : Config) (sound : is_sound c ≡ true) (v p : ℕ) (there : MappedPlex c v p) where
-  plex_uses : (k : ℕ) → Inside c v k → IsTrue (uses c v p (place c v p k).0)
+module _ (c : Config) (sound : is_sound c ≡ true) (v p : ℕ) (is_map : IsTrue (by_map c v p)) where
+  pub mapped_uses : (k : ℕ) → Inside c v k → IsTrue (uses c v p (place c v p k).0)
   unfolding uses place
-  plex_uses k inside = by there
+  mapped_uses k inside = by (mapped_plex c v p is_map)
     where
       by : MappedPlex c v p → uses_or (place_or (slice_get c.volumes v) p k).0 (plex_at c v p) ≡ true
       by t =
@@ -94,9 +82,9 @@ module _ (c : Config) (sound : is_sound c ≡ true) (v p : ℕ) (there : MappedP
     | inr le ↦ absurd (let none : disk_blocks c.disks d ≡ 0 = ap blocks_or (slice_get_past c.disks d le) in omega (arith, none, some))
   ]
 
-  plex_disk : (d : ℕ) → IsTrue (uses c v p d) → d < length c.disks
+  pub mapped_disk : (d : ℕ) → IsTrue (uses c v p d) → d < length c.disks
   unfolding uses
-  plex_disk d is = by there
+  mapped_disk d is = by (mapped_plex c v p is_map)
     where
       find : (ss : List Subdisk) → list_any (lies_on d) ss ≡ true → (i : ℕ) × ((s : Subdisk) × (slice_get ss i ≡ Some s) × (s.disk ≡ d))
       find [] any = absurd (let clash : false ≡ true = any in cc)
@@ -116,20 +104,6 @@ module _ (c : Config) (sound : is_sound c ≡ true) (v p : ℕ) (there : MappedP
         where
           region_there : (s : Subdisk) → in_region c.disks s ≡ true → s.disk < length c.disks
           region_there s is = let r = region_of c.disks s is in disk_there s.disk (omega (arith, r.end))
-
--- a block of a plex lies on a disk that it uses, which is there
-pub has_uses : (c : Config) → is_sound c ≡ true → (v p : ℕ) → IsTrue (has_plex c v p) → (k : ℕ) → Inside c v k → IsTrue (uses c v p (place c v p k).0)
-has_uses c sound v p has k inside = plex_uses c sound v p (there_plex c v p has) k inside
-
-pub has_disk : (c : Config) → is_sound c ≡ true → (v p : ℕ) → IsTrue (has_plex c v p) → (d : ℕ) → IsTrue (uses c v p d) → d < length c.disks
-has_disk c sound v p has d is = plex_disk c sound v p (there_plex c v p has) d is
-
-module _ (c : Config) (sound : is_sound c ≡ true) (v p : ℕ) (is_map : IsTrue (by_map c v p)) where
-  pub mapped_uses : (k : ℕ) → Inside c v k → IsTrue (uses c v p (place c v p k).0)
-  mapped_uses k inside = plex_uses c sound v p (mapped_plex c v p is_map) k inside
-
-  pub mapped_disk : (d : ℕ) → IsTrue (uses c v p d) → d < length c.disks
-  mapped_disk d is = plex_disk c sound v p (mapped_plex c v p is_map) d is
 
   pub mapped_flushed : (disk : ℕ) (old m : Meaning) → length c.disks ≤ disk → FlushedBelow c v p disk old m → PlexFlushed c v p old m
   mapped_flushed disk old m le is = record {

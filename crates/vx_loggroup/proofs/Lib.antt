@@ -23,3 +23,4 @@ pub mod RestTells
 pub mod CloseLemmas
 pub mod AlikeFlags
 pub mod TouchLemmas
+pub mod UsesLemmas

@@ -24,7 +24,6 @@ use Rattle.vx_kept.specs.States.{whole_of}
 use Rattle.vx_model.specs.declared.site.PlexState.TheVariants.{Active}
 use Rattle.vx_group.proofs.Standing.{fit_of, sound_of}
 use Rattle.vx_groupmaps.specs.Missing.{bit_in_maps}
-use Rattle.vx_groupmaps.proofs.FlushLemmas.{has_disk, has_uses}
 use Rattle.vx_groupmaps.proofs.KnowLemmas.{plex_below}
 use Rattle.vx_groupmaps.proofs.MapPlaces.{bit_low, region_low}
 use Rattle.vx_grouplogs.specs.On.{ReadsOne}
@@ -55,6 +54,7 @@ use Rattle.vx_volume.proofs.ReadRuns.{leaves_before, reads_before}
 use Rattle.vx_loggroup.specs.LoggedVolumes.{LoggedStands, VolumeStands, is_alike}
 use Rattle.vx_loggroup.specs.Resting.{DisksSettle, NoneTouched, VolumeRests, in_disks}
 use Rattle.vx_loggroup.proofs.DeportedLogs.{at_shape, on_at}
+use Rattle.vx_loggroup.proofs.UsesLemmas.{has_disk, has_uses}
 
 active_same : (x y : Config) (v q : ℕ) → plex_at x v q ≡ plex_at y v q → active x v q ≡ active y v q
 unfolding active
