@@ -52,10 +52,6 @@ begins_may v p c d m m' begins low none =
 
 -- ---- tests
 
-pub none_of : {A : Type 0} (o : Option A) → is_some o ≡ false → o ≡ None
-none_of None is = refl
-none_of (Some x) is = absurd (let clash : true ≡ false = is in cc)
-
 pub some_of : {A : Type 0} (o : Option A) → is_some o ≡ true → o ≡ None → ⊥
 some_of None is none = let clash : false ≡ true = is in cc
 some_of (Some x) is none = let clash : Some x ≡ None = none in cc

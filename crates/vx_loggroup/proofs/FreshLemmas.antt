@@ -1,6 +1,6 @@
 -- Volumes of which a crash leaves one value of each block, beside calls; and logs that begin.
 use Rattle.std.proofs.Common.{◌≡◌, ◌∙◌, inl, inr, ℕ, ◌<◌, ◌≤◌, Bool, true, false, IsTrue, Option, Some, None, List, length, refl, sym, ap, subst, arith}
-use Rattle.std.specs.Prelude.{slice_get}
+use Rattle.std.specs.Prelude.{is_some, slice_get}
 use Rattle.std.proofs.Math.ListN.{set}
 use Rattle.std.proofs.lemmas.Bool.{cases_eq}
 use Rattle.std.proofs.lemmas.List.{length-set}
@@ -219,3 +219,9 @@ lists_same those v n first last ls ks one = record {
 pub begins_stale : (b c : GroupCore) (v : ℕ) (m m' : Meaning) → GroupStands c m' → LogsStart v b c m m' → Inside (wide b).config v 0 → (p : ℕ) → IsTrue (stale (wide b).config v p) → IsTrue (stale (wide c).config v p)
 begins_stale b c v m m' stands begins inside =
     stale_kept b c v m' stands ((wide_shape c).frames v ∙ begins.loses.loses.frames v ∙ sym ((wide_shape b).frames v)) (begins.goes.size v) (begins.on v) inside
+
+-- ---- tests
+
+pub none_of : {A : Type 0} (o : Option A) → is_some o ≡ false → o ≡ None
+none_of None is = refl
+none_of (Some x) is = absurd (let clash : true ≡ false = is in cc)

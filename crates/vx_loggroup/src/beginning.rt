@@ -109,7 +109,7 @@ fn begin_map<S: Shelf>(
     trust_first(shelf, core, vol, VolumeLog::Fmr)
 }
 
-// LogsStart the dirty region log of a volume, where it is held as lost and no log of the volume is in memory.
+// Begins the dirty region log of a volume, where it is held as lost and no log of the volume is in memory.
 fn begin_drl<S: Shelf>(
     alloc: Global,
     shelf: &mut S,
@@ -149,7 +149,7 @@ fn begin_drl<S: Shelf>(
     begin_log(alloc, shelf, core, one, vol)
 }
 
-// LogsStart the log of missed regions of a volume, where it is held as lost and not in memory.
+// Begins the log of missed regions of a volume, where it is held as lost and not in memory.
 fn begin_fmr<S: Shelf>(
     alloc: Global,
     shelf: &mut S,
@@ -185,7 +185,7 @@ fn begin_fmr<S: Shelf>(
     begin_map(alloc, shelf, core, one, vol)
 }
 
-/// LogsStart both logs of a volume, each where it is held as lost and not in memory, over plexes of which a crash leaves one value of each block. It
+/// Begins both logs of a volume, each where it is held as lost and not in memory, over plexes of which a crash leaves one value of each block. It
 /// makes no call on a plex.
 ///
 /// A fault comes only where a commit was refused.

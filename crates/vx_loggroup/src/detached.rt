@@ -31,7 +31,7 @@ use vx_volume::is_active;
 // So many serials are left at least where a detach may commit, beside those that beginnings of logs take.
 const BEGIN_MARGIN: u64 = 65_563;
 
-// LogsStart the logs of a volume that is fresh, before a plex of it is detached that is ACTIVE; where the detach is refused, or serials are few, it
+// Begins the logs of a volume that is fresh, before a plex of it is detached that is ACTIVE; where the detach is refused, or serials are few, it
 // does nothing.
 fn begin_before<S: Shelf>(
     shelf: &mut S,

@@ -16,7 +16,7 @@ use vx_logs::Logs;
 use vx_maplog::blocks_of;
 use vx_model::limits::MOST_VOLUMES;
 
-/// LogsStart the logs of a volume that are held as lost, where of each block of it a crash leaves one value. No plex is called, and none changes its
+/// Begins the logs of a volume that are held as lost, where of each block of it a crash leaves one value. No plex is called, and none changes its
 /// state. Where a log cannot begin it stays lost; a commit that is refused is the answer. It takes the memory of the logs, where there is some.
 pub fn begin_first<S: Shelf>(
     shelf: &mut S,

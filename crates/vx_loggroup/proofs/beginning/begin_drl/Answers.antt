@@ -1,7 +1,8 @@
 -- `begin_drl`: where no log begins; what its call asks.
+use Rattle.std.proofs.Common.{◌∙◌, sym}
 use Rattle.vx_group.specs.Holding.{wide}
 use Rattle.vx_loggroup.specs.Marks.{region_count}
-use Rattle.vx_loggroup.proofs.FreshLemmas.{begins_none, first_none, is_none}
+use Rattle.vx_loggroup.proofs.FreshLemmas.{begins_none, first_none, none_of}
 use Rattle.vx_loggroup.proofs.beginning.begin_drl.Goals as goal
 
 pub returns-then-is_some-clause-begins : goal.returns-then-is_some-clause-begins
@@ -21,3 +22,6 @@ returns-then-not-is_waiting-clause-begins g c = begins_none c.args.vol c.args.co
 
 pub returns-then-not-is_waiting-clause-first : goal.returns-then-not-is_waiting-clause-first
 returns-then-not-is_waiting-clause-first g c = first_none (region_count (wide c.args.core.now).config c.args.vol) c.args.one.now
+
+pub begin_log-requires-clause-waits : goal.begin_log-requires-clause-waits
+begin_log-requires-clause-waits g c = (none_of c.args.one.now.drl (sym c.is_some.ensures ∙ c.if-is_some.false), none_of c.args.one.now.fmr (sym c.is_some-2.ensures ∙ c.if-is_some-2.false))

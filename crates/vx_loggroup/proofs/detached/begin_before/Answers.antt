@@ -12,9 +12,9 @@ use Rattle.vx_group.proofs.UnitLemmas.{same_units}
 use Rattle.vx_model.specs.declared.errors.Stop.TheVariants.{No as Refused}
 use Rattle.vx_loggroup.specs.LoggedVolumes.{LoggedStands}
 use Rattle.vx_loggroup.specs.Marks.{region_count}
-use Rattle.vx_loggroup.proofs.DetFresh.{begins_may, none_of, some_of}
+use Rattle.vx_loggroup.proofs.DetFresh.{begins_may, some_of}
 use Rattle.vx_loggroup.proofs.DetachedLogs.{active_low, det_cause}
-use Rattle.vx_loggroup.proofs.FreshLemmas.{fresh_still, fresh_taken, lists_none}
+use Rattle.vx_loggroup.proofs.FreshLemmas.{fresh_still, fresh_taken, lists_none, none_of}
 use Rattle.vx_loggroup.proofs.detached.begin_before.Goals as goal
 
 pub returns-then-is_some-clause-goes : goal.returns-then-is_some-clause-goes
