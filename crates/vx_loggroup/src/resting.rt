@@ -42,12 +42,7 @@ pub fn flush_disks<S: Shelf>(
 }
 
 // Whether a plex uses one of these disks.
-fn plex_touches(
-    config: &Config,
-    vol: u32,
-    plex: u32,
-    failed: &[bool; MOST_DISKS as usize],
-) -> bool
+fn plex_touches(config: &Config, vol: u32, plex: u32, failed: &[bool; MOST_DISKS as usize]) -> bool
     ensures off { result ≡ false → (u : ℕ) → u < MOST_DISKS → uses_is config.now vol plex u ≡ true → in_disks failed.now u ≡ false }
     ensures some { ((u : ℕ) → in_disks failed.now u ≡ false) → result ≡ false }
 {
