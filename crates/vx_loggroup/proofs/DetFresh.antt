@@ -40,7 +40,7 @@ may_still c d v p volumes plexes same low none =
 pub begins_may : (v p : ℕ) (c d : GroupCore) (m m' : Meaning) → LogsStart v c d m m' → d.inner.config.serial ≤ greatest - margin → det_refusal c.inner.config v p ≡ None → det_refusal d.inner.config v p ≡ None
 begins_may v p c d m m' begins low none =
     may_still c.inner.config d.inner.config v p (let old = (wide_shape c).volumes in let new = (wide_shape d).volumes in let units = begins.goes.units in omega (arith, old, new, units))
-    (same_count d.inner.config c.inner.config v (sym (begins.loses.loses.frames v)) (let old = (wide_shape c).blocks v in let new = (wide_shape d).blocks v in let size = begins.goes.size v in omega (arith, old, new, size)))
+    (sym (same_count d.inner.config c.inner.config v (sym (begins.loses.loses.frames v)) (let old = (wide_shape c).blocks v in let new = (wide_shape d).blocks v in let size = begins.goes.size v in omega (arith, old, new, size))))
     (begins.still v) (low_serial d.inner.config.serial low) none
   where
     low_serial : (s : ℕ) → s ≤ greatest - margin → nat_lt (greatest - margin) s ≡ false
@@ -58,4 +58,4 @@ some_of (Some x) is none = let clash : Some x ≡ None = none in cc
 
 pub never_err : {T E : Type 0} (r : Result T E) (e : E) → r ≡ Err e → IsOk r → ⊥
 never_err (Ok x) e is ok = let clash : Ok x ≡ Err e = is in cc
-never_err (Err e) f is ok = ok
+never_err (Err e) f is ok = let clash : false ≡ true = ok in cc

@@ -20,10 +20,10 @@ mod keeping;
 mod losing;
 mod making;
 mod opening;
-mod resting;
-mod taking;
 mod racking;
+mod resting;
 mod shelving;
+mod taking;
 mod trusting;
 mod whole;
 

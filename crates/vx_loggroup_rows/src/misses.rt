@@ -122,9 +122,11 @@ fn is_lost(config: &Config) -> Option<bool> {
 }
 
 #[test]
-fn maps_of_a_new_volume_are_trusted(rt: HostRuntime) -> Result<(), Fail> {
+fn maps_are_trusted_behind_the_first_detach(rt: HostRuntime) -> Result<(), Fail> {
     let alloc = rt.alloc();
-    let group = group_of(alloc, &[], &MAPPED)?;
+    let mut group = group_of(alloc, &[], &MAPPED)?;
+    assert_eq!(rt; is_lost(group.config()), Some(true));
+    assert!(rt; group.det(0, 1).is_ok());
     assert_eq!(rt; is_lost(group.config()), Some(false));
     Ok(())
 }
@@ -255,5 +257,41 @@ fn a_refused_write_is_noted(rt: HostRuntime) -> Result<(), Fail> {
         }
     }
     assert!(rt; some);
+    Ok(())
+}
+
+// The group behind a deport and an import.
+fn moved(alloc: Global, group: LoggedGroup<Disks>) -> Option<LoggedGroup<Disks>> {
+    match group.deport() {
+        Ok((shelf, rested)) => match rested {
+            Some(rested) => match LoggedGroup::import(alloc, shelf, &rested) {
+                Ok(group) => Some(group),
+                Err(_) => None,
+            },
+            None => None,
+        },
+        Err(_) => None,
+    }
+}
+
+#[test]
+fn an_attach_behind_a_deport_goes_by_the_map(rt: HostRuntime) -> Result<(), Fail> {
+    let alloc = rt.alloc();
+    let mut group = group_of(alloc, &[], &MAPPED)?;
+    assert!(rt; put(&mut group, 10, 0xaa));
+    assert!(rt; group.det(0, 1).is_ok());
+    assert!(rt; put(&mut group, 70, 0xbb));
+    match moved(alloc, group) {
+        Some(group) => {
+            let mut group = group;
+            assert_eq!(rt; read(&mut group, 70), Some(0xbb));
+            assert!(rt; group.det(0, 0).is_err());
+            assert_eq!(rt; att(&mut group, 1), Some(1));
+            assert!(rt; group.det(0, 0).is_ok());
+            assert_eq!(rt; read(&mut group, 10), Some(0xaa));
+            assert_eq!(rt; read(&mut group, 70), Some(0xbb));
+        }
+        None => assert!(rt; false),
+    }
     Ok(())
 }

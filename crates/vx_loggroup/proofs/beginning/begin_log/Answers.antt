@@ -102,4 +102,4 @@ returns-clause-alike g c = alike_goes c.args.core.now c.trust_first.new.core c.a
 
 pub returns-clause-cause : goal.returns-clause-cause
 returns-clause-cause g c = Cause_both (inner_meaning (wide c.args.core.now) (g.S.Shelf.meaning c.args.shelf.now)) (inner_meaning (wide c.args.core.now) (g.S.Shelf.meaning c.begin_run.new.shelf)) (inner_meaning (wide c.trust_first.new.core) (g.S.Shelf.meaning c.trust_first.new.shelf)) c.args.vol c.trust_first.result (record { before = c.requires.up; after = not_down c.is_down.result (g.S.Shelf.meaning c.begin_run.new.shelf).down c.is_down.ensures c.if-is_down.false })
-    (record { goes = logs_goes c.args.core.now c.args.vol (g.S.Shelf.meaning c.args.shelf.now) (g.S.Shelf.meaning c.begin_run.new.shelf) c.requires.none c.requires.stands c.begin_run.ensures.group; loses = along_same c.args.core.now.inner.config (g.S.Shelf.meaning c.args.shelf.now) (g.S.Shelf.meaning c.begin_run.new.shelf) c.begin_run.ensures.goes.faults; still = λ w p. refl; on = λ w p is. is; units = goes_units _ (g.S.Shelf.meaning c.args.shelf.now) (g.S.Shelf.meaning c.begin_run.new.shelf) c.begin_run.ensures.goes; others = inner_others c.args.core.now c.args.vol (g.S.Shelf.meaning c.args.shelf.now) (g.S.Shelf.meaning c.begin_run.new.shelf) c.requires.none c.requires.stands c.begin_run.ensures.goes c.begin_run.ensures.others }).goes.faults (record { goes = logs_goes c.args.core.now c.args.vol (g.S.Shelf.meaning c.args.shelf.now) (g.S.Shelf.meaning c.begin_run.new.shelf) c.requires.none c.requires.stands c.begin_run.ensures.group; loses = along_same c.args.core.now.inner.config (g.S.Shelf.meaning c.args.shelf.now) (g.S.Shelf.meaning c.begin_run.new.shelf) c.begin_run.ensures.goes.faults; still = λ w p. refl; on = λ w p is. is; units = goes_units _ (g.S.Shelf.meaning c.args.shelf.now) (g.S.Shelf.meaning c.begin_run.new.shelf) c.begin_run.ensures.goes; others = inner_others c.args.core.now c.args.vol (g.S.Shelf.meaning c.args.shelf.now) (g.S.Shelf.meaning c.begin_run.new.shelf) c.requires.none c.requires.stands c.begin_run.ensures.goes c.begin_run.ensures.others }).goes.disk_faults c.trust_first.ensures.cause
+    (logs_goes c.args.core.now c.args.vol (g.S.Shelf.meaning c.args.shelf.now) (g.S.Shelf.meaning c.begin_run.new.shelf) c.requires.none c.requires.stands c.begin_run.ensures.group).faults (logs_goes c.args.core.now c.args.vol (g.S.Shelf.meaning c.args.shelf.now) (g.S.Shelf.meaning c.begin_run.new.shelf) c.requires.none c.requires.stands c.begin_run.ensures.group).disk_faults c.trust_first.ensures.cause

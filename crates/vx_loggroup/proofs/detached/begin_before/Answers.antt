@@ -32,20 +32,20 @@ returns-then-is_some-clause-below g c = same_units (g.S.Shelf.meaning c.args.she
 pub returns-then-is_some-clause-first : goal.returns-then-is_some-clause-first
 returns-then-is_some-clause-first g c = lists_none c.args.vol (region_count (wide c.args.core.now).config c.args.vol) c.args.logs.now.items
 
-pub returns-then-MOST_NUMBER-sub-BEGIN_MARGIN-lt-core-clause-goes : goal.returns-then-MOST_NUMBER-sub-BEGIN_MARGIN-lt-core-clause-goes
-returns-then-MOST_NUMBER-sub-BEGIN_MARGIN-lt-core-clause-goes g c = same_Goes (inner_meaning (wide c.args.core.now) (g.S.Shelf.meaning c.args.shelf.now))
+pub returns-then-core-clause-goes : goal.returns-then-core-clause-goes
+returns-then-core-clause-goes g c = same_Goes (inner_meaning (wide c.args.core.now) (g.S.Shelf.meaning c.args.shelf.now))
 
-pub returns-then-MOST_NUMBER-sub-BEGIN_MARGIN-lt-core-clause-loses : goal.returns-then-MOST_NUMBER-sub-BEGIN_MARGIN-lt-core-clause-loses
-returns-then-MOST_NUMBER-sub-BEGIN_MARGIN-lt-core-clause-loses g c = along_none c.args.core.now.inner.config (g.S.Shelf.meaning c.args.shelf.now)
+pub returns-then-core-clause-loses : goal.returns-then-core-clause-loses
+returns-then-core-clause-loses g c = along_none c.args.core.now.inner.config (g.S.Shelf.meaning c.args.shelf.now)
 
-pub returns-then-MOST_NUMBER-sub-BEGIN_MARGIN-lt-core-clause-still : goal.returns-then-MOST_NUMBER-sub-BEGIN_MARGIN-lt-core-clause-still
-returns-then-MOST_NUMBER-sub-BEGIN_MARGIN-lt-core-clause-still g c = λ w p. refl
+pub returns-then-core-clause-still : goal.returns-then-core-clause-still
+returns-then-core-clause-still g c = λ w p. refl
 
-pub returns-then-MOST_NUMBER-sub-BEGIN_MARGIN-lt-core-clause-below : goal.returns-then-MOST_NUMBER-sub-BEGIN_MARGIN-lt-core-clause-below
-returns-then-MOST_NUMBER-sub-BEGIN_MARGIN-lt-core-clause-below g c = same_units (g.S.Shelf.meaning c.args.shelf.now)
+pub returns-then-core-clause-below : goal.returns-then-core-clause-below
+returns-then-core-clause-below g c = same_units (g.S.Shelf.meaning c.args.shelf.now)
 
-pub returns-then-MOST_NUMBER-sub-BEGIN_MARGIN-lt-core-clause-first : goal.returns-then-MOST_NUMBER-sub-BEGIN_MARGIN-lt-core-clause-first
-returns-then-MOST_NUMBER-sub-BEGIN_MARGIN-lt-core-clause-first g c = lists_none c.args.vol (region_count (wide c.args.core.now).config c.args.vol) c.args.logs.now.items
+pub returns-then-core-clause-first : goal.returns-then-core-clause-first
+returns-then-core-clause-first g c = lists_none c.args.vol (region_count (wide c.args.core.now).config c.args.vol) c.args.logs.now.items
 
 pub returns-then-not-is_active-clause-goes : goal.returns-then-not-is_active-clause-goes
 returns-then-not-is_active-clause-goes g c = same_Goes (inner_meaning (wide c.args.core.now) (g.S.Shelf.meaning c.args.shelf.now))
@@ -111,7 +111,7 @@ pub returns-in-Err-clause-refused : goal.returns-in-Err-clause-refused
 returns-in-Err-clause-refused g c = λ why is. absurd (let clash : None ≡ Some why = sym (sym c.refuse_det.ensures ∙ none_of c.refuse_det.result (sym c.is_some.ensures ∙ c.if-is_some.false)) ∙ is in cc)
 
 pub returns-in-Ok-clause-may : goal.returns-in-Ok-clause-may
-returns-in-Ok-clause-may g c = λ may. begins_may c.args.vol c.args.plex c.args.core.now c.begin_first.new.core (g.S.Shelf.meaning c.args.shelf.now) (g.S.Shelf.meaning c.begin_first.new.shelf) c.begin_first.ensures.begins (let few = c.in-Ok.ensures.few in let room = c.if-MOST_NUMBER-sub-BEGIN_MARGIN-lt-core.false in omega (arith, few, room)) may
+returns-in-Ok-clause-may g c = λ may. begins_may c.args.vol c.args.plex c.args.core.now c.begin_first.new.core (g.S.Shelf.meaning c.args.shelf.now) (g.S.Shelf.meaning c.begin_first.new.shelf) c.begin_first.ensures.begins (let few = c.in-Ok.ensures.few in let room = c.if-core.false in omega (arith, few, room)) may
 
 pub returns-in-Err-clause-cause : goal.returns-in-Err-clause-cause
 returns-in-Err-clause-cause g c = subst (λ no. DetStops {T = Unit {0}} (g.S.Shelf.meaning c.args.shelf.now) (g.S.Shelf.meaning c.begin_first.new.shelf) (Err (Refused no))) (sym c.refusal.ensures) (det_cause (Unit {0}) (Unit {0}) (g.S.Shelf.meaning c.args.shelf.now) (g.S.Shelf.meaning c.args.shelf.now) (g.S.Shelf.meaning c.begin_first.new.shelf) c.args.vol (inner_meaning (wide c.args.core.now) (g.S.Shelf.meaning c.args.shelf.now)) (inner_meaning (wide c.begin_first.new.core) (g.S.Shelf.meaning c.begin_first.new.shelf)) refl refl refl (λ u. omega arith) c.in-Err.error c.in-Err.ensures.cause)

@@ -121,7 +121,7 @@ pub returns-in-Err-begin_missing-clause-agreed : goal.returns-in-Err-begin_missi
 returns-in-Err-begin_missing-clause-agreed g c = λ is. c.det_logged.ensures.stands.stands.trusts.both (c.in-Ok.ensures.trust is)
 
 pub returns-in-Err-begin_missing-clause-cause : goal.returns-in-Err-begin_missing-clause-cause
-returns-in-Err-begin_missing-clause-cause g c = λ may. down_stops {T = Unit {0}} (g.S.Shelf.meaning c.args.shelf.now) (g.S.Shelf.meaning c.det_logged.new.shelf) (g.S.Shelf.meaning c.begin_missing.new.shelf) (Err c.in-Err-begin_missing.stop) c.in-Err-begin_missing.ensures.down
+returns-in-Err-begin_missing-clause-cause g c = λ may. down_stops (g.S.Shelf.meaning c.args.shelf.now) (g.S.Shelf.meaning c.det_logged.new.shelf) (g.S.Shelf.meaning c.begin_missing.new.shelf) (Err c.in-Err-begin_missing.stop) c.in-Err-begin_missing.ensures.down
 
 pub returns-clause-stands : goal.returns-clause-stands
 returns-clause-stands g c = subst (λ (s : Bool). LoggedStands c.keep_begun.new.core c.begin_missing.new.logs.items c.args.alike.now s (g.S.Shelf.meaning c.keep_begun.new.shelf)) (sym (c.may_begin.ensures.going c.if-not-may_begin.false)) c.keep_begun.ensures.stands

@@ -67,8 +67,8 @@ set_alike-requires g c = record {
       omega (arith, few, same, long, number);
 }
 
-pub set_alike-2-requires : goal.set_alike-2-requires
-set_alike-2-requires g c = record {
+pub set_alike-requires-in-Ok-make_in : goal.set_alike-requires-in-Ok-make_in
+set_alike-requires-in-Ok-make_in g c = record {
   inside =
       let few = c.make_in.ensures.stands.stands.few in
       let same = (wide_shape c.make_in.new.core).volumes in
@@ -84,7 +84,7 @@ returns-in-Ok-make_in-clause-stands g c = subst (λ (ls : List Logs). LoggedStan
 
 pub returns-in-Ok-make_in-clause-fresh : goal.returns-in-Ok-make_in-clause-fresh
 returns-in-Ok-make_in-clause-fresh g c =
-    fresh_made c.args.core.now c.make_in.new.core c.args.fresh.now c.set_alike-2.new.alike (g.S.Shelf.meaning c.args.shelf.now) (g.S.Shelf.meaning c.make_in.new.shelf) (c.in-Ok-make_in.ensures.ends (sym c.refuse_volume.ensures ∙ c.in_default.is)).volume c.requires.stands.group c.make_in.ensures.stays c.in-Ok-make_in.ensures.held (c.in-Ok-make_in.ensures.ends (sym c.refuse_volume.ensures ∙ c.in_default.is)).volumes (subst (λ (n : ℕ). AreZero c.make_in.new.core.inner.config n (g.S.Shelf.meaning c.make_in.new.shelf)) (c.in-Ok-make_in.ensures.ends (sym c.refuse_volume.ensures ∙ c.in_default.is)).number (c.in-Ok-make_in.ensures.ends (sym c.refuse_volume.ensures ∙ c.in_default.is)).begins) (λ w apart. c.set_alike-2.ensures.others w (λ same. apart (same ∙ (c.in-Ok-make_in.ensures.ends (sym c.refuse_volume.ensures ∙ c.in_default.is)).number))) c.requires.fresh
+    fresh_made c.args.core.now c.make_in.new.core c.args.fresh.now c.set_alike-in-Ok-make_in.new.alike (g.S.Shelf.meaning c.args.shelf.now) (g.S.Shelf.meaning c.make_in.new.shelf) (c.in-Ok-make_in.ensures.ends (sym c.refuse_volume.ensures ∙ c.in_default.is)).volume c.requires.stands.group c.make_in.ensures.stays c.in-Ok-make_in.ensures.held (c.in-Ok-make_in.ensures.ends (sym c.refuse_volume.ensures ∙ c.in_default.is)).volumes (subst (λ (n : ℕ). AreZero c.make_in.new.core.inner.config n (g.S.Shelf.meaning c.make_in.new.shelf)) (c.in-Ok-make_in.ensures.ends (sym c.refuse_volume.ensures ∙ c.in_default.is)).number (c.in-Ok-make_in.ensures.ends (sym c.refuse_volume.ensures ∙ c.in_default.is)).begins) (λ w apart. c.set_alike-in-Ok-make_in.ensures.others w (λ same. apart (same ∙ (c.in-Ok-make_in.ensures.ends (sym c.refuse_volume.ensures ∙ c.in_default.is)).number))) c.requires.fresh
 
 pub returns-in-Ok-make_in-clause-below : goal.returns-in-Ok-make_in-clause-below
 returns-in-Ok-make_in-clause-below g c = beside_units c.args.core.now.inner.config (g.S.Shelf.meaning c.args.shelf.now) (g.S.Shelf.meaning c.make_in.new.shelf) c.make_in.ensures.beside
