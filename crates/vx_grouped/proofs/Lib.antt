@@ -33,3 +33,5 @@ pub mod WhyLemmas
 pub mod SinceReturns
 pub mod ReadyLemmas
 pub mod FindLemmas
+pub mod TraceLemmas
+pub mod LitLemmas

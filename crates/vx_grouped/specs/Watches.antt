@@ -18,6 +18,7 @@ use Rattle.vx_group.specs.Loses.{LosesPlexes}
 use Rattle.vx_group.specs.Stands.{inner_meaning}
 use Rattle.vx_group.specs.declared.group_core.GroupCore.{GroupCore}
 use Rattle.vx_watched.specs.Since.{CalledSince}
+use Rattle.vx_watched.specs.Traces.{TellsLess}
 use Rattle.vx_grouped.specs.ConfigMoves.{none_again}
 use Rattle.vx_grouped.specs.CoreMoves.{BothOn, CoreMoves}
 use Rattle.vx_grouped.specs.Ends.{CallLeaves, WriteLeaves, plain_write}
@@ -68,6 +69,11 @@ pub record PlexAtts (vol plex : ℕ) (c : GroupCore) (m : Meaning) (d : GroupCor
 abbrev pub DeportSince : {S G : Type 0} → Meaning → (S → Meaning) → (G → S) → Result S (G × Stop) → Type 0
 DeportSince old meaning shelf (Ok s) = CalledSince old (meaning s)
 DeportSince old meaning shelf (Err (g, stop)) = CalledSince old (meaning (shelf g))
+
+-- and of its rack, which tells no more than it did
+abbrev pub DeportShows : {S G : Type 0} → Meaning → (S → Meaning) → (G → Meaning) → Result S (G × Stop) → Type 0
+DeportShows old below back (Ok s) = TellsLess old (below s)
+DeportShows old below back (Err (g, stop)) = TellsLess old (back g)
 
 -- a deport is refused for want of serials, or for a device
 abbrev pub DeportRefuses : {S G : Type 0} → Meaning → (S → Meaning) → (G → S) → Result S (G × Stop) → Type 0

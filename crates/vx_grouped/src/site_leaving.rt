@@ -5,21 +5,23 @@ ghost use Rattle.vx_history.specs.World.{Node};
 ghost use Rattle.vx_grouped.specs.CoreMoves.{DeportCan, DeportMoves};
 ghost use Rattle.vx_grouped.specs.Ends.{DeportLeaves};
 ghost use Rattle.vx_grouped.specs.GroupNotes.{IsGroupAt};
-ghost use Rattle.vx_grouped.specs.GroupSites.{GroupUp, UpNoted, site_disks};
+ghost use Rattle.vx_grouped.specs.GroupSites.{GroupUp, UpNoted, site_below, site_disks};
 ghost use Rattle.vx_grouped.specs.SiteEnds.{SiteDeported};
-ghost use Rattle.vx_grouped.specs.Watches.{DeportRefuses, DeportSince};
-ghost use Rattle.vx_untold.specs.Shades.{shade_meaning};
+ghost use Rattle.vx_grouped.specs.Watches.{DeportRefuses, DeportShows, DeportSince};
+ghost use Rattle.vx_untold.specs.Shades.{rack_of, shade_meaning};
 ghost use Rattle.vx_watched.specs.Since.{CalledSince};
+ghost use Rattle.vx_watched.specs.Traces.{TellsLess};
 
 use crate::leaving::deport_group;
 use crate::site_plexes::is_down_stop;
+use crate::tracing::{trace, untrace, untraced};
 use crate::{GroupSite, Idle, Laid};
 use std::marker::Brand;
 use vx_disk::Rack;
 use vx_group::Group;
 use vx_model::{No, Stop};
 use vx_untold::Shade;
-use vx_watched::{Begun, Watched};
+use vx_watched::{Begun, Traced, Watched};
 
 fn deport_from<B: Begun, R: Rack>(group: Group<R>) -> Result<R, (Group<R>, Stop)>
     requires up { IsTrue (R.meaning group.shelf).down → ⊥ }
@@ -44,6 +46,24 @@ fn deport_from<B: Begun, R: Rack>(group: Group<R>) -> Result<R, (Group<R>, Stop)
     }
 }
 
+// The same over the disks of a site, of which contents are told or not.
+fn deport_traced<C: Begun, R: Rack>(laid: Laid<R>) -> Result<Shade<R>, (Laid<R>, Stop)>
+    requires up { IsTrue (shade_meaning (λ s. R.meaning s) laid.shelf).down → ⊥ }
+    requires told { TellsLess C.first (R.meaning (rack_of laid.shelf)) }
+    ensures leaves { (n : Node) (note : GroupNode) → IsGroupAt n note laid.core (shade_meaning (λ s. R.meaning s) laid.shelf) → DeportLeaves n note laid.core (λ s. shade_meaning (λ s. R.meaning s) s) (λ g. g.core) (λ g. g.shelf) result }
+    ensures up { IfOk result (λ s. IsTrue (shade_meaning (λ s. R.meaning s) s).down → ⊥) }
+    ensures can { DeportCan laid.core (λ s. shade_meaning (λ s. R.meaning s) s) result }
+    ensures moves { DeportMoves laid.core (shade_meaning (λ s. R.meaning s) laid.shelf) (λ s. shade_meaning (λ s. R.meaning s) s) (λ g. g.core) (λ g. g.shelf) result }
+    ensures refusals { DeportRefuses (shade_meaning (λ s. R.meaning s) laid.shelf) (λ s. shade_meaning (λ s. R.meaning s) s) (λ g. g.shelf) result }
+    ensures since { DeportSince (shade_meaning (λ s. R.meaning s) laid.shelf) (λ s. shade_meaning (λ s. R.meaning s) s) (λ g. g.shelf) result }
+    ensures told { DeportShows C.first (λ s. R.meaning (rack_of s)) (λ g. R.meaning (rack_of g.shelf)) result }
+{
+    match deport_from::<Brand, Shade<Traced<R, C>>>(trace::<C, R>(laid)) {
+        Ok(rack) => Ok(untraced(rack)),
+        Err((group, stop)) => Err((untrace(group), stop)),
+    }
+}
+
 // Deports a group that is up, and hands its disks out. A refusal gives it back.
 fn deport_watched<R: Rack>(laid: Laid<R>) -> Result<Shade<R>, (Laid<R>, Stop)>
     requires { IsTrue (shade_meaning (λ s. R.meaning s) laid.shelf).down → ⊥ }
@@ -53,17 +73,16 @@ fn deport_watched<R: Rack>(laid: Laid<R>) -> Result<Shade<R>, (Laid<R>, Stop)>
     ensures moves { DeportMoves laid.core (shade_meaning (λ s. R.meaning s) laid.shelf) (λ s. shade_meaning (λ s. R.meaning s) s) (λ g. g.core) (λ g. g.shelf) result }
     ensures refusals { DeportRefuses (shade_meaning (λ s. R.meaning s) laid.shelf) (λ s. shade_meaning (λ s. R.meaning s) s) (λ g. g.shelf) result }
     ensures since { DeportSince (shade_meaning (λ s. R.meaning s) laid.shelf) (λ s. shade_meaning (λ s. R.meaning s) s) (λ g. g.shelf) result }
+    ensures told { DeportShows (R.meaning (rack_of laid.shelf)) (λ s. R.meaning (rack_of s)) (λ g. R.meaning (rack_of g.shelf)) result }
 {
-    match deport_from::<Brand, Shade<R>>(laid.together()) {
-        Ok(rack) => Ok(rack),
-        Err((group, stop)) => Err((Laid::of(group), stop)),
-    }
+    deport_traced::<Brand, R>(laid)
 }
 
 // Deports a site's group. A site whose fuse runs out crashes.
 fn deport_site<R: Rack>(laid: Laid<R>) -> (GroupSite<R>, Result<(), Stop>)
-    ensures deported { (n : Node) (note : GroupNode) → GroupUp n note laid.core (shade_meaning (λ s. R.meaning s) laid.shelf) → SiteDeported n note (GroupSite.Up laid) result.0 result.1 }
+    ensures deported { (n : Node) (note : GroupNode) → GroupUp n note (R.meaning (rack_of laid.shelf)).tells laid.core (shade_meaning (λ s. R.meaning s) laid.shelf) → SiteDeported n note (GroupSite.Up laid) result.0 result.1 }
     ensures since { CalledSince (shade_meaning (λ s. R.meaning s) laid.shelf) (site_disks result.0) }
+    ensures told { TellsLess (R.meaning (rack_of laid.shelf)) (site_below result.0) }
 {
     if laid.is_down() {
         return (GroupSite::Up(laid), Err(Stop::No(No::Role)));
@@ -89,6 +108,7 @@ impl<R: Rack> GroupSite<R> {
     pub fn deport(self) -> (GroupSite<R>, Result<(), Stop>)
         ensures deported { (n : Node) (note : GroupNode) → UpNoted n note self → SiteDeported n note self result.0 result.1 }
         ensures since { CalledSince (site_disks self) (site_disks result.0) }
+        ensures told { TellsLess (site_below self) (site_below result.0) }
     {
         match self {
             GroupSite::Up(group) => deport_site(group),

@@ -8,14 +8,17 @@ ghost use Rattle.vx_group.specs.Imports.{ImportStops};
 ghost use Rattle.vx_group.specs.Resumes.{CanImport, CanImportBehind};
 ghost use Rattle.vx_grouped.specs.Away.{AwayLies};
 ghost use Rattle.vx_grouped.specs.Begins.{CreateSince};
-ghost use Rattle.vx_grouped.specs.GroupSites.{AreStopped, AwayNoted, DownNoted, GroupAway, GroupDown, site_disks};
+ghost use Rattle.vx_grouped.specs.GroupSites.{AreStopped, AwayNoted, DownNoted, GroupAway, GroupDown, site_below, site_disks};
 ghost use Rattle.vx_grouped.specs.Returns.{ImportLeaves};
 ghost use Rattle.vx_grouped.specs.SiteReturns.{ImportsFrom, RecoversFrom, ReturnSince, SiteImports, SiteRecovers, TellsNone, stops_early};
-ghost use Rattle.vx_untold.specs.Shades.{shade_meaning};
+ghost use Rattle.vx_untold.specs.Shades.{rack_of, shade_meaning};
 ghost use Rattle.vx_watched.specs.Since.{CalledSince};
+ghost use Rattle.vx_watched.specs.Traces.{TellsLess};
+ghost use Rattle.vx_grouped.specs.Finds.{FoundTells};
 
 use crate::importing::import_group;
 use crate::site_plexes::is_down_stop;
+use crate::tracing::{traced, untrace, untraced};
 use crate::{GroupSite, Idle, Laid};
 use std::alloc::Global;
 use std::marker::Brand;
@@ -23,7 +26,7 @@ use vx_disk::{Rack, Shelf};
 use vx_group::{Group, fall, revive};
 use vx_model::{No, Stop};
 use vx_untold::Shade;
-use vx_watched::{Begun, Watched};
+use vx_watched::{Begun, Traced, Watched};
 
 fn import_from<B: Begun, R: Rack>(alloc: Global, rack: R) -> Result<Group<R>, (R, Stop)>
     requires can { CanImport (R.meaning rack) }
@@ -46,6 +49,27 @@ fn import_from<B: Begun, R: Rack>(alloc: Global, rack: R) -> Result<Group<R>, (R
     }
 }
 
+// The same over the disks of a site, of which contents are told or not.
+fn import_traced<C: Begun, R: Rack>(
+    alloc: Global,
+    rack: Shade<R>,
+) -> Result<Laid<R>, (Shade<R>, Stop)>
+    requires can { CanImport (shade_meaning (λ s. R.meaning s) rack) }
+    requires told { TellsLess C.first (R.meaning (rack_of rack)) }
+    ensures leaves { (n : Node) (note : GroupNode) (last : ConfigValue) → AwayLies n note last (shade_meaning (λ s. R.meaning s) rack) → ImportLeaves n note last (shade_meaning (λ s. R.meaning s) rack) (λ s. shade_meaning (λ s. R.meaning s) s) (λ g. g.core) (λ g. g.shelf) result }
+    ensures stops { IfErr result (λ e. ImportStops (shade_meaning (λ s. R.meaning s) rack) (shade_meaning (λ s. R.meaning s) e.0) e.1) }
+    ensures again { IfErr result (λ e. CanImportBehind (shade_meaning (λ s. R.meaning s) e.0)) }
+    ensures up { IfOk result (λ g. IsTrue (shade_meaning (λ s. R.meaning s) g.shelf).down → ⊥) }
+    ensures since { CreateSince (shade_meaning (λ s. R.meaning s) rack) (λ s. shade_meaning (λ s. R.meaning s) s) (λ g. g.shelf) result }
+    ensures told { FoundTells C.first (λ s. R.meaning (rack_of s)) (λ g. R.meaning (rack_of g.shelf)) result }
+{
+    let came = import_from::<Brand, Shade<Traced<R, C>>>(alloc, traced::<C, R>(rack));
+    match came {
+        Ok(group) => Ok(untrace(group)),
+        Err((rack, stop)) => Err((untraced(rack), stop)),
+    }
+}
+
 // Imports a group of the disks of a rack that is up, whose calls it accounts for.
 fn import_watched<R: Rack>(alloc: Global, rack: Shade<R>) -> Result<Laid<R>, (Shade<R>, Stop)>
     requires { CanImport (shade_meaning (λ s. R.meaning s) rack) }
@@ -54,11 +78,9 @@ fn import_watched<R: Rack>(alloc: Global, rack: Shade<R>) -> Result<Laid<R>, (Sh
     ensures again { IfErr result (λ e. CanImportBehind (shade_meaning (λ s. R.meaning s) e.0)) }
     ensures up { IfOk result (λ g. IsTrue (shade_meaning (λ s. R.meaning s) g.shelf).down → ⊥) }
     ensures since { CreateSince (shade_meaning (λ s. R.meaning s) rack) (λ s. shade_meaning (λ s. R.meaning s) s) (λ g. g.shelf) result }
+    ensures told { FoundTells (R.meaning (rack_of rack)) (λ s. R.meaning (rack_of s)) (λ g. R.meaning (rack_of g.shelf)) result }
 {
-    match import_from::<Brand, Shade<R>>(alloc, rack) {
-        Ok(group) => Ok(Laid::of(group)),
-        Err((rack, stop)) => Err((rack, stop)),
-    }
+    import_traced::<Brand, R>(alloc, rack)
 }
 
 // Whether an import that was refused so had written nothing.
@@ -71,6 +93,23 @@ fn is_early(stop: &Stop) -> bool
     )
 }
 
+// Disks that fell in an import, with an account of what the rack inside tells.
+fn fallen_traced<C: Begun, R: Rack>(rack: Shade<R>, early: bool) -> Shade<R>
+    requires { TellsLess C.first (R.meaning (rack_of rack)) }
+    ensures fell { AreStopped (shade_meaning (λ s. R.meaning s) result) }
+    ensures stopped { early ≡ true → Stopped (shade_meaning (λ s. R.meaning s) rack) (shade_meaning (λ s. R.meaning s) result) }
+    ensures dark { early ≡ false → TellsNone (shade_meaning (λ s. R.meaning s) result) }
+    ensures can { CanImportBehind (shade_meaning (λ s. R.meaning s) rack) → CanImport (shade_meaning (λ s. R.meaning s) result) }
+    ensures since { ReturnSince (shade_meaning (λ s. R.meaning s) rack) (shade_meaning (λ s. R.meaning s) result) }
+    ensures counts { (d : ℕ) → (shade_meaning (λ s. R.meaning s) result).disk_faults d ≡ (shade_meaning (λ s. R.meaning s) rack).disk_faults d }
+    ensures told { TellsLess C.first (R.meaning (rack_of result)) }
+{
+    let mut inside = traced::<C, R>(rack);
+    fall(&mut inside, u64::MAX);
+    let rack = untraced(inside);
+    if early { rack } else { rack.darkened() }
+}
+
 // Disks that fell in an import: where it had begun to write it is not known what they hold.
 fn fallen<R: Rack>(rack: Shade<R>, early: bool) -> Shade<R>
     ensures fell { AreStopped (shade_meaning (λ s. R.meaning s) result) }
@@ -79,10 +118,25 @@ fn fallen<R: Rack>(rack: Shade<R>, early: bool) -> Shade<R>
     ensures can { CanImportBehind (shade_meaning (λ s. R.meaning s) rack) → CanImport (shade_meaning (λ s. R.meaning s) result) }
     ensures since { ReturnSince (shade_meaning (λ s. R.meaning s) rack) (shade_meaning (λ s. R.meaning s) result) }
     ensures counts { (d : ℕ) → (shade_meaning (λ s. R.meaning s) result).disk_faults d ≡ (shade_meaning (λ s. R.meaning s) rack).disk_faults d }
+    ensures told { TellsLess (R.meaning (rack_of rack)) (R.meaning (rack_of result)) }
 {
-    let mut rack = rack;
-    fall(&mut rack, u64::MAX);
-    if early { rack } else { rack.darkened() }
+    fallen_traced::<Brand, R>(rack, early)
+}
+
+// Ends the down state of disks, with such an account.
+fn risen_traced<C: Begun, R: Rack>(rack: Shade<R>) -> Shade<R>
+    requires down { IsTrue (shade_meaning (λ s. R.meaning s) rack).down }
+    requires told { TellsLess C.first (R.meaning (rack_of rack)) }
+    ensures alike { Alike (shade_meaning (λ s. R.meaning s) rack) (shade_meaning (λ s. R.meaning s) result) }
+    ensures up { IsFalse (shade_meaning (λ s. R.meaning s) result).down }
+    ensures armed { (shade_meaning (λ s. R.meaning s) result).armed ≡ (shade_meaning (λ s. R.meaning s) rack).armed }
+    ensures can { CanImport (shade_meaning (λ s. R.meaning s) rack) → CanImport (shade_meaning (λ s. R.meaning s) result) }
+    ensures since { ReturnSince (shade_meaning (λ s. R.meaning s) rack) (shade_meaning (λ s. R.meaning s) result) }
+    ensures told { TellsLess C.first (R.meaning (rack_of result)) }
+{
+    let mut inside = traced::<C, R>(rack);
+    revive(&mut inside);
+    untraced(inside)
 }
 
 // Ends the down state of disks.
@@ -93,17 +147,17 @@ fn risen<R: Rack>(rack: Shade<R>) -> Shade<R>
     ensures armed { (shade_meaning (λ s. R.meaning s) result).armed ≡ (shade_meaning (λ s. R.meaning s) rack).armed }
     ensures can { CanImport (shade_meaning (λ s. R.meaning s) rack) → CanImport (shade_meaning (λ s. R.meaning s) result) }
     ensures since { ReturnSince (shade_meaning (λ s. R.meaning s) rack) (shade_meaning (λ s. R.meaning s) result) }
+    ensures told { TellsLess (R.meaning (rack_of rack)) (R.meaning (rack_of result)) }
 {
-    let mut rack = rack;
-    revive(&mut rack);
-    rack
+    risen_traced::<Brand, R>(rack)
 }
 
 // Imports the group of disks that crashed. Refused, they crash again.
 fn recover_site<R: Rack>(alloc: Global, rack: Shade<R>) -> (GroupSite<R>, Result<(), Stop>)
     requires { CanImport (shade_meaning (λ s. R.meaning s) rack) }
-    ensures recovered { (n : Node) (note : GroupNode) → GroupDown n note (shade_meaning (λ s. R.meaning s) rack) → RecoversFrom n note (shade_meaning (λ s. R.meaning s) rack) result.0 result.1 }
+    ensures recovered { (n : Node) (note : GroupNode) → GroupDown n note true (R.meaning (rack_of rack)).tells (shade_meaning (λ s. R.meaning s) rack) → RecoversFrom n note (shade_meaning (λ s. R.meaning s) rack) result.0 result.1 }
     ensures since { ReturnSince (shade_meaning (λ s. R.meaning s) rack) (site_disks result.0) }
+    ensures told { TellsLess (R.meaning (rack_of rack)) (site_below result.0) }
 {
     if !rack.is_down() {
         return (
@@ -130,8 +184,9 @@ fn recover_site<R: Rack>(alloc: Global, rack: Shade<R>) -> (GroupSite<R>, Result
 // or they are down, as the fuse ran out.
 fn import_site<R: Rack>(alloc: Global, rack: Shade<R>) -> (GroupSite<R>, Result<(), Stop>)
     requires { CanImport (shade_meaning (λ s. R.meaning s) rack) }
-    ensures imported { (n : Node) (note : GroupNode) → GroupAway n note (shade_meaning (λ s. R.meaning s) rack) → ImportsFrom n note (shade_meaning (λ s. R.meaning s) rack) result.0 result.1 }
+    ensures imported { (n : Node) (note : GroupNode) → GroupAway n note true (R.meaning (rack_of rack)).tells (shade_meaning (λ s. R.meaning s) rack) → ImportsFrom n note (shade_meaning (λ s. R.meaning s) rack) result.0 result.1 }
     ensures since { ReturnSince (shade_meaning (λ s. R.meaning s) rack) (site_disks result.0) }
+    ensures told { TellsLess (R.meaning (rack_of rack)) (site_below result.0) }
 {
     if rack.is_down() {
         return (
@@ -167,6 +222,7 @@ impl<R: Rack> GroupSite<R> {
         ensures recovered { (n : Node) (note : GroupNode) → DownNoted n note self → SiteRecovers n note self result.0 result.1 }
         ensures imported { (n : Node) (note : GroupNode) → AwayNoted n note self → SiteImports n note self result.0 result.1 }
         ensures since { ReturnSince (site_disks self) (site_disks result.0) }
+        ensures told { TellsLess (site_below self) (site_below result.0) }
     {
         match self {
             GroupSite::Down(idle) => recover_site(alloc, idle.into_ready()),
