@@ -175,7 +175,7 @@ late_none m m' (Device disk) early cause = cc
 late_none m m' IsOff early cause = cc
 late_none m m' other early cause = cause
 
-early_goes : (m m' : Meaning) (stop : Stop) → stops_early stop ≡ true → ImportStops m m' stop → Goes Nothing m m'
+pub early_goes : (m m' : Meaning) (stop : Stop) → stops_early stop ≡ true → ImportStops m m' stop → Goes Nothing m m'
 early_goes m m' stop early (inl it) = it.0
 early_goes m m' (Refused why) early (inr it) = elim it.1 [
   | inl cause ↦ absurd (late_none m m' why early cause)

@@ -1,23 +1,47 @@
 // A group that is up on the disks of a site.
 ghost use Rattle.std.specs.Prelude.{◌≡◌, ◌≢◌, ◌<◌, ℕ, IsTrue, Some};
-ghost use Rattle.vx_group.specs.Holding.{GroupStands};
+ghost use Rattle.vx_loggroup.specs.Facts.{LoggedFact};
+ghost use Rattle.vx_loggroup.specs.Fresh.{FreshStands};
 ghost use Rattle.vx_untold.specs.Shades.{shade_meaning};
 
 use crate::Idle;
 use vx_config::{Config, encode_into, is_short};
 use vx_disk::{Rack, Shelf};
-use vx_group::{Group, GroupCore, crash_in, fail_in, fuse_in};
+use vx_group::GroupCore;
+use vx_loggroup::{LoggedGroup, Opened, crash_whole, fail_whole, fuse_whole};
+use vx_logimport::Rested;
+use vx_logs::Logs;
+use vx_model::limits::MOST_VOLUMES;
 use vx_untold::Shade;
 
 // The most bytes of a configuration.
 const MOST_BYTES: usize = 65024;
+
+// Which volumes are as a deport left them, behind a crash: none; it is not known where logs were stopped.
+fn rested_of(stopped: bool) -> Option<Rested>
+    ensures none { (r : RestedValue) → result ≡ Some r → (stopped ≡ false) × (r ≡ none_rest) }
+{
+    if stopped {
+        return None;
+    }
+    Some(Rested::none())
+}
 
 /// A group by its parts, over disks of which the contents are told or not.
 #[derive(Drop)]
 pub struct Laid<R: Rack> {
     pub shelf: Shade<R>,
     pub core: GroupCore,
-    pub ghost stands: { GroupStands core (shade_meaning (λ s. R.meaning s) shelf) },
+    /// Of each volume its logs.
+    pub logs: Vec<Logs>,
+    /// Of each volume whether its plexes are alike.
+    pub alike: [bool; MOST_VOLUMES],
+    /// Of each volume whether its logs may begin.
+    pub fresh: [bool; MOST_VOLUMES],
+    /// Logs are stopped, as no serial is left to commit that one is lost.
+    pub stopped: bool,
+    pub ghost stands: { LoggedFact core logs.items alike stopped (shade_meaning (λ s. R.meaning s) shelf) },
+    pub ghost begins: { FreshStands core fresh (shade_meaning (λ s. R.meaning s) shelf) },
 }
 
 impl<R: Rack> Laid<R> {
@@ -37,20 +61,45 @@ impl<R: Rack> Laid<R> {
     ghost use Rattle.vx_model.specs.declared.site.SiteState.TheVariants.{Down as DownState};
 
     /// The parts of a group. It makes no device call.
-    pub fn of(group: Group<Shade<R>>) -> Laid<R>
+    pub fn of(group: LoggedGroup<Shade<R>>) -> Laid<R>
         ensures shelf { result.shelf ≡ group.shelf }
         ensures core { result.core ≡ group.core }
+        ensures stopped { result.stopped ≡ group.stopped }
     {
-        let (shelf, core) = group.apart();
-        Laid { shelf, core }
+        let (shelf, rest) = group.apart();
+        let Opened {
+            core,
+            logs,
+            alike,
+            fresh,
+            stopped,
+        } = rest;
+        Laid {
+            shelf,
+            core,
+            logs,
+            alike,
+            fresh,
+            stopped,
+        }
     }
 
     /// The group. It makes no device call.
-    pub fn together(self) -> Group<Shade<R>>
+    pub fn together(self) -> LoggedGroup<Shade<R>>
         ensures shelf { result.shelf ≡ self.shelf }
         ensures core { result.core ≡ self.core }
+        ensures stopped { result.stopped ≡ self.stopped }
     {
-        Group::together(self.shelf, self.core)
+        LoggedGroup::together(
+            self.shelf,
+            Opened {
+                core: self.core,
+                logs: self.logs,
+                alike: self.alike,
+                fresh: self.fresh,
+                stopped: self.stopped,
+            },
+        )
     }
 
     /// The configuration.
@@ -115,7 +164,15 @@ impl<R: Rack> Laid<R> {
         ensures disks { WithDisks (shade_meaning (λ s. R.meaning s) self.old.shelf).disks (shade_meaning (λ s. R.meaning s) self.new.shelf).disks (λ o n. Untouched o n × (n.failing disk ≡ on) × ((u : ℕ) → u ≢ disk → n.failing u ≡ o.failing u)) }
         ensures volumes { Alike (inner_meaning (wide self.old.core) (shade_meaning (λ s. R.meaning s) self.old.shelf)) (inner_meaning (wide self.new.core) (shade_meaning (λ s. R.meaning s) self.new.shelf)) }
     {
-        fail_in(&mut self.shelf, &self.core, disk, on);
+        fail_whole(
+            &mut self.shelf,
+            &self.core,
+            &self.logs,
+            &self.alike,
+            self.stopped,
+            disk,
+            on,
+        );
     }
 
     /// Lets that many writes and flushes of the disks pass; the next is a crash.
@@ -126,7 +183,15 @@ impl<R: Rack> Laid<R> {
         ensures disks { OnDisks (shade_meaning (λ s. R.meaning s) self.old.shelf).disks (shade_meaning (λ s. R.meaning s) self.new.shelf).disks (λ o n. SameBlocks o n × (n.fuse ≡ Some (calls, pick))) }
         ensures volumes { Alike (inner_meaning (wide self.old.core) (shade_meaning (λ s. R.meaning s) self.old.shelf)) (inner_meaning (wide self.new.core) (shade_meaning (λ s. R.meaning s) self.new.shelf)) }
     {
-        fuse_in(&mut self.shelf, &self.core, calls, pick);
+        fuse_whole(
+            &mut self.shelf,
+            &self.core,
+            &self.logs,
+            &self.alike,
+            self.stopped,
+            calls,
+            pick,
+        );
     }
 
     /// Crashes the disks, up or down, and hands them out, with whether imports of them agree.
@@ -137,7 +202,14 @@ impl<R: Rack> Laid<R> {
     {
         let mut shelf = self.shelf;
         let core = self.core;
-        crash_in(&mut shelf, &core, pick);
-        Idle::of(shelf, core.inner.agreed)
+        crash_whole(
+            &mut shelf,
+            &core,
+            &self.logs,
+            &self.alike,
+            self.stopped,
+            pick,
+        );
+        Idle::of(shelf, core.inner.agreed, rested_of(self.stopped))
     }
 }

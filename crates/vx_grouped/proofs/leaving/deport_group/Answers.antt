@@ -11,7 +11,7 @@ use Rattle.vx_grouped.proofs.leaving.deport_group.Goals as goal
 
 pub returns-in-Ok-clause-leaves : goal.returns-in-Ok-clause-leaves
 returns-in-Ok-clause-leaves g c = λ n note at.
-    (c.in-Ok.ensures.ends.config, deported_at n note c.args.group.core (g.S.Shelf.meaning c.args.group.shelf) (g.S.Shelf.meaning c.in-Ok.rack) at.lies c.args.group.stands c.in-Ok.ensures.ends (λ is. c.in-Ok.ensures.can (inl is)))
+    (c.in-Ok.ensures.ends.config, deported_at n note c.args.group.core (g.S.Shelf.meaning c.args.group.shelf) (g.S.Shelf.meaning c.in-Ok.rack) at.lies c.args.group.stands.group c.in-Ok.ensures.ends (λ is. c.in-Ok.ensures.can (inl is)))
 
 pub returns-then-is_down-clause-limit : goal.returns-then-is_down-clause-limit
 returns-then-is_down-clause-limit g c = λ lt.
@@ -35,11 +35,11 @@ returns-in-Ok-clause-can g c = λ is. c.in-Ok.ensures.can (inl is)
 pub returns-then-is_down-clause-moves : goal.returns-then-is_down-clause-moves
 returns-then-is_down-clause-moves g c = record {
   loses = c.in-Err.ensures.ends.quiesces.loses;
-  on = both_on c.args.group.core c.in-Err.group.core (g.S.Shelf.meaning c.args.group.shelf) (g.S.Shelf.meaning c.in-Err.group.shelf) c.args.group.stands c.in-Err.group.stands;
+  on = both_on c.args.group.core c.in-Err.group.core (g.S.Shelf.meaning c.args.group.shelf) (g.S.Shelf.meaning c.in-Err.group.shelf) c.args.group.stands.group c.in-Err.group.stands.group;
 }
 
 pub returns-else-is_down-clause-moves : goal.returns-else-is_down-clause-moves
 returns-else-is_down-clause-moves g c = record {
   loses = c.in-Err.ensures.ends.quiesces.loses;
-  on = both_on c.args.group.core c.in-Err.group.core (g.S.Shelf.meaning c.args.group.shelf) (g.S.Shelf.meaning c.in-Err.group.shelf) c.args.group.stands c.in-Err.group.stands;
+  on = both_on c.args.group.core c.in-Err.group.core (g.S.Shelf.meaning c.args.group.shelf) (g.S.Shelf.meaning c.in-Err.group.shelf) c.args.group.stands.group c.in-Err.group.stands.group;
 }
