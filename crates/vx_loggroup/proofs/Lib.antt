@@ -9,4 +9,5 @@ pub mod FactLemmas
 pub mod CrashedLogs
 pub mod TrustedLogs
 pub mod BegunLemmas
+pub mod DetachedLogs
 pub mod MadeLogs

@@ -4,3 +4,4 @@ pub mod Marks
 pub mod Opens
 pub mod Made
 pub mod Attaching
+pub mod Detaching

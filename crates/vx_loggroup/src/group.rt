@@ -7,8 +7,12 @@ ghost use Rattle.vx_disk.specs.Disks.{Untouched};
 ghost use Rattle.vx_disk.specs.Racks.{Stopped};
 ghost use Rattle.vx_disk.specs.Shelf.{DisksFlushed, DisksWrote, Fits, Flushed, Goes, Nothing, Read, Written, Wrote};
 ghost use Rattle.vx_group.specs.Attaches.{GroupAttachEnds, att_refusal, missed_regions};
-ghost use Rattle.vx_group.specs.Calls.{GivesBack, GroupAttaches, GroupCreated, GroupDeported, GroupNarrows, IsFull};
+ghost use Rattle.vx_group.specs.Calls.{GivesBack, GroupAttaches, GroupCreated, GroupDeported, IsFull};
 ghost use Rattle.vx_group.specs.Deports.{DeportStops, GroupCanImport};
+ghost use Rattle.vx_copies.specs.Commits.{MoreFailed};
+ghost use Rattle.vx_group.specs.Creates.{SameUnits};
+ghost use Rattle.vx_group.specs.Loses.{SameParts};
+ghost use Rattle.vx_kept.specs.Keeping.{frame_at};
 ghost use Rattle.vx_group.specs.Dets.{DetStops, det_refusal, margin};
 ghost use Rattle.vx_group.specs.Holding.{wide};
 ghost use Rattle.vx_group.specs.Laws.{group_lawful};
@@ -16,11 +20,13 @@ ghost use Rattle.vx_group.specs.Makes.{make_refusal};
 ghost use Rattle.vx_group.specs.Regains.{HoldsPlex, Regains};
 ghost use Rattle.vx_group.specs.Resumes.{CanImport};
 ghost use Rattle.vx_group.specs.Stands.{inner_meaning};
-ghost use Rattle.vx_loggroup.specs.Attaching.{map_by};
+ghost use Rattle.vx_loggroup.specs.Attaching.{fmr_at, map_by};
+ghost use Rattle.vx_loggroup.specs.Detaching.{MapIsEmpty, MapsBegin};
 ghost use Rattle.vx_loggroup.specs.Facts.{LoggedFact};
-ghost use Rattle.vx_loggroup.specs.LoggedVolumes.{LoggedStands};
+ghost use Rattle.vx_loggroup.specs.LoggedVolumes.{LoggedStands, is_alike};
 ghost use Rattle.vx_loggroup.specs.Made.{LoggedMakes};
-ghost use Rattle.vx_loggroup.specs.Marks.{ClearsVolume, MarksVolume};
+ghost use Rattle.vx_logged.specs.Behind.{MarksFirst, those_missing};
+ghost use Rattle.vx_loggroup.specs.Marks.{ClearsVolume, MarksVolume, NotesVolume};
 ghost use Rattle.vx_loggroup.specs.Opens.{DeportTells, LoggedImported};
 ghost use Rattle.vx_logimport.specs.Covers.{DisksTell};
 ghost use Rattle.vx_logs.specs.Writes.{first_region, last_region};
@@ -33,7 +39,8 @@ ghost use Rattle.vx_volume.specs.Plexes.{active};
 use crate::attaching::att_whole;
 use crate::crashing::crash_whole;
 use crate::deporting::deport_whole;
-use crate::keeping::{det_whole, read_whole};
+use crate::detaching::det_whole;
+use crate::keeping::read_whole;
 use crate::making::make_whole;
 use crate::opening::{Opened, open_logged};
 use crate::whole::{flush_whole, write_whole};
@@ -148,14 +155,20 @@ impl<S: Shelf> LoggedGroup<S> {
         )
     }
 
-    /// Detaches a plex, as a group does without logs.
+    /// Detaches a plex, as a group does without logs. Where no write of the volume failed since the import, the map of the plex begins then: it has
+    /// missed no region yet.
     pub fn det(&mut self, vol: u32, plex: u32) -> Result<(), Stop>
         ensures refused { (no : NoValue) → det_refusal self.old.core.inner.config vol plex ≡ Some no → (result ≡ Err (Refused no)) × (self.new.core ≡ self.old.core) × (self.new.shelf ≡ self.old.shelf) }
         ensures goes { Goes Nothing (inner_meaning (wide self.old.core) (S.meaning self.old.shelf)) (inner_meaning (wide self.new.core) (S.meaning self.new.shelf)) }
-        ensures narrows { GroupNarrows self.old.core self.new.core (S.meaning self.old.shelf) (S.meaning self.new.shelf) }
+        ensures parts { SameParts self.old.core.inner.config self.new.core.inner.config }
+        ensures disks { MoreFailed (S.meaning self.old.shelf) (S.meaning self.new.shelf) self.old.core.inner.config.disks self.new.core.inner.config.disks }
+        ensures frames { (v : ℕ) → frame_at self.new.core.inner.config v ≡ frame_at self.old.core.inner.config v }
+        ensures below { SameUnits (S.meaning self.old.shelf) (S.meaning self.new.shelf) }
+        ensures on { (v p : ℕ) → IsTrue (active self.new.core.inner.config v p) → IsTrue (active self.old.core.inner.config v p) }
+        ensures begins { OnOk result (self.old.stopped ≡ false → self.new.core.held ≡ None → is_alike self.old.alike vol ≡ true → IsTrue (active self.old.core.inner.config vol plex) → MapIsEmpty self.old.core.inner.config vol plex (fmr_at self.new.logs.items vol)) }
         ensures off { OnOk result (active self.new.core.inner.config vol plex ≡ false) }
         ensures others { (w p : ℕ) → (w ≡ vol → p ≡ plex → ⊥) → active self.new.core.inner.config w p ≡ active self.old.core.inner.config w p }
-        ensures logs { self.new.logs.items ≡ self.old.logs.items }
+        ensures maps { MapsBegin vol plex self.old.logs.items self.new.logs.items }
         ensures trust { OnOk result (self.old.core.inner.committed ≡ true → self.new.core.inner.committed ≡ true) }
         ensures agreed { IfErr result (λ e. self.old.core.inner.committed ≡ true → self.new.core.inner.agreed ≡ true) }
         ensures cause { det_refusal self.old.core.inner.config vol plex ≡ None → DetStops (S.meaning self.old.shelf) (S.meaning self.new.shelf) result }
@@ -163,7 +176,7 @@ impl<S: Shelf> LoggedGroup<S> {
         det_whole(
             &mut self.shelf,
             &mut self.core,
-            &self.logs,
+            &mut self.logs,
             &self.alike,
             self.stopped,
             vol,
@@ -324,8 +337,9 @@ impl<S: Shelf> Shelf for LoggedGroup<S> {
         )
     }
 
-    /// Writes to each plex that is ACTIVE. The regions of the run are durably marked first, and no others: a log of which the disk fails is lost by
-    /// a commit before a plex is written.
+    /// Writes to each plex that is ACTIVE. The regions of the run are durably marked first, and no others: as dirty, and as missed by each plex that
+    /// is STALE; a log of which the disk fails is lost by a commit before a plex is written. A plex that fails in the write misses these regions too.
+    /// Behind a refusal they are noted as missed by each plex.
     fn write(&mut self, unit: u32, block: u64, bytes: &[u8]) -> Result<(), ShelfError>
         requires { Fits (inner_meaning (wide self.old.core) (S.meaning self.old.shelf)) unit block (length bytes.now) }
         ensures goes { Goes (Written unit block bytes.now) (inner_meaning (wide self.old.core) (S.meaning self.old.shelf)) (inner_meaning (wide self.new.core) (S.meaning self.new.shelf)) }
@@ -335,6 +349,8 @@ impl<S: Shelf> Shelf for LoggedGroup<S> {
         ensures works { OnOk result (Works (inner_meaning (wide self.old.core) (S.meaning self.old.shelf)).disks unit) }
         ensures disks { OnDisks (inner_meaning (wide self.old.core) (S.meaning self.old.shelf)).disks (inner_meaning (wide self.new.core) (S.meaning self.new.shelf)).disks (λ o n. Calls (inner_meaning (wide self.old.core) (S.meaning self.old.shelf)) (DisksWrote unit block bytes.now) o n result) }
         ensures marks { MarksVolume (wide self.old.core).config unit (first_region block) (last_region block (length bytes.now / 512)) self.old.logs.items self.new.logs.items }
+        ensures notes { NotesVolume (those_missing self.new.core unit result) unit (first_region block) (last_region block (length bytes.now / 512)) self.old.logs.items self.new.logs.items }
+        ensures marked { self.new.stopped ≡ false → MarksFirst (λ s. S.meaning s) unit block bytes.now (first_region block) (last_region block (length bytes.now / 512)) self.old.core self.new.core (S.meaning self.old.shelf) (S.meaning self.new.shelf) }
         ensures full { self.old.stopped ≡ false → self.new.stopped ≡ true → greatest ≤ self.old.core.inner.config.serial + 18 }
         ensures trust { OnOk result (self.old.core.inner.committed ≡ true → self.new.core.inner.committed ≡ true) }
         ensures agreed { IfErr result (λ e. self.old.core.inner.committed ≡ true → self.new.core.inner.agreed ≡ true) }

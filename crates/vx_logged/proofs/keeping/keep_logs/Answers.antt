@@ -6,6 +6,7 @@ use Rattle.vx_disk.proofs.Runs.{then_nothing}
 use Rattle.vx_group.specs.Holding.{wide}
 use Rattle.vx_group.specs.Stands.{inner_meaning}
 use Rattle.vx_config.specs.declared.entry.VolumeLog.TheVariants.{Drl}
+use Rattle.vx_logged.proofs.RefuseLemmas.{map_said}
 use Rattle.vx_logged.proofs.StandLemmas.{each_then, narrowed_then}
 use Rattle.vx_logged.proofs.keeping.keep_logs.Goals as goal
 
@@ -29,3 +30,9 @@ returns-in-Err-keep_map-clause-logs g c = each_then c.args.core.now c.keep_log.n
 
 pub returns-in-Err-keep_map-clause-narrow : goal.returns-in-Err-keep_map-clause-narrow
 returns-in-Err-keep_map-clause-narrow g c = narrowed_then c.args.core.now c.keep_log.new.core c.keep_map.new.core c.keep_log.ensures.narrow c.keep_map.ensures.narrow
+
+pub returns-then-not-done-clause-said : goal.returns-then-not-done-clause-said
+returns-then-not-done-clause-said g c = λ is. absurd (let clash : false ≡ true = is in cc)
+
+pub returns-in-Ok-keep_map-clause-said : goal.returns-in-Ok-keep_map-clause-said
+returns-in-Ok-keep_map-clause-said g c = λ is. map_said c.keep_map.new.core c.args.vol c.args.logs.now c.in-Ok-keep_map.field-0 c.in-Ok-keep_map.ensures.kept c.in-Ok-keep_map.ensures.spent

@@ -46,4 +46,4 @@ returns-in-Ok-clause-narrow g c =
 pub returns-in-Err-clause-narrow : goal.returns-in-Err-clause-narrow
 returns-in-Err-clause-narrow g c =
     let it = narrowed_acts Nothing c.args.core.now c.release.new.core (g.S.Shelf.meaning c.args.shelf.now) (g.S.Shelf.meaning c.release.new.shelf) (narrow_PlexActs Nothing (wide c.args.core.now) (wide c.release.new.core) (g.S.Shelf.meaning c.args.shelf.now) (g.S.Shelf.meaning c.release.new.shelf) c.release.ensures.narrows) in
-    record { less = it.less; on = it.on }
+    record { shape = it.shape; less = it.less; on = it.on }
