@@ -7,6 +7,7 @@ ghost use Rattle.vx_config.specs.Table.{greatest};
 ghost use Rattle.vx_disk.specs.Shelf.{Goes, Nothing};
 ghost use Rattle.vx_group.specs.Blames.{Blames};
 ghost use Rattle.vx_group.specs.Holding.{GroupStands, wide};
+ghost use Rattle.vx_group.specs.Loses.{LosesPlexes};
 ghost use Rattle.vx_group.specs.Stands.{InnerStands, inner_meaning};
 ghost use Rattle.vx_kept.specs.Commits.{IsCommitted};
 ghost use Rattle.vx_kept.specs.PlexActs.{PlexActs};
@@ -42,6 +43,9 @@ fn trust_log<S: Shelf>(
     ensures stands { InnerStands core.new (S.meaning shelf.new) }
     ensures goes { Goes Nothing (inner_meaning core.old (S.meaning shelf.old)) (inner_meaning core.new (S.meaning shelf.new)) }
     ensures acts { PlexActs Nothing (lost_is vol log false core.old.config) core.new.config (S.meaning shelf.old) (S.meaning shelf.new) }
+    ensures loses { LosesPlexes core.old.config core.new.config (S.meaning shelf.old) (S.meaning shelf.new) }
+    ensures faults { core.new.faults ≡ core.old.faults }
+    ensures unsure { core.new.unsure ≡ core.old.unsure }
     ensures volumes { OnOk result (core.new.config.volumes ≡ (lost_is vol log false core.old.config).volumes) }
     ensures trust { OnOk result (core.old.committed ≡ true → core.new.committed ≡ true) }
     ensures agreed { IfErr result (λ e. core.old.committed ≡ true → core.new.agreed ≡ true) }
@@ -73,6 +77,9 @@ pub fn trust_group<S: Shelf>(
     ensures none { core.new.held ≡ None }
     ensures goes { Goes Nothing (inner_meaning (wide core.old) (S.meaning shelf.old)) (inner_meaning (wide core.new) (S.meaning shelf.new)) }
     ensures acts { PlexActs Nothing (lost_is vol log false (wide core.old).config) (wide core.new).config (S.meaning shelf.old) (S.meaning shelf.new) }
+    ensures loses { LosesPlexes core.old.inner.config core.new.inner.config (S.meaning shelf.old) (S.meaning shelf.new) }
+    ensures faults { core.new.inner.faults ≡ core.old.inner.faults }
+    ensures unsure { core.new.inner.unsure ≡ core.old.inner.unsure }
     ensures volumes { IfOk result (λ done. done ≡ true → core.new.inner.config.volumes ≡ (lost_is vol log false core.old.inner.config).volumes) }
     ensures committed { IfOk result (λ done. done ≡ true → IsCommitted core.new.inner.config (S.meaning shelf.new)) }
     ensures full { IfOk result (λ done. done ≡ false → greatest ≤ core.old.inner.config.serial) }

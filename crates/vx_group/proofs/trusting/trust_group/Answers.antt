@@ -7,6 +7,7 @@ use Rattle.vx_group.specs.Holding.{wide}
 use Rattle.vx_group.specs.Stands.{inner_meaning}
 use Rattle.vx_group.specs.declared.inner.Inner.{Inner}
 use Rattle.vx_group.proofs.HoldLemmas.{from_none, none_Stands, wide_none}
+use Rattle.vx_group.proofs.LoseLemmas.{loses_same}
 use Rattle.vx_group.proofs.MendLemmas.{same_Goes}
 use Rattle.vx_group.proofs.TrustingLemmas.{still_PlexActs}
 use Rattle.vx_group.proofs.trusting.trust_group.Goals as goal
@@ -54,3 +55,9 @@ pub returns-in-Err-clause-acts : goal.returns-in-Err-clause-acts
 returns-in-Err-clause-acts g c =
     subst (λ (i : Inner). PlexActs Nothing (lost c.args.vol c.args.log false i.config) (wide (record { inner = c.trust_log.new.core; held = c.args.core.now.held })).config (g.S.Shelf.meaning c.args.shelf.now) (g.S.Shelf.meaning c.trust_log.new.shelf)) (sym (wide_none c.args.core.now c.requires.none))
     (subst (λ (i : Inner). PlexActs Nothing (lost c.args.vol c.args.log false c.args.core.now.inner.config) i.config (g.S.Shelf.meaning c.args.shelf.now) (g.S.Shelf.meaning c.trust_log.new.shelf)) (sym (wide_none (record { inner = c.trust_log.new.core; held = c.args.core.now.held }) c.requires.none)) c.trust_log.ensures.acts)
+
+pub returns-then-is_down-clause-loses : goal.returns-then-is_down-clause-loses
+returns-then-is_down-clause-loses g c = loses_same c.args.core.now.inner.config (g.S.Shelf.meaning c.args.shelf.now) (g.S.Shelf.meaning c.args.shelf.now)
+
+pub returns-then-core-ge-MOST_NUMBER-clause-loses : goal.returns-then-core-ge-MOST_NUMBER-clause-loses
+returns-then-core-ge-MOST_NUMBER-clause-loses g c = loses_same c.args.core.now.inner.config (g.S.Shelf.meaning c.args.shelf.now) (g.S.Shelf.meaning c.args.shelf.now)

@@ -8,6 +8,7 @@ use Rattle.vx_group.specs.Stands.{inner_meaning}
 use Rattle.vx_config.specs.declared.entry.VolumeLog.TheVariants.{Drl}
 use Rattle.vx_logged.proofs.RefuseLemmas.{map_said}
 use Rattle.vx_logged.proofs.StandLemmas.{each_then, narrowed_then}
+use Rattle.vx_group.proofs.LoseLemmas.{then_along}
 use Rattle.vx_logged.proofs.keeping.keep_logs.Goals as goal
 
 pub returns-in-Ok-keep_map-clause-goes : goal.returns-in-Ok-keep_map-clause-goes
@@ -36,3 +37,9 @@ returns-then-not-done-clause-said g c = λ is. absurd (let clash : false ≡ tru
 
 pub returns-in-Ok-keep_map-clause-said : goal.returns-in-Ok-keep_map-clause-said
 returns-in-Ok-keep_map-clause-said g c = λ is. map_said c.keep_map.new.core c.args.vol c.args.logs.now c.in-Ok-keep_map.field-0 c.in-Ok-keep_map.ensures.kept c.in-Ok-keep_map.ensures.spent
+
+pub returns-in-Ok-keep_map-clause-loses : goal.returns-in-Ok-keep_map-clause-loses
+returns-in-Ok-keep_map-clause-loses g c = then_along c.args.core.now.inner.config c.keep_log.new.core.inner.config c.keep_map.new.core.inner.config (g.S.Shelf.meaning c.args.shelf.now) (g.S.Shelf.meaning c.keep_log.new.shelf) (g.S.Shelf.meaning c.keep_map.new.shelf) c.keep_log.ensures.loses c.keep_map.ensures.loses
+
+pub returns-in-Err-keep_map-clause-loses : goal.returns-in-Err-keep_map-clause-loses
+returns-in-Err-keep_map-clause-loses g c = then_along c.args.core.now.inner.config c.keep_log.new.core.inner.config c.keep_map.new.core.inner.config (g.S.Shelf.meaning c.args.shelf.now) (g.S.Shelf.meaning c.keep_log.new.shelf) (g.S.Shelf.meaning c.keep_map.new.shelf) c.keep_log.ensures.loses c.keep_map.ensures.loses

@@ -6,6 +6,7 @@ use Rattle.vx_group.proofs.HoldLemmas.{wide_shape}
 use Rattle.vx_group.proofs.LostLemmas.{if_ok_from}
 use Rattle.vx_group.proofs.UnitLemmas.{acts_units, same_units}
 use Rattle.vx_logged.proofs.StandLemmas.{each_on, each_same, narrowed_acts, narrowed_same}
+use Rattle.vx_group.proofs.LoseLemmas.{along_none}
 use Rattle.vx_logged.proofs.keeping.keep_one.Goals as goal
 
 pub returns-then-is_down-clause-logs : goal.returns-then-is_down-clause-logs
@@ -80,3 +81,18 @@ returns-then-core-ge-MOST_NUMBER-sub-9-clause-still g c = λ none w p. refl
 
 pub returns-clause-below : goal.returns-clause-below
 returns-clause-below g c = acts_units Nothing _ (g.S.Shelf.meaning c.args.shelf.now) (g.S.Shelf.meaning c.lose_group.new.shelf) c.lose_group.ensures.acts.acts
+
+pub returns-then-is_down-clause-loses : goal.returns-then-is_down-clause-loses
+returns-then-is_down-clause-loses g c = along_none c.args.core.now.inner.config (g.S.Shelf.meaning c.args.shelf.now)
+
+pub returns-then-has-clause-loses : goal.returns-then-has-clause-loses
+returns-then-has-clause-loses g c = along_none c.args.core.now.inner.config (g.S.Shelf.meaning c.args.shelf.now)
+
+pub returns-then-not-is_trusted-clause-loses : goal.returns-then-not-is_trusted-clause-loses
+returns-then-not-is_trusted-clause-loses g c = along_none c.args.core.now.inner.config (g.S.Shelf.meaning c.args.shelf.now)
+
+pub returns-clause-loses : goal.returns-clause-loses
+returns-clause-loses g c = record { loses = c.lose_group.ensures.loses; rises = c.lose_group.ensures.acts.acts.faults }
+
+pub returns-then-core-ge-MOST_NUMBER-sub-9-clause-loses : goal.returns-then-core-ge-MOST_NUMBER-sub-9-clause-loses
+returns-then-core-ge-MOST_NUMBER-sub-9-clause-loses g c = along_none c.args.core.now.inner.config (g.S.Shelf.meaning c.args.shelf.now)

@@ -18,6 +18,7 @@ use Rattle.vx_logged.specs.Logged.{are_off}
 use Rattle.vx_logged.proofs.MissLemmas.{know_stale, know_wider, stale_are_off}
 use Rattle.vx_logged.proofs.RefuseLemmas.{hold_older}
 use Rattle.vx_logged.proofs.StandLemmas.{config_is, if_ok_any, inner_fit, inner_others, inner_sound, know_inner, know_wide, logs_Stands, logs_goes, narrowed_same, narrowed_then, others_each, others_then, same_only, same_regions, to_inner, to_wide}
+use Rattle.vx_group.proofs.LoseLemmas.{along_same, then_along}
 use Rattle.vx_logged.proofs.marking.mark_group.Goals as goal
 
 pub guard_run-requires-clause-checked : goal.guard_run-requires-clause-checked
@@ -203,3 +204,18 @@ pub returns-clause-missed : goal.returns-clause-missed
 returns-clause-missed g c = if_ok_any c.keep_logs.result (λ (done : Bool) is.
     hold_older c.args.core.now c.ready_group.new.core c.args.vol (first_region c.args.block) (last_region c.args.block c.args.count) c.guard_run.new.logs (g.S.Shelf.meaning c.ready_group.new.shelf) c.ready_group.ensures.stands c.ready_group.ensures.narrow (c.in-Ok.ensures.none c.if-not-ready.false)
     (record { volume = c.requires.there; within = omega (arith, c.requires.some, c.requires.within) }) c.in-Ok-guard_run.ensures.missed)
+
+pub returns-in-Err-clause-loses : goal.returns-in-Err-clause-loses
+returns-in-Err-clause-loses g c = c.ready_group.ensures.loses
+
+pub returns-then-not-ready-clause-loses : goal.returns-then-not-ready-clause-loses
+returns-then-not-ready-clause-loses g c = c.ready_group.ensures.loses
+
+pub returns-in-Err-guard_run-clause-loses : goal.returns-in-Err-guard_run-clause-loses
+returns-in-Err-guard_run-clause-loses g c =
+    then_along c.args.core.now.inner.config c.ready_group.new.core.inner.config c.ready_group.new.core.inner.config (g.S.Shelf.meaning c.args.shelf.now) (g.S.Shelf.meaning c.ready_group.new.shelf) (g.S.Shelf.meaning c.guard_run.new.shelf) c.ready_group.ensures.loses (along_same c.ready_group.new.core.inner.config (g.S.Shelf.meaning c.ready_group.new.shelf) (g.S.Shelf.meaning c.guard_run.new.shelf) c.guard_run.ensures.goes.faults)
+
+pub returns-clause-loses : goal.returns-clause-loses
+returns-clause-loses g c =
+    then_along c.args.core.now.inner.config c.ready_group.new.core.inner.config c.keep_logs.new.core.inner.config (g.S.Shelf.meaning c.args.shelf.now) (g.S.Shelf.meaning c.guard_run.new.shelf) (g.S.Shelf.meaning c.keep_logs.new.shelf)
+    (then_along c.args.core.now.inner.config c.ready_group.new.core.inner.config c.ready_group.new.core.inner.config (g.S.Shelf.meaning c.args.shelf.now) (g.S.Shelf.meaning c.ready_group.new.shelf) (g.S.Shelf.meaning c.guard_run.new.shelf) c.ready_group.ensures.loses (along_same c.ready_group.new.core.inner.config (g.S.Shelf.meaning c.ready_group.new.shelf) (g.S.Shelf.meaning c.guard_run.new.shelf) c.guard_run.ensures.goes.faults)) c.keep_logs.ensures.loses

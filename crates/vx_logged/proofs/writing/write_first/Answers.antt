@@ -13,6 +13,7 @@ use Rattle.vx_logs.specs.Writes.{first_region, last_region}
 use Rattle.vx_logged.specs.Logged.{are_off}
 use Rattle.vx_logged.proofs.MissLemmas.{know_refused, know_run, know_wrote, more_off}
 use Rattle.vx_logged.proofs.StandLemmas.{fits_later, narrowed_acts, narrowed_then, not_false, not_true, others_then, same_only, write_here, write_others}
+use Rattle.vx_group.proofs.LoseLemmas.{then_along}
 use Rattle.vx_logged.proofs.writing.write_first.Goals as goal
 
 pub mark_group-requires-clause-there : goal.mark_group-requires-clause-there
@@ -172,3 +173,14 @@ returns-clause-marked g c = λ off.
       marked = record { group = c.mark_group.ensures.stands; stands = c.mark_group.ensures.log.stands; dirty = c.in-Ok.ensures.may done; said = c.in-Ok.ensures.said done; missed = c.in-Ok.ensures.missed done };
       behind = c.write_group-2.ensures.goes;
     })
+
+pub returns-then-stopped-clause-loses : goal.returns-then-stopped-clause-loses
+returns-then-stopped-clause-loses g c = record { loses = c.write_group.ensures.loses; rises = c.write_group.ensures.acts.acts.faults }
+
+pub returns-in-Err-clause-loses : goal.returns-in-Err-clause-loses
+returns-in-Err-clause-loses g c = c.mark_group.ensures.loses
+
+pub returns-clause-loses : goal.returns-clause-loses
+returns-clause-loses g c =
+    then_along c.args.core.now.inner.config c.mark_group.new.core.inner.config c.write_group-2.new.core.inner.config (g.S.Shelf.meaning c.args.shelf.now) (g.S.Shelf.meaning c.mark_group.new.shelf) (g.S.Shelf.meaning c.write_group-2.new.shelf) c.mark_group.ensures.loses
+    (record { loses = c.write_group-2.ensures.loses; rises = c.write_group-2.ensures.acts.acts.faults })

@@ -15,6 +15,7 @@ use Rattle.vx_logged.specs.Logged.{are_off}
 use Rattle.vx_logged.proofs.MissLemmas.{more_off}
 use Rattle.vx_logged.proofs.RefuseLemmas.{cause_refused, marks_later, only_same, those_any}
 use Rattle.vx_logged.proofs.StandLemmas.{cause_to, only_then, others_then, wrote_nothing}
+use Rattle.vx_group.proofs.LoseLemmas.{along_same, then_along}
 use Rattle.vx_logged.proofs.writing.write_marked.Goals as goal
 
 pub mark_group-requires-clause-some : goal.mark_group-requires-clause-some
@@ -116,3 +117,20 @@ returns-then-not-done-clause-marked g c = λ off. marks_later (λ s. g.S.Shelf.m
 
 pub returns-else-not-done-clause-marked : goal.returns-else-not-done-clause-marked
 returns-else-not-done-clause-marked g c = λ off. marks_later (λ s. g.S.Shelf.meaning s) c.args.vol c.args.block c.args.bytes.now (first_region c.args.block) (last_region c.args.block (length c.args.bytes.now / 512)) c.args.core.now c.write_first.new.core c.mark_group.new.core (g.S.Shelf.meaning c.args.shelf.now) (g.S.Shelf.meaning c.write_first.new.shelf) (g.S.Shelf.meaning c.mark_group.new.shelf) (c.write_first.ensures.marked off) c.mark_group.ensures.goes
+
+pub returns-in-Err-clause-loses : goal.returns-in-Err-clause-loses
+returns-in-Err-clause-loses g c =
+    then_along c.args.core.now.inner.config c.write_first.new.core.inner.config c.write_first.new.core.inner.config (g.S.Shelf.meaning c.args.shelf.now) (g.S.Shelf.meaning c.write_first.new.shelf) (g.S.Shelf.meaning c.miss_refused.new.shelf) c.write_first.ensures.loses
+    (along_same c.write_first.new.core.inner.config (g.S.Shelf.meaning c.write_first.new.shelf) (g.S.Shelf.meaning c.miss_refused.new.shelf) c.miss_refused.ensures.below.faults)
+
+pub returns-then-not-done-clause-loses : goal.returns-then-not-done-clause-loses
+returns-then-not-done-clause-loses g c = then_along c.args.core.now.inner.config c.write_first.new.core.inner.config c.mark_group.new.core.inner.config (g.S.Shelf.meaning c.args.shelf.now) (g.S.Shelf.meaning c.write_first.new.shelf) (g.S.Shelf.meaning c.mark_group.new.shelf) c.write_first.ensures.loses c.mark_group.ensures.loses
+
+pub returns-else-not-done-clause-loses : goal.returns-else-not-done-clause-loses
+returns-else-not-done-clause-loses g c = then_along c.args.core.now.inner.config c.write_first.new.core.inner.config c.mark_group.new.core.inner.config (g.S.Shelf.meaning c.args.shelf.now) (g.S.Shelf.meaning c.write_first.new.shelf) (g.S.Shelf.meaning c.mark_group.new.shelf) c.write_first.ensures.loses c.mark_group.ensures.loses
+
+pub returns-in-Err-mark_group-clause-loses : goal.returns-in-Err-mark_group-clause-loses
+returns-in-Err-mark_group-clause-loses g c =
+    then_along c.args.core.now.inner.config c.mark_group.new.core.inner.config c.mark_group.new.core.inner.config (g.S.Shelf.meaning c.args.shelf.now) (g.S.Shelf.meaning c.mark_group.new.shelf) (g.S.Shelf.meaning c.miss_refused-2.new.shelf)
+    (then_along c.args.core.now.inner.config c.write_first.new.core.inner.config c.mark_group.new.core.inner.config (g.S.Shelf.meaning c.args.shelf.now) (g.S.Shelf.meaning c.write_first.new.shelf) (g.S.Shelf.meaning c.mark_group.new.shelf) c.write_first.ensures.loses c.mark_group.ensures.loses)
+    (along_same c.mark_group.new.core.inner.config (g.S.Shelf.meaning c.mark_group.new.shelf) (g.S.Shelf.meaning c.miss_refused-2.new.shelf) c.miss_refused-2.ensures.below.faults)
