@@ -19,4 +19,5 @@ pub mod SiteEnds
 pub mod SiteKeeps
 pub mod SiteReturns
 pub mod StateChanges
+pub mod Tracings
 pub mod Watches

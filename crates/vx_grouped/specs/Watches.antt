@@ -18,6 +18,7 @@ use Rattle.vx_group.specs.Loses.{LosesPlexes}
 use Rattle.vx_group.specs.Stands.{inner_meaning}
 use Rattle.vx_group.specs.declared.group_core.GroupCore.{GroupCore}
 use Rattle.vx_watched.specs.Since.{CalledSince}
+use Rattle.vx_watched.specs.Traces.{TellsLess}
 use Rattle.vx_grouped.specs.ConfigMoves.{none_again}
 use Rattle.vx_grouped.specs.Copied.{CopiesRegions}
 use Rattle.vx_grouped.specs.CoreMoves.{BothOn, CoreMoves}
@@ -66,11 +67,16 @@ pub record PlexAtts (vol plex : ℕ) (c : GroupCore) (m : Meaning) (d : GroupCor
   pub moves : CoreMoves (uses c.inner.config vol plex) c.inner.config d.inner.config m m'
 
 -- what is known of the disks of a group that was deported, or that is given back
-abbrev pub DeportSince : {S G : Type 0} → Meaning → (S → Meaning) → (G → S) → Result S (G × Stop) → Type 0
-DeportSince old meaning shelf (Ok s) = CalledSince old (meaning s)
-DeportSince old meaning shelf (Err (g, stop)) = CalledSince old (meaning (shelf g))
+abbrev pub DeportSince : {S G : Type 0} → Meaning → (S → Meaning) → (G → Meaning) → Result S (G × Stop) → Type 0
+DeportSince old meaning back (Ok s) = CalledSince old (meaning s)
+DeportSince old meaning back (Err (g, stop)) = CalledSince old (back g)
+
+-- and what its rack tells
+abbrev pub DeportTells : {S G : Type 0} → Meaning → (S → Meaning) → (G → Meaning) → Result S (G × Stop) → Type 0
+DeportTells old below back (Ok s) = TellsLess old (below s)
+DeportTells old below back (Err (g, stop)) = TellsLess old (back g)
 
 -- a deport is refused for want of serials, or for a device
-abbrev pub DeportRefuses : {S G : Type 0} → Meaning → (S → Meaning) → (G → S) → Result S (G × Stop) → Type 0
-DeportRefuses old meaning shelf (Ok s) = Unit {0}
-DeportRefuses old meaning shelf (Err (g, stop)) = (stop ≡ Refused (Limit Numbers greatest)) ⊎ DetStops {T = Unit {0}} old (meaning (shelf g)) (Err stop)
+abbrev pub DeportRefuses : {S G : Type 0} → Meaning → (G → Meaning) → Result S (G × Stop) → Type 0
+DeportRefuses old back (Ok s) = Unit {0}
+DeportRefuses old back (Err (g, stop)) = (stop ≡ Refused (Limit Numbers greatest)) ⊎ DetStops {T = Unit {0}} old (back g) (Err stop)

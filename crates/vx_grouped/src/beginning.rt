@@ -4,8 +4,9 @@ ghost use Rattle.vx_history.specs.World.{Node};
 ghost use Rattle.vx_model.specs.declared.limits.TheConstants.{MOST_DISKS};
 ghost use Rattle.vx_group.specs.Creates.{IsNewGroup};
 ghost use Rattle.vx_grouped.specs.Begins.{BeginRefuses, BeginsGroup, CanBegin, CreateSince};
-ghost use Rattle.vx_grouped.specs.GroupSites.{site_disks};
+ghost use Rattle.vx_grouped.specs.GroupSites.{site_below, site_disks};
 ghost use Rattle.vx_watched.specs.Since.{CalledSince};
+ghost use Rattle.vx_watched.specs.Traces.{TellsLess};
 
 use crate::{GroupSite, Laid};
 use std::alloc::Global;
@@ -82,6 +83,7 @@ fn brightened<R: Rack>(group: LoggedGroup<R>) -> Laid<R>
 pub fn begin_group<R: Rack>(alloc: Global, rack: R, site: u32) -> (GroupSite<R>, Result<(), Stop>)
     ensures begun { (n : Node) → CanBegin n (R.meaning rack) → BeginsGroup site n (R.meaning rack) result.0 result.1 }
     ensures since { CalledSince (R.meaning rack) (site_disks result.0) }
+    ensures told { TellsLess (R.meaning rack) (site_below result.0) }
 {
     let disks = rack.units();
     if disks == 0 || disks > MOST_DISKS {

@@ -5,9 +5,9 @@ ghost use Rattle.vx_group.specs.Imports.{ImportStops};
 ghost use Rattle.vx_history.specs.Groups.{GroupNode};
 ghost use Rattle.vx_history.specs.World.{Node};
 ghost use Rattle.vx_grouped.specs.Away.{AwayLies};
-ghost use Rattle.vx_grouped.specs.Finds.{CanFind, FindStops, FindsParts, FindsUp, FoundSince};
-ghost use Rattle.vx_grouped.specs.GroupSites.{site_disks};
-ghost use Rattle.vx_untold.specs.Shades.{shade_meaning};
+ghost use Rattle.vx_grouped.specs.Finds.{CanFind, FindStops, FindsParts, FindsUp, FoundSince, FoundTells};
+ghost use Rattle.vx_grouped.specs.GroupSites.{site_below, site_disks};
+ghost use Rattle.vx_untold.specs.Shades.{rack_of, shade_meaning};
 ghost use Rattle.vx_untold.specs.Untold.{untold};
 ghost use Rattle.vx_watched.specs.Since.{CalledSince};
 
@@ -50,6 +50,7 @@ fn find_from<B: Begun, R: Rack>(alloc: Global, rack: R) -> Result<Laid<R>, (R, S
     ensures leaves { (n : Node) (note : GroupNode) (last : ConfigValue) → AwayLies n note last (untold (R.meaning rack)) → FindsParts n note last (untold (R.meaning rack)) (λ g. g.core) (λ g. shade_meaning (λ s. R.meaning s) g.shelf) result }
     ensures stops { IfErr result (λ e. ImportStops (untold (R.meaning rack)) (untold (R.meaning e.0)) e.1) }
     ensures since { FoundSince B.first (λ s. R.meaning s) (λ g. shade_meaning (λ s. R.meaning s) g.shelf) result }
+    ensures told { FoundTells B.first (λ s. R.meaning s) (λ g. R.meaning (rack_of g.shelf)) result }
 {
     let watched = Untold {
         shelf: Watched::<R, B>::over(rack),
@@ -69,6 +70,7 @@ fn find_watched<R: Rack>(alloc: Global, rack: R) -> Result<Laid<R>, (R, Stop)>
     ensures leaves { (n : Node) (note : GroupNode) (last : ConfigValue) → AwayLies n note last (untold (R.meaning rack)) → FindsParts n note last (untold (R.meaning rack)) (λ g. g.core) (λ g. shade_meaning (λ s. R.meaning s) g.shelf) result }
     ensures stops { IfErr result (λ e. ImportStops (untold (R.meaning rack)) (untold (R.meaning e.0)) e.1) }
     ensures since { FoundSince (R.meaning rack) (λ s. R.meaning s) (λ g. shade_meaning (λ s. R.meaning s) g.shelf) result }
+    ensures told { FoundTells (R.meaning rack) (λ s. R.meaning s) (λ g. R.meaning (rack_of g.shelf)) result }
 {
     find_from::<Brand, R>(alloc, rack)
 }
@@ -81,6 +83,7 @@ pub fn find_group<R: Rack>(alloc: Global, rack: R, site: u32) -> Result<GroupSit
     ensures found { (n : Node) → CanFind n (R.meaning rack) → FindsUp site n result }
     ensures stops { (n : Node) → CanFind n (R.meaning rack) → IfErr result (λ e. FindStops n (R.meaning rack) (R.meaning e.0) e.1) }
     ensures since { FoundSince (R.meaning rack) (λ s. R.meaning s) (λ e. site_disks e) result }
+    ensures told { FoundTells (R.meaning rack) (λ s. R.meaning s) (λ e. site_below e) result }
 {
     match find_watched(alloc, rack) {
         Ok(laid) => {

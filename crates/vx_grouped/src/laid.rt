@@ -5,27 +5,18 @@ ghost use Rattle.vx_loggroup.specs.Fresh.{FreshStands};
 ghost use Rattle.vx_untold.specs.Shades.{shade_meaning};
 
 use crate::Idle;
+use crate::racking::{crash_laid, fail_laid, fuse_laid};
+use std::marker::Brand;
 use vx_config::{Config, encode_into, is_short};
 use vx_disk::{Rack, Shelf};
 use vx_group::GroupCore;
-use vx_loggroup::{LoggedGroup, Opened, crash_whole, fail_whole, fuse_whole};
-use vx_logimport::Rested;
+use vx_loggroup::{LoggedGroup, Opened};
 use vx_logs::Logs;
 use vx_model::limits::MOST_VOLUMES;
 use vx_untold::Shade;
 
 // The most bytes of a configuration.
 const MOST_BYTES: usize = 65024;
-
-// Which volumes are as a deport left them, behind a crash: none; it is not known where logs were stopped.
-fn rested_of(stopped: bool) -> Option<Rested>
-    ensures none { (r : RestedValue) → result ≡ Some r → (stopped ≡ false) × (r ≡ none_rest) }
-{
-    if stopped {
-        return None;
-    }
-    Some(Rested::none())
-}
 
 /// A group by its parts, over disks of which the contents are told or not.
 #[derive(Drop)]
@@ -59,12 +50,13 @@ impl<R: Rack> Laid<R> {
     ghost use Rattle.vx_history.specs.Groups.{GroupNode};
     ghost use Rattle.vx_history.specs.World.{Node};
     ghost use Rattle.vx_model.specs.declared.site.SiteState.TheVariants.{Down as DownState};
+    ghost use Rattle.vx_untold.specs.Shades.{rack_of};
+    ghost use Rattle.vx_watched.specs.Traces.{TellsLess};
 
     /// The parts of a group. It makes no device call.
     pub fn of(group: LoggedGroup<Shade<R>>) -> Laid<R>
         ensures shelf { result.shelf ≡ group.shelf }
         ensures core { result.core ≡ group.core }
-        ensures stopped { result.stopped ≡ group.stopped }
     {
         let (shelf, rest) = group.apart();
         let Opened {
@@ -88,7 +80,6 @@ impl<R: Rack> Laid<R> {
     pub fn together(self) -> LoggedGroup<Shade<R>>
         ensures shelf { result.shelf ≡ self.shelf }
         ensures core { result.core ≡ self.core }
-        ensures stopped { result.stopped ≡ self.stopped }
     {
         LoggedGroup::together(
             self.shelf,
@@ -155,43 +146,29 @@ impl<R: Rack> Laid<R> {
     }
 
     /// Makes each later call on a disk fail, or ends that.
-    pub fn fail(&mut self, disk: u32, on: bool)
-        requires { disk < (shade_meaning (λ s. R.meaning s) self.old.shelf).units }
-        ensures core { self.new.core ≡ self.old.core }
-        ensures alike { Alike (shade_meaning (λ s. R.meaning s) self.old.shelf) (shade_meaning (λ s. R.meaning s) self.new.shelf) }
-        ensures down { (shade_meaning (λ s. R.meaning s) self.new.shelf).down ≡ (shade_meaning (λ s. R.meaning s) self.old.shelf).down }
-        ensures armed { (shade_meaning (λ s. R.meaning s) self.new.shelf).armed ≡ (shade_meaning (λ s. R.meaning s) self.old.shelf).armed }
-        ensures disks { WithDisks (shade_meaning (λ s. R.meaning s) self.old.shelf).disks (shade_meaning (λ s. R.meaning s) self.new.shelf).disks (λ o n. Untouched o n × (n.failing disk ≡ on) × ((u : ℕ) → u ≢ disk → n.failing u ≡ o.failing u)) }
-        ensures volumes { Alike (inner_meaning (wide self.old.core) (shade_meaning (λ s. R.meaning s) self.old.shelf)) (inner_meaning (wide self.new.core) (shade_meaning (λ s. R.meaning s) self.new.shelf)) }
+    pub fn fail(self, disk: u32, on: bool) -> Laid<R>
+        requires { disk < (shade_meaning (λ s. R.meaning s) self.shelf).units }
+        ensures core { result.core ≡ self.core }
+        ensures alike { Alike (shade_meaning (λ s. R.meaning s) self.shelf) (shade_meaning (λ s. R.meaning s) result.shelf) }
+        ensures down { (shade_meaning (λ s. R.meaning s) result.shelf).down ≡ (shade_meaning (λ s. R.meaning s) self.shelf).down }
+        ensures armed { (shade_meaning (λ s. R.meaning s) result.shelf).armed ≡ (shade_meaning (λ s. R.meaning s) self.shelf).armed }
+        ensures disks { WithDisks (shade_meaning (λ s. R.meaning s) self.shelf).disks (shade_meaning (λ s. R.meaning s) result.shelf).disks (λ o n. Untouched o n × (n.failing disk ≡ on) × ((u : ℕ) → u ≢ disk → n.failing u ≡ o.failing u)) }
+        ensures volumes { Alike (inner_meaning (wide self.core) (shade_meaning (λ s. R.meaning s) self.shelf)) (inner_meaning (wide result.core) (shade_meaning (λ s. R.meaning s) result.shelf)) }
+        ensures told { TellsLess (R.meaning (rack_of self.shelf)) (R.meaning (rack_of result.shelf)) }
     {
-        fail_whole(
-            &mut self.shelf,
-            &self.core,
-            &self.logs,
-            &self.alike,
-            self.stopped,
-            disk,
-            on,
-        );
+        fail_laid::<Brand, R>(self, disk, on)
     }
 
     /// Lets that many writes and flushes of the disks pass; the next is a crash.
-    pub fn fuse(&mut self, calls: u64, pick: u64)
-        ensures core { self.new.core ≡ self.old.core }
-        ensures alike { Alike (shade_meaning (λ s. R.meaning s) self.old.shelf) (shade_meaning (λ s. R.meaning s) self.new.shelf) }
-        ensures down { (shade_meaning (λ s. R.meaning s) self.new.shelf).down ≡ (shade_meaning (λ s. R.meaning s) self.old.shelf).down }
-        ensures disks { OnDisks (shade_meaning (λ s. R.meaning s) self.old.shelf).disks (shade_meaning (λ s. R.meaning s) self.new.shelf).disks (λ o n. SameBlocks o n × (n.fuse ≡ Some (calls, pick))) }
-        ensures volumes { Alike (inner_meaning (wide self.old.core) (shade_meaning (λ s. R.meaning s) self.old.shelf)) (inner_meaning (wide self.new.core) (shade_meaning (λ s. R.meaning s) self.new.shelf)) }
+    pub fn fuse(self, calls: u64, pick: u64) -> Laid<R>
+        ensures core { result.core ≡ self.core }
+        ensures alike { Alike (shade_meaning (λ s. R.meaning s) self.shelf) (shade_meaning (λ s. R.meaning s) result.shelf) }
+        ensures down { (shade_meaning (λ s. R.meaning s) result.shelf).down ≡ (shade_meaning (λ s. R.meaning s) self.shelf).down }
+        ensures disks { OnDisks (shade_meaning (λ s. R.meaning s) self.shelf).disks (shade_meaning (λ s. R.meaning s) result.shelf).disks (λ o n. SameBlocks o n × (n.fuse ≡ Some (calls, pick))) }
+        ensures volumes { Alike (inner_meaning (wide self.core) (shade_meaning (λ s. R.meaning s) self.shelf)) (inner_meaning (wide result.core) (shade_meaning (λ s. R.meaning s) result.shelf)) }
+        ensures told { TellsLess (R.meaning (rack_of self.shelf)) (R.meaning (rack_of result.shelf)) }
     {
-        fuse_whole(
-            &mut self.shelf,
-            &self.core,
-            &self.logs,
-            &self.alike,
-            self.stopped,
-            calls,
-            pick,
-        );
+        fuse_laid::<Brand, R>(self, calls, pick)
     }
 
     /// Crashes the disks, up or down, and hands them out, with whether imports of them agree.
@@ -199,17 +176,8 @@ impl<R: Rack> Laid<R> {
         ensures away { (n : Node) (note : GroupNode) → GroupLies n note self.core (shade_meaning (λ s. R.meaning s) self.shelf) → IsAwayAt (record n { state = DownState }) note self.core.inner.config (shade_meaning (λ s. R.meaning s) result.rack) }
         ensures stopped { Stopped (shade_meaning (λ s. R.meaning s) self.shelf) (shade_meaning (λ s. R.meaning s) result.rack) }
         ensures disks { OnDisks (shade_meaning (λ s. R.meaning s) self.shelf).disks (shade_meaning (λ s. R.meaning s) result.rack).disks (Crashed (shade_meaning (λ s. R.meaning s) self.shelf).size pick) }
+        ensures told { TellsLess (R.meaning (rack_of self.shelf)) (R.meaning (rack_of result.rack)) }
     {
-        let mut shelf = self.shelf;
-        let core = self.core;
-        crash_whole(
-            &mut shelf,
-            &core,
-            &self.logs,
-            &self.alike,
-            self.stopped,
-            pick,
-        );
-        Idle::of(shelf, core.inner.agreed, rested_of(self.stopped))
+        crash_laid::<Brand, R>(self, pick)
     }
 }

@@ -27,10 +27,10 @@ pub fn deport_group<S: Shelf>(
     ensures limit { greatest - margin < group.core.inner.config.serial → IsFull group.core group.shelf (λ g. g.core) (λ g. g.shelf) result }
     ensures ends { GroupDeported group.core (S.meaning group.shelf) (λ s. S.meaning s.0) (λ g. g.core) (λ g. g.shelf) result }
     ensures up { IfOk result (λ s. IsTrue (S.meaning s.0).down → ⊥) }
-    ensures leaves { (n : Node) (note : GroupNode) → IsGroupAt n note group.core (S.meaning group.shelf) → DeportLeaves n note group.core (λ s. S.meaning s.0) (λ g. g.core) (λ g. g.shelf) result }
+    ensures leaves { (n : Node) (note : GroupNode) → IsGroupAt n note group.core (S.meaning group.shelf) → DeportLeaves n note group.core (λ s. S.meaning s.0) (λ g. g.core) (λ g. S.meaning g.shelf) result }
     ensures can { DeportCan group.core (λ s. S.meaning s.0) result }
     ensures tells { DeportKnows (λ s. S.meaning s) result }
-    ensures moves { DeportMoves group.core (S.meaning group.shelf) (λ s. S.meaning s.0) (λ g. g.core) (λ g. g.shelf) result }
+    ensures moves { DeportMoves group.core (S.meaning group.shelf) (λ s. S.meaning s.0) (λ g. g.core) (λ g. S.meaning g.shelf) result }
     ensures cause { group.core.inner.config.serial ≤ greatest - margin → DeportStops (S.meaning group.shelf) (λ s. S.meaning s.0) (λ g. g.shelf) result }
 {
     match group.deport() {

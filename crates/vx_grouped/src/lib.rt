@@ -16,12 +16,14 @@ mod leaving;
 mod making;
 mod plain;
 mod plexes;
+mod racking;
 mod site_keeping;
 mod site_leaving;
 mod site_making;
 mod site_plain;
 mod site_plexes;
 mod site_returning;
+mod tracing;
 mod watching;
 
 pub use beginning::begin_group;
