@@ -51,7 +51,7 @@ use Rattle.vx_model.specs.declared.no.No.{No}
 use Rattle.vx_model.specs.declared.no.No.TheVariants as refusal
 use Rattle.vx_volume.specs.Plexes.{DisksFit, Inside, active}
 use Rattle.vx_volume.proofs.PlaceLemmas.{count_few}
-use Rattle.vx_logged.specs.Behind.{MapSaid, MarksFirst, all_those}
+use Rattle.vx_logged.specs.Behind.{MapSaid, MarkedBefore, all_those}
 use Rattle.vx_logged.specs.Logged.{MapKept, Narrowed, OthersOn}
 use Rattle.vx_logged.proofs.StandLemmas.{inner_wide}
 
@@ -183,8 +183,8 @@ map_said core v l false kept spent = inr (spent refl)
 
 -- ---- marks before a write, behind calls that change nothing
 
-pub marks_later : {S : Type 0} (meaning : S → Meaning) (v block : ℕ) (bytes : List ℕ) (first last : ℕ) (c d e : GroupCore) (old mid new : Meaning) → MarksFirst meaning v block bytes first last c d old mid → Goes Nothing (inner_meaning (wide d) mid) (inner_meaning (wide e) new)
-    → MarksFirst meaning v block bytes first last c e old new
+pub marks_later : {S : Type 0} (meaning : S → Meaning) (v block : ℕ) (bytes : List ℕ) (first last : ℕ) (c d e : GroupCore) (old mid new : Meaning) → MarkedBefore meaning v block bytes first last c d old mid → Goes Nothing (inner_meaning (wide d) mid) (inner_meaning (wide e) new)
+    → MarkedBefore meaning v block bytes first last c e old new
 marks_later meaning v block bytes first last c d e old mid new (inl none) goes = inl (then_nothing Nothing (inner_meaning (wide c) old) (inner_meaning (wide d) mid) (inner_meaning (wide e) new) none goes)
 marks_later meaning v block bytes first last c d e old mid new (inr it) goes = inr (record {
   moment = it.moment;

@@ -33,8 +33,8 @@ pub record BehindMarks {S : Type 0} (meaning : S → Meaning) (v block : ℕ) (b
   pub behind : Goes (Written v block bytes) (inner_meaning (wide core) (meaning moment)) (inner_meaning (wide d) new)
 
 -- no plex is written before the run is marked
-abbrev pub MarksFirst : {S : Type 0} → (S → Meaning) → ℕ → ℕ → List ℕ → ℕ → ℕ → GroupCore → GroupCore → Meaning → Meaning → Type 0
-MarksFirst meaning v block bytes first last c d old new =
+abbrev pub MarkedBefore : {S : Type 0} → (S → Meaning) → ℕ → ℕ → List ℕ → ℕ → ℕ → GroupCore → GroupCore → Meaning → Meaning → Type 0
+MarkedBefore meaning v block bytes first last c d old new =
     Goes Nothing (inner_meaning (wide c) old) (inner_meaning (wide d) new) ⊎ BehindMarks meaning v block bytes first last c d old new
 
 -- each plex

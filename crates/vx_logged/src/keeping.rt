@@ -46,7 +46,6 @@ fn keep_one<S: Shelf>(
     ensures logs { EachOn core.old core.new (S.meaning shelf.old) (S.meaning shelf.new) }
     ensures narrow { Narrowed core.old core.new }
     ensures below { SameUnits (S.meaning shelf.old) (S.meaning shelf.new) }
-    ensures rises { (u : ℕ) → (S.meaning shelf.old).faults u ≤ (S.meaning shelf.new).faults u }
     ensures still { core.old.held ≡ None → (w p : ℕ) → active core.new.inner.config w p ≡ active core.old.inner.config w p }
     ensures kept { IfOk result (λ done. done ≡ true → log_trusted (wide core.new).config vol log ≡ true → has ≡ true) }
     ensures full { IfOk result (λ done. done ≡ false → greatest ≤ core.old.inner.config.serial + 9) }
@@ -109,7 +108,6 @@ pub fn keep_map<S: Shelf>(
     ensures logs { EachOn core.old core.new (S.meaning shelf.old) (S.meaning shelf.new) }
     ensures narrow { Narrowed core.old core.new }
     ensures below { SameUnits (S.meaning shelf.old) (S.meaning shelf.new) }
-    ensures rises { (u : ℕ) → (S.meaning shelf.old).faults u ≤ (S.meaning shelf.new).faults u }
     ensures still { core.old.held ≡ None → (w p : ℕ) → active core.new.inner.config w p ≡ active core.old.inner.config w p }
     ensures kept { IfOk result (λ done. done ≡ true → MapKept core.new vol logs.now) }
     ensures spent { IfOk result (λ done. done ≡ false → greatest ≤ core.new.inner.config.serial + 9) }

@@ -20,4 +20,5 @@ pub use detaching::det_logged;
 pub use flushing::flush_cleared;
 pub use keeping::keep_map;
 pub use marking::mark_group;
+pub use readying::ready_group;
 pub use writing::write_marked;

@@ -43,7 +43,7 @@ use Rattle.vx_volume.specs.Plexes.{Inside, active, active_or}
 use Rattle.vx_volume.proofs.PlaceLemmas.{has_of}
 use Rattle.vx_logged.proofs.StandLemmas.{inner_wide}
 use Rattle.vx_loggroup.specs.Attaching.{fmr_at, fmr_or}
-use Rattle.vx_loggroup.specs.Detaching.{BeginsMap, LogsBegin, MapIsEmpty, MapsBegin, ReadsAs}
+use Rattle.vx_loggroup.specs.Detaching.{BeginsMap, LogsBegin, MapIsEmpty, MapsBegin, ReadsAlike}
 use Rattle.vx_loggroup.proofs.AlikeLemmas.{same_item}
 use Rattle.vx_loggroup.proofs.SetLemmas.{set_here, set_other}
 
@@ -57,7 +57,7 @@ module _ (c : Config) (sound : is_sound c ≡ true) (v : ℕ) (some : 0 < blocks
   off_maps : (p b : ℕ) (x : List ℕ) → HasBlock c v p b → OnMaps c v (place c v p b).0 (place c v p b).1 x → ⊥
   off_maps p b x has on = logs_off_plex c sound v v p b x has (maps_logs c v (place c v p b).0 (place c v p b).1 x on)
 
-  pub begun_knows : ReadsAs c v plex m → MapsKnow c v l m → MapsKnow c v k m'
+  pub begun_knows : ReadsAlike c v plex m → MapsKnow c v l m → MapsKnow c v k m'
   begun_knows reads know = record { so = λ g is up. by g up l.fmr k.fmr refl is ends }
     where
       known : (f g : Missed) → l.fmr ≡ Some f → (IsTrue m'.down → ⊥) → MapEmptied plex f g m m' → PlexesKnow c v (or_spared none_spared (has_missed g)) m'.reads
@@ -164,7 +164,7 @@ empty_later c d v plex o back empty = record { so = λ f is b inside. empty.so f
 
 -- ---- a plex that was ACTIVE
 
-pub was_alike : (c d : GroupCore) (v p : ℕ) (m m' : Meaning) → GroupStands c m → GroupNarrows c d m m' → IsTrue (active c.inner.config v p) → ((IsTrue m.down → ⊥) → ReadsOne (wide c).config v m) → ReadsAs d.inner.config v p m'
+pub was_alike : (c d : GroupCore) (v p : ℕ) (m m' : Meaning) → GroupStands c m → GroupNarrows c d m m' → IsTrue (active c.inner.config v p) → ((IsTrue m.down → ⊥) → ReadsOne (wide c).config v m) → ReadsAlike d.inner.config v p m'
 was_alike c d v p m m' stands narrows was one = record {
   so = λ up q b x y has on inside at_p at_q.
       let shape = narrows.shape in

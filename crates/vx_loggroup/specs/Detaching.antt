@@ -9,7 +9,7 @@ use Rattle.vx_model.specs.declared.limits.TheConstants.{REGION}
 use Rattle.vx_volume.specs.Plexes.{Inside, active}
 
 -- a plex reads in each block what each plex that is ACTIVE reads, where the shelf is up
-pub record ReadsAs (c : Config) (v p : ℕ) (m : Meaning) : Type 0 where
+pub record ReadsAlike (c : Config) (v p : ℕ) (m : Meaning) : Type 0 where
   pub so : (IsTrue m.down → ⊥) → (q b : ℕ) (x y : List ℕ) → HasBlock c v p b → IsTrue (active c v q) → Inside c v b → m.reads (place c v p b).0 (place c v p b).1 x → m.reads (place c v q b).0 (place c v q b).1 y → x ≡ y
 
 -- the maps of the other plexes are as they were, and that of this one has no region that it had not

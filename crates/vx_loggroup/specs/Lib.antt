@@ -5,3 +5,4 @@ pub mod Opens
 pub mod Made
 pub mod Attaching
 pub mod Detaching
+pub mod Fresh

@@ -24,7 +24,7 @@ pub record ClearsVolume (c : Config) (v : ℕ) (old new : List Logs) : Type 0 wh
   pub others : (w : ℕ) → (w ≡ v → ⊥) → slice_get new w ≡ slice_get old w
 
 -- The maps of volume v, where they were in memory and are, have what they had, and beside it regions from first to last of those plexes alone.
-pub record NotesVolume (those : ℕ → Bool) (v first last : ℕ) (old new : List Logs) : Type 0 where
+pub record NotesMaps (those : ℕ → Bool) (v first last : ℕ) (old new : List Logs) : Type 0 where
   pub here : (l k : Logs) (f g : Missed) → slice_get old v ≡ Some l → slice_get new v ≡ Some k → l.fmr ≡ Some f → k.fmr ≡ Some g → NotesMore those first last f g
 
 -- of the volumes below n whose plexes are said to be alike no log has a region

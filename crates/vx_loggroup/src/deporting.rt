@@ -1,5 +1,5 @@
 // A group with logs that is deported.
-ghost use Rattle.std.specs.Prelude.{◌≡◌, ◌⊎◌, ◌<◌, ◌≤◌, ◌-◌, ℕ, false, length, slice_get, true, Err, IfErr, OnOk, Some};
+ghost use Rattle.std.specs.Prelude.{◌≡◌, ◌⊎◌, ◌<◌, ◌≤◌, ◌-◌, ℕ, false, length, slice_get, true, Err, IfErr, IsTrue, OnOk, Some};
 ghost use Rattle.vx_config.specs.Table.{greatest};
 ghost use Rattle.vx_disk.specs.Shelf.{Goes, Nothing};
 ghost use Rattle.vx_group.specs.Calls.{GroupCloses};
@@ -34,6 +34,7 @@ pub fn deport_whole<S: Shelf>(
     ensures stands { IfErr result (λ e. LoggedStands core.new logs.now.items alike.now stopped (S.meaning shelf.new)) }
     ensures limit { greatest - margin < core.old.inner.config.serial → (result ≡ Err (Refused (Limit Numbers greatest))) × (core.new ≡ core.old) × (shelf.new ≡ shelf.old) }
     ensures ends { GroupCloses core.old core.new (S.meaning shelf.old) (S.meaning shelf.new) result }
+    ensures up { OnOk result (IsTrue (S.meaning shelf.new).down → ⊥) }
     ensures back { IfErr result (λ e. Goes Nothing (inner_meaning (wide core.old) (S.meaning shelf.old)) (inner_meaning (wide core.new) (S.meaning shelf.new))) }
     ensures tells { OnOk result ((v : ℕ) (l : LogsValue) → stopped ≡ false → slice_get logs.now.items v ≡ Some l → LogKept core.old v l ⊎ AtRest (S.meaning shelf.new) → DisksTell v (S.meaning shelf.new)) }
     ensures cause { core.old.inner.config.serial ≤ greatest - margin → DetStops (S.meaning shelf.old) (S.meaning shelf.new) result }

@@ -12,7 +12,7 @@ ghost use Rattle.vx_loggroup.specs.Attaching.{fmr_at};
 ghost use Rattle.vx_group.specs.Stands.{inner_meaning};
 ghost use Rattle.vx_groupmaps.specs.Missing.{OnMaps};
 ghost use Rattle.vx_logged.specs.Logged.{Known, LogOn, OthersOn};
-ghost use Rattle.vx_loggroup.specs.Detaching.{LogsBegin, MapIsEmpty, MapsBegin, ReadsAs};
+ghost use Rattle.vx_loggroup.specs.Detaching.{LogsBegin, MapIsEmpty, MapsBegin, ReadsAlike};
 ghost use Rattle.vx_loggroup.specs.LoggedVolumes.{LoggedStands, is_alike as is_alike_is};
 ghost use Rattle.vx_model.specs.declared.limits.TheConstants.{MOST_VOLUMES};
 ghost use Rattle.vx_model.specs.declared.errors.Stop.TheVariants.{No as Refused};
@@ -45,7 +45,7 @@ fn begin_one<S: Shelf>(
     requires exists { plex < plexes_of core.now.inner.config vol }
     requires log { LogOn core.now vol one.old (S.meaning shelf.old) }
     requires known { Known core.now vol one.old (S.meaning shelf.old) }
-    requires reads { ReadsAs core.now.inner.config vol plex (S.meaning shelf.old) }
+    requires reads { ReadsAlike core.now.inner.config vol plex (S.meaning shelf.old) }
     ensures stands { GroupStands core.now (S.meaning shelf.new) }
     ensures below { Goes (OnMaps core.now.inner.config vol) (S.meaning shelf.old) (S.meaning shelf.new) }
     ensures goes { Goes Nothing (inner_meaning (wide core.now) (S.meaning shelf.old)) (inner_meaning (wide core.now) (S.meaning shelf.new)) }
@@ -78,7 +78,7 @@ fn begin_missing<S: Shelf>(
     requires none { core.now.held ≡ None }
     requires there { vol < length core.now.inner.config.volumes }
     requires exists { plex < plexes_of core.now.inner.config vol }
-    requires reads { ReadsAs core.now.inner.config vol plex (S.meaning shelf.old) }
+    requires reads { ReadsAlike core.now.inner.config vol plex (S.meaning shelf.old) }
     ensures stands { LoggedStands core.now logs.new.items alike.now false (S.meaning shelf.new) }
     ensures below { Goes (OnMaps core.now.inner.config vol) (S.meaning shelf.old) (S.meaning shelf.new) }
     ensures goes { Goes Nothing (inner_meaning (wide core.now) (S.meaning shelf.old)) (inner_meaning (wide core.now) (S.meaning shelf.new)) }

@@ -21,6 +21,8 @@ pub struct Opened {
     pub logs: Vec<Logs>,
     /// Of each volume whether its plexes are alike.
     pub alike: [bool; MOST_VOLUMES],
+    /// Of each volume whether its logs may begin yet: of each block of it a crash leaves one value.
+    pub fresh: [bool; MOST_VOLUMES],
     /// Logs are stopped, as no serial is left to commit that one is lost.
     pub stopped: bool,
 }
@@ -46,12 +48,14 @@ pub fn open_logged<S: Shelf>(alloc: Global, shelf: &mut S) -> Result<Opened, Sto
                     core,
                     logs,
                     alike,
+                    fresh: alike,
                     stopped: !done,
                 }),
                 Err(_) => Ok(Opened {
                     core,
                     logs,
                     alike,
+                    fresh: alike,
                     stopped: false,
                 }),
             }

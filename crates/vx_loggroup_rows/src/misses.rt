@@ -211,3 +211,49 @@ fn a_write_is_done_whichever_of_its_calls_fails(rt: HostRuntime) -> Result<(), F
     assert!(rt; all);
     Ok(())
 }
+
+#[test]
+fn a_detach_begins_the_map_anew(rt: HostRuntime) -> Result<(), Fail> {
+    let alloc = rt.alloc();
+    let mut group = group_of(alloc, &[], &MAPPED)?;
+    assert!(rt; group.det(0, 1).is_ok());
+    assert!(rt; put(&mut group, 10, 0xaa));
+    assert_eq!(rt; att(&mut group, 1), Some(1));
+    assert!(rt; group.det(0, 1).is_ok());
+    assert!(rt; put(&mut group, 70, 0xbb));
+    assert_eq!(rt; att(&mut group, 1), Some(1));
+    assert!(rt; group.det(0, 0).is_ok());
+    assert_eq!(rt; read(&mut group, 10), Some(0xaa));
+    assert_eq!(rt; read(&mut group, 70), Some(0xbb));
+    Ok(())
+}
+
+// Writes two blocks while the second plex is detached, as this call fails, and attaches the plex then. Answers how many regions were copied, where
+// the first write was refused and the second one done.
+fn refused(alloc: Global, call: u64) -> Result<Option<u64>, OutOfMemory> {
+    let mut group = group_of(alloc, &[call], &MAPPED)?;
+    if group.det(0, 1).is_err() || put(&mut group, 70, 0xbb) {
+        return Ok(None);
+    }
+    if !put(&mut group, 200, 0xcc) {
+        return Ok(None);
+    }
+    Ok(att(&mut group, 1))
+}
+
+#[test]
+fn a_refused_write_is_noted(rt: HostRuntime) -> Result<(), Fail> {
+    let alloc = rt.alloc();
+    let mut some = false;
+    for call in 80..160 {
+        match refused(alloc, call)? {
+            Some(copied) => {
+                some = true;
+                assert_eq!(rt; copied, 2);
+            }
+            None => {}
+        }
+    }
+    assert!(rt; some);
+    Ok(())
+}

@@ -1,8 +1,9 @@
 -- `trust_group`: its clauses, over a group of which no plex is held back; what `trust_log` asks.
-use Rattle.std.proofs.Common.{false, sym, subst}
+use Rattle.std.proofs.Common.{false, refl, sym, subst}
 use Rattle.vx_config.specs.Changes.{lost}
 use Rattle.vx_disk.specs.Shelf.{Goes, Nothing}
 use Rattle.vx_kept.specs.PlexActs.{PlexActs}
+use Rattle.vx_group.proofs.LostLemmas.{active_plexes}
 use Rattle.vx_group.specs.Holding.{wide}
 use Rattle.vx_group.specs.Stands.{inner_meaning}
 use Rattle.vx_group.specs.declared.inner.Inner.{Inner}
@@ -61,3 +62,15 @@ returns-then-is_down-clause-loses g c = loses_same c.args.core.now.inner.config 
 
 pub returns-then-core-ge-MOST_NUMBER-clause-loses : goal.returns-then-core-ge-MOST_NUMBER-clause-loses
 returns-then-core-ge-MOST_NUMBER-clause-loses g c = loses_same c.args.core.now.inner.config (g.S.Shelf.meaning c.args.shelf.now) (g.S.Shelf.meaning c.args.shelf.now)
+
+pub returns-then-is_down-clause-still : goal.returns-then-is_down-clause-still
+returns-then-is_down-clause-still g c = λ w p. refl
+
+pub returns-then-core-ge-MOST_NUMBER-clause-still : goal.returns-then-core-ge-MOST_NUMBER-clause-still
+returns-then-core-ge-MOST_NUMBER-clause-still g c = λ w p. refl
+
+pub returns-in-Ok-clause-still : goal.returns-in-Ok-clause-still
+returns-in-Ok-clause-still g c = active_plexes c.args.core.now.inner.config c.trust_log.new.core.config c.trust_log.ensures.plexes
+
+pub returns-in-Err-clause-still : goal.returns-in-Err-clause-still
+returns-in-Err-clause-still g c = active_plexes c.args.core.now.inner.config c.trust_log.new.core.config c.trust_log.ensures.plexes

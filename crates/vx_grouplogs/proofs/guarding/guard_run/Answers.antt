@@ -70,4 +70,4 @@ returns-in-Err-clause-notes g c = note_none _ _ _ c.args.logs.now (record { drl 
 pub returns-in-Ok-clause-missed : goal.returns-in-Ok-clause-missed
 returns-in-Ok-clause-missed g c =
     noted_holds c.args.config.now c.requires.checked c.args.vol (omega (arith, c.requires.some, c.requires.within)) c.args.logs.now c.requires.on.fits (g.S.Shelf.meaning c.args.shelf.now) c.requires.disks (c.args.block / 64) ((c.args.block + c.args.count - 1) / 64)
-    c.mark_run.new.logs (g.S.Shelf.meaning c.mark_run.new.shelf) (omega (arith, c.requires.some, c.requires.within)) (Ok c.in-Ok.lost) c.in-Ok.ensures.marks
+    c.mark_run.new.logs (g.S.Shelf.meaning c.mark_run.new.shelf) (omega (arith, c.requires.some, c.requires.within)) (Ok c.in-Ok.field-0) c.in-Ok.ensures.marks

@@ -40,19 +40,19 @@ pub returns-in-Ok-clause-others : goal.returns-in-Ok-clause-others
 returns-in-Ok-clause-others g c = maps_others c.args.core.now c.args.vol (g.S.Shelf.meaning c.args.shelf.now) (g.S.Shelf.meaning c.miss_run.new.shelf) c.requires.stands (missed_goes (wide c.args.core.now).config (sound_of (wide c.args.core.now) (g.S.Shelf.meaning c.args.shelf.now) c.requires.stands.stands) c.args.vol (omega (arith, c.requires.some, c.requires.within)) c.args.logs.now c.miss_run.new.logs (g.S.Shelf.meaning c.args.shelf.now) (g.S.Shelf.meaning c.miss_run.new.shelf) (fit_of (wide c.args.core.now) (g.S.Shelf.meaning c.args.shelf.now) c.requires.stands.stands) c.requires.log c.miss_run.ensures.drl c.miss_run.ensures.goes)
 
 pub returns-in-Ok-clause-log : goal.returns-in-Ok-clause-log
-returns-in-Ok-clause-log g c = 
+returns-in-Ok-clause-log g c =
     let shape = inner_wide c.args.core.now (g.S.Shelf.meaning c.args.shelf.now) c.requires.stands in
-    ends_on (wide c.args.core.now).config (sound_of (wide c.args.core.now) (g.S.Shelf.meaning c.args.shelf.now) c.requires.stands.stands) c.args.vol (omega (arith, c.requires.some, c.requires.within)) c.args.logs.now c.miss_run.new.logs (g.S.Shelf.meaning c.args.shelf.now) (g.S.Shelf.meaning c.miss_run.new.shelf) (fit_of (wide c.args.core.now) (g.S.Shelf.meaning c.args.shelf.now) c.requires.stands.stands) c.requires.log c.miss_run.ensures.drl c.miss_run.ensures.goes (plexes_of c.args.core.now.inner.config c.args.vol) (c.args.block / 64) ((c.args.block + c.args.count - 1) / 64) _ c.in-Ok.ensures.answers.0 (same_count (wide c.args.core.now).config c.args.core.now.inner.config c.args.vol (shape.frames c.args.vol) (shape.blocks c.args.vol)) c.miss_run.ensures.keeps
+    ends_on (wide c.args.core.now).config (sound_of (wide c.args.core.now) (g.S.Shelf.meaning c.args.shelf.now) c.requires.stands.stands) c.args.vol (omega (arith, c.requires.some, c.requires.within)) c.args.logs.now c.miss_run.new.logs (g.S.Shelf.meaning c.args.shelf.now) (g.S.Shelf.meaning c.miss_run.new.shelf) (fit_of (wide c.args.core.now) (g.S.Shelf.meaning c.args.shelf.now) c.requires.stands.stands) c.requires.log c.miss_run.ensures.drl c.miss_run.ensures.goes (plexes_of c.args.core.now.inner.config c.args.vol) (c.args.block / 64) ((c.args.block + c.args.count - 1) / 64) c.in-Ok.field-0 c.in-Ok.ensures.answers.0 (same_count (wide c.args.core.now).config c.args.core.now.inner.config c.args.vol (shape.frames c.args.vol) (shape.blocks c.args.vol)) c.miss_run.ensures.keeps
 
 pub returns-in-Ok-clause-knows : goal.returns-in-Ok-clause-knows
-returns-in-Ok-clause-knows g c = 
+returns-in-Ok-clause-knows g c =
     let shape = inner_wide c.args.core.now (g.S.Shelf.meaning c.args.shelf.now) c.requires.stands in
-    ends_know (wide c.args.core.now).config (sound_of (wide c.args.core.now) (g.S.Shelf.meaning c.args.shelf.now) c.requires.stands.stands) c.args.vol (omega (arith, c.requires.some, c.requires.within)) c.args.logs.now c.miss_run.new.logs (g.S.Shelf.meaning c.args.shelf.now) (g.S.Shelf.meaning c.miss_run.new.shelf) (fit_of (wide c.args.core.now) (g.S.Shelf.meaning c.args.shelf.now) c.requires.stands.stands) c.requires.log c.miss_run.ensures.drl c.miss_run.ensures.goes (plexes_of c.args.core.now.inner.config c.args.vol) (c.args.block / 64) ((c.args.block + c.args.count - 1) / 64) _ c.in-Ok.ensures.answers.0 (same_count (wide c.args.core.now).config c.args.core.now.inner.config c.args.vol (shape.frames c.args.vol) (shape.blocks c.args.vol)) c.miss_run.ensures.keeps
+    ends_know (wide c.args.core.now).config (sound_of (wide c.args.core.now) (g.S.Shelf.meaning c.args.shelf.now) c.requires.stands.stands) c.args.vol (omega (arith, c.requires.some, c.requires.within)) c.args.logs.now c.miss_run.new.logs (g.S.Shelf.meaning c.args.shelf.now) (g.S.Shelf.meaning c.miss_run.new.shelf) (fit_of (wide c.args.core.now) (g.S.Shelf.meaning c.args.shelf.now) c.requires.stands.stands) c.requires.log c.miss_run.ensures.drl c.miss_run.ensures.goes (plexes_of c.args.core.now.inner.config c.args.vol) (c.args.block / 64) ((c.args.block + c.args.count - 1) / 64) c.in-Ok.field-0 c.in-Ok.ensures.answers.0 (same_count (wide c.args.core.now).config c.args.core.now.inner.config c.args.vol (shape.frames c.args.vol) (shape.blocks c.args.vol)) c.miss_run.ensures.keeps
 
 pub returns-in-Ok-clause-notes : goal.returns-in-Ok-clause-notes
-returns-in-Ok-clause-notes g c = 
+returns-in-Ok-clause-notes g c =
     let shape = inner_wide c.args.core.now (g.S.Shelf.meaning c.args.shelf.now) c.requires.stands in
-    ends_note (wide c.args.core.now).config (sound_of (wide c.args.core.now) (g.S.Shelf.meaning c.args.shelf.now) c.requires.stands.stands) c.args.vol (omega (arith, c.requires.some, c.requires.within)) c.args.logs.now c.miss_run.new.logs (g.S.Shelf.meaning c.args.shelf.now) (g.S.Shelf.meaning c.miss_run.new.shelf) (fit_of (wide c.args.core.now) (g.S.Shelf.meaning c.args.shelf.now) c.requires.stands.stands) c.requires.log c.miss_run.ensures.drl c.miss_run.ensures.goes (plexes_of c.args.core.now.inner.config c.args.vol) (c.args.block / 64) ((c.args.block + c.args.count - 1) / 64) _ c.in-Ok.ensures.answers.0 (same_count (wide c.args.core.now).config c.args.core.now.inner.config c.args.vol (shape.frames c.args.vol) (shape.blocks c.args.vol)) c.miss_run.ensures.keeps
+    ends_note (wide c.args.core.now).config (sound_of (wide c.args.core.now) (g.S.Shelf.meaning c.args.shelf.now) c.requires.stands.stands) c.args.vol (omega (arith, c.requires.some, c.requires.within)) c.args.logs.now c.miss_run.new.logs (g.S.Shelf.meaning c.args.shelf.now) (g.S.Shelf.meaning c.miss_run.new.shelf) (fit_of (wide c.args.core.now) (g.S.Shelf.meaning c.args.shelf.now) c.requires.stands.stands) c.requires.log c.miss_run.ensures.drl c.miss_run.ensures.goes (plexes_of c.args.core.now.inner.config c.args.vol) (c.args.block / 64) ((c.args.block + c.args.count - 1) / 64) c.in-Ok.field-0 c.in-Ok.ensures.answers.0 (same_count (wide c.args.core.now).config c.args.core.now.inner.config c.args.vol (shape.frames c.args.vol) (shape.blocks c.args.vol)) c.miss_run.ensures.keeps
 
 pub returns-clause-stands : goal.returns-clause-stands
 returns-clause-stands g c = maps_Stands c.args.core.now c.args.vol (g.S.Shelf.meaning c.args.shelf.now) (g.S.Shelf.meaning c.miss_run.new.shelf) c.requires.stands (missed_goes (wide c.args.core.now).config (sound_of (wide c.args.core.now) (g.S.Shelf.meaning c.args.shelf.now) c.requires.stands.stands) c.args.vol (omega (arith, c.requires.some, c.requires.within)) c.args.logs.now (record { drl = c.miss_run.new.logs.drl; fmr = None }) (g.S.Shelf.meaning c.args.shelf.now) (g.S.Shelf.meaning c.miss_run.new.shelf) (fit_of (wide c.args.core.now) (g.S.Shelf.meaning c.args.shelf.now) c.requires.stands.stands) c.requires.log c.miss_run.ensures.drl c.miss_run.ensures.goes) (g.met.S.Shelf.lawful c.args.shelf.now) (g.met.S.Shelf.lawful c.miss_run.new.shelf)

@@ -27,3 +27,15 @@ returns-in-Err-clause-still g c = c.keep_map.ensures.still c.requires.none
 
 pub returns-in-Err-clause-cause : goal.returns-in-Err-clause-cause
 returns-in-Err-clause-cause g c = det_cause Bool (Unit {0}) (g.S.Shelf.meaning c.args.shelf.now) (g.S.Shelf.meaning c.args.shelf.now) (g.S.Shelf.meaning c.keep_map.new.shelf) c.args.vol (inner_meaning (wide c.args.core.now) (g.S.Shelf.meaning c.args.shelf.now)) (inner_meaning (wide c.keep_map.new.core) (g.S.Shelf.meaning c.keep_map.new.shelf)) refl refl refl (λ u. omega arith) c.in-Err.error c.in-Err.ensures.cause
+
+pub returns-in-Ok-clause-loses : goal.returns-in-Ok-clause-loses
+returns-in-Ok-clause-loses g c = c.keep_map.ensures.loses.loses
+
+pub returns-in-Err-clause-loses : goal.returns-in-Err-clause-loses
+returns-in-Err-clause-loses g c = c.keep_map.ensures.loses.loses
+
+pub returns-in-Ok-clause-rises : goal.returns-in-Ok-clause-rises
+returns-in-Ok-clause-rises g c = c.keep_map.ensures.loses.rises
+
+pub returns-in-Err-clause-rises : goal.returns-in-Err-clause-rises
+returns-in-Err-clause-rises g c = c.keep_map.ensures.loses.rises

@@ -1,6 +1,6 @@
 -- `read`: what `read_whole` asks, and what stands then.
 use Rattle.vx_loggroup.proofs.FactLemmas.{from_logged, to_logged}
-use Rattle.vx_loggroup.proofs.group.LoggedGroupShelf.read.Goals as goal
+use Rattle.vx_loggroup.proofs.shelving.LoggedGroupShelf.read.Goals as goal
 
 pub read_whole-requires-clause-stands : goal.read_whole-requires-clause-stands
 read_whole-requires-clause-stands g c = from_logged c.args.self.now.core c.args.self.now.logs.items c.args.self.now.alike c.args.self.now.stopped (g.S.Shelf.meaning c.args.self.now.shelf) c.args.self.now.stands

@@ -2,7 +2,7 @@
 use Rattle.std.proofs.Common.{length, ap, sym, ◌∙◌, arith}
 use Rattle.vx_config.specs.Checks.{blocks_of}
 use Rattle.vx_group.proofs.HoldLemmas.{at_blocks, wide_shape}
-use Rattle.vx_loggroup.proofs.group.LoggedGroupShelf.size.Goals as goal
+use Rattle.vx_loggroup.proofs.shelving.LoggedGroupShelf.size.Goals as goal
 
 pub bounds-as_slice-unit : goal.bounds-as_slice-unit
 bounds-as_slice-unit g c = let lt = c.requires in let same = (wide_shape c.args.self.now.core).volumes in let count = ap length c.as_slice.ensures.volumes in omega (arith, lt, same, count)
