@@ -7,6 +7,7 @@ pub mod CarryLemmas
 pub mod CopiedLemmas
 pub mod DeportedLemmas
 pub mod ImportFactLemmas
+pub mod GivenUpLemmas
 pub mod KeepLemmas
 pub mod KeepingLemmas
 pub mod LeavingLemmas
@@ -36,3 +37,5 @@ pub mod WhyLemmas
 pub mod SinceReturns
 pub mod ReadyLemmas
 pub mod FindLemmas
+pub mod TraceLemmas
+pub mod LitLemmas

@@ -1,5 +1,5 @@
 -- What disks by themselves tell an import by logs.
-use Rattle.std.proofs.Common.{◌≡◌, ⊎_elim, ℕ, List, true}
+use Rattle.std.proofs.Common.{◌≡◌, ⊎_elim, ℕ, Bool, List, true, false, refl, sym}
 use Rattle.vx_disk.specs.Racks.{Alike, Stopped}
 use Rattle.vx_disk.specs.Shelf.{Goes, Meaning, Nothing}
 use Rattle.vx_group.specs.Imports.{ImportStops}
@@ -33,3 +33,8 @@ none_tells r m none = untold_tells r m none.leaves
 
 pub dark_tells : {R : Type 0} (r : Rested) (meaning : R → Meaning) (s : Shade R) → LogsTell r (shade_meaning meaning (Dark (rack_of s)))
 dark_tells r meaning s = untold_tells r (shade_meaning meaning (Dark (rack_of s))) (λ u b v left. left)
+
+-- disks that fell behind a refused import
+pub fallen_tells : (r : Rested) (m m' m3 : Meaning) (stop : Stop) (early : Bool) → early ≡ stops_early stop → LogsTell r m → ImportStops m m' stop → (early ≡ true → Stopped m' m3) → (early ≡ false → TellsNone m3) → LogsTell r m3
+fallen_tells r m m' m3 stop true is tells stops stopped dark = stopped_tells r m' m3 (stopped refl) (early_tells r m m' stop (sym is) stops tells)
+fallen_tells r m m' m3 stop false is tells stops stopped dark = none_tells r m3 (dark refl)

@@ -175,6 +175,7 @@ impl<R: Rack> Laid<R> {
     pub fn crash(self, pick: u64) -> Idle<R>
         ensures away { (n : Node) (note : GroupNode) → GroupLies n note self.core (shade_meaning (λ s. R.meaning s) self.shelf) → IsAwayAt (record n { state = DownState }) note self.core.inner.config (shade_meaning (λ s. R.meaning s) result.rack) }
         ensures stopped { Stopped (shade_meaning (λ s. R.meaning s) self.shelf) (shade_meaning (λ s. R.meaning s) result.rack) }
+        ensures agreed { result.agreed ≡ self.core.inner.agreed }
         ensures disks { OnDisks (shade_meaning (λ s. R.meaning s) self.shelf).disks (shade_meaning (λ s. R.meaning s) result.rack).disks (Crashed (shade_meaning (λ s. R.meaning s) self.shelf).size pick) }
         ensures told { TellsLess (R.meaning (rack_of self.shelf)) (R.meaning (rack_of result.rack)) }
     {

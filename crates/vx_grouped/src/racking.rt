@@ -50,6 +50,7 @@ pub(crate) fn fail_laid<C: Begun, R: Rack>(laid: Laid<R>, disk: u32, on: bool) -
         &rest.core,
         &rest.logs,
         &rest.alike,
+        &rest.fresh,
         rest.stopped,
         disk,
         on,
@@ -73,6 +74,7 @@ pub(crate) fn fuse_laid<C: Begun, R: Rack>(laid: Laid<R>, calls: u64, pick: u64)
         &rest.core,
         &rest.logs,
         &rest.alike,
+        &rest.fresh,
         rest.stopped,
         calls,
         pick,
@@ -85,6 +87,7 @@ pub(crate) fn crash_laid<C: Begun, R: Rack>(laid: Laid<R>, pick: u64) -> Idle<R>
     requires { TellsLess C.first (R.meaning (rack_of laid.shelf)) }
     ensures away { (n : Node) (note : GroupNode) → GroupLies n note laid.core (shade_meaning (λ s. R.meaning s) laid.shelf) → IsAwayAt (record n { state = DownState }) note laid.core.inner.config (shade_meaning (λ s. R.meaning s) result.rack) }
     ensures stopped { Stopped (shade_meaning (λ s. R.meaning s) laid.shelf) (shade_meaning (λ s. R.meaning s) result.rack) }
+    ensures agreed { result.agreed ≡ laid.core.inner.agreed }
     ensures disks { OnDisks (shade_meaning (λ s. R.meaning s) laid.shelf).disks (shade_meaning (λ s. R.meaning s) result.rack).disks (Crashed (shade_meaning (λ s. R.meaning s) laid.shelf).size pick) }
     ensures told { TellsLess C.first (R.meaning (rack_of result.rack)) }
 {

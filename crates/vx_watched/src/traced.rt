@@ -1,4 +1,5 @@
 // A rack with an account of whether it tells of its contents.
+ghost use Rattle.std.specs.Prelude.{◌≡◌};
 ghost use Rattle.vx_watched.specs.Traces.{TellsLess};
 
 use crate::begun::Begun;
