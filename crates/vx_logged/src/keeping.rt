@@ -84,6 +84,7 @@ pub fn keep_log<S: Shelf>(
     ensures loses { LosesAlong core.old.inner.config core.new.inner.config (S.meaning shelf.old) (S.meaning shelf.new) }
     ensures logs { EachOn core.old core.new (S.meaning shelf.old) (S.meaning shelf.new) }
     ensures narrow { Narrowed core.old core.new }
+    ensures below { SameUnits (S.meaning shelf.old) (S.meaning shelf.new) }
     ensures kept { IfOk result (λ done. done ≡ true → LogKept core.new vol logs.now) }
     ensures full { IfOk result (λ done. done ≡ false → greatest ≤ core.old.inner.config.serial + 9) }
     ensures trust { OnOk result (core.old.inner.committed ≡ true → core.new.inner.committed ≡ true) }
@@ -132,6 +133,7 @@ pub fn keep_logs<S: Shelf>(
     ensures loses { LosesAlong core.old.inner.config core.new.inner.config (S.meaning shelf.old) (S.meaning shelf.new) }
     ensures logs { EachOn core.old core.new (S.meaning shelf.old) (S.meaning shelf.new) }
     ensures narrow { Narrowed core.old core.new }
+    ensures below { SameUnits (S.meaning shelf.old) (S.meaning shelf.new) }
     ensures kept { IfOk result (λ done. done ≡ true → LogKept core.new vol logs.now) }
     ensures said { IfOk result (λ done. done ≡ true → MapSaid core.new vol logs.now) }
     ensures full { IfOk result (λ done. done ≡ false → greatest ≤ core.old.inner.config.serial + 9) }

@@ -3,6 +3,7 @@ ghost use Rattle.std.specs.Prelude.{◌≡◌, ◌+◌, ◌<◌, ◌≤◌, fals
 ghost use Rattle.vx_config.specs.Table.{greatest};
 ghost use Rattle.vx_disk.specs.Causes.{Cause};
 ghost use Rattle.vx_disk.specs.Shelf.{Goes, Nothing};
+ghost use Rattle.vx_group.specs.Creates.{SameUnits};
 ghost use Rattle.vx_group.specs.Holding.{GroupStands, wide};
 ghost use Rattle.vx_group.specs.Loses.{LosesAlong};
 ghost use Rattle.vx_group.specs.Stands.{inner_meaning};
@@ -24,6 +25,7 @@ pub fn ready_group<S: Shelf>(
     ensures loses { LosesAlong core.old.inner.config core.new.inner.config (S.meaning shelf.old) (S.meaning shelf.new) }
     ensures logs { EachOn core.old core.new (S.meaning shelf.old) (S.meaning shelf.new) }
     ensures narrow { Narrowed core.old core.new }
+    ensures below { SameUnits (S.meaning shelf.old) (S.meaning shelf.new) }
     ensures none { IfOk result (λ done. done ≡ true → core.new.held ≡ None) }
     ensures few { OnOk result (core.new.inner.config.serial ≤ core.old.inner.config.serial + 9) }
     ensures full { IfOk result (λ done. done ≡ false → greatest ≤ core.old.inner.config.serial) }

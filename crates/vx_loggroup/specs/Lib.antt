@@ -5,4 +5,6 @@ pub mod Opens
 pub mod Made
 pub mod Attaching
 pub mod Detaching
+pub mod Taking
 pub mod Fresh
+pub mod Resting

@@ -7,7 +7,7 @@ ghost use Rattle.vx_disk.specs.Disks.{Crashed, SameBlocks, Untouched};
 ghost use Rattle.vx_disk.specs.Racks.{Alike, Stopped};
 ghost use Rattle.vx_disk.specs.Shelf.{Goes, Nothing};
 ghost use Rattle.vx_group.specs.Attaches.{GroupAttachEnds, att_refusal, missed_regions};
-ghost use Rattle.vx_group.specs.Calls.{GivesBack, GroupAttaches, GroupCreated, GroupDeported, GroupStays, IsFull, KeepsUnits};
+ghost use Rattle.vx_group.specs.Calls.{GivesBack, GroupAttaches, GroupCreated, GroupDeported, GroupStays, ImportsAgain, IsFull, KeepsUnits};
 ghost use Rattle.vx_group.specs.Deports.{DeportStops, GroupCanImport};
 ghost use Rattle.vx_copies.specs.Commits.{MoreFailed};
 ghost use Rattle.vx_group.specs.Creates.{SameUnits};
@@ -28,7 +28,8 @@ ghost use Rattle.vx_loggroup.specs.LoggedVolumes.{LoggedStands, is_alike};
 ghost use Rattle.vx_loggroup.specs.Fresh.{FreshStands, LogsFirst};
 ghost use Rattle.vx_loggroup.specs.Marks.{region_count};
 ghost use Rattle.vx_loggroup.specs.Opens.{DeportTells, LoggedImported};
-ghost use Rattle.vx_logimport.specs.Covers.{DisksTell};
+ghost use Rattle.vx_logimport.specs.Rests.{LogsTell, RestsNone};
+ghost use Rattle.vx_logimport.specs.declared.rested.Rested.{Rested as RestedValue};
 ghost use Rattle.vx_logs.specs.declared.logs.Logs.{Logs as LogsValue};
 ghost use Rattle.vx_model.specs.declared.errors.Stop.TheVariants.{No as Refused};
 ghost use Rattle.vx_model.specs.declared.limits.TheConstants.{MOST_DISKS};
@@ -48,6 +49,7 @@ use vx_config::Config;
 use vx_disk::{Rack, Shelf};
 use vx_group::{GroupCore, start};
 use vx_layout::Shape;
+use vx_logimport::Rested;
 use vx_logs::Logs;
 use vx_model::limits::MOST_VOLUMES;
 use vx_model::{Name, Stop};
@@ -96,14 +98,17 @@ impl<S: Shelf> LoggedGroup<S> {
     }
 
     /// Imports a group. Of a volume that stopped uncleanly the regions alone are copied that its log has, and all of them where no log could
-    /// be read; then all marks are taken off its log. Each refusal is one of the import of a group; then the shelf is handed back.
-    pub fn import(alloc: Global, shelf: S) -> Result<LoggedGroup<S>, (S, Stop)>
+    /// be read. Where its plexes are alike then, and where the disks tell that a clean stop left them so, all marks are taken off its log. The log
+    /// of missed regions of one that stopped cleanly goes on. Each refusal is one of the import of a group; then the shelf is handed back.
+    pub fn import(alloc: Global, shelf: S, rested: &Rested) -> Result<LoggedGroup<S>, (S, Stop)>
         requires can { CanImport (S.meaning shelf) }
-        requires tells { (v : ℕ) → DisksTell v (S.meaning shelf) }
-        ensures imported { LoggedImported (λ s. S.meaning s) (S.meaning shelf) (λ g. g.core) (λ g. g.logs.items) (λ g. g.alike) (λ g. g.stopped) (λ g. g.shelf) result }
+        requires tells { LogsTell rested.now (S.meaning shelf) }
+        ensures same { KeepsUnits (S.meaning shelf) (λ s. S.meaning s) (λ g. g.shelf) result }
+        ensures imported { LoggedImported (λ s. S.meaning s) rested.now (S.meaning shelf) (λ g. g.core) (λ g. g.logs.items) (λ g. g.alike) (λ g. g.stopped) (λ g. g.shelf) result }
+        ensures again { ImportsAgain (λ s. S.meaning s) result }
     {
         let mut shelf = shelf;
-        match open_logged(alloc, &mut shelf) {
+        match open_logged(alloc, &mut shelf, rested) {
             Ok(opened) => {
                 let Opened {
                     core,
@@ -228,16 +233,17 @@ impl<S: Shelf> LoggedGroup<S> {
         )
     }
 
-    /// Deports the group, as one without logs, and hands the shelf out, or gives the group back. What was handed out may be imported by its logs,
-    /// as far as these are in memory, or held as lost, or a crash leaves one value of each block.
-    pub fn deport(self) -> Result<S, (LoggedGroup<S>, Stop)>
+    /// Deports the group, as one without logs, and hands the shelf out, or gives the group back. All disks are flushed first; a volume with a log of
+    /// missed regions of which a disk fails in that is unsure. It answers of which volumes the disks tell what a clean stop left; then they may
+    /// be imported by their logs. It answers none where logs are stopped, or a log is in memory no more and not held as lost.
+    pub fn deport(self) -> Result<(S, Option<Rested>), (LoggedGroup<S>, Stop)>
         ensures limit { greatest - margin < self.core.inner.config.serial → IsFull self.core self.shelf (λ g. g.core) (λ g. g.shelf) result }
-        ensures ends { GroupDeported self.core (S.meaning self.shelf) (λ s. S.meaning s) (λ g. g.core) (λ g. g.shelf) result }
-        ensures up { IfOk result (λ s. IsTrue (S.meaning s).down → ⊥) }
-        ensures back { GivesBack self.core (S.meaning self.shelf) (λ s. S.meaning s) (λ g. g.core) (λ g. g.shelf) result }
-        ensures can { GroupCanImport self.core.inner (λ s. S.meaning s) result }
-        ensures tells { DeportTells self.core self.logs.items self.stopped (λ s. S.meaning s) result }
-        ensures cause { self.core.inner.config.serial ≤ greatest - margin → DeportStops (S.meaning self.shelf) (λ s. S.meaning s) (λ g. g.shelf) result }
+        ensures ends { GroupDeported self.core (S.meaning self.shelf) (λ s. S.meaning s.0) (λ g. g.core) (λ g. g.shelf) result }
+        ensures up { IfOk result (λ s. IsTrue (S.meaning s.0).down → ⊥) }
+        ensures back { GivesBack self.core (S.meaning self.shelf) (λ s. S.meaning s.0) (λ g. g.core) (λ g. g.shelf) result }
+        ensures can { GroupCanImport self.core.inner (λ s. S.meaning s.0) result }
+        ensures tells { DeportTells (λ s. S.meaning s) result }
+        ensures cause { self.core.inner.config.serial ≤ greatest - margin → DeportStops (S.meaning self.shelf) (λ s. S.meaning s.0) (λ g. g.shelf) result }
     {
         let LoggedGroup {
             shelf,
@@ -250,7 +256,7 @@ impl<S: Shelf> LoggedGroup<S> {
         let mut shelf = shelf;
         let mut core = core;
         match deport_whole(&mut shelf, &mut core, &logs, &alike, stopped) {
-            Ok(()) => Ok(shelf),
+            Ok(rested) => Ok((shelf, rested)),
             Err(stop) => Err((
                 LoggedGroup {
                     shelf,
@@ -325,7 +331,7 @@ impl<R: Rack> LoggedGroup<R> {
         ensures disks { OnDisks (R.meaning self.shelf).disks (R.meaning result).disks (Crashed (R.meaning self.shelf).size pick) }
         ensures volumes { Stopped (inner_meaning (wide self.core) (R.meaning self.shelf)) (inner_meaning (wide self.core) (R.meaning result)) }
         ensures can { self.core.inner.agreed ≡ true → CanImport (R.meaning result) }
-        ensures tells { self.stopped ≡ false → (v : ℕ) → DisksTell v (R.meaning result) }
+        ensures tells { self.stopped ≡ false → (r : RestedValue) → RestsNone r → LogsTell r (R.meaning result) }
     {
         let mut rack = self.shelf;
         let core = self.core;

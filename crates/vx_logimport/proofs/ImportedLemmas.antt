@@ -93,6 +93,7 @@ module _ (old m1 : Meaning) (plan : Plan) (taken : IsTaken old m1 plan) (law : L
       config = taken.config;
       opened = opened;
       taken = taken_new;
+      shape = fin.made.on.shape;
       read = record { each = λ v l is. read_behind opened v l.drl old m2 new counts (read.each v l is) };
       only = only_stopped taken.config opened plan.stopped logs.items old m1 new unclean goes only;
       logs = record { many = let same : length d.config.volumes ≡ length opened.volumes = fin.made.on.shape.volumes in are.many ∙ sym same; plain = are.plain };

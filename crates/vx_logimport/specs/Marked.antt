@@ -15,7 +15,7 @@ use Rattle.vx_logs.specs.declared.logs.Logs.{Logs}
 use Rattle.vx_resync.specs.Picks.{marked_or}
 use Rattle.vx_volume.specs.Plexes.{Inside, active}
 use Rattle.vx_kept.specs.Cleans.{is_unsure}
-use Rattle.vx_kept.specs.Keeping.{Acts}
+use Rattle.vx_kept.specs.Keeping.{Acts, SameShape}
 use Rattle.vx_group.specs.Attaches.{AnyImage}
 use Rattle.vx_group.specs.Imports.{ImportStops, Resumed}
 use Rattle.vx_group.specs.Mends.{drl_at}
@@ -64,6 +64,7 @@ pub record ResumedBy (old : Meaning) (k : Marked) (new : Meaning) : Type 0 where
   pub config : Config
   pub opened : Config
   pub taken : TakenUp old new config opened
+  pub shape : SameShape k.core.config opened
   pub read : LogsRead opened k.logs.items old new
   pub only : Acts (OnStopped config opened k.logs.items) AnyImage old new
   pub logs : AreDirtyLogs (length k.core.config.volumes) k.logs.items

@@ -9,6 +9,7 @@ use Rattle.vx_config.specs.declared.entry.VolumeLog.TheVariants.{Drl}
 use Rattle.vx_logged.proofs.RefuseLemmas.{map_said}
 use Rattle.vx_logged.proofs.StandLemmas.{each_then, narrowed_then}
 use Rattle.vx_group.proofs.LoseLemmas.{then_along}
+use Rattle.vx_group.proofs.UnitLemmas.{then_units}
 use Rattle.vx_logged.proofs.keeping.keep_logs.Goals as goal
 
 pub returns-in-Ok-keep_map-clause-goes : goal.returns-in-Ok-keep_map-clause-goes
@@ -43,3 +44,9 @@ returns-in-Ok-keep_map-clause-loses g c = then_along c.args.core.now.inner.confi
 
 pub returns-in-Err-keep_map-clause-loses : goal.returns-in-Err-keep_map-clause-loses
 returns-in-Err-keep_map-clause-loses g c = then_along c.args.core.now.inner.config c.keep_log.new.core.inner.config c.keep_map.new.core.inner.config (g.S.Shelf.meaning c.args.shelf.now) (g.S.Shelf.meaning c.keep_log.new.shelf) (g.S.Shelf.meaning c.keep_map.new.shelf) c.keep_log.ensures.loses c.keep_map.ensures.loses
+
+pub returns-in-Ok-keep_map-clause-below : goal.returns-in-Ok-keep_map-clause-below
+returns-in-Ok-keep_map-clause-below g c = then_units (g.S.Shelf.meaning c.args.shelf.now) (g.S.Shelf.meaning c.keep_log.new.shelf) (g.S.Shelf.meaning c.keep_map.new.shelf) c.keep_log.ensures.below c.keep_map.ensures.below
+
+pub returns-in-Err-keep_map-clause-below : goal.returns-in-Err-keep_map-clause-below
+returns-in-Err-keep_map-clause-below g c = then_units (g.S.Shelf.meaning c.args.shelf.now) (g.S.Shelf.meaning c.keep_log.new.shelf) (g.S.Shelf.meaning c.keep_map.new.shelf) c.keep_log.ensures.below c.keep_map.ensures.below
