@@ -1,11 +1,12 @@
 -- Disks that are imported no more, as their logs were stopped: an import of them is refused for want of serials.
-use Rattle.std.proofs.Common.{◌≡◌, ◌∙◌, inr, Bool, true, false, not, IsTrue, Some, None, refl, sym, subst}
+use Rattle.std.proofs.Common.{◌≡◌, ◌∙◌, inr, Bool, true, false, not, IsTrue, Option, Some, None, refl, sym, subst}
 use Rattle.std.specs.Prelude.{Err}
 use Rattle.vx_config.specs.Table.{greatest}
 use Rattle.vx_disk.specs.Shelf.{Meaning}
 use Rattle.vx_disk.specs.declared.shelf.Shelf.{Ghosts}
 use Rattle.vx_history.specs.Groups.{GroupNode}
 use Rattle.vx_history.specs.World.{Node}
+use Rattle.vx_loggroup.specs.Opens.{RestTells}
 use Rattle.vx_logimport.specs.Rests.{LogsTell}
 use Rattle.vx_logimport.specs.declared.rested.Rested.{Rested}
 use Rattle.vx_model.specs.declared.errors.Stop.TheVariants.{No as Refused}
@@ -29,9 +30,14 @@ use Rattle.vx_grouped.proofs.SinceReturns.{dark_armed, dark_down}
 use Rattle.vx_grouped.proofs.SiteLemmas.{away_dimmed, lit_dimmed, noted_dimmed}
 use Rattle.vx_grouped.proofs.SiteReturnLemmas.{is_up}
 
--- what is known of the volumes is one value
+-- by equal values they tell the same
 pub rested_tells : (r s : Rested) (m : Meaning) → Some s ≡ Some r → LogsTell s m → LogsTell r m
 rested_tells r s m same it = let is : s ≡ r = cc in subst (λ (x : Rested). LogsTell x m) is it
+
+-- what is told behind a deport
+pub rest_tells : (o : Option Rested) (m : Meaning) → RestTells o m → (r : Rested) → o ≡ Some r → LogsTell r m
+rest_tells None m it r is = absurd (let clash : None ≡ Some r = is in cc)
+rest_tells (Some s) m it r is = rested_tells r s m is it
 
 module _ {R : Type 0} (meaning : R → Meaning) where
   dark_disks : (s : Shade R) → (shade_meaning meaning (Dark (rack_of s))).disks ≡ (shade_meaning meaning s).disks

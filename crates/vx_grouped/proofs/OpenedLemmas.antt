@@ -17,6 +17,7 @@ use Rattle.vx_group.specs.Stands.{inner_meaning}
 use Rattle.vx_group.specs.declared.group_core.GroupCore.{GroupCore}
 use Rattle.vx_group.proofs.HoldLemmas.{wide_shape}
 use Rattle.vx_loggroup.specs.Opens.{IsOpened}
+use Rattle.vx_logimport.specs.declared.rested.Rested.{Rested}
 use Rattle.vx_logs.specs.declared.logs.Logs.{Logs}
 use Rattle.vx_grouped.specs.Away.{AwayLies}
 use Rattle.vx_grouped.specs.Plain.{HoldsPlain}
@@ -73,10 +74,10 @@ module _ (n : Node) (note : GroupNode) (last : Config) (old : Meaning) (c d : Gr
   }
 
 -- the same of an import by logs
-pub opened_returns : (n : Node) (note : GroupNode) (last : Config) (old : Meaning) → Lawful old → AwayLies n note last old → {S : Type 0} (meaning : S → Meaning) (core : GroupCore) (logs : List Logs) (flags : List Bool) (stopped : Bool) (new : Meaning) → CanImport old
-    → IsOpened meaning old core logs flags stopped new → GroupReturns n note last old core new
-opened_returns n note last old law away {S} meaning core logs flags stopped new can it =
+pub opened_returns : (n : Node) (note : GroupNode) (last : Config) (old : Meaning) → Lawful old → AwayLies n note last old → {S : Type 0} (meaning : S → Meaning) (rested : Rested) (core : GroupCore) (logs : List Logs) (flags : List Bool) (stopped : Bool) (new : Meaning) → CanImport old
+    → IsOpened meaning rested old core logs flags stopped new → (core.inner.committed ≡ true → core.inner.agreed ≡ true) → GroupReturns n note last old core new
+opened_returns n note last old law away {S} meaning rested core logs flags stopped new can it both =
     let middle : GroupCore = record { inner = it.marked.core; held = None } in
     let only = it.resumed.only in
-    then_returns n note last old middle core (meaning it.moment) new it.same it.goes it.loses only.faults it.counts it.committed it.agreed it.up
+    then_returns n note last old middle core (meaning it.moment) new it.same it.goes it.loses only.faults it.counts it.committed (both it.committed) it.up
     (group_returns n note last old law away it.marked.core (meaning it.moment) can it.resumed.resumed (record { units = only.units; size = only.size }) middle refl refl)

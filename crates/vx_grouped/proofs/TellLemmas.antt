@@ -15,13 +15,13 @@ use Rattle.vx_grouped.proofs.SiteReturnLemmas.{early_goes}
 
 module _ (r : Rested) (m m' : Meaning) where
   pub alike_tells : Alike m m' → LogsTell r m → LogsTell r m'
-  alike_tells alike = less_tells r m m' alike.contents.units alike.contents.size alike.contents.leaves
+  alike_tells alike = less_tells m m' alike.contents.units alike.contents.size alike.contents.leaves r
 
   pub stopped_tells : Stopped m m' → LogsTell r m → LogsTell r m'
-  stopped_tells stopped = less_tells r m m' stopped.units stopped.size stopped.leaves
+  stopped_tells stopped = less_tells m m' stopped.units stopped.size stopped.leaves r
 
   pub goes_tells : Goes Nothing m m' → LogsTell r m → LogsTell r m'
-  goes_tells goes = less_tells r m m' goes.units goes.size (λ u b v left. ⊎_elim (λ was. was) (λ none. absurd none) (goes.leaves u b v left))
+  goes_tells goes = less_tells m m' goes.units goes.size (λ u b v left. ⊎_elim (λ was. was) (λ none. absurd none) (goes.leaves u b v left)) r
 
   -- behind an import that was refused before it wrote
   pub early_tells : (stop : Stop) → stops_early stop ≡ true → ImportStops m m' stop → LogsTell r m → LogsTell r m'
@@ -29,10 +29,10 @@ module _ (r : Rested) (m m' : Meaning) where
 
 -- disks that tell nothing
 pub none_tells : (r : Rested) (m : Meaning) → TellsNone m → LogsTell r m
-none_tells r m none = untold_tells r m none.leaves
+none_tells r m none = untold_tells r m (λ i each. none.leaves 0 0 (i 0 0) (each 0 0))
 
 pub dark_tells : {R : Type 0} (r : Rested) (meaning : R → Meaning) (s : Shade R) → LogsTell r (shade_meaning meaning (Dark (rack_of s)))
-dark_tells r meaning s = untold_tells r (shade_meaning meaning (Dark (rack_of s))) (λ u b v left. left)
+dark_tells r meaning s = untold_tells r (shade_meaning meaning (Dark (rack_of s))) (λ i each. each 0 0)
 
 -- disks that fell behind a refused import
 pub fallen_tells : (r : Rested) (m m' m3 : Meaning) (stop : Stop) (early : Bool) → early ≡ stops_early stop → LogsTell r m → ImportStops m m' stop → (early ≡ true → Stopped m' m3) → (early ≡ false → TellsNone m3) → LogsTell r m3

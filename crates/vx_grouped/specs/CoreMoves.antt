@@ -1,5 +1,5 @@
 -- What a call on a group over any shelf makes of its configuration.
-use Rattle.std.specs.Prelude.{◌≡◌, ℕ, Bool, true, false, length, Option, Some, Result, Ok, Err}
+use Rattle.std.specs.Prelude.{◌≡◌, ℕ, Bool, true, false, length, Result, Ok, Err}
 use Rattle.vx_disk.specs.Counts.{Rose}
 use Rattle.vx_disk.specs.Shelf.{Meaning}
 use Rattle.vx_model.specs.declared.errors.Stop.{Stop}
@@ -12,8 +12,6 @@ use Rattle.vx_group.specs.Holding.{wide}
 use Rattle.vx_group.specs.Loses.{LosesPlexes, SameParts}
 use Rattle.vx_group.specs.Resumes.{CanImport}
 use Rattle.vx_group.specs.declared.group_core.GroupCore.{GroupCore}
-use Rattle.vx_logimport.specs.Rests.{LogsTell}
-use Rattle.vx_logimport.specs.declared.rested.Rested.{Rested}
 
 -- of both each plex that takes part is ACTIVE; the first is checked, and has so many disks
 pub record BothOn (c d : Config) (units : ℕ) : Type 0 where
@@ -36,11 +34,6 @@ pub record CoreMoves (again : ℕ → Bool) (c d : Config) (old new : Meaning) :
 abbrev pub DeportCan : {S G : Type 0} → GroupCore → (S → Meaning) → Result S (G × Stop) → Type 0
 DeportCan c meaning (Ok s) = c.inner.committed ≡ true → CanImport (meaning s)
 DeportCan c meaning (Err e) = Unit {0}
-
--- and they tell what an import by logs asks, where it is known which volumes are as they were left
-abbrev pub DeportKnows : {S G : Type 0} → (S → Meaning) → Result (S × Option Rested) (G × Stop) → Type 0
-DeportKnows meaning (Ok (s, rested)) = (r : Rested) → rested ≡ Some r → LogsTell r (meaning s)
-DeportKnows meaning (Err e) = Unit {0}
 
 -- the group that is given back has lost plexes alone
 pub record BackMoves (c d : GroupCore) (old new : Meaning) : Type 0 where

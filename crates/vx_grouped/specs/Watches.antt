@@ -72,9 +72,9 @@ DeportSince old meaning back (Ok s) = CalledSince old (meaning s)
 DeportSince old meaning back (Err (g, stop)) = CalledSince old (back g)
 
 -- and what its rack tells
-abbrev pub DeportTells : {S G : Type 0} → Meaning → (S → Meaning) → (G → Meaning) → Result S (G × Stop) → Type 0
-DeportTells old below back (Ok s) = TellsLess old (below s)
-DeportTells old below back (Err (g, stop)) = TellsLess old (back g)
+abbrev pub DeportShows : {S G : Type 0} → Meaning → (S → Meaning) → (G → Meaning) → Result S (G × Stop) → Type 0
+DeportShows old below back (Ok s) = TellsLess old (below s)
+DeportShows old below back (Err (g, stop)) = TellsLess old (back g)
 
 -- a deport is refused for want of serials, or for a device
 abbrev pub DeportRefuses : {S G : Type 0} → Meaning → (G → Meaning) → Result S (G × Stop) → Type 0

@@ -1,14 +1,15 @@
 // A group that is deported.
-ghost use Rattle.std.specs.Prelude.{◌-◌, ◌<◌, ◌≤◌, IfOk, IsTrue};
+ghost use Rattle.std.specs.Prelude.{◌-◌, ◌<◌, ◌≤◌, IfOk, IsTrue, None};
 ghost use Rattle.vx_config.specs.Table.{greatest};
 ghost use Rattle.vx_group.specs.Calls.{GroupDeported, IsFull};
 ghost use Rattle.vx_group.specs.Deports.{DeportStops};
 ghost use Rattle.vx_group.specs.Dets.{margin};
-ghost use Rattle.vx_grouped.specs.CoreMoves.{DeportCan, DeportKnows, DeportMoves};
+ghost use Rattle.vx_grouped.specs.CoreMoves.{DeportCan, DeportMoves};
 ghost use Rattle.vx_grouped.specs.Ends.{DeportLeaves};
 ghost use Rattle.vx_grouped.specs.GroupNotes.{IsGroupAt};
 ghost use Rattle.vx_history.specs.Groups.{GroupNode};
 ghost use Rattle.vx_history.specs.World.{Node};
+ghost use Rattle.vx_loggroup.specs.Opens.{DeportTells};
 
 use vx_disk::Shelf;
 use vx_loggroup::LoggedGroup;
@@ -24,14 +25,14 @@ pub fn deport_group<S: Shelf>(
     group: LoggedGroup<S>,
 ) -> Result<(S, Option<Rested>), (LoggedGroup<S>, Stop)>
     requires up { IsTrue (S.meaning group.shelf).down → ⊥ }
-    ensures limit { greatest - margin < group.core.inner.config.serial → IsFull group.core group.shelf (λ g. g.core) (λ g. g.shelf) result }
-    ensures ends { GroupDeported group.core (S.meaning group.shelf) (λ s. S.meaning s.0) (λ g. g.core) (λ g. g.shelf) result }
+    ensures limit { greatest - margin < group.core.inner.config.serial → IsFull group.core (group.shelf, None) (λ g. g.core) (λ g. (g.shelf, None)) result }
+    ensures ends { GroupDeported group.core (S.meaning group.shelf) (λ s. S.meaning s.0) (λ g. g.core) (λ g. (g.shelf, None)) result }
     ensures up { IfOk result (λ s. IsTrue (S.meaning s.0).down → ⊥) }
     ensures leaves { (n : Node) (note : GroupNode) → IsGroupAt n note group.core (S.meaning group.shelf) → DeportLeaves n note group.core (λ s. S.meaning s.0) (λ g. g.core) (λ g. S.meaning g.shelf) result }
     ensures can { DeportCan group.core (λ s. S.meaning s.0) result }
-    ensures tells { DeportKnows (λ s. S.meaning s) result }
+    ensures tells { DeportTells (λ s. S.meaning s) result }
     ensures moves { DeportMoves group.core (S.meaning group.shelf) (λ s. S.meaning s.0) (λ g. g.core) (λ g. S.meaning g.shelf) result }
-    ensures cause { group.core.inner.config.serial ≤ greatest - margin → DeportStops (S.meaning group.shelf) (λ s. S.meaning s.0) (λ g. g.shelf) result }
+    ensures cause { group.core.inner.config.serial ≤ greatest - margin → DeportStops (S.meaning group.shelf) (λ s. S.meaning s.0) (λ g. (g.shelf, None)) result }
 {
     match group.deport() {
         Ok((rack, rested)) => Ok((rack, rested)),

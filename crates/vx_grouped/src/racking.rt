@@ -10,7 +10,7 @@ ghost use Rattle.vx_grouped.specs.GroupNotes.{GroupLies};
 ghost use Rattle.vx_history.specs.Groups.{GroupNode};
 ghost use Rattle.vx_history.specs.World.{Node};
 ghost use Rattle.vx_logimport.specs.declared.rested.Rested.{Rested as RestedValue};
-ghost use Rattle.vx_logimport.specs.Rests.{none_rest};
+ghost use Rattle.vx_logimport.specs.Rests.{RestsNone};
 ghost use Rattle.vx_model.specs.declared.site.SiteState.TheVariants.{Down as DownState};
 ghost use Rattle.vx_untold.specs.Shades.{rack_of, shade_meaning};
 ghost use Rattle.vx_watched.specs.Traces.{TellsLess};
@@ -24,7 +24,7 @@ use vx_watched::Begun;
 
 // Which volumes are as a deport left them, behind a crash: none; it is not known where logs were stopped.
 fn rested_of(stopped: bool) -> Option<Rested>
-    ensures none { (r : RestedValue) → result ≡ Some r → (stopped ≡ false) × (r ≡ none_rest) }
+    ensures none { (r : RestedValue) → result ≡ Some r → (stopped ≡ false) × RestsNone r }
 {
     if stopped {
         return None;

@@ -2,12 +2,13 @@
 ghost use Rattle.std.specs.Prelude.{◌≡◌, IfOk, IsTrue};
 ghost use Rattle.vx_history.specs.Groups.{GroupNode};
 ghost use Rattle.vx_history.specs.World.{Node};
-ghost use Rattle.vx_grouped.specs.CoreMoves.{DeportCan, DeportKnows, DeportMoves};
+ghost use Rattle.vx_grouped.specs.CoreMoves.{DeportCan, DeportMoves};
 ghost use Rattle.vx_grouped.specs.Ends.{DeportLeaves};
 ghost use Rattle.vx_grouped.specs.GroupNotes.{IsGroupAt};
 ghost use Rattle.vx_grouped.specs.GroupSites.{GroupUp, UpNoted, site_below, site_disks};
 ghost use Rattle.vx_grouped.specs.SiteEnds.{SiteDeported};
-ghost use Rattle.vx_grouped.specs.Watches.{DeportRefuses, DeportSince, DeportTells};
+ghost use Rattle.vx_grouped.specs.Watches.{DeportRefuses, DeportShows, DeportSince};
+ghost use Rattle.vx_loggroup.specs.Opens.{DeportTells};
 ghost use Rattle.vx_untold.specs.Shades.{rack_of, shade_meaning};
 ghost use Rattle.vx_watched.specs.Since.{CalledSince};
 ghost use Rattle.vx_watched.specs.Traces.{TellsLess};
@@ -32,7 +33,7 @@ fn deport_from<B: Begun, R: Rack>(
     ensures leaves { (n : Node) (note : GroupNode) → IsGroupAt n note group.core (R.meaning group.shelf) → DeportLeaves n note group.core (λ s. R.meaning s.0) (λ g. g.core) (λ g. R.meaning g.shelf) result }
     ensures up { IfOk result (λ s. IsTrue (R.meaning s.0).down → ⊥) }
     ensures can { DeportCan group.core (λ s. R.meaning s.0) result }
-    ensures tells { DeportKnows (λ s. R.meaning s) result }
+    ensures tells { DeportTells (λ s. R.meaning s) result }
     ensures moves { DeportMoves group.core (R.meaning group.shelf) (λ s. R.meaning s.0) (λ g. g.core) (λ g. R.meaning g.shelf) result }
     ensures refusals { DeportRefuses (R.meaning group.shelf) (λ g. R.meaning g.shelf) result }
     ensures since { DeportSince B.first (λ s. R.meaning s.0) (λ g. R.meaning g.shelf) result }
@@ -59,11 +60,11 @@ fn deport_traced<C: Begun, R: Rack>(
     ensures leaves { (n : Node) (note : GroupNode) → IsGroupAt n note laid.core (shade_meaning (λ s. R.meaning s) laid.shelf) → DeportLeaves n note laid.core (λ s. shade_meaning (λ s. R.meaning s) s.0) (λ g. g.core) (λ g. shade_meaning (λ s. R.meaning s) g.shelf) result }
     ensures up { IfOk result (λ s. IsTrue (shade_meaning (λ s. R.meaning s) s.0).down → ⊥) }
     ensures can { DeportCan laid.core (λ s. shade_meaning (λ s. R.meaning s) s.0) result }
-    ensures tells { DeportKnows (λ s. shade_meaning (λ s. R.meaning s) s) result }
+    ensures tells { DeportTells (λ s. shade_meaning (λ s. R.meaning s) s) result }
     ensures moves { DeportMoves laid.core (shade_meaning (λ s. R.meaning s) laid.shelf) (λ s. shade_meaning (λ s. R.meaning s) s.0) (λ g. g.core) (λ g. shade_meaning (λ s. R.meaning s) g.shelf) result }
     ensures refusals { DeportRefuses (shade_meaning (λ s. R.meaning s) laid.shelf) (λ g. shade_meaning (λ s. R.meaning s) g.shelf) result }
     ensures since { DeportSince (shade_meaning (λ s. R.meaning s) laid.shelf) (λ s. shade_meaning (λ s. R.meaning s) s.0) (λ g. shade_meaning (λ s. R.meaning s) g.shelf) result }
-    ensures told { DeportTells C.first (λ s. R.meaning (rack_of s.0)) (λ g. R.meaning (rack_of g.shelf)) result }
+    ensures told { DeportShows C.first (λ s. R.meaning (rack_of s.0)) (λ g. R.meaning (rack_of g.shelf)) result }
 {
     match deport_from::<Brand, Shade<Traced<R, C>>>(trace::<C, R>(laid)) {
         Ok((rack, rested)) => Ok((untraced(rack), rested)),
@@ -79,11 +80,11 @@ fn deport_watched<R: Rack>(
     ensures leaves { (n : Node) (note : GroupNode) → IsGroupAt n note laid.core (shade_meaning (λ s. R.meaning s) laid.shelf) → DeportLeaves n note laid.core (λ s. shade_meaning (λ s. R.meaning s) s.0) (λ g. g.core) (λ g. shade_meaning (λ s. R.meaning s) g.shelf) result }
     ensures up { IfOk result (λ s. IsTrue (shade_meaning (λ s. R.meaning s) s.0).down → ⊥) }
     ensures can { DeportCan laid.core (λ s. shade_meaning (λ s. R.meaning s) s.0) result }
-    ensures tells { DeportKnows (λ s. shade_meaning (λ s. R.meaning s) s) result }
+    ensures tells { DeportTells (λ s. shade_meaning (λ s. R.meaning s) s) result }
     ensures moves { DeportMoves laid.core (shade_meaning (λ s. R.meaning s) laid.shelf) (λ s. shade_meaning (λ s. R.meaning s) s.0) (λ g. g.core) (λ g. shade_meaning (λ s. R.meaning s) g.shelf) result }
     ensures refusals { DeportRefuses (shade_meaning (λ s. R.meaning s) laid.shelf) (λ g. shade_meaning (λ s. R.meaning s) g.shelf) result }
     ensures since { DeportSince (shade_meaning (λ s. R.meaning s) laid.shelf) (λ s. shade_meaning (λ s. R.meaning s) s.0) (λ g. shade_meaning (λ s. R.meaning s) g.shelf) result }
-    ensures told { DeportTells (R.meaning (rack_of laid.shelf)) (λ s. R.meaning (rack_of s.0)) (λ g. R.meaning (rack_of g.shelf)) result }
+    ensures told { DeportShows (R.meaning (rack_of laid.shelf)) (λ s. R.meaning (rack_of s.0)) (λ g. R.meaning (rack_of g.shelf)) result }
 {
     deport_traced::<Brand, R>(laid)
 }

@@ -237,13 +237,13 @@ impl<S: Shelf> LoggedGroup<S> {
     /// missed regions of which a disk fails in that is unsure. It answers of which volumes the disks tell what a clean stop left; then they may
     /// be imported by their logs. It answers none where logs are stopped, or a log is in memory no more and not held as lost.
     pub fn deport(self) -> Result<(S, Option<Rested>), (LoggedGroup<S>, Stop)>
-        ensures limit { greatest - margin < self.core.inner.config.serial → IsFull self.core self.shelf (λ g. g.core) (λ g. g.shelf) result }
-        ensures ends { GroupDeported self.core (S.meaning self.shelf) (λ s. S.meaning s.0) (λ g. g.core) (λ g. g.shelf) result }
+        ensures limit { greatest - margin < self.core.inner.config.serial → IsFull self.core (self.shelf, None) (λ g. g.core) (λ g. (g.shelf, None)) result }
+        ensures ends { GroupDeported self.core (S.meaning self.shelf) (λ s. S.meaning s.0) (λ g. g.core) (λ g. (g.shelf, None)) result }
         ensures up { IfOk result (λ s. IsTrue (S.meaning s.0).down → ⊥) }
-        ensures back { GivesBack self.core (S.meaning self.shelf) (λ s. S.meaning s.0) (λ g. g.core) (λ g. g.shelf) result }
+        ensures back { GivesBack self.core (S.meaning self.shelf) (λ s. S.meaning s.0) (λ g. g.core) (λ g. (g.shelf, None)) result }
         ensures can { GroupCanImport self.core.inner (λ s. S.meaning s.0) result }
         ensures tells { DeportTells (λ s. S.meaning s) result }
-        ensures cause { self.core.inner.config.serial ≤ greatest - margin → DeportStops (S.meaning self.shelf) (λ s. S.meaning s.0) (λ g. g.shelf) result }
+        ensures cause { self.core.inner.config.serial ≤ greatest - margin → DeportStops (S.meaning self.shelf) (λ s. S.meaning s.0) (λ g. (g.shelf, None)) result }
     {
         let LoggedGroup {
             shelf,

@@ -44,7 +44,7 @@ pub returns-in-Err-clause-told : goal.returns-in-Err-clause-told
 returns-in-Err-clause-told g c = λ told. sym c.into_shelf.ensures.since.tells ∙ told
 
 pub import_group-requires : goal.import_group-requires
-import_group-requires g c = record { can = untold_can (g.R.Shelf.meaning c.over.result.shelf); tells = untold_tells c.none.result (untold (g.R.Shelf.meaning c.over.result.shelf)) (λ u b v left. left) }
+import_group-requires g c = record { can = untold_can (g.R.Shelf.meaning c.over.result.shelf); tells = untold_tells c.none.result (untold (g.R.Shelf.meaning c.over.result.shelf)) (λ i each. each 0 0) }
 
 pub together-requires-clause-stands : goal.together-requires-clause-stands
 together-requires-clause-stands g c = λ κs lives.

@@ -1,14 +1,11 @@
 -- An import, as the site notes the group: it is up, or its disks are handed back.
-use Rattle.vx_group.specs.declared.group_core.GroupCore.{GroupCore}
-use Rattle.std.proofs.Common.{refl}
-use Rattle.std.specs.Prelude.{None}
 use Rattle.vx_grouped.proofs.OpenedLemmas.{opened_returns}
 use Rattle.vx_grouped.proofs.ReturnLemmas.{import_left}
 use Rattle.vx_grouped.proofs.importing.import_group.Goals as goal
 
 pub returns-in-Ok-clause-leaves : goal.returns-in-Ok-clause-leaves
 returns-in-Ok-clause-leaves g c = λ n note last away.
-    opened_returns n note last (g.S.Shelf.meaning c.args.shelf) (g.met.S.Shelf.lawful c.args.shelf) away g.S.Shelf.meaning c.in-Ok.group.core c.in-Ok.group.logs.items c.in-Ok.group.alike c.in-Ok.group.stopped (g.S.Shelf.meaning c.in-Ok.group.shelf) c.requires.can c.in-Ok.ensures.imported
+    opened_returns n note last (g.S.Shelf.meaning c.args.shelf) (g.met.S.Shelf.lawful c.args.shelf) away g.S.Shelf.meaning c.args.rested.now c.in-Ok.group.core c.in-Ok.group.logs.items c.in-Ok.group.alike c.in-Ok.group.stopped (g.S.Shelf.meaning c.in-Ok.group.shelf) c.requires.can c.in-Ok.ensures.imported c.in-Ok.group.stands.group.stands.trusts.both
 
 pub returns-in-Err-clause-leaves : goal.returns-in-Err-clause-leaves
 returns-in-Err-clause-leaves g c = λ n note last away.

@@ -6,7 +6,7 @@ use Rattle.vx_disk.specs.Disks.{Crashed}
 use Rattle.vx_disk.specs.Racks.{Stopped}
 use Rattle.vx_group.specs.Resumes.{CanImport}
 use Rattle.vx_group.specs.declared.group_core.GroupCore.{GroupCore}
-use Rattle.vx_logimport.specs.Rests.{LogsTell, none_rest}
+use Rattle.vx_logimport.specs.Rests.{LogsTell}
 use Rattle.vx_untold.specs.Shades.{rack_of, shade_meaning}
 use Rattle.vx_grouped.specs.Away.{IsAwayAt}
 use Rattle.vx_grouped.specs.GroupNotes.{GroupLies}
@@ -38,4 +38,4 @@ of-requires-clause-can g c = λ κs within agreed. carried_off (λ m. CanImport 
 pub of-requires-clause-tells : goal.of-requires-clause-tells
 of-requires-clause-tells g c = λ κs within r agreed is.
     let it = c.rested_of.ensures r is in
-    subst (λ x. LogsTell x (shade_meaning g.R.Shelf.meaning c.untraced.result)) (sym it.1) (carried_off (λ m. LogsTell none_rest m) c.untraced.result c.crash_whole.new.rack c.untraced.ensures.shelf (c.crash_whole.ensures.tells it.0))
+    carried_off (λ m. LogsTell r m) c.untraced.result c.crash_whole.new.rack c.untraced.ensures.shelf (c.crash_whole.ensures.tells it.0 r it.1)

@@ -9,7 +9,7 @@ use Rattle.vx_group.specs.Deports.{DeportedBy}
 use Rattle.vx_group.specs.Dets.{DetStops, margin}
 use Rattle.vx_group.specs.Holding.{wide}
 use Rattle.vx_group.specs.Resumes.{CanImport}
-use Rattle.vx_logimport.specs.Rests.{LogsTell}
+use Rattle.vx_loggroup.specs.Opens.{RestTells}
 use Rattle.vx_grouped.specs.CoreMoves.{BackMoves}
 use Rattle.vx_grouped.specs.Away.{IsDeportedAt, note_deported}
 use Rattle.vx_grouped.specs.Ends.{CallLeaves}
@@ -62,4 +62,4 @@ returns-in-Err-clause-moves g c =
     (c.together.ensures.core ∙ c.apart-watched.ensures.core) (c.together.ensures.shelf ∙ c.into_shelf-rack.ensures.shelf ∙ shelf_of _ _ c.apart-watched.ensures.shelf) c.in-Err.ensures.moves
 
 pub returns-in-Ok-clause-tells : goal.returns-in-Ok-clause-tells
-returns-in-Ok-clause-tells g c = λ r is. subst (λ t. LogsTell r (g.R.Shelf.meaning t)) (sym c.into_shelf.ensures.shelf) (c.in-Ok.ensures.tells r is)
+returns-in-Ok-clause-tells g c = subst (λ t. RestTells c.in-Ok.rested (g.R.Shelf.meaning t)) (sym c.into_shelf.ensures.shelf) c.in-Ok.ensures.tells

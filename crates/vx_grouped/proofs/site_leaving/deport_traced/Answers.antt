@@ -6,7 +6,7 @@ use Rattle.vx_config.specs.declared.config.Config.{Config}
 use Rattle.vx_group.specs.Deports.{DeportedBy}
 use Rattle.vx_group.specs.Holding.{wide}
 use Rattle.vx_group.specs.Resumes.{CanImport}
-use Rattle.vx_logimport.specs.Rests.{LogsTell}
+use Rattle.vx_loggroup.specs.Opens.{RestTells}
 use Rattle.vx_watched.specs.Since.{CalledSince}
 use Rattle.vx_grouped.specs.Away.{IsDeportedAt, note_deported}
 use Rattle.vx_grouped.specs.CoreMoves.{BackMoves}
@@ -66,4 +66,4 @@ pub deport_from-requires-clause-up : goal.deport_from-requires-clause-up
 deport_from-requires-clause-up g c = carried_on (λ m. IsTrue m.down → ⊥) c.args.laid.shelf c.trace.result.shelf c.trace.ensures.shelf c.requires.up
 
 pub returns-in-Ok-clause-tells : goal.returns-in-Ok-clause-tells
-returns-in-Ok-clause-tells g c = λ r is. carried_off (λ m. LogsTell r m) c.untraced.result c.in-Ok.rack c.untraced.ensures.shelf (c.in-Ok.ensures.tells r is)
+returns-in-Ok-clause-tells g c = carried_off (λ m. RestTells c.in-Ok.rested m) c.untraced.result c.in-Ok.rack c.untraced.ensures.shelf c.in-Ok.ensures.tells
