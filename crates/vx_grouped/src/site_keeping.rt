@@ -28,7 +28,10 @@ fn kept_from<B: Begun, R: Rack>(
     vol: u32,
     block: u64,
     bytes: &[u8],
-) -> (LoggedGroup<R>, Result<[bool; MOST_CALL_BLOCKS as usize], No>)
+) -> (
+    LoggedGroup<R>,
+    Result<[bool; MOST_CALL_BLOCKS as usize], No>,
+)
     requires fits { Fits (inner_meaning (wide group.core) (R.meaning group.shelf)) vol block (length bytes.now) }
     requires few { length bytes.now ≤ MOST_CALL_BYTES }
     requires since { CalledSince B.first (R.meaning group.shelf) }

@@ -73,9 +73,7 @@ fn deport_traced<C: Begun, R: Rack>(
 }
 
 // Deports a group that is up, and hands its disks out. A refusal gives it back.
-fn deport_watched<R: Rack>(
-    laid: Laid<R>,
-) -> Result<(Shade<R>, Option<Rested>), (Laid<R>, Stop)>
+fn deport_watched<R: Rack>(laid: Laid<R>) -> Result<(Shade<R>, Option<Rested>), (Laid<R>, Stop)>
     requires { IsTrue (shade_meaning (λ s. R.meaning s) laid.shelf).down → ⊥ }
     ensures leaves { (n : Node) (note : GroupNode) → IsGroupAt n note laid.core (shade_meaning (λ s. R.meaning s) laid.shelf) → DeportLeaves n note laid.core (λ s. shade_meaning (λ s. R.meaning s) s.0) (λ g. g.core) (λ g. shade_meaning (λ s. R.meaning s) g.shelf) result }
     ensures up { IfOk result (λ s. IsTrue (shade_meaning (λ s. R.meaning s) s.0).down → ⊥) }
@@ -100,10 +98,7 @@ fn deport_site<R: Rack>(laid: Laid<R>) -> (GroupSite<R>, Result<(), Stop>)
     }
     let agreed = laid.core.inner.committed;
     match deport_watched(laid) {
-        Ok((rack, rested)) => (
-            GroupSite::Deported(Idle::of(rack, agreed, rested)),
-            Ok(()),
-        ),
+        Ok((rack, rested)) => (GroupSite::Deported(Idle::of(rack, agreed, rested)), Ok(())),
         Err((laid, stop)) => {
             if is_down_stop(&stop) {
                 return (GroupSite::Down(laid.crash(u64::MAX)), Err(stop));

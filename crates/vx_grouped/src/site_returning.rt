@@ -232,13 +232,22 @@ fn import_site<R: Rack>(
         Err((rack, stop)) => {
             let early = is_early(&stop);
             if early && !rack.is_down() {
-                return (GroupSite::Deported(Idle::of(rack, true, Some(rested))), Err(stop));
+                return (
+                    GroupSite::Deported(Idle::of(rack, true, Some(rested))),
+                    Err(stop),
+                );
             }
             let rack = fallen(rack, early);
             if is_down_stop(&stop) {
-                return (GroupSite::Down(Idle::of(rack, true, Some(rested))), Err(stop));
+                return (
+                    GroupSite::Down(Idle::of(rack, true, Some(rested))),
+                    Err(stop),
+                );
             }
-            (GroupSite::Deported(Idle::of(risen(rack), true, Some(rested))), Err(stop))
+            (
+                GroupSite::Deported(Idle::of(risen(rack), true, Some(rested))),
+                Err(stop),
+            )
         }
     }
 }

@@ -133,7 +133,11 @@ pub fn read_watched<R: Rack>(
     read_traced::<Brand, R>(laid, vol, block, into)
 }
 
-fn det_from<B: Begun, R: Rack>(group: LoggedGroup<R>, vol: u32, plex: u32) -> (LoggedGroup<R>, Result<(), Stop>)
+fn det_from<B: Begun, R: Rack>(
+    group: LoggedGroup<R>,
+    vol: u32,
+    plex: u32,
+) -> (LoggedGroup<R>, Result<(), Stop>)
     requires up { IsTrue (R.meaning group.shelf).down → ⊥ }
     requires since { CalledSince B.first (R.meaning group.shelf) }
     ensures works { PlexDets vol plex group.core (R.meaning group.shelf) result.0.core (R.meaning result.0.shelf) result.1 }
