@@ -10,7 +10,7 @@ use Rattle.vx_world.specs.Lines.{GoodDoubted}
 use Rattle.vx_world.proofs.Doubting.{quiet_good}
 use Rattle.vx_world.proofs.Whole.{empty_good}
 use Rattle.vx_yard.specs.declared.yard.Yard.{Yard}
-use Rattle.vx_yard.specs.Holds.{AreFresh, RacksHold, RacksTell, rack_faults}
+use Rattle.vx_yard.specs.Holds.{AreFresh, GroupsHold, RacksHold, RacksTell, rack_faults}
 use Rattle.vx_events.specs.Fails.{Fails}
 use Rattle.vx_yard.specs.Carries.{Carries}
 use Rattle.vx_yard.specs.Standing.{Serves, StandsFor}
@@ -48,10 +48,11 @@ module _ {R : Type 0} {g : Ghosts R} where
   -- what a run of a yard came to, with the racks that come back from it
   pub run_is : (files : Bool) (racks : List R) (status : Status) (old new : Yard R g) (left now_left w0 w1 : Option (List ℕ)) (f0 f1 : ℕ → ℕ → ℕ)
       → YardComes 0 (sure empty_world) [] left status old new now_left w0 w1 → in_files old ≡ files
-      → ((d : Doubted) → StandsFor d new → RacksHold g.meaning d racks) → ((w : Doubted) → StandsFor w new → RacksTell g.meaning racks → IsTold new)
+      → ((d : Doubted) → StandsFor d new → RacksHold g.meaning d racks) → ((d : Doubted) → StandsFor d new → IsTold new → GroupsHold g.meaning d racks)
+      → ((w : Doubted) → StandsFor w new → RacksTell g.meaning racks → IsTold new)
       → ((s d : ℕ) → count_of old s d ≡ f0 s d) → ((w : Doubted) → StandsFor w new → (s d : ℕ) → f1 s d ≡ count_of new s d)
       → RunIs (RacksTell g.meaning racks) files (LeavesRacks g.meaning racks) status left now_left w0 w1 f0 f1
-  run_is files racks status old new left now_left w0 w1 f0 f1 comes kept holds told counts after =
+  run_is files racks status old new left now_left w0 w1 f0 f1 comes kept holds groups told counts after =
       let o = comes.outcome in
       let tells : RacksTell g.meaning racks → IsTold new = told o.world o.leaves.stands in
       record {
@@ -73,6 +74,7 @@ module _ {R : Type 0} {g : Ghosts R} where
           leaves = record {
             good = λ t. o.leaves.good (tells t);
             holds = holds o.world o.leaves.stands;
+            groups = λ t. groups o.world o.leaves.stands (tells t);
           };
         };
       }
@@ -80,7 +82,11 @@ module _ {R : Type 0} {g : Ghosts R} where
 module _ {R : Type 0} (meaning : R → Meaning) where
   -- the racks of a world without sites hold it
   fresh_leave : (racks : List R) → AreFresh meaning racks → LeavesRacks meaning racks (sure empty_world)
-  fresh_leave racks fresh = record { good = λ _. begins_good; holds = record { eight = fresh.eight; each = λ s r below apart at. absurd (omega arith) } }
+  fresh_leave racks fresh = record {
+    good = λ _. begins_good;
+    holds = record { eight = fresh.eight; each = λ s r below apart at. absurd (omega arith) };
+    groups = λ _. record { each = λ s r note below over is known at. absurd (omega arith) };
+  }
 
   -- memory ran out before the run began
   pub run_stops : (told : Type 0) (files : Bool) (racks now : List R) (left w0 : Option (List ℕ)) → AreFresh meaning racks → now ≡ racks

@@ -140,3 +140,7 @@ pub record NotesUnread (told : Type 0) (s : ℕ) (n : Node) (fails : Fails) (not
 -- a recovery or an import was refused: nothing changes, or it is not known any more what the disks hold
 abbrev pub NotesRefused : (note new : GroupNode) → Type 0
 NotesRefused note new = (new ≡ note) ⊎ (new ≡ note_dark note)
+
+-- memory ran out in one, before it wrote: only of disks that may not agree it is not known any more what they hold
+abbrev pub NotesShort : (note new : GroupNode) → Type 0
+NotesShort note new = (new ≡ note) ⊎ ((note.loose ≡ true) × (new ≡ note_dark note))

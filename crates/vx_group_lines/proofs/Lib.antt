@@ -12,6 +12,7 @@ pub mod Changing
 pub mod GroupPlain
 pub mod GroupWrite
 pub mod GroupRead
+pub mod BareSites
 pub mod GroupInit
 pub mod GroupEnding
 pub mod GroupDone
@@ -25,5 +26,7 @@ pub mod GroupImports
 pub mod GroupVolume
 pub mod VolumeLine
 pub mod Resuming
+pub mod Recovering
+pub mod Founding
 pub mod GroupPlex
 pub mod GroupAttach

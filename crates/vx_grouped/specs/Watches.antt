@@ -71,7 +71,7 @@ abbrev pub DeportSince : {S G : Type 0} → Meaning → (S → Meaning) → (G �
 DeportSince old meaning back (Ok s) = CalledSince old (meaning s)
 DeportSince old meaning back (Err (g, stop)) = CalledSince old (back g)
 
--- and what its rack tells
+-- and of its rack, which tells no more than it did
 abbrev pub DeportShows : {S G : Type 0} → Meaning → (S → Meaning) → (G → Meaning) → Result S (G × Stop) → Type 0
 DeportShows old below back (Ok s) = TellsLess old (below s)
 DeportShows old below back (Err (g, stop)) = TellsLess old (back g)

@@ -17,19 +17,15 @@ use Rattle.vx_diskset.specs.Holds.{HoldsSite, beside_of}
 pub record HoldsGroup (note : GroupNode) (m : Meaning) : Type 0 where
   pub has : (i : Image) (x : Config) → m.now i → found m i ≡ Found x → (v p b : ℕ) → b < note.bytes.size v → IsTrue (live x v p) → BlockMay note v b (i (place x v p b).0 (place x v p b).1)
 
--- no site of the world is over a group
-pub record NoneOver (d : Doubted) : Type 0 where
-  pub each : (s : ℕ) → s < d.world.sites → is_over_group (d.world.nodes s) ≡ false
-
 module _ {R : Type 0} (meaning : R → Meaning) where
   -- the rack of each site over no group holds it, with what the world has of it beside its node
   pub record RacksHold (d : Doubted) (racks : List R) : Type 0 where
     pub eight : length racks ≡ MOST_SITES
     pub each : (s : ℕ) (r : R) → s < d.world.sites → is_over_group (d.world.nodes s) ≡ false → slice_get racks s ≡ Some r → HoldsSite (beside_of d s) (d.world.nodes s) (meaning r)
 
-  -- and that of each site over a group holds the group
+  -- and that of each site over a group holds the group, where it is known what its disks hold
   pub record GroupsHold (d : Doubted) (racks : List R) : Type 0 where
-    pub each : (s : ℕ) (r : R) (note : GroupNode) → s < d.world.sites → is_over_group (d.world.nodes s) ≡ true → (d.world.nodes s).group ≡ Some note → slice_get racks s ≡ Some r → HoldsGroup note (meaning r)
+    pub each : (s : ℕ) (r : R) (note : GroupNode) → s < d.world.sites → is_over_group (d.world.nodes s) ≡ true → (d.world.nodes s).group ≡ Some note → note.dark ≡ false → slice_get racks s ≡ Some r → HoldsGroup note (meaning r)
 
   -- the contents of each rack are told
   pub record RacksTell (racks : List R) : Type 0 where

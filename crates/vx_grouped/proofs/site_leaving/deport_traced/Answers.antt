@@ -19,7 +19,7 @@ use Rattle.vx_grouped.proofs.site_leaving.deport_traced.Goals as goal
 pub returns-in-Ok-clause-leaves : goal.returns-in-Ok-clause-leaves
 returns-in-Ok-clause-leaves g c = λ n note at.
     carried_in (λ x s y t. IsGroupAt n note x s → (z : Config) × IsDeportedAt (record n { state = IsDeported }) (note_deported z x.inner note) x.inner.config z t)
-    c.args.laid.core c.trace.result.core c.args.laid.core c.args.laid.core c.args.laid.shelf c.trace.result.shelf c.untraced.result c.in-Ok.rack c.trace.ensures.core c.trace.ensures.shelf refl c.untraced.ensures.shelf (λ it. c.in-Ok.ensures.leaves n note it) at
+    c.args.laid.core c.trace.result.core c.args.laid.core c.args.laid.core c.args.laid.shelf c.trace.result.shelf c.untraced.result c.in-Ok.rack c.trace.ensures.core c.trace.ensures.shelf refl c.untraced.ensures.shade (λ it. c.in-Ok.ensures.leaves n note it) at
 
 pub returns-in-Err-clause-leaves : goal.returns-in-Err-clause-leaves
 returns-in-Err-clause-leaves g c = λ n note at.
@@ -29,12 +29,12 @@ returns-in-Err-clause-leaves g c = λ n note at.
 pub returns-in-Ok-clause-can : goal.returns-in-Ok-clause-can
 returns-in-Ok-clause-can g c =
     carried_in (λ x s y t. x.inner.committed ≡ true → CanImport t)
-    c.args.laid.core c.trace.result.core c.args.laid.core c.args.laid.core c.args.laid.shelf c.trace.result.shelf c.untraced.result c.in-Ok.rack c.trace.ensures.core c.trace.ensures.shelf refl c.untraced.ensures.shelf c.in-Ok.ensures.can
+    c.args.laid.core c.trace.result.core c.args.laid.core c.args.laid.core c.args.laid.shelf c.trace.result.shelf c.untraced.result c.in-Ok.rack c.trace.ensures.core c.trace.ensures.shelf refl c.untraced.ensures.shade c.in-Ok.ensures.can
 
 pub returns-in-Ok-clause-moves : goal.returns-in-Ok-clause-moves
 returns-in-Ok-clause-moves g c =
     carried_in (λ x s y t. DeportedBy (wide x).config x.inner s t)
-    c.args.laid.core c.trace.result.core c.args.laid.core c.args.laid.core c.args.laid.shelf c.trace.result.shelf c.untraced.result c.in-Ok.rack c.trace.ensures.core c.trace.ensures.shelf refl c.untraced.ensures.shelf c.in-Ok.ensures.moves
+    c.args.laid.core c.trace.result.core c.args.laid.core c.args.laid.core c.args.laid.shelf c.trace.result.shelf c.untraced.result c.in-Ok.rack c.trace.ensures.core c.trace.ensures.shelf refl c.untraced.ensures.shade c.in-Ok.ensures.moves
 
 pub returns-in-Err-clause-moves : goal.returns-in-Err-clause-moves
 returns-in-Err-clause-moves g c =
@@ -51,10 +51,10 @@ returns-in-Err-clause-since g c =
     carried_both (λ s t. CalledSince s t) c.args.laid.shelf c.trace.result.shelf c.untrace.result.shelf c.in-Err.group.shelf c.trace.ensures.shelf c.untrace.ensures.shelf c.in-Err.ensures.since
 
 pub returns-in-Ok-clause-since : goal.returns-in-Ok-clause-since
-returns-in-Ok-clause-since g c = carried_both (λ s t. CalledSince s t) c.args.laid.shelf c.trace.result.shelf c.untraced.result c.in-Ok.rack c.trace.ensures.shelf c.untraced.ensures.shelf c.in-Ok.ensures.since
+returns-in-Ok-clause-since g c = carried_both (λ s t. CalledSince s t) c.args.laid.shelf c.trace.result.shelf c.untraced.result c.in-Ok.rack c.trace.ensures.shelf c.untraced.ensures.shade c.in-Ok.ensures.since
 
 pub returns-in-Ok-clause-up : goal.returns-in-Ok-clause-up
-returns-in-Ok-clause-up g c = carried_off (λ m. IsTrue m.down → ⊥) c.untraced.result c.in-Ok.rack c.untraced.ensures.shelf c.in-Ok.ensures.up
+returns-in-Ok-clause-up g c = carried_off (λ m. IsTrue m.down → ⊥) c.untraced.result c.in-Ok.rack c.untraced.ensures.shade c.in-Ok.ensures.up
 
 pub returns-in-Ok-clause-told : goal.returns-in-Ok-clause-told
 returns-in-Ok-clause-told g c = c.untraced.ensures.told
@@ -66,4 +66,4 @@ pub deport_from-requires-clause-up : goal.deport_from-requires-clause-up
 deport_from-requires-clause-up g c = carried_on (λ m. IsTrue m.down → ⊥) c.args.laid.shelf c.trace.result.shelf c.trace.ensures.shelf c.requires.up
 
 pub returns-in-Ok-clause-tells : goal.returns-in-Ok-clause-tells
-returns-in-Ok-clause-tells g c = carried_off (λ m. RestTells c.in-Ok.rested m) c.untraced.result c.in-Ok.rack c.untraced.ensures.shelf c.in-Ok.ensures.tells
+returns-in-Ok-clause-tells g c = carried_off (λ m. RestTells c.in-Ok.rested m) c.untraced.result c.in-Ok.rack c.untraced.ensures.shade c.in-Ok.ensures.tells

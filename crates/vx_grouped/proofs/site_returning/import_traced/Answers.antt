@@ -32,16 +32,16 @@ returns-in-Ok-clause-told g c = c.untrace.ensures.told
 
 pub returns-in-Err-clause-leaves : goal.returns-in-Err-clause-leaves
 returns-in-Err-clause-leaves g c = λ n note last lies.
-    carried_both (λ s t. AwayLies n note last s → ImportLeft n note last s t) c.args.rack c.traced.result c.untraced.result c.in-Err.rack c.traced.ensures c.untraced.ensures.shelf (λ it. c.in-Err.ensures.leaves n note last it) lies
+    carried_both (λ s t. AwayLies n note last s → ImportLeft n note last s t) c.args.rack c.traced.result c.untraced.result c.in-Err.rack c.traced.ensures c.untraced.ensures.shade (λ it. c.in-Err.ensures.leaves n note last it) lies
 
 pub returns-in-Err-clause-stops : goal.returns-in-Err-clause-stops
-returns-in-Err-clause-stops g c = carried_both (λ s t. ImportStops s t c.in-Err.stop) c.args.rack c.traced.result c.untraced.result c.in-Err.rack c.traced.ensures c.untraced.ensures.shelf c.in-Err.ensures.stops
+returns-in-Err-clause-stops g c = carried_both (λ s t. ImportStops s t c.in-Err.stop) c.args.rack c.traced.result c.untraced.result c.in-Err.rack c.traced.ensures c.untraced.ensures.shade c.in-Err.ensures.stops
 
 pub returns-in-Err-clause-again : goal.returns-in-Err-clause-again
-returns-in-Err-clause-again g c = carried_off (λ m. CanImportBehind m) c.untraced.result c.in-Err.rack c.untraced.ensures.shelf c.in-Err.ensures.again
+returns-in-Err-clause-again g c = carried_off (λ m. CanImportBehind m) c.untraced.result c.in-Err.rack c.untraced.ensures.shade c.in-Err.ensures.again
 
 pub returns-in-Err-clause-since : goal.returns-in-Err-clause-since
-returns-in-Err-clause-since g c = carried_both (λ s t. CalledSince s t) c.args.rack c.traced.result c.untraced.result c.in-Err.rack c.traced.ensures c.untraced.ensures.shelf c.in-Err.ensures.since
+returns-in-Err-clause-since g c = carried_both (λ s t. CalledSince s t) c.args.rack c.traced.result c.untraced.result c.in-Err.rack c.traced.ensures c.untraced.ensures.shade c.in-Err.ensures.since
 
 pub returns-in-Err-clause-told : goal.returns-in-Err-clause-told
 returns-in-Err-clause-told g c = c.untraced.ensures.told
