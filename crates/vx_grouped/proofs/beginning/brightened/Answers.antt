@@ -4,6 +4,6 @@ use Rattle.vx_grouped.proofs.beginning.brightened.Goals as goal
 
 pub invariant_of-result : goal.invariant_of-result
 invariant_of-result g c = record {
-  stands = to_logged c.apart.result.1.core c.apart.result.1.logs.items c.apart.result.1.alike c.apart.result.1.stopped (g.R.Shelf.meaning c.apart.result.0) c.apart.ensures.stands;
-  begins = c.apart.ensures.begins;
+  stands = to_logged c.apart-rack.result.1.core c.apart-rack.result.1.logs.items c.apart-rack.result.1.alike c.apart-rack.result.1.stopped (g.R.Shelf.meaning c.apart-rack.result.0) c.apart-rack.ensures.stands;
+  begins = c.apart-rack.ensures.begins;
 }

@@ -5,6 +5,6 @@ use Rattle.vx_grouped.proofs.finding.dimmed.Goals as goal
 
 pub invariant_of-result : goal.invariant_of-result
 invariant_of-result g c = record {
-  stands = to_logged c.apart.result.1.core c.apart.result.1.logs.items c.apart.result.1.alike c.apart.result.1.stopped (untold (g.R.Shelf.meaning c.apart.result.0.shelf)) c.apart.ensures.stands;
-  begins = c.apart.ensures.begins;
+  stands = to_logged c.apart-untold.result.1.core c.apart-untold.result.1.logs.items c.apart-untold.result.1.alike c.apart-untold.result.1.stopped (untold (g.R.Shelf.meaning c.apart-untold.result.0.shelf)) c.apart-untold.ensures.stands;
+  begins = c.apart-untold.ensures.begins;
 }
