@@ -277,9 +277,9 @@ still_PlexActs v log c m = record {
 
 -- ---- what it leaves of plexes and disks
 
-pub trusted_loses : (v : ℕ) (log : VolumeLog) (c b t d : Config) (m m1 m2 : Meaning) → ((u : ℕ) → m.faults u ≤ m1.faults u) → ((u : ℕ) → m1.faults u ≤ m2.faults u) → b.volumes ≡ c.volumes → MoreFailed m m1 c.disks b.disks → SameParts c b
-    → t ≡ lost v log false b → d.volumes ≡ t.volumes → MoreFailed m1 m2 t.disks d.disks → SameParts t d → LosesPlexes c d m m2
-trusted_loses v log c b t d m m1 m2 one two first failing parts is last more same =
+pub trusted_loses : (v : ℕ) (log : VolumeLog) (c b lost_by d : Config) (m m1 m2 : Meaning) → ((u : ℕ) → m.faults u ≤ m1.faults u) → ((u : ℕ) → m1.faults u ≤ m2.faults u) → b.volumes ≡ c.volumes → MoreFailed m m1 c.disks b.disks → SameParts c b
+    → lost_by ≡ lost v log false b → d.volumes ≡ lost_by.volumes → MoreFailed m1 m2 lost_by.disks d.disks → SameParts lost_by d → LosesPlexes c d m m2
+trusted_loses v log c b told d m m1 m2 one two first failing parts is last failed same =
     then_loses m m1 m2 one two c b d (loses_none c b m m1 first failing parts)
-    (loses_plexes b d m1 m2 (λ w. frames_volumes d t last w ∙ ap (λ (x : Config). frame_at x w) is ∙ sym ((trusting_shape v log b).frames w)) (λ w p. left_plexes t d last w p ∙ ap (λ (x : Config). plex_at x w p) is ∙ trusting_plexes v log b w p)
-    (subst (λ (x : Config). MoreFailed m1 m2 x.disks d.disks) is more) (subst (λ (x : Config). SameParts x d) is same))
+    (loses_plexes b d m1 m2 (λ w. frames_volumes d told last w ∙ ap (λ (x : Config). frame_at x w) is ∙ sym ((trusting_shape v log b).frames w)) (λ w p. left_plexes told d last w p ∙ ap (λ (x : Config). plex_at x w p) is ∙ trusting_plexes v log b w p)
+    (subst (λ (x : Config). MoreFailed m1 m2 x.disks d.disks) is failed) (record { site = same.site ∙ ap (λ (x : Config). x.site) is; rvg = same.rvg ∙ ap (λ (x : Config). x.rvg) is; count = same.count ∙ ap (λ (x : Config). length x.disks) is }))

@@ -41,7 +41,7 @@ use Rattle.vx_groupmaps.proofs.BetweenLemmas.{goes_reads}
 use Rattle.vx_groupmaps.proofs.KnowLemmas.{know_less, note_more, note_none, plex_below, those_know, those_noted}
 use Rattle.vx_groupmaps.proofs.MapPlaces.{has_stale, maps_on, stale_off}
 use Rattle.vx_groupmaps.proofs.RefusedLemmas.{has_all}
-use Rattle.vx_kept.specs.Keeping.{SameShape}
+use Rattle.vx_kept.specs.Keeping.{frame_at}
 use Rattle.vx_layout.specs.Places.{HasBlock, place}
 use Rattle.vx_logs.specs.Held.{FmrRun, LogsFit, LogsStand, stale}
 use Rattle.vx_logs.specs.Noting.{FmrAnswers, FmrEnds, FmrKeeps}
@@ -97,10 +97,9 @@ module _ (c : Config) (sound : is_sound c ≡ true) (v : ℕ) (some : 0 < blocks
 
   -- a log of which the maps are these, or are in memory no more
   missed_on : (o : Option Missed) → ((f : Missed) → o ≡ Some f → FmrLoaded c v f) → ((f : Missed) → o ≡ Some f → MapOn f.map m') → k.fmr ≡ o → VolumeOn c v k m'
-  missed_on o loaded stand is = subst (λ (j : Logs). VolumeOn c v j m') same (on_mapped c sound v some m m' fit missed_goes l o loaded stand on)
-    where
-      same : record { drl = l.drl; fmr = o } ≡ k
-      same = ap (λ (d : Option Dirty). record { drl = d; fmr = o }) (sym drl) ∙ ap (λ (n : Option Missed). record { drl = k.drl; fmr = n }) (sym is)
+  missed_on o loaded stand is =
+      subst (λ (n : Option Missed). VolumeOn c v (record { drl = k.drl; fmr = n }) m') (sym is)
+      (subst (λ (d : Option Dirty). VolumeOn c v (record { drl = d; fmr = o }) m') (sym drl) (on_mapped c sound v some m m' fit missed_goes l o loaded stand on))
 
   pub none_on : k.fmr ≡ None → VolumeOn c v k m'
   none_on is = missed_on None (λ (f : Missed) at. absurd (let clash : None ≡ Some f = at in cc)) (λ (f : Missed) at. absurd (let clash : None ≡ Some f = at in cc)) is
@@ -152,24 +151,26 @@ cause_refused T a m m' v e r cause faults disks same fell falls = by m'.down ref
 
 -- ---- what stands before a write
 
+-- a plex that was STALE is so behind calls at which no plex becomes ACTIVE
+pub stale_kept : (b c : GroupCore) (v : ℕ) (m : Meaning) → GroupStands c m → frame_at (wide c).config v ≡ frame_at (wide b).config v → blocks_of (wide c).config.volumes v ≡ blocks_of (wide b).config.volumes v
+    → ((p : ℕ) → IsTrue (active (wide c).config v p) → IsTrue (active (wide b).config v p)) → Inside (wide b).config v 0 → (p : ℕ) → IsTrue (stale (wide b).config v p) → IsTrue (stale (wide c).config v p)
+stale_kept b c v m stands frames blocks less inside p on = by (stale (wide c).config v p) refl
+  where
+    has : HasBlock (wide c).config v p 0
+    has = has_back (wide c).config (wide b).config v (sym frames) (sym blocks) p 0 (has_stale (wide b).config v p 0 on inside)
+
+    by : (t : Bool) → stale (wide c).config v p ≡ t → t ≡ true
+    by true is = refl
+    by false is = absurd (let clash : false ≡ true = sym (stale_off (wide b).config v p on) ∙ less p (fresh_active (wide c).config v p 0 stands.stands.on has is) in cc)
+
 -- plexes that were STALE before calls that detach some have noted what those do that are STALE then
 pub hold_older : (c d : GroupCore) (v first last : ℕ) (l : Logs) (m : Meaning) → GroupStands d m → Narrowed c d → d.held ≡ None → Inside (wide c).config v 0 → HoldMissed d.inner.config v first last l → HoldMissed (wide c).config v first last l
-hold_older c d v first last l m stands narrow none inside holds = record { so = λ f is p r on low high. holds.so f is p r (now p on) low high }
+hold_older c d v first last l m stands narrow none inside holds = record {
+  so = λ f is p r on low high. holds.so f is p r (subst (λ (x : Config). IsTrue (stale x v p)) same (stale_kept c d v m stands (narrow.shape.frames v) (narrow.shape.blocks v) (narrow.on v) inside p on)) low high;
+}
   where
     same : (wide d).config ≡ d.inner.config
     same = ap (λ (i : Inner). i.config) (wide_none d none)
-
-    now : (p : ℕ) → IsTrue (stale (wide c).config v p) → IsTrue (stale d.inner.config v p)
-    now p on = by (stale d.inner.config v p) refl
-      where
-        has : HasBlock (wide d).config v p 0
-        has = has_back (wide d).config (wide c).config v (sym (narrow.shape.frames v)) (sym (narrow.shape.blocks v)) p 0 (has_stale (wide c).config v p 0 on inside)
-
-        by : (b : Bool) → stale d.inner.config v p ≡ b → b ≡ true
-        by true is = refl
-        by false is =
-            let active_now = fresh_active (wide d).config v p 0 stands.stands.on has (subst (λ (x : Config). stale x v p ≡ false) (sym same) is) in
-            absurd (let clash : false ≡ true = sym (stale_off (wide c).config v p on) ∙ narrow.on v p active_now in cc)
 
 -- the notes of a refused write are those of any plex
 pub those_any : (those : ℕ → Bool) (first last : ℕ) (l k : Logs) → MapsNote those first last l k → MapsNote all_those first last l k
@@ -193,6 +194,19 @@ marks_later meaning v block bytes first last c d e old mid new (inr it) goes = i
   before = it.before;
   marked = it.marked;
   behind = then_nothing (Written v block bytes) (inner_meaning (wide it.core) (meaning it.moment)) (inner_meaning (wide d) mid) (inner_meaning (wide e) new) it.behind goes;
+})
+
+-- and beside calls before it that change nothing, at which no plex that was STALE is so no more
+pub marks_sooner : {S : Type 0} (meaning : S → Meaning) (v block : ℕ) (bytes : List ℕ) (first last : ℕ) (b c d : GroupCore) (old mid new : Meaning) → Goes Nothing (inner_meaning (wide b) old) (inner_meaning (wide c) mid)
+    → ((p : ℕ) → IsTrue (stale (wide b).config v p) → IsTrue (stale (wide c).config v p)) → MarkedBefore meaning v block bytes first last c d mid new → MarkedBefore meaning v block bytes first last b d old new
+marks_sooner meaning v block bytes first last b c d old mid new goes kept (inl none) = inl (then_nothing Nothing (inner_meaning (wide b) old) (inner_meaning (wide c) mid) (inner_meaning (wide d) new) goes none)
+marks_sooner meaning v block bytes first last b c d old mid new goes kept (inr it) = inr (record {
+  moment = it.moment;
+  core = it.core;
+  logs = it.logs;
+  before = then_nothing Nothing (inner_meaning (wide b) old) (inner_meaning (wide c) mid) (inner_meaning (wide it.core) (meaning it.moment)) goes it.before;
+  marked = record { group = it.marked.group; stands = it.marked.stands; dirty = it.marked.dirty; said = it.marked.said; missed = record { so = λ f is p r on low high. it.marked.missed.so f is p r (kept p on) low high } };
+  behind = it.behind;
 })
 
 -- a dirty region log that stays

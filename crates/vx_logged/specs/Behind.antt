@@ -1,5 +1,5 @@
 -- What stands in the logs of a volume before its plexes are written.
-use Rattle.std.specs.Prelude.{◌≡◌, ◌⊎◌, ◌+◌, ◌≤◌, ℕ, Bool, true, List, Result, Ok, Err}
+use Rattle.std.specs.Prelude.{◌≡◌, ◌⊎◌, ◌+◌, ◌≤◌, ℕ, Bool, false, true, List, Result, Ok, Err}
 use Rattle.vx_config.specs.Table.{greatest}
 use Rattle.vx_disk.specs.Shelf.{Goes, Meaning, Nothing, Written}
 use Rattle.vx_group.specs.Holding.{GroupStands, wide}
@@ -36,6 +36,10 @@ pub record BehindMarks {S : Type 0} (meaning : S → Meaning) (v block : ℕ) (b
 abbrev pub MarkedBefore : {S : Type 0} → (S → Meaning) → ℕ → ℕ → List ℕ → ℕ → ℕ → GroupCore → GroupCore → Meaning → Meaning → Type 0
 MarkedBefore meaning v block bytes first last c d old new =
     Goes Nothing (inner_meaning (wide c) old) (inner_meaning (wide d) new) ⊎ BehindMarks meaning v block bytes first last c d old new
+
+-- no plex
+abbrev pub none_missing : ℕ → Bool
+none_missing p = false
 
 -- each plex
 abbrev pub all_those : ℕ → Bool

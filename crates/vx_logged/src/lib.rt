@@ -18,7 +18,7 @@ pub use clearing::clear_group;
 pub use crashing::{crash_logged, revive_logged};
 pub use detaching::det_logged;
 pub use flushing::flush_cleared;
-pub use keeping::keep_map;
+pub use keeping::{keep_logs, keep_map};
 pub use marking::mark_group;
 pub use readying::ready_group;
 pub use writing::write_marked;

@@ -11,3 +11,9 @@ pub mod TrustedLogs
 pub mod BegunLemmas
 pub mod DetachedLogs
 pub mod MadeLogs
+pub mod StillLemmas
+pub mod TakenMaps
+pub mod SettleLemmas
+pub mod FreshLemmas
+pub mod RackLemmas
+pub mod DetFresh

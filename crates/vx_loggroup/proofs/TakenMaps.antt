@@ -101,6 +101,10 @@ module _ (c : Config) (sound : is_sound c ≡ true) (v : ℕ) (some : 0 < blocks
 some_one : (f g : Missed) → Some f ≡ Some g → f ≡ g
 some_one f g is = cc
 
+-- logs without maps
+pub none_same : (l : Logs) → l.fmr ≡ None → record { drl = l.drl; fmr = None } ≡ l
+none_same l plain = ap (λ (o : Option Missed). record { drl = l.drl; fmr = o }) (sym plain)
+
 -- behind the read the log stands, and knows
 module _ (c : Config) (sound : is_sound c ≡ true) (v : ℕ) (some : 0 < blocks_in c.volumes v) (m m' : Meaning) (law : Lawful m) (fit : DisksFit c.disks m) (goes : Goes Nothing m m') (tells : MapsTell c v m) (l : Logs) (on : VolumeOn c v l m) where
   pub none_on : VolumeOn c v (record { drl = l.drl; fmr = None }) m'

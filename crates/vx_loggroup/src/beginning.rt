@@ -7,7 +7,7 @@ ghost use Rattle.vx_group.specs.Stands.{inner_meaning};
 ghost use Rattle.vx_grouplogs.specs.Covering.{AllAlike};
 ghost use Rattle.vx_grouplogs.specs.On.{ReadsOne};
 ghost use Rattle.vx_logged.specs.Logged.{Known, LogOn};
-ghost use Rattle.vx_loggroup.specs.Fresh.{Begins, FirstLogs};
+ghost use Rattle.vx_loggroup.specs.Fresh.{LogsStart, FirstLogs};
 ghost use Rattle.vx_loggroup.specs.Marks.{region_count};
 
 use crate::trusting::trust_first;
@@ -48,7 +48,7 @@ fn begin_log<S: Shelf>(
     requires alike { AllAlike (wide core.old).config vol (S.meaning shelf.old) }
     ensures stands { GroupStands core.new (S.meaning shelf.new) }
     ensures none { core.new.held ≡ None }
-    ensures begins { Begins vol core.old core.new (S.meaning shelf.old) (S.meaning shelf.new) }
+    ensures begins { LogsStart vol core.old core.new (S.meaning shelf.old) (S.meaning shelf.new) }
     ensures first { FirstLogs (region_count (wide core.old).config vol) one.old one.new }
     ensures log { LogOn core.new vol one.new (S.meaning shelf.new) }
     ensures maps { Known core.new vol one.new (S.meaning shelf.new) }
@@ -90,7 +90,7 @@ fn begin_map<S: Shelf>(
     requires one { ReadsOne (wide core.old).config vol (S.meaning shelf.old) }
     ensures stands { GroupStands core.new (S.meaning shelf.new) }
     ensures none { core.new.held ≡ None }
-    ensures begins { Begins vol core.old core.new (S.meaning shelf.old) (S.meaning shelf.new) }
+    ensures begins { LogsStart vol core.old core.new (S.meaning shelf.old) (S.meaning shelf.new) }
     ensures first { FirstLogs (region_count (wide core.old).config vol) one.old one.new }
     ensures log { LogOn core.new vol one.new (S.meaning shelf.new) }
     ensures maps { Known core.new vol one.new (S.meaning shelf.new) }
@@ -127,7 +127,7 @@ fn begin_drl<S: Shelf>(
     requires alike { AllAlike (wide core.old).config vol (S.meaning shelf.old) }
     ensures stands { GroupStands core.new (S.meaning shelf.new) }
     ensures none { core.new.held ≡ None }
-    ensures begins { Begins vol core.old core.new (S.meaning shelf.old) (S.meaning shelf.new) }
+    ensures begins { LogsStart vol core.old core.new (S.meaning shelf.old) (S.meaning shelf.new) }
     ensures first { FirstLogs (region_count (wide core.old).config vol) one.old one.new }
     ensures log { LogOn core.new vol one.new (S.meaning shelf.new) }
     ensures maps { Known core.new vol one.new (S.meaning shelf.new) }
@@ -167,7 +167,7 @@ fn begin_fmr<S: Shelf>(
     requires one { ReadsOne (wide core.old).config vol (S.meaning shelf.old) }
     ensures stands { GroupStands core.new (S.meaning shelf.new) }
     ensures none { core.new.held ≡ None }
-    ensures begins { Begins vol core.old core.new (S.meaning shelf.old) (S.meaning shelf.new) }
+    ensures begins { LogsStart vol core.old core.new (S.meaning shelf.old) (S.meaning shelf.new) }
     ensures first { FirstLogs (region_count (wide core.old).config vol) one.old one.new }
     ensures log { LogOn core.new vol one.new (S.meaning shelf.new) }
     ensures maps { Known core.new vol one.new (S.meaning shelf.new) }
@@ -206,7 +206,7 @@ pub fn begin_both<S: Shelf>(
     requires alike { AllAlike (wide core.old).config vol (S.meaning shelf.old) }
     ensures stands { GroupStands core.new (S.meaning shelf.new) }
     ensures none { core.new.held ≡ None }
-    ensures begins { Begins vol core.old core.new (S.meaning shelf.old) (S.meaning shelf.new) }
+    ensures begins { LogsStart vol core.old core.new (S.meaning shelf.old) (S.meaning shelf.new) }
     ensures first { FirstLogs (region_count (wide core.old).config vol) one.old one.new }
     ensures log { LogOn core.new vol one.new (S.meaning shelf.new) }
     ensures maps { Known core.new vol one.new (S.meaning shelf.new) }

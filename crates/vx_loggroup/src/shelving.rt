@@ -8,7 +8,7 @@ ghost use Rattle.vx_group.specs.Holding.{wide};
 ghost use Rattle.vx_group.specs.Laws.{group_lawful};
 ghost use Rattle.vx_group.specs.Loses.{LosesPlexes};
 ghost use Rattle.vx_group.specs.Stands.{inner_meaning};
-ghost use Rattle.vx_logged.specs.Behind.{MarkedBefore, those_missing};
+ghost use Rattle.vx_logged.specs.Behind.{MarkedBefore, none_missing, those_missing};
 ghost use Rattle.vx_loggroup.specs.Marks.{ClearsVolume, MarksVolume, NotesMaps};
 ghost use Rattle.vx_logs.specs.Writes.{first_region, last_region};
 
@@ -102,6 +102,7 @@ impl<S: Shelf> Shelf for LoggedGroup<S> {
         ensures disks { OnDisks (inner_meaning (wide self.old.core) (S.meaning self.old.shelf)).disks (inner_meaning (wide self.new.core) (S.meaning self.new.shelf)).disks (λ o n. Calls (inner_meaning (wide self.old.core) (S.meaning self.old.shelf)) (DisksFlushed unit) o n result) }
         ensures loses { LosesPlexes self.old.core.inner.config self.new.core.inner.config (S.meaning self.old.shelf) (S.meaning self.new.shelf) }
         ensures marks { ClearsVolume (wide self.old.core).config unit self.old.logs.items self.new.logs.items }
+        ensures maps { NotesMaps none_missing unit 0 0 self.old.logs.items self.new.logs.items }
         ensures trust { OnOk result (self.old.core.inner.committed ≡ true → self.new.core.inner.committed ≡ true) }
         ensures agreed { IfErr result (λ e. self.old.core.inner.committed ≡ true → self.new.core.inner.agreed ≡ true) }
     {

@@ -1,5 +1,5 @@
 // A log that is trusted in a call on its volume, by a commit.
-ghost use Rattle.std.specs.Prelude.{◌≡◌, ◌+◌, ◌<◌, ◌≤◌, ℕ, true, IfErr, IsTrue, None, OnOk};
+ghost use Rattle.std.specs.Prelude.{◌≡◌, ◌+◌, ◌<◌, ◌≤◌, ℕ, false, true, IfErr, IsTrue, None, OnOk};
 ghost use Rattle.vx_config.specs.Changes.{lost as lost_is};
 ghost use Rattle.vx_disk.specs.Causes.{Cause};
 ghost use Rattle.vx_disk.specs.Shelf.{Goes, Nothing};
@@ -41,12 +41,7 @@ pub fn trust_first<S: Shelf>(
     match trust_group(shelf, core, vol, log) {
         Ok(_) => Ok(()),
         Err(error) => {
-            give_up(
-                &mut core.inner.faults,
-                &mut core.inner.unsure,
-                vol,
-                error,
-            );
+            give_up(&mut core.inner.faults, &mut core.inner.unsure, vol, error);
             Err(error)
         }
     }

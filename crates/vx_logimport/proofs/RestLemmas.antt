@@ -97,7 +97,7 @@ module _ (old new : Meaning) (k : Marked) (law : Lawful old) (can : CanImport ol
 
   live_x : (p : ℕ) → IsTrue (active d v p) → IsTrue (live x v p)
   unfolding live
-  live_x p is_on = sym (it.taken.opens.alike.lives v p) ∙ on_live opened v p (it.resumed.on v p is_on)
+  live_x p is_on = sym (it.taken.opens.alike.lives v p) ∙ on_live opened v p (it.on v p is_on)
 
   -- a block of the volume has what it had
   left_d : (p b : ℕ) (y : List ℕ) → HasBlock d v p b → new.leaves (place d v p b).0 (place d v p b).1 y → old.leaves (place d v p b).0 (place d v p b).1 y

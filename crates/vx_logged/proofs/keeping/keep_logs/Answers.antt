@@ -1,5 +1,6 @@
 -- Both logs of a volume, each committed as lost where it is wanted.
 use Rattle.std.proofs.Common.{◌≡◌, Bool, true, false}
+use Rattle.std.specs.Prelude.{Err}
 use Rattle.vx_disk.specs.Shelf.{Nothing}
 use Rattle.vx_disk.proofs.Causing.{Cause_both}
 use Rattle.vx_disk.proofs.Runs.{then_nothing}
@@ -44,6 +45,9 @@ returns-in-Ok-keep_map-clause-loses g c = then_along c.args.core.now.inner.confi
 
 pub returns-in-Err-keep_map-clause-loses : goal.returns-in-Err-keep_map-clause-loses
 returns-in-Err-keep_map-clause-loses g c = then_along c.args.core.now.inner.config c.keep_log.new.core.inner.config c.keep_map.new.core.inner.config (g.S.Shelf.meaning c.args.shelf.now) (g.S.Shelf.meaning c.keep_log.new.shelf) (g.S.Shelf.meaning c.keep_map.new.shelf) c.keep_log.ensures.loses c.keep_map.ensures.loses
+
+pub returns-in-Err-keep_map-clause-cause : goal.returns-in-Err-keep_map-clause-cause
+returns-in-Err-keep_map-clause-cause g c = Cause_both {T = Bool} (inner_meaning (wide c.args.core.now) (g.S.Shelf.meaning c.args.shelf.now)) (inner_meaning (wide c.keep_log.new.core) (g.S.Shelf.meaning c.keep_log.new.shelf)) (inner_meaning (wide c.keep_map.new.core) (g.S.Shelf.meaning c.keep_map.new.shelf)) c.args.vol (Err c.in-Err-keep_map.error) c.in-Ok.ensures.cause c.keep_log.ensures.goes.faults c.keep_log.ensures.goes.disk_faults c.in-Err-keep_map.ensures.cause
 
 pub returns-in-Ok-keep_map-clause-below : goal.returns-in-Ok-keep_map-clause-below
 returns-in-Ok-keep_map-clause-below g c = then_units (g.S.Shelf.meaning c.args.shelf.now) (g.S.Shelf.meaning c.keep_log.new.shelf) (g.S.Shelf.meaning c.keep_map.new.shelf) c.keep_log.ensures.below c.keep_map.ensures.below

@@ -48,12 +48,12 @@ returns-then-not-is_trusted-clause-narrow g c = narrowed_same c.args.core.now
 pub returns-clause-narrow : goal.returns-clause-narrow
 returns-clause-narrow g c = narrowed_acts Nothing c.args.core.now c.lose_group.new.core (g.S.Shelf.meaning c.args.shelf.now) (g.S.Shelf.meaning c.lose_group.new.shelf) c.lose_group.ensures.acts
 
-pub returns-then-core-ge-MOST_NUMBER-sub-9-clause-logs : goal.returns-then-core-ge-MOST_NUMBER-sub-9-clause-logs
-returns-then-core-ge-MOST_NUMBER-sub-9-clause-logs g c =
+pub returns-then-core-clause-logs : goal.returns-then-core-clause-logs
+returns-then-core-clause-logs g c =
     each_same c.args.core.now (g.S.Shelf.meaning c.args.shelf.now)
 
-pub returns-then-core-ge-MOST_NUMBER-sub-9-clause-narrow : goal.returns-then-core-ge-MOST_NUMBER-sub-9-clause-narrow
-returns-then-core-ge-MOST_NUMBER-sub-9-clause-narrow g c = narrowed_same c.args.core.now
+pub returns-then-core-clause-narrow : goal.returns-then-core-clause-narrow
+returns-then-core-clause-narrow g c = narrowed_same c.args.core.now
 
 pub returns-then-is_down-clause-below : goal.returns-then-is_down-clause-below
 returns-then-is_down-clause-below g c = same_units (g.S.Shelf.meaning c.args.shelf.now)
@@ -73,11 +73,11 @@ returns-then-not-is_trusted-clause-below g c = same_units (g.S.Shelf.meaning c.a
 pub returns-then-not-is_trusted-clause-still : goal.returns-then-not-is_trusted-clause-still
 returns-then-not-is_trusted-clause-still g c = λ none w p. refl
 
-pub returns-then-core-ge-MOST_NUMBER-sub-9-clause-below : goal.returns-then-core-ge-MOST_NUMBER-sub-9-clause-below
-returns-then-core-ge-MOST_NUMBER-sub-9-clause-below g c = same_units (g.S.Shelf.meaning c.args.shelf.now)
+pub returns-then-core-clause-below : goal.returns-then-core-clause-below
+returns-then-core-clause-below g c = same_units (g.S.Shelf.meaning c.args.shelf.now)
 
-pub returns-then-core-ge-MOST_NUMBER-sub-9-clause-still : goal.returns-then-core-ge-MOST_NUMBER-sub-9-clause-still
-returns-then-core-ge-MOST_NUMBER-sub-9-clause-still g c = λ none w p. refl
+pub returns-then-core-clause-still : goal.returns-then-core-clause-still
+returns-then-core-clause-still g c = λ none w p. refl
 
 pub returns-clause-below : goal.returns-clause-below
 returns-clause-below g c = acts_units Nothing _ (g.S.Shelf.meaning c.args.shelf.now) (g.S.Shelf.meaning c.lose_group.new.shelf) c.lose_group.ensures.acts.acts
@@ -94,5 +94,5 @@ returns-then-not-is_trusted-clause-loses g c = along_none c.args.core.now.inner.
 pub returns-clause-loses : goal.returns-clause-loses
 returns-clause-loses g c = record { loses = c.lose_group.ensures.loses; rises = c.lose_group.ensures.acts.acts.faults }
 
-pub returns-then-core-ge-MOST_NUMBER-sub-9-clause-loses : goal.returns-then-core-ge-MOST_NUMBER-sub-9-clause-loses
-returns-then-core-ge-MOST_NUMBER-sub-9-clause-loses g c = along_none c.args.core.now.inner.config (g.S.Shelf.meaning c.args.shelf.now)
+pub returns-then-core-clause-loses : goal.returns-then-core-clause-loses
+returns-then-core-clause-loses g c = along_none c.args.core.now.inner.config (g.S.Shelf.meaning c.args.shelf.now)

@@ -219,3 +219,6 @@ pub returns-clause-loses : goal.returns-clause-loses
 returns-clause-loses g c =
     then_along c.args.core.now.inner.config c.ready_group.new.core.inner.config c.keep_logs.new.core.inner.config (g.S.Shelf.meaning c.args.shelf.now) (g.S.Shelf.meaning c.guard_run.new.shelf) (g.S.Shelf.meaning c.keep_logs.new.shelf)
     (then_along c.args.core.now.inner.config c.ready_group.new.core.inner.config c.ready_group.new.core.inner.config (g.S.Shelf.meaning c.args.shelf.now) (g.S.Shelf.meaning c.ready_group.new.shelf) (g.S.Shelf.meaning c.guard_run.new.shelf) c.ready_group.ensures.loses (along_same c.ready_group.new.core.inner.config (g.S.Shelf.meaning c.ready_group.new.shelf) (g.S.Shelf.meaning c.guard_run.new.shelf) c.guard_run.ensures.goes.faults)) c.keep_logs.ensures.loses
+
+pub returns-clause-said : goal.returns-clause-said
+returns-clause-said g c = c.keep_logs.ensures.said

@@ -44,14 +44,14 @@ miss_refused-requires-clause-some g c = omega (arith, c.requires.fits.some, c.re
 pub miss_refused-requires-clause-within : goal.miss_refused-requires-clause-within
 miss_refused-requires-clause-within g c = let same = c.write_first.ensures.goes.size c.args.vol in omega (arith, c.requires.fits.within, same)
 
-pub miss_refused-requires-2-clause-some : goal.miss_refused-requires-2-clause-some
-miss_refused-requires-2-clause-some g c = omega (arith, c.requires.fits.some, c.requires.fits.whole)
+pub miss_refused-requires-in-Err-mark_group-clause-some : goal.miss_refused-requires-in-Err-mark_group-clause-some
+miss_refused-requires-in-Err-mark_group-clause-some g c = omega (arith, c.requires.fits.some, c.requires.fits.whole)
 
-pub miss_refused-requires-2-clause-within : goal.miss_refused-requires-2-clause-within
-miss_refused-requires-2-clause-within g c = let same = c.write_first.ensures.goes.size c.args.vol in let next = c.mark_group.ensures.goes.size c.args.vol in omega (arith, c.requires.fits.within, same, next)
+pub miss_refused-requires-in-Err-mark_group-clause-within : goal.miss_refused-requires-in-Err-mark_group-clause-within
+miss_refused-requires-in-Err-mark_group-clause-within g c = let same = c.write_first.ensures.goes.size c.args.vol in let next = c.mark_group.ensures.goes.size c.args.vol in omega (arith, c.requires.fits.within, same, next)
 
-pub miss_refused-requires-2-clause-log : goal.miss_refused-requires-2-clause-log
-miss_refused-requires-2-clause-log g c = λ off. c.mark_group.ensures.log
+pub miss_refused-requires-in-Err-mark_group-clause-log : goal.miss_refused-requires-in-Err-mark_group-clause-log
+miss_refused-requires-in-Err-mark_group-clause-log g c = λ off. c.mark_group.ensures.log
 
 pub returns-in-Err-clause-goes : goal.returns-in-Err-clause-goes
 returns-in-Err-clause-goes g c = then_nothing (Written c.args.vol c.args.block c.args.bytes.now) (inner_meaning (wide c.args.core.now) (g.S.Shelf.meaning c.args.shelf.now)) (inner_meaning (wide c.write_first.new.core) (g.S.Shelf.meaning c.write_first.new.shelf)) (inner_meaning (wide c.write_first.new.core) (g.S.Shelf.meaning c.miss_refused.new.shelf)) c.write_first.ensures.goes c.miss_refused.ensures.goes
@@ -81,36 +81,36 @@ pub returns-in-Err-clause-cause : goal.returns-in-Err-clause-cause
 returns-in-Err-clause-cause g c = cause_refused (Unit {0}) (inner_meaning (wide c.args.core.now) (g.S.Shelf.meaning c.args.shelf.now)) (inner_meaning (wide c.write_first.new.core) (g.S.Shelf.meaning c.write_first.new.shelf)) (inner_meaning (wide c.write_first.new.core) (g.S.Shelf.meaning c.miss_refused.new.shelf)) c.args.vol c.in-Err.error c.miss_refused.result c.in-Err.ensures.cause c.miss_refused.ensures.goes.faults c.miss_refused.ensures.goes.disk_faults c.miss_refused.ensures.same c.miss_refused.ensures.fell c.miss_refused.ensures.goes.falls
 
 pub returns-in-Err-mark_group-clause-goes : goal.returns-in-Err-mark_group-clause-goes
-returns-in-Err-mark_group-clause-goes g c = then_nothing (Written c.args.vol c.args.block c.args.bytes.now) (inner_meaning (wide c.args.core.now) (g.S.Shelf.meaning c.args.shelf.now)) (inner_meaning (wide c.mark_group.new.core) (g.S.Shelf.meaning c.mark_group.new.shelf)) (inner_meaning (wide c.mark_group.new.core) (g.S.Shelf.meaning c.miss_refused-2.new.shelf)) (then_nothing (Written c.args.vol c.args.block c.args.bytes.now) (inner_meaning (wide c.args.core.now) (g.S.Shelf.meaning c.args.shelf.now)) (inner_meaning (wide c.write_first.new.core) (g.S.Shelf.meaning c.write_first.new.shelf)) (inner_meaning (wide c.mark_group.new.core) (g.S.Shelf.meaning c.mark_group.new.shelf)) c.write_first.ensures.goes c.mark_group.ensures.goes) c.miss_refused-2.ensures.goes
+returns-in-Err-mark_group-clause-goes g c = then_nothing (Written c.args.vol c.args.block c.args.bytes.now) (inner_meaning (wide c.args.core.now) (g.S.Shelf.meaning c.args.shelf.now)) (inner_meaning (wide c.mark_group.new.core) (g.S.Shelf.meaning c.mark_group.new.shelf)) (inner_meaning (wide c.mark_group.new.core) (g.S.Shelf.meaning c.miss_refused-in-Err-mark_group.new.shelf)) (then_nothing (Written c.args.vol c.args.block c.args.bytes.now) (inner_meaning (wide c.args.core.now) (g.S.Shelf.meaning c.args.shelf.now)) (inner_meaning (wide c.write_first.new.core) (g.S.Shelf.meaning c.write_first.new.shelf)) (inner_meaning (wide c.mark_group.new.core) (g.S.Shelf.meaning c.mark_group.new.shelf)) c.write_first.ensures.goes c.mark_group.ensures.goes) c.miss_refused-in-Err-mark_group.ensures.goes
 
 pub returns-in-Err-mark_group-clause-log : goal.returns-in-Err-mark_group-clause-log
-returns-in-Err-mark_group-clause-log g c = λ off. c.miss_refused-2.ensures.log refl
+returns-in-Err-mark_group-clause-log g c = λ off. c.miss_refused-in-Err-mark_group.ensures.log refl
 
 pub returns-in-Err-mark_group-clause-others : goal.returns-in-Err-mark_group-clause-others
-returns-in-Err-mark_group-clause-others g c = others_then c.args.vol c.args.core.now c.mark_group.new.core c.mark_group.new.core (g.S.Shelf.meaning c.args.shelf.now) (g.S.Shelf.meaning c.mark_group.new.shelf) (g.S.Shelf.meaning c.miss_refused-2.new.shelf) (others_then c.args.vol c.args.core.now c.write_first.new.core c.mark_group.new.core (g.S.Shelf.meaning c.args.shelf.now) (g.S.Shelf.meaning c.write_first.new.shelf) (g.S.Shelf.meaning c.mark_group.new.shelf) c.write_first.ensures.others c.mark_group.ensures.others) c.miss_refused-2.ensures.others
+returns-in-Err-mark_group-clause-others g c = others_then c.args.vol c.args.core.now c.mark_group.new.core c.mark_group.new.core (g.S.Shelf.meaning c.args.shelf.now) (g.S.Shelf.meaning c.mark_group.new.shelf) (g.S.Shelf.meaning c.miss_refused-in-Err-mark_group.new.shelf) (others_then c.args.vol c.args.core.now c.write_first.new.core c.mark_group.new.core (g.S.Shelf.meaning c.args.shelf.now) (g.S.Shelf.meaning c.write_first.new.shelf) (g.S.Shelf.meaning c.mark_group.new.shelf) c.write_first.ensures.others c.mark_group.ensures.others) c.miss_refused-in-Err-mark_group.ensures.others
 
 pub returns-in-Err-mark_group-clause-adds : goal.returns-in-Err-mark_group-clause-adds
-returns-in-Err-mark_group-clause-adds g c = only_same _ (first_region c.args.block) (last_region c.args.block (length c.args.bytes.now / 512)) c.args.logs.now c.mark_group.new.logs c.miss_refused-2.new.logs c.miss_refused-2.ensures.drl (only_then _ _ (first_region c.args.block) (last_region c.args.block (length c.args.bytes.now / 512)) c.args.logs.now c.write_first.new.logs c.mark_group.new.logs (ap regions_in (c.write_first.ensures.goes.size c.args.vol)) c.write_first.ensures.adds c.mark_group.ensures.adds)
+returns-in-Err-mark_group-clause-adds g c = only_same _ (first_region c.args.block) (last_region c.args.block (length c.args.bytes.now / 512)) c.args.logs.now c.mark_group.new.logs c.miss_refused-in-Err-mark_group.new.logs c.miss_refused-in-Err-mark_group.ensures.drl (only_then _ _ (first_region c.args.block) (last_region c.args.block (length c.args.bytes.now / 512)) c.args.logs.now c.write_first.new.logs c.mark_group.new.logs (ap regions_in (c.write_first.ensures.goes.size c.args.vol)) c.write_first.ensures.adds c.mark_group.ensures.adds)
 
 pub returns-in-Err-mark_group-clause-maps : goal.returns-in-Err-mark_group-clause-maps
-returns-in-Err-mark_group-clause-maps g c = λ off know. c.miss_refused-2.ensures.knows refl (c.mark_group.ensures.maps (or_run (first_region c.args.block) (last_region c.args.block (length c.args.bytes.now / 512)) none_spared) (c.write_first.ensures.missed off know))
+returns-in-Err-mark_group-clause-maps g c = λ off know. c.miss_refused-in-Err-mark_group.ensures.knows refl (c.mark_group.ensures.maps (or_run (first_region c.args.block) (last_region c.args.block (length c.args.bytes.now / 512)) none_spared) (c.write_first.ensures.missed off know))
 
 pub returns-in-Err-mark_group-clause-notes : goal.returns-in-Err-mark_group-clause-notes
-returns-in-Err-mark_group-clause-notes g c = note_then all_those (first_region c.args.block) (last_region c.args.block (length c.args.bytes.now / 512)) c.args.logs.now c.mark_group.new.logs c.miss_refused-2.new.logs
-    (note_then all_those (first_region c.args.block) (last_region c.args.block (length c.args.bytes.now / 512)) c.args.logs.now c.write_first.new.logs c.mark_group.new.logs (those_any (are_off c.write_first.new.core c.args.vol) (first_region c.args.block) (last_region c.args.block (length c.args.bytes.now / 512)) c.args.logs.now c.write_first.new.logs c.write_first.ensures.notes) (those_any (are_off c.mark_group.new.core c.args.vol) (first_region c.args.block) (last_region c.args.block (length c.args.bytes.now / 512)) c.write_first.new.logs c.mark_group.new.logs c.mark_group.ensures.notes)) c.miss_refused-2.ensures.notes
+returns-in-Err-mark_group-clause-notes g c = note_then all_those (first_region c.args.block) (last_region c.args.block (length c.args.bytes.now / 512)) c.args.logs.now c.mark_group.new.logs c.miss_refused-in-Err-mark_group.new.logs
+    (note_then all_those (first_region c.args.block) (last_region c.args.block (length c.args.bytes.now / 512)) c.args.logs.now c.write_first.new.logs c.mark_group.new.logs (those_any (are_off c.write_first.new.core c.args.vol) (first_region c.args.block) (last_region c.args.block (length c.args.bytes.now / 512)) c.args.logs.now c.write_first.new.logs c.write_first.ensures.notes) (those_any (are_off c.mark_group.new.core c.args.vol) (first_region c.args.block) (last_region c.args.block (length c.args.bytes.now / 512)) c.write_first.new.logs c.mark_group.new.logs c.mark_group.ensures.notes)) c.miss_refused-in-Err-mark_group.ensures.notes
 
 pub returns-in-Err-mark_group-clause-marked : goal.returns-in-Err-mark_group-clause-marked
-returns-in-Err-mark_group-clause-marked g c = λ off. marks_later (λ s. g.S.Shelf.meaning s) c.args.vol c.args.block c.args.bytes.now (first_region c.args.block) (last_region c.args.block (length c.args.bytes.now / 512)) c.args.core.now c.mark_group.new.core c.mark_group.new.core (g.S.Shelf.meaning c.args.shelf.now) (g.S.Shelf.meaning c.mark_group.new.shelf) (g.S.Shelf.meaning c.miss_refused-2.new.shelf)
-    (marks_later (λ s. g.S.Shelf.meaning s) c.args.vol c.args.block c.args.bytes.now (first_region c.args.block) (last_region c.args.block (length c.args.bytes.now / 512)) c.args.core.now c.write_first.new.core c.mark_group.new.core (g.S.Shelf.meaning c.args.shelf.now) (g.S.Shelf.meaning c.write_first.new.shelf) (g.S.Shelf.meaning c.mark_group.new.shelf) (c.write_first.ensures.marked off) c.mark_group.ensures.goes) c.miss_refused-2.ensures.goes
+returns-in-Err-mark_group-clause-marked g c = λ off. marks_later (λ s. g.S.Shelf.meaning s) c.args.vol c.args.block c.args.bytes.now (first_region c.args.block) (last_region c.args.block (length c.args.bytes.now / 512)) c.args.core.now c.mark_group.new.core c.mark_group.new.core (g.S.Shelf.meaning c.args.shelf.now) (g.S.Shelf.meaning c.mark_group.new.shelf) (g.S.Shelf.meaning c.miss_refused-in-Err-mark_group.new.shelf)
+    (marks_later (λ s. g.S.Shelf.meaning s) c.args.vol c.args.block c.args.bytes.now (first_region c.args.block) (last_region c.args.block (length c.args.bytes.now / 512)) c.args.core.now c.write_first.new.core c.mark_group.new.core (g.S.Shelf.meaning c.args.shelf.now) (g.S.Shelf.meaning c.write_first.new.shelf) (g.S.Shelf.meaning c.mark_group.new.shelf) (c.write_first.ensures.marked off) c.mark_group.ensures.goes) c.miss_refused-in-Err-mark_group.ensures.goes
 
 pub returns-in-Err-mark_group-clause-agreed : goal.returns-in-Err-mark_group-clause-agreed
 returns-in-Err-mark_group-clause-agreed g c = λ is. c.in-Err-mark_group.ensures.agreed (c.in-Ok.ensures.trust is)
 
 pub returns-in-Err-mark_group-clause-cause : goal.returns-in-Err-mark_group-clause-cause
-returns-in-Err-mark_group-clause-cause g c = cause_refused (Unit {0}) (inner_meaning (wide c.args.core.now) (g.S.Shelf.meaning c.args.shelf.now)) (inner_meaning (wide c.mark_group.new.core) (g.S.Shelf.meaning c.mark_group.new.shelf)) (inner_meaning (wide c.mark_group.new.core) (g.S.Shelf.meaning c.miss_refused-2.new.shelf)) c.args.vol c.in-Err-mark_group.error c.miss_refused-2.result
+returns-in-Err-mark_group-clause-cause g c = cause_refused (Unit {0}) (inner_meaning (wide c.args.core.now) (g.S.Shelf.meaning c.args.shelf.now)) (inner_meaning (wide c.mark_group.new.core) (g.S.Shelf.meaning c.mark_group.new.shelf)) (inner_meaning (wide c.mark_group.new.core) (g.S.Shelf.meaning c.miss_refused-in-Err-mark_group.new.shelf)) c.args.vol c.in-Err-mark_group.error c.miss_refused-in-Err-mark_group.result
     (Cause_both {T = Unit {0}} (inner_meaning (wide c.args.core.now) (g.S.Shelf.meaning c.args.shelf.now)) (inner_meaning (wide c.write_first.new.core) (g.S.Shelf.meaning c.write_first.new.shelf)) (inner_meaning (wide c.mark_group.new.core) (g.S.Shelf.meaning c.mark_group.new.shelf)) c.args.vol (Err c.in-Err-mark_group.error) c.in-Ok.ensures.cause c.write_first.ensures.goes.faults c.write_first.ensures.goes.disk_faults
     (cause_to Bool (Unit {0}) c.args.vol c.in-Err-mark_group.error (inner_meaning (wide c.write_first.new.core) (g.S.Shelf.meaning c.write_first.new.shelf)) (inner_meaning (wide c.mark_group.new.core) (g.S.Shelf.meaning c.mark_group.new.shelf)) c.in-Err-mark_group.ensures.cause))
-    c.miss_refused-2.ensures.goes.faults c.miss_refused-2.ensures.goes.disk_faults c.miss_refused-2.ensures.same c.miss_refused-2.ensures.fell c.miss_refused-2.ensures.goes.falls
+    c.miss_refused-in-Err-mark_group.ensures.goes.faults c.miss_refused-in-Err-mark_group.ensures.goes.disk_faults c.miss_refused-in-Err-mark_group.ensures.same c.miss_refused-in-Err-mark_group.ensures.fell c.miss_refused-in-Err-mark_group.ensures.goes.falls
 
 pub returns-then-not-done-clause-marked : goal.returns-then-not-done-clause-marked
 returns-then-not-done-clause-marked g c = λ off. marks_later (λ s. g.S.Shelf.meaning s) c.args.vol c.args.block c.args.bytes.now (first_region c.args.block) (last_region c.args.block (length c.args.bytes.now / 512)) c.args.core.now c.write_first.new.core c.mark_group.new.core (g.S.Shelf.meaning c.args.shelf.now) (g.S.Shelf.meaning c.write_first.new.shelf) (g.S.Shelf.meaning c.mark_group.new.shelf) (c.write_first.ensures.marked off) c.mark_group.ensures.goes
@@ -131,6 +131,6 @@ returns-else-not-done-clause-loses g c = then_along c.args.core.now.inner.config
 
 pub returns-in-Err-mark_group-clause-loses : goal.returns-in-Err-mark_group-clause-loses
 returns-in-Err-mark_group-clause-loses g c =
-    then_along c.args.core.now.inner.config c.mark_group.new.core.inner.config c.mark_group.new.core.inner.config (g.S.Shelf.meaning c.args.shelf.now) (g.S.Shelf.meaning c.mark_group.new.shelf) (g.S.Shelf.meaning c.miss_refused-2.new.shelf)
+    then_along c.args.core.now.inner.config c.mark_group.new.core.inner.config c.mark_group.new.core.inner.config (g.S.Shelf.meaning c.args.shelf.now) (g.S.Shelf.meaning c.mark_group.new.shelf) (g.S.Shelf.meaning c.miss_refused-in-Err-mark_group.new.shelf)
     (then_along c.args.core.now.inner.config c.write_first.new.core.inner.config c.mark_group.new.core.inner.config (g.S.Shelf.meaning c.args.shelf.now) (g.S.Shelf.meaning c.write_first.new.shelf) (g.S.Shelf.meaning c.mark_group.new.shelf) c.write_first.ensures.loses c.mark_group.ensures.loses)
-    (along_same c.mark_group.new.core.inner.config (g.S.Shelf.meaning c.mark_group.new.shelf) (g.S.Shelf.meaning c.miss_refused-2.new.shelf) c.miss_refused-2.ensures.below.faults)
+    (along_same c.mark_group.new.core.inner.config (g.S.Shelf.meaning c.mark_group.new.shelf) (g.S.Shelf.meaning c.miss_refused-in-Err-mark_group.new.shelf) c.miss_refused-in-Err-mark_group.ensures.below.faults)

@@ -164,3 +164,15 @@ returns-clause-agreed g c = err_from c.keep_begun.result (λ keeps is. keeps (c.
 
 pub returns-clause-cause : goal.returns-clause-cause
 returns-clause-cause g c = λ may. det_later (g.S.Shelf.meaning c.args.shelf.now) (g.S.Shelf.meaning c.begin_missing.new.shelf) (g.S.Shelf.meaning c.keep_begun.new.shelf) (λ u. let one = c.det_logged.ensures.narrows.acts.disk_faults u in let two = c.begin_missing.ensures.below.disk_faults u in omega (arith, one, two)) c.keep_begun.result c.keep_begun.ensures.cause
+
+pub returns-in-Err-clause-rises : goal.returns-in-Err-clause-rises
+returns-in-Err-clause-rises g c = c.det_logged.ensures.narrows.acts.faults
+
+pub returns-then-not-may_begin-clause-rises : goal.returns-then-not-may_begin-clause-rises
+returns-then-not-may_begin-clause-rises g c = c.det_logged.ensures.narrows.acts.faults
+
+pub returns-in-Err-begin_missing-clause-rises : goal.returns-in-Err-begin_missing-clause-rises
+returns-in-Err-begin_missing-clause-rises g c = λ u. let one = c.det_logged.ensures.narrows.acts.faults u in let two = c.begin_missing.ensures.below.faults u in omega (arith, one, two)
+
+pub returns-clause-rises : goal.returns-clause-rises
+returns-clause-rises g c = λ u. let one = c.det_logged.ensures.narrows.acts.faults u in let two = c.begin_missing.ensures.below.faults u in let last = c.keep_begun.ensures.rises u in omega (arith, one, two, last)
