@@ -1,5 +1,5 @@
 -- What a recovery of a bare site leads a yard to, on whose disks an earlier run may have left a group.
-use Rattle.std.proofs.Common.{◌≡◌, ◌∙◌, ◌⊎◌, inl, inr, ◌<◌, ◌≤◌, ℕ, Bool, true, false, List, [], ◌∷◌, length, map, ap, sym, subst, refl, arith}
+use Rattle.std.proofs.Common.{◌≡◌, ◌∙◌, ◌⊎◌, inl, inr, ℕ, Bool, true, false, List, [], ◌∷◌, map, ap, sym, subst, refl}
 use Rattle.std.specs.Prelude.{Option, Some, None, Result, Ok, Err, slice_get, slice_set}
 use Rattle.vx_model.specs.declared.errors.OutOfMemory.{OutOfMemory as MemoryError}
 use Rattle.vx_model.specs.declared.errors.Stop.{Stop}
@@ -16,7 +16,6 @@ use Rattle.vx_history.specs.Groups.{GroupNode}
 use Rattle.vx_history.specs.Steps.{group_set, raw_set}
 use Rattle.vx_history.specs.World.{Node, NoFuse, World}
 use Rattle.vx_history.specs.declared.event.Event.TheVariants.{Group as MakeGroup, Recover as RecoverAt}
-use Rattle.vx_kept.specs.Cleans.{at_serial}
 use Rattle.vx_order.specs.declared.facts.SiteFacts.{SiteFacts}
 use Rattle.vx_order.specs.declared.facts.VolumeFacts.{VolumeFacts}
 use Rattle.vx_report.specs.declared.view.SiteView.{SiteView}
@@ -25,12 +24,11 @@ use Rattle.vx_grouped.specs.Begins.{group_begun}
 use Rattle.vx_grouped.specs.GroupSites.{UpNoted, site_config}
 use Rattle.vx_grouped.specs.SiteReturns.{ImportWhy}
 use Rattle.vx_diskset.specs.Asked.{FailsAs, SameFailing}
-use Rattle.vx_diskset.specs.DiskSets.{Later}
 use Rattle.vx_diskset.specs.GroupCalls.{AtSite, bare_disks, cut_in}
 use Rattle.vx_diskset.specs.GroupFinds.{FindsIs, FoundUp}
 use Rattle.vx_diskset.specs.GroupSets.{cut_value}
-use Rattle.vx_diskset.specs.Holds.{KeptBeside, beside_of}
-use Rattle.vx_diskset.specs.Stands.{IsToldAt, RoleIs, SiteStands, faults_at}
+use Rattle.vx_diskset.specs.Holds.{beside_of}
+use Rattle.vx_diskset.specs.Stands.{IsToldAt, SiteStands, faults_at}
 use Rattle.vx_diskset.specs.declared.disk_set.DiskSet.{DiskSet}
 use Rattle.vx_diskset.specs.declared.disk_set.DiskSet.TheVariants.{OfGroup}
 use Rattle.vx_events.specs.Doubts.{run_as}
@@ -39,10 +37,9 @@ use Rattle.vx_events.specs.Facts.{seat_of, site_number}
 use Rattle.vx_events.specs.Fails.{Fails}
 use Rattle.vx_events.specs.GroupEnds.{FindsGroup, GroupEnds}
 use Rattle.vx_events.specs.GroupLines.{group_recovery, is_over_group}
-use Rattle.vx_events.specs.GroupViews.{config_of, grouped_view, noted_table, plain_fact}
+use Rattle.vx_events.specs.GroupViews.{grouped_view, noted_table, plain_fact}
 use Rattle.vx_events.specs.LinkedFacts.{linked_fact, links_by, links_of_site}
-use Rattle.vx_events.specs.Lists.{events_of}
-use Rattle.vx_events.specs.StepsOver.{FindsKept, fact_of_group, fact_over}
+use Rattle.vx_events.specs.StepsOver.{FindsKept, fact_of_group}
 use Rattle.vx_events.specs.declared.said.Said.{Said}
 use Rattle.vx_events.specs.declared.said.Said.TheVariants.{Refused as SaidNo, Resumed}
 use Rattle.vx_yard.proofs.Carrying.{SameLoad, carries_same}
@@ -63,7 +60,7 @@ use Rattle.vx_yard.specs.declared.yard.Yard.{Yard}
 use Rattle.vx_group_lines.specs.Founds.{IsBareUntold}
 use Rattle.vx_group_lines.specs.Views.{view_with}
 use Rattle.vx_group_lines.proofs.Arriving.{arrives_made, arrives_none, arrives_noted, noted_at}
-use Rattle.vx_group_lines.proofs.BareSites.{IsBareSite, bare_counts, bare_site, bare_sure, bare_unfused, blank_links, never_up, over_state}
+use Rattle.vx_group_lines.proofs.BareSites.{IsBareSite, bare_counts, bare_sure, bare_unfused, blank_links, never_up, over_state}
 use Rattle.vx_group_lines.proofs.GroupAt.{up_notes}
 use Rattle.vx_group_lines.proofs.GroupCalls.{SetThen, set_then}
 use Rattle.vx_group_lines.proofs.GroupLeads.{Follows, follows_on, up_set}
@@ -165,6 +162,7 @@ module _ {R : Type 0} {g : Ghosts R} where
           site = name;
           recovers = refl;
           bare = site.bare;
+          shows = refl;
           ends = ends;
         }));
         stands = follows.stands;

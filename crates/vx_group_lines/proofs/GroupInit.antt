@@ -1,13 +1,12 @@
 -- What a line that makes a group of a bare site leads a yard to.
-use Rattle.std.proofs.Common.{◌≡◌, ◌⊎◌, ◌∙◌, ◌<◌, ◌≤◌, ℕ, zero, suc, Bool, true, false, List, [], ◌∷◌, map, ap, sym, subst, refl, arith, inl, inr}
-use Rattle.std.specs.Prelude.{Option, Some, None, Result, Ok, Err, slice_get, slice_set, if◌then◌else◌}
+use Rattle.std.proofs.Common.{◌≡◌, ◌⊎◌, ◌∙◌, ◌≤◌, ℕ, zero, suc, true, false, List, [], ◌∷◌, map, ap, sym, subst, refl, arith, inl, inr}
+use Rattle.std.specs.Prelude.{Some, None, Result, Ok, Err, slice_get, slice_set}
 use Rattle.vx_model.specs.declared.errors.OutOfMemory.{OutOfMemory as MemoryError}
 use Rattle.vx_model.specs.declared.errors.Stop.{Stop}
 use Rattle.vx_model.specs.declared.errors.Stop.TheVariants.{No as Refused, OutOfMemory}
-use Rattle.vx_model.specs.declared.limits.TheConstants.{LEAST_BLOCKS, MOST_DISKS}
 use Rattle.vx_model.specs.declared.no.No.TheVariants.{Device}
 use Rattle.vx_model.specs.declared.site.SiteState.{SiteState}
-use Rattle.vx_model.specs.declared.site.SiteState.TheVariants.{Bare as IsBare, Up as IsUp, Down as IsDown}
+use Rattle.vx_model.specs.declared.site.SiteState.TheVariants.{Bare as IsBare}
 use Rattle.vx_config.specs.declared.config.Config.{Config}
 use Rattle.vx_config.specs.declared.entry.DiskEntry.{DiskEntry}
 use Rattle.vx_config.specs.declared.entry.VolumeEntry.{VolumeEntry}
@@ -15,9 +14,8 @@ use Rattle.vx_copies.specs.Marks.{failed_at}
 use Rattle.vx_copyio.specs.Labelling.{least_blocks}
 use Rattle.vx_disk.specs.Counts.{Rose}
 use Rattle.vx_disk.specs.declared.shelf.Shelf.{Ghosts}
-use Rattle.vx_history.specs.Doubts.{After, Doubted, happened}
+use Rattle.vx_history.specs.Doubts.{Doubted, happened}
 use Rattle.vx_history.specs.Groups.{GroupNode}
-use Rattle.vx_history.specs.KeptLinks.{kept_links}
 use Rattle.vx_history.specs.Steps.{group_set}
 use Rattle.vx_history.specs.World.{Node, NoFuse, World}
 use Rattle.vx_history.specs.declared.event.Event.TheVariants.{Group as MakeGroup}
@@ -33,19 +31,17 @@ use Rattle.vx_grouped.specs.declared.group_site.GroupSite.TheVariants.{Up as Sit
 use Rattle.vx_diskset.specs.Asked.{FailsAs, SameFailing}
 use Rattle.vx_diskset.specs.GroupCalls.{AtSite, InitIs, bare_disks, cut_in}
 use Rattle.vx_diskset.specs.GroupSets.{cut_value}
-use Rattle.vx_diskset.specs.Holds.{KeptBeside, beside_of, header_links}
-use Rattle.vx_diskset.specs.Stands.{RoleIs, SiteStands, bare_with, faults_at}
+use Rattle.vx_diskset.specs.Holds.{beside_of}
+use Rattle.vx_diskset.specs.Stands.{RoleIs, SiteStands, faults_at}
 use Rattle.vx_diskset.specs.declared.disk_set.DiskSet.{DiskSet}
-use Rattle.vx_diskset.specs.declared.disk_set.DiskSet.TheVariants.{Bare, Spoiled, Up as RaisedSet, Receives, Down as DownSet, OfGroup, Gone as GoneSet}
+use Rattle.vx_diskset.specs.declared.disk_set.DiskSet.TheVariants.{OfGroup}
 use Rattle.vx_events.proofs.OverSeats.{fact_apart}
-use Rattle.vx_events.proofs.Steps.{no_sites}
-use Rattle.vx_events.specs.Facts.{seat_of, site_number}
+use Rattle.vx_events.specs.Facts.{seat_of}
 use Rattle.vx_events.specs.GroupEnds.{GroupDone, InitFails}
 use Rattle.vx_events.specs.GroupLines.{is_over_group}
-use Rattle.vx_events.specs.GroupNotes.{FirstNote, note_at}
+use Rattle.vx_events.specs.GroupNotes.{FirstNote}
 use Rattle.vx_events.specs.GroupViews.{config_of, noted_table, plain_fact}
 use Rattle.vx_events.specs.LinkedFacts.{linked_fact, links_by, links_of_site}
-use Rattle.vx_events.specs.LinksFit.{IsBlank, LinksFit}
 use Rattle.vx_events.specs.StepsOver.{fact_of_group, fact_over}
 use Rattle.vx_events.specs.declared.said.Said.{Said}
 use Rattle.vx_events.specs.declared.said.Said.TheVariants.{Done, Refused as SaidNo}
@@ -61,7 +57,7 @@ use Rattle.vx_yard.specs.GroupFacts.{group_up_facts}
 use Rattle.vx_yard.specs.Replies.{reply_to}
 use Rattle.vx_yard.specs.Standing.{LeadsOver, LeadsOverIs, StandsFor}
 use Rattle.vx_yard.specs.Working.{IsFree}
-use Rattle.vx_yard.specs.Yards.{IsShaped, IsYardKept, in_files}
+use Rattle.vx_yard.specs.Yards.{IsYardKept, in_files}
 use Rattle.vx_yard.specs.declared.yard.Yard.{Yard}
 use Rattle.vx_group_lines.proofs.BareSites.{IsBareSite, bare_counts, bare_site, bare_sure, blank_links, over_state}
 use Rattle.vx_group_lines.proofs.Arriving.{arrives_made, arrives_none, arrives_noted, noted_at}
@@ -117,6 +113,7 @@ module _ {R : Type 0} {g : Ghosts R} where
           size = first.size;
           others = first.others;
           cut = first.cut;
+          dark = first.dark;
           perhaps = first.perhaps;
         },
         table_is note c is ∙ ap (λ (vs : List VolumeEntry). map plain_fact vs) empty.volumes,

@@ -18,6 +18,7 @@ pub mod GroupEnding
 pub mod GroupDone
 pub mod GroupShown
 pub mod Choosing
+pub mod Dimming
 pub mod Returning
 pub mod Rising
 pub mod GroupNamed
@@ -25,6 +26,7 @@ pub mod GroupDeports
 pub mod GroupImports
 pub mod GroupVolume
 pub mod VolumeLine
+pub mod Raising
 pub mod Resuming
 pub mod Recovering
 pub mod Founding

@@ -1,8 +1,7 @@
 -- What a line that recovers a site over a group leads a yard to.
-use Rattle.std.proofs.Common.{◌≡◌, ◌∙◌, inl, inr, ◌<◌, ℕ, Bool, true, false, List, [], ◌∷◌, map, ap, sym, subst, refl, arith}
-use Rattle.std.specs.Prelude.{◌&&◌, is_some, Option, Some, None, slice_get, slice_set, Result, Ok, Err}
+use Rattle.std.proofs.Common.{◌≡◌, ◌∙◌, inl, inr, ◌<◌, ℕ, Bool, true, false, List, [], map, ap, sym, subst, refl, arith, ⊎_elim}
+use Rattle.std.specs.Prelude.{is_some, Option, Some, None, slice_get, slice_set, Result, Ok, Err, ◌&&◌, ◌||◌, eqb, unwrap_or}
 use Rattle.std.proofs.lemmas.Option.{slice_get_within}
-use Rattle.vx_model.specs.Sites.{is_up}
 use Rattle.vx_model.specs.declared.errors.OutOfMemory.{OutOfMemory}
 use Rattle.vx_model.specs.declared.errors.Stop.{Stop}
 use Rattle.vx_model.specs.declared.errors.Stop.TheVariants.{No as StopsBy, OutOfMemory as MemoryStop}
@@ -13,7 +12,7 @@ use Rattle.vx_config.specs.declared.config.Config.{Config}
 use Rattle.vx_history.specs.Doubts.{Doubted, happened}
 use Rattle.vx_history.specs.Groups.{GroupNode}
 use Rattle.vx_history.specs.Steps.{crashed}
-use Rattle.vx_history.specs.World.{Node}
+use Rattle.vx_history.specs.World.{Node, World}
 use Rattle.vx_history.specs.declared.event.Event.TheVariants.{Crash as CrashAt}
 use Rattle.vx_order.specs.declared.facts.SiteFacts.{SiteFacts}
 use Rattle.vx_report.specs.declared.view.Kept.{Kept}
@@ -36,11 +35,11 @@ use Rattle.vx_events.proofs.Parts.{none_done}
 use Rattle.vx_events.proofs.Places.{some_same}
 use Rattle.vx_events.specs.Doubts.{IsAs, run_as}
 use Rattle.vx_events.specs.GroupEnds.{GroupEnds}
-use Rattle.vx_events.specs.GroupLines.{is_over_group}
-use Rattle.vx_events.specs.GroupNotes.{note_at}
+use Rattle.vx_events.specs.GroupLines.{is_over_group, noting, crash_first}
+use Rattle.vx_events.specs.GroupNotes.{note_at, NotesShort, no_note}
 use Rattle.vx_events.specs.GroupViews.{plain_fact}
 use Rattle.vx_events.specs.StepsOver.{fact_of_group, group_place}
-use Rattle.vx_events.specs.Parts.{StopsDown, StopsInPart, StopsShort, crashes_first}
+use Rattle.vx_events.specs.Parts.{StopsDown, StopsInPart, StopsShort, raises_first}
 use Rattle.vx_events.specs.declared.said.Said.{Said}
 use Rattle.vx_events.specs.declared.said.Said.TheVariants.{Resumed}
 use Rattle.vx_yard.proofs.ChangeSite.{rose_none}
@@ -61,19 +60,60 @@ use Rattle.vx_packet.specs.Assemblies.{Assembled}
 use Rattle.vx_group_lines.specs.Noting.{HasConfig, KeepsRest, reply_noted}
 use Rattle.vx_group_lines.specs.Rises.{ComesDown, RisesIs, StandsSo, StoodUp, kept_shown}
 use Rattle.vx_group_lines.specs.Views.{view_with}
-use Rattle.vx_group_lines.proofs.Arriving.{Arrives, arrives_crash}
-use Rattle.vx_group_lines.proofs.GroupAt.{GroupAt, down_noted, group_by, up_noted, up_notes}
+use Rattle.vx_group_lines.proofs.Arriving.{Arrives, arrives_crash, noted_at}
+use Rattle.vx_group_lines.proofs.GroupAt.{GroupAt, down_noted, group_by, up_noted, up_notes, lit_up}
 use Rattle.vx_group_lines.proofs.GroupCalls.{Called, calls, set_then}
-use Rattle.vx_group_lines.proofs.GroupMarks.{begins_at}
-use Rattle.vx_group_lines.proofs.Rising.{has_up}
-use Rattle.vx_group_lines.proofs.Resuming.{Begins, RaisedTo, later_then, looked, stays_back}
+use Rattle.vx_group_lines.proofs.GroupMarks.{begins_at, noting_same}
+use Rattle.vx_group_lines.proofs.Rising.{has_up, refused_as}
+use Rattle.vx_group_lines.proofs.Raising.{Begins, RaisedTo, later_then, stays_back}
+use Rattle.vx_group_lines.proofs.Resuming.{looked}
+use Rattle.vx_model.specs.Sites.{is_up}
 
--- the recovery of a site over a group that is up crashes it first
-crashes_over : (d : Doubted) (name : List ℕ) (s : ℕ) → group_place d.world (Recover name) ≡ s → is_over_group (d.world.nodes s) ≡ true → (d.world.nodes s).state ≡ IsUp → crashes_first d.world (Recover name) ≡ true
-crashes_over d name s place over up =
-    ap (λ (k : ℕ). is_over_group (d.world.nodes k) && is_up (d.world.nodes k).state) place
-    ∙ ap (λ (b : Bool). b && is_up (d.world.nodes s).state) over
-    ∙ ap (λ (t : SiteState). is_up t) up
+-- the site of the line is over a group, which notes it
+over_noted : (n : Node) → is_over_group n ≡ true → n.group ≡ Some (note_at n)
+over_noted n over = by n.group refl
+  where
+    by : (o : Option GroupNode) → n.group ≡ o → n.group ≡ Some (note_at n)
+    by None is = absurd (let e : false ≡ true = sym (ap (λ (x : Option GroupNode). is_some x && eqb (length n.volumes) 0) is) ∙ over in cc)
+    by (Some note) is = is ∙ ap (λ (x : Option GroupNode). Some (unwrap_or x no_note)) (sym is)
+
+or_true : (a b : Bool) → b ≡ true → (a || b) ≡ true
+or_true true b is = refl
+or_true false b is = is
+
+module _ (told : Type 0) (d e : Doubted) (name : List ℕ) (s : ℕ) (next : GroupNode) (place : group_place d.world (Recover name) ≡ s) (over : is_over_group (d.world.nodes s) ≡ true) (comes : ComesDown d e s) (notes : NotesShort (note_at (e.world.nodes s)) next) where
+  -- it crashed first, or may not agree
+  raises_so : (is_up (d.world.nodes s).state || (note_at (d.world.nodes s)).loose) ≡ true → raises_first d.world (Recover name) ≡ true
+  raises_so is =
+      ap (λ (k : ℕ). is_over_group (d.world.nodes k) && (is_up (d.world.nodes k).state || (note_at (d.world.nodes k)).loose)) place
+      ∙ ap (λ (b : Bool). b && (is_up (d.world.nodes s).state || (note_at (d.world.nodes s)).loose)) over ∙ is
+
+  fell : (is_up (d.world.nodes s).state || (note_at (d.world.nodes s)).loose) ≡ true → StopsShort told d (Recover name) (noted_at e s next)
+  fell is = StopsDown (record {
+    raises = raises_so is;
+    next = next;
+    notes = subst (λ (k : ℕ). NotesShort (note_at (d.world.nodes k)) next) (sym place) (subst (λ (k : GroupNode). NotesShort k next) comes.note notes);
+    leads = subst (λ (k : ℕ). let last = run_as false d (crash_first (d.world.nodes k).state k) in IsAs last (noting last.world k next) (noted_at e s next)) (sym place)
+        (subst (λ (x : Doubted). IsAs x (noting x.world s next) (noted_at e s next)) (sym (refused_as d e s comes)) (record { world = refl; after = λ i. refl }));
+  })
+
+  -- a site that was down is as it was
+  whole : e ≡ d → next ≡ note_at (e.world.nodes s) → StopsShort told d (Recover name) (noted_at e s next)
+  whole same is =
+      let kept : noted_at e s next ≡ d =
+      ap (λ (x : Doubted). noted_at x s next) same ∙ ap (λ (k : GroupNode). noted_at d s k) (is ∙ comes.note)
+      ∙ ap (λ (w : World). let x : Doubted = record d { world = w } in x) (noting_same d.world s (note_at (d.world.nodes s)) (over_noted (d.world.nodes s) over)) in
+      subst (λ (x : Doubted). StopsShort told d (Recover name) x) (sym kept) (StopsInPart (none_done d (Recover name)))
+
+  -- what want of memory leaves of it
+  stops_low : StopsShort told d (Recover name) (noted_at e s next)
+  stops_low = ⊎_elim
+      (λ (down : ((d.world.nodes s).state ≡ IsDown) × (e ≡ d)).
+      ⊎_elim (λ same. whole down.1 same)
+      (λ dark. fell (or_true (is_up (d.world.nodes s).state) (note_at (d.world.nodes s)).loose (ap (λ (k : GroupNode). k.loose) (sym comes.note) ∙ dark.0))) notes)
+      (λ (up : ((d.world.nodes s).state ≡ IsUp) × (e ≡ happened d (CrashAt s 0) false)).
+      fell (ap (λ (t : SiteState). is_up t || (note_at (d.world.nodes s)).loose) up.0))
+      comes.how
 
 -- a site that was down
 pub down_first : (d : Doubted) (s : ℕ) → (d.world.nodes s).state ≡ IsDown → ComesDown d d s
@@ -152,7 +192,7 @@ module _ {R : Type 0} {g : Ghosts R} where
           let rm = set_then (λ (x : GroupSite R g). SiteRecovers n note at.set.site x (Ok tt)) st.before was.0 in
           let up = has_up (returned_with rm.holds.0 n) rm.holds.0 rm.set.site rm.holds.2 in
           let later : Later before st.before = subst (λ (x : DiskSet R g). Later before x) same first.later in
-          looked e s old new before st.after begin call rm.set.site rm.holds.0 rm.holds.1 rm.holds.3
+          looked e s old new before st.after begin call rm.set.site rm.holds.0 rm.holds.1 rm.holds.3 (lit_up (returned_with rm.holds.0 n) rm.holds.0 rm.set.site rm.holds.2)
           (λ set is. record {
             tells = λ yes_. subst (λ (x : DiskSet R g). IsToldAt x) rm.is (st.later.told (subst (λ (x : DiskSet R g). IsToldAt x) (sym is) yes_));
             from = λ k. omega (arith, later.counts k, ap (λ (x : DiskSet R g). faults_at x k) at.is_set, ap (λ (x : DiskSet R g). faults_at x k) rm.is);
@@ -211,9 +251,9 @@ module _ {R : Type 0} {g : Ghosts R} where
 
   -- ---- the line
 
-  pub resumes : (d e : Doubted) (name : List ℕ) (s : ℕ) (old mid new : Yard R g) (result : Result Said OutOfMemory) → group_place d.world (Recover name) ≡ s → ComesDown d e s → (Carries d old → Carries e mid)
-      → RoseAll [] (count_of old) (count_of mid) → StopsShort (IsTold new) d (Recover name) e → RisesIs e s mid new result → LeadsOverOrStops d (Recover name) old new result
-  resumes d e name s old mid new (Ok said) place comes before rose part r = record {
+  pub resumes : (d e : Doubted) (name : List ℕ) (s : ℕ) (old mid new : Yard R g) (result : Result Said OutOfMemory) → group_place d.world (Recover name) ≡ s → is_over_group (d.world.nodes s) ≡ true → ComesDown d e s
+      → (Carries d old → Carries e mid) → RoseAll [] (count_of old) (count_of mid) → RisesIs e s mid new result → LeadsOverOrStops d (Recover name) old new result
+  resumes d e name s old mid new (Ok said) place over comes before rose r = record {
     next = r.next;
     fails = r.fails;
     done = subst (λ (k : ℕ). GroupEnds (IsTold new) d (Recover name) k r.fails said r.next) (sym place) (r.done d name comes);
@@ -221,9 +261,9 @@ module _ {R : Type 0} {g : Ghosts R} where
     carries = λ was. r.carries (before was);
     rose = rose_then r.fails (count_of old) (count_of mid) (count_of new) rose r.rose;
   }
-  resumes d e name s old mid new (Err x) place comes before rose part r = record {
-    next = e;
-    part = part;
+  resumes d e name s old mid new (Err x) place over comes before rose r = record {
+    next = noted_at e s r.note;
+    part = stops_low (IsTold new) d e name s r.note place over comes r.notes;
     stands = r.stands;
     carries = λ was. r.carries (before was);
     rose = rose_then [] (count_of old) (count_of mid) (count_of new) rose r.rose;
@@ -233,8 +273,7 @@ module _ {R : Type 0} {g : Ghosts R} where
       → (d.world.nodes s).state ≡ IsDown → ((e : Doubted) → StandsFor e old → s < e.world.sites → is_over_group (e.world.nodes s) ≡ true → (e.world.nodes s).state ≡ IsDown → RisesIs e s old new result)
       → LeadsOverOrStops d (Recover name) old new result
   from_down d name s old new before result stands place at down rises =
-      resumes d d name s old old new result place (down_first d s down) (λ was. was) (rose_none (count_of old) (count_of old) (λ i u. omega arith)) (StopsInPart (none_done d (Recover name)))
-      (rises d stands at.below at.over down)
+      resumes d d name s old old new result place at.over (down_first d s down) (λ was. was) (rose_none (count_of old) (count_of old) (λ i u. omega arith)) (rises d stands at.below at.over down)
 
   pub from_up : (d : Doubted) (name : List ℕ) (s : ℕ) (old mid new : Yard R g) (before : DiskSet R g) (result : Result Said OutOfMemory) → StandsFor d old → group_place d.world (Recover name) ≡ s → slice_get old.disk_sets.items s ≡ Some before → GroupAt d old name s before
       → (d.world.nodes s).state ≡ IsUp → ((d : Doubted) → StandsFor d old → s < d.world.sites → (d.world.nodes s).state ≡ IsUp → Falls d s old mid)
@@ -243,12 +282,7 @@ module _ {R : Type 0} {g : Ghosts R} where
   from_up d name s old mid new before result stands place there at up falls rises =
       let e : Doubted = happened d (CrashAt s 0) false in
       let f : Fallen d s old mid = fallen d s old mid before stands (group_by d old [] s before stands at.below at.over there) up (falls d stands at.below up) in
-      resumes d e name s old mid new result place f.comes f.carries f.rose
-      (StopsDown (record {
-        crashes = crashes_over d name s place at.over up;
-        leads = subst (λ (k : ℕ). let last = run_as false d (CrashAt k 0 ∷ []) in IsAs last last.world e) (sym place) (record { world = refl; after = λ i. refl });
-      }))
-      (rises e f.begin.stands f.begin.below f.begin.over f.begin.down)
+      resumes d e name s old mid new result place at.over f.comes f.carries f.rose (rises e f.begin.stands f.begin.below f.begin.over f.begin.down)
 
   -- ---- the group that came up, and the look
 

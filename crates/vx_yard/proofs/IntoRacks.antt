@@ -169,9 +169,9 @@ module _ {R : Type 0} {g : Ghosts R} where
 
   -- where it is known what they hold, contents are told of the disks as the group sees them
   lit_at : (n : Node) (s : GroupSite R g) (note : GroupNode) → GroupSiteStands n s → (n.state ≡ IsBare → ⊥) → n.group ≡ Some note → note.dark ≡ false → IsTrue (site_below s).tells → IsTrue (site_disks s).tells
-  lit_at n (GroupUp laid) note (k, it) made noted bright tells = it.shown (bright_as k note (sym it.noted.is ∙ noted) bright) tells
-  lit_at n (GroupAway idle) note (k, it) made noted bright tells = it.shown (bright_as k note (sym it.noted.is ∙ noted) bright) tells
-  lit_at n (GroupDown idle) note (k, it) made noted bright tells = it.shown (bright_as k note (sym it.noted.is ∙ noted) bright) tells
+  lit_at n (GroupUp laid) note (k, it) made noted bright tells = it.lit (bright_as k note (sym it.noted.is ∙ noted) bright) tells
+  lit_at n (GroupAway idle) note (k, it) made noted bright tells = it.lit (bright_as k note (sym it.noted.is ∙ noted) bright) tells
+  lit_at n (GroupDown idle) note (k, it) made noted bright tells = it.lit (bright_as k note (sym it.noted.is ∙ noted) bright) tells
   lit_at n (Marked rack) note it made noted bright tells = absurd (made it.state)
   lit_at n GroupGone note it made noted bright tells = absurd it
 
