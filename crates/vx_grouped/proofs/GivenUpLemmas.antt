@@ -61,7 +61,7 @@ module _ {R : Type 0} (meaning : R → Meaning) where
       away = record {
         state = it.away.state;
         config = it.away.config;
-        lies = away_dimmed true n (dimmed_site true note n) note it.last (shade_meaning meaning (Dark (rack_of s))) refl refl (lies_ready meaning false s n it.last it.away.lies);
+        lies = away_dimmed true n (dimmed_site true note n) note it.last (shade_meaning meaning (Dark (rack_of s))) refl refl (lies_ready meaning false s n note it.last it.away.lies);
       };
     }
 
@@ -80,7 +80,7 @@ module _ {R : Type 0} (meaning : R → Meaning) where
         state = it.away.state;
         config = it.away.config;
         frames = it.away.frames;
-        lies = away_dimmed true n (burned_site (dimmed_site true note n)) note it.last (shade_meaning meaning (Dark (rack_of s))) refl refl (lies_ready meaning false s n it.last it.away.lies);
+        lies = away_dimmed true n (burned_site (dimmed_site true note n)) note it.last (shade_meaning meaning (Dark (rack_of s))) refl refl (lies_ready meaning false s n note it.last it.away.lies);
       };
     }
 

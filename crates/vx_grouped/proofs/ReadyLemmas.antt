@@ -1,6 +1,7 @@
 -- Disks by themselves, as an import takes them: the site stands over them as it did.
 use Rattle.std.proofs.Common.{◌≡◌, ℕ, Bool, true, false, refl, ◌∙◌, sym, subst, not, ap}
 use Rattle.std.specs.Prelude.{Result}
+use Rattle.vx_config.specs.declared.config.Config.{Config}
 use Rattle.vx_model.specs.declared.errors.Stop.{Stop}
 use Rattle.vx_disk.specs.Shelf.{Meaning}
 use Rattle.vx_disk.specs.declared.shelf.Shelf.{Ghosts}
@@ -10,6 +11,7 @@ use Rattle.vx_untold.specs.Shades.{shade_meaning, rack_of}
 use Rattle.vx_untold.specs.Untold.{untold}
 use Rattle.vx_untold.specs.declared.shade.Shade.{Shade}
 use Rattle.vx_untold.specs.declared.shade.Shade.TheVariants.{Bright, Dark}
+use Rattle.vx_grouped.specs.Away.{AwayLies}
 use Rattle.vx_grouped.specs.GroupSites.{AwayNoted, DownNoted, GroupAway, GroupDown, site_disks, IsLit, dimmed_site, site_below, idle_below}
 use Rattle.vx_grouped.specs.Readies.{ready_of}
 use Rattle.vx_grouped.specs.SetFuses.{HasFuse}
@@ -29,10 +31,10 @@ dark_fuse (FuseSet calls) m it = it
 dark_fuse (FuseLit most) m it = tt
 
 module _ {R : Type 0} (meaning : R → Meaning) where
-  pub lies_ready : (agreed : Bool) (s : Shade R) (k : Node) (last : Config) → AwayLies k note last (shade_meaning meaning s) → AwayLies k note last (shade_meaning meaning (ready_of agreed s))
-  lies_ready true s k last it = it
-  lies_ready false (Dark r) k last it = it
-  lies_ready false (Bright r) k last it = dark_away k note last (meaning r) (untold (meaning r)) refl (λ u. refl) (dark_none meaning (Bright r)) it
+  pub lies_ready : (agreed : Bool) (s : Shade R) (k : Node) (note : GroupNode) (last : Config) → AwayLies k note last (shade_meaning meaning s) → AwayLies k note last (shade_meaning meaning (ready_of agreed s))
+  lies_ready true s k note last it = it
+  lies_ready false (Dark r) k note last it = it
+  lies_ready false (Bright r) k note last it = dark_away k note last (meaning r) (untold (meaning r)) refl (λ u. refl) (dark_none meaning (Bright r)) it
 
   down_ready : (agreed : Bool) (s : Shade R) → (shade_meaning meaning (ready_of agreed s)).down ≡ (shade_meaning meaning s).down
   down_ready true s = refl
@@ -68,7 +70,7 @@ module _ {R : Type 0} (meaning : R → Meaning) where
       away = record {
         state = it.away.state;
         config = it.away.config;
-        lies = away_dimmed (not agreed) n (dimmed_site (not agreed) note n) note it.last (shade_meaning meaning (ready_of agreed s)) refl refl (lies_ready agreed s n it.last it.away.lies);
+        lies = away_dimmed (not agreed) n (dimmed_site (not agreed) note n) note it.last (shade_meaning meaning (ready_of agreed s)) refl refl (lies_ready agreed s n note it.last it.away.lies);
       };
     }
 
@@ -86,7 +88,7 @@ module _ {R : Type 0} (meaning : R → Meaning) where
         state = it.away.state;
         config = it.away.config;
         frames = it.away.frames;
-        lies = away_dimmed (not agreed) n (dimmed_site (not agreed) note n) note it.last (shade_meaning meaning (ready_of agreed s)) refl refl (lies_ready agreed s n it.last it.away.lies);
+        lies = away_dimmed (not agreed) n (dimmed_site (not agreed) note n) note it.last (shade_meaning meaning (ready_of agreed s)) refl refl (lies_ready agreed s n note it.last it.away.lies);
       };
     }
 
