@@ -1,7 +1,7 @@
 -- What the disks of a site over a group hold of it.
 use Rattle.std.proofs.Common.{◌≡◌, ◌∙◌, ◌⊎◌, ◌<◌, ◌≤◌, inl, inr, ℕ, zero, suc, List, [], ◌∷◌, Option, length, ap, refl, subst, sym, arith, IsTrue}
-use Rattle.std.specs.Prelude.{Some, None, true}
-use Rattle.std.specs.List.{get_or, slice_get}
+use Rattle.std.specs.Prelude.{Some, None, get_or, true}
+use Rattle.std.specs.List.{slice_get}
 use Rattle.std.proofs.lemmas.Option.{slice_get_cases}
 use Rattle.vx_model.specs.declared.site.SiteState.TheVariants.{Bare as IsBare}
 use Rattle.vx_history.specs.Groups.{BlockMay, GroupNode}
