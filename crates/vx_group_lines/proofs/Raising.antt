@@ -134,7 +134,7 @@ module _ {R : Type 0} {g : Ghosts R} where
 
     -- ---- it is down still
 
-    dims : Bool
+    abbrev dims : Bool
     dims = is_dimmed call.at.set.site
 
     pub loose : is_dimmed call.at.set.site ≡ true → (note_at (e.world.nodes s)).loose ≡ true

@@ -1,5 +1,5 @@
 -- What a line that recovers a site over a group leads a yard to.
-use Rattle.std.proofs.Common.{◌≡◌, ◌∙◌, inl, inr, ◌<◌, ℕ, Bool, true, false, List, [], map, ap, sym, subst, refl, arith, ⊎_elim}
+use Rattle.std.proofs.Common.{◌≡◌, ◌∙◌, inl, inr, ◌<◌, ℕ, Bool, true, false, List, [], map, ap, sym, subst, refl, arith, ⊎_elim, length}
 use Rattle.std.specs.Prelude.{is_some, Option, Some, None, slice_get, slice_set, Result, Ok, Err, ◌&&◌, ◌||◌, eqb, unwrap_or}
 use Rattle.std.proofs.lemmas.Option.{slice_get_within}
 use Rattle.vx_model.specs.declared.errors.OutOfMemory.{OutOfMemory}
