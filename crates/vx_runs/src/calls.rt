@@ -1,8 +1,7 @@
-// The call of a test, and what came of it.
+// A run of a script, and what came of it.
 use crate::fresh_racks;
 use std::alloc::Global;
 use std::sync::Wait;
-use std::test::Fail;
 use std::thread::Threads;
 use vx_cli::{OpenGate, Status, vx_main};
 use vx_model::OutOfMemory;
@@ -57,30 +56,4 @@ pub fn answers<H: Threads + Wait + Sync>(
     script: &[u8],
 ) -> Result<Answer, OutOfMemory> {
     answers_with(handle, alloc, &[], script)
-}
-
-#[test]
-fn the_first_run_is_answered(rt: HostRuntime) -> Result<(), Fail> {
-    let script = b"site a 3 64\nraw a\nwrite a d1 3 1 5a\nread a d1 3 1\nread a d1 4 1\n";
-    let answer = answers(&rt, rt.alloc(), script)?;
-    assert!(rt; answer.is(Status::Done, "done\ndone\ndone 1\n5a\n00\n"));
-    Ok(())
-}
-
-#[test]
-fn an_empty_script_is_done(rt: HostRuntime) -> Result<(), Fail> {
-    let answer = answers(&rt, rt.alloc(), b"")?;
-    assert!(rt; answer.is(Status::Done, ""));
-    Ok(())
-}
-
-#[test]
-fn another_word_is_no_call(rt: HostRuntime) -> Result<(), Fail> {
-    let alloc = rt.alloc();
-    let mut source = MemSource::new(alloc, b"site a 3 64\n", &[])?;
-    let mut sink = MemSink::new(alloc, 64, &[])?;
-    let status = run_over(&rt, alloc, "walk", &[], &mut source, &mut sink)?;
-    assert_eq!(rt; status, Status::Usage);
-    assert!(rt; sink.written().is_empty());
-    Ok(())
 }

@@ -3,7 +3,7 @@ use Rattle.std.proofs.Common.{◌≡◌, length}
 use Rattle.std.specs.List.{All}
 use Rattle.vx_disk.specs.Racks.{Bare}
 use Rattle.vx_disk.specs.Meanings.{shelf_meaning}
-use Rattle.vx_rows.proofs.racks.fresh_racks.Given as goal
+use Rattle.vx_runs.proofs.racks.fresh_racks.Given as goal
 
 abbrev pub invariant-loop-step : goal.invariant-loop-step
 invariant-loop-step l = record {
