@@ -17,3 +17,10 @@ pub mod SettleLemmas
 pub mod FreshLemmas
 pub mod RackLemmas
 pub mod DetFresh
+pub mod RestingLemmas
+pub mod RestedLogs
+pub mod RestTells
+pub mod CloseLemmas
+pub mod AlikeFlags
+pub mod TouchLemmas
+pub mod UsesLemmas

@@ -187,3 +187,7 @@ opens_by meaning moment old k law0 law can it r tells a mended resting ls m2 new
   fin.begins,
 )
 opens_by meaning moment old k law0 law can it r tells a mended resting ls m2 new drls long goes law2 (Err stop) fin = opened_late old (meaning moment) k law0 law can it r tells ls m2 new drls long goes law2 stop fin
+
+pub settled_below : (c : GroupCore) (a : List Bool) (m m' : Meaning) (res : Result Opened Stop) → SettlesLogs c a m m' res → SameUnits m m'
+settled_below c a m m' (Ok o) fin = fin.settles.below
+settled_below c a m m' (Err stop) fin = fin.settles.below

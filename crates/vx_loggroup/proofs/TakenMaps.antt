@@ -78,7 +78,7 @@ module _ (c : Config) (sound : is_sound c ≡ true) (v : ℕ) (some : 0 < blocks
           let k : ℕ = b - f.map.first in
           let place : b ≡ f.map.first + k = omega (arith, run.first) in
           let here : (x : List ℕ) → m.leaves u b x → m.leaves f.map.unit (f.map.first + k) x = λ x left. subst (λ (n : ℕ). m.leaves f.map.unit n x) place (subst (λ (n : ℕ). m.leaves n b x) run.there left) in
-          tells.one it.log.entry k y z used (let few = low in omega (arith, run.first, run.last, few)) (at_log k y (here y left_y)) (at_log k z (here z left_z));
+          tells.one it.log.entry k y z used some (let few = low in omega (arith, run.first, run.last, few)) (at_log k y (here y left_y)) (at_log k z (here z left_z));
     })
 
     pub taken_knows : (IsTrue m'.down → ⊥) → PlexesKnow c v (has_missed f) m'.reads

@@ -1,5 +1,6 @@
 // A group with logs as an import gives it.
 ghost use Rattle.std.specs.Prelude.{◌≡◌, ◌<◌, ℕ, None, Some, length, slice_get, true, false};
+ghost use Rattle.vx_group.specs.Creates.{SameUnits};
 ghost use Rattle.vx_group.specs.Holding.{wide};
 ghost use Rattle.vx_group.specs.Resumes.{CanImport};
 ghost use Rattle.vx_grouplogs.specs.Covering.{AllAlike};
@@ -75,7 +76,8 @@ fn settle_logs<S: Shelf>(
 pub fn open_logged<S: Shelf>(alloc: Global, shelf: &mut S, rested: &Rested) -> Result<Opened, Stop>
     requires can { CanImport (S.meaning shelf.old) }
     requires tells { LogsTell rested.now (S.meaning shelf.old) }
-    ensures { OpensLogged (λ s. S.meaning s) rested.now (S.meaning shelf.old) (S.meaning shelf.new) result }
+    ensures ends { OpensLogged (λ s. S.meaning s) rested.now (S.meaning shelf.old) (S.meaning shelf.new) result }
+    ensures same { SameUnits (S.meaning shelf.old) (S.meaning shelf.new) }
 {
     match import_marked(alloc, shelf) {
         Ok(marked) => {

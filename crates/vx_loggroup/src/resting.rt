@@ -3,9 +3,10 @@ ghost use Rattle.std.specs.Prelude.{◌≡◌, ◌<◌, ◌≤◌, ℕ, false, I
 ghost use Rattle.vx_config.specs.declared.entry.VolumeLog.{VolumeLog as VolumeLogValue};
 ghost use Rattle.vx_config.specs.declared.entry.VolumeLog.TheVariants.{Drl as DrlLog};
 ghost use Rattle.vx_disk.specs.Shelf.{Goes, Nothing};
+ghost use Rattle.vx_group.specs.Blames.{MarkedUnsure};
 ghost use Rattle.vx_kept.specs.Cleans.{is_unsure};
 ghost use Rattle.vx_kept.specs.LogRuns.{log_trusted};
-ghost use Rattle.vx_loggroup.specs.Resting.{DisksSettle, NoneTouched, SomeUnsure, VolumeRests, in_disks};
+ghost use Rattle.vx_loggroup.specs.Resting.{DiskEnds, DisksSettle, NoneTouched, SomeUnsure, UsesNone, VolumeRests, in_disks};
 ghost use Rattle.vx_logimport.specs.Rests.{rests};
 ghost use Rattle.vx_logs.specs.declared.logs.Logs.{Logs as LogsValue};
 ghost use Rattle.vx_model.specs.declared.limits.TheConstants.{MOST_DISKS, MOST_VOLUMES};
@@ -17,6 +18,19 @@ use vx_logs::Logs;
 use vx_maplog::log_of;
 use vx_model::limits::{MOST_DISKS, MOST_VOLUMES};
 use vx_volume::{plex_count, uses};
+
+// Flushes a disk, and answers whether it did not fail.
+fn flush_disk<S: Shelf>(shelf: &mut S, disk: u32) -> Result<bool, ShelfError>
+    requires inside { disk < (S.meaning shelf.old).units }
+    ensures goes { Goes Nothing (S.meaning shelf.old) (S.meaning shelf.new) }
+    ensures ends { DiskEnds disk (S.meaning shelf.old) (S.meaning shelf.new) result }
+{
+    match shelf.flush(disk) {
+        Ok(()) => Ok(true),
+        Err(ShelfError::Fault { .. }) => Ok(false),
+        Err(ShelfError::Down) => Err(ShelfError::Down),
+    }
+}
 
 /// Flushes each disk of a configuration, and answers which failed. Refusal only where the shelf is down.
 pub fn flush_disks<S: Shelf>(
@@ -32,25 +46,45 @@ pub fn flush_disks<S: Shelf>(
 {
     let mut failed = [false; MOST_DISKS as usize];
     for disk in 0..config.disks.as_slice().len() {
-        match shelf.flush(disk as u32) {
-            Ok(()) => {}
-            Err(ShelfError::Fault { .. }) => failed[disk] = true,
-            Err(ShelfError::Down) => return Err(ShelfError::Down),
+        match flush_disk(shelf, disk as u32) {
+            Ok(done) => failed[disk] = !done,
+            Err(error) => return Err(error),
         }
     }
     Ok(failed)
 }
 
+// Whether a plex uses a disk, where it is one of these.
+fn disk_touches(
+    config: &Config,
+    vol: u32,
+    plex: u32,
+    disk: u32,
+    failed: &[bool; MOST_DISKS as usize],
+) -> bool
+    requires inside { disk < MOST_DISKS }
+    ensures off { result ≡ false → uses_is config.now vol plex disk ≡ true → in_disks failed.now disk ≡ false }
+    ensures some { in_disks failed.now disk ≡ false → result ≡ false }
+{
+    if !failed[disk as usize] {
+        return false;
+    }
+    uses(config, vol, plex, disk)
+}
+
 // Whether a plex uses one of these disks.
-fn plex_touches(config: &Config, vol: u32, plex: u32, failed: &[bool; MOST_DISKS as usize]) -> bool
-    ensures off { result ≡ false → (u : ℕ) → u < MOST_DISKS → uses_is config.now vol plex u ≡ true → in_disks failed.now u ≡ false }
+fn plex_touches(
+    config: &Config,
+    vol: u32,
+    plex: u32,
+    failed: &[bool; MOST_DISKS as usize],
+) -> bool
+    ensures off { result ≡ false → UsesNone config.now vol plex MOST_DISKS failed.now }
     ensures some { ((u : ℕ) → in_disks failed.now u ≡ false) → result ≡ false }
 {
     for disk in 0..MOST_DISKS {
-        if failed[disk as usize] {
-            if uses(config, vol, plex, disk) {
-                return true;
-            }
+        if disk_touches(config, vol, plex, disk, failed) {
+            return true;
         }
     }
     false
@@ -80,6 +114,14 @@ fn is_trusted(config: &Config, vol: u32, log: VolumeLog) -> bool
     }
 }
 
+// Marks a volume as unsure.
+fn mark(unsure: &mut [bool; MOST_VOLUMES], vol: u32)
+    requires inside { vol < MOST_VOLUMES }
+    ensures { MarkedUnsure vol unsure.old unsure.new }
+{
+    unsure[vol as usize] = true;
+}
+
 // Marks a volume with maps in memory as unsure, where a plex of it uses one of these disks, and answers whether the maps of the volume are in
 // memory where its log is not held as lost.
 fn rest_one(
@@ -97,9 +139,10 @@ fn rest_one(
     if one.fmr.is_none() {
         return !is_trusted(config, vol, VolumeLog::Fmr);
     }
-    if touches(config, vol, failed) {
-        unsure[vol as usize] = true;
+    if !touches(config, vol, failed) {
+        return true;
     }
+    mark(unsure, vol);
     true
 }
 

@@ -110,6 +110,19 @@ pub fn take_all<S: Shelf>(
     }
 }
 
+// Whether the plexes of a volume are alike behind an import.
+fn alike_one(stopped: &[bool; MOST_VOLUMES], rested: &Rested, vol: u32) -> bool
+    requires inside { vol < MOST_VOLUMES }
+    ensures why { result ≡ true → is_unsure stopped.now vol ≡ false → rests rested.now.alike vol ≡ true }
+    ensures stopped { is_unsure stopped.now vol ≡ true → result ≡ true }
+    ensures rested { rests rested.now.alike vol ≡ true → result ≡ true }
+{
+    if stopped[vol as usize] {
+        return true;
+    }
+    rested.alike[vol as usize]
+}
+
 /// Of each volume whether its plexes are alike behind an import: they were made so, or were so where it stopped cleanly.
 pub fn alike_of(stopped: &[bool; MOST_VOLUMES], rested: &Rested) -> [bool; MOST_VOLUMES]
     ensures why { (v : ℕ) → is_alike_is result v ≡ true → is_unsure stopped.now v ≡ false → rests rested.now.alike v ≡ true }
@@ -118,11 +131,7 @@ pub fn alike_of(stopped: &[bool; MOST_VOLUMES], rested: &Rested) -> [bool; MOST_
 {
     let mut alike = [false; MOST_VOLUMES];
     for vol in 0..MOST_VOLUMES as u32 {
-        if stopped[vol as usize] {
-            alike[vol as usize] = true;
-        } else {
-            alike[vol as usize] = rested.alike[vol as usize];
-        }
+        alike[vol as usize] = alike_one(stopped, rested, vol);
     }
     alike
 }

@@ -10,6 +10,7 @@ use Rattle.vx_copies.specs.Answers.{returned}
 use Rattle.vx_copyfmt.specs.Imports.{Found}
 use Rattle.vx_disk.specs.Shelf.{Each, Image, Lawful, Meaning}
 use Rattle.vx_layout.specs.Places.{HasBlock, place}
+use Rattle.vx_layout.proofs.Placing.{sound_apart}
 use Rattle.vx_logs.specs.Held.{InUse, is_used, used_or}
 use Rattle.vx_logs.specs.Marks.{stride_of}
 use Rattle.vx_model.specs.Sizes.{map_blocks}
@@ -167,6 +168,9 @@ module _ (old new : Meaning) (k : Marked) (law : Lawful old) (can : CanImport ol
   has_x : (p b : ℕ) → HasBlock d v p b → HasBlock x v p b
   has_x p b has = has_back x d v (it.shape.frames v ∙ it.taken.opens.alike.shape.frames v) (it.shape.blocks v ∙ it.taken.opens.alike.shape.blocks v) p b has
 
+  some_x : 0 < blocks_of d.volumes v → 0 < blocks_of x.volumes v
+  some_x lt = let one = it.shape.blocks v in let two : blocks_of opened.volumes v ≡ blocks_of x.volumes v = it.taken.opens.alike.shape.blocks v in omega (arith, lt, one, two)
+
   pub rests_maps : MapsRest v old → MapsTell d v new
   rests_maps rests = record {
     so = λ e p q b y z w in_use has live_q inside low left off at_p at_q.
@@ -181,10 +185,10 @@ module _ (old new : Meaning) (k : Marked) (law : Lawful old) (can : CanImport ol
         (rests.each i x (image_left tell) (is_found tell) clean).so was.entry p q b y z w was.used (has_x p b has) (live_x q on_q) (in_x b inside)
         (subst (λ (t : ℕ). t / 4096 < was.entry.blocks) (same_bit p b) (let same = was.blocks in omega (arith, low, same)))
         (subst (λ (t : ℕ). old.leaves was.entry.disk (was.entry.start + t / 4096) w) (same_bit p b) log) (subst (λ (t : ℕ). is_marked w (t % 4096) ≡ false) (same_bit p b) off) at_p' at_q';
-    one = λ e n y z in_use low left_y left_z.
+    one = λ e n y z in_use some low left_y left_z.
         let was = was_entry e in_use in
         let at_y = log_x e was n y (left_log e n y in_use low left_y) in
         let at_z = log_x e was n z (left_log e n z in_use low left_z) in
         let tell = told was.entry.disk (was.entry.start + n) y at_y in
-        (rests.each i x (image_left tell) (is_found tell) clean).one was.entry n y z was.used (let same = was.blocks in omega (arith, low, same)) at_y at_z;
+        (rests.each i x (image_left tell) (is_found tell) clean).one was.entry n y z was.used (some_x some) (let same = was.blocks in omega (arith, low, same)) at_y at_z;
   }

@@ -29,7 +29,7 @@ module _ (m m' : Meaning) (units : m'.units ≡ m.units) (size : (u : ℕ) → m
   maps_less x v it = record {
     so = λ e p q b y z w in_use has on_q inside low left off at_p at_q.
         it.so e p q b y z w in_use has on_q inside low (less e.disk (e.start + bit_in_maps x v p b / 4096) w left) off (less (place x v p b).0 (place x v p b).1 y at_p) (less (place x v q b).0 (place x v q b).1 z at_q);
-    one = λ e k y z in_use low left_y left_z. it.one e k y z in_use low (less e.disk (e.start + k) y left_y) (less e.disk (e.start + k) z left_z);
+    one = λ e k y z in_use some low left_y left_z. it.one e k y z in_use some low (less e.disk (e.start + k) y left_y) (less e.disk (e.start + k) z left_z);
   }
 
   pub less_tells : (r : Rested) → LogsTell r m → LogsTell r m'

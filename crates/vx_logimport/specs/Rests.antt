@@ -2,6 +2,7 @@
 use Rattle.std.specs.Prelude.{◌≡◌, ℕ, ◌+◌, ◌/◌, ◌%◌, ◌<◌, Bool, true, false, IsTrue, List, slice_index_or}
 use Rattle.vx_model.specs.declared.limits.TheConstants.{MAP_REGIONS}
 use Rattle.vx_bitmap.specs.Bits.{is_marked}
+use Rattle.vx_config.specs.Checks.{blocks_of}
 use Rattle.vx_config.specs.declared.config.Config.{Config}
 use Rattle.vx_config.specs.declared.entry.LogEntry.{LogEntry}
 use Rattle.vx_config.specs.declared.entry.VolumeLog.TheVariants.{Fmr}
@@ -32,7 +33,7 @@ pub record MapsTell (x : Config) (v : ℕ) (m : Meaning) : Type 0 where
   pub so : (e : LogEntry) (p q b : ℕ) (y z w : List ℕ) → InUse x v Fmr e → HasBlock x v p b → IsTrue (live x v q) → Inside x v b → bit_in_maps x v p b / MAP_REGIONS < e.blocks
       → m.leaves e.disk (e.start + bit_in_maps x v p b / MAP_REGIONS) w → is_marked w (bit_in_maps x v p b % MAP_REGIONS) ≡ false
       → m.leaves (place x v p b).0 (place x v p b).1 y → m.leaves (place x v q b).0 (place x v q b).1 z → y ≡ z
-  pub one : (e : LogEntry) (k : ℕ) (y z : List ℕ) → InUse x v Fmr e → k < e.blocks → m.leaves e.disk (e.start + k) y → m.leaves e.disk (e.start + k) z → y ≡ z
+  pub one : (e : LogEntry) (k : ℕ) (y z : List ℕ) → InUse x v Fmr e → 0 < blocks_of x.volumes v → k < e.blocks → m.leaves e.disk (e.start + k) y → m.leaves e.disk (e.start + k) z → y ≡ z
 
 -- So it is by each configuration that is found in what a crash may leave, and in which the volume stopped cleanly: its plexes are alike.
 pub record AlikeRests (v : ℕ) (m : Meaning) : Type 0 where

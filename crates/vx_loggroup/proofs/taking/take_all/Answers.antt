@@ -17,8 +17,8 @@ overflow_cast-vol g c =
     let same = (wide_shape c.args.core.now).volumes in
     omega (arith, c.args.logs.now.ok, end, test, many, few, same)
 
-pub may_take-requires : goal.may_take-requires
-may_take-requires g c = record {
+pub may_take-may-requires : goal.may_take-may-requires
+may_take-may-requires g c = record {
   inside =
       let end = c.len-vol-end.ensures in let test = c.loop-vol-test.true in
       let many = c.requires.stands.many in
