@@ -30,11 +30,11 @@ returns-in-Err-clause-back g c = core_goes c.args.core.now (g.S.Shelf.meaning c.
 pub returns-in-Err-clause-cause : goal.returns-in-Err-clause-cause
 returns-in-Err-clause-cause g c = c.in-Err.ensures.down
 
-pub rest_all-requires : goal.rest_all-requires
-rest_all-requires g c = record { few = let many = c.requires.stands.many in let few = c.requires.stands.group.stands.few in let same = (wide_shape c.args.core.now).volumes in omega (arith, many, few, same) }
+pub rest_all-maps-requires : goal.rest_all-maps-requires
+rest_all-maps-requires g c = record { few = let many = c.requires.stands.many in let few = c.requires.stands.group.stands.few in let same = (wide_shape c.args.core.now).volumes in omega (arith, many, few, same) }
 
-pub are_kept-requires : goal.are_kept-requires
-are_kept-requires g c = record { few = let many = c.requires.stands.many in let few = c.requires.stands.group.stands.few in let same = (wide_shape c.args.core.now).volumes in omega (arith, many, few, same) }
+pub are_kept-kept-requires : goal.are_kept-kept-requires
+are_kept-kept-requires g c = record { few = let many = c.requires.stands.many in let few = c.requires.stands.group.stands.few in let same = (wide_shape c.args.core.now).volumes in omega (arith, many, few, same) }
 
 pub deport_in-requires : goal.deport_in-requires
 deport_in-requires g c = record { stands = (unsure_stands c.args.core.now c.rest_all-maps.new.unsure c.args.logs.now.items c.args.alike.now false (g.S.Shelf.meaning c.flush_disks.new.shelf) (still_stands c.args.core.now c.args.logs.now.items c.args.alike.now false (g.S.Shelf.meaning c.args.shelf.now) (g.S.Shelf.meaning c.flush_disks.new.shelf) (g.met.S.Shelf.lawful c.args.shelf.now) (g.met.S.Shelf.lawful c.flush_disks.new.shelf) c.requires.stands c.flush_disks.ensures.goes)).group }

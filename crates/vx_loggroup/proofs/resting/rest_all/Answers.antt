@@ -15,4 +15,4 @@ pub returns-clause-rests : goal.returns-clause-rests
 returns-clause-rests c = λ v l is up. c.loop-vol.invariant.so v l (let lt = slice_get_within c.args.logs.now.items v l is in let end = c.len-vol-end.ensures in let test = c.loop-vol-test.false in omega (arith, c.args.logs.now.ok, lt, end, test)) is up
 
 pub returns-clause-unsure : goal.returns-clause-unsure
-returns-clause-unsure c = c.loop-vol.invariant.unsure
+returns-clause-unsure c = c.loop-vol.invariant.marks
