@@ -178,71 +178,66 @@ module _ (told : Type 0) (files : Bool) where
     long_is input WriteFault left w0 w1 f0 f1 o long uncut = absurd uncut
     long_is input OutOfMemory left w0 w1 f0 f1 o long uncut = absurd uncut
 
--- over the bytes that the source told
-record Over (Told : Doubted → Type 0) (files : Bool) (Leaves : Doubted → Type 0) (input : List ℕ) (status : Status) (left w0 w1 : Option (List ℕ)) (f0 f1 : ℕ → ℕ → ℕ) : Type 0 where
-  final : Doubted
-  outcome : RunOutcome (Told final) files Leaves 0 (sure empty_world) input status left w0 w1 f0 f1
-  same : outcome.world ≡ final
-
-module _ (Told : Doubted → Type 0) (files : Bool) {Leaves : Doubted → Type 0} where
+module _ (told : Type 0) (files : Bool) {Leaves : Doubted → Type 0} where
   -- a run that was done, of which no call failed
-  clean_done : (input : List ℕ) (left w0 w1 : Option (List ℕ)) (f0 f1 : ℕ → ℕ → ℕ) (final : Doubted) (o : RunOutcome (Told final) files Leaves 0 (sure empty_world) input Done left w0 w1 f0 f1)
-      → o.world ≡ final → AreStill f0 f1 → CleanRun Told files Leaves (split_lines input) w0 w1
-  clean_done input left w0 w1 f0 f1 final o same still =
+  clean_done : (input : List ℕ) (left w0 w1 : Option (List ℕ)) (f0 f1 : ℕ → ℕ → ℕ) (o : RunOutcome told files Leaves 0 (sure empty_world) input Done left w0 w1 f0 f1)
+      → AreStill f0 f1 → CleanRun told files Leaves (split_lines input) w0 w1
+  clean_done input left w0 w1 f0 f1 o still =
       let all : split_lines input ≡ o.part.lines = o.split ∙ ap (λ (ls : List (List ℕ)). o.part.lines ++ ls) o.ends.0 ∙ append-nil o.part.lines in
-      subst (λ (ls : List (List ℕ)). CleanRun Told files Leaves ls w0 w1) (sym all)
+      subst (λ (ls : List (List ℕ)). CleanRun told files Leaves ls w0 w1) (sym all)
       (record {
         texts = o.part.texts;
         world = o.behind;
-        run = subst (λ (d : Doubted). RunsLines (Told d) files (sure empty_world) o.part.lines (no_fails o.part.lines) o.part.texts o.behind) (sym same ∙ o.last)
-            (run_clean (Told final) files (sure empty_world) o.behind o.part.lines o.part.failures o.part.texts o.run (still_none (fails_of_lines o.part.failures) f0 f1 o.rose still));
+        run = run_clean told files (sure empty_world) o.behind o.part.lines o.part.failures o.part.texts o.run (still_none (fails_of_lines o.part.failures) f0 f1 o.rose still);
         appends = subst (λ (t : List ℕ). Appends w0 w1 t) o.ends.2 o.appends;
         leaves = subst Leaves o.last o.leaves;
       })
 
-  clean_is : (input : List ℕ) (status : Status) (left w0 w1 : Option (List ℕ)) (f0 f1 : ℕ → ℕ → ℕ) (final : Doubted) (o : RunOutcome (Told final) files Leaves 0 (sure empty_world) input status left w0 w1 f0 f1)
-      → o.world ≡ final → IsGoodScript input → (status ≡ ReadFault → ⊥) → (status ≡ WriteFault → ⊥) → AreStill f0 f1 → IsClean Told files Leaves status (split_lines input) w0 w1
-  clean_is input Done left w0 w1 f0 f1 final o same script read write still = inl (refl, clean_done input left w0 w1 f0 f1 final o same still)
-  clean_is input (BadLine l c) left w0 w1 f0 f1 final o same script read write still =
-      let e : BadLine l c ≡ Done = done_is (Told final) files input (BadLine l c) left w0 w1 f0 f1 o script tt in absurd (cc)
-  clean_is input TooLong left w0 w1 f0 f1 final o same script read write still = let e : TooLong ≡ Done = done_is (Told final) files input TooLong left w0 w1 f0 f1 o script tt in absurd (cc)
-  clean_is input Usage left w0 w1 f0 f1 final o same script read write still = absurd o.ends
-  clean_is input ReadFault left w0 w1 f0 f1 final o same script read write still = absurd (read refl)
-  clean_is input WriteFault left w0 w1 f0 f1 final o same script read write still = absurd (write refl)
-  clean_is input OutOfMemory left w0 w1 f0 f1 final o same script read write still = inr refl
+  clean_is : (input : List ℕ) (status : Status) (left w0 w1 : Option (List ℕ)) (f0 f1 : ℕ → ℕ → ℕ) (o : RunOutcome told files Leaves 0 (sure empty_world) input status left w0 w1 f0 f1)
+      → IsGoodScript input → (status ≡ ReadFault → ⊥) → (status ≡ WriteFault → ⊥) → AreStill f0 f1 → IsClean told files Leaves status (split_lines input) w0 w1
+  clean_is input Done left w0 w1 f0 f1 o script read write still = inl (refl, clean_done input left w0 w1 f0 f1 o still)
+  clean_is input (BadLine l c) left w0 w1 f0 f1 o script read write still =
+      let e : BadLine l c ≡ Done = done_is told files input (BadLine l c) left w0 w1 f0 f1 o script tt in absurd (cc)
+  clean_is input TooLong left w0 w1 f0 f1 o script read write still = let e : TooLong ≡ Done = done_is told files input TooLong left w0 w1 f0 f1 o script tt in absurd (cc)
+  clean_is input Usage left w0 w1 f0 f1 o script read write still = absurd o.ends
+  clean_is input ReadFault left w0 w1 f0 f1 o script read write still = absurd (read refl)
+  clean_is input WriteFault left w0 w1 f0 f1 o script read write still = absurd (write refl)
+  clean_is input OutOfMemory left w0 w1 f0 f1 o script read write still = inr refl
 
-  over : (status : Status) (left now_left w0 w1 : Option (List ℕ)) (f0 f1 : ℕ → ℕ → ℕ) (input : List ℕ) → RunIs Told files Leaves status left now_left w0 w1 f0 f1 → left ≡ Some input → Over Told files Leaves input status now_left w0 w1 f0 f1
+  -- over the bytes that the source told
+  over : (status : Status) (left now_left w0 w1 : Option (List ℕ)) (f0 f1 : ℕ → ℕ → ℕ) (input : List ℕ) → RunIs told files Leaves status left now_left w0 w1 f0 f1 → left ≡ Some input
+      → RunOutcome told files Leaves 0 (sure empty_world) input status now_left w0 w1 f0 f1
   over status left now_left w0 w1 f0 f1 input run e =
       let same : run.input ≡ input = subst (λ (l : Option (List ℕ)). MayHave l run.input) e run.has in
-      subst (λ (bytes : List ℕ). Over Told files Leaves bytes status now_left w0 w1 f0 f1) same (record { final = run.final; outcome = run.outcome; same = run.ends })
+      subst (λ (bytes : List ℕ). RunOutcome told files Leaves 0 (sure empty_world) bytes status now_left w0 w1 f0 f1) same run.outcome
 
   -- the run that the words ask for
-  pub run_asked : (status : Status) (left now_left w0 w1 : Option (List ℕ)) (f0 f1 : ℕ → ℕ → ℕ) → RunIs Told files Leaves status left now_left w0 w1 f0 f1
-      → (wanted : Bool) → wanted ≡ files → RunIs Told wanted Leaves status left now_left w0 w1 f0 f1
-  run_asked status left now_left w0 w1 f0 f1 run wanted same = subst (λ (b : Bool). RunIs Told b Leaves status left now_left w0 w1 f0 f1) (sym same) run
+  pub run_asked : (status : Status) (left now_left w0 w1 : Option (List ℕ)) (f0 f1 : ℕ → ℕ → ℕ) → RunIs told files Leaves status left now_left w0 w1 f0 f1
+      → (wanted : Bool) → wanted ≡ files → RunIs told wanted Leaves status left now_left w0 w1 f0 f1
+  run_asked status left now_left w0 w1 f0 f1 run wanted same = subst (λ (b : Bool). RunIs told b Leaves status left now_left w0 w1 f0 f1) (sym same) run
 
-  pub run_complete : (status : Status) (left now_left w0 w1 : Option (List ℕ)) (f0 f1 : ℕ → ℕ → ℕ) → RunIs Told files Leaves status left now_left w0 w1 f0 f1
+  pub run_complete : (status : Status) (left now_left w0 w1 : Option (List ℕ)) (f0 f1 : ℕ → ℕ → ℕ) → RunIs told files Leaves status left now_left w0 w1 f0 f1
       → (input : List ℕ) → left ≡ Some input → IsGoodScript input → IsUncut status → status ≡ Done
   run_complete status left now_left w0 w1 f0 f1 run input e script uncut =
-      let o = over status left now_left w0 w1 f0 f1 input run e in done_is (Told o.final) files input status now_left w0 w1 f0 f1 o.outcome script uncut
+      let o = over status left now_left w0 w1 f0 f1 input run e in done_is told files input status now_left w0 w1 f0 f1 o script uncut
 
-  pub run_bad : (status : Status) (left now_left w0 w1 : Option (List ℕ)) (f0 f1 : ℕ → ℕ → ℕ) → RunIs Told files Leaves status left now_left w0 w1 f0 f1
+  pub run_bad : (status : Status) (left now_left w0 w1 : Option (List ℕ)) (f0 f1 : ℕ → ℕ → ℕ) → RunIs told files Leaves status left now_left w0 w1 f0 f1
       → (input : List ℕ) → left ≡ Some input → (line column : ℕ) → FirstBad input line column → IsUncut status → status ≡ BadLine line column
   run_bad status left now_left w0 w1 f0 f1 run input e line column bad uncut =
-      let o = over status left now_left w0 w1 f0 f1 input run e in bad_is (Told o.final) files input status now_left w0 w1 f0 f1 line column o.outcome bad uncut
+      let o = over status left now_left w0 w1 f0 f1 input run e in bad_is told files input status now_left w0 w1 f0 f1 line column o bad uncut
 
-  pub run_long : (status : Status) (left now_left w0 w1 : Option (List ℕ)) (f0 f1 : ℕ → ℕ → ℕ) → RunIs Told files Leaves status left now_left w0 w1 f0 f1
+  pub run_long : (status : Status) (left now_left w0 w1 : Option (List ℕ)) (f0 f1 : ℕ → ℕ → ℕ) → RunIs told files Leaves status left now_left w0 w1 f0 f1
       → (input : List ℕ) → left ≡ Some input → IsTooLong input → IsUncut status → status ≡ TooLong
   run_long status left now_left w0 w1 f0 f1 run input e long uncut =
-      let o = over status left now_left w0 w1 f0 f1 input run e in long_is (Told o.final) files input status now_left w0 w1 f0 f1 o.outcome long uncut
+      let o = over status left now_left w0 w1 f0 f1 input run e in long_is told files input status now_left w0 w1 f0 f1 o long uncut
 
-  pub run_clean_is : (status : Status) (left now_left w0 w1 : Option (List ℕ)) (f0 f1 : ℕ → ℕ → ℕ) → RunIs Told files Leaves status left now_left w0 w1 f0 f1
+  pub run_clean_is : (status : Status) (left now_left w0 w1 : Option (List ℕ)) (f0 f1 : ℕ → ℕ → ℕ) → RunIs told files Leaves status left now_left w0 w1 f0 f1
       → (wanted : Bool) → wanted ≡ files → (r0 r1 s0 s1 : ℕ) → (status ≡ ReadFault → StreamRose r0 r1) → (status ≡ WriteFault → StreamRose s0 s1)
-      → (input : List ℕ) → left ≡ Some input → IsGoodScript input → IsStillCount r0 r1 → IsStillCount s0 s1 → AreStill f0 f1 → IsClean Told wanted Leaves status (split_lines input) w0 w1
+      → (input : List ℕ) → left ≡ Some input → IsGoodScript input → IsStillCount r0 r1 → IsStillCount s0 s1 → AreStill f0 f1 → IsClean told wanted Leaves status (split_lines input) w0 w1
   run_clean_is status left now_left w0 w1 f0 f1 run wanted same r0 r1 s0 s1 reads writes input e script read write still =
       let o = over status left now_left w0 w1 f0 f1 input run e in
-      subst (λ (f : Bool). IsClean Told f Leaves status (split_lines input) w0 w1) (sym same)
-      (clean_is input status now_left w0 w1 f0 f1 o.final o.outcome o.same script (λ at. not_risen r0 r1 read (reads at)) (λ at. not_risen s0 s1 write (writes at)) still)
+      subst (λ (f : Bool). IsClean told f Leaves status (split_lines input) w0 w1) (sym same)
+      (clean_is input status now_left w0 w1 f0 f1 o script (λ at. not_risen r0 r1 read (reads at)) (λ at. not_risen s0 s1 write (writes at)) still)
 
 -- the words ask for one thing
 pub asked_is : (r wanted : Option Bool) (f t files : Bool) → r ≡ Some f → f ≡ t → r ≡ wanted → wanted ≡ Some files → files ≡ t

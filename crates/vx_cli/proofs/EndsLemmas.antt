@@ -128,13 +128,6 @@ module _ {told : Type 0} {files : Bool} {Leaves : Doubted → Type 0} where
   ends_here n old bytes status left w0 w1 f0 f1 out few ends wrote rose leaves =
       ends_within n old old bytes status left w0 w1 f0 f1 out few (last_same told status (split_lines bytes) old) ends wrote rose leaves
 
-  -- the same with the world at its end
-  pub here_at : (n : ℕ) (old : Doubted) (bytes : List ℕ) (status : Status) (left w0 w1 : Option (List ℕ)) (f0 f1 : ℕ → ℕ → ℕ) (out : List ℕ)
-      → n ≤ 1000000 → RunEnds n status bytes left (no_part bytes) out → Appends w0 w1 out → RoseAll [] f0 f1 → Leaves old
-      → (o : RunOutcome told files Leaves n old bytes status left w0 w1 f0 f1) × (o.world ≡ old)
-  unfolding ends_here ends_within
-  here_at n old bytes status left w0 w1 f0 f1 out few ends wrote rose leaves = (ends_here n old bytes status left w0 w1 f0 f1 out few ends wrote rose leaves, refl)
-
   -- the run ends with a line
   pub ends_one : (n : ℕ) (old new : Doubted) (bytes line : List ℕ) (others : List (List ℕ)) (status : Status) (left w0 w1 : Option (List ℕ)) (f0 f1 : ℕ → ℕ → ℕ)
       (fails : Fails) (text out : List ℕ) → n < 1000000 → split_lines bytes ≡ line ∷ others → BytesStep told files old line fails text new → RoseAll fails f0 f1

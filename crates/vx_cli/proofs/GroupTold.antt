@@ -12,14 +12,17 @@ use Rattle.vx_script.specs.declared.line.ScriptLine.{ScriptLine}
 use Rattle.vx_script.specs.declared.line.ScriptLine.TheVariants.{GroupImport, Read, Recover, Show}
 use Rattle.vx_events.specs.Fails.{Fails}
 use Rattle.vx_events.specs.GroupEnds.{GroupDoes, GroupEnds, GroupDone, GroupLacks, GroupFails, InitFails, ImportFails, KeptUnread, GroupCut, GroupNotFound, FindsGroup, FindsNoGroup, ImportRefuses, KnowsNothing}
-use Rattle.vx_events.specs.GroupNotes.{NotesBack, NotesUnread, note_at}
+use Rattle.vx_events.specs.GroupNotes.{IsKnown, NotesBack, NotesUnread, note_at}
 use Rattle.vx_events.specs.GroupReplies.{GivesPlain, IsKeptOf, SaysBack, ShowsKept}
 use Rattle.vx_events.specs.StepsOver.{FindsKept}
 use Rattle.vx_events.specs.declared.said.Said.{Said}
 
 module _ {T U : Type 0} (f : U → T) where
+  known_told : (note : GroupNode) → IsKnown U note → IsKnown T note
+  known_told note k = (f k.0, k.1)
+
   gives_told : (note : GroupNode) (volume start count : ℕ) (said : Said) → GivesPlain T note volume start count said → GivesPlain U note volume start count said
-  gives_told note volume start count said x = record { bytes = x.bytes; got = x.got; size = x.size; each = λ u. x.each (f u) }
+  gives_told note volume start count said x = record { bytes = x.bytes; got = x.got; size = x.size; each = λ k. x.each (known_told note k) }
 
   back_told : (s : ℕ) (n : Node) (fails : Fails) (note new : GroupNode) → NotesBack T s n fails note new → NotesBack U s n fails note new
   back_told s n fails note new x = record {
@@ -27,7 +30,8 @@ module _ {T U : Type 0} (f : U → T) where
     now = x.now;
     was = x.was;
     is = x.is;
-    volumes = λ u. x.volumes (f u);
+    dark = x.dark;
+    volumes = λ u. x.volumes (known_told new u);
     many = x.many;
     blocks = x.blocks;
     failed = x.failed;
@@ -35,7 +39,7 @@ module _ {T U : Type 0} (f : U → T) where
     loose = x.loose;
     size = x.size;
     block = x.block;
-    may = λ u. x.may (f u);
+    may = λ u. x.may (known_told new u);
     cut = x.cut;
     missed = x.missed;
     perhaps = x.perhaps;
@@ -45,7 +49,7 @@ module _ {T U : Type 0} (f : U → T) where
   unread_told s n fails note new x = record { middle = x.middle; back = back_told s n fails note x.middle x.back; is = x.is }
 
   kept_told : (x : Write) (next : GroupNode) (kept : Kept) → IsKeptOf T x next kept → IsKeptOf U x next kept
-  kept_told x next kept k = record { volume = k.volume; is_volume = k.is_volume; name = k.name; block = k.block; many = k.many; each = λ u. k.each (f u) }
+  kept_told x next kept k = record { volume = k.volume; is_volume = k.is_volume; name = k.name; block = k.block; many = k.many; each = λ u. k.each (known_told next u) }
 
   shows_told : (cut : Option Write) (next : GroupNode) (kept : Option Kept) → ShowsKept T cut next kept → ShowsKept U cut next kept
   shows_told None next kept x = x
@@ -63,7 +67,7 @@ module _ {T U : Type 0} (f : U → T) where
 
   nothing_told : (note : GroupNode) → KnowsNothing T note → KnowsNothing U note
   nothing_told note (inl never) = inl (λ u. never (f u))
-  nothing_told note (inr loose) = inr loose
+  nothing_told note (inr unknown) = inr unknown
 
   refuses_told : (s : ℕ) (note : GroupNode) (fails : Fails) (why : No) → ImportRefuses T s note fails why → ImportRefuses U s note fails why
   refuses_told s note fails (Device disk) x = x
@@ -79,9 +83,9 @@ module _ {T U : Type 0} (f : U → T) where
       ImportFails why next site is of (refuses_told s (note_at (d.world.nodes s)) fails why refuses) begun says left
   group_told d line s fails said new (KeptUnread disk next site is of has unread says left) = KeptUnread disk next site is of has (unread_told s (d.world.nodes s) fails (note_at (d.world.nodes s)) next unread) says left
   group_told d line s fails said new (GroupCut next of fused cuts says left) = GroupCut next of fused cuts says left
-  group_told d line s fails said new (GroupNotFound why of brings not says left) = GroupNotFound why of brings not says left
-  group_told d line s fails said new (FindsGroup next of brings knows says left) = FindsGroup next of brings (nothing_told (note_at (d.world.nodes s)) knows) says left
-  group_told d line s fails said new (FindsNoGroup next why of brings knows other says left) = FindsNoGroup next why of brings (nothing_told (note_at (d.world.nodes s)) knows) other says left
+  group_told d line s fails said new (GroupNotFound why next of brings not leaves says left) = GroupNotFound why next of brings not leaves says left
+  group_told d line s fails said new (FindsGroup next of brings knows dark says left) = FindsGroup next of brings (nothing_told (note_at (d.world.nodes s)) knows) (λ u. dark (f u)) says left
+  group_told d line s fails said new (FindsNoGroup next why of brings knows other refused says left) = FindsNoGroup next why of brings (nothing_told (note_at (d.world.nodes s)) knows) other refused says left
 
   pub finds_told : (d : Doubted) (line : ScriptLine) (s : ℕ) (fails : Fails) (said : Said) (new : Doubted) → FindsKept T d line s fails said new → FindsKept U d line s fails said new
-  finds_told d line s fails said new x = record { untold = λ u. x.untold (f u); site = x.site; recovers = x.recovers; bare = x.bare; ends = group_told d line s fails said new x.ends }
+  finds_told d line s fails said new x = record { untold = λ u. x.untold (f u); site = x.site; recovers = x.recovers; bare = x.bare; shows = x.shows; ends = group_told d line s fails said new x.ends }

@@ -10,7 +10,7 @@ use Rattle.vx_world.specs.Lines.{GoodDoubted}
 use Rattle.vx_world.proofs.Doubting.{quiet_good}
 use Rattle.vx_world.proofs.Whole.{empty_good}
 use Rattle.vx_yard.specs.declared.yard.Yard.{Yard}
-use Rattle.vx_yard.specs.Holds.{AreFresh, NoneOver, RacksHold, RacksTell, rack_faults}
+use Rattle.vx_yard.specs.Holds.{AreFresh, GroupsHold, RacksHold, RacksTell, rack_faults}
 use Rattle.vx_events.specs.Fails.{Fails}
 use Rattle.vx_yard.specs.Carries.{Carries}
 use Rattle.vx_yard.specs.Standing.{Serves, StandsFor}
@@ -18,10 +18,10 @@ use Rattle.vx_yard.specs.Yards.{IsTold, count_of, in_files}
 use Rattle.vx_cli.specs.declared.status.Status.{Status}
 use Rattle.vx_cli.specs.declared.status.Status.TheVariants.{OutOfMemory}
 use Rattle.vx_cli.specs.Reading.{MayHave}
-use Rattle.vx_cli.specs.Runs.{RunsLines, LeavesRacks, ToldBy, fails_of_lines}
-use Rattle.vx_cli.specs.Ends.{RunIs, RunOutcome}
+use Rattle.vx_cli.specs.Runs.{RunsLines, LeavesRacks, fails_of_lines}
+use Rattle.vx_cli.specs.Ends.{RunIs}
 use Rattle.vx_cli.specs.Turns.{YardComes}
-use Rattle.vx_cli.proofs.EndsLemmas.{here_at}
+use Rattle.vx_cli.proofs.EndsLemmas.{ends_here}
 use Rattle.vx_cli.proofs.ReaderLemmas.{ahead_some}
 use Rattle.vx_cli.proofs.StepLemmas.{last_told, line_told, rose_none, rose_same}
 
@@ -48,17 +48,16 @@ module _ {R : Type 0} {g : Ghosts R} where
   -- what a run of a yard came to, with the racks that come back from it
   pub run_is : (files : Bool) (racks : List R) (status : Status) (old new : Yard R g) (left now_left w0 w1 : Option (List ℕ)) (f0 f1 : ℕ → ℕ → ℕ)
       → YardComes 0 (sure empty_world) [] left status old new now_left w0 w1 → in_files old ≡ files
-      → ((d : Doubted) → StandsFor d new → RacksHold g.meaning d racks) → ((w : Doubted) → StandsFor w new → NoneOver w → RacksTell g.meaning racks → IsTold new)
+      → ((d : Doubted) → StandsFor d new → RacksHold g.meaning d racks) → ((d : Doubted) → StandsFor d new → IsTold new → GroupsHold g.meaning d racks)
+      → ((w : Doubted) → StandsFor w new → RacksTell g.meaning racks → IsTold new)
       → ((s d : ℕ) → count_of old s d ≡ f0 s d) → ((w : Doubted) → StandsFor w new → (s d : ℕ) → f1 s d ≡ count_of new s d)
-      → RunIs (λ d. ToldBy g.meaning racks d) files (LeavesRacks g.meaning racks) status left now_left w0 w1 f0 f1
-  run_is files racks status old new left now_left w0 w1 f0 f1 comes kept holds told counts after =
+      → RunIs (RacksTell g.meaning racks) files (LeavesRacks g.meaning racks) status left now_left w0 w1 f0 f1
+  run_is files racks status old new left now_left w0 w1 f0 f1 comes kept holds groups told counts after =
       let o = comes.outcome in
-      let tells : ToldBy g.meaning racks o.world → IsTold new = λ t. told o.world o.leaves.stands t.1 t.0 in
+      let tells : RacksTell g.meaning racks → IsTold new = told o.world o.leaves.stands in
       record {
         input = comes.bytes;
         has = subst (MayHave left) (sym comes.ahead.is) comes.ahead.has;
-        final = o.world;
-        ends = refl;
         outcome = record {
           part = o.part;
           world = o.world;
@@ -66,7 +65,7 @@ module _ {R : Type 0} {g : Ghosts R} where
           split = o.split;
           few = o.few;
           behind = o.behind;
-          run = subst (λ (f : Bool). RunsLines (ToldBy g.meaning racks o.world) f (sure empty_world) o.part.lines o.part.failures o.part.texts o.behind) kept
+          run = subst (λ (f : Bool). RunsLines (RacksTell g.meaning racks) f (sure empty_world) o.part.lines o.part.failures o.part.texts o.behind) kept
               (run_told tells (in_files old) (sure empty_world) o.part.lines o.part.failures o.part.texts o.behind o.run);
           last = last_told tells status o.part.others o.behind o.world o.last;
           ends = o.ends;
@@ -75,6 +74,7 @@ module _ {R : Type 0} {g : Ghosts R} where
           leaves = record {
             good = λ t. o.leaves.good (tells t);
             holds = holds o.world o.leaves.stands;
+            groups = λ t. groups o.world o.leaves.stands (tells t);
           };
         };
       }
@@ -82,21 +82,21 @@ module _ {R : Type 0} {g : Ghosts R} where
 module _ {R : Type 0} (meaning : R → Meaning) where
   -- the racks of a world without sites hold it
   fresh_leave : (racks : List R) → AreFresh meaning racks → LeavesRacks meaning racks (sure empty_world)
-  fresh_leave racks fresh = record { good = λ _. begins_good; holds = record { eight = fresh.eight; each = λ s r below apart at. absurd (omega arith) } }
+  fresh_leave racks fresh = record {
+    good = λ _. begins_good;
+    holds = record { eight = fresh.eight; each = λ s r below apart at. absurd (omega arith) };
+    groups = λ _. record { each = λ s r note below over is known at. absurd (omega arith) };
+  }
 
   -- memory ran out before the run began
-  pub run_stops : (T : Doubted → Type 0) (files : Bool) (racks now : List R) (left w0 : Option (List ℕ)) → AreFresh meaning racks → now ≡ racks
-      → RunIs T files (LeavesRacks meaning now) OutOfMemory left left w0 w0 (rack_faults meaning racks) (rack_faults meaning now)
-  run_stops T files racks now left w0 fresh same =
+  pub run_stops : (told : Type 0) (files : Bool) (racks now : List R) (left w0 : Option (List ℕ)) → AreFresh meaning racks → now ≡ racks
+      → RunIs told files (LeavesRacks meaning now) OutOfMemory left left w0 w0 (rack_faults meaning racks) (rack_faults meaning now)
+  run_stops told files racks now left w0 fresh same =
       let some = ahead_some [] left in let at = some.1 in
-      let here : (o : RunOutcome (T (sure empty_world)) files (LeavesRacks meaning racks) 0 (sure empty_world) at.rest OutOfMemory left w0 w0 (rack_faults meaning racks) (rack_faults meaning racks)) × (o.world ≡ sure empty_world)
-      = here_at 0 (sure empty_world) at.rest OutOfMemory left w0 w0 (rack_faults meaning racks) (rack_faults meaning racks) [] (omega arith)
-      (record { sent = []; unsent = []; texts = refl; last = omega arith; is = refl }) (appends_none w0) (rose_none (rack_faults meaning racks)) (fresh_leave racks fresh) in
-      subst (λ (rs : List R). RunIs T files (LeavesRacks meaning rs) OutOfMemory left left w0 w0 (rack_faults meaning racks) (rack_faults meaning rs)) (sym same)
+      subst (λ (rs : List R). RunIs told files (LeavesRacks meaning rs) OutOfMemory left left w0 w0 (rack_faults meaning racks) (rack_faults meaning rs)) (sym same)
       (record {
         input = at.rest;
         has = at.has;
-        final = sure empty_world;
-        outcome = here.0;
-        ends = here.1;
+        outcome = ends_here 0 (sure empty_world) at.rest OutOfMemory left w0 w0 (rack_faults meaning racks) (rack_faults meaning racks) [] (omega arith)
+            (record { sent = []; unsent = []; texts = refl; last = omega arith; is = refl }) (appends_none w0) (rose_none (rack_faults meaning racks)) (fresh_leave racks fresh);
       })

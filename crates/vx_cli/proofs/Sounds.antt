@@ -2,21 +2,20 @@
 use Rattle.std.proofs.Common.{◌≡◌, ◌⊎◌, inl, inr, refl, ℕ, List, [], ◌∷◌, Option, Some, None, Result, Ok, Err, Bool, true, false, sym, subst}
 use Rattle.vx_history.specs.Doubts.{Doubted}
 use Rattle.vx_history.specs.Steps.{burned, worked_on}
-use Rattle.vx_history.specs.World.{NoFuse}
+use Rattle.vx_history.specs.World.{NoFuse, World}
 use Rattle.vx_history.specs.declared.event.Event.{Event}
-use Rattle.vx_history.specs.declared.event.Event.TheVariants.{Crash as CrashAt}
 use Rattle.vx_script.specs.declared.line.ScriptLine.{ScriptLine}
 use Rattle.vx_world.specs.Lines.{GoodDoubted}
 use Rattle.vx_world.proofs.Doubting.{like_good, runs_good}
 use Rattle.vx_world.proofs.Lining.{line_good}
 use Rattle.vx_events.specs.Doubts.{IsAs, run_as}
 use Rattle.vx_events.specs.Fails.{Fails}
-use Rattle.vx_events.specs.GroupLines.{fuse_lost}
+use Rattle.vx_events.specs.GroupLines.{crash_first, fuse_lost, noting}
 use Rattle.vx_events.specs.Lines.{is_of_links}
 use Rattle.vx_events.specs.Parts.{DonePart, FellFirst, PartLeft, ReadFirst, StopsShort}
 use Rattle.vx_events.specs.StepsOver.{group_place, is_for_group}
 use Rattle.vx_events.specs.Stopping.{StopsBy}
-use Rattle.vx_events.proofs.Noting.{as_like, like_noted, like_self, links_like}
+use Rattle.vx_events.proofs.Noting.{as_like, like_disks, like_noted, like_then, links_like}
 use Rattle.vx_events.proofs.Over.{over_stops}
 use Rattle.vx_events.proofs.Parts.{told_part}
 use Rattle.vx_events.proofs.Stopping.{line_stops, runs_as}
@@ -46,9 +45,11 @@ left_good line d (e ∷ es) new good left =
 -- or of which the crash alone was done
 fell_good : (d : Doubted) (line : ScriptLine) (new : Doubted) → GoodDoubted d → FellFirst d line new → GoodDoubted new
 fell_good d line new good fell =
-    let es : List Event = CrashAt (group_place d.world line) 0 ∷ [] in
+    let s : ℕ = group_place d.world line in
+    let es : List Event = crash_first (d.world.nodes s).state s in
     let last : Doubted = run_as false d es in
-    like_good last new (runs_good es d last good (runs_as false d es)) (as_like last new last.world (like_self last.world) fell.leads)
+    like_good last new (runs_good es d last good (runs_as false d es))
+    (as_like last new (noting last.world s fell.next) (like_disks last.world s (last.world.nodes s).failing (Some fell.next)) fell.leads)
 
 -- or of which only the reads were done, or the fuse is lost
 read_good : (d : Doubted) (line : ScriptLine) (new : Doubted) → GoodDoubted d → ReadFirst d line new → GoodDoubted new
@@ -57,9 +58,15 @@ read_good d line new good read = by read.leads
     s : ℕ
     s = group_place d.world line
 
-    by : IsAs d (worked_on d.world s) new ⊎ IsAs d (fuse_lost d.world s) new → GoodDoubted new
-    by (inl worked) = like_good d new good (as_like d new (worked_on d.world s) (like_noted d.world s (burned (d.world.nodes s).fuse)) worked)
-    by (inr lost) = like_good d new good (as_like d new (fuse_lost d.world s) (like_noted d.world s NoFuse) lost)
+    v : World
+    v = noting d.world s read.next
+
+    noted : IsLike d.world v
+    noted = like_disks d.world s (d.world.nodes s).failing (Some read.next)
+
+    by : IsAs d (worked_on v s) new ⊎ IsAs d (fuse_lost v s) new → GoodDoubted new
+    by (inl worked) = like_good d new good (as_like d new (worked_on v s) (like_then noted (like_noted v s (burned (v.nodes s).fuse))) worked)
+    by (inr lost) = like_good d new good (as_like d new (fuse_lost v s) (like_then noted (like_noted v s NoFuse)) lost)
 
 pub part_good : {told : Type 0} → told → (d : Doubted) (line : ScriptLine) (new : Doubted) → GoodDoubted d → StopsShort told d line new → GoodDoubted new
 part_good {told} is d line new good short = by (told_part told d line new is short)

@@ -69,13 +69,13 @@ abbrev pub no_fails : List (List ℕ) → List Fails
 no_fails lines = map (λ line. []) lines
 
 -- All lines were done, no call failed in them, and each reply was written.
-pub record CleanRun (Told : Doubted → Type 0) (files : Bool) (Leaves : Doubted → Type 0) (lines : List (List ℕ)) (written now : Option (List ℕ)) : Type 0 where
+pub record CleanRun (told : Type 0) (files : Bool) (Leaves : Doubted → Type 0) (lines : List (List ℕ)) (written now : Option (List ℕ)) : Type 0 where
   pub texts : List (List ℕ)
   pub world : Doubted
-  pub run : RunsLines (Told world) files (sure empty_world) lines (no_fails lines) texts world
+  pub run : RunsLines told files (sure empty_world) lines (no_fails lines) texts world
   pub appends : Appends written now (concat texts)
   pub leaves : Leaves world
 
 -- such a run was done, or memory ran out
-abbrev pub IsClean : (Doubted → Type 0) → Bool → (Doubted → Type 0) → Status → List (List ℕ) → Option (List ℕ) → Option (List ℕ) → Type 0
-IsClean Told files Leaves status lines written now = ((status ≡ Done) × CleanRun Told files Leaves lines written now) ⊎ (status ≡ OutOfMemory)
+abbrev pub IsClean : Type 0 → Bool → (Doubted → Type 0) → Status → List (List ℕ) → Option (List ℕ) → Option (List ℕ) → Type 0
+IsClean told files Leaves status lines written now = ((status ≡ Done) × CleanRun told files Leaves lines written now) ⊎ (status ≡ OutOfMemory)

@@ -115,12 +115,9 @@ pub record RunOutcome (told : Type 0) (files : Bool) (Leaves : Doubted → Type 
   pub rose : RoseAll (fails_of_lines part.failures) faults now_faults
   pub leaves : Leaves world
 
--- What a run came to over its whole input, which is the one that the source told, if it told any. What is so where contents are told is said of it by its
--- last world.
-pub record RunIs (Told : Doubted → Type 0) (files : Bool) (Leaves : Doubted → Type 0) (status : Status)
+-- What a run came to over its whole input, which is the one that the source told, if it told any.
+pub record RunIs (told : Type 0) (files : Bool) (Leaves : Doubted → Type 0) (status : Status)
     (left now_left written now_written : Option (List ℕ)) (faults now_faults : ℕ → ℕ → ℕ) : Type 0 where
   pub input : List ℕ
   pub has : MayHave left input
-  pub final : Doubted
-  pub outcome : RunOutcome (Told final) files Leaves 0 (sure empty_world) input status now_left written now_written faults now_faults
-  pub ends : outcome.world ≡ final
+  pub outcome : RunOutcome told files Leaves 0 (sure empty_world) input status now_left written now_written faults now_faults

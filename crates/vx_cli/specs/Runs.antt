@@ -3,7 +3,7 @@ use Rattle.std.specs.Prelude.{◌≡◌, ℕ, Bool, List, [], ◌∷◌, ◌++�
 use Rattle.vx_history.specs.Doubts.{Doubted}
 use Rattle.vx_world.specs.Lines.{GoodDoubted}
 use Rattle.vx_disk.specs.Shelf.{Meaning}
-use Rattle.vx_yard.specs.Holds.{NoneOver, RacksHold, RacksTell}
+use Rattle.vx_yard.specs.Holds.{GroupsHold, RacksHold, RacksTell}
 use Rattle.vx_yard.specs.Steps.{BytesStep}
 use Rattle.vx_events.specs.Fails.{Fails}
 
@@ -23,12 +23,9 @@ fails_of_lines [] = []
 fails_of_lines (fails ∷ failures) = fails ++ fails_of_lines failures
 
 module _ {R : Type 0} (meaning : R → Meaning) where
-  -- the racks tell their contents, and no site of this world is over a group of disks
-  abbrev pub ToldBy : List R → Doubted → Type 0
-  ToldBy racks d = RacksTell meaning racks × NoneOver d
-
-  -- The world at the end of a run: the racks hold it. Where contents are told it is good, as every world is that comes about, whichever
-  -- of the sites in doubt are as they may be on their disks.
+  -- The world at the end of a run: the racks hold it. Where they tell their contents they hold the groups of its sites too, and it is good, as every world
+  -- is that comes about, whichever of the sites in doubt are as they may be on their disks.
   pub record LeavesRacks (racks : List R) (d : Doubted) : Type 0 where
-    pub good : ToldBy racks d → GoodDoubted d
+    pub good : RacksTell meaning racks → GoodDoubted d
     pub holds : RacksHold meaning d racks
+    pub groups : RacksTell meaning racks → GroupsHold meaning d racks

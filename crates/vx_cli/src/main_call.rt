@@ -3,10 +3,10 @@ ghost use Rattle.std.specs.Prelude.{◌≡◌, ◌≤◌, ◌↔◌, ℕ, List, 
 ghost use Rattle.std.specs.String.{string_bytes};
 ghost use Rattle.vx_stream.specs.Causes.{StreamRose};
 ghost use Rattle.vx_script.specs.Lines.{split_lines};
-ghost use Rattle.vx_yard.specs.Holds.{AreFresh, rack_faults};
+ghost use Rattle.vx_yard.specs.Holds.{AreFresh, RacksTell, rack_faults};
 ghost use Rattle.vx_cli.specs.Complete.{IsGoodScript, IsUncut, FirstBad, IsTooLong, IsStillCount, AreStill, IsClean};
 ghost use Rattle.vx_cli.specs.Ends.{RunIs};
-ghost use Rattle.vx_cli.specs.Runs.{LeavesRacks, ToldBy};
+ghost use Rattle.vx_cli.specs.Runs.{LeavesRacks};
 ghost use Rattle.vx_cli.specs.Words.{run_words};
 
 use crate::run::run;
@@ -33,9 +33,9 @@ pub fn vx_main<H: Threads + Wait + Sync, I: Source, O: Sink, R: Rack, G: Gate>(
 ) -> Status
     requires fresh { AreFresh R.meaning racks.old.items }
     // The lines that were read, each a step of the world with its reply, what was written by the status, the counts of the
-    // disks, and the world that the racks then hold. Blocks that were read are as the world has them where the racks tell, and no site is over a group then.
+    // disks, and the world that the racks then hold. Blocks that were read are as the world has them where the racks tell.
     ensures run { (files : Bool) → run_words (map string_bytes words.now) ≡ Some files
-        → RunIs (λ d. ToldBy R.meaning racks.new.items d) files (LeavesRacks R.meaning racks.new.items) result
+        → RunIs (RacksTell R.meaning racks.new.items) files (LeavesRacks R.meaning racks.new.items) result
         (I.left source.old) (I.left source.new) (O.written sink.old) (O.written sink.new)
         (rack_faults R.meaning racks.old.items) (rack_faults R.meaning racks.new.items) }
     ensures usage { (result ≡ Status.Usage) ↔ (run_words (map string_bytes words.now) ≡ None) }
@@ -59,7 +59,7 @@ pub fn vx_main<H: Threads + Wait + Sync, I: Source, O: Sink, R: Rack, G: Gate>(
         → (input : List ℕ) → I.left source.old ≡ Some input → IsGoodScript input
         → IsStillCount (I.faults source.old) (I.faults source.new) → IsStillCount (O.faults sink.old) (O.faults sink.new)
         → AreStill (rack_faults R.meaning racks.old.items) (rack_faults R.meaning racks.new.items)
-        → IsClean (λ d. ToldBy R.meaning racks.new.items d) files (LeavesRacks R.meaning racks.new.items) result (split_lines input) (O.written sink.old) (O.written sink.new) }
+        → IsClean (RacksTell R.meaning racks.new.items) files (LeavesRacks R.meaning racks.new.items) result (split_lines input) (O.written sink.old) (O.written sink.new) }
 {
     match asks_run(words) {
         Some(files) => {

@@ -3,10 +3,10 @@ ghost use Rattle.std.specs.Prelude.{◌≡◌, ◌≤◌, ℕ, [], is_some};
 ghost use Rattle.vx_history.specs.World.{empty_world};
 ghost use Rattle.vx_events.specs.Doubts.{sure};
 ghost use Rattle.vx_stream.specs.Causes.{StreamRose};
-ghost use Rattle.vx_yard.specs.Holds.{AreFresh, rack_faults};
+ghost use Rattle.vx_yard.specs.Holds.{AreFresh, RacksTell, rack_faults};
 ghost use Rattle.vx_yard.specs.Standing.{Serves};
 ghost use Rattle.vx_cli.specs.Ends.{RunIs};
-ghost use Rattle.vx_cli.specs.Runs.{LeavesRacks, ToldBy};
+ghost use Rattle.vx_cli.specs.Runs.{LeavesRacks};
 ghost use Rattle.vx_cli.specs.Turns.{YardComes};
 
 use crate::Status;
@@ -61,7 +61,7 @@ pub fn run<I: Source, O: Sink, R: Rack>(
     dir: Option<&str>,
 ) -> Status
     requires fresh { AreFresh R.meaning racks.old.items }
-    ensures run { RunIs (λ d. ToldBy R.meaning racks.new.items d) (is_some dir.entry) (LeavesRacks R.meaning racks.new.items) result
+    ensures run { RunIs (RacksTell R.meaning racks.new.items) (is_some dir.entry) (LeavesRacks R.meaning racks.new.items) result
         (I.left source.old) (I.left source.new) (O.written sink.old) (O.written sink.new)
         (rack_faults R.meaning racks.old.items) (rack_faults R.meaning racks.new.items) }
     ensures read_later { I.faults source.old ≤ I.faults source.new }

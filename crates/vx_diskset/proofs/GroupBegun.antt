@@ -1,5 +1,5 @@
 -- A group that is begun on the disks of a bare site.
-use Rattle.std.proofs.Common.{◌≡◌, ◌∙◌, ◌<◌, ◌≤◌, ℕ, ap, refl, subst, sym}
+use Rattle.std.proofs.Common.{◌≡◌, ◌∙◌, ◌<◌, ◌≤◌, ℕ, ap, refl, subst, sym, IsTrue}
 use Rattle.std.specs.Prelude.{IfErr, Option, Some, None, Result, Ok, Err}
 use Rattle.vx_model.specs.Content.{Write}
 use Rattle.vx_model.specs.declared.errors.Stop.{Stop}
@@ -15,7 +15,7 @@ use Rattle.vx_history.specs.Groups.{GroupNode}
 use Rattle.vx_history.specs.World.{Fuse as FuseOf, Node, NoFuse}
 use Rattle.vx_grouped.specs.Begins.{BeginsGroup, CanBegin, group_begun}
 use Rattle.vx_watched.specs.Since.{CalledSince}
-use Rattle.vx_grouped.specs.GroupSites.{GroupSiteStands, IsMarkedSite, site_disks}
+use Rattle.vx_grouped.specs.GroupSites.{GroupSiteStands, IsMarkedSite, site_disks, site_below}
 use Rattle.vx_diskset.specs.Asked.{FuseGoesOn, SameFailing}
 use Rattle.vx_diskset.specs.DiskSets.{Later}
 use Rattle.vx_diskset.specs.Recovers.{RisesSince}
@@ -24,12 +24,13 @@ use Rattle.vx_grouped.specs.declared.group_site.GroupSite.TheVariants.{Up, Depor
 use Rattle.vx_diskset.specs.GroupCalls.{AtSite, InitIs, bare_disks, cut_in}
 use Rattle.vx_diskset.specs.GroupSets.{cut_value, noted_cut}
 use Rattle.vx_diskset.specs.Holds.{KeptBeside}
-use Rattle.vx_diskset.specs.Stands.{IsBareAt, IsGroupSet, SiteStands, bare_with}
+use Rattle.vx_diskset.specs.Stands.{IsBareAt, IsGroupSet, SiteStands, bare_with, IsToldAt}
 use Rattle.vx_diskset.specs.declared.disk_set.DiskSet.{DiskSet}
 use Rattle.vx_diskset.specs.declared.disk_set.DiskSet.TheVariants.{Bare, Spoiled, OfGroup}
 use Rattle.vx_diskset.specs.declared.group_set.CutWrite.{CutWrite}
 use Rattle.vx_diskset.specs.declared.group_set.GroupSet.{GroupSet}
-use Rattle.vx_diskset.proofs.GroupCalling.{HasDisks, IsSettled, OnGroup, failing_risen, fuse_risen, has_group, later_risen, on_group, rises_called, settled, up_settled}
+use Rattle.vx_diskset.proofs.GroupCalling.{HasDisks, IsSettled, OnGroup, failing_risen, fuse_risen, has_group, later_risen, on_group, rises_called, settled, up_settled, told_behind}
+use Rattle.vx_watched.specs.Traces.{TellsLess}
 
 -- ---- disks of which a group can be made
 
@@ -114,8 +115,8 @@ module _ {R : Type 0} {g : Ghosts R} where
     pub begin_failing : SameFailing old new
     begin_failing = failing_risen old new m (site_disks now.set.site) was (has_group new now.set now.is) risen
 
-    pub begin_later : Later old new
-    begin_later = later_risen old new m (site_disks now.set.site) was (has_group new now.set now.is) risen
+    pub begin_later : (below : Meaning) → (IsTrue below.tells → IsToldAt old) → AtSite (λ e. TellsLess below (site_below e)) new → Later old new
+    begin_later below was_told less = later_risen old new m (site_disks now.set.site) was (has_group new now.set now.is) risen (λ told. was_told (told_behind below new less told))
 
     pub begin_fuse : AtSite IsSettled new → FuseGoesOn old new
     begin_fuse at =

@@ -18,7 +18,7 @@ use Rattle.vx_history.specs.World.{Node}
 use Rattle.vx_watched.proofs.SinceLemmas.{since_none}
 use Rattle.vx_watched.specs.Since.{CalledSince, fuse_calls, is_rack}
 use Rattle.vx_grouped.specs.Added.{note_added}
-use Rattle.vx_grouped.specs.GroupSites.{AwayNoted, DownNoted, GroupSiteStands, UpNoted, deported_with, site_disks, with_note}
+use Rattle.vx_grouped.specs.GroupSites.{AwayNoted, DownNoted, GroupSiteStands, UpNoted, deported_with, site_disks, with_note, site_below}
 use Rattle.vx_grouped.specs.SiteAdds.{LacksVolume, SiteAdded}
 use Rattle.vx_grouped.specs.SiteEnds.{AttCalled, DetCalled, PlainRead, PlainWrote, SiteCalled, SiteDeported, burned_site, is_plex_on, refuses_att, refuses_det}
 use Rattle.vx_grouped.specs.ConfigMoves.{AttDone, AttFails, DetDone, DetFails, LosesSome}
@@ -38,6 +38,7 @@ use Rattle.vx_diskset.specs.declared.disk_set.DiskSet.{DiskSet}
 use Rattle.vx_diskset.specs.declared.disk_set.DiskSet.TheVariants.{Bare, Spoiled, Up as UpSet, Receives, Down as DownSet, OfGroup, Gone as GoneSet}
 use Rattle.vx_diskset.specs.declared.group_set.GroupSet.{GroupSet}
 use Rattle.vx_diskset.proofs.StaysUp.{never_both, not_true}
+use Rattle.vx_watched.specs.Traces.{TellsLess}
 
 -- ---- two racks of which something is told
 
@@ -57,7 +58,6 @@ never_set m rack unarmed y is on =
 -- disks behind their calls
 pub rises_called : (m m' : Meaning) → CalledSince m m' → RisesSince m m'
 rises_called m m' since = record {
-  tells = λ told. sym since.tells ∙ told;
   counts = since.counts;
   rack = since.rack;
   failing = λ x y was is. (since.told x y was is).failing;
@@ -67,7 +67,6 @@ rises_called m m' since = record {
 -- behind an import
 pub rises_returned : (m m' : Meaning) → ReturnSince m m' → RisesSince m m'
 rises_returned m m' since = record {
-  tells = since.tells;
   counts = since.counts;
   rack = since.rack;
   failing = λ x y was is. (since.told x y was is).failing;
@@ -92,7 +91,6 @@ module _ (m middle m' : Meaning) (pick : ℕ) (since : RisesSince m middle) (fel
 
   pub rises_fell : OnDisks middle.disks m'.disks (Crashed middle.size pick) → RisesSince m m'
   rises_fell on = record {
-    tells = λ told. since.tells (sym fell.tells ∙ told);
     counts = λ d. omega (arith, since.counts d, fell.counts.disk_faults d);
     rack = rack_on middle.disks m'.disks on ∙ since.rack;
     failing = λ x z was is. failing_on middle.disks m'.disks x z was is since.rack (λ y there. since.failing x y was there) on;
@@ -105,17 +103,15 @@ module _ {R : Type 0} {g : Ghosts R} where
   pub record HasDisks (e : DiskSet R g) (m : Meaning) : Type 0 where
     pub disks : disks_told e ≡ m.disks
     pub faults : (d : ℕ) → faults_at e d ≡ m.disk_faults d
-    pub told : IsTrue m.tells → IsToldAt e
-    pub tells : IsToldAt e → IsTrue m.tells
 
   pub has_group : (e : DiskSet R g) (s : GroupSet R g) → e ≡ OfGroup s → HasDisks e (site_disks s.site)
-  has_group e s is = subst (λ (x : DiskSet R g). HasDisks x (site_disks s.site)) (sym is) (record { disks = refl; faults = λ d. refl; told = λ it. it; tells = λ it. it })
+  has_group e s is = subst (λ (x : DiskSet R g). HasDisks x (site_disks s.site)) (sym is) (record { disks = refl; faults = λ d. refl })
 
   pub has_bare : (e : DiskSet R g) (rack : R) → e ≡ Bare rack → HasDisks e (g.meaning rack)
-  has_bare e rack is = subst (λ (x : DiskSet R g). HasDisks x (g.meaning rack)) (sym is) (record { disks = refl; faults = λ d. refl; told = λ it. it; tells = λ it. it })
+  has_bare e rack is = subst (λ (x : DiskSet R g). HasDisks x (g.meaning rack)) (sym is) (record { disks = refl; faults = λ d. refl })
 
   pub has_spoiled : (e : DiskSet R g) (rack : R) → e ≡ Spoiled rack → HasDisks e (g.meaning rack)
-  has_spoiled e rack is = subst (λ (x : DiskSet R g). HasDisks x (g.meaning rack)) (sym is) (record { disks = refl; faults = λ d. refl; told = λ it. it; tells = λ it. it })
+  has_spoiled e rack is = subst (λ (x : DiskSet R g). HasDisks x (g.meaning rack)) (sym is) (record { disks = refl; faults = λ d. refl })
 
   -- a disk set of a group, and its disks
   pub record OnGroup (e : DiskSet R g) (P : GroupSite R g → Type 0) : Type 0 where
@@ -142,17 +138,17 @@ module _ {R : Type 0} {g : Ghosts R} where
           (with_by (λ x y. (u : ℕ) → y.failing u ≡ x.failing u) m.disks m'.disks rack each));
     }
 
-    later_by : ((d : ℕ) → m.disk_faults d ≤ m'.disk_faults d) → (IsTrue m'.tells → IsTrue m.tells) → Later old new
-    later_by counts tells = record {
+    later_by : ((d : ℕ) → m.disk_faults d ≤ m'.disk_faults d) → (IsToldAt new → IsToldAt old) → Later old new
+    later_by counts told = record {
       counts = λ d. omega (arith, was.faults d, now.faults d, counts d);
-      told = λ it. was.told (tells (now.tells it));
+      told = told;
     }
 
     pub failing_risen : RisesSince m m' → SameFailing old new
     failing_risen since = failing_by since.rack since.failing
 
-    pub later_risen : RisesSince m m' → Later old new
-    later_risen since = later_by since.counts since.tells
+    pub later_risen : RisesSince m m' → (IsToldAt new → IsToldAt old) → Later old new
+    later_risen since told = later_by since.counts told
 
     -- of disks that are up, or have no fuse
     pub fuse_risen : RisesSince m m' → IsRack m' → IsFalse m'.down ⊎ IsFalse m'.armed → FuseGoesOn old new
@@ -168,8 +164,18 @@ module _ {R : Type 0} {g : Ghosts R} where
   pub group_failing : (old : DiskSet R g) (o s : GroupSet R g) → old ≡ OfGroup o → CalledSince (site_disks o.site) (site_disks s.site) → SameFailing old (OfGroup s)
   group_failing old o s is since = failing_risen old (OfGroup s) (site_disks o.site) (site_disks s.site) (has_group old o is) (has_group (OfGroup s) s refl) (rises_called (site_disks o.site) (site_disks s.site) since)
 
-  pub group_later : (old : DiskSet R g) (o s : GroupSet R g) → old ≡ OfGroup o → CalledSince (site_disks o.site) (site_disks s.site) → Later old (OfGroup s)
-  group_later old o s is since = later_risen old (OfGroup s) (site_disks o.site) (site_disks s.site) (has_group old o is) (has_group (OfGroup s) s refl) (rises_called (site_disks o.site) (site_disks s.site) since)
+  -- what is told of them
+  pub told_before : (old : DiskSet R g) (o : GroupSet R g) → old ≡ OfGroup o → IsTrue (site_below o.site).tells → IsToldAt old
+  told_before old o is told = subst (λ (x : DiskSet R g). IsToldAt x) (sym is) told
+
+  pub told_behind : (m : Meaning) (new : DiskSet R g) → AtSite (λ e. TellsLess m (site_below e)) new → IsToldAt new → IsTrue m.tells
+  told_behind m new at told =
+      let on = on_group (λ e. TellsLess m (site_below e)) new at in
+      on.has (subst (λ (x : DiskSet R g). IsToldAt x) on.is told)
+
+  pub group_later : (old : DiskSet R g) (o s : GroupSet R g) → old ≡ OfGroup o → CalledSince (site_disks o.site) (site_disks s.site) → TellsLess (site_below o.site) (site_below s.site) → Later old (OfGroup s)
+  group_later old o s is since less =
+      later_risen old (OfGroup s) (site_disks o.site) (site_disks s.site) (has_group old o is) (has_group (OfGroup s) s refl) (rises_called (site_disks o.site) (site_disks s.site) since) (λ told. told_before old o is (less told))
 
   -- where nothing was called
   pub called_rest : (e : DiskSet R g) → CalledOn e e

@@ -11,7 +11,7 @@ use Rattle.vx_disk.specs.declared.shelf.Shelf.{Ghosts}
 use Rattle.vx_history.specs.World.{Node}
 use Rattle.vx_watched.specs.Since.{CalledSince}
 use Rattle.vx_grouped.specs.Finds.{CanFind, FindStops, FindsUp, FoundSince}
-use Rattle.vx_grouped.specs.GroupSites.{site_disks}
+use Rattle.vx_grouped.specs.GroupSites.{site_disks, site_below}
 use Rattle.vx_grouped.specs.declared.group_site.GroupSite.{GroupSite}
 use Rattle.vx_diskset.specs.Asked.{SameFailing}
 use Rattle.vx_diskset.specs.DiskSets.{Later}
@@ -24,6 +24,7 @@ use Rattle.vx_diskset.specs.declared.disk_set.DiskSet.TheVariants.{Bare, Spoiled
 use Rattle.vx_diskset.specs.declared.group_set.GroupSet.{GroupSet}
 use Rattle.vx_diskset.proofs.GroupCalling.{failing_risen, has_bare, has_group, later_risen, rises_called, rises_returned}
 use Rattle.vx_diskset.proofs.StaysUp.{not_true}
+use Rattle.vx_watched.specs.Traces.{TellsLess}
 
 pub find_can : (n : Node) (m : Meaning) → IsCleanAt n m → n.state ≡ IsBare → CanFind n m
 find_can n m it state = record {
@@ -59,9 +60,9 @@ module _ {R : Type 0} {g : Ghosts R} where
   found_failing rack s since =
       failing_risen (Bare rack) (OfGroup s) (g.meaning rack) (site_disks s.site) (has_bare (Bare rack) rack refl) (has_group (OfGroup s) s refl) (rises_returned (g.meaning rack) (site_disks s.site) since)
 
-  pub found_later : (rack : R) (s : GroupSet R g) → FoundSince (g.meaning rack) (λ r. g.meaning r) (λ e. site_disks e) (let r : Result (GroupSite R g) (R × Stop) = Ok s.site in r) → Later (Bare rack) (OfGroup s)
-  found_later rack s since =
-      later_risen (Bare rack) (OfGroup s) (g.meaning rack) (site_disks s.site) (has_bare (Bare rack) rack refl) (has_group (OfGroup s) s refl) (rises_returned (g.meaning rack) (site_disks s.site) since)
+  pub found_later : (rack : R) (s : GroupSet R g) → FoundSince (g.meaning rack) (λ r. g.meaning r) (λ e. site_disks e) (let r : Result (GroupSite R g) (R × Stop) = Ok s.site in r) → TellsLess (g.meaning rack) (site_below s.site) → Later (Bare rack) (OfGroup s)
+  found_later rack s since less =
+      later_risen (Bare rack) (OfGroup s) (g.meaning rack) (site_disks s.site) (has_bare (Bare rack) rack refl) (has_group (OfGroup s) s refl) (rises_returned (g.meaning rack) (site_disks s.site) since) less
 
   pub back_failing : (rack new : R) → CalledSince (g.meaning rack) (g.meaning new) → SameFailing {g = g} (Bare rack) (Bare new)
   back_failing rack new since =
@@ -69,7 +70,7 @@ module _ {R : Type 0} {g : Ghosts R} where
 
   pub back_later : (rack new : R) → CalledSince (g.meaning rack) (g.meaning new) → Later {g = g} (Bare rack) (Bare new)
   back_later rack new since =
-      later_risen (Bare rack) (Bare new) (g.meaning rack) (g.meaning new) (has_bare (Bare rack) rack refl) (has_bare (Bare new) new refl) (rises_called (g.meaning rack) (g.meaning new) since)
+      later_risen (Bare rack) (Bare new) (g.meaning rack) (g.meaning new) (has_bare (Bare rack) rack refl) (has_bare (Bare new) new refl) (rises_called (g.meaning rack) (g.meaning new) since) (λ told. sym since.tells ∙ told)
 
   -- ---- the site
 

@@ -1,5 +1,5 @@
 -- A group that comes up again, and what is kept of the write that the fuse cut.
-use Rattle.std.proofs.Common.{◌≡◌, ℕ, Bool, true, false, List, ap, length, refl, subst, sym}
+use Rattle.std.proofs.Common.{◌≡◌, ℕ, Bool, true, false, List, ap, length, refl, subst, sym, not}
 use Rattle.std.specs.Prelude.{Option, Some, None, Result, Ok, Err}
 use Rattle.vx_model.specs.declared.errors.Stop.{Stop}
 use Rattle.vx_model.specs.declared.errors.Stop.TheVariants.{No as Refused}
@@ -12,10 +12,10 @@ use Rattle.vx_disk.specs.declared.shelf.Shelf.{Ghosts}
 use Rattle.vx_history.specs.Groups.{GroupNode}
 use Rattle.vx_history.specs.Steps.{crashed}
 use Rattle.vx_history.specs.World.{Node}
-use Rattle.vx_grouped.specs.GroupSites.{DownNoted, FitsPlain, UpNoted, site_disks, with_note}
+use Rattle.vx_grouped.specs.GroupSites.{DownNoted, FitsPlain, UpNoted, site_disks, with_note, dimmed_site, site_below}
 use Rattle.vx_grouped.specs.SiteEnds.{MayCrashSite, burned_site, stops_down}
 use Rattle.vx_grouped.specs.SiteKeeps.{PlainKept}
-use Rattle.vx_grouped.specs.SiteReturns.{ImportRefused, SiteImports, as_imported, returned_with}
+use Rattle.vx_grouped.specs.SiteReturns.{ImportRefused, SiteImports, as_imported, returned_with, is_dimmed, stops_early}
 use Rattle.vx_untold.specs.Shades.{shade_meaning}
 use Rattle.vx_diskset.specs.Asked.{FuseGoesOn, SameFailing}
 use Rattle.vx_diskset.specs.DiskSets.{Later}
@@ -30,7 +30,9 @@ use Rattle.vx_diskset.specs.declared.disk_set.DiskSet.TheVariants.{OfGroup}
 use Rattle.vx_diskset.specs.declared.group_set.CutWrite.{CutWrite}
 use Rattle.vx_diskset.specs.declared.group_set.GroupSet.{GroupSet}
 use Rattle.vx_diskset.specs.declared.group_set.KeptWrite.{KeptWrite}
-use Rattle.vx_diskset.proofs.GroupCalling.{IsSettled, OnGroup, away_settled, down_settled, failing_risen, fuse_risen, has_group, later_risen, on_group, rises_fell, up_settled}
+use Rattle.vx_diskset.proofs.GroupCalling.{IsSettled, OnGroup, away_settled, down_settled, failing_risen, fuse_risen, has_group, later_risen, on_group, rises_fell, up_settled, told_before, told_behind}
+use Rattle.vx_grouped.specs.GroupNotes.{note_dimmed}
+use Rattle.vx_watched.specs.Traces.{TellsLess}
 
 module _ {R : Type 0} {g : Ghosts R} where
   -- ---- what is read at a group that is up
@@ -66,6 +68,8 @@ module _ {R : Type 0} {g : Ghosts R} where
   down_cut n note cut (Up group) it = absurd it
   down_cut n note cut (Deported idle) it = absurd it
   down_cut n note cut (Down idle) it = record {
+    lit = it.lit;
+    agrees = it.agrees;
     noted = record { is = refl; none = record { role = it.noted.none.role; volumes = it.noted.none.volumes; log = it.noted.none.log; safe = it.noted.none.safe; running = it.noted.none.running } };
     unfused = it.unfused;
     stopped = it.stopped;
@@ -112,7 +116,7 @@ module _ {R : Type 0} {g : Ghosts R} where
 
   -- ---- the disks of the site behind it
 
-  module _ (old new : DiskSet R g) (o : GroupSet R g) (is : old ≡ OfGroup o) (since : AtSite (λ e. RisesSince (site_disks o.site) (site_disks e)) new) where
+  module _ (old new : DiskSet R g) (o : GroupSet R g) (is : old ≡ OfGroup o) (since : AtSite (λ e. RisesSince (site_disks o.site) (site_disks e)) new) (less : AtSite (λ e. TellsLess (site_below o.site) (site_below e)) new) where
     now : OnGroup new (λ e. RisesSince (site_disks o.site) (site_disks e))
     now = on_group (λ e. RisesSince (site_disks o.site) (site_disks e)) new since
 
@@ -120,7 +124,8 @@ module _ {R : Type 0} {g : Ghosts R} where
     rise_failing = failing_risen old new (site_disks o.site) (site_disks now.set.site) (has_group old o is) (has_group new now.set now.is) now.has
 
     pub rise_later : Later old new
-    rise_later = later_risen old new (site_disks o.site) (site_disks now.set.site) (has_group old o is) (has_group new now.set now.is) now.has
+    rise_later =
+        later_risen old new (site_disks o.site) (site_disks now.set.site) (has_group old o is) (has_group new now.set now.is) now.has (λ told. told_before old o is (told_behind (site_below o.site) new less told))
 
     pub rise_fuse : AtSite IsSettled new → FuseGoesOn old new
     rise_fuse at =
@@ -132,12 +137,12 @@ module _ {R : Type 0} {g : Ghosts R} where
     at_settled P new each it = let on = on_group P new it in subst (λ (x : DiskSet R g). AtSite IsSettled x) (sym on.is) (each on.set.site on.has)
 
     refused_settled : (off : Bool) (n : Node) (note : GroupNode) (m : Meaning) (stop : Stop) (s : GroupSite R g) → ImportRefused off n note m s stop → IsSettled s
-    refused_settled true n note m stop s it = down_settled rackful (crashed (returned_with note n) 0) note s it.0
-    refused_settled false n note m stop s it = away_settled rackful (burned_site n) note s it.0
+    refused_settled true n note m stop s it = down_settled rackful (crashed (returned_with (note_dimmed true note) n) 0) (note_dimmed true note) s it.0
+    refused_settled false n note m stop s it = away_settled rackful (burned_site (dimmed_site (not (stops_early stop)) note n)) (note_dimmed (not (stops_early stop)) note) s it.0
 
     imported_settled : (n : Node) (note : GroupNode) (o s : GroupSite R g) (r : Result (Unit {0}) Stop) → SiteImports n note o s r → IsSettled s
     imported_settled n note o s (Ok done) it = up_settled rackful (returned_with it.0.0 n) it.0.0 s it.0.2
-    imported_settled n note o s (Err stop) it = refused_settled (stops_down stop) n note (as_imported o) stop s it
+    imported_settled n note o s (Err stop) it = refused_settled (stops_down stop) (dimmed_site (is_dimmed o) note n) (note_dimmed (is_dimmed o) note) (as_imported o) stop s it
 
     pub import_settled : (n : Node) (note : GroupNode) (o : GroupSite R g) (new : DiskSet R g) (r : Result (Unit {0}) Stop) → AtSite (λ e. SiteImports n note o e r) new → AtSite IsSettled new
     import_settled n note o new r it = at_settled (λ e. SiteImports n note o e r) new (λ s at. imported_settled n note o s r at) it

@@ -13,7 +13,7 @@ use Rattle.vx_history.specs.Groups.{GroupNode}
 use Rattle.vx_history.specs.Steps.{burned}
 use Rattle.vx_history.specs.World.{Fuse as FuseOf, Node, NoFuse, Volume}
 use Rattle.vx_grouped.specs.Away.{AwayLies}
-use Rattle.vx_grouped.specs.GroupSites.{GroupAway, GroupDown, GroupSiteStands, GroupUp, HasNoRvg, IsMarkedSite, NotesGroup, idle_disks, laid_disks}
+use Rattle.vx_grouped.specs.GroupSites.{GroupAway, GroupDown, GroupSiteStands, GroupUp, HasNoRvg, IsMarkedSite, NotesGroup, idle_disks, laid_disks, laid_below, idle_below}
 use Rattle.vx_group.specs.declared.group_core.GroupCore.{GroupCore}
 use Rattle.vx_grouped.specs.SetFuses.{HasFuse}
 use Rattle.vx_grouped.specs.declared.group_site.GroupSite.{GroupSite}
@@ -65,16 +65,19 @@ module _ (n k : Node) (like : IsLikeGroup n k) where
     unarmed = it.unarmed;
   }
 
-  up_like : (note : GroupNode) (core : GroupCore) (m : Meaning) → GroupUp n note core m → GroupUp k note core m
-  up_like note core m it = record {
+  up_like : (note : GroupNode) (told : Bool) (core : GroupCore) (m : Meaning) → GroupUp n note told core m → GroupUp k note told core m
+  up_like note told core m it = record {
+    lit = it.lit;
     noted = noted_like note it.noted;
     fuse = like.fuse m it.fuse;
     spells = it.spells;
     at = record { state = sym like.state ∙ it.at.state; up = it.at.up; lies = lies_as n k note core m like.disks like.blocks it.at.lies };
   }
 
-  away_like : (note : GroupNode) (m : Meaning) → GroupAway n note m → GroupAway k note m
-  away_like note m it = record {
+  away_like : (note : GroupNode) (agreed told : Bool) (m : Meaning) → GroupAway n note agreed told m → GroupAway k note agreed told m
+  away_like note agreed told m it = record {
+    lit = it.lit;
+    agrees = it.agrees;
     noted = noted_like note it.noted;
     up = it.up;
     fuse = like.fuse m it.fuse;
@@ -89,8 +92,10 @@ module _ (n k : Node) (like : IsLikeGroup n k) where
     };
   }
 
-  down_like : (note : GroupNode) (m : Meaning) → GroupDown n note m → GroupDown k note m
-  down_like note m it = record {
+  down_like : (note : GroupNode) (agreed told : Bool) (m : Meaning) → GroupDown n note agreed told m → GroupDown k note agreed told m
+  down_like note agreed told m it = record {
+    lit = it.lit;
+    agrees = it.agrees;
     noted = noted_like note it.noted;
     unfused = like.unfused it.unfused;
     stopped = it.stopped;
@@ -104,9 +109,9 @@ module _ (n k : Node) (like : IsLikeGroup n k) where
 
   module _ {R : Type 0} {g : Ghosts R} where
     stands_like : (s : GroupSite R g) → GroupSiteStands n s → GroupSiteStands k s
-    stands_like (Up group) (note, it) = (note, up_like note group.core (laid_disks group) it)
-    stands_like (Deported idle) (note, it) = (note, away_like note (idle_disks idle) it)
-    stands_like (Down idle) (note, it) = (note, down_like note (idle_disks idle) it)
+    stands_like (Up group) (note, it) = (note, up_like note (laid_below group).tells group.core (laid_disks group) it)
+    stands_like (Deported idle) (note, it) = (note, away_like note idle.agreed (idle_below idle).tells (idle_disks idle) it)
+    stands_like (Down idle) (note, it) = (note, down_like note idle.agreed (idle_below idle).tells (idle_disks idle) it)
     stands_like (Marked rack) it = marked_like (g.meaning rack) it
     stands_like Gone it = absurd it
 

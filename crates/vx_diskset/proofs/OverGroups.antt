@@ -8,7 +8,7 @@ use Rattle.vx_disk.specs.declared.shelf.Shelf.{Ghosts}
 use Rattle.vx_history.specs.Groups.{GroupNode}
 use Rattle.vx_history.specs.Steps.{crashed}
 use Rattle.vx_history.specs.World.{FuseSet, Node}
-use Rattle.vx_grouped.specs.GroupSites.{DownNoted, GroupSiteStands, UpNoted, laid_disks, site_disks}
+use Rattle.vx_grouped.specs.GroupSites.{DownNoted, GroupSiteStands, UpNoted, laid_disks, site_disks, site_below}
 use Rattle.vx_grouped.specs.SiteEnds.{CountsAlike, MayCrashSite, StaysAlike}
 use Rattle.vx_grouped.specs.declared.group_site.GroupSite.{GroupSite}
 use Rattle.vx_grouped.specs.declared.group_site.GroupSite.TheVariants.{Up, Deported, Down, Marked, Gone}
@@ -20,6 +20,7 @@ use Rattle.vx_diskset.specs.declared.disk_set.DiskSet.{DiskSet}
 use Rattle.vx_diskset.specs.declared.disk_set.DiskSet.TheVariants.{OfGroup}
 use Rattle.vx_diskset.specs.declared.group_set.GroupSet.{GroupSet}
 use Rattle.vx_diskset.proofs.KeepsFailing.{may_crash, stopped_none}
+use Rattle.vx_watched.specs.Traces.{TellsLess}
 
 module _ {R : Type 0} {g : Ghosts R} where
   -- disks of which some are made to fail, or no longer
@@ -31,7 +32,7 @@ module _ {R : Type 0} {g : Ghosts R} where
   pub set_later : (e : DiskSet R g) (s : GroupSet R g) (site : GroupSite R g) → e ≡ OfGroup s → CountsAlike s.site site → Later e (OfGroup (record s { site = site }))
   set_later e s site is same =
       subst (λ (x : DiskSet R g). Later x (OfGroup (record s { site = site }))) (sym is)
-      (record { counts = λ d. omega (arith, same.counts d); told = λ told. sym same.tells ∙ told })
+      (record { counts = λ d. omega (arith, same.counts d); told = same.told })
 
   -- the note of a site whose group is up
   up_by : (n : Node) (s : GroupSite R g) → GroupSiteStands n s → n.state ≡ IsUp → (note : GroupNode) × UpNoted n note s
@@ -145,9 +146,9 @@ module _ {R : Type 0} {g : Ghosts R} where
       let may = may_by pick s.site site it in
       subst (λ (x : DiskSet R g). MayCrash pick x (OfGroup (record s { site = site }))) (sym is) (record { told = may.0; sizes = may.1 })
 
-  counts_by : (pick : ℕ) (s site : GroupSite R g) → MayCrashSite pick s site → CountsAlike s site
-  counts_by pick (Up group) site it = record { counts = λ d. it.0.counts.disk_faults d; tells = it.0.tells }
-  counts_by pick other site it = record { counts = λ d. ap (λ (x : GroupSite R g). (site_disks x).disk_faults d) it; tells = ap (λ (x : GroupSite R g). (site_disks x).tells) it }
+  counts_by : (pick : ℕ) (s site : GroupSite R g) → MayCrashSite pick s site → TellsLess (site_below s) (site_below site) → CountsAlike s site
+  counts_by pick (Up group) site it less = record { counts = λ d. it.0.counts.disk_faults d; told = less }
+  counts_by pick other site it less = record { counts = λ d. ap (λ (x : GroupSite R g). (site_disks x).disk_faults d) it; told = less }
 
-  pub set_fell : (pick : ℕ) (e : DiskSet R g) (s : GroupSet R g) (site : GroupSite R g) → e ≡ OfGroup s → MayCrashSite pick s.site site → Later e (OfGroup (record s { site = site }))
-  set_fell pick e s site is it = set_later e s site is (counts_by pick s.site site it)
+  pub set_fell : (pick : ℕ) (e : DiskSet R g) (s : GroupSet R g) (site : GroupSite R g) → e ≡ OfGroup s → MayCrashSite pick s.site site → TellsLess (site_below s.site) (site_below site) → Later e (OfGroup (record s { site = site }))
+  set_fell pick e s site is it less = set_later e s site is (counts_by pick s.site site it less)

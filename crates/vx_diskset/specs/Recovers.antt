@@ -41,10 +41,9 @@ abbrev pub CutFits : GroupNode → Option CutWrite → Type 0
 CutFits note None = Unit {0}
 CutFits note (Some x) = FitsPlain note x.volume x.block (length x.bytes)
 
--- Disks behind an import, and what was read and crashed of them then: the same are made to fail, and contents are told no more than before. While they are
--- up, a fuse that is set was set before, and has no more calls left.
+-- Disks behind an import, and what was read and crashed of them then: the same are made to fail. While they are up, a fuse that is set was set before, and
+-- has no more calls left.
 pub record RisesSince (old new : Meaning) : Type 0 where
-  pub tells : IsTrue new.tells → IsTrue old.tells
   pub counts : (d : ℕ) → old.disk_faults d ≤ new.disk_faults d
   pub rack : is_rack new.disks ≡ is_rack old.disks
   pub failing : (o n : Disks) → old.disks ≡ Some o → new.disks ≡ Some n → (u : ℕ) → n.failing u ≡ o.failing u

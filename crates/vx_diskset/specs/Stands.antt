@@ -14,7 +14,7 @@ use Rattle.vx_rvg.specs.Views.{Core, last_of}
 use Rattle.vx_secondary.specs.Receivers.{writes_of_updates}
 use Rattle.vx_diskset.specs.declared.disk_set.DiskSet.{DiskSet}
 use Rattle.vx_diskset.specs.declared.disk_set.DiskSet.TheVariants.{Bare, Spoiled, Up, Receives, Down, OfGroup, Gone}
-use Rattle.vx_grouped.specs.GroupSites.{FitsPlain, GroupSiteStands, IsMarkedSite, site_disks}
+use Rattle.vx_grouped.specs.GroupSites.{FitsPlain, GroupSiteStands, IsMarkedSite, site_below, site_disks}
 use Rattle.vx_history.specs.Groups.{GroupNode}
 use Rattle.vx_diskset.specs.GroupSets.{cut_value, noted_cut}
 use Rattle.vx_diskset.specs.declared.group_set.CutWrite.{CutWrite}
@@ -215,14 +215,14 @@ module _ {R : Type 0} {g : Ghosts R} where
   IsUnused (OfGroup s) = ⊥
   IsUnused Gone = ⊥
 
-  -- whether the contents of its disks are told
+  -- whether the contents of its disks are told: those of a group by its rack, whatever the site notes of them
   abbrev pub IsToldAt : DiskSet R g → Type 0
   IsToldAt (Bare rack) = IsTrue (g.meaning rack).tells
   IsToldAt (Spoiled rack) = IsTrue (g.meaning rack).tells
   IsToldAt (Up rvg) = IsTrue (g.meaning rvg.shelf).tells
   IsToldAt (Receives s) = IsTrue (g.meaning s.rvg.shelf).tells
   IsToldAt (Down rack) = IsTrue (g.meaning rack).tells
-  IsToldAt (OfGroup s) = IsTrue (site_disks s.site).tells
+  IsToldAt (OfGroup s) = IsTrue (site_below s.site).tells
   IsToldAt Gone = ⊥
 
   -- the count of the faults of a disk

@@ -1,7 +1,7 @@
 // How a group is made on the disks of a site, and how it comes up again.
 ghost use Rattle.std.specs.Prelude.{◌≡◌, ◌<◌, ◌≤◌, IfErr, None, Some};
 ghost use Rattle.vx_copyio.specs.Labelling.{least_blocks};
-ghost use Rattle.vx_grouped.specs.GroupSites.{AwayNoted, DownNoted, GroupSiteStands, UpNoted, site_disks};
+ghost use Rattle.vx_grouped.specs.GroupSites.{AwayNoted, DownNoted, GroupSiteStands, UpNoted, site_below, site_disks};
 ghost use Rattle.vx_grouped.specs.Begins.{BeginsGroup, CanBegin};
 ghost use Rattle.vx_grouped.specs.SiteReturns.{SiteImports};
 ghost use Rattle.vx_history.specs.Groups.{GroupNode};
@@ -14,6 +14,7 @@ ghost use Rattle.vx_diskset.specs.GroupCalls.{AtSite, InitIs, OnSites, cut_in};
 ghost use Rattle.vx_diskset.specs.Holds.{KeptBeside};
 ghost use Rattle.vx_diskset.specs.Recovers.{LooksAt, LooksKept, RaisesGroup, RisesSince, RisesWith, cut_past};
 ghost use Rattle.vx_diskset.specs.Stands.{SiteStands};
+ghost use Rattle.vx_watched.specs.Traces.{TellsLess};
 
 use crate::group_set::{CutWrite, KeptWrite};
 use crate::{DiskSet, GroupSet};
@@ -27,6 +28,7 @@ fn begin_on<R: Rack>(alloc: Global, rack: R, site: u32) -> (DiskSet<R>, Result<(
     ensures begun { (n : Node) → CanBegin n (R.meaning rack) → AtSite (λ e. BeginsGroup site n (R.meaning rack) e result.1) result.0 }
     ensures cut { cut_in result.0 ≡ None }
     ensures since { AtSite (λ e. CalledSince (R.meaning rack) (site_disks e)) result.0 }
+    ensures told { AtSite (λ e. TellsLess (R.meaning rack) (site_below e)) result.0 }
 {
     let (group, answer) = begin_group(alloc, rack, site);
     (
@@ -47,6 +49,7 @@ fn begin_again<R: Rack>(
 ) -> (DiskSet<R>, Result<(), Stop>)
     ensures begun { (n : Node) → GroupSiteStands n marked → n.state ≡ BareState → CanBegin n (site_disks marked) → AtSite (λ e. BeginsGroup site n (site_disks marked) e result.1) result.0 × (cut_in result.0 ≡ None) }
     ensures since { AtSite (λ e. CalledSince (site_disks marked) (site_disks e)) result.0 }
+    ensures told { AtSite (λ e. TellsLess (site_below marked) (site_below e)) result.0 }
 {
     match marked {
         GroupSite::Marked(rack) => begin_on(alloc, rack, site),
@@ -61,6 +64,7 @@ fn begin_again<R: Rack>(
 fn kept_at<R: Rack>(site: &mut GroupSite<R>, write: &CutWrite) -> Result<Option<KeptWrite>, No>
     ensures looks { (n : Node) (note : GroupNode) → UpNoted n note site.old → LooksKept n note (Some write.now) site.old site.new result }
     ensures since { CalledSince (site_disks site.old) (site_disks site.new) }
+    ensures told { TellsLess (site_below site.old) (site_below site.new) }
 {
     let bytes = write.bytes.as_bytes();
     if site.fits(write.volume, write.block, bytes.len()) {
@@ -83,6 +87,7 @@ fn look_kept<R: Rack>(
 ) -> Result<Option<KeptWrite>, No>
     ensures looks { (n : Node) (note : GroupNode) → UpNoted n note site.old → LooksKept n note cut.now site.old site.new result }
     ensures since { CalledSince (site_disks site.old) (site_disks site.new) }
+    ensures told { TellsLess (site_below site.old) (site_below site.new) }
 {
     match cut {
         Some(write) => kept_at(site, write),
@@ -97,6 +102,7 @@ fn stand_up<R: Rack>(
 ) -> (DiskSet<R>, Result<Option<KeptWrite>, Stop>)
     ensures rises { (n : Node) (note : GroupNode) → UpNoted n note site → RisesWith n note cut site result.0 result.1 }
     ensures since { AtSite (λ e. RisesSince (site_disks site) (site_disks e)) result.0 }
+    ensures told { AtSite (λ e. TellsLess (site_below site) (site_below e)) result.0 }
 {
     let mut site = site;
     match look_kept(&mut site, &cut) {
@@ -116,6 +122,7 @@ fn import_in<R: Rack>(group: GroupSet<R>, alloc: Global) -> (DiskSet<R>, Result<
     ensures imported { (n : Node) (note : GroupNode) → AwayNoted n note group.site → AtSite (λ e. SiteImports n note group.site e result.1) result.0 }
     ensures cut { cut_in result.0 ≡ cut_past result.1 (DiskSet.OfGroup group) }
     ensures since { AtSite (λ e. RisesSince (site_disks group.site) (site_disks e)) result.0 }
+    ensures told { AtSite (λ e. TellsLess (site_below group.site) (site_below e)) result.0 }
 {
     let cut = group.cut;
     let (site, answer) = group.site.import(alloc);
@@ -132,6 +139,7 @@ fn raise_in<R: Rack>(
 ) -> (DiskSet<R>, Result<Option<CutWrite>, Stop>)
     ensures raised { (n : Node) (note : GroupNode) → DownNoted n note group.site → RaisesGroup n note (DiskSet.OfGroup group) result.0 result.1 }
     ensures since { AtSite (λ e. RisesSince (site_disks group.site) (site_disks e)) result.0 }
+    ensures told { AtSite (λ e. TellsLess (site_below group.site) (site_below e)) result.0 }
 {
     let cut = group.cut;
     let (site, answer) = group.site.import(alloc);

@@ -1,7 +1,7 @@
 // The calls on the group of a site that is up.
 ghost use Rattle.std.specs.Prelude.{◌≡◌, ◌≤◌, ◌<◌, ◌%◌, ℕ, false, Err, IfOk, IfSome, IsTrue, None, Ok, OnOk, Some, length, option_copied};
 ghost use Rattle.vx_grouped.specs.Ends.{plain_write};
-ghost use Rattle.vx_grouped.specs.GroupSites.{FitsPlain, UpNoted, site_disks};
+ghost use Rattle.vx_grouped.specs.GroupSites.{FitsPlain, UpNoted, site_below, site_disks};
 ghost use Rattle.vx_grouped.specs.SiteAdds.{SiteAdded, VolumeIn, refuses_volume};
 ghost use Rattle.vx_grouped.specs.SiteEnds.{AttCalled, DetCalled, PlainRead, PlainWrote, RegionsOf, SiteDeported, is_plex_on, refuses_att, refuses_det};
 ghost use Rattle.vx_history.specs.Groups.{GroupNode};
@@ -14,6 +14,7 @@ ghost use Rattle.vx_diskset.specs.Asked.{FuseGoesOn, SameFailing};
 ghost use Rattle.vx_diskset.specs.DiskSets.{Later};
 ghost use Rattle.vx_diskset.specs.GroupCalls.{AtSite, CalledOn, OnSites, config_in, cut_in};
 ghost use Rattle.vx_diskset.specs.GroupSets.{cut_behind, cut_value};
+ghost use Rattle.vx_watched.specs.Traces.{TellsLess};
 
 use crate::DiskSet;
 use crate::group_set::{CutWrite, GroupSet};
@@ -38,6 +39,7 @@ fn write_set<R: Rack>(
     ensures wrote { (n : Node) (note : GroupNode) → UpNoted n note group.old.site → FitsPlain note volume block (length bytes.now) → PlainWrote n note (plain_write volume block bytes.now) group.old.site group.new.site result }
     ensures cut { cut_value group.new.cut ≡ cut_behind result (plain_write volume block bytes.now) (cut_value group.old.cut) }
     ensures since { CalledSince (site_disks group.old.site) (site_disks group.new.site) }
+    ensures told { TellsLess (site_below group.old.site) (site_below group.new.site) }
 {
     match group.site.write(volume, block, bytes) {
         Ok(()) => Ok(()),

@@ -217,9 +217,9 @@ group_ends_change told d line s fails said new (GroupCut next are fused cuts say
 group_ends_change told d line s fails said new (ImportFails why next site is are refuses begun says left) =
     left_by s d new (fuse_lost (noting d.world s next) s)
     (aside_then s d.world (noting d.world s next) (fuse_lost (noting d.world s next) s) (aside_node s d.world _) (aside_node s (noting d.world s next) _)) left
-group_ends_change told d line s fails said new (GroupNotFound why are brings not says left) =
+group_ends_change told d line s fails said new (GroupNotFound why next are brings not leaves says left) =
     ends_by s line _ d _ new (refused_change (d.world.nodes s) s line d) left
-group_ends_change told d line s fails said new (FindsGroup next are brings unknown says left) =
+group_ends_change told d line s fails said new (FindsGroup next are brings unknown dark says left) =
     ends_by s line next d _ new (events_change (d.world.nodes s) s line d) left
-group_ends_change told d line s fails said new (FindsNoGroup next why are brings unknown free says left) =
+group_ends_change told d line s fails said new (FindsNoGroup next why are brings unknown free refused says left) =
     ends_by s line next d _ new (refused_change (d.world.nodes s) s line d) left

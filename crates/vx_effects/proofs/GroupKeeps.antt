@@ -168,9 +168,9 @@ group_ends_keep told d line s fails said new none (ImportFails why next site is 
 group_ends_keep told d line s fails said new none (KeptUnread disk next site is are has back says left) =
     ends_with s line next d _ new none (unread_keeps (d.world.nodes s).state s d) left
 group_ends_keep told d line s fails said new none (GroupCut next are fused cuts says left) = ends_with s line next d _ new none (cut_keep s line d) left
-group_ends_keep told d line s fails said new none (GroupNotFound why are brings not says left) =
+group_ends_keep told d line s fails said new none (GroupNotFound why next are brings not leaves says left) =
     ends_with s line _ d _ new none (refused_keep (d.world.nodes s) s line d) left
-group_ends_keep told d line s fails said new none (FindsGroup next are brings unknown says left) =
+group_ends_keep told d line s fails said new none (FindsGroup next are brings unknown dark says left) =
     ends_with s line next d _ new none (events_keep (d.world.nodes s) s line d) left
-group_ends_keep told d line s fails said new none (FindsNoGroup next why are brings unknown free says left) =
+group_ends_keep told d line s fails said new none (FindsNoGroup next why are brings unknown free refused says left) =
     ends_with s line next d _ new none (refused_keep (d.world.nodes s) s line d) left

@@ -101,9 +101,9 @@ group_stops told d line s fails said new (ImportFails why next site is are refus
       events = [];
       stops = EventsDone d refl refl (as_like d new (fuse_lost v s) (like_then (like_disks d.world s (d.world.nodes s).failing (Some next)) (like_noted v s NoFuse)) left);
     }
-group_stops told d line s fails said new (GroupNotFound why are brings not says left) =
+group_stops told d line s fails said new (GroupNotFound why next are brings not leaves says left) =
     stop_by d new s line _ (refused_events (d.world.nodes s) s line) (refused_tell (d.world.nodes s) s line) left
-group_stops told d line s fails said new (FindsGroup next are brings unknown says left) =
+group_stops told d line s fails said new (FindsGroup next are brings unknown dark says left) =
     stop_by d new s line next (group_events (d.world.nodes s) s line) (events_tell (d.world.nodes s) s line) left
-group_stops told d line s fails said new (FindsNoGroup next why are brings unknown free says left) =
+group_stops told d line s fails said new (FindsNoGroup next why are brings unknown free refused says left) =
     stop_by d new s line next (refused_events (d.world.nodes s) s line) (refused_tell (d.world.nodes s) s line) left

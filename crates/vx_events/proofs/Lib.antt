@@ -4,6 +4,7 @@ pub mod Blocks
 pub mod Calm
 pub mod GroupStopping
 pub mod Keeping
+pub mod KnownLaws
 pub mod LinkAgreeing
 pub mod LinkJoining
 pub mod LinkSettling

@@ -5,7 +5,7 @@ use Rattle.vx_history.specs.Doubts.{Doubted}
 use Rattle.vx_history.specs.declared.event.Event.{Event}
 use Rattle.vx_script.specs.declared.line.ScriptLine.{ScriptLine}
 use Rattle.vx_events.specs.Lists.{Choice}
-use Rattle.vx_events.specs.Parts.{DonePart, FellFirst, MayStop, PartLeft, ReadFirst, StopsShort, StopsInPart, StopsDown, StopsRead, StopsBetween, all_events, crashes_first, first_part, goes_in_parts, may_stop, part_left, reads_first}
+use Rattle.vx_events.specs.Parts.{DonePart, FellFirst, MayStop, PartLeft, ReadFirst, StopsShort, StopsInPart, StopsDown, StopsRead, StopsBetween, all_events, raises_first, first_part, goes_in_parts, may_stop, part_left, reads_first}
 
 -- any line may stop before its first event
 stops_first : (parts : Bool) → MayStop parts []
@@ -55,15 +55,15 @@ never_both e = absurd (cc)
 -- so it is over disks that tell no contents
 pub whole_short : (told : Type 0) (d : Doubted) (line : ScriptLine) (new : Doubted) → may_stop d.world line ≡ false → StopsShort told d line new → new ≡ d
 whole_short told d line new whole short =
-    let first = neither (goes_in_parts line) (crashes_first d.world line || reads_first d.world line) whole in
-    let later = neither (crashes_first d.world line) (reads_first d.world line) first.1 in
+    let first = neither (goes_in_parts line) (raises_first d.world line || reads_first d.world line) whole in
+    let later = neither (raises_first d.world line) (reads_first d.world line) first.1 in
     by first.0 later.0 later.1 short
   where
-    by : goes_in_parts line ≡ false → crashes_first d.world line ≡ false → reads_first d.world line ≡ false → StopsShort told d line new → new ≡ d
-    by parts crashes reads (StopsInPart part) = whole_stays d line new parts part
-    by parts crashes reads (StopsDown fell) = absurd (never_both (sym fell.crashes ∙ crashes))
-    by parts crashes reads (StopsRead read) = absurd (never_both (sym read.reads ∙ reads))
-    by parts crashes reads (StopsBetween untold p s middle is moves left) = absurd (never_both (subst (λ (l : ScriptLine). goes_in_parts l ≡ false) is parts))
+    by : goes_in_parts line ≡ false → raises_first d.world line ≡ false → reads_first d.world line ≡ false → StopsShort told d line new → new ≡ d
+    by parts raises reads (StopsInPart part) = whole_stays d line new parts part
+    by parts raises reads (StopsDown fell) = absurd (never_both (sym fell.raises ∙ raises))
+    by parts raises reads (StopsRead read) = absurd (never_both (sym read.reads ∙ reads))
+    by parts raises reads (StopsBetween untold p s middle is moves left) = absurd (never_both (subst (λ (l : ScriptLine). goes_in_parts l ≡ false) is parts))
 
 -- over disks that tell their contents it is a first part of the events, the crash before a recovery, or the reads of an import
 pub told_part : (told : Type 0) (d : Doubted) (line : ScriptLine) (new : Doubted) → told → StopsShort told d line new → DonePart d line new ⊎ FellFirst d line new ⊎ ReadFirst d line new

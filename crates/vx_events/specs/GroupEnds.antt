@@ -25,7 +25,7 @@ use Rattle.vx_events.specs.Ends.{IsNoDevice}
 use Rattle.vx_events.specs.Fails.{Fails}
 use Rattle.vx_events.specs.GroupConfigs.{ConfigLoses, ConfigLosesBut, PutsPlex, lies_on_disk, opened_again}
 use Rattle.vx_events.specs.GroupLines.{cut_events, fuse_lost, group_events, group_noted, noting, plain_number, refused_events, shape_of, unread_events}
-use Rattle.vx_events.specs.GroupNotes.{FirstNote, NotesBack, NotesCut, NotesDoubt, NotesUnread, NotesVolume, NotesWrite, Reconfigures, note_at}
+use Rattle.vx_events.specs.GroupNotes.{FirstNote, NotesBack, NotesCut, NotesDoubt, NotesRefused, NotesUnread, NotesVolume, NotesWrite, Reconfigures, note_at}
 use Rattle.vx_events.specs.GroupReplies.{AttachCopies, GivesPlain, IsLastPlex, SaysBack}
 use Rattle.vx_events.specs.GroupViews.{config_of, grouped_view}
 use Rattle.vx_events.specs.declared.said.Said.{Said}
@@ -89,15 +89,10 @@ GroupWants note (PlexDetach site volume plex) LastPlex = IsLastPlex note (plain_
 GroupWants note line (Limit Number most) = Commits line × (most ≡ MOST_NUMBER)
 GroupWants note line why = ⊥
 
--- nothing changes, or a further configuration may be on the disks beside the one in memory
-pub record NotesBegun (note next : GroupNode) : Type 0 where
-  pub config : next.config ≡ note.config
-  pub keeps : (next ≡ note) ⊎ NoteUnsettles note next
-
 -- what a failed call of a line that ends it leaves of the note
 abbrev pub GroupSpoils : (s : ℕ) → GroupNode → ScriptLine → Fails → GroupNode → Type 0
 GroupSpoils s note (GroupDeport site) fails next = Reconfigures (ConfigLoses s fails) NoteUnsettles note next
-GroupSpoils s note (GroupImport site) fails next = NotesBegun note next
+GroupSpoils s note (GroupImport site) fails next = NotesRefused note next
 GroupSpoils s note (Volume site volume blocks mirrors layout log map policy) fails next = Reconfigures (ConfigLoses s fails) NoteUnsettles note next
 GroupSpoils s note (PlexDetach site volume plex) fails next =
     Reconfigures (λ c d. ConfigLoses s fails c d ⊎ ((x : Config) × PutsPlex (plain_number note volume) plex Stale c x × ConfigLoses s fails x d)) NoteUnsettles note next
@@ -110,13 +105,13 @@ GroupSpoils s note (WriteLine site volume start count fill) fails next = NotesDo
 GroupSpoils s note (Put site volume start bytes) fails next = NotesDoubt s fails (write_to note volume start bytes) note next
 GroupSpoils s note (Read site volume start count) fails next = next ≡ note
 GroupSpoils s note (Show site volume start count) fails next = next ≡ note
-GroupSpoils s note (Recover site) fails next = NotesBegun note next
+GroupSpoils s note (Recover site) fails next = NotesRefused note next
 GroupSpoils s note other fails next = ⊥
 
 -- and a fuse that ran out in it
 abbrev pub GroupCuts : (s : ℕ) → GroupNode → ScriptLine → Fails → GroupNode → Type 0
 GroupCuts s note (GroupDeport site) fails next = Reconfigures (ConfigLoses s fails) NoteUnsettles note next
-GroupCuts s note (GroupImport site) fails next = NotesBegun note next
+GroupCuts s note (GroupImport site) fails next = NotesRefused note next
 GroupCuts s note (Volume site volume blocks mirrors layout log map policy) fails next = Reconfigures (ConfigLoses s fails) NoteUnsettles note next
 GroupCuts s note (PlexDetach site volume plex) fails next =
     Reconfigures (λ c d. ConfigLoses s fails c d ⊎ ((x : Config) × PutsPlex (plain_number note volume) plex Stale c x × ConfigLoses s fails x d)) NoteUnsettles note next
@@ -138,16 +133,21 @@ BringsUp (Recover site) = Unit {0}
 BringsUp other = ⊥
 
 -- Why a group is not found on its disks: the lowest disk that is held as good and could not be read, no configuration on any that could be read, or
--- want of a serial. Where contents are told, and imports agree, no block of it is damaged or of another format.
+-- want of a serial. Where contents are known, and imports agree, no block of it is damaged or of another format.
 abbrev pub NotFound : (s : ℕ) → GroupNode → Fails → No → Type 0
 NotFound s note fails (Missing disk) = Contains fails (s, disk)
 NotFound s note fails NoConfig = Unit {0}
 NotFound s note fails (Limit Number most) = most ≡ MOST_NUMBER
 NotFound s note fails why = ⊥
 
--- nothing is known of what the disks hold
+-- what is left of the note where none is found: only want of a serial may come behind the first write
+abbrev pub NotFoundLeaves : No → (note new : GroupNode) → Type 0
+NotFoundLeaves (Limit Number most) note new = NotesRefused note new
+NotFoundLeaves why note new = new ≡ note
+
+-- nothing is known of what an import finds on the disks: contents are not told, the disks may not agree, or nothing was known of them before
 abbrev pub KnowsNothing : Type 0 → GroupNode → Type 0
-KnowsNothing told note = (told → ⊥) ⊎ (note.loose ≡ true)
+KnowsNothing told note = (told → ⊥) ⊎ (note.loose ≡ true) ⊎ (note.dark ≡ true)
 
 -- why an import is refused that has written: a disk failed, or as one that has not
 abbrev pub ImportRefuses : Type 0 → (s : ℕ) → GroupNode → Fails → No → Type 0
@@ -183,7 +183,7 @@ pub data GroupEnds (told : Type 0) (d : Doubted) (line : ScriptLine) (s : ℕ) (
       → IsAs d d.world new → GroupEnds told d line s fails said new
   -- an import was refused that had written: the disks crashed, and have no fuse
   ImportFails : (why : No) (next : GroupNode) (site : List ℕ) → line ≡ GroupImport site → AreOf s fails → ImportRefuses told s (note_at (d.world.nodes s)) fails why
-      → NotesBegun (note_at (d.world.nodes s)) next → said ≡ Refused why → IsAs d (fuse_lost (noting d.world s next) s) new
+      → NotesRefused (note_at (d.world.nodes s)) next → said ≡ Refused why → IsAs d (fuse_lost (noting d.world s next) s) new
       → GroupEnds told d line s fails said new
   -- a recovery came up, and what is kept of a write that was cut could not be read: the site is down
   KeptUnread : (disk : ℕ) (next : GroupNode) (site : List ℕ) → line ≡ Recover site → AreOf s fails → Contains fails (s, disk)
@@ -192,14 +192,14 @@ pub data GroupEnds (told : Type 0) (d : Doubted) (line : ScriptLine) (s : ℕ) (
   -- the fuse of the disks ran out
   GroupCut : (next : GroupNode) → AreOf s fails → IsFused (d.world.nodes s).fuse → GroupCuts s (note_at (d.world.nodes s)) line fails next
       → said ≡ Refused IsOff → IsLeftOver s line next (run_as false d (cut_events s line)) new → GroupEnds told d line s fails said new
-  -- no group was found, and nothing was written
-  GroupNotFound : (why : No) → AreOf s fails → BringsUp line → NotFound s (note_at (d.world.nodes s)) fails why → said ≡ Refused why
-      → IsLeftOver s line (note_at (d.world.nodes s)) (run_as false d (refused_events (d.world.nodes s) s line)) new → GroupEnds told d line s fails said new
-  -- on disks of which nothing is known a group was found, or none
-  FindsGroup : (next : GroupNode) → AreOf s fails → BringsUp line → KnowsNothing told (note_at (d.world.nodes s)) → SaysFound (d.world.nodes s) line next said
-      → IsLeftOver s line next (run_as false d (group_events (d.world.nodes s) s line)) new → GroupEnds told d line s fails said new
+  -- no group was found
+  GroupNotFound : (why : No) (next : GroupNode) → AreOf s fails → BringsUp line → NotFound s (note_at (d.world.nodes s)) fails why
+      → NotFoundLeaves why (note_at (d.world.nodes s)) next → said ≡ Refused why → IsLeftOver s line next (run_as false d (refused_events (d.world.nodes s) s line)) new → GroupEnds told d line s fails said new
+  -- on disks of which nothing is known a group was found, or none: where contents are told nothing is known of them still
+  FindsGroup : (next : GroupNode) → AreOf s fails → BringsUp line → KnowsNothing told (note_at (d.world.nodes s)) → (told → next.dark ≡ true)
+      → SaysFound (d.world.nodes s) line next said → IsLeftOver s line next (run_as false d (group_events (d.world.nodes s) s line)) new → GroupEnds told d line s fails said new
   FindsNoGroup : (next : GroupNode) (why : No) → AreOf s fails → BringsUp line → KnowsNothing told (note_at (d.world.nodes s)) → IsNoDevice why
-      → said ≡ Refused why → IsLeftOver s line next (run_as false d (refused_events (d.world.nodes s) s line)) new → GroupEnds told d line s fails said new
+      → NotesRefused (note_at (d.world.nodes s)) next → said ≡ Refused why → IsLeftOver s line next (run_as false d (refused_events (d.world.nodes s) s line)) new → GroupEnds told d line s fails said new
 
 -- the line ended as these events do, in worlds that differ in notes alone
 pub record GroupStops (d new : Doubted) : Type 0 where

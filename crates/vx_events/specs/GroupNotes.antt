@@ -18,6 +18,7 @@ no_note = record {
   config = [];
   begun = [];
   loose = false;
+  dark = false;
   bytes = no_volumes;
   others = λ v b. [];
   cut = None;
@@ -27,6 +28,14 @@ no_note = record {
 
 abbrev pub note_at : Node → GroupNode
 note_at n = unwrap_or n.group no_note
+
+-- the same note, where nothing is known of what the disks hold
+abbrev pub note_dark : GroupNode → GroupNode
+note_dark note = record note { dark = true }
+
+-- contents are told, and what the disks of the group hold is known
+abbrev pub IsKnown : (told : Type 0) → GroupNode → Type 0
+IsKnown told note = told × (note.dark ≡ false)
 
 -- ---- configurations
 
@@ -51,6 +60,7 @@ pub record FirstNote (s disks blocks : ℕ) (new : GroupNode) : Type 0 where
   pub volumes : now.volumes ≡ []
   pub rvg : now.rvg ≡ None
   pub begun : new.begun ≡ []
+  pub dark : new.dark ≡ false
   pub loose : (new.loose ≡ false) ⊎ ((k : ℕ) × (d : DiskEntry) × (slice_get now.disks k ≡ Some d) × (d.failed ≡ true))
   pub size : (v : ℕ) → new.bytes.size v ≡ 0
   pub others : (v b : ℕ) → new.others v b ≡ []
@@ -99,14 +109,16 @@ pub record NotesCut (s : ℕ) (fails : Fails) (x : Write) (note new : GroupNode)
 
 -- ---- recoveries
 
--- A group came up from its disks: of all disks of its site, which are held as good but for those on which a call failed. Where contents are told the
--- volumes that were noted are there but for the states of their plexes, and each block has what it had and might have, or one of these values.
+-- A group came up from its disks: of all disks of its site, which are held as good but for those on which a call failed. Of disks that may not have
+-- agreed nothing may be known then. Where contents are known the volumes that were noted are there but for the states of their plexes, and each block has
+-- what it had and might have, or one of these values.
 pub record NotesBack (told : Type 0) (s : ℕ) (n : Node) (fails : Fails) (note new : GroupNode) : Type 0 where
   pub old : Config
   pub now : Config
   pub was : config_of note.config ≡ Some old
   pub is : config_of new.config ≡ Some now
-  pub volumes : told → (v : ℕ) (e : VolumeEntry) → slice_get old.volumes v ≡ Some e → Matched VolumeStays (Some e) (slice_get now.volumes v)
+  pub dark : (new.dark ≡ note.dark) ⊎ ((new.dark ≡ true) × (note.loose ≡ true))
+  pub volumes : IsKnown told new → (v : ℕ) (e : VolumeEntry) → slice_get old.volumes v ≡ Some e → Matched VolumeStays (Some e) (slice_get now.volumes v)
   pub many : length now.disks ≡ n.disks
   pub blocks : (k : ℕ) (d : DiskEntry) → slice_get now.disks k ≡ Some d → d.blocks ≡ n.blocks
   pub failed : (k : ℕ) (d : DiskEntry) → slice_get now.disks k ≡ Some d → d.failed ≡ true → Contains fails (s, k)
@@ -114,7 +126,7 @@ pub record NotesBack (told : Type 0) (s : ℕ) (n : Node) (fails : Fails) (note 
   pub loose : new.loose ≡ false
   pub size : (v : ℕ) → new.bytes.size v ≡ blocks_of now.volumes v
   pub block : (v b : ℕ) → ((new.bytes.block v b ≡ note.bytes.block v b) × (new.others v b ≡ note.others v b)) ⊎ (new.others v b ≡ [])
-  pub may : told → (v b : ℕ) → b < note.bytes.size v → BlockMay note v b (new.bytes.block v b)
+  pub may : IsKnown told new → (v b : ℕ) → b < note.bytes.size v → BlockMay note v b (new.bytes.block v b)
   pub cut : new.cut ≡ None
   pub missed : new.missed ≡ note.missed
   pub perhaps : new.perhaps ≡ note.perhaps
@@ -124,3 +136,11 @@ pub record NotesUnread (told : Type 0) (s : ℕ) (n : Node) (fails : Fails) (not
   pub middle : GroupNode
   pub back : NotesBack told s n fails note middle
   pub is : new ≡ record middle { cut = note.cut }
+
+-- a recovery or an import was refused: nothing changes, or it is not known any more what the disks hold
+abbrev pub NotesRefused : (note new : GroupNode) → Type 0
+NotesRefused note new = (new ≡ note) ⊎ (new ≡ note_dark note)
+
+-- memory ran out in one, before it wrote: only of disks that may not agree it is not known any more what they hold
+abbrev pub NotesShort : (note new : GroupNode) → Type 0
+NotesShort note new = (new ≡ note) ⊎ ((note.loose ≡ true) × (new ≡ note_dark note))

@@ -1,5 +1,5 @@
 -- What lines at a site over a group of disks are answered.
-use Rattle.std.specs.Prelude.{◌≡◌, ℕ, ◌+◌, ◌*◌, ◌<◌, ◌≤◌, List, length, Option, Some, None, slice_get}
+use Rattle.std.specs.Prelude.{◌≡◌, ℕ, ◌+◌, ◌*◌, ◌<◌, ◌≤◌, Bool, false, List, length, Option, Some, None, is_some, slice_get}
 use Rattle.std.specs.Int.{div_ceil}
 use Rattle.std.specs.Str.{bytes_eq}
 use Rattle.vx_model.specs.Content.{Write, block_of, blocks_in}
@@ -12,18 +12,19 @@ use Rattle.vx_config.specs.Checks.{blocks_of}
 use Rattle.vx_config.specs.declared.entry.PlexEntry.{PlexEntry}
 use Rattle.vx_config.specs.declared.entry.VolumeEntry.{VolumeEntry}
 use Rattle.vx_report.specs.declared.view.Kept.{Kept}
+use Rattle.vx_events.specs.GroupNotes.{IsKnown}
 use Rattle.vx_events.specs.GroupViews.{config_of, grouped_view, state_of_plex, volumes_of}
 use Rattle.vx_events.specs.declared.said.Said.{Said}
 use Rattle.vx_events.specs.declared.said.Said.TheVariants.{DoneAt, Got, Resumed}
 
 -- ---- reads
 
--- so many blocks, of which each has a value that is noted of it, where contents are told
+-- so many blocks, of which each has a value that is noted of it, where contents are known
 pub record GivesPlain (told : Type 0) (note : GroupNode) (volume start count : ℕ) (said : Said) : Type 0 where
   pub bytes : List ℕ
   pub got : said ≡ Got bytes
   pub size : length bytes ≡ 512 * count
-  pub each : told → (k : ℕ) → k < count → BlockMay note volume (start + k) (block_of bytes k)
+  pub each : IsKnown told note → (k : ℕ) → k < count → BlockMay note volume (start + k) (block_of bytes k)
 
 -- ---- plexes
 
@@ -43,13 +44,21 @@ plex_state note v p = plex_entry_state (slice_get (volumes_of (config_of note.co
 abbrev pub volume_regions : GroupNode → (volume : ℕ) → ℕ
 volume_regions note v = div_ceil (blocks_of (volumes_of (config_of note.config)) v) REGION
 
--- How many regions an attach copies: none where the plex takes part, all where it is not known which it has missed, and never more.
+abbrev pub entry_maps : Option VolumeEntry → Bool
+entry_maps None = false
+entry_maps (Some volume) = is_some volume.fmr
+
+-- the volume keeps a map of the regions that its plexes missed
+abbrev pub volume_maps : GroupNode → (volume : ℕ) → Bool
+volume_maps note v = entry_maps (slice_get (volumes_of (config_of note.config)) v)
+
+-- How many regions an attach copies: none where the plex takes part, all where the volume keeps no map of those that it has missed, and never more.
 pub record AttachCopies (note : GroupNode) (volume plex : ℕ) (said : Said) : Type 0 where
   pub count : ℕ
   pub says : said ≡ DoneAt count
   pub few : count ≤ volume_regions note volume
   pub none : plex_state note volume plex ≡ Some Active → count ≡ 0
-  pub all : (plex_state note volume plex ≡ Some Active → ⊥) → note.missed volume plex ≡ None → count ≡ volume_regions note volume
+  pub all : (plex_state note volume plex ≡ Some Active → ⊥) → volume_maps note volume ≡ false → count ≡ volume_regions note volume
 
 -- no other plex of the volume takes part
 pub record IsLastPlex (note : GroupNode) (volume plex : ℕ) : Type 0 where
@@ -58,15 +67,15 @@ pub record IsLastPlex (note : GroupNode) (volume plex : ℕ) : Type 0 where
 
 -- ---- recoveries
 
--- Of a write in which the fuse ran out: for each of its blocks whether a value that it may have is what was written, where contents are told. `next` is the
--- note behind the recovery.
+-- Of a write in which the fuse ran out: for each of its blocks whether a value that it may have is what was written, where contents are known. `next` is
+-- the note behind the recovery.
 pub record IsKeptOf (told : Type 0) (x : Write) (next : GroupNode) (kept : Kept) : Type 0 where
   pub volume : VolumeEntry
   pub is_volume : slice_get (volumes_of (config_of next.config)) x.volume ≡ Some volume
   pub name : kept.volume ≡ volume.name
   pub block : kept.block ≡ x.start
   pub many : kept.count ≡ blocks_in x.bytes
-  pub each : told → (k : ℕ) → k < blocks_in x.bytes
+  pub each : IsKnown told next → (k : ℕ) → k < blocks_in x.bytes
       → (value : List ℕ) × BlockMay next x.volume (x.start + k) value × (slice_get kept.bits k ≡ Some (bytes_eq value (block_of x.bytes k)))
 
 -- it is shown where a write was cut

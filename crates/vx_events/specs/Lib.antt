@@ -13,6 +13,7 @@ pub mod GroupLines
 pub mod GroupNotes
 pub mod GroupReplies
 pub mod GroupViews
+pub mod Known
 pub mod Lines
 pub mod LinkEnds
 pub mod LinkFinds

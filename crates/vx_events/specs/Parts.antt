@@ -2,15 +2,16 @@
 use Rattle.std.specs.Prelude.{◌≡◌, ◌⊎◌, ◌&&◌, ◌||◌, ℕ, Bool, true, false, List, [], ◌∷◌, ◌++◌, take}
 use Rattle.vx_model.specs.Sites.{is_up}
 use Rattle.vx_history.specs.Doubts.{Doubted}
+use Rattle.vx_history.specs.Groups.{GroupNode}
 use Rattle.vx_history.specs.Steps.{worked_on}
 use Rattle.vx_history.specs.World.{World}
 use Rattle.vx_history.specs.declared.event.Event.{Event}
-use Rattle.vx_history.specs.declared.event.Event.TheVariants.{Crash as CrashAt}
 use Rattle.vx_script.specs.declared.line.ScriptLine.{ScriptLine}
 use Rattle.vx_script.specs.declared.line.ScriptLine.TheVariants.{GroupImport, Recover, Settle}
 use Rattle.vx_events.specs.Doubts.{IsAs, run_as}
 use Rattle.vx_events.specs.Facts.{site_number}
-use Rattle.vx_events.specs.GroupLines.{fuse_lost}
+use Rattle.vx_events.specs.GroupLines.{crash_first, fuse_lost, noting}
+use Rattle.vx_events.specs.GroupNotes.{NotesShort, note_at}
 use Rattle.vx_events.specs.LinkEnds.{AreLeft, link_noted}
 use Rattle.vx_events.specs.LinkFinds.{MovesBetween}
 use Rattle.vx_events.specs.LinkLists.{link_events}
@@ -45,10 +46,10 @@ pub record DonePart (d : Doubted) (line : ScriptLine) (new : Doubted) : Type 0 w
   pub stops : MayStop (goes_in_parts line) before
   pub leads : PartLeft line d before new
 
--- a line that crashes a site and takes memory behind that: a recovery of a group that is up
-abbrev pub crashes_first : World → ScriptLine → Bool
-crashes_first w (Recover site) = over_group_at w site && is_up (w.nodes (site_number w site)).state
-crashes_first w other = false
+-- a line that takes memory behind a change: a recovery of a group that is up, which crashes first, or of disks that may not agree
+abbrev pub raises_first : World → ScriptLine → Bool
+raises_first w (Recover site) = let n = w.nodes (site_number w site) in over_group_at w site && (is_up n.state || (note_at n).loose)
+raises_first w other = false
 
 -- a line that reads the disks of a site and takes memory behind that: an import
 abbrev pub reads_first : World → ScriptLine → Bool
@@ -57,17 +58,21 @@ reads_first w other = false
 
 -- whether want of memory may leave a part of the line
 abbrev pub may_stop : World → ScriptLine → Bool
-may_stop w line = goes_in_parts line || (crashes_first w line || reads_first w line)
+may_stop w line = goes_in_parts line || (raises_first w line || reads_first w line)
 
--- the site of such a line crashed, and nothing else was done
+-- the site of such a line crashed where it was up, and nothing else was done
 pub record FellFirst (d : Doubted) (line : ScriptLine) (new : Doubted) : Type 0 where
-  pub crashes : crashes_first d.world line ≡ true
-  pub leads : let last = run_as false d (CrashAt (group_place d.world line) 0 ∷ []) in IsAs last last.world new
+  pub raises : raises_first d.world line ≡ true
+  pub next : GroupNode
+  pub notes : NotesShort (note_at (d.world.nodes (group_place d.world line))) next
+  pub leads : let s = group_place d.world line in let last = run_as false d (crash_first (d.world.nodes s).state s) in IsAs last (noting last.world s next) new
 
 -- the fuse of such a site may have let calls pass, or is lost where the group had come up, and nothing else was done
 pub record ReadFirst (d : Doubted) (line : ScriptLine) (new : Doubted) : Type 0 where
   pub reads : reads_first d.world line ≡ true
-  pub leads : IsAs d (worked_on d.world (group_place d.world line)) new ⊎ IsAs d (fuse_lost d.world (group_place d.world line)) new
+  pub next : GroupNode
+  pub notes : NotesShort (note_at (d.world.nodes (group_place d.world line))) next
+  pub leads : let s = group_place d.world line in IsAs d (worked_on (noting d.world s next) s) new ⊎ IsAs d (fuse_lost (noting d.world s next) s) new
 
 -- What want of memory leaves of a line: a first part of its events, the crash before a recovery, or the reads of an import. Over disks that tell no contents a link may be settled
 -- by updates of whatever blocks were read: then some of them, and of what answers them, was sent and delivered.

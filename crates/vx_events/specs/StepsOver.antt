@@ -20,6 +20,7 @@ use Rattle.vx_events.specs.GroupViews.{noted_table}
 use Rattle.vx_events.specs.LinkedFacts.{linked_fact}
 use Rattle.vx_events.specs.Lines.{IsDone, IsRefusedLine}
 use Rattle.vx_events.specs.declared.said.Said.{Said}
+use Rattle.vx_events.specs.declared.said.Said.TheVariants.{Resumed}
 
 -- ---- what the tests of a line see
 
@@ -85,12 +86,18 @@ group_place w other = 0
 
 -- ---- lines
 
--- a recovery of a bare site, of whose disks nothing is told, found a group that was kept on them, or none
+-- nothing is said of a write that was cut
+abbrev pub ShowsNoCut : Said → Type 0
+ShowsNoCut (Resumed view kept) = kept ≡ None
+ShowsNoCut other = Unit {0}
+
+-- a recovery of a bare site, of whose disks nothing is told, found a group that was kept on them
 pub record FindsKept (told : Type 0) (d : Doubted) (line : ScriptLine) (s : ℕ) (fails : Fails) (said : Said) (new : Doubted) : Type 0 where
   pub untold : told → ⊥
   pub site : List ℕ
   pub recovers : line ≡ Recover site
   pub bare : (d.world.nodes s).state ≡ Bare
+  pub shows : ShowsNoCut said
   pub ends : GroupEnds told d line s fails said new
 
 -- a line that no test refuses: one that works on a group, or another

@@ -16,6 +16,8 @@ ghost use Rattle.vx_script.specs.declared.line.ScriptLine.{ScriptLine};
 ghost use Rattle.vx_script.specs.declared.line.ScriptLine.TheVariants.{Site, Raw, Crash, Write as WriteLine, Put, Read, Show, Apply};
 ghost use Rattle.vx_events.specs.Facts.{facts_of, site_number, volume_number};
 ghost use Rattle.vx_events.specs.GroupEnds.{GroupEnds, GroupStops};
+ghost use Rattle.vx_events.specs.GroupNotes.{note_at};
+ghost use Rattle.vx_events.specs.Known.{MayDarken};
 ghost use Rattle.vx_events.specs.Fails.{AreBorne, Fails};
 ghost use Rattle.vx_events.specs.Lines.{LineStep, is_of_links};
 ghost use Rattle.vx_events.specs.Lists.{Choice};
@@ -74,6 +76,13 @@ pub fn group_lines_are_events()
         → GroupStops d new }
 {}
 
+/// It stays known what the disks of a group hold, but for a recovery or an import of disks that may not agree, and for one that is refused. So it is known
+/// from the making of the group on.
+pub fn known_disks_stay_known()
+    ensures { (d : Doubted) (line : ScriptLine) (s : ℕ) (fails : Fails) (said : Said) (new : Doubted) → GroupEnds (Unit {0}) d line s fails said new
+        → (note_at (d.world.nodes s)).dark ≡ false → (MayDarken (note_at (d.world.nodes s)) line said → ⊥) → (note_at (new.world.nodes s)).dark ≡ false }
+{}
+
 /// In a world without groups of disks, over disks that tell their contents, a line that makes none does what it does there. A line that works on a group, and is refused or not, ends as
 /// events of the world do.
 pub fn steps_over_groups()
@@ -91,7 +100,7 @@ pub fn only_groups_bear()
 {}
 
 /// Where memory runs out within a line that does not go in parts nothing is done, whether disks tell their contents or not; of one that does, any first
-/// part of its events may be. Of a recovery of a group that is up the crash may be, and an import may have read its disks under a fuse. Where disks tell
+/// part of its events may be. Of a recovery of a group that is up the crash may be, an import may have read its disks under a fuse, and of disks that may not agree nothing may be known behind either. Where disks tell
 /// their contents nothing else is.
 pub fn memory_leaves_a_part()
     ensures none { (d : Doubted) (line : ScriptLine) (new : Doubted) → goes_in_parts line ≡ false → DonePart d line new → new ≡ d }

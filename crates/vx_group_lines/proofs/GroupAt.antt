@@ -1,6 +1,6 @@
 -- The group of the site that a line names.
-use Rattle.std.proofs.Common.{◌≡◌, ◌∙◌, ◌<◌, ℕ, true, List, ap, sym, subst, refl}
-use Rattle.std.specs.Prelude.{Option, Some, None, slice_get, unwrap_or}
+use Rattle.std.proofs.Common.{◌≡◌, ◌∙◌, ◌<◌, ℕ, Bool, true, false, List, ap, sym, subst, refl, IsTrue}
+use Rattle.std.specs.Prelude.{Option, Some, None, not, slice_get, unwrap_or}
 use Rattle.vx_model.specs.declared.site.SiteState.TheVariants.{Bare as IsBare, Up as IsUp, Deported as IsDeported, Down as IsDown}
 use Rattle.vx_disk.specs.declared.shelf.Shelf.{Ghosts}
 use Rattle.vx_history.specs.Doubts.{Doubted}
@@ -8,7 +8,8 @@ use Rattle.vx_history.specs.Groups.{GroupNode}
 use Rattle.vx_history.specs.World.{Node}
 use Rattle.vx_order.specs.declared.facts.SiteFacts.{SiteFacts}
 use Rattle.vx_grouped.specs.Ends.{plain_write}
-use Rattle.vx_grouped.specs.GroupSites.{AwayNoted, DownNoted, GroupSiteStands, NotesGroup, UpNoted}
+use Rattle.vx_grouped.specs.GroupSites.{AwayNoted, DownNoted, GroupSiteStands, NotesGroup, UpNoted, site_below, site_disks}
+use Rattle.vx_grouped.specs.SiteReturns.{is_dimmed}
 use Rattle.vx_grouped.specs.declared.group_site.GroupSite.{GroupSite}
 use Rattle.vx_grouped.specs.declared.group_site.GroupSite.TheVariants.{Up, Deported, Down, Marked, Gone}
 use Rattle.vx_diskset.specs.GroupCalls.{AtSite}
@@ -55,6 +56,11 @@ pub no_value : (o : Option CutWrite) → cut_value o ≡ None → o ≡ None
 no_value None is = refl
 no_value (Some x) is = absurd (let e : Some (plain_write x.volume x.block x.bytes) ≡ None = is in cc)
 
+loose_by : (loose agreed : Bool) → (loose ≡ false → agreed ≡ true) → not agreed ≡ true → loose ≡ true
+loose_by true agreed agrees dims = refl
+loose_by false true agrees dims = absurd (cc)
+loose_by false false agrees dims = absurd (let e : false ≡ true = agrees refl in cc)
+
 module _ {R : Type 0} {g : Ghosts R} where
   -- a site that is up has its group up, with the note that it has
   pub up_noted : (n : Node) (e : GroupSite R g) → GroupSiteStands n e → n.state ≡ IsUp → UpNoted n (note_at n) e
@@ -77,6 +83,44 @@ module _ {R : Type 0} {g : Ghosts R} where
   down_noted n (Down rack) (note, it) down = subst (λ (k : GroupNode). DownNoted {g = g} n k (Down rack)) (note_is n note it.noted) it
   down_noted n (Marked rack) it down = absurd (bare_down (sym it.state ∙ down))
   down_noted n Gone it down = absurd it
+
+  -- ---- what is told of the disks: what the rack tells, where it is known what they hold
+
+  pub lit_up : (n : Node) (note : GroupNode) (e : GroupSite R g) → UpNoted n note e → note.dark ≡ false → IsTrue (site_below e).tells → IsTrue (site_disks e).tells
+  lit_up n note (Up group) it bright tells = it.lit bright tells
+  lit_up n note (Deported rack) it bright tells = absurd it
+  lit_up n note (Down rack) it bright tells = absurd it
+  lit_up n note (Marked rack) it bright tells = absurd it
+  lit_up n note Gone it bright tells = absurd it
+
+  pub lit_away : (n : Node) (note : GroupNode) (e : GroupSite R g) → AwayNoted n note e → note.dark ≡ false → IsTrue (site_below e).tells → IsTrue (site_disks e).tells
+  lit_away n note (Up group) it bright tells = absurd it
+  lit_away n note (Deported idle) it bright tells = it.lit bright tells
+  lit_away n note (Down rack) it bright tells = absurd it
+  lit_away n note (Marked rack) it bright tells = absurd it
+  lit_away n note Gone it bright tells = absurd it
+
+  pub lit_down : (n : Node) (note : GroupNode) (e : GroupSite R g) → DownNoted n note e → note.dark ≡ false → IsTrue (site_below e).tells → IsTrue (site_disks e).tells
+  lit_down n note (Up group) it bright tells = absurd it
+  lit_down n note (Deported rack) it bright tells = absurd it
+  lit_down n note (Down idle) it bright tells = it.lit bright tells
+  lit_down n note (Marked rack) it bright tells = absurd it
+  lit_down n note Gone it bright tells = absurd it
+
+  -- imports that may disagree are noted
+  pub loose_away : (n : Node) (note : GroupNode) (e : GroupSite R g) → AwayNoted n note e → is_dimmed e ≡ true → note.loose ≡ true
+  loose_away n note (Up group) it dims = absurd it
+  loose_away n note (Deported idle) it dims = loose_by note.loose idle.agreed it.agrees dims
+  loose_away n note (Down rack) it dims = absurd it
+  loose_away n note (Marked rack) it dims = absurd it
+  loose_away n note Gone it dims = absurd it
+
+  pub loose_down : (n : Node) (note : GroupNode) (e : GroupSite R g) → DownNoted n note e → is_dimmed e ≡ true → note.loose ≡ true
+  loose_down n note (Up group) it dims = absurd it
+  loose_down n note (Deported rack) it dims = absurd it
+  loose_down n note (Down idle) it dims = loose_by note.loose idle.agreed it.agrees dims
+  loose_down n note (Marked rack) it dims = absurd it
+  loose_down n note Gone it dims = absurd it
 
   -- ---- and back
 

@@ -1,6 +1,6 @@
 -- The line that imports a group that was deported.
 use Rattle.std.proofs.Common.{◌≡◌, ◌∙◌, ◌⊎◌, ◌+◌, ◌<◌, ℕ, Bool, true, false, List, map, ap, sym, subst, refl, arith, inl, inr, IsTrue}
-use Rattle.std.specs.Prelude.{Contains, Option, Some, None, IsFalse, slice_get, slice_set, Result, Ok, Err}
+use Rattle.std.specs.Prelude.{Contains, Option, Some, None, IsFalse, slice_get, slice_set, Result, Ok, Err, not}
 use Rattle.std.proofs.lemmas.Option.{slice_get_within}
 use Rattle.vx_model.specs.declared.errors.OutOfMemory.{OutOfMemory}
 use Rattle.vx_model.specs.declared.errors.Stop.{Stop}
@@ -21,7 +21,7 @@ use Rattle.vx_history.specs.Doubts.{Doubted, happened}
 use Rattle.vx_history.specs.Groups.{GroupNode}
 use Rattle.vx_history.specs.Steps.{burned, crashed, group_up, worked_on}
 use Rattle.vx_history.specs.Stops.{IsFused}
-use Rattle.vx_history.specs.World.{Node, NoFuse, World}
+use Rattle.vx_history.specs.World.{Node, NoFuse}
 use Rattle.vx_history.specs.declared.event.Event.TheVariants.{Crash as CrashAt, Group as GroupAt_}
 use Rattle.vx_history.specs.Sound.{is_at_rest}
 use Rattle.vx_order.specs.declared.facts.SiteFacts.{SiteFacts}
@@ -32,10 +32,10 @@ use Rattle.vx_untold.specs.declared.shade.Shade.{Shade}
 use Rattle.vx_untold.specs.declared.shade.Shade.TheVariants.{Bright, Dark}
 use Rattle.vx_watched.specs.Since.{is_rack}
 use Rattle.vx_grouped.proofs.ReadyLemmas.{imported_same}
-use Rattle.vx_grouped.specs.GroupSites.{AwayNoted, DownNoted, HasNoRvg, UpNoted, site_config, site_disks, with_note}
+use Rattle.vx_grouped.specs.GroupSites.{AwayNoted, DownNoted, HasNoRvg, UpNoted, site_config, site_disks, with_note, dimmed_site, site_below}
 use Rattle.vx_grouped.specs.Readies.{ready_of}
-use Rattle.vx_grouped.specs.SiteEnds.{HasNow, burned_site, stops_down}
-use Rattle.vx_grouped.specs.SiteReturns.{ConfigReturns, ImportRefused, ImportWhy, KeepsFuse, NoteReturns, SiteImports, as_imported, returned_with}
+use Rattle.vx_grouped.specs.SiteEnds.{HasNow, stops_down}
+use Rattle.vx_grouped.specs.SiteReturns.{ConfigReturns, ImportRefused, ImportWhy, KeepsFuse, NoteReturns, SiteImports, as_imported, returned_with, is_dimmed, stops_early}
 use Rattle.vx_grouped.specs.declared.group_site.GroupSite.{GroupSite}
 use Rattle.vx_grouped.specs.declared.group_site.GroupSite.TheVariants.{Up as SiteUp, Deported as SiteAway, Down as SiteDown, Marked, Gone as SiteGone}
 use Rattle.vx_diskset.specs.Asked.{FusedAs, SameFailing, disks_told}
@@ -46,12 +46,11 @@ use Rattle.vx_diskset.specs.Stands.{IsToldAt}
 use Rattle.vx_diskset.specs.declared.disk_set.DiskSet.{DiskSet}
 use Rattle.vx_diskset.specs.declared.disk_set.DiskSet.TheVariants.{OfGroup}
 use Rattle.vx_diskset.specs.declared.group_set.GroupSet.{GroupSet}
-use Rattle.vx_events.specs.Ends.{IsNoDevice}
 use Rattle.vx_events.specs.Fails.{Fails}
-use Rattle.vx_events.specs.Parts.{StopsRead}
+use Rattle.vx_events.specs.Parts.{StopsRead, StopsShort}
 use Rattle.vx_events.specs.GroupEnds.{AreOf, FindsNoGroup, GroupCut, GroupDone, GroupEnds, GroupFails, GroupNotFound, ImportFails, ImportRefuses, KnowsNothing, NotFound}
 use Rattle.vx_events.specs.GroupLines.{fuse_lost, noting}
-use Rattle.vx_events.specs.GroupNotes.{note_at}
+use Rattle.vx_events.specs.GroupNotes.{note_at, NotesShort}
 use Rattle.vx_events.specs.GroupViews.{plain_fact}
 use Rattle.vx_events.specs.StepsOver.{fact_of_group, group_place, over_group_at}
 use Rattle.vx_events.specs.declared.said.Said.{Said}
@@ -69,13 +68,16 @@ use Rattle.vx_yard.specs.declared.yard.Yard.{Yard}
 use Rattle.vx_group_lines.proofs.Arriving.{Arrives, arrives_crash, arrives_unfused, arrives_up, arrives_worked}
 use Rattle.vx_group_lines.proofs.Changing.{notes_table}
 use Rattle.vx_group_lines.proofs.Choosing.{or_stops}
-use Rattle.vx_group_lines.proofs.GroupAt.{away_notes, down_notes, no_value, uncut, up_notes}
+use Rattle.vx_group_lines.proofs.GroupAt.{away_notes, down_notes, no_value, uncut, up_notes, lit_away, lit_up, loose_away}
 use Rattle.vx_group_lines.proofs.GroupCalls.{Called, SetThen, called_to, calls, calls_all, calls_are, calls_named, calls_none, cut_of, failing_to, fused_goes, sets_then, sized}
 use Rattle.vx_group_lines.proofs.GroupEnding.{IsQuiet, Midway, load_on, lets_on}
 use Rattle.vx_group_lines.proofs.GroupLeads.{Follows, away_set, down_set, follows_off, follows_on, leads_by, up_set}
-use Rattle.vx_group_lines.proofs.GroupMarks.{begins_at, group_noted_at, none_as, noting_same}
+use Rattle.vx_group_lines.proofs.GroupMarks.{begins_at, group_noted_at, none_as}
 use Rattle.vx_group_lines.proofs.Returning.{SitsOn, back_of}
 use Rattle.vx_group_lines.specs.Noting.{IsNotedRefusal, reply_noted}
+use Rattle.vx_grouped.specs.GroupNotes.{note_dimmed}
+use Rattle.vx_events.specs.Doubts.{IsAs}
+use Rattle.vx_group_lines.proofs.Dimming.{KnownBy, dimmed_by, early_known, knows_none, notes_refused, notes_short}
 
 -- ---- the disks as an import sees them
 
@@ -86,10 +88,14 @@ ready_disks meaning false (Bright r) = refl
 
 -- ---- why it was refused
 
+-- whether such a refusal may come behind the first write
+abbrev pub is_late : No → Bool
+is_late why = not (stops_early (StopsBy why))
+
 -- a reason that the world knows, of which the tests see nothing
-pub record Why (told : Type 0) (s : ℕ) (note : GroupNode) (fails : Fails) (why : No) : Type 0 where
+pub record Why (told : Type 0) (dims : Bool) (s : ℕ) (note : GroupNode) (fails : Fails) (why : No) : Type 0 where
   pub quiet : IsQuiet why
-  pub known : NotFound s note fails why ⊎ (KnowsNothing told note × IsNoDevice why)
+  pub known : KnownBy told (is_late why) dims s note fails why
   pub refuses : ImportRefuses told s note fails why
 
 limit_most : (s : ℕ) (note : GroupNode) (fails : Fails) (what : Counted) (most : ℕ) → what ≡ Numbers → most ≡ greatest → NotFound s note fails (Limit what most)
@@ -98,44 +104,51 @@ limit_most s note fails what most is most_is = subst (λ (w : Counted). NotFound
 quiet_limit : (what : Counted) (most : ℕ) → IsQuiet (Limit what most)
 quiet_limit what most = record { facts = λ f. refl; loads = λ s a b h. h }
 
-module _ (told : Type 0) (s : ℕ) (note : GroupNode) (fails : Fails) (told_new : Type 0) (tells : told → told_new) (o e : Meaning) where
+module _ (told : Type 0) (dims : Bool) (s : ℕ) (note : GroupNode) (fails : Fails) (told_new : Type 0) (loose : dims ≡ true → note.loose ≡ true) (o e : Meaning) where
   -- every reason but a device and a fuse
-  pub why_is : (why : No) → ((k : ℕ) → why ≡ Missing k → Rose (o.disk_faults k) (e.disk_faults k) → Contains fails (s, k)) → ImportWhy told_new o e (StopsBy why) → ((disk : ℕ) → why ≡ Device disk → ⊥) → (why ≡ IsOff → ⊥)
-      → Why told s note fails why
-  why_is (Device disk) names it not_device not_off = absurd (not_device disk refl)
-  why_is IsOff names it not_device not_off = absurd (not_off refl)
-  why_is (Missing disk) names it not_device not_off = record { quiet = record { facts = λ f. refl; loads = λ s a b h. h }; known = inl (names disk refl it); refuses = inl (names disk refl it) }
-  why_is NoConfig names it not_device not_off = record { quiet = record { facts = λ f. refl; loads = λ s a b h. h }; known = inl tt; refuses = inl tt }
-  why_is (Limit what most) names it not_device not_off =
-      record { quiet = quiet_limit what most; known = inl (limit_most s note fails what most it.0 it.1); refuses = inl (limit_most s note fails what most it.0 it.1) }
-  why_is (Damaged unit block stored computed) names it not_device not_off = record {
+  pub why_is : (why : No) → (told → (dimmed_by (is_late why) dims note).dark ≡ false → told_new) → ((k : ℕ) → why ≡ Missing k → Rose (o.disk_faults k) (e.disk_faults k) → Contains fails (s, k)) → ImportWhy told_new o e (StopsBy why)
+      → ((disk : ℕ) → why ≡ Device disk → ⊥) → (why ≡ IsOff → ⊥) → Why told dims s note fails why
+  why_is (Device disk) tells names it not_device not_off = absurd (not_device disk refl)
+  why_is IsOff tells names it not_device not_off = absurd (not_off refl)
+  why_is (Missing disk) tells names it not_device not_off = record {
     quiet = record { facts = λ f. refl; loads = λ s a b h. h };
-    known = inr (inl (λ yes_. it (tells yes_)), tt);
-    refuses = inr (inl (λ yes_. it (tells yes_)), tt);
+    known = early_known told dims s note fails (Missing disk) loose (names disk refl it) tt (λ k. refl);
+    refuses = inl (names disk refl it);
   }
-  why_is (Format version) names it not_device not_off = record {
+  why_is NoConfig tells names it not_device not_off = record {
     quiet = record { facts = λ f. refl; loads = λ s a b h. h };
-    known = inr (inl (λ yes_. it (tells yes_)), tt);
-    refuses = inr (inl (λ yes_. it (tells yes_)), tt);
+    known = early_known told dims s note fails NoConfig loose tt tt (λ k. refl);
+    refuses = inl tt;
   }
-  why_is (Unknown what) names it not_device not_off = absurd it
-  why_is (Exists name) names it not_device not_off = absurd it
-  why_is Range names it not_device not_off = absurd it
-  why_is Size names it not_device not_off = absurd it
-  why_is Role names it not_device not_off = absurd it
-  why_is LastPlex names it not_device not_off = absurd it
-  why_is (Space need have) names it not_device not_off = absurd it
-  why_is (LogFull link) names it not_device not_off = absurd it
-  why_is (Stalled link) names it not_device not_off = absurd it
-  why_is (LinkDown link) names it not_device not_off = absurd it
-  why_is (Unconfirmed number) names it not_device not_off = absurd it
-  why_is Inconsistent names it not_device not_off = absurd it
-  why_is (Behind stored head) names it not_device not_off = absurd it
-  why_is (Replaying link) names it not_device not_off = absurd it
-  why_is (Halted disk) names it not_device not_off = absurd it
-  why_is (Gap low need) names it not_device not_off = absurd it
-  why_is Paused names it not_device not_off = absurd it
-  why_is (Unsettled stored head) names it not_device not_off = absurd it
+  why_is (Limit what most) tells names it not_device not_off = record {
+    quiet = quiet_limit what most;
+    known = subst (λ (w : Counted). KnownBy told true dims s note fails (Limit w most)) (sym it.0) (inl (it.1, notes_refused true dims note));
+    refuses = inl (limit_most s note fails what most it.0 it.1);
+  }
+  why_is (Damaged unit block stored computed) tells names it not_device not_off =
+      let nothing : KnowsNothing told note = knows_none told dims note loose (λ yes_ bright. it (tells yes_ bright)) in
+      record { quiet = record { facts = λ f. refl; loads = λ s a b h. h }; known = inr (nothing, tt); refuses = inr (nothing, tt) }
+  why_is (Format version) tells names it not_device not_off =
+      let nothing : KnowsNothing told note = knows_none told dims note loose (λ yes_ bright. it (tells yes_ bright)) in
+      record { quiet = record { facts = λ f. refl; loads = λ s a b h. h }; known = inr (nothing, tt); refuses = inr (nothing, tt) }
+  why_is (Unknown what) tells names it not_device not_off = absurd it
+  why_is (Exists name) tells names it not_device not_off = absurd it
+  why_is Range tells names it not_device not_off = absurd it
+  why_is Size tells names it not_device not_off = absurd it
+  why_is Role tells names it not_device not_off = absurd it
+  why_is LastPlex tells names it not_device not_off = absurd it
+  why_is (Space need have) tells names it not_device not_off = absurd it
+  why_is (LogFull link) tells names it not_device not_off = absurd it
+  why_is (Stalled link) tells names it not_device not_off = absurd it
+  why_is (LinkDown link) tells names it not_device not_off = absurd it
+  why_is (Unconfirmed number) tells names it not_device not_off = absurd it
+  why_is Inconsistent tells names it not_device not_off = absurd it
+  why_is (Behind stored head) tells names it not_device not_off = absurd it
+  why_is (Replaying link) tells names it not_device not_off = absurd it
+  why_is (Halted disk) tells names it not_device not_off = absurd it
+  why_is (Gap low need) tells names it not_device not_off = absurd it
+  why_is Paused tells names it not_device not_off = absurd it
+  why_is (Unsettled stored head) tells names it not_device not_off = absurd it
 
 -- the disk of a reason
 abbrev why_disk : No → ℕ
@@ -161,10 +174,12 @@ module _ {R : Type 0} {g : Ghosts R} where
   imported_disks (Marked rack) = refl
   imported_disks SiteGone = refl
 
-  away_unfused : (n : Node) (note : GroupNode) (e : GroupSite R g) → AwayNoted (burned_site n) note e → IsFalse (site_disks e).armed → AwayNoted (unfused_with note n) note e
+  away_unfused : (n : Node) (note : GroupNode) (e : GroupSite R g) → AwayNoted (with_note note n) note e → IsFalse (site_disks e).armed → AwayNoted (unfused_with note n) note e
   away_unfused n note (SiteUp group) it unarmed = absurd it
   away_unfused n note (SiteAway idle) it unarmed = record {
-    noted = record { is = refl; none = none_as (burned_site n) (unfused_with note n) refl refl refl refl refl it.noted.none };
+    noted = record { is = refl; none = none_as (with_note note n) (unfused_with note n) refl refl refl refl refl it.noted.none };
+    lit = it.lit;
+    agrees = it.agrees;
     up = it.up;
     fuse = unarmed;
     last = it.last;
@@ -188,9 +203,6 @@ module _ {R : Type 0} {g : Ghosts R} where
   away_unfused n note (SiteDown idle) it unarmed = absurd it
   away_unfused n note (Marked rack) it unarmed = absurd it
   away_unfused n note SiteGone it unarmed = absurd it
-
-  away_burned : (n : Node) (note : GroupNode) (e : GroupSite R g) → n.group ≡ Some note → AwayNoted (burned_site n) note e → AwayNoted (with_note note n) note e
-  away_burned n note e is noted = subst (λ (o : Option GroupNode). let m : Node = record n { group = o; fuse = burned n.fuse } in AwayNoted m note e) is noted
 
   sits_away : (n : Node) (note : GroupNode) (e : GroupSite R g) → AwayNoted n note e → SitsOn n (as_imported e)
   sits_away n note (SiteUp laid) it = absurd it
@@ -219,41 +231,41 @@ module _ {R : Type 0} {g : Ghosts R} where
       (λ o x at now. keeps.goes o x (imported_disks set.site ∙ at) now) (subst (λ (y : DiskSet R g). FusedAs n y) was h)
 
   -- what a refused import left, by its reason
-  abbrev pub StaysAway : Node → GroupNode → Meaning → GroupSite R g → Type 0
-  StaysAway n note old e = AwayNoted (burned_site n) note e × (IsFalse (site_disks e).armed ⊎ KeepsFuse old (site_disks e))
+  abbrev pub StaysAway : (late dims : Bool) → Node → GroupNode → Meaning → GroupSite R g → Type 0
+  StaysAway late dims n note old e = AwayNoted (with_note (dimmed_by late dims note) n) (dimmed_by late dims note) e × (IsFalse (site_disks e).armed ⊎ KeepsFuse old (site_disks e))
 
-  abbrev pub ImportCases : Node → GroupNode → Meaning → GroupSite R g → No → Type 0
-  ImportCases n note old e why =
-      ((disk : ℕ) × (why ≡ Device disk) × StaysAway n note old e × Rose (old.disk_faults disk) ((site_disks e).disk_faults disk))
-      ⊎ ((why ≡ IsOff) × DownNoted (crashed (returned_with note n) 0) note e × IsFused n.fuse)
-      ⊎ (StaysAway n note old e × ImportWhy (IsTrue (site_disks e).tells) old (site_disks e) (StopsBy why) × ((disk : ℕ) → why ≡ Device disk → ⊥) × (why ≡ IsOff → ⊥))
+  abbrev pub ImportCases : Bool → Node → GroupNode → Meaning → GroupSite R g → No → Type 0
+  ImportCases dims n note old e why =
+      ((disk : ℕ) × (why ≡ Device disk) × StaysAway true dims n note old e × Rose (old.disk_faults disk) ((site_disks e).disk_faults disk))
+      ⊎ ((why ≡ IsOff) × DownNoted (crashed (returned_with (dimmed_by true dims note) n) 0) (dimmed_by true dims note) e × IsFused n.fuse)
+      ⊎ (StaysAway (is_late why) dims n note old e × ImportWhy (IsTrue (site_disks e).tells) old (site_disks e) (StopsBy why) × ((disk : ℕ) → why ≡ Device disk → ⊥) × (why ≡ IsOff → ⊥))
 
-  import_cases : (n : Node) (note : GroupNode) (old : Meaning) (e : GroupSite R g) (why : No) → ImportRefused (stops_down (StopsBy why)) n note old e (StopsBy why) → ImportCases n note old e why
-  import_cases n note old e (Device disk) it = inl (disk, refl, (it.0, it.1), it.2)
-  import_cases n note old e IsOff it = inr (inl (refl, it.0, it.1))
-  import_cases n note old e (Unknown what) it = inr (inr ((it.0, it.1), it.2, (λ k w. absurd (cc)), λ w. absurd (cc)))
-  import_cases n note old e (Exists name) it = inr (inr ((it.0, it.1), it.2, (λ k w. absurd (cc)), λ w. absurd (cc)))
-  import_cases n note old e Range it = inr (inr ((it.0, it.1), it.2, (λ k w. absurd (cc)), λ w. absurd (cc)))
-  import_cases n note old e Size it = inr (inr ((it.0, it.1), it.2, (λ k w. absurd (cc)), λ w. absurd (cc)))
-  import_cases n note old e Role it = inr (inr ((it.0, it.1), it.2, (λ k w. absurd (cc)), λ w. absurd (cc)))
-  import_cases n note old e (Missing disk) it = inr (inr ((it.0, it.1), it.2, (λ k w. absurd (cc)), λ w. absurd (cc)))
-  import_cases n note old e NoConfig it = inr (inr ((it.0, it.1), it.2, (λ k w. absurd (cc)), λ w. absurd (cc)))
-  import_cases n note old e LastPlex it = inr (inr ((it.0, it.1), it.2, (λ k w. absurd (cc)), λ w. absurd (cc)))
-  import_cases n note old e (Space need have) it = inr (inr ((it.0, it.1), it.2, (λ k w. absurd (cc)), λ w. absurd (cc)))
-  import_cases n note old e (LogFull link) it = inr (inr ((it.0, it.1), it.2, (λ k w. absurd (cc)), λ w. absurd (cc)))
-  import_cases n note old e (Stalled link) it = inr (inr ((it.0, it.1), it.2, (λ k w. absurd (cc)), λ w. absurd (cc)))
-  import_cases n note old e (LinkDown link) it = inr (inr ((it.0, it.1), it.2, (λ k w. absurd (cc)), λ w. absurd (cc)))
-  import_cases n note old e (Unconfirmed number) it = inr (inr ((it.0, it.1), it.2, (λ k w. absurd (cc)), λ w. absurd (cc)))
-  import_cases n note old e Inconsistent it = inr (inr ((it.0, it.1), it.2, (λ k w. absurd (cc)), λ w. absurd (cc)))
-  import_cases n note old e (Behind stored head) it = inr (inr ((it.0, it.1), it.2, (λ k w. absurd (cc)), λ w. absurd (cc)))
-  import_cases n note old e (Replaying link) it = inr (inr ((it.0, it.1), it.2, (λ k w. absurd (cc)), λ w. absurd (cc)))
-  import_cases n note old e (Limit what most) it = inr (inr ((it.0, it.1), it.2, (λ k w. absurd (cc)), λ w. absurd (cc)))
-  import_cases n note old e (Halted disk) it = inr (inr ((it.0, it.1), it.2, (λ k w. absurd (cc)), λ w. absurd (cc)))
-  import_cases n note old e (Gap low need) it = inr (inr ((it.0, it.1), it.2, (λ k w. absurd (cc)), λ w. absurd (cc)))
-  import_cases n note old e (Damaged unit block stored computed) it = inr (inr ((it.0, it.1), it.2, (λ k w. absurd (cc)), λ w. absurd (cc)))
-  import_cases n note old e Paused it = inr (inr ((it.0, it.1), it.2, (λ k w. absurd (cc)), λ w. absurd (cc)))
-  import_cases n note old e (Unsettled stored head) it = inr (inr ((it.0, it.1), it.2, (λ k w. absurd (cc)), λ w. absurd (cc)))
-  import_cases n note old e (Format version) it = inr (inr ((it.0, it.1), it.2, (λ k w. absurd (cc)), λ w. absurd (cc)))
+  import_cases : (dims : Bool) (n : Node) (note : GroupNode) (old : Meaning) (e : GroupSite R g) (why : No) → ImportRefused (stops_down (StopsBy why)) (dimmed_site dims note n) (note_dimmed dims note) old e (StopsBy why) → ImportCases dims n note old e why
+  import_cases dims n note old e (Device disk) it = inl (disk, refl, (it.0, it.1), it.2)
+  import_cases dims n note old e IsOff it = inr (inl (refl, it.0, it.1))
+  import_cases dims n note old e (Unknown what) it = inr (inr ((it.0, it.1), it.2, (λ k w. absurd (cc)), λ w. absurd (cc)))
+  import_cases dims n note old e (Exists name) it = inr (inr ((it.0, it.1), it.2, (λ k w. absurd (cc)), λ w. absurd (cc)))
+  import_cases dims n note old e Range it = inr (inr ((it.0, it.1), it.2, (λ k w. absurd (cc)), λ w. absurd (cc)))
+  import_cases dims n note old e Size it = inr (inr ((it.0, it.1), it.2, (λ k w. absurd (cc)), λ w. absurd (cc)))
+  import_cases dims n note old e Role it = inr (inr ((it.0, it.1), it.2, (λ k w. absurd (cc)), λ w. absurd (cc)))
+  import_cases dims n note old e (Missing disk) it = inr (inr ((it.0, it.1), it.2, (λ k w. absurd (cc)), λ w. absurd (cc)))
+  import_cases dims n note old e NoConfig it = inr (inr ((it.0, it.1), it.2, (λ k w. absurd (cc)), λ w. absurd (cc)))
+  import_cases dims n note old e LastPlex it = inr (inr ((it.0, it.1), it.2, (λ k w. absurd (cc)), λ w. absurd (cc)))
+  import_cases dims n note old e (Space need have) it = inr (inr ((it.0, it.1), it.2, (λ k w. absurd (cc)), λ w. absurd (cc)))
+  import_cases dims n note old e (LogFull link) it = inr (inr ((it.0, it.1), it.2, (λ k w. absurd (cc)), λ w. absurd (cc)))
+  import_cases dims n note old e (Stalled link) it = inr (inr ((it.0, it.1), it.2, (λ k w. absurd (cc)), λ w. absurd (cc)))
+  import_cases dims n note old e (LinkDown link) it = inr (inr ((it.0, it.1), it.2, (λ k w. absurd (cc)), λ w. absurd (cc)))
+  import_cases dims n note old e (Unconfirmed number) it = inr (inr ((it.0, it.1), it.2, (λ k w. absurd (cc)), λ w. absurd (cc)))
+  import_cases dims n note old e Inconsistent it = inr (inr ((it.0, it.1), it.2, (λ k w. absurd (cc)), λ w. absurd (cc)))
+  import_cases dims n note old e (Behind stored head) it = inr (inr ((it.0, it.1), it.2, (λ k w. absurd (cc)), λ w. absurd (cc)))
+  import_cases dims n note old e (Replaying link) it = inr (inr ((it.0, it.1), it.2, (λ k w. absurd (cc)), λ w. absurd (cc)))
+  import_cases dims n note old e (Limit what most) it = inr (inr ((it.0, it.1), it.2, (λ k w. absurd (cc)), λ w. absurd (cc)))
+  import_cases dims n note old e (Halted disk) it = inr (inr ((it.0, it.1), it.2, (λ k w. absurd (cc)), λ w. absurd (cc)))
+  import_cases dims n note old e (Gap low need) it = inr (inr ((it.0, it.1), it.2, (λ k w. absurd (cc)), λ w. absurd (cc)))
+  import_cases dims n note old e (Damaged unit block stored computed) it = inr (inr ((it.0, it.1), it.2, (λ k w. absurd (cc)), λ w. absurd (cc)))
+  import_cases dims n note old e Paused it = inr (inr ((it.0, it.1), it.2, (λ k w. absurd (cc)), λ w. absurd (cc)))
+  import_cases dims n note old e (Unsettled stored head) it = inr (inr ((it.0, it.1), it.2, (λ k w. absurd (cc)), λ w. absurd (cc)))
+  import_cases dims n note old e (Format version) it = inr (inr ((it.0, it.1), it.2, (λ k w. absurd (cc)), λ w. absurd (cc)))
 
   module _ (d : Doubted) (old new : Yard R g) (name : List ℕ) (s : ℕ) (before after : DiskSet R g) (stands : StandsFor d old) (call : Called d old new name s before after)
       (place : group_place d.world (GroupImport name) ≡ s) (away : (d.world.nodes s).state ≡ IsDeported) (noted : AwayNoted (d.world.nodes s) (note_at (d.world.nodes s)) call.at.set.site) where
@@ -274,10 +286,21 @@ module _ {R : Type 0} {g : Ghosts R} where
         calls_named d old new name s before after stands call call.at.set next call.at.is_set is many k low
         (subst (λ (x : ℕ). Rose x ((site_disks next.site).disk_faults k)) ((imported_same {R = R} {g = g} was_site).counts k) rose)
 
-    tells_at : (next : GroupSet R g) → after ≡ OfGroup next → IsTold new → IsTrue (site_disks next.site).tells
-    tells_at next is told =
+    told_at : (next : GroupSet R g) → after ≡ OfGroup next → IsTold new → IsTrue (site_below next.site).tells
+    told_at next is told =
         subst (λ (x : DiskSet R g). IsToldAt x) is
         (told.each s after (ap (λ (es : List (DiskSet R g)). slice_get es s) call.changed.disk_sets ∙ get-set_same old.disk_sets.items s after (slice_get_within old.disk_sets.items s before call.changed.there)))
+
+    -- imports that may disagree are noted
+    loose : is_dimmed call.at.set.site ≡ true → (note_at (d.world.nodes s)).loose ≡ true
+    loose is = loose_away n note was_site noted is
+
+    abbrev dims : Bool
+    dims = is_dimmed call.at.set.site
+
+    -- the note behind a refusal that came before the first write, or behind it
+    abbrev left : Bool → GroupNode
+    left late = dimmed_by late (is_dimmed call.at.set.site) (note_at (d.world.nodes s))
 
     note_clear : note.cut ≡ None
     note_clear =
@@ -296,9 +319,9 @@ module _ {R : Type 0} {g : Ghosts R} where
         let P : GroupSite R g → GroupSite R g → Type 0 = λ o e. SiteImports n note o e (Ok (tt {0})) in
         let then : SetThen (P was_site) after = sets_then P before after call.at.set call.at.is_set on in
         let next : GroupNode = then.holds.0.0 in
-        let back : NoteReturns (IsTrue (site_disks then.set.site).tells) note next = then.holds.0.1 in
+        let back : NoteReturns (IsTrue (site_disks then.set.site).tells) (note_dimmed dims note) next = then.holds.0.1 in
         let up : UpNoted (returned_with next n) next then.set.site = then.holds.0.2 in
-        let config : ConfigReturns note next (as_imported was_site) then.set.site = then.holds.0.3 in
+        let config : ConfigReturns (note_dimmed dims note) next (as_imported was_site) then.set.site = then.holds.0.3 in
         let keeps : KeepsFuse (as_imported was_site) (site_disks then.set.site) = then.holds.1 in
         let m : Node = returned_with next n in
         let e : Doubted = happened d (GroupAt_ s) false in
@@ -308,7 +331,7 @@ module _ {R : Type 0} {g : Ghosts R} where
         = subst (λ (x : DiskSet R g). AtSite (λ (site : GroupSite R g). site_config site ≡ Some config.now) x) (sym then.is) (config_now m next config.now then.set.site up config.has) in
         leads_by d last (GroupImport name) s (calls s old new n.disks) Done old new place
         (GroupDone next (calls_are d old new name s before after stands call n.disks)
-        (back_of (IsTold new) s n note next (as_imported was_site) then.set.site (calls s old new n.disks) (tells_at then.set then.is) (sits_away n note was_site noted) back config (names_at then.set then.is n.disks), refl)
+        (back_of (IsTold new) dims s n note next (as_imported was_site) then.set.site (calls s old new n.disks) (λ known. lit_up m next then.set.site up known.1 (told_at then.set then.is known.0)) (sits_away n note was_site noted) loose back config (names_at then.set then.is n.disks), refl)
         (record { world = refl; after = λ i. refl }))
         (follows_on d last s m next f old new before then.set stands call.at.below (called_to d old new name s before after stands call then.set then.is)
         (arrives_worked d e s (group_up n) next (d.world.gathering s)
@@ -323,52 +346,54 @@ module _ {R : Type 0} {g : Ghosts R} where
     -- ---- refused
 
     -- the disks are by themselves still, and their fuse as it was
-    pub stays_follows : (next : GroupSet R g) → after ≡ OfGroup next → AwayNoted (burned_site n) note next.site → KeepsFuse (as_imported was_site) (site_disks next.site) → cut_in after ≡ cut_in before
-        → new.facts.items ≡ old.facts.items → SameLoad old new → Follows d (record d { world = worked_on (noting d.world s note) s }) old new
-    stays_follows next is away_is keeps cut facts load =
-        let m : Node = with_note note n in
-        let there : AwayNoted m note next.site = away_burned n note next.site (group_noted_at d old name s before call.at) away_is in
-        follows_on d (record d { world = worked_on (noting d.world s note) s }) s m note (fact_of_group n note) old new before next stands call.at.below (called_to d old new name s before after stands call next is)
-        (arrives_worked d d s n note (d.world.gathering s) (begins_at d old name s before stands call.at))
-        (away_notes m note next.site there).0
-        (away_set m note next (record { few = (sized d old new name s before after stands call).few; some = (sized d old new name s before after stands call).some }) there
+    pub stays_follows : (late : Bool) (next : GroupSet R g) → after ≡ OfGroup next → AwayNoted (with_note (left late) (d.world.nodes s)) (left late) next.site → KeepsFuse (as_imported was_site) (site_disks next.site) → cut_in after ≡ cut_in before
+        → new.facts.items ≡ old.facts.items → SameLoad old new → Follows d (record d { world = worked_on (noting d.world s (left late)) s }) old new
+    stays_follows late next is there keeps cut facts load =
+        let k : GroupNode = left late in
+        let m : Node = with_note k n in
+        follows_on d (record d { world = worked_on (noting d.world s k) s }) s m k (fact_of_group n note) old new before next stands call.at.below (called_to d old new name s before after stands call next is)
+        (arrives_worked d d s n k (d.world.gathering s) (begins_at d old name s before stands call.at))
+        (away_notes m k next.site there).0
+        (away_set m k next (record { few = (sized d old new name s before after stands call).few; some = (sized d old new name s before after stands call).some }) there
         (cut_of d old new name s before after stands call next is None (cut ∙ ap (λ (x : DiskSet R g). cut_in x) call.at.is_set ∙ set_clear)) note_clear)
         (failing_to d old new name s before after stands call m next is refl)
         (fused_keeps n m before after call.at.set next call.at.is_set is refl call.failing keeps (stands.fuses s before call.at.below call.changed.there))
         refl (facts ∙ sym (set_same old.facts.items s (fact_of_group n note) call.at.fact)) load
 
     -- and the fuse is lost
-    pub lost_follows : (next : GroupSet R g) → after ≡ OfGroup next → AwayNoted (burned_site n) note next.site → IsFalse (site_disks next.site).armed → cut_in after ≡ cut_in before
-        → new.facts.items ≡ old.facts.items → SameLoad old new → Follows d (record d { world = fuse_lost (noting d.world s note) s }) old new
-    lost_follows next is away_is unarmed cut facts load =
-        let m : Node = unfused_with note n in
-        let there : AwayNoted m note next.site = away_unfused n note next.site away_is unarmed in
-        follows_on d (record d { world = fuse_lost (noting d.world s note) s }) s m note (fact_of_group n note) old new before next stands call.at.below (called_to d old new name s before after stands call next is)
-        (arrives_unfused d d s n note (d.world.gathering s) (begins_at d old name s before stands call.at))
-        (away_notes m note next.site there).0
-        (away_set m note next (record { few = (sized d old new name s before after stands call).few; some = (sized d old new name s before after stands call).some }) there
+    pub lost_follows : (late : Bool) (next : GroupSet R g) → after ≡ OfGroup next → AwayNoted (with_note (left late) (d.world.nodes s)) (left late) next.site → IsFalse (site_disks next.site).armed → cut_in after ≡ cut_in before
+        → new.facts.items ≡ old.facts.items → SameLoad old new → Follows d (record d { world = fuse_lost (noting d.world s (left late)) s }) old new
+    lost_follows late next is away_is unarmed cut facts load =
+        let k : GroupNode = left late in
+        let m : Node = unfused_with k n in
+        let there : AwayNoted m k next.site = away_unfused n k next.site away_is unarmed in
+        follows_on d (record d { world = fuse_lost (noting d.world s k) s }) s m k (fact_of_group n note) old new before next stands call.at.below (called_to d old new name s before after stands call next is)
+        (arrives_unfused d d s n k (d.world.gathering s) (begins_at d old name s before stands call.at))
+        (away_notes m k next.site there).0
+        (away_set m k next (record { few = (sized d old new name s before after stands call).few; some = (sized d old new name s before after stands call).some }) there
         (cut_of d old new name s before after stands call next is None (cut ∙ ap (λ (x : DiskSet R g). cut_in x) call.at.is_set ∙ set_clear)) note_clear)
         (failing_to d old new name s before after stands call m next is refl) (fused_none m (OfGroup next) refl)
         refl (facts ∙ sym (set_same old.facts.items s (fact_of_group n note) call.at.fact)) load
 
     -- the fuse ran out
-    pub import_off : (next : GroupSet R g) → after ≡ OfGroup next → DownNoted (crashed (returned_with note n) 0) note next.site → IsFused n.fuse → cut_in after ≡ cut_in before
+    pub import_off : (next : GroupSet R g) → after ≡ OfGroup next → DownNoted (crashed (returned_with (left true) (d.world.nodes s)) 0) (left true) next.site → IsFused n.fuse → cut_in after ≡ cut_in before
         → new.facts.items ≡ slice_set old.facts.items s (down_facts (fact_of_group (d.world.nodes s) (note_at (d.world.nodes s)))) → LetsGo old new s → LeadsOver d (GroupImport name) (Refused IsOff) old new
     import_off next is down fused cut facts lets =
-        let m : Node = crashed (returned_with note n) 0 in
+        let k : GroupNode = left true in
+        let m : Node = crashed (returned_with k n) 0 in
         let first : Doubted = happened d (GroupAt_ s) false in
         let e : Doubted = happened first (CrashAt s 0) false in
-        let last : Doubted = record e { world = worked_on (noting e.world s note) s } in
+        let last : Doubted = record e { world = worked_on (noting e.world s k) s } in
         let risen : Arrives d first s (group_up n) (d.world.gathering s)
         = arrives_up d d s n (d.world.gathering s) (begins_at d old name s before stands call.at) call.at.below (ap (λ t. is_at_rest t) away) none.role none.volumes none.log in
         let clear : cut_value next.cut ≡ None = cut_of d old new name s before after stands call next is None (cut ∙ ap (λ (x : DiskSet R g). cut_in x) call.at.is_set ∙ set_clear) in
         leads_by d last (GroupImport name) s (calls s old new n.disks) (Refused IsOff) old new place
-        (GroupCut note (calls_are d old new name s before after stands call n.disks) fused (record { config = refl; keeps = inl refl }) refl (record { world = refl; after = λ i. refl }))
-        (follows_off d last s m note (down_facts (fact_of_group n note)) old new before next stands call.at.below (called_to d old new name s before after stands call next is)
-        (arrives_worked d e s (crashed (group_up n) 0) note None (arrives_crash d first s (group_up n) (d.world.gathering s) risen (omega (arith, call.at.below, risen.site.sites)) refl none.log none.safe))
+        (GroupCut k (calls_are d old new name s before after stands call n.disks) fused (notes_refused true dims note) refl (record { world = refl; after = λ i. refl }))
+        (follows_off d last s m k (down_facts (fact_of_group n note)) old new before next stands call.at.below (called_to d old new name s before after stands call next is)
+        (arrives_worked d e s (crashed (group_up n) 0) k None (arrives_crash d first s (group_up n) (d.world.gathering s) risen (omega (arith, call.at.below, risen.site.sites)) refl none.log none.safe))
         (λ up. let w : IsDown ≡ IsUp = up in absurd (cc))
-        (down_notes m note next.site down).0
-        (down_set m note next (record { few = (sized d old new name s before after stands call).few; some = (sized d old new name s before after stands call).some }) down (clear ∙ sym note_clear)
+        (down_notes m k next.site down).0
+        (down_set m k next (record { few = (sized d old new name s before after stands call).few; some = (sized d old new name s before after stands call).some }) down (clear ∙ sym note_clear)
         (λ x at. let no : Some x ≡ None = sym at ∙ no_value next.cut clear in absurd (cc)))
         (failing_to d old new name s before after stands call m next is refl) (fused_none m (OfGroup next) refl) refl facts lets)
         (calls_all d old new name s before after stands call n.disks)
@@ -382,23 +407,23 @@ module _ {R : Type 0} {g : Ghosts R} where
           ∙ set_same old.facts.items s (fact_of_group (d.world.nodes s) (note_at (d.world.nodes s))) call.at.fact
 
       -- it was refused, and the disks are by themselves
-      away_leads : (why : No) (many : ℕ) (next : GroupSet R g) → after ≡ OfGroup next → StaysAway n note (as_imported was_site) next.site → new.facts.items ≡ old.facts.items → SameLoad old new
-          → GroupEnds (IsTold new) d (GroupImport name) s (calls s old new many) (Refused why) (record d { world = worked_on (noting d.world s note) s })
-          → GroupEnds (IsTold new) d (GroupImport name) s (calls s old new many) (Refused why) (record d { world = fuse_lost (noting d.world s note) s })
+      away_leads : (late : Bool) (why : No) (many : ℕ) (next : GroupSet R g) → after ≡ OfGroup next → StaysAway late dims n note (as_imported was_site) next.site → new.facts.items ≡ old.facts.items → SameLoad old new
+          → GroupEnds (IsTold new) d (GroupImport name) s (calls s old new many) (Refused why) (record d { world = worked_on (noting d.world s (left late)) s })
+          → GroupEnds (IsTold new) d (GroupImport name) s (calls s old new many) (Refused why) (record d { world = fuse_lost (noting d.world s (left late)) s })
           → LeadsOver d (GroupImport name) (Refused why) old new
-      away_leads why many next is (away_is, inl unarmed) facts load keeps lost =
-          leads_by d (record d { world = fuse_lost (noting d.world s note) s }) (GroupImport name) s (calls s old new many) (Refused why) old new place lost
-          (lost_follows next is away_is unarmed cut facts load) (calls_all d old new name s before after stands call many)
-      away_leads why many next is (away_is, inr fuse) facts load keeps lost =
-          leads_by d (record d { world = worked_on (noting d.world s note) s }) (GroupImport name) s (calls s old new many) (Refused why) old new place keeps
-          (stays_follows next is away_is fuse cut facts load) (calls_all d old new name s before after stands call many)
+      away_leads late why many next is (away_is, inl unarmed) facts load keeps lost =
+          leads_by d (record d { world = fuse_lost (noting d.world s (left late)) s }) (GroupImport name) s (calls s old new many) (Refused why) old new place lost
+          (lost_follows late next is away_is unarmed cut facts load) (calls_all d old new name s before after stands call many)
+      away_leads late why many next is (away_is, inr fuse) facts load keeps lost =
+          leads_by d (record d { world = worked_on (noting d.world s (left late)) s }) (GroupImport name) s (calls s old new many) (Refused why) old new place keeps
+          (stays_follows late next is away_is fuse cut facts load) (calls_all d old new name s before after stands call many)
 
-      known_ends : (why : No) (fails : Fails) → AreOf s fails → NotFound s note fails why ⊎ (KnowsNothing (IsTold new) note × IsNoDevice why)
-          → GroupEnds (IsTold new) d (GroupImport name) s fails (Refused why) (record d { world = worked_on (noting d.world s note) s })
-      known_ends why fails of (inl none) = GroupNotFound why of tt none refl (record { world = refl; after = λ i. refl })
-      known_ends why fails of (inr (nothing, device)) = FindsNoGroup note why of tt nothing device refl (record { world = refl; after = λ i. refl })
+      known_ends : (why : No) (fails : Fails) → AreOf s fails → KnownBy (IsTold new) (is_late why) dims s note fails why
+          → GroupEnds (IsTold new) d (GroupImport name) s fails (Refused why) (record d { world = worked_on (noting d.world s (left (is_late why))) s })
+      known_ends why fails of (inl (none, leaves)) = GroupNotFound why (left (is_late why)) of tt none leaves refl (record { world = refl; after = λ i. refl })
+      known_ends why fails of (inr (nothing, device)) = FindsNoGroup (left (is_late why)) why of tt nothing device (notes_refused (is_late why) dims note) refl (record { world = refl; after = λ i. refl })
 
-      by_case : (why : No) (next : GroupSet R g) → after ≡ OfGroup next → ImportCases n note (as_imported was_site) next.site why
+      by_case : (why : No) (next : GroupSet R g) → after ≡ OfGroup next → ImportCases dims n note (as_imported was_site) next.site why
           → IsNotedRefusal s (fact_of_group (d.world.nodes s) (note_at (d.world.nodes s))) why mid new result → LeadsOverIs d (GroupImport name) old new result
       by_case why next is (inl (disk, device, stays, rose)) refusal =
           let r : IsNotedRefusal s (fact_of_group n note) (Device disk) mid new result = subst (λ (w : No). IsNotedRefusal s (fact_of_group n note) w mid new result) device refusal in
@@ -406,9 +431,9 @@ module _ {R : Type 0} {g : Ghosts R} where
           let of = calls_are d old new name s before after stands call many in
           let has : Contains (calls s old new many) (s, disk) = names_at next is many disk (omega arith) rose in
           subst (λ (x : Result Said OutOfMemory). LeadsOverIs d (GroupImport name) old new x) (sym r.said)
-          (away_leads (Device disk) many next is stays (facts_still (noted_facts (Device disk) (fact_of_group n note)) refl r.facts) (load_on old mid new half r.same r.assemblies)
-          (GroupFails disk note of has (record { config = refl; keeps = inl refl }) refl (record { world = refl; after = λ i. refl }))
-          (ImportFails (Device disk) note name refl of has (record { config = refl; keeps = inl refl }) refl (record { world = refl; after = λ i. refl })))
+          (away_leads true (Device disk) many next is stays (facts_still (noted_facts (Device disk) (fact_of_group n note)) refl r.facts) (load_on old mid new half r.same r.assemblies)
+          (GroupFails disk (left true) of has (notes_refused true dims note) refl (record { world = refl; after = λ i. refl }))
+          (ImportFails (Device disk) (left true) name refl of has (notes_refused true dims note) refl (record { world = refl; after = λ i. refl })))
       by_case why next is (inr (inl (off, down, fused))) refusal =
           let r : IsNotedRefusal s (fact_of_group n note) IsOff mid new result = subst (λ (w : No). IsNotedRefusal s (fact_of_group n note) w mid new result) off refusal in
           subst (λ (x : Result Said OutOfMemory). LeadsOverIs d (GroupImport name) old new x) (sym r.said)
@@ -416,43 +441,43 @@ module _ {R : Type 0} {g : Ghosts R} where
       by_case why next is (inr (inr (stays, it, not_device, not_off))) refusal =
           let many : ℕ = why_disk why + 1 in
           let of = calls_are d old new name s before after stands call many in
-          let w : Why (IsTold new) s note (calls s old new many) why
-          = why_is (IsTold new) s note (calls s old new many) (IsTrue (site_disks next.site).tells) (tells_at next is) (as_imported was_site) (site_disks next.site) why
+          let w : Why (IsTold new) dims s note (calls s old new many) why
+          = why_is (IsTold new) dims s note (calls s old new many) (IsTrue (site_disks next.site).tells) loose (as_imported was_site) (site_disks next.site) why
+          (λ told bright. lit_away (with_note (left (is_late why)) n) (left (is_late why)) next.site stays.0 bright (told_at next is told))
           (λ k missing rose. names_at next is many k (omega (arith, ap (λ (x : No). why_disk x) missing)) rose) it not_device not_off in
           subst (λ (x : Result Said OutOfMemory). LeadsOverIs d (GroupImport name) old new x) (sym refusal.said)
-          (away_leads why many next is stays (facts_still (noted_facts why (fact_of_group n note)) (w.quiet.facts (fact_of_group n note)) refusal.facts)
+          (away_leads (is_late why) why many next is stays (facts_still (noted_facts why (fact_of_group n note)) (w.quiet.facts (fact_of_group n note)) refusal.facts)
           (load_on old mid new half refusal.same (w.quiet.loads s mid.assemblies.items new.assemblies.items refusal.assemblies))
           (known_ends why (calls s old new many) of w.known)
-          (ImportFails why note name refl of w.refuses (record { config = refl; keeps = inl refl }) refl (record { world = refl; after = λ i. refl })))
+          (ImportFails why (left (is_late why)) name refl of w.refuses (notes_refused (is_late why) dims note) refl (record { world = refl; after = λ i. refl })))
 
-      -- memory ran out: nothing was done, but the fuse may have burned, or be lost
-      memory_stops : (next : GroupSet R g) → after ≡ OfGroup next → StaysAway n note (as_imported was_site) next.site → over_group_at d.world name ≡ true → new ≡ mid → StopsFor d (GroupImport name) old new
+      -- memory ran out: nothing was done, but the fuse may have burned, or be lost, and it may not be known any more what the disks hold
+      memory_part : (new_is : Doubted) → over_group_at d.world name ≡ true
+          → IsAs d (worked_on (noting d.world s (left false)) s) new_is ⊎ IsAs d (fuse_lost (noting d.world s (left false)) s) new_is → StopsShort (IsTold new) d (GroupImport name) new_is
+      memory_part new_is over leads = StopsRead (record {
+        reads = over;
+        next = left false;
+        notes = subst (λ (k : ℕ). NotesShort (note_at (d.world.nodes k)) (left false)) (sym place) (notes_short dims note loose);
+        leads = subst (λ (k : ℕ). IsAs d (worked_on (noting d.world k (left false)) k) new_is ⊎ IsAs d (fuse_lost (noting d.world k (left false)) k) new_is) (sym place) leads;
+      })
+
+      memory_stops : (next : GroupSet R g) → after ≡ OfGroup next → StaysAway false dims n note (as_imported was_site) next.site → over_group_at d.world name ≡ true → new ≡ mid → StopsFor d (GroupImport name) old new
       memory_stops next is (away_is, inl unarmed) over same =
-          let follows = lost_follows next is away_is unarmed cut (ap (λ (y : Yard R g). y.facts.items) same ∙ half.facts) (subst (λ (y : Yard R g). SameLoad old y) (sym same) half.load) in
+          let follows = lost_follows false next is away_is unarmed cut (ap (λ (y : Yard R g). y.facts.items) same ∙ half.facts) (subst (λ (y : Yard R g). SameLoad old y) (sym same) half.load) in
+          let e : Doubted = record d { world = fuse_lost (noting d.world s (left false)) s } in
           record {
-            next = record d { world = fuse_lost (noting d.world s note) s };
-            part = StopsRead (record {
-              reads = over;
-              leads = inr (record {
-                world = ap (λ (v : World). fuse_lost v s) (noting_same d.world s note (group_noted_at d old name s before call.at)) ∙ ap (λ (k : ℕ). fuse_lost d.world k) (sym place);
-                after = λ i. refl;
-              });
-            });
+            next = e;
+            part = memory_part e over (inr (record { world = refl; after = λ i. refl }));
             stands = follows.stands;
             carries = follows.carries;
             rose = calls_none d old new name s before after stands call;
           }
       memory_stops next is (away_is, inr fuse) over same =
-          let follows = stays_follows next is away_is fuse cut (ap (λ (y : Yard R g). y.facts.items) same ∙ half.facts) (subst (λ (y : Yard R g). SameLoad old y) (sym same) half.load) in
+          let follows = stays_follows false next is away_is fuse cut (ap (λ (y : Yard R g). y.facts.items) same ∙ half.facts) (subst (λ (y : Yard R g). SameLoad old y) (sym same) half.load) in
+          let e : Doubted = record d { world = worked_on (noting d.world s (left false)) s } in
           record {
-            next = record d { world = worked_on (noting d.world s note) s };
-            part = StopsRead (record {
-              reads = over;
-              leads = inl (record {
-                world = ap (λ (v : World). worked_on v s) (noting_same d.world s note (group_noted_at d old name s before call.at)) ∙ ap (λ (k : ℕ). worked_on d.world k) (sym place);
-                after = λ i. refl;
-              });
-            });
+            next = e;
+            part = memory_part e over (inl (record { world = refl; after = λ i. refl }));
             stands = follows.stands;
             carries = follows.carries;
             rose = calls_none d old new name s before after stands call;
@@ -463,7 +488,7 @@ module _ {R : Type 0} {g : Ghosts R} where
       import_stopped (StopsBy why) on over refusal =
           let P : GroupSite R g → GroupSite R g → Type 0 = λ o e. SiteImports n note o e (Err (StopsBy why)) in
           let then : SetThen (P was_site) after = sets_then P before after call.at.set call.at.is_set on in
-          or_stops d (GroupImport name) old new result (by_case why then.set then.is (import_cases n note (as_imported was_site) then.set.site why then.holds) refusal)
+          or_stops d (GroupImport name) old new result (by_case why then.set then.is (import_cases dims n note (as_imported was_site) then.set.site why then.holds) refusal)
       import_stopped MemoryStop on over refusal =
           let P : GroupSite R g → GroupSite R g → Type 0 = λ o e. SiteImports n note o e (Err MemoryStop) in
           let then : SetThen (P was_site) after = sets_then P before after call.at.set call.at.is_set on in

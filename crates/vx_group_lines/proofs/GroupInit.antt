@@ -1,13 +1,12 @@
 -- What a line that makes a group of a bare site leads a yard to.
-use Rattle.std.proofs.Common.{◌≡◌, ◌⊎◌, ◌∙◌, ◌<◌, ◌≤◌, ℕ, zero, suc, Bool, true, false, List, [], ◌∷◌, map, ap, sym, subst, refl, arith, inl, inr}
-use Rattle.std.specs.Prelude.{Option, Some, None, Result, Ok, Err, slice_get, slice_set, if◌then◌else◌}
+use Rattle.std.proofs.Common.{◌≡◌, ◌⊎◌, ◌∙◌, ◌≤◌, ℕ, zero, suc, true, false, List, [], ◌∷◌, map, ap, sym, subst, refl, arith, inl, inr}
+use Rattle.std.specs.Prelude.{Some, None, Result, Ok, Err, slice_get, slice_set}
 use Rattle.vx_model.specs.declared.errors.OutOfMemory.{OutOfMemory as MemoryError}
 use Rattle.vx_model.specs.declared.errors.Stop.{Stop}
 use Rattle.vx_model.specs.declared.errors.Stop.TheVariants.{No as Refused, OutOfMemory}
-use Rattle.vx_model.specs.declared.limits.TheConstants.{LEAST_BLOCKS, MOST_DISKS}
 use Rattle.vx_model.specs.declared.no.No.TheVariants.{Device}
 use Rattle.vx_model.specs.declared.site.SiteState.{SiteState}
-use Rattle.vx_model.specs.declared.site.SiteState.TheVariants.{Bare as IsBare, Up as IsUp, Down as IsDown}
+use Rattle.vx_model.specs.declared.site.SiteState.TheVariants.{Bare as IsBare}
 use Rattle.vx_config.specs.declared.config.Config.{Config}
 use Rattle.vx_config.specs.declared.entry.DiskEntry.{DiskEntry}
 use Rattle.vx_config.specs.declared.entry.VolumeEntry.{VolumeEntry}
@@ -15,9 +14,8 @@ use Rattle.vx_copies.specs.Marks.{failed_at}
 use Rattle.vx_copyio.specs.Labelling.{least_blocks}
 use Rattle.vx_disk.specs.Counts.{Rose}
 use Rattle.vx_disk.specs.declared.shelf.Shelf.{Ghosts}
-use Rattle.vx_history.specs.Doubts.{After, Doubted, happened}
+use Rattle.vx_history.specs.Doubts.{Doubted, happened}
 use Rattle.vx_history.specs.Groups.{GroupNode}
-use Rattle.vx_history.specs.KeptLinks.{kept_links}
 use Rattle.vx_history.specs.Steps.{group_set}
 use Rattle.vx_history.specs.World.{Node, NoFuse, World}
 use Rattle.vx_history.specs.declared.event.Event.TheVariants.{Group as MakeGroup}
@@ -33,19 +31,17 @@ use Rattle.vx_grouped.specs.declared.group_site.GroupSite.TheVariants.{Up as Sit
 use Rattle.vx_diskset.specs.Asked.{FailsAs, SameFailing}
 use Rattle.vx_diskset.specs.GroupCalls.{AtSite, InitIs, bare_disks, cut_in}
 use Rattle.vx_diskset.specs.GroupSets.{cut_value}
-use Rattle.vx_diskset.specs.Holds.{KeptBeside, beside_of, header_links}
-use Rattle.vx_diskset.specs.Stands.{RoleIs, SiteStands, bare_with, faults_at}
+use Rattle.vx_diskset.specs.Holds.{beside_of}
+use Rattle.vx_diskset.specs.Stands.{RoleIs, SiteStands, faults_at}
 use Rattle.vx_diskset.specs.declared.disk_set.DiskSet.{DiskSet}
-use Rattle.vx_diskset.specs.declared.disk_set.DiskSet.TheVariants.{Bare, Spoiled, Up as RaisedSet, Receives, Down as DownSet, OfGroup, Gone as GoneSet}
+use Rattle.vx_diskset.specs.declared.disk_set.DiskSet.TheVariants.{OfGroup}
 use Rattle.vx_events.proofs.OverSeats.{fact_apart}
-use Rattle.vx_events.proofs.Steps.{no_sites}
-use Rattle.vx_events.specs.Facts.{seat_of, site_number}
+use Rattle.vx_events.specs.Facts.{seat_of}
 use Rattle.vx_events.specs.GroupEnds.{GroupDone, InitFails}
 use Rattle.vx_events.specs.GroupLines.{is_over_group}
-use Rattle.vx_events.specs.GroupNotes.{FirstNote, note_at}
+use Rattle.vx_events.specs.GroupNotes.{FirstNote}
 use Rattle.vx_events.specs.GroupViews.{config_of, noted_table, plain_fact}
 use Rattle.vx_events.specs.LinkedFacts.{linked_fact, links_by, links_of_site}
-use Rattle.vx_events.specs.LinksFit.{IsBlank, LinksFit}
 use Rattle.vx_events.specs.StepsOver.{fact_of_group, fact_over}
 use Rattle.vx_events.specs.declared.said.Said.{Said}
 use Rattle.vx_events.specs.declared.said.Said.TheVariants.{Done, Refused as SaidNo}
@@ -61,36 +57,15 @@ use Rattle.vx_yard.specs.GroupFacts.{group_up_facts}
 use Rattle.vx_yard.specs.Replies.{reply_to}
 use Rattle.vx_yard.specs.Standing.{LeadsOver, LeadsOverIs, StandsFor}
 use Rattle.vx_yard.specs.Working.{IsFree}
-use Rattle.vx_yard.specs.Yards.{IsShaped, IsYardKept, in_files}
+use Rattle.vx_yard.specs.Yards.{IsYardKept, in_files}
 use Rattle.vx_yard.specs.declared.yard.Yard.{Yard}
+use Rattle.vx_group_lines.proofs.BareSites.{IsBareSite, bare_counts, bare_site, bare_sure, blank_links, over_state}
 use Rattle.vx_group_lines.proofs.Arriving.{arrives_made, arrives_none, arrives_noted, noted_at}
 use Rattle.vx_group_lines.proofs.GroupAt.{up_notes}
 use Rattle.vx_group_lines.proofs.GroupCalls.{SetThen, set_then}
 use Rattle.vx_group_lines.proofs.GroupLeads.{follows_on, leads_by, up_set}
 use Rattle.vx_group_lines.proofs.GroupStatus.{config_is, table_is}
 use Rattle.vx_group_lines.proofs.Tests.{InitMay, init_may}
-
--- ---- a bare site
-
-over_state : (n : Node) (w : World) (s : ℕ) (b : Bool) → n ≡ w.nodes s → (if b then fact_of_group (w.nodes s) (note_at (w.nodes s)) else linked_fact w s).state ≡ n.state
-over_state n w s true is = ap (λ (k : Node). k.state) (sym is)
-over_state n w s false is = ap (λ (k : Node). k.state) (sym is)
-
-never_up : IsBare ≡ IsUp → ⊥
-never_up e = cc
-
-never_down : IsBare ≡ IsDown → ⊥
-never_down e = cc
-
-bare_sure : (d : Doubted) (s : ℕ) → (d.world.nodes s).state ≡ IsBare → LinksFit d → d.after s ≡ None
-bare_sure d s bare fits = by (d.after s) refl
-  where
-    by : (o : Option After) → d.after s ≡ o → o ≡ None
-    by None is = refl
-    by (Some a) is = absurd (never_up (sym bare ∙ (fits.doubts s a is).up))
-
-blank_links : (d : Doubted) (s : ℕ) → IsBlank d.world s → header_links d.world s ≡ []
-blank_links d s blank = ap (λ (ss : List ℕ). kept_links (d.world.links s) ss) (no_sites (d.world.links s) d.world.sites 0 d.world.sites blank.links)
 
 -- what the tests see of it as a group without volumes
 made_fact : (w : World) (s : ℕ) (note : GroupNode) → (w.nodes s).state ≡ IsBare → noted_table note ≡ [] → group_up_facts [] (linked_fact w s) ≡ fact_of_group (group_begun note s (w.nodes s)) note
@@ -105,60 +80,19 @@ failed_entry (d ∷ ds) zero is = (d, refl, is)
 failed_entry (d ∷ ds) (suc k) is = failed_entry ds k is
 
 module _ {R : Type 0} {g : Ghosts R} where
-  bare_is : (beside : KeptBeside) (n : Node) (e : DiskSet R g) → SiteStands beside n e → n.state ≡ IsBare → n ≡ bare_with n
-  bare_is beside n (Bare rack) it bare = it.bare.is
-  bare_is beside n (Spoiled rack) it bare = it.is
-  bare_is beside n (RaisedSet rvg) it bare = absurd (never_up (sym bare ∙ it.state))
-  bare_is beside n (Receives s) it bare = absurd (never_up (sym bare ∙ it.state))
-  bare_is beside n (DownSet rack) it bare = absurd (never_down (sym bare ∙ it.state))
-  bare_is beside n (OfGroup s) it bare = it.bare bare
-  bare_is beside n GoneSet it bare = absurd it
-
-  -- the counts of its disks
-  bare_counts : (beside : KeptBeside) (n : Node) (e : DiskSet R g) → SiteStands beside n e → n.state ≡ IsBare → (k : ℕ) → (bare_disks e).disk_faults k ≡ faults_at e k
-  bare_counts beside n (Bare rack) it bare k = refl
-  bare_counts beside n (Spoiled rack) it bare k = refl
-  bare_counts beside n (RaisedSet rvg) it bare k = absurd (never_up (sym bare ∙ it.state))
-  bare_counts beside n (Receives s) it bare k = absurd (never_up (sym bare ∙ it.state))
-  bare_counts beside n (DownSet rack) it bare k = absurd (never_down (sym bare ∙ it.state))
-  bare_counts beside n (OfGroup s) it bare k = refl
-  bare_counts beside n GoneSet it bare k = absurd it
-
   -- what the tests of the line found
   pub record IsInitSite (d : Doubted) (y : Yard R g) (name : List ℕ) (s : ℕ) (e : DiskSet R g) : Type 0 where
-    pub below : s < d.world.sites
-    pub number : site_number d.world name ≡ s
-    pub bare : (d.world.nodes s).state ≡ IsBare
-    pub is : (d.world.nodes s) ≡ bare_with (d.world.nodes s)
-    pub stood : SiteStands (beside_of d s) (d.world.nodes s) e
-    pub fact : slice_get y.facts.items s ≡ Some (linked_fact d.world s)
-    pub few : (d.world.nodes s).disks ≤ MOST_DISKS
-    pub some : LEAST_BLOCKS ≤ (d.world.nodes s).blocks
+    pub at : IsBareSite d y name s e
     pub large : least_blocks ≤ (d.world.nodes s).blocks
 
   pub init_site : (d : Doubted) (y : Yard R g) (name : List ℕ) (s : ℕ) (e : DiskSet R g) → StandsFor d y → IsYardKept y → IsFree y (GroupInit name) → seat_of y.facts.items name ≡ Some s → slice_get y.disk_sets.items s ≡ Some e → IsInitSite d y name s e
   init_site d y name s e stands kept free seat there =
       let may : InitMay y.facts.items name = init_may y.facts.items (in_files y) name free in
-      let place = place_at d y name s stands seat in
       let n : Node = d.world.nodes s in
-      let found : may.site.facts ≡ fact_over d.world s = fact_placed d y name s place seat may.site in
+      let found : may.site.facts ≡ fact_over d.world s = fact_placed d y name s (place_at d y name s stands seat) seat may.site in
       let bare : n.state ≡ IsBare = sym (over_state n d.world s (is_over_group n) refl) ∙ ap (λ (f : SiteFacts). f.state) (sym found) ∙ may.bare in
-      let stood = stands.disk_sets.sites s e place.below there in
-      let is : n ≡ bare_with n = bare_is (beside_of d s) n e stood bare in
-      let seen : fact_over d.world s ≡ linked_fact d.world s = fact_apart d.world s (bare_apart n is) in
-      let fact : slice_get y.facts.items s ≡ Some (linked_fact d.world s) = place.fact ∙ ap (λ (f : SiteFacts). Some f) seen in
-      let shaped : IsShaped (linked_fact d.world s) = kept.each s (linked_fact d.world s) fact in
-      record {
-        below = place.below;
-        number = place.number;
-        bare = bare;
-        is = is;
-        stood = stood;
-        fact = fact;
-        few = shaped.disks bare;
-        some = shaped.blocks;
-        large = omega (arith, may.large, ap (λ (f : SiteFacts). f.blocks) (found ∙ seen));
-      }
+      let at : IsBareSite d y name s e = bare_site d y name s e stands kept seat there bare in
+      record { at = at; large = omega (arith, may.large, ap (λ (f : SiteFacts). f.blocks) (found ∙ fact_apart d.world s (bare_apart n at.is))) }
 
   -- ---- the note of the group
 
@@ -179,6 +113,7 @@ module _ {R : Type 0} {g : Ghosts R} where
           size = first.size;
           others = first.others;
           cut = first.cut;
+          dark = first.dark;
           perhaps = first.perhaps;
         },
         table_is note c is ∙ ap (λ (vs : List VolumeEntry). map plain_fact vs) empty.volumes,
@@ -200,10 +135,10 @@ module _ {R : Type 0} {g : Ghosts R} where
     n = d.world.nodes s
 
     unfused : n.fuse ≡ NoFuse
-    unfused = ap (λ (k : Node). k.fuse) site.is
+    unfused = ap (λ (k : Node). k.fuse) site.at.is
 
     fails_as : FailsAs n after
-    fails_as = fails_then n n before after refl failing (stands.failing s before site.below changed.there)
+    fails_as = fails_then n n before after refl failing (stands.failing s before site.at.below changed.there)
 
     pub init_done : (done : Unit {0}) → InitIs s n before after (Ok done) → new.facts.items ≡ slice_set old.facts.items s (group_up_facts [] (linked_fact d.world s)) → LeadsOver d (GroupInit name) Done old new
     init_done done begun facts =
@@ -214,24 +149,24 @@ module _ {R : Type 0} {g : Ghosts R} where
         let h : Doubted = happened d (MakeGroup s) false in
         let e : Doubted = noted_at h s note in
         let cut : cut_value to.set.cut ≡ None = ap (λ (x : DiskSet R g). cut_in x) (sym to.is) ∙ begun.1 in
-        let fails : FailsAs m (OfGroup to.set) = subst (λ (x : DiskSet R g). FailsAs m x) to.is (fails_then n m before after refl failing (stands.failing s before site.below changed.there)) in
-        leads_by d e (GroupInit name) s [] Done old new site.number
+        let fails : FailsAs m (OfGroup to.set) = subst (λ (x : DiskSet R g). FailsAs m x) to.is (fails_then n m before after refl failing (stands.failing s before site.at.below changed.there)) in
+        leads_by d e (GroupInit name) s [] Done old new site.at.number
         (GroupDone note tt (first.0, refl) (record { world = refl; after = λ i. refl }))
-        (follows_on d e s m note (group_up_facts [] (linked_fact d.world s)) old new before to.set stands site.below
+        (follows_on d e s m note (group_up_facts [] (linked_fact d.world s)) old new before to.set stands site.at.below
         (subst (λ (x : DiskSet R g). Changed old new s before x) to.is changed)
         (arrives_noted d h s (group_set s n) note (d.world.gathering s)
         (arrives_made d d s n (d.world.gathering s)
-        (arrives_none d s stands.links (bare_sure d s site.bare stands.links) (blank_links d s (stands.links.bare s site.bare))) site.below site.bare))
+        (arrives_none d s stands.links (bare_sure d s site.at.bare stands.links) (blank_links d s (stands.links.bare s site.at.bare))) site.at.below site.at.bare))
         (up_notes m note to.set.site to.holds.2).0
-        (up_set m note to.set (record { few = site.few; some = site.some }) to.holds.2 cut to.holds.1.cut) fails (fused_none m (OfGroup to.set) unfused)
-        (made_fact d.world s note site.bare first.1) facts load)
+        (up_set m note to.set (record { few = site.at.few; some = site.at.some }) to.holds.2 cut to.holds.1.cut) fails (fused_none m (OfGroup to.set) unfused)
+        (made_fact d.world s note site.at.bare first.1) facts load)
         (rose_still old new s before after changed.there changed.later changed.disk_sets)
 
     -- it is bare as it was
     still : (Q : GroupSite R g → Type 0) → AtSite Q after → SiteStands (beside_of d s) n after → new.facts ≡ old.facts → StandsFor d new
     still Q at here facts =
         let to : SetThen Q after = set_then Q after at in
-        stands_still d d old new s before after stands site.below changed
+        stands_still d d old new s before after stands site.at.below changed
         (comes_same d s after stands.links here fails_as (fused_none n after unfused) (subst (λ (x : DiskSet R g). RoleIs n x) (sym to.is) tt)) refl (ap (λ fs. fs.items) facts)
 
     pub init_stops : (stop : Stop) (said : Result Said MemoryError) → said ≡ reply_to stop → InitIs s n before after (Err stop) → SiteStands (beside_of d s) n after → new.facts ≡ old.facts → LeadsOverIs d (GroupInit name) old new said
@@ -246,8 +181,8 @@ module _ {R : Type 0} {g : Ghosts R} where
         by (Refused (Device disk)) begun =
             let to : SetThen (λ e. BeginsGroup s n (bare_disks before) e (Err (Refused (Device disk)))) after = set_then (λ e. BeginsGroup s n (bare_disks before) e (Err (Refused (Device disk)))) after begun.0 in
             let rose : Rose (faults_at before disk) (faults_at after disk) = subst (λ (x : DiskSet R g). Rose (faults_at before disk) (faults_at x disk)) (sym to.is)
-            (subst (λ (k : ℕ). Rose k ((site_disks to.set.site).disk_faults disk)) (bare_counts (beside_of d s) n before site.stood site.bare disk) to.holds.1) in
-            leads_by d d (GroupInit name) s ((s, disk) ∷ []) (SaidNo (Device disk)) old new site.number
+            (subst (λ (k : ℕ). Rose k ((site_disks to.set.site).disk_faults disk)) (bare_counts (beside_of d s) n before site.at.stood site.at.bare disk) to.holds.1) in
+            leads_by d d (GroupInit name) s ((s, disk) ∷ []) (SaidNo (Device disk)) old new site.at.number
             (InitFails disk name refl (refl, tt) (0, omega arith, refl) refl (record { world = refl; after = λ i. refl }))
             (record { stands = still (λ e. BeginsGroup s n (bare_disks before) e (Err (Refused (Device disk)))) begun.0 here facts; carries = carries_same d old new load (told_by old new s before after changed) })
             (rose_at old new s disk before after changed rose)

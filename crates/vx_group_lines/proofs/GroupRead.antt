@@ -27,7 +27,7 @@ use Rattle.vx_events.specs.Facts.{seat_of, site_number}
 use Rattle.vx_events.specs.Fails.{Fails}
 use Rattle.vx_events.specs.GroupEnds.{AreOf, GroupDone, GroupEnds, GroupFails}
 use Rattle.vx_events.specs.GroupLines.{noting, plain_number}
-use Rattle.vx_events.specs.GroupNotes.{note_at}
+use Rattle.vx_events.specs.GroupNotes.{IsKnown, note_at}
 use Rattle.vx_events.specs.GroupReplies.{GivesPlain}
 use Rattle.vx_events.specs.StepsOver.{fact_of_group, group_place, is_for_group, over_group_at}
 use Rattle.vx_events.specs.declared.said.Said.{Said}
@@ -40,6 +40,7 @@ use Rattle.vx_yard.specs.Standing.{LeadsOver, StandsFor}
 use Rattle.vx_yard.specs.Working.{IsFree}
 use Rattle.vx_yard.specs.Yards.{IsTold, in_files}
 use Rattle.vx_yard.specs.declared.yard.Yard.{Yard}
+use Rattle.vx_group_lines.proofs.GroupAt.{lit_up, up_noted}
 use Rattle.vx_group_lines.proofs.GroupCalls.{Called, SetThen, calls, calls_all, calls_are, calls_named, fused_since, seen_as, sets_then, site_up, up_follows}
 use Rattle.vx_group_lines.proofs.GroupLeads.{Follows, leads_by}
 use Rattle.vx_group_lines.proofs.GroupMarks.{group_noted_at}
@@ -124,12 +125,13 @@ module _ {R : Type 0} {g : Ghosts R} where
         (fact_of_group n note) (seen_as n (with_note note n) note note refl refl refl refl refl)
         (ap (λ fs. fs.items) facts ∙ sym (set_same old.facts.items s (fact_of_group n note) called.at.fact)) load
 
-    -- contents that are told now were told of its disks
-    tells : IsTold new → IsTrue (site_disks called.at.set.site).tells
-    tells told =
+    -- contents that are known were told of its disks
+    tells : IsKnown (IsTold new) note → IsTrue (site_disks called.at.set.site).tells
+    tells known =
         let now : slice_get new.disk_sets.items s ≡ Some after =
         ap (λ (es : List (DiskSet R g)). slice_get es s) called.changed.disk_sets ∙ get-set_same old.disk_sets.items s after (slice_get_within old.disk_sets.items s before called.changed.there) in
-        subst (λ (e : DiskSet R g). IsToldAt e) called.at.is_set (called.changed.later.told (told.each s after now))
+        lit_up n note called.at.set.site (up_noted n called.at.set.site called.at.stands.stands plain.up) known.1
+        (subst (λ (e : DiskSet R g). IsToldAt e) called.at.is_set (called.changed.later.told (known.0.each s after now)))
 
     pub read_done : (bytes : List ℕ) → length bytes ≡ 512 * count → OnSites (λ o e. GavePlain n note place start o e (Ok bytes)) before after → cut_in after ≡ cut_in before → LeadsOver d line (Got bytes) old new
     read_done bytes size gave cut =
@@ -139,7 +141,7 @@ module _ {R : Type 0} {g : Ghosts R} where
           bytes = bytes;
           got = refl;
           size = size;
-          each = λ told k below. reads_block note (site_disks called.at.set.site) place start count bytes to.holds.0 size (tells told) k below;
+          each = λ known k below. reads_block note (site_disks called.at.set.site) place start count bytes to.holds.0 size (tells known) k below;
         } in
         leads_by d behind line s (calls s old new many) (Got bytes) old new place_is
         (got_ends (IsTold new) d behind line name volume start count s (calls s old new many) (Got bytes) is (calls_are d old new name s before after stands called many)

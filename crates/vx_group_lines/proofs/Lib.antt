@@ -12,11 +12,13 @@ pub mod Changing
 pub mod GroupPlain
 pub mod GroupWrite
 pub mod GroupRead
+pub mod BareSites
 pub mod GroupInit
 pub mod GroupEnding
 pub mod GroupDone
 pub mod GroupShown
 pub mod Choosing
+pub mod Dimming
 pub mod Returning
 pub mod Rising
 pub mod GroupNamed
@@ -24,6 +26,9 @@ pub mod GroupDeports
 pub mod GroupImports
 pub mod GroupVolume
 pub mod VolumeLine
+pub mod Raising
 pub mod Resuming
+pub mod Recovering
+pub mod Founding
 pub mod GroupPlex
 pub mod GroupAttach

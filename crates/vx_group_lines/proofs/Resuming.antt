@@ -1,19 +1,14 @@
--- What a recovery of a group that is down leads a yard to: its group comes up, or it is refused.
-use Rattle.std.proofs.Common.{◌≡◌, ◌∙◌, ◌⊎◌, inl, inr, ⊎_elim, ◌+◌, ◌<◌, ◌≤◌, ℕ, suc, Bool, true, false, List, [], ◌∷◌, length, map, ap, sym, subst, refl, arith, IsTrue}
-use Rattle.std.specs.Prelude.{◌&&◌, is_some, Contains, Option, Some, None, slice_get, slice_set, Result, Ok, Err}
-use Rattle.std.proofs.lemmas.Option.{slice_get_within}
-use Rattle.vx_model.specs.Content.{Content, Write}
-use Rattle.vx_model.specs.Sites.{is_up}
+-- What the import of a group that is down leads a yard to where it comes up.
+use Rattle.std.proofs.Common.{◌≡◌, ◌∙◌, ◌⊎◌, inl, inr, ⊎_elim, ◌+◌, ◌≤◌, ℕ, suc, true, false, List, [], length, map, ap, sym, subst, refl, arith, IsTrue}
+use Rattle.std.specs.Prelude.{Contains, Option, Some, None, slice_get, slice_set, Result, Ok, Err}
+use Rattle.vx_model.specs.Content.{Write}
 use Rattle.vx_model.specs.declared.errors.OutOfMemory.{OutOfMemory}
 use Rattle.vx_model.specs.declared.errors.Stop.{Stop}
-use Rattle.vx_model.specs.declared.errors.Stop.TheVariants.{No as StopsBy, OutOfMemory as MemoryStop}
+use Rattle.vx_model.specs.declared.errors.Stop.TheVariants.{No as StopsBy}
 use Rattle.vx_model.specs.declared.limits.TheConstants.{MOST_DISKS}
-use Rattle.vx_model.specs.declared.no.Counted.{Counted}
-use Rattle.vx_model.specs.declared.no.Counted.TheVariants.{Number as Numbers}
-use Rattle.vx_model.specs.declared.no.No.{No}
-use Rattle.vx_model.specs.declared.no.No.TheVariants.{Damaged, Device, Format, Limit, Missing as Lacks, NoConfig}
+use Rattle.vx_model.specs.declared.no.No.TheVariants.{Device}
 use Rattle.vx_model.specs.declared.site.SiteState.{SiteState}
-use Rattle.vx_model.specs.declared.site.SiteState.TheVariants.{Bare as IsBare, Up as IsUp, Deported as IsDeported, Down as IsDown}
+use Rattle.vx_model.specs.declared.site.SiteState.TheVariants.{Up as IsUp, Down as IsDown}
 use Rattle.vx_disk.specs.Counts.{Rose}
 use Rattle.vx_disk.specs.declared.shelf.Shelf.{Ghosts}
 use Rattle.vx_config.specs.Checks.{blocks_of}
@@ -32,82 +27,54 @@ use Rattle.vx_report.specs.declared.view.Kept.{Kept}
 use Rattle.vx_report.specs.declared.view.SiteView.{SiteView}
 use Rattle.vx_script.specs.declared.line.ScriptLine.TheVariants.{Recover}
 use Rattle.vx_grouped.proofs.ReadyLemmas.{imported_same}
-use Rattle.vx_grouped.specs.GroupSites.{DownNoted, FitsPlain, UpNoted, site_config, site_disks, with_note}
+use Rattle.vx_grouped.specs.GroupSites.{DownNoted, FitsPlain, UpNoted, site_config, site_disks, with_note, site_below}
 use Rattle.vx_grouped.specs.SiteEnds.{burned_site}
-use Rattle.vx_grouped.specs.SiteReturns.{ConfigReturns, ImportWhy, NoteReturns, SiteRecovers, as_imported, returned_with}
+use Rattle.vx_grouped.specs.SiteReturns.{ConfigReturns, NoteReturns, as_imported, returned_with, is_dimmed}
 use Rattle.vx_grouped.specs.declared.group_site.GroupSite.{GroupSite}
-use Rattle.vx_diskset.proofs.KeepsFailing.{failing_then}
-use Rattle.vx_diskset.specs.Asked.{FailsAs, SameFailing}
-use Rattle.vx_diskset.specs.DiskSets.{Later}
+use Rattle.vx_diskset.specs.Asked.{FailsAs}
 use Rattle.vx_diskset.specs.GroupCalls.{AtSite, cut_in}
-use Rattle.vx_diskset.specs.GroupSets.{cut_value, noted_cut}
-use Rattle.vx_diskset.specs.Holds.{beside_of}
-use Rattle.vx_diskset.specs.Recovers.{KeptIs, LooksAt, RaisesGroup, RisesWith, StaysBack, still_cut}
-use Rattle.vx_diskset.specs.Stands.{IsToldAt, faults_at}
+use Rattle.vx_diskset.specs.GroupSets.{cut_value}
+use Rattle.vx_diskset.specs.Recovers.{KeptIs, RisesWith, still_cut}
 use Rattle.vx_diskset.specs.declared.disk_set.DiskSet.{DiskSet}
 use Rattle.vx_diskset.specs.declared.disk_set.DiskSet.TheVariants.{OfGroup}
 use Rattle.vx_diskset.specs.declared.group_set.CutWrite.{CutWrite}
 use Rattle.vx_diskset.specs.declared.group_set.GroupSet.{GroupSet}
 use Rattle.vx_diskset.specs.declared.group_set.KeptWrite.{KeptWrite}
-use Rattle.vx_events.proofs.Parts.{none_done}
-use Rattle.vx_events.proofs.Places.{some_same}
-use Rattle.vx_events.specs.Doubts.{IsAs, run_as}
-use Rattle.vx_events.specs.GroupEnds.{FindsGroup, FindsNoGroup, GroupDone, GroupEnds, GroupFails, GroupNotFound, KeptUnread}
-use Rattle.vx_events.specs.GroupLines.{crash_first, is_over_group, noting}
-use Rattle.vx_events.specs.GroupNotes.{NotesBack, note_at}
+use Rattle.vx_events.specs.GroupEnds.{FindsGroup, GroupDone, GroupEnds, KeptUnread, KnowsNothing}
+use Rattle.vx_events.specs.GroupNotes.{NotesBack, note_at, IsKnown}
 use Rattle.vx_events.specs.GroupReplies.{ShowsKept}
 use Rattle.vx_events.specs.GroupViews.{config_of, grouped_view, noted_table, plain_fact}
-use Rattle.vx_events.specs.StepsOver.{fact_of_group, group_place}
-use Rattle.vx_events.specs.Parts.{StopsDown, StopsInPart, StopsShort, crashes_first}
+use Rattle.vx_events.specs.StepsOver.{fact_of_group}
 use Rattle.vx_events.specs.declared.said.Said.{Said}
 use Rattle.vx_events.specs.declared.said.Said.TheVariants.{Refused, Resumed}
 use Rattle.vx_yard.proofs.Carrying.{LetsGo, SameLoad}
-use Rattle.vx_yard.proofs.ChangeSite.{rose_none}
-use Rattle.vx_yard.proofs.FailsStay.{fails_then}
 use Rattle.vx_yard.proofs.FuseStays.{fused_none}
-use Rattle.vx_yard.proofs.Lists.{get-set_same, set_same, set_twice}
-use Rattle.vx_yard.proofs.OneSite.{Changed, told_by}
-use Rattle.vx_yard.proofs.RecoverLine.{rose_then}
-use Rattle.vx_yard.specs.Carries.{Carries}
+use Rattle.vx_yard.proofs.OneSite.{Changed}
 use Rattle.vx_yard.specs.Changes.{down_facts}
 use Rattle.vx_yard.specs.GroupFacts.{group_up_facts}
 use Rattle.vx_yard.specs.Loads.{LetGo}
-use Rattle.vx_yard.specs.OfSites.{OfSite}
-use Rattle.vx_yard.specs.Replies.{reply_to}
-use Rattle.vx_yard.specs.Standing.{Falls, LeadsOverOrStops, StandsFor, crash_of}
-use Rattle.vx_yard.specs.Stands.{RoseAll}
-use Rattle.vx_yard.specs.Yards.{IsTold, count_of, in_files}
+use Rattle.vx_yard.specs.Yards.{IsTold}
 use Rattle.vx_yard.specs.declared.yard.Yard.{Yard}
 use Rattle.vx_packet.specs.Assemblies.{Assembled}
-use Rattle.vx_group_lines.specs.Noting.{HasConfig, IsNotedRefusal, KeepsRest, reply_noted}
-use Rattle.vx_group_lines.specs.Rises.{ComesDown, RisesFor, RisesIs, StandsSo, StoodUp, kept_shown}
+use Rattle.vx_group_lines.specs.Rises.{ComesDown, RisesIs, StandsSo, kept_shown}
 use Rattle.vx_group_lines.specs.Views.{view_with}
 use Rattle.vx_group_lines.proofs.Arriving.{Arrives, arrives_crash, arrives_noted, arrives_up, noted_at}
-use Rattle.vx_group_lines.proofs.GroupAt.{GroupAt, down_noted, down_notes, group_by, up_noted, up_notes}
-use Rattle.vx_group_lines.proofs.GroupCalls.{Called, SetThen, calls, calls_all, calls_are, calls_named, calls_none, set_then}
-use Rattle.vx_group_lines.proofs.GroupLeads.{Follows, Sized, down_set, follows_off, follows_on, sized_of, up_set}
-use Rattle.vx_group_lines.proofs.GroupMarks.{begins_at, group_noted_at, noting_same}
+use Rattle.vx_group_lines.proofs.GroupAt.{down_notes, up_notes}
+use Rattle.vx_group_lines.proofs.GroupCalls.{Called, SetThen, calls, calls_all, calls_are, calls_named, set_then}
+use Rattle.vx_group_lines.proofs.GroupLeads.{Follows, Sized, down_set, follows_off, follows_on, up_set}
 use Rattle.vx_group_lines.proofs.GroupShown.{view_up}
 use Rattle.vx_group_lines.proofs.GroupStatus.{config_is, table_is}
-use Rattle.vx_group_lines.proofs.Returning.{SitsOn, back_of}
-use Rattle.vx_group_lines.proofs.Rising.{HasUp, bool_by, fits_as, fits_by, has_up, refused_as, risen_is, risen_node, shows_cut, sits_down, some_config, told_of, unfused_down, unread_as, up_as}
-
--- ---- counts
-
-rose_up : (a b c k : ℕ) → b ≡ a → Rose b c → c ≤ k → Rose a k
-rose_up a b c k is rose later = record {
-  fell_not = omega (arith, is, rose.fell_not, later);
-  rose = ⊎_elim (λ less. inl (omega (arith, is, less, later))) (λ top. inr (omega (arith, top, later))) rose.rose;
-}
+use Rattle.vx_group_lines.proofs.Returning.{SitsOn, back_of, NoneKnown, none_known}
+use Rattle.vx_group_lines.proofs.Rising.{HasUp, bool_by, fits_by, has_up, risen_is, risen_node, shows_cut, sits_down, some_config, told_of, unfused_down, unread_as, up_as}
+use Rattle.vx_grouped.specs.GroupNotes.{note_dimmed}
+use Rattle.vx_group_lines.proofs.Dimming.{dark_moves}
+use Rattle.vx_group_lines.proofs.Raising.{Begins, fits_note, rose_up, is_down as is_down_here, sized as sized_here, was_cut as was_cut_here, was_fits as was_fits_here, turned as turned_here, still_fails as still_fails_here, there_now as there_now_here, starts as starts_here, loose as loose_here}
 
 rose_down : (a b c : ℕ) → a ≤ b → Rose b c → Rose a c
 rose_down a b c later rose = record {
   fell_not = omega (arith, rose.fell_not, later);
   rose = ⊎_elim (λ less. inl (omega (arith, less, later))) (λ top. inr top) rose.rose;
 }
-
-fits_note : (k next : GroupNode) → k.bytes ≡ next.bytes → (x : CutWrite) → FitsPlain next x.volume x.block (length x.bytes) → FitsPlain k x.volume x.block (length x.bytes)
-fits_note k next same x fits = record { some = fits.some; whole = fits.whole; within = omega (arith, fits.within, ap (λ (b : Content). b.size x.volume) same) }
 
 -- ---- the facts of the site
 
@@ -126,47 +93,7 @@ fell_seen n note next k c is same =
 named_view : (n k : Node) (next : GroupNode) → n.name ≡ k.name → grouped_view (risen_node next n) next ≡ grouped_view (record k { state = IsUp }) next
 named_view n k next name = ap (λ (x : List ℕ). let v : SiteView = record (grouped_view (risen_node next n) next) { name = x } in v) name
 
--- the recovery of a site over a group that is up crashes it first
-crashes_over : (d : Doubted) (name : List ℕ) (s : ℕ) → group_place d.world (Recover name) ≡ s → is_over_group (d.world.nodes s) ≡ true → (d.world.nodes s).state ≡ IsUp → crashes_first d.world (Recover name) ≡ true
-crashes_over d name s place over up =
-    ap (λ (k : ℕ). is_over_group (d.world.nodes k) && is_up (d.world.nodes k).state) place
-    ∙ ap (λ (b : Bool). b && is_up (d.world.nodes s).state) over
-    ∙ ap (λ (t : SiteState). is_up t) up
-
--- a site that was down
-pub down_first : (d : Doubted) (s : ℕ) → (d.world.nodes s).state ≡ IsDown → ComesDown d d s
-down_first d s down = record { how = inl (down, refl); name = refl; disks = refl; blocks = refl; note = refl }
-
--- a site over a group that is neither bare, up nor deported is down
-pub off_down : (t : SiteState) → (t ≡ IsBare → ⊥) → (t ≡ IsUp → ⊥) → (t ≡ IsDeported → ⊥) → t ≡ IsDown
-off_down IsBare bare up away = absurd (bare refl)
-off_down IsUp bare up away = absurd (up refl)
-off_down IsDeported bare up away = absurd (away refl)
-off_down IsDown bare up away = refl
-
 module _ {R : Type 0} {g : Ghosts R} where
-  later_then : (a b c : DiskSet R g) → Later a b → Later b c → Later a c
-  later_then a b c one two = record { counts = λ k. omega (arith, one.counts k, two.counts k); told = λ told. one.told (two.told told) }
-
-  -- ---- the import
-
-  -- the yard behind the call that imports
-  pub record RaisedTo (old mid : Yard R g) (s : ℕ) (before after : DiskSet R g) : Type 0 where
-    pub there : slice_get old.disk_sets.items s ≡ Some before
-    pub disk_sets : mid.disk_sets.items ≡ slice_set old.disk_sets.items s after
-    pub facts : mid.facts.items ≡ old.facts.items
-    pub racks : mid.racks ≡ old.racks
-    pub load : SameLoad old mid
-    pub failing : SameFailing before after
-    pub later : Later before after
-
-  -- where the line begins
-  pub record Begins (e : Doubted) (s : ℕ) (old : Yard R g) : Type 0 where
-    pub stands : StandsFor e old
-    pub below : s < e.world.sites
-    pub over : is_over_group (e.world.nodes s) ≡ true
-    pub down : (e.world.nodes s).state ≡ IsDown
-
   module _ (e : Doubted) (s : ℕ) (old new : Yard R g) (before after : DiskSet R g) (begin : Begins e s old) (call : Called e old new [] s before after) where
     abbrev n : Node
     n = e.world.nodes s
@@ -174,147 +101,38 @@ module _ {R : Type 0} {g : Ghosts R} where
     abbrev note : GroupNode
     note = note_at (e.world.nodes s)
 
-    abbrev site : GroupSite R g
-    site = call.at.set.site
-
     is_down : DownNoted (e.world.nodes s) (note_at (e.world.nodes s)) call.at.set.site
-    is_down = down_noted n site call.at.stands.stands begin.down
+    is_down = is_down_here e s old new before after begin call
 
     sized : Sized (e.world.nodes s)
-    sized = sized_of (beside_of e s) n call.at.set call.at.stands
-
-    noted : (e.world.nodes s).group ≡ Some (note_at (e.world.nodes s))
-    noted = group_noted_at e old [] s before call.at
+    sized = sized_here e s old new before after begin call
 
     was_cut : cut_value call.at.set.cut ≡ (note_at (e.world.nodes s)).cut
-    was_cut = call.at.stands.cut ∙ ap (λ (o : Option GroupNode). noted_cut o) noted
+    was_cut = was_cut_here e s old new before after begin call
 
     was_fits : (x : CutWrite) → call.at.set.cut ≡ Some x → FitsPlain (note_at (e.world.nodes s)) x.volume x.block (length x.bytes)
-    was_fits x is = (call.at.stands.lies x is).fits note noted
+    was_fits = was_fits_here e s old new before after begin call
 
     turned : (set : GroupSet R g) → after ≡ OfGroup set → Changed old new s before (OfGroup set)
-    turned set is = subst (λ (x : DiskSet R g). Changed old new s before x) is call.changed
+    turned = turned_here e s old new before after begin call
 
     still_fails : (m : Node) (set : GroupSet R g) → after ≡ OfGroup set → m.failing ≡ n.failing → FailsAs m (OfGroup set)
-    still_fails m set is same =
-        subst (λ (x : DiskSet R g). FailsAs m x) is (fails_then n m before after same call.failing (begin.stands.failing s before call.at.below call.changed.there))
+    still_fails = still_fails_here e s old new before after begin call
 
     there_now : slice_get new.disk_sets.items s ≡ Some after
-    there_now =
-        ap (λ (es : List (DiskSet R g)). slice_get es s) call.changed.disk_sets
-        ∙ get-set_same old.disk_sets.items s after (slice_get_within old.disk_sets.items s before call.changed.there)
+    there_now = there_now_here e s old new before after begin call
 
     starts : Arrives e e s (e.world.nodes s) (e.world.gathering s)
-    starts = begins_at e old [] s before begin.stands call.at
+    starts = starts_here e s old new before after begin call
 
-    -- ---- it is down still
-
-    stays : (set : GroupSet R g) → after ≡ OfGroup set → DownNoted n note set.site → cut_in after ≡ cut_value call.at.set.cut → new.facts.items ≡ old.facts.items → SameLoad old new → Follows e e old new
-    stays set is holds cut facts load =
-        let same : cut_value set.cut ≡ cut_value call.at.set.cut = ap (λ (x : DiskSet R g). cut_in x) (sym is) ∙ cut in
-        follows_on e e s n note (fact_of_group n note) old new before set begin.stands begin.below (turned set is) starts (down_notes n note set.site holds).0
-        (down_set n note set sized holds (same ∙ was_cut) (fits_as note call.at.set.cut set.cut same was_fits)) (still_fails n set is refl)
-        (fused_none n (OfGroup set) (unfused_down n note site is_down)) refl (facts ∙ sym (set_same old.facts.items s (fact_of_group n note) call.at.fact)) load
-
-    -- what a recovery notes that is refused
-    left_for : (d : Doubted) (comes : ComesDown d e s) → IsAs e (noting e.world s (note_at (d.world.nodes s))) e
-    left_for d comes = record { world = sym (noting_same e.world s note noted) ∙ ap (λ (k : GroupNode). noting e.world s k) comes.note; after = λ i. refl }
-
-    left_last : (d : Doubted) (comes : ComesDown d e s)
-        → let last = run_as false d (crash_first (d.world.nodes s).state s) in IsAs last (noting last.world s (note_at (d.world.nodes s))) e
-    left_last d comes = subst (λ (x : Doubted). IsAs x (noting x.world s (note_at (d.world.nodes s))) e) (sym (refused_as d e s comes)) (left_for d comes)
-
-    -- the tests see the same
-    quiet : (mid : Yard R g) → mid.facts.items ≡ old.facts.items → new.facts.items ≡ slice_set mid.facts.items s (fact_of_group (e.world.nodes s) (note_at (e.world.nodes s))) → new.facts.items ≡ old.facts.items
-    quiet mid facts is =
-        is ∙ ap (λ (fs : List SiteFacts). slice_set fs s (fact_of_group n note)) facts ∙ set_same old.facts.items s (fact_of_group n note) call.at.fact
-
-    loaded : (mid : Yard R g) → SameLoad old mid → KeepsRest mid new → new.assemblies.items ≡ mid.assemblies.items → SameLoad old new
-    loaded mid load rest same = record {
-      flight = rest.flight ∙ load.flight;
-      assemblies = same ∙ load.assemblies;
-      feeders = ap (λ xs. xs.items) rest.feeders ∙ load.feeders;
-    }
-
-    -- ---- it is refused
-
-    -- an answer that the tests see nothing of
-    answered : (many : ℕ) (why : No) (set : GroupSet R g) → after ≡ OfGroup set → DownNoted n note set.site → cut_in after ≡ cut_value call.at.set.cut → new.facts.items ≡ old.facts.items → SameLoad old new
-        → ((d : Doubted) (name : List ℕ) → ComesDown d e s → GroupEnds (IsTold new) d (Recover name) s (calls s old new many) (Refused why) e) → RisesFor e s (Refused why) old new
-    answered many why set is holds cut facts load ends =
-        let follows = stays set is holds cut facts load in
-        record {
-          next = e;
-          fails = calls s old new many;
-          done = ends;
-          stands = follows.stands;
-          carries = follows.carries;
-          rose = calls_all e old new [] s before after begin.stands call many;
-        }
-
-    -- why
-    by_why : (why : No) (set : GroupSet R g) → after ≡ OfGroup set → DownNoted n note set.site → cut_in after ≡ cut_value call.at.set.cut → ImportWhy (IsTrue (site_disks set.site).tells) (as_imported call.at.set.site) (site_disks set.site) (StopsBy why)
-        → (mid : Yard R g) → mid.facts.items ≡ old.facts.items → SameLoad old mid → (result : Result Said OutOfMemory) → IsNotedRefusal s (fact_of_group n note) why mid new result → RisesIs e s old new result
-    by_why (Device disk) set is holds cut rose mid facts load result it =
-        subst (λ (r : Result Said OutOfMemory). RisesIs e s old new r) (sym it.said)
-        (answered (suc disk) (Device disk) set is holds cut (quiet mid facts it.facts) (loaded mid load it.same it.assemblies)
-        (λ d name comes. GroupFails disk (note_at (d.world.nodes s)) (calls_are e old new [] s before after begin.stands call (suc disk))
-        (calls_named e old new [] s before after begin.stands call call.at.set set call.at.is_set is (suc disk) disk (omega arith)
-        (rose_up ((site_disks call.at.set.site).disk_faults disk) ((as_imported call.at.set.site).disk_faults disk) ((site_disks set.site).disk_faults disk) ((site_disks set.site).disk_faults disk)
-        ((imported_same {R = R} {g = g} call.at.set.site).counts disk) rose (omega arith)))
-        (record { config = refl; keeps = inl refl }) refl (left_last d comes)))
-    by_why (Lacks disk) set is holds cut rose mid facts load result it =
-        subst (λ (r : Result Said OutOfMemory). RisesIs e s old new r) (sym it.said)
-        (answered (suc disk) (Lacks disk) set is holds cut (quiet mid facts it.facts) (loaded mid load it.same it.assemblies)
-        (λ d name comes. GroupNotFound (Lacks disk) (calls_are e old new [] s before after begin.stands call (suc disk)) tt
-        (calls_named e old new [] s before after begin.stands call call.at.set set call.at.is_set is (suc disk) disk (omega arith)
-        (rose_up ((site_disks call.at.set.site).disk_faults disk) ((as_imported call.at.set.site).disk_faults disk) ((site_disks set.site).disk_faults disk) ((site_disks set.site).disk_faults disk)
-        ((imported_same {R = R} {g = g} call.at.set.site).counts disk) rose (omega arith)))
-        refl (left_last d comes)))
-    by_why NoConfig set is holds cut rose mid facts load result it =
-        subst (λ (r : Result Said OutOfMemory). RisesIs e s old new r) (sym it.said)
-        (answered 0 NoConfig set is holds cut (quiet mid facts it.facts) (loaded mid load it.same it.assemblies)
-        (λ d name comes. GroupNotFound NoConfig (calls_are e old new [] s before after begin.stands call 0) tt tt refl (left_last d comes)))
-    by_why (Limit what most) set is holds cut rose mid facts load result it =
-        subst (λ (r : Result Said OutOfMemory). RisesIs e s old new r) (sym it.said)
-        (subst (λ (w : Counted). RisesFor e s (Refused (Limit w most)) old new) (sym rose.0)
-        (answered 0 (Limit Numbers most) set is holds cut (quiet mid facts it.facts) (loaded mid load it.same it.assemblies)
-        (λ d name comes. GroupNotFound (Limit Numbers most) (calls_are e old new [] s before after begin.stands call 0) tt rose.1 refl (left_last d comes))))
-    by_why (Damaged unit block stored computed) set is holds cut rose mid facts load result it =
-        subst (λ (r : Result Said OutOfMemory). RisesIs e s old new r) (sym it.said)
-        (answered 0 (Damaged unit block stored computed) set is holds cut (quiet mid facts it.facts) (loaded mid load it.same it.assemblies)
-        (λ d name comes. FindsNoGroup (note_at (d.world.nodes s)) (Damaged unit block stored computed) (calls_are e old new [] s before after begin.stands call 0) tt
-        (inl (λ told. rose (told_of new s after set there_now is told))) tt refl (left_last d comes)))
-    by_why (Format version) set is holds cut rose mid facts load result it =
-        subst (λ (r : Result Said OutOfMemory). RisesIs e s old new r) (sym it.said)
-        (answered 0 (Format version) set is holds cut (quiet mid facts it.facts) (loaded mid load it.same it.assemblies)
-        (λ d name comes. FindsNoGroup (note_at (d.world.nodes s)) (Format version) (calls_are e old new [] s before after begin.stands call 0) tt
-        (inl (λ told. rose (told_of new s after set there_now is told))) tt refl (left_last d comes)))
-    by_why other set is holds cut rose mid facts load result it = absurd rose
-
-    by_stop : (stop : Stop) (set : GroupSet R g) → after ≡ OfGroup set → DownNoted n note set.site → cut_in after ≡ cut_value call.at.set.cut → ImportWhy (IsTrue (site_disks set.site).tells) (as_imported call.at.set.site) (site_disks set.site) stop
-        → (mid : Yard R g) → mid.facts.items ≡ old.facts.items → SameLoad old mid → (result : Result Said OutOfMemory) → reply_noted s (fact_of_group n note) stop mid new result → RisesIs e s old new result
-    by_stop (StopsBy why) set is holds cut because mid facts load result it = by_why why set is holds cut because mid facts load result it
-    by_stop MemoryStop set is holds cut because mid facts load result it =
-        let same : SameLoad old new = subst (λ (y : Yard R g). SameLoad old y) (sym it.0) load in
-        let follows = stays set is holds cut (ap (λ (y : Yard R g). y.facts.items) it.0 ∙ facts) same in
-        subst (λ (r : Result Said OutOfMemory). RisesIs e s old new r) (sym it.1)
-        (record { stands = follows.stands; carries = follows.carries; rose = calls_none e old new [] s before after begin.stands call })
-
-    -- a recovery that was refused in its import
-    pub stays_back : (stop : Stop) → RaisesGroup n note before after (Err stop) → (mid : Yard R g) → mid.facts.items ≡ old.facts.items → SameLoad old mid → (result : Result Said OutOfMemory)
-        → ((f : SiteFacts) → slice_get mid.facts.items s ≡ Some f → reply_noted s f stop mid new result) → RisesIs e s old new result
-    stays_back stop raised mid facts load result replied =
-        let it : StaysBack n note call.at.set.site call.at.set.cut after stop = subst (λ (x : DiskSet R g). RaisesGroup n note x after (Err stop)) call.at.is_set raised in
-        let t = set_then (λ (x : GroupSite R g). SiteRecovers n note call.at.set.site x (Err stop)) after it.refused in
-        by_stop stop t.set t.is t.holds.0 it.cut_stays t.holds.1 mid facts load result
-        (replied (fact_of_group n note) (ap (λ (fs : List SiteFacts). slice_get fs s) facts ∙ call.at.fact))
+    loose : is_dimmed call.at.set.site ≡ true → (note_at (e.world.nodes s)).loose ≡ true
+    loose = loose_here e s old new before after begin call
 
     -- ---- it came up
 
     -- what was done behind the import
     pub record SinceThen (m x : GroupSite R g) : Type 0 where
-      pub tells : IsTrue (site_disks x).tells → IsTrue (site_disks m).tells
+      pub tells : IsTrue (site_below x).tells → IsTrue (site_below m).tells
       pub from : (k : ℕ) → (site_disks call.at.set.site).disk_faults k ≤ (site_disks m).disk_faults k
       pub counts : (k : ℕ) → (site_disks m).disk_faults k ≤ (site_disks x).disk_faults k
 
@@ -326,7 +144,8 @@ module _ {R : Type 0} {g : Ghosts R} where
       pub feeders : new.feeders ≡ mid.feeders
 
     module _
-        (m : GroupSite R g) (next : GroupNode) (back : NoteReturns (IsTrue (site_disks m).tells) (note_at (e.world.nodes s)) next) (config : ConfigReturns (note_at (e.world.nodes s)) next (as_imported call.at.set.site) m)
+        (m : GroupSite R g) (next : GroupNode) (back : NoteReturns (IsTrue (site_disks m).tells) (note_dimmed (is_dimmed call.at.set.site) (note_at (e.world.nodes s))) next)
+        (config : ConfigReturns (note_dimmed (is_dimmed call.at.set.site) (note_at (e.world.nodes s))) next (as_imported call.at.set.site) m) (lit : next.dark ≡ false → IsTrue (site_below m).tells → IsTrue (site_disks m).tells)
         (since : (set : GroupSet R g) → after ≡ OfGroup set → SinceThen m set.site) (cut : Option CutWrite) (cut_is : cut ≡ call.at.set.cut) (c : Config) (reads : config_of next.config ≡ Some (at_serial 0 c))
         (mid : Yard R g) (half : HalfWay mid) (result : Result Said OutOfMemory)
       where
@@ -334,13 +153,17 @@ module _ {R : Type 0} {g : Ghosts R} where
         sizes v =
             config.sizes v ∙ ap (λ (vs : List VolumeEntry). blocks_of vs v) (some_config config.now c (sym (config_is next.config config.now config.noted_now.is config.noted_now.spells) ∙ reads))
 
-        back_for : (told : Type 0) (set : GroupSet R g) (is : after ≡ OfGroup set) (many : ℕ) → MOST_DISKS ≤ many → (told → IsTrue (site_disks set.site).tells) → (d : Doubted) → ComesDown d e s
-            → NotesBack told s (d.world.nodes s) (calls s old new many) (note_at (d.world.nodes s)) next
-        back_for told set is many enough tells d comes =
+        -- contents that are known were told of the disks that came up
+        known : (set : GroupSet R g) → after ≡ OfGroup set → IsKnown (IsTold new) next → IsTrue (site_disks m).tells
+        known set is it = lit it.1 ((since set is).tells (told_of new s after set there_now is it.0))
+
+        back_for : (set : GroupSet R g) (is : after ≡ OfGroup set) (many : ℕ) → MOST_DISKS ≤ many → (d : Doubted) → ComesDown d e s
+            → NotesBack (IsTold new) s (d.world.nodes s) (calls s old new many) (note_at (d.world.nodes s)) next
+        back_for set is many enough d comes =
             let sits : SitsOn n (as_imported call.at.set.site) = sits_down n note call.at.set.site is_down in
-            subst (λ (k : GroupNode). NotesBack told s (d.world.nodes s) (calls s old new many) k next) comes.note
-            (back_of told s (d.world.nodes s) note next (as_imported call.at.set.site) m (calls s old new many) (λ yes_. (since set is).tells (tells yes_))
-            (record { units = sits.units ∙ comes.disks; size = λ u low. sits.size u (omega (arith, low, comes.disks)) ∙ comes.blocks }) back config
+            subst (λ (k : GroupNode). NotesBack (IsTold new) s (d.world.nodes s) (calls s old new many) k next) comes.note
+            (back_of (IsTold new) (is_dimmed call.at.set.site) s (d.world.nodes s) note next (as_imported call.at.set.site) m (calls s old new many) (known set is)
+            (record { units = sits.units ∙ comes.disks; size = λ u low. sits.size u (omega (arith, low, comes.disks)) ∙ comes.blocks }) loose back config
             (λ k low rose.
             calls_named e old new [] s before after begin.stands call call.at.set set call.at.is_set is many k (omega (arith, low, comes.disks, sized.few, enough))
             (rose_up ((site_disks call.at.set.site).disk_faults k) ((as_imported call.at.set.site).disk_faults k) ((site_disks m).disk_faults k) ((site_disks set.site).disk_faults k)
@@ -412,24 +235,25 @@ module _ {R : Type 0} {g : Ghosts R} where
                 ap (λ (f : SiteFacts). view_with f (Some has.config)) (up_seen n note next c reads) ∙ view_up (risen_node next n) next t.set.site has.config holds has.has
                 ∙ named_view n (d.world.nodes s) next comes.name
 
-            shows : IsTrue (site_disks t.set.site).tells → (d : Doubted) → ComesDown d e s → ShowsKept (IsTold new) (note_at (d.world.nodes s)).cut next shown
-            shows yes_ d comes =
-                let tells = (since t.set t.is).tells yes_ in
+            shows : IsTrue (site_disks m).tells → (d : Doubted) → ComesDown d e s → ShowsKept (IsTold new) (note_at (d.world.nodes s)).cut next shown
+            shows tells d comes =
                 subst (λ (w : Option Write). ShowsKept (IsTold new) w next (kept_shown (map plain_fact c.volumes) kept)) (cut_for d comes)
                 (shows_cut (IsTold new) next (site_disks m) c (λ _. tells) reads sizes cut kept (λ x is. lies_now tells x (was_fits x (sym cut_is ∙ is))) is_kept)
 
             ends : (d : Doubted) (name : List ℕ) → ComesDown d e s → GroupEnds (IsTold new) d (Recover name) s (calls s old new MOST_DISKS) (Resumed view shown) (noted_at (happened e (Regroup s) false) s next)
             ends d name comes =
                 subst (λ (x : Doubted). GroupEnds (IsTold new) d (Recover name) s (calls s old new MOST_DISKS) (Resumed view shown) (noted_at x s next)) (up_as d e s comes)
-                (bool_by (site_disks t.set.site).tells
+                (bool_by (site_disks m).tells
                 (λ yes_.
                 GroupDone next (calls_are e old new [] s before after begin.stands call MOST_DISKS) (
-                  back_for (IsTold new) t.set t.is MOST_DISKS (omega arith) (λ _. yes_) d comes,
+                  back_for t.set t.is MOST_DISKS (omega arith) d comes,
                   record { kept = shown; says = ap (λ (v : SiteView). Resumed v shown) (seen d comes); shows = shows yes_ d comes },
                 ) (record { world = refl; after = λ i. refl }))
                 (λ no_.
+                let nothing : NoneKnown (IsTold new) note next =
+                none_known (IsTold new) note next (site_disks m).tells no_ (λ told bright. known t.set t.is (told, bright)) (dark_moves (is_dimmed call.at.set.site) note next loose back.dark) in
                 FindsGroup next (calls_are e old new [] s before after begin.stands call MOST_DISKS) tt
-                (inl (λ told. let x : true ≡ false = sym (told_of new s after t.set there_now t.is told) ∙ no_ in absurd (cc)))
+                (subst (λ (k : GroupNode). KnowsNothing (IsTold new) k) comes.note nothing.before) nothing.dark
                 (shown, ap (λ (v : SiteView). Resumed v shown) (seen d comes)) (record { world = refl; after = λ i. refl })))
 
         -- it went down again
@@ -492,7 +316,7 @@ module _ {R : Type 0} {g : Ghosts R} where
                 (KeptUnread disk (still_cut cut next) name refl (calls_are e old new [] s before after begin.stands call (MOST_DISKS + suc disk)) named
                 (record {
                   middle = next;
-                  back = back_for (IsTold new) t.set t.is (MOST_DISKS + suc disk) (omega arith) (λ told. told_of new s after t.set there_now t.is told) d comes;
+                  back = back_for t.set t.is (MOST_DISKS + suc disk) (omega arith) d comes;
                   is = ap (λ (w : Option Write). let q : GroupNode = record next { cut = w } in q) (cut_for d comes);
                 })
                 refl (record { world = refl; after = λ i. refl }))
@@ -502,242 +326,3 @@ module _ {R : Type 0} {g : Ghosts R} where
         looked (Ok kept) it so = kept_up kept it.0 it.1 it.2 so
         looked (Err (StopsBy (Device disk))) it so = unread disk it.0 it.1 (λ x o same is. fits_by next cut o same it.2 x is) it.3 so
         looked (Err other) it so = absurd it
-
-  -- ---- the two calls of a site
-
-  -- what a reply leaves of the disks
-  kept_mid : (stop : Stop) (s : ℕ) (f : SiteFacts) (mid new : Yard R g) (result : Result Said OutOfMemory) → reply_noted s f stop mid new result → (new.disk_sets.items ≡ mid.disk_sets.items) × (new.racks ≡ mid.racks)
-  kept_mid (StopsBy why) s f mid new result it = (ap (λ es. es.items) it.same.disk_sets, it.same.racks)
-  kept_mid MemoryStop s f mid new result it = (ap (λ (y : Yard R g). y.disk_sets.items) it.0, ap (λ (y : Yard R g). y.racks) it.0)
-
-  pub dir_mid : (stop : Stop) (s : ℕ) (f : SiteFacts) (mid new : Yard R g) (result : Result Said OutOfMemory) → reply_noted s f stop mid new result → in_files new ≡ in_files mid
-  dir_mid (StopsBy why) s f mid new result it = ap (λ d. is_some d) it.same.dir
-  dir_mid MemoryStop s f mid new result it = ap (λ (y : Yard R g). in_files y) it.0
-
-  module _ (old mid new : Yard R g) (s : ℕ) (before between : DiskSet R g) (first : RaisedTo old mid s before between) where
-    -- the disks that came up are those that were looked at
-    same_between : (cut : Option CutWrite) (result : Result Said OutOfMemory) (st : StoodUp s cut mid new result) → between ≡ st.before
-    same_between cut result st =
-        some_same
-        (sym (ap (λ (es : List (DiskSet R g)). slice_get es s) first.disk_sets ∙ get-set_same old.disk_sets.items s between (slice_get_within old.disk_sets.items s before first.there)) ∙ st.there)
-
-    pub changed_up : (cut : Option CutWrite) (result : Result Said OutOfMemory) (st : StoodUp s cut mid new result) → Changed old new s before st.after
-    changed_up cut result st = record {
-      there = first.there;
-      later = later_then before st.before st.after (subst (λ (x : DiskSet R g). Later before x) (same_between cut result st) first.later) st.later;
-      disk_sets = st.disk_sets ∙ ap (λ (es : List (DiskSet R g)). slice_set es s st.after) first.disk_sets ∙ set_twice old.disk_sets.items s between st.after;
-      racks = st.racks ∙ first.racks;
-    }
-
-    pub failing_up : (cut : Option CutWrite) (result : Result Said OutOfMemory) (st : StoodUp s cut mid new result) → SameFailing before st.after
-    failing_up cut result st = failing_then before st.before st.after (subst (λ (x : DiskSet R g). SameFailing before x) (same_between cut result st) first.failing) st.failing
-
-    pub changed_down : (stop : Stop) (f : SiteFacts) (result : Result Said OutOfMemory) → reply_noted s f stop mid new result → Changed old new s before between
-    changed_down stop f result it =
-        let kept = kept_mid stop s f mid new result it in
-        record { there = first.there; later = first.later; disk_sets = kept.0 ∙ first.disk_sets; racks = kept.1 ∙ first.racks }
-
-    pub of_up : (cut : Option CutWrite) (result : Result Said OutOfMemory) (st : StoodUp s cut mid new result) → OfSite SameFailing s old new
-    of_up cut result st =
-        let changed = changed_up cut result st in
-        record { before = before; after = st.after; there = changed.there; disk_sets = changed.disk_sets; did = failing_up cut result st }
-
-    pub told_up : (cut : Option CutWrite) (result : Result Said OutOfMemory) (st : StoodUp s cut mid new result) → IsTold new → IsTold old
-    told_up cut result st = told_by old new s before st.after (changed_up cut result st)
-
-    pub of_down : (stop : Stop) (f : SiteFacts) (result : Result Said OutOfMemory) → reply_noted s f stop mid new result → OfSite SameFailing s old new
-    of_down stop f result it =
-        let changed = changed_down stop f result it in
-        record { before = before; after = between; there = changed.there; disk_sets = changed.disk_sets; did = first.failing }
-
-    pub told_down : (stop : Stop) (f : SiteFacts) (result : Result Said OutOfMemory) → reply_noted s f stop mid new result → IsTold new → IsTold old
-    told_down stop f result it = told_by old new s before between (changed_down stop f result it)
-
-    module _ (e : Doubted) (begin : Begins e s old) where
-      pub came_up : (cut : Option CutWrite) (result : Result Said OutOfMemory) → ((n : Node) (note : GroupNode) → AtSite (DownNoted n note) before → RaisesGroup n note before between (Ok cut))
-          → StoodUp s cut mid new result → RisesIs e s old new result
-      came_up cut result raises st =
-          let n : Node = e.world.nodes s in
-          let note : GroupNode = note_at (e.world.nodes s) in
-          let same : between ≡ st.before = same_between cut result st in
-          let at : GroupAt e old [] s before = group_by e old [] s before begin.stands begin.below begin.over first.there in
-          let call : Called e old new [] s before st.after = record { at = at; changed = changed_up cut result st; failing = failing_up cut result st } in
-          let down : AtSite (DownNoted n note) before = subst (λ (x : DiskSet R g). AtSite (DownNoted n note) x) (sym at.is_set) (down_noted n at.set.site at.stands.stands begin.down) in
-          let was : RaisesGroup n note (OfGroup at.set) st.before (Ok cut) =
-          subst (λ (x : DiskSet R g). RaisesGroup n note x st.before (Ok cut)) at.is_set (subst (λ (x : DiskSet R g). RaisesGroup n note before x (Ok cut)) same (raises n note down)) in
-          let rm = set_then (λ (x : GroupSite R g). SiteRecovers n note at.set.site x (Ok tt)) st.before was.0 in
-          let up = has_up (returned_with rm.holds.0 n) rm.holds.0 rm.set.site rm.holds.2 in
-          let later : Later before st.before = subst (λ (x : DiskSet R g). Later before x) same first.later in
-          looked e s old new before st.after begin call rm.set.site rm.holds.0 rm.holds.1 rm.holds.3
-          (λ set is. record {
-            tells = λ yes_. subst (λ (x : DiskSet R g). IsToldAt x) rm.is (st.later.told (subst (λ (x : DiskSet R g). IsToldAt x) (sym is) yes_));
-            from = λ k. omega (arith, later.counts k, ap (λ (x : DiskSet R g). faults_at x k) at.is_set, ap (λ (x : DiskSet R g). faults_at x k) rm.is);
-            counts = λ k. omega (arith, st.later.counts k, ap (λ (x : DiskSet R g). faults_at x k) rm.is, ap (λ (x : DiskSet R g). faults_at x k) is);
-          })
-          cut was.2 up.config up.reads mid (record { facts = first.facts; load = first.load; flight = st.flight; feeders = st.feeders }) result st.answer
-          (subst (λ (x : DiskSet R g). LooksAt (returned_with rm.holds.0 n) rm.holds.0 cut x st.after st.answer) rm.is
-          (st.looks (returned_with rm.holds.0 n) rm.holds.0 (subst (λ (x : DiskSet R g). AtSite (UpNoted (returned_with rm.holds.0 n) rm.holds.0) x) (sym rm.is) rm.holds.2)))
-          (st.so (fact_of_group n note) up.config (ap (λ (fs : List SiteFacts). slice_get fs s) first.facts ∙ at.fact)
-          (subst (λ (x : DiskSet R g). AtSite (λ y. site_config y ≡ Some up.config) x) (sym rm.is) up.has))
-
-      pub came_down : (stop : Stop) (result : Result Said OutOfMemory) → ((n : Node) (note : GroupNode) → AtSite (DownNoted n note) before → RaisesGroup n note before between (Err stop))
-          → ((f : SiteFacts) → slice_get mid.facts.items s ≡ Some f → reply_noted s f stop mid new result) → RisesIs e s old new result
-      came_down stop result raises replied =
-          let n : Node = e.world.nodes s in
-          let note : GroupNode = note_at (e.world.nodes s) in
-          let at : GroupAt e old [] s before = group_by e old [] s before begin.stands begin.below begin.over first.there in
-          let down : AtSite (DownNoted n note) before = subst (λ (x : DiskSet R g). AtSite (DownNoted n note) x) (sym at.is_set) (down_noted n at.set.site at.stands.stands begin.down) in
-          let it = replied (fact_of_group n note) (ap (λ (fs : List SiteFacts). slice_get fs s) first.facts ∙ at.fact) in
-          let call : Called e old new [] s before between = record { at = at; changed = changed_down stop (fact_of_group n note) result it; failing = first.failing } in
-          stays_back e s old new before between begin call stop (raises n note down) mid first.facts first.load result replied
-
-  -- ---- a site that was up
-
-  -- it crashes before it is recovered
-  pub record Fallen (d : Doubted) (s : ℕ) (old new : Yard R g) : Type 0 where
-    pub begin : Begins (happened d (CrashAt s 0) false) s new
-    pub comes : ComesDown d (happened d (CrashAt s 0) false) s
-    pub carries : Carries d old → Carries (happened d (CrashAt s 0) false) new
-    pub rose : RoseAll [] (count_of old) (count_of new)
-
-  pub fallen : (d : Doubted) (s : ℕ) (old new : Yard R g) (before : DiskSet R g) → StandsFor d old → GroupAt d old [] s before → (d.world.nodes s).state ≡ IsUp → Falls d s old new → Fallen d s old new
-  fallen d s old new before stands at up f =
-      let n : Node = d.world.nodes s in
-      let none = (up_notes n (note_at n) at.set.site (up_noted n at.set.site at.stands.stands up)).0.none in
-      let fell : Arrives d (happened d (CrashAt s 0) false) s (crashed n 0) None = arrives_crash d d s n (d.world.gathering s) (begins_at d old [] s before stands at) at.below up none.log none.safe in
-      let p = f.plain at.over in
-      let is : crash_of d s f.count f.taken ≡ crash_of d s 0 false = ap (λ (b : Bool). crash_of d s f.count b) p.1 ∙ ap (λ (k : ℕ). crash_of d s k false) p.0 in
-      record {
-        begin = record {
-          stands = subst (λ (x : Doubted). StandsFor x new) is f.stands;
-          below = omega (arith, at.below, fell.site.sites);
-          over = ap (λ (x : Node). is_over_group x) fell.node ∙ at.over;
-          down = ap (λ (x : Node). x.state) fell.node;
-        };
-        comes = record {
-          how = inr (up, refl);
-          name = ap (λ (x : Node). x.name) fell.node;
-          disks = ap (λ (x : Node). x.disks) fell.node;
-          blocks = ap (λ (x : Node). x.blocks) fell.node;
-          note = ap (λ (x : Node). note_at x) fell.node;
-        };
-        carries = λ was. subst (λ (x : Doubted). Carries x new) is (f.carries was);
-        rose = f.rose;
-      }
-
-  -- ---- the line
-
-  pub resumes : (d e : Doubted) (name : List ℕ) (s : ℕ) (old mid new : Yard R g) (result : Result Said OutOfMemory) → group_place d.world (Recover name) ≡ s → ComesDown d e s → (Carries d old → Carries e mid)
-      → RoseAll [] (count_of old) (count_of mid) → StopsShort (IsTold new) d (Recover name) e → RisesIs e s mid new result → LeadsOverOrStops d (Recover name) old new result
-  resumes d e name s old mid new (Ok said) place comes before rose part r = record {
-    next = r.next;
-    fails = r.fails;
-    done = subst (λ (k : ℕ). GroupEnds (IsTold new) d (Recover name) k r.fails said r.next) (sym place) (r.done d name comes);
-    stands = r.stands;
-    carries = λ was. r.carries (before was);
-    rose = rose_then r.fails (count_of old) (count_of mid) (count_of new) rose r.rose;
-  }
-  resumes d e name s old mid new (Err x) place comes before rose part r = record {
-    next = e;
-    part = part;
-    stands = r.stands;
-    carries = λ was. r.carries (before was);
-    rose = rose_then [] (count_of old) (count_of mid) (count_of new) rose r.rose;
-  }
-
-  pub from_down : (d : Doubted) (name : List ℕ) (s : ℕ) (old new : Yard R g) (before : DiskSet R g) (result : Result Said OutOfMemory) → StandsFor d old → group_place d.world (Recover name) ≡ s → GroupAt d old name s before
-      → (d.world.nodes s).state ≡ IsDown → ((e : Doubted) → StandsFor e old → s < e.world.sites → is_over_group (e.world.nodes s) ≡ true → (e.world.nodes s).state ≡ IsDown → RisesIs e s old new result)
-      → LeadsOverOrStops d (Recover name) old new result
-  from_down d name s old new before result stands place at down rises =
-      resumes d d name s old old new result place (down_first d s down) (λ was. was) (rose_none (count_of old) (count_of old) (λ i u. omega arith)) (StopsInPart (none_done d (Recover name)))
-      (rises d stands at.below at.over down)
-
-  pub from_up : (d : Doubted) (name : List ℕ) (s : ℕ) (old mid new : Yard R g) (before : DiskSet R g) (result : Result Said OutOfMemory) → StandsFor d old → group_place d.world (Recover name) ≡ s → slice_get old.disk_sets.items s ≡ Some before → GroupAt d old name s before
-      → (d.world.nodes s).state ≡ IsUp → ((d : Doubted) → StandsFor d old → s < d.world.sites → (d.world.nodes s).state ≡ IsUp → Falls d s old mid)
-      → ((e : Doubted) → StandsFor e mid → s < e.world.sites → is_over_group (e.world.nodes s) ≡ true → (e.world.nodes s).state ≡ IsDown → RisesIs e s mid new result)
-      → LeadsOverOrStops d (Recover name) old new result
-  from_up d name s old mid new before result stands place there at up falls rises =
-      let e : Doubted = happened d (CrashAt s 0) false in
-      let f : Fallen d s old mid = fallen d s old mid before stands (group_by d old [] s before stands at.below at.over there) up (falls d stands at.below up) in
-      resumes d e name s old mid new result place f.comes f.carries f.rose
-      (StopsDown (record {
-        crashes = crashes_over d name s place at.over up;
-        leads = subst (λ (k : ℕ). let last = run_as false d (CrashAt k 0 ∷ []) in IsAs last last.world e) (sym place) (record { world = refl; after = λ i. refl });
-      }))
-      (rises e f.begin.stands f.begin.below f.begin.over f.begin.down)
-
-  -- ---- the group that came up, and the look
-
-  pub stood_by : (s : ℕ) (cut : Option CutWrite) (old mid new : Yard R g) (before after : DiskSet R g) (answer : Result (Option KeptWrite) Stop) (result : Result Said OutOfMemory) → KeepsRest old mid
-      → slice_get mid.disk_sets.items s ≡ Some before → new.disk_sets.items ≡ slice_set mid.disk_sets.items s after → ((n : Node) (note : GroupNode) → AtSite (UpNoted n note) before → LooksAt n note cut before after answer)
-      → SameFailing before after → Later before after → new.racks ≡ mid.racks → new.flight ≡ mid.flight → new.feeders ≡ mid.feeders → new.dir ≡ mid.dir
-      → ((f : SiteFacts) (c : Config) → slice_get old.facts.items s ≡ Some f → AtSite (λ x. site_config x ≡ Some c) before → StandsSo s f c after answer old new result) → StoodUp s cut old new result
-  stood_by s cut old mid new before after answer result rest there disk_sets looks failing later racks flight feeders dir so = record {
-    before = before;
-    after = after;
-    answer = answer;
-    there = ap (λ es. slice_get es.items s) (sym rest.disk_sets) ∙ there;
-    disk_sets = disk_sets ∙ ap (λ es. slice_set es.items s after) rest.disk_sets;
-    looks = looks;
-    failing = failing;
-    later = later;
-    racks = racks ∙ rest.racks;
-    flight = flight ∙ rest.flight;
-    feeders = feeders ∙ rest.feeders;
-    dir = dir ∙ rest.dir;
-    so = so;
-  }
-
-  -- what the tests see of it
-  noted_up : (s : ℕ) (old mid : Yard R g) (before : DiskSet R g) (f : SiteFacts) (c : Config) → KeepsRest old mid → slice_get mid.disk_sets.items s ≡ Some before → slice_get old.facts.items s ≡ Some f
-      → AtSite (λ x. site_config x ≡ Some c) before
-      → ((f : SiteFacts) (c : Config) → slice_get old.facts.items s ≡ Some f → HasConfig s c old → mid.facts.items ≡ slice_set old.facts.items s (group_up_facts (map plain_fact c.volumes) f))
-      → mid.facts.items ≡ slice_set old.facts.items s (group_up_facts (map plain_fact c.volumes) f)
-  noted_up s old mid before f c rest there at is noted = noted f c at (record { disk_set = before; there = ap (λ es. slice_get es.items s) (sym rest.disk_sets) ∙ there; is = is })
-
-  seen_up : (s : ℕ) (old mid : Yard R g) (f x : SiteFacts) → slice_get old.facts.items s ≡ Some f → mid.facts.items ≡ slice_set old.facts.items s x → slice_get mid.facts.items s ≡ Some x
-  seen_up s old mid f x at is = ap (λ (fs : List SiteFacts). slice_get fs s) is ∙ get-set_same old.facts.items s x (slice_get_within old.facts.items s f at)
-
-  -- its answer, where what is kept was read
-  pub so_up : (s : ℕ) (old mid new : Yard R g) (before after : DiskSet R g) (kept : Option KeptWrite) (shown : Option Kept) (view : SiteView) (seen : SiteFacts) → KeepsRest old mid → slice_get mid.disk_sets.items s ≡ Some before
-      → new.facts.items ≡ mid.facts.items → new.assemblies ≡ mid.assemblies → mid.assemblies ≡ old.assemblies → slice_get new.disk_sets.items s ≡ Some after → slice_get new.facts.items s ≡ Some seen → shown ≡ kept_shown seen.volumes kept
-      → ((f : SiteFacts) (c : Config) → slice_get old.facts.items s ≡ Some f → HasConfig s c old → mid.facts.items ≡ slice_set old.facts.items s (group_up_facts (map plain_fact c.volumes) f))
-      → ((f : SiteFacts) (c : Config) → slice_get new.facts.items s ≡ Some f → HasConfig s c new → view ≡ view_with f (Some c))
-      → (f : SiteFacts) (c : Config) → slice_get old.facts.items s ≡ Some f → AtSite (λ x. site_config x ≡ Some c) before → StandsSo s f c after (Ok kept) old new (Ok (Resumed view shown))
-  so_up s old mid new before after kept shown view seen rest there facts loads held here looked_at shows noted views f c at is =
-      let x : SiteFacts = group_up_facts (map plain_fact c.volumes) f in
-      let marked : mid.facts.items ≡ slice_set old.facts.items s x = noted_up s old mid before f c rest there at is noted in
-      let now : slice_get new.facts.items s ≡ Some x = ap (λ (fs : List SiteFacts). slice_get fs s) facts ∙ seen_up s old mid f x at marked in
-      let same : seen ≡ x = some_same (sym looked_at ∙ now) in (
-        facts ∙ marked,
-        loads ∙ held,
-        λ k has.
-            ap (λ (v : SiteView). Ok (Resumed v shown)) (views x k now (record { disk_set = after; there = here; is = has }))
-            ∙ ap (λ (o : Option Kept). Ok (Resumed (view_with x (Some k)) o)) (shows ∙ ap (λ (y : SiteFacts). kept_shown y.volumes kept) same),
-      )
-
-  -- and where it was not
-  pub so_down : (s : ℕ) (old mid near new : Yard R g) (before after : DiskSet R g) (stop : Stop) (result : Result Said OutOfMemory) → KeepsRest old mid → slice_get mid.disk_sets.items s ≡ Some before → near.facts.items ≡ mid.facts.items
-      → near.assemblies ≡ mid.assemblies → mid.assemblies ≡ old.assemblies
-      → ((f : SiteFacts) (c : Config) → slice_get old.facts.items s ≡ Some f → HasConfig s c old → mid.facts.items ≡ slice_set old.facts.items s (group_up_facts (map plain_fact c.volumes) f))
-      → ((f : SiteFacts) → slice_get near.facts.items s ≡ Some f → new.facts.items ≡ slice_set near.facts.items s (down_facts f)) → LetGo s near.assemblies.items new.assemblies.items → result ≡ reply_to stop
-      → (f : SiteFacts) (c : Config) → slice_get old.facts.items s ≡ Some f → AtSite (λ x. site_config x ≡ Some c) before → StandsSo s f c after (Err stop) old new result
-  so_down s old mid near new before after stop result rest there facts loads held noted fell lets replied f c at is =
-      let x : SiteFacts = group_up_facts (map plain_fact c.volumes) f in
-      let marked : mid.facts.items ≡ slice_set old.facts.items s x = noted_up s old mid before f c rest there at is noted in
-      let now : slice_get near.facts.items s ≡ Some x = ap (λ (fs : List SiteFacts). slice_get fs s) facts ∙ seen_up s old mid f x at marked in (
-        fell x now ∙ ap (λ (fs : List SiteFacts). slice_set fs s (down_facts x)) (facts ∙ marked) ∙ set_twice old.facts.items s x (down_facts x),
-        subst (λ (xs : List Assembled). LetGo s xs new.assemblies.items) (ap (λ xs. xs.items) (loads ∙ held)) lets,
-        replied,
-      )
-
-  -- memory ran out before anything was done
-  pub unbegun_rise : (d : Doubted) (name : List ℕ) (y : Yard R g) (r : Result Said OutOfMemory) (x : OutOfMemory) → r ≡ Err x → StandsFor d y → LeadsOverOrStops d (Recover name) y y r
-  unbegun_rise d name y r x is stands =
-      subst (λ (q : Result Said OutOfMemory). LeadsOverOrStops d (Recover name) y y q) (sym is) (record {
-        next = d;
-        part = StopsInPart (none_done d (Recover name));
-        stands = stands;
-        carries = λ was. was;
-        rose = rose_none (count_of y) (count_of y) (λ i u. omega arith);
-      })

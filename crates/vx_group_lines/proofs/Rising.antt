@@ -19,7 +19,7 @@ use Rattle.vx_order.specs.declared.facts.VolumeFacts.{VolumeFacts}
 use Rattle.vx_report.specs.declared.view.Kept.{Kept}
 use Rattle.vx_grouped.proofs.ReadyLemmas.{imported_same}
 use Rattle.vx_grouped.specs.Ends.{plain_write}
-use Rattle.vx_grouped.specs.GroupSites.{DownNoted, FitsPlain, UpNoted, site_config, site_disks}
+use Rattle.vx_grouped.specs.GroupSites.{DownNoted, FitsPlain, UpNoted, site_below, site_config}
 use Rattle.vx_grouped.specs.SiteEnds.{burned_site}
 use Rattle.vx_grouped.specs.SiteReturns.{as_imported, returned_with}
 use Rattle.vx_grouped.specs.declared.group_site.GroupSite.{GroupSite}
@@ -35,6 +35,7 @@ use Rattle.vx_diskset.specs.declared.group_set.KeptWrite.{KeptWrite}
 use Rattle.vx_events.proofs.Places.{some_same}
 use Rattle.vx_events.specs.Doubts.{run_as}
 use Rattle.vx_events.specs.GroupLines.{crash_first, group_recovery, unread_events}
+use Rattle.vx_events.specs.GroupNotes.{IsKnown}
 use Rattle.vx_events.specs.GroupReplies.{ShowsKept}
 use Rattle.vx_events.specs.GroupViews.{config_of, plain_fact, volumes_of}
 use Rattle.vx_yard.specs.Yards.{IsTold}
@@ -112,7 +113,7 @@ at_map (x ∷ vs) zero entry is = ap (λ (k : VolumeEntry). Some (plain_fact k))
 at_map (x ∷ vs) (suc v) entry is = at_map vs v entry is
 
 -- what is shown of it
-module _ (told : Type 0) (next : GroupNode) (m : Meaning) (c : Config) (tells : told → IsTrue m.tells) (is_config : config_of next.config ≡ Some (at_serial 0 c)) (sizes : (v : ℕ) → next.bytes.size v ≡ blocks_of c.volumes v) where
+module _ (told : Type 0) (next : GroupNode) (m : Meaning) (c : Config) (tells : IsKnown told next → IsTrue m.tells) (is_config : config_of next.config ≡ Some (at_serial 0 c)) (sizes : (v : ℕ) → next.bytes.size v ≡ blocks_of c.volumes v) where
   shows_one : (x : CutWrite) (k : KeptWrite) → FitsPlain next x.volume x.block (length x.bytes) → KeptIs next m (Some x) (Some k) → ShowsKept told (Some (plain_write x.volume x.block x.bytes)) next (kept_shown (map plain_fact c.volumes) (Some k))
   shows_one x k fits is =
       let some : 0 < blocks_of c.volumes x.volume = omega (arith, fits.some, fits.within, fits.whole, sizes x.volume) in
@@ -187,5 +188,5 @@ module _ {R : Type 0} {g : Ghosts R} where
   sits_down n note (Marked rack) it = absurd it
   sits_down n note SiteGone it = absurd it
 
-  pub told_of : (y : Yard R g) (s : ℕ) (e : DiskSet R g) (set : GroupSet R g) → slice_get y.disk_sets.items s ≡ Some e → e ≡ OfGroup set → IsTold y → IsTrue (site_disks set.site).tells
+  pub told_of : (y : Yard R g) (s : ℕ) (e : DiskSet R g) (set : GroupSet R g) → slice_get y.disk_sets.items s ≡ Some e → e ≡ OfGroup set → IsTold y → IsTrue (site_below set.site).tells
   told_of y s e set there is told = subst (λ (x : DiskSet R g). IsToldAt x) is (told.each s e there)

@@ -1,3 +1,4 @@
+pub mod Founds
 pub mod Noting
 pub mod Plain
 pub mod Rises

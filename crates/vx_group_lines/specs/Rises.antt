@@ -1,5 +1,5 @@
 -- How the group of a site comes up in a recovery.
-use Rattle.std.specs.Prelude.{◌≡◌, ◌⊎◌, ℕ, ◌/◌, List, length, map, Option, Some, None, slice_get, slice_set, false, Result, Ok, Err}
+use Rattle.std.specs.Prelude.{◌≡◌, ◌⊎◌, ℕ, ◌/◌, List, length, map, Option, Some, None, slice_get, slice_set, false, Result, Ok, Err, []}
 use Rattle.vx_model.specs.declared.errors.OutOfMemory.{OutOfMemory}
 use Rattle.vx_model.specs.declared.errors.Stop.{Stop}
 use Rattle.vx_model.specs.declared.site.SiteState.TheVariants.{Down, Up}
@@ -23,7 +23,8 @@ use Rattle.vx_report.specs.declared.view.Kept.{Kept}
 use Rattle.vx_script.specs.declared.line.ScriptLine.TheVariants.{Recover}
 use Rattle.vx_events.specs.Fails.{Fails}
 use Rattle.vx_events.specs.GroupEnds.{GroupEnds}
-use Rattle.vx_events.specs.GroupNotes.{note_at}
+use Rattle.vx_events.specs.GroupLines.{noting}
+use Rattle.vx_events.specs.GroupNotes.{NotesShort, note_at}
 use Rattle.vx_events.specs.GroupViews.{plain_fact}
 use Rattle.vx_events.specs.declared.said.Said.{Said}
 use Rattle.vx_events.specs.declared.said.Said.TheVariants.{Resumed}
@@ -32,7 +33,7 @@ use Rattle.vx_yard.specs.Changes.{down_facts}
 use Rattle.vx_yard.specs.GroupFacts.{group_up_facts}
 use Rattle.vx_yard.specs.Loads.{LetGo}
 use Rattle.vx_yard.specs.Replies.{reply_to}
-use Rattle.vx_yard.specs.Standing.{StandsFor, StaysFor}
+use Rattle.vx_yard.specs.Standing.{StandsFor}
 use Rattle.vx_yard.specs.Stands.{RoseAll}
 use Rattle.vx_yard.specs.Yards.{IsTold, count_of}
 use Rattle.vx_yard.specs.declared.yard.Yard.{Yard}
@@ -99,6 +100,14 @@ module _ {R : Type 0} {g : Ghosts R} where
     pub carries : Carries e old → Carries next new
     pub rose : RoseAll fails (count_of old) (count_of new)
 
+  -- memory ran out in it: the site is down as it was, but that it may not be known any more what its disks hold
+  pub record StaysLow (e : Doubted) (s : ℕ) (old new : Yard R g) : Type 0 where
+    pub note : GroupNode
+    pub notes : NotesShort (note_at (e.world.nodes s)) note
+    pub stands : StandsFor (record e { world = noting e.world s note }) new
+    pub carries : Carries e old → Carries (record e { world = noting e.world s note }) new
+    pub rose : RoseAll [] (count_of old) (count_of new)
+
   abbrev pub RisesIs : Doubted → ℕ → Yard R g → Yard R g → Result Said OutOfMemory → Type 0
   RisesIs e s old new (Ok said) = RisesFor e s said old new
-  RisesIs e s old new (Err x) = StaysFor e old new
+  RisesIs e s old new (Err x) = StaysLow e s old new

@@ -6,6 +6,7 @@
 
 mod blocks;
 mod deport;
+mod found;
 mod import;
 mod init;
 mod lines;
@@ -19,4 +20,5 @@ mod views;
 mod volume;
 mod write;
 
+pub use found::{holds_group, recover_found};
 pub use lines::{is_of_group, work_group};

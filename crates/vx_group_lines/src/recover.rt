@@ -35,13 +35,13 @@ use vx_yard::{Yard, facts};
 
 // What a recovery needs of memory beside its import.
 #[derive(Drop)]
-struct RiseRoom {
-    volumes: VolumeRoom,
-    views: ViewRoom,
+pub(crate) struct RiseRoom {
+    pub(crate) volumes: VolumeRoom,
+    pub(crate) views: ViewRoom,
 }
 
 impl RiseRoom {
-    fn new(alloc: Global) -> Result<RiseRoom, OutOfMemory>
+    pub(crate) fn new(alloc: Global) -> Result<RiseRoom, OutOfMemory>
         ensures { IfOk result (λ room. (room.volumes ≡ []) × (room.views.disks ≡ []) × (room.views.volumes ≡ [])) }
     {
         Ok(RiseRoom {

@@ -1,5 +1,5 @@
 -- Disks of which only the fuse changed, or which of them are made to fail: what stands on them stays.
-use Rattle.std.proofs.Common.{◌≡◌, ℕ, true, IsTrue, List, Option, Some, None, refl, sym, ◌∙◌, ap, subst, arith}
+use Rattle.std.proofs.Common.{◌≡◌, ℕ, true, IsTrue, List, Option, Some, None, refl, sym, ◌∙◌, ap, subst, arith, Bool}
 use Rattle.vx_disk.specs.Causes.{OnDisks, WithDisks}
 use Rattle.vx_disk.specs.Disks.{Disks, SameBlocks}
 use Rattle.vx_disk.specs.Racks.{Alike, IsRack}
@@ -17,10 +17,11 @@ use Rattle.vx_group.specs.declared.group_core.GroupCore.{GroupCore}
 use Rattle.vx_group.proofs.AgainLemmas.{less_can}
 use Rattle.vx_grouped.specs.Away.{AwayLies, IsAwayAt, IsDeportedAt}
 use Rattle.vx_grouped.specs.GroupNotes.{GroupLies, noted_config}
-use Rattle.vx_grouped.specs.GroupSites.{IsMarkedSite, AreStopped, GroupAway, GroupDown, GroupFallen, GroupUp}
+use Rattle.vx_grouped.specs.GroupSites.{IsMarkedSite, AreStopped, GroupAway, GroupDown, GroupFallen, GroupUp, IsLit}
 use Rattle.vx_grouped.specs.Plain.{HoldsPlain}
 use Rattle.vx_grouped.specs.SetFuses.{HasFuse, LetsPass}
 use Rattle.vx_grouped.proofs.SiteLemmas.{lies_as}
+use Rattle.vx_grouped.proofs.TraceLemmas.{lit_since}
 
 -- ---- the fuse
 
@@ -50,7 +51,7 @@ holds_alike note a c alike it = record {
   has = λ u b x there within left. it.has u b x (let same = alike.contents.units in omega (arith, there, same)) (let same = alike.contents.size u in omega (arith, within, same)) (alike.contents.leaves u b x left);
 }
 
-module _ (n : Node) (note : GroupNode) (c d : GroupCore) (m m' : Meaning) (core : d ≡ c) (alike : Alike m m') (down : m'.down ≡ m.down) (volumes : Alike (inner_meaning (wide c) m) (inner_meaning (wide d) m')) where
+module _ (n : Node) (note : GroupNode) (c d : GroupCore) (m m' : Meaning) (core : d ≡ c) (alike : Alike m m') (down : m'.down ≡ m.down) (volumes : Alike (inner_meaning (wide c) m) (inner_meaning (wide d) m')) (told told' : Bool) (less : IsTrue told' → IsTrue told) where
   pub alike_lies : GroupLies n note c m → GroupLies n note d m'
   alike_lies lies = record {
     units = alike.contents.units ∙ lies.units;
@@ -61,18 +62,22 @@ module _ (n : Node) (note : GroupNode) (c d : GroupCore) (m m' : Meaning) (core 
     holds = holds_alike note (inner_meaning (wide c) m) (inner_meaning (wide d) m') volumes lies.holds;
   }
 
+  lit : IsLit note told m → IsLit note told' m'
+  lit it = lit_since note note told told' m m' refl alike.contents.tells less it
+
   spells_core : HasSpelling (at_serial 0 c.inner.config) → HasSpelling (at_serial 0 d.inner.config)
   spells_core it = subst (λ (x : GroupCore). HasSpelling (at_serial 0 x.inner.config)) (sym core) it
 
-  pub alike_up : HasFuse n.fuse m' → GroupUp n note c m → GroupUp n note d m'
-  alike_up fuse it = record { noted = it.noted; fuse = fuse; spells = spells_core it.spells; at = record { state = it.at.state; up = λ is. it.at.up (subst IsTrue down is); lies = alike_lies it.at.lies } }
+  pub alike_up : HasFuse n.fuse m' → GroupUp n note told c m → GroupUp n note told' d m'
+  alike_up fuse it = record { noted = it.noted; lit = lit it.lit; fuse = fuse; spells = spells_core it.spells; at = record { state = it.at.state; up = λ is. it.at.up (subst IsTrue down is); lies = alike_lies it.at.lies } }
 
-  pub alike_fallen : GroupFallen n note c m → GroupFallen n note d m'
-  alike_fallen it = record { noted = it.noted; spells = spells_core it.spells; cut = record { down = down ∙ it.cut.down; lies = alike_lies it.cut.lies } }
+  pub alike_fallen : GroupFallen n note told c m → GroupFallen n note told' d m'
+  alike_fallen it = record { noted = it.noted; lit = lit it.lit; spells = spells_core it.spells; cut = record { down = down ∙ it.cut.down; lies = alike_lies it.cut.lies } }
 
   -- with a fuse that was just set
-  pub fused_up : (calls : ℕ) → LetsPass calls m'.disks → GroupUp n note c m → GroupUp (record n { fuse = FuseSet calls }) note d m'
+  pub fused_up : (calls : ℕ) → LetsPass calls m'.disks → GroupUp n note told c m → GroupUp (record n { fuse = FuseSet calls }) note told' d m'
   fused_up calls fuse it = record {
+    lit = lit it.lit;
     noted = record { is = it.noted.is; none = record { role = it.noted.none.role; volumes = it.noted.none.volumes; log = it.noted.none.log; safe = it.noted.none.safe; running = it.noted.none.running } };
     fuse = fuse;
     spells = spells_core it.spells;
@@ -102,15 +107,15 @@ module _ (n : Node) (note : GroupNode) (m m' : Meaning) (units : m'.units ≡ m.
   pub less_deported : (last newest : Config) → IsDeportedAt n note last newest m → IsDeportedAt n note last newest m'
   less_deported last newest it = record { state = it.state; config = it.config; frames = it.frames; lies = less_away last it.lies }
 
-module _ (n : Node) (m m' : Meaning) (alike : Alike m m') (down : m'.down ≡ m.down) (armed : m'.armed ≡ m.armed) where
+module _ (n : Node) (m m' : Meaning) (alike : Alike m m') (down : m'.down ≡ m.down) (armed : m'.armed ≡ m.armed) (was is : Bool) (same : is ≡ was) (told told' : Bool) (less : IsTrue told' → IsTrue told) where
   stopped_alike : AreStopped m → AreStopped m'
   stopped_alike it = record { down = down ∙ it.down; unarmed = armed ∙ it.unarmed }
 
-  pub alike_down : (note : GroupNode) → GroupDown n note m → GroupDown n note m'
-  alike_down note it = record { noted = it.noted; unfused = it.unfused; stopped = stopped_alike it.stopped; last = it.last; spells = it.spells; away = less_down n note m m' alike.contents.units alike.contents.size alike.contents.leaves it.last it.away }
+  pub alike_down : (note : GroupNode) → GroupDown n note was told m → GroupDown n note is told' m'
+  alike_down note it = record { noted = it.noted; lit = lit_since note note told told' m m' refl alike.contents.tells less it.lit; agrees = λ tight. same ∙ it.agrees tight; unfused = it.unfused; stopped = stopped_alike it.stopped; last = it.last; spells = it.spells; away = less_down n note m m' alike.contents.units alike.contents.size alike.contents.leaves it.last it.away }
 
-  pub alike_away : (note : GroupNode) → HasFuse n.fuse m' → GroupAway n note m → GroupAway n note m'
-  alike_away note fuse it = record { noted = it.noted; up = λ is. it.up (subst IsTrue down is); fuse = fuse; last = it.last; newest = it.newest; spells = it.spells; away = less_deported n note m m' alike.contents.units alike.contents.size alike.contents.leaves it.last it.newest it.away }
+  pub alike_away : (note : GroupNode) → HasFuse n.fuse m' → GroupAway n note was told m → GroupAway n note is told' m'
+  alike_away note fuse it = record { noted = it.noted; lit = lit_since note note told told' m m' refl alike.contents.tells less it.lit; agrees = λ tight. same ∙ it.agrees tight; up = λ is. it.up (subst IsTrue down is); fuse = fuse; last = it.last; newest = it.newest; spells = it.spells; away = less_deported n note m m' alike.contents.units alike.contents.size alike.contents.leaves it.last it.newest it.away }
 
   pub alike_marked : IsMarkedSite n m → IsMarkedSite n m'
   alike_marked it = record {

@@ -26,13 +26,13 @@ use Rattle.vx_group.specs.declared.group_core.GroupCore.{GroupCore}
 use Rattle.vx_group.specs.declared.group_core.Held.{Held}
 use Rattle.vx_group.specs.declared.inner.Inner.{Inner}
 use Rattle.vx_group.proofs.Standing.{disks_fit}
-use Rattle.vx_untold.specs.Shades.{shade_meaning}
+use Rattle.vx_untold.specs.Shades.{shade_meaning, rack_of}
 use Rattle.vx_untold.specs.declared.shade.Shade.{Shade}
 use Rattle.vx_untold.specs.declared.shade.Shade.TheVariants.{Bright}
 use Rattle.vx_watched.specs.Since.{CalledSince}
 use Rattle.vx_grouped.specs.Begins.{BeginRefuses, BeginsGroup, CanBegin, IsEmptyConfig, IsFirstNote, group_begun}
 use Rattle.vx_grouped.specs.GroupNotes.{noted_config}
-use Rattle.vx_grouped.specs.GroupSites.{GroupUp, IsMarkedSite, idle_disks, laid_disks}
+use Rattle.vx_grouped.specs.GroupSites.{GroupUp, IsMarkedSite, idle_disks, laid_disks, laid_below}
 use Rattle.vx_grouped.specs.Plain.{HoldsPlain}
 use Rattle.vx_grouped.specs.SetFuses.{HasFuse}
 use Rattle.vx_grouped.specs.declared.idle.Idle.{Idle}
@@ -48,6 +48,7 @@ first_note core = record {
   config = noted_config core.config;
   begun = [];
   loose = not core.committed;
+  dark = false;
   bytes = no_volumes;
   others = λ v b. [];
   cut = None;
@@ -109,8 +110,9 @@ module _ (m m' : Meaning) (n : Node) (can : CanBegin n m) (since : CalledSince m
       has = λ v b x there within left. absurd (let none : length (wide core).config.volumes ≡ 0 = ap (λ (vs : List VolumeEntry). length vs) volumes in omega (arith, there, none));
     }
 
-    begun_up : HasSpelling core.inner.config → GroupUp (group_begun (first_note core.inner) site n) (first_note core.inner) core m'
-    begun_up has = record {
+    begun_up : (told : Bool) → (IsTrue told → IsTrue m'.tells) → HasSpelling core.inner.config → GroupUp (group_begun (first_note core.inner) site n) (first_note core.inner) told core m'
+    begun_up told bright has = record {
+      lit = λ clear is. bright is;
       noted = record { is = refl; none = record { role = refl; volumes = refl; log = refl; safe = refl; running = refl } };
       fuse = unarmed_fuse n.fuse m' can.unfused (since.unarmed can.unarmed);
       spells = spells_zero core.inner.config has;
@@ -144,7 +146,7 @@ module _ (m m' : Meaning) (n : Node) (can : CanBegin n m) (since : CalledSince m
     }
 
     first : IsFirstNote (first_note core.inner)
-    first = record { begun = refl; size = λ v. refl; others = λ v b. refl; cut = refl; perhaps = λ v p r. refl }
+    first = record { begun = refl; size = λ v. refl; others = λ v b. refl; cut = refl; dark = refl; perhaps = λ v p r. refl }
 
     trusted : (P : Type 0) → (HasFailed core.inner.config.disks → P) → ((first_note core.inner).loose ≡ false) ⊎ P
     trusted P failed = elim new.trust [
@@ -153,11 +155,11 @@ module _ (m m' : Meaning) (n : Node) (can : CanBegin n m) (since : CalledSince m
     ]
 
 module _ {R : Type 0} (g : Ghosts R) (rack : R) (n : Node) (site : ℕ) (can : CanBegin n (g.meaning rack)) where
-  begun_of : (group : Laid R g) → HasSpelling group.core.inner.config → IsNewGroup site group.core.inner (laid_disks group) × (group.core.held ≡ None) → CalledSince (g.meaning rack) (laid_disks group) → BeginsGroup site n (g.meaning rack) (Up group) (Ok tt)
-  begun_of group has it since = (
+  begun_of : (group : Laid R g) → (IsTrue (laid_below group).tells → IsTrue (laid_disks group).tells) → HasSpelling group.core.inner.config → IsNewGroup site group.core.inner (laid_disks group) × (group.core.held ≡ None) → CalledSince (g.meaning rack) (laid_disks group) → BeginsGroup site n (g.meaning rack) (Up group) (Ok tt)
+  begun_of group bright has it since = (
     first_note group.core.inner,
     first (g.meaning rack) (laid_disks group) n can since site group.core it.0 it.1,
-    begun_up (g.meaning rack) (laid_disks group) n can since site group.core it.0 it.1 has,
+    begun_up (g.meaning rack) (laid_disks group) n can since site group.core it.0 it.1 (laid_below group).tells bright has,
     empty (g.meaning rack) (laid_disks group) n can since site group.core it.0 it.1,
     trusted (g.meaning rack) (laid_disks group) n can since site group.core it.0 it.1 (HasFailed group.core.inner.config.disks) (λ some. some),
   )
@@ -166,7 +168,7 @@ module _ {R : Type 0} (g : Ghosts R) (rack : R) (n : Node) (site : ℕ) (can : C
   pub begun_done : (group : Laid R g) (core : GroupCore) (made : R) → group.core ≡ core → group.shelf ≡ Bright made → HasSpelling group.core.inner.config → IsNewGroup site core.inner (g.meaning made) × (core.held ≡ None) → CalledSince (g.meaning rack) (g.meaning made)
       → BeginsGroup site n (g.meaning rack) (Up group) (Ok tt)
   begun_done group core made same bright has it since =
-      begun_of group has
+      begun_of group (subst (λ (s : Shade R). IsTrue (g.meaning (rack_of s)).tells → IsTrue (shade_meaning g.meaning s).tells) (sym bright) (λ is. is)) has
       (subst (λ (s : Shade R). IsNewGroup site group.core.inner (shade_meaning g.meaning s) × (group.core.held ≡ None)) (sym bright) (subst (λ (x : GroupCore). IsNewGroup site x.inner (g.meaning made) × (x.held ≡ None)) (sym same) it))
       (subst (λ (s : Shade R). CalledSince (g.meaning rack) (shade_meaning g.meaning s)) (sym bright) since)
 

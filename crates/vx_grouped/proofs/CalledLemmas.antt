@@ -18,7 +18,7 @@ use Rattle.vx_config.specs.declared.config.Config.{Config}
 use Rattle.vx_grouped.specs.Away.{IsAwayAt}
 use Rattle.vx_grouped.specs.Ends.{CallLeaves}
 use Rattle.vx_grouped.specs.GroupNotes.{GroupLies, note_done, note_refused, noted_config}
-use Rattle.vx_grouped.specs.GroupSites.{GroupUp, idle_disks, laid_disks}
+use Rattle.vx_grouped.specs.GroupSites.{GroupUp, idle_disks, laid_disks, IsLit, laid_below, idle_below}
 use Rattle.vx_grouped.specs.SiteEnds.{SiteCalled, stops_down, ConfigGoes, HasNow}
 use Rattle.vx_grouped.specs.declared.idle.Idle.{Idle}
 use Rattle.vx_grouped.specs.declared.laid.Laid.{Laid}
@@ -29,6 +29,8 @@ use Rattle.vx_grouped.proofs.SiteLemmas.{down_with, up_burned, up_with}
 use Rattle.vx_disk.specs.Causes.{DeviceCause}
 use Rattle.vx_config.specs.Configs.{HasSpelling}
 use Rattle.vx_kept.specs.Cleans.{at_serial}
+use Rattle.vx_watched.specs.Traces.{TellsLess}
+use Rattle.vx_grouped.proofs.TraceLemmas.{lit_since}
 
 pub err_is : {T : Type 0} (x : Result T Stop) (a b : Stop) → x ≡ Err a → x ≡ Err b → a ≡ b
 err_is (Ok y) a b one two = cc
@@ -99,7 +101,7 @@ none_refused T (Some why) stop r is refused off device which same blames =
     by IsOff never none is = never refl
     by other never none is = let clash : false ≡ true = is in cc
 
-module _ {R : Type 0} {g : Ghosts R} (T : Type 0) (n : Node) (note : GroupNode) (group new : Laid R g) (up : GroupUp n note group.core (laid_disks group)) (since : CalledSince (laid_disks group) (laid_disks new)) (spells : HasSpelling (at_serial 0 new.core.inner.config)) where
+module _ {R : Type 0} {g : Ghosts R} (T : Type 0) (n : Node) (note : GroupNode) (group new : Laid R g) (up : GroupUp n note (laid_below group).tells group.core (laid_disks group)) (since : CalledSince (laid_disks group) (laid_disks new)) (less : TellsLess (laid_below group) (laid_below new)) (spells : HasSpelling (at_serial 0 new.core.inner.config)) where
   -- the configuration that is noted behind the call
   pub goes : (Change : Config → Config → Type 0) (next : GroupNode) → next.config ≡ noted_config new.core.inner.config → (e : GroupSite R g) → HasNow new.core.inner.config e → Change group.core.inner.config new.core.inner.config → ConfigGoes Change note next (Up group) e
   goes Change next is e has change = record {
@@ -112,6 +114,9 @@ module _ {R : Type 0} {g : Ghosts R} (T : Type 0) (n : Node) (note : GroupNode) 
     change = change;
   }
 
+  lit : (next : GroupNode) → next.dark ≡ note.dark → IsLit next (laid_below new).tells (laid_disks new)
+  lit next dark = lit_since note next (laid_below group).tells (laid_below new).tells (laid_disks group) (laid_disks new) dark since.tells less up.lit
+
   module _ (Done Fails : Config → Config → Type 0) (Lacks : No → Type 0) where
     -- it is done
     pub called_done : (done : T) → (group.core.inner.committed ≡ true → new.core.inner.committed ≡ true) → CallLeaves n note new.core (laid_disks new) (Ok done) → Done group.core.inner.config new.core.inner.config
@@ -119,7 +124,7 @@ module _ {R : Type 0} {g : Ghosts R} (T : Type 0) (n : Node) (note : GroupNode) 
     called_done done trust at change = (
       note_done new.core.inner note,
       done_settles new.core.inner note (λ tight none. trust (up.at.lies.committed tight none)),
-      up_with n note (note_done new.core.inner note) new.core (laid_disks new) up.noted spells (fuse_burned n.fuse (laid_disks group) (laid_disks new) since.unarmed up.fuse) at,
+      up_with n note (note_done new.core.inner note) (laid_below new).tells new.core (laid_disks new) up.noted (lit (note_done new.core.inner note) refl) spells (fuse_burned n.fuse (laid_disks group) (laid_disks new) since.unarmed up.fuse) at,
       goes Done (note_done new.core.inner note) refl (Up new) refl change,
     )
 
@@ -131,17 +136,18 @@ module _ {R : Type 0} {g : Ghosts R} (T : Type 0) (n : Node) (note : GroupNode) 
     called_up (Refused (Device disk)) off leaves rose fails lacks = (
       note_refused leaves.0 new.core.inner note,
       refused_unsettles new.core.inner note leaves.0,
-      up_with n note (note_refused leaves.0 new.core.inner note) new.core (laid_disks new) up.noted spells (fuse_burned n.fuse (laid_disks group) (laid_disks new) since.unarmed up.fuse) leaves.1,
+      up_with n note (note_refused leaves.0 new.core.inner note) (laid_below new).tells new.core (laid_disks new) up.noted (lit (note_refused leaves.0 new.core.inner note) refl) spells (fuse_burned n.fuse (laid_disks group) (laid_disks new) since.unarmed up.fuse) leaves.1,
       rose disk refl,
       goes Fails (note_refused leaves.0 new.core.inner note) refl (Up new) refl (fails (Device disk) refl refl),
     )
     called_up (Refused IsOff) off leaves rose fails lacks = cc
     called_up (Refused other) off leaves rose fails lacks =
-        (up_burned n note new.core (laid_disks new) up.noted spells (fuse_burned n.fuse (laid_disks group) (laid_disks new) since.unarmed up.fuse) leaves, lacks other refl refl)
+        (up_burned n note (laid_below new).tells new.core (laid_disks new) up.noted (lit note refl) spells (fuse_burned n.fuse (laid_disks group) (laid_disks new) since.unarmed up.fuse) leaves, lacks other refl refl)
     called_up OutOfMemory off leaves rose fails lacks = absurd leaves
 
     module _ (idle : Idle R g) (stopped : Stopped (laid_disks new) (idle_disks idle))
-        (away : (k : Node) (next : GroupNode) → GroupLies k next new.core (laid_disks new) → IsAwayAt (record k { state = IsDown }) next new.core.inner.config (idle_disks idle)) where
+        (away : (k : Node) (next : GroupNode) → GroupLies k next new.core (laid_disks new) → IsAwayAt (record k { state = IsDown }) next new.core.inner.config (idle_disks idle))
+        (same : idle.agreed ≡ new.core.inner.agreed) (fell : TellsLess (laid_below new) (idle_below idle)) where
       -- the fuse ran out in it
       pub called_cut : (stop : Stop) → stops_down stop ≡ true → CallLeaves {T = T} n note new.core (laid_disks new) (Err stop) → ((which : No) → stop ≡ Refused which → blames_device which ≡ true → Fails group.core.inner.config new.core.inner.config)
           → SiteCalled {T = T} Done Fails Lacks n note (Up group) (Down idle) (Err stop)
@@ -149,7 +155,8 @@ module _ {R : Type 0} {g : Ghosts R} (T : Type 0) (n : Node) (note : GroupNode) 
       called_cut (Refused IsOff) off leaves fails = (
         note_refused leaves.0 new.core.inner note,
         refused_unsettles new.core.inner note leaves.0,
-        down_with n note (note_refused leaves.0 new.core.inner note) new.core.inner.config (idle_disks idle) up.noted (record { down = stopped.down; unarmed = stopped.unarmed }) spells (away n (note_refused leaves.0 new.core.inner note) leaves.1.lies),
+        down_with n note (note_refused leaves.0 new.core.inner note) idle.agreed (idle_below idle).tells new.core.inner.config (idle_disks idle) up.noted
+            (lit_since note (note_refused leaves.0 new.core.inner note) (laid_below new).tells (idle_below idle).tells (laid_disks new) (idle_disks idle) refl stopped.tells fell (lit note refl)) (λ tight. same ∙ leaves.1.lies.agreed tight) (record { down = stopped.down; unarmed = stopped.unarmed }) spells (away n (note_refused leaves.0 new.core.inner note) leaves.1.lies),
         fell_fused n.fuse (laid_disks group) (laid_disks new) up.fuse up.at.up since.safe leaves.1.down,
         goes Fails (note_refused leaves.0 new.core.inner note) refl (Down idle) tt (fails IsOff refl refl),
       )

@@ -22,7 +22,7 @@ use Rattle.vx_grouped.specs.Away.{AwayLies}
 use Rattle.vx_grouped.specs.Begins.{group_begun}
 use Rattle.vx_grouped.specs.Finds.{CanFind, FindStops, FindsUp, IsFoundNote}
 use Rattle.vx_grouped.specs.GroupNotes.{noted_config}
-use Rattle.vx_grouped.specs.GroupSites.{GroupUp, laid_disks}
+use Rattle.vx_grouped.specs.GroupSites.{GroupUp, laid_disks, laid_below}
 use Rattle.vx_grouped.specs.Returns.{GroupReturns, note_imported}
 use Rattle.vx_grouped.specs.SetFuses.{HasFuse}
 use Rattle.vx_grouped.specs.SiteEnds.{stops_down}
@@ -50,6 +50,7 @@ seen_note last = record {
   config = noted_config last;
   begun = [];
   loose = false;
+  dark = true;
   bytes = record no_volumes { size = λ v. blocks_of last.volumes v };
   others = λ v b. [];
   cut = None;
@@ -79,8 +80,9 @@ module _ {R : Type 0} {g : Ghosts R} (site : ℕ) (n : Node) (m : Meaning) (can 
   abbrev note : GroupNode
   note = note_imported group.core.inner back.renewed back.value (seen_note group.core.inner.config)
 
-  up : GroupUp (group_begun note site n) note group.core (laid_disks group)
+  up : GroupUp (group_begun note site n) note (laid_below group).tells group.core (laid_disks group)
   up = record {
+    lit = λ bright. absurd (let clash : true ≡ false = bright in cc);
     noted = record { is = refl; none = record { role = refl; volumes = refl; log = refl; safe = refl; running = refl } };
     fuse = no_fuse n.fuse (laid_disks group) can.unfused (returns_unarmed m (laid_disks group) was now since can.unarmed);
     spells = spells_zero group.core.inner.config has;
@@ -92,6 +94,7 @@ module _ {R : Type 0} {g : Ghosts R} (site : ℕ) (n : Node) (m : Meaning) (can 
     config = record { is = refl; spells = spells_zero group.core.inner.config has };
     begun = refl;
     loose = refl;
+    dark = refl;
     size = λ v. refl;
     cut = refl;
     perhaps = λ v p r. refl;

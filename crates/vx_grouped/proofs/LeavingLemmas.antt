@@ -1,5 +1,5 @@
 -- A deport of a site's group, by its note.
-use Rattle.std.proofs.Common.{◌≡◌, ◌⊎◌, inl, inr, ℕ, false, true, IsTrue, refl, sym, ◌∙◌, subst, arith}
+use Rattle.std.proofs.Common.{◌≡◌, ◌⊎◌, inl, inr, ℕ, false, true, IsTrue, refl, sym, ◌∙◌, subst, arith, Bool, if◌then◌else◌}
 use Rattle.std.specs.Prelude.{Ok, Err, slice_get}
 use Rattle.vx_model.specs.declared.errors.Stop.{Stop}
 use Rattle.vx_model.specs.declared.errors.Stop.TheVariants.{No as Refused, OutOfMemory}
@@ -18,7 +18,7 @@ use Rattle.vx_group.specs.Dets.{DetStops}
 use Rattle.vx_watched.specs.Since.{CalledSince}
 use Rattle.vx_group.specs.declared.group_core.GroupCore.{GroupCore}
 use Rattle.vx_grouped.specs.Away.{IsDeportedAt, note_deported, IsAwayAt}
-use Rattle.vx_grouped.specs.GroupSites.{GroupUp, idle_disks, laid_disks}
+use Rattle.vx_grouped.specs.GroupSites.{GroupUp, idle_disks, laid_disks, laid_below, idle_below}
 use Rattle.vx_grouped.specs.SiteEnds.{SiteDeported, stops_down}
 use Rattle.vx_grouped.specs.declared.idle.Idle.{Idle}
 use Rattle.vx_grouped.specs.declared.laid.Laid.{Laid}
@@ -46,8 +46,10 @@ use Rattle.vx_grouped.proofs.MovesLemmas.{disk_place, loses_some, volume_moves}
 use Rattle.vx_grouped.proofs.StateChangeLemmas.{live_state, live_there}
 use Rattle.vx_kept.proofs.Chosen.{live_volumes}
 use Rattle.vx_group.proofs.LoseLemmas.{loses_same}
-use Rattle.vx_untold.specs.Shades.{shade_meaning}
+use Rattle.vx_untold.specs.Shades.{shade_meaning, rack_of}
 use Rattle.vx_grouped.proofs.SpellLemmas.{spells_like}
+use Rattle.vx_watched.specs.Traces.{TellsLess}
+use Rattle.vx_grouped.proofs.TraceLemmas.{lit_since}
 
 -- why it was refused: for want of serials, or for a device
 abbrev pub Refuses : Meaning → Meaning → Stop → Type 0
@@ -111,15 +113,21 @@ module _ (n : Node) (note : GroupNode) (c : GroupCore) (m m' : Meaning) (lies : 
   newest_spells : HasSpelling (at_serial 0 c.inner.config) → HasSpelling (at_serial 0 it.config)
   newest_spells has = spells_like c.inner.config it.config it.parts (newest_frames n note c m m' lies stands it) it.failing.blocks has
 
-module _ {R : Type 0} {g : Ghosts R} (n : Node) (note : GroupNode) (group : Laid R g) (up : GroupUp n note group.core (laid_disks group)) (racks : (s : Shade R) → IsRack (shade_meaning g.meaning s)) where
-  module _ (idle : Idle R g) (since : CalledSince (laid_disks group) (idle_disks idle)) where
+-- the note of a deport is tight where the newest configuration was committed
+deport_tight : (kept : Bool) → (if kept then false else true) ≡ false → kept ≡ true
+deport_tight true is = refl
+deport_tight false is = cc
+
+module _ {R : Type 0} {g : Ghosts R} (n : Node) (note : GroupNode) (group : Laid R g) (up : GroupUp n note (laid_below group).tells group.core (laid_disks group)) (racks : (s : Shade R) → IsRack (shade_meaning g.meaning s)) where
+  module _ (idle : Idle R g) (since : CalledSince (laid_disks group) (idle_disks idle)) (same : idle.agreed ≡ group.core.inner.committed) (less : TellsLess (laid_below group) (idle_below idle)) where
     deported_of : (it : DeportedBy (wide group.core).config group.core.inner (laid_disks group) (idle_disks idle)) → IsDeportedAt (record n { state = IsDeported }) (note_deported it.config group.core.inner note) group.core.inner.config it.config (idle_disks idle)
         → (IsTrue (idle_disks idle).down → ⊥) → SiteDeported n note (Up group) (Deported idle) (Ok tt)
     deported_of it at still =
-        let spells = newest_spells n note group.core (laid_disks group) (idle_disks idle) up.at.lies group.stands (racks group.shelf).counts (racks idle.rack).counts it up.spells in (
+        let spells = newest_spells n note group.core (laid_disks group) (idle_disks idle) up.at.lies group.stands.group (racks group.shelf).counts (racks idle.rack).counts it up.spells in (
           note_deported it.config group.core.inner note,
           deport_settles it.config group.core.inner note up.at.lies.committed,
-          away_with n note (note_deported it.config group.core.inner note) group.core.inner.config it.config (idle_disks idle) up.noted still (fuse_burned n.fuse (laid_disks group) (idle_disks idle) since.unarmed up.fuse) spells at,
+          away_with n note (note_deported it.config group.core.inner note) idle.agreed (idle_below idle).tells group.core.inner.config it.config (idle_disks idle) up.noted
+              (lit_since note (note_deported it.config group.core.inner note) (laid_below group).tells (idle_below idle).tells (laid_disks group) (idle_disks idle) refl since.tells less up.lit) (λ tight. same ∙ deport_tight group.core.inner.committed tight) still (fuse_burned n.fuse (laid_disks group) (idle_disks idle) since.unarmed up.fuse) spells at,
           record {
             was = group.core.inner.config;
             now = it.config;
@@ -127,39 +135,40 @@ module _ {R : Type 0} {g : Ghosts R} (n : Node) (note : GroupNode) (group : Laid
             has = tt;
             noted = record { is = up.at.lies.config; spells = up.spells };
             noted_now = record { is = refl; spells = spells };
-            change = cleans n note group.core (laid_disks group) (idle_disks idle) up.at.lies group.stands (racks group.shelf).counts (racks idle.rack).counts it;
+            change = cleans n note group.core (laid_disks group) (idle_disks idle) up.at.lies group.stands.group (racks group.shelf).counts (racks idle.rack).counts it;
           },
           (it.config, record { is = refl; spells = spells }, record { finds = it.finds }),
         )
 
     pub deported_done : (group.core.inner.committed ≡ true → CanImport (idle_disks idle)) → DeportedBy (wide group.core).config group.core.inner (laid_disks group) (idle_disks idle) → (IsTrue (idle_disks idle).down → ⊥)
         → SiteDeported n note (Up group) (Deported idle) (Ok tt)
-    deported_done can it still = deported_of it (deported_at n note group.core (laid_disks group) (idle_disks idle) up.at.lies group.stands it can) still
+    deported_done can it still = deported_of it (deported_at n note group.core (laid_disks group) (idle_disks idle) up.at.lies group.stands.group it can) still
 
   -- the same of the disks that were handed out
-  pub deported_from : (idle : Idle R g) (rack : Shade R) → idle.rack ≡ rack → CalledSince (laid_disks group) (shade_meaning g.meaning rack) → (group.core.inner.committed ≡ true → CanImport (shade_meaning g.meaning rack))
+  pub deported_from : (idle : Idle R g) (rack : Shade R) → idle.rack ≡ rack → idle.agreed ≡ group.core.inner.committed → CalledSince (laid_disks group) (shade_meaning g.meaning rack) → TellsLess (laid_below group) (g.meaning (rack_of rack)) → (group.core.inner.committed ≡ true → CanImport (shade_meaning g.meaning rack))
       → DeportedBy (wide group.core).config group.core.inner (laid_disks group) (shade_meaning g.meaning rack) → (IsTrue (shade_meaning g.meaning rack).down → ⊥) → SiteDeported n note (Up group) (Deported idle) (Ok tt)
-  deported_from idle rack same since can it still =
-      deported_done idle (subst (λ (s : Shade R). CalledSince (laid_disks group) (shade_meaning g.meaning s)) (sym same) since)
+  deported_from idle rack same agreed since less can it still =
+      deported_done idle (subst (λ (s : Shade R). CalledSince (laid_disks group) (shade_meaning g.meaning s)) (sym same) since) agreed (subst (λ (s : Shade R). TellsLess (laid_below group) (g.meaning (rack_of s))) (sym same) less)
       (subst (λ (s : Shade R). group.core.inner.committed ≡ true → CanImport (shade_meaning g.meaning s)) (sym same) can)
       (subst (λ (s : Shade R). DeportedBy (wide group.core).config group.core.inner (laid_disks group) (shade_meaning g.meaning s)) (sym same) it)
       (subst (λ (s : Shade R). IsTrue (shade_meaning g.meaning s).down → ⊥) (sym same) still)
 
-  module _ (new : Laid R g) (since : CalledSince (laid_disks group) (laid_disks new)) (stop : Stop) (why : Refuses (laid_disks group) (laid_disks new) stop) (back : BackMoves group.core new.core (laid_disks group) (laid_disks new)) where
+  module _ (new : Laid R g) (since : CalledSince (laid_disks group) (laid_disks new)) (less : TellsLess (laid_below group) (laid_below new)) (stop : Stop) (why : Refuses (laid_disks group) (laid_disks new) stop) (back : BackMoves group.core new.core (laid_disks group) (laid_disks new)) where
     spells : HasSpelling (at_serial 0 new.core.inner.config)
     spells = spells_like group.core.inner.config new.core.inner.config back.loses.parts back.loses.frames back.loses.disks.blocks up.spells
 
     pub deport_up : stops_down stop ≡ false → CallLeaves {T = Unit {0}} n note new.core (laid_disks new) (Err stop) → SiteDeported n note (Up group) (Up new) (Err stop)
     deport_up off leaves =
-        called_up (Unit {0}) n note group new up since spells (λ c d. ⊥) (LosesSome (laid_disks group) (laid_disks new)) (λ which. which ≡ Limit Numbers greatest) stop off leaves (deport_rose (laid_disks group) (laid_disks new) stop why)
+        called_up (Unit {0}) n note group new up since less spells (λ c d. ⊥) (LosesSome (laid_disks group) (laid_disks new)) (λ which. which ≡ Limit Numbers greatest) stop off leaves (deport_rose (laid_disks group) (laid_disks new) stop why)
         (λ which is blames. loses_some group.core.inner.config new.core.inner.config (laid_disks group) (laid_disks new) (racks group.shelf).counts (racks new.shelf).counts back.on back.loses)
         (deport_lacks (laid_disks group) (laid_disks new) stop why)
 
     module _ (idle : Idle R g) (stopped : Stopped (laid_disks new) (idle_disks idle))
-        (away : (k : Node) (next : GroupNode) → GroupLies k next new.core (laid_disks new) → IsAwayAt (record k { state = IsDown }) next new.core.inner.config (idle_disks idle)) where
+        (away : (k : Node) (next : GroupNode) → GroupLies k next new.core (laid_disks new) → IsAwayAt (record k { state = IsDown }) next new.core.inner.config (idle_disks idle))
+        (same : idle.agreed ≡ new.core.inner.agreed) (fell : TellsLess (laid_below new) (idle_below idle)) where
       pub deport_cut : stops_down stop ≡ true → CallLeaves {T = Unit {0}} n note new.core (laid_disks new) (Err stop) → SiteDeported n note (Up group) (Down idle) (Err stop)
       deport_cut off leaves =
-          called_cut (Unit {0}) n note group new up since spells (λ c d. ⊥) (LosesSome (laid_disks group) (idle_disks idle)) (λ which. which ≡ Limit Numbers greatest) idle stopped away stop off leaves
+          called_cut (Unit {0}) n note group new up since less spells (λ c d. ⊥) (LosesSome (laid_disks group) (idle_disks idle)) (λ which. which ≡ Limit Numbers greatest) idle stopped away same fell stop off leaves
           (λ which is blames. loses_some group.core.inner.config new.core.inner.config (laid_disks group) (idle_disks idle) (racks group.shelf).counts (racks idle.rack).counts back.on
           (both_lose (laid_disks group) (laid_disks new) (idle_disks idle) (racks group.shelf) (racks new.shelf) (racks idle.rack) since.counts (λ d. let same = stopped.counts.disk_faults d in omega (arith, same))
           group.core.inner.config new.core.inner.config new.core.inner.config back.loses (loses_same new.core.inner.config (laid_disks new) (idle_disks idle))))

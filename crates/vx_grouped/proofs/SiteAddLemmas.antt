@@ -29,7 +29,7 @@ use Rattle.vx_watched.specs.Since.{CalledSince}
 use Rattle.vx_grouped.specs.Added.{note_added, IsUnmoved}
 use Rattle.vx_grouped.specs.Away.{IsAwayAt}
 use Rattle.vx_grouped.specs.GroupNotes.{GroupLies, note_done}
-use Rattle.vx_grouped.specs.GroupSites.{GroupUp, idle_disks, laid_disks}
+use Rattle.vx_grouped.specs.GroupSites.{GroupUp, idle_disks, laid_disks, laid_below, idle_below}
 use Rattle.vx_grouped.specs.SiteAdds.{MakesVolume, SiteAdded, IsRoomShort, LacksVolume}
 use Rattle.vx_grouped.specs.SetFuses.{HasFuse}
 use Rattle.vx_grouped.specs.SiteEnds.{stops_down}
@@ -44,9 +44,11 @@ use Rattle.vx_grouped.specs.ConfigMoves.{LosesSome, VolumeAdded}
 use Rattle.vx_copies.specs.Commits.{MoreFailed}
 use Rattle.vx_kept.specs.Cleans.{at_serial}
 use Rattle.vx_grouped.proofs.MovesLemmas.{fails_alone}
-use Rattle.vx_untold.specs.Shades.{shade_meaning}
+use Rattle.vx_untold.specs.Shades.{shade_meaning, rack_of}
 use Rattle.vx_grouped.proofs.NotedLemmas.{spells_zero}
 use Rattle.vx_layout.specs.Made.{with_volume}
+use Rattle.vx_watched.specs.Traces.{TellsLess}
+use Rattle.vx_grouped.proofs.TraceLemmas.{lit_since}
 
 -- tests of names, counts and shapes blame no device
 make_not : (a b e f h : Bool) (n1 n2 n3 n4 n5 x : No) → (n1 ≡ x → ⊥) → (n2 ≡ x → ⊥) → (n3 ≡ x → ⊥) → (n4 ≡ x → ⊥) → (n5 ≡ x → ⊥)
@@ -133,7 +135,7 @@ room_by c name want m m' (Device disk) other it = let clash : true ≡ false = o
 room_by c name want m m' IsOff other it = let clash : true ≡ false = other in cc
 room_by c name want m m' rest other it = absurd it
 
-module _ {R : Type 0} {g : Ghosts R} (n : Node) (note : GroupNode) (name : List ℕ) (want : Shape) (group new : Laid R g) (up : GroupUp n note group.core (laid_disks group)) (since : CalledSince (laid_disks group) (laid_disks new)) (has : HasSpelling new.core.inner.config)
+module _ {R : Type 0} {g : Ghosts R} (n : Node) (note : GroupNode) (name : List ℕ) (want : Shape) (group new : Laid R g) (up : GroupUp n note (laid_below group).tells group.core (laid_disks group)) (since : CalledSince (laid_disks group) (laid_disks new)) (less : TellsLess (laid_below group) (laid_below new)) (has : HasSpelling new.core.inner.config)
     (racks : (s : Shade R) → IsRack (shade_meaning g.meaning s)) where
   spells : HasSpelling (at_serial 0 new.core.inner.config)
   spells = spells_zero new.core.inner.config has
@@ -157,8 +159,8 @@ module _ {R : Type 0} {g : Ghosts R} (n : Node) (note : GroupNode) (name : List 
   made_done vol works = (
     note_done new.core.inner note,
     done_settles new.core.inner note (λ tight none. works.trust (up.at.lies.committed tight none)),
-    up_with n note (note_added vol want.blocks (note_done new.core.inner note)) new.core (laid_disks new) up.noted spells fuse (works.leaves n note up.at),
-    goes ℕ n note group new up since spells (VolumeAdded name want vol (laid_disks group) (laid_disks new)) (note_done new.core.inner note) refl (Up new) refl
+    up_with n note (note_added vol want.blocks (note_done new.core.inner note)) (laid_below new).tells new.core (laid_disks new) up.noted (lit_since note (note_added vol want.blocks (note_done new.core.inner note)) (laid_below group).tells (laid_below new).tells (laid_disks group) (laid_disks new) refl since.tells less up.lit) spells fuse (works.leaves n note up.at),
+    goes ℕ n note group new up since less spells (VolumeAdded name want vol (laid_disks group) (laid_disks new)) (note_done new.core.inner note) refl (Up new) refl
         (added vol works (made_volume name want group.core new.core (laid_disks group) (laid_disks new) (Ok vol) works vol refl)),
   )
 
@@ -190,15 +192,16 @@ module _ {R : Type 0} {g : Ghosts R} (n : Node) (note : GroupNode) (name : List 
   pub made_up : (stop : Stop) → stops_down stop ≡ false → MakesVolume name want group.core (laid_disks group) new.core (laid_disks new) (Err stop) → IsUnmoved {T = ℕ} (Err stop) ((new.core ≡ group.core) × (new.shelf ≡ group.shelf))
       → SiteAdded n note name want (Up group) (Up new) (Err stop)
   made_up (Refused why) off works still =
-      called_up ℕ n note group new up since spells (λ c d. ⊥) (LosesSome (laid_disks group) (laid_disks new)) (LacksVolume (Up group) name want) (Refused why) off (works.leaves n note up.at)
+      called_up ℕ n note group new up since less spells (λ c d. ⊥) (LosesSome (laid_disks group) (laid_disks new)) (LacksVolume (Up group) name want) (Refused why) off (works.leaves n note up.at)
       (λ disk is. make_rose name want group.core new.core (laid_disks group) (laid_disks new) (Err (Refused why)) works disk (ap (λ (x : Stop). Err x) is)) (fails (Refused why) works) (lacks (Refused why) works)
   made_up OutOfMemory off works still =
-      subst (λ (x : GroupCore). GroupUp n note x (shade_meaning g.meaning new.shelf)) (sym still.0) (subst (λ (s : Shade R). GroupUp n note group.core (shade_meaning g.meaning s)) (sym still.1) up)
+      subst (λ (x : GroupCore). GroupUp n note (laid_below new).tells x (shade_meaning g.meaning new.shelf)) (sym still.0) (subst (λ (s : Shade R). GroupUp n note (g.meaning (rack_of s)).tells group.core (shade_meaning g.meaning s)) (sym still.1) up)
 
   module _ (idle : Idle R g) (stopped : Stopped (laid_disks new) (idle_disks idle))
-      (away : (k : Node) (next : GroupNode) → GroupLies k next new.core (laid_disks new) → IsAwayAt (record k { state = IsDown }) next new.core.inner.config (idle_disks idle)) where
+      (away : (k : Node) (next : GroupNode) → GroupLies k next new.core (laid_disks new) → IsAwayAt (record k { state = IsDown }) next new.core.inner.config (idle_disks idle))
+      (same : idle.agreed ≡ new.core.inner.agreed) (fell : TellsLess (laid_below new) (idle_below idle)) where
     pub made_cut : (stop : Stop) → stops_down stop ≡ true → MakesVolume name want group.core (laid_disks group) new.core (laid_disks new) (Err stop) → SiteAdded n note name want (Up group) (Down idle) (Err stop)
     made_cut (Refused why) off works =
-        called_cut ℕ n note group new up since spells (λ c d. ⊥) (LosesSome (laid_disks group) (idle_disks idle)) (LacksVolume (Up group) name want) idle stopped away (Refused why) off (works.leaves n note up.at)
+        called_cut ℕ n note group new up since less spells (λ c d. ⊥) (LosesSome (laid_disks group) (idle_disks idle)) (LacksVolume (Up group) name want) idle stopped away same fell (Refused why) off (works.leaves n note up.at)
         (λ which is blames. not_made (Refused why) works idle.rack (ended (Refused why) works (none_of (Refused why) works which is blames) which is).0 (failed_since (laid_disks group) (laid_disks new) (idle_disks idle) stopped works.disks))
     made_cut OutOfMemory off works = cc

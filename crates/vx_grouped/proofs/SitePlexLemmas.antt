@@ -27,7 +27,7 @@ use Rattle.vx_grouped.specs.Away.{IsAwayAt}
 use Rattle.vx_grouped.specs.ConfigMoves.{AttDone, AttFails, DetDone, DetFails, none_again}
 use Rattle.vx_grouped.specs.CoreMoves.{CoreMoves}
 use Rattle.vx_grouped.specs.GroupNotes.{GroupLies}
-use Rattle.vx_grouped.specs.GroupSites.{GroupUp, idle_disks, laid_disks}
+use Rattle.vx_grouped.specs.GroupSites.{GroupUp, idle_disks, laid_disks, laid_below, idle_below}
 use Rattle.vx_grouped.specs.SiteEnds.{AttCalled, DetCalled, refuses_att, refuses_det, stops_down}
 use Rattle.vx_grouped.specs.Watches.{PlexAtts, PlexDets}
 use Rattle.vx_grouped.specs.declared.idle.Idle.{Idle}
@@ -37,6 +37,7 @@ use Rattle.vx_grouped.proofs.CalledLemmas.{blames_device, called_cut, called_don
 use Rattle.vx_grouped.proofs.KeepLemmas.{att_not_device, att_not_down, det_not_device, det_not_down}
 use Rattle.vx_grouped.proofs.PlexMoveLemmas.{att_done, att_fails, det_done, det_fails}
 use Rattle.vx_grouped.proofs.SpellLemmas.{spells_like}
+use Rattle.vx_watched.specs.Traces.{TellsLess}
 
 -- a crash raises no count
 moves_since : (again : ℕ → Bool) (c d : Config) (m m' r : Meaning) → Stopped m' r → CoreMoves again c d m m' → CoreMoves again c d m r
@@ -62,7 +63,7 @@ module _ (c : Config) (v p : ℕ) where
   att_never_device : (disk : ℕ) → att_refusal c v p ≡ Some (Device disk) → ⊥
   att_never_device disk = att_not_device (nat_le (length c.volumes) v) (nat_le (plexes_of c v) p) (nat_lt (greatest - margin) c.serial) v p greatest disk
 
-module _ {R : Type 0} {g : Ghosts R} (n : Node) (note : GroupNode) (v p : ℕ) (group new : Laid R g) (up : GroupUp n note group.core (laid_disks group)) (since : CalledSince (laid_disks group) (laid_disks new))
+module _ {R : Type 0} {g : Ghosts R} (n : Node) (note : GroupNode) (v p : ℕ) (group new : Laid R g) (up : GroupUp n note (laid_below group).tells group.core (laid_disks group)) (since : CalledSince (laid_disks group) (laid_disks new)) (less : TellsLess (laid_below group) (laid_below new))
     (racks : (s : Shade R) → IsRack (shade_meaning g.meaning s)) where
   abbrev was : Config
   was = group.core.inner.config
@@ -81,12 +82,12 @@ module _ {R : Type 0} {g : Ghosts R} (n : Node) (note : GroupNode) (v p : ℕ) (
 
   pub det_site_done : PlexDets v p group.core (laid_disks group) new.core (laid_disks new) (Ok tt) → DetCalled n note v p (Up group) (Up new) (Ok tt)
   det_site_done works =
-      called_done (Unit {0}) n note group new up since (spells_det (Ok tt) works) (DetDone v p (laid_disks group) (laid_disks new)) (DetFails v p (laid_disks group) (laid_disks new)) (λ which. refuses_det (Up group) v p ≡ Some which)
+      called_done (Unit {0}) n note group new up since less (spells_det (Ok tt) works) (DetDone v p (laid_disks group) (laid_disks new)) (DetFails v p (laid_disks group) (laid_disks new)) (λ which. refuses_det (Up group) v p ≡ Some which)
       tt works.trust (works.leaves n note up.at) (det_done was now v p (laid_disks group) (laid_disks new) (racks group.shelf).counts (racks new.shelf).counts works.others works.moves works.off)
 
   pub det_site_up : (stop : Stop) → stops_down stop ≡ false → PlexDets v p group.core (laid_disks group) new.core (laid_disks new) (Err stop) → DetCalled n note v p (Up group) (Up new) (Err stop)
   det_site_up stop off works =
-      called_up (Unit {0}) n note group new up since (spells_det (Err stop) works) (DetDone v p (laid_disks group) (laid_disks new)) (DetFails v p (laid_disks group) (laid_disks new)) (λ which. refuses_det (Up group) v p ≡ Some which)
+      called_up (Unit {0}) n note group new up since less (spells_det (Err stop) works) (DetDone v p (laid_disks group) (laid_disks new)) (DetFails v p (laid_disks group) (laid_disks new)) (λ which. refuses_det (Up group) v p ≡ Some which)
       stop off (works.leaves n note up.at)
       (λ disk is. rose_by (Unit {0}) (laid_disks group) (laid_disks new) (det_refusal was v p) disk (Err stop) (ap (λ (x : Stop). Err x) is) works.cause works.refused (det_never_device was v p disk))
       (λ which is blames. fails_det (Err stop) works new.shelf works.moves)
@@ -121,13 +122,13 @@ module _ {R : Type 0} {g : Ghosts R} (n : Node) (note : GroupNode) (v p : ℕ) (
 
   pub att_site_done : (k : ℕ) → PlexAtts v p group.core (laid_disks group) new.core (laid_disks new) (Ok k) → AttCalled n note v p (Up group) (Up new) (Ok k)
   att_site_done k works =
-      called_done ℕ n note group new up since (spells_att (Ok k) works) (AttDone v p (laid_disks group) (laid_disks new)) (AttFails v p (laid_disks group) (laid_disks new)) (λ which. refuses_att (Up group) v p ≡ Some which)
+      called_done ℕ n note group new up since less (spells_att (Ok k) works) (AttDone v p (laid_disks group) (laid_disks new)) (AttFails v p (laid_disks group) (laid_disks new)) (λ which. refuses_att (Up group) v p ≡ Some which)
       k works.trust (works.leaves n note up.at)
       (att_done was now v p (laid_disks group) (laid_disks new) (racks group.shelf).counts (racks new.shelf).counts works.others works.moves (att_on k works (active was v p) refl))
 
   pub att_site_up : (stop : Stop) → stops_down stop ≡ false → PlexAtts v p group.core (laid_disks group) new.core (laid_disks new) (Err stop) → AttCalled n note v p (Up group) (Up new) (Err stop)
   att_site_up stop off works =
-      called_up ℕ n note group new up since (spells_att (Err stop) works) (AttDone v p (laid_disks group) (laid_disks new)) (AttFails v p (laid_disks group) (laid_disks new)) (λ which. refuses_att (Up group) v p ≡ Some which)
+      called_up ℕ n note group new up since less (spells_att (Err stop) works) (AttDone v p (laid_disks group) (laid_disks new)) (AttFails v p (laid_disks group) (laid_disks new)) (λ which. refuses_att (Up group) v p ≡ Some which)
       stop off (works.leaves n note up.at)
       (λ disk is. rose_by ℕ (laid_disks group) (laid_disks new) (att_refusal was v p) disk (Err stop) (ap (λ (x : Stop). Err x) is) works.cause works.refused (att_never_device was v p disk))
       (fails_att stop works new.shelf works.moves)
@@ -136,15 +137,16 @@ module _ {R : Type 0} {g : Ghosts R} (n : Node) (note : GroupNode) (v p : ℕ) (
   -- ---- the fuse ran out
 
   module _ (idle : Idle R g) (stopped : Stopped (laid_disks new) (idle_disks idle))
-      (away : (k : Node) (next : GroupNode) → GroupLies k next new.core (laid_disks new) → IsAwayAt (record k { state = IsDown }) next new.core.inner.config (idle_disks idle)) where
+      (away : (k : Node) (next : GroupNode) → GroupLies k next new.core (laid_disks new) → IsAwayAt (record k { state = IsDown }) next new.core.inner.config (idle_disks idle))
+      (same : idle.agreed ≡ new.core.inner.agreed) (fell : TellsLess (laid_below new) (idle_below idle)) where
     pub det_site_cut : (stop : Stop) → stops_down stop ≡ true → PlexDets v p group.core (laid_disks group) new.core (laid_disks new) (Err stop) → DetCalled n note v p (Up group) (Down idle) (Err stop)
     det_site_cut stop off works =
-        called_cut (Unit {0}) n note group new up since (spells_det (Err stop) works) (DetDone v p (laid_disks group) (idle_disks idle)) (DetFails v p (laid_disks group) (idle_disks idle)) (λ which. refuses_det (Up group) v p ≡ Some which)
-        idle stopped away stop off (works.leaves n note up.at)
+        called_cut (Unit {0}) n note group new up since less (spells_det (Err stop) works) (DetDone v p (laid_disks group) (idle_disks idle)) (DetFails v p (laid_disks group) (idle_disks idle)) (λ which. refuses_det (Up group) v p ≡ Some which)
+        idle stopped away same fell stop off (works.leaves n note up.at)
         (λ which is blames. fails_det (Err stop) works idle.rack (moves_since none_again was now (laid_disks group) (laid_disks new) (idle_disks idle) stopped works.moves))
 
     pub att_site_cut : (stop : Stop) → stops_down stop ≡ true → PlexAtts v p group.core (laid_disks group) new.core (laid_disks new) (Err stop) → AttCalled n note v p (Up group) (Down idle) (Err stop)
     att_site_cut stop off works =
-        called_cut ℕ n note group new up since (spells_att (Err stop) works) (AttDone v p (laid_disks group) (idle_disks idle)) (AttFails v p (laid_disks group) (idle_disks idle)) (λ which. refuses_att (Up group) v p ≡ Some which)
-        idle stopped away stop off (works.leaves n note up.at)
+        called_cut ℕ n note group new up since less (spells_att (Err stop) works) (AttDone v p (laid_disks group) (idle_disks idle)) (AttFails v p (laid_disks group) (idle_disks idle)) (λ which. refuses_att (Up group) v p ≡ Some which)
+        idle stopped away same fell stop off (works.leaves n note up.at)
         (fails_att stop works idle.rack (moves_since (uses was v p) was now (laid_disks group) (laid_disks new) (idle_disks idle) stopped works.moves))

@@ -1,5 +1,5 @@
 -- A recovery of a site's group, by its note.
-use Rattle.std.proofs.Common.{⊎_elim, ◌≡◌, ◌⊎◌, inl, inr, ℕ, zero, suc, ◌<◌, Bool, true, false, List, [], ◌∷◌, length, IsTrue, IsFalse, refl, sym, ◌∙◌, ap, subst, arith}
+use Rattle.std.proofs.Common.{⊎_elim, ◌≡◌, ◌⊎◌, inl, inr, ℕ, zero, suc, ◌<◌, Bool, true, false, List, [], ◌∷◌, length, IsTrue, IsFalse, refl, sym, ◌∙◌, ap, subst, arith, not}
 use Rattle.std.specs.Prelude.{if◌then◌else◌, slice_get, Option, Some, None, Result, Ok, Err}
 use Rattle.std.proofs.lemmas.Option.{slice_get_within}
 use Rattle.vx_model.specs.declared.errors.Stop.{Stop}
@@ -33,7 +33,7 @@ use Rattle.vx_group.proofs.AgainLemmas.{goes_can}
 use Rattle.vx_group.specs.declared.group_core.GroupCore.{GroupCore}
 use Rattle.vx_watched.specs.Since.{CalledSince}
 use Rattle.vx_grouped.specs.Away.{AwayLies}
-use Rattle.vx_grouped.specs.GroupSites.{GroupAway, GroupDown, GroupUp, NotesGroup, idle_disks, laid_disks, AreStopped}
+use Rattle.vx_grouped.specs.GroupSites.{GroupAway, GroupDown, GroupUp, NotesGroup, idle_disks, laid_disks, AreStopped, IsLit, dimmed_site, laid_below}
 use Rattle.vx_grouped.specs.Returns.{GroupReturns, note_imported}
 use Rattle.vx_grouped.specs.SetFuses.{HasFuse}
 use Rattle.vx_grouped.specs.SiteEnds.{stops_down, burned_site}
@@ -45,19 +45,21 @@ use Rattle.vx_grouped.specs.declared.group_site.GroupSite.TheVariants.{Up, Depor
 use Rattle.vx_grouped.proofs.AlikeLemmas.{less_away}
 use Rattle.vx_grouped.proofs.CalledLemmas.{err_is}
 use Rattle.vx_grouped.proofs.SettleLemmas.{fell_fused, fuse_burned}
-use Rattle.vx_grouped.proofs.SiteLemmas.{lies_as, away_as}
+use Rattle.vx_grouped.proofs.SiteLemmas.{lies_as, away_as, noted_dimmed, away_dimmed, lit_dimmed}
 use Rattle.vx_grouped.specs.ConfigMoves.{AnyState, ConfigBack}
 use Rattle.vx_config.specs.Configs.{HasSpelling}
-use Rattle.vx_grouped.specs.GroupNotes.{NotesConfig}
+use Rattle.vx_grouped.specs.GroupNotes.{NotesConfig, note_dimmed}
 use Rattle.vx_kept.specs.Cleans.{at_serial}
 use Rattle.vx_grouped.proofs.MovesLemmas.{disk_blocks_at, disk_failed_at, rose_as, volume_moves}
 use Rattle.vx_kept.specs.Groups.{found, found_by}
 use Rattle.vx_kept.specs.Keeping.{frame, frame_at, frame_or}
 use Rattle.vx_kept.specs.Facts.{is_found}
 use Rattle.vx_kept.specs.Trusts.{is_plain}
-use Rattle.vx_untold.specs.Shades.{shade_meaning}
+use Rattle.vx_untold.specs.Shades.{shade_meaning, rack_of}
 use Rattle.vx_grouped.proofs.NotedLemmas.{spells_zero}
 use Rattle.vx_grouped.proofs.WhyLemmas.{why_by}
+use Rattle.vx_watched.specs.Traces.{TellsLess}
+use Rattle.vx_grouped.proofs.TraceLemmas.{lit_since}
 
 -- ---- notes
 
@@ -89,6 +91,7 @@ module _ (n : Node) (note : GroupNode) (last : Config) (m0 m : Meaning) (told : 
     begun = refl;
     loose = refl;
     cut = refl;
+    dark = refl;
     missed = refl;
     perhaps = refl;
     block = λ v b. either_block (back.renewed v) (back.value v b) (note.bytes.block v b) (note.others v b);
@@ -96,8 +99,9 @@ module _ (n : Node) (note : GroupNode) (last : Config) (m0 m : Meaning) (told : 
     size = λ tells v low. back.sizes (subst IsTrue (sym told) tells) v (inside v 0 low).volume ∙ sym (lies.sizes v);
   }
 
-  pub returns_up : NotesGroup n note → HasSpelling (at_serial 0 core.inner.config) → HasFuse (burned n.fuse) m' → GroupUp (returned_with next n) next core m'
-  returns_up noted spells fuse = record {
+  pub returns_up : (before : Bool) → NotesGroup n note → IsLit next before m' → HasSpelling (at_serial 0 core.inner.config) → HasFuse (burned n.fuse) m' → GroupUp (returned_with next n) next before core m'
+  returns_up before noted lit spells fuse = record {
+    lit = lit;
     noted = record { is = refl; none = record { role = noted.none.role; volumes = noted.none.volumes; log = noted.none.log; safe = noted.none.safe; running = refl } };
     fuse = fuse;
     spells = spells;
@@ -175,7 +179,7 @@ late_none m m' (Device disk) early cause = cc
 late_none m m' IsOff early cause = cc
 late_none m m' other early cause = cause
 
-early_goes : (m m' : Meaning) (stop : Stop) → stops_early stop ≡ true → ImportStops m m' stop → Goes Nothing m m'
+pub early_goes : (m m' : Meaning) (stop : Stop) → stops_early stop ≡ true → ImportStops m m' stop → Goes Nothing m m'
 early_goes m m' stop early (inl it) = it.0
 early_goes m m' (Refused why) early (inr it) = elim it.1 [
   | inl cause ↦ absurd (late_none m m' why early cause)
@@ -241,7 +245,7 @@ dark_away n note last m m' units size none it = record {
 module _ {R : Type 0} {g : Ghosts R} (n : Node) (note : GroupNode) (last newest : Config) (had : NotesConfig note newest) (frames : (v : ℕ) → frame_at newest v ≡ frame_at last v) (racks : (s : Shade R) → IsRack (shade_meaning g.meaning s))
     (old : Meaning) (first : Shade R) (units : (shade_meaning g.meaning first).units ≡ old.units) (size : (u : ℕ) → (shade_meaning g.meaning first).size u ≡ old.size u) (faults : (u : ℕ) → (shade_meaning g.meaning first).disk_faults u ≡ old.disk_faults u)
     (lies : AwayLies n note last (shade_meaning g.meaning first)) (group : Laid R g) (since : CalledSince (shade_meaning g.meaning first) (laid_disks group)) (has : HasSpelling group.core.inner.config)
-    (back : GroupReturns n note last (shade_meaning g.meaning first) group.core (laid_disks group)) where
+    (back : GroupReturns n note last (shade_meaning g.meaning first) group.core (laid_disks group)) (before : Bool) (lit : IsLit note before (shade_meaning g.meaning first)) (less : IsTrue (laid_below group).tells → IsTrue before) where
   abbrev now : Config
   now = group.core.inner.config
 
@@ -268,7 +272,8 @@ module _ {R : Type 0} {g : Ghosts R} (n : Node) (note : GroupNode) (last newest 
   came_up noted fuse = (
     noted_next,
     returns_note n note last (laid_disks group) (shade_meaning g.meaning first) (sym since.tells) lies group.core (laid_disks group) back,
-    returns_up n note last (laid_disks group) (shade_meaning g.meaning first) (sym since.tells) lies group.core (laid_disks group) back noted (spells_zero now has) fuse,
+    returns_up n note last (laid_disks group) (shade_meaning g.meaning first) (sym since.tells) lies group.core (laid_disks group) back (laid_below group).tells noted
+        (lit_since note noted_next before (laid_below group).tells (shade_meaning g.meaning first) (laid_disks group) refl since.tells less lit) (spells_zero now has) fuse,
     record {
       was = newest;
       now = now;
@@ -309,7 +314,7 @@ never_off m m' stop up unarmed since stops is = up_not_down m.down up (since.saf
 module _ {R : Type 0} {g : Ghosts R} (n : Node) (note : GroupNode) (racks : (s : Shade R) → IsRack (shade_meaning g.meaning s)) (laws : (s : Shade R) → Lawful (shade_meaning g.meaning s)) where
   -- ---- a site that crashed
 
-  module _ (rack first : Shade R) (down : GroupDown n note (shade_meaning g.meaning rack)) (revived : Alike (shade_meaning g.meaning rack) (shade_meaning g.meaning first)) (up : IsFalse (shade_meaning g.meaning first).down)
+  module _ (rack first : Shade R) (down : GroupDown n note true (g.meaning (rack_of rack)).tells (shade_meaning g.meaning rack)) (rises : TellsLess (g.meaning (rack_of rack)) (g.meaning (rack_of first))) (revived : Alike (shade_meaning g.meaning rack) (shade_meaning g.meaning first)) (up : IsFalse (shade_meaning g.meaning first).down)
       (armed : (shade_meaning g.meaning first).armed ≡ (shade_meaning g.meaning rack).armed) where
     lies : AwayLies n note down.last (shade_meaning g.meaning first)
     lies = less_away n note (shade_meaning g.meaning rack) (shade_meaning g.meaning first) revived.contents.units revived.contents.size revived.contents.leaves down.last down.away.lies
@@ -320,13 +325,16 @@ module _ {R : Type 0} {g : Ghosts R} (n : Node) (note : GroupNode) (racks : (s :
     unarmed : IsFalse (shade_meaning g.meaning first).armed
     unarmed = armed ∙ down.stopped.unarmed
 
-    pub recovered_up : (group : Laid R g) → CalledSince (shade_meaning g.meaning first) (laid_disks group) → HasSpelling group.core.inner.config
+    lit_first : IsLit note (g.meaning (rack_of rack)).tells (shade_meaning g.meaning first)
+    lit_first = λ bright told. revived.contents.tells ∙ down.lit bright told
+
+    pub recovered_up : (group : Laid R g) → CalledSince (shade_meaning g.meaning first) (laid_disks group) → TellsLess (g.meaning (rack_of first)) (laid_below group) → HasSpelling group.core.inner.config
         → ((last : Config) → AwayLies n note last (shade_meaning g.meaning first) → GroupReturns n note last (shade_meaning g.meaning first) group.core (laid_disks group)) → RecoversFrom n note (shade_meaning g.meaning rack) (Up group) (Ok tt)
-    recovered_up group since has back =
-        came_up n note down.last down.last had (λ v. refl) racks (shade_meaning g.meaning rack) first revived.contents.units revived.contents.size revived.counts.disk_faults lies group since has (back down.last lies)
+    recovered_up group since less has back =
+        came_up n note down.last down.last had (λ v. refl) racks (shade_meaning g.meaning rack) first revived.contents.units revived.contents.size revived.counts.disk_faults lies group since has (back down.last lies) (g.meaning (rack_of rack)).tells lit_first (λ told. rises (less told))
         down.noted (no_fuse n.fuse (laid_disks group) down.unfused (since.unarmed unarmed))
 
-    module _ (middle : Shade R) (idle : Idle R g) (fallen : Shade R) (is : idle.rack ≡ fallen) (stop : Stop) (since : CalledSince (shade_meaning g.meaning first) (shade_meaning g.meaning middle)) (stops : ImportStops (shade_meaning g.meaning first) (shade_meaning g.meaning middle) stop)
+    module _ (middle : Shade R) (idle : Idle R g) (fallen : Shade R) (is : idle.rack ≡ fallen) (agreed : idle.agreed ≡ true) (goes : TellsLess (g.meaning (rack_of first)) (g.meaning (rack_of middle))) (falls : TellsLess (g.meaning (rack_of middle)) (g.meaning (rack_of fallen))) (stop : Stop) (since : CalledSince (shade_meaning g.meaning first) (shade_meaning g.meaning middle)) (stops : ImportStops (shade_meaning g.meaning first) (shade_meaning g.meaning middle) stop)
         (can : CanImport (shade_meaning g.meaning first)) (fell : AreStopped (shade_meaning g.meaning fallen)) (counts : (d : ℕ) → (shade_meaning g.meaning fallen).disk_faults d ≡ (shade_meaning g.meaning middle).disk_faults d) (kept : ReturnSince (shade_meaning g.meaning middle) (shade_meaning g.meaning fallen))
         (early : stops_early stop ≡ true → Stopped (shade_meaning g.meaning middle) (shade_meaning g.meaning fallen)) (dark : stops_early stop ≡ false → TellsNone (shade_meaning g.meaning fallen)) where
       lies_by : (t : Bool) → stops_early stop ≡ t → AwayLies n note down.last (shade_meaning g.meaning fallen)
@@ -335,14 +343,24 @@ module _ {R : Type 0} {g : Ghosts R} (n : Node) (note : GroupNode) (racks : (s :
           early_lies n note down.last (shade_meaning g.meaning first) (shade_meaning g.meaning middle) (shade_meaning g.meaning fallen) (laws first) lies can stop stops it stopped.units stopped.size stopped.leaves
       lies_by false it = dark_away n note down.last (shade_meaning g.meaning first) (shade_meaning g.meaning fallen) (kept.units ∙ since.units) (λ u. kept.size u ∙ since.size u) (dark it) lies
 
-      stands : GroupDown n note (shade_meaning g.meaning fallen)
-      stands = record {
-        noted = down.noted;
+      lit_by : (t : Bool) → stops_early stop ≡ t → IsLit (note_dimmed (not t) note) (g.meaning (rack_of fallen)).tells (shade_meaning g.meaning fallen)
+      lit_by true it = λ bright told. (early it).tells ∙ since.tells ∙ lit_first bright (rises (goes (falls told)))
+      lit_by false it = lit_dimmed note (g.meaning (rack_of fallen)).tells (shade_meaning g.meaning fallen)
+
+      stands : (t : Bool) → stops_early stop ≡ t → GroupDown (dimmed_site (not t) note n) (note_dimmed (not t) note) idle.agreed (g.meaning (rack_of fallen)).tells (shade_meaning g.meaning fallen)
+      stands t it = record {
+        noted = noted_dimmed (not t) n note down.noted;
+        lit = lit_by t it;
+        agrees = λ tight. agreed;
         unfused = down.unfused;
         stopped = fell;
         last = down.last;
         spells = down.spells;
-        away = record { state = down.away.state; config = down.away.config; lies = lies_by (stops_early stop) refl };
+        away = record {
+          state = down.away.state;
+          config = down.away.config;
+          lies = away_dimmed (not t) n (dimmed_site (not t) note n) note down.last (shade_meaning g.meaning fallen) refl refl (lies_by t it);
+        };
       }
 
       tells_first : IsTrue (shade_meaning g.meaning fallen).tells → IsTrue (shade_meaning g.meaning first).tells
@@ -360,7 +378,7 @@ module _ {R : Type 0} {g : Ghosts R} (n : Node) (note : GroupNode) (racks : (s :
 
       pub recovered_not : RecoversFrom n note (shade_meaning g.meaning rack) (Down idle) (Err stop)
       recovered_not = (
-        subst (λ (s : Shade R). GroupDown n note (shade_meaning g.meaning s)) (sym is) stands,
+        subst (λ (s : Shade R). GroupDown (dimmed_site (not (stops_early stop)) note n) (note_dimmed (not (stops_early stop)) note) idle.agreed (g.meaning (rack_of s)).tells (shade_meaning g.meaning s)) (sym is) (stands (stops_early stop) refl),
         subst (λ (s : Shade R). ImportWhy (IsTrue (shade_meaning g.meaning s).tells) (shade_meaning g.meaning rack) (shade_meaning g.meaning s) stop) (sym is) why,
         λ tells. record {
           first = first;
@@ -373,33 +391,39 @@ module _ {R : Type 0} {g : Ghosts R} (n : Node) (note : GroupNode) (racks : (s :
 
   -- ---- a site that was deported
 
-  module _ (rack : Shade R) (away : GroupAway n note (shade_meaning g.meaning rack)) where
+  module _ (rack : Shade R) (away : GroupAway n note true (g.meaning (rack_of rack)).tells (shade_meaning g.meaning rack)) where
     had_away : NotesConfig note away.newest
     had_away = record { is = away.away.config; spells = away.spells }
 
     keeps_fuse : (m : Meaning) → CalledSince (shade_meaning g.meaning rack) m → (IsTrue m.down → ⊥) → KeepsFuse (shade_meaning g.meaning rack) m
     keeps_fuse m since still = record { goes = λ o k was is. (since.told o k was is).fuse (is_up m.down still) }
 
-    pub imported_up : (group : Laid R g) → CalledSince (shade_meaning g.meaning rack) (laid_disks group) → HasSpelling group.core.inner.config
+    pub imported_up : (group : Laid R g) → CalledSince (shade_meaning g.meaning rack) (laid_disks group) → TellsLess (g.meaning (rack_of rack)) (laid_below group) → HasSpelling group.core.inner.config
         → ((last : Config) → AwayLies n note last (shade_meaning g.meaning rack) → GroupReturns n note last (shade_meaning g.meaning rack) group.core (laid_disks group)) → ImportsFrom n note (shade_meaning g.meaning rack) (Up group) (Ok tt)
-    imported_up group since has back =
+    imported_up group since less has back =
         let it = back away.last away.away.lies in (
-          came_up n note away.last away.newest had_away away.away.frames racks (shade_meaning g.meaning rack) rack refl (λ u. refl) (λ u. refl) away.away.lies group since has it away.noted
+          came_up n note away.last away.newest had_away away.away.frames racks (shade_meaning g.meaning rack) rack refl (λ u. refl) (λ u. refl) away.away.lies group since has it (g.meaning (rack_of rack)).tells away.lit less away.noted
               (fuse_burned n.fuse (shade_meaning g.meaning rack) (laid_disks group) since.unarmed away.fuse),
           keeps_fuse (laid_disks group) since it.at.up,
         )
 
-    module _ (middle : Shade R) (stop : Stop) (since : CalledSince (shade_meaning g.meaning rack) (shade_meaning g.meaning middle)) (stops : ImportStops (shade_meaning g.meaning rack) (shade_meaning g.meaning middle) stop) (can : CanImport (shade_meaning g.meaning rack)) where
-      away_as_is : (m : Meaning) → m.units ≡ (shade_meaning g.meaning rack).units → AwayLies n note away.last m → (IsTrue m.down → ⊥) → HasFuse (burned n.fuse) m → GroupAway (burned_site n) note m
-      away_as_is m units lies still fuse = record {
-        noted = record { is = away.noted.is; none = record { role = away.noted.none.role; volumes = away.noted.none.volumes; log = away.noted.none.log; safe = away.noted.none.safe; running = away.noted.none.running } };
+    module _ (middle : Shade R) (stop : Stop) (since : CalledSince (shade_meaning g.meaning rack) (shade_meaning g.meaning middle)) (goes : TellsLess (g.meaning (rack_of rack)) (g.meaning (rack_of middle))) (stops : ImportStops (shade_meaning g.meaning rack) (shade_meaning g.meaning middle) stop) (can : CanImport (shade_meaning g.meaning rack)) where
+      away_as_is : (dims agreed told : Bool) (m : Meaning) → AwayLies n note away.last m → (IsTrue m.down → ⊥) → HasFuse (burned n.fuse) m → IsLit (note_dimmed dims note) told m → agreed ≡ true
+          → GroupAway (burned_site (dimmed_site dims note n)) (note_dimmed dims note) agreed told m
+      away_as_is dims agreed told m lies still fuse lit agrees = record {
+        noted = record { is = refl; none = record { role = away.noted.none.role; volumes = away.noted.none.volumes; log = away.noted.none.log; safe = away.noted.none.safe; running = away.noted.none.running } };
+        lit = lit;
+        agrees = λ tight. agrees;
         up = still;
         fuse = fuse;
         last = away.last;
         newest = away.newest;
         spells = away.spells;
-        away = record { state = away.away.state; config = away.away.config; frames = away.away.frames; lies = away_as n (burned_site n) note away.last m refl refl lies };
+        away = record { state = away.away.state; config = away.away.config; frames = away.away.frames; lies = away_dimmed dims n (burned_site (dimmed_site dims note n)) note away.last m refl refl lies };
       }
+
+      lit_middle : IsLit (note_dimmed false note) (g.meaning (rack_of middle)).tells (shade_meaning g.meaning middle)
+      lit_middle = λ bright told. since.tells ∙ away.lit bright (goes told)
 
       why_away : (s : Shade R) → IsFalse (shade_meaning g.meaning rack).down → ((d : ℕ) → (shade_meaning g.meaning s).disk_faults d ≡ (shade_meaning g.meaning middle).disk_faults d) → (IsTrue (shade_meaning g.meaning s).tells → IsTrue (shade_meaning g.meaning rack).tells)
           → (stop ≡ Refused IsOff → ⊥) → ImportWhy (IsTrue (shade_meaning g.meaning s).tells) (shade_meaning g.meaning rack) (shade_meaning g.meaning s) stop
@@ -419,18 +443,19 @@ module _ {R : Type 0} {g : Ghosts R} (n : Node) (note : GroupNode) (racks : (s :
       early_up OutOfMemory early = refl
 
       -- it had written nothing, and the disks are as they were
-      pub imported_early : (idle : Idle R g) → idle.rack ≡ middle → stops_early stop ≡ true → (IsTrue (shade_meaning g.meaning middle).down → ⊥) → ImportsFrom n note (shade_meaning g.meaning rack) (Deported idle) (Err stop)
-      imported_early idle is early still =
-          refused_as (Deported idle) (early_up stop early) (subst (λ (s : Shade R). GroupAway (burned_site n) note (shade_meaning g.meaning s) × (IsFalse (shade_meaning g.meaning s).armed ⊎ KeepsFuse (shade_meaning g.meaning rack) (shade_meaning g.meaning s))
+      pub imported_early : (idle : Idle R g) → idle.rack ≡ middle → idle.agreed ≡ true → stops_early stop ≡ true → (IsTrue (shade_meaning g.meaning middle).down → ⊥) → ImportsFrom n note (shade_meaning g.meaning rack) (Deported idle) (Err stop)
+      imported_early idle is agreed early still =
+          refused_as (Deported idle) (early_up stop early) (subst (λ (s : Shade R). GroupAway (burned_site (dimmed_site (not (stops_early stop)) note n)) (note_dimmed (not (stops_early stop)) note) idle.agreed (g.meaning (rack_of s)).tells (shade_meaning g.meaning s) × (IsFalse (shade_meaning g.meaning s).armed ⊎ KeepsFuse (shade_meaning g.meaning rack) (shade_meaning g.meaning s))
           × ImportWhy (IsTrue (shade_meaning g.meaning s).tells) (shade_meaning g.meaning rack) (shade_meaning g.meaning s) stop) (sym is) (
-            away_as_is (shade_meaning g.meaning middle) since.units
+            away_as_is (not (stops_early stop)) idle.agreed (g.meaning (rack_of middle)).tells (shade_meaning g.meaning middle)
                 (early_lies n note away.last (shade_meaning g.meaning rack) (shade_meaning g.meaning middle) (shade_meaning g.meaning middle) (laws rack) away.away.lies can stop stops early refl (λ u. refl) (λ u b v left. left))
-                still (fuse_burned n.fuse (shade_meaning g.meaning rack) (shade_meaning g.meaning middle) since.unarmed away.fuse),
+                still (fuse_burned n.fuse (shade_meaning g.meaning rack) (shade_meaning g.meaning middle) since.unarmed away.fuse)
+                (subst (λ (t : Bool). IsLit (note_dimmed (not t) note) (g.meaning (rack_of middle)).tells (shade_meaning g.meaning middle)) (sym early) lit_middle) agreed,
             inr (keeps_fuse (shade_meaning g.meaning middle) since still),
             why_away middle (is_up (shade_meaning g.meaning rack).down away.up) (λ d. refl) (λ tells. sym since.tells ∙ tells) (never_stops (early_up stop early)),
           ))
 
-      module _ (fallen : Shade R) (fell : AreStopped (shade_meaning g.meaning fallen)) (counts : (d : ℕ) → (shade_meaning g.meaning fallen).disk_faults d ≡ (shade_meaning g.meaning middle).disk_faults d) (kept : ReturnSince (shade_meaning g.meaning middle) (shade_meaning g.meaning fallen))
+      module _ (fallen : Shade R) (falls : TellsLess (g.meaning (rack_of middle)) (g.meaning (rack_of fallen))) (fell : AreStopped (shade_meaning g.meaning fallen)) (counts : (d : ℕ) → (shade_meaning g.meaning fallen).disk_faults d ≡ (shade_meaning g.meaning middle).disk_faults d) (kept : ReturnSince (shade_meaning g.meaning middle) (shade_meaning g.meaning fallen))
           (early : stops_early stop ≡ true → Stopped (shade_meaning g.meaning middle) (shade_meaning g.meaning fallen)) (dark : stops_early stop ≡ false → TellsNone (shade_meaning g.meaning fallen)) where
         lies_fell : (t : Bool) → stops_early stop ≡ t → AwayLies n note away.last (shade_meaning g.meaning fallen)
         lies_fell true it =
@@ -438,18 +463,23 @@ module _ {R : Type 0} {g : Ghosts R} (n : Node) (note : GroupNode) (racks : (s :
             early_lies n note away.last (shade_meaning g.meaning rack) (shade_meaning g.meaning middle) (shade_meaning g.meaning fallen) (laws rack) away.away.lies can stop stops it stopped.units stopped.size stopped.leaves
         lies_fell false it = dark_away n note away.last (shade_meaning g.meaning rack) (shade_meaning g.meaning fallen) (kept.units ∙ since.units) (λ u. kept.size u ∙ since.size u) (dark it) away.away.lies
 
+        lit_fell : (t : Bool) → stops_early stop ≡ t → IsLit (note_dimmed (not t) note) (g.meaning (rack_of fallen)).tells (shade_meaning g.meaning fallen)
+        lit_fell true it = λ bright told. (early it).tells ∙ lit_middle bright (falls told)
+        lit_fell false it = lit_dimmed note (g.meaning (rack_of fallen)).tells (shade_meaning g.meaning fallen)
+
         tells_rack : IsTrue (shade_meaning g.meaning fallen).tells → IsTrue (shade_meaning g.meaning rack).tells
         tells_rack tells = sym since.tells ∙ kept.tells tells
 
         -- the disks crashed, and are up again
-        pub imported_late : (idle : Idle R g) (new : Shade R) → idle.rack ≡ new → stops_down stop ≡ false → Alike (shade_meaning g.meaning fallen) (shade_meaning g.meaning new) → IsFalse (shade_meaning g.meaning new).down
+        pub imported_late : (idle : Idle R g) (new : Shade R) → idle.rack ≡ new → idle.agreed ≡ true → TellsLess (g.meaning (rack_of fallen)) (g.meaning (rack_of new)) → stops_down stop ≡ false → Alike (shade_meaning g.meaning fallen) (shade_meaning g.meaning new) → IsFalse (shade_meaning g.meaning new).down
             → (shade_meaning g.meaning new).armed ≡ (shade_meaning g.meaning fallen).armed → ImportsFrom n note (shade_meaning g.meaning rack) (Deported idle) (Err stop)
-        imported_late idle new is off alike up armed =
-            refused_as (Deported idle) off (subst (λ (s : Shade R). GroupAway (burned_site n) note (shade_meaning g.meaning s) × (IsFalse (shade_meaning g.meaning s).armed ⊎ KeepsFuse (shade_meaning g.meaning rack) (shade_meaning g.meaning s))
+        imported_late idle new is agreed rises off alike up armed =
+            refused_as (Deported idle) off (subst (λ (s : Shade R). GroupAway (burned_site (dimmed_site (not (stops_early stop)) note n)) (note_dimmed (not (stops_early stop)) note) idle.agreed (g.meaning (rack_of s)).tells (shade_meaning g.meaning s) × (IsFalse (shade_meaning g.meaning s).armed ⊎ KeepsFuse (shade_meaning g.meaning rack) (shade_meaning g.meaning s))
             × ImportWhy (IsTrue (shade_meaning g.meaning s).tells) (shade_meaning g.meaning rack) (shade_meaning g.meaning s) stop) (sym is) (
-              away_as_is (shade_meaning g.meaning new) (alike.contents.units ∙ kept.units ∙ since.units)
+              away_as_is (not (stops_early stop)) idle.agreed (g.meaning (rack_of new)).tells (shade_meaning g.meaning new)
                   (less_away n note (shade_meaning g.meaning fallen) (shade_meaning g.meaning new) alike.contents.units alike.contents.size alike.contents.leaves away.last (lies_fell (stops_early stop) refl))
-                  (up_not_down (shade_meaning g.meaning new).down up) (unarmed_any n.fuse (shade_meaning g.meaning new) (armed ∙ fell.unarmed)),
+                  (up_not_down (shade_meaning g.meaning new).down up) (unarmed_any n.fuse (shade_meaning g.meaning new) (armed ∙ fell.unarmed))
+                  (λ bright told. alike.contents.tells ∙ lit_fell (stops_early stop) refl bright (rises told)) agreed,
               inl (armed ∙ fell.unarmed),
               why_away new (is_up (shade_meaning g.meaning rack).down away.up) (λ d. alike.counts.disk_faults d ∙ counts d) (λ tells. tells_rack (sym alike.contents.tells ∙ tells)) (never_stops off),
             ))
@@ -461,11 +491,13 @@ module _ {R : Type 0} {g : Ghosts R} (n : Node) (note : GroupNode) (racks : (s :
         late_of (Refused other) off = cc
         late_of OutOfMemory off = cc
 
-        pub imported_down : (idle : Idle R g) → idle.rack ≡ fallen → stops_down stop ≡ true → ImportsFrom n note (shade_meaning g.meaning rack) (Down idle) (Err stop)
-        imported_down idle is off =
+        pub imported_down : (idle : Idle R g) → idle.rack ≡ fallen → idle.agreed ≡ true → stops_down stop ≡ true → ImportsFrom n note (shade_meaning g.meaning rack) (Down idle) (Err stop)
+        imported_down idle is agreed off =
             let none = dark (late_of stop off) in
             subst (λ (b : Bool). ImportRefused b n note (shade_meaning g.meaning rack) (Down idle) stop) (sym off) (
-              subst (λ (s : Shade R). GroupDown (crashed (returned_with note n) 0) note (shade_meaning g.meaning s)) (sym is) (record {
+              subst (λ (s : Shade R). GroupDown (crashed (returned_with (note_dimmed true note) n) 0) (note_dimmed true note) idle.agreed (g.meaning (rack_of s)).tells (shade_meaning g.meaning s)) (sym is) (record {
+                lit = lit_dimmed note (g.meaning (rack_of fallen)).tells (shade_meaning g.meaning fallen);
+                agrees = λ tight. agreed;
                 noted = record { is = refl; none = record { role = away.noted.none.role; volumes = away.noted.none.volumes; log = refl; safe = refl; running = refl } };
                 unfused = refl;
                 stopped = fell;

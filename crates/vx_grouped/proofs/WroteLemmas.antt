@@ -1,5 +1,5 @@
 -- Writes and reads of a site's group, by its note.
-use Rattle.std.proofs.Common.{refl, sym, subst, ◌≡◌, ℕ, true, false, List, IsTrue, arith}
+use Rattle.std.proofs.Common.{refl, sym, subst, ◌≡◌, ℕ, true, false, List, IsTrue, arith, ◌∙◌}
 use Rattle.std.specs.Prelude.{Ok, Err}
 use Rattle.vx_model.specs.Content.{Write}
 use Rattle.vx_model.specs.declared.no.No.{No}
@@ -20,7 +20,7 @@ use Rattle.vx_config.specs.declared.config.Config.{Config}
 use Rattle.vx_grouped.specs.Away.{IsAwayAt}
 use Rattle.vx_grouped.specs.Ends.{WriteLeaves, plain_write}
 use Rattle.vx_grouped.specs.GroupNotes.{GroupLies, IsGroupAt, note_done, note_refused, noted_config}
-use Rattle.vx_grouped.specs.GroupSites.{GroupUp, idle_disks, laid_disks, site_disks}
+use Rattle.vx_grouped.specs.GroupSites.{GroupUp, idle_disks, laid_disks, site_disks, IsLit, laid_below, idle_below}
 use Rattle.vx_grouped.specs.SiteEnds.{ConfigGoes, PlainRead, PlainWrote, answers_down, HasNow}
 use Rattle.vx_grouped.specs.Watches.{PlainReads, PlainWrites}
 use Rattle.vx_grouped.specs.declared.idle.Idle.{Idle}
@@ -37,6 +37,8 @@ use Rattle.vx_kept.specs.Cleans.{at_serial}
 use Rattle.vx_grouped.proofs.MovesLemmas.{loses_some}
 use Rattle.vx_untold.specs.Shades.{shade_meaning}
 use Rattle.vx_grouped.proofs.SpellLemmas.{spells_like}
+use Rattle.vx_watched.specs.Traces.{TellsLess}
+use Rattle.vx_grouped.proofs.TraceLemmas.{lit_since}
 
 -- what the answer of a device says of the disks
 pub down_by : (m m' : Meaning) (no : No) → answers_down no ≡ true → DeviceCause m m' no → IsTrue m'.down
@@ -44,7 +46,10 @@ down_by m m' (Device disk) off cause = cc
 down_by m m' IsOff off cause = cause
 down_by m m' other off cause = cc
 
-module _ {R : Type 0} {g : Ghosts R} (n : Node) (note : GroupNode) (v b : ℕ) (bytes : List ℕ) (group new : Laid R g) (up : GroupUp n note group.core (laid_disks group)) (since : CalledSince (laid_disks group) (laid_disks new)) where
+module _ {R : Type 0} {g : Ghosts R} (n : Node) (note : GroupNode) (v b : ℕ) (bytes : List ℕ) (group new : Laid R g) (up : GroupUp n note (laid_below group).tells group.core (laid_disks group)) (since : CalledSince (laid_disks group) (laid_disks new)) (less : TellsLess (laid_below group) (laid_below new)) where
+  lit : (next : GroupNode) → next.dark ≡ note.dark → IsLit next (laid_below new).tells (laid_disks new)
+  lit next dark = lit_since note next (laid_below group).tells (laid_below new).tells (laid_disks group) (laid_disks new) dark since.tells less up.lit
+
   abbrev own : Write
   own = plain_write v b bytes
 
@@ -75,7 +80,7 @@ module _ {R : Type 0} {g : Ghosts R} (n : Node) (note : GroupNode) (v b : ℕ) (
     wrote_done it = (
       note_done new.core.inner note,
       done_settles new.core.inner note (λ tight none. it.trust (up.at.lies.committed tight none)),
-      up_with n note (note_write own (note_done new.core.inner note)) new.core (laid_disks new) up.noted (lasts it.loses) (fuse_burned n.fuse (laid_disks group) (laid_disks new) since.unarmed up.fuse) (it.leaves n note up.at),
+      up_with n note (note_write own (note_done new.core.inner note)) (laid_below new).tells new.core (laid_disks new) up.noted (lit (note_write own (note_done new.core.inner note)) refl) (lasts it.loses) (fuse_burned n.fuse (laid_disks group) (laid_disks new) since.unarmed up.fuse) (it.leaves n note up.at),
       noted (note_done new.core.inner note) refl (Up new) refl (lasts it.loses) (lost new.shelf it.loses it.on),
     )
 
@@ -84,7 +89,7 @@ module _ {R : Type 0} {g : Ghosts R} (n : Node) (note : GroupNode) (v b : ℕ) (
     up_by (Device disk) off leaves cause loses on = (
       note_refused leaves.0 new.core.inner note,
       refused_unsettles new.core.inner note leaves.0,
-      up_with n note (note_doubt own (note_refused leaves.0 new.core.inner note)) new.core (laid_disks new) up.noted (lasts loses) (fuse_burned n.fuse (laid_disks group) (laid_disks new) since.unarmed up.fuse) leaves.1,
+      up_with n note (note_doubt own (note_refused leaves.0 new.core.inner note)) (laid_below new).tells new.core (laid_disks new) up.noted (lit (note_doubt own (note_refused leaves.0 new.core.inner note)) refl) (lasts loses) (fuse_burned n.fuse (laid_disks group) (laid_disks new) since.unarmed up.fuse) leaves.1,
       cause,
       noted (note_refused leaves.0 new.core.inner note) refl (Up new) refl (lasts loses) (lost new.shelf loses on),
     )
@@ -96,14 +101,16 @@ module _ {R : Type 0} {g : Ghosts R} (n : Node) (note : GroupNode) (v b : ℕ) (
     wrote_up why off it = up_by why off (it.leaves n note up.at) it.cause it.loses it.on
 
     module _ (idle : Idle R g) (stopped : Stopped (laid_disks new) (idle_disks idle))
-        (away : (k : Node) (next : GroupNode) → GroupLies k next new.core (laid_disks new) → IsAwayAt (record k { state = IsDown }) next new.core.inner.config (idle_disks idle)) where
+        (away : (k : Node) (next : GroupNode) → GroupLies k next new.core (laid_disks new) → IsAwayAt (record k { state = IsDown }) next new.core.inner.config (idle_disks idle))
+        (same : idle.agreed ≡ new.core.inner.agreed) (fell : TellsLess (laid_below new) (idle_below idle)) where
       cut_by : (no : No) → answers_down no ≡ true → WriteLeaves {T = Unit {0}} n note own new.core (laid_disks new) (Err no) → HasSpelling (at_serial 0 new.core.inner.config)
           → LosesPlexes group.core.inner.config new.core.inner.config (laid_disks group) (idle_disks idle) → BothOn group.core.inner.config new.core.inner.config (laid_disks group).units → PlainWrote n note own (Up group) (Down idle) (Err no)
       cut_by (Device disk) off leaves spells loses on = cc
       cut_by IsOff off leaves spells loses on = (
         note_refused leaves.0 new.core.inner note,
         refused_unsettles new.core.inner note leaves.0,
-        down_with n note (note_cut own (note_refused leaves.0 new.core.inner note)) new.core.inner.config (idle_disks idle) up.noted (record { down = stopped.down; unarmed = stopped.unarmed }) spells
+        down_with n note (note_cut own (note_refused leaves.0 new.core.inner note)) idle.agreed (idle_below idle).tells new.core.inner.config (idle_disks idle) up.noted
+            (lit_since note (note_cut own (note_refused leaves.0 new.core.inner note)) (laid_below new).tells (idle_below idle).tells (laid_disks new) (idle_disks idle) refl stopped.tells fell (lit note refl)) (λ tight. same ∙ leaves.1.lies.agreed tight) (record { down = stopped.down; unarmed = stopped.unarmed }) spells
             (away n (note_cut own (note_refused leaves.0 new.core.inner note)) leaves.1.lies),
         fell_fused n.fuse (laid_disks group) (laid_disks new) up.fuse up.at.up since.safe leaves.1.down,
         noted (note_refused leaves.0 new.core.inner note) refl (Down idle) tt spells (lost idle.rack loses on),
@@ -122,8 +129,8 @@ module _ {R : Type 0} {g : Ghosts R} (n : Node) (note : GroupNode) (v b : ℕ) (
   spells_same : new.core.inner.config ≡ group.core.inner.config → HasSpelling (at_serial 0 new.core.inner.config)
   spells_same same = subst (λ (c : Config). HasSpelling (at_serial 0 c)) (sym same) up.spells
 
-  stays_up : IsGroupAt n note new.core (laid_disks new) → new.core.inner.config ≡ group.core.inner.config → GroupUp (record n { fuse = burned n.fuse }) note new.core (laid_disks new)
-  stays_up at same = up_burned n note new.core (laid_disks new) up.noted (spells_same same) (fuse_burned n.fuse (laid_disks group) (laid_disks new) since.unarmed up.fuse) at
+  stays_up : IsGroupAt n note new.core (laid_disks new) → new.core.inner.config ≡ group.core.inner.config → GroupUp (record n { fuse = burned n.fuse }) note (laid_below new).tells new.core (laid_disks new)
+  stays_up at same = up_burned n note (laid_below new).tells new.core (laid_disks new) up.noted (lit note refl) (spells_same same) (fuse_burned n.fuse (laid_disks group) (laid_disks new) since.unarmed up.fuse) at
 
   pub read_done : PlainReads v b bytes group.core (laid_disks group) new.core (laid_disks new) (Ok tt) → PlainRead n note v b bytes (Up group) (Up new) (Ok tt)
   read_done it = (it.reads note up.at.lies.holds, stays_up (it.stays n note up.at) it.same)

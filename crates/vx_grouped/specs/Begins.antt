@@ -39,6 +39,7 @@ pub record IsFirstNote (note : GroupNode) : Type 0 where
   pub size : (v : ℕ) → note.bytes.size v ≡ 0
   pub others : (v b : ℕ) → note.others v b ≡ []
   pub cut : note.cut ≡ None
+  pub dark : note.dark ≡ false
   pub perhaps : (v p r : ℕ) → note.perhaps v p r ≡ false
 
 -- a bare site as a group with this note

@@ -1,5 +1,5 @@
 -- A group that is found on the disks of a bare site, of which it is not known what they hold.
-use Rattle.std.specs.Prelude.{◌≡◌, ℕ, ◌<◌, false, [], None, IsTrue, IsFalse, length, Result, Ok, Err}
+use Rattle.std.specs.Prelude.{◌≡◌, ℕ, ◌<◌, true, false, [], None, IsTrue, IsFalse, length, Result, Ok, Err}
 use Rattle.vx_model.specs.declared.errors.Stop.{Stop}
 use Rattle.vx_model.specs.declared.site.SiteState.TheVariants.{Bare}
 use Rattle.vx_disk.specs.Shelf.{Meaning}
@@ -10,6 +10,7 @@ use Rattle.vx_config.specs.Checks.{blocks_of}
 use Rattle.vx_config.specs.declared.config.Config.{Config}
 use Rattle.vx_group.specs.declared.group_core.GroupCore.{GroupCore}
 use Rattle.vx_watched.specs.Since.{CalledSince}
+use Rattle.vx_watched.specs.Traces.{TellsLess}
 use Rattle.vx_grouped.specs.Begins.{group_begun}
 use Rattle.vx_grouped.specs.GroupNotes.{NotesConfig}
 use Rattle.vx_grouped.specs.GroupSites.{UpNoted}
@@ -27,11 +28,12 @@ pub record CanFind (n : Node) (m : Meaning) : Type 0 where
   pub up : IsFalse m.down
   pub unarmed : IsFalse m.armed
 
--- The note of a group that was found: no further configuration may stand on the disks, and its volumes have one value each.
+-- The note of a group that was found: it is not known what the disks hold, no further configuration may stand on them, and its volumes have one value each.
 pub record IsFoundNote (note : GroupNode) (c : Config) : Type 0 where
   pub config : NotesConfig note c
   pub begun : note.begun ≡ []
   pub loose : note.loose ≡ false
+  pub dark : note.dark ≡ true
   pub size : (v : ℕ) → note.bytes.size v ≡ blocks_of c.volumes v
   pub cut : note.cut ≡ None
   pub perhaps : (v p r : ℕ) → note.perhaps v p r ≡ false
@@ -40,6 +42,11 @@ pub record IsFoundNote (note : GroupNode) (c : Config) : Type 0 where
 abbrev pub FoundSince : {S G : Type 0} → Meaning → (S → Meaning) → (G → Meaning) → Result G (S × Stop) → Type 0
 FoundSince old meaning disks (Ok g) = ReturnSince old (disks g)
 FoundSince old meaning disks (Err (s, stop)) = CalledSince old (meaning s)
+
+-- the rack of that group, or the one that is handed back, tells no more than it did
+abbrev pub FoundTells : {S G : Type 0} → Meaning → (S → Meaning) → (G → Meaning) → Result G (S × Stop) → Type 0
+FoundTells old rack below (Ok g) = TellsLess old (below g)
+FoundTells old rack below (Err (s, stop)) = TellsLess old (rack s)
 
 -- what is known of the parts of the group that came up
 abbrev pub FindsParts : {S G : Type 0} → Node → GroupNode → Config → Meaning → (G → GroupCore) → (G → Meaning) → Result G (S × Stop) → Type 0

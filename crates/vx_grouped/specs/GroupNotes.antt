@@ -42,6 +42,10 @@ note_refused next core note = record note {
   loose = loose_by core note.loose;
 }
 
+-- the note of disks of which, if this is so, it is no longer known what they hold
+abbrev pub note_dimmed : Bool → GroupNode → GroupNode
+note_dimmed dims note = record note { dark = dims || note.dark }
+
 -- The group lies on the disks of the site, has the configuration that is noted, and its volumes have what is noted of them. Imports agree
 -- unless it is noted as loose, and the newest configuration is committed where no commit was refused since.
 pub record GroupLies (n : Node) (note : GroupNode) (core : GroupCore) (m : Meaning) : Type 0 where

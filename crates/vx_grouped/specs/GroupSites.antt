@@ -1,5 +1,5 @@
 -- What the disks of a site with a group of disks, and no replicated volume group, stand for.
-use Rattle.std.specs.Prelude.{◌≡◌, ℕ, ◌+◌, ◌/◌, ◌%◌, ◌<◌, ◌≤◌, [], Bool, false, Option, Some, None, IsTrue, IsFalse}
+use Rattle.std.specs.Prelude.{◌≡◌, ℕ, ◌+◌, ◌/◌, ◌%◌, ◌<◌, ◌≤◌, [], Bool, true, false, Option, Some, None, IsTrue, IsFalse}
 use Rattle.vx_model.specs.declared.site.Role.TheVariants.{Primary}
 use Rattle.vx_model.specs.declared.site.SiteState.TheVariants.{Bare}
 use Rattle.vx_disk.specs.Shelf.{Meaning}
@@ -11,10 +11,10 @@ use Rattle.vx_history.specs.Groups.{GroupNode}
 use Rattle.vx_history.specs.Steps.{burned, crashed, deported_site}
 use Rattle.vx_history.specs.World.{Node, NoFuse}
 use Rattle.vx_group.specs.declared.group_core.GroupCore.{GroupCore}
-use Rattle.vx_untold.specs.Shades.{shade_meaning}
+use Rattle.vx_untold.specs.Shades.{rack_of, shade_meaning}
 use Rattle.vx_watched.specs.Empty.{no_shelf}
 use Rattle.vx_grouped.specs.Away.{IsAwayAt, IsDeportedAt}
-use Rattle.vx_grouped.specs.GroupNotes.{IsGroupAt, IsGroupCut}
+use Rattle.vx_grouped.specs.GroupNotes.{IsGroupAt, IsGroupCut, note_dimmed}
 use Rattle.vx_grouped.specs.SetFuses.{HasFuse}
 use Rattle.vx_grouped.specs.declared.group_site.GroupSite.{GroupSite}
 use Rattle.vx_grouped.specs.declared.idle.Idle.{Idle}
@@ -38,13 +38,23 @@ pub record NotesGroup (n : Node) (note : GroupNode) : Type 0 where
 abbrev pub with_note : GroupNode → Node → Node
 with_note note n = record n { group = Some note; fuse = burned n.fuse }
 
+-- a site of whose disks, if this is so, it is no longer known what they hold
+abbrev pub dimmed_site : Bool → GroupNode → Node → Node
+dimmed_site dims note n = record n { group = Some (note_dimmed dims note) }
+
 -- a site with this note whose group was just deported
 abbrev pub deported_with : GroupNode → Node → Node
 deported_with note n = deported_site (burned n.fuse) (crashed (with_note note n) 0)
 
+-- Whether a rack tells, and its disks as they are seen: unless the note says that nothing is known of what they hold, contents are told where the
+-- rack tells them.
+abbrev pub IsLit : GroupNode → Bool → Meaning → Type 0
+IsLit note told m = note.dark ≡ false → IsTrue told → IsTrue m.tells
+
 -- a site whose group is up
-pub record GroupUp (n : Node) (note : GroupNode) (core : GroupCore) (m : Meaning) : Type 0 where
+pub record GroupUp (n : Node) (note : GroupNode) (told : Bool) (core : GroupCore) (m : Meaning) : Type 0 where
   pub noted : NotesGroup n note
+  pub lit : IsLit note told m
   pub fuse : HasFuse n.fuse m
   pub spells : HasSpelling (at_serial 0 core.inner.config)
   pub at : IsGroupAt n note core m
@@ -54,9 +64,11 @@ pub record AreStopped (m : Meaning) : Type 0 where
   pub down : IsTrue m.down
   pub unarmed : IsFalse m.armed
 
--- a site whose group crashed
-pub record GroupDown (n : Node) (note : GroupNode) (m : Meaning) : Type 0 where
+-- a site whose group crashed, of which imports agree or not
+pub record GroupDown (n : Node) (note : GroupNode) (agreed told : Bool) (m : Meaning) : Type 0 where
   pub noted : NotesGroup n note
+  pub lit : IsLit note told m
+  pub agrees : note.loose ≡ false → agreed ≡ true
   pub unfused : n.fuse ≡ NoFuse
   pub stopped : AreStopped m
   pub last : Config
@@ -64,8 +76,10 @@ pub record GroupDown (n : Node) (note : GroupNode) (m : Meaning) : Type 0 where
   pub away : IsAwayAt n note last m
 
 -- a site whose group was deported: its disks are up, and keep their fuse
-pub record GroupAway (n : Node) (note : GroupNode) (m : Meaning) : Type 0 where
+pub record GroupAway (n : Node) (note : GroupNode) (agreed told : Bool) (m : Meaning) : Type 0 where
   pub noted : NotesGroup n note
+  pub lit : IsLit note told m
+  pub agrees : note.loose ≡ false → agreed ≡ true
   pub up : IsTrue m.down → ⊥
   pub fuse : HasFuse n.fuse m
   pub last : Config
@@ -83,8 +97,9 @@ pub record IsMarkedSite (n : Node) (m : Meaning) : Type 0 where
   pub unarmed : IsFalse m.armed
 
 -- a site whose fuse ran out: its disks are down, and the group over them is not yet let go
-pub record GroupFallen (n : Node) (note : GroupNode) (core : GroupCore) (m : Meaning) : Type 0 where
+pub record GroupFallen (n : Node) (note : GroupNode) (told : Bool) (core : GroupCore) (m : Meaning) : Type 0 where
   pub noted : NotesGroup n note
+  pub lit : IsLit note told m
   pub spells : HasSpelling (at_serial 0 core.inner.config)
   pub cut : IsGroupCut n note core m
 
@@ -110,6 +125,20 @@ module _ {R : Type 0} {g : Ghosts R} where
   site_disks (Marked rack) = g.meaning rack
   site_disks Gone = no_shelf
 
+  -- the rack itself, under whatever is known of its contents
+  abbrev pub laid_below : Laid R g → Meaning
+  laid_below laid = g.meaning (rack_of laid.shelf)
+
+  abbrev pub idle_below : Idle R g → Meaning
+  idle_below idle = g.meaning (rack_of idle.rack)
+
+  abbrev pub site_below : GroupSite R g → Meaning
+  site_below (Up group) = laid_below group
+  site_below (Deported idle) = idle_below idle
+  site_below (Down idle) = idle_below idle
+  site_below (Marked rack) = g.meaning rack
+  site_below Gone = no_shelf
+
   -- the configuration of a group that is up
   abbrev pub site_config : GroupSite R g → Option Config
   site_config (Up group) = Some group.core.inner.config
@@ -122,26 +151,26 @@ module _ {R : Type 0} {g : Ghosts R} where
 
   -- the group is up
   abbrev pub UpNoted : Node → GroupNode → GroupSite R g → Type 0
-  UpNoted n note (Up group) = GroupUp n note group.core (laid_disks group)
+  UpNoted n note (Up group) = GroupUp n note (laid_below group).tells group.core (laid_disks group)
   UpNoted n note other = ⊥
 
   -- it is up, and its disks are down
   abbrev pub CutNoted : Node → GroupNode → GroupSite R g → Type 0
-  CutNoted n note (Up group) = GroupFallen n note group.core (laid_disks group)
+  CutNoted n note (Up group) = GroupFallen n note (laid_below group).tells group.core (laid_disks group)
   CutNoted n note other = ⊥
 
   abbrev pub DownNoted : Node → GroupNode → GroupSite R g → Type 0
-  DownNoted n note (Down idle) = GroupDown n note (idle_disks idle)
+  DownNoted n note (Down idle) = GroupDown n note idle.agreed (idle_below idle).tells (idle_disks idle)
   DownNoted n note other = ⊥
 
   abbrev pub AwayNoted : Node → GroupNode → GroupSite R g → Type 0
-  AwayNoted n note (Deported idle) = GroupAway n note (idle_disks idle)
+  AwayNoted n note (Deported idle) = GroupAway n note idle.agreed (idle_below idle).tells (idle_disks idle)
   AwayNoted n note other = ⊥
 
   -- the disks of a site that has a group, or on which one was begun
   abbrev pub GroupSiteStands : Node → GroupSite R g → Type 0
-  GroupSiteStands n (Up group) = (note : GroupNode) × GroupUp n note group.core (laid_disks group)
-  GroupSiteStands n (Deported idle) = (note : GroupNode) × GroupAway n note (idle_disks idle)
-  GroupSiteStands n (Down idle) = (note : GroupNode) × GroupDown n note (idle_disks idle)
+  GroupSiteStands n (Up group) = (note : GroupNode) × GroupUp n note (laid_below group).tells group.core (laid_disks group)
+  GroupSiteStands n (Deported idle) = (note : GroupNode) × GroupAway n note idle.agreed (idle_below idle).tells (idle_disks idle)
+  GroupSiteStands n (Down idle) = (note : GroupNode) × GroupDown n note idle.agreed (idle_below idle).tells (idle_disks idle)
   GroupSiteStands n (Marked rack) = IsMarkedSite n (g.meaning rack)
   GroupSiteStands n Gone = ⊥

@@ -2,6 +2,7 @@ pub mod Added
 pub mod Away
 pub mod Begins
 pub mod ConfigMoves
+pub mod Copied
 pub mod CoreMoves
 pub mod Ends
 pub mod Finds
@@ -18,4 +19,5 @@ pub mod SiteEnds
 pub mod SiteKeeps
 pub mod SiteReturns
 pub mod StateChanges
+pub mod Tracings
 pub mod Watches

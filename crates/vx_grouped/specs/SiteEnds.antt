@@ -19,13 +19,15 @@ use Rattle.vx_history.specs.World.{Node}
 use Rattle.vx_config.specs.Table.{greatest}
 use Rattle.vx_config.specs.declared.config.Config.{Config}
 use Rattle.vx_volume.specs.Plexes.{active}
-use Rattle.vx_group.specs.Attaches.{att_refusal, copied_regions}
+use Rattle.vx_group.specs.Attaches.{att_refusal}
 use Rattle.vx_group.specs.Dets.{det_refusal}
 use Rattle.vx_untold.specs.Shades.{shade_meaning}
+use Rattle.vx_watched.specs.Traces.{TellsLess}
 use Rattle.vx_grouped.specs.Away.{AllHave}
+use Rattle.vx_grouped.specs.Copied.{CopiesRegions}
 use Rattle.vx_grouped.specs.ConfigMoves.{AttDone, AttFails, CleansPlexes, DetDone, DetFails, LosesSome}
 use Rattle.vx_grouped.specs.GroupNotes.{NotesConfig}
-use Rattle.vx_grouped.specs.GroupSites.{AwayNoted, CutNoted, DownNoted, GroupSiteStands, UpNoted, deported_with, site_config, site_disks, with_note}
+use Rattle.vx_grouped.specs.GroupSites.{AwayNoted, CutNoted, DownNoted, GroupSiteStands, UpNoted, deported_with, site_below, site_config, site_disks, with_note}
 use Rattle.vx_grouped.specs.Plain.{ReadsPlain}
 use Rattle.vx_grouped.specs.declared.group_site.GroupSite.{GroupSite}
 use Rattle.vx_grouped.specs.declared.group_site.GroupSite.TheVariants.{Up, Deported}
@@ -55,10 +57,10 @@ module _ {R : Type 0} {g : Ghosts R} where
     pub cut : (n : Node) (note : GroupNode) → CutNoted n note old → CutNoted n note new
     pub stands : (n : Node) → GroupSiteStands n old → GroupSiteStands n new
 
-  -- no count of a disk changed, and contents are told as they were
+  -- no count of a disk changed, and the rack tells no more than it did
   pub record CountsAlike (old new : GroupSite R g) : Type 0 where
     pub counts : (d : ℕ) → (site_disks new).disk_faults d ≡ (site_disks old).disk_faults d
-    pub tells : (site_disks new).tells ≡ (site_disks old).tells
+    pub told : TellsLess (site_below old) (site_below new)
 
   -- the disks crashed with this pick, or nothing was done to them
   abbrev pub MayCrashSite : ℕ → GroupSite R g → GroupSite R g → Type 0
@@ -126,7 +128,7 @@ module _ {R : Type 0} {g : Ghosts R} where
 
   -- as many regions as are copied to a plex of the volume
   abbrev pub RegionsOf : GroupSite R g → ℕ → ℕ → Type 0
-  RegionsOf (Up group) vol count = count ≡ copied_regions group.core.inner.config vol
+  RegionsOf (Up group) vol count = CopiesRegions group.core.inner.config vol count
   RegionsOf other vol count = ⊥
 
   -- a plex that is detached: refused by the first test that holds

@@ -1,5 +1,5 @@
 -- How a recovery or an import of a group leaves the disks of its site.
-use Rattle.std.specs.Prelude.{◌≡◌, ◌⊎◌, ℕ, ◌<◌, ◌≤◌, Bool, true, false, [], Some, None, IsTrue, IsFalse, List, Result, Ok, Err}
+use Rattle.std.specs.Prelude.{◌≡◌, ◌⊎◌, ℕ, ◌<◌, ◌≤◌, Bool, true, false, not, [], Some, None, IsTrue, IsFalse, List, Result, Ok, Err}
 use Rattle.vx_model.specs.declared.errors.Stop.{Stop}
 use Rattle.vx_model.specs.declared.errors.Stop.TheVariants.{No as Refused, OutOfMemory}
 use Rattle.vx_model.specs.declared.no.Counted.TheVariants.{Number as Numbers}
@@ -21,8 +21,8 @@ use Rattle.vx_untold.specs.Shades.{shade_meaning}
 use Rattle.vx_untold.specs.declared.shade.Shade.{Shade}
 use Rattle.vx_watched.specs.Since.{FuseGoes, fuse_calls, is_rack}
 use Rattle.vx_grouped.specs.ConfigMoves.{ConfigBack}
-use Rattle.vx_grouped.specs.GroupNotes.{NotesConfig}
-use Rattle.vx_grouped.specs.GroupSites.{AwayNoted, DownNoted, UpNoted, site_disks, with_note}
+use Rattle.vx_grouped.specs.GroupNotes.{NotesConfig, note_dimmed}
+use Rattle.vx_grouped.specs.GroupSites.{AwayNoted, DownNoted, UpNoted, dimmed_site, site_disks, with_note}
 use Rattle.vx_grouped.specs.Readies.{ready_of}
 use Rattle.vx_grouped.specs.SiteEnds.{HasNow, burned_site, stops_down}
 use Rattle.vx_grouped.specs.declared.group_site.GroupSite.{GroupSite}
@@ -34,6 +34,7 @@ pub record NoteReturns (told : Type 0) (note next : GroupNode) : Type 0 where
   pub begun : next.begun ≡ []
   pub loose : next.loose ≡ false
   pub cut : next.cut ≡ None
+  pub dark : next.dark ≡ note.dark
   pub missed : next.missed ≡ note.missed
   pub perhaps : next.perhaps ≡ note.perhaps
   pub block : (v b : ℕ) → ((next.bytes.block v b ≡ note.bytes.block v b) × (next.others v b ≡ note.others v b)) ⊎ (next.others v b ≡ [])
@@ -94,6 +95,12 @@ module _ {R : Type 0} {g : Ghosts R} where
   as_imported (Down idle) = shade_meaning g.meaning (ready_of idle.agreed idle.rack)
   as_imported other = site_disks other
 
+  -- whether it is not known from then on what they hold
+  abbrev pub is_dimmed : GroupSite R g → Bool
+  is_dimmed (Deported idle) = not idle.agreed
+  is_dimmed (Down idle) = not idle.agreed
+  is_dimmed other = false
+
   -- why an import of disks that were down was refused: what it found of them, once they were up, and left of them, before they crashed again
   pub record RefusedBetween (old : Meaning) (new : GroupSite R g) (stop : Stop) : Type 0 where
     pub first : Shade R
@@ -116,25 +123,26 @@ module _ {R : Type 0} {g : Ghosts R} where
   abbrev pub ReturnsUp : Node → GroupNode → Meaning → GroupSite R g → Type 0
   ReturnsUp n note old new = (next : GroupNode) × NoteReturns (IsTrue (site_disks new).tells) note next × UpNoted (returned_with next n) next new × ConfigReturns note next old new
 
-  -- the same of these disks, which crashed: the group is up; or it is refused, and they are down again
+  -- The same of these disks, which crashed: the group is up; or it is refused, and they are down again. Where it had begun to write it is not known what
+  -- they hold.
   abbrev pub RecoversFrom : Node → GroupNode → Meaning → GroupSite R g → Result (Unit {0}) Stop → Type 0
   RecoversFrom n note old new (Ok done) = ReturnsUp n note old new
-  RecoversFrom n note old new (Err stop) = DownNoted n note new × ImportWhy (IsTrue (site_disks new).tells) old (site_disks new) stop × (IsTrue (site_disks new).tells → RefusedBetween old new stop)
+  RecoversFrom n note old new (Err stop) = DownNoted (dimmed_site (not (stops_early stop)) note n) (note_dimmed (not (stops_early stop)) note) new × ImportWhy (IsTrue (site_disks new).tells) old (site_disks new) stop × (IsTrue (site_disks new).tells → RefusedBetween old new stop)
 
   -- What a refused import leaves: the disks by themselves, without a fuse where it had begun to write; or they are down, as it ran out.
   abbrev pub ImportRefused : Bool → Node → GroupNode → Meaning → GroupSite R g → Stop → Type 0
-  ImportRefused true n note old new stop = DownNoted (crashed (returned_with note n) 0) note new × IsFused n.fuse
+  ImportRefused true n note old new stop = DownNoted (crashed (returned_with (note_dimmed true note) n) 0) (note_dimmed true note) new × IsFused n.fuse
   ImportRefused false n note old new stop =
-      AwayNoted (burned_site n) note new × (IsFalse (site_disks new).armed ⊎ KeepsFuse old (site_disks new)) × ImportWhy (IsTrue (site_disks new).tells) old (site_disks new) stop
+      AwayNoted (burned_site (dimmed_site (not (stops_early stop)) note n)) (note_dimmed (not (stops_early stop)) note) new × (IsFalse (site_disks new).armed ⊎ KeepsFuse old (site_disks new)) × ImportWhy (IsTrue (site_disks new).tells) old (site_disks new) stop
 
   abbrev pub ImportsFrom : Node → GroupNode → Meaning → GroupSite R g → Result (Unit {0}) Stop → Type 0
   ImportsFrom n note old new (Ok done) = ReturnsUp n note old new × KeepsFuse old (site_disks new)
   ImportsFrom n note old new (Err stop) = ImportRefused (stops_down stop) n note old new stop
 
-  -- A recovery of a site that crashed: its group is up. Refused, its disks are down again.
+  -- A recovery of a site that crashed: its group is up. Refused, its disks are down again. Where imports may disagree it is not known what they hold.
   abbrev pub SiteRecovers : Node → GroupNode → GroupSite R g → GroupSite R g → Result (Unit {0}) Stop → Type 0
-  SiteRecovers n note old new r = RecoversFrom n note (as_imported old) new r
+  SiteRecovers n note old new r = RecoversFrom (dimmed_site (is_dimmed old) note n) (note_dimmed (is_dimmed old) note) (as_imported old) new r
 
   -- An import of a site that was deported: its group is up. Refused, its disks are by themselves still; or its fuse ran out, and they are down.
   abbrev pub SiteImports : Node → GroupNode → GroupSite R g → GroupSite R g → Result (Unit {0}) Stop → Type 0
-  SiteImports n note old new r = ImportsFrom n note (as_imported old) new r
+  SiteImports n note old new r = ImportsFrom (dimmed_site (is_dimmed old) note n) (note_dimmed (is_dimmed old) note) (as_imported old) new r

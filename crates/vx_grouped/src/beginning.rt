@@ -4,20 +4,25 @@ ghost use Rattle.vx_history.specs.World.{Node};
 ghost use Rattle.vx_model.specs.declared.limits.TheConstants.{MOST_DISKS};
 ghost use Rattle.vx_group.specs.Creates.{IsNewGroup};
 ghost use Rattle.vx_grouped.specs.Begins.{BeginRefuses, BeginsGroup, CanBegin, CreateSince};
-ghost use Rattle.vx_grouped.specs.GroupSites.{site_disks};
+ghost use Rattle.vx_grouped.specs.GroupSites.{site_below, site_disks};
 ghost use Rattle.vx_watched.specs.Since.{CalledSince};
+ghost use Rattle.vx_watched.specs.Traces.{TellsLess};
 
 use crate::{GroupSite, Laid};
 use std::alloc::Global;
 use std::marker::Brand;
 use vx_disk::Rack;
-use vx_group::Group;
+use vx_loggroup::{LoggedGroup, Opened};
 use vx_model::limits::MOST_DISKS;
 use vx_model::{No, Stop};
 use vx_untold::Shade;
 use vx_watched::{Begun, Watched};
 
-fn create_from<B: Begun, R: Rack>(alloc: Global, rack: R, site: u32) -> Result<Group<R>, (R, Stop)>
+fn create_from<B: Begun, R: Rack>(
+    alloc: Global,
+    rack: R,
+    site: u32,
+) -> Result<LoggedGroup<R>, (R, Stop)>
     requires some { 0 < (R.meaning rack).units }
     requires few { (R.meaning rack).units ≤ MOST_DISKS }
     requires since { CalledSince B.first (R.meaning rack) }
@@ -26,19 +31,19 @@ fn create_from<B: Begun, R: Rack>(alloc: Global, rack: R, site: u32) -> Result<G
     ensures since { CreateSince B.first (λ s. R.meaning s) (λ g. g.shelf) result }
 {
     let watched = Watched::<R, B>::over(rack);
-    let made = Group::create(alloc, watched, site);
+    let made = LoggedGroup::create(alloc, watched, site);
     match made {
         Ok(group) => {
-            let (watched, core) = group.apart();
+            let (watched, rest) = group.apart();
             let rack = watched.into_shelf();
-            Ok(Group::together(rack, core))
+            Ok(LoggedGroup::together(rack, rest))
         }
         Err((watched, stop)) => Err((watched.into_shelf(), stop)),
     }
 }
 
 // A group without volumes, made of the disks of a rack, whose calls it accounts for.
-fn create_watched<R: Rack>(alloc: Global, rack: R, site: u32) -> Result<Group<R>, (R, Stop)>
+fn create_watched<R: Rack>(alloc: Global, rack: R, site: u32) -> Result<LoggedGroup<R>, (R, Stop)>
     requires some { 0 < (R.meaning rack).units }
     requires few { (R.meaning rack).units ≤ MOST_DISKS }
     ensures made { IfOk result (λ g. IsNewGroup site g.core.inner (R.meaning g.shelf) × (g.core.held ≡ None)) }
@@ -49,14 +54,25 @@ fn create_watched<R: Rack>(alloc: Global, rack: R, site: u32) -> Result<Group<R>
 }
 
 // A group on disks of which the contents are told.
-fn brightened<R: Rack>(group: Group<R>) -> Laid<R>
+fn brightened<R: Rack>(group: LoggedGroup<R>) -> Laid<R>
     ensures core { result.core ≡ group.core }
     ensures shelf { result.shelf ≡ Shade.Bright group.shelf }
 {
-    let (rack, core) = group.apart();
+    let (rack, rest) = group.apart();
+    let Opened {
+        core,
+        logs,
+        alike,
+        fresh,
+        stopped,
+    } = rest;
     Laid {
         shelf: Shade::Bright(rack),
         core,
+        logs,
+        alike,
+        fresh,
+        stopped,
     }
 }
 
@@ -67,6 +83,7 @@ fn brightened<R: Rack>(group: Group<R>) -> Laid<R>
 pub fn begin_group<R: Rack>(alloc: Global, rack: R, site: u32) -> (GroupSite<R>, Result<(), Stop>)
     ensures begun { (n : Node) → CanBegin n (R.meaning rack) → BeginsGroup site n (R.meaning rack) result.0 result.1 }
     ensures since { CalledSince (R.meaning rack) (site_disks result.0) }
+    ensures told { TellsLess (R.meaning rack) (site_below result.0) }
 {
     let disks = rack.units();
     if disks == 0 || disks > MOST_DISKS {

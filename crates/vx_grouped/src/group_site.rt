@@ -7,6 +7,7 @@ ghost use Rattle.vx_history.specs.Steps.{crashed};
 ghost use Rattle.vx_history.specs.World.{FuseSet, Node};
 
 use crate::{Idle, Laid};
+use std::mem;
 use vx_config::Config;
 use vx_disk::{Rack, Shelf};
 
@@ -25,7 +26,8 @@ pub enum GroupSite<R: Rack> {
 }
 
 impl<R: Rack> GroupSite<R> {
-    ghost use Rattle.vx_grouped.specs.GroupSites.{CutNoted, DownNoted, GroupSiteStands, UpNoted, site_agrees, site_config, site_disks};
+    ghost use Rattle.vx_grouped.specs.GroupSites.{CutNoted, DownNoted, GroupSiteStands, UpNoted, site_agrees, site_below, site_config, site_disks};
+    ghost use Rattle.vx_watched.specs.Traces.{TellsLess};
     ghost use Rattle.vx_grouped.specs.SiteEnds.{CountsAlike, MayCrashSite, StaysAlike};
 
     /// How many disks it has.
@@ -68,17 +70,30 @@ impl<R: Rack> GroupSite<R> {
         ensures asked { disk < (site_disks self.old).units → WithDisks (site_disks self.old).disks (site_disks self.new).disks (λ o n. Untouched o n × (n.failing disk ≡ on) × ((u : ℕ) → u ≢ disk → n.failing u ≡ o.failing u)) }
         ensures later { CountsAlike self.old self.new }
     {
+        if disk >= self.disks() as u64 {
+            return;
+        }
+        let site = mem::replace(self, GroupSite::Gone).failing(disk as u32, on);
+        *self = site;
+    }
+
+    // The same of one of its disks.
+    fn failing(self, disk: u32, on: bool) -> GroupSite<R>
+        requires { disk < (site_disks self).units }
+        ensures stands { StaysAlike self result }
+        ensures asked { WithDisks (site_disks self).disks (site_disks result).disks (λ o n. Untouched o n × (n.failing disk ≡ on) × ((u : ℕ) → u ≢ disk → n.failing u ≡ o.failing u)) }
+        ensures later { CountsAlike self result }
+    {
         match self {
-            GroupSite::Up(group) if disk < group.shelf.units() as u64 => group.fail(
-                disk as u32,
-                on,
-            ),
-            GroupSite::Deported(idle) if disk < idle.rack.units() as u64 => {
-                idle.fail(disk as u32, on)
+            GroupSite::Up(group) => GroupSite::Up(group.fail(disk, on)),
+            GroupSite::Deported(idle) => GroupSite::Deported(idle.fail(disk, on)),
+            GroupSite::Down(idle) => GroupSite::Down(idle.fail(disk, on)),
+            GroupSite::Marked(rack) => {
+                let mut rack = rack;
+                rack.fail(disk, on);
+                GroupSite::Marked(rack)
             }
-            GroupSite::Down(idle) if disk < idle.rack.units() as u64 => idle.fail(disk as u32, on),
-            GroupSite::Marked(rack) if disk < rack.units() as u64 => rack.fail(disk as u32, on),
-            _ => {}
+            GroupSite::Gone => GroupSite::Gone,
         }
     }
 
@@ -88,9 +103,13 @@ impl<R: Rack> GroupSite<R> {
         ensures asked { (n : Node) (note : GroupNode) → UpNoted n note self.old → OnDisks (site_disks self.old).disks (site_disks self.new).disks (λ o n. SameBlocks o n × (n.fuse ≡ Some (calls, pick))) }
         ensures later { CountsAlike self.old self.new }
     {
-        match self {
-            GroupSite::Up(group) => group.fuse(calls, pick),
-            _ => {}
+        match mem::replace(self, GroupSite::Gone) {
+            GroupSite::Up(group) => {
+                *self = GroupSite::Up(group.fuse(calls, pick));
+            }
+            other => {
+                *self = other;
+            }
         }
     }
 
@@ -100,6 +119,7 @@ impl<R: Rack> GroupSite<R> {
         ensures cut { (n : Node) (note : GroupNode) → CutNoted n note self → DownNoted (crashed n 0) note result }
         ensures asked { (n : Node) (note : GroupNode) → UpNoted n note self → OnDisks (site_disks self).disks (site_disks result).disks (Crashed (site_disks self).size pick) }
         ensures stopped { MayCrashSite pick self result }
+        ensures told { TellsLess (site_below self) (site_below result) }
     {
         match self {
             GroupSite::Up(group) => GroupSite::Down(group.crash(pick)),

@@ -1,12 +1,18 @@
 // A group that is up on the disks of a site.
 ghost use Rattle.std.specs.Prelude.{◌≡◌, ◌≢◌, ◌<◌, ℕ, IsTrue, Some};
-ghost use Rattle.vx_group.specs.Holding.{GroupStands};
+ghost use Rattle.vx_loggroup.specs.Facts.{LoggedFact};
+ghost use Rattle.vx_loggroup.specs.Fresh.{FreshStands};
 ghost use Rattle.vx_untold.specs.Shades.{shade_meaning};
 
 use crate::Idle;
+use crate::racking::{crash_laid, fail_laid, fuse_laid};
+use std::marker::Brand;
 use vx_config::{Config, encode_into, is_short};
 use vx_disk::{Rack, Shelf};
-use vx_group::{Group, GroupCore, crash_in, fail_in, fuse_in};
+use vx_group::GroupCore;
+use vx_loggroup::{LoggedGroup, Opened};
+use vx_logs::Logs;
+use vx_model::limits::MOST_VOLUMES;
 use vx_untold::Shade;
 
 // The most bytes of a configuration.
@@ -17,7 +23,16 @@ const MOST_BYTES: usize = 65024;
 pub struct Laid<R: Rack> {
     pub shelf: Shade<R>,
     pub core: GroupCore,
-    pub ghost stands: { GroupStands core (shade_meaning (λ s. R.meaning s) shelf) },
+    /// Of each volume its logs.
+    pub logs: Vec<Logs>,
+    /// Of each volume whether its plexes are alike.
+    pub alike: [bool; MOST_VOLUMES],
+    /// Of each volume whether its logs may begin.
+    pub fresh: [bool; MOST_VOLUMES],
+    /// Logs are stopped, as no serial is left to commit that one is lost.
+    pub stopped: bool,
+    pub ghost stands: { LoggedFact core logs.items alike stopped (shade_meaning (λ s. R.meaning s) shelf) },
+    pub ghost begins: { FreshStands core fresh (shade_meaning (λ s. R.meaning s) shelf) },
 }
 
 impl<R: Rack> Laid<R> {
@@ -35,22 +50,47 @@ impl<R: Rack> Laid<R> {
     ghost use Rattle.vx_history.specs.Groups.{GroupNode};
     ghost use Rattle.vx_history.specs.World.{Node};
     ghost use Rattle.vx_model.specs.declared.site.SiteState.TheVariants.{Down as DownState};
+    ghost use Rattle.vx_untold.specs.Shades.{rack_of};
+    ghost use Rattle.vx_watched.specs.Traces.{TellsLess};
 
     /// The parts of a group. It makes no device call.
-    pub fn of(group: Group<Shade<R>>) -> Laid<R>
+    pub fn of(group: LoggedGroup<Shade<R>>) -> Laid<R>
         ensures shelf { result.shelf ≡ group.shelf }
         ensures core { result.core ≡ group.core }
     {
-        let (shelf, core) = group.apart();
-        Laid { shelf, core }
+        let (shelf, rest) = group.apart();
+        let Opened {
+            core,
+            logs,
+            alike,
+            fresh,
+            stopped,
+        } = rest;
+        Laid {
+            shelf,
+            core,
+            logs,
+            alike,
+            fresh,
+            stopped,
+        }
     }
 
     /// The group. It makes no device call.
-    pub fn together(self) -> Group<Shade<R>>
+    pub fn together(self) -> LoggedGroup<Shade<R>>
         ensures shelf { result.shelf ≡ self.shelf }
         ensures core { result.core ≡ self.core }
     {
-        Group::together(self.shelf, self.core)
+        LoggedGroup::together(
+            self.shelf,
+            Opened {
+                core: self.core,
+                logs: self.logs,
+                alike: self.alike,
+                fresh: self.fresh,
+                stopped: self.stopped,
+            },
+        )
     }
 
     /// The configuration.
@@ -106,38 +146,39 @@ impl<R: Rack> Laid<R> {
     }
 
     /// Makes each later call on a disk fail, or ends that.
-    pub fn fail(&mut self, disk: u32, on: bool)
-        requires { disk < (shade_meaning (λ s. R.meaning s) self.old.shelf).units }
-        ensures core { self.new.core ≡ self.old.core }
-        ensures alike { Alike (shade_meaning (λ s. R.meaning s) self.old.shelf) (shade_meaning (λ s. R.meaning s) self.new.shelf) }
-        ensures down { (shade_meaning (λ s. R.meaning s) self.new.shelf).down ≡ (shade_meaning (λ s. R.meaning s) self.old.shelf).down }
-        ensures armed { (shade_meaning (λ s. R.meaning s) self.new.shelf).armed ≡ (shade_meaning (λ s. R.meaning s) self.old.shelf).armed }
-        ensures disks { WithDisks (shade_meaning (λ s. R.meaning s) self.old.shelf).disks (shade_meaning (λ s. R.meaning s) self.new.shelf).disks (λ o n. Untouched o n × (n.failing disk ≡ on) × ((u : ℕ) → u ≢ disk → n.failing u ≡ o.failing u)) }
-        ensures volumes { Alike (inner_meaning (wide self.old.core) (shade_meaning (λ s. R.meaning s) self.old.shelf)) (inner_meaning (wide self.new.core) (shade_meaning (λ s. R.meaning s) self.new.shelf)) }
+    pub fn fail(self, disk: u32, on: bool) -> Laid<R>
+        requires { disk < (shade_meaning (λ s. R.meaning s) self.shelf).units }
+        ensures core { result.core ≡ self.core }
+        ensures alike { Alike (shade_meaning (λ s. R.meaning s) self.shelf) (shade_meaning (λ s. R.meaning s) result.shelf) }
+        ensures down { (shade_meaning (λ s. R.meaning s) result.shelf).down ≡ (shade_meaning (λ s. R.meaning s) self.shelf).down }
+        ensures armed { (shade_meaning (λ s. R.meaning s) result.shelf).armed ≡ (shade_meaning (λ s. R.meaning s) self.shelf).armed }
+        ensures disks { WithDisks (shade_meaning (λ s. R.meaning s) self.shelf).disks (shade_meaning (λ s. R.meaning s) result.shelf).disks (λ o n. Untouched o n × (n.failing disk ≡ on) × ((u : ℕ) → u ≢ disk → n.failing u ≡ o.failing u)) }
+        ensures volumes { Alike (inner_meaning (wide self.core) (shade_meaning (λ s. R.meaning s) self.shelf)) (inner_meaning (wide result.core) (shade_meaning (λ s. R.meaning s) result.shelf)) }
+        ensures told { TellsLess (R.meaning (rack_of self.shelf)) (R.meaning (rack_of result.shelf)) }
     {
-        fail_in(&mut self.shelf, &self.core, disk, on);
+        fail_laid::<Brand, R>(self, disk, on)
     }
 
     /// Lets that many writes and flushes of the disks pass; the next is a crash.
-    pub fn fuse(&mut self, calls: u64, pick: u64)
-        ensures core { self.new.core ≡ self.old.core }
-        ensures alike { Alike (shade_meaning (λ s. R.meaning s) self.old.shelf) (shade_meaning (λ s. R.meaning s) self.new.shelf) }
-        ensures down { (shade_meaning (λ s. R.meaning s) self.new.shelf).down ≡ (shade_meaning (λ s. R.meaning s) self.old.shelf).down }
-        ensures disks { OnDisks (shade_meaning (λ s. R.meaning s) self.old.shelf).disks (shade_meaning (λ s. R.meaning s) self.new.shelf).disks (λ o n. SameBlocks o n × (n.fuse ≡ Some (calls, pick))) }
-        ensures volumes { Alike (inner_meaning (wide self.old.core) (shade_meaning (λ s. R.meaning s) self.old.shelf)) (inner_meaning (wide self.new.core) (shade_meaning (λ s. R.meaning s) self.new.shelf)) }
+    pub fn fuse(self, calls: u64, pick: u64) -> Laid<R>
+        ensures core { result.core ≡ self.core }
+        ensures alike { Alike (shade_meaning (λ s. R.meaning s) self.shelf) (shade_meaning (λ s. R.meaning s) result.shelf) }
+        ensures down { (shade_meaning (λ s. R.meaning s) result.shelf).down ≡ (shade_meaning (λ s. R.meaning s) self.shelf).down }
+        ensures disks { OnDisks (shade_meaning (λ s. R.meaning s) self.shelf).disks (shade_meaning (λ s. R.meaning s) result.shelf).disks (λ o n. SameBlocks o n × (n.fuse ≡ Some (calls, pick))) }
+        ensures volumes { Alike (inner_meaning (wide self.core) (shade_meaning (λ s. R.meaning s) self.shelf)) (inner_meaning (wide result.core) (shade_meaning (λ s. R.meaning s) result.shelf)) }
+        ensures told { TellsLess (R.meaning (rack_of self.shelf)) (R.meaning (rack_of result.shelf)) }
     {
-        fuse_in(&mut self.shelf, &self.core, calls, pick);
+        fuse_laid::<Brand, R>(self, calls, pick)
     }
 
     /// Crashes the disks, up or down, and hands them out, with whether imports of them agree.
     pub fn crash(self, pick: u64) -> Idle<R>
         ensures away { (n : Node) (note : GroupNode) → GroupLies n note self.core (shade_meaning (λ s. R.meaning s) self.shelf) → IsAwayAt (record n { state = DownState }) note self.core.inner.config (shade_meaning (λ s. R.meaning s) result.rack) }
         ensures stopped { Stopped (shade_meaning (λ s. R.meaning s) self.shelf) (shade_meaning (λ s. R.meaning s) result.rack) }
+        ensures agreed { result.agreed ≡ self.core.inner.agreed }
         ensures disks { OnDisks (shade_meaning (λ s. R.meaning s) self.shelf).disks (shade_meaning (λ s. R.meaning s) result.rack).disks (Crashed (shade_meaning (λ s. R.meaning s) self.shelf).size pick) }
+        ensures told { TellsLess (R.meaning (rack_of self.shelf)) (R.meaning (rack_of result.rack)) }
     {
-        let mut shelf = self.shelf;
-        let core = self.core;
-        crash_in(&mut shelf, &core, pick);
-        Idle::of(shelf, core.inner.agreed)
+        crash_laid::<Brand, R>(self, pick)
     }
 }

@@ -5,41 +5,69 @@ ghost use Rattle.vx_history.specs.Groups.{GroupNode};
 ghost use Rattle.vx_history.specs.World.{Node};
 ghost use Rattle.vx_group.specs.Holding.{wide};
 ghost use Rattle.vx_group.specs.Stands.{inner_meaning};
-ghost use Rattle.vx_grouped.specs.GroupSites.{FitsPlain, GroupUp, UpNoted, site_disks};
+ghost use Rattle.vx_grouped.specs.GroupSites.{FitsPlain, GroupUp, UpNoted, site_below, site_disks};
 ghost use Rattle.vx_grouped.specs.SiteKeeps.{PlainKeeps, PlainKept};
-ghost use Rattle.vx_untold.specs.Shades.{shade_meaning};
+ghost use Rattle.vx_untold.specs.Shades.{rack_of, shade_meaning};
 ghost use Rattle.vx_watched.specs.Since.{CalledSince};
+ghost use Rattle.vx_watched.specs.Traces.{TellsLess};
 
 use crate::keeping::kept_plain;
+use crate::tracing::{trace, untrace};
 use crate::{GroupSite, Laid};
 use std::marker::Brand;
 use std::mem;
 use vx_disk::Rack;
-use vx_group::Group;
+use vx_loggroup::LoggedGroup;
 use vx_model::No;
 use vx_model::limits::{MOST_CALL_BLOCKS, MOST_CALL_BYTES};
 use vx_untold::Shade;
-use vx_watched::{Begun, Watched};
+use vx_watched::{Begun, Traced, Watched};
 
 fn kept_from<B: Begun, R: Rack>(
-    group: Group<R>,
+    group: LoggedGroup<R>,
     vol: u32,
     block: u64,
     bytes: &[u8],
-) -> (Group<R>, Result<[bool; MOST_CALL_BLOCKS as usize], No>)
+) -> (
+    LoggedGroup<R>,
+    Result<[bool; MOST_CALL_BLOCKS as usize], No>,
+)
     requires fits { Fits (inner_meaning (wide group.core) (R.meaning group.shelf)) vol block (length bytes.now) }
     requires few { length bytes.now ≤ MOST_CALL_BYTES }
     requires since { CalledSince B.first (R.meaning group.shelf) }
     ensures works { PlainKeeps vol block bytes.now group.core (R.meaning group.shelf) result.0.core (R.meaning result.0.shelf) result.1 }
     ensures since { CalledSince B.first (R.meaning result.0.shelf) }
 {
-    let (rack, core) = group.apart();
+    let (rack, rest) = group.apart();
     let watched = Watched::<R, B>::over(rack);
-    let mut group = Group::together(watched, core);
+    let mut group = LoggedGroup::together(watched, rest);
     let answer = kept_plain(&mut group, vol, block, bytes);
-    let (watched, core) = group.apart();
+    let (watched, rest) = group.apart();
     let rack = watched.into_shelf();
-    (Group::together(rack, core), answer)
+    (LoggedGroup::together(rack, rest), answer)
+}
+
+// The same over the disks of a site, of which contents are told or not.
+fn kept_traced<C: Begun, R: Rack>(
+    laid: Laid<R>,
+    vol: u32,
+    block: u64,
+    bytes: &[u8],
+) -> (Laid<R>, Result<[bool; MOST_CALL_BLOCKS as usize], No>)
+    requires fits { Fits (inner_meaning (wide laid.core) (shade_meaning (λ s. R.meaning s) laid.shelf)) vol block (length bytes.now) }
+    requires few { length bytes.now ≤ MOST_CALL_BYTES }
+    requires told { TellsLess C.first (R.meaning (rack_of laid.shelf)) }
+    ensures works { PlainKeeps vol block bytes.now laid.core (shade_meaning (λ s. R.meaning s) laid.shelf) result.0.core (shade_meaning (λ s. R.meaning s) result.0.shelf) result.1 }
+    ensures since { CalledSince (shade_meaning (λ s. R.meaning s) laid.shelf) (shade_meaning (λ s. R.meaning s) result.0.shelf) }
+    ensures told { TellsLess C.first (R.meaning (rack_of result.0.shelf)) }
+{
+    let (group, answer) = kept_from::<Brand, Shade<Traced<R, C>>>(
+        trace::<C, R>(laid),
+        vol,
+        block,
+        bytes,
+    );
+    (untrace(group), answer)
 }
 
 // Reads the blocks of a write of a volume.
@@ -53,9 +81,9 @@ fn kept_watched<R: Rack>(
     requires few { length bytes.now ≤ MOST_CALL_BYTES }
     ensures works { PlainKeeps vol block bytes.now laid.core (shade_meaning (λ s. R.meaning s) laid.shelf) result.0.core (shade_meaning (λ s. R.meaning s) result.0.shelf) result.1 }
     ensures since { CalledSince (shade_meaning (λ s. R.meaning s) laid.shelf) (shade_meaning (λ s. R.meaning s) result.0.shelf) }
+    ensures told { TellsLess (R.meaning (rack_of laid.shelf)) (R.meaning (rack_of result.0.shelf)) }
 {
-    let (group, answer) = kept_from::<Brand, Shade<R>>(laid.together(), vol, block, bytes);
-    (Laid::of(group), answer)
+    kept_traced::<Brand, R>(laid, vol, block, bytes)
 }
 
 // Reads the blocks of a write of a volume, and says which it has.
@@ -66,8 +94,9 @@ fn kept_site<R: Rack>(
     bytes: &[u8],
 ) -> (GroupSite<R>, Result<[bool; MOST_CALL_BLOCKS as usize], No>)
     requires few { length bytes.now ≤ MOST_CALL_BYTES }
-    ensures kept { (n : Node) (note : GroupNode) → GroupUp n note laid.core (shade_meaning (λ s. R.meaning s) laid.shelf) → FitsPlain note vol block (length bytes.now) → PlainKept n note vol block bytes.now (GroupSite.Up laid) result.0 result.1 }
+    ensures kept { (n : Node) (note : GroupNode) → GroupUp n note (R.meaning (rack_of laid.shelf)).tells laid.core (shade_meaning (λ s. R.meaning s) laid.shelf) → FitsPlain note vol block (length bytes.now) → PlainKept n note vol block bytes.now (GroupSite.Up laid) result.0 result.1 }
     ensures since { CalledSince (shade_meaning (λ s. R.meaning s) laid.shelf) (site_disks result.0) }
+    ensures told { TellsLess (R.meaning (rack_of laid.shelf)) (site_below result.0) }
 {
     if !laid.fits(vol, block, bytes.len()) {
         return (GroupSite::Up(laid), Err(No::Role));
@@ -92,6 +121,7 @@ impl<R: Rack> GroupSite<R> {
         requires few { length bytes.now ≤ MOST_CALL_BYTES }
         ensures kept { (n : Node) (note : GroupNode) → UpNoted n note self.old → FitsPlain note vol block (length bytes.now) → PlainKept n note vol block bytes.now self.old self.new result }
         ensures since { CalledSince (site_disks self.old) (site_disks self.new) }
+        ensures told { TellsLess (site_below self.old) (site_below self.new) }
     {
         match mem::replace(self, GroupSite::Gone) {
             GroupSite::Up(group) => {

@@ -5,30 +5,32 @@ ghost use Rattle.vx_history.specs.World.{Node};
 ghost use Rattle.vx_model.specs.declared.errors.Stop.TheVariants.{No as Refused};
 ghost use Rattle.vx_model.specs.declared.no.No.{No as NoValue};
 ghost use Rattle.vx_grouped.specs.Added.{IsUnmoved};
-ghost use Rattle.vx_grouped.specs.GroupSites.{GroupUp, UpNoted, site_disks};
+ghost use Rattle.vx_grouped.specs.GroupSites.{GroupUp, UpNoted, site_below, site_disks};
 ghost use Rattle.vx_grouped.specs.SiteAdds.{MakesVolume, SiteAdded, VolumeIn, refuses_volume};
-ghost use Rattle.vx_untold.specs.Shades.{shade_meaning};
+ghost use Rattle.vx_untold.specs.Shades.{rack_of, shade_meaning};
 ghost use Rattle.vx_watched.specs.Since.{CalledSince};
+ghost use Rattle.vx_watched.specs.Traces.{TellsLess};
 
 use crate::making::make_volume_of;
 use crate::site_plexes::is_down_stop;
+use crate::tracing::{trace, untrace};
 use crate::{GroupSite, Laid};
 use std::alloc::Global;
 use std::marker::Brand;
 use std::mem;
 use vx_disk::Rack;
-use vx_group::Group;
 use vx_layout::Shape;
+use vx_loggroup::LoggedGroup;
 use vx_model::{Name, No, Stop};
 use vx_untold::Shade;
-use vx_watched::{Begun, Watched};
+use vx_watched::{Begun, Traced, Watched};
 
 fn make_from<B: Begun, R: Rack>(
     alloc: Global,
-    group: Group<R>,
+    group: LoggedGroup<R>,
     name: &Name,
     want: &Shape,
-) -> (Group<R>, Result<u32, Stop>)
+) -> (LoggedGroup<R>, Result<u32, Stop>)
     requires up { IsTrue (R.meaning group.shelf).down → ⊥ }
     requires prefer { IfSome want.now.prefer (λ p. p < want.now.mirrors) }
     requires since { CalledSince B.first (R.meaning group.shelf) }
@@ -36,13 +38,37 @@ fn make_from<B: Begun, R: Rack>(
     ensures still { IsUnmoved result.1 ((result.0.core ≡ group.core) × (result.0.shelf ≡ group.shelf)) }
     ensures since { CalledSince B.first (R.meaning result.0.shelf) }
 {
-    let (rack, core) = group.apart();
+    let (rack, rest) = group.apart();
     let watched = Watched::<R, B>::over(rack);
-    let mut group = Group::together(watched, core);
+    let mut group = LoggedGroup::together(watched, rest);
     let answer = make_volume_of(alloc, &mut group, name, want);
-    let (watched, core) = group.apart();
+    let (watched, rest) = group.apart();
     let rack = watched.into_shelf();
-    (Group::together(rack, core), answer)
+    (LoggedGroup::together(rack, rest), answer)
+}
+
+// The same over the disks of a site, of which contents are told or not.
+fn make_traced<C: Begun, R: Rack>(
+    alloc: Global,
+    laid: Laid<R>,
+    name: &Name,
+    want: &Shape,
+) -> (Laid<R>, Result<u32, Stop>)
+    requires up { IsTrue (shade_meaning (λ s. R.meaning s) laid.shelf).down → ⊥ }
+    requires prefer { IfSome want.now.prefer (λ p. p < want.now.mirrors) }
+    requires told { TellsLess C.first (R.meaning (rack_of laid.shelf)) }
+    ensures works { MakesVolume name.now want.now laid.core (shade_meaning (λ s. R.meaning s) laid.shelf) result.0.core (shade_meaning (λ s. R.meaning s) result.0.shelf) result.1 }
+    ensures still { IsUnmoved result.1 ((result.0.core ≡ laid.core) × (result.0.shelf ≡ laid.shelf)) }
+    ensures since { CalledSince (shade_meaning (λ s. R.meaning s) laid.shelf) (shade_meaning (λ s. R.meaning s) result.0.shelf) }
+    ensures told { TellsLess C.first (R.meaning (rack_of result.0.shelf)) }
+{
+    let (group, answer) = make_from::<Brand, Shade<Traced<R, C>>>(
+        alloc,
+        trace::<C, R>(laid),
+        name,
+        want,
+    );
+    (untrace(group), answer)
 }
 
 // Makes a volume in a group that is up.
@@ -57,9 +83,9 @@ fn make_watched<R: Rack>(
     ensures works { MakesVolume name.now want.now laid.core (shade_meaning (λ s. R.meaning s) laid.shelf) result.0.core (shade_meaning (λ s. R.meaning s) result.0.shelf) result.1 }
     ensures still { IsUnmoved result.1 ((result.0.core ≡ laid.core) × (result.0.shelf ≡ laid.shelf)) }
     ensures since { CalledSince (shade_meaning (λ s. R.meaning s) laid.shelf) (shade_meaning (λ s. R.meaning s) result.0.shelf) }
+    ensures told { TellsLess (R.meaning (rack_of laid.shelf)) (R.meaning (rack_of result.0.shelf)) }
 {
-    let (group, answer) = make_from::<Brand, Shade<R>>(alloc, laid.together(), name, want);
-    (Laid::of(group), answer)
+    make_traced::<Brand, R>(alloc, laid, name, want)
 }
 
 // Makes a volume. A site whose fuse runs out crashes.
@@ -70,10 +96,11 @@ fn make_site<R: Rack>(
     want: &Shape,
 ) -> (GroupSite<R>, Result<u32, Stop>)
     requires prefer { IfSome want.now.prefer (λ p. p < want.now.mirrors) }
-    ensures made { (n : Node) (note : GroupNode) → GroupUp n note laid.core (shade_meaning (λ s. R.meaning s) laid.shelf) → SiteAdded n note name.now want.now (GroupSite.Up laid) result.0 result.1 }
-    ensures refused { (n : Node) (note : GroupNode) (no : NoValue) → GroupUp n note laid.core (shade_meaning (λ s. R.meaning s) laid.shelf) → refuses_volume (GroupSite.Up laid) name.now want.now ≡ Some no → result.1 ≡ Err (Refused no) }
-    ensures volume { (n : Node) (note : GroupNode) → GroupUp n note laid.core (shade_meaning (λ s. R.meaning s) laid.shelf) → IfOk result.1 (λ vol. VolumeIn name.now want.now vol (GroupSite.Up laid) result.0) }
+    ensures made { (n : Node) (note : GroupNode) → GroupUp n note (R.meaning (rack_of laid.shelf)).tells laid.core (shade_meaning (λ s. R.meaning s) laid.shelf) → SiteAdded n note name.now want.now (GroupSite.Up laid) result.0 result.1 }
+    ensures refused { (n : Node) (note : GroupNode) (no : NoValue) → GroupUp n note (R.meaning (rack_of laid.shelf)).tells laid.core (shade_meaning (λ s. R.meaning s) laid.shelf) → refuses_volume (GroupSite.Up laid) name.now want.now ≡ Some no → result.1 ≡ Err (Refused no) }
+    ensures volume { (n : Node) (note : GroupNode) → GroupUp n note (R.meaning (rack_of laid.shelf)).tells laid.core (shade_meaning (λ s. R.meaning s) laid.shelf) → IfOk result.1 (λ vol. VolumeIn name.now want.now vol (GroupSite.Up laid) result.0) }
     ensures since { CalledSince (shade_meaning (λ s. R.meaning s) laid.shelf) (site_disks result.0) }
+    ensures told { TellsLess (R.meaning (rack_of laid.shelf)) (site_below result.0) }
 {
     if laid.is_down() {
         return (GroupSite::Up(laid), Err(Stop::No(No::Role)));
@@ -103,6 +130,7 @@ impl<R: Rack> GroupSite<R> {
         ensures refused { (n : Node) (note : GroupNode) (no : NoValue) → UpNoted n note self.old → refuses_volume self.old name.now want.now ≡ Some no → result ≡ Err (Refused no) }
         ensures volume { (n : Node) (note : GroupNode) → UpNoted n note self.old → IfOk result (λ vol. VolumeIn name.now want.now vol self.old self.new) }
         ensures since { CalledSince (site_disks self.old) (site_disks self.new) }
+        ensures told { TellsLess (site_below self.old) (site_below self.new) }
     {
         match mem::replace(self, GroupSite::Gone) {
             GroupSite::Up(group) => {

@@ -3,10 +3,11 @@ ghost use Rattle.std.specs.Prelude.{◌≡◌, IsTrue, length};
 ghost use Rattle.vx_history.specs.Groups.{GroupNode};
 ghost use Rattle.vx_history.specs.World.{Node};
 ghost use Rattle.vx_grouped.specs.Ends.{plain_write};
-ghost use Rattle.vx_grouped.specs.GroupSites.{FitsPlain, GroupUp, UpNoted, site_disks};
+ghost use Rattle.vx_grouped.specs.GroupSites.{FitsPlain, GroupUp, UpNoted, site_below, site_disks};
 ghost use Rattle.vx_grouped.specs.SiteEnds.{PlainRead, PlainWrote, answers_down};
-ghost use Rattle.vx_untold.specs.Shades.{shade_meaning};
+ghost use Rattle.vx_untold.specs.Shades.{rack_of, shade_meaning};
 ghost use Rattle.vx_watched.specs.Since.{CalledSince};
+ghost use Rattle.vx_watched.specs.Traces.{TellsLess};
 
 use crate::watching::{read_watched, write_watched};
 use crate::{GroupSite, Laid};
@@ -28,8 +29,9 @@ fn write_site<R: Rack>(
     block: u64,
     bytes: &[u8],
 ) -> (GroupSite<R>, Result<(), No>)
-    ensures wrote { (n : Node) (note : GroupNode) → GroupUp n note laid.core (shade_meaning (λ s. R.meaning s) laid.shelf) → FitsPlain note vol block (length bytes.now) → PlainWrote n note (plain_write vol block bytes.now) (GroupSite.Up laid) result.0 result.1 }
+    ensures wrote { (n : Node) (note : GroupNode) → GroupUp n note (R.meaning (rack_of laid.shelf)).tells laid.core (shade_meaning (λ s. R.meaning s) laid.shelf) → FitsPlain note vol block (length bytes.now) → PlainWrote n note (plain_write vol block bytes.now) (GroupSite.Up laid) result.0 result.1 }
     ensures since { CalledSince (shade_meaning (λ s. R.meaning s) laid.shelf) (site_disks result.0) }
+    ensures told { TellsLess (R.meaning (rack_of laid.shelf)) (site_below result.0) }
 {
     if !laid.fits(vol, block, bytes.len()) {
         return (GroupSite::Up(laid), Err(No::Role));
@@ -53,8 +55,9 @@ fn read_site<R: Rack>(
     block: u64,
     into: &mut [u8],
 ) -> (GroupSite<R>, Result<(), No>)
-    ensures read { (n : Node) (note : GroupNode) → GroupUp n note laid.core (shade_meaning (λ s. R.meaning s) laid.shelf) → FitsPlain note vol block (length into.old) → PlainRead n note vol block into.new (GroupSite.Up laid) result.0 result.1 }
+    ensures read { (n : Node) (note : GroupNode) → GroupUp n note (R.meaning (rack_of laid.shelf)).tells laid.core (shade_meaning (λ s. R.meaning s) laid.shelf) → FitsPlain note vol block (length into.old) → PlainRead n note vol block into.new (GroupSite.Up laid) result.0 result.1 }
     ensures since { CalledSince (shade_meaning (λ s. R.meaning s) laid.shelf) (site_disks result.0) }
+    ensures told { TellsLess (R.meaning (rack_of laid.shelf)) (site_below result.0) }
 {
     if !laid.fits(vol, block, into.len()) {
         return (GroupSite::Up(laid), Err(No::Role));
@@ -87,6 +90,7 @@ impl<R: Rack> GroupSite<R> {
     pub fn write(&mut self, vol: u32, block: u64, bytes: &[u8]) -> Result<(), No>
         ensures wrote { (n : Node) (note : GroupNode) → UpNoted n note self.old → FitsPlain note vol block (length bytes.now) → PlainWrote n note (plain_write vol block bytes.now) self.old self.new result }
         ensures since { CalledSince (site_disks self.old) (site_disks self.new) }
+        ensures told { TellsLess (site_below self.old) (site_below self.new) }
     {
         match mem::replace(self, GroupSite::Gone) {
             GroupSite::Up(group) => {
@@ -107,6 +111,7 @@ impl<R: Rack> GroupSite<R> {
     pub fn read(&mut self, vol: u32, block: u64, into: &mut [u8]) -> Result<(), No>
         ensures read { (n : Node) (note : GroupNode) → UpNoted n note self.old → FitsPlain note vol block (length into.old) → PlainRead n note vol block into.new self.old self.new result }
         ensures since { CalledSince (site_disks self.old) (site_disks self.new) }
+        ensures told { TellsLess (site_below self.old) (site_below self.new) }
     {
         match mem::replace(self, GroupSite::Gone) {
             GroupSite::Up(group) => {

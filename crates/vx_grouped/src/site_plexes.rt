@@ -4,10 +4,11 @@ ghost use Rattle.vx_history.specs.Groups.{GroupNode};
 ghost use Rattle.vx_history.specs.World.{Node};
 ghost use Rattle.vx_model.specs.declared.errors.Stop.TheVariants.{No as Refused};
 ghost use Rattle.vx_model.specs.declared.no.No.{No as NoValue};
-ghost use Rattle.vx_grouped.specs.GroupSites.{GroupUp, UpNoted, site_disks};
+ghost use Rattle.vx_grouped.specs.GroupSites.{GroupUp, UpNoted, site_below, site_disks};
 ghost use Rattle.vx_grouped.specs.SiteEnds.{AttCalled, DetCalled, RegionsOf, is_plex_on, refuses_att, refuses_det, stops_down};
-ghost use Rattle.vx_untold.specs.Shades.{shade_meaning};
+ghost use Rattle.vx_untold.specs.Shades.{rack_of, shade_meaning};
 ghost use Rattle.vx_watched.specs.Since.{CalledSince};
+ghost use Rattle.vx_watched.specs.Traces.{TellsLess};
 
 use crate::watching::{att_watched, det_watched};
 use crate::{GroupSite, Laid};
@@ -24,11 +25,12 @@ pub(crate) fn is_down_stop(stop: &Stop) -> bool
 
 // Detaches a plex. A site whose fuse runs out crashes.
 fn det_site<R: Rack>(laid: Laid<R>, vol: u32, plex: u32) -> (GroupSite<R>, Result<(), Stop>)
-    ensures called { (n : Node) (note : GroupNode) → GroupUp n note laid.core (shade_meaning (λ s. R.meaning s) laid.shelf) → DetCalled n note vol plex (GroupSite.Up laid) result.0 result.1 }
-    ensures refused { (n : Node) (note : GroupNode) (no : NoValue) → GroupUp n note laid.core (shade_meaning (λ s. R.meaning s) laid.shelf) → refuses_det (GroupSite.Up laid) vol plex ≡ Some no → result.1 ≡ Err (Refused no) }
+    ensures called { (n : Node) (note : GroupNode) → GroupUp n note (R.meaning (rack_of laid.shelf)).tells laid.core (shade_meaning (λ s. R.meaning s) laid.shelf) → DetCalled n note vol plex (GroupSite.Up laid) result.0 result.1 }
+    ensures refused { (n : Node) (note : GroupNode) (no : NoValue) → GroupUp n note (R.meaning (rack_of laid.shelf)).tells laid.core (shade_meaning (λ s. R.meaning s) laid.shelf) → refuses_det (GroupSite.Up laid) vol plex ≡ Some no → result.1 ≡ Err (Refused no) }
     ensures off { OnOk result.1 (is_plex_on result.0 vol plex ≡ false) }
     ensures others { OnOk result.1 ((w p : ℕ) → (w ≡ vol → p ≡ plex → ⊥) → is_plex_on result.0 w p ≡ is_plex_on (GroupSite.Up laid) w p) }
     ensures since { CalledSince (shade_meaning (λ s. R.meaning s) laid.shelf) (site_disks result.0) }
+    ensures told { TellsLess (R.meaning (rack_of laid.shelf)) (site_below result.0) }
 {
     if laid.is_down() {
         return (GroupSite::Up(laid), Err(Stop::No(No::Role)));
@@ -47,13 +49,14 @@ fn det_site<R: Rack>(laid: Laid<R>, vol: u32, plex: u32) -> (GroupSite<R>, Resul
 
 // Attaches a plex. A site whose fuse runs out crashes.
 fn att_site<R: Rack>(laid: Laid<R>, vol: u32, plex: u32) -> (GroupSite<R>, Result<u64, Stop>)
-    ensures called { (n : Node) (note : GroupNode) → GroupUp n note laid.core (shade_meaning (λ s. R.meaning s) laid.shelf) → AttCalled n note vol plex (GroupSite.Up laid) result.0 result.1 }
-    ensures refused { (n : Node) (note : GroupNode) (no : NoValue) → GroupUp n note laid.core (shade_meaning (λ s. R.meaning s) laid.shelf) → refuses_att (GroupSite.Up laid) vol plex ≡ Some no → result.1 ≡ Err (Refused no) }
-    ensures already { (n : Node) (note : GroupNode) → GroupUp n note laid.core (shade_meaning (λ s. R.meaning s) laid.shelf) → refuses_att (GroupSite.Up laid) vol plex ≡ None → IsTrue (is_plex_on (GroupSite.Up laid) vol plex) → result.1 ≡ Ok 0 }
+    ensures called { (n : Node) (note : GroupNode) → GroupUp n note (R.meaning (rack_of laid.shelf)).tells laid.core (shade_meaning (λ s. R.meaning s) laid.shelf) → AttCalled n note vol plex (GroupSite.Up laid) result.0 result.1 }
+    ensures refused { (n : Node) (note : GroupNode) (no : NoValue) → GroupUp n note (R.meaning (rack_of laid.shelf)).tells laid.core (shade_meaning (λ s. R.meaning s) laid.shelf) → refuses_att (GroupSite.Up laid) vol plex ≡ Some no → result.1 ≡ Err (Refused no) }
+    ensures already { (n : Node) (note : GroupNode) → GroupUp n note (R.meaning (rack_of laid.shelf)).tells laid.core (shade_meaning (λ s. R.meaning s) laid.shelf) → refuses_att (GroupSite.Up laid) vol plex ≡ None → IsTrue (is_plex_on (GroupSite.Up laid) vol plex) → result.1 ≡ Ok 0 }
     ensures count { is_plex_on (GroupSite.Up laid) vol plex ≡ false → IfOk result.1 (λ k. RegionsOf (GroupSite.Up laid) vol k) }
     ensures on { is_plex_on (GroupSite.Up laid) vol plex ≡ false → OnOk result.1 (IsTrue (is_plex_on result.0 vol plex)) }
     ensures others { OnOk result.1 ((w p : ℕ) → (w ≡ vol → p ≡ plex → ⊥) → is_plex_on result.0 w p ≡ is_plex_on (GroupSite.Up laid) w p) }
     ensures since { CalledSince (shade_meaning (λ s. R.meaning s) laid.shelf) (site_disks result.0) }
+    ensures told { TellsLess (R.meaning (rack_of laid.shelf)) (site_below result.0) }
 {
     if laid.is_down() {
         return (GroupSite::Up(laid), Err(Stop::No(No::Role)));
@@ -81,6 +84,7 @@ impl<R: Rack> GroupSite<R> {
         ensures off { OnOk result (is_plex_on self.new vol plex ≡ false) }
         ensures others { OnOk result ((w p : ℕ) → (w ≡ vol → p ≡ plex → ⊥) → is_plex_on self.new w p ≡ is_plex_on self.old w p) }
         ensures since { CalledSince (site_disks self.old) (site_disks self.new) }
+        ensures told { TellsLess (site_below self.old) (site_below self.new) }
     {
         match mem::replace(self, GroupSite::Gone) {
             GroupSite::Up(group) => {
@@ -108,6 +112,7 @@ impl<R: Rack> GroupSite<R> {
         ensures on { is_plex_on self.old vol plex ≡ false → OnOk result (IsTrue (is_plex_on self.new vol plex)) }
         ensures others { OnOk result ((w p : ℕ) → (w ≡ vol → p ≡ plex → ⊥) → is_plex_on self.new w p ≡ is_plex_on self.old w p) }
         ensures since { CalledSince (site_disks self.old) (site_disks self.new) }
+        ensures told { TellsLess (site_below self.old) (site_below self.new) }
     {
         match mem::replace(self, GroupSite::Gone) {
             GroupSite::Up(group) => {

@@ -10,6 +10,8 @@ pub record GroupNode : Type 0 where
   pub begun : List (List ℕ)
   -- the disks may hold configurations that do not agree
   pub loose : Bool
+  -- nothing is known of what the disks hold: it came up from disks that may not have agreed, or of which nothing was noted
+  pub dark : Bool
   -- the blocks of the volumes outside the replicated volume group, by their places in the configuration
   pub bytes : Content
   -- the further values that a block of such a volume may have
@@ -39,6 +41,7 @@ note_cut x note = record (note_doubt x note) { cut = Some x }
 
 -- what is noted of the volumes, and of the regions that plexes missed, is the same
 pub record NoteSame (old new : GroupNode) : Type 0 where
+  pub dark : new.dark ≡ old.dark
   pub bytes : new.bytes ≡ old.bytes
   pub others : new.others ≡ old.others
   pub cut : new.cut ≡ old.cut

@@ -7,6 +7,7 @@ ghost use Rattle.vx_group_lines.specs.Plain.{is_group_line};
 ghost use Rattle.vx_node.specs.Works.{WorksIs};
 ghost use Rattle.vx_yard.specs.Carries.{Carries};
 ghost use Rattle.vx_yard.specs.OfSites.{AsAsked, AsSettled, HasCalled};
+ghost use Rattle.vx_script.specs.declared.line.ScriptLine.TheVariants.{Recover};
 ghost use Rattle.vx_yard.specs.Lines.{is_built};
 ghost use Rattle.vx_yard.specs.Standing.{AnswersIs, GoodFor, StandsFor};
 ghost use Rattle.vx_yard.specs.Working.{IsFree, TakesNoMemory, refused_in, takes_memory};
@@ -16,10 +17,10 @@ use crate::settled::settle_line;
 use std::alloc::Global;
 use vx_disk::Rack;
 use vx_events::Said;
-use vx_group_lines::{is_of_group, work_group};
+use vx_group_lines::{holds_group, is_of_group, recover_found, work_group};
 use vx_link_lines::{apply_line, deliver_line, work_link};
 use vx_model::limits::{BLOCK, MOST_CALL_BLOCKS};
-use vx_model::{No, OutOfMemory};
+use vx_model::{Name, No, OutOfMemory};
 use vx_net::Net;
 use vx_order::{refuse, refuse_packet};
 use vx_script::ScriptLine;
@@ -35,6 +36,26 @@ fn filled(alloc: Global, count: u64, fill: u8) -> Result<Vec<u8>, OutOfMemory>
 {
     let bytes = Vec::from_elem(alloc, fill, BLOCK * count.min(MOST_CALL_BLOCKS) as usize)?;
     Ok(bytes)
+}
+
+// Recovers a site over no group. A bare one may have a group on its disks.
+fn recover<R: Rack>(
+    yard: &mut Yard<R>,
+    alloc: Global,
+    site: &Name,
+) -> Result<Said, OutOfMemory>
+    requires kept { IsYardKept yard.old }
+    requires free { IsFree yard.old (Recover site.now) }
+    ensures leads { (d : Doubted) → StandsFor d yard.old → is_for_group d.world (Recover site.now) ≡ false → WorksIs d (Recover site.now) yard.old yard.new result }
+    ensures asked { (d : Doubted) → StandsFor d yard.old → is_for_group d.world (Recover site.now) ≡ false → AsAsked d.world (Recover site.now) yard.old yard.new }
+    ensures told { IsTold yard.new → IsTold yard.old }
+    ensures files { in_files yard.new ≡ in_files yard.old }
+{
+    if holds_group(yard, site) {
+        recover_found(yard, alloc, site)
+    } else {
+        recover_line(yard, alloc, site)
+    }
 }
 
 // Does a line that no test refuses, whole or not at all.
@@ -62,7 +83,7 @@ fn work<R: Rack>(yard: &mut Yard<R>, alloc: Global, words: &ScriptLine) -> Resul
         ScriptLine::Disk { site, disk, state } => Ok(set_disk(yard, site, *disk, *state)),
         ScriptLine::Crash { site, pick } => Ok(crash_line(yard, alloc, site, *pick)),
         ScriptLine::Fuse { site, writes, pick } => Ok(fuse_line(yard, site, *writes, *pick)),
-        ScriptLine::Recover { site } => recover_line(yard, alloc, site),
+        ScriptLine::Recover { site } => recover(yard, alloc, site),
         ScriptLine::Write {
             site,
             volume,

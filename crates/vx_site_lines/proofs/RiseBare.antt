@@ -71,16 +71,12 @@ use Rattle.vx_yard.proofs.NamedSite.{fact_of}
 use Rattle.vx_yard.proofs.NoteSite.{comes_same, one_left}
 use Rattle.vx_yard.proofs.OneSite.{Changed, Comes, beside_same, role_off, rose_at, stands_still, told_by}
 use Rattle.vx_site_lines.proofs.RawSite.{bare_at, bare_sure, raw_apart}
-use Rattle.vx_site_lines.proofs.RiseLeads.{Replaced, never_told, recover_done}
+use Rattle.vx_site_lines.proofs.RiseLeads.{Replaced, never_told}
+use Rattle.vx_yard.proofs.RecoverLine.{bare_events, recover_done}
 use Rattle.vx_site_lines.proofs.RiseLine.{effect_as, plain_of, quiet_is, row_starts, shape_at}
 use Rattle.vx_site_lines.proofs.RiseSite.{ComesUp, IsWhole, SeesDisks, up_carries, up_stands}
 use Rattle.vx_site_lines.proofs.RiseWorlds.{found_effect}
 use Rattle.vx_yard.proofs.SiteEvents.{first_choice}
-
--- its one event
-bare_events : (d : Doubted) (s : ℕ) (name : List ℕ) → site_number d.world name ≡ s → (d.world.nodes s).state ≡ IsBare → events_of d.world (Recover name) first_choice ≡ RecoverAt s None ∷ []
-bare_events d s name number bare =
-    ap (λ (k : ℕ). recovery_of (d.world.nodes k).state k first_choice.kept) number ∙ ap (λ (t : SiteState). recovery_of t s first_choice.kept) bare
 
 module _ {R : Type 0} {g : Ghosts R} where
   -- a site of which a refused event counts no header

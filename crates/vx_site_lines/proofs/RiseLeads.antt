@@ -61,23 +61,13 @@ use Rattle.vx_yard.proofs.Lists.{get-set_same}
 use Rattle.vx_yard.proofs.NamedSite.{fact_of}
 use Rattle.vx_yard.proofs.NoteSite.{comes_same}
 use Rattle.vx_yard.proofs.OneSite.{Changed, Comes, beside_same, role_off, rose_at, stands_still, told_by}
-use Rattle.vx_yard.proofs.RecoverLine.{session_fact, told_or}
+use Rattle.vx_yard.proofs.RecoverLine.{recover_done, session_fact, told_or}
 use Rattle.vx_site_lines.proofs.Apart.{fact_stays, over_as, over_is}
 use Rattle.vx_site_lines.proofs.RiseEnds.{begun_ends, found_ends, none_ends, refused_ends, rose_ends, unread_ends}
 use Rattle.vx_site_lines.proofs.RiseLine.{down_h, effect_as, fit_h, found_as, free_h, own_at, own_safe, sure, told_comes, told_kept, told_last, unfused_down, untold_comes, untold_kept}
 use Rattle.vx_site_lines.proofs.RiseSite.{ComesUp, SeesDisks, up_carries, up_stands}
 use Rattle.vx_site_lines.proofs.RiseWorlds.{behind_disks, own_gathering, own_headers, own_is, own_links, own_node, own_packets, own_session, own_sites, own_view}
 use Rattle.vx_yard.proofs.Rows.{fact_like, fact_same}
-
--- a line that recovers a site, by its number
-pub recover_done : (T : Type 0) (d next : Doubted) (s : ℕ) (name : List ℕ) (fails : Fails) (said : Said) → site_number d.world name ≡ s → Ends T d (Recover name) s fails said next
-    → IsDoneLine T d (Recover name) fails said next
-recover_done T d next s name fails said number ends = record {
-  ends = subst (λ (k : ℕ). Ends T d (Recover name) k fails said next) (sym number) ends;
-  counts = tt;
-  works = tt;
-  calls = tt;
-}
 
 module _ {R : Type 0} {g : Ghosts R} where
   -- the disk set of a site is another, and the rest of the yard is as it was

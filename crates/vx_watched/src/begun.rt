@@ -4,7 +4,7 @@ ghost use Rattle.vx_disk.specs.Shelf.{Meaning};
 use std::marker::Brand;
 
 /// A call at `Brand` picks it.
-pub trait Begun {
+pub trait Begun: Send {
     ghost first: { Meaning };
 }
 

@@ -4,7 +4,9 @@
 #![tactic(auto)]
 
 mod begun;
+mod traced;
 mod watched;
 
 pub use begun::Begun;
+pub use traced::Traced;
 pub use watched::Watched;

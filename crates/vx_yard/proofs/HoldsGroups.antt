@@ -1,23 +1,31 @@
 -- What the disks of a site over a group hold of it.
-use Rattle.std.proofs.Common.{◌≡◌, ◌∙◌, ◌<◌, inl, ℕ, zero, suc, List, [], ◌∷◌, length, subst, sym, arith, IsTrue}
-use Rattle.std.specs.Prelude.{Some, true}
+use Rattle.std.proofs.Common.{◌≡◌, ◌∙◌, ◌⊎◌, ◌<◌, ◌≤◌, inl, inr, ℕ, zero, suc, List, [], ◌∷◌, Option, length, ap, refl, subst, sym, arith, IsTrue}
+use Rattle.std.specs.Prelude.{Some, None, get_or, true}
+use Rattle.std.specs.List.{slice_get}
+use Rattle.std.proofs.lemmas.Option.{slice_get_cases}
 use Rattle.vx_model.specs.declared.site.SiteState.TheVariants.{Bare as IsBare}
 use Rattle.vx_history.specs.Groups.{BlockMay, GroupNode}
 use Rattle.vx_history.specs.World.{Node}
 use Rattle.vx_disk.specs.Shelf.{Each, Image, Lawful, Meaning}
 use Rattle.vx_disk.specs.declared.shelf.Shelf.{Ghosts}
 use Rattle.vx_config.specs.Checks.{blocks_of}
+use Rattle.vx_config.specs.Configs.{HasSpelling}
+use Rattle.vx_config.specs.Forms.{Reading}
 use Rattle.vx_config.specs.declared.config.Config.{Config}
 use Rattle.vx_config.specs.declared.entry.VolumeEntry.{VolumeEntry}
 use Rattle.vx_copyfmt.specs.Imports.{Found}
 use Rattle.vx_kept.specs.Choice.{live}
+use Rattle.vx_kept.specs.Cleans.{at_serial}
 use Rattle.vx_kept.specs.Groups.{found}
+use Rattle.vx_kept.specs.Keeping.{SameShape, frame_at, frame_or}
 use Rattle.vx_layout.specs.Places.{place}
 use Rattle.vx_volume.specs.Plexes.{Inside}
+use Rattle.vx_group.proofs.HoldLemmas.{wide_shape}
 use Rattle.vx_group.specs.Holding.{GroupStands, wide}
 use Rattle.vx_group.specs.declared.group_core.GroupCore.{GroupCore}
+use Rattle.vx_grouped.proofs.NotedLemmas.{noted_is}
 use Rattle.vx_grouped.specs.Away.{AwayLies}
-use Rattle.vx_grouped.specs.GroupNotes.{GroupLies}
+use Rattle.vx_grouped.specs.GroupNotes.{GroupLies, noted_config}
 use Rattle.vx_grouped.specs.GroupSites.{GroupSiteStands, site_disks}
 use Rattle.vx_grouped.specs.declared.group_site.GroupSite.{GroupSite}
 use Rattle.vx_grouped.specs.declared.group_site.GroupSite.TheVariants.{Up as GroupUp, Deported as GroupAway, Down as GroupDown, Marked, Gone as GroupGone}
@@ -25,8 +33,9 @@ use Rattle.vx_untold.specs.Shades.{shade_lawful, shade_meaning}
 use Rattle.vx_diskset.specs.Holds.{KeptBeside}
 use Rattle.vx_diskset.specs.Stands.{IsGroupSet}
 use Rattle.vx_diskset.specs.declared.group_set.GroupSet.{GroupSet}
-use Rattle.vx_events.proofs.Places.{some_same}
+use Rattle.vx_events.proofs.Places.{never_some, some_same}
 use Rattle.vx_events.specs.GroupLines.{is_over_group}
+use Rattle.vx_events.specs.GroupViews.{config_of, read_front}
 use Rattle.vx_yard.specs.Holds.{HoldsGroup}
 use Rattle.vx_yard.proofs.OverGroup.{bare_apart, both_ways}
 
@@ -38,10 +47,45 @@ some_volume (x ∷ vs) (suc v) b low = let more : v < length vs = some_volume vs
 inside_of : (c : Config) (v b : ℕ) → b < blocks_of c.volumes v → Inside c v b
 inside_of c v b low = record { volume = some_volume c.volumes v b low; within = low }
 
--- a group that is up
-up_holds : (n : Node) (note : GroupNode) (c : GroupCore) (m : Meaning) → GroupLies n note c m → GroupStands c m → Lawful m → HoldsGroup note m
-up_holds n note c m lies stands lawful = record { has = has }
+-- ---- the configuration that is noted
+
+-- a volume with the frame of one of c stands within c
+frame_within : (c d : Config) (v : ℕ) → frame_at d v ≡ frame_at c v → v < length d.volumes → v < length c.volumes
+frame_within c d v same low = by (slice_get_cases c.volumes v).1 (slice_get_cases d.volumes v).1
   where
+    by : ((x : VolumeEntry) × (v < length c.volumes) × (slice_get c.volumes v ≡ Some x) × (get_or c.volumes v x ≡ x)) ⊎ ((length c.volumes ≤ v) × (slice_get c.volumes v ≡ None))
+        → ((x : VolumeEntry) × (v < length d.volumes) × (slice_get d.volumes v ≡ Some x) × (get_or d.volumes v x ≡ x)) ⊎ ((length d.volumes ≤ v) × (slice_get d.volumes v ≡ None))
+        → v < length c.volumes
+    by (inl x) other = x.1
+    by (inr past) (inl y) = absurd (never_some (sym (ap (λ (o : Option VolumeEntry). frame_or o) past.1) ∙ sym same ∙ ap (λ (o : Option VolumeEntry). frame_or o) y.2))
+    by (inr past) (inr far) = absurd (omega (arith, low, far.0))
+
+-- what is noted of a configuration is read back
+read_back : (note : GroupNode) (k c : Config) → HasSpelling (at_serial 0 k) → note.config ≡ noted_config k → config_of note.config ≡ Some c → at_serial 0 k ≡ c
+unfolding noted_config
+read_back note k c spells is noted = some_same (sym (ap (λ (bytes : List ℕ). config_of bytes) is ∙ ap (λ (r : Reading Config). read_front r) (noted_is (at_serial 0 k) spells)) ∙ noted)
+
+-- what stands as in this configuration stands as in the one that is noted
+framed : (note : GroupNode) (k c x : Config) → HasSpelling (at_serial 0 k) → note.config ≡ noted_config k → config_of note.config ≡ Some c
+    → ((v : ℕ) → v < length k.volumes → frame_at x v ≡ frame_at k v) → (v : ℕ) → v < length c.volumes → frame_at x v ≡ frame_at c v
+framed note k c x spells is noted stands = subst (λ (e : Config). (v : ℕ) → v < length e.volumes → frame_at x v ≡ frame_at e v) (read_back note k c spells is noted) stands
+
+-- ---- the sites
+
+-- a group that is up
+up_holds : (n : Node) (note : GroupNode) (c : GroupCore) (m : Meaning) → HasSpelling (at_serial 0 c.inner.config) → GroupLies n note c m → GroupStands c m → Lawful m → HoldsGroup note m
+up_holds n note c m spells lies stands lawful = record {
+  finds = λ i now. stands.stands.kept.finds i (lawful.within i now);
+  volumes = λ i k x noted now is. framed note c.inner.config k x spells lies.config noted (stood i x now is);
+  has = has;
+}
+  where
+    stood : (i : Image) (x : Config) → m.now i → found m i ≡ Found x → (v : ℕ) → v < length c.inner.config.volumes → frame_at x v ≡ frame_at c.inner.config v
+    stood i x now is v low =
+        let shape : SameShape (wide c).config c.inner.config = wide_shape c in
+        let long : length (wide c).config.volumes ≡ length c.inner.config.volumes = shape.volumes in
+        (stands.stands.kept.kin i x (lawful.within i now) is).shape.frames v (omega (arith, low, long)) ∙ shape.frames v
+
     has : (i : Image) (x : Config) → m.now i → found m i ≡ Found x → (v p b : ℕ) → b < note.bytes.size v → IsTrue (live x v p) → BlockMay note v b (i (place x v p b).0 (place x v p b).1)
     has i x now is v p b low on =
         let each : Each m.leaves i = lawful.within i now in
@@ -53,23 +97,26 @@ up_holds n note c m lies stands lawful = record { has = has }
         (lies.holds.has v b (i at.0 at.1) there.volume there.within
         (inl (record { inside = there; plex = p; is_on = it.on v p there.volume on; value = each at.0 at.1 })))
 
--- one whose disks are by themselves
-away_holds : (n : Node) (note : GroupNode) (last : Config) (m : Meaning) → AwayLies n note last m → Lawful m → HoldsGroup note m
-away_holds n note last m lies lawful = record {
-  has = λ i x now is v p b low on. lies.has i x (lawful.within i now) is v p b (inside_of last v b (subst (λ (k : ℕ). b < k) (lies.sizes v) low)) on;
+-- one whose disks are by themselves: it is noted with a configuration whose volumes stand as in the last one
+away_holds : (n : Node) (note : GroupNode) (k last : Config) (m : Meaning) → HasSpelling (at_serial 0 k) → note.config ≡ noted_config k → ((v : ℕ) → frame_at k v ≡ frame_at last v) → AwayLies n note last m
+    → Lawful m → HoldsGroup note m
+away_holds n note k last m spells config frames lies lawful = record {
+  finds = λ i now. lies.finds i (lawful.within i now);
+  volumes = λ i c x noted now is. framed note k c x spells config noted (λ v low. (lies.volumes i x (lawful.within i now) is).frames v (frame_within last k v (frames v) low) ∙ sym (frames v));
+  has = λ i x now is v p b low on. lies.has i x (lawful.within i now) is v p b (inside_of last v b (subst (λ (j : ℕ). b < j) (lies.sizes v) low)) on;
 }
 
 module _ {R : Type 0} {g : Ghosts R} (lawful : (r : R) → Lawful (g.meaning r)) where
   site_holds : (n : Node) (s : GroupSite R g) (note : GroupNode) → GroupSiteStands n s → (n.state ≡ IsBare → ⊥) → n.group ≡ Some note → HoldsGroup note (site_disks s)
   site_holds n (GroupUp laid) note (k, it) made noted =
       let m : Meaning = shade_meaning g.meaning laid.shelf in
-      subst (λ (x : GroupNode). HoldsGroup x m) (some_same (sym it.noted.is ∙ noted)) (up_holds n k laid.core m it.at.lies laid.stands (shade_lawful g.meaning lawful laid.shelf))
+      subst (λ (x : GroupNode). HoldsGroup x m) (some_same (sym it.noted.is ∙ noted)) (up_holds n k laid.core m it.spells it.at.lies laid.stands.group (shade_lawful g.meaning lawful laid.shelf))
   site_holds n (GroupAway idle) note (k, it) made noted =
       let m : Meaning = shade_meaning g.meaning idle.rack in
-      subst (λ (x : GroupNode). HoldsGroup x m) (some_same (sym it.noted.is ∙ noted)) (away_holds n k it.last m it.away.lies (shade_lawful g.meaning lawful idle.rack))
+      subst (λ (x : GroupNode). HoldsGroup x m) (some_same (sym it.noted.is ∙ noted)) (away_holds n k it.newest it.last m it.spells it.away.config it.away.frames it.away.lies (shade_lawful g.meaning lawful idle.rack))
   site_holds n (GroupDown idle) note (k, it) made noted =
       let m : Meaning = shade_meaning g.meaning idle.rack in
-      subst (λ (x : GroupNode). HoldsGroup x m) (some_same (sym it.noted.is ∙ noted)) (away_holds n k it.last m it.away.lies (shade_lawful g.meaning lawful idle.rack))
+      subst (λ (x : GroupNode). HoldsGroup x m) (some_same (sym it.noted.is ∙ noted)) (away_holds n k it.last it.last m it.spells it.away.config (λ v. refl) it.away.lies (shade_lawful g.meaning lawful idle.rack))
   site_holds n (Marked rack) note it made noted = absurd (made it.state)
   site_holds n GroupGone note it made noted = absurd it
 

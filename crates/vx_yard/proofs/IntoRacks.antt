@@ -16,16 +16,16 @@ use Rattle.vx_diskset.specs.declared.disk_set.DiskSet.{DiskSet}
 use Rattle.vx_diskset.specs.declared.disk_set.DiskSet.TheVariants.{Bare, Spoiled, Up, Receives, Down, OfGroup, Gone}
 use Rattle.vx_diskset.specs.Holds.{KeptBeside, HoldsSite, most_header, state_with, beside_of}
 use Rattle.vx_history.specs.Doubts.{Doubted}
-use Rattle.vx_yard.specs.Holds.{GroupsHold, HoldsGroup, NoneOver, RacksHold, RacksTell, rack_count, rack_faults}
+use Rattle.vx_yard.specs.Holds.{GroupsHold, HoldsGroup, RacksHold, RacksTell, rack_count, rack_faults}
 use Rattle.vx_untold.specs.Shades.{shade_meaning, rack_of as shaded}
 use Rattle.vx_untold.specs.declared.shade.Shade.{Shade}
 use Rattle.vx_untold.specs.declared.shade.Shade.TheVariants.{Bright, Dark}
 use Rattle.vx_yard.proofs.HoldsGroups.{set_holds}
-use Rattle.vx_yard.proofs.OverGroup.{apart_bare, both_ways, noted_over, over_is}
+use Rattle.vx_yard.proofs.OverGroup.{apart_bare, bare_apart, both_ways, over_is}
 use Rattle.vx_diskset.specs.Layouts.{units_of}
 use Rattle.vx_yard.specs.Racks.{rack_in, racks_in, site_rack}
 use Rattle.vx_yard.specs.Stands.{AreTold, fault_count, site_faults}
-use Rattle.vx_grouped.specs.GroupSites.{GroupSiteStands, site_disks}
+use Rattle.vx_grouped.specs.GroupSites.{GroupSiteStands, site_below, site_disks}
 use Rattle.vx_grouped.specs.declared.group_site.GroupSite.{GroupSite}
 use Rattle.vx_grouped.specs.declared.group_site.GroupSite.TheVariants.{Up as GroupUp, Deported as GroupAway, Down as GroupDown, Marked, Gone as GroupGone}
 use Rattle.vx_history.specs.Groups.{GroupNode}
@@ -74,6 +74,9 @@ bare_holds n m bare = bare_has n m (ap (λ (k : Node). k.state) bare.is)
 
 some_same : {A : Type 0} {a b : A} → Some a ≡ Some b → a ≡ b
 some_same e = cc
+
+bright_as : (k note : GroupNode) → Some k ≡ Some note → note.dark ≡ false → k.dark ≡ false
+bright_as k note same bright = ap (λ (x : GroupNode). x.dark) (some_same same) ∙ bright
 
 -- one more of the last of a list has its image behind the others
 pub put_more : {A B : Type 0} (f : A → B) (sets new : List B) (racks rest : List A) (r : A) → racks ≡ rest ++ r ∷ [] → new ≡ sets ++ f r ∷ [] → new ++ map f (reverse rest) ≡ sets ++ map f (reverse racks)
@@ -156,13 +159,21 @@ module _ {R : Type 0} {g : Ghosts R} where
   disks_at (Marked rack) r tells is = ap g.meaning (some_same is)
   disks_at GroupGone r tells is = absurd (cc)
 
-  -- those of a site over no group
-  told_at : (n : Node) (s : GroupSite R g) → GroupSiteStands n s → is_over_group n ≡ false → ((r : R) → rack_at s ≡ Some r → IsTrue (g.meaning r).tells) → IsTrue (site_disks s).tells
-  told_at n (GroupUp laid) (note, it) apart f = absurd (both_ways (noted_over n note it.noted) apart)
-  told_at n (GroupAway idle) (note, it) apart f = absurd (both_ways (noted_over n note it.noted) apart)
-  told_at n (GroupDown idle) (note, it) apart f = absurd (both_ways (noted_over n note it.noted) apart)
-  told_at n (Marked rack) it apart f = f rack refl
-  told_at n GroupGone it apart f = absurd it
+  -- what is told of the rack that comes back was told of it before
+  told_at : (n : Node) (s : GroupSite R g) → GroupSiteStands n s → ((r : R) → rack_at s ≡ Some r → IsTrue (g.meaning r).tells) → IsTrue (site_below s).tells
+  told_at n (GroupUp laid) it f = f (shaded laid.shelf) refl
+  told_at n (GroupAway idle) it f = f (shaded idle.rack) refl
+  told_at n (GroupDown idle) it f = f (shaded idle.rack) refl
+  told_at n (Marked rack) it f = f rack refl
+  told_at n GroupGone it f = absurd it
+
+  -- where it is known what they hold, contents are told of the disks as the group sees them
+  lit_at : (n : Node) (s : GroupSite R g) (note : GroupNode) → GroupSiteStands n s → (n.state ≡ IsBare → ⊥) → n.group ≡ Some note → note.dark ≡ false → IsTrue (site_below s).tells → IsTrue (site_disks s).tells
+  lit_at n (GroupUp laid) note (k, it) made noted bright tells = it.lit (bright_as k note (sym it.noted.is ∙ noted) bright) tells
+  lit_at n (GroupAway idle) note (k, it) made noted bright tells = it.lit (bright_as k note (sym it.noted.is ∙ noted) bright) tells
+  lit_at n (GroupDown idle) note (k, it) made noted bright tells = it.lit (bright_as k note (sym it.noted.is ∙ noted) bright) tells
+  lit_at n (Marked rack) note it made noted bright tells = absurd (made it.state)
+  lit_at n GroupGone note it made noted bright tells = absurd it
 
   stood_at : (n : Node) (s : GroupSite R g) → GroupSiteStands n s → IsAt s
   stood_at n (GroupUp group) h = tt
@@ -254,14 +265,14 @@ module _ {R : Type 0} {g : Ghosts R} where
   unused_tells (OfGroup s) there f = absurd there
   unused_tells Gone there f = absurd there
 
-  tells_at : (beside : KeptBeside) (n : Node) (e : DiskSet R g) → SiteStands beside n e → is_over_group n ≡ false → ((r : R) → rack_of e ≡ Some r → IsTrue (g.meaning r).tells) → IsToldAt e
-  tells_at beside n (Bare rack) there apart f = f rack refl
-  tells_at beside n (Spoiled rack) there apart f = f rack refl
-  tells_at beside n (Up rvg) there apart f = f rvg.shelf refl
-  tells_at beside n (Receives s) there apart f = f s.rvg.shelf refl
-  tells_at beside n (Down rack) there apart f = f rack refl
-  tells_at beside n (OfGroup s) there apart f = told_at n s.site there.stands apart f
-  tells_at beside n Gone there apart f = absurd there
+  tells_at : (beside : KeptBeside) (n : Node) (e : DiskSet R g) → SiteStands beside n e → ((r : R) → rack_of e ≡ Some r → IsTrue (g.meaning r).tells) → IsToldAt e
+  tells_at beside n (Bare rack) there f = f rack refl
+  tells_at beside n (Spoiled rack) there f = f rack refl
+  tells_at beside n (Up rvg) there f = f rvg.shelf refl
+  tells_at beside n (Receives s) there f = f s.rvg.shelf refl
+  tells_at beside n (Down rack) there f = f rack refl
+  tells_at beside n (OfGroup s) there f = told_at n s.site there.stands f
+  tells_at beside n Gone there f = absurd there
 
   -- ---- sites that may keep links and be in doubt
 
@@ -294,13 +305,13 @@ module _ {R : Type 0} {g : Ghosts R} where
       bare_has {beside = beside} n (g.meaning r) (apart_bare beside n s (stands (OfGroup s) refl) apart)
   beside_holds lawful beside n (Some Gone) r apart stands is = absurd (cc)
 
-  beside_group : (lawful : (r : R) → Lawful (g.meaning r)) (beside : KeptBeside) (n : Node) (x : Option (DiskSet R g)) (r : R) (note : GroupNode) → is_over_group n ≡ true → n.group ≡ Some note → ((e : DiskSet R g) → x ≡ Some e → IsToldAt e)
+  beside_group : (lawful : (r : R) → Lawful (g.meaning r)) (beside : KeptBeside) (n : Node) (x : Option (DiskSet R g)) (r : R) (note : GroupNode) → is_over_group n ≡ true → n.group ≡ Some note → note.dark ≡ false → ((e : DiskSet R g) → x ≡ Some e → IsToldAt e)
       → ((e : DiskSet R g) → x ≡ Some e → SiteStands beside n e) → option_and_then rack_of x ≡ Some r → HoldsGroup note (g.meaning r)
-  beside_group lawful beside n None r note over noted told stands is = absurd (cc)
-  beside_group lawful beside n (Some e) r note over noted told stands is =
+  beside_group lawful beside n None r note over noted bright told stands is = absurd (cc)
+  beside_group lawful beside n (Some e) r note over noted bright told stands is =
       let of = over_is beside n e (stands e refl) over in
       let it : IsGroupSet beside n of.0 = subst (λ (k : DiskSet R g). SiteStands beside n k) of.1 (stands e refl) in
-      subst (λ (m : Meaning). HoldsGroup note m) (disks_at of.0.site r (subst (λ (k : DiskSet R g). IsToldAt k) of.1 (told e refl)) (ap (λ (k : DiskSet R g). rack_of k) (sym of.1) ∙ is)) (set_holds lawful beside n of.0 note it over noted)
+      subst (λ (m : Meaning). HoldsGroup note m) (disks_at of.0.site r (lit_at n of.0.site note it.stands (λ bare. both_ways over (bare_apart n (it.bare bare))) noted bright (subst (λ (k : DiskSet R g). IsToldAt k) of.1 (told e refl))) (ap (λ (k : DiskSet R g). rack_of k) (sym of.1) ∙ is)) (set_holds lawful beside n of.0 note it over noted)
 
   pub racks_keep : (lawful : (r : R) → Lawful (g.meaning r)) (d : Doubted) (es : List (DiskSet R g)) → SitesAgree d es → RacksHold g.meaning d (racks_in es)
   racks_keep lawful d es agree =
@@ -314,22 +325,22 @@ module _ {R : Type 0} {g : Ghosts R} where
   groups_hold lawful d es agree told =
       let there = all_there es (agree_there d es agree) in
       record {
-        each = λ s r note below over noted at.
-            beside_group lawful (beside_of d s) (d.world.nodes s) (slice_get es s) r note over noted (λ e is. told.each s e is) (λ e is. agree.sites s e below is) (sym (slice_get-racks_in es there s) ∙ at);
+        each = λ s r note below over noted bright at.
+            beside_group lawful (beside_of d s) (d.world.nodes s) (slice_get es s) r note over noted bright (λ e is. told.each s e is) (λ e is. agree.sites s e below is) (sym (slice_get-racks_in es there s) ∙ at);
       }
 
   pub racks_counted : (d : Doubted) (es : List (DiskSet R g)) → SitesAgree d es → (s u : ℕ) → rack_faults g.meaning (racks_in es) s u ≡ site_faults es s u
   racks_counted d es agree s u = ap (λ (r : Option R). rack_count g.meaning r u) (slice_get-racks_in es (all_there es (agree_there d es agree)) s) ∙ counts_as (slice_get es s) u
 
-  pub racks_told : (d : Doubted) (es : List (DiskSet R g)) → SitesAgree d es → NoneOver d → RacksTell g.meaning (racks_in es) → AreTold es
-  racks_told d es agree none tell = record { each = each }
+  pub racks_told : (d : Doubted) (es : List (DiskSet R g)) → SitesAgree d es → RacksTell g.meaning (racks_in es) → AreTold es
+  racks_told d es agree tell = record { each = each }
     where
       found : (s : ℕ) (e : DiskSet R g) → slice_get es s ≡ Some e → (r : R) → rack_of e ≡ Some r → IsTrue (g.meaning r).tells
       found s e at r is = tell.each s r (slice_get-racks_in es (all_there es (agree_there d es agree)) s ∙ ap (λ (x : Option (DiskSet R g)). option_and_then rack_of x) at ∙ is)
 
       each : (s : ℕ) (e : DiskSet R g) → slice_get es s ≡ Some e → IsToldAt e
       each s e at = ⊎_elim
-          (λ below. tells_at (beside_of d s) (d.world.nodes s) e (agree.sites s e below at) (none.each s below) (found s e at))
+          (λ below. tells_at (beside_of d s) (d.world.nodes s) e (agree.sites s e below at) (found s e at))
           (λ past. unused_tells e (agree.others s e past at) (found s e at))
           (cases_lt s d.world.sites)
 

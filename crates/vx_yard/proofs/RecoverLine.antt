@@ -1,5 +1,6 @@
 -- What a line comes to that recovers a site.
-use Rattle.std.proofs.Common.{◌≡◌, ◌⊎◌, inl, inr, ℕ, ◌+◌, [], arith, Bool, true, false, ap, refl, IsTrue}
+use Rattle.std.proofs.Common.{◌≡◌, ◌∙◌, ◌⊎◌, inl, inr, ℕ, ◌+◌, List, [], ◌∷◌, arith, Bool, true, false, ap, refl, subst, sym, IsTrue}
+use Rattle.std.specs.Prelude.{None}
 use Rattle.vx_history.specs.World.{Node}
 use Rattle.vx_model.specs.declared.site.SiteState.{SiteState}
 use Rattle.vx_model.specs.declared.site.SiteState.TheVariants.{Bare as IsBare, Up as IsUp, Deported, Down as IsDown}
@@ -7,8 +8,16 @@ use Rattle.vx_disk.specs.declared.shelf.Shelf.{Ghosts}
 use Rattle.vx_order.specs.declared.facts.SiteFacts.{SiteFacts}
 use Rattle.vx_diskset.specs.declared.disk_set.DiskSet.{DiskSet}
 use Rattle.vx_diskset.specs.declared.disk_set.DiskSet.TheVariants.{Bare, Spoiled, Up, Receives, Down, OfGroup, Gone}
-use Rattle.vx_events.specs.Facts.{site_fact, group_by}
-use Rattle.vx_grouped.specs.GroupSites.{site_disks}
+use Rattle.vx_history.specs.Doubts.{Doubted}
+use Rattle.vx_history.specs.declared.event.Event.TheVariants.{Recover as RecoverAt}
+use Rattle.vx_script.specs.declared.line.ScriptLine.TheVariants.{Recover}
+use Rattle.vx_events.specs.Ends.{Ends}
+use Rattle.vx_events.specs.Facts.{site_fact, site_number, group_by}
+use Rattle.vx_events.specs.Lines.{IsDone as IsDoneLine}
+use Rattle.vx_events.specs.Lists.{events_of, recovery_of}
+use Rattle.vx_events.specs.declared.said.Said.{Said}
+use Rattle.vx_yard.proofs.SiteEvents.{first_choice}
+use Rattle.vx_grouped.specs.GroupSites.{site_below}
 use Rattle.vx_events.specs.Fails.{Fails}
 use Rattle.vx_yard.specs.Stands.{RoseAll, RoseBy, times}
 use Rattle.vx_diskset.specs.Stands.{IsToldAt}
@@ -33,6 +42,21 @@ true_or : (b : Bool) → IsTrue b ⊎ (IsTrue b → ⊥)
 true_or true = inl refl
 true_or false = inr (λ e. cc)
 
+-- the one event of a bare site
+pub bare_events : (d : Doubted) (s : ℕ) (name : List ℕ) → site_number d.world name ≡ s → (d.world.nodes s).state ≡ IsBare → events_of d.world (Recover name) first_choice ≡ RecoverAt s None ∷ []
+bare_events d s name number bare =
+    ap (λ (k : ℕ). recovery_of (d.world.nodes k).state k first_choice.kept) number ∙ ap (λ (t : SiteState). recovery_of t s first_choice.kept) bare
+
+-- a line that recovers a site is done as its events end
+pub recover_done : (T : Type 0) (d next : Doubted) (s : ℕ) (name : List ℕ) (fails : Fails) (said : Said) → site_number d.world name ≡ s → Ends T d (Recover name) s fails said next
+    → IsDoneLine T d (Recover name) fails said next
+recover_done T d next s name fails said number ends = record {
+  ends = subst (λ (k : ℕ). Ends T d (Recover name) k fails said next) (sym number) ends;
+  counts = tt;
+  works = tt;
+  calls = tt;
+}
+
 module _ {R : Type 0} {g : Ghosts R} where
   pub told_or : (e : DiskSet R g) → IsToldAt e ⊎ (IsToldAt e → ⊥)
   told_or (Bare rack) = true_or (g.meaning rack).tells
@@ -40,5 +64,5 @@ module _ {R : Type 0} {g : Ghosts R} where
   told_or (Up rvg) = true_or (g.meaning rvg.shelf).tells
   told_or (Receives s) = true_or (g.meaning s.rvg.shelf).tells
   told_or (Down rack) = true_or (g.meaning rack).tells
-  told_or (OfGroup s) = true_or (site_disks s.site).tells
+  told_or (OfGroup s) = true_or (site_below s.site).tells
   told_or Gone = inr (λ none. none)

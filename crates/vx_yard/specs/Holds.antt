@@ -7,19 +7,21 @@ use Rattle.vx_disk.specs.Shelf.{Image, Meaning}
 use Rattle.vx_config.specs.declared.config.Config.{Config}
 use Rattle.vx_copyfmt.specs.Imports.{Found}
 use Rattle.vx_kept.specs.Choice.{live}
+use Rattle.vx_kept.specs.Facts.{is_found}
 use Rattle.vx_kept.specs.Groups.{found}
+use Rattle.vx_kept.specs.Keeping.{frame_at}
 use Rattle.vx_layout.specs.Places.{place}
 use Rattle.vx_events.specs.GroupLines.{is_over_group}
+use Rattle.vx_events.specs.GroupViews.{config_of}
 use Rattle.vx_diskset.specs.Holds.{HoldsSite, beside_of}
 
--- The disks hold the volumes of a group as its site notes them: whatever a crash leaves on them now, each plex that takes part in the configuration
--- that is found there has of each block a value that the block may have.
+-- The disks hold the volumes of a group as its site notes them: whatever a crash leaves on them now, an import that can read all of them finds a
+-- configuration, in which each volume that is noted stands as it did, but for the states of its plexes and lost logs, and each plex that takes part has of
+-- each block a value that the block may have.
 pub record HoldsGroup (note : GroupNode) (m : Meaning) : Type 0 where
+  pub finds : (i : Image) → m.now i → is_found (found m i) ≡ true
+  pub volumes : (i : Image) (c x : Config) → config_of note.config ≡ Some c → m.now i → found m i ≡ Found x → (v : ℕ) → v < length c.volumes → frame_at x v ≡ frame_at c v
   pub has : (i : Image) (x : Config) → m.now i → found m i ≡ Found x → (v p b : ℕ) → b < note.bytes.size v → IsTrue (live x v p) → BlockMay note v b (i (place x v p b).0 (place x v p b).1)
-
--- no site of the world is over a group
-pub record NoneOver (d : Doubted) : Type 0 where
-  pub each : (s : ℕ) → s < d.world.sites → is_over_group (d.world.nodes s) ≡ false
 
 module _ {R : Type 0} (meaning : R → Meaning) where
   -- the rack of each site over no group holds it, with what the world has of it beside its node
@@ -27,9 +29,9 @@ module _ {R : Type 0} (meaning : R → Meaning) where
     pub eight : length racks ≡ MOST_SITES
     pub each : (s : ℕ) (r : R) → s < d.world.sites → is_over_group (d.world.nodes s) ≡ false → slice_get racks s ≡ Some r → HoldsSite (beside_of d s) (d.world.nodes s) (meaning r)
 
-  -- and that of each site over a group holds the group
+  -- and that of each site over a group holds the group, where it is known what its disks hold
   pub record GroupsHold (d : Doubted) (racks : List R) : Type 0 where
-    pub each : (s : ℕ) (r : R) (note : GroupNode) → s < d.world.sites → is_over_group (d.world.nodes s) ≡ true → (d.world.nodes s).group ≡ Some note → slice_get racks s ≡ Some r → HoldsGroup note (meaning r)
+    pub each : (s : ℕ) (r : R) (note : GroupNode) → s < d.world.sites → is_over_group (d.world.nodes s) ≡ true → (d.world.nodes s).group ≡ Some note → note.dark ≡ false → slice_get racks s ≡ Some r → HoldsGroup note (meaning r)
 
   -- the contents of each rack are told
   pub record RacksTell (racks : List R) : Type 0 where

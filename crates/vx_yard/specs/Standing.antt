@@ -104,11 +104,11 @@ module _ {R : Type 0} {g : Ghosts R} where
     pub carries : Carries d old → Carries next new
     pub rose : RoseAll fails (count_of old) (count_of new)
 
-  -- the same of a recovery of a bare site that looked for a group on disks of which nothing is told
+  -- the same of a recovery of a bare site that looked for a group on disks of which nothing is told: it came up, or the site is bare still
   pub record LeadsFound (d : Doubted) (line : ScriptLine) (said : Said) (old new : Yard R g) : Type 0 where
     pub next : Doubted
     pub fails : Fails
-    pub done : FindsKept (IsTold new) d line (group_place d.world line) fails said next
+    pub done : IsDoneLine (IsTold new) d line fails said next ⊎ FindsKept (IsTold new) d line (group_place d.world line) fails said next
     pub stands : StandsFor next new
     pub carries : Carries d old → Carries next new
     pub rose : RoseAll fails (count_of old) (count_of new)

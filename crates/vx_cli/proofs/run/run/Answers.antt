@@ -9,7 +9,7 @@ answer_all-status-requires-clause-serves g c = λ κs within. begins c.in-Ok.yar
 
 pub returns-in-Ok-clause-run : goal.returns-in-Ok-clause-run
 returns-in-Ok-clause-run g c =
-    run_is _ _ _ c.in-Ok.yard c.answer_all-status.new.yard _ _ _ _ _ _ c.answer_all-status.ensures.run c.in-Ok.ensures.files c.into_racks.ensures.holds c.into_racks.ensures.told
+    run_is _ _ _ c.in-Ok.yard c.answer_all-status.new.yard _ _ _ _ _ _ c.answer_all-status.ensures.run c.in-Ok.ensures.files c.into_racks.ensures.holds c.into_racks.ensures.groups c.into_racks.ensures.told
     (λ s d. c.in-Ok.ensures.counts s d ∙ ap (λ v. rack_faults g.R.Shelf.meaning v.items s d) c.replace-taken.ensures.value) c.into_racks.ensures.counts
 
 pub returns-in-Err-clause-run : goal.returns-in-Err-clause-run

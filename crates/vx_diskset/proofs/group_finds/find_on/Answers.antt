@@ -1,8 +1,8 @@
 -- `find_on`: the group that was found, or the disks that were handed back.
 use Rattle.std.proofs.Common.{refl, subst}
 use Rattle.std.specs.Prelude.{IfErr, None}
-use Rattle.vx_grouped.specs.Finds.{FindStops, FindsUp, FoundSince}
-use Rattle.vx_grouped.specs.GroupSites.{site_disks}
+use Rattle.vx_grouped.specs.Finds.{FindStops, FindsUp, FoundSince, FoundTells}
+use Rattle.vx_grouped.specs.GroupSites.{site_disks, site_below}
 use Rattle.vx_diskset.proofs.GroupFinding.{back_failing, back_later, found_failing, found_later}
 use Rattle.vx_diskset.proofs.group_finds.find_on.Goals as goal
 
@@ -14,6 +14,7 @@ returns-in-Ok-clause-failing g c = found_failing c.args.rack (record { site = c.
 
 pub returns-in-Ok-clause-later : goal.returns-in-Ok-clause-later
 returns-in-Ok-clause-later g c = found_later c.args.rack (record { site = c.in-Ok.group; cut = None }) (subst (λ r. FoundSince (g.R.Shelf.meaning c.args.rack) (λ x. g.R.Shelf.meaning x) (λ e. site_disks e) r) c.in-Ok.is c.find_group.ensures.since)
+    (subst (λ r. FoundTells (g.R.Shelf.meaning c.args.rack) (λ x. g.R.Shelf.meaning x) (λ e. site_below e) r) c.in-Ok.is c.find_group.ensures.told)
 
 pub returns-in-Err-clause-found : goal.returns-in-Err-clause-found
 returns-in-Err-clause-found g c = λ n can. subst (λ r. IfErr r (λ e. FindStops n (g.R.Shelf.meaning c.args.rack) (g.R.Shelf.meaning e.0) e.1)) c.in-Err.is (c.find_group.ensures.stops n can)

@@ -3,9 +3,10 @@ use Rattle.std.proofs.Common.{subst, sym}
 use Rattle.vx_watched.specs.Since.{CalledSince}
 use Rattle.vx_watched.proofs.SinceLemmas.{since_none}
 use Rattle.vx_grouped.specs.Begins.{BeginsGroup, CanBegin}
-use Rattle.vx_grouped.specs.GroupSites.{site_disks}
+use Rattle.vx_grouped.specs.GroupSites.{site_disks, site_below}
 use Rattle.vx_diskset.specs.GroupCalls.{AtSite}
 use Rattle.vx_diskset.proofs.GroupBegun.{marked_only}
+use Rattle.vx_watched.specs.Traces.{TellsLess}
 use Rattle.vx_diskset.proofs.group_starts.begin_again.Goals as goal
 
 pub returns-in-Marked-clause-begun : goal.returns-in-Marked-clause-begun
@@ -23,3 +24,9 @@ returns-in_default-clause-begun g c = λ n stands state can. marked_only n c.arg
 
 pub returns-in_default-clause-since : goal.returns-in_default-clause-since
 returns-in_default-clause-since g c = since_none (site_disks c.args.marked)
+
+pub returns-in-Marked-clause-told : goal.returns-in-Marked-clause-told
+returns-in-Marked-clause-told g c = subst (λ s. AtSite (λ e. TellsLess (site_below s) (site_below e)) c.begin_on.result.0) (sym c.in-Marked.is) c.begin_on.ensures.told
+
+pub returns-in_default-clause-told : goal.returns-in_default-clause-told
+returns-in_default-clause-told g c = λ told. told

@@ -10,3 +10,6 @@ returns-clause-since g c = c.begin_group-group.ensures.since
 
 pub returns-clause-cut : goal.returns-clause-cut
 returns-clause-cut g c = refl
+
+pub returns-clause-told : goal.returns-clause-told
+returns-clause-told g c = c.begin_group-group.ensures.told

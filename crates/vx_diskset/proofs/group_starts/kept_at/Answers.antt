@@ -36,3 +36,12 @@ returns-in-Err-clause-since g c = c.kept.ensures.since
 
 pub returns-else-fits-clause-since : goal.returns-else-fits-clause-since
 returns-else-fits-clause-since g c = since_none (site_disks c.args.site.now)
+
+pub returns-in-Ok-clause-told : goal.returns-in-Ok-clause-told
+returns-in-Ok-clause-told g c = c.kept.ensures.told
+
+pub returns-in-Err-clause-told : goal.returns-in-Err-clause-told
+returns-in-Err-clause-told g c = c.kept.ensures.told
+
+pub returns-else-fits-clause-told : goal.returns-else-fits-clause-told
+returns-else-fits-clause-told g c = λ told. told

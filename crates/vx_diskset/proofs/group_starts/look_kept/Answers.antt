@@ -20,3 +20,9 @@ returns-in-Some-clause-since g c = c.kept_at.ensures.since
 
 pub returns-in-None-clause-since : goal.returns-in-None-clause-since
 returns-in-None-clause-since g c = since_none (site_disks c.args.site.now)
+
+pub returns-in-Some-clause-told : goal.returns-in-Some-clause-told
+returns-in-Some-clause-told g c = c.kept_at.ensures.told
+
+pub returns-in-None-clause-told : goal.returns-in-None-clause-told
+returns-in-None-clause-told g c = λ told. told

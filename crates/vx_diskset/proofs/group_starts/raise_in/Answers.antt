@@ -21,3 +21,9 @@ returns-in-Err-clause-raised g c = λ n note down.
 
 pub returns-in-Err-clause-since : goal.returns-in-Err-clause-since
 returns-in-Err-clause-since g c = rises_returned (site_disks c.args.group.site) (site_disks c.import-site.result.0) c.import-site.ensures.since
+
+pub returns-in-Ok-clause-told : goal.returns-in-Ok-clause-told
+returns-in-Ok-clause-told g c = c.import-site.ensures.told
+
+pub returns-in-Err-clause-told : goal.returns-in-Err-clause-told
+returns-in-Err-clause-told g c = c.import-site.ensures.told

@@ -24,3 +24,9 @@ pub returns-in-Err-clause-since : goal.returns-in-Err-clause-since
 returns-in-Err-clause-since g c =
     rises_crash (site_disks c.args.site) 0xffff_ffff_ffff_ffff c.look_kept.new.site c.crash.result
     (rises_called (site_disks c.args.site) (site_disks c.look_kept.new.site) c.look_kept.ensures.since) c.crash.ensures.stopped
+
+pub returns-in-Ok-clause-told : goal.returns-in-Ok-clause-told
+returns-in-Ok-clause-told g c = c.look_kept.ensures.told
+
+pub returns-in-Err-clause-told : goal.returns-in-Err-clause-told
+returns-in-Err-clause-told g c = λ told. c.look_kept.ensures.told (c.crash.ensures.told told)

@@ -24,3 +24,12 @@ returns-then-is_off-clause-cut g c =
 pub returns-else-is_off-clause-cut : goal.returns-else-is_off-clause-cut
 returns-else-is_off-clause-cut g c =
     cut_none c.in-Err.no (plain_write c.args.volume c.args.block c.args.bytes.now) c.args.group.now.cut (sym c.is_off.ensures ∙ c.if-is_off.false)
+
+pub returns-in-Ok-clause-told : goal.returns-in-Ok-clause-told
+returns-in-Ok-clause-told g c = c.write.ensures.told
+
+pub returns-then-is_off-clause-told : goal.returns-then-is_off-clause-told
+returns-then-is_off-clause-told g c = c.write.ensures.told
+
+pub returns-else-is_off-clause-told : goal.returns-else-is_off-clause-told
+returns-else-is_off-clause-told g c = c.write.ensures.told

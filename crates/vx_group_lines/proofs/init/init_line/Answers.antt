@@ -36,7 +36,7 @@ returns-in-Ok-clause-leads g c = λ d stands over.
     let site = init_site d y c.args.name.now s e stands c.requires.kept c.requires.free seat there in
     let one = get_at y.facts.items s c.index.result.now c.site_of-site.ensures.fact c.index.ensures in
     let now = get_at y.facts.items s c.index_mut-in-Ok.result.now c.site_of-site.ensures.fact c.index_mut-in-Ok.ensures.value in
-    let some : 0 < (d.world.nodes s).disks = omega (arith, c.if-index-eq0.false, ap (λ (f : SiteFacts). f.disks) (some_same (sym one ∙ site.fact))) in
+    let some : 0 < (d.world.nodes s).disks = omega (arith, c.if-index-eq0.false, ap (λ (f : SiteFacts). f.disks) (some_same (sym one ∙ site.at.fact))) in
     init_done d y _ c.args.name.now s e c.init_group-disk_set.result.0 stands site
     (record {
       there = there;
@@ -45,8 +45,8 @@ returns-in-Ok-clause-leads g c = λ d stands over.
       racks = refl;
     })
     c.init_group-disk_set.ensures.failing (record { flight = refl; assemblies = refl; feeders = refl }) _
-    (subst (λ r. InitIs s n e c.init_group-disk_set.result.0 r) c.in-Ok.is (c.init_group-disk_set.ensures.begun (beside_of d s) n site.stood site.bare some site.large))
-    (ap (λ (f : SiteFacts). slice_set y.facts.items s f) (c.make_group.ensures ∙ ap (λ (f : SiteFacts). group_up_facts [] f) (some_same (sym now ∙ site.fact))))
+    (subst (λ r. InitIs s n e c.init_group-disk_set.result.0 r) c.in-Ok.is (c.init_group-disk_set.ensures.begun (beside_of d s) n site.at.stood site.at.bare some site.large))
+    (ap (λ (f : SiteFacts). slice_set y.facts.items s f) (c.make_group.ensures ∙ ap (λ (f : SiteFacts). group_up_facts [] f) (some_same (sym now ∙ site.at.fact))))
 
 pub returns-in-Err-clause-leads : goal.returns-in-Err-clause-leads
 returns-in-Err-clause-leads g c = λ d stands over.
@@ -59,7 +59,7 @@ returns-in-Err-clause-leads g c = λ d stands over.
     let there = at ∙ ap (λ e. Some e) (sym c.replace-disk_set.ensures.value) in
     let site = init_site d y c.args.name.now s e stands c.requires.kept c.requires.free seat there in
     let one = get_at y.facts.items s c.index.result.now c.site_of-site.ensures.fact c.index.ensures in
-    let some : 0 < (d.world.nodes s).disks = omega (arith, c.if-index-eq0.false, ap (λ (f : SiteFacts). f.disks) (some_same (sym one ∙ site.fact))) in
+    let some : 0 < (d.world.nodes s).disks = omega (arith, c.if-index-eq0.false, ap (λ (f : SiteFacts). f.disks) (some_same (sym one ∙ site.at.fact))) in
     init_stops d y _ c.args.name.now s e c.init_group-disk_set.result.0 stands site
     (record {
       there = there;
@@ -68,8 +68,8 @@ returns-in-Err-clause-leads g c = λ d stands over.
       racks = refl;
     })
     c.init_group-disk_set.ensures.failing (record { flight = refl; assemblies = refl; feeders = refl }) c.in-Err.stop c.stopped.result c.stopped.ensures
-    (subst (λ r. InitIs s n e c.init_group-disk_set.result.0 r) c.in-Err.is (c.init_group-disk_set.ensures.begun (beside_of d s) n site.stood site.bare some site.large))
-    (subst (λ r. IfErr r (λ (stop : Stop). SiteStands (beside_of d s) n c.init_group-disk_set.result.0)) c.in-Err.is (c.init_group-disk_set.ensures.stays (beside_of d s) n site.stood site.bare some site.large))
+    (subst (λ r. InitIs s n e c.init_group-disk_set.result.0 r) c.in-Err.is (c.init_group-disk_set.ensures.begun (beside_of d s) n site.at.stood site.at.bare some site.large))
+    (subst (λ r. IfErr r (λ (stop : Stop). SiteStands (beside_of d s) n c.init_group-disk_set.result.0)) c.in-Err.is (c.init_group-disk_set.ensures.stays (beside_of d s) n site.at.stood site.at.bare some site.large))
     refl
 
 pub returns-in-Ok-clause-asked : goal.returns-in-Ok-clause-asked

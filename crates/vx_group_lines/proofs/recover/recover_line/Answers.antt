@@ -16,7 +16,7 @@ use Rattle.vx_yard.proofs.Seats.{named_some}
 use Rattle.vx_yard.proofs.WriteLine.{get_there}
 use Rattle.vx_yard.specs.Yards.{in_files}
 use Rattle.vx_group_lines.proofs.GroupAt.{group_at}
-use Rattle.vx_group_lines.proofs.Resuming.{from_down, from_up, off_down, unbegun_rise}
+use Rattle.vx_group_lines.proofs.Recovering.{from_down, from_up, off_down, unbegun_rise}
 use Rattle.vx_group_lines.proofs.Tests.{rise_may}
 use Rattle.vx_group_lines.proofs.recover.recover_line.Goals as goal
 

@@ -5,7 +5,7 @@ use Rattle.vx_diskset.specs.Recovers.{RaisesGroup}
 use Rattle.vx_diskset.specs.declared.disk_set.DiskSet.TheVariants.{Gone}
 use Rattle.vx_yard.proofs.Lists.{get_at, set_twice}
 use Rattle.vx_yard.proofs.WriteLine.{get_there}
-use Rattle.vx_group_lines.proofs.Resuming.{came_down, came_up, dir_mid, of_down, of_up, told_down, told_up}
+use Rattle.vx_group_lines.proofs.Recovering.{came_down, came_up, dir_mid, of_down, of_up, told_down, told_up}
 use Rattle.vx_group_lines.proofs.recover.rise.Goals as goal
 
 pub returns-in-Ok-clause-rises : goal.returns-in-Ok-clause-rises

@@ -5,7 +5,7 @@ use Rattle.vx_diskset.specs.Recovers.{LooksAt}
 use Rattle.vx_diskset.specs.declared.disk_set.DiskSet.TheVariants.{Gone}
 use Rattle.vx_yard.proofs.Lists.{get-set_same, get_at, set_twice}
 use Rattle.vx_group_lines.proofs.GroupShown.{config_at, small_set}
-use Rattle.vx_group_lines.proofs.Resuming.{so_down, so_up, stood_by}
+use Rattle.vx_group_lines.proofs.Recovering.{so_down, so_up, stood_by}
 use Rattle.vx_group_lines.proofs.recover.stand_up.Goals as goal
 
 pub view_at-requires-clause-few : goal.view_at-requires-clause-few

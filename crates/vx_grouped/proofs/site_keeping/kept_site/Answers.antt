@@ -7,10 +7,10 @@ use Rattle.vx_grouped.proofs.site_keeping.kept_site.Goals as goal
 
 pub returns-in-Ok-clause-kept : goal.returns-in-Ok-clause-kept
 returns-in-Ok-clause-kept g c = λ n note up fits.
-    kept_done n note c.args.vol c.args.block c.args.bytes.now c.args.laid c.kept_watched-laid.result.0 up c.kept_watched-laid.ensures.since c.in-Ok.bits
+    kept_done n note c.args.vol c.args.block c.args.bytes.now c.args.laid c.kept_watched-laid.result.0 up c.kept_watched-laid.ensures.since c.kept_watched-laid.ensures.told c.in-Ok.bits
     (subst (λ r. PlainKeeps c.args.vol c.args.block c.args.bytes.now c.args.laid.core (shade_meaning g.R.Shelf.meaning c.args.laid.shelf) c.kept_watched-laid.result.0.core (shade_meaning g.R.Shelf.meaning c.kept_watched-laid.result.0.shelf) r) c.in-Ok.is c.kept_watched-laid.ensures.works)
 
 pub returns-in-Err-clause-kept : goal.returns-in-Err-clause-kept
 returns-in-Err-clause-kept g c = λ n note up fits.
-    kept_failed n note c.args.vol c.args.block c.args.bytes.now c.args.laid c.kept_watched-laid.result.0 up c.kept_watched-laid.ensures.since c.in-Err.no
+    kept_failed n note c.args.vol c.args.block c.args.bytes.now c.args.laid c.kept_watched-laid.result.0 up c.kept_watched-laid.ensures.since c.kept_watched-laid.ensures.told c.in-Err.no
     (subst (λ r. PlainKeeps c.args.vol c.args.block c.args.bytes.now c.args.laid.core (shade_meaning g.R.Shelf.meaning c.args.laid.shelf) c.kept_watched-laid.result.0.core (shade_meaning g.R.Shelf.meaning c.kept_watched-laid.result.0.shelf) r) c.in-Err.is c.kept_watched-laid.ensures.works)

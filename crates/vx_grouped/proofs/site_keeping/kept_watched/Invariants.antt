@@ -1,6 +1,6 @@
--- The disks with which the account begins.
-use Rattle.vx_untold.specs.Shades.{shade_meaning}
+-- What the rack tells at the start.
+use Rattle.vx_untold.specs.Shades.{rack_of}
 use Rattle.vx_grouped.proofs.site_keeping.kept_watched.Given as goal
 
-abbrev pub ghosts-kept_from : goal.ghosts-kept_from
-ghosts-kept_from g a = record { first = shade_meaning g.R.Shelf.meaning a.group.shelf }
+abbrev pub ghosts-kept_traced : goal.ghosts-kept_traced
+ghosts-kept_traced g a = record { first = g.R.Shelf.meaning (rack_of a.laid.shelf) }

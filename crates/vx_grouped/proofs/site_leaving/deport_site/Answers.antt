@@ -1,9 +1,11 @@
 -- A site's group that is deported: what it leaves of the site and of its disks.
 use Rattle.std.proofs.Common.{◌∙◌, sym, subst}
 use Rattle.vx_disk.specs.Disks.{Crashed}
-use Rattle.vx_untold.specs.Shades.{shade_meaning, shade_rack}
+use Rattle.vx_untold.specs.Shades.{rack_of, shade_meaning, shade_rack}
 use Rattle.vx_watched.specs.Since.{CalledSince}
+use Rattle.vx_watched.specs.Traces.{TellsLess}
 use Rattle.vx_watched.proofs.SinceLemmas.{since_stop}
+use Rattle.vx_grouped.proofs.GivenUpLemmas.{rest_tells}
 use Rattle.vx_grouped.proofs.LeavingLemmas.{deport_cut, deport_down, deport_up, deported_from}
 use Rattle.vx_grouped.proofs.site_leaving.deport_site.Goals as goal
 
@@ -11,13 +13,13 @@ pub returns-in-Ok-clause-deported : goal.returns-in-Ok-clause-deported
 returns-in-Ok-clause-deported g c = λ n note up.
     let is_rack = (g.met.R.Rack g.world.𝓛 g.world.𝓜 g.world.𝓡 ((λ s x. x), (λ x. x), (λ x. x), λ x. x)).rack in
     let racks = shade_rack g.R.Shelf.meaning is_rack in
-    deported_from n note c.args.laid up racks c.of.result c.in-Ok.rack c.of.ensures.rack c.in-Ok.ensures.since c.in-Ok.ensures.can c.in-Ok.ensures.moves c.in-Ok.ensures.up
+    deported_from n note c.args.laid up racks c.of.result c.in-Ok.rack c.of.ensures.rack c.of.ensures.agreed c.in-Ok.ensures.since c.in-Ok.ensures.told c.in-Ok.ensures.can c.in-Ok.ensures.moves c.in-Ok.ensures.up
 
 pub returns-then-is_down_stop-clause-deported : goal.returns-then-is_down_stop-clause-deported
 returns-then-is_down_stop-clause-deported g c = λ n note up.
     let is_rack = (g.met.R.Rack g.world.𝓛 g.world.𝓜 g.world.𝓡 ((λ s x. x), (λ x. x), (λ x. x), λ x. x)).rack in
     let racks = shade_rack g.R.Shelf.meaning is_rack in
-    deport_cut n note c.args.laid up racks c.in-Err.laid c.in-Err.ensures.since c.in-Err.stop c.in-Err.ensures.refusals c.in-Err.ensures.moves c.crash.result c.crash.ensures.stopped c.crash.ensures.away
+    deport_cut n note c.args.laid up racks c.in-Err.laid c.in-Err.ensures.since c.in-Err.ensures.told c.in-Err.stop c.in-Err.ensures.refusals c.in-Err.ensures.moves c.crash.result c.crash.ensures.stopped c.crash.ensures.away c.crash.ensures.agreed c.crash.ensures.told
     (sym c.is_down_stop.ensures ∙ c.if-is_down_stop.true) (c.in-Err.ensures.leaves n note up.at)
 
 pub returns-then-is_down_stop-clause-since : goal.returns-then-is_down_stop-clause-since
@@ -29,7 +31,16 @@ pub returns-else-is_down_stop-clause-deported : goal.returns-else-is_down_stop-c
 returns-else-is_down_stop-clause-deported g c = λ n note up.
     let is_rack = (g.met.R.Rack g.world.𝓛 g.world.𝓜 g.world.𝓡 ((λ s x. x), (λ x. x), (λ x. x), λ x. x)).rack in
     let racks = shade_rack g.R.Shelf.meaning is_rack in
-    deport_up n note c.args.laid up racks c.in-Err.laid c.in-Err.ensures.since c.in-Err.stop c.in-Err.ensures.refusals c.in-Err.ensures.moves (sym c.is_down_stop.ensures ∙ c.if-is_down_stop.false) (c.in-Err.ensures.leaves n note up.at)
+    deport_up n note c.args.laid up racks c.in-Err.laid c.in-Err.ensures.since c.in-Err.ensures.told c.in-Err.stop c.in-Err.ensures.refusals c.in-Err.ensures.moves (sym c.is_down_stop.ensures ∙ c.if-is_down_stop.false) (c.in-Err.ensures.leaves n note up.at)
 
 pub returns-in-Ok-clause-since : goal.returns-in-Ok-clause-since
 returns-in-Ok-clause-since g c = subst (λ s. CalledSince (shade_meaning g.R.Shelf.meaning c.args.laid.shelf) (shade_meaning g.R.Shelf.meaning s)) (sym c.of.ensures.rack) c.in-Ok.ensures.since
+
+pub returns-then-is_down_stop-clause-told : goal.returns-then-is_down_stop-clause-told
+returns-then-is_down_stop-clause-told g c = λ told. c.in-Err.ensures.told (c.crash.ensures.told told)
+
+pub returns-in-Ok-clause-told : goal.returns-in-Ok-clause-told
+returns-in-Ok-clause-told g c = subst (λ s. TellsLess (g.R.Shelf.meaning (rack_of c.args.laid.shelf)) (g.R.Shelf.meaning (rack_of s))) (sym c.of.ensures.rack) c.in-Ok.ensures.told
+
+pub of-requires-clause-tells : goal.of-requires-clause-tells
+of-requires-clause-tells g c = λ κs lives r agreed is. rest_tells c.in-Ok.rested (shade_meaning g.R.Shelf.meaning c.in-Ok.rack) c.in-Ok.ensures.tells r is

@@ -12,7 +12,7 @@ pub returns-then-is_down_stop-clause-made : goal.returns-then-is_down_stop-claus
 returns-then-is_down_stop-clause-made g c = λ n note up.
     let is_rack = (g.met.R.Rack g.world.𝓛 g.world.𝓜 g.world.𝓡 ((λ s x. x), (λ x. x), (λ x. x), λ x. x)).rack in
     let racks = shade_rack g.R.Shelf.meaning is_rack in
-    made_cut n note c.args.name.now c.args.want.now c.args.laid c.make_watched-laid.result.0 up c.make_watched-laid.ensures.since c.spelled.ensures racks c.crash.result c.crash.ensures.stopped c.crash.ensures.away c.in-Err.stop (sym c.is_down_stop.ensures ∙ c.if-is_down_stop.true)
+    made_cut n note c.args.name.now c.args.want.now c.args.laid c.make_watched-laid.result.0 up c.make_watched-laid.ensures.since c.make_watched-laid.ensures.told c.spelled.ensures racks c.crash.result c.crash.ensures.stopped c.crash.ensures.away c.crash.ensures.agreed c.crash.ensures.told c.in-Err.stop (sym c.is_down_stop.ensures ∙ c.if-is_down_stop.true)
     (subst (λ r. MakesVolume c.args.name.now c.args.want.now c.args.laid.core (shade_meaning g.R.Shelf.meaning c.args.laid.shelf) c.make_watched-laid.result.0.core (shade_meaning g.R.Shelf.meaning c.make_watched-laid.result.0.shelf) r) c.in-Err.is c.make_watched-laid.ensures.works)
 
 pub returns-then-is_down_stop-clause-since : goal.returns-then-is_down_stop-clause-since
@@ -24,7 +24,7 @@ pub returns-in-Ok-clause-made : goal.returns-in-Ok-clause-made
 returns-in-Ok-clause-made g c = λ n note up.
     let is_rack = (g.met.R.Rack g.world.𝓛 g.world.𝓜 g.world.𝓡 ((λ s x. x), (λ x. x), (λ x. x), λ x. x)).rack in
     let racks = shade_rack g.R.Shelf.meaning is_rack in
-    made_done n note c.args.name.now c.args.want.now c.args.laid c.make_watched-laid.result.0 up c.make_watched-laid.ensures.since c.spelled.ensures racks c.in-Ok.vol
+    made_done n note c.args.name.now c.args.want.now c.args.laid c.make_watched-laid.result.0 up c.make_watched-laid.ensures.since c.make_watched-laid.ensures.told c.spelled.ensures racks c.in-Ok.vol
     (subst (λ r. MakesVolume c.args.name.now c.args.want.now c.args.laid.core (shade_meaning g.R.Shelf.meaning c.args.laid.shelf) c.make_watched-laid.result.0.core (shade_meaning g.R.Shelf.meaning c.make_watched-laid.result.0.shelf) r) c.in-Ok.is c.make_watched-laid.ensures.works)
 
 pub returns-in-Ok-clause-volume : goal.returns-in-Ok-clause-volume
@@ -34,6 +34,9 @@ pub returns-else-is_down_stop-clause-made : goal.returns-else-is_down_stop-claus
 returns-else-is_down_stop-clause-made g c = λ n note up.
     let is_rack = (g.met.R.Rack g.world.𝓛 g.world.𝓜 g.world.𝓡 ((λ s x. x), (λ x. x), (λ x. x), λ x. x)).rack in
     let racks = shade_rack g.R.Shelf.meaning is_rack in
-    made_up n note c.args.name.now c.args.want.now c.args.laid c.make_watched-laid.result.0 up c.make_watched-laid.ensures.since c.spelled.ensures racks c.in-Err.stop (sym c.is_down_stop.ensures ∙ c.if-is_down_stop.false)
+    made_up n note c.args.name.now c.args.want.now c.args.laid c.make_watched-laid.result.0 up c.make_watched-laid.ensures.since c.make_watched-laid.ensures.told c.spelled.ensures racks c.in-Err.stop (sym c.is_down_stop.ensures ∙ c.if-is_down_stop.false)
     (subst (λ r. MakesVolume c.args.name.now c.args.want.now c.args.laid.core (shade_meaning g.R.Shelf.meaning c.args.laid.shelf) c.make_watched-laid.result.0.core (shade_meaning g.R.Shelf.meaning c.make_watched-laid.result.0.shelf) r) c.in-Err.is c.make_watched-laid.ensures.works)
     (subst (λ r. IsUnmoved {T = ℕ} r ((c.make_watched-laid.result.0.core ≡ c.args.laid.core) × (c.make_watched-laid.result.0.shelf ≡ c.args.laid.shelf))) c.in-Err.is c.make_watched-laid.ensures.still)
+
+pub returns-then-is_down_stop-clause-told : goal.returns-then-is_down_stop-clause-told
+returns-then-is_down_stop-clause-told g c = λ told. c.make_watched-laid.ensures.told (c.crash.ensures.told told)

@@ -7,10 +7,10 @@ use Rattle.vx_grouped.proofs.site_plain.read_site.Goals as goal
 
 pub returns-in-Ok-clause-read : goal.returns-in-Ok-clause-read
 returns-in-Ok-clause-read g c = λ n note up fits.
-    read_done n note c.args.vol c.args.block c.read_watched-laid.new.into c.args.laid c.read_watched-laid.result.0 up c.read_watched-laid.ensures.since
+    read_done n note c.args.vol c.args.block c.read_watched-laid.new.into c.args.laid c.read_watched-laid.result.0 up c.read_watched-laid.ensures.since c.read_watched-laid.ensures.told
     (subst (λ r. PlainReads c.args.vol c.args.block c.read_watched-laid.new.into c.args.laid.core (shade_meaning g.R.Shelf.meaning c.args.laid.shelf) c.read_watched-laid.result.0.core (shade_meaning g.R.Shelf.meaning c.read_watched-laid.result.0.shelf) r) c.in-Ok.is c.read_watched-laid.ensures.works)
 
 pub returns-in-Err-clause-read : goal.returns-in-Err-clause-read
 returns-in-Err-clause-read g c = λ n note up fits.
-    read_failed n note c.args.vol c.args.block c.read_watched-laid.new.into c.args.laid c.read_watched-laid.result.0 up c.read_watched-laid.ensures.since c.in-Err.no
+    read_failed n note c.args.vol c.args.block c.read_watched-laid.new.into c.args.laid c.read_watched-laid.result.0 up c.read_watched-laid.ensures.since c.read_watched-laid.ensures.told c.in-Err.no
     (subst (λ r. PlainReads c.args.vol c.args.block c.read_watched-laid.new.into c.args.laid.core (shade_meaning g.R.Shelf.meaning c.args.laid.shelf) c.read_watched-laid.result.0.core (shade_meaning g.R.Shelf.meaning c.read_watched-laid.result.0.shelf) r) c.in-Err.is c.read_watched-laid.ensures.works)

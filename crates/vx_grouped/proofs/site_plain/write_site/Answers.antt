@@ -11,7 +11,7 @@ pub returns-then-is_down_no-clause-wrote : goal.returns-then-is_down_no-clause-w
 returns-then-is_down_no-clause-wrote g c = λ n note up fits.
     let is_rack = (g.met.R.Rack g.world.𝓛 g.world.𝓜 g.world.𝓡 ((λ s x. x), (λ x. x), (λ x. x), λ x. x)).rack in
     let racks = shade_rack g.R.Shelf.meaning is_rack in
-    wrote_cut n note c.args.vol c.args.block c.args.bytes.now c.args.laid c.write_watched-laid.result.0 up c.write_watched-laid.ensures.since racks c.crash.result c.crash.ensures.stopped c.crash.ensures.away c.in-Err.no (sym c.is_down_no.ensures ∙ c.if-is_down_no.true)
+    wrote_cut n note c.args.vol c.args.block c.args.bytes.now c.args.laid c.write_watched-laid.result.0 up c.write_watched-laid.ensures.since c.write_watched-laid.ensures.told racks c.crash.result c.crash.ensures.stopped c.crash.ensures.away c.crash.ensures.agreed c.crash.ensures.told c.in-Err.no (sym c.is_down_no.ensures ∙ c.if-is_down_no.true)
     (subst (λ r. PlainWrites c.args.vol c.args.block c.args.bytes.now c.args.laid.core (shade_meaning g.R.Shelf.meaning c.args.laid.shelf) c.write_watched-laid.result.0.core (shade_meaning g.R.Shelf.meaning c.write_watched-laid.result.0.shelf) r) c.in-Err.is c.write_watched-laid.ensures.works)
 
 pub returns-then-is_down_no-clause-since : goal.returns-then-is_down_no-clause-since
@@ -24,12 +24,15 @@ pub returns-in-Ok-clause-wrote : goal.returns-in-Ok-clause-wrote
 returns-in-Ok-clause-wrote g c = λ n note up fits.
     let is_rack = (g.met.R.Rack g.world.𝓛 g.world.𝓜 g.world.𝓡 ((λ s x. x), (λ x. x), (λ x. x), λ x. x)).rack in
     let racks = shade_rack g.R.Shelf.meaning is_rack in
-    wrote_done n note c.args.vol c.args.block c.args.bytes.now c.args.laid c.write_watched-laid.result.0 up c.write_watched-laid.ensures.since racks
+    wrote_done n note c.args.vol c.args.block c.args.bytes.now c.args.laid c.write_watched-laid.result.0 up c.write_watched-laid.ensures.since c.write_watched-laid.ensures.told racks
     (subst (λ r. PlainWrites c.args.vol c.args.block c.args.bytes.now c.args.laid.core (shade_meaning g.R.Shelf.meaning c.args.laid.shelf) c.write_watched-laid.result.0.core (shade_meaning g.R.Shelf.meaning c.write_watched-laid.result.0.shelf) r) c.in-Ok.is c.write_watched-laid.ensures.works)
 
 pub returns-else-is_down_no-clause-wrote : goal.returns-else-is_down_no-clause-wrote
 returns-else-is_down_no-clause-wrote g c = λ n note up fits.
     let is_rack = (g.met.R.Rack g.world.𝓛 g.world.𝓜 g.world.𝓡 ((λ s x. x), (λ x. x), (λ x. x), λ x. x)).rack in
     let racks = shade_rack g.R.Shelf.meaning is_rack in
-    wrote_up n note c.args.vol c.args.block c.args.bytes.now c.args.laid c.write_watched-laid.result.0 up c.write_watched-laid.ensures.since racks c.in-Err.no (sym c.is_down_no.ensures ∙ c.if-is_down_no.false)
+    wrote_up n note c.args.vol c.args.block c.args.bytes.now c.args.laid c.write_watched-laid.result.0 up c.write_watched-laid.ensures.since c.write_watched-laid.ensures.told racks c.in-Err.no (sym c.is_down_no.ensures ∙ c.if-is_down_no.false)
     (subst (λ r. PlainWrites c.args.vol c.args.block c.args.bytes.now c.args.laid.core (shade_meaning g.R.Shelf.meaning c.args.laid.shelf) c.write_watched-laid.result.0.core (shade_meaning g.R.Shelf.meaning c.write_watched-laid.result.0.shelf) r) c.in-Err.is c.write_watched-laid.ensures.works)
+
+pub returns-then-is_down_no-clause-told : goal.returns-then-is_down_no-clause-told
+returns-then-is_down_no-clause-told g c = λ told. c.write_watched-laid.ensures.told (c.crash.ensures.told told)

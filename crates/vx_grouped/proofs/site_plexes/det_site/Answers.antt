@@ -13,7 +13,7 @@ pub returns-then-is_down_stop-clause-called : goal.returns-then-is_down_stop-cla
 returns-then-is_down_stop-clause-called g c = λ n note up.
     let is_rack = (g.met.R.Rack g.world.𝓛 g.world.𝓜 g.world.𝓡 ((λ s x. x), (λ x. x), (λ x. x), λ x. x)).rack in
     let racks = shade_rack g.R.Shelf.meaning is_rack in
-    det_site_cut n note c.args.vol c.args.plex c.args.laid c.det_watched-laid.result.0 up c.det_watched-laid.ensures.since racks c.crash.result c.crash.ensures.stopped c.crash.ensures.away c.in-Err.stop (sym c.is_down_stop.ensures ∙ c.if-is_down_stop.true)
+    det_site_cut n note c.args.vol c.args.plex c.args.laid c.det_watched-laid.result.0 up c.det_watched-laid.ensures.since c.det_watched-laid.ensures.told racks c.crash.result c.crash.ensures.stopped c.crash.ensures.away c.crash.ensures.agreed c.crash.ensures.told c.in-Err.stop (sym c.is_down_stop.ensures ∙ c.if-is_down_stop.true)
     (subst (λ r. PlexDets c.args.vol c.args.plex c.args.laid.core (shade_meaning g.R.Shelf.meaning c.args.laid.shelf) c.det_watched-laid.result.0.core (shade_meaning g.R.Shelf.meaning c.det_watched-laid.result.0.shelf) r) c.in-Err.is c.det_watched-laid.ensures.works)
 
 pub returns-then-is_down_stop-clause-since : goal.returns-then-is_down_stop-clause-since
@@ -26,12 +26,15 @@ pub returns-in-Ok-clause-called : goal.returns-in-Ok-clause-called
 returns-in-Ok-clause-called g c = λ n note up.
     let is_rack = (g.met.R.Rack g.world.𝓛 g.world.𝓜 g.world.𝓡 ((λ s x. x), (λ x. x), (λ x. x), λ x. x)).rack in
     let racks = shade_rack g.R.Shelf.meaning is_rack in
-    det_site_done n note c.args.vol c.args.plex c.args.laid c.det_watched-laid.result.0 up c.det_watched-laid.ensures.since racks
+    det_site_done n note c.args.vol c.args.plex c.args.laid c.det_watched-laid.result.0 up c.det_watched-laid.ensures.since c.det_watched-laid.ensures.told racks
     (subst (λ r. PlexDets c.args.vol c.args.plex c.args.laid.core (shade_meaning g.R.Shelf.meaning c.args.laid.shelf) c.det_watched-laid.result.0.core (shade_meaning g.R.Shelf.meaning c.det_watched-laid.result.0.shelf) r) c.in-Ok.is c.det_watched-laid.ensures.works)
 
 pub returns-else-is_down_stop-clause-called : goal.returns-else-is_down_stop-clause-called
 returns-else-is_down_stop-clause-called g c = λ n note up.
     let is_rack = (g.met.R.Rack g.world.𝓛 g.world.𝓜 g.world.𝓡 ((λ s x. x), (λ x. x), (λ x. x), λ x. x)).rack in
     let racks = shade_rack g.R.Shelf.meaning is_rack in
-    det_site_up n note c.args.vol c.args.plex c.args.laid c.det_watched-laid.result.0 up c.det_watched-laid.ensures.since racks c.in-Err.stop (sym c.is_down_stop.ensures ∙ c.if-is_down_stop.false)
+    det_site_up n note c.args.vol c.args.plex c.args.laid c.det_watched-laid.result.0 up c.det_watched-laid.ensures.since c.det_watched-laid.ensures.told racks c.in-Err.stop (sym c.is_down_stop.ensures ∙ c.if-is_down_stop.false)
     (subst (λ r. PlexDets c.args.vol c.args.plex c.args.laid.core (shade_meaning g.R.Shelf.meaning c.args.laid.shelf) c.det_watched-laid.result.0.core (shade_meaning g.R.Shelf.meaning c.det_watched-laid.result.0.shelf) r) c.in-Err.is c.det_watched-laid.ensures.works)
+
+pub returns-then-is_down_stop-clause-told : goal.returns-then-is_down_stop-clause-told
+returns-then-is_down_stop-clause-told g c = λ told. c.det_watched-laid.ensures.told (c.crash.ensures.told told)

@@ -1,6 +1,6 @@
--- The disks with which the account begins.
-use Rattle.vx_untold.specs.Shades.{shade_meaning}
+-- What the rack tells at the start.
+use Rattle.vx_untold.specs.Shades.{rack_of}
 use Rattle.vx_grouped.proofs.site_returning.import_watched.Given as goal
 
-abbrev pub ghosts-import_from : goal.ghosts-import_from
-ghosts-import_from g a = record { first = shade_meaning g.R.Shelf.meaning a.rack }
+abbrev pub ghosts-import_traced : goal.ghosts-import_traced
+ghosts-import_traced g a = record { first = g.R.Shelf.meaning (rack_of a.rack) }

@@ -1,8 +1,10 @@
 -- A recovery of a site's group.
-use Rattle.std.proofs.Common.{sym, ◌∙◌}
-use Rattle.vx_untold.specs.Shades.{shade_lawful, shade_meaning, shade_rack}
+use Rattle.std.proofs.Common.{IsTrue, subst, sym, ◌∙◌}
+use Rattle.vx_untold.specs.Shades.{rack_of, shade_lawful, shade_meaning, shade_rack}
 use Rattle.vx_grouped.proofs.SinceReturns.{return_all, return_at, return_calls, return_none, return_then}
 use Rattle.vx_grouped.proofs.SiteReturnLemmas.{is_up, recovered_not, recovered_up}
+use Rattle.vx_grouped.proofs.GivenUpLemmas.{rested_tells}
+use Rattle.vx_grouped.proofs.TellLemmas.{alike_tells, fallen_tells}
 use Rattle.vx_grouped.proofs.site_returning.recover_site.Goals as goal
 
 pub returns-in-Ok-clause-recovered : goal.returns-in-Ok-clause-recovered
@@ -10,15 +12,15 @@ returns-in-Ok-clause-recovered g c = λ n note down.
     let is_rack = (g.met.R.Rack g.world.𝓛 g.world.𝓜 g.world.𝓡 ((λ s x. x), (λ x. x), (λ x. x), λ x. x)).rack in
     let racks = shade_rack g.R.Shelf.meaning is_rack in
     let laws = shade_lawful g.R.Shelf.meaning (g.met.R.Shelf g.world.𝓛 g.world.𝓜 g.world.𝓡 ((λ s x. x), (λ x. x), (λ x. x), λ x. x)).lawful in
-    recovered_up n note racks laws c.args.rack c.risen.result down c.risen.ensures.alike c.risen.ensures.up c.risen.ensures.armed c.in-Ok.laid c.in-Ok.ensures.since c.spelled.ensures (c.in-Ok.ensures.leaves n note)
+    recovered_up n note racks laws c.args.rack c.risen.result down c.risen.ensures.told c.risen.ensures.alike c.risen.ensures.up c.risen.ensures.armed c.in-Ok.laid c.in-Ok.ensures.since c.in-Ok.ensures.told c.spelled.ensures (c.in-Ok.ensures.leaves n note)
 
 pub returns-in-Err-clause-recovered : goal.returns-in-Err-clause-recovered
 returns-in-Err-clause-recovered g c = λ n note down.
     let is_rack = (g.met.R.Rack g.world.𝓛 g.world.𝓜 g.world.𝓡 ((λ s x. x), (λ x. x), (λ x. x), λ x. x)).rack in
     let racks = shade_rack g.R.Shelf.meaning is_rack in
     let laws = shade_lawful g.R.Shelf.meaning (g.met.R.Shelf g.world.𝓛 g.world.𝓜 g.world.𝓡 ((λ s x. x), (λ x. x), (λ x. x), λ x. x)).lawful in
-    recovered_not n note racks laws c.args.rack c.risen.result down c.risen.ensures.alike c.risen.ensures.up c.risen.ensures.armed c.in-Err.rack c.of-in-Err.result c.fallen.result c.of-in-Err.ensures.rack c.in-Err.stop c.in-Err.ensures.since c.in-Err.ensures.stops
-    (c.risen.ensures.can c.requires) c.fallen.ensures.fell c.fallen.ensures.counts c.fallen.ensures.since (λ early. c.fallen.ensures.stopped (c.is_early-early.ensures ∙ early)) (λ late. c.fallen.ensures.dark (c.is_early-early.ensures ∙ late))
+    recovered_not n note racks laws c.args.rack c.risen.result down c.risen.ensures.told c.risen.ensures.alike c.risen.ensures.up c.risen.ensures.armed c.in-Err.rack c.of-in-Err.result c.fallen.result c.of-in-Err.ensures.rack c.of-in-Err.ensures.agreed c.in-Err.ensures.told c.fallen.ensures.told c.in-Err.stop c.in-Err.ensures.since c.in-Err.ensures.stops
+    (c.risen.ensures.can c.requires.can) c.fallen.ensures.fell c.fallen.ensures.counts c.fallen.ensures.since (λ early. c.fallen.ensures.stopped (c.is_early-early.ensures ∙ early)) (λ late. c.fallen.ensures.dark (c.is_early-early.ensures ∙ late))
 
 pub returns-in-Err-clause-since : goal.returns-in-Err-clause-since
 returns-in-Err-clause-since g c =
@@ -35,3 +37,27 @@ returns-in-Ok-clause-since g c =
 
 pub returns-then-not-is_down-clause-since : goal.returns-then-not-is_down-clause-since
 returns-then-not-is_down-clause-since g c = return_at (λ s. shade_meaning g.R.Shelf.meaning s) (shade_meaning g.R.Shelf.meaning c.args.rack) c.args.rack c.of.result.rack c.of.ensures.rack (return_none (shade_meaning g.R.Shelf.meaning c.args.rack))
+
+pub returns-in-Err-clause-told : goal.returns-in-Err-clause-told
+returns-in-Err-clause-told g c = λ told. c.risen.ensures.told (c.in-Err.ensures.told (c.fallen.ensures.told (subst (λ s. IsTrue (g.R.Shelf.meaning (rack_of s)).tells) c.of-in-Err.ensures.rack told)))
+
+pub returns-in-Ok-clause-told : goal.returns-in-Ok-clause-told
+returns-in-Ok-clause-told g c = λ told. c.risen.ensures.told (c.in-Ok.ensures.told told)
+
+pub returns-then-not-is_down-clause-told : goal.returns-then-not-is_down-clause-told
+returns-then-not-is_down-clause-told g c = λ told. subst (λ s. IsTrue (g.R.Shelf.meaning (rack_of s)).tells) c.of.ensures.rack told
+
+pub of-requires-clause-tells : goal.of-requires-clause-tells
+of-requires-clause-tells g c = λ κs lives r agreed is. rested_tells r c.args.rested (shade_meaning g.R.Shelf.meaning c.args.rack) is c.requires.tells
+
+pub import_watched-requires-clause-can : goal.import_watched-requires-clause-can
+import_watched-requires-clause-can g c = c.risen.ensures.can c.requires.can
+
+pub import_watched-requires-clause-tells : goal.import_watched-requires-clause-tells
+import_watched-requires-clause-tells g c = alike_tells c.args.rested (shade_meaning g.R.Shelf.meaning c.args.rack) (shade_meaning g.R.Shelf.meaning c.risen.result) c.risen.ensures.alike c.requires.tells
+
+pub of-requires-in-Err-clause-tells : goal.of-requires-in-Err-clause-tells
+of-requires-in-Err-clause-tells g c = λ κs lives r agreed is.
+    rested_tells r c.args.rested (shade_meaning g.R.Shelf.meaning c.fallen.result) is
+    (fallen_tells c.args.rested (shade_meaning g.R.Shelf.meaning c.risen.result) (shade_meaning g.R.Shelf.meaning c.in-Err.rack) (shade_meaning g.R.Shelf.meaning c.fallen.result) c.in-Err.stop c.is_early-early.result c.is_early-early.ensures
+    (alike_tells c.args.rested (shade_meaning g.R.Shelf.meaning c.args.rack) (shade_meaning g.R.Shelf.meaning c.risen.result) c.risen.ensures.alike c.requires.tells) c.in-Err.ensures.stops c.fallen.ensures.stopped c.fallen.ensures.dark)

@@ -17,6 +17,7 @@ use Rattle.vx_events.proofs.RefusedCalls.{read_may, show_may, write_may}
 use Rattle.vx_diskset.specs.Asked.{LeavesAlone, SameFailing}
 use Rattle.vx_diskset.proofs.KeepsFailing.{alone_same, failing_same}
 use Rattle.vx_node.proofs.Works.{works_whole}
+use Rattle.vx_node.specs.Works.{WorksIs}
 use Rattle.vx_node.proofs.answering.work.Goals as goal
 
 pub make_site-requires-clause-free : goal.make_site-requires-clause-free
@@ -34,8 +35,8 @@ crash_line-requires-clause-free g c = λ κs lives. subst (λ line. IsFree c.arg
 pub fuse_line-requires-clause-free : goal.fuse_line-requires-clause-free
 fuse_line-requires-clause-free g c = λ κs lives. subst (λ line. IsFree c.args.yard.now line) c.in-Fuse.is c.requires.free
 
-pub recover_line-requires-clause-free : goal.recover_line-requires-clause-free
-recover_line-requires-clause-free g c = λ κs lives. subst (λ line. IsFree c.args.yard.now line) c.in-Recover.is c.requires.free
+pub recover-requires-clause-free : goal.recover-requires-clause-free
+recover-requires-clause-free g c = λ κs lives. subst (λ line. IsFree c.args.yard.now line) c.in-Recover.is c.requires.free
 
 pub write_line-requires-clause-free : goal.write_line-requires-clause-free
 write_line-requires-clause-free g c = λ κs lives. subst (λ line. IsFree c.args.yard.now line) c.in-Write.is c.requires.free
@@ -144,14 +145,13 @@ returns-in-Status-clause-asked g c = λ d stands apart. subst (λ line. AsAsked 
 
 pub returns-in-Recover-clause-leads : goal.returns-in-Recover-clause-leads
 returns-in-Recover-clause-leads g c = λ d stands apart carries good.
-    works_whole d c.args.words.now c.args.yard.now c.recover_line.new.yard c.recover_line.result apart
-    (subst (λ line. LeadsIs d line c.args.yard.now c.recover_line.new.yard c.recover_line.result) (sym c.in-Recover.is) (c.recover_line.ensures.leads d stands (subst (λ line. is_for_group d.world line ≡ false) c.in-Recover.is apart)))
+    subst (λ line. WorksIs d line c.args.yard.now c.recover.new.yard c.recover.result) (sym c.in-Recover.is) (c.recover.ensures.leads d stands (subst (λ line. is_for_group d.world line ≡ false) c.in-Recover.is apart))
 
 pub returns-in-Recover-clause-asked : goal.returns-in-Recover-clause-asked
-returns-in-Recover-clause-asked g c = λ d stands apart. subst (λ line. AsAsked d.world line c.args.yard.now c.recover_line.new.yard) (sym c.in-Recover.is) (c.recover_line.ensures.asked d stands (subst (λ line. is_for_group d.world line ≡ false) c.in-Recover.is apart))
+returns-in-Recover-clause-asked g c = λ d stands apart. subst (λ line. AsAsked d.world line c.args.yard.now c.recover.new.yard) (sym c.in-Recover.is) (c.recover.ensures.asked d stands (subst (λ line. is_for_group d.world line ≡ false) c.in-Recover.is apart))
 
 pub returns-in-Recover-clause-called : goal.returns-in-Recover-clause-called
-returns-in-Recover-clause-called g c = λ d stands apart carries good. if_ok (λ said. HasCalled d.world c.args.words.now said c.args.yard.now c.recover_line.new.yard) c.recover_line.result (λ said. subst (λ line. HasCalled d.world line said c.args.yard.now c.recover_line.new.yard) (sym c.in-Recover.is) tt)
+returns-in-Recover-clause-called g c = λ d stands apart carries good. if_ok (λ said. HasCalled d.world c.args.words.now said c.args.yard.now c.recover.new.yard) c.recover.result (λ said. subst (λ line. HasCalled d.world line said c.args.yard.now c.recover.new.yard) (sym c.in-Recover.is) tt)
 
 pub returns-in_ok-bytes-in-Write-clause-leads : goal.returns-in_ok-bytes-in-Write-clause-leads
 returns-in_ok-bytes-in-Write-clause-leads g c = λ d stands apart carries good.

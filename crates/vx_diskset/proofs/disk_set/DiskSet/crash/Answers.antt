@@ -54,4 +54,4 @@ pub returns-in-OfGroup-clause-stopped : goal.returns-in-OfGroup-clause-stopped
 returns-in-OfGroup-clause-stopped g c = set_stopped c.args.pick c.args.self c.in-OfGroup.group c.crash-in-OfGroup.result c.in-OfGroup.is c.crash-in-OfGroup.ensures.stopped
 
 pub returns-in-OfGroup-clause-later : goal.returns-in-OfGroup-clause-later
-returns-in-OfGroup-clause-later g c = set_fell c.args.pick c.args.self c.in-OfGroup.group c.crash-in-OfGroup.result c.in-OfGroup.is c.crash-in-OfGroup.ensures.stopped
+returns-in-OfGroup-clause-later g c = set_fell c.args.pick c.args.self c.in-OfGroup.group c.crash-in-OfGroup.result c.in-OfGroup.is c.crash-in-OfGroup.ensures.stopped c.crash-in-OfGroup.ensures.told

@@ -25,7 +25,7 @@ pub returns-in-OfGroup-clause-failing : goal.returns-in-OfGroup-clause-failing
 returns-in-OfGroup-clause-failing g c = group_failing c.args.self.now c.in-OfGroup.group (record c.in-OfGroup.group { site = c.deport-site.result.0 }) (sym c.replace.ensures.value ∙ c.in-OfGroup.is) c.deport-site.ensures.since
 
 pub returns-in-OfGroup-clause-later : goal.returns-in-OfGroup-clause-later
-returns-in-OfGroup-clause-later g c = group_later c.args.self.now c.in-OfGroup.group (record c.in-OfGroup.group { site = c.deport-site.result.0 }) (sym c.replace.ensures.value ∙ c.in-OfGroup.is) c.deport-site.ensures.since
+returns-in-OfGroup-clause-later g c = group_later c.args.self.now c.in-OfGroup.group (record c.in-OfGroup.group { site = c.deport-site.result.0 }) (sym c.replace.ensures.value ∙ c.in-OfGroup.is) c.deport-site.ensures.since c.deport-site.ensures.told
 
 pub returns-in-OfGroup-clause-since : goal.returns-in-OfGroup-clause-since
 returns-in-OfGroup-clause-since g c = subst (λ x. CalledOn x (OfGroup (record c.in-OfGroup.group { site = c.deport-site.result.0 }))) (sym (sym c.replace.ensures.value ∙ c.in-OfGroup.is)) c.deport-site.ensures.since

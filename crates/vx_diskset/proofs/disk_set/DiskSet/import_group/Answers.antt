@@ -21,10 +21,10 @@ pub returns-in-OfGroup-clause-fuse : goal.returns-in-OfGroup-clause-fuse
 returns-in-OfGroup-clause-fuse g c = λ n note.
     let is_rack = (g.met.R.Rack g.world.𝓛 g.world.𝓜 g.world.𝓡 ((λ s x. x), (λ x. x), (λ x. x), λ x. x)).rack in
     at_sites (AwayNoted n note) (FuseGoesOn c.args.self c.import_in.result.0) c.args.self c.in-OfGroup.group c.in-OfGroup.is
-    (λ it. rise_fuse c.args.self c.import_in.result.0 c.in-OfGroup.group c.in-OfGroup.is c.import_in.ensures.since (import_settled is_rack n note c.in-OfGroup.group.site c.import_in.result.0 c.import_in.result.1 (c.import_in.ensures.imported n note it)))
+    (λ it. rise_fuse c.args.self c.import_in.result.0 c.in-OfGroup.group c.in-OfGroup.is c.import_in.ensures.since c.import_in.ensures.told (import_settled is_rack n note c.in-OfGroup.group.site c.import_in.result.0 c.import_in.result.1 (c.import_in.ensures.imported n note it)))
 
 pub returns-in-OfGroup-clause-failing : goal.returns-in-OfGroup-clause-failing
-returns-in-OfGroup-clause-failing g c = rise_failing c.args.self c.import_in.result.0 c.in-OfGroup.group c.in-OfGroup.is c.import_in.ensures.since
+returns-in-OfGroup-clause-failing g c = rise_failing c.args.self c.import_in.result.0 c.in-OfGroup.group c.in-OfGroup.is c.import_in.ensures.since c.import_in.ensures.told
 
 pub returns-in-OfGroup-clause-later : goal.returns-in-OfGroup-clause-later
-returns-in-OfGroup-clause-later g c = rise_later c.args.self c.import_in.result.0 c.in-OfGroup.group c.in-OfGroup.is c.import_in.ensures.since
+returns-in-OfGroup-clause-later g c = rise_later c.args.self c.import_in.result.0 c.in-OfGroup.group c.in-OfGroup.is c.import_in.ensures.since c.import_in.ensures.told

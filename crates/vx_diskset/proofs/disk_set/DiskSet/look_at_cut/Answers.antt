@@ -12,7 +12,7 @@ returns-in-OfGroup-clause-looks g c = λ n note up.
     (c.stand_up.ensures.rises n note (at_sites (UpNoted n note) (UpNoted n note c.in-OfGroup.group.site) c.args.self c.in-OfGroup.group c.in-OfGroup.is (λ it. it) up))
 
 pub returns-in-OfGroup-clause-failing : goal.returns-in-OfGroup-clause-failing
-returns-in-OfGroup-clause-failing g c = rise_failing c.args.self c.stand_up.result.0 c.in-OfGroup.group c.in-OfGroup.is c.stand_up.ensures.since
+returns-in-OfGroup-clause-failing g c = rise_failing c.args.self c.stand_up.result.0 c.in-OfGroup.group c.in-OfGroup.is c.stand_up.ensures.since c.stand_up.ensures.told
 
 pub returns-in-OfGroup-clause-later : goal.returns-in-OfGroup-clause-later
-returns-in-OfGroup-clause-later g c = rise_later c.args.self c.stand_up.result.0 c.in-OfGroup.group c.in-OfGroup.is c.stand_up.ensures.since
+returns-in-OfGroup-clause-later g c = rise_later c.args.self c.stand_up.result.0 c.in-OfGroup.group c.in-OfGroup.is c.stand_up.ensures.since c.stand_up.ensures.told

@@ -12,7 +12,7 @@ returns-in-OfGroup-clause-raised g c = λ n note down.
     (c.raise_in.ensures.raised n note (at_sites (DownNoted n note) (DownNoted n note c.in-OfGroup.group.site) c.args.self c.in-OfGroup.group c.in-OfGroup.is (λ it. it) down))
 
 pub returns-in-OfGroup-clause-failing : goal.returns-in-OfGroup-clause-failing
-returns-in-OfGroup-clause-failing g c = rise_failing c.args.self c.raise_in.result.0 c.in-OfGroup.group c.in-OfGroup.is c.raise_in.ensures.since
+returns-in-OfGroup-clause-failing g c = rise_failing c.args.self c.raise_in.result.0 c.in-OfGroup.group c.in-OfGroup.is c.raise_in.ensures.since c.raise_in.ensures.told
 
 pub returns-in-OfGroup-clause-later : goal.returns-in-OfGroup-clause-later
-returns-in-OfGroup-clause-later g c = rise_later c.args.self c.raise_in.result.0 c.in-OfGroup.group c.in-OfGroup.is c.raise_in.ensures.since
+returns-in-OfGroup-clause-later g c = rise_later c.args.self c.raise_in.result.0 c.in-OfGroup.group c.in-OfGroup.is c.raise_in.ensures.since c.raise_in.ensures.told

@@ -33,7 +33,7 @@ pub returns-in-OfGroup-clause-failing : goal.returns-in-OfGroup-clause-failing
 returns-in-OfGroup-clause-failing g c = group_failing c.args.self.now c.in-OfGroup.group c.write_set.new.group c.in-OfGroup.is c.write_set.ensures.since
 
 pub returns-in-OfGroup-clause-later : goal.returns-in-OfGroup-clause-later
-returns-in-OfGroup-clause-later g c = group_later c.args.self.now c.in-OfGroup.group c.write_set.new.group c.in-OfGroup.is c.write_set.ensures.since
+returns-in-OfGroup-clause-later g c = group_later c.args.self.now c.in-OfGroup.group c.write_set.new.group c.in-OfGroup.is c.write_set.ensures.since c.write_set.ensures.told
 
 pub returns-in-OfGroup-clause-since : goal.returns-in-OfGroup-clause-since
 returns-in-OfGroup-clause-since g c = subst (λ x. CalledOn x (OfGroup c.write_set.new.group)) (sym c.in-OfGroup.is) c.write_set.ensures.since

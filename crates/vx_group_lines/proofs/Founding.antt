@@ -1,0 +1,255 @@
+-- What a recovery of a bare site leads a yard to, on whose disks an earlier run may have left a group.
+use Rattle.std.proofs.Common.{◌≡◌, ◌∙◌, ◌⊎◌, inl, inr, ℕ, Bool, true, false, List, [], ◌∷◌, map, ap, sym, subst, refl}
+use Rattle.std.specs.Prelude.{Option, Some, None, Result, Ok, Err, slice_get, slice_set}
+use Rattle.vx_model.specs.declared.errors.OutOfMemory.{OutOfMemory as MemoryError}
+use Rattle.vx_model.specs.declared.errors.Stop.{Stop}
+use Rattle.vx_model.specs.declared.errors.Stop.TheVariants.{No as Refused, OutOfMemory}
+use Rattle.vx_model.specs.declared.no.No.{No}
+use Rattle.vx_model.specs.declared.no.No.TheVariants.{Device, NoConfig, Missing as Lacks, Limit, Damaged, Format}
+use Rattle.vx_model.specs.declared.site.SiteState.{SiteState}
+use Rattle.vx_model.specs.declared.site.SiteState.TheVariants.{Bare as IsBare, Up as IsUp}
+use Rattle.vx_config.specs.declared.config.Config.{Config}
+use Rattle.vx_disk.specs.Counts.{Rose}
+use Rattle.vx_disk.specs.declared.shelf.Shelf.{Ghosts}
+use Rattle.vx_history.specs.Doubts.{Doubted, happened}
+use Rattle.vx_history.specs.Groups.{GroupNode}
+use Rattle.vx_history.specs.Steps.{group_set, raw_set}
+use Rattle.vx_history.specs.World.{Node, NoFuse, World}
+use Rattle.vx_history.specs.declared.event.Event.TheVariants.{Group as MakeGroup, Recover as RecoverAt}
+use Rattle.vx_order.specs.declared.facts.SiteFacts.{SiteFacts}
+use Rattle.vx_order.specs.declared.facts.VolumeFacts.{VolumeFacts}
+use Rattle.vx_report.specs.declared.view.SiteView.{SiteView}
+use Rattle.vx_script.specs.declared.line.ScriptLine.TheVariants.{Recover}
+use Rattle.vx_grouped.specs.Begins.{group_begun}
+use Rattle.vx_grouped.specs.GroupSites.{UpNoted, site_config}
+use Rattle.vx_grouped.specs.SiteReturns.{ImportWhy}
+use Rattle.vx_diskset.specs.Asked.{FailsAs, SameFailing}
+use Rattle.vx_diskset.specs.GroupCalls.{AtSite, bare_disks, cut_in}
+use Rattle.vx_diskset.specs.GroupFinds.{FindsIs, FoundUp}
+use Rattle.vx_diskset.specs.GroupSets.{cut_value}
+use Rattle.vx_diskset.specs.Holds.{beside_of}
+use Rattle.vx_diskset.specs.Stands.{IsToldAt, SiteStands, faults_at}
+use Rattle.vx_diskset.specs.declared.disk_set.DiskSet.{DiskSet}
+use Rattle.vx_diskset.specs.declared.disk_set.DiskSet.TheVariants.{OfGroup}
+use Rattle.vx_events.specs.Doubts.{run_as}
+use Rattle.vx_events.specs.Ends.{DiskFails, Ends, FindsNone, FromBare, IsNoDevice}
+use Rattle.vx_events.specs.Facts.{seat_of, site_number}
+use Rattle.vx_events.specs.Fails.{Fails}
+use Rattle.vx_events.specs.GroupEnds.{FindsGroup, GroupEnds}
+use Rattle.vx_events.specs.GroupLines.{group_recovery, is_over_group}
+use Rattle.vx_events.specs.GroupViews.{grouped_view, noted_table, plain_fact}
+use Rattle.vx_events.specs.LinkedFacts.{linked_fact, links_by, links_of_site}
+use Rattle.vx_events.specs.StepsOver.{FindsKept, fact_of_group}
+use Rattle.vx_events.specs.declared.said.Said.{Said}
+use Rattle.vx_events.specs.declared.said.Said.TheVariants.{Refused as SaidNo, Resumed}
+use Rattle.vx_yard.proofs.Carrying.{SameLoad, carries_same}
+use Rattle.vx_yard.proofs.CrashLine.{rose_still}
+use Rattle.vx_yard.proofs.FailsStay.{fails_then}
+use Rattle.vx_yard.proofs.FuseStays.{fused_none}
+use Rattle.vx_yard.proofs.NamedSite.{place_at, unbegun_for}
+use Rattle.vx_yard.proofs.NoteSite.{comes_same}
+use Rattle.vx_yard.proofs.OneSite.{Changed, role_off, rose_at, stands_still, told_by}
+use Rattle.vx_yard.proofs.RecoverLine.{bare_events, recover_done}
+use Rattle.vx_yard.proofs.SiteEvents.{first_choice}
+use Rattle.vx_yard.specs.GroupFacts.{group_up_facts}
+use Rattle.vx_yard.specs.Replies.{reply_to}
+use Rattle.vx_yard.specs.Standing.{LeadsFound, LeadsFoundIs, StandsFor, StaysFor}
+use Rattle.vx_yard.specs.Stands.{RoseAll}
+use Rattle.vx_yard.specs.Yards.{IsTold, count_of}
+use Rattle.vx_yard.specs.declared.yard.Yard.{Yard}
+use Rattle.vx_group_lines.specs.Founds.{IsBareUntold}
+use Rattle.vx_group_lines.specs.Views.{view_with}
+use Rattle.vx_group_lines.proofs.Arriving.{arrives_made, arrives_none, arrives_noted, noted_at}
+use Rattle.vx_group_lines.proofs.BareSites.{IsBareSite, bare_counts, bare_sure, bare_unfused, blank_links, never_up, over_state}
+use Rattle.vx_group_lines.proofs.GroupAt.{up_notes}
+use Rattle.vx_group_lines.proofs.GroupCalls.{SetThen, set_then}
+use Rattle.vx_group_lines.proofs.GroupLeads.{Follows, follows_on, up_set}
+use Rattle.vx_group_lines.proofs.GroupShown.{view_up}
+use Rattle.vx_group_lines.proofs.GroupStatus.{table_is}
+use Rattle.vx_group_lines.proofs.Rising.{HasUp, has_up}
+
+-- what the tests see of a bare site that is a group with these volumes
+found_fact : (w : World) (s : ℕ) (note : GroupNode) (volumes : List VolumeFacts) → (w.nodes s).state ≡ IsBare → noted_table note ≡ volumes
+    → group_up_facts volumes (linked_fact w s) ≡ fact_of_group (group_begun note s (w.nodes s)) note
+found_fact w s note volumes bare table =
+    ap (λ (t : SiteState). let f : SiteFacts = record (group_up_facts volumes (linked_fact w s)) { links = links_by t (links_of_site w s) } in f) bare
+    ∙ ap (λ (vs : List VolumeFacts). let f : SiteFacts = record (fact_of_group (group_begun note s (w.nodes s)) note) { volumes = vs } in f) (sym table)
+
+module _ {R : Type 0} {g : Ghosts R} where
+  module _ (d : Doubted) (old new : Yard R g) (name : List ℕ) (s : ℕ) (before after : DiskSet R g) (stands : StandsFor d old) (site : IsBareSite d old name s before) (changed : Changed old new s before after) (failing : SameFailing before after)
+      (load : SameLoad old new) where
+    abbrev n : Node
+    n = d.world.nodes s
+
+    unfused : n.fuse ≡ NoFuse
+    unfused = bare_unfused d old name s before site
+
+    fails_as : (m : Node) → m.failing ≡ n.failing → FailsAs m after
+    fails_as m same = fails_then n m before after same failing (stands.failing s before site.below changed.there)
+
+    rose_here : RoseAll [] (count_of old) (count_of new)
+    rose_here = rose_still old new s before after changed.there changed.later changed.disk_sets
+
+    -- ---- it is bare as it was
+
+    still : SiteStands (beside_of d s) n after → new.facts.items ≡ old.facts.items → StandsFor d new
+    still here facts =
+        stands_still d d old new s before after stands site.below changed
+        (comes_same d s after stands.links here (fails_as n refl) (fused_none n after unfused) (role_off (beside_of d s) n n after here (λ up. absurd (never_up (sym site.bare ∙ up))))) refl facts
+
+    -- nothing was done
+    pub bare_stays : SiteStands (beside_of d s) n after → new.facts.items ≡ old.facts.items → StaysFor d old new
+    bare_stays here facts = record { stands = still here facts; carries = carries_same d old new load (told_by old new s before after changed); rose = rose_here }
+
+    module _ (untold : IsToldAt before → ⊥) where
+      never : IsTold new → ⊥
+      never told = untold ((told_by old new s before after changed told).each s before changed.there)
+
+      -- ---- none came up
+
+      ended : (fails : Fails) (said : Said) → SiteStands (beside_of d s) n after → new.facts.items ≡ old.facts.items → Ends (IsTold new) d (Recover name) s fails said d → RoseAll fails (count_of old) (count_of new)
+          → LeadsFound d (Recover name) said old new
+      ended fails said here facts ends rose = record {
+        next = d;
+        fails = fails;
+        done = inl (recover_done (IsTold new) d d s name fails said site.number ends);
+        stands = still here facts;
+        carries = carries_same d old new load (told_by old new s before after changed);
+        rose = rose;
+      }
+
+      not_there : (why : No) → IsNoDevice why → SiteStands (beside_of d s) n after → new.facts.items ≡ old.facts.items → LeadsFound d (Recover name) (SaidNo why) old new
+      not_there why other here facts =
+          ended [] (SaidNo why) here facts
+          (FindsNone never first_choice false name d (raw_set s n) why refl (FromBare site.bare refl refl) other refl refl (record { world = refl; after = λ i. refl })) rose_here
+
+      by_why : (why : No) → ImportWhy ⊥ (bare_disks before) (bare_disks after) (Refused why) → SiteStands (beside_of d s) n after → new.facts.items ≡ old.facts.items → LeadsFound d (Recover name) (SaidNo why) old new
+      by_why (Device disk) because here facts =
+          let rose : Rose (faults_at before disk) (faults_at after disk) = subst (λ (k : ℕ). Rose k (faults_at after disk)) (bare_counts (beside_of d s) n before site.stood site.bare disk)
+          (subst (λ (k : ℕ). Rose ((bare_disks before).disk_faults disk) k) (bare_counts (beside_of d s) n after here site.bare disk) because) in
+          ended ((s, disk) ∷ []) (SaidNo (Device disk)) here facts
+          (DiskFails first_choice false [] (RecoverAt s None) [] [] disk (bare_events d s name site.number site.bare) (inl refl) tt refl refl (record { world = refl; after = λ i. refl }))
+          (rose_at old new s disk before after changed rose)
+      by_why (Lacks disk) because here facts = not_there (Lacks disk) tt here facts
+      by_why NoConfig because here facts = not_there NoConfig tt here facts
+      by_why (Limit what most) because here facts = not_there (Limit what most) tt here facts
+      by_why (Damaged unit block stored computed) because here facts = not_there (Damaged unit block stored computed) tt here facts
+      by_why (Format version) because here facts = not_there (Format version) tt here facts
+      by_why other because here facts = absurd because
+
+      by_stop : (stop : Stop) → (stop ≡ Refused NoConfig) ⊎ ImportWhy ⊥ (bare_disks before) (bare_disks after) stop → SiteStands (beside_of d s) n after → new.facts.items ≡ old.facts.items
+          → LeadsFoundIs d (Recover name) old new (reply_to stop)
+      by_stop stop (inl none) here facts = subst (λ (x : Stop). LeadsFoundIs d (Recover name) old new (reply_to x)) (sym none) (not_there NoConfig tt here facts)
+      by_stop (Refused why) (inr because) here facts = by_why why because here facts
+      by_stop OutOfMemory (inr because) here facts = bare_stays here facts
+
+      pub found_none : (stop : Stop) (said : Result Said MemoryError) → said ≡ reply_to stop → FindsIs s n before after (Err stop) → new.facts.items ≡ old.facts.items → LeadsFoundIs d (Recover name) old new said
+      found_none stop said says found facts =
+          subst (λ (r : Result Said MemoryError). LeadsFoundIs d (Recover name) old new r) (sym says) (by_stop stop found.1 (found.0 (beside_of d s)) facts)
+
+      -- ---- a group came up
+
+      pub found_done : (done : Unit {0}) (view : SiteView) → FindsIs s n before after (Ok done)
+          → ((c : Config) → AtSite (λ e. site_config e ≡ Some c) after
+          → (new.facts.items ≡ slice_set old.facts.items s (group_up_facts (map plain_fact c.volumes) (linked_fact d.world s)))
+          × (view ≡ view_with (group_up_facts (map plain_fact c.volumes) (linked_fact d.world s)) (Some c)))
+          → LeadsFound d (Recover name) (Resumed view None) old new
+      found_done done view found seen = record {
+        next = e;
+        fails = [];
+        done = inr (subst (λ (k : ℕ). FindsKept (IsTold new) d (Recover name) k [] (Resumed view None) e) (sym site.number) (record {
+          untold = never;
+          site = name;
+          recovers = refl;
+          bare = site.bare;
+          shows = refl;
+          ends = ends;
+        }));
+        stands = follows.stands;
+        carries = follows.carries;
+        rose = rose_here;
+      }
+        where
+          to : SetThen (FoundUp s n) after
+          to = set_then (FoundUp s n) after found.1
+
+          note : GroupNode
+          note = to.holds.0
+
+          m : Node
+          m = group_begun note s n
+
+          up : UpNoted m note to.set.site
+          up = to.holds.4
+
+          has : HasUp m note to.set.site
+          has = has_up m note to.set.site up
+
+          facts_now : SiteFacts
+          facts_now = group_up_facts (map plain_fact has.config.volumes) (linked_fact d.world s)
+
+          so : (new.facts.items ≡ slice_set old.facts.items s facts_now) × (view ≡ view_with facts_now (Some has.config))
+          so = seen has.config (subst (λ (x : DiskSet R g). AtSite (λ y. site_config y ≡ Some has.config) x) (sym to.is) has.has)
+
+          h : Doubted
+          h = happened d (MakeGroup s) false
+
+          e : Doubted
+          e = noted_at h s note
+
+          fact : facts_now ≡ fact_of_group m note
+          fact = found_fact d.world s note (map plain_fact has.config.volumes) site.bare (table_is note has.config has.reads)
+
+          cut : cut_value to.set.cut ≡ None
+          cut = ap (λ (x : DiskSet R g). cut_in x) (sym to.is) ∙ found.2
+
+          follows : Follows d e old new
+          follows =
+              follows_on d e s m note facts_now old new before to.set stands site.below
+              (subst (λ (x : DiskSet R g). Changed old new s before x) to.is changed)
+              (arrives_noted d h s (group_set s n) note (d.world.gathering s)
+              (arrives_made d d s n (d.world.gathering s)
+              (arrives_none d s stands.links (bare_sure d s site.bare stands.links) (blank_links d s (stands.links.bare s site.bare))) site.below site.bare))
+              (up_notes m note to.set.site up).0
+              (up_set m note to.set (record { few = site.few; some = site.some }) up cut to.holds.2.cut)
+              (subst (λ (x : DiskSet R g). FailsAs m x) to.is (fails_as m refl)) (fused_none m (OfGroup to.set) unfused) fact so.0 load
+
+          shown : view ≡ grouped_view (record n { state = IsUp }) note
+          shown = so.1 ∙ ap (λ (f : SiteFacts). view_with f (Some has.config)) fact ∙ view_up m note to.set.site has.config up has.has
+
+          ends : GroupEnds (IsTold new) d (Recover name) s [] (Resumed view None) e
+          ends =
+              subst (λ (x : Doubted). GroupEnds (IsTold new) d (Recover name) s [] (Resumed view None) (noted_at x s note))
+              (ap (λ (t : SiteState). run_as false d (group_recovery t s)) site.bare)
+              (FindsGroup note tt tt (inl never) (λ told. absurd (never told)) (None, ap (λ (v : SiteView). Resumed v None) shown) (record { world = refl; after = λ i. refl }))
+
+  -- ---- the site of the line
+
+  -- its state, as the tests see it
+  pub state_of : (d : Doubted) (y : Yard R g) (name : List ℕ) (s : ℕ) (f : SiteFacts) → StandsFor d y → seat_of y.facts.items name ≡ Some s → slice_get y.facts.items s ≡ Some f → (d.world.nodes s).state ≡ f.state
+  state_of d y name s f stands seat at =
+      let n : Node = d.world.nodes s in
+      sym (over_state n d.world s (is_over_group n) refl) ∙ ap (λ (x : Option SiteFacts). state_or x) (sym (place_at d y name s stands seat).fact ∙ at)
+    where
+      state_or : Option SiteFacts → SiteState
+      state_or None = IsBare
+      state_or (Some x) = x.state
+
+  -- its disks had a label, and so they tell nothing
+  pub untold_now : (d : Doubted) (old new : Yard R g) (name : List ℕ) (s : ℕ) (before after : DiskSet R g) (holds : Bool) → site_number d.world name ≡ s → (d.world.nodes s).state ≡ IsBare → Changed old new s before after
+      → (IsToldAt before → holds ≡ false) → slice_get new.disk_sets.items s ≡ Some after → holds ≡ true → IsBareUntold d name new
+  untold_now d old new name s before after holds number bare changed none there is = record {
+    bare = ap (λ (k : ℕ). (d.world.nodes k).state) number ∙ bare;
+    untold = λ e at told.
+        let same : Some e ≡ Some after = sym at ∙ ap (λ (k : ℕ). slice_get new.disk_sets.items k) number ∙ there in
+        let is_told : IsToldAt after = subst (λ (x : DiskSet R g). IsToldAt x) (some_of same) told in
+        let never : true ≡ false = sym is ∙ none (changed.later.told is_told) in
+        absurd (cc);
+  }
+    where
+      some_of : {a b : DiskSet R g} → Some a ≡ Some b → a ≡ b
+      some_of e = cc
+
+  -- memory ran out before anything was done
+  pub unbegun_found : (d : Doubted) (name : List ℕ) (y : Yard R g) (r : Result Said MemoryError) (x : MemoryError) → r ≡ Err x → StandsFor d y → LeadsFoundIs d (Recover name) y y r
+  unbegun_found d name y r x is stands = subst (λ (q : Result Said MemoryError). LeadsFoundIs d (Recover name) y y q) (sym is) (unbegun_for d y stands)

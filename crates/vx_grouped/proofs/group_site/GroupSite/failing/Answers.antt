@@ -1,0 +1,17 @@
+-- `fail`: whatever the site is noted as, it still is.
+use Rattle.vx_grouped.proofs.SiteAlike.{away_stays, down_stays, up_stays}
+use Rattle.vx_grouped.proofs.group_site.GroupSite.failing.Goals as goal
+
+pub returns-in-Up-clause-stands : goal.returns-in-Up-clause-stands
+returns-in-Up-clause-stands g c =
+    up_stays c.args.self c.args.disk c.args.on c.in-Up.group c.fail.result c.in-Up.is c.fail.ensures.core c.fail.ensures.alike c.fail.ensures.down c.fail.ensures.armed c.fail.ensures.volumes c.fail.ensures.disks c.fail.ensures.told
+
+pub returns-in-Deported-clause-stands : goal.returns-in-Deported-clause-stands
+returns-in-Deported-clause-stands g c =
+    away_stays c.args.self c.args.disk c.args.on c.in-Deported.idle c.fail-in-Deported.result c.fail-in-Deported.ensures.alike c.fail-in-Deported.ensures.down c.fail-in-Deported.ensures.armed c.fail-in-Deported.ensures.disks c.fail-in-Deported.ensures.agreed
+    c.fail-in-Deported.ensures.told c.in-Deported.is
+
+pub returns-in-Down-clause-stands : goal.returns-in-Down-clause-stands
+returns-in-Down-clause-stands g c =
+    down_stays c.args.self c.args.disk c.args.on c.in-Down.idle c.fail-in-Down.result c.fail-in-Down.ensures.alike c.fail-in-Down.ensures.down c.fail-in-Down.ensures.armed c.fail-in-Down.ensures.disks c.fail-in-Down.ensures.agreed
+    c.fail-in-Down.ensures.told c.in-Down.is

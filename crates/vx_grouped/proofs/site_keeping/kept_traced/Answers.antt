@@ -1,0 +1,23 @@
+-- The same over the disks of a site, of which contents are told or not.
+use Rattle.std.specs.Prelude.{length}
+use Rattle.vx_disk.specs.Shelf.{Fits}
+use Rattle.vx_group.specs.Holding.{wide}
+use Rattle.vx_group.specs.Stands.{inner_meaning}
+use Rattle.vx_watched.specs.Since.{CalledSince}
+use Rattle.vx_grouped.specs.SiteKeeps.{PlainKeeps}
+use Rattle.vx_grouped.proofs.TraceLemmas.{carried_both, carried_in, carried_one}
+use Rattle.vx_grouped.proofs.site_keeping.kept_traced.Goals as goal
+
+pub returns-clause-works : goal.returns-clause-works
+returns-clause-works g c =
+    carried_in (λ x s y t. PlainKeeps c.args.vol c.args.block c.args.bytes.now x s y t c.kept_from-group.result.1)
+    c.args.laid.core c.trace.result.core c.untrace.result.core c.kept_from-group.result.0.core c.args.laid.shelf c.trace.result.shelf c.untrace.result.shelf c.kept_from-group.result.0.shelf
+    c.trace.ensures.core c.trace.ensures.shelf c.untrace.ensures.core c.untrace.ensures.shelf c.kept_from-group.ensures.works
+
+pub returns-clause-since : goal.returns-clause-since
+returns-clause-since g c =
+    carried_both (λ s t. CalledSince s t) c.args.laid.shelf c.trace.result.shelf c.untrace.result.shelf c.kept_from-group.result.0.shelf c.trace.ensures.shelf c.untrace.ensures.shelf c.kept_from-group.ensures.since
+
+pub kept_from-group-requires-clause-fits : goal.kept_from-group-requires-clause-fits
+kept_from-group-requires-clause-fits g c = λ κs within.
+    carried_one (λ x m. Fits (inner_meaning (wide x) m) c.args.vol c.args.block (length c.args.bytes.now)) c.args.laid.core c.trace.result.core c.args.laid.shelf c.trace.result.shelf c.trace.ensures.core c.trace.ensures.shelf c.requires.fits

@@ -1,0 +1,69 @@
+-- A deport over the disks of a site.
+use Rattle.std.proofs.Common.{◌≡◌, IsTrue, true, refl}
+use Rattle.std.specs.Prelude.{Err}
+use Rattle.vx_model.specs.declared.site.SiteState.TheVariants.{Deported as IsDeported}
+use Rattle.vx_config.specs.declared.config.Config.{Config}
+use Rattle.vx_group.specs.Deports.{DeportedBy}
+use Rattle.vx_group.specs.Holding.{wide}
+use Rattle.vx_group.specs.Resumes.{CanImport}
+use Rattle.vx_loggroup.specs.Opens.{RestTells}
+use Rattle.vx_watched.specs.Since.{CalledSince}
+use Rattle.vx_grouped.specs.Away.{IsDeportedAt, note_deported}
+use Rattle.vx_grouped.specs.CoreMoves.{BackMoves}
+use Rattle.vx_grouped.specs.Ends.{CallLeaves}
+use Rattle.vx_grouped.specs.GroupNotes.{IsGroupAt}
+use Rattle.vx_grouped.proofs.TraceLemmas.{carried_both, carried_in, carried_off, carried_on}
+use Rattle.vx_grouped.proofs.LeavingLemmas.{Refuses}
+use Rattle.vx_grouped.proofs.site_leaving.deport_traced.Goals as goal
+
+pub returns-in-Ok-clause-leaves : goal.returns-in-Ok-clause-leaves
+returns-in-Ok-clause-leaves g c = λ n note at.
+    carried_in (λ x s y t. IsGroupAt n note x s → (z : Config) × IsDeportedAt (record n { state = IsDeported }) (note_deported z x.inner note) x.inner.config z t)
+    c.args.laid.core c.trace.result.core c.args.laid.core c.args.laid.core c.args.laid.shelf c.trace.result.shelf c.untraced.result c.in-Ok.rack c.trace.ensures.core c.trace.ensures.shelf refl c.untraced.ensures.shade (λ it. c.in-Ok.ensures.leaves n note it) at
+
+pub returns-in-Err-clause-leaves : goal.returns-in-Err-clause-leaves
+returns-in-Err-clause-leaves g c = λ n note at.
+    carried_in (λ x s y t. IsGroupAt n note x s → CallLeaves {T = Unit {0}} n note y t (Err c.in-Err.stop))
+    c.args.laid.core c.trace.result.core c.untrace.result.core c.in-Err.group.core c.args.laid.shelf c.trace.result.shelf c.untrace.result.shelf c.in-Err.group.shelf c.trace.ensures.core c.trace.ensures.shelf c.untrace.ensures.core c.untrace.ensures.shelf (λ it. c.in-Err.ensures.leaves n note it) at
+
+pub returns-in-Ok-clause-can : goal.returns-in-Ok-clause-can
+returns-in-Ok-clause-can g c =
+    carried_in (λ x s y t. x.inner.committed ≡ true → CanImport t)
+    c.args.laid.core c.trace.result.core c.args.laid.core c.args.laid.core c.args.laid.shelf c.trace.result.shelf c.untraced.result c.in-Ok.rack c.trace.ensures.core c.trace.ensures.shelf refl c.untraced.ensures.shade c.in-Ok.ensures.can
+
+pub returns-in-Ok-clause-moves : goal.returns-in-Ok-clause-moves
+returns-in-Ok-clause-moves g c =
+    carried_in (λ x s y t. DeportedBy (wide x).config x.inner s t)
+    c.args.laid.core c.trace.result.core c.args.laid.core c.args.laid.core c.args.laid.shelf c.trace.result.shelf c.untraced.result c.in-Ok.rack c.trace.ensures.core c.trace.ensures.shelf refl c.untraced.ensures.shade c.in-Ok.ensures.moves
+
+pub returns-in-Err-clause-moves : goal.returns-in-Err-clause-moves
+returns-in-Err-clause-moves g c =
+    carried_in (λ x s y t. BackMoves x y s t)
+    c.args.laid.core c.trace.result.core c.untrace.result.core c.in-Err.group.core c.args.laid.shelf c.trace.result.shelf c.untrace.result.shelf c.in-Err.group.shelf c.trace.ensures.core c.trace.ensures.shelf c.untrace.ensures.core c.untrace.ensures.shelf c.in-Err.ensures.moves
+
+pub returns-in-Err-clause-refusals : goal.returns-in-Err-clause-refusals
+returns-in-Err-clause-refusals g c =
+    carried_in (λ x s y t. Refuses s t c.in-Err.stop)
+    c.args.laid.core c.trace.result.core c.untrace.result.core c.in-Err.group.core c.args.laid.shelf c.trace.result.shelf c.untrace.result.shelf c.in-Err.group.shelf c.trace.ensures.core c.trace.ensures.shelf c.untrace.ensures.core c.untrace.ensures.shelf c.in-Err.ensures.refusals
+
+pub returns-in-Err-clause-since : goal.returns-in-Err-clause-since
+returns-in-Err-clause-since g c =
+    carried_both (λ s t. CalledSince s t) c.args.laid.shelf c.trace.result.shelf c.untrace.result.shelf c.in-Err.group.shelf c.trace.ensures.shelf c.untrace.ensures.shelf c.in-Err.ensures.since
+
+pub returns-in-Ok-clause-since : goal.returns-in-Ok-clause-since
+returns-in-Ok-clause-since g c = carried_both (λ s t. CalledSince s t) c.args.laid.shelf c.trace.result.shelf c.untraced.result c.in-Ok.rack c.trace.ensures.shelf c.untraced.ensures.shade c.in-Ok.ensures.since
+
+pub returns-in-Ok-clause-up : goal.returns-in-Ok-clause-up
+returns-in-Ok-clause-up g c = carried_off (λ m. IsTrue m.down → ⊥) c.untraced.result c.in-Ok.rack c.untraced.ensures.shade c.in-Ok.ensures.up
+
+pub returns-in-Ok-clause-told : goal.returns-in-Ok-clause-told
+returns-in-Ok-clause-told g c = c.untraced.ensures.told
+
+pub returns-in-Err-clause-told : goal.returns-in-Err-clause-told
+returns-in-Err-clause-told g c = c.untrace.ensures.told
+
+pub deport_from-requires-clause-up : goal.deport_from-requires-clause-up
+deport_from-requires-clause-up g c = carried_on (λ m. IsTrue m.down → ⊥) c.args.laid.shelf c.trace.result.shelf c.trace.ensures.shelf c.requires.up
+
+pub returns-in-Ok-clause-tells : goal.returns-in-Ok-clause-tells
+returns-in-Ok-clause-tells g c = carried_off (λ m. RestTells c.in-Ok.rested m) c.untraced.result c.in-Ok.rack c.untraced.ensures.shade c.in-Ok.ensures.tells

@@ -1,0 +1,23 @@
+-- The same over the disks of a site, of which contents are told or not.
+use Rattle.std.specs.Prelude.{length}
+use Rattle.vx_disk.specs.Shelf.{Fits}
+use Rattle.vx_group.specs.Holding.{wide}
+use Rattle.vx_group.specs.Stands.{inner_meaning}
+use Rattle.vx_watched.specs.Since.{CalledSince}
+use Rattle.vx_grouped.specs.Watches.{PlainReads}
+use Rattle.vx_grouped.proofs.TraceLemmas.{carried_both, carried_in, carried_one}
+use Rattle.vx_grouped.proofs.watching.read_traced.Goals as goal
+
+pub returns-clause-works : goal.returns-clause-works
+returns-clause-works g c =
+    carried_in (λ x s y t. PlainReads c.args.vol c.args.block c.read_from-group.new.into x s y t c.read_from-group.result.1)
+    c.args.laid.core c.trace.result.core c.untrace.result.core c.read_from-group.result.0.core c.args.laid.shelf c.trace.result.shelf c.untrace.result.shelf c.read_from-group.result.0.shelf
+    c.trace.ensures.core c.trace.ensures.shelf c.untrace.ensures.core c.untrace.ensures.shelf c.read_from-group.ensures.works
+
+pub returns-clause-since : goal.returns-clause-since
+returns-clause-since g c =
+    carried_both (λ s t. CalledSince s t) c.args.laid.shelf c.trace.result.shelf c.untrace.result.shelf c.read_from-group.result.0.shelf c.trace.ensures.shelf c.untrace.ensures.shelf c.read_from-group.ensures.since
+
+pub read_from-group-requires-clause-fits : goal.read_from-group-requires-clause-fits
+read_from-group-requires-clause-fits g c = λ κs within.
+    carried_one (λ x m. Fits (inner_meaning (wide x) m) c.args.vol c.args.block (length c.args.into.now)) c.args.laid.core c.trace.result.core c.args.laid.shelf c.trace.result.shelf c.trace.ensures.core c.trace.ensures.shelf c.requires.fits
