@@ -122,9 +122,11 @@ fn is_lost(config: &Config) -> Option<bool> {
 }
 
 #[test]
-fn maps_of_a_new_volume_are_trusted(rt: HostRuntime) -> Result<(), Fail> {
+fn maps_are_trusted_behind_the_first_detach(rt: HostRuntime) -> Result<(), Fail> {
     let alloc = rt.alloc();
-    let group = group_of(alloc, &[], &MAPPED)?;
+    let mut group = group_of(alloc, &[], &MAPPED)?;
+    assert_eq!(rt; is_lost(group.config()), Some(true));
+    assert!(rt; group.det(0, 1).is_ok());
     assert_eq!(rt; is_lost(group.config()), Some(false));
     Ok(())
 }
@@ -161,7 +163,7 @@ fn without_maps_an_attach_copies_all(rt: HostRuntime) -> Result<(), Fail> {
 fn a_plex_that_fails_in_a_write_misses_it(rt: HostRuntime) -> Result<(), Fail> {
     let alloc = rt.alloc();
     let mut seen: u64 = 0;
-    for call in 80..140 {
+    for call in 100..120 {
         let mut group = group_of(alloc, &[call], &MAPPED)?;
         if put(&mut group, 70, 0xbb) && !is_active(group.config(), 1) {
             seen = seen.wrapping_add(1);
@@ -198,7 +200,8 @@ fn a_write_is_done_whichever_of_its_calls_fails(rt: HostRuntime) -> Result<(), F
     let alloc = rt.alloc();
     let mut some = false;
     let mut all = false;
-    for call in 120..200 {
+    // The calls of the write and of the attach.
+    for call in 160..190 {
         match failing(alloc, call)? {
             Some(1) => some = true,
             Some(4) => all = true,
@@ -209,5 +212,88 @@ fn a_write_is_done_whichever_of_its_calls_fails(rt: HostRuntime) -> Result<(), F
     // Where the log of missed regions is lost all regions are copied.
     assert!(rt; some);
     assert!(rt; all);
+    Ok(())
+}
+
+#[test]
+fn a_detach_begins_the_map_anew(rt: HostRuntime) -> Result<(), Fail> {
+    let alloc = rt.alloc();
+    let mut group = group_of(alloc, &[], &MAPPED)?;
+    assert!(rt; group.det(0, 1).is_ok());
+    assert!(rt; put(&mut group, 10, 0xaa));
+    assert_eq!(rt; att(&mut group, 1), Some(1));
+    assert!(rt; group.det(0, 1).is_ok());
+    assert!(rt; put(&mut group, 70, 0xbb));
+    assert_eq!(rt; att(&mut group, 1), Some(1));
+    assert!(rt; group.det(0, 0).is_ok());
+    assert_eq!(rt; read(&mut group, 10), Some(0xaa));
+    assert_eq!(rt; read(&mut group, 70), Some(0xbb));
+    Ok(())
+}
+
+// Writes two blocks while the second plex is detached, as this call fails, and attaches the plex then. Answers how many regions were copied, where
+// the first write was refused and the second one done.
+fn refused(alloc: Global, call: u64) -> Result<Option<u64>, OutOfMemory> {
+    let mut group = group_of(alloc, &[call], &MAPPED)?;
+    if group.det(0, 1).is_err() || put(&mut group, 70, 0xbb) {
+        return Ok(None);
+    }
+    if !put(&mut group, 200, 0xcc) {
+        return Ok(None);
+    }
+    Ok(att(&mut group, 1))
+}
+
+#[test]
+fn a_refused_write_is_noted(rt: HostRuntime) -> Result<(), Fail> {
+    let alloc = rt.alloc();
+    let mut some = false;
+    // The write of the one plex that is ACTIVE is among these calls.
+    for call in 120..136 {
+        match refused(alloc, call)? {
+            Some(copied) => {
+                some = true;
+                assert_eq!(rt; copied, 2);
+            }
+            None => {}
+        }
+    }
+    assert!(rt; some);
+    Ok(())
+}
+
+// The group behind a deport and an import.
+fn moved(alloc: Global, group: LoggedGroup<Disks>) -> Option<LoggedGroup<Disks>> {
+    match group.deport() {
+        Ok((shelf, rested)) => match rested {
+            Some(rested) => match LoggedGroup::import(alloc, shelf, &rested) {
+                Ok(group) => Some(group),
+                Err(_) => None,
+            },
+            None => None,
+        },
+        Err(_) => None,
+    }
+}
+
+#[test]
+fn an_attach_behind_a_deport_goes_by_the_map(rt: HostRuntime) -> Result<(), Fail> {
+    let alloc = rt.alloc();
+    let mut group = group_of(alloc, &[], &MAPPED)?;
+    assert!(rt; put(&mut group, 10, 0xaa));
+    assert!(rt; group.det(0, 1).is_ok());
+    assert!(rt; put(&mut group, 70, 0xbb));
+    match moved(alloc, group) {
+        Some(group) => {
+            let mut group = group;
+            assert_eq!(rt; read(&mut group, 70), Some(0xbb));
+            assert!(rt; group.det(0, 0).is_err());
+            assert_eq!(rt; att(&mut group, 1), Some(1));
+            assert!(rt; group.det(0, 0).is_ok());
+            assert_eq!(rt; read(&mut group, 10), Some(0xaa));
+            assert_eq!(rt; read(&mut group, 70), Some(0xbb));
+        }
+        None => assert!(rt; false),
+    }
     Ok(())
 }

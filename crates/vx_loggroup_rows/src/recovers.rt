@@ -6,6 +6,7 @@ use vx_disk::{MemShelf, Rack, Shelf};
 use vx_group_rows::Untold;
 use vx_layout::Shape;
 use vx_loggroup::LoggedGroup;
+use vx_logimport::Rested;
 use vx_model::{Name, OutOfMemory};
 
 type Disks = Untold<MemShelf>;
@@ -136,7 +137,7 @@ fn crashed(group: LoggedGroup<Disks>) -> (MemShelf, Option<Subdisk>) {
 
 // The group that an import gives.
 fn opened(alloc: Global, disks: MemShelf) -> Option<LoggedGroup<Disks>> {
-    match LoggedGroup::import(alloc, Untold { shelf: disks }) {
+    match LoggedGroup::import(alloc, Untold { shelf: disks }, &Rested::none()) {
         Ok(group) => Some(group),
         Err(_) => None,
     }
@@ -171,9 +172,11 @@ const KEPT: Option<u8> = Some(0xee);
 const COPIED: Option<u8> = Some(0);
 
 #[test]
-fn a_log_of_a_new_volume_is_trusted(rt: HostRuntime) -> Result<(), Fail> {
+fn a_log_is_trusted_behind_the_first_write(rt: HostRuntime) -> Result<(), Fail> {
     let alloc = rt.alloc();
-    let group = group_on(alloc, &[])?;
+    let mut group = group_on(alloc, &[])?;
+    assert_eq!(rt; is_lost(group.config()), Some(true));
+    assert!(rt; put(&mut group, 70, 0x11));
     assert_eq!(rt; is_lost(group.config()), Some(false));
     Ok(())
 }
@@ -226,34 +229,36 @@ fn lost_by(alloc: Global, fails: &[u64]) -> Result<Option<LoggedGroup<Disks>>, O
     Ok(None)
 }
 
-#[test]
-fn a_log_that_does_not_begin_stays_lost(rt: HostRuntime) -> Result<(), Fail> {
-    let alloc = rt.alloc();
-    // The writing of its blocks, the flush behind it, and their reading.
-    for call in 86..89 {
-        match lost_by(alloc, &[call])? {
-            Some(group) => {
+// How many of these calls lose the log where they fail, while the write is done. Behind a crash an import then copies the whole volume, and the log
+// stays lost; 99, where it is not so.
+fn losing(alloc: Global, from: u64, to: u64) -> u64 {
+    let mut seen: u64 = 0;
+    for call in from..to {
+        match lost_by(alloc, &[call]) {
+            Ok(Some(group)) => {
+                seen = seen.saturating_add(1);
                 let (disks, run) = crashed(group);
-                assert_eq!(rt; again(alloc, disks, run), ([COPIED; 6], Some(true)));
+                if again(alloc, disks, run) != ([COPIED; 6], Some(true)) {
+                    return 99;
+                }
             }
-            None => assert!(rt; false),
+            Ok(None) => {}
+            Err(_) => {}
         }
     }
+    seen
+}
+
+#[test]
+fn a_log_that_does_not_begin_stays_lost(rt: HostRuntime) -> Result<(), Fail> {
+    // The writing of its blocks, the flush behind it, and their reading.
+    assert_eq!(rt; losing(rt.alloc(), 80, 94), 3);
     Ok(())
 }
 
 #[test]
 fn a_log_that_a_write_loses_is_not_used(rt: HostRuntime) -> Result<(), Fail> {
-    let alloc = rt.alloc();
     // The writing of the mark, and the flush behind it.
-    for call in 107..109 {
-        match lost_by(alloc, &[call])? {
-            Some(group) => {
-                let (disks, run) = crashed(group);
-                assert_eq!(rt; again(alloc, disks, run), ([COPIED; 6], Some(true)));
-            }
-            None => assert!(rt; false),
-        }
-    }
+    assert_eq!(rt; losing(rt.alloc(), 102, 114), 2);
     Ok(())
 }

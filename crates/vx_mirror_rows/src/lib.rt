@@ -6,6 +6,8 @@
 #[cfg(test)]
 mod cuts;
 #[cfg(test)]
+mod failing;
+#[cfg(test)]
 mod fused;
 #[cfg(test)]
 mod kept;

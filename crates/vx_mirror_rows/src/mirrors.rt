@@ -1,15 +1,45 @@
 // Lines on a volume of two plexes, and what the replies to them keep to, wherever a fuse cuts one of them.
+use std::alloc::Global;
+use vx_model::OutOfMemory;
 
-/// What a line asks for. A write has its first block and what it fills its blocks with.
+/// What a line asks for. A write has its first block, counted from the first of the five, and what it fills its blocks with.
 #[derive(Clone, Copy, Drop)]
 pub enum Step {
     Make,
-    Write(usize, &'static [&'static str]),
+    Write(u64, &'static [&'static str]),
     Detach,
     Attach,
     Deport,
     Import,
 }
+
+/// Which volume the lines are on.
+#[derive(Clone, Copy, Drop)]
+pub struct Kind {
+    make: &'static str,
+    // Its line in a status.
+    shown: &'static str,
+    // The first of the five blocks that the lines work on.
+    first: u64,
+    // What an attach is answered that has to copy what one write of two blocks changed.
+    copied: &'static str,
+}
+
+/// A volume of one region, without logs.
+pub const PLAIN: Kind = Kind {
+    make: "vol a v 64 mirrors=2 layout=concat log=none fmr=off rdpol=round\n",
+    shown: "vol v 64 none off",
+    first: 0,
+    copied: "done 1",
+};
+
+/// A volume of four regions with both logs. The blocks lie where the first region ends.
+pub const LOGGED: Kind = Kind {
+    make: "vol a v 256 mirrors=2 layout=concat log=drl fmr=on rdpol=round\n",
+    shown: "vol v 256 drl on",
+    first: 62,
+    copied: "done 2",
+};
 
 /// A site whose disks are a group without volumes.
 pub const MADE: &str = "site a 2 1024\ndg a init\n";
@@ -18,25 +48,51 @@ pub const MADE: &str = "site a 2 1024\ndg a init\n";
 pub const LINES: usize = 9;
 
 /// The lines behind it.
-pub fn lines() -> [(Step, &'static str); LINES] {
-    [
-        (
-            Step::Make,
-            "vol a v 64 mirrors=2 layout=concat log=none fmr=off rdpol=round\n",
-        ),
-        (Step::Write(0, &["11", "11"]), "write a v 0 2 11\n"),
-        (Step::Detach, "plex a v 1 det\n"),
-        (Step::Write(1, &["22", "22"]), "write a v 1 2 22\n"),
-        (Step::Attach, "plex a v 1 att\n"),
-        (Step::Write(3, &["33"]), "write a v 3 1 33\n"),
-        (Step::Deport, "dg a deport\n"),
-        (Step::Import, "dg a import\n"),
-        (Step::Write(2, &["44", "44"]), "write a v 2 2 44\n"),
-    ]
+pub const STEPS: [Step; LINES] = [
+    Step::Make,
+    Step::Write(0, &["11", "11"]),
+    Step::Detach,
+    Step::Write(1, &["22", "22"]),
+    Step::Attach,
+    Step::Write(3, &["33"]),
+    Step::Deport,
+    Step::Import,
+    Step::Write(2, &["44", "44"]),
+];
+
+/// A line behind the others.
+pub fn push_line(
+    alloc: Global,
+    script: &mut String,
+    kind: Kind,
+    step: Step,
+) -> Result<(), OutOfMemory> {
+    match step {
+        Step::Make => script.push_str(kind.make)?,
+        Step::Write(start, bytes) => {
+            let block = kind.first.wrapping_add(start);
+            let count = bytes.len();
+            let fill = bytes.first().copied().unwrap_or("00");
+            let line = format!(in alloc; "write a v {block} {count} {fill}\n")?;
+            script.push_str(&line)?;
+        }
+        Step::Detach => script.push_str("plex a v 1 det\n")?,
+        Step::Attach => script.push_str("plex a v 1 att\n")?,
+        Step::Deport => script.push_str("dg a deport\n")?,
+        Step::Import => script.push_str("dg a import\n")?,
+    }
+    Ok(())
 }
 
 /// What brings the site up twice, and shows the blocks both times.
-pub const CLOSING: &str = "recover a\nread a v 0 5\nrecover a\nread a v 0 5\n";
+pub fn push_closing(alloc: Global, script: &mut String, kind: Kind) -> Result<(), OutOfMemory> {
+    let first = kind.first;
+    let closing = format!(in alloc;
+        "recover a\nread a v {first} 5\nrecover a\nread a v {first} 5\n"
+    )?;
+    script.push_str(&closing)?;
+    Ok(())
+}
 
 /// What is so of a thing, as far as the replies tell it.
 #[derive(Clone, Copy, PartialEq, Eq, Drop)]
@@ -50,6 +106,7 @@ enum Known {
 #[derive(Drop)]
 pub struct Mirror<'a> {
     rest: &'a str,
+    kind: Kind,
     is_down: bool,
     is_away: bool,
     // Whether there is the volume, and whether its second plex takes part.
@@ -57,14 +114,15 @@ pub struct Mirror<'a> {
     second: Known,
     blocks: [&'static str; 5],
     // The write that the fuse cut.
-    cut: Option<(usize, &'static [&'static str])>,
+    cut: Option<(u64, &'static [&'static str])>,
 }
 
 impl<'a> Mirror<'a> {
     /// The replies to a script.
-    pub fn new(text: &'a str) -> Mirror<'a> {
+    pub fn new(text: &'a str, kind: Kind) -> Mirror<'a> {
         Mirror {
             rest: text,
+            kind,
             is_down: false,
             is_away: false,
             volume: Known::No,
@@ -111,7 +169,7 @@ impl<'a> Mirror<'a> {
         }
         self.does(step);
         match step {
-            Step::Attach => reply == "done 1",
+            Step::Attach => reply == self.kind.copied,
             _ => reply == "done",
         }
     }
@@ -138,13 +196,17 @@ impl<'a> Mirror<'a> {
         }
     }
 
-    fn fills(&mut self, start: usize, bytes: &[&'static str]) {
+    fn fills(&mut self, start: u64, bytes: &[&'static str]) {
         let mut place = start;
         for fill in bytes {
-            if let Some(block) = self.blocks.get_mut(place) {
-                *block = *fill;
-            }
+            self.fill(place, fill);
             place = place.wrapping_add(1);
+        }
+    }
+
+    fn fill(&mut self, place: u64, fill: &'static str) {
+        if let Some(block) = self.blocks.get_mut(place as usize) {
+            *block = fill;
         }
     }
 
@@ -168,7 +230,7 @@ impl<'a> Mirror<'a> {
     }
 
     fn shows_volume(&mut self) -> bool {
-        let is_first = self.is_next("vol v 64 none off") && self.is_next("plex 0 ACTIVE");
+        let is_first = self.is_next(self.kind.shown) && self.is_next("plex 0 ACTIVE");
         let Some(line) = self.next() else {
             return false;
         };
@@ -197,19 +259,21 @@ impl<'a> Mirror<'a> {
         let Some((first, digits)) = words.split_once(" ") else {
             return false;
         };
-        first == digit(start) && self.keeps(start, bytes, digits)
+        let is_first = match first.parse::<u64>() {
+            Ok(block) => block == self.kind.first.wrapping_add(start),
+            Err(_) => false,
+        };
+        is_first && self.keeps(start, bytes, digits)
     }
 
-    fn keeps(&mut self, start: usize, bytes: &[&'static str], digits: &str) -> bool {
+    fn keeps(&mut self, start: u64, bytes: &[&'static str], digits: &str) -> bool {
         let mut place = start;
         let mut left = digits;
         let mut are_digits = true;
         for fill in bytes {
             if let Some(rest) = left.strip_prefix("1") {
                 left = rest;
-                if let Some(block) = self.blocks.get_mut(place) {
-                    *block = *fill;
-                }
+                self.fill(place, fill);
             } else if let Some(rest) = left.strip_prefix("0") {
                 left = rest;
             } else {
@@ -239,14 +303,5 @@ fn off(step: Step) -> &'static str {
     match step {
         Step::Import => "no 5 role",
         _ => "no 6 down",
-    }
-}
-
-fn digit(place: usize) -> &'static str {
-    match place {
-        0 => "0",
-        1 => "1",
-        2 => "2",
-        _ => "3",
     }
 }
