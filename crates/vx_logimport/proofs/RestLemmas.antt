@@ -104,10 +104,10 @@ module _ (old new : Meaning) (k : Marked) (law : Lawful old) (can : CanImport ol
   left_d : (p b : ℕ) (y : List ℕ) → HasBlock d v p b → new.leaves (place d v p b).0 (place d v p b).1 y → old.leaves (place d v p b).0 (place d v p b).1 y
   left_d p b y has left = ⊎_elim (λ was. was)
       (λ put.
-          let has_put : HasBlock opened put.volume put.plex put.number = has_of opened put.volume put.plex put.number put.is_on put.inside in
-          let there : HasBlock d put.volume put.plex put.number = has_back d opened put.volume (sym (it.shape.frames put.volume)) (sym (it.shape.blocks put.volume)) put.plex put.number has_put in
-          let one = (sound_apart d sound).one v p b put.volume put.plex put.number has there (sym (it.shape.place put.volume put.plex put.number ∙ put.at)) in
-          absurd (let clash : false ≡ true = sym clean ∙ subst (λ (w : ℕ). stopped x w ≡ true) (sym one.0) put.unclean in cc))
+      let has_put : HasBlock opened put.volume put.plex put.number = has_of opened put.volume put.plex put.number put.is_on put.inside in
+      let there : HasBlock d put.volume put.plex put.number = has_back d opened put.volume (sym (it.shape.frames put.volume)) (sym (it.shape.blocks put.volume)) put.plex put.number has_put in
+      let one = (sound_apart d sound).one v p b put.volume put.plex put.number has there (sym (it.shape.place put.volume put.plex put.number ∙ put.at)) in
+      absurd (let clash : false ≡ true = sym clean ∙ subst (λ (w : ℕ). stopped x w ≡ true) (sym one.0) put.unclean in cc))
       (it.only.leaves (place d v p b).0 (place d v p b).1 y ((sound_apart d sound).region v p b has).public left)
 
   left_x : (p b : ℕ) (y : List ℕ) → HasBlock d v p b → new.leaves (place d v p b).0 (place d v p b).1 y → old.leaves (place x v p b).0 (place x v p b).1 y
@@ -147,10 +147,10 @@ module _ (old new : Meaning) (k : Marked) (law : Lawful old) (can : CanImport ol
       let on : OnLogs d v e.disk (e.start + n) y = record { log = Fmr; entry = e; is = in_use.is; run = record { there = refl; first = omega arith; last = omega (arith, low) } } in
       ⊎_elim (λ was. was)
       (λ put.
-          let has_put : HasBlock opened put.volume put.plex put.number = has_of opened put.volume put.plex put.number put.is_on put.inside in
-          let there : HasBlock d put.volume put.plex put.number = has_back d opened put.volume (sym (it.shape.frames put.volume)) (sym (it.shape.blocks put.volume)) put.plex put.number has_put in
-          let at : place d put.volume put.plex put.number ≡ (e.disk, e.start + n) = it.shape.place put.volume put.plex put.number ∙ put.at in
-          absurd (logs_off_plex d sound v put.volume put.plex put.number y there (subst (λ (s : ℕ × ℕ). OnLogs d v s.0 s.1 y) (sym at) on)))
+      let has_put : HasBlock opened put.volume put.plex put.number = has_of opened put.volume put.plex put.number put.is_on put.inside in
+      let there : HasBlock d put.volume put.plex put.number = has_back d opened put.volume (sym (it.shape.frames put.volume)) (sym (it.shape.blocks put.volume)) put.plex put.number has_put in
+      let at : place d put.volume put.plex put.number ≡ (e.disk, e.start + n) = it.shape.place put.volume put.plex put.number ∙ put.at in
+      absurd (logs_off_plex d sound v put.volume put.plex put.number y there (subst (λ (s : ℕ × ℕ). OnLogs d v s.0 s.1 y) (sym at) on)))
       (it.only.leaves e.disk (e.start + n) y (logs_above d sound v e.disk (e.start + n) y on) left)
 
   log_x : (e : LogEntry) (was : WasEntry e) (n : ℕ) (y : List ℕ) → old.leaves e.disk (e.start + n) y → old.leaves was.entry.disk (was.entry.start + n) y

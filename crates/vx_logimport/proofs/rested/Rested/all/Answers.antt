@@ -1,0 +1,11 @@
+-- `all`: of each volume.
+use Rattle.std.proofs.Common.{Bool, true, false}
+use Rattle.std.proofs.lemmas.List.{get_or-replicate}
+use Rattle.vx_model.specs.declared.limits.TheConstants.{MOST_VOLUMES}
+use Rattle.vx_logimport.proofs.rested.Rested.all.Goals as goal
+
+pub returns-clause-alike : goal.returns-clause-alike
+returns-clause-alike c = λ v lt. get_or-replicate {A = Bool} MOST_VOLUMES v true false lt
+
+pub returns-clause-maps : goal.returns-clause-maps
+returns-clause-maps c = λ v lt. get_or-replicate {A = Bool} MOST_VOLUMES v true false lt
