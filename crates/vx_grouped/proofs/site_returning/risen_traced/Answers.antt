@@ -25,5 +25,5 @@ pub returns-clause-since : goal.returns-clause-since
 returns-clause-since g c =
     carried_both (λ m m'. ReturnSince m m') c.args.rack c.traced-inside.result c.untraced.result c.revive.new.rack c.traced-inside.ensures c.untraced.ensures.shade (return_alike _ _ c.revive.ensures.alike c.revive.ensures.disks)
 
-pub revive-requires : goal.revive-requires
-revive-requires g c = record { down = carried_on (λ m. IsTrue m.down) c.args.rack c.traced-inside.result c.traced-inside.ensures c.requires.down }
+pub revive-requires-clause-down : goal.revive-requires-clause-down
+revive-requires-clause-down g c = λ κs within. carried_on (λ m. IsTrue m.down) c.args.rack c.traced-inside.result c.traced-inside.ensures c.requires.down

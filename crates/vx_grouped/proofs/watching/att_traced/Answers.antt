@@ -16,4 +16,4 @@ returns-clause-since g c =
     carried_both (λ s t. CalledSince s t) c.args.laid.shelf c.trace.result.shelf c.untrace.result.shelf c.att_from-group.result.0.shelf c.trace.ensures.shelf c.untrace.ensures.shelf c.att_from-group.ensures.since
 
 pub att_from-group-requires-clause-up : goal.att_from-group-requires-clause-up
-att_from-group-requires-clause-up g c = carried_on (λ m. IsTrue m.down → ⊥) c.args.laid.shelf c.trace.result.shelf c.trace.ensures.shelf c.requires.up
+att_from-group-requires-clause-up g c = λ κs within. carried_on (λ m. IsTrue m.down → ⊥) c.args.laid.shelf c.trace.result.shelf c.trace.ensures.shelf c.requires.up

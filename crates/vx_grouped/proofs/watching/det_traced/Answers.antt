@@ -16,4 +16,4 @@ returns-clause-since g c =
     carried_both (λ s t. CalledSince s t) c.args.laid.shelf c.trace.result.shelf c.untrace.result.shelf c.det_from-group.result.0.shelf c.trace.ensures.shelf c.untrace.ensures.shelf c.det_from-group.ensures.since
 
 pub det_from-group-requires-clause-up : goal.det_from-group-requires-clause-up
-det_from-group-requires-clause-up g c = carried_on (λ m. IsTrue m.down → ⊥) c.args.laid.shelf c.trace.result.shelf c.trace.ensures.shelf c.requires.up
+det_from-group-requires-clause-up g c = λ κs within. carried_on (λ m. IsTrue m.down → ⊥) c.args.laid.shelf c.trace.result.shelf c.trace.ensures.shelf c.requires.up
