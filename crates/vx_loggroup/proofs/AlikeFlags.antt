@@ -1,6 +1,7 @@
 -- Of which volumes the plexes are alike behind an import, one after the other.
-use Rattle.std.proofs.Common.{◌≡◌, ◌∙◌, inl, inr, ℕ, ◌+◌, ◌<◌, ◌≤◌, Bool, true, false, List, length, set, get_or-set_same, get_or-set_other, length-set, refl, sym, ap, subst, arith}
-use Rattle.std.proofs.lemmas.Bool.{cases_eq}
+use Rattle.std.proofs.Common.{◌≡◌, ◌⊎◌, ◌∙◌, inl, inr, ℕ, ◌+◌, ◌<◌, ◌≤◌, Bool, true, false, List, length, replicate, set, get_or-set_same, get_or-set_other, length-set, refl, sym, ap, subst, arith}
+use Rattle.std.proofs.lemmas.Bool.{cases_eq, cases_lt}
+use Rattle.std.proofs.lemmas.List.{get_or-replicate, get_or_past, length-replicate}
 use Rattle.vx_kept.specs.Cleans.{is_unsure}
 use Rattle.vx_logimport.specs.Rests.{rests}
 use Rattle.vx_logimport.specs.declared.rested.Rested.{Rested}
@@ -12,6 +13,14 @@ pub record FlagsSoFar (stopped : List Bool) (r : Rested) (n : ℕ) (alike : List
   pub why : (v : ℕ) → is_alike alike v ≡ true → is_unsure stopped v ≡ false → rests r.alike v ≡ true
   pub stops : (v : ℕ) → v < n → is_unsure stopped v ≡ true → is_alike alike v ≡ true
   pub resting : (v : ℕ) → v < n → rests r.alike v ≡ true → is_alike alike v ≡ true
+
+-- at first of none
+pub no_flag : (v : ℕ) → is_alike (replicate 32 false) v ≡ false
+no_flag v = by v (cases_lt v 32)
+  where
+    by : (v : ℕ) → (v < 32) ⊎ (32 ≤ v) → is_alike (replicate 32 false) v ≡ false
+    by v (inl low) = get_or-replicate {A = Bool} 32 v false false low
+    by v (inr high) = get_or_past (replicate 32 false) v false (let long = length-replicate {A = Bool} 32 false in omega (arith, long, high))
 
 pub no_flags : (stopped : List Bool) (r : Rested) (alike : List Bool) → length alike ≡ 32 → ((v : ℕ) → is_alike alike v ≡ false) → FlagsSoFar stopped r 0 alike
 no_flags stopped r alike long none = record {

@@ -82,14 +82,14 @@ module _ (n : ℕ) (failed : List Bool) (old m m' : Meaning) (loop : DisksSoFar 
 
 none_below : (test : ℕ → Bool) (n : ℕ) → any_below test n ≡ false → (k : ℕ) → k < n → test k ≡ false
 none_below test zero is k lt = absurd (omega (arith, lt))
-none_below test (suc n) is k lt = by (any_below test n) refl (test n) refl
+none_below test (suc n) is k lt = by (any_below test n) refl (test n) refl (λ off apart. none_below test n off k (omega (arith, lt, apart)))
   where
-    by : (a : Bool) → any_below test n ≡ a → (b : Bool) → test n ≡ b → test k ≡ false
-    by true one b two = absurd (let clash : true ≡ false = sym (ap (λ (t : Bool). t || test n) one) ∙ is in cc)
-    by false one true two = absurd (let clash : true ≡ false = sym (ap (λ (t : Bool). t || test n) one ∙ two) ∙ is in cc)
-    by false one false two = elim (cases_eq k n) [
+    by : (a : Bool) → any_below test n ≡ a → (b : Bool) → test n ≡ b → (any_below test n ≡ false → (k ≡ n → ⊥) → test k ≡ false) → test k ≡ false
+    by true one b two more = absurd (let clash : true ≡ false = sym (ap (λ (t : Bool). t || test n) one) ∙ is in cc)
+    by false one true two more = absurd (let clash : true ≡ false = sym (ap (λ (t : Bool). t || test n) one ∙ two) ∙ is in cc)
+    by false one false two more = elim (cases_eq k n) [
       | inl same ↦ ap test same ∙ two
-      | inr apart ↦ none_below test n one k (omega (arith, lt, apart))
+      | inr apart ↦ more one apart
     ]
 
 -- whether some disk failed

@@ -70,8 +70,8 @@ module _ (c0 : GroupCore) (ls : List Logs) (a : List Bool) (s : Bool) (m0 : Mean
   lost_stops T U next m' v Down down = down
 
 -- why a call is refused then
-pub stop_by : (T : Type 0) (m m1 m' : Meaning) (e : ShelfError) (no : No) → ((d : ℕ) → m.disk_faults d ≤ m1.disk_faults d) → no ≡ refusal_of e → StopsByDevice {T = T} m1 m' (Err e) → DeviceCause m m' no
-stop_by T m m1 m' e no less is why = subst (λ (n : No). DeviceCause m m' n) (sym is) (by e why)
+pub stop_by : (T : Type 0) (m m1 m' : Meaning) (e : ShelfError) (said : No) → ((d : ℕ) → m.disk_faults d ≤ m1.disk_faults d) → said ≡ refusal_of e → StopsByDevice {T = T} m1 m' (Err e) → DeviceCause m m' said
+stop_by T m m1 m' e said less is why = subst (λ (n : No). DeviceCause m m' n) (sym is) (by e why)
   where
     by : (e : ShelfError) → StopsByDevice {T = T} m1 m' (Err e) → DeviceCause m m' (refusal_of e)
     by (Fault d) rose = Rose_before (m.disk_faults d) (m1.disk_faults d) (m'.disk_faults d) (less d) rose.0

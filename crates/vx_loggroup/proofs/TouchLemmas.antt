@@ -41,7 +41,7 @@ touch_more c v n failed was here = record {
 -- ---- the volumes below n
 
 pub record RestsSoFar (c : Config) (ls : List Logs) (failed unsure0 : List Bool) (n : ℕ) (unsure maps : List Bool) : Type 0 where
-  pub unsure : SomeUnsure unsure0 unsure failed
+  pub marks : SomeUnsure unsure0 unsure failed
   pub so : (v : ℕ) (l : Logs) → v < n → slice_get ls v ≡ Some l → rests maps v ≡ true → VolumeRests c unsure v l failed
   pub long : length maps ≡ 32
 
@@ -49,12 +49,12 @@ pub same_unsure : (unsure failed : List Bool) → SomeUnsure unsure unsure faile
 same_unsure unsure failed = record { more = λ v is. is; none = λ off. refl }
 
 pub no_rests : (c : Config) (ls : List Logs) (failed unsure maps : List Bool) → length maps ≡ 32 → RestsSoFar c ls failed unsure 0 unsure maps
-no_rests c ls failed unsure maps long = record { unsure = same_unsure unsure failed; so = λ v l lt is flag. absurd (omega (arith, lt)); long = long }
+no_rests c ls failed unsure maps long = record { marks = same_unsure unsure failed; so = λ v l lt is flag. absurd (omega (arith, lt)); long = long }
 
 pub one_rest : (c : Config) (ls : List Logs) (failed unsure0 : List Bool) (n : ℕ) (unsure maps unsure' : List Bool) (flag : Bool) (l : Logs) → RestsSoFar c ls failed unsure0 n unsure maps → n < 32 → slice_get ls n ≡ Some l → (flag ≡ true → VolumeRests c unsure' n l failed)
     → SomeUnsure unsure unsure' failed → ((w : ℕ) → (w ≡ n → ⊥) → is_unsure unsure' w ≡ is_unsure unsure w) → RestsSoFar c ls failed unsure0 (n + 1) unsure' (set maps n flag)
 one_rest c ls failed unsure0 n unsure maps unsure' flag l was lt is rest marks others = record {
-  unsure = record { more = λ v off. was.unsure.more v (marks.more v off); none = λ off. marks.none off ∙ was.unsure.none off };
+  marks = record { more = λ v off. was.marks.more v (marks.more v off); none = λ off. marks.none off ∙ was.marks.none off };
   so = λ v k below at up. elim (cases_eq v n) [
     | inl same ↦ here v k same at up
     | inr apart ↦

@@ -73,12 +73,7 @@ fn disk_touches(
 }
 
 // Whether a plex uses one of these disks.
-fn plex_touches(
-    config: &Config,
-    vol: u32,
-    plex: u32,
-    failed: &[bool; MOST_DISKS as usize],
-) -> bool
+fn plex_touches(config: &Config, vol: u32, plex: u32, failed: &[bool; MOST_DISKS as usize]) -> bool
     ensures off { result ≡ false → UsesNone config.now vol plex MOST_DISKS failed.now }
     ensures some { ((u : ℕ) → in_disks failed.now u ≡ false) → result ≡ false }
 {

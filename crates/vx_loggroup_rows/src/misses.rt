@@ -163,7 +163,7 @@ fn without_maps_an_attach_copies_all(rt: HostRuntime) -> Result<(), Fail> {
 fn a_plex_that_fails_in_a_write_misses_it(rt: HostRuntime) -> Result<(), Fail> {
     let alloc = rt.alloc();
     let mut seen: u64 = 0;
-    for call in 80..140 {
+    for call in 100..120 {
         let mut group = group_of(alloc, &[call], &MAPPED)?;
         if put(&mut group, 70, 0xbb) && !is_active(group.config(), 1) {
             seen = seen.wrapping_add(1);
@@ -200,7 +200,8 @@ fn a_write_is_done_whichever_of_its_calls_fails(rt: HostRuntime) -> Result<(), F
     let alloc = rt.alloc();
     let mut some = false;
     let mut all = false;
-    for call in 120..200 {
+    // The calls of the write and of the attach.
+    for call in 160..190 {
         match failing(alloc, call)? {
             Some(1) => some = true,
             Some(4) => all = true,
@@ -247,7 +248,8 @@ fn refused(alloc: Global, call: u64) -> Result<Option<u64>, OutOfMemory> {
 fn a_refused_write_is_noted(rt: HostRuntime) -> Result<(), Fail> {
     let alloc = rt.alloc();
     let mut some = false;
-    for call in 80..160 {
+    // The write of the one plex that is ACTIVE is among these calls.
+    for call in 120..136 {
         match refused(alloc, call)? {
             Some(copied) => {
                 some = true;

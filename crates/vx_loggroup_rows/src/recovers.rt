@@ -229,34 +229,36 @@ fn lost_by(alloc: Global, fails: &[u64]) -> Result<Option<LoggedGroup<Disks>>, O
     Ok(None)
 }
 
-#[test]
-fn a_log_that_does_not_begin_stays_lost(rt: HostRuntime) -> Result<(), Fail> {
-    let alloc = rt.alloc();
-    // The writing of its blocks, the flush behind it, and their reading.
-    for call in 86..89 {
-        match lost_by(alloc, &[call])? {
-            Some(group) => {
+// How many of these calls lose the log where they fail, while the write is done. Behind a crash an import then copies the whole volume, and the log
+// stays lost; 99, where it is not so.
+fn losing(alloc: Global, from: u64, to: u64) -> u64 {
+    let mut seen: u64 = 0;
+    for call in from..to {
+        match lost_by(alloc, &[call]) {
+            Ok(Some(group)) => {
+                seen = seen.saturating_add(1);
                 let (disks, run) = crashed(group);
-                assert_eq!(rt; again(alloc, disks, run), ([COPIED; 6], Some(true)));
+                if again(alloc, disks, run) != ([COPIED; 6], Some(true)) {
+                    return 99;
+                }
             }
-            None => assert!(rt; false),
+            Ok(None) => {}
+            Err(_) => {}
         }
     }
+    seen
+}
+
+#[test]
+fn a_log_that_does_not_begin_stays_lost(rt: HostRuntime) -> Result<(), Fail> {
+    // The writing of its blocks, the flush behind it, and their reading.
+    assert_eq!(rt; losing(rt.alloc(), 80, 94), 3);
     Ok(())
 }
 
 #[test]
 fn a_log_that_a_write_loses_is_not_used(rt: HostRuntime) -> Result<(), Fail> {
-    let alloc = rt.alloc();
     // The writing of the mark, and the flush behind it.
-    for call in 107..109 {
-        match lost_by(alloc, &[call])? {
-            Some(group) => {
-                let (disks, run) = crashed(group);
-                assert_eq!(rt; again(alloc, disks, run), ([COPIED; 6], Some(true)));
-            }
-            None => assert!(rt; false),
-        }
-    }
+    assert_eq!(rt; losing(rt.alloc(), 102, 114), 2);
     Ok(())
 }

@@ -1,10 +1,12 @@
 // What an import by logs asks, behind a crash of a group whose logs stand.
 ghost use Rattle.std.specs.Prelude.{◌≡◌, ◌⊎◌, ◌<◌, ℕ, None, true, IsFalse, IsTrue, length};
 ghost use Rattle.vx_config.specs.declared.entry.VolumeLog.TheVariants.{Drl as DrlLog};
+ghost use Rattle.vx_disk.specs.Causes.{OnDisks};
+ghost use Rattle.vx_disk.specs.Disks.{Crashed};
 ghost use Rattle.vx_disk.specs.Racks.{Alike, Stopped};
 ghost use Rattle.vx_group.specs.Holding.{GroupStands, wide};
 ghost use Rattle.vx_group.specs.Resumes.{AtRest, CanImport};
-ghost use Rattle.vx_group.specs.Stands.{inner_meaning};
+ghost use Rattle.vx_group.specs.Stands.{InnerStands, inner_meaning};
 ghost use Rattle.vx_grouplogs.specs.On.{VolumeOn};
 ghost use Rattle.vx_kept.specs.LogRuns.{log_trusted};
 ghost use Rattle.vx_logimport.specs.Covers.{DisksTell};
@@ -18,6 +20,8 @@ use vx_group::{GroupCore, crash_in, revive};
 pub fn crash_told<R: Rack>(rack: &mut R, core: &GroupCore, pick: u64)
     requires stands { GroupStands core.now (R.meaning rack.old) }
     ensures stopped { Stopped (R.meaning rack.old) (R.meaning rack.new) }
+    ensures disks { OnDisks (R.meaning rack.old).disks (R.meaning rack.new).disks (Crashed (R.meaning rack.old).size pick) }
+    ensures below { InnerStands (wide core.now) (R.meaning rack.new) }
     ensures volumes { Stopped (inner_meaning (wide core.now) (R.meaning rack.old)) (inner_meaning (wide core.now) (R.meaning rack.new)) }
     ensures can { core.now.inner.agreed ≡ true → CanImport (R.meaning rack.new) }
     ensures tells { (v : ℕ) (l : LogsValue) → v < length core.now.inner.config.volumes → VolumeOn (wide core.now).config v l (R.meaning rack.old)

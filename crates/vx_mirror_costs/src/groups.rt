@@ -57,24 +57,26 @@ pub fn write(group: &mut LoggedGroup<MemShelf>, start: u64, bytes: &[u8]) -> boo
     group.write(0, start, bytes).is_ok() && group.flush(0).is_ok()
 }
 
-/// How many writes and flushes of disks the first write of a volume makes, and how many one behind it in the same region: for so many lengths of
-/// a fuse the group is made, and the write is not.
-pub fn calls_of(alloc: Global, want: &Shape, bytes: &[u8]) -> (u64, u64)
+/// How many writes and flushes of disks three writes of a volume make, each made durable: the first of all, with which its logs begin, the first
+/// one in another region, and one more there. For so many lengths of a fuse a write is not done, and those before it are.
+pub fn calls_of(alloc: Global, want: &Shape, bytes: &[u8]) -> (u64, u64, u64)
     requires plain { want.now.prefer ≡ None }
 {
+    let mut begin: u64 = 0;
     let mut first: u64 = 0;
     let mut next: u64 = 0;
     for fuse in 0..5000 {
         if let Some(mut made) = group(alloc, want, fuse) {
             if !write(&mut made, 0, bytes) {
+                begin = begin.saturating_add(1);
+            } else if !write(&mut made, 512, bytes) {
                 first = first.saturating_add(1);
-            } else {
-                if write(&mut made, 0, bytes) {
-                    return (first, next);
-                }
+            } else if !write(&mut made, 512, bytes) {
                 next = next.saturating_add(1);
+            } else {
+                return (begin, first, next);
             }
         }
     }
-    (first, next)
+    (begin, first, next)
 }

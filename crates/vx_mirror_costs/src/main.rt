@@ -34,10 +34,11 @@ fn line(rt: HostRuntime, alloc: Global, drl: bool, fmr: bool, bytes: &[u8], coun
     let calls = calls_of(alloc, &want, bytes);
     let write = writing(rt, alloc, &want, bytes, count);
     let hash = hashing(rt, bytes, count);
-    let first = calls.0;
-    let next = calls.1;
+    let begin = calls.0;
+    let first = calls.1;
+    let next = calls.2;
     let _ = println!(rt;
-        "drl {drl} fmr {fmr}, {blocks} a write: {first} calls, then {next}, {write} ns, SHA-256 {hash} ns"
+        "drl {drl} fmr {fmr}, {blocks} a write: {begin} calls, {first}, then {next}, {write} ns, SHA-256 {hash} ns"
     );
 }
 

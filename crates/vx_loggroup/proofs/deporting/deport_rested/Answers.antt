@@ -8,6 +8,7 @@ use Rattle.vx_group.specs.Stands.{inner_meaning}
 use Rattle.vx_group.proofs.BehindLemmas.{group_still}
 use Rattle.vx_group.proofs.HoldLemmas.{wide_shape}
 use Rattle.vx_group.proofs.Standing.{fit_of}
+use Rattle.vx_model.specs.declared.errors.Stop.{Stop}
 use Rattle.vx_loggroup.proofs.CloseLemmas.{closes_later, det_before, down_back, still_stands, unsure_stands, with_unsure}
 use Rattle.vx_loggroup.proofs.DeportedLogs.{deport_stands}
 use Rattle.vx_loggroup.proofs.RestTells.{rest_tells}
@@ -30,11 +31,11 @@ returns-in-Err-clause-back g c = core_goes c.args.core.now (g.S.Shelf.meaning c.
 pub returns-in-Err-clause-cause : goal.returns-in-Err-clause-cause
 returns-in-Err-clause-cause g c = c.in-Err.ensures.down
 
-pub rest_all-requires : goal.rest_all-requires
-rest_all-requires g c = record { few = let many = c.requires.stands.many in let few = c.requires.stands.group.stands.few in let same = (wide_shape c.args.core.now).volumes in omega (arith, many, few, same) }
+pub rest_all-maps-requires : goal.rest_all-maps-requires
+rest_all-maps-requires g c = record { few = let many = c.requires.stands.many in let few = c.requires.stands.group.stands.few in let same = (wide_shape c.args.core.now).volumes in omega (arith, many, few, same) }
 
-pub are_kept-requires : goal.are_kept-requires
-are_kept-requires g c = record { few = let many = c.requires.stands.many in let few = c.requires.stands.group.stands.few in let same = (wide_shape c.args.core.now).volumes in omega (arith, many, few, same) }
+pub are_kept-kept-requires : goal.are_kept-kept-requires
+are_kept-kept-requires g c = record { few = let many = c.requires.stands.many in let few = c.requires.stands.group.stands.few in let same = (wide_shape c.args.core.now).volumes in omega (arith, many, few, same) }
 
 pub deport_in-requires : goal.deport_in-requires
 deport_in-requires g c = record { stands = (unsure_stands c.args.core.now c.rest_all-maps.new.unsure c.args.logs.now.items c.args.alike.now false (g.S.Shelf.meaning c.flush_disks.new.shelf) (still_stands c.args.core.now c.args.logs.now.items c.args.alike.now false (g.S.Shelf.meaning c.args.shelf.now) (g.S.Shelf.meaning c.flush_disks.new.shelf) (g.met.S.Shelf.lawful c.args.shelf.now) (g.met.S.Shelf.lawful c.flush_disks.new.shelf) c.requires.stands c.flush_disks.ensures.goes)).group }
@@ -43,7 +44,7 @@ pub returns-in-Err-deport_in-clause-stands : goal.returns-in-Err-deport_in-claus
 returns-in-Err-deport_in-clause-stands g c = deport_stands (with_unsure c.rest_all-maps.new.unsure c.args.core.now) c.deport_in.new.core c.args.logs.now.items c.args.alike.now false (g.S.Shelf.meaning c.flush_disks.new.shelf) (g.S.Shelf.meaning c.deport_in.new.shelf) (unsure_stands c.args.core.now c.rest_all-maps.new.unsure c.args.logs.now.items c.args.alike.now false (g.S.Shelf.meaning c.flush_disks.new.shelf) (still_stands c.args.core.now c.args.logs.now.items c.args.alike.now false (g.S.Shelf.meaning c.args.shelf.now) (g.S.Shelf.meaning c.flush_disks.new.shelf) (g.met.S.Shelf.lawful c.args.shelf.now) (g.met.S.Shelf.lawful c.flush_disks.new.shelf) c.requires.stands c.flush_disks.ensures.goes)) (Err c.in-Err-deport_in.stop) c.in-Err-deport_in.ensures.ends c.in-Err-deport_in.ensures.back
 
 pub returns-in-Err-deport_in-clause-ends : goal.returns-in-Err-deport_in-clause-ends
-returns-in-Err-deport_in-clause-ends g c = closes_later c.args.core.now c.rest_all-maps.new.unsure (g.S.Shelf.meaning c.args.shelf.now) (g.S.Shelf.meaning c.flush_disks.new.shelf) c.requires.stands.group c.flush_disks.ensures.goes c.in-Ok.ensures.settles.up c.rest_all-maps.ensures.unsure.more (some_failed (length c.args.core.now.inner.config.disks) c.in-Ok.failed (g.S.Shelf.meaning c.args.shelf.now) (g.S.Shelf.meaning c.flush_disks.new.shelf) c.rest_all-maps.new.unsure c.args.core.now.inner.unsure c.in-Ok.ensures.settles c.rest_all-maps.ensures.unsure.none) c.deport_in.new.core (g.S.Shelf.meaning c.deport_in.new.shelf) (Err c.in-Err-deport_in.stop) c.in-Err-deport_in.ensures.ends
+returns-in-Err-deport_in-clause-ends g c = closes_later c.args.core.now c.rest_all-maps.new.unsure (g.S.Shelf.meaning c.args.shelf.now) (g.S.Shelf.meaning c.flush_disks.new.shelf) c.requires.stands.group c.flush_disks.ensures.goes c.in-Ok.ensures.settles.up c.rest_all-maps.ensures.unsure.more (some_failed (length c.args.core.now.inner.config.disks) c.in-Ok.failed (g.S.Shelf.meaning c.args.shelf.now) (g.S.Shelf.meaning c.flush_disks.new.shelf) c.rest_all-maps.new.unsure c.args.core.now.inner.unsure c.in-Ok.ensures.settles c.rest_all-maps.ensures.unsure.none) c.deport_in.new.core (g.S.Shelf.meaning c.deport_in.new.shelf) {T = Unit {0}} {E = Stop} (Err c.in-Err-deport_in.stop) c.in-Err-deport_in.ensures.ends
 
 pub returns-in-Err-deport_in-clause-back : goal.returns-in-Err-deport_in-clause-back
 returns-in-Err-deport_in-clause-back g c = then_nothing Nothing (inner_meaning (wide c.args.core.now) (g.S.Shelf.meaning c.args.shelf.now)) (inner_meaning (wide c.args.core.now) (g.S.Shelf.meaning c.flush_disks.new.shelf)) (inner_meaning (wide c.deport_in.new.core) (g.S.Shelf.meaning c.deport_in.new.shelf)) (core_goes c.args.core.now (g.S.Shelf.meaning c.args.shelf.now) (g.S.Shelf.meaning c.flush_disks.new.shelf) (g.met.S.Shelf.lawful c.args.shelf.now) (g.met.S.Shelf.lawful c.flush_disks.new.shelf) c.requires.stands.group c.flush_disks.ensures.goes) c.in-Err-deport_in.ensures.back
@@ -52,10 +53,10 @@ pub returns-in-Err-deport_in-clause-cause : goal.returns-in-Err-deport_in-clause
 returns-in-Err-deport_in-clause-cause g c = det_before (g.S.Shelf.meaning c.args.shelf.now) (g.S.Shelf.meaning c.flush_disks.new.shelf) (g.S.Shelf.meaning c.deport_in.new.shelf) c.flush_disks.ensures.goes.disk_faults c.in-Err-deport_in.stop (c.in-Err-deport_in.ensures.cause c.requires.near)
 
 pub returns-then-not-kept-clause-ends : goal.returns-then-not-kept-clause-ends
-returns-then-not-kept-clause-ends g c = closes_later c.args.core.now c.rest_all-maps.new.unsure (g.S.Shelf.meaning c.args.shelf.now) (g.S.Shelf.meaning c.flush_disks.new.shelf) c.requires.stands.group c.flush_disks.ensures.goes c.in-Ok.ensures.settles.up c.rest_all-maps.ensures.unsure.more (some_failed (length c.args.core.now.inner.config.disks) c.in-Ok.failed (g.S.Shelf.meaning c.args.shelf.now) (g.S.Shelf.meaning c.flush_disks.new.shelf) c.rest_all-maps.new.unsure c.args.core.now.inner.unsure c.in-Ok.ensures.settles c.rest_all-maps.ensures.unsure.none) c.deport_in.new.core (g.S.Shelf.meaning c.deport_in.new.shelf) (Ok tt) c.in-Ok-deport_in.ensures.ends
+returns-then-not-kept-clause-ends g c = closes_later c.args.core.now c.rest_all-maps.new.unsure (g.S.Shelf.meaning c.args.shelf.now) (g.S.Shelf.meaning c.flush_disks.new.shelf) c.requires.stands.group c.flush_disks.ensures.goes c.in-Ok.ensures.settles.up c.rest_all-maps.ensures.unsure.more (some_failed (length c.args.core.now.inner.config.disks) c.in-Ok.failed (g.S.Shelf.meaning c.args.shelf.now) (g.S.Shelf.meaning c.flush_disks.new.shelf) c.rest_all-maps.new.unsure c.args.core.now.inner.unsure c.in-Ok.ensures.settles c.rest_all-maps.ensures.unsure.none) c.deport_in.new.core (g.S.Shelf.meaning c.deport_in.new.shelf) {T = Unit {0}} {E = Stop} (Ok tt) c.in-Ok-deport_in.ensures.ends
 
 pub returns-clause-ends : goal.returns-clause-ends
-returns-clause-ends g c = closes_later c.args.core.now c.rest_all-maps.new.unsure (g.S.Shelf.meaning c.args.shelf.now) (g.S.Shelf.meaning c.flush_disks.new.shelf) c.requires.stands.group c.flush_disks.ensures.goes c.in-Ok.ensures.settles.up c.rest_all-maps.ensures.unsure.more (some_failed (length c.args.core.now.inner.config.disks) c.in-Ok.failed (g.S.Shelf.meaning c.args.shelf.now) (g.S.Shelf.meaning c.flush_disks.new.shelf) c.rest_all-maps.new.unsure c.args.core.now.inner.unsure c.in-Ok.ensures.settles c.rest_all-maps.ensures.unsure.none) c.deport_in.new.core (g.S.Shelf.meaning c.deport_in.new.shelf) (Ok tt) c.in-Ok-deport_in.ensures.ends
+returns-clause-ends g c = closes_later c.args.core.now c.rest_all-maps.new.unsure (g.S.Shelf.meaning c.args.shelf.now) (g.S.Shelf.meaning c.flush_disks.new.shelf) c.requires.stands.group c.flush_disks.ensures.goes c.in-Ok.ensures.settles.up c.rest_all-maps.ensures.unsure.more (some_failed (length c.args.core.now.inner.config.disks) c.in-Ok.failed (g.S.Shelf.meaning c.args.shelf.now) (g.S.Shelf.meaning c.flush_disks.new.shelf) c.rest_all-maps.new.unsure c.args.core.now.inner.unsure c.in-Ok.ensures.settles c.rest_all-maps.ensures.unsure.none) c.deport_in.new.core (g.S.Shelf.meaning c.deport_in.new.shelf) {T = Unit {0}} {E = Stop} (Ok tt) c.in-Ok-deport_in.ensures.ends
 
 pub returns-clause-tells : goal.returns-clause-tells
 returns-clause-tells g c =

@@ -18,7 +18,7 @@ pub deport_rested-requires-clause-near : goal.deport_rested-requires-clause-near
 deport_rested-requires-clause-near g c = c.may_rest.ensures.near c.if-may_rest.true
 
 pub deport_rested-requires-clause-few : goal.deport_rested-requires-clause-few
-deport_rested-requires-clause-few g c = let few = c.may_rest.ensures.few c.if-may_rest.true in let long = c.len-disks.ensures in let same = ap length c.as_slice.ensures.disks in omega (arith, few, long, same)
+deport_rested-requires-clause-few g c = let few = c.may_rest.ensures.few c.if-may_rest.true in let same = ap length c.as_slice-disks.ensures.disks in omega (arith, few, same)
 
 pub returns-then-may_rest-clause-stands : goal.returns-then-may_rest-clause-stands
 returns-then-may_rest-clause-stands g c = err_from c.deport_rested.result (λ stands. stop_stands c.deport_rested.new.core c.args.logs.now.items c.args.alike.now c.args.stopped (g.S.Shelf.meaning c.deport_rested.new.shelf) stands) c.deport_rested.ensures.stands

@@ -44,7 +44,7 @@ returns-in-Err-clause-agreed g c = λ is. c.in-Err.ensures.agreed (c.loop-vol.in
 
 pub returns-in-Err-clause-cause : goal.returns-in-Err-clause-cause
 returns-in-Err-clause-cause g c =
-    lost_stops c.args.core.now c.args.logs.now.items c.args.alike.now c.args.stopped (g.S.Shelf.meaning c.args.shelf.now) c.loop-vol.core (g.S.Shelf.meaning c.loop-vol.shelf) c.loop-vol.invariant Bool _ (wide c.keep_logs.new.core) (g.S.Shelf.meaning c.keep_logs.new.shelf) c.loop-vol.vol c.in-Err.error c.in-Err.ensures.cause
+    lost_stops c.args.core.now c.args.logs.now.items c.args.alike.now c.args.stopped (g.S.Shelf.meaning c.args.shelf.now) c.loop-vol.core (g.S.Shelf.meaning c.loop-vol.shelf) c.loop-vol.invariant Bool (Unit {0}) (wide c.keep_logs.new.core) (g.S.Shelf.meaning c.keep_logs.new.shelf) c.loop-vol.vol c.in-Err.error c.in-Err.ensures.cause
 
 pub returns-clause-stands : goal.returns-clause-stands
 returns-clause-stands g c = c.loop-vol.invariant.stands

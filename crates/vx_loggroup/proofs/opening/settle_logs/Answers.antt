@@ -33,7 +33,7 @@ returns-in-Err-lose_all g c = record {
   settles = settle_then c.args.core c.clear_all.new.core c.lose_all.new.core (g.S.Shelf.meaning c.args.shelf.now) (g.S.Shelf.meaning c.clear_all.new.shelf) (g.S.Shelf.meaning c.lose_all.new.shelf) c.clear_all.ensures.settles c.lose_all.ensures.settles;
   stands = c.lose_all.ensures.stands;
   agreed = λ is. c.in-Err-lose_all.ensures.agreed (c.in-Ok.ensures.trust is);
-  cause = stop_by _ (g.S.Shelf.meaning c.args.shelf.now) (g.S.Shelf.meaning c.clear_all.new.shelf) (g.S.Shelf.meaning c.lose_all.new.shelf) c.in-Err-lose_all.error c.refusal-2.result c.clear_all.ensures.settles.goes.disk_faults c.refusal-2.ensures c.in-Err-lose_all.ensures.cause;
+  cause = stop_by (Unit {0}) (g.S.Shelf.meaning c.args.shelf.now) (g.S.Shelf.meaning c.clear_all.new.shelf) (g.S.Shelf.meaning c.lose_all.new.shelf) c.in-Err-lose_all.error c.refusal-in-Err-lose_all.result c.clear_all.ensures.settles.goes.disk_faults c.refusal-in-Err-lose_all.ensures c.in-Err-lose_all.ensures.cause;
 }
 
 pub returns-then-is_down : goal.returns-then-is_down

@@ -1,6 +1,6 @@
 -- `alike_of`: its clauses; what stays true in its loop over `vol`.
-use Rattle.std.proofs.Common.{arith}
-use Rattle.vx_loggroup.proofs.AlikeFlags.{one_flag}
+use Rattle.std.proofs.Common.{false, refl, replicate, arith}
+use Rattle.vx_loggroup.proofs.AlikeFlags.{no_flag, no_flags, one_flag}
 use Rattle.vx_loggroup.proofs.taking.alike_of.Goals as goal
 
 pub returns-clause-why : goal.returns-clause-why
@@ -14,3 +14,6 @@ returns-clause-rested c = λ v lt is. c.loop-vol.invariant.resting v (let test =
 
 pub loop-vol-preserved : goal.loop-vol-preserved
 loop-vol-preserved c = one_flag c.args.stopped.now c.args.rested.now c.loop-vol.vol c.loop-vol.alike c.alike_one.result (let test = c.loop-vol-test.true in omega (arith, test)) c.alike_one.ensures.why c.alike_one.ensures.stopped c.alike_one.ensures.rested c.loop-vol.invariant
+
+pub loop-vol-init : goal.loop-vol-init
+loop-vol-init c = no_flags c.args.stopped.now c.args.rested.now (replicate 32 false) refl no_flag
