@@ -13,7 +13,7 @@ pub import_from-came-requires-clause-can : goal.import_from-came-requires-clause
 import_from-came-requires-clause-can g c = λ κs within. carried_on (λ m. CanImport m) c.args.rack c.traced.result c.traced.ensures c.requires.can
 
 pub import_from-came-requires-clause-tells : goal.import_from-came-requires-clause-tells
-import_from-came-requires-clause-tells g c = carried_on (λ m. LogsTell c.args.rested.now m) c.args.rack c.traced.result c.traced.ensures c.requires.tells
+import_from-came-requires-clause-tells g c = λ κs within. carried_on (λ m. LogsTell c.args.rested.now m) c.args.rack c.traced.result c.traced.ensures c.requires.tells
 
 pub returns-in-Ok-clause-leaves : goal.returns-in-Ok-clause-leaves
 returns-in-Ok-clause-leaves g c = λ n note last lies.
