@@ -47,8 +47,8 @@ pub import_group-requires : goal.import_group-requires
 import_group-requires g c = record { can = untold_can (g.R.Shelf.meaning c.over.result.shelf); tells = untold_tells c.none.result (untold (g.R.Shelf.meaning c.over.result.shelf)) (λ i each. each 0 0) }
 
 pub together-requires-clause-stands : goal.together-requires-clause-stands
-together-requires-clause-stands g c = λ κs lives.
+together-requires-clause-stands g c =
     subst (λ s. LoggedStands c.apart-watched.result.1.core c.apart-watched.result.1.logs.items c.apart-watched.result.1.alike c.apart-watched.result.1.stopped (untold (g.R.Shelf.meaning s))) (sym c.into_shelf-rack.ensures.shelf) c.apart-watched.ensures.stands
 
 pub together-requires-clause-begins : goal.together-requires-clause-begins
-together-requires-clause-begins g c = λ κs lives. subst (λ s. FreshStands c.apart-watched.result.1.core c.apart-watched.result.1.fresh (untold (g.R.Shelf.meaning s))) (sym c.into_shelf-rack.ensures.shelf) c.apart-watched.ensures.begins
+together-requires-clause-begins g c = subst (λ s. FreshStands c.apart-watched.result.1.core c.apart-watched.result.1.fresh (untold (g.R.Shelf.meaning s))) (sym c.into_shelf-rack.ensures.shelf) c.apart-watched.ensures.begins

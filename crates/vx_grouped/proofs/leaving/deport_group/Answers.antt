@@ -1,5 +1,5 @@
 -- A deport, as the site notes the group: its disks by themselves, or the group that is given back.
-use Rattle.std.proofs.Common.{◌∙◌, ◌-◌, ◌<◌, ◌≤◌, None, ap, inl, sym}
+use Rattle.std.proofs.Common.{◌∙◌, ◌-◌, ◌<◌, ◌≤◌, None, Option, ap, inl, sym}
 use Rattle.std.proofs.lemmas.Bool.{cases_lt}
 use Rattle.vx_config.specs.Table.{greatest}
 use Rattle.vx_group.specs.Dets.{margin}
@@ -7,6 +7,7 @@ use Rattle.vx_group.proofs.CallLemmas.{not_down}
 use Rattle.vx_grouped.proofs.DeportedLemmas.{back_cut, back_up, deported_at, device_stops}
 use Rattle.vx_grouped.proofs.KeepLemmas.{never_fell, same_at}
 use Rattle.vx_grouped.proofs.BothLemmas.{both_on}
+use Rattle.vx_logimport.specs.declared.rested.Rested.{Rested}
 use Rattle.vx_grouped.proofs.leaving.deport_group.Goals as goal
 
 pub returns-in-Ok-clause-leaves : goal.returns-in-Ok-clause-leaves
@@ -26,7 +27,7 @@ returns-else-is_down-clause-leaves g c = λ n note at.
     back_up n note c.args.group.core c.in-Err.group.core (g.S.Shelf.meaning c.args.group.shelf) (g.S.Shelf.meaning c.in-Err.group.shelf) at c.in-Err.ensures.ends c.in-Err.ensures.back c.in-Err.stop
     (greatest - margin < c.args.group.core.inner.config.serial) (c.args.group.core.inner.config.serial ≤ greatest - margin) (cases_lt (greatest - margin) c.args.group.core.inner.config.serial)
     (not_down c.is_down.result (g.S.Shelf.meaning c.in-Err.group.shelf).down c.is_down.ensures c.if-is_down.false)
-    (λ low. device_stops (g.S.Shelf.meaning c.args.group.shelf) (λ s. g.S.Shelf.meaning s.0) (λ y. (y.shelf, None)) c.in-Err.group c.in-Err.stop (c.in-Err.ensures.cause low))
+    (λ low. device_stops {S = g.row.S.Denot × Option Rested} (g.S.Shelf.meaning c.args.group.shelf) (λ s. g.S.Shelf.meaning s.0) (λ y. (y.shelf, None)) c.in-Err.group c.in-Err.stop (c.in-Err.ensures.cause low))
     (λ lt. ((c.in-Err.ensures.limit lt).0, same_at g.S.Shelf.meaning n note c.args.group.core c.in-Err.group.core c.args.group.shelf c.in-Err.group.shelf (c.in-Err.ensures.limit lt).1 (ap (λ p. p.0) (c.in-Err.ensures.limit lt).2) at))
 
 pub returns-in-Ok-clause-can : goal.returns-in-Ok-clause-can

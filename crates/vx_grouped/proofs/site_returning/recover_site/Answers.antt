@@ -51,10 +51,10 @@ pub of-requires-clause-tells : goal.of-requires-clause-tells
 of-requires-clause-tells g c = λ κs lives r agreed is. rested_tells r c.args.rested (shade_meaning g.R.Shelf.meaning c.args.rack) is c.requires.tells
 
 pub import_watched-requires-clause-can : goal.import_watched-requires-clause-can
-import_watched-requires-clause-can g c = c.risen.ensures.can c.requires.can
+import_watched-requires-clause-can g c = λ κs lives. c.risen.ensures.can c.requires.can
 
 pub import_watched-requires-clause-tells : goal.import_watched-requires-clause-tells
-import_watched-requires-clause-tells g c = alike_tells c.args.rested (shade_meaning g.R.Shelf.meaning c.args.rack) (shade_meaning g.R.Shelf.meaning c.risen.result) c.risen.ensures.alike c.requires.tells
+import_watched-requires-clause-tells g c = λ κs lives. alike_tells c.args.rested (shade_meaning g.R.Shelf.meaning c.args.rack) (shade_meaning g.R.Shelf.meaning c.risen.result) c.risen.ensures.alike c.requires.tells
 
 pub of-requires-in-Err-clause-tells : goal.of-requires-in-Err-clause-tells
 of-requires-in-Err-clause-tells g c = λ κs lives r agreed is.
