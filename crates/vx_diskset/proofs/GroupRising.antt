@@ -16,7 +16,7 @@ use Rattle.vx_grouped.specs.GroupSites.{DownNoted, FitsPlain, UpNoted, site_disk
 use Rattle.vx_grouped.specs.SiteEnds.{MayCrashSite, burned_site, stops_down}
 use Rattle.vx_grouped.specs.SiteKeeps.{PlainKept}
 use Rattle.vx_grouped.specs.SiteReturns.{ImportRefused, SiteImports, as_imported, returned_with, is_dimmed, stops_early}
-use Rattle.vx_untold.specs.Shades.{shade_meaning}
+use Rattle.vx_untold.specs.Shades.{rack_of, shade_meaning}
 use Rattle.vx_diskset.specs.Asked.{FuseGoesOn, SameFailing}
 use Rattle.vx_diskset.specs.DiskSets.{Later}
 use Rattle.vx_grouped.specs.declared.group_site.GroupSite.{GroupSite}
@@ -40,7 +40,7 @@ module _ {R : Type 0} {g : Ghosts R} where
   pub up_again : (n : Node) (note : GroupNode) (s : GroupSite R g) → UpNoted n note s → UpNoted (burned_site n) note s
   up_again n note (Up group) it =
       let m = shade_meaning g.meaning group.shelf in
-      up_burned n note group.core m it.noted it.spells (fuse_burned n.fuse m m (λ none. none) it.fuse) it.at
+      up_burned n note (g.meaning (rack_of group.shelf)).tells group.core m it.noted it.lit it.spells (fuse_burned n.fuse m m (λ none. none) it.fuse) it.at
   up_again n note (Deported idle) it = absurd it
   up_again n note (Down idle) it = absurd it
   up_again n note (Marked rack) it = absurd it
