@@ -39,11 +39,7 @@ fn filled(alloc: Global, count: u64, fill: u8) -> Result<Vec<u8>, OutOfMemory>
 }
 
 // Recovers a site over no group. A bare one may have a group on its disks.
-fn recover<R: Rack>(
-    yard: &mut Yard<R>,
-    alloc: Global,
-    site: &Name,
-) -> Result<Said, OutOfMemory>
+fn recover<R: Rack>(yard: &mut Yard<R>, alloc: Global, site: &Name) -> Result<Said, OutOfMemory>
     requires kept { IsYardKept yard.old }
     requires free { IsFree yard.old (Recover site.now) }
     ensures leads { (d : Doubted) → StandsFor d yard.old → is_for_group d.world (Recover site.now) ≡ false → WorksIs d (Recover site.now) yard.old yard.new result }
