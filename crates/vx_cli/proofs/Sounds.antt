@@ -1,6 +1,7 @@
 -- A line leaves a good world good, whichever of the sites in doubt are as they may be on their disks.
 use Rattle.std.proofs.Common.{◌≡◌, ◌⊎◌, inl, inr, refl, ℕ, List, [], ◌∷◌, Option, Some, None, Result, Ok, Err, Bool, true, false, sym, subst}
 use Rattle.vx_history.specs.Doubts.{Doubted}
+use Rattle.vx_history.specs.Likes.{IsLike}
 use Rattle.vx_history.specs.Steps.{burned, worked_on}
 use Rattle.vx_history.specs.World.{NoFuse, World}
 use Rattle.vx_history.specs.declared.event.Event.{Event}
